@@ -15,7 +15,7 @@ from typing import Dict, Iterator, List, NamedTuple, Optional, Set, Tuple
 
 sys.dont_write_bytecode = True
 
-from harness import Image, upper
+from harness import BLOCK, LONGS, Image, upper
 
 KINDS = ["NotADosDisk", "UnsupportedKind", "BadSum", "BadType", "BadOwnKey", "BadParent", "BadPointer", "BlockUsedTwice",
          "WrongChain", "BadName", "DuplicateName", "BadComment", "BadCount", "BadSequence", "LinkEntry", "MarkedFree"]
@@ -50,7 +50,8 @@ class Model(Image):
         return 2 <= block < self.blocks
 
     def sum(self, block: int) -> int:
-        return sum(self.long(block, at) for at in range(128)) % 2**32
+        longs: Tuple[int, ...] = LONGS.unpack_from(self.data, BLOCK * block)
+        return sum(longs) % 2**32
 
     def length(self, block: int, offset: int) -> int:
         """The length byte before a text."""

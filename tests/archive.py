@@ -5,7 +5,7 @@ salvage of damaged images.
     tests/archive.py [PROGRAM]
 
 The environment variable ROUNDS is the number of changed images that are compared with the model of the faults. DAMAGED is the
-number of damaged images of each kind that are salvaged.
+number of damaged images of each format that are served; a fifth as many are salvaged.
 """
 from __future__ import annotations
 
@@ -24,7 +24,7 @@ from typing import Callable, Dict, Iterable, Iterator, List, NamedTuple, Optiona
 sys.dont_write_bytecode = True
 
 from all_faults_model import lines_of
-from harness import BLOCK, Image, Room, try_all
+from harness import BLOCK, Image, Ran, Room, try_all
 
 ROUNDS = int(os.environ.get("ROUNDS", "2000"))
 DAMAGED = int(os.environ.get("DAMAGED", "5000"))
@@ -34,6 +34,7 @@ ALL_ONES = 2**32 - 1
 # The arguments of `blank` for each kind.
 KINDS: List[List[str]] = [["--ffs"], []]
 NOT_BLOCKS = b"refused NotWholeBlocks 0\n"
+NO_FILE = "adf_serve: cannot read 'none.adf': no such file"
 FIELDS = ["path", "ok", "validated", "kind", "blocks", "name", "files", "directories", "free", "faults"]
 # The kinds of faults that no long of their block shows.
 WITHOUT_LONG = {"BlockUsedTwice", "WrongChain", "DuplicateName", "MarkedFree"}
@@ -64,6 +65,12 @@ class Volume(Image):
 
     def pointers(self, block: int) -> List[int]:
         return [self.long(block, 77 - it) for it in range(self.long(block, 2))]
+
+
+def totals(accepted: int, refused: int = 0, unreadable: int = 0) -> str:
+    """The line on standard error after several images."""
+    count = accepted + refused + unreadable
+    return f"{count:,} image{'' if count == 1 else 's'}: {accepted:,} ok, {refused:,} refused, {unreadable:,} unreadable"
 
 
 def lines_with(names: Sequence[str], told: str) -> bytes:
@@ -103,19 +110,18 @@ def named_images(room: Room) -> None:
     invalid.change(ROOT, 78, 0)
     room.write("invalid.adf", bytes(invalid.data))
 
-    def check(name: str, words: Sequence[str], status: int, output: bytes, *parts: str) -> None:
+    def check(name: str, words: Sequence[str], status: int, output: Optional[bytes], *parts: str) -> None:
         room.report.check(name, room.run("check", *words), status, output, *parts)
 
     good, bad, valid = b"good.adf\tok\n", b"bad.adf\trefused NotWholeBlocks 0\n", b"invalid.adf\tok validated\n"
-    unread = "'none.adf' cannot be read"
     check("one image", ["good.adf"], 0, b"ok\n")
     check("one image to be validated", ["invalid.adf"], 0, b"ok validated\n")
-    check("one of a wrong size", ["bad.adf"], 3, NOT_BLOCKS, "512")
-    check("two images", ["good.adf", "invalid.adf"], 0, good + valid)
-    check("in the order of the words", ["invalid.adf", "good.adf", "invalid.adf"], 0, valid + good + valid)
-    check("one that is refused", ["good.adf", "bad.adf", "good.adf"], 3, good + bad + good)
-    check("one that is not there", ["good.adf", "none.adf", "bad.adf", "good.adf"], 2, good + bad + good, unread)
-    check("only one that is not there", ["none.adf"], 2, b"", unread)
+    check("two images", ["good.adf", "invalid.adf"], 0, good + valid, totals(2))
+    check("in the order of the words", ["invalid.adf", "good.adf", "invalid.adf"], 0, valid + good + valid, totals(3))
+    check("one that is refused", ["good.adf", "bad.adf", "good.adf"], 3, good + bad + good, totals(2, 1))
+    check("objects of two images", ["--json", "good.adf", "good.adf"], 0, None, totals(2))
+    check("one that is not there", ["good.adf", "none.adf", "bad.adf", "good.adf"], 2, good + bad + good, NO_FILE, totals(2, 1, 1))
+    check("only one that is not there", ["none.adf"], 2, b"", NO_FILE)
     check("wrong jobs", ["--jobs", "0", "good.adf"], 1, b"", "--jobs", "from 1")
     check("jobs that are no digits", ["--jobs", "+1", "good.adf"], 1, b"", "--jobs")
     check("no file", ["--all"], 1, b"", "FILE")
@@ -133,13 +139,40 @@ def directories(room: Room) -> None:
     os.symlink("../../good.adf", "tree/b/linked.adf")
     os.mkfifo("tree/b/pipe.adf")
     lines = lines_with(sorted(f"tree/{it}" for it in [*images, "b/linked.adf"]), "ok")
-    room.succeeds("a directory", "check", "tree", output=lines)
-    ran = room.run("check", "tree", "tree/text.txt")
-    room.report.check("a directory and a file of another name", ran, 0, lines + b"tree/text.txt\tok\n")
-    room.succeeds("a directory with no image", "check", "tree/empty")
-    room.report.check("a link to a directory", room.run("check", "tree/link"), 2, b"", "'tree/link' cannot be read")
+
+    def check(name: str, words: Sequence[str], status: int, output: bytes, *texts: str) -> None:
+        """All lines on standard error are these."""
+        room.report.same(name, room.run("check", *words), Ran(status, output, "".join(f"{it}\n" for it in texts).encode()))
+
+    check("a directory", ["tree"], 0, lines, totals(7))
+    check("a directory and a file of another name", ["tree", "tree/text.txt"], 0, lines + b"tree/text.txt\tok\n", totals(8))
+    none = "adf_serve: 'tree/empty': no image in this directory"
+    check("a directory with no image", ["tree/empty"], 2, b"", none, totals(0))
+    check("a directory with no image beside an image", ["tree/empty", "good.adf"], 0, b"good.adf\tok\n", none, totals(1))
+    check("a directory with one image", ["elsewhere"], 0, b"elsewhere/far.adf\tok\n", totals(1))
+    check("a link to a directory", ["tree/link"], 2, b"", "adf_serve: cannot read 'tree/link': is a directory")
     os.symlink("nowhere", "tree/dead.adf")
-    room.report.check("a link that leads nowhere", room.run("check", "tree"), 2, lines, "'tree/dead.adf' cannot be read")
+    check("a link that leads nowhere", ["tree"], 2, lines, "adf_serve: cannot read 'tree/dead.adf': no such file", totals(7, 0, 1))
+    os.makedirs("packed/more")
+    for it in ("a.dms", "more/B.ADZ", "more/c.adf"):
+        shutil.copy("good.adf", f"packed/{it}")
+    os.mkdir("packed/d.dms")
+    skipped = [f"adf_serve: 'packed/{it}' skipped: a compressed file, which has to be unpacked first" for it in ("a.dms", "more/B.ADZ")]
+    check("compressed files", ["packed"], 0, b"packed/more/c.adf\tok\n", *skipped, totals(1))
+    os.remove("packed/more/c.adf")
+    check("only compressed files", ["packed"], 2, b"", *skipped, "adf_serve: 'packed': no image in this directory", totals(0))
+    check("a compressed file that is an argument is checked", ["packed/a.dms"], 0, b"ok\n")
+
+
+def strange_names(room: Room) -> None:
+    """Each name of a directory that is not UTF-8 is one unreadable line, and the other files are checked."""
+    os.mkdir("strange")
+    for it in (b"a.adf", b"b\xff\xc3%.adf", b"c\xe9.txt", b"z\xc3\xa9.adf"):
+        shutil.copy(b"good.adf", b"strange/" + it)
+    unread = [f"adf_serve: cannot read 'strange/{it}': name is not UTF-8" for it in ("b%FF%C3%25.adf", "c%E9.txt")]
+    ran = room.run("check", "strange")
+    texts = "".join(f"{it}\n" for it in [*unread, totals(2, 0, 2)]).encode()
+    room.report.same("names that are not UTF-8", ran, Ran(2, lines_with(["strange/a.adf", "strange/z\u00e9.adf"], "ok"), texts))
 
 
 def put_many(room: Room) -> None:
@@ -186,6 +219,63 @@ def parallel(room: Room) -> None:
     room.report.same("what is printed beside a terminal", output, room.run("check", "--jobs", "1", "many").output)
 
 
+# ---- files that are no images
+
+
+def other_files(room: Room) -> None:
+    """What a person is told of a file that is no image: its length, its first bytes, its only byte, and where a root is."""
+    good = room.content("good.adf")
+
+    def check(name: str, data: bytes, answer: str, *texts: str) -> None:
+        room.write("other.adf", data)
+        said = "".join(f"{it}\n" for it in texts).encode()
+        room.report.same(f"other files: {name}", room.run("check", "other.adf"), Ran(3, f"refused {answer}\n".encode(), said))
+
+    whole = "are no whole number of blocks: cut short, or not an ADF file"
+    few, many = (f"are too {it} for a volume, which has 16 to 101,602 blocks of 512 bytes" for it in ("few", "many"))
+    check("an image without its last byte", good[:-1], "NotWholeBlocks 0", f"901,119 bytes {whole}")
+    check("1,234 bytes", good[:1_234], "NotWholeBlocks 0", f"1,234 bytes {whole}")
+    check("no bytes", b"", "TooFewBlocks 0", f"0 bytes {few}")
+    check("fifteen blocks", good[: 15 * BLOCK], "TooFewBlocks 0", f"7,680 bytes {few}")
+    room.write("other.adf")
+    os.truncate("other.adf", LARGEST + BLOCK)
+    ran = room.run("check", "other.adf")
+    room.report.same("other files: too many blocks", ran, Ran(3, b"refused TooManyBlocks 0\n", f"52,020,736 bytes {many}\n".encode()))
+    for name, magic in (("gzip", b"\x1f\x8b"), ("ZIP", b"PK\x03\x04"), ("DMS", b"DMS!"), ("IPF", b"CAPS")):
+        packed = "which has the tracks of a disk and not its blocks" if name == "IPF" else "which has to be unpacked first"
+        looks = f"it looks like {'an' if name == 'IPF' else 'a'} {name} file, {packed}"
+        check(f"{name} of 1,234 bytes", magic + good[len(magic) : 1_234], "NotWholeBlocks 0", f"1,234 bytes {whole}", looks)
+        first = " ".join(f"{it:02X}" for it in (magic + good[len(magic) :])[:4])
+        begins = f"block 0: not an AmigaDOS disk: its boot block begins with {first} (a game's own format, perhaps)"
+        check(f"{name} of whole blocks", magic + good[len(magic) :], "NotADosDisk 0", begins, looks)
+        check(f"{name} without its last letter", magic[:-1] + b"?" + good[len(magic) : 1_234], "NotWholeBlocks 0", f"1,234 bytes {whole}")
+    game = bytes.fromhex("b433751b")
+    begins = "block 0: not an AmigaDOS disk: its boot block begins with B4 33 75 1B (a game's own format, perhaps)"
+    check("the boot block of a game", game + good[4:], "NotADosDisk 0", begins)
+    for byte in (0, 0xFF):
+        begins = f"block 0: not an AmigaDOS disk: its boot block begins with {' '.join([f'{byte:02X}'] * 4)} (a game's own format, perhaps)"
+        every = f"each of its bytes is {byte:02X}: nothing was written or read"
+        check(f"only {byte:02X}", bytes([byte]) * len(good), "NotADosDisk 0", begins, every)
+    begins = "block 0: not an AmigaDOS disk: its boot block begins with 00 00 00 00 (a game's own format, perhaps)"
+    check("only 00 but for the last byte", bytes(len(good) - 1) + b"x", "NotADosDisk 0", begins)
+    fits = "the root at block 880 fits 1,760 blocks; the file has"
+    roots: List[Tuple[str, bytes, int, List[str]]] = [
+        ("two cylinders more", good + bytes(44 * BLOCK), 902, [f"{fits} 1,804"]),
+        ("fewer blocks", good[: 1_000 * BLOCK], 500, [f"{fits} 1,000"]),
+        ("so few that the root is missing", good[: 800 * BLOCK], 400, []),
+    ]
+    for name, data, root, told in roots:
+        check(name, data, f"BadType {root}", f"block {root}, the root: its primary type is 0; it should be 2", *told)
+    room.write("other.adf", game + good[4:])
+    room.write("more.adf", good[:1_234])
+    ran = room.run("check", "--all", "other.adf", "more.adf")
+    texts = ["other.adf: block 0: not an AmigaDOS disk: its boot block begins with B4 33 75 1B", f"more.adf: 1,234 bytes {whole}", totals(0, 2)]
+    lines = lines_with(["other.adf"], "refused NotADosDisk 0") + lines_with(["more.adf"], "refused NotWholeBlocks 0")
+    room.report.check("other files: several, with their paths", ran, 3, lines, *texts)
+    ran = room.run("check", "other.adf", "more.adf")
+    room.report.same("other files: several, without texts", ran, Ran(3, lines, f"{totals(0, 2)}\n".encode()))
+
+
 # ---- JSON reports
 
 
@@ -221,7 +311,7 @@ def refused_objects(room: Room) -> None:
     image.put(block, 5, image.long(block, 5) + 16)
     room.write("sum.adf", bytes(image.data))
     told = json.loads(room.run("check", "--json", "sum.adf").output)
-    text = f"block {block}, in Work:S/startup-sequence: the longs of the block sum to 00000010, and not to 0"
+    text = f"block {block}, in Work:S/startup-sequence: its checksum is wrong (off by 00000010)"
     sums = (image.long(block, 5), (image.long(block, 5) - 16) % 2**32)
     fault = {"kind": "BadSum", "block": block, "path": "S/startup-sequence", "found": sums[0], "wanted": sums[1], "text": text}
     wanted: Dict[str, object] = {
@@ -365,6 +455,116 @@ def told_of(room: Room, image: Volume, shown: Shown) -> List[Shown]:
     every = [Shown(*(it[field] for field in Shown._fields)) for it in faults]
     return [it for it in every if it[:2] == shown[:2]]
 
+# ---- the texts of faults
+
+
+def slot_of(name: str) -> int:
+    """The slot of a name, by the hash of the AmigaDOS manual."""
+    value = len(name)
+    for letter in name.upper().encode():
+        value = (value * 13 + letter) & 0x7FF
+    return value % 72
+
+
+# Longs to change, each with its block and its new value; the kind of a fault, its block, and its text. The blocks are settled.
+ToldChange = Tuple[List[Tuple[int, int, int]], str, int, str]
+
+
+def texts_of_any_kind(image: Volume) -> Iterator[ToldChange]:
+    """Damages of both kinds of volume, with what a person is told."""
+    docs, long, top, startup = (image.header(it) for it in ("Docs", "long", "top", "S"))
+    extension, empty, first = image.long(long, 126), image.header("empty"), image.long(long, 77)
+    last = image.blocks - 1
+    inside = f"it should name one of 2 to {last}"
+    for block, at, value, kind, text in [
+        (ROOT, 0, 3, "BadType", "its primary type is 3; it should be 2"),
+        (ROOT, 3, 71, "BadType", "its number of hash slots is 71; it should be 72"),
+        (ROOT, 127, 2, "BadType", "its secondary type is 2; it should be 1"),
+        (ROOT, 125, 5, "BadParent", "its parent is block 5; it should be 0"),
+        (ROOT, 79, 1, "BadPointer", f"its bitmap block 1 names block 1; {inside}"),
+        (docs, 127, 7, "BadType", "its secondary type is 7; it should be 2 (a directory) or -3 (a file)"),
+        (docs, 127, 4, "LinkEntry", "it is a link (secondary type 4); only directories and files are supported"),
+        (docs, 127, ALL_ONES - 3, "LinkEntry", "it is a link (secondary type -4); only directories and files are supported"),
+        (extension, 127, 2, "BadType", "its secondary type is 2; it should be -3"),
+        (docs, 1, docs + 1, "BadOwnKey", f"its own number is {docs + 1}; it should be {docs}"),
+        (docs, 125, 5, "BadParent", f"its parent is block 5; it should be {ROOT}"),
+        (extension, 125, 5, "BadParent", f"its file header is block 5; it should be {long}"),
+        (docs, 124, 1, "BadPointer", f"its next entry names block 1; {inside}"),
+        (docs, 6, image.blocks, "BadPointer", f"its hash slot 0 names block {image.blocks}; {inside}"),
+        (long, 76, 1, "BadPointer", f"its pointer 2 names block 1; {inside}"),
+        (extension, 126, 1, "BadPointer", f"its extension block names block 1; {inside}"),
+        (docs, 108, 0x00446F63, "BadName", "its name has 0 characters; it should have 1 to 30"),
+        (docs, 108, 0x1F446F63, "BadName", "its name has 31 characters; it should have 1 to 30"),
+        (docs, 109, 0x3A000000, "BadName", "its name has a slash or a colon; no name may have one"),
+        (docs, 82, 0x50000000, "BadComment", "its comment has 80 characters; it should have at most 79"),
+        (long, 2, 71, "BadCount", "it has 71 data pointers; before an extension block it should have 72"),
+        (long, 2, 73, "BadCount", "it has 73 data pointers; it should have at most 72"),
+        (empty, 2, 73, "BadCount", "it has 73 data pointers; it should have at most 72"),
+        (extension, 2, 0, "BadCount", "it is an extension block without data pointers; it should have 1 to 72"),
+        (long, 81, 1, "BadCount", "its size of 1 bytes does not match its data blocks"),
+        (docs, 108, 0x04446F64, "WrongChain", f"its hash chain is that of slot {slot_of('Docs')}; its name belongs to slot {slot_of('Dods')}"),
+        # The walk takes the longs of a block in rising order.
+        (long, 76, first, "BlockUsedTwice", f"it is used twice: by block {long} (pointer 2) and by block {long} (pointer 1)"),
+        (top, 126, extension, "BlockUsedTwice", f"it is used twice: by block {top} (extension block) and by block {long} (extension block)"),
+        (docs, 6, ROOT, "BlockUsedTwice", f"it is the root; block {docs} (hash slot 0) names it too"),
+        (docs, 7, startup, "BlockUsedTwice", f"it is used twice: by block {ROOT} (hash slot {slot_of('S')}) and by block {docs} (hash slot 1)"),
+        (docs, 7, startup, "BadParent", f"its parent is block {ROOT}; block {docs} (hash slot 1) names it too"),
+        (docs, 124, startup, "BlockUsedTwice", f"it is used twice: by block {ROOT} (hash slot {slot_of('S')}) and by block {docs} (next entry)"),
+    ]:
+        named = {"BlockUsedTwice": value, "BadParent": value if at == 7 else block}.get(kind, block)
+        yield [(block, at, value)], kind, named, text
+    same = "block {} of the same directory has its name too"
+    yield [(docs, 108, 0x03746F70), (docs, 109, 0)], "DuplicateName", docs, same.format(top)
+    yield [(docs, 108, 0x03544F50), (docs, 109, 0)], "DuplicateName", top, same.format(docs)
+    free = "it is in use but marked free (adf_serve validate mends that)"
+    yield [(image.long(ROOT, 79), it, ALL_ONES) for it in range(1, 56)], "MarkedFree", ROOT, free
+    begins = "not an AmigaDOS disk: its boot block begins with 00 4F 53 00 (a game's own format, perhaps)"
+    yield [(0, 0, 0x004F5300)], "NotADosDisk", 0, begins
+    yield [(0, 0, 0x444F5302)], "UnsupportedKind", 0, "its file system is DOS\\2; only DOS\\0 (OFS) and DOS\\1 (FFS) are supported"
+
+
+def texts_of_ofs(image: Volume) -> Iterator[ToldChange]:
+    """Damages of OFS data blocks and of the links to them, with what a person is told."""
+    long = image.header("long")
+    blocks = image.pointers(long) + image.pointers(image.long(long, 126))
+    end = len(blocks) - 1
+    for place, at, value, kind, text in [
+        (1, 0, 2, "BadType", "its primary type is 2; it should be 8"),
+        (1, 1, 5, "BadParent", f"its file header is block 5; it should be {long}"),
+        (1, 2, 9, "BadSequence", "its sequence number is 9; its place in the file is 2"),
+        (72, 2, 1, "BadSequence", "its sequence number is 1; its place in the file is 73"),
+        (1, 3, 487, "BadCount", "it holds 487 bytes; it should hold 488"),
+        (end, 3, 489, "BadCount", "it holds 489 bytes; the last block of a file holds 1 to 488"),
+        (0, 4, 5, "BadPointer", f"its next data block is 5; it should be {blocks[1]}"),
+        (end, 4, 5, "BadPointer", "its next data block is 5; it should be 0"),
+    ]:
+        yield [(blocks[place], at, value)], kind, blocks[place], text
+    yield [(long, 4, 5)], "BadPointer", long, f"its first data block is 5; it should be {blocks[0]}"
+
+
+def texts_told(room: Room) -> None:
+    """What a person is told of each kind of fault, in JSON and on standard error."""
+    for kind in KINDS:
+        name = kind[0] if kind else "--ofs"
+        filled(room, "told.adf", *kind)
+        good = Volume(room.content("told.adf"))
+        page = good.long(ROOT, 79)
+        for count, (changes, fault, block, text) in enumerate([*texts_of_any_kind(good), *([] if kind else texts_of_ofs(good))]):
+            image = Volume(good.data)
+            for changed, at, value in changes:
+                image.put(changed, at, value)
+            for changed in {it[0] for it in changes} - {0}:
+                image.settle(changed, 0 if changed == page else 5)
+            room.write("told.adf", bytes(image.data))
+            ran = room.run("check", "--all", "--json", "told.adf")
+            faults = json.loads(ran.output)["faults"]
+            told = [it["text"] for it in faults if (it["kind"], it["block"]) == (fault, block)]
+            is_told = len(told) == 1 and told[0].startswith(f"block {block}") and told[0].endswith(f": {text}")
+            room.report.expect(f"{name}: text of fault {count}", is_told, f"{told} where {text!r} of block {block} is expected")
+            lines = ran.texts.decode().splitlines()
+            room.report.same(f"{name}: texts on standard error beside fault {count}", lines[: len(faults)], [it["text"].replace("\0", "%00") for it in faults])
+
+
 # ---- input without an end
 
 
@@ -381,9 +581,9 @@ def bounded(room: Room) -> None:
     room.report.same("its object", (ran.status, len(ran.output.splitlines())), (2, 1))
     room.write("sparse.adf")
     os.truncate("sparse.adf", 2**40)
-    room.report.check("a file of a terabyte", room.run("check", "sparse.adf"), 3, b"refused TooManyBlocks 0\n", "101,602")
+    room.report.check("a file of a terabyte", room.run("check", "sparse.adf"), 3, b"refused TooManyBlocks 0\n", "1,099,511,627,776 bytes", "101,602")
     os.truncate("sparse.adf", 2**40 + 1)
-    room.report.check("one of a byte more", room.run("check", "sparse.adf"), 3, NOT_BLOCKS, "512")
+    room.report.check("one of a byte more", room.run("check", "sparse.adf"), 3, NOT_BLOCKS, "1,099,511,627,777 bytes")
     os.remove("sparse.adf")
     good = room.content("good.adf")
     for size, status, line in ((len(good), 0, b"ok\n"), (0, 3, b"refused TooFewBlocks 0\n"), (LARGEST + BLOCK, 3, b"refused TooManyBlocks 0\n")):
@@ -793,9 +993,9 @@ class Damages:
             data[BLOCK * first : BLOCK * (first + 22)] = random.Random(number).randbytes(22 * BLOCK)
             yield self.struck(number, bytes(data), range(first, first + 22))
 
-    def changed(self, first: int) -> Iterator[Struck]:
-        """One to eight bytes from this one on are changed."""
-        for number in range(DAMAGED):
+    def changed(self, first: int, volumes: int) -> Iterator[Struck]:
+        """One to eight bytes from this one on are changed in each of so many volumes."""
+        for number in range(volumes):
             chance = random.Random(number)
             data = bytearray(self.good)
             places = [chance.randrange(first, len(data)) for _ in range(chance.randint(1, 8))]
@@ -851,15 +1051,15 @@ def damages(room: Room) -> None:
         said = kind[0] if kind else "--ofs"
         tried = Damages(room, kind)
         tried.all_true(f"salvage {said}: each track that is noise", tried.noise(), untrue)
-        tried.all_true(f"salvage {said}: {DAMAGED} volumes with a few changed bytes behind the boot blocks", tried.changed(2 * BLOCK), untrue)
-        tried.all_true(f"serve {said}: {DAMAGED} volumes with a few changed bytes", tried.changed(0), mistaken)
+        tried.all_true(f"salvage {said}: {DAMAGED // 5} volumes with a few changed bytes behind the boot blocks", tried.changed(2 * BLOCK, DAMAGED // 5), untrue)
+        tried.all_true(f"serve {said}: {DAMAGED} volumes with a few changed bytes", tried.changed(0, DAMAGED), mistaken)
         tried.all_true(f"salvage {said}: each long that is another", tried.swept(), untrue)
         tried.all_true(f"salvage {said}: one bit in each long", tried.flipped(), silent)
 
 
 def main(words: List[str]) -> int:
     random.seed(3)
-    parts = (named_images, directories, parallel, accepted_objects, refused_objects, shown_values, bounded, many_faults, model, longs_told, salvage, rows, damages)
+    parts = (named_images, directories, strange_names, other_files, parallel, accepted_objects, refused_objects, shown_values, texts_told, bounded, many_faults, model, longs_told, salvage, rows, damages)
     return try_all(words, Room, *parts)
 
 

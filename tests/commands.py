@@ -10,6 +10,7 @@ import datetime
 import fcntl
 import json
 import os
+import pty
 import re
 import resource
 import shlex
@@ -23,14 +24,14 @@ from typing import Callable, Dict, List, NamedTuple, Optional, Sequence, Set, Tu
 sys.dont_write_bytecode = True
 
 from harmful import FILE, Drawing
-from harness import BLOCK, TOP, Image, Ran, Room, fault_of, run, try_all
+from harness import BLOCK, TOP, Failed, Image, Ran, Room, Variables, fault_of, run, try_all
 
-COMMANDS = "blank info check list print extract add mkdir delete rename protect date comment relabel boot serve".split()
+COMMANDS = "blank info show map check list print extract add mkdir delete rename protect date comment relabel validate boot serve".split()
 # The commands for an image other than `info`, `check`, `list` and `serve`, with arguments.
 ON_IMAGES = [
     *("print IMAGE x", "extract IMAGE", "add IMAGE x", "mkdir IMAGE x", "delete IMAGE x", "rename IMAGE x y"),
     *("protect IMAGE x rwed", "date IMAGE x now", "comment IMAGE x y", "relabel IMAGE x", "boot IMAGE"),
-    *("boot --clear IMAGE", "boot --install IMAGE", "boot --save none.bin IMAGE", "boot --show IMAGE"),
+    *("boot --clear IMAGE", "boot --install IMAGE", "boot --save none.bin IMAGE", "boot --show IMAGE", "map IMAGE", "map --json IMAGE"),
 ]
 AT = "--days 1 --minutes 0 --ticks 0"
 # An entry of `list`, from its date on.
@@ -39,7 +40,10 @@ WRITTEN = "1.1 -1 0\n1.2 1 0\n1.3 -1 0\n"
 UNWRITTEN = "standard output cannot be written"
 # How long a run with growths refused may take, in seconds.
 LONGEST_OF_GROWTHS = 3600
-HELD = "another command works on it"
+HELD = "is locked by another command"
+# What is printed of a file whose length is no number of blocks.
+NOT_BLOCKS = "refused NotWholeBlocks 0\n"
+WHY_NOT_BLOCKS = " bytes are no whole number of blocks: cut short, or not an ADF file\n"
 
 
 class Row(NamedTuple):
@@ -171,13 +175,24 @@ def written_moments(tried: Commands) -> None:
         tried.report.same(f"'{when}' of a directory", date_of(image, directory_of(image)), longs_of(when))
     tried.rows(row("blank --date raw", ["blank", "--blocks", "16", "--date", "raw 7 1440 3000", "Work", "moment.adf"]))
     tried.report.same("a date outside the calendar", date_of(Image(tried.content("moment.adf")), 8), [7, 1440, 3000])
+    now_is_the_clock(tried, ["blank", "--blocks", "16", "--date", "now", "Work", "moment.adf"], lambda image: 8)
+    tried.write("makes-d", b'mkdir 0 "d"\n')
+    serve = ["serve", "--date", "now", "--out", "moment.adf", "moment.adf", "makes-d"]
+    now_is_the_clock(tried, serve, directory_of)
+    tried.rows(row("delete of the directory", "delete moment.adf d"))
     for words in (["mkdir", "--date", "now", "moment.adf", "d"], ["date", "moment.adf", "d", "now"]):
-        before = clock()
-        tried.rows(row(" ".join(words), words))
-        image = Image(tried.content("moment.adf"))
-        days, minutes, ticks = date_of(image, directory_of(image))
-        now = 3000 * (1440 * days + minutes) + ticks
-        tried.report.expect(f"{words[0]}: now is the clock's", before <= now <= clock(), (days, minutes, ticks))
+        now_is_the_clock(tried, words, directory_of)
+
+
+def now_is_the_clock(tried: Commands, words: List[str], block_of: Callable[[Image], int]) -> None:
+    """A command with the date `now` writes the host's time stamp to this block."""
+    before = clock()
+    ran = tried.run(*words)
+    tried.report.expect(f"{words[0]} with the date now is done", ran.status == 0, ran)
+    image = Image(tried.content("moment.adf"))
+    days, minutes, ticks = date_of(image, block_of(image))
+    now = 3000 * (1440 * days + minutes) + ticks
+    tried.report.expect(f"{words[0]}: now is the clock's", before <= now <= clock(), (days, minutes, ticks))
 
 
 def date_of(image: Image, block: int) -> List[int]:
@@ -202,8 +217,6 @@ def wrong_dates(tried: Commands) -> None:
             wrong(f"mkdir --date '{when}'", ["mkdir", f"--date={when}", "none.adf", "b"], f"'{when}' for '--date <WHEN>'", "now"),
             wrong(f"blank --date '{when}'", ["blank", f"--date={when}", "Work", "a"], f"'{when}' for '--date <WHEN>'", "YYYY-MM-DD"),
         )
-    for words in ("blank --date now Work a", "serve --date now a b"):
-        tried.rows(wrong(f"no clock: {words}", words, "'now' for '--date <WHEN>'", "YYYY-MM-DD"))
     for option in ("days", "minutes", "ticks"):
         for command in ("blank {} Work a", "serve {} a b", "mkdir {} none.adf b", "date {} none.adf b now", "boot {} none.adf"):
             words = command.format(f"--date 1990-01-01 --{option} 1")
@@ -223,7 +236,7 @@ def wrong_words(tried: Commands) -> None:
         wrong("a wrong command", "bank", "'bank'", "Usage", "COMMAND"),
         wrong("an empty word", "''", "''", "Usage"),
         wrong("a word for none", "--", "Usage"),
-        wrong("a word that is not UTF-8", ["check", "a\udcffb.adf"], "word 2, 'a", "is not UTF-8"),
+        wrong("an argument that is not UTF-8", ["check", "a\udcffb.adf"], "argument 2, 'a", "is not UTF-8"),
         wrong("help of no command", "help", "Usage", "COMMAND"),
         wrong("help of serve by words", "help serve", "SCRIPT"),
         wrong("no version", "--version", "'--version'"),
@@ -275,7 +288,7 @@ def wrong_words_for_files(tried: Commands) -> None:
     for words in ("print a", "mkdir a", "delete a"):
         tried.rows(wrong(f"{words} without a path", words, "PATH", "Usage"))
     tried.rows(
-        wrong("add without a file", "add a", "FILE", "Usage"),
+        wrong("add without a file", "add a", "<FILE> is missing", "--help"),
         wrong("rename without a new path", "rename a b", "NEW", "Usage"),
         wrong("protect without letters", "protect a b", "LETTERS", "Usage"),
         wrong("date without a date", "date a b", "WHEN", "Usage"),
@@ -350,7 +363,8 @@ def faulty_scripts(tried: Commands) -> None:
     ran = tried.run("serve", "--out", "faulty.adf", "ffs.adf", "other", "faulty")
     # (the second client's lines may be there)
     others = re.sub(rb"(?m)^(2\.1 [1-9][0-9]* 0|2 fault line 2)\n", b"", ran.output)
-    tried.report.check("a faulty script beside another", ran._replace(output=others), 3, b"1.1 0 209\n")
+    told = "adf_serve: client 2 ('faulty'), line 2: other ACTION: expected a number, found the end of the line\n"
+    tried.report.check("a faulty script beside another", ran._replace(output=others), 3, b"1.1 0 209\n", told)
     entries = "Volume Work\n     dir ---rwed 1978-01-01 00:00:00.00 d\n"
     # The longest script, and one byte more.
     tried.write("longest", b"#" * 1048576)
@@ -358,10 +372,70 @@ def faulty_scripts(tried: Commands) -> None:
     tried.write("die", b"die\ndiskinfo\n")
     tried.rows(
         row("the image is written after a faulty script", "list faulty.adf", 0, entries),
-        row("a long script of a client", "serve ffs.adf other long", 3, "1.1 0 209\n2 fault line 0\n"),
+        row("a long script of a client", "serve ffs.adf other long", 3, "1.1 0 209\n2 fault line 0\n", "client 2 ('long'), the script has more than 1,048,576 bytes"),
         row("the longest script of a client", "serve ffs.adf longest other", 0, "2.1 0 209\n"),
         row("a script that ends at the close", "serve ffs.adf die", 0, "1.1 -1 0\n1.2 closed\n"),
     )
+
+
+# Faulty lines, with the text that explains each. `BYTES` stands for 256 letters, and `MANY` for 70.
+FAULTY_LINES = [
+    *(("loc", "expected a keyword, as locate or write, found loc"), (" die", "expected a keyword, as locate or write, found a space")),
+    *(("Die", "expected a keyword, as locate or write, found Die"), ("die now", "die: expected the end of the line, found now")),
+    *(("die ", "die: expected the end of the line, found a space"), ("diskinfo 1", "diskinfo: expected the end of the line, found 1")),
+    ('locate 0 "f"', 'locate LOCK MODE "NAME": expected a number, found "f"'),
+    ("locate 0 -2", 'locate LOCK MODE "NAME": expected a text in quotes, found the end of the line'),
+    ("locate 0 -2 f", 'locate LOCK MODE "NAME": expected a text in quotes, found f'),
+    ('locate 0 -2 "f', 'locate LOCK MODE "NAME": expected a text in quotes, found "f'),
+    ('locate 0 -2 "f"g', 'locate LOCK MODE "NAME": expected a space or the end of the line, found g'),
+    ('locate 0  -2 "f"', 'locate LOCK MODE "NAME": expected a number, found a space'),
+    ('locate 0 2147483648 "f"', 'locate LOCK MODE "NAME": expected a number from -2,147,483,648 to 2,147,483,647, found 2147483648'),
+    *((f"{it} x", f"{it} LOCK: expected a number, found x") for it in ("free", "copy", "parent", "examine", "info")),
+    *(("next 1", "next LOCK KEY: expected a number, found the end of the line"), ("same 1 x", "same LOCK LOCK: expected a number, found x")),
+    *((f"{it} 0", f'{it} LOCK "NAME": expected a text in quotes, found the end of the line') for it in ("delete", "mkdir", "update", "input", "output")),
+    ('rename 0 "a" "b"', 'rename LOCK "NAME" LOCK "NAME": expected a number, found "b"'),
+    ("rename-disk x", 'rename-disk "NAME": expected a text in quotes, found x'),
+    ('rename-disk "BYTES"', 'rename-disk "NAME": expected a text of at most 255 bytes, found "x'),
+    ('protect 0 "f" -1', 'protect LOCK "NAME" BITS: expected a number from 0 to 4,294,967,295, found -1'),
+    ('comment 0 "f"', 'comment LOCK "NAME" "COMMENT": expected a text in quotes, found the end of the line'),
+    ('date 0 "f" 1 2', 'date LOCK "NAME" DAYS MINUTES TICKS: expected a number, found the end of the line'),
+    ("read 1 1048577", "read HANDLE COUNT: expected a number from 0 to 1,048,576, found 1048577"),
+    *(("write 1", 'write HANDLE "TEXT": expected a text in quotes, found the end'), ("end 4294967296", "end HANDLE: expected a number from 0 to")),
+    *((f"{it} 1 2", f"{it} HANDLE OFFSET MODE: expected a number, found the end of the line") for it in ("seek", "size")),
+    *(("other +5", "other ACTION: expected a number, found +5"), ("other MANY", f"other ACTION: expected a number, found {'y' * 60}\n")),
+    *(("free $9", "free LOCK: expected each $k to be a reply with a value, found $9"), ("free $x", "free LOCK: expected a number, found $x")),
+]
+
+
+def explained_lines(tried: Commands) -> None:
+    """What standard error says of a faulty line, for `serve` and for the program without arguments. Standard output is as before."""
+    for line, told in FAULTY_LINES:
+        script = f"# a script\n\nother 5\n{line}\nother 6\n".replace("BYTES", "x" * 256).replace("MANY", "y" * 70).encode()
+        tried.write("faulty", script)
+        ran = tried.run("serve", "ffs.adf", "faulty")
+        tried.report.check(f"serve: {line}", ran, 3, b"1.1 0 209\n1 fault line 4\n", f"adf_serve: client 1 ('faulty'), line 4: {told}")
+        ran = tried.run(input=script)
+        tried.report.check(f"a script: {line}", ran, 3, b"1.1 0 209\n1 fault line 4\n", f"adf_serve: line 4: {told}")
+    ran = tried.run(input=b"#" * 1048577)
+    tried.report.check("a script that is too long", ran, 3, b"1 fault line 0\n", "adf_serve: the script has more than 1,048,576 bytes\n")
+    ran = tried.run(input=b'other 5\nlocate 0 -2 "\xff\x1b"x\n')
+    told = 'line 2: locate LOCK MODE "NAME": expected a space or the end of the line, found x'
+    tried.report.check("a faulty line with bytes that are no text", ran, 3, b"1.1 0 209\n1 fault line 2\n", told)
+
+
+def at_a_terminal(tried: Commands) -> None:
+    """The program without arguments says at a terminal what it waits for, and elsewhere nothing."""
+    for name, is_there in (("a terminal", True), ("a pipe", False)):
+        reader, writer = pty.openpty() if is_there else os.pipe()
+        terminal, keys = (writer, reader) if is_there else (reader, writer)
+        os.write(keys, b"other 5\n\x04" if is_there else b"other 5\n")
+        if not is_there:
+            os.close(keys)
+        ran = tried.run(before=reads_from(terminal))
+        parts = ["waiting for the lines of a script", "Ctrl-D", "adf_serve --help"] if is_there else []
+        tried.report.check(f"a script from {name}", ran, 0, b"1.1 0 209\n", *parts)
+        for it in (terminal, keys) if is_there else (terminal,):
+            os.close(it)
 
 
 def turns(tried: Commands) -> None:
@@ -410,8 +484,8 @@ class Growths:
             Ran(1, b"", b"error: out of memory\n"): "words",
             Ran(2, b"", b"adf_serve: " + no_memory): "memory",
             Ran(2, b"", b"adf_serve: a thread cannot be made\n"): "thread",
-            Ran(2, replies + b"2.41 1 0\n", b"adf_serve: 'grown.adf' cannot be written: " + no_memory): "written",
-            Ran(2, replies + b"2.41 1 0\n", b"adf_serve: 'grown.adf' cannot be written: no file can be made beside it: out of memory\n"): "written",
+            Ran(2, replies + b"2.41 1 0\n", b"adf_serve: cannot write 'grown.adf': " + no_memory): "written",
+            Ran(2, replies + b"2.41 1 0\n", b"adf_serve: cannot write 'grown.adf': no file can be made beside it: out of memory\n"): "written",
         }
 
     def built(self) -> bool:
@@ -528,14 +602,15 @@ def directories_on_the_way(tried: Commands) -> None:
         row("a file for mkdir --parents", "add way.adf f"),
     )
     before = tried.content("way.adf")
-    kind, there, name = "object is not of required type", "object already exists", "object name invalid"
+    kind, there = "object is not of required type", "object already exists"
     long = "n" * 31
+    many = f"'{long}' has 31 characters; AmigaDOS allows 30"
     for words, told, text in (
         ("k F/g", "212 F/g", kind),
         ("k F/g/h", "212 F/g/h", kind),
         ("k f", "203 f", there),
-        (f"k m/{long}/o", f"210 m/{long}/o", name),
-        (f"k m/{long}", f"210 m/{long}", name),
+        (f"k m/{long}/o", f"210 m/{long}/o", many),
+        (f"k m/{long}", f"210 m/{long}", many),
         ("k /up", "205 /up", "object not found"),
     ):
         tried.rows(row(f"mkdir --parents {words}", f"mkdir --parents way.adf {words}", 3, f"refused {told}\n", text))
@@ -591,15 +666,15 @@ def files_under_names(tried: Commands) -> None:
     ]
     tried.report.expect("list of files under names", sorted(listed) == sorted(wanted), listed)
     before = tried.content("named.adf")
-    there, name, kind = "object already exists", "object name invalid", "object is not of required type"
+    there, kind = "object already exists", "object is not of required type"
     for words, told, text in (
         ("--as IN named.adf f", "203 IN", there),
         ("--as IN named.adf -", "203 IN", there),
         ("--force --as d named.adf f", "212 d", kind),
-        (f"--as {'n' * 31} named.adf f", f"210 {'n' * 31}", name),
-        ("--as a/b named.adf f", "210 a/b", name),
-        ("--as a:b named.adf f", "210 a:b", name),
-        ("--as '' named.adf f", "210 ", name),
+        (f"--as {'n' * 31} named.adf f", f"210 {'n' * 31}", f"'{'n' * 31}' has 31 characters; AmigaDOS allows 30"),
+        ("--as a/b named.adf f", "210 a/b", "'a/b' has a '/'"),
+        ("--as a:b named.adf f", "210 a:b", "'a:b' has a ':'"),
+        ("--as '' named.adf f", "210 ", "'' has no name"),
         ("--as a --to x/y named.adf f", "204 x/y", "directory not found"),
         ("--as a --to in named.adf f", "212 in", kind),
     ):
@@ -617,8 +692,8 @@ def files_under_names(tried: Commands) -> None:
         lacking("add --as of a link to a directory", "add --as a named.adf to-named", "'to-named'", one),
         lacking("add --as of a device", "add --as a named.adf /dev/zero", "'/dev/zero'", one),
         lacking("add --as of a note", "add --as a named.adf g.uaem", "'g.uaem'", one),
-        lacking("add --as of nothing", "add --as a named.adf nothing", "'nothing'", "cannot be read"),
-        lacking("add --as of the file named -", "add --as a named.adf ./-", "'./-'", "cannot be read"),
+        lacking("add --as of nothing", "add --as a named.adf nothing", "cannot read 'nothing': no such file"),
+        lacking("add --as of the file named -", "add --as a named.adf ./-", "cannot read './-': no such file"),
     )
     ran = tried.run("add", "--as", "long", "named.adf", "-", input=bytes(16 * BLOCK + 2))
     tried.report.check("add - of more bytes than the disk has", ran, 3, b"refused 221 long\n", "disk is full", "18 blocks")
@@ -638,23 +713,27 @@ def files_under_names(tried: Commands) -> None:
 def refused_changes(tried: Commands) -> None:
     before = tried.content("moved.adf")
     kind, there, gone = "object is not of required type", "object already exists", "object not found"
+    long = "n" * 31
+    many = f"'{long}' has 31 characters; AmigaDOS allows 30"
     for name, words, told, text in (
         ("list of a path that is not there", "list moved.adf d/x", "205 d/x", gone),
         ("list of a path through what is not there", "list moved.adf x/y", "204 x/y", "directory not found"),
         ("mkdir of what is there", "mkdir moved.adf new D", "203 D", there),
         ("mkdir where no directory is", "mkdir moved.adf x/y", "204 x/y", "directory not found"),
-        ("mkdir with no name", "mkdir moved.adf d/", "210 d/", "object name invalid"),
+        ("mkdir with no name", "mkdir moved.adf d/", "210 d/", "'d/' has no name at its end"),
         ("delete of a directory with entries", "delete moved.adf d", "216 d", "directory not empty"),
         ("delete of what is not there", "delete --all moved.adf x", "205 x", gone),
         ("delete of the root", "delete --all moved.adf :", "212 :", kind),
-        ("rename under itself", "rename moved.adf d d/e", "202 d", "object is in use"),
+        ("rename to a name of 31 letters", f"rename moved.adf d {long}", f"210 {long}", many),
+        ("relabel with a name of 31 letters", f"relabel moved.adf {long}", f"210 {long}", many),
+        ("rename under itself", "rename moved.adf d d/e", "202 d", "cannot move 'd' into itself"),
         ("protect of the root", "protect moved.adf : +s", "212 :", kind),
         ("protect of what is not there", "protect moved.adf x -w", "205 x", gone),
         ("date of the root", "date moved.adf : 1990-01-01", "212 :", kind),
         ("date of what is not there", "date moved.adf d/x now", "205 d/x", gone),
         ("a comment of 80 letters", f"comment moved.adf d {'x' * 80}", "220 d", "comment is too long"),
-        ("relabel with a separator", "relabel moved.adf a/b", "210 a/b", "object name invalid"),
-        ("print of a directory", "print moved.adf d", "212 d", kind),
+        ("relabel with a separator", "relabel moved.adf a/b", "210 a/b", "'a/b' has a '/'"),
+        ("print of a directory", "print moved.adf d", "212 d", "'d' is a directory; print needs a file"),
         ("print of what is not there", "print moved.adf x", "205 x", gone),
         ("extract of what is not there", "extract --to out moved.adf d x", "205 x", gone),
     ):
@@ -724,6 +803,95 @@ def bits_of(shown: str) -> int:
     return sum(128 >> it for it in range(8) if (shown[it] != "-") == (it < 4))
 
 
+def precious_files(tried: Commands) -> None:
+    """`--out` writes over an image, an empty file and a device, and over any other file only with `--over`."""
+    notes, image = b"Do not lose this\n", tried.content("moved.adf")
+    shutil.copy("moved.adf", "kept.adf")
+    changes = [
+        *("mkdir --out Notes kept.adf n", "delete --out Notes kept.adf d/\u00e9/f", "boot --clear --out Notes kept.adf"),
+        *("add --out Notes kept.adf write", "add --as x --out Notes kept.adf -", "protect --out Notes kept.adf d +s"),
+    ]
+    for start in (notes, b"D", b"DO", b"dos\0", b"\0DOS\0", b"PK\3\4"):
+        tried.write("Notes", start)
+        for words in changes:
+            tried.rows(lacking(f"{words} over {start!r}", words, "adf_serve: 'Notes' is not an image: --over writes over it\n"))
+        tried.stays(f"{start!r} stays", "Notes", start)
+    tried.stays("and so does the image", "kept.adf", image)
+    tried.rows(
+        lacking("an image that is not there goes first", "mkdir --out Notes none.adf n", "cannot read 'none.adf': no such file"),
+        lacking("a precious file goes before a refusal", "mkdir --out Notes kept.adf d", "'Notes' is not an image"),
+        wrong("a wrong word goes before a precious file", "mkdir --out Notes --over=x kept.adf n", "--over"),
+    )
+    for start in (notes, b"", b"DOS", b"DOS\0 is no image"):
+        tried.write("Notes", start)
+        option = "--over " if start == notes else ""
+        tried.rows(
+            row(f"mkdir {option}--out over {start!r}", f"mkdir {option}--out Notes kept.adf n"),
+            row(f"check of what is written over {start!r}", "check Notes", 0, "ok\n"),
+        )
+    tried.rows(
+        row("mkdir --out over its own image", "mkdir --out kept.adf kept.adf own"),
+        row("mkdir --over without --out", "mkdir --over kept.adf other"),
+        row("list of what --out over the image wrote", "list kept.adf own", 0, "Volume Work\n"),
+        row("blank over notes", "blank --ffs Work notes.txt"),
+        row("serve --out over notes", "serve --out other ffs.adf write", 0, WRITTEN),
+    )
+    tried.rows(row("check of what serve wrote over", "check other", 0, "ok\n"))
+    tried.write("other", b"other 999\n")
+
+
+def named_entries(tried: Commands) -> None:
+    """`delete --all` names the protected entry, in the letters of the disk, and deletes nothing."""
+    tried.rows(
+        row("an image for protected entries", "blank --ffs Work kept.adf"),
+        row("directories for protected entries", "mkdir kept.adf d d/e d/e/\u00c9 d/g"),
+        row("a protected entry", "protect kept.adf d/e/\u00c9 rwe"),
+        row("a protected directory", "protect kept.adf d/g rwe"),
+    )
+    before = tried.content("kept.adf")
+    for path, names in (("D", ["d/e/\u00c9", "d/g"]), ("d/E", ["d/e/\u00c9"]), ("D/E/\u00c9", ["D/E/\u00c9"]), ("d/g", ["d/g"])):
+        ran = tried.run("delete", "--all", "kept.adf", path)
+        lines = [f"refused 222 {it}\n".encode() for it in names]
+        name = f"delete --all of {path} names what is protected"
+        tried.report.check(name, ran, 3, next((it for it in lines if it == ran.output), lines[0]), "object is protected from deletion")
+    tried.rows(row("delete of a protected entry", "delete kept.adf D/G", 3, "refused 222 D/G\n", "'D/G': object is protected"))
+    tried.stays("what is refused deletes nothing", "kept.adf", before)
+    tried.rows(
+        row("delete --all --force", "delete --all --force kept.adf d"),
+        row("list after delete --all --force", "list kept.adf", 0, "Volume Work\n"),
+    )
+
+
+def closed_input(tried: Commands) -> None:
+    """`add -` with a closed standard input, whose number the image's file would get, is refused; an empty one is a file."""
+    tried.rows(row("an image for a closed input", "blank --ffs Work kept.adf"))
+    before = tried.content("kept.adf")
+    ran = tried.run("add", "--as", "closed", "kept.adf", "-", before=partial(os.close, 0))
+    tried.report.check("add - of a closed input", ran, 2, b"", "adf_serve: standard input cannot be read\n")
+    tried.stays("a closed input adds nothing", "kept.adf", before)
+    tried.rows(row("add - of an empty input", "add --as empty kept.adf -"), row("print of it", "print kept.adf empty"))
+
+
+# Words that are no commands, and are like harmless ones, or like `delete`, `blank` and `boot`.
+LIKE_COMMANDS = [
+    *("select", "release", "complete", "create", "remove", "erase", "format", "black", "bank", "plank", "lank", "root", "book", "bot"),
+    *("boots", "deleted", "dlete", "delet", "relete", "relist", "details", "blan", "blanks", "lable", "lst", "chek", "prin", "tell"),
+]
+
+
+def tips(tried: Commands) -> None:
+    """No tip for a command that is not there leads to one that may take something away."""
+    others = [it for it in COMMANDS if it not in ("blank", "boot", "delete")]
+    near = {it[:at] + it[at + 1 :] for it in others for at in range(len(it))} | {it + it[-1] for it in others}
+    for word in sorted({*near, *LIKE_COMMANDS} - {*COMMANDS}):
+        ran = tried.run(word, "x.adf")
+        told = [it for it in ran.texts.decode().splitlines() if "tip:" in it]
+        leads = [it for it in ("'blank'", "'boot'", "'delete'") if any(it in line for line in told)]
+        tried.report.expect(f"a tip for {word}", ran.status == 1 and not leads, ran)
+    tried.rows(wrong("a tip leads to a harmless command", "lst x.adf", "tip", "'list'"))
+    tried.rows(wrong("help still names all commands", "help", "delete", "blank", "boot"))
+
+
 def boot_blocks(tried: Commands) -> None:
     before = tried.content("moved.adf")
     tried.write("code", b"DOS\0aaaacode")
@@ -738,7 +906,7 @@ def boot_blocks(tried: Commands) -> None:
     tried.write("code", bytes(1025))
     tried.rows(
         row("boot with 1,025 bytes", "boot moved.adf code", 3, "", "'code' has more than 1,024 bytes"),
-        lacking("boot with a file that is not there", "boot moved.adf none", "'none' cannot be read"),
+        lacking("boot with a file that is not there", "boot moved.adf none", "cannot read 'none': no such file"),
     )
     tried.stays("a boot block that is none changes nothing", "moved.adf", before)
 
@@ -918,17 +1086,17 @@ def saved_boots(tried: Commands) -> None:
         lacking("boot --save over its image", "boot --save boots.adf boots.adf", "'boots.adf' is there already"),
         lacking("boot --save through a link that leads nowhere", "boot --save link.boot boots.adf", "'link.boot' is there already"),
         lacking("boot --save over a directory", ["boot", "--save", str(tried.top), "boots.adf"], f"'{tried.top}' is there already"),
-        lacking("boot --save in a folder that is not there", "boot --save none/x boots.adf", "'none/x' cannot be written"),
-        lacking("boot --save under a file", "boot --save saved.boot/x boots.adf", "'saved.boot/x' cannot be written"),
-        lacking("boot --save of an image that is not there", "boot --save x.boot none.adf", "'none.adf' cannot be read"),
-        row("boot --save of a file that is no image", "boot --save x.boot saved.boot", 3, "refused TooFewBlocks 0\n"),
+        lacking("boot --save in a folder that is not there", "boot --save none/x boots.adf", "cannot write 'none/x': no such directory"),
+        lacking("boot --save under a file", "boot --save saved.boot/x boots.adf", "cannot write 'saved.boot/x': a part of the path is no directory"),
+        lacking("boot --save of an image that is not there", "boot --save x.boot none.adf", "cannot read 'none.adf': no such file"),
+        row("boot --save of a file that is no image", "boot --save x.boot saved.boot", 3, "refused TooFewBlocks 0\n", "1,024 bytes are too few"),
     )
     tried.stays("boot --save writes over no file", "saved.boot", saved)
     tried.stays("boot --save writes over no image", "boots.adf", image)
     for name in ("x.boot", "nowhere"):
         tried.absent(f"no file {name}", name)
     few = tried.run("boot", "--save", "few.boot", "boots.adf", before=partial(resource.setrlimit, resource.RLIMIT_FSIZE, (1000, 1000)))
-    tried.report.check("boot --save past the limit on files", few, 2, b"", "'few.boot' cannot be written", "ulimit")
+    tried.report.check("boot --save past the limit on files", few, 2, b"", "cannot write 'few.boot': ", "ulimit")
     tried.absent("no file past the limit", "few.boot")
 
 
@@ -966,8 +1134,8 @@ def held_images(tried: Commands) -> None:
             row("check of an image that is held", "check moved.adf", 0, "ok\n", "'moved.adf'", "the state saved last is read"),
             row("boot --save of an image that is held", "boot --save held.boot moved.adf", 0, "", "'moved.adf'", "the state saved last is read"),
             row("boot --show of an image that is held", "boot --show moved.adf", 0, BLANK_SHOWN, "'moved.adf'", "the state saved last is read"),
-            row("serve: a refused image goes before a held --out", "serve --out moved.adf write other", 3, "refused NotWholeBlocks 0\n"),
-            lacking("serve: a missing script goes before a held --out", "serve --out moved.adf ffs.adf none", "'none' cannot be read"),
+            row("serve: a refused image goes before a held --out", "serve --out moved.adf write other", 3, NOT_BLOCKS, WHY_NOT_BLOCKS),
+            lacking("serve: a missing script goes before a held --out", "serve --out moved.adf ffs.adf none", "cannot read 'none': no such file"),
             row("serve: the work goes before a held --out", "serve --out moved.adf ffs.adf other", 2, "1.1 0 209\n", "'moved.adf'", HELD),
         )
 
@@ -976,21 +1144,21 @@ def missing_files(tried: Commands) -> None:
     before = tried.content("ffs.adf")
     for words in ON_IMAGES:
         words = words.replace("IMAGE", "none.adf")
-        tried.rows(lacking(f"an image that is not there: {words}", words, "'none.adf' cannot be read"))
+        tried.rows(lacking(f"an image that is not there: {words}", words, "cannot read 'none.adf': no such file"))
     for command in ("info", "list"):
         tried.rows(
-            lacking(f"{command} of a file that is not there", [command, "none.adf"], "'none.adf' cannot be read"),
-            lacking(f"{command} of a directory", [command, str(tried.top)], f"'{tried.top}' cannot be read"),
+            lacking(f"{command} of a file that is not there", [command, "none.adf"], "cannot read 'none.adf': no such file"),
+            lacking(f"{command} of a directory", [command, str(tried.top)], f"cannot read '{tried.top}': is a directory"),
         )
-    unwritten, told = "'none/x.adf' cannot be written", "1.1 0 209\n"
+    unwritten, told = "cannot write 'none/x.adf': no such directory", "1.1 0 209\n"
     scripts = ["serve", "--out", "none.out", "ffs.adf", str(tried.top), "none"]
-    under = "'ffs.adf/x' cannot be written"
-    full = "'/dev/full' cannot be written"
+    under = "cannot write 'ffs.adf/x': a part of the path is no directory"
+    full = "cannot write '/dev/full': the disk is full"
     tried.rows(
         lacking("mkdir --out in a folder that is not there", "mkdir moved.adf more --out none/x.adf", unwritten),
-        lacking("serve of an image that is not there", "serve none.adf none", "'none.adf' cannot be read"),
-        lacking("serve of a script that is not there", "serve --out none.out ffs.adf other none", "'none' cannot be read"),
-        lacking("serve of a directory as a script", scripts, f"'{tried.top}' cannot be read"),
+        lacking("serve of an image that is not there", "serve none.adf none", "cannot read 'none.adf': no such file"),
+        lacking("serve of a script that is not there", "serve --out none.out ffs.adf other none", "cannot read 'none': no such file"),
+        lacking("serve of a directory as a script", scripts, f"cannot read '{tried.top}': is a directory"),
         lacking("blank in a folder that is not there", "blank Work none/x.adf", unwritten),
         lacking("blank onto a full device", "blank Work /dev/full", full),
         row("serve --out in a folder that is not there", "serve --out none/x.adf ffs.adf other", 2, told, unwritten),
@@ -1001,14 +1169,46 @@ def missing_files(tried: Commands) -> None:
     tried.stays("the image is as it was", "ffs.adf", before)
 
 
+def denied_files(tried: Commands) -> None:
+    """Files and directories that this user may not use. Root gives up its right to use them all the same."""
+    front = [] if os.geteuid() else ["setpriv", "--bounding-set=-dac_override,-dac_read_search"]
+    if front and not shutil.which("setpriv"):
+        tried.report.lacks("files that may not be used", "setpriv")
+        return
+    os.mkdir("locked")
+    for name in ("denied.adf", "locked/in.adf"):
+        shutil.copy("ffs.adf", name)
+    tried.write("secret", b"x")
+    before = tried.content("ffs.adf")
+    modes = {"denied.adf": 0, "secret": 0, "locked": 0o555}
+    for name, mode in modes.items():
+        os.chmod(name, mode)
+    unread, beside = "cannot read 'denied.adf': permission denied", "no file can be made beside it: permission denied"
+    for words, told in (
+        *((f"{it} denied.adf", unread) for it in ("info", "show", "check", "list", "extract", "boot --show")),
+        *((f"{it} denied.adf x", unread) for it in ("print", "mkdir", "delete")),
+        *((f"{it} secret", "cannot read 'secret': permission denied") for it in ("add ffs.adf", "add --as x ffs.adf", "boot ffs.adf", "serve ffs.adf")),
+        ("blank Work locked/new.adf", f"cannot write 'locked/new.adf': {beside}"),
+        ("mkdir locked/in.adf x", f"cannot write 'locked/in.adf': {beside}"),
+        ("mkdir --out locked/new.adf ffs.adf x", f"cannot write 'locked/new.adf': {beside}"),
+        ("extract --to locked/out moved.adf", "cannot write 'locked/out': permission denied"),
+        ("extract --bundle locked/out moved.adf", "cannot write 'locked/out': permission denied"),
+    ):
+        tried.report.check(f"denied: {words}", tried.run(*words.split(), front=front), 2, b"", told)
+    for name in modes:
+        os.chmod(name, 0o755)
+    tried.report.same("nothing is written where it is denied", os.listdir("locked"), ["in.adf"])
+    tried.stays("and the image stays", "ffs.adf", before)
+
+
 def first_faults(tried: Commands) -> None:
     """The first fault counts, in the order of the arguments: the arguments, the image and its check, the scripts one by
     one."""
     serve = "serve --out none.out"
-    image, script = "refused NotWholeBlocks 0\n", "'none.b' cannot be read"
+    script = "cannot read 'none.b': no such file"
     tried.rows(
         wrong("serve: words before the image", f"{serve} --turns many none.adf none", "'many'", "--turns"),
-        row("serve: a script that is taken for an image", f"{serve} write none", 3, image),
+        row("serve: a script that is taken for an image", f"{serve} write none", 3, NOT_BLOCKS, WHY_NOT_BLOCKS),
         lacking("serve: the first script that is not there", f"{serve} ffs.adf write none.b none.c", script),
     )
 
@@ -1156,26 +1356,30 @@ def forms_of_lists(tried: Commands) -> None:
 
 
 def refused_images(tried: Commands) -> None:
-    """Refused images, with each command that reads one."""
+    """Refused images, with each command that reads one: the line of each, and on standard error why."""
     blank = tried.content("ffs.adf")
-    for name, image, told in (
-        ("empty.adf", b"", "TooFewBlocks 0"),
-        ("short.adf", blank[:7680], "TooFewBlocks 0"),
-        ("odd.adf", blank[:901119], "NotWholeBlocks 0"),
-        ("huge.adf", blank + bytes(52020736 - len(blank)), "TooManyBlocks 0"),
-        ("kind.adf", poked(blank, 0, 0, b"DOS\2"), "UnsupportedKind 0"),
-        ("nodos.adf", poked(blank, 0, 0, b"\0"), "NotADosDisk 0"),
-        ("sum.adf", poked(blank, 880, 100, b"\1"), "BadSum 880"),
-        ("marked.adf", drawn(blank, "881.28=0xFFFF7FFF", "881.0"), "MarkedFree 880"),
-        ("page.adf", drawn(blank, "880.78=0 881.3=5", "880.5"), "BadSum 881"),
+    few, many = " bytes are too few for a volume, which has 16 to 101,602 blocks of 512 bytes\n", " bytes are too many for a volume"
+    for name, image, told, text in (
+        ("empty.adf", b"", "TooFewBlocks 0", f"0{few}"),
+        ("short.adf", blank[:7680], "TooFewBlocks 0", f"7,680{few}"),
+        ("odd.adf", blank[:901119], "NotWholeBlocks 0", f"901,119{WHY_NOT_BLOCKS}"),
+        ("cut.adf", blank[:1234], "NotWholeBlocks 0", f"1,234{WHY_NOT_BLOCKS}"),
+        ("huge.adf", blank + bytes(52020736 - len(blank)), "TooManyBlocks 0", f"52,020,736{many}"),
+        ("kind.adf", poked(blank, 0, 0, b"DOS\2"), "UnsupportedKind 0", "its file system is DOS\\2; only DOS\\0 (OFS) and DOS\\1 (FFS) are"),
+        ("nodos.adf", poked(blank, 0, 0, b"\0"), "NotADosDisk 0", "not an AmigaDOS disk: its boot block begins with 00 4F 53 01"),
+        ("sum.adf", poked(blank, 880, 100, b"\1"), "BadSum 880", "block 880, the root: its checksum is wrong (off by 01000000)\n"),
+        ("marked.adf", drawn(blank, "881.28=0xFFFF7FFF", "881.0"), "MarkedFree 880", "it is in use but marked free (adf_serve validate mends"),
+        ("page.adf", drawn(blank, "880.78=0 881.3=5", "880.5"), "BadSum 881", "its checksum is wrong"),
     ):
         tried.write(name, image)
         refused = f"refused {told}\n"
-        tried.rows(row(f"check of {name}", ["check", name], 3, refused, "block"))
-        for words in ("info IMAGE", "list IMAGE", *ON_IMAGES):
-            tried.rows(row(f"{words.split()[0]} of {name}", words.replace("IMAGE", name), 3, refused))
+        texts = [text] if told.endswith(" 0") else [text, f"block {told.split()[1]}"]
+        for words in ("check IMAGE", "info IMAGE", "list IMAGE", *ON_IMAGES):
+            tried.rows(row(f"{words.split()[0]} of {name}", words.replace("IMAGE", name), 3, refused, *texts))
+        if name not in ("marked.adf", "page.adf"):
+            tried.rows(row(f"validate of {name}", ["validate", name], 3, refused, *texts))
         tried.stays(f"{name} stays", name, image)
-        tried.rows(row(f"serve of {name}", ["serve", "--out", "none.out", name, "none"], 3, refused))
+        tried.rows(row(f"serve of {name}", ["serve", "--out", "none.out", name, "none"], 3, refused, *texts))
     tried.absent("a refused image writes nothing", "none.out")
     tried.absent("a refused image saves no boot block", "none.bin")
     os.remove("huge.adf")
@@ -1191,6 +1395,202 @@ def stale_image(tried: Commands) -> None:
     serve = "serve --out valid.adf stale.adf other"
     tried.rows(row("serve of an image that is not validated", serve, 0, "1.1 0 209\n"))
     tried.stays("what serve wrote is validated", "valid.adf", tried.content("ffs.adf"))
+
+
+# ---- What a person wants to know of a volume ----
+
+
+# The letters of a terminal that are bold.
+BOLD, AS_BEFORE = b"\x1b[1m", b"\x1b[0m"
+
+
+def shown_text(volume: str, contents: str, created: str, changed: str, boot: str = "none") -> str:
+    """The text of `show`, by its lines."""
+    return f"{volume}\n{contents}\ncreated {created}, changed {changed}\nboot block: {boot}\n"
+
+
+def named(image: bytes, label: bytes) -> bytes:
+    """An image of a floppy with another label."""
+    changed = Image(image)
+    start = 880 * BLOCK + 432
+    changed.data[start : start + 31] = bytes([len(label)]) + label.ljust(30, b"\0")
+    changed.settle(880)
+    return bytes(changed.data)
+
+
+def shown_volumes(tried: Commands) -> None:
+    """`show` of volumes of each kind, as text and as JSON. The numbers of used and free blocks: a blank volume uses its root
+    and its bitmap blocks, a file its header and one block for each 512 bytes (488 with OFS), a directory one block; all but the
+    two boot blocks are used or free."""
+    first, later = "1990-01-01 12:00:00", "1991-03-04 18:22:10"
+    for words in (
+        f"blank --ffs --date '{first}' Work show.adf",
+        f"blank --date '{first}' Work show-ofs.adf",
+        f"blank --hd --date '{first}' High show-hd.adf",
+        f"blank --ffs --blocks 16 --date '{first}' Small show-16.adf",
+        f"blank --ffs --blocks 101602 --date '{first}' Large show-large.adf",
+    ):
+        tried.rows(row(words, words))
+    blank = tried.content("show.adf")
+    ffs = "Work   FFS, double density, 1,760 blocks, bitmap valid"
+    tried.rows(
+        row("show of a blank volume", "show show.adf", 0, shown_text(ffs, "0 files, 0 directories, 1 KB used, 878 KB free", first, first)),
+        row("show of OFS", "show show-ofs.adf", 0, shown_text(ffs.replace("FFS", "OFS"), "0 files, 0 directories, 1 KB used, 878 KB free", first, first)),
+        row(
+            *("show of high density", "show show-hd.adf", 0),
+            shown_text("High   OFS, high density, 3,520 blocks, bitmap valid", "0 files, 0 directories, 1 KB used, 1,758 KB free", first, first),
+        ),
+        row(
+            *("show of 16 blocks", "show show-16.adf", 0),
+            shown_text("Small   FFS, 16 blocks, bitmap valid", "0 files, 0 directories, 1 KB used, 6 KB free", first, first),
+        ),
+        row(
+            *("show of 101,602 blocks", "show show-large.adf", 0),
+            shown_text("Large   FFS, 101,602 blocks, bitmap valid", "0 files, 0 directories, 13 KB used, 50,787 KB free", first, first),
+        ),
+    )
+    os.remove("show-large.adf")
+    tried.write("thousand", bytes(1000))
+    Path("tree/inner").mkdir(parents=True)
+    for at in range(3):
+        tried.write(f"tree/inner/{at}", b"x")
+    tried.rows(
+        row("mkdir for show", ["mkdir", "--date", later, "show.adf", "s"]),
+        row("show of one directory", "show show.adf", 0, shown_text(ffs, "0 files, 1 directory, 1 KB used, 877 KB free", first, later)),
+        row("add for show", ["add", "--date", later, "show.adf", "thousand"]),
+        row("show of one file", "show show.adf", 0, shown_text(ffs, "1 file, 1 directory, 3 KB used, 876 KB free", first, later)),
+        row("add of a tree for show", ["add", "--date", later, "show.adf", "tree"]),
+        row("show of more", "show show.adf", 0, shown_text(ffs, "4 files, 3 directories, 7 KB used, 872 KB free", first, later)),
+    )
+    members = {"name": "Work", "kind": "DOS\\1", "blocks": 1760, "validated": False, "files": 4, "directories": 3, "used": 14, "free": 1744}
+    members.update({"created": f"{first}.00", "changed": f"{later}.00", "boot": "none"})
+    shown = tried.content("show.adf")
+    told = tried.run("show", "--json", "show.adf")
+    tried.report.same("show --json: its members in order", list(json.loads(told.output).items()), list(members.items()))
+    tried.report.same("show --json: one line", told.output.count(b"\n"), 1)
+    tried.stays("show changes no image", "show.adf", shown)
+    # Another label, another bitmap, dates out of the calendar, boot blocks.
+    tried.write("label.adf", named(blank, b"a\x1b[1m \xe9%"))
+    label = ffs.replace("Work", "a%1B[1m \xe9%")
+    none = "0 files, 0 directories, 1 KB used, 878 KB free"
+    tried.rows(row("show of a label with a control byte", "show label.adf", 0, shown_text(label, none, first, first)))
+    tried.report.same("show --json of that label", json.loads(tried.run("show", "--json", "label.adf").output)["name"], "a\x1b[1m \xe9%")
+    tried.write("rebuilt.adf", drawn(blank, "880.78=0", "880.5"))
+    rebuilt = ffs.replace("bitmap valid", "bitmap not valid (rebuilt in memory)")
+    tried.rows(row("show where the bitmap is rebuilt", "show rebuilt.adf", 0, shown_text(rebuilt, none, first, first)))
+    tried.report.same("show --json where it is rebuilt", json.loads(tried.run("show", "--json", "rebuilt.adf").output)["validated"], True)
+    tried.stays("show rebuilds no bitmap", "rebuilt.adf", drawn(blank, "880.78=0", "880.5"))
+    tried.write("raw.adf", drawn(blank, "880.118=1 880.119=1440 880.120=2 880.121=4294967295", "880.5"))
+    tried.rows(row("show of dates outside the calendar", "show raw.adf", 0, shown_text(ffs, none, "raw 4294967295 720 0", "raw 1 1440 2")))
+    for said, word, blocks in (
+        ("standard", "standard", boot_with(b"DOS\1", ROOT_OF_FLOPPY + STANDARD)),
+        ("custom, checksum right", "custom", boot_with(b"DOS\1", ROOT_OF_FLOPPY + b"\x4e\x75")),
+        ("custom, checksum wrong: not bootable", "wrong", b"DOS\1" + bytes(4) + ROOT_OF_FLOPPY + STANDARD),
+    ):
+        tried.write("booted.adf", blocks.ljust(2 * BLOCK, b"\0") + blank[2 * BLOCK :])
+        tried.rows(row(f"show of a boot block: {said}", "show booted.adf", 0, shown_text(ffs, none, first, first, said)))
+        tried.report.same(f"show --json of a boot block: {said}", json.loads(tried.run("show", "--json", "booted.adf").output)["boot"], word)
+
+
+def refused_shows(tried: Commands) -> None:
+    """`show` of refused images: the line of each command, and on standard error what can be said."""
+    blank = tried.content("ffs.adf")
+    size = ", double density, 1,760 blocks"
+    rows: List[Tuple[str, bytes, str, List[str]]] = [
+        ("short.adf", blank[:7680], "TooFewBlocks 0", ["7,680 bytes are too few for a volume, which has 16 to 101,602 blocks of 512 bytes\n"]),
+        ("odd.adf", blank[:901119], "NotWholeBlocks 0", ["901,119 bytes are no whole number of blocks: cut short, or not an ADF file\n"]),
+        ("kind.adf", poked(blank, 0, 0, b"DOS\2"), "UnsupportedKind 0", [f"DOS\\2{size}\n", "block 0"]),
+        ("nodos.adf", poked(blank, 0, 0, b"\0"), "NotADosDisk 0", [f"no AmigaDOS format{size}\n", "DOS"]),
+        ("sum.adf", poked(blank, 880, 100, b"\1"), "BadSum 880", [f"FFS{size}\n", "block 880"]),
+        ("marked.adf", drawn(blank, "881.28=0xFFFF7FFF", "881.0"), "MarkedFree 880", [f"FFS{size}\n", "block 880"]),
+    ]
+    for name, image, told, said in rows:
+        tried.write(name, image)
+        for words in ("show", "show --json"):
+            tried.rows(row(f"{words} of {name}", f"{words} {name}", 3, f"refused {told}\n", *said))
+        tried.stays(f"show leaves {name}", name, image)
+    tried.rows(lacking("show of no file", "show none.adf", "none.adf"), wrong("show without an image", "show", "Usage"))
+
+
+def on_terminal(tried: Commands, words: str, env: Variables = None) -> bytes:
+    """What the program writes to a terminal. A terminal ends lines with two bytes."""
+    ours, theirs = pty.openpty()
+    ran = tried.run(*words.split(), before=prints_to(theirs), env=env)
+    os.close(theirs)
+    text = b""
+    try:
+        while more := os.read(ours, 65536):
+            text += more
+    except OSError:
+        pass
+    os.close(ours)
+    if ran.status:
+        raise Failed(f"{words} ends with {ran}")
+    return text.replace(b"\r\n", b"\n")
+
+
+def bold_letters(tried: Commands) -> None:
+    """Bold letters on a terminal, and nowhere else."""
+    plain = tried.run("show", "ffs.adf").output
+    bold = plain.replace(b"Work", BOLD + b"Work" + AS_BEFORE, 1)
+    tried.report.expect("show into a pipe has no bold letters", b"\x1b" not in plain)
+    tried.report.same("show on a terminal has its label in bold letters", on_terminal(tried, "show ffs.adf"), bold)
+    tried.report.same("show with NO_COLOR", on_terminal(tried, "show ffs.adf", {"NO_COLOR": "1"}), plain)
+    tried.report.same("show with an empty NO_COLOR", on_terminal(tried, "show ffs.adf", {"NO_COLOR": ""}), bold)
+    for words in ("show --json ffs.adf", "list ffs.adf", "list --letters ffs.adf", "list --json ffs.adf"):
+        tried.report.same(f"{words} on a terminal", on_terminal(tried, words), tried.run(*words.split()).output)
+    plain = LISTED_LONG.encode()
+    bold = plain.replace(b" A ", b" " + BOLD + b"A" + AS_BEFORE + b" ", 1).replace(b" S\n", b" " + BOLD + b"S" + AS_BEFORE + b"\n", 1)
+    words = "list --long told.adf"
+    tried.report.same(f"{words} into a pipe", tried.run(*words.split()).output, plain)
+    tried.report.same(f"{words} on a terminal has names of directories in bold letters", on_terminal(tried, words), bold)
+    tried.report.same(f"{words} with NO_COLOR", on_terminal(tried, words, {"NO_COLOR": "1"}), plain)
+    tried.report.same(f"{words} with an empty NO_COLOR", on_terminal(tried, words, {"NO_COLOR": ""}), bold)
+    file = on_terminal(tried, f"{words} t")
+    tried.report.same(f"{words} of a file on a terminal", file, tried.run(*words.split(), "t").output)
+
+
+def sorted_lists(tried: Commands) -> None:
+    """`list` in each order: the paths, by hand. Of a hash chain the order on the disk is that of the entries."""
+    tried.rows(row("blank for sorted lists", "blank --ffs Work sorted.adf"), row("mkdir for sorted lists", "mkdir sorted.adf sub"))
+    # The size and the date of each entry. Adding an entry sets the date of its directory, so the dates are set at the end.
+    files = {"b": (700, "1990-01-01"), "A": (20, "1990-01-02"), "c": (20, "1990-01-02"), "D": (0, "1990-01-04")}
+    files.update({"sub/z": (5, "1990-01-05"), "sub/Y": (900, "1990-01-06")})
+    for path, (size, _) in files.items():
+        tried.write("one", bytes(size))
+        where, _, name = path.rpartition("/")
+        tried.rows(row(f"add of {path}", ["add", "--as", name, "--to", where, "sorted.adf", "one"]))
+    for path, date in [*((path, date) for path, (_, date) in files.items()), ("sub", "1999-01-01")]:
+        tried.rows(row(f"date of {path}", ["date", "sorted.adf", path, date]))
+    orders = {
+        "name": ["A", "b", "c", "D", "sub", "sub/Y", "sub/z"],
+        "size": ["b", "A", "c", "D", "sub", "sub/Y", "sub/z"],
+        "date": ["sub", "sub/Y", "sub/z", "D", "A", "c", "b"],
+    }
+
+    def paths(*words: str) -> List[str]:
+        return [json.loads(it)["path"] for it in tried.run("list", "--json", *words, "sorted.adf").output.splitlines()]
+
+    disk = paths()
+    tried.report.same("list --sort disk", paths("--sort", "disk"), disk)
+    tried.report.same("list has all entries", sorted(disk), sorted(orders["name"]))
+    for order, wanted in orders.items():
+        tried.report.same(f"list --json --sort {order}", paths("--sort", order), wanted)
+        for form in ("", "--letters", "--long"):
+            lines = tried.run("list", *form.split(), "--sort", order, "sorted.adf").output.decode().splitlines()
+            tried.report.same(f"list {form} --sort {order}", [it.split()[-1] for it in lines[1:]], wanted)
+    lines = tried.run("list", "--long", "sorted.adf").output.decode().splitlines()
+    tried.report.same("list --long is by name", [it.split()[-1] for it in lines[1:]], orders["name"])
+    lines = tried.run("list", "--long", "--sort", "disk", "sorted.adf").output.decode().splitlines()
+    tried.report.same("list --long --sort disk", [it.split()[-1] for it in lines[1:]], disk)
+    ran = tried.run("list", "--json", "--sort", "size", "sorted.adf", "sub")
+    tried.report.same("list --sort of a directory", [json.loads(it)["path"] for it in ran.output.splitlines()], ["sub/Y", "sub/z"])
+    tried.rows(
+        wrong("list --sort of another word", "list --sort colour none.adf", "'colour' for '--sort <KEY>': name, size, date or disk is expected"),
+        wrong("list --sort of a word in upper case", "list --sort Size none.adf", "'Size' for '--sort <KEY>'"),
+        wrong("list --sort of no word", "list none.adf --sort", "--sort <KEY>"),
+        wrong("list --sort twice", "list --sort size --sort date none.adf", "--sort"),
+    )
 
 
 # ---- Standard output that cannot be written ----
@@ -1230,11 +1630,13 @@ def refused_output(tried: Commands) -> None:
 PARTS: List[Callable[[Commands], None]] = [
     *(blank_images, moments, written_moments, wrong_words, wrong_numbers, wrong_dates),
     *(wrong_words_for_files, words_too_many_and_wrong_letters, refused_names),
-    *(clients, faulty_scripts, turns, growths, many_clients),
-    *(directories, directories_on_the_way, files_under_names, refused_changes, changes_beside, protect_words, boot_blocks),
+    *(tips, clients, faulty_scripts, explained_lines, at_a_terminal, turns, growths, many_clients),
+    *(directories, directories_on_the_way, files_under_names, closed_input, refused_changes, changes_beside, precious_files),
+    *(named_entries, protect_words, boot_blocks),
     *(standard_boot, shown_boots, saved_boots, boot_options),
-    *(held_images, missing_files, first_faults),
+    *(held_images, missing_files, denied_files, first_faults),
     *(accepted_images, forms_of_lists, refused_images, stale_image, refused_output),
+    *(shown_volumes, refused_shows, bold_letters, sorted_lists),
 ]
 
 

@@ -29,12 +29,6 @@ ALLOWED = TOP / "tools" / "debian.lintian"
 COMPILER = os.environ.get("CC") or "cc"
 BARE_PATH = "/usr/bin:/bin"
 PAGES = "share/doc/jiponuwha"
-# Prints what bash offers for the last of some words, by a file of completions.
-OFFERED = """
-completions=$1
-shift
-source "$completions" && COMP_WORDS=(adf_serve "$@") COMP_CWORD=$# && compopt() { :; } && _adf_serve && echo "${COMPREPLY[*]}"
-"""
 # Imports the package for Python and uses it, below the directory in the first argument.
 IMPORTS = """import importlib.metadata, sys
 import jiponuwha as jip
@@ -54,14 +48,6 @@ foreach(kind jiponuwha shared)
     target_link_libraries(tour-${kind} jiponuwha::${kind})
 endforeach()
 """
-# The completions: the check's name, the completions, and the words.
-OFFERS = [
-    ("bash offers commands", "print protect", ["pr"]),
-    ("bash offers options", "--force", ["add", "--fo"]),
-    ("bash offers images", "work.adf", ["delete", "--all", "wo"]),
-    ("bash offers files for --out", "work.adf", ["mkdir", "--out", "wo"]),
-    ("bash offers no files for paths", "", ["delete", "x.adf", "wo"]),
-]
 
 
 class Elsewhere(Room):
@@ -76,27 +62,6 @@ class Elsewhere(Room):
         tools and the contents of the archive."""
         path = f"PATH={self.dist}/bin:{BARE_PATH}"
         return ["env", "-i", "-C", place, path, "LC_ALL=C.UTF-8", f"HOME={self.top}"]
-
-
-# ---- The completions, which need no build ----
-
-
-def completions(tried: Elsewhere) -> None:
-    succeeds = tried.report.succeeds
-    succeeds("the script can be read", ["bash", "-n", DIST])
-    succeeds("completions are written", [str(TOP / "tools/completions/make"), "completions"])
-    for file in ("bash/adf_serve", "bash/adf_mount"):
-        succeeds(f"{file} can be read", ["bash", "-n", f"completions/{file}"])
-    for shell in ("zsh", "fish"):
-        if not shutil.which(shell):
-            tried.report.lacks(f"completions of {shell}", shell)
-            continue
-        for it in sorted(Path("completions", shell).iterdir()):
-            succeeds(f"{shell}/{it.name} can be read", [shell, "-n", str(it)])
-    tried.write("work.adf")
-    for name, offered, words in OFFERS:
-        ran = run(["bash", "-u", "-c", OFFERED, "bash", "completions/bash/adf_serve", *words])
-        tried.report.same(name, ran.output.decode().rstrip("\n"), offered)
 
 
 # ---- The archive ----
@@ -191,11 +156,10 @@ def told_options(dist: Path) -> Optional[Options]:
     return sorted((it, options_of(it)) for it in names if it != "help") if commands else None
 
 
-def completed_options() -> Options:
+def completed_options(dist: Path) -> Options:
     """The commands that are completed, with their options."""
-    lines = (TOP / "tools/completions/commands").read_text().splitlines()
-    rows = [it.split("|") for it in lines if it.strip() and not it.startswith("#")]
-    return sorted((name.strip(), sorted(it.partition("=")[0] for it in options.split())) for name, options, *_ in rows)
+    text = (dist / "share/bash-completion/completions/adf_serve").read_text()
+    return sorted((name, sorted(taken.split())) for name, taken in re.findall(r"(?m)^        ([a-z]+)\) options='([^']*)'", text))
 
 
 def options(tried: Elsewhere) -> None:
@@ -204,7 +168,7 @@ def options(tried: Elsewhere) -> None:
     if told is None:
         tried.report.skip("the commands of --help", "help lists none")
     else:
-        tried.report.same("the completions have the commands and options of --help", completed_options(), told)
+        tried.report.same("the completions have the commands and options of --help", completed_options(tried.dist), told)
 
 
 def library(tried: Elsewhere) -> None:
@@ -374,7 +338,7 @@ def main(words: List[str]) -> int:
     report = Report()
     archive, program = Path(words[0]).resolve() if words else None, os.environ.get("PROGRAM")
     with Elsewhere(built_program([program] if program else []), report) as tried:
-        tried.part(completions)
+        report.succeeds("the script can be read", ["bash", "-n", DIST])
         archive = archive or pack(tried)
         if archive:
             unpack(tried, archive)

@@ -268,7 +268,7 @@ def paths(room: Room) -> None:
     refuses(room, "a letter past U+00FF in a word", ["mkdir", "image.adf", "\u0142"], b"", "\u0142", status=1)
     room.write("\u0142ysy", b"x")
     refused = "refused 210 \u0142ysy\n".encode()
-    refuses(room, "a letter past U+00FF in a host file", ["add", "image.adf", "\u0142ysy"], refused, "")
+    refuses(room, "a letter past U+00FF in a host file", ["add", "image.adf", "\u0142ysy"], refused, "'\u0142ysy' has a '\u0142'")
     ran = room.run("print", "image.adf", "nowhere//x")
     room.report.check("up from a directory", ran, 3, b"refused 204 nowhere//x\n", "directory not found")
     room.succeeds("behind the colon", "list", "image.adf", "Any:" + "a" * 30, output=None)
@@ -329,18 +329,20 @@ def fields(room: Room) -> None:
 # A volume has the directory `d` with `other`, and `file`, which is protected against deletion. The commands, the number
 # and path after `refused`, and a part of the message.
 REFUSED: List[Tuple[str, List[str], str, str]] = [
-    ("203: a directory that is there", ["mkdir", "image.adf", "new", "D"], "203 D", EXISTS),
+    ("203: a directory that is there", ["mkdir", "image.adf", "new", "D"], "203 D", f"'D': {EXISTS}"),
     ("203: a file that is there", ["add", "image.adf", "other", "file"], "203 file", EXISTS),
     ("204: no such directory", ["mkdir", "image.adf", "new", "x/y"], "204 x/y", "directory not found"),
     ("204: nowhere to put it", ["add", "--to", "nowhere/x", "image.adf", "other"], "204 nowhere/x", "not found"),
     ("205: not there", ["delete", "image.adf", "d/other", "none"], "205 none", "object not found"),
-    ("210: no name", ["mkdir", "image.adf", "x" * 31], "210 " + "x" * 31, ""),
-    ("210: no volume's name", ["relabel", "image.adf", "a/b"], "210 a/b", ""),
-    ("212: a directory is no file", ["print", "image.adf", "d"], "212 d", ""),
+    ("210: no name", ["mkdir", "image.adf", "x" * 31], "210 " + "x" * 31, f"'{'x' * 31}' has 31 characters; AmigaDOS allows 30"),
+    ("210: no volume's name", ["relabel", "image.adf", "a/b"], "210 a/b", "'a/b' has a '/'"),
+    ("212: a directory is no file", ["print", "image.adf", "d"], "212 d", "'d' is a directory; print needs a file"),
+    ("212: a file on the way", ["print", "image.adf", "file/x"], "212 file/x", "'file/x': object is not of required type"),
+    ("222: protected, with everything below", ["delete", "--all", "image.adf", "file"], "222 file", "'file': object is protected from deletion"),
     ("212: the root stays", ["delete", "--all", "image.adf", ""], "212 ", ""),
     ("216: not empty", ["delete", "image.adf", "d"], "216 d", ""),
     ("222: protected from deletion", ["delete", "image.adf", "file"], "222 file", ""),
-    ("202: under itself", ["rename", "image.adf", "d", "d/e/f"], "202 d", ""),
+    ("202: under itself", ["rename", "image.adf", "d", "d/e/f"], "202 d", "cannot move 'd' into itself"),
     ("203: a name that is taken", ["rename", "image.adf", "d", "FILE"], "203 FILE", EXISTS),
     ("220: a long comment", ["comment", "image.adf", "file", "x" * 80], "220 file", ""),
     ("deleted twice", ["delete", "image.adf", "d/other", "d/other"], "205 d/other", "object not found"),
@@ -366,11 +368,11 @@ def refusals(room: Room) -> None:
     os.mkdir("two")
     room.write("two/A", b"1")
     room.write("two/a", b"2")
-    refuses(room, "203: two names that are one", ["add", "image.adf", "two"], b"refused 203 two/a\n", EXISTS)
+    refuses(room, "203: two names that are one", ["add", "image.adf", "two"], b"refused 203 two/a\n", "'two/a' and 'two/A' are one name on an Amiga")
     os.mkdir("names")
     name = "names/" + "n" * 31
     room.write(name, b"1")
-    refuses(room, "210: a host name of 31 letters", ["add", "image.adf", "names"], f"refused 210 {name}\n".encode(), "")
+    refuses(room, "210: a host name of 31 letters", ["add", "image.adf", "names"], f"refused 210 {name}\n".encode(), f"'{'n' * 31}' has 31 characters; AmigaDOS allows 30")
 
 
 # ---- replaced files, and obstacles
@@ -476,7 +478,7 @@ def links_and_pipes(room: Room) -> None:
     os.symlink("d", "src/to-directory")
     os.mkfifo("src/pipe")
     blank(room, file="links.adf")
-    room.report.check("links and pipes", room.run("add", "links.adf", "src"), 0, b"", "to-directory", "pipe")
+    room.report.check("links and pipes", room.run("add", "links.adf", "src"), 0, b"", "skipped 'src/to-directory': it is a symbolic link to a directory", "skipped 'src/pipe': it is neither")
     room.succeeds("a link to a file is its file", "print", "links.adf", "src/to-file", output=b"1")
     listed = room.run("list", "links.adf").output
     room.report.expect("what is passed over", b"to-directory" not in listed and b"pipe" not in listed, listed)
@@ -523,7 +525,7 @@ def full_disks(room: Room) -> None:
 def bad_input(room: Room) -> None:
     """No command keeps more of a file than the size of the largest image, and each stops reading an endless device."""
     room.write("short", b"x")
-    refuses(room, "too short", ["mkdir", "short", "n"], b"refused NotWholeBlocks 0\n", image="short")
+    refuses(room, "too short", ["mkdir", "short", "n"], b"refused NotWholeBlocks 0\n", "1 bytes are no whole number of blocks", image="short")
     for words in (["check"], ["list"], ["info"], ["extract"], ["print"], ["mkdir", "--out", "x"]):
         more = ["x"] if words[0] in ("print", "mkdir") else []
         ran = room.run(*words, "/dev/zero", *more, before=limited(resource.RLIMIT_AS, HALF_A_GIBIBYTE))

@@ -467,6 +467,7 @@ class Tried:
         """`print` of the first files of an accepted image, by paths without escapes."""
         self.agrees("info", "image.adf")
         self.agrees("boot", "--show", "image.adf")
+        self.agrees("map", "image.adf")
         if not self.is_accepted:
             self.agrees("print", "image.adf", "any")
         for path in [it for it, data in sorted(whole.items()) if data is not None and not set('%:"\\') & set(it)][:2]:

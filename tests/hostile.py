@@ -867,7 +867,7 @@ def links_to_nothing(room: Shared) -> None:
         os.symlink("nowhere", place)
     for words in (["missing"], ["lost"], ["folder"], ["one", "lost"]):
         ran = room.run("add", "--out", "added.adf", "empty.adf", *words)
-        fault = fault_of(ran, 2, b"", "cannot be read: ") or ("an image is written" if os.path.exists("added.adf") else None)
+        fault = fault_of(ran, 2, b"", "cannot read '") or ("an image is written" if os.path.exists("added.adf") else None)
         room.report.hold(f"add of {' and '.join(words)}", fault)
     os.remove("lost")
     shutil.rmtree("folder")
@@ -897,8 +897,8 @@ def endless(room: Shared) -> None:
         room.report.expect(f"{name} without an end: soon", took < SOON, f"{took} seconds")
     room.write("sparse")
     os.truncate("sparse", 2**40)
-    room.report.check("an image of a terabyte", room.run("list", "sparse", before=little), 3, b"refused TooManyBlocks 0\n")
-    room.report.check("a script of a terabyte", room.run("serve", "empty.adf", "sparse", before=little), 3, b"1 fault line 0\n")
+    room.report.check("an image of a terabyte", room.run("list", "sparse", before=little), 3, b"refused TooManyBlocks 0\n", "1,099,511,627,776 bytes are too many")
+    room.report.check("a script of a terabyte", room.run("serve", "empty.adf", "sparse", before=little), 3, b"1 fault line 0\n", "the script has more than 1,048,576 bytes")
     os.remove("sparse")
 
 
@@ -1278,7 +1278,7 @@ def held_images(room: Shared) -> None:
                 held = ([paths[0], paths[2]] if it[-1] == "archive" else [paths[0]]) if how == fcntl.LOCK_EX else []
                 texts = "".join(f"adf_serve: '{path}' {HELD}\n" for path in held).encode()
                 name = f"{' '.join(it[:2])} while the image is locked {'against others' if held else 'by a reader'}"
-                room.report.same(name, room.run(*it), free._replace(texts=texts))
+                room.report.same(name, room.run(*it), free._replace(texts=texts + free.texts))
                 shutil.rmtree("rescue", ignore_errors=True)
     shutil.rmtree("archive")
     shutil.rmtree("taken")
@@ -1293,7 +1293,7 @@ def readers_stopped(room: Shared) -> None:
             fcntl.flock(looked, fcntl.LOCK_SH)
             timer = threading.Timer(seconds, fcntl.flock, (looked, fcntl.LOCK_UN))
             timer.start()
-            texts = b"" if status == 0 else f"adf_serve: '{image}' is not worked on: another command works on it\n".encode()
+            texts = b"" if status == 0 else f"adf_serve: '{image}' is locked by another command\n".encode()
             ran = room.run("mkdir", *MOMENT, image, f"s{status}")
             timer.cancel()
             room.report.same(f"a change while a reader is stopped for {seconds} s", ran, Ran(status, b"", texts))
@@ -1365,7 +1365,7 @@ def deep_images(blocks: int, room: Shared) -> None:
     bounded(room, blocks, f"check of {title}", ["check", "deep.adf"], 0)
     told = bounded(room, blocks, f"check --all --json of {title}", ["check", "--all", "--json", "deep.adf"], 0)
     room.report.expect(f"the directories of {title} of {blocks} blocks", b'"directories":%d,' % headers_of(blank) in told, f"{told!r}")
-    bounded(room, blocks, f"print of {title}", ["print", "deep.adf", first], 3, b"required type")
+    bounded(room, blocks, f"print of {title}", ["print", "deep.adf", first], 3, f"'{first}' is a directory; print needs a file\n".encode())
     bounded(room, blocks, f"extract of {title}", ["extract", "--to", "bottom", "deep.adf"], 2, b"4,095")
     room.report.expect(f"extract of {title} of {blocks} blocks writes nothing", not os.path.exists("bottom"), "it did")
     bounded(room, blocks, f"info of {title}", ["info", "deep.adf"], 0)

@@ -32,7 +32,7 @@ HARMLESS = "chown fchown lchown fchownat utimensat".split()
 READS = "read pread64 readv preadv".split()
 IMAGE = "image.adf"
 # An image's file that is invalid, and is overwritten.
-OTHER = bytes(512 * 20)
+OTHER = b"DOS\1 is another file"  # It begins as an image does, so that `--out` writes over it.
 
 
 class Change:

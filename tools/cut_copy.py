@@ -1,8 +1,9 @@
 """Copies some crates and their dependencies, so that the kit's gate proves only these.
 
-./prove and tools/wrong_bodies use this module. With a kit that keeps proofs the gate reuses those that `rt ci` made in such a copy,
-since the key of a kept proof covers neither the edits nor the path of the files.
+./prove, tools/early_library and tools/wrong_bodies use this module. With a kit that keeps proofs the gate reuses those that `rt ci`
+made in such a copy, since the key of a kept proof covers neither the edits nor the path of the files.
 """
+import os
 import re
 import shutil
 import subprocess
@@ -36,3 +37,11 @@ def copy_crates(names: list[str], to: Path) -> None:
     (to / ".git").mkdir()
     (to / "tools").mkdir()
     shutil.copy2(TOP / "tools/gate_libraries", to / "tools")
+
+
+def hand_over(made: Path, to: Path) -> None:
+    """Replaces a file in one step."""
+    to.parent.mkdir(parents=True, exist_ok=True)
+    beside = to.with_name(f"{to.name}.{os.getpid()}")
+    shutil.copy2(made, beside)
+    os.replace(beside, to)

@@ -1,5 +1,5 @@
 -- The output for an archive, whole or in part.
-use Rattle.std.proofs.Common.{◌≡◌, ℕ, ◌+◌, ◌<◌, ◌≤◌, Bool, true, false, List, [], length, get_or, All, Option, Result, Ok, Err, IsErrAnd, refl, sym, subst, arith}
+use Rattle.std.proofs.Common.{◌≡◌, ℕ, zero, suc, ◌+◌, ◌<◌, ◌≤◌, Bool, true, false, List, [], length, get_or, All, Option, Result, Ok, Err, IsErrAnd, refl, sym, subst, arith}
 use Rattle.std.proofs.lemmas.List.Elements.{All-nil}
 use denote.Param.Members.{Shared}
 use Rattle.std.specs.Fn.{FnReturns}
@@ -17,7 +17,7 @@ use Rattle.adf_archive.specs.Each.{GivesFrom}
 use Rattle.adf_archive.specs.Lines.{told_from}
 use Rattle.adf_archive.specs.Report.{IsReportOfSome}
 use Rattle.adf_archive.specs.declared.checking.Detail.{Detail}
-use Rattle.adf_archive.specs.Status.{IsBroken, IsTally, ends, ends_as}
+use Rattle.adf_archive.specs.Status.{IsBroken, IsTally, ends, ends_over}
 
 -- the function's report for each position is the check's result for some bytes
 pub checked_all : {F : Type 0} (g : Shared F (ℕ × Unit {0}) ImageReport) (f : F) (detail : Detail) (count : ℕ) (reports : List ImageReport)
@@ -33,6 +33,13 @@ not_broken false true Memory broken e = cc e
 not_broken false false fault broken e = cc e
 not_broken a b Refused broken e = broken
 not_broken a b NotChecked broken e = broken
+
+not_broken_over : (n : ℕ) (tally : Tally) (fault : ArchiveFault) → IsBroken fault → Err fault ≡ ends_over n tally → ⊥
+not_broken_over zero tally Output broken e = cc e
+not_broken_over zero tally Memory broken e = cc e
+not_broken_over zero tally Refused broken e = broken
+not_broken_over zero tally NotChecked broken e = broken
+not_broken_over (suc n) tally fault broken e = not_broken tally.not_checked tally.refused fault broken e
 
 module _ (job : CheckJob) where
   -- no image was reported
@@ -75,8 +82,8 @@ module _ (job : CheckJob) where
     left_off_at within fault broken front (Err f) e = left_off within f (subst IsBroken (sym e) broken) front
 
     pub told_all : length reports ≡ length paths → (tally : Tally) → IsTally reports tally → Appends old new (told_from form paths 0 reports)
-        → (result : Result (Unit {0}) ArchiveFault) → result ≡ ends_as tally → TellsArchive job old new result
+        → (result : Result (Unit {0}) ArchiveFault) → result ≡ ends_over (length reports) tally → TellsArchive job old new result
     unfolding archive
-    told_all all tally is told (Err Output) e = absurd (not_broken tally.not_checked tally.refused Output tt e)
-    told_all all tally is told (Err Memory) e = absurd (not_broken tally.not_checked tally.refused Memory tt e)
+    told_all all tally is told (Err Output) e = absurd (not_broken_over (length reports) tally Output tt e)
+    told_all all tally is told (Err Memory) e = absurd (not_broken_over (length reports) tally Memory tt e)
     told_all all tally is told result e = (archive (omega (arith, all)), told, (all, (tally, is, e)))

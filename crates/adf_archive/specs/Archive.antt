@@ -13,7 +13,7 @@ use Rattle.adf_archive.specs.declared.telling.Tally.{Tally}
 use Rattle.adf_archive.specs.Each.{GivesFrom}
 use Rattle.adf_archive.specs.Lines.{told_from}
 use Rattle.adf_archive.specs.Report.{IsReportOfSome, explains}
-use Rattle.adf_archive.specs.Status.{IsTally, ends_as}
+use Rattle.adf_archive.specs.Status.{IsTally, ends_over}
 
 -- the reports on all these images were written, each made by the function for its position, and this is their status
 abbrev pub TellsAll : {F : Type 0} → Shared F (ℕ × Unit {0}) ImageReport → F → Form → List (List ℕ) → Option (List ℕ) → Option (List ℕ) → Tally → Type 0
@@ -48,9 +48,9 @@ pub record Archive (job : CheckJob) : Type 0 where
 abbrev pub told_in : {job : CheckJob} → Archive job → List ℕ
 told_in archive = told_from archive.form archive.paths 0 archive.reports
 
--- all images were reported, and the command ends according to their status
+-- all images were reported, and the command ends according to their number and status
 abbrev pub IsWhole : {job : CheckJob} → Archive job → Result (Unit {0}) ArchiveFault → Type 0
-IsWhole archive result = (length archive.reports ≡ length archive.paths) × ((tally : Tally) × IsTally archive.reports tally × (result ≡ ends_as tally))
+IsWhole archive result = (length archive.reports ≡ length archive.paths) × ((tally : Tally) × IsTally archive.reports tally × (result ≡ ends_over (length archive.reports) tally))
 
 -- the output for an archive; if the output fails or memory runs out, a prefix of the output for its first images
 abbrev pub TellsArchive : CheckJob → Option (List ℕ) → Option (List ℕ) → Result (Unit {0}) ArchiveFault → Type 0

@@ -9,7 +9,6 @@ HasImageEnding name =
     (front : List ℕ) × (ending : List ℕ) × (name ≡ front ++ ending)
     × ((map to_ascii_lowercase ending ≡ codes ".adf") ⊎ (map to_ascii_lowercase ending ≡ codes ".hdf"))
 
--- one more path was visited, which is no directory: at most one more image was found or is pending
-abbrev pub GrowsByOne : FoundImages → FoundImages → ℕ → ℕ → Type 0
-GrowsByOne old new waiting_old waiting_new =
-    (old.in_directory ≡ false) × (vec_len new.paths + waiting_new ≤ vec_len old.paths + waiting_old + 1)
+-- one more argument was looked at, which is no directory, and neither was one before: at most one more image was found
+abbrev pub GrowsByOne : FoundImages → FoundImages → Type 0
+GrowsByOne old new = (old.in_directory ≡ false) × (vec_len new.paths ≤ vec_len old.paths + 1)

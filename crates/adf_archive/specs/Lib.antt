@@ -1,6 +1,7 @@
 -- Many checked images: the report on one, the output for all, and how the check ends.
 pub mod Words
 pub mod Endings
+pub mod Likeness
 pub mod Report
 pub mod Lines
 pub mod Objects

@@ -5,7 +5,7 @@ use Rattle.json.specs.Token.{Token, begin_object, end_object, begin_array, end_a
 use Rattle.json.specs.Print.{print}
 use Rattle.adf_block.specs.declared.boot.BootKind.{BootKind}
 use Rattle.adf_block.specs.declared.boot.BootKind.TheVariants.{Ofs, Ffs, OtherDos, NotDos}
-use Rattle.adf_json.specs.Members.{number_token, string_token}
+use Rattle.adf_record.specs.Members.{number_token, string_token}
 use Rattle.adf_text.specs.Letters.{letters}
 use Rattle.ados_faults.specs.declared.values.FaultValues.{FaultValues}
 use Rattle.adf_archive.specs.declared.objects.Members.{Members}
@@ -31,7 +31,7 @@ known_tokens name files directories free =
 
 -- the same for a volume, with its name in letters
 abbrev pub contents_tokens : Option Contents → List Token
-contents_tokens (Some c) = known_tokens (Some (letters c.name)) (Some c.files) (Some c.directories) (Some c.free)
+contents_tokens (Some c) = known_tokens (Some (letters c.name)) (Some c.counts.files) (Some c.counts.directories) (Some c.free)
 contents_tokens None = known_tokens None None None None
 
 -- whether the image is accepted, whether its bitmap was rebuilt, its kind and blocks, and its contents

@@ -1,17 +1,15 @@
 -- The report on the bytes of an image.
-use Rattle.std.specs.Prelude.{◌≡◌, ℕ, ◌+◌, ◌<◌, ◌⊎◌, Bool, true, false, ◌||◌, None, List, [], length, count_by, map, All, IfSome, MatchOption, is_some, ⊤}
+use Rattle.std.specs.Prelude.{◌≡◌, ℕ, ◌<◌, ◌⊎◌, Bool, true, false, ◌||◌, List, [], length, map, All, IfSome, MatchOption, is_some, ⊤}
 use Rattle.adf_block.specs.Boot.{HasKind}
 use Rattle.adf_block.specs.Image.{block_count}
 use Rattle.adf_block.specs.Size.{IsSizeFault}
-use Rattle.ados_model.specs.Tree.{Tree, entries, free, name_of, root}
-use Rattle.ados_model.specs.Change.{is_file}
+use Rattle.ados_model.specs.Tree.{Tree, free, name_of, root}
 use Rattle.ados_model.specs.Stands.{Stands}
 use Rattle.ados_model.specs.Accepted.{Accepts}
 use Rattle.ados_model.specs.Faults.{Shows}
 use Rattle.ados_faults.specs.Listed.{AreMarks, ListsEach, Marks}
 use Rattle.ados_faults.specs.Values.{AreValues, NoneShows}
-use Rattle.ados_volume.specs.declared.below.Below.{Below}
-use Rattle.ados_volume.specs.Below.{AreBelow}
+use Rattle.adf_record.specs.Counts.{AreCounts}
 use Rattle.adf_archive.specs.declared.checking.Detail.{Detail}
 use Rattle.adf_archive.specs.declared.report.AcceptedImage.{AcceptedImage}
 use Rattle.adf_archive.specs.declared.report.Contents.{Contents}
@@ -20,17 +18,10 @@ use Rattle.adf_archive.specs.declared.report.ImageReport.TheVariants.{Accepted, 
 use Rattle.adf_archive.specs.declared.report.RefusedImage.{RefusedImage}
 use Rattle.adf_archive.specs.declared.report.ShownFault.{ShownFault}
 
--- the number of files among these entries
-abbrev pub file_count : Tree → List Below → ℕ
-file_count t found = count_by (λ e. is_file t e.key) found
-
 -- the contents of a tree's volume: its name, the numbers of files and directories below the root, and the free blocks
 pub record Tells (t : Tree) (contents : Contents) : Type 0 where
   pub name : contents.name ≡ name_of t (root t)
-  pub found : List Below
-  pub below : AreBelow t None 0 (entries t (root t)) found
-  pub files : contents.files ≡ file_count t found
-  pub all : contents.files + contents.directories ≡ length found
+  pub counts : AreCounts t contents.counts
   pub free : contents.free ≡ free t
 
 -- the image is accepted, and the report describes the volume

@@ -1,5 +1,5 @@
 -- The overall status of images.
-use Rattle.std.specs.Prelude.{◌≡◌, Bool, true, false, List, fold, Result, Ok, Err, ⊤}
+use Rattle.std.specs.Prelude.{◌≡◌, ℕ, zero, suc, Bool, true, false, List, fold, Result, Ok, Err, ⊤}
 use Rattle.adf_archive.specs.declared.fault.ArchiveFault.{ArchiveFault}
 use Rattle.adf_archive.specs.declared.fault.ArchiveFault.TheVariants as faults
 use Rattle.adf_archive.specs.declared.report.ImageReport.{ImageReport}
@@ -32,6 +32,11 @@ ends false false = Ok tt
 
 abbrev pub ends_as : Tally → Result (Unit {0}) ArchiveFault
 ends_as tally = ends tally.not_checked tally.refused
+
+-- how a command ends over this many images: over none as if one was not checked
+abbrev pub ends_over : ℕ → Tally → Result (Unit {0}) ArchiveFault
+ends_over zero tally = Err faults.NotChecked
+ends_over (suc n) tally = ends_as tally
 
 -- the output failed, or memory ran out
 abbrev pub IsBroken : ArchiveFault → Type 0

@@ -29,10 +29,20 @@ pub struct Detail {
     pub texts: bool,
 }
 
-/// The report on an image file. For most images a sketch decides; the others are read whole.
-pub fn report_file<R: ReadImages>(rt: &R, alloc: Global, path: &str, detail: Detail) -> ImageReport
+/// The report on an image file. For most images a sketch decides; the others are read whole. A path that is not the
+/// host's leads to no file.
+pub fn report_file<R: ReadImages>(
+    rt: &R,
+    alloc: Global,
+    path: &str,
+    is_hosts: bool,
+    detail: Detail,
+) -> ImageReport
     ensures { IsReportOfSome detail result }
 {
+    if !is_hosts {
+        return not_checked(WhyNot::Name);
+    }
     let sketched = if detail.contents {
         None
     } else {
@@ -45,6 +55,13 @@ pub fn report_file<R: ReadImages>(rt: &R, alloc: Global, path: &str, detail: Det
         Ok(image) => report_image(alloc, image, detail),
         Err(fault) => unread(fault),
     }
+}
+
+/// The report on a file that was not checked.
+fn not_checked(why: WhyNot) -> ImageReport
+    ensures { (detail : Detail) → IsReportOfSome detail result }
+{
+    ImageReport::NotChecked(why)
 }
 
 /// The report on an image that is accepted as it is, if a sketch shows this.

@@ -8,8 +8,8 @@ ghost use Rattle.adf_archive.specs.Report.{HasValues, HaveTexts, HaveValues, exp
 use crate::checking::Detail;
 use crate::report::ShownFault;
 use adf_block::Image;
-use ados_faults::{Mark, all_faults, explain, place_of, values_of};
-use ados_model::VolumeFault;
+use ados_faults::{Mark, all_faults, explain, place_of, second_places, values_of};
+use ados_model::{FaultKind, VolumeFault};
 use std::alloc::{AllocError, Global};
 
 /// The most faults reported for an image.
@@ -107,10 +107,11 @@ fn shown_faults(
     ensures values { IfOk result (λ shown. All (HasValues image.now marks.now) shown.items) }
     ensures texts { IfOk result (λ shown. HaveTexts (explains detail) shown.items) }
 {
+    let seconds = wanted_seconds(alloc, image, marks, faults, detail)?;
     let mut shown = Vec::new(alloc);
     for fault in faults {
         let path = wanted_path(alloc, image, marks, fault, detail)?;
-        let text = wanted_text(alloc, image, marks, fault, detail)?;
+        let text = wanted_text(alloc, image, marks, &seconds, fault, detail)?;
         shown.push(ShownFault {
             fault: *fault,
             path,
@@ -119,6 +120,30 @@ fn shown_faults(
         })?;
     }
     Ok(shown)
+}
+
+/// A second place of each block that two places name, if the texts of these faults need them.
+fn wanted_seconds(
+    alloc: Global,
+    image: &Image,
+    marks: &[Option<Mark>],
+    faults: &[VolumeFault],
+    detail: Detail,
+) -> Result<Vec<Option<Mark>>, AllocError> {
+    if !explains(detail) || !are_of_two_places(faults) {
+        return Ok(Vec::new(alloc));
+    }
+    second_places(alloc, image, marks)
+}
+
+/// Whether the text of one of these faults may name two places.
+fn are_of_two_places(faults: &[VolumeFault]) -> bool {
+    for fault in faults {
+        if matches!(fault.kind, FaultKind::BlockUsedTwice | FaultKind::BadParent) {
+            return true;
+        }
+    }
+    false
 }
 
 /// The path of the directory or file that a fault belongs to, if requested and known.
@@ -147,6 +172,7 @@ fn wanted_text(
     alloc: Global,
     image: &Image,
     marks: &[Option<Mark>],
+    seconds: &[Option<Mark>],
     fault: &VolumeFault,
     detail: Detail,
 ) -> Result<Option<String>, AllocError>
@@ -155,5 +181,5 @@ fn wanted_text(
     if !explains(detail) {
         return Ok(None);
     }
-    Ok(Some(explain(alloc, image, marks, fault)?))
+    Ok(Some(explain(alloc, image, marks, seconds, fault)?))
 }

@@ -1,34 +1,54 @@
 //! The image files that the arguments of a command name.
-ghost use Rattle.std.specs.Prelude.{◌≡◌, ◌↔◌, ◌≤◌, false, IfOk, OnOk, IsTrue, length, vec_len};
+ghost use Rattle.std.specs.Prelude.{◌≡◌, ◌↔◌, ◌≤◌, ◌+◌, false, IfOk, OnOk, IsTrue, length, vec_len};
 ghost use Rattle.adf_archive.specs.Endings.{GrowsByOne, HasImageEnding};
 
+use crate::names::{TextName, names_in, text_name};
+use adf_host::read_names;
 use std::alloc::{AllocError, Global};
 use std::fs;
-use std::io::{Error, ErrorKind};
+use std::io::ErrorKind;
 use std::path::Path;
 use std::rt::Files;
+use thiserror::Error;
 
 /// The image files that the arguments of a command name, in order.
 #[derive(Drop)]
 pub struct FoundImages {
     pub paths: Vec<String>,
+    /// For each of these paths, whether it is the host's. Otherwise the name of the file is not UTF-8, and the path has
+    /// escapes for its bytes.
+    pub are_hosts: Vec<bool>,
     /// Whether an argument names a directory.
     pub in_directory: bool,
+    /// What a person is told of the search.
+    pub remarks: Vec<Remark>,
 }
 
-/// A path still to be visited.
+/// What a person is told of a search for images.
+#[derive(Debug, Drop, Error)]
+pub enum Remark {
+    /// An argument.
+    #[error("'{0}': no image in this directory")]
+    NoImage(String),
+    /// A file of a directory.
+    #[error("'{0}' skipped: a compressed file, which has to be unpacked first")]
+    Compressed(String),
+}
+
+/// A path in a directory that is still to be visited.
 #[derive(Drop)]
 struct Waiting {
     path: String,
-    /// Whether it is an argument; otherwise it was found in a directory.
-    named: bool,
+    /// Whether the path is the host's.
+    is_hosts: bool,
 }
 
-/// What a path is for the check.
+/// What a path in a directory is for the check.
 #[derive(Clone, Copy)]
 enum Look {
     Image,
     Directory,
+    Compressed,
     Neither,
 }
 
@@ -36,7 +56,7 @@ enum Look {
 /// directories below it, files with the ending of an image count, in the order of the bytes of their names.
 ///
 /// A link to a file counts as that file; a link to a directory is not followed. An unreadable path counts as an image,
-/// so that the check reports it.
+/// so that the check reports it, and so does any name that is not UTF-8.
 pub fn image_files<R: Files>(
     rt: &R,
     alloc: Global,
@@ -46,71 +66,142 @@ pub fn image_files<R: Files>(
 {
     let mut found = FoundImages {
         paths: Vec::new(alloc),
+        are_hosts: Vec::new(alloc),
         in_directory: false,
+        remarks: Vec::new(alloc),
     };
-    let mut waiting = waiting_words(alloc, words)?;
-    for _ in 0..u64::MAX {
-        let Some(next) = waiting.pop() else {
-            return Ok(found);
-        };
-        visit(rt, alloc, next, &mut found, &mut waiting)?;
+    for place in 0..words.len() {
+        find(rt, alloc, words[place], &mut found)?;
     }
     Ok(found)
 }
 
-/// The arguments of a command, the first on top.
-fn waiting_words(alloc: Global, words: &[&str]) -> Result<Vec<Waiting>, AllocError>
-    ensures { IfOk result (λ waiting. vec_len waiting ≤ length words.now) }
+/// Adds the images that an argument names.
+fn find<R: Files>(
+    rt: &R,
+    alloc: Global,
+    word: &str,
+    found: &mut FoundImages,
+) -> Result<(), AllocError>
+    ensures { OnOk result (found.new.in_directory ≡ false → GrowsByOne found.old found.new) }
 {
-    let mut waiting = Vec::new(alloc);
-    for behind in 0..words.len() {
-        waiting.push(Waiting {
-            path: String::from_str(alloc, words[words.len() - 1 - behind])?,
-            named: true,
-        })?;
+    if is_directory(rt, word) {
+        find_below(rt, alloc, word, found)?;
+        found.in_directory = true;
+        return Ok(());
     }
-    Ok(waiting)
+    let path = String::from_str(alloc, word)?;
+    found.add(path, true)
 }
 
-/// Visits one path. It is an image, its entries become pending, or it is neither.
+/// Whether a path leads to a directory, where a link is not followed.
+fn is_directory<R: Files>(rt: &R, path: &str) -> bool {
+    fs::symlink_metadata(rt, path).is_ok_and(|met| met.is_dir())
+}
+
+impl FoundImages {
+    /// Adds a path.
+    fn add(&mut self, path: String, is_hosts: bool) -> Result<(), AllocError>
+        ensures grows { OnOk result (vec_len self.new.paths ≡ vec_len self.old.paths + 1) }
+        ensures directory { OnOk result (self.new.in_directory ≡ self.old.in_directory) }
+    {
+        self.are_hosts.push(is_hosts)?;
+        self.paths.push(path)?;
+        Ok(())
+    }
+
+    /// Whether the path at a position is the host's.
+    pub(crate) fn is_hosts(&self, place: usize) -> bool {
+        match self.are_hosts.get(place) {
+            Some(is_hosts) => *is_hosts,
+            None => true,
+        }
+    }
+}
+
+/// Adds the images in an argument's directory and in all directories below it, or the remark that there is none.
+fn find_below<R: Files>(
+    rt: &R,
+    alloc: Global,
+    word: &str,
+    found: &mut FoundImages,
+) -> Result<(), AllocError> {
+    let before = found.paths.len();
+    let mut waiting = Vec::new(alloc);
+    wait_for_names(
+        rt,
+        alloc,
+        String::from_str(alloc, word)?,
+        found,
+        &mut waiting,
+    )?;
+    for _ in 0..u64::MAX {
+        let Some(next) = waiting.pop() else {
+            break;
+        };
+        visit(rt, alloc, next, found, &mut waiting)?;
+    }
+    if found.paths.len() == before {
+        let word = String::from_str(alloc, word)?;
+        found.remarks.push(Remark::NoImage(word))?;
+    }
+    Ok(())
+}
+
+/// Visits one path in a directory. It is an image, its entries become pending, or it is neither.
 fn visit<R: Files>(
     rt: &R,
     alloc: Global,
     next: Waiting,
     found: &mut FoundImages,
     waiting: &mut Vec<Waiting>,
-) -> Result<(), AllocError>
-    ensures { OnOk result (found.new.in_directory ≡ false → GrowsByOne found.old found.new (vec_len waiting.old) (vec_len waiting.new)) }
-{
+) -> Result<(), AllocError> {
     match look_at(rt, &next) {
-        Look::Image => found.paths.push(next.path)?,
-        Look::Directory => {
-            found.in_directory = true;
-            wait_for_names(rt, alloc, next.path, found, waiting)?;
-        }
+        Look::Image => found.add(next.path, next.is_hosts)?,
+        Look::Directory => wait_for_names(rt, alloc, next.path, found, waiting)?,
+        Look::Compressed => found.remarks.push(Remark::Compressed(next.path))?,
         Look::Neither => {}
     }
     Ok(())
 }
 
-/// What a path is. An argument that is not a directory is an image.
+/// What a path in a directory is.
 fn look_at<R: Files>(rt: &R, next: &Waiting) -> Look {
-    let Ok(met) = fs::symlink_metadata(rt, next.path.as_str()) else {
+    let path = next.path.as_str();
+    if !next.is_hosts {
+        return Look::Image;
+    }
+    let Ok(met) = fs::symlink_metadata(rt, path) else {
         return Look::Image;
     };
     if met.is_dir() {
         return Look::Directory;
     }
-    if next.named {
-        return Look::Image;
-    }
-    if !has_image_ending(next.path.as_str()) || !(met.is_file() || met.is_symlink()) {
+    let look = look_of(path);
+    if !(met.is_file() || met.is_symlink()) {
         return Look::Neither;
     }
-    match fs::metadata(rt, next.path.as_str()) {
+    match fs::metadata(rt, path) {
         Ok(behind) if !behind.is_file() => Look::Neither,
-        _ => Look::Image,
+        _ => look,
     }
+}
+
+/// What a file in a directory is by the ending of its name.
+fn look_of(path: &str) -> Look {
+    if has_image_ending(path) {
+        return Look::Image;
+    }
+    if has_ending(path, b".adz") || has_ending(path, b".dms") {
+        return Look::Compressed;
+    }
+    Look::Neither
+}
+
+/// Whether a name ends in these four bytes, in any case.
+fn has_ending(name: &str, ending: &[u8]) -> bool {
+    let bytes = name.as_bytes();
+    bytes.len() >= 4 && bytes[bytes.len() - 4..].eq_ignore_ascii_case(ending)
 }
 
 /// Whether a name ends in `.adf` or `.hdf`, in any case.
@@ -133,41 +224,21 @@ fn wait_for_names<R: Files>(
     path: String,
     found: &mut FoundImages,
     waiting: &mut Vec<Waiting>,
-) -> Result<(), AllocError>
-    ensures { found.new.in_directory ≡ found.old.in_directory }
-{
-    let mut names = Vec::new(alloc);
-    let read = read_names(rt, alloc, path.as_str(), &mut names);
-    names.sort_unstable();
-    while let Some(name) = names.pop() {
-        let inner = Path::new(path.as_str()).join(alloc, name.as_str())?;
+) -> Result<(), AllocError> {
+    let mut bytes = Vec::new(alloc);
+    let read = read_names(rt, alloc, path.as_str(), &mut bytes);
+    let names = names_in(alloc, &bytes)?;
+    for name in names.iter().rev() {
+        let TextName { text, is_hosts } = text_name(alloc, *name)?;
+        let inner = Path::new(path.as_str()).join(alloc, text.as_str())?;
         waiting.push(Waiting {
             path: String::from_str(alloc, inner.as_str())?,
-            named: false,
+            is_hosts,
         })?;
     }
     match read {
-        Ok(true) => {}
-        Err(error) if error.kind() == ErrorKind::OutOfMemory => return Err(AllocError),
-        _ => found.paths.push(path)?,
+        Ok(()) => Ok(()),
+        Err(error) if error.kind() == ErrorKind::OutOfMemory => Err(AllocError),
+        Err(_) => found.add(path, true),
     }
-    Ok(())
-}
-
-/// Adds the names in a directory, unsorted, and returns whether these are all.
-fn read_names<R: Files>(
-    rt: &R,
-    alloc: Global,
-    path: &str,
-    names: &mut Vec<String>,
-) -> Result<bool, Error> {
-    let mut all = true;
-    for entry in fs::read_dir(&(rt, alloc), path)? {
-        match entry {
-            Ok(entry) => names.push(String::from_str(alloc, entry.file_name())?)?,
-            Err(error) if error.kind() == ErrorKind::OutOfMemory => return Err(error),
-            Err(_) => all = false,
-        }
-    }
-    Ok(all)
 }

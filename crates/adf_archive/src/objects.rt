@@ -1,13 +1,13 @@
 //! The JSON object of a report on an image.
 ghost use Rattle.std.specs.Prelude.{◌≡◌, ◌++◌, ◌∷◌, [], OnOk, codes, flat_map, option_map};
 ghost use Rattle.json.specs.Token.{key};
-ghost use Rattle.adf_json.specs.Members.{string_token};
+ghost use Rattle.adf_record.specs.Members.{string_token};
 ghost use Rattle.adf_archive.specs.Objects.{contents_tokens, fault_tokens, faults_tokens, found_in, is_checked, kind_text, known_tokens, members_of, members_tokens, object_line, object_tokens, shown_tokens, wanted_in};
 
 use crate::report::{Contents, ImageReport, ShownFault};
 use crate::words::{kind_word, size_word};
 use adf_block::BootKind;
-use adf_json::{put_flag, put_number, put_text};
+use adf_record::{put_flag, put_number, put_text};
 use adf_text::letter_text;
 use ados_faults::FaultValues;
 use json::Writer;
@@ -138,7 +138,8 @@ fn put_contents(
     match contents {
         Some(known) => {
             let name = letter_text(alloc, known.name.bytes())?;
-            let (files, directories) = (known.files as u64, known.directories as u64);
+            let files = known.counts.files as u64;
+            let directories = known.counts.directories as u64;
             let free = u64::from(known.free);
             put_known(
                 writer,

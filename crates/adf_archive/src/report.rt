@@ -1,5 +1,6 @@
 //! The report on an image, as a value.
 use adf_block::{BootKind, SizeFault};
+use adf_record::Counts;
 use ados_faults::FaultValues;
 use ados_model::VolumeFault;
 use ados_name::Name;
@@ -30,9 +31,7 @@ pub struct AcceptedImage {
 #[derive(Clone, Copy)]
 pub struct Contents {
     pub name: Name,
-    pub files: usize,
-    /// The directories without the root.
-    pub directories: usize,
+    pub counts: Counts,
     /// The free blocks.
     pub free: u32,
 }
@@ -65,6 +64,9 @@ pub struct ShownFault {
 pub enum WhyNot {
     #[error("cannot be read")]
     Read,
+    /// No path of the host leads to it, since its name is not UTF-8.
+    #[error("has a name that is not UTF-8")]
+    Name,
     #[error("is not checked: there is not enough memory")]
     Memory,
     #[error("gave no end within 2,097,152 reads")]

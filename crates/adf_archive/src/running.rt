@@ -10,9 +10,12 @@ use crate::each::together;
 use crate::fault::ArchiveFault;
 use crate::finding::{FoundImages, image_files};
 use crate::held::tell_each_held;
+use crate::person::{Manner, tell_person, tell_remarks};
 use crate::reading::ReadImages;
 use crate::report::ImageReport;
-use crate::telling::{Form, Tally, tell_person, tell_reports};
+use crate::telling::{Form, Tally, end_over, tell_reports};
+use crate::totals::Totals;
+use adf_text::print_line;
 use adf_words::CheckJob;
 use std::alloc::Global;
 use std::fs::File;
@@ -21,8 +24,11 @@ use std::rt::Files;
 use std::thread;
 use std::thread::Threads;
 
-/// Checks the images that the arguments of a command name, and reports on each in order. `faults` gets a line for each
-/// image that another command or a mount has locked and, with `terminal`, one that says how many of several are done.
+/// Checks the images that the arguments of a command name, and reports on each in order. `faults` gets what explains the
+/// faults of a single image, or with `--all` of each; a line for each image that another command or a mount has locked,
+/// for each that is not checked, for each compressed file of a directory and for each argument's directory without an
+/// image; and of several images how many are accepted and, with `terminal`, how many are done. Where there is no image,
+/// the check fails.
 pub fn check_archive<R, W, F>(
     rt: &R,
     alloc: Global,
@@ -41,6 +47,7 @@ where
     let form = form_of(job, &found);
     let detail = detail_of(job, form);
     let paths = found.paths.as_slice();
+    tell_remarks(&found.remarks, faults);
     tell_each_held(rt, paths, faults);
     let tally = check_each(
         rt,
@@ -50,14 +57,22 @@ where
         &|place: usize| -> ImageReport
             requires { place < length paths.now }
             ensures { IsReportOfSome detail result }
-        { report_file(rt, alloc, paths[place].as_str(), detail) },
+        {
+            report_file(
+                rt,
+                alloc,
+                paths[place].as_str(),
+                found.is_hosts(place),
+                detail,
+            )
+        },
         form,
         detail.texts,
         terminal,
         writer,
         faults,
     )?;
-    tally.end()
+    end_over(paths.len(), tally)
 }
 
 /// The form of the reports: with paths, unless the only argument names a file.
@@ -109,7 +124,7 @@ pub fn check_each<R, C, W, F>(
     faults: &mut F,
 ) -> Result<Tally, ArchiveFault>
 where
-    R: Threads + Sync,
+    R: Files + ReadImages + Threads + Sync,
     C: Fn(usize) -> ImageReport + Sync,
     W: Write,
     F: Write,
@@ -118,7 +133,12 @@ where
     ensures fault { IfErr result (λ _. LeavesOff C.Fn report.now form (map string_bytes paths.now) (W.contents writer.old) (W.contents writer.new)) }
     ensures broken { IfErr result IsBroken }
 {
+    let manner = Manner {
+        paths: form.paths,
+        texts,
+    };
     let mut tally = Tally::new();
+    let mut totals = Totals::none();
     let mut done = 0;
     while done < paths.len() {
         let count = jobs.max(1).min(paths.len() - done);
@@ -126,11 +146,20 @@ where
         let reports = together(rt, alloc, done, count, report)?;
         clear_progress(terminal, paths.len(), faults);
         tell_reports(alloc, paths, done, &reports, form, writer)?;
-        tell_person(paths, done, &reports, form, texts, faults);
+        tell_person(rt, alloc, &paths[done..], &reports, manner, faults);
         tally.add(&reports);
+        totals.add(&reports);
         done += count;
     }
+    tell_totals(form, totals, faults);
     Ok(tally)
+}
+
+/// Prints how many of several images are accepted.
+fn tell_totals<F: Write>(form: Form, totals: Totals, faults: &mut F) {
+    if form.paths {
+        print_line(faults, totals);
+    }
 }
 
 /// Prints how many of several images are done.

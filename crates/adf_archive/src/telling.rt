@@ -4,15 +4,13 @@ ghost use Rattle.std.specs.Io.KnownBytes.{Appends};
 ghost use Rattle.std.specs.String.{string_bytes};
 ghost use Rattle.adf_io.specs.Prefix.{WritesFront};
 ghost use Rattle.adf_archive.specs.Lines.{told_from, told_of};
-ghost use Rattle.adf_archive.specs.Status.{IsBroken, IsTally, ends_as, noted, tallied};
+ghost use Rattle.adf_archive.specs.Status.{IsBroken, IsTally, ends_as, ends_over, noted, tallied};
 
 use crate::fault::ArchiveFault;
 use crate::lines::push_lines;
 use crate::objects::push_object;
 use crate::report::ImageReport;
-use adf_block::SizeFault;
 use adf_io::write_output;
-use adf_text::print_line;
 use std::alloc::{AllocError, Global};
 use std::io::Write;
 
@@ -77,6 +75,17 @@ impl Tally {
         }
         Ok(())
     }
+}
+
+/// The result of a command over this many images with this status. Where there is none, it fails as if one was not
+/// checked.
+pub(crate) fn end_over(images: usize, tally: Tally) -> Result<(), ArchiveFault>
+    ensures { result ≡ ends_over images tally }
+{
+    if images == 0 {
+        return Err(ArchiveFault::NotChecked);
+    }
+    tally.end()
 }
 
 /// Writes the reports on images, in order. Their paths start at a position of the list.
@@ -153,58 +162,4 @@ fn push_told(
     front.extend_from_slice(path.as_bytes())?;
     front.push(b'\t')?;
     push_lines(alloc, text, &front, report)
-}
-
-/// Prints the texts that explain the faults of images, and which images were not checked. Their paths start at a
-/// position of the list.
-pub(crate) fn tell_person<F: Write>(
-    paths: &[String],
-    start: usize,
-    reports: &[ImageReport],
-    form: Form,
-    texts: bool,
-    faults: &mut F,
-)
-    requires { start + length reports.now ≤ length paths.now }
-{
-    for (place, report) in reports.iter().enumerate() {
-        let path = paths[start + place].as_str();
-        match report {
-            ImageReport::NotChecked(why) => {
-                print_line(faults, format_args!("adf_serve: '{path}' {why}"));
-            }
-            ImageReport::WrongSize(fault) if texts => tell_text(
-                path,
-                form,
-                size_text(*fault),
-                faults,
-            ),
-            ImageReport::Refused(told) if texts => {
-                for shown in told.faults.iter() {
-                    if let Some(text) = &shown.text {
-                        tell_text(path, form, text.as_str(), faults);
-                    }
-                }
-            }
-            _ => {}
-        }
-    }
-}
-
-/// Prints the text of a fault, with the path of the image if it is one of several.
-fn tell_text<F: Write>(path: &str, form: Form, text: &str, faults: &mut F) {
-    if form.paths {
-        print_line(faults, format_args!("{path}: {text}"));
-    } else {
-        print_line(faults, format_args!("{text}"));
-    }
-}
-
-/// The text for a wrong size.
-fn size_text(fault: SizeFault) -> &'static str {
-    match fault {
-        SizeFault::NotWholeBlocks => "the image is not whole blocks of 512 bytes",
-        SizeFault::TooFewBlocks => "the image has fewer than 16 blocks",
-        SizeFault::TooManyBlocks => "the image has more than 101,602 blocks",
-    }
 }

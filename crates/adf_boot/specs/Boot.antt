@@ -26,3 +26,7 @@ HasBoot code old new = HoldsCode 8 code old new × (long new 0 BOOT_CHECKSUM ≡
 abbrev pub Boots : {A : Type 0} → Option (List ℕ) → List ℕ → List ℕ → Result A LongBoot → Type 0
 Boots None old new result = MatchResult result (λ _. HoldsCode 4 [] old new) (λ _. ⊥)
 Boots (Some code) old new result = MatchResult result (λ _. (length code ≤ 1024) × HasBoot code old new) (λ fault. (new ≡ old) × (1024 < length code) × (fault.length ≡ length code))
+
+-- bytes that fit follow the kind, and then zeros; bytes that do not fit are refused, and the image is unchanged
+abbrev pub Restores : {A : Type 0} → List ℕ → List ℕ → List ℕ → Result A LongBoot → Type 0
+Restores bytes old new result = MatchResult result (λ _. (length bytes ≤ 1024) × HoldsCode 4 bytes old new) (λ fault. (new ≡ old) × (1024 < length bytes) × (fault.length ≡ length bytes))

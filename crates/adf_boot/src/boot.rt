@@ -4,7 +4,7 @@ ghost use Rattle.std.specs.Prelude.{◌≡◌, ◌<◌, ◌≤◌, ℕ, length, 
 ghost use Rattle.adf_block.specs.Image.{block_count, byte_at, long};
 ghost use Rattle.adf_block.specs.Frame.{OnlyBlock, OnlyLong};
 ghost use Rattle.adf_block.specs.Boot.{boot_sum};
-ghost use Rattle.adf_boot.specs.Boot.{Boots, HasBoot, HoldsCode};
+ghost use Rattle.adf_boot.specs.Boot.{Boots, HasBoot, HoldsCode, Restores};
 ghost use Rattle.adf_boot.specs.Code.{IsBootCode};
 
 use crate::kind::{BOOT_BYTES, BootCode};
@@ -50,6 +50,22 @@ pub fn install_standard(image: &mut Image)
     ensures shown { IsBootCode image.new BootCode.Standard }
 {
     install(image, &STANDARD_BOOT);
+}
+
+/// Puts the bytes of a boot block back as they were: from byte 4 on these, then zeros. The kind of the disk stays, and
+/// the checksum is what the bytes say.
+///
+/// Nothing after byte 1,023 changes. If there are more than 1,024 bytes, nothing changes at all.
+pub fn restore_boot(image: &mut Image, bytes: &[u8]) -> Result<(), LongBoot>
+    ensures { Restores bytes.now image.old image.new result }
+{
+    if bytes.len() > BOOT_BYTES {
+        return Err(LongBoot {
+            length: bytes.len(),
+        });
+    }
+    put_code(image, bytes);
+    Ok(())
 }
 
 /// Installs code that fits.

@@ -7,7 +7,7 @@ mod kind;
 mod shown;
 mod standard;
 
-pub use boot::{LongBoot, boot_image, install_standard};
+pub use boot::{LongBoot, boot_image, install_standard, restore_boot};
 pub use kind::{BootCode, boot_bytes, boot_code};
-pub use shown::boot_text;
+pub use shown::{boot_text, code_line};
 pub use standard::STANDARD_BOOT;

@@ -23,7 +23,7 @@ pub fn boot_text(alloc: Global, image: &Image) -> Result<Vec<u8>, AllocError>
 }
 
 /// The line that says what a boot block is.
-fn code_line(code: BootCode) -> &'static str
+pub fn code_line(code: BootCode) -> &'static str
     ensures { result.now ≡ code_line code }
 {
     match code {

@@ -1,5 +1,5 @@
 -- The output for an image, whole or in part.
-use Rattle.std.proofs.Common.{◌≡◌, ℕ, ◌⊎◌, inl, inr, Bool, true, false, List, [], ◌++◌, Option, Some, None, option_map, Ok, Err, IfErr, OnErr, OnOk, IsErrAnd, refl, sym, ap, ◌∙◌, subst}
+use Rattle.std.proofs.Common.{◌≡◌, ℕ, Bor, ◌⊎◌, inl, inr, Bool, true, false, List, [], ◌++◌, Option, Some, None, option_map, Ok, Err, IfErr, OnErr, OnOk, IsErrAnd, refl, sym, ap, ◌∙◌, subst}
 use Rattle.std.specs.Prelude.{⊤}
 use Rattle.std.specs.Io.KnownBytes.{Appends, Keeps}
 use Rattle.std.proofs.KnownBytes.{Appends-nil, Keeps-refl}
@@ -14,7 +14,10 @@ use Rattle.ados_run.specs.declared.run.RunFault.TheVariants as of_run
 use Rattle.adf_script.specs.Streams.{Writes}
 use Rattle.adf_io.specs.Prefix.{WritesFront, WritesFrontOf}
 use Rattle.adf_boot.specs.Shown.{IsBootText}
+use Rattle.ados_mend.specs.BlockMap.{IsMap}
 use Rattle.adf_export.specs.Listing.{BeginsList, IsList}
+use Rattle.adf_record.specs.declared.told.FactsForm.{FactsForm}
+use Rattle.adf_record.specs.Told.{IsVolumeText, is_json}
 use Rattle.adf_words.specs.declared.job.ImageJob.{ImageJob}
 use Rattle.adf_words.specs.declared.job.ImageJob.TheVariants.{Blank}
 use Rattle.adf_export.specs.declared.fault.OutFault.{OutFault}
@@ -27,7 +30,7 @@ use Rattle.adf_commands.specs.declared.fault.CommandFault.{CommandFault}
 use Rattle.adf_commands.specs.declared.fault.CommandFault.TheVariants.{Dos, ImagesRefused, Memory, NotChecked, NotWhole, Output, Refused}
 use Rattle.adf_commands.specs.declared.refusal.Refusal.{Refusal}
 use Rattle.adf_commands.specs.declared.refusal.DosRefusal.{DosRefusal}
-use Rattle.adf_commands.specs.Texts.{BeginsJobText, BeginsListText, IsJobText, IsListed, IsListText, IsPrintText, IsShownBoot}
+use Rattle.adf_commands.specs.Texts.{BeginsJobText, BeginsListOf, BeginsListText, IsJobText, IsListed, IsListOf, IsListText, shown_form, IsPrintText, IsMapped, IsShown, IsShownBoot}
 use Rattle.adf_commands.specs.Faults.{IsBlankFault, IsNoImage, IsNoImageRefusal, IsNoRefusal, IsRefusedFor, IsToldAs, IsToldOut, IsToldRun}
 use Rattle.adf_commands.specs.Commands.{Does, DoesJob, Ending, EndsOff, LeavesOff, Prints, prints, Tells, TellsFault, TellsJob, TellsOf, TellsSome}
 use Rattle.adf_commands.specs.Commands.Prints.{OnlyFaults, OfBytes, OfImages, OfRescue, Unsaid}
@@ -35,6 +38,8 @@ use Rattle.std.proofs.lemmas.List.{append-nil}
 use Rattle.adf_archive.specs.Archive.{told_in}
 use Rattle.adf_words.specs.declared.query.CheckJob.{CheckJob}
 use Rattle.adf_words.specs.declared.query.ListForm.{ListForm}
+use Rattle.adf_words.specs.declared.query.ListJob.{ListJob}
+use Rattle.adf_words.specs.declared.query.ListOrder.{ListOrder}
 use Rattle.adf_commands.specs.Archives.{EndsArchive}
 use Rattle.adf_commands.specs.Rescues.{DoesRescue, IsRescueText, IsSomeRescueText, TellsRescue}
 use Rattle.adf_commands.specs.Refusals.{dos_line, IsDosText, IsRefusalText, refusal_line, told_line}
@@ -116,17 +121,28 @@ accepted_tree : (image : List ℕ) (was_validated : Bool) (checked : List ℕ) �
 accepted_tree image false checked a = (a.3.0, a.3.1)
 accepted_tree image true checked a = (a.2.0, a.2.1)
 
+-- the list that a job asks for, and the beginning of one
+module _ (image : List ℕ) (job : ListJob) (styled : Bool) (form : ListForm) (same : form ≡ shown_form styled job.form) (old new : Option (List ℕ)) where
+  abbrev asked_path : Option (List ℕ)
+  asked_path = option_map (λ (word : Bor (List ℕ)). word.now) job.path
+
+  pub list_asked : Writes old new (IsListText asked_path form job.order image) → Writes old new (IsListOf job image)
+  list_asked (text, written, is) = (text, written, (styled, subst (λ (f : ListForm). IsListText asked_path f job.order image text) same is))
+
+  pub front_asked : WritesFrontOf old new (BeginsListText asked_path form job.order image) → WritesFrontOf old new (BeginsListOf job image)
+  front_asked (text, is, written) = (text, (styled, subst (λ (f : ListForm). BeginsListText asked_path f job.order image text) same is), written)
+
 -- for an accepted image
 module _ (image : List ℕ) (was_validated : Bool) (checked : List ℕ) (a : Accepts image was_validated checked) where
-  pub list_text : (path : Option (List ℕ)) (form : ListForm) (key : ℕ) (old new : Option (List ℕ)) → ((t : Tree) → Stands checked t → IsListed t path key)
-      → ((t : Tree) → Stands checked t → Writes old new (IsList t key form)) → Writes old new (IsListText path form image)
-  list_text path form key old new listed h =
+  pub list_text : (path : Option (List ℕ)) (form : ListForm) (order : ListOrder) (key : ℕ) (old new : Option (List ℕ)) → ((t : Tree) → Stands checked t → IsListed t path key)
+      → ((t : Tree) → Stands checked t → Writes old new (IsList t order key form)) → Writes old new (IsListText path form order image)
+  list_text path form order key old new listed h =
       let s = accepted_tree image was_validated checked a in
       let w = h s.0 s.1 in (w.0, w.1, (was_validated, checked, s.0, a, s.1, (key, listed s.0 s.1, w.2)))
 
-  pub list_front : (path : Option (List ℕ)) (form : ListForm) (key : ℕ) (old new : Option (List ℕ)) → ((t : Tree) → Stands checked t → IsListed t path key)
-      → ((t : Tree) → Stands checked t → WritesFrontOf old new (BeginsList t key form)) → WritesFrontOf old new (BeginsListText path form image)
-  list_front path form key old new listed h =
+  pub list_front : (path : Option (List ℕ)) (form : ListForm) (order : ListOrder) (key : ℕ) (old new : Option (List ℕ)) → ((t : Tree) → Stands checked t → IsListed t path key)
+      → ((t : Tree) → Stands checked t → WritesFrontOf old new (BeginsList t order key form)) → WritesFrontOf old new (BeginsListText path form order image)
+  list_front path form order key old new listed h =
       let s = accepted_tree image was_validated checked a in
       let w = h s.0 s.1 in (w.0, (was_validated, checked, s.0, a, s.1, (key, listed s.0 s.1, w.1)), w.2)
 
@@ -138,6 +154,14 @@ module _ (image : List ℕ) (was_validated : Bool) (checked : List ℕ) (a : Acc
   pub boot_shown : (text : List ℕ) → IsBootText checked text → IsShownBoot image text
   boot_shown text is =
       let s = accepted_tree image was_validated checked a in (was_validated, checked, s.0, a, s.1, is)
+
+  pub volume_shown : (form : FactsForm) (json : Bool) (text : List ℕ) → is_json form ≡ json → ((t : Tree) → Stands checked t → IsVolumeText form checked was_validated t text) → IsShown json image text
+  volume_shown form json text same is =
+      let s = accepted_tree image was_validated checked a in (was_validated, checked, s.0, a, s.1, (form, same, is s.0 s.1))
+
+  pub map_shown : (json : Bool) (text : List ℕ) → ((t : Tree) → Stands checked t → IsMap json checked t text) → IsMapped json image text
+  map_shown json text is =
+      let s = accepted_tree image was_validated checked a in (was_validated, checked, s.0, a, s.1, is s.0 s.1)
 
   pub print_fault : (word : List ℕ) (old new : Option (List ℕ)) (fault : OutFault) (told : CommandFault) → ((t : Tree) → Stands checked t → IsPrintFault t word old new fault)
       → IsToldOut fault told → LeavesOff (IsPrintText word image) image old new told

@@ -4,7 +4,7 @@ use Rattle.std.specs.Io.KnownBytes.{Keeps}
 use Rattle.adf_script.specs.Streams.{Writes}
 use Rattle.adf_io.specs.Prefix.{WritesFrontOf}
 use Rattle.adf_words.specs.declared.job.ImageJob.{ImageJob}
-use Rattle.adf_words.specs.declared.job.ImageJob.TheVariants.{Check, Extract, Change, Boot, SaveBoot, Salvage, Serve}
+use Rattle.adf_words.specs.declared.job.ImageJob.TheVariants.{AddBundle, Check, Extract, ExtractBundle, Change, Boot, SaveBoot, Salvage, Serve}
 use Rattle.adf_words.specs.declared.query.CheckJob.{CheckJob}
 use Rattle.adf_commands.specs.declared.fault.CommandFault.{CommandFault}
 use Rattle.adf_commands.specs.declared.fault.CommandFault.TheVariants.{Dos, Refused}
@@ -46,8 +46,10 @@ abbrev pub prints : ImageJob → Prints
 prints (Check job) = OfImages job
 prints (Salvage job) = OfRescue
 prints (Extract job) = OnlyFaults
+prints (ExtractBundle image to) = OnlyFaults
+prints (AddBundle target from) = OnlyFaults
 prints (Change job) = OnlyFaults
-prints (Boot image out block) = OnlyFaults
+prints (Boot target block) = OnlyFaults
 prints (SaveBoot image file) = OnlyFaults
 prints (Serve job) = Unsaid
 prints job = OfBytes

@@ -10,7 +10,7 @@ use Rattle.adf_text.specs.Letters.{letters as letter_text}
 use Rattle.adf_export.specs.declared.fault.OutFault.{OutFault}
 use Rattle.adf_export.specs.declared.fault.OutFault.TheVariants as out
 use Rattle.adf_commands.specs.declared.fault.CommandFault.{CommandFault}
-use Rattle.adf_commands.specs.declared.fault.CommandFault.TheVariants.{Blocks, Dos, Letter, LongBoot, Memory, Name, ImagesRefused, NotWhole, Output, Refused, Script}
+use Rattle.adf_commands.specs.declared.fault.CommandFault.TheVariants.{Bitmap, Blocks, Dos, Letter, LongBoot, Memory, Name, ImagesRefused, NotWhole, OtherVolume, Output, Refused, Script}
 use Rattle.adf_archive.specs.Words.{kind_word}
 use Rattle.adf_commands.specs.Refusals.{IsImageRefusal, IsSizeRefusal, refusal_line, refused_line, told_line}
 
@@ -18,6 +18,12 @@ use Rattle.adf_commands.specs.Refusals.{IsImageRefusal, IsSizeRefusal, refusal_l
 abbrev pub IsRefusedFor : List ℕ → CommandFault → Type 0
 IsRefusedFor image (Refused refusal) = IsImageRefusal image (refusal_line refusal)
 IsRefusedFor image fault = fault ≡ Memory
+
+-- a refusal of an image names a fault that it shows
+abbrev pub IsRefusedAs : List ℕ → CommandFault → Type 0
+IsRefusedAs image (Refused refusal) = IsImageRefusal image (refusal_line refusal)
+IsRefusedAs image (Dos refusal) = ⊥
+IsRefusedAs image fault = ⊤
 
 -- a fault of a volume as that of a command: with its word and its block, or as out of memory
 abbrev pub IsToldAs : VolumeFault → CommandFault → Type 0
@@ -73,6 +79,8 @@ status_of (Name name) = 3
 status_of (LongBoot file) = 3
 status_of (Refused refusal) = 3
 status_of (Dos refusal) = 3
+status_of (Bitmap why) = 3
+status_of (OtherVolume image fault) = 3
 status_of Script = 3
 status_of ImagesRefused = 3
 status_of NotWhole = 3

@@ -2,6 +2,7 @@
 -- how they end.
 pub mod Texts
 pub mod Refusals
+pub mod Explained
 pub mod Faults
 pub mod Archives
 pub mod Rescues

@@ -1,5 +1,5 @@
 -- The output of commands for an image, by its bytes.
-use Rattle.std.specs.Prelude.{◌≡◌, ℕ, pos, Bool, true, List, [], ◌∷◌, Option, Some, None, option_map}
+use Rattle.std.specs.Prelude.{◌≡◌, ℕ, pos, Bool, true, false, List, [], ◌∷◌, Option, Some, None, option_map}
 use Rattle.ados_name.specs.declared.stamp.Date3.{Date3}
 use Rattle.ados_model.specs.Packet.{dos_true}
 use Rattle.ados_model.specs.Actions.{action_number}
@@ -19,11 +19,18 @@ use Rattle.ados_port.specs.Step.TheVariants.{Put, Take}
 use Rattle.adf_boot.specs.Shown.{IsBootText}
 use Rattle.adf_export.specs.Info.{info_text}
 use Rattle.adf_export.specs.Listing.{BeginsList, IsList}
+use Rattle.adf_record.specs.declared.told.FactsForm.{FactsForm}
+use Rattle.adf_record.specs.Told.{IsVolumeText, is_json}
 use Rattle.adf_words.specs.declared.job.ImageJob.{ImageJob}
-use Rattle.adf_words.specs.declared.job.ImageJob.TheVariants.{Info, List as ListOf, Print, ShowBoot}
+use Rattle.adf_words.specs.declared.job.ImageJob.TheVariants.{Info, List as ListOf, Map, Print, Show, ShowBoot, Validate}
 use Rattle.adf_words.specs.declared.query.ListForm.{ListForm}
+use Rattle.adf_words.specs.declared.query.ListForm.TheVariants.{Bold, Long}
 use Rattle.adf_words.specs.declared.query.ListJob.{ListJob}
+use Rattle.adf_words.specs.declared.query.ListOrder.{ListOrder}
 use Rattle.adf_export.specs.Words.{LeadsTo}
+use Rattle.ados_mend.specs.BlockMap.{IsMap}
+use Rattle.ados_mend.specs.Said.{validated_line}
+use Rattle.ados_mend.specs.Validated.{IsValidated, free_only_in}
 
 -- 1 January 1978
 abbrev pub first_moment : Date3
@@ -48,19 +55,25 @@ abbrev pub IsListed : Tree → Option (List ℕ) → ℕ → Type 0
 IsListed t None key = key ≡ root t
 IsListed t (Some word) key = LeadsTo t word key
 
--- the list of that object in this form, and the beginning of one
-abbrev pub IsListText : Option (List ℕ) → ListForm → List ℕ → List ℕ → Type 0
-IsListText path form = OfAccepted (λ was_validated checked t text. (key : ℕ) × IsListed t path key × IsList t key form text)
+-- the list of that object in this form and this order, and the beginning of one
+abbrev pub IsListText : Option (List ℕ) → ListForm → ListOrder → List ℕ → List ℕ → Type 0
+IsListText path form order = OfAccepted (λ was_validated checked t text. (key : ℕ) × IsListed t path key × IsList t order key form text)
 
-abbrev pub BeginsListText : Option (List ℕ) → ListForm → List ℕ → List ℕ → Type 0
-BeginsListText path form = OfAccepted (λ was_validated checked t text. (key : ℕ) × IsListed t path key × BeginsList t key form text)
+abbrev pub BeginsListText : Option (List ℕ) → ListForm → ListOrder → List ℕ → List ℕ → Type 0
+BeginsListText path form order = OfAccepted (λ was_validated checked t text. (key : ℕ) × IsListed t path key × BeginsList t order key form text)
 
--- the requested list
+-- the form of the output for a requested form: if `styled`, the names of directories in a list for people are bold
+abbrev pub shown_form : Bool → ListForm → ListForm
+shown_form false form = form
+shown_form true Long = Bold
+shown_form true form = form
+
+-- the requested list, with bold letters or without, and the beginning of one
 abbrev pub IsListOf : ListJob → List ℕ → List ℕ → Type 0
-IsListOf job = IsListText (option_map (λ word. word.now) job.path) job.form
+IsListOf job image text = (styled : Bool) × IsListText (option_map (λ word. word.now) job.path) (shown_form styled job.form) job.order image text
 
 abbrev pub BeginsListOf : ListJob → List ℕ → List ℕ → Type 0
-BeginsListOf job = BeginsListText (option_map (λ word. word.now) job.path) job.form
+BeginsListOf job image text = (styled : Bool) × BeginsListText (option_map (λ word. word.now) job.path) (shown_form styled job.form) job.order image text
 
 -- the bytes of the file at a path
 abbrev pub IsPrintText : List ℕ → List ℕ → List ℕ → Type 0
@@ -70,12 +83,28 @@ IsPrintText word = OfAccepted (λ was_validated checked t text. (key : ℕ) × L
 abbrev pub IsShownBoot : List ℕ → List ℕ → Type 0
 IsShownBoot = OfAccepted (λ was_validated checked t text. IsBootText checked text)
 
+-- how many bits of the bitmap changed, of an image with a new one
+abbrev pub IsCountText : List ℕ → List ℕ → Type 0
+IsCountText image text = (new : List ℕ) × IsValidated image new × (text ≡ validated_line (free_only_in image new) (free_only_in new image))
+
+-- what a person wants to know of the volume: a JSON object, or text, with bold letters or without
+abbrev pub IsShown : Bool → List ℕ → List ℕ → Type 0
+IsShown json =
+    OfAccepted (λ was_validated checked t text. (form : FactsForm) × (is_json form ≡ json) × IsVolumeText form checked was_validated t text)
+
+-- the map of the volume: a JSON object, or text
+abbrev pub IsMapped : Bool → List ℕ → List ℕ → Type 0
+IsMapped json = OfAccepted (λ was_validated checked t text. IsMap json checked t text)
+
 -- the output of a command for the bytes that it reads, and its beginning; `blank` has none
 abbrev pub IsJobText : ImageJob → List ℕ → List ℕ → Type 0
 IsJobText (Info file) = IsInfoText
 IsJobText (ListOf job) = IsListOf job
 IsJobText (Print image path) = IsPrintText path.now
 IsJobText (ShowBoot image) = IsShownBoot
+IsJobText (Validate target force) = IsCountText
+IsJobText (Show image json) = IsShown json
+IsJobText (Map image json) = IsMapped json
 IsJobText job = λ bytes text. text ≡ []
 
 abbrev pub BeginsJobText : ImageJob → List ℕ → List ℕ → Type 0

@@ -9,9 +9,9 @@ use crate::output::tell;
 use crate::refusal::Refusal;
 use adf_block::Image;
 use adf_boot::{boot_bytes, boot_image, boot_text, install_standard};
-use adf_host::refuse_length;
+use adf_host::{refuse_length, why_unreadable};
 use adf_io::read_bounded;
-use adf_words::BootBlock;
+use adf_words::{BootBlock, Rewrite};
 use host_trees::{WriteFault, WriteWhy};
 use std::alloc::Global;
 use std::fs::{self, File, OpenFile};
@@ -25,11 +25,10 @@ const BOOT_BYTES: usize = 1_024;
 pub(crate) fn change_boot<'a, R: Files<File = File> + Clock>(
     rt: &R,
     alloc: Global,
-    image: &'a str,
-    out: Option<&'a str>,
+    target: Rewrite<'a>,
     block: BootBlock<'a>,
 ) -> Result<(), CommandFault<'a>> {
-    let mut work = Work::begin(rt, image, out)?;
+    let mut work = Work::begin(rt, target)?;
     let mut image = work.read(alloc)?;
     accept_copy(alloc, &image)?;
     put_boot(rt, alloc, &mut image, block)?;
@@ -94,11 +93,12 @@ fn read_code<'a, R: Files>(
     file: &'a str,
 ) -> Result<Vec<u8>, CommandFault<'a>> {
     let Ok(mut reader) = fs::open(rt, file) else {
-        return Err(CommandFault::Read(file));
+        return Err(CommandFault::Read(file, why_unreadable(rt, file)));
     };
-    read_bounded(alloc, &mut reader, BOOT_BYTES + 1).map_err(|fault| CommandFault::of_input(
-        fault, file,
-    ))
+    match read_bounded(alloc, &mut reader, BOOT_BYTES + 1) {
+        Ok(code) => Ok(code),
+        Err(fault) => Err(CommandFault::of_input(rt, fault, file)),
+    }
 }
 
 /// Prints what the boot block of a file's image is, and its bytes.

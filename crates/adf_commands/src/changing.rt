@@ -1,10 +1,14 @@
 //! The commands that change an image file.
+ghost use Rattle.std.specs.Prelude.{IfErr};
+ghost use Rattle.adf_commands.specs.Faults.{IsNoRefusal};
+
+use crate::explaining::explained;
 use crate::fault::CommandFault;
 use crate::images::{Work, accept};
 use adf_block::Image;
-use adf_import::{StandardInput, change_volume};
+use adf_import::{InFault, SourceFault, StandardInput, change_volume};
 use adf_text::print_line;
-use adf_words::ChangeJob;
+use adf_words::{Change, ChangeJob, Source};
 use ados_name::Date3;
 use ados_volume::Volume;
 use host_trees::{PassedOver, moment_of};
@@ -17,16 +21,19 @@ use std::rt::{Clock, Files};
 pub(crate) fn change<'a, R, F>(
     rt: &R,
     alloc: Global,
-    job: ChangeJob<'a>,
+    job: &ChangeJob<'a>,
     faults: &mut F,
 ) -> Result<(), CommandFault<'a>>
 where
     R: Files<File = File> + Clock + StandardInput,
     F: Write,
 {
-    let mut work = Work::begin(rt, job.image, job.out)?;
+    if reads_input(&job.change) && !rt.has_standard_input() {
+        return Err(CommandFault::Added(InFault::Source(SourceFault::Input)));
+    }
+    let mut work = Work::begin(rt, job.target)?;
     let image = work.read(alloc)?;
-    let volume = changed(rt, alloc, image, &job, faults)?;
+    let volume = changed(rt, alloc, image, job, faults)?;
     work.end(rt, alloc, volume.image())
 }
 
@@ -44,13 +51,31 @@ where
 {
     let mut volume = accept(alloc, image)?;
     let moment = given_or_now(rt, job.moment)?;
-    let passed_over = change_volume(rt, alloc, &mut volume, &job.change, moment)?;
-    tell_passed_over(&passed_over, faults);
-    Ok(volume)
+    match change_volume(rt, alloc, &mut volume, &job.change, moment) {
+        Ok(passed_over) => {
+            tell_passed_over(&passed_over, faults);
+            Ok(volume)
+        }
+        Err(fault) => Err(explained(alloc, &mut volume, &job.change, fault)),
+    }
+}
+
+/// Whether a change reads standard input. If that is closed, it is refused before a file is opened, because the image would get
+/// its number.
+fn reads_input(change: &Change<'_>) -> bool {
+    match change {
+        Change::AddAs { source, .. } => matches!(source, Source::StandardInput),
+        _ => false,
+    }
 }
 
 /// The given time stamp, or else that of the host's clock.
-fn given_or_now<'a, R: Clock>(rt: &R, given: Option<Date3>) -> Result<Date3, CommandFault<'a>> {
+pub(crate) fn given_or_now<'a, R: Clock>(
+    rt: &R,
+    given: Option<Date3>,
+) -> Result<Date3, CommandFault<'a>>
+    ensures { IfErr result IsNoRefusal }
+{
     match given {
         Some(moment) => Ok(moment),
         None => moment_of(rt).map_err(|_| CommandFault::Clock),

@@ -4,30 +4,37 @@ ghost use Rattle.std.specs.String.{string_bytes};
 ghost use Rattle.adf_commands.specs.Faults.{status_of};
 ghost use Rattle.adf_commands.specs.Refusals.{told_line};
 
-use crate::refusal::{DosRefusal, Refusal, Room};
+use crate::refusal::{Detail, DosRefusal, Refusal, Room};
 use adf_archive::ArchiveFault;
-use adf_export::{OutFault, PrintFault};
-use adf_host::{HoldFault, ReplaceFault};
-use adf_import::InFault;
+use adf_export::{BundleOutFault, OutFault, PrintFault};
+use adf_host::{HoldFault, ReadReason, ReplaceFault, why_unreadable};
+use adf_import::{BundleInFault, InFault};
 use adf_io::InputFault;
+use adf_record::Grouped;
 use adf_words::Refused;
+use ados_mend::NotValidated;
 use ados_model::DosError;
 use ados_run::{RunFault, ScriptsFault};
 use ados_volume::VolumeFault;
 use host_trees::WriteFault;
 use std::alloc::{AllocError, Global};
+use std::fmt;
+use std::rt::Files;
 use thiserror::Error;
 
 /// Why a command fails, with the message that is printed.
-#[derive(Debug, Drop, Error)]
+#[derive(Error)]
 pub enum CommandFault<'a> {
-    #[error("'{0}' cannot be read")]
-    Read(&'a str),
+    #[error("cannot read '{0}': {1}")]
+    Read(&'a str, ReadReason),
     #[error("'{0}' gave no end within 2,097,152 reads")]
     Endless(&'a str),
-    #[error("'{0}' {1}")]
+    #[error("cannot write '{0}': {1}")]
     Write(&'a str, ReplaceFault),
-    #[error("'{0}' is not worked on: {1}")]
+    /// The file for the changed image is no image, and may be precious.
+    #[error("'{0}' is not an image: --over writes over it")]
+    Precious(&'a str),
+    #[error("'{0}' {1}")]
     Held(&'a str, HoldFault),
     #[error("the clock cannot be read")]
     Clock,
@@ -35,7 +42,7 @@ pub enum CommandFault<'a> {
     Output,
     #[error("there is not enough memory")]
     Memory,
-    #[error("a volume has 16 to 101,602 blocks, and not {0}")]
+    #[error("a volume has 16 to 101,602 blocks, and not {}", Grouped(u64::from(*.0)))]
     Blocks(u32),
     #[error("'{0}' is no name of a volume, which has 1 to 30 bytes without `/` and `:`")]
     Name(&'a str),
@@ -48,9 +55,17 @@ pub enum CommandFault<'a> {
     #[error("{0}")]
     Dos(DosRefusal),
     #[error("{0}")]
+    Bitmap(NotValidated),
+    #[error("{0}")]
     Extracted(WriteFault),
     #[error("{0}")]
     Added(InFault),
+    #[error("{0}")]
+    BundleOut(BundleOutFault),
+    #[error("{0}")]
+    BundleIn(BundleInFault),
+    #[error("'{0}' is not written: {1}")]
+    OtherVolume(&'a str, BundleInFault),
     #[error("a thread cannot be made")]
     Thread,
     #[error("a client ran out of tries")]
@@ -65,13 +80,66 @@ pub enum CommandFault<'a> {
     NotWhole,
 }
 
+impl fmt::Debug for CommandFault<'_> {
+    fn fmt<W: fmt::Write>(&self, f: &mut fmt::Formatter<W>) -> fmt::Result {
+        write!(f, "{self}")
+    }
+}
+
+/// It does what a derived one does. It is written out because it is then one step of each proof in which a fault is
+/// dropped; a derived one is a case for each variant, and for each of the faults inside.
+impl Drop for CommandFault<'_> {
+    fn drop(self) {
+        match self {
+            CommandFault::Letter(_word) => {}
+            CommandFault::Dos(_refusal) => {}
+            CommandFault::Extracted(_fault) => {}
+            CommandFault::Added(_fault) => {}
+            CommandFault::BundleOut(_fault) => {}
+            CommandFault::BundleIn(_fault) | CommandFault::OtherVolume(_, _fault) => {}
+            CommandFault::Read(_, _)
+            | CommandFault::Endless(_)
+            | CommandFault::Write(_, _)
+            | CommandFault::Precious(_)
+            | CommandFault::Held(_, _)
+            | CommandFault::Clock
+            | CommandFault::Output
+            | CommandFault::Memory
+            | CommandFault::Blocks(_)
+            | CommandFault::Name(_)
+            | CommandFault::LongBoot(_)
+            | CommandFault::Refused(_)
+            | CommandFault::Bitmap(_)
+            | CommandFault::Thread
+            | CommandFault::Tries
+            | CommandFault::Script
+            | CommandFault::ImagesRefused
+            | CommandFault::NotChecked
+            | CommandFault::NotWhole => {}
+        }
+    }
+}
+
 impl<'a> CommandFault<'a> {
     /// The fault of a file that was not read to its end.
-    pub(crate) fn of_input(fault: InputFault, file: &'a str) -> CommandFault<'a> {
+    pub(crate) fn of_input<R: Files>(rt: &R, fault: InputFault, file: &'a str) -> CommandFault<'a> {
         match fault {
-            InputFault::Read => CommandFault::Read(file),
+            InputFault::Read => CommandFault::Read(file, why_unreadable(rt, file)),
             InputFault::Memory => CommandFault::Memory,
             InputFault::TurnLimit => CommandFault::Endless(file),
+        }
+    }
+
+    /// The fault of a bundle that does not become the volume of an image file.
+    pub(crate) fn of_bundle(fault: BundleInFault, file: &'a str) -> CommandFault<'a> {
+        match fault {
+            BundleInFault::Put(fault) => CommandFault::from(fault),
+            BundleInFault::Memory => CommandFault::Memory,
+            BundleInFault::NotEmpty => CommandFault::OtherVolume(file, BundleInFault::NotEmpty),
+            BundleInFault::OtherVolume { kind, blocks } => {
+                CommandFault::OtherVolume(file, BundleInFault::OtherVolume { kind, blocks })
+            }
+            other => CommandFault::BundleIn(other),
         }
     }
 
@@ -96,6 +164,8 @@ impl<'a> CommandFault<'a> {
             | CommandFault::LongBoot(_)
             | CommandFault::Refused(_)
             | CommandFault::Dos(_)
+            | CommandFault::Bitmap(_)
+            | CommandFault::OtherVolume(_, _)
             | CommandFault::Script
             | CommandFault::ImagesRefused
             | CommandFault::NotWhole => 3,
@@ -143,7 +213,7 @@ impl From<OutFault> for CommandFault<'_> {
         match fault {
             OutFault::Refused(refused) => CommandFault::Dos(DosRefusal {
                 refused,
-                room: None,
+                detail: Detail::Plain,
             }),
             OutFault::Letter(word) => CommandFault::Letter(word),
             OutFault::Host(fault) => CommandFault::Extracted(fault),
@@ -158,18 +228,42 @@ impl From<InFault> for CommandFault<'_> {
         match fault {
             InFault::Refused(refused) => CommandFault::Dos(DosRefusal {
                 refused,
-                room: None,
+                detail: Detail::Plain,
             }),
             InFault::NoRoom { path, needed, free } => CommandFault::Dos(DosRefusal {
                 refused: Refused {
                     error: DosError::DiskFull,
                     path,
                 },
-                room: Some(Room { needed, free }),
+                detail: Detail::Room(Room { needed, free }),
+            }),
+            InFault::HostName { path, name, why } => CommandFault::Dos(DosRefusal {
+                refused: Refused {
+                    error: DosError::InvalidComponentName,
+                    path,
+                },
+                detail: Detail::Name { name, why },
+            }),
+            InFault::Twins { path, other } => CommandFault::Dos(DosRefusal {
+                refused: Refused {
+                    error: DosError::ObjectExists,
+                    path,
+                },
+                detail: Detail::Twin(other),
             }),
             InFault::Letter(word) | InFault::Bits(word) => CommandFault::Letter(word),
             InFault::Memory => CommandFault::Memory,
             fault => CommandFault::Added(fault),
+        }
+    }
+}
+
+impl From<BundleOutFault> for CommandFault<'_> {
+    fn from(fault: BundleOutFault) -> Self {
+        match fault {
+            BundleOutFault::Host(fault) => CommandFault::Extracted(fault),
+            BundleOutFault::Memory => CommandFault::Memory,
+            other => CommandFault::BundleOut(other),
         }
     }
 }

@@ -6,11 +6,15 @@ ghost use Rattle.adf_commands.specs.Faults.{IsNoImage, IsNoRefusal, IsRefusedFor
 use crate::fault::CommandFault;
 use crate::refusal::Refusal;
 use adf_block::Image;
-use adf_host::{HeldFile, HoldFault, hold, hold_target, read_image_file, replace_file};
+use adf_host::{
+    HeldFile, HoldFault, ReadReason, hold, hold_target, read_image_file, replace_file,
+    why_unreadable,
+};
 use adf_io::LoadFault;
+use adf_words::Rewrite;
 use ados_volume::{Volume, check};
 use std::alloc::Global;
-use std::fs::File;
+use std::fs::{self, File};
 use std::rt::{Clock, Files};
 
 /// The image of a file.
@@ -23,16 +27,17 @@ pub(crate) fn read_image<'a, R: Files>(
 {
     match read_image_file(rt, alloc, file) {
         Ok(image) => Ok(image),
+        Err(LoadFault::Read) => Err(CommandFault::Read(file, why_unreadable(rt, file))),
         Err(fault) => Err(image_fault(fault, file)),
     }
 }
 
-/// Why a file has no image.
+/// Why a file has no image. That it cannot be read has no reason here.
 fn image_fault<'a>(fault: LoadFault, file: &'a str) -> CommandFault<'a>
     ensures { IsNoImage result }
 {
     match fault {
-        LoadFault::Read => CommandFault::Read(file),
+        LoadFault::Read => CommandFault::Read(file, ReadReason::Read),
         LoadFault::Memory => CommandFault::Memory,
         LoadFault::TurnLimit => CommandFault::Endless(file),
         LoadFault::Size(refused) => CommandFault::Refused(Refusal::of_size(refused.fault)),
@@ -76,7 +81,6 @@ pub(crate) fn write_image<'a, R: Files<File = File>>(
 }
 
 /// An image file that a command changes. It is locked, and so is the file to write, until this is dropped.
-#[derive(Drop)]
 pub(crate) struct Work<'a> {
     image: &'a str,
     held: HeldFile,
@@ -84,23 +88,45 @@ pub(crate) struct Work<'a> {
     held_out: Option<HeldFile>,
 }
 
+/// It does what a derived one does, as one step of each proof in which the work is dropped.
+impl Drop for Work<'_> {
+    fn drop(self) {
+        let Work {
+            image: _,
+            held: _held,
+            out: _,
+            held_out: _held_out,
+        } = self;
+    }
+}
+
 impl<'a> Work<'a> {
     /// Starts to change an image file. The new image goes to `out`, or else to the file itself.
     pub(crate) fn begin<R: Files<File = File> + Clock>(
         rt: &R,
-        image: &'a str,
-        out: Option<&'a str>,
-    ) -> Result<Work<'a>, CommandFault<'a>> {
+        target: Rewrite<'a>,
+    ) -> Result<Work<'a>, CommandFault<'a>>
+        ensures { IfErr result IsNoImage }
+    {
+        let image = target.image;
         let held = match hold(rt, image) {
             Ok(held) => held,
-            Err(HoldFault::Open) => return Err(CommandFault::Read(image)),
+            Err(HoldFault::Open) => {
+                return Err(CommandFault::Read(image, why_unreadable(rt, image)));
+            }
             Err(fault) => return Err(CommandFault::Held(image, fault)),
         };
-        let out = out.unwrap_or(image);
-        let held_out = match hold_target(rt, out, Some(&held)) {
+        if fs::metadata(rt, image).is_ok_and(|found| found.is_dir()) {
+            return Err(CommandFault::Read(image, ReadReason::Directory));
+        }
+        let out = target.out.unwrap_or(image);
+        let mut held_out = match hold_target(rt, out, Some(&held)) {
             Ok(held_out) => held_out,
             Err(fault) => return Err(CommandFault::Held(out, fault)),
         };
+        if target.out.is_some() && !target.over {
+            refuse_precious(rt, out, held_out.as_mut())?;
+        }
         Ok(Work {
             image,
             held,
@@ -110,11 +136,13 @@ impl<'a> Work<'a> {
     }
 
     /// Reads the image. It is read once.
-    pub(crate) fn read(&mut self, alloc: Global) -> Result<Image, CommandFault<'a>> {
-        let image = self.image;
-        self.held
-            .read_image(alloc)
-            .map_err(|fault| image_fault(fault, image))
+    pub(crate) fn read(&mut self, alloc: Global) -> Result<Image, CommandFault<'a>>
+        ensures { IfErr result IsNoImage }
+    {
+        match self.held.read_image(alloc) {
+            Ok(image) => Ok(image),
+            Err(fault) => Err(image_fault(fault, self.image)),
+        }
     }
 
     /// Writes the new image and ends the work.
@@ -123,8 +151,32 @@ impl<'a> Work<'a> {
         rt: &R,
         alloc: Global,
         image: &Image,
-    ) -> Result<(), CommandFault<'a>> {
+    ) -> Result<(), CommandFault<'a>>
+        ensures { IfErr result IsNoRefusal }
+    {
         write_image(rt, alloc, image, self.out, self.held_out.as_ref())
+    }
+}
+
+/// Refuses to write over a regular file that is neither empty nor begins as an image does. One that cannot be read may be
+/// precious too.
+fn refuse_precious<'a, R: Files<File = File>>(
+    rt: &R,
+    out: &'a str,
+    held: Option<&mut HeldFile>,
+) -> Result<(), CommandFault<'a>>
+    ensures { IfErr result IsNoImage }
+{
+    match held {
+        Some(held) => match held.may_be_image() {
+            Ok(true) => Ok(()),
+            Ok(false) => Err(CommandFault::Precious(out)),
+            Err(error) => Err(CommandFault::Read(out, ReadReason::from(error))),
+        },
+        None if fs::metadata(rt, out).is_ok_and(|found| found.is_file()) => {
+            Err(CommandFault::Read(out, why_unreadable(rt, out)))
+        }
+        None => Ok(()),
     }
 }
 

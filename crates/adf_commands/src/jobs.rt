@@ -3,14 +3,19 @@ ghost use Rattle.adf_commands.specs.Commands.{DoesJob, TellsJob};
 
 use crate::archive::check_images;
 use crate::blank::{blank_volume, write_new};
+use crate::block_map::print_map;
 use crate::boot::{change_boot, save_boot, show_boot};
-use crate::changing::change;
+use crate::bundle::{put_bundle, take_bundle};
+use crate::changing::{change, given_or_now};
 use crate::fault::CommandFault;
 use crate::info::print_info;
 use crate::moving::{print_bytes, print_list, take_out};
 use crate::output::tell;
 use crate::rescue::take_rescue;
+use crate::screen::Screen;
 use crate::serving::serve;
+use crate::show::{Show, show_volume};
+use crate::validate::validate_file;
 use adf_archive::ReadImages;
 use adf_import::StandardInput;
 use adf_words::ImageJob;
@@ -21,14 +26,14 @@ use std::rt::{Clock, Files};
 use std::sync::Wait;
 use std::thread::Threads;
 
-/// Does a job on image files. The output for an image and refusals go to the writer. Skipped files go to `faults`, and
-/// with `terminal` the progress of a check.
+/// Does a job on image files. The output for an image and refusals go to the writer. Skipped files go to `faults`, and so does
+/// why an image is refused, and the progress of a check if `screen` says so.
 #[rattlefmt::skip]
 pub fn run_job<'a, R, W, F>(
     rt: &R,
     alloc: Global,
     job: ImageJob<'a>,
-    terminal: bool,
+    screen: Screen,
     writer: &mut W,
     faults: &mut F,
 ) -> Result<(), CommandFault<'a>>
@@ -38,10 +43,12 @@ where
     F: Write,
     ensures { TellsJob job.entry (W.contents writer.old) (W.contents writer.new) result }
 {
-    let fault = match do_job(rt, alloc, job, terminal, writer, faults) {
+    let image = image_of(&job);
+    let fault = match do_job(rt, alloc, job, screen, writer, faults) {
         Ok(()) => return Ok(()),
         Err(fault) => fault,
     };
+    explain(rt, alloc, image, &fault, faults);
     let line = fault.line(alloc)?;
     let Some(text) = line else {
         return Err(fault);
@@ -50,13 +57,48 @@ where
     Err(fault)
 }
 
+/// The image file that a job reads, if it is one.
+fn image_of<'a>(job: &ImageJob<'a>) -> Option<&'a str> {
+    match job {
+        ImageJob::Blank { .. } | ImageJob::Check(_) => None,
+        ImageJob::Info { file } => Some(*file),
+        ImageJob::Show { image, .. }
+        | ImageJob::Map { image, .. }
+        | ImageJob::Print { image, .. }
+        | ImageJob::ExtractBundle { image, .. }
+        | ImageJob::SaveBoot { image, .. }
+        | ImageJob::ShowBoot { image } => Some(*image),
+        ImageJob::AddBundle { target, .. }
+        | ImageJob::Validate { target, .. }
+        | ImageJob::Boot { target, .. } => Some(target.image),
+        ImageJob::List(job) => Some(job.image),
+        ImageJob::Extract(job) => Some(job.image),
+        ImageJob::Salvage(job) => Some(job.image),
+        ImageJob::Change(job) => Some(job.target.image),
+        ImageJob::Serve(job) => Some(job.image),
+    }
+}
+
+/// Prints why an image is refused, if that is the fault.
+fn explain<R: Files + ReadImages, F: Write>(
+    rt: &R,
+    alloc: Global,
+    image: Option<&str>,
+    fault: &CommandFault<'_>,
+    faults: &mut F,
+) {
+    if let (CommandFault::Refused(refusal), Some(path)) = (fault, image) {
+        refusal.explain(rt, alloc, path, faults);
+    }
+}
+
 /// Does a job on image files, without output for refusals.
 #[rattlefmt::skip]
 fn do_job<'a, R, W, F>(
     rt: &R,
     alloc: Global,
     job: ImageJob<'a>,
-    terminal: bool,
+    screen: Screen,
     writer: &mut W,
     faults: &mut F,
 ) -> Result<(), CommandFault<'a>>
@@ -68,19 +110,28 @@ where
 {
     match job {
         ImageJob::Blank { format, blocks, moment, name, letters, file } => {
+            let moment = given_or_now(rt, moment)?;
             let volume = blank_volume(alloc, format, blocks, name, letters, moment)?;
             write_new(rt, alloc, &volume, file)
         }
         ImageJob::Info { file } => print_info(rt, alloc, file, writer),
-        ImageJob::Check(job) => check_images(rt, alloc, &job, terminal, writer, faults),
-        ImageJob::List(job) => print_list(rt, alloc, &job, writer),
+        ImageJob::Show { image, json } => {
+            let show = Show { image, json, styled: screen.styled };
+            show_volume(rt, alloc, show, writer)
+        }
+        ImageJob::Map { image, json } => print_map(rt, alloc, image, json, writer),
+        ImageJob::Check(job) => check_images(rt, alloc, &job, screen.progress, writer, faults),
+        ImageJob::List(job) => print_list(rt, alloc, &job, screen.styled, writer),
         ImageJob::Print { image, path } => print_bytes(rt, alloc, image, path, writer),
         ImageJob::Extract(job) => take_out(rt, alloc, &job),
+        ImageJob::ExtractBundle { image, to } => take_bundle(rt, alloc, image, to),
+        ImageJob::AddBundle { target, from } => put_bundle(rt, alloc, target, from),
         ImageJob::Salvage(job) => take_rescue(rt, alloc, &job, writer, faults),
-        ImageJob::Change(job) => change(rt, alloc, job, faults),
-        ImageJob::Boot { image, out, block } => change_boot(rt, alloc, image, out, block),
+        ImageJob::Change(job) => change(rt, alloc, &job, faults),
+        ImageJob::Validate { target, force } => validate_file(rt, alloc, target, force, writer),
+        ImageJob::Boot { target, block } => change_boot(rt, alloc, target, block),
         ImageJob::SaveBoot { image, file } => save_boot(rt, alloc, image, file),
         ImageJob::ShowBoot { image } => show_boot(rt, alloc, image, writer),
-        ImageJob::Serve(job) => serve(rt, alloc, job, writer),
+        ImageJob::Serve(job) => serve(rt, alloc, &job, writer, faults),
     }
 }

@@ -3,9 +3,13 @@
 
 mod archive;
 mod blank;
+mod block_map;
 mod boot;
+mod bundle;
 mod changing;
+mod explaining;
 mod fault;
+mod faulty_line;
 mod images;
 mod info;
 mod jobs;
@@ -13,11 +17,17 @@ mod moving;
 mod output;
 mod refusal;
 mod rescue;
+mod screen;
+mod script_lines;
 mod serving;
+mod show;
+mod validate;
 
 pub use adf_import::StandardInput;
 pub use fault::CommandFault;
+pub use faulty_line::{last_number, tell_faulty_line};
 pub use info::FIRST_MOMENT;
 pub use jobs::run_job;
 pub use output::status_of;
-pub use refusal::{DosRefusal, Refusal, Room};
+pub use refusal::{Detail, DosRefusal, Refusal, Room};
+pub use screen::Screen;

@@ -3,32 +3,35 @@ ghost use Rattle.std.specs.Prelude.{◌≡◌, IfErr, IfOk, option_map};
 ghost use Rattle.ados_model.specs.Keys.{HasKey};
 ghost use Rattle.ados_model.specs.Stands.{Stands};
 ghost use Rattle.ados_model.specs.Tree.{Tree};
-ghost use Rattle.adf_commands.specs.Texts.{BeginsListOf, IsListed, IsListOf, IsPrintText};
-ghost use Rattle.adf_commands.specs.Faults.{IsNoImageRefusal};
+ghost use Rattle.adf_commands.specs.Texts.{BeginsListOf, IsListed, IsListOf, IsPrintText, shown_form};
+ghost use Rattle.adf_commands.specs.Faults.{IsNoImageRefusal, IsToldOut};
 ghost use Rattle.adf_commands.specs.Commands.{TellsOf, TellsSome};
 
 use crate::fault::CommandFault;
 use crate::images::{accept, open_volume, read_image};
+use crate::refusal::{Detail, DosRefusal};
 use adf_block::Image;
-use adf_export::{extract, locate_word, print_file, write_list};
-use adf_words::{ExtractJob, ListJob};
+use adf_export::{OutFault, extract, locate_word, print_file, write_list};
+use adf_words::{ExtractJob, ListForm, ListJob};
 use ados_volume::Volume;
 use std::alloc::Global;
 use std::fs::File;
 use std::io::Write;
 use std::rt::Files;
 
-/// Prints the list of a file or directory in a file's image.
+/// Prints the list of a file or directory in a file's image. With `styled` the names of directories in a list for people
+/// are bold.
 pub(crate) fn print_list<'a, R: Files, W: Write>(
     rt: &R,
     alloc: Global,
     job: &ListJob<'a>,
+    styled: bool,
     writer: &mut W,
 ) -> Result<(), CommandFault<'a>>
     ensures { TellsSome (IsListOf job.now) (BeginsListOf job.now) (W.contents writer.old) (W.contents writer.new) result }
 {
     let image = read_image(rt, alloc, job.image)?;
-    tell_list(alloc, image, job, writer)
+    tell_list(alloc, image, job, styled, writer)
 }
 
 /// Prints the list of a file or directory in an image.
@@ -36,15 +39,27 @@ fn tell_list<'a, W: Write>(
     alloc: Global,
     image: Image,
     job: &ListJob<'a>,
+    styled: bool,
     writer: &mut W,
 ) -> Result<(), CommandFault<'a>>
     ensures { TellsOf (IsListOf job.now) (BeginsListOf job.now) image (W.contents writer.old) (W.contents writer.new) result }
 {
     let mut volume = accept(alloc, image)?;
     let key = listed_object(alloc, &mut volume, job.path)?;
-    match write_list(alloc, &volume, key, job.form, writer) {
+    let form = shown_form(job.form, styled);
+    match write_list(alloc, &volume, key, form, job.order, writer) {
         Ok(()) => Ok(()),
         Err(fault) => Err(CommandFault::from(fault)),
+    }
+}
+
+/// The form of the output for a requested form.
+fn shown_form(form: ListForm, styled: bool) -> ListForm
+    ensures { result ≡ shown_form styled form }
+{
+    match (form, styled) {
+        (ListForm::Long, true) => ListForm::Bold,
+        _ => form,
     }
 }
 
@@ -94,7 +109,29 @@ fn tell_bytes<'a, W: Write>(
     let mut volume = accept(alloc, image)?;
     match print_file(alloc, &mut volume, path, writer) {
         Ok(()) => Ok(()),
-        Err(fault) => Err(CommandFault::from(fault)),
+        Err(fault) => Err(unprinted(alloc, &mut volume, path, fault)),
+    }
+}
+
+/// The fault of `print`. Of a directory it says that a file is needed.
+fn unprinted<'a>(
+    alloc: Global,
+    volume: &mut Volume,
+    path: &str,
+    fault: OutFault,
+) -> CommandFault<'a>
+    ensures { IsToldOut fault result }
+{
+    match fault {
+        OutFault::Refused(refused) => CommandFault::Dos(DosRefusal {
+            refused,
+            detail: if locate_word(alloc, volume, path).is_ok() {
+                Detail::NeedsFile
+            } else {
+                Detail::Plain
+            },
+        }),
+        other => CommandFault::from(other),
     }
 }
 

@@ -5,12 +5,16 @@ ghost use Rattle.ados_model.specs.declared.fault.FaultKind.TheVariants.{NoMemory
 ghost use Rattle.adf_archive.specs.Words.{kind_word, size_word};
 ghost use Rattle.adf_commands.specs.Refusals.{dos_line, refusal_line};
 
-use adf_archive::{kind_word, size_word};
+use adf_archive::{ReadImages, explain_refused, kind_word, size_word};
 use adf_block::SizeFault;
+use adf_import::NameWhy;
+use adf_record::Grouped;
 use adf_words::Refused;
 use ados_volume::{FaultKind, VolumeFault};
 use std::alloc::{AllocError, Global};
 use std::fmt;
+use std::io::Write;
+use std::rt::Files;
 use thiserror::Error;
 
 /// Why an image is refused: the word for its fault, and the block that shows it. A fault of the size has block 0.
@@ -55,19 +59,46 @@ impl Refusal {
         let line = format!(in alloc; "refused {kind} {block}\n")?;
         Ok(line)
     }
+
+    /// Prints why the image of a file is refused like this.
+    pub(crate) fn explain<R: Files + ReadImages, F: Write>(
+        &self,
+        rt: &R,
+        alloc: Global,
+        path: &str,
+        faults: &mut F,
+    ) {
+        explain_refused(rt, alloc, path, self.kind, self.block, faults);
+    }
 }
 
-/// A refusal by AmigaDOS. As text it is the text for the error.
-#[derive(Debug, Drop)]
+/// A refusal by AmigaDOS. As text it says what is wrong, and with what.
+#[derive(Drop)]
 pub struct DosRefusal {
     /// The error, and the path that it is about.
     pub refused: Refused,
-    /// The missing blocks if the disk is full.
-    pub room: Option<Room>,
+    pub detail: Detail,
+}
+
+/// What more is known of a refusal than its error.
+#[derive(Drop)]
+pub enum Detail {
+    /// Nothing.
+    Plain,
+    /// The missing blocks of a full disk.
+    Room(Room),
+    /// A name that is none, and why.
+    Name { name: String, why: NameWhy },
+    /// Another file of the host with the same name.
+    Twin(String),
+    /// A directory is no file that `print` prints.
+    NeedsFile,
+    /// An entry cannot be moved into itself.
+    IntoItself,
 }
 
 /// The number of blocks needed, and the number of free blocks.
-#[derive(Clone, Copy, Debug)]
+#[derive(Clone, Copy)]
 pub struct Room {
     pub needed: u64,
     pub free: u32,
@@ -86,13 +117,26 @@ impl DosRefusal {
 
 impl fmt::Display for DosRefusal {
     fn fmt<W: fmt::Write>(&self, f: &mut fmt::Formatter<W>) -> fmt::Result {
-        match self.room {
-            None => write!(f, "{}", self.refused),
-            Some(Room { needed, free }) => write!(
+        let path = self.refused.path.as_str();
+        match &self.detail {
+            Detail::Plain => write!(f, "'{path}': {}", self.refused),
+            Detail::Room(Room { needed, free }) => write!(
                 f,
-                "{}: {needed} blocks are needed and {free} are free",
-                self.refused
+                "'{path}': {}: {} blocks are needed and {} are free",
+                self.refused,
+                Grouped(*needed),
+                Grouped(u64::from(*free))
             ),
+            Detail::Name { name, why } => write!(f, "'{}' {why}", name.as_str()),
+            Detail::Twin(other) => {
+                write!(
+                    f,
+                    "'{path}' and '{}' are one name on an Amiga",
+                    other.as_str()
+                )
+            }
+            Detail::NeedsFile => write!(f, "'{path}' is a directory; print needs a file"),
+            Detail::IntoItself => write!(f, "cannot move '{path}' into itself"),
         }
     }
 }

@@ -1,11 +1,13 @@
 //! The command `serve`: scripts over an image, each as a client on its own thread.
 ghost use Rattle.std.specs.Prelude.{◌≡◌, length, IfOk};
 
+use crate::changing::given_or_now;
 use crate::fault::CommandFault;
-use crate::images::{hold_out, open_volume, write_image};
-use crate::output::tell;
-use adf_host::HeldFile;
-use adf_io::read_bounded;
+use crate::faulty_line::{last_number, tell_faulty_line};
+use crate::images::{open_volume, write_image};
+use adf_block::Image;
+use adf_host::{HeldFile, HoldFault, hold_target, why_unreadable};
+use adf_io::{read_bounded, write_output};
 use adf_script::{LONGEST_SCRIPT, read_script};
 use adf_words::ServeJob;
 use ados_run::{ClientEnding, OpenGate, VolumeServed, serve_volume};
@@ -19,43 +21,102 @@ use std::thread::Threads;
 /// The output of a client, and how it ended.
 type ClientText = (Vec<u8>, ClientEnding);
 
+/// The file to write, and the lock on it, if it exists, or why it is not locked.
+type OutFile<'a> = (&'a str, Result<Option<HeldFile>, HoldFault>);
+
 /// Runs the scripts of the clients over an image, prints the output of each client, and writes the image if requested.
 ///
 /// The image is written even if standard output cannot be written or a script is faulty. Its file is locked from the
 /// start. If another command has locked it, this is a fault of writing, reported after those of reading and of the
 /// work.
-pub(crate) fn serve<'a, R, W>(
+pub(crate) fn serve<'a, R, W, F>(
     rt: &R,
     alloc: Global,
-    job: ServeJob<'a>,
+    job: &ServeJob<'a>,
     writer: &mut W,
+    faults: &mut F,
 ) -> Result<(), CommandFault<'a>>
 where
     R: Files<File = File> + Clock + Threads + Wait + Copy + Send + Drop + 'static,
     W: Write,
+    F: Write,
 {
-    let held = match job.out {
-        Some(file) => hold_out(rt, file),
-        None => Ok(None),
+    let out = match job.out {
+        Some(file) => Some((file, hold_target(rt, file, None))),
+        None => None,
     };
-    let served = serve_files(rt, alloc, &job)?;
-    finish(rt, alloc, &served, job.out, held, writer)
+    let served = serve_files(rt, alloc, job, faults)?;
+    finish(rt, alloc, &served, out, writer)
 }
 
-/// Runs the scripts in these files over the volume of the image.
-fn serve_files<'a, R>(
+/// Runs the scripts in these files over the volume of the image, and prints what is wrong with faulty lines on `faults`.
+fn serve_files<'a, R, F>(
     rt: &R,
     alloc: Global,
     job: &ServeJob<'a>,
+    faults: &mut F,
 ) -> Result<VolumeServed, CommandFault<'a>>
 where
     R: Files<File = File> + Clock + Threads + Wait + Copy + Send + Drop + 'static,
+    F: Write,
 {
+    let moment = given_or_now(rt, job.moment)?;
     let volume = open_volume(rt, alloc, job.image)?;
     let scripts = read_scripts(rt, alloc, job.scripts.as_slice())?;
-    match serve_volume(rt, alloc, volume, scripts, job.moment, job.turns) {
-        Ok(served) => Ok(served),
+    let copies = copies_of(alloc, scripts.as_slice())?;
+    match serve_volume(rt, alloc, volume, scripts, moment, job.turns) {
+        Ok(served) => {
+            tell_faulty(alloc, job, &copies, &served.texts, faults);
+            Ok(served)
+        }
         Err(fault) => Err(CommandFault::from(fault)),
+    }
+}
+
+/// Copies of scripts.
+fn copies_of<'a>(
+    alloc: Global,
+    scripts: &[(Vec<u8>, OpenGate)],
+) -> Result<Vec<Vec<u8>>, CommandFault<'a>> {
+    let mut copies = Vec::new(alloc);
+    for script in scripts {
+        copies.reserve(1)?;
+        copies.push_reserved(Vec::from_slice(alloc, script.0.as_slice())?);
+    }
+    Ok(copies)
+}
+
+/// Prints what is wrong with the faulty line of each script that has one.
+fn tell_faulty<F: Write>(
+    alloc: Global,
+    job: &ServeJob<'_>,
+    scripts: &[Vec<u8>],
+    texts: &[ClientText],
+    faults: &mut F,
+) {
+    for (at, told) in texts.iter().enumerate() {
+        if told.1 == ClientEnding::Script {
+            tell_faulty_script(alloc, job, scripts, at, &told.0, faults);
+        }
+    }
+}
+
+/// Prints what is wrong with the faulty line of the script at this place, which printed this text.
+fn tell_faulty_script<F: Write>(
+    alloc: Global,
+    job: &ServeJob<'_>,
+    scripts: &[Vec<u8>],
+    at: usize,
+    text: &[u8],
+    faults: &mut F,
+) {
+    let (Some(script), Some(file)) = (scripts.get(at), job.scripts.get(at)) else {
+        return;
+    };
+    let client = at.saturating_add(1);
+    let whose = format!(in alloc; "client {client} ('{}'), ", *file);
+    if let (Ok(whose), Some(number)) = (whose, last_number(alloc, text)) {
+        tell_faulty_line(alloc, script.as_slice(), number, whose.as_str(), faults);
     }
 }
 
@@ -64,23 +125,31 @@ fn finish<'a, R: Files<File = File>, W: Write>(
     rt: &R,
     alloc: Global,
     served: &VolumeServed,
-    out: Option<&'a str>,
-    held: Result<Option<HeldFile>, CommandFault<'a>>,
+    out: Option<OutFile<'a>>,
     writer: &mut W,
 ) -> Result<(), CommandFault<'a>> {
-    let told = tell_all(&served.texts, writer);
-    if let Some(file) = out {
-        let held = held?;
-        write_image(
-            rt,
-            alloc,
-            served.handler.volume().image(),
-            file,
-            held.as_ref(),
-        )?;
+    let is_told = tell_all(&served.texts, writer);
+    write_out(rt, alloc, served.handler.volume().image(), out)?;
+    if !is_told {
+        return Err(CommandFault::Output);
     }
-    told?;
     judge(&served.texts)
+}
+
+/// Writes an image in place of a file, if requested, unless another command has locked it.
+fn write_out<'a, R: Files<File = File>>(
+    rt: &R,
+    alloc: Global,
+    image: &Image,
+    out: Option<OutFile<'a>>,
+) -> Result<(), CommandFault<'a>> {
+    let Some((file, held)) = out else {
+        return Ok(());
+    };
+    match held {
+        Ok(held) => write_image(rt, alloc, image, file, held.as_ref()),
+        Err(fault) => Err(CommandFault::Held(file, fault)),
+    }
 }
 
 /// The scripts in these files, in order. No gate holds back their packets.
@@ -106,14 +175,17 @@ fn script_of<'a, R: Files>(
     file: &'a str,
 ) -> Result<Vec<u8>, CommandFault<'a>> {
     let Ok(mut reader) = fs::open(rt, file) else {
-        return Err(CommandFault::Read(file));
+        return Err(CommandFault::Read(file, why_unreadable(rt, file)));
     };
     let script = if is_too_long(&reader) {
         read_bounded(alloc, &mut reader, LONGEST_SCRIPT + 1)
     } else {
         read_script(alloc, &mut reader)
     };
-    script.map_err(|fault| CommandFault::of_input(fault, file))
+    match script {
+        Ok(script) => Ok(script),
+        Err(fault) => Err(CommandFault::of_input(rt, fault, file)),
+    }
 }
 
 /// Whether an open file is a regular file that is longer than a script may be.
@@ -124,12 +196,14 @@ fn is_too_long<F: OpenFile>(file: &F) -> bool {
     }
 }
 
-/// Prints the output of the clients, in order.
-fn tell_all<'a, W: Write>(texts: &[ClientText], writer: &mut W) -> Result<(), CommandFault<'a>> {
+/// Prints the output of the clients, in order. Returns whether all of it was written.
+fn tell_all<W: Write>(texts: &[ClientText], writer: &mut W) -> bool {
     for (text, _) in texts {
-        tell(writer, text.as_slice())?;
+        if write_output(text.as_slice(), writer).is_err() {
+            return false;
+        }
     }
-    Ok(())
+    true
 }
 
 /// Whether all scripts ended without a fault. A client that ran out of tries counts before a faulty script.

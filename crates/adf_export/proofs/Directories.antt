@@ -1,12 +1,8 @@
 -- An object described as a directory is a directory.
 use Rattle.std.proofs.Common.{◌≡◌, ℕ, pos, List, [], Option, Some, None, IsSome, option_map, refl, ap, ◌∙◌}
-use Rattle.ados_model.specs.Tree.{Content, Node, Tree, Proper, content_at, entries, entries_in}
+use Rattle.ados_model.specs.Tree.{Content, Node, Tree, content_at, entries, entries_in, parent_of}
 use Rattle.ados_model.specs.Tree.Content.{Directory, File}
-use Rattle.ados_chain.specs.Look.{first_left}
-use Rattle.ados_chain.specs.declared.read.Next.TheVariants.{Entry}
-use Rattle.ados_chain.proofs.Order.{behind-later, first-entry}
-use Rattle.ados_model.specs.Change.{entries_after}
-use Rattle.ados_model.proofs.Nodes.{content_in, entry_node}
+use Rattle.ados_model.proofs.Nodes.{content_in, parent_in}
 use Rattle.ados_model.specs.Objects.{entry_type}
 
 type-directory : (parent : Option ℕ) (content : Content) → entry_type parent content ≡ pos 2 → (keys : List ℕ) × (content ≡ Directory keys)
@@ -36,8 +32,6 @@ told_file t key dir node e parent no_directory =
     go (Directory keys) other = absurd (other refl)
     go (File bytes) other = refl
 
--- the first remaining entry is a node of its directory
-pub next_in : (t : Tree) → Proper t → (dir last key : ℕ) → first_left (entries_after t dir last) ≡ Entry key → (node : Node) × (t.nodes key ≡ Some node) × (node.parent ≡ Some dir)
-next_in t proper dir last key e =
-    let left = first-entry (entries_after t dir last) key e in
-    entry_node t proper dir key (behind-later dir (entries t dir) last key left.0 left.1)
+-- an entry is a node of its directory
+pub entry_in : (t : Tree) (dir key : ℕ) → parent_of t key ≡ Some dir → (node : Node) × (t.nodes key ≡ Some node) × (node.parent ≡ Some dir)
+entry_in t dir key up = parent_in (t.nodes key) dir up

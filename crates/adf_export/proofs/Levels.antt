@@ -2,28 +2,28 @@
 use Rattle.std.proofs.Common.{◌≡◌, ℕ, List, [], ◌∷◌, ◌++◌, Option, Some, IfSome, option_to_list, subst}
 use Rattle.std.proofs.lemmas.List.Elements.{All-nil, All-pop, All-push, All-same}
 use Rattle.adf_export.specs.declared.listing.Level.{Level}
-use Rattle.adf_export.specs.steps.Levels.{ArePlacesInDirectories, IsPlaceInDirectory}
+use Rattle.adf_export.specs.steps.Levels.{HaveKeys, HasKeys}
 
 module _ (image : List ℕ) where
   Listed : Level → Type 0
-  Listed level = IsPlaceInDirectory image level
+  Listed level = HasKeys image level
 
-  pub none_are : (levels : List Level) → levels ≡ [] → ArePlacesInDirectories image levels
+  pub none_are : (levels : List Level) → levels ≡ [] → HaveKeys image levels
   unfolding Listed
   none_are levels e = All-same Listed levels [] e (All-nil Listed)
 
-  pub others_are : (old rest : List Level) (r : Option Level) → old ≡ rest ++ option_to_list r → ArePlacesInDirectories image old → ArePlacesInDirectories image rest
+  pub others_are : (old rest : List Level) (r : Option Level) → old ≡ rest ++ option_to_list r → HaveKeys image old → HaveKeys image rest
   unfolding Listed
   others_are old rest r e h = (All-pop Listed old rest r e h).0
 
-  pub last_is : (old rest : List Level) (r : Option Level) (level : Level) → old ≡ rest ++ option_to_list r → r ≡ Some level → ArePlacesInDirectories image old → IsPlaceInDirectory image level
+  pub last_is : (old rest : List Level) (r : Option Level) (level : Level) → old ≡ rest ++ option_to_list r → r ≡ Some level → HaveKeys image old → HasKeys image level
   unfolding Listed
   last_is old rest r level e is h = subst (λ (o : Option Level). IfSome o Listed) is (All-pop Listed old rest r e h).1
 
-  pub pushed_are : (new rest : List Level) (level : Level) → new ≡ rest ++ level ∷ [] → ArePlacesInDirectories image rest → IsPlaceInDirectory image level → ArePlacesInDirectories image new
+  pub pushed_are : (new rest : List Level) (level : Level) → new ≡ rest ++ level ∷ [] → HaveKeys image rest → HasKeys image level → HaveKeys image new
   unfolding Listed
   pushed_are new rest level e h p = All-same Listed new (rest ++ level ∷ []) e (All-push Listed rest level h p)
 
-  pub same_are : (new old : List Level) → new ≡ old → ArePlacesInDirectories image old → ArePlacesInDirectories image new
+  pub same_are : (new old : List Level) → new ≡ old → HaveKeys image old → HaveKeys image new
   unfolding Listed
   same_are new old e h = All-same Listed new old e h

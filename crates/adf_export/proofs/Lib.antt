@@ -1,7 +1,8 @@
 -- Lemmas about the listing of a directory, the lines of its entries, and entries that become files of the host.
 pub mod Levels
 pub mod Lists
-pub mod Behind
+pub mod Sorting
+pub mod Ranking
 pub mod Below
 pub mod Left
 pub mod Directories

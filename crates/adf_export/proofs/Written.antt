@@ -9,6 +9,7 @@ use Rattle.adf_script.specs.Streams.{Writes}
 use Rattle.adf_io.specs.Prefix.{WritesFront, WritesFrontOf}
 use Rattle.ados_volume.specs.Located.{Located}
 use Rattle.adf_words.specs.declared.query.ListForm.{ListForm}
+use Rattle.adf_words.specs.declared.query.ListOrder.{ListOrder}
 use Rattle.adf_export.specs.Listing.{AreEntries, IsListing, BeginsListing, listing, head}
 use Rattle.adf_export.specs.steps.Levels.{IsSoFar, work}
 use Rattle.adf_export.specs.steps.Going.{GoesOn, Passes, Starts}
@@ -16,10 +17,10 @@ use Rattle.adf_export.proofs.InOrder.{entries_append}
 
 -- of what stands before the entries and their texts so far, a prefix is written and the text is the rest; the remaining
 -- turns suffice for what is left
-pub record IsWritten (t : Tree) (dir : ℕ) (s : ListForm) (old new : Option (List ℕ)) (at : Listing) (turns : ℕ) : Type 0 where
+pub record IsWritten (t : Tree) (order : ListOrder) (dir : ℕ) (s : ListForm) (old new : Option (List ℕ)) (at : Listing) (turns : ℕ) : Type 0 where
   pub first : List Located
   pub left : List Located
-  pub so_far : IsSoFar t dir at.levels.items at.path.items first left
+  pub so_far : IsSoFar t order dir at.levels.items at.path.items first left
   pub lines : List ℕ
   pub are : AreEntries t s first lines
   pub written : List ℕ
@@ -28,23 +29,23 @@ pub record IsWritten (t : Tree) (dir : ℕ) (s : ListForm) (old new : Option (Li
   pub fits : work at.levels.items left + turns ≤ 2 * t.blocks
 
 -- a step that goes on, and the last step
-pub went_on : (t : Tree) (dir : ℕ) (s : ListForm) (at after : Listing) (first left : List Located) (goes : Bool) → goes ≡ true → GoesOn t dir s at after first left goes → GoesOn t dir s at after first left true
-went_on t dir s at after first left true e g = g
-went_on t dir s at after first left false e g = absurd (cc e)
+pub went_on : (t : Tree) (order : ListOrder) (dir : ℕ) (s : ListForm) (at after : Listing) (first left : List Located) (goes : Bool) → goes ≡ true → GoesOn t order dir s at after first left goes → GoesOn t order dir s at after first left true
+went_on t order dir s at after first left true e g = g
+went_on t order dir s at after first left false e g = absurd (cc e)
 
-pub went_out : (t : Tree) (dir : ℕ) (s : ListForm) (at after : Listing) (first left : List Located) (goes : Bool) → goes ≡ false → GoesOn t dir s at after first left goes → GoesOn t dir s at after first left false
-went_out t dir s at after first left true e g = absurd (cc e)
-went_out t dir s at after first left false e g = g
+pub went_out : (t : Tree) (order : ListOrder) (dir : ℕ) (s : ListForm) (at after : Listing) (first left : List Located) (goes : Bool) → goes ≡ false → GoesOn t order dir s at after first left goes → GoesOn t order dir s at after first left false
+went_out t order dir s at after first left true e g = absurd (cc e)
+went_out t order dir s at after first left false e g = g
 
 -- nothing is written yet
 pub written_nothing : (t : Tree) (entries : List Located) (s : ListForm) (old : Option (List ℕ)) → WritesFrontOf old old (BeginsListing t entries s)
 written_nothing t entries s old = (head t s ++ [], ([], entries, [], refl, refl, refl), ([], Appends-nil old, (head t s ++ [], refl)))
 
-module _ (t : Tree) (dir : ℕ) (s : ListForm) (old : Option (List ℕ)) where
-  pub written_none : (at : Listing) → Starts t dir s at → IsWritten t dir s old old at 0
+module _ (t : Tree) (order : ListOrder) (dir : ℕ) (s : ListForm) (old : Option (List ℕ)) where
+  pub written_none : (at : Listing) → Starts t order dir s at → IsWritten t order dir s old old at 0
   written_none at (text, so_far, small) = record {
     first = [];
-    left = listing t dir;
+    left = listing t order dir;
     so_far = so_far;
     lines = [];
     are = refl;
@@ -55,7 +56,7 @@ module _ (t : Tree) (dir : ℕ) (s : ListForm) (old : Option (List ℕ)) where
   }
 
   -- a step goes on
-  pub written_on : (new : Option (List ℕ)) (at after : Listing) (turns : ℕ) (w : IsWritten t dir s old new at turns) → GoesOn t dir s at after w.first w.left true → IsWritten t dir s old new after (turns + 1)
+  pub written_on : (new : Option (List ℕ)) (at after : Listing) (turns : ℕ) (w : IsWritten t order dir s old new at turns) → GoesOn t order dir s at after w.first w.left true → IsWritten t order dir s old new after (turns + 1)
   written_on new at after turns w (came, rest, lines, split, are, text, so_far, less) = record {
     first = w.first ++ came;
     left = rest;
@@ -69,8 +70,8 @@ module _ (t : Tree) (dir : ℕ) (s : ListForm) (old : Option (List ℕ)) where
   }
 
   -- more of the text is written
-  pub written_more : (mid new : Option (List ℕ)) (at after : Listing) (turns : ℕ) → IsWritten t dir s old mid at turns → Passes mid new at.text.items after.text.items
-      → after.levels.items ≡ at.levels.items → after.path.items ≡ at.path.items → IsWritten t dir s old new after turns
+  pub written_more : (mid new : Option (List ℕ)) (at after : Listing) (turns : ℕ) → IsWritten t order dir s old mid at turns → Passes mid new at.text.items after.text.items
+      → after.levels.items ≡ at.levels.items → after.path.items ≡ at.path.items → IsWritten t order dir s old new after turns
   written_more mid new at after turns w (more, appended, split) levels path = record {
     first = w.first;
     left = w.left;
@@ -84,8 +85,8 @@ module _ (t : Tree) (dir : ℕ) (s : ListForm) (old : Option (List ℕ)) where
   }
 
   -- the text is written to its end, and nothing is left
-  pub written_whole : (mid new : Option (List ℕ)) (at : Listing) (turns : ℕ) (text rest : List ℕ) (w : IsWritten t dir s old mid at turns) → w.left ≡ [] → text ≡ at.text.items
-      → Passes mid new text rest → rest ≡ [] → Writes old new (IsListing t (listing t dir) s)
+  pub written_whole : (mid new : Option (List ℕ)) (at : Listing) (turns : ℕ) (text rest : List ℕ) (w : IsWritten t order dir s old mid at turns) → w.left ≡ [] → text ≡ at.text.items
+      → Passes mid new text rest → rest ≡ [] → Writes old new (IsListing t (listing t order dir) s)
   written_whole mid new at turns text rest w none same (more, appended, split) end = (
     w.written ++ more,
     Appends-trans old mid new w.written more w.appended appended,
@@ -97,14 +98,14 @@ module _ (t : Tree) (dir : ℕ) (s : ListForm) (old : Option (List ℕ)) where
   )
 
   -- nothing is left after all turns
-  pub none_in_turns : (new : Option (List ℕ)) (at : Listing) (turns : ℕ) (w : IsWritten t dir s old new at turns) → 2 * t.blocks ≤ turns → w.left ≡ []
+  pub none_in_turns : (new : Option (List ℕ)) (at : Listing) (turns : ℕ) (w : IsWritten t order dir s old new at turns) → 2 * t.blocks ≤ turns → w.left ≡ []
   none_in_turns new at turns w over = nil_from_length w.left (omega (arith, w.fits, over))
 
-  begins : (new : Option (List ℕ)) (at : Listing) (turns : ℕ) (w : IsWritten t dir s old new at turns) → BeginsListing t (listing t dir) s (head t s ++ w.lines)
+  begins : (new : Option (List ℕ)) (at : Listing) (turns : ℕ) (w : IsWritten t order dir s old new at turns) → BeginsListing t (listing t order dir) s (head t s ++ w.lines)
   begins new at turns w = (w.first, w.left, w.lines, w.so_far.split, w.are, refl)
 
   -- a prefix of the text is written
-  pub written_front : (mid new : Option (List ℕ)) (at : Listing) (turns : ℕ) (text : List ℕ) → IsWritten t dir s old mid at turns → text ≡ at.text.items → WritesFront mid new text → WritesFrontOf old new (BeginsListing t (listing t dir) s)
+  pub written_front : (mid new : Option (List ℕ)) (at : Listing) (turns : ℕ) (text : List ℕ) → IsWritten t order dir s old mid at turns → text ≡ at.text.items → WritesFront mid new text → WritesFrontOf old new (BeginsListing t (listing t order dir) s)
   written_front mid new at turns text w same (more, appended, (rest, split)) = (
     head t s ++ w.lines,
     begins mid at turns w,
@@ -115,5 +116,5 @@ module _ (t : Tree) (dir : ℕ) (s : ListForm) (old : Option (List ℕ)) where
     ),
   )
 
-  pub written_so_far : (new : Option (List ℕ)) (at : Listing) (turns : ℕ) → IsWritten t dir s old new at turns → WritesFrontOf old new (BeginsListing t (listing t dir) s)
+  pub written_so_far : (new : Option (List ℕ)) (at : Listing) (turns : ℕ) → IsWritten t order dir s old new at turns → WritesFrontOf old new (BeginsListing t (listing t order dir) s)
   written_so_far new at turns w = (head t s ++ w.lines, begins new at turns w, (w.written, w.appended, (at.text.items, w.told)))

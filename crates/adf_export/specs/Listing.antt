@@ -1,11 +1,11 @@
 -- The list of a file, or of everything below a directory.
-use Rattle.std.specs.Prelude.{◌≡◌, ℕ, zero, suc, ◌-◌, ◌==◌, negsuc, Bool, true, false, if◌then◌else◌, List, [], ◌∷◌, ◌++◌, length, take, replicate, flat_map, position, decimal, codes, Some}
+use Rattle.std.specs.Prelude.{◌≡◌, ℕ, zero, suc, ◌-◌, ◌==◌, negsuc, Bool, true, false, if◌then◌else◌, List, [], ◌∷◌, ◌++◌, length, replicate, flat_map, decimal, codes, Some}
 use Rattle.std.specs.Option.{option_map_or}
 use Rattle.std.specs.Ordering.{int_eq}
 use Rattle.ados_name.specs.Date.{IsTextOf}
 use Rattle.ados_name.specs.Protection.{letters}
 use Rattle.ados_model.specs.declared.answer.FileInfo.{FileInfo}
-use Rattle.ados_model.specs.Tree.{Node, Tree, root, entries, name_of, parent_of}
+use Rattle.ados_model.specs.Tree.{Node, Tree, root, name_of, parent_of}
 use Rattle.ados_model.specs.Change.{is_file}
 use Rattle.ados_model.specs.Objects.{file_info}
 use Rattle.ados_volume.specs.Located.{Located}
@@ -13,16 +13,20 @@ use Rattle.adf_script.specs.Text.{line, spaced}
 use Rattle.adf_text.specs.Letters.{letters as letter_text}
 use Rattle.adf_text.specs.Plain.{plain}
 use Rattle.adf_text.specs.ProtectionLetters.{protection_letters}
+use Rattle.adf_record.specs.Second.{to_second}
+use Rattle.adf_record.specs.Shown.{bold}
 use Rattle.adf_words.specs.declared.query.ListForm.{ListForm}
-use Rattle.adf_words.specs.declared.query.ListForm.TheVariants.{Bytes, Letters, Long, Json}
+use Rattle.adf_words.specs.declared.query.ListForm.TheVariants.{Bytes, Letters, Long, Bold, Json}
+use Rattle.adf_words.specs.declared.query.ListOrder.{ListOrder}
 use Rattle.adf_export.specs.Objects.{IsObject}
+use Rattle.adf_export.specs.Ordered.{ordered}
 
--- everything below a directory, to a depth of `levels`: each entry with the path before its name, directly followed by
--- everything below it
-unfoldable pub below : Tree → ℕ → List ℕ → ℕ → List Located
-below t zero before dir = []
-below t (suc levels) before dir =
-    flat_map (λ key. record { path = before ++ name_of t key; key = key } ∷ below t levels (before ++ name_of t key ++ 47 ∷ []) key) (entries t dir)
+-- everything below a directory, to a depth of `levels`: its entries in the order, each with the path before its name,
+-- and each directly followed by everything below it
+unfoldable pub below : Tree → ListOrder → ℕ → List ℕ → ℕ → List Located
+below t order zero before dir = []
+below t order (suc levels) before dir =
+    flat_map (λ key. record { path = before ++ name_of t key; key = key } ∷ below t order levels (before ++ name_of t key ++ 47 ∷ []) key) (ordered t order dir)
 
 -- the path before the names in a directory, of at most `depth` directories: empty for the root, else the path before
 -- its own name, that name and `/`
@@ -30,9 +34,9 @@ unfoldable pub front : Tree → ℕ → ℕ → List ℕ
 front t zero dir = []
 front t (suc depth) dir = option_map_or (λ above. front t depth above ++ (name_of t dir ++ 47 ∷ [])) (parent_of t dir) []
 
--- the entries below a directory in the order of the listing; no path has more names than there are blocks
-abbrev pub listing : Tree → ℕ → List Located
-listing t dir = below t t.blocks (front t t.blocks dir) dir
+-- the entries below a directory in an order; no path has more names than there are blocks
+abbrev pub listing : Tree → ListOrder → ℕ → List Located
+listing t order dir = below t order t.blocks (front t t.blocks dir) dir
 
 -- the path before the name of an object, empty for the root; and the path of an object
 abbrev pub front_above : Tree → ℕ → List ℕ
@@ -42,8 +46,8 @@ abbrev pub path_of : Tree → ℕ → List ℕ
 path_of t key = front_above t key ++ name_of t key
 
 -- the entries in the list of a file, which is itself, or of a directory, which are all below it
-abbrev pub listed : Tree → ℕ → List Located
-listed t key = if is_file t key then record { path = path_of t key; key = key } ∷ [] else listing t key
+abbrev pub listed : Tree → ListOrder → ℕ → List Located
+listed t order key = if is_file t key then record { path = path_of t key; key = key } ∷ [] else listing t order key
 
 -- names as they are printed: their bytes, or for people the letters of these bytes, with control characters as escapes
 abbrev pub shown : Bool → List ℕ → List ℕ
@@ -63,27 +67,28 @@ IsLine info path text =
     (date : List ℕ) × IsTextOf info.date date
     × (text ≡ line (right_in 8 (size_text info) ++ spaced (letters info.protection.0) ++ spaced date ++ spaced path))
 
--- the text of a date without hundredths of a second: up to its full stop, if it has one
-abbrev pub to_second : List ℕ → List ℕ
-to_second date = option_map_or (λ place. take place date) (position (λ c. c == 46) date) date
-
 -- a space and a comment in quotes, if there is one
 abbrev pub comment_text : List ℕ → List ℕ
 comment_text comment = if length comment == 0 then [] else codes " \"" ++ shown true comment ++ codes "\""
 
+-- the path of an entry in letters; with `styled` that of a directory is bold, and that of a file is not
+abbrev pub styled_path : Bool → FileInfo → List ℕ → List ℕ
+styled_path styled info path = bold (if int_eq info.entry_type (negsuc 2) then false else styled) (shown true path)
+
 -- the text is the long line of an entry: its size, all eight protection bits, its date without hundredths, its path, and
--- its comment
-abbrev pub IsLongLine : FileInfo → List ℕ → List ℕ → Type 0
-IsLongLine info path text =
+-- its comment; with `styled` the path of a directory is bold
+abbrev pub IsLongLine : Bool → FileInfo → List ℕ → List ℕ → Type 0
+IsLongLine styled info path text =
     (date : List ℕ) × IsTextOf info.date date
     × (text ≡ line (right_in 8 (size_text info) ++ spaced (protection_letters info.protection.0) ++ spaced (to_second date)
-    ++ spaced (shown true path) ++ comment_text info.comment))
+    ++ spaced (styled_path styled info path) ++ comment_text info.comment))
 
 -- the text is that of an entry with this path, in this form
 abbrev pub IsEntry : ListForm → FileInfo → List ℕ → List ℕ → Type 0
 IsEntry Bytes info path text = IsLine info (shown false path) text
 IsEntry Letters info path text = IsLine info (shown true path) text
-IsEntry Long info path text = IsLongLine info path text
+IsEntry Long info path text = IsLongLine false info path text
+IsEntry Bold info path text = IsLongLine true info path text
 IsEntry Json info path text = IsObject info path text
 
 -- the text is those of the entries, one after the other
@@ -103,6 +108,7 @@ abbrev pub head : Tree → ListForm → List ℕ
 head t Bytes = volume_line t false
 head t Letters = volume_line t true
 head t Long = volume_line t true
+head t Bold = volume_line t true
 head t Json = []
 
 -- a list of these entries; and the beginning of one, with the first entries
@@ -114,9 +120,9 @@ BeginsListing t entries form text =
     (first : List Located) × (rest : List Located) × (told : List ℕ)
     × (entries ≡ first ++ rest) × AreEntries t form first told × (text ≡ head t form ++ told)
 
--- the list of a file or directory, and the beginning of one
-abbrev pub IsList : Tree → ℕ → ListForm → List ℕ → Type 0
-IsList t key = IsListing t (listed t key)
+-- the list of a file or directory in an order, and the beginning of one
+abbrev pub IsList : Tree → ListOrder → ℕ → ListForm → List ℕ → Type 0
+IsList t order key = IsListing t (listed t order key)
 
-abbrev pub BeginsList : Tree → ℕ → ListForm → List ℕ → Type 0
-BeginsList t key = BeginsListing t (listed t key)
+abbrev pub BeginsList : Tree → ListOrder → ℕ → ListForm → List ℕ → Type 0
+BeginsList t order key = BeginsListing t (listed t order key)

@@ -2,14 +2,15 @@
 ghost use Rattle.std.specs.Prelude.{◌≡◌, All, IfOk, IfSome, slice_get};
 ghost use Rattle.ados_model.specs.Keys.{HasKey};
 ghost use Rattle.ados_model.specs.Stands.{Stands};
-ghost use Rattle.ados_model.specs.Tree.{Tree, bytes_of};
+ghost use Rattle.ados_model.specs.Tree.{Tree};
 ghost use Rattle.adf_export.specs.Items.{AreBytesOf, HasSource};
 ghost use Rattle.adf_text.specs.Uaem.{IsLineOf};
 ghost use Rattle.adf_export.specs.declared.entry.Source.TheVariants.{Note};
 
 use crate::entry::Source;
+use adf_record::entry_bytes;
 use adf_text::{Uaem, uaem_line};
-use ados_volume::{Volume, read_file};
+use ados_volume::Volume;
 use host_trees::Contents;
 use std::alloc::{AllocError, Global};
 use std::marker::Model;
@@ -56,17 +57,6 @@ impl<'a> Contents for VolumeBytes<'a> {
             None => Ok(Vec::new(alloc)),
         }
     }
-}
-
-/// All bytes of a file. A directory has none.
-fn entry_bytes(alloc: Global, volume: &Volume, key: u32) -> Result<Vec<u8>, AllocError>
-    requires { HasKey volume.now.image key }
-    ensures { IfOk result (λ bytes. (t : Tree) → Stands volume.now.image t → bytes.items ≡ bytes_of t key) }
-{
-    if !volume.is_file(key) {
-        return Ok(Vec::new(alloc));
-    }
-    read_file(alloc, volume, key)
 }
 
 /// The line of the note of an entry.

@@ -10,7 +10,7 @@ use ados_volume::Volume;
 use std::alloc::{AllocError, Global};
 
 /// The path of an object from the root.
-pub(crate) fn path_of(alloc: Global, volume: &Volume, key: u32) -> Result<Vec<u8>, AllocError>
+pub fn path_of(alloc: Global, volume: &Volume, key: u32) -> Result<Vec<u8>, AllocError>
     requires { HasKey volume.now.image key }
     ensures { IfOk result (λ path. (t : Tree) → Stands volume.now.image t → path.items ≡ path_of t key) }
 {

@@ -21,6 +21,7 @@ pub(crate) fn head_text(
         ListForm::Bytes => volume_line(alloc, volume, false),
         ListForm::Letters => volume_line(alloc, volume, true),
         ListForm::Long => volume_line(alloc, volume, true),
+        ListForm::Bold => volume_line(alloc, volume, true),
         ListForm::Json => Ok(Vec::new(alloc)),
     }
 }

@@ -2,6 +2,8 @@
 //! file.
 #![tactic(auto)]
 
+mod bundle_items;
+mod bundle_out;
 mod bytes;
 mod damaged;
 mod entry;
@@ -17,17 +19,20 @@ mod list;
 mod listing;
 mod long;
 mod objects;
+mod order;
 mod output;
 mod plan;
 mod print;
 mod print_fault;
 mod words;
 
+pub use bundle_out::{BundleOutFault, extract_bundle};
 pub use bytes::VolumeBytes;
 pub use damaged::{Rescue, extract_damaged};
 pub use entry::{Outgoing, Source};
 pub use extracting::extract;
 pub use fault::OutFault;
+pub use front::path_of;
 pub use info::write_info;
 pub use items::outgoing;
 pub use list::write_list;

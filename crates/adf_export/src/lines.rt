@@ -30,7 +30,8 @@ pub(crate) fn push_entry(
     match form {
         ListForm::Bytes => push_line(alloc, text, info, path, false),
         ListForm::Letters => push_line(alloc, text, info, path, true),
-        ListForm::Long => push_long(alloc, text, info, path),
+        ListForm::Long => push_long(alloc, text, info, path, false),
+        ListForm::Bold => push_long(alloc, text, info, path, true),
         ListForm::Json => push_object(alloc, text, info, path),
     }
 }

@@ -1,5 +1,5 @@
 //! The listing of everything below a directory of a volume.
-ghost use Rattle.std.specs.Prelude.{◌≡◌, ℕ, [], List, IfOk, OnOk, OnErr};
+ghost use Rattle.std.specs.Prelude.{◌≡◌, ◌+◌, ◌<◌, ◌∷◌, ℕ, [], List, IfNone, IfOk, IfSome, OnErr, OnOk, OnSome, drop, length, slice_index};
 ghost use Rattle.std.specs.Io.KnownBytes.{Appends};
 ghost use Rattle.ados_model.specs.Keys.{HasDirectory};
 ghost use Rattle.ados_model.specs.Stands.{Stands};
@@ -8,16 +8,17 @@ ghost use Rattle.adf_script.specs.Streams.{Writes};
 ghost use Rattle.adf_io.specs.Prefix.{WritesFront, WritesFrontOf};
 ghost use Rattle.ados_volume.specs.Located.{Located};
 ghost use Rattle.adf_export.specs.Listing.{BeginsListing, IsListing, listing};
-ghost use Rattle.adf_export.specs.steps.Levels.{ArePlacesInDirectories, IsSoFar};
+ghost use Rattle.adf_export.specs.steps.Levels.{HaveKeys, IsSoFar, to_list};
 ghost use Rattle.adf_export.specs.steps.Going.{GoesOn, Passes, Starts};
 
 use crate::front::front_of;
 use crate::head::head_text;
-use crate::keys::{describe, entry_behind, is_directory};
+use crate::keys::{describe, is_directory};
 use crate::lines::push_entry;
+use crate::order::ordered_keys;
 use crate::output::write_text;
 use crate::print_fault::PrintFault;
-use adf_words::ListForm;
+use adf_words::{ListForm, ListOrder};
 use ados_volume::Volume;
 use std::alloc::{AllocError, Global};
 use std::io::Write;
@@ -25,11 +26,11 @@ use std::io::Write;
 /// The number of bytes of text after which it is written.
 const ENOUGH: usize = 65_536;
 
-/// A directory being listed: its entry listed last, or the directory itself, and the length of its path.
-#[derive(Clone, Copy)]
+/// A directory being listed: the keys of its entries, the number of those that were listed, and the length of its path.
+#[derive(Drop)]
 pub struct Level {
-    dir: u32,
-    last: u32,
+    keys: Vec<u32>,
+    next: usize,
     path: usize,
 }
 
@@ -42,6 +43,19 @@ pub struct Listing {
     text: Vec<u8>,
 }
 
+/// The key of the next entry of a directory.
+fn next_key(level: &Level) -> Option<u32>
+    ensures next { IfSome result (λ key. to_list level.now ≡ key ∷ drop (level.now.next + 1) level.now.keys.items) }
+    ensures inside { OnSome result (level.now.next < length level.now.keys.items) }
+    ensures here { IfSome result (λ key. slice_index level.now.keys.items level.now.next ≡ key) }
+    ensures none { IfNone result (to_list level.now ≡ []) }
+{
+    if level.next >= level.keys.len() {
+        return None;
+    }
+    Some(level.keys[level.next])
+}
+
 /// Writes the list of a directory: each entry below it. If the writer fails or memory runs out, it has written a prefix
 /// of that text.
 pub(crate) fn write_directory<W: Write>(
@@ -49,16 +63,17 @@ pub(crate) fn write_directory<W: Write>(
     volume: &Volume,
     dir: u32,
     form: ListForm,
+    order: ListOrder,
     writer: &mut W,
 ) -> Result<(), PrintFault>
     requires { HasDirectory volume.now.image dir }
-    ensures ok { OnOk result ((t : Tree) → Stands volume.now.image t → Writes (W.contents writer.old) (W.contents writer.new) (IsListing t (listing t dir) form)) }
+    ensures ok { OnOk result ((t : Tree) → Stands volume.now.image t → Writes (W.contents writer.old) (W.contents writer.new) (IsListing t (listing t order dir) form)) }
     ensures front { OnErr result ((t : Tree) → Stands volume.now.image t
-        → WritesFrontOf (W.contents writer.old) (W.contents writer.new) (BeginsListing t (listing t dir) form)) }
+        → WritesFrontOf (W.contents writer.old) (W.contents writer.new) (BeginsListing t (listing t order dir) form)) }
 {
-    let mut listing = Listing::start(alloc, volume, dir, form)?;
+    let mut listing = Listing::start(alloc, volume, dir, form, order)?;
     for _ in 0..2 * volume.image().blocks() as u64 {
-        if !listing.go_on(alloc, volume, form)? {
+        if !listing.go_on(alloc, volume, form, order)? {
             break;
         }
         listing.write_when_long(writer)?;
@@ -73,17 +88,19 @@ impl Listing {
         volume: &Volume,
         dir: u32,
         form: ListForm,
+        order: ListOrder,
     ) -> Result<Listing, AllocError>
         requires { HasDirectory volume.now.image dir }
-        ensures places { IfOk result (λ made. ArePlacesInDirectories volume.now.image made.levels.items) }
-        ensures starts { IfOk result (λ made. (t : Tree) → Stands volume.now.image t → Starts t dir form made) }
+        ensures keys { IfOk result (λ made. HaveKeys volume.now.image made.levels.items) }
+        ensures starts { IfOk result (λ made. (t : Tree) → Stands volume.now.image t → Starts t order dir form made) }
     {
         let text = head_text(alloc, volume, form)?;
         let path = front_of(alloc, volume, dir)?;
+        let keys = ordered_keys(alloc, volume, dir, order)?;
         let mut levels = Vec::new(alloc);
         levels.push(Level {
-            dir,
-            last: dir,
+            keys,
+            next: 0,
             path: path.len(),
         })?;
         Ok(Listing { levels, path, text })
@@ -91,28 +108,36 @@ impl Listing {
 
     /// Moves on to the next entry of the current directory, or back to the directory above it. The result is false if
     /// no directory is left.
-    fn go_on(&mut self, alloc: Global, volume: &Volume, form: ListForm) -> Result<bool, AllocError>
-        requires { ArePlacesInDirectories volume.now.image self.old.levels.items }
-        ensures places { OnOk result (ArePlacesInDirectories volume.now.image self.new.levels.items) }
+    fn go_on(
+        &mut self,
+        alloc: Global,
+        volume: &Volume,
+        form: ListForm,
+        order: ListOrder,
+    ) -> Result<bool, AllocError>
+        requires { HaveKeys volume.now.image self.old.levels.items }
+        ensures keys { OnOk result (HaveKeys volume.now.image self.new.levels.items) }
         ensures goes { IfOk result (λ goes. (t : Tree) (dir : ℕ) → Stands volume.now.image t → (first left : List Located)
-            → IsSoFar t dir self.old.levels.items self.old.path.items first left → GoesOn t dir form self.old self.new first left goes) }
+            → IsSoFar t order dir self.old.levels.items self.old.path.items first left → GoesOn t order dir form self.old self.new first left goes) }
     {
         let Some(level) = self.levels.pop() else {
             return Ok(false);
         };
-        let Some(key) = entry_behind(volume, level.dir, level.last) else {
+        let Some(key) = next_key(&level) else {
             return Ok(true);
         };
-        self.levels.push(Level { last: key, ..level })?;
+        let (next, path) = (level.next + 1, level.path);
+        self.levels.push(Level { next, ..level })?;
         let info = describe(volume, key);
-        self.path.truncate(level.path);
+        self.path.truncate(path);
         self.path.extend_from_slice(info.name.bytes())?;
         push_entry(alloc, &mut self.text, &info, self.path.as_slice(), form)?;
         if is_directory(&info) {
             self.path.push(b'/')?;
+            let keys = ordered_keys(alloc, volume, key, order)?;
             self.levels.push(Level {
-                dir: key,
-                last: key,
+                keys,
+                next: 0,
                 path: self.path.len(),
             })?;
         }

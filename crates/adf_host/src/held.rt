@@ -8,6 +8,7 @@ use adf_block::Image;
 use adf_io::LoadFault;
 use std::alloc::Global;
 use std::fs::{File, Metadata, TryLockError};
+use std::io::{Error, ErrorKind, Read, Seek, SeekFrom};
 use std::rt::{Clock, Files};
 use std::time::Duration;
 use std::{fs, thread};
@@ -17,13 +18,13 @@ use thiserror::Error;
 #[derive(Clone, Copy, Debug, PartialEq, Eq, Error)]
 pub enum HoldFault {
     /// It cannot be opened.
-    #[error("it cannot be read")]
+    #[error("cannot be read")]
     Open,
     /// Another command has locked it.
-    #[error("another command works on it")]
+    #[error("is locked by another command")]
     Busy,
     /// The host has no locks for it.
-    #[error("it cannot be locked")]
+    #[error("cannot be locked: its file system has no locks")]
     Lock,
 }
 
@@ -117,6 +118,22 @@ impl HeldFile {
     /// Reads the image of the file. To be called once. A regular file of a wrong length is refused by its length.
     pub fn read_image(&mut self, alloc: Global) -> Result<Image, LoadFault> {
         read_open(alloc, &mut self.file)
+    }
+
+    /// Whether a regular file may be replaced by an image: it is empty, or begins as an image does. It is read from its start,
+    /// and is then at its start again.
+    pub fn may_be_image(&mut self) -> Result<bool, Error> {
+        if self.file.metadata()?.len() == 0 {
+            return Ok(true);
+        }
+        let mut start = [0u8; 3];
+        let read = self.file.read_exact(&mut start);
+        self.file.seek(SeekFrom::Start(0))?;
+        match read {
+            Ok(()) => Ok(start == *b"DOS"),
+            Err(error) if error.kind() == ErrorKind::UnexpectedEof => Ok(false),
+            Err(error) => Err(error),
+        }
     }
 
     /// The same file, locked until both are dropped.

@@ -5,39 +5,59 @@ use crate::limit::refuse_length;
 use crate::new_bytes::NewBytes;
 use crate::owned::OwnedFile;
 use crate::temporary::{make_beside, remove_first_leftovers, remove_leftovers};
+use crate::unwritable::WriteReason;
 use adf_block::Image;
 use std::alloc::{AllocError, Global};
-use std::fs;
 use std::fs::{FileTimes, Metadata, OpenFile, OpenOptions, Permissions};
 use std::io::{Error, ErrorKind, Write};
 use std::os::unix::fs::{MetadataExt, PermissionsExt};
 use std::path::Path;
 use std::rt::Files;
 use std::time::SystemTime;
-use thiserror::Error;
+use std::{error, fmt, fs};
 
-/// Why a file is not replaced. Its old bytes are still there.
-#[derive(Clone, Copy, Debug, Error)]
+/// Why a file is not replaced, as the end of a sentence: `cannot write 'NAME': REASON`. Its old bytes are still there.
+#[derive(Clone, Copy, Debug)]
 pub enum ReplaceFault {
     /// It cannot be examined or opened for writing, or is a link that leads nowhere.
-    #[error("cannot be written: {0}")]
     Target(Error),
     /// No file can be made beside it.
-    #[error("cannot be written: no file can be made beside it: {0}")]
     Beside(Error),
     /// The new bytes cannot be written, or not be flushed to the disk.
-    #[error("cannot be written: {0}")]
     Write(Error),
     /// The new file cannot take its place.
-    #[error("cannot be replaced: {0}")]
     Rename(Error),
     /// Its path leads to another file than the one that was locked or found.
-    #[error("cannot be written: another file has taken its place")]
     Moved,
     /// There is not enough memory for a path.
-    #[error("cannot be written: there is not enough memory")]
     Memory,
 }
+
+impl fmt::Display for ReplaceFault {
+    fn fmt<W: fmt::Write>(&self, f: &mut fmt::Formatter<W>) -> fmt::Result {
+        match self {
+            ReplaceFault::Target(error) => write!(f, "{}", WriteReason(*error)),
+            ReplaceFault::Beside(error) if error.kind() == ErrorKind::NotFound => {
+                write!(f, "{}", WriteReason(*error))
+            }
+            ReplaceFault::Write(error) => write!(f, "{}", WriteReason(*error)),
+            ReplaceFault::Beside(error) => {
+                write!(f, "no file can be made beside it: {}", WriteReason(*error))
+            }
+            ReplaceFault::Rename(error) => {
+                write!(
+                    f,
+                    "the new file cannot take its place: {}",
+                    WriteReason(*error)
+                )
+            }
+            ReplaceFault::Moved => write!(f, "another file has taken its place"),
+            ReplaceFault::Memory => write!(f, "there is not enough memory"),
+        }
+    }
+}
+
+impl error::Error for ReplaceFault {}
 
 impl From<AllocError> for ReplaceFault {
     fn from(_error: AllocError) -> ReplaceFault {

@@ -4,7 +4,7 @@ use Rattle.std.proofs.lemmas.List.Elements.{All-weaker}
 use Rattle.ados_model.specs.Keys.{HasDirectory, HasEntryKey}
 use Rattle.adf_import.specs.declared.progress.Made.{Made}
 use Rattle.adf_import.specs.declared.progress.Progress.{Progress}
-use Rattle.adf_import.specs.Progress.{IsProgress}
+use Rattle.adf_import.specs.Progress.{IsProgress, IsReady}
 use Rattle.adf_import.specs.Put.{KeepsKeys}
 
 pub progress_kept : (old new : List ℕ) (progress : Progress) → KeepsKeys old new → IsProgress old progress → IsProgress new progress
@@ -12,3 +12,6 @@ progress_kept old new progress kept was = record {
   dirs = All-weaker (HasDirectory old) (HasDirectory new) kept.directory progress.dirs.items was.dirs;
   made = All-weaker (λ (made : Made). HasEntryKey old made.key) (λ (made : Made). HasEntryKey new made.key) (λ made is. kept.entry made.key is) progress.made.items was.made;
 }
+
+pub ready_kept : (old new : List ℕ) (dir : ℕ) (progress : Progress) → KeepsKeys old new → IsReady old dir progress → IsReady new dir progress
+ready_kept old new dir progress kept was = record { dir = kept.directory dir was.dir; progress = progress_kept old new progress kept was.progress }

@@ -1,13 +1,14 @@
 -- Whether protection bits deny the deletion of an entry with everything below it.
 use Rattle.std.proofs.Common.{◌≡◌, ℕ, suc, ◌<◌, inl, inr, Bool, true, false, not, List, [], ◌∷◌, length, get_or, Contains, refl, sym, ap, ap₂, ◌∙◌, arith}
-use Rattle.std.specs.Prelude.{◌&&◌}
+use Rattle.std.specs.Prelude.{◌&&◌, Option, None, Some, is_some}
 use Rattle.std.proofs.lemmas.Bool.{false≢true, true≢false}
 use Rattle.ados_model.proofs.KeyLists.{Contains-cases, Contains-nil}
 use Rattle.ados_name.specs.Name.{denies_delete}
 use Rattle.ados_model.specs.Tree.{Tree, Proper}
+use Rattle.ados_model.specs.Stands.{Stands}
 use Rattle.ados_change.specs.Conditions.IsUnder.{itself}
 use Rattle.ados_model.specs.Objects.{protection_of}
-use Rattle.adf_import.specs.Pruned.{AreKeysBelow, IsDenied}
+use Rattle.adf_import.specs.Pruned.{AreKeysBelow, Denies, IsDenied, IsDeniedEntry}
 use Rattle.adf_import.proofs.KeysBelow.{among}
 
 -- a test of protection bits that `force` skips
@@ -28,11 +29,11 @@ abbrev pub denies : Tree → Bool → ℕ → Bool
 denies t force key = not force && denies_delete (protection_of t key)
 
 module _ (t : Tree) (proper : Proper t) (top : ℕ) (force : Bool) (keys : List ℕ) (below : AreKeysBelow t top keys) where
-  pub below_denied : (key : ℕ) → Contains keys key → denies t force key ≡ true → IsDenied t top force
-  below_denied key c h = let p = unforced force _ h in (p.0, (key, below.below key c, p.1))
+  pub below_denied : (key : ℕ) → Contains keys key → denies t force key ≡ true → Denies t top force key
+  below_denied key c h = let p = unforced force _ h in record { unforced = p.0; under = below.below key c; denied = p.1 }
 
-  pub itself_denied : denies t force top ≡ true → IsDenied t top force
-  itself_denied h = let p = unforced force _ h in (p.0, (top, itself refl, p.1))
+  pub itself_denied : denies t force top ≡ true → Denies t top force top
+  itself_denied h = let p = unforced force _ h in record { unforced = p.0; under = itself refl; denied = p.1 }
 
   pub none_denied : ((i : ℕ) → i < length keys → denies t force (get_or keys i 0) ≡ false) → denies t force top ≡ false → ¬ IsDenied t top force
   none_denied each own d =
@@ -41,3 +42,14 @@ module _ (t : Tree) (proper : Proper t) (top : ℕ) (force : Bool) (keys : List 
         | inl same ↦ true≢false (sym told ∙ ap (denies t force) (sym same) ∙ own)
         | inr c ↦ true≢false (sym told ∙ none_passes keys (denies t force) each d.1.0 c)
       ]
+
+-- an entry that denies the deletion shows that it is denied
+pub shown_denied : (image : List ℕ) (key : ℕ) (force : Bool) (found : Option ℕ) → IsDeniedEntry image key force found → is_some found ≡ true
+    → (t : Tree) → Stands image t → IsDenied t key force
+shown_denied image key force None denied some t s = absurd (false≢true some)
+shown_denied image key force (Some entry) denied some t s = let d = denied.1 t s in (d.unforced, (entry, d.under, d.denied))
+
+pub shown_allowed : (image : List ℕ) (key : ℕ) (force : Bool) (found : Option ℕ) → IsDeniedEntry image key force found → is_some found ≡ false
+    → (t : Tree) → Stands image t → ¬ IsDenied t key force
+shown_allowed image key force None denied none t s = denied t s
+shown_allowed image key force (Some entry) denied none t s = absurd (true≢false none)

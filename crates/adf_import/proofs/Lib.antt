@@ -16,3 +16,4 @@ pub mod Putting
 pub mod Advancing
 pub mod Fronts
 pub mod Naming
+mod Bundled

@@ -11,7 +11,7 @@ use Rattle.adf_import.specs.Commands.{EndsMove, EndsProtect, EndsWithoutBits, Is
 use Rattle.adf_import.specs.Turns.{EndsAt, ReadsFirst}
 use Rattle.adf_import.specs.Words.{IsBitsFault, IsRefusal}
 use Rattle.adf_import.specs.declared.fault.InFault.{InFault}
-use Rattle.adf_import.specs.declared.fault.InFault.TheVariants.{Bits, Host, Letter, Memory, NoRoom, Note, Read, Refused, Source}
+use Rattle.adf_import.specs.declared.fault.InFault.TheVariants.{Bits, Host, HostName, Letter, Memory, NoRoom, Note, Read, Refused, Source, Twins}
 use Rattle.adf_import.specs.declared.paths.MoveFault.{MoveFault}
 use Rattle.adf_import.specs.declared.paths.MoveFault.TheVariants.{New, Old}
 use Rattle.adf_import.proofs.Turning.{refused_at}
@@ -24,7 +24,9 @@ module _ (moment : Date3) (from to : List ℕ) (old new : Shown) (error : DosErr
   old_refused (Letter text) is h = absurd is
   old_refused (Bits text) is h = absurd is
   old_refused (Host fault) is h = absurd is
-  old_refused (Read path) is h = absurd is
+  old_refused (Read path reason) is h = absurd is
+  old_refused (HostName path name why) is h = absurd is
+  old_refused (Twins path other) is h = absurd is
   old_refused (Note path fault) is h = absurd is
   old_refused (Source why) is h = absurd is
   old_refused Memory is h = tt
@@ -36,7 +38,9 @@ module _ (moment : Date3) (from to : List ℕ) (old new : Shown) (error : DosErr
   new_refused (Letter text) is h = absurd is
   new_refused (Bits text) is h = absurd is
   new_refused (Host fault) is h = absurd is
-  new_refused (Read path) is h = absurd is
+  new_refused (Read path reason) is h = absurd is
+  new_refused (HostName path name why) is h = absurd is
+  new_refused (Twins path other) is h = absurd is
   new_refused (Note path fault) is h = absurd is
   new_refused (Source why) is h = absurd is
   new_refused Memory is h = tt
@@ -61,7 +65,9 @@ module _ (moment : Date3) (path bits : List ℕ) (old new : Shown) where
   bits_refused word error (Letter text) has is h = absurd is
   bits_refused word error (Bits text) has is h = absurd is
   bits_refused word error (Host fault) has is h = absurd is
-  bits_refused word error (Read file) has is h = absurd is
+  bits_refused word error (Read file reason) has is h = absurd is
+  bits_refused word error (HostName file name why) has is h = absurd is
+  bits_refused word error (Twins file other) has is h = absurd is
   bits_refused word error (Note file fault) has is h = absurd is
   bits_refused word error (Source why) has is h = absurd is
   bits_refused word error Memory has is h = word_ends word (Err Memory) has tt
@@ -79,7 +85,9 @@ no_bits moment path bits volume (Letter text) is = absurd is
 no_bits moment path bits volume (Bits text) is =
     subst (λ (o : Option (Form × List ℕ)). MatchOption o (EndsWithoutBits bits volume volume (Err (Bits text))) (λ w. EndsAt (Protects moment (chars path) w) path volume volume (Err (Bits text)))) (sym is.1) (refl, is.0)
 no_bits moment path bits volume (Host fault) is = absurd is
-no_bits moment path bits volume (Read file) is = absurd is
+no_bits moment path bits volume (Read file reason) is = absurd is
+no_bits moment path bits volume (HostName file name why) is = absurd is
+no_bits moment path bits volume (Twins file other) is = absurd is
 no_bits moment path bits volume (Note file fault) is = absurd is
 no_bits moment path bits volume (Source why) is = absurd is
 no_bits moment path bits volume Memory is = nothing_said (protect_word (chars bits))

@@ -8,7 +8,7 @@ use Rattle.ados_model.specs.declared.dos_error.DosError.{DosError}
 use Rattle.ados_model.specs.Keys.{HasTree}
 use Rattle.ados_volume.specs.Shown.{Shown}
 use Rattle.adf_import.specs.declared.fault.InFault.{InFault}
-use Rattle.adf_import.specs.declared.fault.InFault.TheVariants.{Bits, Host, Letter, Memory, NoRoom, Note, Read, Refused, Source}
+use Rattle.adf_import.specs.declared.fault.InFault.TheVariants.{Bits, Host, HostName, Letter, Memory, NoRoom, Note, Read, Refused, Source, Twins}
 use Rattle.adf_import.specs.Commands.{without_answer}
 use Rattle.adf_import.specs.Turns.{AreDone, AtWord, EndsAt, EndsInTurn, ReadsFirst}
 use Rattle.adf_import.specs.Turns.AreDone.{one_more}
@@ -59,7 +59,9 @@ module _ (Does : List ℕ → Shown → Shown → Result Unit DosError → Type 
   ends_here (Letter text) first h = absurd h
   ends_here (Bits text) first h = absurd h
   ends_here (Host fault) first h = absurd h
-  ends_here (Read path) first h = absurd h
+  ends_here (Read path reason) first h = absurd h
+  ends_here (HostName path name why) first h = absurd h
+  ends_here (Twins path other) first h = absurd h
   ends_here (Note path fault) first h = absurd h
   ends_here (Source why) first h = absurd h
   ends_here Memory first h = tt
@@ -72,7 +74,9 @@ refused_at Does word old new error (NoRoom path needed free) is h = absurd is
 refused_at Does word old new error (Letter text) is h = absurd is
 refused_at Does word old new error (Bits text) is h = absurd is
 refused_at Does word old new error (Host fault) is h = absurd is
-refused_at Does word old new error (Read path) is h = absurd is
+refused_at Does word old new error (Read path reason) is h = absurd is
+refused_at Does word old new error (HostName path name why) is h = absurd is
+refused_at Does word old new error (Twins path other) is h = absurd is
 refused_at Does word old new error (Note path fault) is h = absurd is
 refused_at Does word old new error (Source why) is h = absurd is
 refused_at Does word old new error Memory is h = tt
@@ -84,7 +88,9 @@ foreign_in words word (NoRoom path needed free) among is = absurd is
 foreign_in words word (Letter text) among is = (subst (Contains words) (sym is.0) among, subst IsForeign (sym is.0) is.1)
 foreign_in words word (Bits text) among is = absurd is
 foreign_in words word (Host fault) among is = absurd is
-foreign_in words word (Read path) among is = absurd is
+foreign_in words word (Read path reason) among is = absurd is
+foreign_in words word (HostName path name why) among is = absurd is
+foreign_in words word (Twins path other) among is = absurd is
 foreign_in words word (Note path fault) among is = absurd is
 foreign_in words word (Source why) among is = absurd is
 foreign_in words word Memory among is = tt
@@ -97,7 +103,9 @@ not_read words Ends volume (NoRoom path needed free) ends is = absurd is
 not_read words Ends volume (Letter text) ends is = (refl, is.0, is.1)
 not_read words Ends volume (Bits text) ends is = absurd is
 not_read words Ends volume (Host fault) ends is = absurd is
-not_read words Ends volume (Read path) ends is = absurd is
+not_read words Ends volume (Read path reason) ends is = absurd is
+not_read words Ends volume (HostName path name why) ends is = absurd is
+not_read words Ends volume (Twins path other) ends is = absurd is
 not_read words Ends volume (Note path fault) ends is = absurd is
 not_read words Ends volume (Source why) ends is = absurd is
 not_read words Ends volume Memory ends is = ends
@@ -116,7 +124,9 @@ was_read words Ends old new (Err (NoRoom path needed free)) without h = h
 was_read words Ends old new (Err (Letter text)) without h = absurd (without (Letter text) tt h)
 was_read words Ends old new (Err (Bits text)) without h = h
 was_read words Ends old new (Err (Host fault)) without h = h
-was_read words Ends old new (Err (Read path)) without h = h
+was_read words Ends old new (Err (Read path reason)) without h = h
+was_read words Ends old new (Err (HostName path name why)) without h = h
+was_read words Ends old new (Err (Twins path other)) without h = h
 was_read words Ends old new (Err (Note path fault)) without h = h
 was_read words Ends old new (Err (Source why)) without h = h
 was_read words Ends old new (Err Memory) without h = h
@@ -128,7 +138,9 @@ turn_no_letters Does words old new (Refused told) is h = absurd is
 turn_no_letters Does words old new (NoRoom path needed free) is h = absurd is
 turn_no_letters Does words old new (Bits text) is h = absurd is
 turn_no_letters Does words old new (Host fault) is h = absurd is
-turn_no_letters Does words old new (Read path) is h = absurd is
+turn_no_letters Does words old new (Read path reason) is h = absurd is
+turn_no_letters Does words old new (HostName path name why) is h = absurd is
+turn_no_letters Does words old new (Twins path other) is h = absurd is
 turn_no_letters Does words old new (Note path fault) is h = absurd is
 turn_no_letters Does words old new (Source why) is h = absurd is
 turn_no_letters Does words old new Memory is h = absurd is
@@ -139,7 +151,9 @@ at_no_letters Does word old new (Refused told) is h = absurd is
 at_no_letters Does word old new (NoRoom path needed free) is h = absurd is
 at_no_letters Does word old new (Bits text) is h = absurd is
 at_no_letters Does word old new (Host fault) is h = absurd is
-at_no_letters Does word old new (Read path) is h = absurd is
+at_no_letters Does word old new (Read path reason) is h = absurd is
+at_no_letters Does word old new (HostName path name why) is h = absurd is
+at_no_letters Does word old new (Twins path other) is h = absurd is
 at_no_letters Does word old new (Note path fault) is h = absurd is
 at_no_letters Does word old new (Source why) is h = absurd is
 at_no_letters Does word old new Memory is h = absurd is

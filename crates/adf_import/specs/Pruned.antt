@@ -1,5 +1,5 @@
 -- An entry removed with everything below it.
-use Rattle.std.specs.Prelude.{◌≡◌, ◌≢◌, ℕ, Bool, false, if◌then◌else◌, List, ◌∷◌, ◌++◌, AllPairs, Contains, None, Some, Result, MatchResult, IsTrue}
+use Rattle.std.specs.Prelude.{◌≡◌, ◌≢◌, ℕ, Bool, false, if◌then◌else◌, List, ◌∷◌, ◌++◌, AllPairs, Contains, Option, None, Some, Result, MatchOption, MatchResult, IsTrue}
 use Rattle.ados_name.specs.declared.stamp.Date3.{Date3}
 use Rattle.ados_name.specs.Name.{denies_delete}
 use Rattle.ados_model.specs.declared.dos_error.DosError.{DosError}
@@ -7,6 +7,7 @@ use Rattle.ados_model.specs.declared.dos_error.DosError.TheVariants.{DeleteProte
 use Rattle.ados_model.specs.Tree.{Tree, entries, parent_of, root}
 use Rattle.ados_model.specs.Stands.{Stands}
 use Rattle.ados_model.specs.Change.{removed}
+use Rattle.ados_model.specs.Keys.{HasKey}
 use Rattle.ados_change.specs.Conditions.{IsUnder}
 use Rattle.ados_volume.specs.Shown.{Shown}
 use Rattle.ados_model.specs.Objects.{is_under, protection_of}
@@ -27,6 +28,19 @@ pub record AreKeysBelow (t : Tree) (top : ℕ) (keys : List ℕ) : Type 0 where
 -- without `force`, a protection bit of the entry or of one below it denies deletion
 abbrev pub IsDenied : Tree → ℕ → Bool → Type 0
 IsDenied t key force = (force ≡ false) × ((k : ℕ) × IsUnder t key k × IsTrue (denies_delete (protection_of t k)))
+
+-- without `force`, a protection bit of this entry, which is at or below another, denies that the other is removed
+pub record Denies (t : Tree) (key : ℕ) (force : Bool) (entry : ℕ) : Type 0 where
+  pub unforced : force ≡ false
+  pub under : IsUnder t key entry
+  pub denied : IsTrue (denies_delete (protection_of t entry))
+
+-- an entry that denies it; none if nothing does
+abbrev pub IsDeniedEntry : List ℕ → ℕ → Bool → Option ℕ → Type 0
+IsDeniedEntry image key force found =
+    MatchOption found
+    ((t : Tree) → Stands image t → ¬ IsDenied t key force)
+    (λ entry. HasKey image entry × ((t : Tree) → Stands image t → Denies t key force entry))
 
 -- an entry can be removed with everything below it: it is not the root, and no protection bit denies it
 pub record CanPrune (t : Tree) (key : ℕ) (force : Bool) : Type 0 where

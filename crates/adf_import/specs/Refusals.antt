@@ -65,8 +65,3 @@ replace_refusal key size force t =
     ))
     (more_blocks t key size)
     (free t)
-
--- the DOS error of a refusal
-abbrev pub put_error : NotPut → DosError
-put_error (Refused error) = error
-put_error (NoRoom needed room) = DiskFull

@@ -2,9 +2,10 @@
 
 ghost use Rattle.adf_import.specs.Commands.{ChangesVolume, IsInside, without_answer};
 
-use crate::adding::{How, add};
+use crate::adding::add;
 use crate::each::{Each, change_each};
 use crate::fault::InFault;
+use crate::item::How;
 use crate::one_file::{StandardInput, Target, add_as};
 use crate::single::{rename, set_bits, set_comment, set_date, set_name};
 use adf_words::Change;

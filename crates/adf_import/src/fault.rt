@@ -2,10 +2,11 @@
 
 ghost use Rattle.adf_import.specs.Words.{IsRefusal};
 
+use crate::name_why::NameWhy;
 use adf_text::UaemFault;
 use adf_words::Refused;
 use ados_model::DosError;
-use host_trees::WalkFault;
+use host_trees::{ReadReason, WalkFault};
 use std::alloc::{AllocError, AllocFailed, Global};
 use std::{error, fmt};
 use thiserror::Error;
@@ -23,18 +24,34 @@ pub enum InFault {
         needed: u64,
         free: u32,
     },
+    /// Error 210: the name of a file of the host is no name of an entry.
+    #[error("'{name}' {why}")]
+    HostName {
+        path: String,
+        name: String,
+        why: NameWhy,
+    },
+    /// Error 203: two files of the host have one name on an Amiga.
+    #[error("'{path}' and '{other}' are one name on an Amiga")]
+    Twins {
+        path: String,
+        other: String,
+    },
     /// An argument has a letter past U+00FF.
     #[error("'{0}' has a letter that no byte of an Amiga's text stands for")]
     Letter(String),
     /// An argument is no word for protection bits.
-    #[error("'{0}' is no protection: letters of hsparwed, each once, as rwed, ----rwed, +s, -w or =rwed")]
+    #[error("'{0}' is no protection: expected letters of hsparwed, as rwed, ----rwed, +s or -w")]
     Bits(String),
     /// The walk over files of the host failed.
     #[error("{0}")]
     Host(WalkFault),
     /// A file of the host cannot be read.
-    #[error("'{0}' cannot be read")]
-    Read(String),
+    #[error("cannot read '{path}': {reason}")]
+    Read {
+        path: String,
+        reason: ReadReason,
+    },
     /// A note beside a file cannot be read.
     #[error("'{path}' {fault}")]
     Note {
@@ -53,7 +70,7 @@ pub enum InFault {
 pub enum SourceFault {
     #[error("standard input cannot be read")]
     Input,
-    #[error("'{0}' is not put: --as takes one regular file, and no .uaem file")]
+    #[error("'{0}' is not added: --as takes one regular file, and no .uaem file")]
     NotOneFile(String),
 }
 

@@ -1,11 +1,12 @@
 //! What is read of host files: their names, their bytes and their notes.
 
 use crate::fault::{InFault, NoteFault, refused};
+use crate::name_why::NameWhy;
 use adf_io::{InputFault, read_bounded};
 use adf_text::{LettersFault, Uaem, UaemFault, host_name_bytes, read_uaem};
 use ados_model::DosError;
 use ados_name::{Comment, Date3, Name, Protect};
-use host_trees::HostEntry;
+use host_trees::{HostEntry, why_unreadable};
 use std::alloc::Global;
 use std::fs;
 use std::rt::Files;
@@ -16,14 +17,23 @@ use std::rt::Files;
 pub(crate) fn entry_name(alloc: Global, entry: &HostEntry) -> Result<Name, InFault> {
     let bytes = match host_name_bytes(alloc, entry.name.as_str()) {
         Ok(bytes) => bytes,
-        Err(LettersFault::NoByte { .. }) => {
-            return Err(refused(alloc, entry.path.as_str(), DosError::InvalidComponentName));
+        Err(LettersFault::NoByte { letter, .. }) => {
+            return Err(wrong_host_name(alloc, entry, NameWhy::Foreign { letter }));
         }
         Err(LettersFault::Memory) => return Err(InFault::Memory),
     };
     match Name::new(&bytes) {
         Ok(name) => Ok(name),
-        Err(_) => Err(refused(alloc, entry.path.as_str(), DosError::InvalidComponentName)),
+        Err(_) => Err(wrong_host_name(alloc, entry, NameWhy::of_bytes(&bytes))),
+    }
+}
+
+/// The fault of a host file whose name is no name of an entry.
+fn wrong_host_name(alloc: Global, entry: &HostEntry, why: NameWhy) -> InFault {
+    let path = String::from_str(alloc, entry.path.as_str());
+    match (path, String::from_str(alloc, entry.name.as_str())) {
+        (Ok(path), Ok(name)) => InFault::HostName { path, name, why },
+        _ => InFault::Memory,
     }
 }
 
@@ -71,11 +81,20 @@ pub(crate) fn read_host<R: Files>(
     most: usize,
 ) -> Result<Vec<u8>, InFault> {
     let Ok(mut file) = fs::open(rt, path) else {
-        return Err(InFault::Read(String::from_str(alloc, path)?));
+        return Err(unread(rt, alloc, path));
     };
     match read_bounded(alloc, &mut file, most) {
         Ok(bytes) => Ok(bytes),
         Err(InputFault::Memory) => Err(InFault::Memory),
-        Err(_) => Err(InFault::Read(String::from_str(alloc, path)?)),
+        Err(_) => Err(unread(rt, alloc, path)),
+    }
+}
+
+/// The fault of a host file that could not be read.
+pub(crate) fn unread<R: Files>(rt: &R, alloc: Global, path: &str) -> InFault {
+    let reason = why_unreadable(rt, path);
+    match String::from_str(alloc, path) {
+        Ok(path) => InFault::Read { path, reason },
+        Err(_) => InFault::Memory,
     }
 }

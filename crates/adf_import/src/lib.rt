@@ -3,6 +3,10 @@
 #![tactic(auto)]
 
 mod adding;
+mod bundle_fault;
+mod bundle_files;
+mod bundle_in;
+mod bundle_put;
 mod change;
 mod each;
 mod entries;
@@ -10,6 +14,8 @@ mod fault;
 mod fields;
 mod host_files;
 mod in_turn;
+mod item;
+mod name_why;
 mod new_file;
 mod one_file;
 mod paths;
@@ -21,11 +27,15 @@ mod single;
 mod ways;
 mod words;
 
+pub use bundle_fault::BundleInFault;
+pub use bundle_in::add_bundle;
+pub use bundle_put::volume_of_bundle;
 pub use change::change_volume;
 pub use entries::{delete, make_directory, move_entry};
 pub use fault::{InFault, NoteFault, SourceFault};
 pub use fields::{comment, protect, redate, relabel};
 pub use in_turn::outside_stays;
+pub use name_why::{NameWhy, wrong_name};
 pub use new_file::{NewFile, NotPut, add_file, replace_file};
 pub use one_file::StandardInput;
-pub use prune::delete_all;
+pub use prune::{delete_all, denied_entry};

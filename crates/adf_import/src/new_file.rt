@@ -31,26 +31,12 @@ pub struct NewFile<'a> {
 }
 
 /// Why a file was not put into a volume. The volume is unchanged.
-#[derive(Clone, Copy, Debug, PartialEq, Eq)]
+#[derive(Clone, Copy)]
 pub enum NotPut {
     /// An error other than 221.
     Refused(DosError),
     /// Error 221: the number of free blocks needed, and the number of free blocks.
     NoRoom { needed: u64, free: u32 },
-}
-
-impl NotPut {
-    ghost use Rattle.adf_import.specs.Refusals.{put_error};
-
-    /// The DOS error.
-    pub fn error(self) -> DosError
-        ensures { result ≡ put_error self }
-    {
-        match self {
-            NotPut::Refused(error) => error,
-            NotPut::NoRoom { .. } => DosError::DiskFull,
-        }
-    }
 }
 
 /// Puts a new file into a directory and returns its key. The date of the directory and the disk date become `moment`.

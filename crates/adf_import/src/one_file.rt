@@ -8,9 +8,10 @@ ghost use Rattle.ados_model.specs.Tree.{Tree};
 ghost use Rattle.adf_import.specs.Commands.{PutsAs, PutsIn};
 ghost use Rattle.adf_import.specs.Paths.{directory_at};
 
-use crate::adding::{How, most_bytes, not_put, unread_blocks};
+use crate::adding::{most_bytes, unread_blocks};
 use crate::fault::{InFault, SourceFault};
 use crate::host_files::{noted_of, read_host, without_note};
+use crate::item::{How, not_put};
 use crate::paths::directory_at;
 use crate::put::{noted_file, put_file};
 use crate::words::Word;
@@ -23,15 +24,24 @@ use ados_volume::Volume;
 use host_trees::{HostEntry, HostKind, host_tree};
 use std::alloc::Global;
 use std::fs;
+use std::io::Read;
 use std::rt::Files;
 
 /// A host with standard input.
 pub trait StandardInput {
+    /// Whether standard input can be read. Nothing of it is read.
+    fn has_standard_input(&self) -> bool;
+
     /// The bytes of standard input up to its end, at most this many.
     fn standard_input(&self, alloc: Global, most: usize) -> Result<Vec<u8>, InputFault>;
 }
 
 impl StandardInput for HostRuntime {
+    fn has_standard_input(&self) -> bool {
+        let mut input = self.stdin();
+        input.read(&mut []).is_ok()
+    }
+
     fn standard_input(&self, alloc: Global, most: usize) -> Result<Vec<u8>, InputFault> {
         let mut input = self.stdin();
         read_bounded(alloc, &mut input, most)
@@ -179,21 +189,13 @@ fn read_input<R: StandardInput>(
 
 /// Reads a regular file of the host, with its metadata.
 fn read_file<R: Files>(rt: &R, alloc: Global, path: &str, most: usize) -> Result<Given, InFault> {
-    if is_other(rt, path) {
+    if fs::metadata(rt, path).is_ok_and(|found| !found.is_file()) {
         return Err(not_one_file(alloc, path));
     }
     let tree = host_tree(rt, alloc, &[path])?;
     match tree.entries.as_slice() {
         [entry] => read_entry(rt, alloc, entry, most),
         _ => Err(not_one_file(alloc, path)),
-    }
-}
-
-/// Whether a path leads to something that is no regular file.
-fn is_other<R: Files>(rt: &R, path: &str) -> bool {
-    match fs::metadata(rt, path) {
-        Ok(found) => !found.is_file(),
-        Err(_) => false,
     }
 }
 

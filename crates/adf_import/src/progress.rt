@@ -1,8 +1,8 @@
 //! The progress of putting files and directories of the host into a volume.
 
 ghost use Rattle.std.specs.Prelude.{◌≡◌, List, ℕ, IfOk, OnOk};
-ghost use Rattle.ados_model.specs.Keys.{HasDirectory, HasEntryKey};
-ghost use Rattle.adf_import.specs.Progress.{IsProgress};
+ghost use Rattle.ados_model.specs.Keys.{HasEntryKey};
+ghost use Rattle.adf_import.specs.Progress.{IsProgress, IsReady};
 ghost use Rattle.adf_import.specs.Put.{KeepsKeys};
 
 use crate::put::note_directory;
@@ -16,8 +16,8 @@ use std::alloc::{AllocError, Global};
 pub(crate) struct Progress {
     /// For each file or directory of the host, in order: its directory on the volume, or the one that it was put into.
     dirs: Vec<u32>,
-    /// For each block, whether it is the header of an entry that was put or used.
-    is_put: Vec<bool>,
+    /// For each block, the index of the host's file or directory that was put under this header, or used it.
+    places: Vec<Option<usize>>,
     /// The new directories, and their metadata.
     made: Vec<Made>,
 }
@@ -36,14 +36,14 @@ impl Progress {
     {
         Ok(Progress {
             dirs: Vec::new(alloc),
-            is_put: vec![in alloc; false; blocks as usize]?,
+            places: vec![in alloc; None; blocks as usize]?,
             made: Vec::new(alloc),
         })
     }
 
     /// The directory on the volume for the host directory with this index; the top one if there is none.
     pub fn directory(&self, parent: Option<usize>, top: u32) -> u32
-        ensures { (image : List ℕ) → HasDirectory image top → IsProgress image self.now → HasDirectory image result }
+        ensures { (image : List ℕ) → IsReady image top self.now → IsReady image result self.now }
     {
         match parent {
             Some(place) if place < self.dirs.len() => self.dirs[place],
@@ -51,17 +51,17 @@ impl Progress {
         }
     }
 
-    /// Whether this object was put or used.
-    pub fn has_put(&self, key: Option<u32>) -> bool {
-        match key {
-            Some(key) => self.is_put.get(key as usize).copied().unwrap_or(false),
-            None => false,
+    /// The index of the host's file or directory that was put as this object, or used it.
+    pub fn place_of(&self, key: Option<u32>) -> Option<usize> {
+        match self.places.get(key? as usize) {
+            Some(place) => *place,
+            None => None,
         }
     }
 
     /// Notes an object that was put or used, and the directory for its own entries.
     pub fn push(&mut self, key: u32, dir: u32) -> Result<(), AllocError>
-        ensures { OnOk result ((image : List ℕ) → HasDirectory image dir → IsProgress image self.old → IsProgress image self.new) }
+        ensures { OnOk result ((image : List ℕ) → IsReady image dir self.old → IsProgress image self.new) }
     {
         self.mark(key);
         self.dirs.push(dir)?;
@@ -70,20 +70,21 @@ impl Progress {
 
     /// Notes a new directory, whose metadata is set later.
     pub fn push_made(&mut self, key: u32, noted: Uaem) -> Result<(), AllocError>
-        ensures { OnOk result ((image : List ℕ) → HasDirectory image key → HasEntryKey image key → IsProgress image self.old → IsProgress image self.new) }
+        ensures { OnOk result ((image : List ℕ) → HasEntryKey image key → IsReady image key self.old → IsProgress image self.new) }
     {
         self.made.push(Made { key, noted })?;
         self.push(key, key)?;
         Ok(())
     }
 
-    /// Marks a block.
+    /// Marks a block as that of the next file or directory.
     fn mark(&mut self, key: u32)
         ensures dirs { self.new.dirs.items ≡ self.old.dirs.items }
         ensures made { self.new.made.items ≡ self.old.made.items }
     {
-        if let Some(is_put) = self.is_put.get_mut(key as usize) {
-            *is_put = true;
+        let next = self.dirs.len();
+        if let Some(place) = self.places.get_mut(key as usize) {
+            *place = Some(next);
         }
     }
 

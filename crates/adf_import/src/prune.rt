@@ -1,12 +1,12 @@
 //! Deletion of an entry with everything below it.
 
-ghost use Rattle.std.specs.Prelude.{◌≡◌, ◌++◌, IfOk, IsTrue, OnOk};
+ghost use Rattle.std.specs.Prelude.{◌≡◌, ◌++◌, false, IfOk, IsTrue, OnOk};
 ghost use Rattle.std.specs.Bool.{IsFalse};
 ghost use Rattle.ados_model.specs.Tree.{Tree, entries};
 ghost use Rattle.ados_model.specs.Stands.{Stands};
 ghost use Rattle.ados_model.specs.Keys.{HasEntryKey, HasKey};
 ghost use Rattle.adf_import.specs.InTurn.{KeepsInTurn};
-ghost use Rattle.adf_import.specs.Pruned.{AreKeysBelow, IsDenied, Prunes, pruned};
+ghost use Rattle.adf_import.specs.Pruned.{AreKeysBelow, IsDenied, IsDeniedEntry, Prunes, pruned};
 
 use crate::entries::is_denied;
 use ados_model::DosError;
@@ -79,6 +79,16 @@ fn push_entries(volume: &Volume, dir: u32, keys: &mut Vec<u32>) -> Result<(), Al
     Ok(())
 }
 
+/// An entry that a protection bit keeps from being deleted with everything below `key`: the first such entry below it, or else
+/// the entry itself.
+pub fn denied_entry(alloc: Global, volume: &Volume, key: u32) -> Result<Option<u32>, AllocError>
+    requires { HasKey volume.now.image key }
+    ensures { IfOk result (λ found. IsDeniedEntry volume.now.image key false found) }
+{
+    let below = keys_below(alloc, volume, key)?;
+    Ok(first_denied(volume, key, below.as_slice(), false))
+}
+
 /// Whether a protection bit of the entry, or of one below it, denies deletion, without `force`.
 fn is_any_denied(volume: &Volume, key: u32, below: &[u32], force: bool) -> bool
     requires key { HasKey volume.now.image key }
@@ -86,12 +96,24 @@ fn is_any_denied(volume: &Volume, key: u32, below: &[u32], force: bool) -> bool
     ensures denied { IsTrue result → (t : Tree) → Stands volume.now.image t → IsDenied t key force }
     ensures allowed { IsFalse result → (t : Tree) → Stands volume.now.image t → ¬ IsDenied t key force }
 {
+    first_denied(volume, key, below, force).is_some()
+}
+
+/// The first of the entries below one, or else the entry itself, whose protection bit denies deletion, without `force`.
+fn first_denied(volume: &Volume, key: u32, below: &[u32], force: bool) -> Option<u32>
+    requires key { HasKey volume.now.image key }
+    requires below { (t : Tree) → Stands volume.now.image t → AreKeysBelow t key below.now }
+    ensures { IsDeniedEntry volume.now.image key force result }
+{
     for entry in below {
         if is_denied(volume, *entry, force) {
-            return true;
+            return Some(*entry);
         }
     }
-    is_denied(volume, key, force)
+    if is_denied(volume, key, force) {
+        return Some(key);
+    }
+    None
 }
 
 /// Removes entries from the last to the first, then the entry above them.

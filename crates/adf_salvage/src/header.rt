@@ -17,7 +17,7 @@ use itoa::Buffer;
 use std::alloc::{AllocError, Global};
 
 /// Whether a block is the header of a directory or file with the right fields.
-pub(crate) fn is_sound_header(image: &Image, block: u32) -> bool
+pub fn is_sound_header(image: &Image, block: u32) -> bool
     requires { block < block_count image.now }
     ensures { IsTrue result ↔ IsSoundHeader image.now block }
 {

@@ -24,6 +24,7 @@ mod unreached;
 mod whole;
 
 pub use giving::Piece;
+pub use header::is_sound_header;
 pub use salvaged::{Salvaged, State};
 pub use salvaging::salvage;
 pub use saved::Salvage;

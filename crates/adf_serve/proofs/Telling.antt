@@ -1,5 +1,5 @@
 -- The output of a script over a handler is its output over the tree.
-use Rattle.std.proofs.Common.{◌≡◌, ℕ, Bool, true, false, List, [], Option, codes, subst}
+use Rattle.std.proofs.Common.{◌≡◌, ℕ, Bool, true, false, List, [], ◌++◌, Option, Some, None, codes, sym, ap, ◌∙◌, subst}
 use Rattle.std.specs.Bool.{MatchBool}
 use Rattle.adf_block.specs.declared.layout.Format.TheVariants.{Ffs}
 use Rattle.ados_model.specs.Tree.{Tree}
@@ -19,7 +19,11 @@ use Rattle.adf_script.specs.Text.{fault_line}
 use Rattle.adf_script.specs.Told.{LinesTell, Told}
 use Rattle.adf_script.specs.Told.LinesTell.{ended, answered, closed, faulty}
 use Rattle.adf_commands.specs.Texts.{first_moment}
-use Rattle.adf_serve.specs.Script.{RunsScript}
+use Rattle.adf_serve.specs.Script.{RunsScript, TellsScript, work_floppy}
+use Rattle.std.proofs.KnownBytes.{Keeps-refl}
+use Rattle.std.proofs.lemmas.List.{append-nil}
+use Rattle.adf_io.specs.Front.{ReadsFront}
+use Rattle.adf_script.proofs.Telling.{told_through}
 use Rattle.adf_serve.proofs.Blank.{work_stands}
 
 lines_follow_trees : {port : PortState HandlerState Packet Answer} {lines : List (ℕ × List ℕ)} {values : List (Option ℕ)} {next : ℕ} {text : List ℕ} {whole : Bool}
@@ -59,3 +63,18 @@ runs_script handler blank none reader_old reader_new writer_old writer_new whole
             (told t (opening_port handler 1) (work_stands handler.image blank) w.0 w.3.0 whole w.3.2),
       ),
     )
+
+-- the output of a script that is read from its own bytes
+pub of_bytes : (script : List ℕ) (after writer_old writer_new : Option (List ℕ)) (whole : Bool)
+    → RunsScript (Some script) after writer_old writer_new whole → TellsScript script writer_old writer_new whole
+of_bytes script None writer_old writer_new whole w = absurd w.1
+of_bytes script (Some rest) writer_old writer_new whole w =
+    let same : w.0 ≡ script = sym (w.1 ∙ ap (λ (l : List ℕ). w.0 ++ l) w.2 ∙ append-nil w.0) in
+    subst (λ (s : List ℕ). TellsScript s writer_old writer_new whole) same w.3
+
+-- the output of the first bytes of a script is that of the script
+pub of_front : (reader_old reader_new writer_old writer_new : Option (List ℕ)) (kept view : List ℕ) (whole : Bool) → view ≡ kept
+    → ReadsFront 1048577 reader_old reader_new kept → TellsScript view writer_old writer_new whole → RunsScript reader_old reader_new writer_old writer_new whole
+of_front reader_old reader_new writer_old writer_new kept view whole same read told =
+    told_through means tree_died (opening_port work_floppy 1) first_moment reader_old reader_new writer_old writer_new writer_new kept view whole same read
+    (Keeps-refl writer_new) told

@@ -5,7 +5,7 @@ use Rattle.ados_model.specs.Blank.{blank_tree}
 use Rattle.ados_port.specs.History.{opening_port}
 use Rattle.ados_model.specs.Session.{opening_session}
 use Rattle.ados_run.specs.TreePort.{TreeState, means, tree_died}
-use Rattle.adf_script.specs.Streams.{ReadsAndWrites}
+use Rattle.adf_script.specs.Streams.{ReadsAndWrites, Writes}
 use Rattle.adf_script.specs.Told.{Told}
 use Rattle.adf_commands.specs.Texts.{first_moment}
 
@@ -17,6 +17,10 @@ work_floppy = record { tree = blank_tree Ffs 1760 (codes "Work") first_moment; s
 -- according to its meaning; `whole` is false for a script with a fault
 abbrev pub ToldOnFloppy : Bool → List ℕ → List ℕ → Type 0
 ToldOnFloppy whole read written = Told means tree_died (opening_port work_floppy 1) first_moment read written whole
+
+-- the output of these bytes is written
+abbrev pub TellsScript : List ℕ → Option (List ℕ) → Option (List ℕ) → Bool → Type 0
+TellsScript script old new whole = Writes old new (λ written. ToldOnFloppy whole script written)
 
 -- a script is read to its end, and its output is written
 abbrev pub RunsScript : Option (List ℕ) → Option (List ℕ) → Option (List ℕ) → Option (List ℕ) → Bool → Type 0

@@ -14,10 +14,13 @@ pub(crate) fn tell_job<R: Files<File = File>, F: Write>(
 ) {
     match job {
         ImageJob::Info { file } => tell_held(rt, file, faults),
+        ImageJob::Show { image, .. } => tell_held(rt, image, faults),
+        ImageJob::Map { image, .. } => tell_held(rt, image, faults),
         ImageJob::List(job) => tell_held(rt, job.image, faults),
         ImageJob::Print { image, .. } => tell_held(rt, image, faults),
         ImageJob::Extract(job) => tell_held(rt, job.image, faults),
         ImageJob::Salvage(job) => tell_held(rt, job.image, faults),
+        ImageJob::ExtractBundle { image, .. } => tell_held(rt, image, faults),
         ImageJob::SaveBoot { image, .. } => tell_held(rt, image, faults),
         ImageJob::ShowBoot { image } => tell_held(rt, image, faults),
         _ => {}

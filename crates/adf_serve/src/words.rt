@@ -4,16 +4,17 @@ ghost use Rattle.adf_serve.specs.Commands.{RunsCommand};
 ghost use Rattle.adf_serve.specs.Script.{RunsScript};
 
 use crate::held::tell_job;
-use crate::script::try_script;
+use crate::script::{faulty_number, run_bytes};
 use adf_archive::ReadImages;
-use adf_commands::{StandardInput, run_job, status_of};
-use adf_script::TryFault;
-use adf_text::print_lines;
+use adf_commands::{Screen, StandardInput, run_job, status_of, tell_faulty_line};
+use adf_script::{TryFault, read_script};
+use adf_text::{print_line, print_lines};
 use adf_words::{Job, WordsFault, read_words};
 use std::alloc::Global;
+use std::env::FillError;
 use std::fs::File;
 use std::io::{IsTerminal, Read, Write};
-use std::rt::{Clock, Files};
+use std::rt::{Clock, Env, Files};
 use std::sync::Wait;
 use std::thread::Threads;
 
@@ -21,6 +22,7 @@ use std::thread::Threads;
 /// line; 2 a file or stream that cannot be read or written, no memory, no thread, or a client that ran out of tries; 3
 /// a refused image, name, script or change. Faults of arguments, files and streams are printed on `faults`, and which
 /// image is read while another command has it locked. If that is a terminal, the progress of a check is printed there too.
+/// If the writer is a terminal, text for people may have bold letters.
 pub fn run_words<T, R, W, F>(
     rt: &T,
     alloc: Global,
@@ -32,6 +34,7 @@ pub fn run_words<T, R, W, F>(
 where
     T: Files<File = File>
         + Clock
+        + Env
         + Threads
         + Wait
         + ReadImages
@@ -41,8 +44,8 @@ where
         + Sync
         + Drop
         + 'static,
-    R: Read,
-    W: Write,
+    R: Read + IsTerminal,
+    W: Write + IsTerminal,
     F: Write + IsTerminal,
     ensures whole { words.now ≡ [] → result ≡ 0 →
         RunsScript (R.remaining reader.old) (R.remaining reader.new) (W.contents writer.old) (W.contents writer.new) true }
@@ -51,14 +54,32 @@ where
     ensures command { words.now ≢ [] → RunsCommand result (W.contents writer.old) (W.contents writer.new) }
 {
     match read_words(alloc, words) {
-        Ok(Job::Script) => run_script(alloc, reader, writer, faults),
+        Ok(Job::Script) => {
+            if reader.is_terminal() {
+                tell_waiting(faults);
+            }
+            run_script(alloc, reader, writer, faults)
+        }
         Ok(Job::OnImage(job)) => {
             tell_job(rt, &job, faults);
-            let watched = faults.is_terminal();
-            let done = run_job(rt, alloc, job, watched, writer, faults);
+            let screen = Screen {
+                progress: faults.is_terminal(),
+                styled: writer.is_terminal() && takes_bold(rt),
+            };
+            let done = run_job(rt, alloc, job, screen, writer, faults);
             status_of(done, faults)
         }
         Err(fault) => tell_wrong_words(fault, faults),
+    }
+}
+
+/// Whether a terminal may get bold letters: not if the environment variable `NO_COLOR` is set and not empty.
+fn takes_bold<T: Env>(rt: &T) -> bool {
+    let mut first = [0; 1];
+    match rt.var("NO_COLOR", &mut first) {
+        Ok(length) => length == 0,
+        Err(FillError::NotPresent) => true,
+        Err(FillError::TooLong) => false,
     }
 }
 
@@ -78,7 +99,16 @@ pub fn tell_wrong_words<F: Write>(fault: WordsFault, faults: &mut F) -> u8
     }
 }
 
-/// Runs the script of standard input.
+/// Prints what the program waits for at a terminal.
+fn tell_waiting<F: Write>(faults: &mut F) {
+    print_line(faults, format_args!("adf_serve: {WAITING}"));
+}
+
+/// What the program waits for.
+const WAITING: &str =
+    "waiting for the lines of a script, up to Ctrl-D; 'adf_serve --help' shows the commands";
+
+/// Runs the script of standard input, and prints on `faults` what is wrong with a faulty line.
 fn run_script<R: Read, W: Write, F: Write>(
     alloc: Global,
     reader: &mut R,
@@ -88,9 +118,21 @@ fn run_script<R: Read, W: Write, F: Write>(
     ensures whole { result ≡ 0 → RunsScript (R.remaining reader.old) (R.remaining reader.new) (W.contents writer.old) (W.contents writer.new) true }
     ensures faulty { result ≡ 3 → RunsScript (R.remaining reader.old) (R.remaining reader.new) (W.contents writer.old) (W.contents writer.new) false }
 {
-    match try_script(alloc, reader, writer) {
+    let script = match read_script(alloc, reader) {
+        Ok(script) => script,
+        Err(fault) => {
+            tell_fault(TryFault::from(fault), faults);
+            return 2;
+        }
+    };
+    match run_bytes(alloc, &script, writer) {
         Ok(()) => 0,
-        Err(TryFault::Script) => 3,
+        Err(TryFault::Script) => {
+            if let Some(number) = faulty_number(alloc, &script) {
+                tell_faulty_line(alloc, &script, number, "", faults);
+            }
+            3
+        }
         Err(fault) => {
             tell_fault(fault, faults);
             2
@@ -98,7 +140,7 @@ fn run_script<R: Read, W: Write, F: Write>(
     }
 }
 
-/// Prints why a script was not run. For a faulty script, the output has the fault already.
+/// Prints why a script was not run. What is wrong with a faulty one is printed by itself.
 fn tell_fault<F: Write>(fault: TryFault, faults: &mut F) {
     let text = match fault {
         TryFault::Script => return,

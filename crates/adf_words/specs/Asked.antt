@@ -4,13 +4,15 @@ use Rattle.std.specs.Borrow.{Bor}
 use Rattle.clap.specs.Matches.{first_value, one_text}
 use Rattle.clap.specs.declared.parser.matches.Found.{Found}
 use Rattle.adf_text.specs.ProtectWords.{protect_word}
+use Rattle.adf_words.specs.Lists.{IsFlag}
 use Rattle.adf_words.specs.When.{IsWhen}
 use Rattle.adf_words.specs.declared.boot.BootBlock.{BootBlock}
 use Rattle.adf_words.specs.declared.boot.BootBlock.TheVariants.{Empty, Standard, File}
 use Rattle.adf_words.specs.declared.job.ImageJob.{ImageJob}
-use Rattle.adf_words.specs.declared.job.ImageJob.TheVariants.{Boot, SaveBoot, ShowBoot}
+use Rattle.adf_words.specs.declared.job.ImageJob.TheVariants.{Boot, Map, SaveBoot, Show, ShowBoot, Validate}
 use Rattle.adf_words.specs.declared.change.Change.{Change}
 use Rattle.adf_words.specs.declared.change.Change.TheVariants.{Add, AddAs, Date, Protect}
+use Rattle.adf_words.specs.declared.change.Rewrite.{Rewrite}
 use Rattle.adf_words.specs.declared.change.Source.{Source}
 use Rattle.adf_words.specs.declared.change.Source.TheVariants.{File as HostFile, StandardInput}
 
@@ -33,6 +35,29 @@ IsGiven found id = (one_text found id ≢ None) × (one_text found id ≢ Some (
 abbrev pub IsLeftOut : Found → List ℕ → Type 0
 IsLeftOut found id = one_text found id ≢ Some (codes "true")
 
+-- the image to change and the file for the changed one are these arguments
+pub record IsTargetOf (found : Found) (target : Rewrite) : Type 0 where
+  pub image : first_value found (codes "IMAGE") ≡ Some target.image.now
+  pub out : first_value found (codes "out") ≡ option_map (λ word. word.now) target.out
+  pub over : (given : Bool) → IsFlag found (codes "over") given → target.over ≡ given
+
+-- `show`: the image is this argument, and the form as the option says
+abbrev pub IsShowOf : Found → ImageJob → Type 0
+IsShowOf found (Show image json) =
+    (first_value found (codes "IMAGE") ≡ Some image.now) × ((given : Bool) → IsFlag found (codes "json") given → json ≡ given)
+IsShowOf found _ = ⊥
+
+-- `map`: the image is this argument, and the form as the option says
+abbrev pub IsMapOf : Found → ImageJob → Type 0
+IsMapOf found (Map image json) =
+    (first_value found (codes "IMAGE") ≡ Some image.now) × ((given : Bool) → IsFlag found (codes "json") given → json ≡ given)
+IsMapOf found _ = ⊥
+
+-- `validate`: the image is this argument, and it is forced if the option is given
+abbrev pub IsValidateOf : Found → ImageJob → Type 0
+IsValidateOf found (Validate target force) = IsTargetOf found target × ((given : Bool) → IsFlag found (codes "force") given → force ≡ given)
+IsValidateOf found _ = ⊥
+
 -- the boot block to install: the standard one with `--install`, else the bytes of this file, or none without it
 abbrev pub IsBlockOf : Found → BootBlock → Type 0
 IsBlockOf found Standard = IsGiven found (codes "install")
@@ -44,9 +69,8 @@ abbrev pub IsBootOf : Found → ImageJob → Type 0
 IsBootOf found (ShowBoot image) = IsGiven found (codes "show") × (first_value found (codes "IMAGE") ≡ Some image.now)
 IsBootOf found (SaveBoot image file) =
     IsLeftOut found (codes "show") × (first_value found (codes "IMAGE") ≡ Some image.now) × (first_value found (codes "save") ≡ Some file.now)
-IsBootOf found (Boot image out block) =
-    IsLeftOut found (codes "show") × (first_value found (codes "save") ≡ None) × (first_value found (codes "IMAGE") ≡ Some image.now)
-    × (first_value found (codes "out") ≡ option_map (λ word. word.now) out) × IsBlockOf found block
+IsBootOf found (Boot target block) =
+    IsLeftOut found (codes "show") × (first_value found (codes "save") ≡ None) × IsTargetOf found target × IsBlockOf found block
 IsBootOf found _ = ⊥
 
 -- the file of an argument; standard input if it is `-`

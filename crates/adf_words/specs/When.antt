@@ -10,11 +10,6 @@ abbrev pub IsWhen : List ℕ → Option Date3 → Type 0
 IsWhen text (Some date) = IsWritten date text
 IsWhen text None = text ≡ codes "now"
 
--- a wrong command line is reported only if the argument is no written date
-abbrev pub TellsNoDate : List ℕ → WordsFault → Type 0
-TellsNoDate text (Usage told) = HasNoWritten text
-TellsNoDate text Memory = ⊤
-
 -- a wrong command line is reported only if the argument is neither a written date nor `now`
 abbrev pub TellsNoWhen : List ℕ → WordsFault → Type 0
 TellsNoWhen text (Usage told) = HasNoWritten text × (text ≢ codes "now")

@@ -1,9 +1,10 @@
 //! The arguments of a command, as `clap` parsed them.
 ghost use Rattle.std.specs.Prelude.{◌≡◌, Bool, IfOk, IsFalse, IsTrue, Some, option_map};
 ghost use Rattle.clap.specs.Matches.{first_value, found_of};
-ghost use Rattle.adf_words.specs.Asked.{IsGiven, IsLeftOut};
+ghost use Rattle.adf_words.specs.Asked.{IsGiven, IsLeftOut, IsTargetOf};
 ghost use Rattle.adf_words.specs.Lists.{IsFlag};
 
+use crate::change::Rewrite;
 use crate::fault::WordsFault;
 use crate::letters::letters_of;
 use clap::ArgMatches;
@@ -41,6 +42,17 @@ impl<'a> Arguments<'a, '_> {
             Some(word) => Ok(word),
             None => Err(self.missing(id)),
         }
+    }
+
+    /// The image that a command changes, and where the changed one goes.
+    pub(crate) fn target(&self) -> Result<Rewrite<'a>, WordsFault>
+        ensures { IfOk result (IsTargetOf (found_of self.now.words.now)) }
+    {
+        Ok(Rewrite {
+            image: self.word("IMAGE")?,
+            out: self.given("out"),
+            over: self.flag("over"),
+        })
     }
 
     /// The fault of a missing argument.

@@ -23,7 +23,8 @@ pub(crate) fn boot_job<'a>(arguments: &Arguments<'a, '_>) -> Result<ImageJob<'a>
     ensures { IfOk result (IsBootOf (found_of arguments.now.words.now)) }
 {
     arguments.given_moment()?;
-    let image = arguments.word("IMAGE")?;
+    let target = arguments.target()?;
+    let image = target.image;
     if arguments.flag("show") {
         return Ok(ImageJob::ShowBoot { image });
     }
@@ -31,8 +32,7 @@ pub(crate) fn boot_job<'a>(arguments: &Arguments<'a, '_>) -> Result<ImageJob<'a>
         return Ok(ImageJob::SaveBoot { image, file });
     }
     Ok(ImageJob::Boot {
-        image,
-        out: arguments.given("out"),
+        target,
         block: boot_block(arguments),
     })
 }

@@ -2,12 +2,20 @@
 
 use ados_name::Date3;
 
-/// A change of a volume, and the file for the changed image.
-#[derive(Drop)]
-pub struct ChangeJob<'a> {
+/// The image file that a command changes, and the file for the changed image.
+#[derive(Clone, Copy)]
+pub struct Rewrite<'a> {
     pub image: &'a str,
     /// The file for the changed image, in place of the image's own.
     pub out: Option<&'a str>,
+    /// Whether `out` is also written if it is a file that is no image.
+    pub over: bool,
+}
+
+/// A change of a volume, and where it is made.
+#[derive(Drop)]
+pub struct ChangeJob<'a> {
+    pub target: Rewrite<'a>,
     /// The time stamp of the change; by default the host's clock.
     pub moment: Option<Date3>,
     pub change: Change<'a>,

@@ -1,7 +1,7 @@
 //! From the arguments of a command that changes an image to its job.
 ghost use Rattle.std.specs.Prelude.{IfOk};
 ghost use Rattle.clap.specs.Matches.{found_of};
-ghost use Rattle.adf_words.specs.Asked.{IsAddAs, IsAddOf, IsDateOf, IsProtectOf, IsSource};
+ghost use Rattle.adf_words.specs.Asked.{IsAddAs, IsAddOf, IsDateOf, IsProtectOf, IsSource, IsValidateOf};
 
 use crate::arguments::Arguments;
 use crate::change::{Change, ChangeJob, Source};
@@ -16,16 +16,39 @@ pub(crate) fn change_job<'a>(
     name: &str,
     arguments: &Arguments<'a, '_>,
 ) -> Result<Option<ImageJob<'a>>, WordsFault> {
-    let image = arguments.word("IMAGE")?;
+    let target = arguments.target()?;
     let Some(change) = change_of(name, arguments)? else {
         return Ok(None);
     };
     Ok(Some(ImageJob::Change(ChangeJob {
-        image,
-        out: arguments.given("out"),
+        target,
         moment: arguments.given_moment()?,
         change,
     })))
+}
+
+/// The job of `add`: a change of the volume, or with `--bundle` a volume that a directory of the host describes. A
+/// bundle has its own dates, so a time stamp is checked and dropped.
+pub(crate) fn add_job<'a>(
+    arguments: &Arguments<'a, '_>,
+) -> Result<Option<ImageJob<'a>>, WordsFault> {
+    let Some(from) = arguments.given("bundle") else {
+        return change_job("add", arguments);
+    };
+    arguments.given_moment()?;
+    let target = arguments.target()?;
+    Ok(Some(ImageJob::AddBundle { target, from }))
+}
+
+/// The job of `validate`. Nothing there has a time stamp, so its value is checked and dropped.
+pub(crate) fn validate_job<'a>(arguments: &Arguments<'a, '_>) -> Result<ImageJob<'a>, WordsFault>
+    ensures { IfOk result (IsValidateOf (found_of arguments.now.words.now)) }
+{
+    arguments.given_moment()?;
+    Ok(ImageJob::Validate {
+        target: arguments.target()?,
+        force: arguments.flag("force"),
+    })
 }
 
 /// The change of a command; `None` for a command without one.
@@ -51,6 +74,9 @@ fn change_of<'a>(
 fn add<'a>(arguments: &Arguments<'a, '_>) -> Result<Change<'a>, WordsFault> {
     let to = letters_of(arguments.alloc, arguments.given("to").unwrap_or(""))?;
     let files = arguments.words("FILE")?;
+    if files.is_empty() {
+        return Err(arguments.missing("FILE"));
+    }
     let force = arguments.flag("force");
     match arguments.given("as") {
         Some(name) => add_as(arguments.alloc, files.as_slice(), name, to, force),

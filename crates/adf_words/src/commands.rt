@@ -3,7 +3,8 @@ use crate::table::{ArgumentRow, CHANGING, COMMANDS, CommandRow, Kind};
 use clap::{Arg, ArgAction, Command};
 use std::alloc::{AllocError, Global};
 
-/// The program with all its commands. If the first argument names a command, it has only that one, and no `help`.
+/// The program with all its commands. If the first argument names a command, it has only that one, and no `help`. If it is
+/// none and asks for no help, the commands that could take something away are left out, so no tip leads to them.
 pub(crate) fn program<'a>(alloc: Global, first: &str) -> Result<Command<'a>, AllocError> {
     program_of(alloc, first, &COMMANDS)
 }
@@ -18,11 +19,20 @@ fn program_of<'a>(
     let is_named = is_name(first, rows);
     let mut program = empty_program(alloc, is_named)?;
     for row in rows {
-        if !is_named || row.name == first {
+        if is_offered(row.name, first, is_named) {
             program = program.subcommand(command_of(alloc, row)?)?;
         }
     }
     Ok(program)
+}
+
+/// Whether the program has the command with this name, for this first argument.
+fn is_offered(name: &str, first: &str, is_named: bool) -> bool {
+    if is_named {
+        return name == first;
+    }
+    let asks_for_help = first == "help" || (first.starts_with('-') && first != "--");
+    asks_for_help || !matches!(name, "blank" | "boot" | "delete")
 }
 
 /// The program without its commands, and without `help` if a command is named.

@@ -1,25 +1,11 @@
 //! Arguments that are dates.
-ghost use Rattle.std.specs.Prelude.{◌≡◌, IfErr, IfOk};
-ghost use Rattle.adf_text.specs.Written.{IsWritten};
-ghost use Rattle.adf_words.specs.When.{IsWhen, TellsNoDate, TellsNoWhen};
+ghost use Rattle.std.specs.Prelude.{IfErr, IfOk};
+ghost use Rattle.adf_words.specs.When.{IsWhen, TellsNoWhen};
 
 use crate::fault::WordsFault;
 use adf_text::written_date;
 use ados_name::Date3;
 use std::alloc::Global;
-
-/// The date of the option `date`, where the host's clock is not read. Any other text makes the command line wrong.
-pub(crate) fn date_word(alloc: Global, word: &str) -> Result<Date3, WordsFault>
-    ensures date { IfOk result (λ date. IsWritten date word.now) }
-    ensures fault { IfErr result (TellsNoDate word.now) }
-{
-    match written_date(alloc, word.as_bytes())? {
-        Some(date) => Ok(date),
-        None => Err(WordsFault::Usage(format!(in alloc;
-            "error: invalid value '{word}' for '--date <WHEN>': a date from 1978-01-01 on is expected, as YYYY-MM-DD or 'YYYY-MM-DD HH:MM:SS.CC', where .CC, :SS and the time may be left out, and CC is even\n\nFor more information, try '--help'.\n"
-        )?)),
-    }
-}
 
 /// The moment of the argument with this name; `None` for `now`. Any other text makes the command line wrong.
 pub(crate) fn moment_word(

@@ -43,7 +43,7 @@ fn given_word<E: Env>(
         Ok(length) => Ok(Some(word_of(alloc, place, &buffer[..length])?)),
         Err(FillError::NotPresent) => Ok(None),
         Err(FillError::TooLong) => Err(WordsFault::usage(format!(in alloc;
-            "error: word {place} is too long\n\nFor more information, try '--help'.\n"
+            "error: argument {place} is too long\n\nFor more information, try '--help'.\n"
         ))),
     }
 }
@@ -58,7 +58,7 @@ pub fn word_of(alloc: Global, place: usize, bytes: &[u8]) -> Result<String, Word
         Err(_) => {
             let shown = String::from_utf8_lossy(alloc, bytes)?;
             Err(WordsFault::Usage(format!(in alloc;
-                "error: word {place}, '{}', is not UTF-8\n\nFor more information, try '--help'.\n",
+                "error: argument {place}, '{}', is not UTF-8\n\nFor more information, try '--help'.\n",
                 shown.as_str()
             )?))
         }

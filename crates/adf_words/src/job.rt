@@ -2,7 +2,7 @@
 ghost use Rattle.std.specs.Prelude.{◌<◌, length};
 
 use crate::boot::BootBlock;
-use crate::change::ChangeJob;
+use crate::change::{ChangeJob, Rewrite};
 use crate::query::{CheckJob, ExtractJob, ListJob, SalvageJob};
 use adf_block::Format;
 use ados_name::Date3;
@@ -25,9 +25,13 @@ pub enum Job<'a> {
 pub enum ImageJob<'a> {
     /// `blank`: makes a blank image of `blocks` blocks. With `letters` the letters of the name are bytes; otherwise
     /// the name has the bytes of the argument.
-    Blank { format: Format, blocks: u32, moment: Date3, name: &'a str, letters: bool, file: &'a str },
+    Blank { format: Format, blocks: u32, moment: Option<Date3>, name: &'a str, letters: bool, file: &'a str },
     /// `info`: describes the disk, and says whether it is bootable.
     Info { file: &'a str },
+    /// `show`: describes the volume for people, or with `json` as a JSON object.
+    Show { image: &'a str, json: bool },
+    /// `map`: prints a letter for each block, or with `json` a JSON object.
+    Map { image: &'a str, json: bool },
     /// `check`: checks images.
     Check(CheckJob<'a>),
     /// `list`: lists directories and files.
@@ -36,12 +40,18 @@ pub enum ImageJob<'a> {
     Extract(ExtractJob<'a>),
     /// `extract --damaged`: copies what can be trusted of a possibly damaged image.
     Salvage(SalvageJob<'a>),
+    /// `extract --bundle`: writes everything in an image to a new directory of the host.
+    ExtractBundle { image: &'a str, to: &'a str },
     /// `print`: prints the bytes of a file.
     Print { image: &'a str, path: &'a str },
     /// A command that changes the volume.
     Change(ChangeJob<'a>),
-    /// `boot`: installs a boot block, or removes it. The image goes to `out`, or to its own file.
-    Boot { image: &'a str, out: Option<&'a str>, block: BootBlock<'a> },
+    /// `add --bundle`: makes the volume that a directory of the host describes.
+    AddBundle { target: Rewrite<'a>, from: &'a str },
+    /// `validate`: writes the bitmap anew. With `force` also if something may then be lost.
+    Validate { target: Rewrite<'a>, force: bool },
+    /// `boot`: installs a boot block, or removes it.
+    Boot { target: Rewrite<'a>, block: BootBlock<'a> },
     /// `boot --save`: writes the boot block to a new file of the host.
     SaveBoot { image: &'a str, file: &'a str },
     /// `boot --show`: says what the boot block is, and prints its bytes.
@@ -60,6 +70,7 @@ pub struct ServeJob<'a> {
     pub out: Option<&'a str>,
     /// The number of tries of a client for each put and each reply.
     pub turns: u64,
-    pub moment: Date3,
+    /// The time stamp of the volume's work; `None` for that of the host's clock.
+    pub moment: Option<Date3>,
     ghost some: { 0 < length scripts.items },
 }

@@ -32,7 +32,7 @@ pub(crate) fn protection_word<'a>(alloc: Global, word: &'a str) -> Result<&'a st
     match protect_word(word.as_bytes()) {
         Some(_) => Ok(word),
         None => Err(WordsFault::Usage(format!(in alloc;
-            "error: invalid value '{word}' for '<LETTERS>': letters of 'hsparwed' are expected, each once, as rwed, ----rwed, +s, -w or =rwed\n\nFor more information, try '--help'.\n"
+            "error: invalid value '{word}' for '<LETTERS>': expected letters of hsparwed, as rwed, ----rwed, +s or -w\n\nFor more information, try '--help'.\n"
         )?)),
     }
 }

@@ -19,10 +19,10 @@ mod table;
 mod taking;
 
 pub use boot::BootBlock;
-pub use change::{Change, ChangeJob, Source};
+pub use change::{Change, ChangeJob, Rewrite, Source};
 pub use fault::WordsFault;
 pub use given::{given_words, word_of};
 pub use job::{ImageJob, Job, ServeJob};
-pub use query::{CheckJob, ExtractJob, ListForm, ListJob, SalvageJob};
+pub use query::{CheckJob, ExtractJob, ListForm, ListJob, ListOrder, SalvageJob};
 pub use reading::read_words;
 pub use refused::{Refused, error_words};

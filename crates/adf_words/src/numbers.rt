@@ -1,24 +1,24 @@
 //! Options with numbers.
 ghost use Rattle.std.specs.Prelude.{◌≤◌, IfOk, IfSome, codes};
 ghost use Rattle.clap.specs.Matches.{first_value, found_of};
-ghost use Rattle.adf_text.specs.Written.{IsWritten};
 ghost use Rattle.adf_words.specs.When.{IsWhen};
 
 use crate::arguments::Arguments;
-use crate::dates::{date_word, moment_word};
+use crate::dates::moment_word;
 use crate::fault::WordsFault;
 use crate::table::{JOBS, NumberRange, TIME_STAMP};
 use ados_name::Date3;
 use std::alloc::Global;
 
 impl Arguments<'_, '_> {
-    /// The time stamp of a command without the host's clock: its date, or else its numbers.
-    pub(crate) fn moment(&self) -> Result<Date3, WordsFault>
-        ensures { IfOk result (λ date. IfSome (first_value (found_of self.now.words.now) (codes "date")) (IsWritten date)) }
+    /// The time stamp of a command that takes 1 January 1978 by default: its date, or else its numbers; `None` for the date
+    /// `now`.
+    pub(crate) fn moment(&self) -> Result<Option<Date3>, WordsFault>
+        ensures { IfOk result (λ moment. IfSome (first_value (found_of self.now.words.now) (codes "date")) (λ text. IsWhen text moment)) }
     {
         match self.given("date") {
-            Some(word) => date_word(self.alloc, word),
-            None => self.numbered_moment(),
+            Some(word) => moment_word(self.alloc, "--date <WHEN>", word),
+            None => Ok(Some(self.numbered_moment()?)),
         }
     }
 

@@ -22,6 +22,20 @@ pub struct ListJob<'a> {
     /// The directory or file to list; by default the root.
     pub path: Option<&'a str>,
     pub form: ListForm,
+    pub order: ListOrder,
+}
+
+/// The order of the entries of each directory in a list.
+#[derive(Clone, Copy)]
+pub enum ListOrder {
+    /// As in the directory: by hash slot, and then as in the hash chain.
+    Disk,
+    /// By name, in upper case.
+    Name,
+    /// By size, the largest file first; then by name.
+    Size,
+    /// By date, the latest first; then by name.
+    Date,
 }
 
 /// The form of a list.
@@ -34,6 +48,8 @@ pub enum ListForm {
     /// For people: the same as `Letters`, with all eight protection bits and comments, and without hundredths of
     /// seconds.
     Long,
+    /// The same as `Long`, with the names of directories in bold letters, for a terminal. No option asks for it.
+    Bold,
     /// A JSON object for each entry.
     Json,
 }

@@ -3,13 +3,13 @@ ghost use Rattle.std.specs.Prelude.{◌≡◌, []};
 
 use crate::arguments::Arguments;
 use crate::boot::boot_job;
-use crate::changing::change_job;
+use crate::changing::{add_job, change_job, validate_job};
 use crate::commands::program;
 use crate::fault::WordsFault;
 use crate::job::{ImageJob, Job, ServeJob};
 use crate::letters::letters_of;
 use crate::table::{BLOCKS, TURNS};
-use crate::taking::{check_job, extract_job, list_job, print_job};
+use crate::taking::{check_job, extract_job, list_job, map_job, print_job, show_job};
 use adf_block::Format;
 use clap::Command;
 use std::alloc::Global;
@@ -66,12 +66,16 @@ fn job_of<'a>(
     let job = match name {
         "blank" => blank_job(arguments),
         "info" => info_job(arguments),
+        "show" => show_job(arguments),
+        "map" => map_job(arguments),
         "check" => check_job(arguments),
         "list" => list_job(arguments),
         "print" => print_job(arguments),
         "extract" => extract_job(arguments),
+        "validate" => validate_job(arguments),
         "boot" => boot_job(arguments),
         "serve" => serve_job(arguments),
+        "add" => return add_job(arguments),
         _ => return change_job(name, arguments),
     };
     Ok(Some(job?))

@@ -97,57 +97,58 @@ const NUMBER_OR_ZERO: Kind = Kind::Option { value: "N", default: Some("0") };
 const WHEN: Kind = Kind::Instead { value: "WHEN", excludes: &["days", "minutes", "ticks"] };
 
 #[rattlefmt::skip]
-const DATE: ArgumentRow = ArgumentRow { name: "date", kind: WHEN, help: "The moment as `YYYY-MM-DD` or `YYYY-MM-DD HH:MM[:SS[.CC]]`, in place of the numbers; `now` is not taken here" };
+const DATE: ArgumentRow = ArgumentRow { name: "date", kind: WHEN, help: "The time stamp, as `YYYY-MM-DD` or `YYYY-MM-DD HH:MM[:SS[.CC]]`, in place of the numbers. `now` is the clock (UTC)" };
 
 #[rattlefmt::skip]
-const DAYS_OR_ZERO: ArgumentRow = ArgumentRow { name: "days", kind: NUMBER_OR_ZERO, help: "Days since 1 January 1978" };
+const DAYS_OR_ZERO: ArgumentRow = ArgumentRow { name: "days", kind: NUMBER_OR_ZERO, help: "The time stamp: days since 1 January 1978" };
 
 #[rattlefmt::skip]
-const MINUTES_OR_ZERO: ArgumentRow = ArgumentRow { name: "minutes", kind: NUMBER_OR_ZERO, help: "Minutes past midnight" };
+const MINUTES_OR_ZERO: ArgumentRow = ArgumentRow { name: "minutes", kind: NUMBER_OR_ZERO, help: "The time stamp: minutes past midnight" };
 
 #[rattlefmt::skip]
-const TICKS_OR_ZERO: ArgumentRow = ArgumentRow { name: "ticks", kind: NUMBER_OR_ZERO, help: "Ticks of 1/50 second past the minute" };
+const TICKS_OR_ZERO: ArgumentRow = ArgumentRow { name: "ticks", kind: NUMBER_OR_ZERO, help: "The time stamp: fiftieths of a second past the minute" };
 
 #[rattlefmt::skip]
 const IMAGE: ArgumentRow = ArgumentRow { name: "IMAGE", kind: Kind::One, help: "The image" };
 
 #[rattlefmt::skip]
-const FORCE: ArgumentRow = ArgumentRow { name: "force", kind: FLAG, help: "Replaces files that are there" };
+const FORCE: ArgumentRow = ArgumentRow { name: "force", kind: FLAG, help: "Replaces files that already exist" };
 
 #[rattlefmt::skip]
 const ENTRY: ArgumentRow = ArgumentRow { name: "PATH", kind: Kind::One, help: "Its path, from the root" };
 
 /// The forms of protection bits.
 #[rattlefmt::skip]
-const LETTERS: &str = "Letters of `hsparwed`, in lower or upper case: those to show, and no others; with dashes for those left out, as `list` prints them, which leaves `h`, or as eight places; behind `+` those to add, behind `-` those to take away, behind `=` those to show. `-h` alone shows this help, and `-H` takes `h` away";
+const LETTERS: &str = "Letters of `hsparwed`, in lower or upper case. `rwed` and `=rwed` set these and no others, and so do the eight places `----rwed`. The seven places of `list`, as `---rwed`, leave `h`. `+s` adds letters, and `-w` removes them. `-h` shows this help, and `-H` removes `h`";
 
 #[rattlefmt::skip]
 const PROTECT_EXAMPLES: &str = "Examples:\n  adf_serve protect work.adf c/dir rwed\n  adf_serve protect work.adf c/dir --p-rwed\n  adf_serve protect work.adf s/startup-sequence -s--rw-d\n  adf_serve protect work.adf s/startup-sequence +s\n  adf_serve protect work.adf s/startup-sequence -w\n  adf_serve protect work.adf c/dir =rwed";
 
 /// The arguments of each command that changes an image.
 #[rattlefmt::skip]
-pub(crate) const CHANGING: [ArgumentRow; 6] = [
-    ArgumentRow { name: "out", kind: Kind::Option { value: "FILE", default: None }, help: "Writes the image to this file, and leaves IMAGE as it is" },
-    ArgumentRow { name: "date", kind: WHEN, help: "The moment as `YYYY-MM-DD` or `YYYY-MM-DD HH:MM[:SS[.CC]]`, in place of the numbers; or `now`, that of the clock (UTC)" },
-    ArgumentRow { name: "days", kind: NUMBER, help: "The moment: days since 1 January 1978. Without a number of it that of the clock (UTC)" },
-    ArgumentRow { name: "minutes", kind: NUMBER, help: "The moment: minutes past midnight" },
-    ArgumentRow { name: "ticks", kind: NUMBER, help: "The moment: ticks of 1/50 second past the minute" },
+pub(crate) const CHANGING: [ArgumentRow; 7] = [
+    ArgumentRow { name: "out", kind: Kind::Option { value: "FILE", default: None }, help: "Writes the changed image to this file, and leaves IMAGE as it is" },
+    ArgumentRow { name: "over", kind: FLAG, help: "Lets `--out` write over a file that is not an image" },
+    ArgumentRow { name: "date", kind: WHEN, help: "The time stamp of the change, as `YYYY-MM-DD` or `YYYY-MM-DD HH:MM[:SS[.CC]]`, in place of the numbers. `now` is the clock (UTC)" },
+    ArgumentRow { name: "days", kind: NUMBER, help: "The time stamp of the change: days since 1 January 1978. The clock (UTC) is used if no part of the time stamp is given" },
+    ArgumentRow { name: "minutes", kind: NUMBER, help: "The time stamp of the change: minutes past midnight" },
+    ArgumentRow { name: "ticks", kind: NUMBER, help: "The time stamp of the change: fiftieths of a second past the minute" },
     IMAGE,
 ];
 
 /// All commands, in the order of the help.
 #[rattlefmt::skip]
-pub(crate) const COMMANDS: [CommandRow; 16] = [
+pub(crate) const COMMANDS: [CommandRow; 19] = [
     CommandRow {
         name: "blank",
-        about: "Writes a blank image: the Old File System on a double-density floppy, if nothing else is said",
+        about: "Writes a blank image. Without options it has the Old File System and the size of a double-density floppy",
         examples: "Examples:\n  adf_serve blank --ffs Work work.adf\n  adf_serve blank --date '1990-01-01 12:00' Work work.adf",
         changes: false,
         arguments: &[
-            ArgumentRow { name: "ffs", kind: FLAG, help: "The Fast File System" },
-            ArgumentRow { name: "hd", kind: Kind::Flag { excludes: &["blocks"] }, help: "A high-density floppy, of 3,520 blocks" },
-            ArgumentRow { name: "blocks", kind: NUMBER, help: "How many blocks, from 16 to 101,602" },
-            ArgumentRow { name: "letters", kind: FLAG, help: "Takes NAME by its letters, which are those of ISO 8859-1" },
+            ArgumentRow { name: "ffs", kind: FLAG, help: "Makes the Fast File System" },
+            ArgumentRow { name: "hd", kind: Kind::Flag { excludes: &["blocks"] }, help: "Makes a high-density floppy of 3,520 blocks" },
+            ArgumentRow { name: "blocks", kind: NUMBER, help: "Makes this number of blocks, from 16 to 101,602" },
+            ArgumentRow { name: "letters", kind: FLAG, help: "Writes NAME in ISO 8859-1, the letters of an Amiga. Without it the bytes of NAME are written as they are" },
             DATE,
             DAYS_OR_ZERO,
             MINUTES_OR_ZERO,
@@ -158,34 +159,55 @@ pub(crate) const COMMANDS: [CommandRow; 16] = [
     },
     CommandRow {
         name: "info",
-        about: "Prints what DISK_INFO tells of an image, and whether it boots",
+        about: "Prints the answer of DISK_INFO for an image, and whether the image is bootable",
         examples: "Example:\n  adf_serve info work.adf",
         changes: false,
         arguments: &[ArgumentRow { name: "FILE", kind: Kind::One, help: "The image" }],
     },
     CommandRow {
+        name: "show",
+        about: "Describes a disk: its name, format and size, what is on it, its dates and its boot block",
+        examples: "Examples:\n  adf_serve show work.adf\n  adf_serve show --json work.adf",
+        changes: false,
+        arguments: &[
+            ArgumentRow { name: "json", kind: FLAG, help: "Prints a JSON object" },
+            IMAGE,
+        ],
+    },
+    CommandRow {
+        name: "map",
+        about: "Prints a letter for each block of a disk, and what the letters mean",
+        examples: "Examples:\n  adf_serve map work.adf\n  adf_serve map --json work.adf",
+        changes: false,
+        arguments: &[
+            ArgumentRow { name: "json", kind: FLAG, help: "Prints a JSON object" },
+            IMAGE,
+        ],
+    },
+    CommandRow {
         name: "check",
-        about: "Prints `ok`, or why an image is refused; of several images, and of all in a directory, a line each",
+        about: "Prints `ok`, or why an image is refused. Several images, and those of a directory, get a line each",
         examples: "Examples:\n  adf_serve check work.adf\n  adf_serve check --jobs 4 --all floppies more/work.adf",
         changes: false,
         arguments: &[
-            ArgumentRow { name: "jobs", kind: NUMBER, help: "How many images are checked at a time, as many as there are processors if left out" },
-            ArgumentRow { name: "all", kind: FLAG, help: "Prints every fault, not one alone" },
+            ArgumentRow { name: "jobs", kind: NUMBER, help: "Checks this number of images at a time. The default is the number of processors" },
+            ArgumentRow { name: "all", kind: FLAG, help: "Prints every fault of an image, and not only one" },
             ArgumentRow { name: "json", kind: FLAG, help: "Prints a JSON object for each image" },
-            ArgumentRow { name: "FILE", kind: Kind::OneOrMore, help: "An image, or a directory: its files with the endings `.adf` and `.hdf`, and those of all directories below" },
+            ArgumentRow { name: "FILE", kind: Kind::OneOrMore, help: "An image; or a directory, whose files that end in `.adf` or `.hdf` are checked, and those in all directories below it" },
         ],
     },
     CommandRow {
         name: "list",
         about: "Prints the directories and files of an image",
-        examples: "Examples:\n  adf_serve list work.adf\n  adf_serve list --letters work.adf s\n  adf_serve list --long work.adf s/startup-sequence\n  adf_serve list --json work.adf",
+        examples: "Examples:\n  adf_serve list work.adf\n  adf_serve list --letters work.adf s\n  adf_serve list --long work.adf s/startup-sequence\n  adf_serve list --long --sort size work.adf\n  adf_serve list --json work.adf",
         changes: false,
         arguments: &[
-            ArgumentRow { name: "letters", kind: Kind::Flag { excludes: &["long", "json"] }, help: "Prints names as letters, which are those of ISO 8859-1" },
-            ArgumentRow { name: "long", kind: Kind::Flag { excludes: &["json"] }, help: "Prints names as letters, all eight protection bits as `hsparwed`, and comments" },
+            ArgumentRow { name: "letters", kind: Kind::Flag { excludes: &["long", "json"] }, help: "Prints names as UTF-8. Without an option they are printed as raw bytes" },
+            ArgumentRow { name: "long", kind: Kind::Flag { excludes: &["json"] }, help: "Prints names as UTF-8, all eight protection bits as `hsparwed`, and comments" },
             ArgumentRow { name: "json", kind: FLAG, help: "Prints a JSON object for each file and directory" },
+            ArgumentRow { name: "sort", kind: Kind::Option { value: "KEY", default: None }, help: "Sorts each directory by `name`, by `size` with the largest first, by `date` with the latest first, or as on the `disk`. Without it `--long` sorts by name, and all else is as on the disk" },
             IMAGE,
-            ArgumentRow { name: "PATH", kind: Kind::Optional, help: "A directory: what is in it, and no more; or a file" },
+            ArgumentRow { name: "PATH", kind: Kind::Optional, help: "A directory, of which all entries are listed, or a file" },
         ],
     },
     CommandRow {
@@ -201,27 +223,29 @@ pub(crate) const COMMANDS: [CommandRow; 16] = [
     CommandRow {
         name: "extract",
         about: "Writes files and directories of an image as those of the host",
-        examples: "Examples:\n  adf_serve extract --to here work.adf\n  adf_serve extract --meta --to here work.adf s c/dir\n  adf_serve extract --damaged --to here work.adf",
+        examples: "Examples:\n  adf_serve extract --to here work.adf\n  adf_serve extract --meta --to here work.adf s c/dir\n  adf_serve extract --damaged --to here work.adf\n  adf_serve extract --bundle work work.adf",
         changes: false,
         arguments: &[
-            ArgumentRow { name: "to", kind: Kind::Option { value: "DIR", default: Some(".") }, help: "The directory to write to, which is made if need be" },
-            ArgumentRow { name: "meta", kind: FLAG, help: "Writes the protection, the date and the comment of each `x` to `x.uaem`" },
+            ArgumentRow { name: "to", kind: Kind::Option { value: "DIR", default: Some(".") }, help: "The directory to write to. It is made if it does not exist" },
+            ArgumentRow { name: "meta", kind: FLAG, help: "Writes the protection bits, the date and the comment of each entry `x` to a file `x.uaem`" },
             FORCE,
+            ArgumentRow { name: "bundle", kind: Kind::Instead { value: "DIR", excludes: &["to", "meta", "force", "damaged", "PATH"] }, help: "Writes everything to this new directory: the files below `DIR/files`, and in `DIR/volume.json` all else that `add --bundle` needs to make the volume again" },
             ArgumentRow { name: "damaged", kind: Kind::Flag { excludes: &["force", "PATH"] }, help: "Writes all that can be trusted of an image that may be refused, and prints a line for each file and directory" },
             IMAGE,
-            ArgumentRow { name: "PATH", kind: Kind::Any, help: "What to write, with all that is in it; without any, all that is in the image" },
+            ArgumentRow { name: "PATH", kind: Kind::Any, help: "A file, or a directory with everything in it. Without PATH everything in the image is written" },
         ],
     },
     CommandRow {
         name: "add",
-        about: "Puts files of the host, and directories with all that is in them, into an image",
-        examples: "Examples:\n  adf_serve add --to s work.adf startup-sequence\n  adf_serve add --to s --as startup-sequence work.adf startup.txt\n  date | adf_serve add --as today work.adf -",
+        about: "Adds files, and directories with everything in them, to an image",
+        examples: "Examples:\n  adf_serve add --to s work.adf startup-sequence\n  adf_serve add --to s --as startup-sequence work.adf startup.txt\n  date | adf_serve add --as today work.adf -\n  adf_serve add --bundle work new.adf",
         changes: true,
         arguments: &[
-            ArgumentRow { name: "to", kind: Kind::Option { value: "PATH", default: None }, help: "The directory to put them into, the root if left out" },
-            ArgumentRow { name: "as", kind: Kind::Option { value: "NAME", default: None }, help: "Puts one FILE, which is no directory, under this name: 1 to 30 letters without `/` and `:`. FILE may then be `-`, standard input" },
+            ArgumentRow { name: "to", kind: Kind::Option { value: "PATH", default: None }, help: "The directory of the image to add them to. The default is the root" },
+            ArgumentRow { name: "as", kind: Kind::Option { value: "NAME", default: None }, help: "Adds one file under this name, of 1 to 30 letters without `/` and `:`. FILE is then no directory, and may be `-`, which is standard input" },
+            ArgumentRow { name: "bundle", kind: Kind::Instead { value: "DIR", excludes: &["to", "as", "force", "FILE"] }, help: "Makes the volume that `extract --bundle` wrote to this directory. IMAGE is an empty volume of the same kind and size" },
             FORCE,
-            ArgumentRow { name: "FILE", kind: Kind::OneOrMore, help: "A file or directory of the host. What `x.uaem` tells of `x` is kept" },
+            ArgumentRow { name: "FILE", kind: Kind::Any, help: "A file or directory of the host. A file `x.uaem` beside `x` gives its protection bits, its date and its comment" },
         ],
     },
     CommandRow {
@@ -230,7 +254,7 @@ pub(crate) const COMMANDS: [CommandRow; 16] = [
         examples: "Examples:\n  adf_serve mkdir work.adf s c devs devs/keymaps\n  adf_serve mkdir --parents work.adf devs/printers\n  adf_serve mkdir --date 1990-01-01 work.adf libs",
         changes: true,
         arguments: &[
-            ArgumentRow { name: "parents", kind: FLAG, help: "Makes each missing directory on the way too, and leaves those that are there" },
+            ArgumentRow { name: "parents", kind: FLAG, help: "Makes each missing directory on the way too, and leaves existing directories as they are" },
             ArgumentRow { name: "PATH", kind: Kind::OneOrMore, help: "A directory to make, from the root" },
         ],
     },
@@ -240,9 +264,9 @@ pub(crate) const COMMANDS: [CommandRow; 16] = [
         examples: "Example:\n  adf_serve delete --all work.adf devs",
         changes: true,
         arguments: &[
-            ArgumentRow { name: "all", kind: FLAG, help: "Deletes a directory with all that is in it" },
-            ArgumentRow { name: "force", kind: FLAG, help: "Deletes also what is protected from it" },
-            ArgumentRow { name: "PATH", kind: Kind::OneOrMore, help: "What to delete, from the root" },
+            ArgumentRow { name: "all", kind: FLAG, help: "Deletes a directory with everything in it" },
+            ArgumentRow { name: "force", kind: FLAG, help: "Also deletes what is protected from deletion" },
+            ArgumentRow { name: "PATH", kind: Kind::OneOrMore, help: "The path of what to delete, from the root" },
         ],
     },
     CommandRow {
@@ -272,7 +296,7 @@ pub(crate) const COMMANDS: [CommandRow; 16] = [
         changes: true,
         arguments: &[
             ENTRY,
-            ArgumentRow { name: "WHEN", kind: Kind::One, help: "`YYYY-MM-DD`, `YYYY-MM-DD HH:MM[:SS[.CC]]`, or `now`, the moment of the change" },
+            ArgumentRow { name: "WHEN", kind: Kind::One, help: "`YYYY-MM-DD`, `YYYY-MM-DD HH:MM[:SS[.CC]]`, or `now`, which is the time stamp of the change" },
         ],
     },
     CommandRow {
@@ -287,38 +311,45 @@ pub(crate) const COMMANDS: [CommandRow; 16] = [
     },
     CommandRow {
         name: "relabel",
-        about: "Gives the volume another name",
+        about: "Renames the volume",
         examples: "Example:\n  adf_serve relabel work.adf Games",
         changes: true,
         arguments: &[ArgumentRow { name: "NAME", kind: Kind::One, help: "The name: 1 to 30 letters without `/` and `:`" }],
     },
     CommandRow {
+        name: "validate",
+        about: "Writes the bitmap of a disk anew, if nothing else is wrong with the disk",
+        examples: "Examples:\n  adf_serve validate work.adf\n  adf_serve validate --out mended.adf work.adf",
+        changes: true,
+        arguments: &[ArgumentRow { name: "force", kind: FLAG, help: "Also where the old bitmap blocks, or lost blocks, may hold something that can still be saved" }],
+    },
+    CommandRow {
         name: "boot",
-        about: "Installs a boot block with the right sum, takes it away, saves it or shows it",
+        about: "Installs a boot block with the right checksum, removes it, saves it or shows it",
         examples: "Examples:\n  adf_serve boot --install work.adf\n  adf_serve boot work.adf boot.bin\n  adf_serve boot --clear work.adf\n  adf_serve boot --save boot.bin work.adf\n  adf_serve boot --show work.adf",
         changes: true,
         arguments: &[
-            ArgumentRow { name: "clear", kind: Kind::Flag { excludes: &["install", "save", "show", "FILE"] }, help: "Takes the boot block away, as without FILE" },
+            ArgumentRow { name: "clear", kind: Kind::Flag { excludes: &["install", "save", "show", "FILE"] }, help: "Removes the boot block, as does `boot` without FILE" },
             ArgumentRow { name: "install", kind: Kind::Flag { excludes: &["save", "show", "FILE"] }, help: "Installs the standard boot block, which starts AmigaDOS" },
             ArgumentRow { name: "save", kind: Kind::Instead { value: "FILE", excludes: &["show", "out", "FILE"] }, help: "Writes the 1,024 bytes of the boot block to a new file, and leaves the image as it is" },
             ArgumentRow { name: "show", kind: Kind::Flag { excludes: &["out", "FILE"] }, help: "Prints what the boot block is, and its bytes" },
-            ArgumentRow { name: "FILE", kind: Kind::Optional, help: "The boot block, of at most 1,024 bytes; its first four become those of the image" },
+            ArgumentRow { name: "FILE", kind: Kind::Optional, help: "A file with the boot block, of at most 1,024 bytes. Its first four bytes become those of the image" },
         ],
     },
     CommandRow {
         name: "serve",
-        about: "Runs scripts over an image, each as a client on a thread of its own, and prints what each client was told",
+        about: "Runs scripts over an image, each as a client on its own thread, and prints the replies of each client",
         examples: "Examples:\n  adf_serve serve --out after.adf work.adf one.txt two.txt\n  adf_serve serve --date '1990-01-01 12:00' --out after.adf work.adf one.txt",
         changes: false,
         arguments: &[
             ArgumentRow { name: "out", kind: Kind::Option { value: "FILE", default: None }, help: "Writes the image to this file at the end" },
-            ArgumentRow { name: "turns", kind: Kind::Option { value: "N", default: Some("100000000") }, help: "How often a client tries to put a packet, and to take its reply" },
+            ArgumentRow { name: "turns", kind: Kind::Option { value: "N", default: Some("100000000") }, help: "How often a client tries to send a packet, and to take its reply" },
             DATE,
             DAYS_OR_ZERO,
             MINUTES_OR_ZERO,
             TICKS_OR_ZERO,
             IMAGE,
-            ArgumentRow { name: "SCRIPT", kind: Kind::OneOrMore, help: "A file of lines, one for each client" },
+            ArgumentRow { name: "SCRIPT", kind: Kind::OneOrMore, help: "A script. Each script is one client" },
         ],
     },
 ];

@@ -1,13 +1,15 @@
 //! From the arguments of a command that reads an image to its job.
-ghost use Rattle.std.specs.Prelude.{◌≡◌};
+ghost use Rattle.std.specs.Prelude.{◌≡◌, IfErr, IfOk};
 ghost use Rattle.clap.specs.Matches.{found_of};
-ghost use Rattle.adf_words.specs.Lists.{form_of, IsFormOf};
+ghost use Rattle.adf_words.specs.Asked.{IsMapOf, IsShowOf};
+ghost use Rattle.adf_words.specs.Lists.{form_of, IsFormOf, IsOrderOf, TellsNoOrder, order_word, usual_order};
 
 use crate::arguments::Arguments;
 use crate::fault::WordsFault;
 use crate::job::ImageJob;
 use crate::letters::letters_of;
-use crate::query::{CheckJob, ExtractJob, ListForm, ListJob, SalvageJob};
+use crate::query::{CheckJob, ExtractJob, ListForm, ListJob, ListOrder, SalvageJob};
+use std::alloc::Global;
 
 /// The job of `check`.
 pub(crate) fn check_job<'a>(arguments: &Arguments<'a, '_>) -> Result<ImageJob<'a>, WordsFault> {
@@ -30,11 +32,69 @@ pub(crate) fn list_job<'a>(arguments: &Arguments<'a, '_>) -> Result<ImageJob<'a>
         Some(path) => Some(letters_of(arguments.alloc, path)?),
         None => None,
     };
+    let form = list_form(arguments);
     Ok(ImageJob::List(ListJob {
         image: arguments.word("IMAGE")?,
         path,
-        form: list_form(arguments),
+        form,
+        order: list_order(arguments, form)?,
     }))
+}
+
+/// The order of a list in this form.
+fn list_order(arguments: &Arguments<'_, '_>, form: ListForm) -> Result<ListOrder, WordsFault>
+    ensures { IfOk result (IsOrderOf (found_of arguments.now.words.now) form) }
+{
+    match arguments.given("sort") {
+        Some(word) => order_of(arguments.alloc, word),
+        None => Ok(usual_order(form)),
+    }
+}
+
+/// The order without `--sort`: by name for people, else as on the disk.
+fn usual_order(form: ListForm) -> ListOrder
+    ensures { result ≡ usual_order form }
+{
+    match form {
+        ListForm::Long | ListForm::Bold => ListOrder::Name,
+        _ => ListOrder::Disk,
+    }
+}
+
+/// The order with this name. Any other text makes the command line wrong.
+fn order_of(alloc: Global, word: &str) -> Result<ListOrder, WordsFault>
+    ensures order { IfOk result (λ order. word.now ≡ order_word order) }
+    ensures fault { IfErr result (TellsNoOrder word.now) }
+{
+    match word {
+        "disk" => Ok(ListOrder::Disk),
+        "name" => Ok(ListOrder::Name),
+        "size" => Ok(ListOrder::Size),
+        "date" => Ok(ListOrder::Date),
+        _ => Err(WordsFault::Usage(format!(in alloc;
+            "error: invalid value '{word}' for '--sort <KEY>': name, size, date or disk is expected\n\nFor more information, try '--help'.\n"
+        )?)),
+    }
+}
+
+/// The job of `show`.
+pub(crate) fn show_job<'a>(arguments: &Arguments<'a, '_>) -> Result<ImageJob<'a>, WordsFault>
+    ensures { IfOk result (IsShowOf (found_of arguments.now.words.now)) }
+{
+    Ok(ImageJob::Show {
+        image: arguments.word("IMAGE")?,
+        json: arguments.flag("json"),
+    })
+}
+
+/// The job of `map`.
+pub(crate) fn map_job<'a>(arguments: &Arguments<'a, '_>) -> Result<ImageJob<'a>, WordsFault>
+    ensures { IfOk result (IsMapOf (found_of arguments.now.words.now)) }
+{
+    Ok(ImageJob::Map {
+        image: arguments.word("IMAGE")?,
+        json: arguments.flag("json"),
+    })
 }
 
 /// The form of a list, by its options.
@@ -68,6 +128,9 @@ pub(crate) fn print_job<'a>(arguments: &Arguments<'a, '_>) -> Result<ImageJob<'a
 /// The job of `extract`.
 pub(crate) fn extract_job<'a>(arguments: &Arguments<'a, '_>) -> Result<ImageJob<'a>, WordsFault> {
     let image = arguments.word("IMAGE")?;
+    if let Some(to) = arguments.given("bundle") {
+        return Ok(ImageJob::ExtractBundle { image, to });
+    }
     let (to, meta) = (arguments.given("to").unwrap_or("."), arguments.flag("meta"));
     if arguments.flag("damaged") {
         return Ok(ImageJob::Salvage(SalvageJob { image, to, meta }));

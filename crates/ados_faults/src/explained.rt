@@ -13,11 +13,13 @@ use ados_model::VolumeFault;
 use std::alloc::{AllocError, Global};
 
 /// A fault as text: the block, the path of the directory or file that it belongs to, if one is known, what was found
-/// and what is expected. `marks` are those of the walk over the image.
+/// and what would be right. `marks` are those of the walk over the image, and `seconds` its second places. Without these
+/// the text of a block that is used twice names only one of the places.
 pub fn explain(
     alloc: Global,
     image: &Image,
     marks: &[Option<Mark>],
+    seconds: &[Option<Mark>],
     fault: &VolumeFault,
 ) -> Result<String, AllocError>
     ensures { IfOk result (λ text. TellsOfBlock fault.now.block (string_bytes text)) }
@@ -29,6 +31,7 @@ pub fn explain(
     let bad = BadBlock {
         image,
         marks,
+        seconds,
         block,
     };
     let what = bad.text(alloc, fault.kind, values_of(image, marks, fault))?;

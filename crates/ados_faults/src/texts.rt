@@ -1,8 +1,10 @@
-//! What is wrong with a block, as text: what was found there, and what is expected.
+//! What is wrong with a block, as text: what was found there, and what would be right.
 ghost use Rattle.std.specs.Prelude.{◌<◌};
 ghost use Rattle.adf_block.specs.Image.{block_count};
 
 use crate::marked::{mark_at, role_at};
+use crate::places::place_text;
+use crate::same_name::same_named;
 use crate::values::FaultValues;
 use adf_block::Image;
 use adf_block::layout::*;
@@ -11,11 +13,13 @@ use ados_model::{FaultKind, Role};
 use ados_name::Name;
 use std::alloc::{AllocError, Global};
 
-/// A block of an image that shows a fault, and the marks of the walk over the image.
+/// A block of an image that shows a fault, and the places that name the blocks of the image: the first one of each
+/// block by the walk, and of some a second one.
 #[derive(Clone, Copy)]
 pub(crate) struct BadBlock<'a> {
     pub(crate) image: &'a Image,
     pub(crate) marks: &'a [Option<Mark>],
+    pub(crate) seconds: &'a [Option<Mark>],
     pub(crate) block: u32,
     ghost inside: { block < block_count image.now },
 }
@@ -39,7 +43,7 @@ impl BadBlock<'_> {
             FaultKind::BadPointer => self.pointer_text(alloc, values),
             FaultKind::BadName => name_text(alloc, values),
             FaultKind::BadComment => comment_text(alloc, values),
-            FaultKind::BadCount => self.count_text(alloc, values),
+            FaultKind::BadCount => count_text(alloc, values),
             FaultKind::BadSequence => sequence_text(alloc, values),
             _ => kind_text(alloc, kind, values),
         }
@@ -49,50 +53,38 @@ impl BadBlock<'_> {
         role_at(self.marks, self.block)
     }
 
-    /// A wrong parent, or a wrong file header in an extension block or an OFS data block.
-    fn parent_text(&self, alloc: Global, values: FaultValues) -> Result<String, AllocError> {
-        let what = match self.role() {
+    /// What the block calls the block above it.
+    fn word_for_parent(&self) -> &'static str {
+        match self.role() {
             Some(Role::Data(_) | Role::Extension(_)) => "file header",
             _ => "parent",
-        };
+        }
+    }
+
+    /// A wrong parent, or a wrong file header in an extension block or an OFS data block.
+    fn parent_text(&self, alloc: Global, values: FaultValues) -> Result<String, AllocError> {
+        let what = self.word_for_parent();
         let (found, wanted) = (values.found, values.wanted.unwrap_or(0));
-        format!(in alloc; "the {what} that it names is block {found}, and not {wanted}")
+        format!(in alloc; "its {what} is block {found}; it should be {wanted}")
     }
 
     /// A place that names a block outside the image, or a wrong link between data blocks.
     fn pointer_text(&self, alloc: Global, values: FaultValues) -> Result<String, AllocError> {
-        let (i, named) = (values.long, values.found);
-        if i == NEXT_DATA {
-            return format!(in alloc;
-                "the next data block that it names is {named}, and not the one that the file's pointers name"
-            );
-        }
-        let last = self.image.blocks() - 1;
-        format!(in alloc; "long {i} names block {named}, and not one of {BOOT_BLOCKS} to {last}")
-    }
-
-    /// A count or a size that does not match the blocks of a file.
-    fn count_text(&self, alloc: Global, values: FaultValues) -> Result<String, AllocError> {
         let found = values.found;
-        if values.long == HELD {
-            return format!(in alloc;
-                "it holds {found} bytes, and not {OFS_ROOM}, or as the last block of its file 1 to {OFS_ROOM}"
-            );
+        if values.long == NEXT_DATA {
+            let what = match self.role() {
+                Some(Role::Data(_)) => "next",
+                _ => "first",
+            };
+            let wanted = values.wanted.unwrap_or(0);
+            return format!(in alloc; "its {what} data block is {found}; it should be {wanted}");
         }
-        if values.long == FILE_SIZE {
-            return format!(in alloc;
-                "the size of the file is {found} bytes, and not what its data blocks hold"
-            );
-        }
-        if found > TABLE_LONGS {
-            return format!(in alloc; "it has {found} data pointers, and not at most {TABLE_LONGS}");
-        }
-        match values.wanted {
-            Some(wanted) => format!(in alloc;
-                "it has {found} data pointers, and not {wanted}, though an extension block follows"
-            ),
-            None => String::from_str(alloc, "it is an extension block with no data pointer"),
-        }
+        let place = place_text(alloc, self.image, self.marks, self.block, values.long)?;
+        let last = self.image.blocks() - 1;
+        format!(in alloc;
+            "its {} names block {found}; it should name one of {BOOT_BLOCKS} to {last}",
+            place.as_str()
+        )
     }
 
     /// A fault that no long of this block alone shows.
@@ -100,43 +92,73 @@ impl BadBlock<'_> {
         match kind {
             FaultKind::BlockUsedTwice => self.twice_text(alloc),
             FaultKind::WrongChain => self.chain_text(alloc),
-            FaultKind::MarkedFree => {
-                String::from_str(alloc, "it is in use, and the bitmap says that it is free")
-            }
-            FaultKind::DuplicateName => {
-                String::from_str(alloc, "another entry of its directory has the same name")
-            }
-            FaultKind::NoMemory => String::from_str(alloc, "there was no memory for the check"),
+            FaultKind::DuplicateName => self.same_name_text(alloc),
             FaultKind::BadParent => self.other_holder_text(alloc),
+            FaultKind::MarkedFree => String::from_str(
+                alloc,
+                "it is in use but marked free (adf_serve validate mends that)",
+            ),
+            FaultKind::NoMemory => String::from_str(alloc, "there was no memory for the check"),
             _ => String::from_str(
                 alloc,
-                "it is right for the first place that names it, and wrong for another",
+                "it is right where it is named first, and wrong where it is named again",
             ),
         }
     }
 
     /// A block that names one of its holders, and has another one.
     fn other_holder_text(&self, alloc: Global) -> Result<String, AllocError> {
-        let (what, named) = match self.role() {
-            Some(Role::Data(file) | Role::Extension(file)) => ("file header", file),
-            Some(Role::Entry(dir, _)) => ("parent", dir),
-            _ => ("parent", 0),
+        let named = match self.role() {
+            Some(Role::Data(holder) | Role::Extension(holder) | Role::Entry(holder, _)) => holder,
+            _ => 0,
         };
+        let (what, second) = (self.word_for_parent(), self.second_text(alloc)?);
         format!(in alloc;
-            "the {what} that it names is block {named}, and another block holds it too"
+            "its {what} is block {named}; {} names it too",
+            second.as_str()
         )
     }
 
     /// A block that two places name.
     fn twice_text(&self, alloc: Global) -> Result<String, AllocError> {
+        let second = self.second_text(alloc)?;
         match mark_at(self.marks, self.block) {
-            Some(mark) if mark.holder != 0 => {
+            Some(first) if first.holder != 0 => {
+                let first = self.holder_text(alloc, first)?;
                 format!(in alloc;
-                    "long {} of block {} names it, and so does another place",
-                    mark.long, mark.holder
+                    "it is used twice: by {} and by {}",
+                    first.as_str(),
+                    second.as_str()
                 )
             }
-            _ => String::from_str(alloc, "it is the root, and a place names it"),
+            _ => format!(in alloc; "it is the root; {} names it too", second.as_str()),
+        }
+    }
+
+    /// The second place that names the block, if one is known.
+    fn second_text(&self, alloc: Global) -> Result<String, AllocError> {
+        match mark_at(self.seconds, self.block) {
+            Some(place) => self.holder_text(alloc, place),
+            None => String::from_str(alloc, "another place"),
+        }
+    }
+
+    /// A place: its block, and the words for it there.
+    fn holder_text(&self, alloc: Global, place: Mark) -> Result<String, AllocError> {
+        let words = place_text(alloc, self.image, self.marks, place.holder, place.long)?;
+        format!(in alloc; "block {} ({})", place.holder, words.as_str())
+    }
+
+    /// An entry with the name of another one.
+    fn same_name_text(&self, alloc: Global) -> Result<String, AllocError> {
+        match same_named(self.image, self.marks, self.block) {
+            Some(other) => {
+                format!(in alloc; "block {other} of the same directory has its name too")
+            }
+            None => String::from_str(
+                alloc,
+                "another entry of the same directory has its name too",
+            ),
         }
     }
 
@@ -148,13 +170,13 @@ impl BadBlock<'_> {
         match (self.role(), name) {
             (Some(Role::Entry(_, slot)), Ok(name)) => {
                 format!(in alloc;
-                    "it stands in the chain of slot {slot}, and not in that of slot {}, which its name wants",
+                    "its hash chain is that of slot {slot}; its name belongs to slot {}",
                     name.slot()
                 )
             }
             _ => String::from_str(
                 alloc,
-                "it stands in the chain of another slot than its name wants",
+                "its hash chain is that of one slot; its name belongs to another one",
             ),
         }
     }
@@ -162,29 +184,31 @@ impl BadBlock<'_> {
 
 fn sum_text(alloc: Global, values: FaultValues) -> Result<String, AllocError> {
     let sum = values.found.wrapping_sub(values.wanted.unwrap_or(0));
-    format!(in alloc; "the longs of the block sum to {sum:08x}, and not to 0")
+    format!(in alloc; "its checksum is wrong (off by {sum:08x})")
 }
 
-/// A wrong type or hash table size.
+/// A wrong type or hash table size. Types have a sign: a file has the type -3.
 fn type_text(alloc: Global, values: FaultValues) -> Result<String, AllocError> {
-    let found = values.found;
+    let found = values.found.cast_signed();
     let Some(wanted) = values.wanted else {
         return format!(in alloc;
-            "the secondary type is {found:08x}, and not 00000002 of a directory or fffffffd of a file"
+            "its secondary type is {found}; it should be 2 (a directory) or -3 (a file)"
         );
     };
-    if values.long == PRIMARY_TYPE {
-        return format!(in alloc; "the primary type is {found}, and not {wanted}");
-    }
-    if values.long == TABLE_SIZE {
-        return format!(in alloc; "the table has {found} slots, and not {wanted}");
-    }
-    format!(in alloc; "the secondary type is {found:08x}, and not {wanted:08x}")
+    let what = match values.long {
+        PRIMARY_TYPE => "primary type",
+        TABLE_SIZE => "number of hash slots",
+        _ => "secondary type",
+    };
+    format!(in alloc;
+        "its {what} is {found}; it should be {}",
+        wanted.cast_signed()
+    )
 }
 
 fn own_key_text(alloc: Global, values: FaultValues) -> Result<String, AllocError> {
     let (found, wanted) = (values.found, values.wanted.unwrap_or(0));
-    format!(in alloc; "the number that it has as its own is {found}, and not {wanted}")
+    format!(in alloc; "its own number is {found}; it should be {wanted}")
 }
 
 /// A name without letters, with too many of them, or with a slash or a colon.
@@ -192,22 +216,55 @@ fn name_text(alloc: Global, values: FaultValues) -> Result<String, AllocError> {
     let length = (values.found >> 24) as usize;
     if values.long == NAME_BYTE / 4 && (length == 0 || length > Name::MAX_LEN) {
         return format!(in alloc;
-            "the name has {length} bytes, and not 1 to {}",
+            "its name has {length} characters; it should have 1 to {}",
             Name::MAX_LEN
         );
     }
-    String::from_str(alloc, "the name has a slash or a colon")
+    String::from_str(
+        alloc,
+        "its name has a slash or a colon; no name may have one",
+    )
 }
 
 fn comment_text(alloc: Global, values: FaultValues) -> Result<String, AllocError> {
     let length = values.found >> 24;
-    format!(in alloc; "the comment has {length} bytes, and not at most 79")
+    format!(in alloc; "its comment has {length} characters; it should have at most 79")
+}
+
+/// A count or a size that does not match the blocks of a file.
+fn count_text(alloc: Global, values: FaultValues) -> Result<String, AllocError> {
+    let found = values.found;
+    match (values.long, values.wanted) {
+        (HELD, Some(wanted)) => {
+            format!(in alloc; "it holds {found} bytes; it should hold {wanted}")
+        }
+        (HELD, None) => {
+            format!(in alloc;
+                "it holds {found} bytes; the last block of a file holds 1 to {OFS_ROOM}"
+            )
+        }
+        (FILE_SIZE, _) => {
+            format!(in alloc; "its size of {found} bytes does not match its data blocks")
+        }
+        (_, None) if found == 0 => String::from_str(
+            alloc,
+            "it is an extension block without data pointers; it should have 1 to 72",
+        ),
+        (_, Some(wanted)) if found < wanted => {
+            format!(in alloc;
+                "it has {found} data pointers; before an extension block it should have {wanted}"
+            )
+        }
+        _ => {
+            format!(in alloc; "it has {found} data pointers; it should have at most {TABLE_LONGS}")
+        }
+    }
 }
 
 /// An OFS data block with a wrong sequence number.
 fn sequence_text(alloc: Global, values: FaultValues) -> Result<String, AllocError> {
     let (found, wanted) = (values.found, values.wanted.unwrap_or(0));
-    format!(in alloc; "its place in the file says {found}, and not {wanted}")
+    format!(in alloc; "its sequence number is {found}; its place in the file is {wanted}")
 }
 
 /// Faults of the disk's kind, and links.
@@ -215,17 +272,22 @@ fn kind_text(alloc: Global, kind: FaultKind, values: FaultValues) -> Result<Stri
     let found = values.found;
     match kind {
         FaultKind::NotADosDisk => {
+            let bytes = found.to_be_bytes();
             format!(in alloc;
-                "the image begins with {found:08x}, and not with 444f53, the letters DOS"
+                "not an AmigaDOS disk: its boot block begins with {:02X} {:02X} {:02X} {:02X} (a game's own format, perhaps)",
+                bytes[0], bytes[1], bytes[2], bytes[3]
             )
         }
         FaultKind::UnsupportedKind => {
             let byte = found & 0xff;
-            format!(in alloc; "the file system is of kind {byte}, and not 0 (OFS) or 1 (FFS)")
+            format!(in alloc;
+                "its file system is DOS\\{byte}; only DOS\\0 (OFS) and DOS\\1 (FFS) are supported"
+            )
         }
         _ => {
             format!(in alloc;
-                "it is a link (secondary type {found:08x}), and not a directory or a file"
+                "it is a link (secondary type {}); only directories and files are supported",
+                found.cast_signed()
             )
         }
     }

@@ -277,7 +277,7 @@ fn one_step(alloc: Global, root: u32) -> Result<Vec<Step>, AllocError>
 }
 
 /// Whether two marks are from different places.
-fn is_other_place(first: Mark, mark: Mark) -> bool
+pub(crate) fn is_other_place(first: Mark, mark: Mark) -> bool
     ensures { IsTrue result ↔ (first.holder ≢ mark.holder) ⊎ (first.long ≢ mark.long) }
 {
     if first.holder != mark.holder {

@@ -2,12 +2,11 @@
 ghost use Rattle.std.specs.Prelude.{◌≡◌};
 
 use crate::items::{HostItem, spelled_path};
-use adf_host::ReplaceFault;
+use adf_host::{ReplaceFault, WriteReason};
 use std::alloc::{AllocError, AllocFailed, Global};
 use std::fmt::{Display, Formatter};
 use std::io::Error;
 use std::{error, fmt};
-use thiserror::Error;
 
 /// Why the items were not written, and the path.
 #[derive(Debug, Drop)]
@@ -20,7 +19,11 @@ pub struct WriteFault {
 
 impl Display for WriteFault {
     fn fmt<W: fmt::Write>(&self, f: &mut Formatter<W>) -> fmt::Result {
-        write!(f, "'{}' {}", self.path.as_str(), self.why)?;
+        if self.why.is_of_writing() {
+            write!(f, "cannot write '{}': {}", self.path.as_str(), self.why)?;
+        } else {
+            write!(f, "'{}' {}", self.path.as_str(), self.why)?;
+        }
         match self.written {
             0 => Ok(()),
             1 => write!(f, "; one file or directory was written before it"),
@@ -31,31 +34,56 @@ impl Display for WriteFault {
 
 impl error::Error for WriteFault {}
 
-/// Why something is not written.
-#[derive(Clone, Copy, Debug, Error)]
+/// Why something is not written, as the end of a sentence: `'NAME' WHY`, or `cannot write 'NAME': WHY`.
+#[derive(Clone, Copy, Debug)]
 pub enum WriteWhy {
-    #[error("is there already")]
     Exists,
-    #[error("is a symbolic link")]
     Link,
-    #[error("is a directory")]
     Directory,
-    #[error("is no directory")]
     NoDirectory,
-    #[error("is no regular file")]
     NoFile,
-    #[error("would be written twice")]
     Twice,
-    #[error("is longer than the 4,095 bytes that a path may have")]
     Long,
-    #[error("cannot be written: another directory has taken its place")]
     Moved,
-    #[error("cannot be written: {0}")]
-    Host(#[from] Error),
-    #[error("{0}")]
+    Host(Error),
     Replace(ReplaceFault),
-    #[error("cannot be written: there is not enough memory")]
     Memory,
+}
+
+impl WriteWhy {
+    /// Whether writing failed. Otherwise something is in the way.
+    fn is_of_writing(self) -> bool {
+        matches!(
+            self,
+            WriteWhy::Moved | WriteWhy::Host(_) | WriteWhy::Replace(_) | WriteWhy::Memory
+        )
+    }
+}
+
+impl Display for WriteWhy {
+    fn fmt<W: fmt::Write>(&self, f: &mut Formatter<W>) -> fmt::Result {
+        match self {
+            WriteWhy::Exists => write!(f, "is there already"),
+            WriteWhy::Link => write!(f, "is a symbolic link"),
+            WriteWhy::Directory => write!(f, "is a directory"),
+            WriteWhy::NoDirectory => write!(f, "is no directory"),
+            WriteWhy::NoFile => write!(f, "is no regular file"),
+            WriteWhy::Twice => write!(f, "would be written twice"),
+            WriteWhy::Long => write!(f, "is longer than the 4,095 bytes that a path may have"),
+            WriteWhy::Moved => write!(f, "another directory has taken its place"),
+            WriteWhy::Host(error) => write!(f, "{}", WriteReason(*error)),
+            WriteWhy::Replace(fault) => write!(f, "{fault}"),
+            WriteWhy::Memory => write!(f, "there is not enough memory"),
+        }
+    }
+}
+
+impl error::Error for WriteWhy {}
+
+impl From<Error> for WriteWhy {
+    fn from(error: Error) -> WriteWhy {
+        WriteWhy::Host(error)
+    }
 }
 
 impl From<AllocError> for WriteWhy {

@@ -12,6 +12,7 @@ mod walk;
 mod way;
 mod writing;
 
+pub use adf_host::{ReadReason, why_unreadable};
 pub use dates::{date_of_time, dates_come_back, host_time, moment_of};
 pub use faults::{WriteFault, WriteWhy};
 pub use items::{Contents, HostItem, ItemKind};

@@ -4,6 +4,7 @@ ghost use Rattle.std.specs.String.{string_cmp};
 
 use crate::dates::date_of_time;
 use crate::notes::{note_name, noted_name};
+use adf_host::ReadReason;
 use ados_name::Date3;
 use std::alloc::{AllocError, AllocFailed, Global};
 use std::fmt::{Display, Formatter};
@@ -55,32 +56,27 @@ pub struct PassedOver {
 
 impl Display for PassedOver {
     fn fmt<W: fmt::Write>(&self, f: &mut Formatter<W>) -> fmt::Result {
-        write!(
-            f,
-            "'{}' {}, and is passed over",
-            self.path.as_str(),
-            self.why
-        )
+        write!(f, "skipped '{}': {}", self.path.as_str(), self.why)
     }
 }
 
 /// Why something is skipped.
 #[derive(Clone, Copy, Debug, PartialEq, Eq, Error)]
 pub enum PassedWhy {
-    #[error("is a symbolic link to a directory")]
+    #[error("it is a symbolic link to a directory")]
     LinkToDirectory,
-    #[error("is neither a file nor a directory")]
+    #[error("it is neither a file nor a directory")]
     NeitherKind,
-    #[error("belongs to no file")]
+    #[error("it is a note of a file that is not there")]
     NoteOfNothing,
 }
 
 /// Why the walk over the host's files failed.
 #[derive(Debug, Drop, Error)]
 pub enum WalkFault {
-    #[error("'{path}' cannot be read: {error}")]
-    Read { path: String, error: Error },
-    #[error("a name in '{path}' is not UTF-8")]
+    #[error("cannot read '{path}': {reason}")]
+    Read { path: String, reason: ReadReason },
+    #[error("cannot read a file in '{path}': its name is not UTF-8")]
     Name { path: String },
     #[error("there are more files than any image holds")]
     Many,
@@ -228,7 +224,10 @@ fn look_at<R: Files>(rt: &R, alloc: Global, path: &str) -> Result<Look, WalkFaul
 fn read_fault(alloc: Global, path: &str, error: Error) -> WalkFault {
     match String::from_str(alloc, path) {
         Ok(path) if error.kind() == ErrorKind::InvalidFilename => WalkFault::Name { path },
-        Ok(path) => WalkFault::Read { path, error },
+        Ok(path) => WalkFault::Read {
+            path,
+            reason: ReadReason::from(error),
+        },
         Err(_) => WalkFault::Memory,
     }
 }

@@ -9,7 +9,9 @@ use Rattle.adf_script.specs.Text.{spaced}
 use Rattle.adf_export.specs.declared.listing.Listing.{Listing}
 use Rattle.ados_volume.specs.Located.{Located}
 use Rattle.adf_words.specs.declared.query.ListForm.{ListForm}
-use Rattle.adf_export.specs.Listing.{listing, AreEntries, IsEntry, IsLine, head, shown, to_second}
+use Rattle.adf_words.specs.declared.query.ListOrder.{ListOrder}
+use Rattle.adf_record.specs.Second.{to_second}
+use Rattle.adf_export.specs.Listing.{listing, AreEntries, IsEntry, IsLine, IsLongLine, head, shown}
 use Rattle.adf_export.specs.steps.Levels.{IsSoFar, work}
 
 -- the text of the entry with this path is appended
@@ -24,20 +26,24 @@ PushesDate old new date = (text : List ℕ) × IsTextOf date text × (new ≡ ol
 abbrev pub PushesLine : Bool → List ℕ → List ℕ → FileInfo → List ℕ → Type 0
 PushesLine as_letters old new info path = (line : List ℕ) × IsLine info (shown as_letters path) line × (new ≡ old ++ line)
 
+-- one long line is appended: that of the entry with this path
+abbrev pub PushesLong : Bool → List ℕ → List ℕ → FileInfo → List ℕ → Type 0
+PushesLong styled old new info path = (line : List ℕ) × IsLongLine styled info path line × (new ≡ old ++ line)
+
 -- a prefix of a text is written, and the rest is kept
 abbrev pub Passes : Option (List ℕ) → Option (List ℕ) → List ℕ → List ℕ → Type 0
 Passes old new text rest = Writes old new (λ written. text ≡ written ++ rest)
 
 -- the text has what stands before the entries, and no entry is listed yet
-abbrev pub Starts : Tree → ℕ → ListForm → Listing → Type 0
-Starts t dir form new =
+abbrev pub Starts : Tree → ListOrder → ℕ → ListForm → Listing → Type 0
+Starts t order dir form new =
     (new.text.items ≡ head t form)
-    × IsSoFar t dir new.levels.items new.path.items [] (listing t dir) × (work new.levels.items (listing t dir) < 2 * t.blocks)
+    × IsSoFar t order dir new.levels.items new.path.items [] (listing t order dir) × (work new.levels.items (listing t order dir) < 2 * t.blocks)
 
 -- one step goes on: some entries were listed, and less is left; or nothing was left, and nothing changes
-abbrev pub GoesOn : Tree → ℕ → ListForm → Listing → Listing → List Located → List Located → Bool → Type 0
-GoesOn t dir form old new first left true =
+abbrev pub GoesOn : Tree → ListOrder → ℕ → ListForm → Listing → Listing → List Located → List Located → Bool → Type 0
+GoesOn t order dir form old new first left true =
     (came : List Located) × (rest : List Located) × (told : List ℕ)
     × (left ≡ came ++ rest) × AreEntries t form came told × (new.text.items ≡ old.text.items ++ told)
-    × IsSoFar t dir new.levels.items new.path.items (first ++ came) rest × (work new.levels.items rest < work old.levels.items left)
-GoesOn t dir form old new first left false = (left ≡ []) × (new.text.items ≡ old.text.items)
+    × IsSoFar t order dir new.levels.items new.path.items (first ++ came) rest × (work new.levels.items rest < work old.levels.items left)
+GoesOn t order dir form old new first left false = (left ≡ []) × (new.text.items ≡ old.text.items)

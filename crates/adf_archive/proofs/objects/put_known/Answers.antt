@@ -1,8 +1,8 @@
 use Rattle.std.proofs.Common.{List, [], ◌∷◌, ◌++◌, codes, option_map}
 use Rattle.std.proofs.lemmas.Result.{on_ok_weaker}
 use Rattle.json.specs.Token.{Token, key}
-use Rattle.adf_json.specs.Members.{number_token, string_token}
-use Rattle.adf_json.proofs.Tokens.{behind}
+use Rattle.adf_record.specs.Members.{number_token, string_token}
+use Rattle.adf_record.proofs.Tokens.{behind}
 use Rattle.adf_archive.proofs.objects.put_known.Goals as goal
 
 pub returns-clause-tokens : goal.returns-clause-tokens

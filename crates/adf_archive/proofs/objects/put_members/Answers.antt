@@ -1,9 +1,9 @@
 use Rattle.std.proofs.Common.{List, [], ◌∷◌, ◌++◌, codes}
 use Rattle.std.proofs.lemmas.Result.{on_ok_weaker}
 use Rattle.json.specs.Token.{Token, boolean, key}
-use Rattle.adf_json.specs.Members.{number_token, string_token}
+use Rattle.adf_record.specs.Members.{number_token, string_token}
 use Rattle.adf_archive.specs.Objects.{contents_tokens, kind_text}
-use Rattle.adf_json.proofs.Tokens.{behind}
+use Rattle.adf_record.proofs.Tokens.{behind}
 use Rattle.adf_archive.proofs.objects.put_members.Goals as goal
 
 pub returns-clause-tokens : goal.returns-clause-tokens

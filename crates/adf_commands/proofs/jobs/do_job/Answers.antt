@@ -4,11 +4,16 @@ use Rattle.adf_commands.specs.Commands.{DoesJob}
 use Rattle.adf_commands.proofs.Printing.{PrintsNothing, blank_no_refusal, job_silent, job_silent_fault}
 use Rattle.adf_commands.proofs.jobs.do_job.Goals as goal
 
+pub returns-in_err-moment-in-Blank : goal.returns-in_err-moment-in-Blank
+returns-in_err-moment-in-Blank g c =
+    let silent = subst PrintsNothing (sym c.in-Blank.is) tt in
+    job_silent_fault c.args.job _ c.in_err-moment-in-Blank.field-0.0 _ silent c.in_err-moment-in-Blank.ensures c.from_residual.ensures.1
+
 pub returns-in_err-volume-in-Blank : goal.returns-in_err-volume-in-Blank
 returns-in_err-volume-in-Blank g c =
     let silent = subst PrintsNothing (sym c.in-Blank.is) tt in
     let plain = blank_no_refusal _ _ _ c.in_err-volume-in-Blank.field-0.0 c.in_err-volume-in-Blank.ensures in
-    job_silent_fault c.args.job _ c.in_err-volume-in-Blank.field-0.0 _ silent plain c.from_residual.ensures.1
+    job_silent_fault c.args.job _ c.in_err-volume-in-Blank.field-0.0 _ silent plain c.from_residual-in_err-volume-in-Blank.ensures.1
 
 pub returns-in_ok-volume-in-Blank : goal.returns-in_ok-volume-in-Blank
 returns-in_ok-volume-in-Blank g c =
@@ -38,3 +43,15 @@ returns-in-Salvage g c =
 pub returns-in-ShowBoot : goal.returns-in-ShowBoot
 returns-in-ShowBoot g c =
     subst (λ (job : ImageJob). DoesJob job (g.W.Write.contents c.args.writer.now) (g.W.Write.contents c.show_boot.new.writer) c.show_boot.result) (sym c.in-ShowBoot.is) c.show_boot.ensures
+
+pub returns-in-Show : goal.returns-in-Show
+returns-in-Show g c =
+    subst (λ (job : ImageJob). DoesJob job (g.W.Write.contents c.args.writer.now) (g.W.Write.contents c.show_volume.new.writer) c.show_volume.result) (sym c.in-Show.is) c.show_volume.ensures
+
+pub returns-in-Validate : goal.returns-in-Validate
+returns-in-Validate g c =
+    subst (λ (job : ImageJob). DoesJob job (g.W.Write.contents c.args.writer.now) (g.W.Write.contents c.validate_file.new.writer) c.validate_file.result) (sym c.in-Validate.is) c.validate_file.ensures
+
+pub returns-in-Map : goal.returns-in-Map
+returns-in-Map g c =
+    subst (λ (job : ImageJob). DoesJob job (g.W.Write.contents c.args.writer.now) (g.W.Write.contents c.print_map.new.writer) c.print_map.result) (sym c.in-Map.is) c.print_map.ensures

@@ -5,4 +5,4 @@ pub returns-in-Ok : goal.returns-in-Ok
 returns-in-Ok g c = print_text c.args.image _ _ c.in_ok-volume.ensures c.args.path.now _ _ c.in-Ok.ensures.ok
 
 pub returns : goal.returns
-returns g c = print_fault c.args.image _ _ c.in_ok-volume.ensures c.args.path.now _ _ c.in-Err.fault c.from.result c.in-Err.ensures.fault c.from.ensures
+returns g c = print_fault c.args.image _ _ c.in_ok-volume.ensures c.args.path.now _ _ c.in-Err.fault c.unprinted.result c.in-Err.ensures.fault c.unprinted.ensures

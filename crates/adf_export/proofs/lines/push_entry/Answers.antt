@@ -15,6 +15,10 @@ pub returns-in-Long : goal.returns-in-Long
 returns-in-Long c =
     subst (λ (f : ListForm). OnOk c.push_long.result (PushesEntry f c.args.text.now.items c.push_long.new.text.items c.args.info.now c.args.path.now)) (sym c.in-Long.is) c.push_long.ensures
 
+pub returns-in-Bold : goal.returns-in-Bold
+returns-in-Bold c =
+    subst (λ (f : ListForm). OnOk c.push_long-in-Bold.result (PushesEntry f c.args.text.now.items c.push_long-in-Bold.new.text.items c.args.info.now c.args.path.now)) (sym c.in-Bold.is) c.push_long-in-Bold.ensures
+
 pub returns-in-Json : goal.returns-in-Json
 returns-in-Json c =
     subst (λ (f : ListForm). OnOk c.push_object.result (PushesEntry f c.args.text.now.items c.push_object.new.text.items c.args.info.now c.args.path.now)) (sym c.in-Json.is) c.push_object.ensures

@@ -13,7 +13,7 @@ pub examine-info-requires : goal.examine-info-requires
 examine-info-requires c = λ t s. file_there t c.args.key (c.requires t s)
 
 pub returns : goal.returns
-returns c = λ t s.
+returns c = λ t s order.
     let key = c.args.key in
     let form = c.args.form in
     let n = file_node t key (c.requires t s) in
@@ -22,6 +22,6 @@ returns c = λ t s.
     (subst (λ (p : List ℕ). IsEntry form c.examine-info.result p told.0) (c.as_slice.ensures.value ∙ c.in_ok-path.ensures t s) told.1) in
     let alone = entry_alone t form (path_of t key) key n.0 told.0 n.1 entry in (
       told.0,
-      subst (λ (es : List Located). AreEntries t form es told.0) (sym (listed_file t key (c.requires t s))) alone,
+      subst (λ (es : List Located). AreEntries t form es told.0) (sym (listed_file t order key (c.requires t s))) alone,
       told.2 ∙ ap (λ (l : List ℕ). l ++ told.0) (c.in_ok-text.ensures t s),
     )

@@ -14,11 +14,11 @@ use Rattle.adf_export.proofs.listing.write_directory.Goals as goal
 use Rattle.adf_export.proofs.listing.write_directory.Goals.{else-loop-test, then-loop-test+in_ok-go_on+then-not-branch}
 
 pub loop-init : goal.loop-init
-loop-init g c = (c.in_ok-listing.ensures.places, λ t s. written_none t c.args.dir c.args.form _ _ (c.in_ok-listing.ensures.starts t s))
+loop-init g c = (c.in_ok-listing.ensures.keys, λ t s. written_none t c.args.order c.args.dir c.args.form _ _ (c.in_ok-listing.ensures.starts t s))
 
 pub returns-in_err-listing-clause-front : goal.returns-in_err-listing-clause-front
 returns-in_err-listing-clause-front g c =
-    let front : (t : Tree) → Stands c.args.volume.now.image t → WritesFrontOf (g.W.Write.contents c.args.writer.now) (g.W.Write.contents c.args.writer.now) (BeginsListing t (listing t c.args.dir) c.args.form) = λ t s. written_nothing t (listing t c.args.dir) c.args.form _ in
+    let front : (t : Tree) → Stands c.args.volume.now.image t → WritesFrontOf (g.W.Write.contents c.args.writer.now) (g.W.Write.contents c.args.writer.now) (BeginsListing t (listing t c.args.order c.args.dir) c.args.form) = λ t s. written_nothing t (listing t c.args.order c.args.dir) c.args.form _ in
     at_any_err _ front
 
 pub start-requires : goal.start-requires
@@ -29,42 +29,42 @@ go_on-requires g c = c.loop.invariant.0
 
 pub returns-in_err-go_on-clause-front : goal.returns-in_err-go_on-clause-front
 returns-in_err-go_on-clause-front g c =
-    let front : (t : Tree) → Stands c.args.volume.now.image t → WritesFrontOf (g.W.Write.contents c.args.writer.now) (g.W.Write.contents c.loop.writer) (BeginsListing t (listing t c.args.dir) c.args.form) = λ t s. written_so_far t c.args.dir c.args.form _ _ _ _ (c.loop.invariant.1 t s) in
+    let front : (t : Tree) → Stands c.args.volume.now.image t → WritesFrontOf (g.W.Write.contents c.args.writer.now) (g.W.Write.contents c.loop.writer) (BeginsListing t (listing t c.args.order c.args.dir) c.args.form) = λ t s. written_so_far t c.args.order c.args.dir c.args.form _ _ _ _ (c.loop.invariant.1 t s) in
     at_any_err _ front
 
 pub returns-in_err-write_when_long-clause-front : goal.returns-in_err-write_when_long-clause-front
 returns-in_err-write_when_long-clause-front g c =
-    let front : (t : Tree) → Stands c.args.volume.now.image t → WritesFrontOf (g.W.Write.contents c.args.writer.now) (g.W.Write.contents c.write_when_long.new.writer) (BeginsListing t (listing t c.args.dir) c.args.form) = λ t s.
+    let front : (t : Tree) → Stands c.args.volume.now.image t → WritesFrontOf (g.W.Write.contents c.args.writer.now) (g.W.Write.contents c.write_when_long.new.writer) (BeginsListing t (listing t c.args.order c.args.dir) c.args.form) = λ t s.
     let w = c.loop.invariant.1 t s in
-    let on = written_on t c.args.dir c.args.form _ _ c.loop.listing c.go_on.new.self c.loop.counter w
-    (went_on t c.args.dir c.args.form c.loop.listing c.go_on.new.self w.first w.left c.in_ok-go_on.field-0 c.if-not-branch.false (c.in_ok-go_on.ensures.goes t c.args.dir s w.first w.left w.so_far)) in
-    written_front t c.args.dir c.args.form _ _ _ c.go_on.new.self _ c.go_on.new.self.text.items on refl c.in_err-write_when_long.ensures.front in
+    let on = written_on t c.args.order c.args.dir c.args.form _ _ c.loop.listing c.go_on.new.self c.loop.counter w
+    (went_on t c.args.order c.args.dir c.args.form c.loop.listing c.go_on.new.self w.first w.left c.in_ok-go_on.field-0 c.if-not-branch.false (c.in_ok-go_on.ensures.goes t c.args.dir s w.first w.left w.so_far)) in
+    written_front t c.args.order c.args.dir c.args.form _ _ _ c.go_on.new.self _ c.go_on.new.self.text.items on refl c.in_err-write_when_long.ensures.front in
     at_any_err _ front
 
 pub loop-preserved : goal.loop-preserved
 loop-preserved g c = (
-  same_are c.args.volume.now.image _ _ c.write_when_long.ensures.levels c.in_ok-go_on.ensures.places,
+  same_are c.args.volume.now.image _ _ c.write_when_long.ensures.levels c.in_ok-go_on.ensures.keys,
   λ t s.
       let w = c.loop.invariant.1 t s in
-      let on = written_on t c.args.dir c.args.form _ _ c.loop.listing c.go_on.new.self c.loop.counter w
-      (went_on t c.args.dir c.args.form c.loop.listing c.go_on.new.self w.first w.left c.in_ok-go_on.field-0 c.if-not-branch.false (c.in_ok-go_on.ensures.goes t c.args.dir s w.first w.left w.so_far)) in
-      written_more t c.args.dir c.args.form _ _ _ c.go_on.new.self c.write_when_long.new.self _ on c.in_ok-write_when_long.ensures.ok c.write_when_long.ensures.levels c.write_when_long.ensures.path,
+      let on = written_on t c.args.order c.args.dir c.args.form _ _ c.loop.listing c.go_on.new.self c.loop.counter w
+      (went_on t c.args.order c.args.dir c.args.form c.loop.listing c.go_on.new.self w.first w.left c.in_ok-go_on.field-0 c.if-not-branch.false (c.in_ok-go_on.ensures.goes t c.args.dir s w.first w.left w.so_far)) in
+      written_more t c.args.order c.args.dir c.args.form _ _ _ c.go_on.new.self c.write_when_long.new.self _ on c.in_ok-write_when_long.ensures.ok c.write_when_long.ensures.levels c.write_when_long.ensures.path,
 )
 
 pub returns-clause-ok : goal.returns-clause-ok
 returns-clause-ok g c =
     let whole : Passes (g.W.Write.contents c.loop.writer) (g.W.Write.contents c.write.new.writer) c.loop-test.listing.text.items c.write.new.self.text.items → c.write.new.self.text.items ≡ []
-    → (t : Tree) → Stands c.args.volume.now.image t → Writes (g.W.Write.contents c.args.writer.now) (g.W.Write.contents c.write.new.writer) (IsListing t (listing t c.args.dir) c.args.form) =
+    → (t : Tree) → Stands c.args.volume.now.image t → Writes (g.W.Write.contents c.args.writer.now) (g.W.Write.contents c.write.new.writer) (IsListing t (listing t c.args.order c.args.dir) c.args.form) =
     λ passes end t s.
     let it = c.loop.invariant.1 t s in
     elim c.loop-test.branch [
       | else-loop-test w ↦
-          written_whole t c.args.dir c.args.form _ _ _ c.loop.listing c.loop.counter c.loop-test.listing.text.items c.write.new.self.text.items it
-          (none_in_turns t c.args.dir c.args.form _ _ c.loop.listing c.loop.counter it (omega (arith, w.loop-test.false, c.blocks-2.ensures.whole, ap length c.image.ensures.same, s.whole)))
+          written_whole t c.args.order c.args.dir c.args.form _ _ _ c.loop.listing c.loop.counter c.loop-test.listing.text.items c.write.new.self.text.items it
+          (none_in_turns t c.args.order c.args.dir c.args.form _ _ c.loop.listing c.loop.counter it (omega (arith, w.loop-test.false, c.blocks-2.ensures.whole, ap length c.image.ensures.same, s.whole)))
           (ap (λ (l : Listing). l.text.items) w.listing-is) passes end
       | then-loop-test+in_ok-go_on+then-not-branch w ↦
-          let out = went_out t c.args.dir c.args.form c.loop.listing w.go_on.new.self it.first it.left w.in_ok-go_on.field-0 w.if-not-branch.true (w.in_ok-go_on.ensures.goes t c.args.dir s it.first it.left it.so_far) in
-          written_whole t c.args.dir c.args.form _ _ _ c.loop.listing c.loop.counter c.loop-test.listing.text.items c.write.new.self.text.items it
+          let out = went_out t c.args.order c.args.dir c.args.form c.loop.listing w.go_on.new.self it.first it.left w.in_ok-go_on.field-0 w.if-not-branch.true (w.in_ok-go_on.ensures.goes t c.args.dir s it.first it.left it.so_far) in
+          written_whole t c.args.order c.args.dir c.args.form _ _ _ c.loop.listing c.loop.counter c.loop-test.listing.text.items c.write.new.self.text.items it
           out.0 (ap (λ (l : Listing). l.text.items) w.listing-is ∙ out.1) passes end
     ] in
     on_ok_both c.write.result whole c.write.ensures.ok c.write.ensures.all
@@ -72,14 +72,14 @@ returns-clause-ok g c =
 pub returns-clause-front : goal.returns-clause-front
 returns-clause-front g c =
     let front : WritesFront (g.W.Write.contents c.loop.writer) (g.W.Write.contents c.write.new.writer) c.loop-test.listing.text.items
-    → (t : Tree) → Stands c.args.volume.now.image t → WritesFrontOf (g.W.Write.contents c.args.writer.now) (g.W.Write.contents c.write.new.writer) (BeginsListing t (listing t c.args.dir) c.args.form) =
+    → (t : Tree) → Stands c.args.volume.now.image t → WritesFrontOf (g.W.Write.contents c.args.writer.now) (g.W.Write.contents c.write.new.writer) (BeginsListing t (listing t c.args.order c.args.dir) c.args.form) =
     λ taken t s.
     let it = c.loop.invariant.1 t s in
     elim c.loop-test.branch [
       | else-loop-test w ↦
-          written_front t c.args.dir c.args.form _ _ _ c.loop.listing c.loop.counter c.loop-test.listing.text.items it (ap (λ (l : Listing). l.text.items) w.listing-is) taken
+          written_front t c.args.order c.args.dir c.args.form _ _ _ c.loop.listing c.loop.counter c.loop-test.listing.text.items it (ap (λ (l : Listing). l.text.items) w.listing-is) taken
       | then-loop-test+in_ok-go_on+then-not-branch w ↦
-          let out = went_out t c.args.dir c.args.form c.loop.listing w.go_on.new.self it.first it.left w.in_ok-go_on.field-0 w.if-not-branch.true (w.in_ok-go_on.ensures.goes t c.args.dir s it.first it.left it.so_far) in
-          written_front t c.args.dir c.args.form _ _ _ c.loop.listing c.loop.counter c.loop-test.listing.text.items it (ap (λ (l : Listing). l.text.items) w.listing-is ∙ out.1) taken
+          let out = went_out t c.args.order c.args.dir c.args.form c.loop.listing w.go_on.new.self it.first it.left w.in_ok-go_on.field-0 w.if-not-branch.true (w.in_ok-go_on.ensures.goes t c.args.dir s it.first it.left it.so_far) in
+          written_front t c.args.order c.args.dir c.args.form _ _ _ c.loop.listing c.loop.counter c.loop-test.listing.text.items it (ap (λ (l : Listing). l.text.items) w.listing-is ∙ out.1) taken
     ] in
     on_err_weaker c.write.result front c.write.ensures.front

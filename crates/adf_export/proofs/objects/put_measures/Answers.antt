@@ -1,7 +1,7 @@
 use Rattle.std.proofs.Common.{◌≡◌, ℕ, List, [], ◌∷◌, ◌++◌, codes, decimal, ap, ◌∙◌}
 use Rattle.std.proofs.lemmas.Result.{on_ok_weaker}
 use Rattle.json.specs.Token.{Token, key, number, string}
-use Rattle.adf_json.proofs.Tokens.{behind}
+use Rattle.adf_record.proofs.Tokens.{behind}
 use Rattle.adf_export.specs.Objects.{type_word}
 use Rattle.adf_export.proofs.objects.put_measures.Goals as goal
 

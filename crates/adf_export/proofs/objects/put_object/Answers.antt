@@ -1,7 +1,7 @@
 use Rattle.std.proofs.Common.{◌≡◌, ℕ, List, [], ◌∷◌, ◌++◌, codes, ap, ◌∙◌}
 use Rattle.std.proofs.lemmas.Result.{on_ok_weaker}
 use Rattle.json.specs.Token.{Token, begin_object, end_object, key, string}
-use Rattle.adf_json.proofs.Tokens.{behind}
+use Rattle.adf_record.proofs.Tokens.{behind}
 use Rattle.adf_text.specs.Letters.{letters}
 use Rattle.adf_export.specs.Objects.{measures_tokens}
 use Rattle.adf_export.proofs.objects.put_object.Goals as goal

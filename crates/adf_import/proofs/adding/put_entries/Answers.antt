@@ -1,15 +1,29 @@
+use Rattle.std.proofs.Common.{sym, subst}
+use Rattle.ados_volume.specs.Shown.{Shown}
+use Rattle.adf_import.specs.Progress.{IsReady}
+use Rattle.adf_import.specs.Put.{KeepsKeys}
 use Rattle.adf_import.proofs.Keeping.{keeps_both, keeps_same}
 use Rattle.adf_import.proofs.adding.put_entries.Goals as goal
 
 pub loop-entry-init : goal.loop-entry-init
-loop-entry-init g c = record { top = c.requires; progress = c.in_ok-progress.ensures c.args.volume.now.image; keeps = keeps_same c.args.volume.now.image }
+loop-entry-init g c = record {
+  ready = record { dir = c.requires; progress = c.in_ok-progress.ensures c.args.volume.now.image };
+  keeps = keeps_same c.args.volume.now.image;
+}
+
+pub child-requires : goal.child-requires
+child-requires g c = (c.directory-dir.ensures c.loop-entry.volume.image c.loop-entry.invariant.ready).dir
+
+pub put_entry-requires : goal.put_entry-requires
+put_entry-requires g c =
+    subst (λ (v : Shown). IsReady v.image c.directory-dir.result c.loop-entry.progress) (sym c.child.ensures.same) (c.directory-dir.ensures c.loop-entry.volume.image c.loop-entry.invariant.ready)
 
 pub loop-entry-preserved : goal.loop-entry-preserved
 loop-entry-preserved g c =
-    let kept = c.in_ok-put_entry.ensures.keeps in
+    let kept : KeepsKeys c.loop-entry.volume.image c.put_entry.new.volume.image =
+    subst (λ (v : Shown). KeepsKeys v.image c.put_entry.new.volume.image) c.child.ensures.same c.in_ok-put_entry.ensures.keeps in
     record {
-      top = kept.directory c.args.top c.loop-entry.invariant.top;
-      progress = c.in_ok-put_entry.ensures.progress;
+      ready = record { dir = kept.directory c.args.top c.loop-entry.invariant.ready.dir; progress = c.in_ok-put_entry.ensures.progress };
       keeps = keeps_both c.args.volume.now.image c.loop-entry.volume.image c.put_entry.new.volume.image c.loop-entry.invariant.keeps kept;
     }
 

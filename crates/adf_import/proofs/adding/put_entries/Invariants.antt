@@ -1,12 +1,10 @@
-use Rattle.ados_model.specs.Keys.{HasDirectory}
-use Rattle.adf_import.specs.Progress.{IsProgress}
+use Rattle.adf_import.specs.Progress.{IsReady}
 use Rattle.adf_import.specs.Put.{KeepsKeys}
 use Rattle.adf_import.proofs.adding.put_entries.Given as goal
 
--- every directory and entry is still one, the top directory too, and what is to be done later is valid
+-- every directory and entry is still one, and more can be put into the top directory
 abbrev pub invariant-loop-entry : goal.invariant-loop-entry
 invariant-loop-entry g l = record {
-  top : HasDirectory l.volume.image l.fn.top;
-  progress : IsProgress l.volume.image l.progress;
+  ready : IsReady l.volume.image l.fn.top l.progress;
   keeps : KeepsKeys l.initial.volume.image l.volume.image;
 }

@@ -2,10 +2,19 @@ use Rattle.std.proofs.Common.{Bor, List, ℕ, [], ◌∷◌, map, sym, subst}
 use Rattle.std.specs.Str.{chars}
 use Rattle.ados_name.specs.declared.stamp.Date3.{Date3}
 use Rattle.adf_words.specs.declared.change.Change.{Change}
-use Rattle.adf_import.specs.Commands.{ChangesVolume, Dates, Deletes}
+use Rattle.adf_import.specs.Commands.{ChangesVolume, Dates, Deletes, MakesWith}
 use Rattle.adf_import.specs.Turns.{EndsAt, EndsInTurn, ReadsFirst}
 use Rattle.adf_import.proofs.Turning.{text_of}
 use Rattle.adf_import.proofs.change.change_entries.Goals as goal
+
+pub returns-in-MakeDirectories : goal.returns-in-MakeDirectories
+returns-in-MakeDirectories c =
+    let after = c.change_each.new.volume in
+    subst (λ (change : Change). ChangesVolume change c.args.moment c.args.volume.now after c.change_each.result) (sym c.in-MakeDirectories.is)
+    (subst
+    (λ (paths : List (Bor (List ℕ))).
+    ReadsFirst (map text_of paths) (EndsInTurn (MakesWith c.args.moment c.in-MakeDirectories.parents) (map text_of paths)) c.args.volume.now after c.change_each.result)
+    c.as_slice.ensures.value c.change_each.ensures)
 
 pub returns-in-Delete : goal.returns-in-Delete
 returns-in-Delete c =

@@ -1,29 +1,9 @@
-use Rattle.std.proofs.Common.{◌≡◌, ℕ, false, get_or, sym, ◌∙◌, arith, below_more}
-use Rattle.std.proofs.lemmas.List.Elements.{Contains-get_or}
-use Rattle.adf_import.proofs.Denying.{below_denied, denies, itself_denied, none_denied}
-use Rattle.adf_import.proofs.KeysBelow.{key_there}
+use Rattle.std.proofs.Common.{sym, ◌∙◌}
+use Rattle.adf_import.proofs.Denying.{shown_allowed, shown_denied}
 use Rattle.adf_import.proofs.prune.is_any_denied.Goals as goal
 
-pub is_denied-requires : goal.is_denied-requires
-is_denied-requires c = λ t s.
-    key_there t s.proper c.args.key c.args.below.now (c.requires.below t s) (get_or c.args.below.now c.loop-entry.entry-index 0)
-    (Contains-get_or c.args.below.now c.loop-entry.entry-index 0 (omega arith))
-
-pub returns-then-is_denied-clause-denied : goal.returns-then-is_denied-clause-denied
-returns-then-is_denied-clause-denied c = λ yes t s.
-    below_denied t s.proper c.args.key c.args.force c.args.below.now (c.requires.below t s) (get_or c.args.below.now c.loop-entry.entry-index 0)
-    (Contains-get_or c.args.below.now c.loop-entry.entry-index 0 (omega arith)) (sym (c.is_denied.ensures t s) ∙ c.if-is_denied.true)
-
-pub loop-entry-preserved : goal.loop-entry-preserved
-loop-entry-preserved c = λ t s.
-    below_more (λ (i : ℕ). denies t c.args.force (get_or c.args.below.now i 0) ≡ false) c.loop-entry.entry-index (c.loop-entry.invariant t s)
-    (sym (c.is_denied.ensures t s) ∙ c.if-is_denied.false)
-
 pub returns-clause-denied : goal.returns-clause-denied
-returns-clause-denied c = λ yes t s. itself_denied t s.proper c.args.key c.args.force c.args.below.now (c.requires.below t s) (sym (c.is_denied-2.ensures t s) ∙ yes)
+returns-clause-denied c = λ yes t s. shown_denied c.args.volume.now.image c.args.key c.args.force _ c.first_denied.ensures (sym c.is_some.ensures ∙ yes) t s
 
 pub returns-clause-allowed : goal.returns-clause-allowed
-returns-clause-allowed c = λ no t s.
-    none_denied t s.proper c.args.key c.args.force c.args.below.now (c.requires.below t s)
-    (λ i inside. c.loop-entry.invariant t s i (omega (arith, inside, c.loop-entry-test.false)))
-    (sym (c.is_denied-2.ensures t s) ∙ no)
+returns-clause-allowed c = λ no t s. shown_allowed c.args.volume.now.image c.args.key c.args.force _ c.first_denied.ensures (sym c.is_some.ensures ∙ no) t s

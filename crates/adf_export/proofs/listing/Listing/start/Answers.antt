@@ -1,5 +1,4 @@
-use Rattle.std.proofs.Common.{◌++◌, List, [], ◌∷◌, refl, ap, ◌∙◌, arith}
-use Rattle.ados_volume.proofs.Ordered.{own_place}
+use Rattle.std.proofs.Common.{◌++◌, List, [], ◌∷◌, drop, refl, ap, ◌∙◌, arith}
 use Rattle.adf_export.specs.declared.listing.Level.{Level}
 use Rattle.adf_export.proofs.Directories.{node_of, node_there}
 use Rattle.adf_export.proofs.Left.{starts}
@@ -9,16 +8,16 @@ use Rattle.adf_export.proofs.listing.Listing.start.Goals as goal
 pub front_of-requires : goal.front_of-requires
 front_of-requires c = λ t s. node_there t c.args.dir (c.requires t s)
 
-pub returns-clause-places : goal.returns-clause-places
-returns-clause-places c =
+pub returns-clause-keys : goal.returns-clause-keys
+returns-clause-keys c =
     let image = c.args.volume.now.image in
-    let level : Level = record { dir = c.args.dir; last = c.args.dir; path = c.len.result } in
-    pushed_are image _ _ level c.in_ok-push.ensures.items (none_are image _ c.new-levels.ensures.items) (c.requires, own_place image c.args.dir)
+    let level : Level = record { keys = c.in_ok-keys.keys; next = 0; path = c.len.result } in
+    pushed_are image _ _ level c.in_ok-push.ensures.items (none_are image _ c.new-levels.ensures.items) c.in_ok-keys.ensures.keys
 
 pub returns-clause-starts : goal.returns-clause-starts
 returns-clause-starts c = λ t s.
-    let level : Level = record { dir = c.args.dir; last = c.args.dir; path = c.len.result } in
+    let level : Level = record { keys = c.in_ok-keys.keys; next = 0; path = c.len.result } in
     let levels = c.in_ok-push.ensures.items ∙ ap (λ (l : List Level). l ++ level ∷ []) c.new-levels.ensures.items in
     let node = node_of t c.args.dir (c.requires t s) in
-    let begun = starts t s.proper c.args.dir node.0 level c.push.new.self.items c.in_ok-path.path.items node.1 levels (c.in_ok-path.ensures t s) refl refl (omega (arith, c.len.ensures, c.in_ok-path.path.ok.0)) in
+    let begun = starts t c.args.order s.proper c.args.dir node.0 level c.push.new.self.items c.in_ok-path.path.items node.1 levels (c.in_ok-path.ensures t s) (c.in_ok-keys.ensures.order t s) (omega (arith, c.len.ensures, c.in_ok-path.path.ok.0)) in
     (c.in_ok-text.ensures t s, begun.0, begun.1)

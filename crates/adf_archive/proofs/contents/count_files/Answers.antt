@@ -1,7 +1,0 @@
-use Rattle.std.proofs.Common.{ap, ◌∙◌, arith}
-use Rattle.std.proofs.lemmas.List.{take_all}
-use Rattle.adf_archive.specs.Report.{file_count}
-use Rattle.adf_archive.proofs.contents.count_files.Goals as goal
-
-pub returns-clause-count : goal.returns-clause-count
-returns-clause-count c = λ t s. c.loop-entry.invariant.1 t s ∙ ap (file_count t) (take_all c.loop-entry.entry-index c.args.below.now (omega arith))

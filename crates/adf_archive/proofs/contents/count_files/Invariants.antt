@@ -1,9 +1,0 @@
-use Rattle.std.proofs.Common.{◌≡◌, ◌≤◌, take}
-use Rattle.ados_model.specs.Tree.{Tree}
-use Rattle.ados_model.specs.Stands.{Stands}
-use Rattle.adf_archive.specs.Report.{file_count}
-use Rattle.adf_archive.proofs.contents.count_files.Given as goal
-
--- the number of files among the entries before this one
-abbrev pub invariant-loop-entry : goal.invariant-loop-entry
-invariant-loop-entry l = (l.files ≤ l.entry-index) × ((t : Tree) → Stands l.volume.image t → l.files ≡ file_count t (take l.entry-index l.below))

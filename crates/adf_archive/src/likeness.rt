@@ -1,0 +1,78 @@
+//! What a file that is no image looks like.
+ghost use Rattle.std.specs.Prelude.{◌<◌, MatchOption};
+ghost use Rattle.adf_block.specs.Image.{block_count};
+ghost use Rattle.adf_archive.specs.Likeness.{BeginsAs};
+ghost use Rattle.adf_archive.specs.declared.likeness.Likeness.{Likeness};
+
+use adf_block::Image;
+use adf_block::layout::{
+    BOOT_BLOCKS, HEADER_TYPE, PRIMARY_TYPE, ROOT_TYPE, SECONDARY_TYPE, TABLE_LONGS, TABLE_SIZE,
+};
+use thiserror::Error;
+
+/// A kind of file that is met under the name of an image.
+#[derive(Clone, Copy, Debug, PartialEq, Eq, Error)]
+pub enum Likeness {
+    #[error("it looks like a gzip file, which has to be unpacked first")]
+    Gzip,
+    #[error("it looks like a ZIP file, which has to be unpacked first")]
+    Zip,
+    #[error("it looks like a DMS file, which has to be unpacked first")]
+    Dms,
+    #[error("it looks like an IPF file, which has the tracks of a disk and not its blocks")]
+    Ipf,
+}
+
+/// What a file with these first bytes looks like.
+pub fn likeness_of(front: &[u8]) -> Option<Likeness>
+    ensures { MatchOption result ((likeness : Likeness) → ¬ BeginsAs likeness front.now) (λ likeness. BeginsAs likeness front.now) }
+{
+    if front.starts_with(b"\x1f\x8b") {
+        return Some(Likeness::Gzip);
+    }
+    if front.starts_with(b"PK\x03\x04") {
+        return Some(Likeness::Zip);
+    }
+    if front.starts_with(b"DMS!") {
+        return Some(Likeness::Dms);
+    }
+    if front.starts_with(b"CAPS") {
+        return Some(Likeness::Ipf);
+    }
+    None
+}
+
+/// The byte that all these bytes are, if they are one.
+pub(crate) fn filling(bytes: &[u8]) -> Option<u8> {
+    let first = *bytes.first()?;
+    for byte in bytes {
+        if *byte != first {
+            return None;
+        }
+    }
+    Some(first)
+}
+
+/// The first block that looks like a root, if the block where an image of this size has its root does not.
+pub(crate) fn other_root(image: &Image) -> Option<u32> {
+    prove!(image.blocks() >= 16);
+    if looks_like_root(image, image.root()) {
+        return None;
+    }
+    for block in BOOT_BLOCKS..image.blocks() {
+        if looks_like_root(image, block) {
+            return Some(block);
+        }
+    }
+    None
+}
+
+/// Whether a block has the types, the table size and the checksum of a root.
+fn looks_like_root(image: &Image, block: u32) -> bool
+    requires { block < block_count image.now }
+{
+    image.long(block, PRIMARY_TYPE) == HEADER_TYPE
+        && image.long(block, SECONDARY_TYPE) == ROOT_TYPE
+        && image.long(block, TABLE_SIZE) == TABLE_LONGS
+        && image.sum(block) == 0
+}

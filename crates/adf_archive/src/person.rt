@@ -1,0 +1,229 @@
+//! What a person is told of images beside the reports.
+use crate::finding::Remark;
+use crate::likeness::{filling, likeness_of, other_root};
+use crate::reading::ReadImages;
+use crate::report::{ImageReport, RefusedImage, WhyNot};
+use adf_block::{Image, SizeFault};
+use adf_host::why_unreadable;
+use adf_io::read_some;
+use adf_record::Grouped;
+use adf_text::print_line;
+use ados_model::FaultKind;
+use std::alloc::Global;
+use std::fmt::{Display, Formatter};
+use std::io::Write;
+use std::rt::Files;
+use std::{fmt, fs};
+
+/// How a person is told of images.
+#[derive(Clone, Copy)]
+pub(crate) struct Manner {
+    /// Each line begins with the path.
+    pub(crate) paths: bool,
+    /// What explains the faults is told too; otherwise only which images were not checked.
+    pub(crate) texts: bool,
+}
+
+/// Prints what a search for images found beside them.
+pub(crate) fn tell_remarks<F: Write>(remarks: &[Remark], faults: &mut F) {
+    for remark in remarks {
+        print_line(faults, format_args!("adf_serve: {remark}"));
+    }
+}
+
+/// Prints which of these images were not checked and why, and what explains the faults of the others. `paths` are
+/// theirs, in order.
+pub(crate) fn tell_person<R: Files + ReadImages, F: Write>(
+    rt: &R,
+    alloc: Global,
+    paths: &[String],
+    reports: &[ImageReport],
+    manner: Manner,
+    faults: &mut F,
+) {
+    for (path, report) in paths.iter().zip(reports) {
+        tell_report(rt, alloc, path.as_str(), report, manner, faults);
+    }
+}
+
+/// Prints what is told of an image.
+fn tell_report<R: Files + ReadImages, F: Write>(
+    rt: &R,
+    alloc: Global,
+    path: &str,
+    report: &ImageReport,
+    manner: Manner,
+    faults: &mut F,
+) {
+    match report {
+        ImageReport::NotChecked(why) => tell_unread(rt, path, *why, faults),
+        ImageReport::WrongSize(fault) if manner.texts => {
+            tell_size(rt, path, *fault, manner, faults);
+        }
+        ImageReport::Refused(told) if manner.texts => {
+            tell_refused(rt, alloc, path, told, manner, faults);
+        }
+        _ => {}
+    }
+}
+
+/// Prints why an image was not checked.
+fn tell_unread<R: Files, F: Write>(rt: &R, path: &str, why: WhyNot, faults: &mut F) {
+    match why {
+        WhyNot::Read => {
+            let reason = why_unreadable(rt, path);
+            print_line(
+                faults,
+                format_args!("adf_serve: cannot read '{path}': {reason}"),
+            );
+        }
+        WhyNot::Name => {
+            print_line(
+                faults,
+                format_args!("adf_serve: cannot read '{path}': name is not UTF-8"),
+            );
+        }
+        WhyNot::Memory | WhyNot::Endless => {
+            print_line(faults, format_args!("adf_serve: '{path}' {why}"));
+        }
+    }
+}
+
+/// The text for a length that no image has.
+#[derive(Clone, Copy)]
+struct WrongLength {
+    fault: SizeFault,
+    /// The length, if it is known.
+    length: Option<u64>,
+}
+
+impl Display for WrongLength {
+    fn fmt<W: fmt::Write>(&self, f: &mut Formatter<W>) -> fmt::Result {
+        match self.length {
+            Some(length) => write!(f, "{} bytes ", Grouped(length))?,
+            None => f.write_str("its bytes ")?,
+        }
+        f.write_str(match self.fault {
+            SizeFault::NotWholeBlocks => {
+                "are no whole number of blocks: cut short, or not an ADF file"
+            }
+            SizeFault::TooFewBlocks => {
+                "are too few for a volume, which has 16 to 101,602 blocks of 512 bytes"
+            }
+            SizeFault::TooManyBlocks => {
+                "are too many for a volume, which has 16 to 101,602 blocks of 512 bytes"
+            }
+        })
+    }
+}
+
+/// Prints what explains a wrong size, and what the file looks like.
+pub(crate) fn tell_size<R: Files, F: Write>(
+    rt: &R,
+    path: &str,
+    fault: SizeFault,
+    manner: Manner,
+    faults: &mut F,
+) {
+    let length = regular_length(rt, path);
+    tell(path, manner, WrongLength { fault, length }, faults);
+    if length.is_none() {
+        return;
+    }
+    let mut front = [0; 4];
+    let Ok(mut file) = fs::open(rt, path) else {
+        return;
+    };
+    let Ok(count) = read_some(&mut file, &mut front) else {
+        return;
+    };
+    if let Some(likeness) = likeness_of(&front[..count]) {
+        tell(path, manner, likeness, faults);
+    }
+}
+
+/// The length of a regular file. Anything else, as a pipe, may be read only once.
+pub(crate) fn regular_length<R: Files>(rt: &R, path: &str) -> Option<u64> {
+    match fs::metadata(rt, path) {
+        Ok(found) if found.is_file() => Some(found.len()),
+        _ => None,
+    }
+}
+
+/// Prints what explains the faults of an image, and what the file looks like.
+fn tell_refused<R: Files + ReadImages, F: Write>(
+    rt: &R,
+    alloc: Global,
+    path: &str,
+    told: &RefusedImage,
+    manner: Manner,
+    faults: &mut F,
+) {
+    for shown in told.faults.iter() {
+        if let Some(text) = &shown.text {
+            tell(path, manner, text.as_str(), faults);
+        }
+    }
+    tell_other(rt, alloc, path, told, manner, faults);
+}
+
+/// Prints what a refused image looks like, if there is no disk of DOS, or no root where it should be. For that a regular file is
+/// read once more.
+pub(crate) fn tell_other<R: Files + ReadImages, F: Write>(
+    rt: &R,
+    alloc: Global,
+    path: &str,
+    told: &RefusedImage,
+    manner: Manner,
+    faults: &mut F,
+) {
+    if !may_be_other(told) || regular_length(rt, path).is_none() {
+        return;
+    }
+    if let Ok(image) = rt.read_image(alloc, path) {
+        tell_looks(path, &image, manner, faults);
+    }
+}
+
+/// Whether the file may be no image, or one of another size: there is no disk of DOS, or no root where it should be.
+fn may_be_other(told: &RefusedImage) -> bool {
+    for shown in told.faults.iter() {
+        let fault = shown.fault;
+        let is_root = fault.block == told.blocks.div_ceil(2);
+        if fault.kind == FaultKind::NotADosDisk || (is_root && fault.kind == FaultKind::BadType) {
+            return true;
+        }
+    }
+    false
+}
+
+/// Prints what a refused image looks like.
+fn tell_looks<F: Write>(path: &str, image: &Image, manner: Manner, faults: &mut F) {
+    let bytes = image.as_bytes();
+    if let Some(likeness) = likeness_of(bytes) {
+        tell(path, manner, likeness, faults);
+    }
+    if let Some(byte) = filling(bytes) {
+        let text = format_args!("each of its bytes is {byte:02X}: nothing was written or read");
+        tell(path, manner, text, faults);
+    }
+    if let Some(root) = other_root(image) {
+        let root = u64::from(root);
+        let text = format_args!(
+            "the root at block {} fits {} blocks; the file has {}",
+            Grouped(root),
+            Grouped(2 * root),
+            Grouped(u64::from(image.blocks()))
+        );
+        tell(path, manner, text, faults);
+    }
+}
+
+/// Prints a text on an image, with its path if it is one of several.
+fn tell<F: Write, T: Display + Drop>(path: &str, manner: Manner, text: T, faults: &mut F) {
+    if manner.paths {
+        print_line(faults, format_args!("{path}: {text}"));
+    } else {
+        print_line(faults, text);
+    }
+}

@@ -1,0 +1,99 @@
+//! What is printed of a refused image.
+use crate::checking::{Detail, report_file};
+use crate::person::{Manner, regular_length, tell_other, tell_size};
+use crate::reading::ReadImages;
+use crate::report::{ImageReport, RefusedImage};
+use crate::words::kind_word;
+use adf_block::BootKind;
+use adf_record::size_words;
+use adf_text::print_line;
+use std::alloc::Global;
+use std::io::Write;
+use std::rt::Files;
+
+/// A person is told of one image alone.
+const ALONE: Manner = Manner {
+    paths: false,
+    texts: true,
+};
+
+/// What is reported of the image: its first fault, with the text that explains it.
+const FIRST_FAULT: Detail = Detail {
+    all: false,
+    contents: false,
+    texts: true,
+};
+
+/// Each fault, with its text.
+const EACH_FAULT: Detail = Detail {
+    all: true,
+    contents: false,
+    texts: true,
+};
+
+/// Prints why the image of a file is refused with this word and this block: its format and its size, the text that explains the
+/// fault, and what the file looks like. For that the file is read once more. Nothing is printed of what is no regular file,
+/// because it may be read only once.
+pub fn explain_refused<R: Files + ReadImages, F: Write>(
+    rt: &R,
+    alloc: Global,
+    path: &str,
+    kind: &str,
+    block: u32,
+    faults: &mut F,
+) {
+    if regular_length(rt, path).is_none() {
+        return;
+    }
+    match report_file(rt, alloc, path, true, FIRST_FAULT) {
+        ImageReport::Refused(told) => {
+            tell_size_of(alloc, &told, faults);
+            if !tell_fault(&told, kind, block, faults) {
+                tell_later_fault(rt, alloc, path, kind, block, faults);
+            }
+            tell_other(rt, alloc, path, &told, ALONE, faults);
+        }
+        ImageReport::WrongSize(fault) => tell_size(rt, path, fault, ALONE, faults),
+        _ => {}
+    }
+}
+
+/// Prints the text of a fault that is not the first one of the image.
+fn tell_later_fault<R: ReadImages, F: Write>(
+    rt: &R,
+    alloc: Global,
+    path: &str,
+    kind: &str,
+    block: u32,
+    faults: &mut F,
+) {
+    if let ImageReport::Refused(told) = report_file(rt, alloc, path, true, EACH_FAULT) {
+        tell_fault(&told, kind, block, faults);
+    }
+}
+
+/// Prints the text of the reported fault with this word and this block. Returns whether there is one.
+fn tell_fault<F: Write>(told: &RefusedImage, kind: &str, block: u32, faults: &mut F) -> bool {
+    for shown in told.faults.iter() {
+        if shown.fault.block == block && kind_word(shown.fault.kind) == kind {
+            if let Some(text) = &shown.text {
+                print_line(faults, format_args!("{}", text.as_str()));
+            }
+            return true;
+        }
+    }
+    false
+}
+
+/// Prints the format of an image, the density of a floppy and the number of blocks.
+fn tell_size_of<F: Write>(alloc: Global, told: &RefusedImage, faults: &mut F) {
+    if let Ok(size) = size_words(alloc, told.blocks) {
+        let size = size.as_str();
+        match told.kind {
+            BootKind::Ofs => print_line(faults, format_args!("OFS{size}")),
+            BootKind::Ffs => print_line(faults, format_args!("FFS{size}")),
+            BootKind::OtherDos(last) => print_line(faults, format_args!("DOS\\{last}{size}")),
+            BootKind::NotDos => print_line(faults, format_args!("no AmigaDOS format{size}")),
+        };
+    }
+}

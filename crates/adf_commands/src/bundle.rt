@@ -1,0 +1,42 @@
+//! The commands that write a volume to a directory of the host, and make it again.
+
+use crate::fault::CommandFault;
+use crate::images::{Work, accept, open_volume};
+use adf_export::extract_bundle;
+use adf_import::add_bundle;
+use adf_words::Rewrite;
+use std::alloc::Global;
+use std::fs::File;
+use std::rt::{Clock, Files};
+
+/// Writes everything in an image file to a new directory of the host.
+pub(crate) fn take_bundle<'a, R: Files<File = File>>(
+    rt: &R,
+    alloc: Global,
+    image: &'a str,
+    to: &'a str,
+) -> Result<(), CommandFault<'a>> {
+    let mut volume = open_volume(rt, alloc, image)?;
+    match extract_bundle(rt, alloc, &mut volume, to) {
+        Ok(()) => Ok(()),
+        Err(fault) => Err(CommandFault::from(fault)),
+    }
+}
+
+/// Makes the volume that a directory of the host describes, in place of the empty volume of an image file.
+pub(crate) fn put_bundle<'a, R: Files<File = File> + Clock>(
+    rt: &R,
+    alloc: Global,
+    target: Rewrite<'a>,
+    from: &'a str,
+) -> Result<(), CommandFault<'a>> {
+    let file = target.image;
+    let mut work = Work::begin(rt, target)?;
+    let image = work.read(alloc)?;
+    let old = accept(alloc, image)?;
+    let volume = match add_bundle(rt, alloc, &old, from) {
+        Ok(volume) => volume,
+        Err(fault) => return Err(CommandFault::of_bundle(fault, file)),
+    };
+    work.end(rt, alloc, volume.image())
+}

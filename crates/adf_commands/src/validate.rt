@@ -1,0 +1,70 @@
+//! The command `validate`.
+ghost use Rattle.std.specs.Prelude.{ℕ, Bool, List, MatchResult};
+ghost use Rattle.adf_commands.specs.Commands.{TellsOf, TellsSome};
+ghost use Rattle.adf_commands.specs.Faults.{IsRefusedAs};
+ghost use Rattle.adf_commands.specs.Texts.{IsCountText};
+ghost use Rattle.ados_mend.specs.Answer.{IsNew, IsReason};
+
+use crate::fault::CommandFault;
+use crate::images::Work;
+use crate::output::tell;
+use adf_block::Image;
+use adf_words::Rewrite;
+use ados_mend::{NotValidated, Validated, validate};
+use std::alloc::Global;
+use std::fs::File;
+use std::io::Write;
+use std::rt::{Clock, Files};
+
+/// Writes the bitmap of an image file anew. It then prints how many bits changed.
+pub(crate) fn validate_file<'a, R: Files<File = File> + Clock, W: Write>(
+    rt: &R,
+    alloc: Global,
+    target: Rewrite<'a>,
+    force: bool,
+    writer: &mut W,
+) -> Result<(), CommandFault<'a>>
+    ensures { TellsSome IsCountText IsCountText (W.contents writer.old) (W.contents writer.new) result }
+{
+    let mut work = Work::begin(rt, target)?;
+    let image = work.read(alloc)?;
+    write_anew(rt, alloc, work, &image, force, writer)
+}
+
+/// Writes an image with a new bitmap, and prints how many bits changed.
+fn write_anew<'a, R: Files<File = File>, W: Write>(
+    rt: &R,
+    alloc: Global,
+    work: Work<'a>,
+    image: &Image,
+    force: bool,
+    writer: &mut W,
+) -> Result<(), CommandFault<'a>>
+    ensures { TellsOf IsCountText IsCountText image.now (W.contents writer.old) (W.contents writer.new) result }
+{
+    let validated = anew(alloc, image, force)?;
+    let line = validated.line(alloc)?;
+    work.end(rt, alloc, &validated.image)?;
+    tell(writer, line.as_bytes())
+}
+
+/// The image with a new bitmap.
+fn anew<'a>(alloc: Global, image: &Image, force: bool) -> Result<Validated, CommandFault<'a>>
+    ensures { MatchResult result (IsNew image.now force) (IsRefusedAs image.now) }
+{
+    match validate(alloc, image, force) {
+        Ok(validated) => Ok(validated),
+        Err(why) => Err(bitmap_fault(why)),
+    }
+}
+
+/// Why no bitmap is written, as the fault of a command.
+fn bitmap_fault<'a>(why: NotValidated) -> CommandFault<'a>
+    ensures { (image : List ℕ) (force : Bool) → IsReason image force why → IsRefusedAs image result }
+{
+    match why {
+        NotValidated::OtherFault(fault) => CommandFault::from(fault),
+        NotValidated::Memory => CommandFault::Memory,
+        _ => CommandFault::Bitmap(why),
+    }
+}

@@ -1,0 +1,12 @@
+use Rattle.std.proofs.Common.{◌-◌, vec_len}
+use Rattle.adf_block.specs.Image.{block_count}
+use Rattle.ados_model.specs.Tree.{Tree}
+use Rattle.ados_model.specs.Stands.{Stands}
+use Rattle.ados_volume.proofs.DirectoryKeys.{IsListed}
+use Rattle.adf_export.proofs.order.keys_in.Given as goal
+
+abbrev pub invariant-loop-key : goal.invariant-loop-key
+invariant-loop-key l = (t : Tree) → Stands l.volume.image t → IsListed t l.dir l.last l.keys.items
+
+abbrev pub decreases-loop-key : goal.decreases-loop-key
+decreases-loop-key l = block_count l.volume.image - vec_len l.keys

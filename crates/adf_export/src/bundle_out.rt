@@ -1,0 +1,106 @@
+//! A volume written to a directory of the host, from which it can be made again.
+ghost use Rattle.std.specs.Prelude.{◌≡◌};
+
+use crate::bundle_items::{BundleBytes, bundle_items};
+use crate::bytes::VolumeBytes;
+use crate::entry::Outgoing;
+use crate::items::outgoing;
+use adf_host::OwnedFile;
+use adf_record::{Bundle, BundleFault, bundle_of, bundle_text};
+use ados_volume::Volume;
+use host_trees::{WriteFault, write_tree};
+use std::alloc::{AllocError, AllocFailed, Global};
+use std::fs;
+use std::io::{Error, ErrorKind};
+use std::rt::Files;
+use thiserror::Error;
+
+/// Why a bundle was not written.
+#[derive(Debug, Drop, Error)]
+pub enum BundleOutFault {
+    #[error("{0}")]
+    Host(WriteFault),
+    /// There is something in the directory.
+    #[error("'{0}' is not empty")]
+    Full(String),
+    /// The directory cannot be read.
+    #[error("cannot read '{path}': {error}")]
+    Read { path: String, error: Error },
+    /// The volume has no description.
+    #[error("the description of the volume {0}")]
+    Description(BundleFault),
+    #[error("there is not enough memory")]
+    Memory,
+}
+
+impl<T: Drop> From<AllocFailed<T>> for BundleOutFault {
+    fn from(_error: AllocFailed<T>) -> BundleOutFault {
+        BundleOutFault::Memory
+    }
+}
+
+impl From<AllocError> for BundleOutFault {
+    fn from(_error: AllocError) -> BundleOutFault {
+        BundleOutFault::Memory
+    }
+}
+
+/// Writes everything in a volume to a directory of the host, which is new or empty: all entries below `files`, as `extract`
+/// writes them, and then the text of the volume's bundle in `volume.json`.
+///
+/// It refuses before anything is written, as `extract` does. The volume does not change.
+pub fn extract_bundle<R: Files>(
+    rt: &R,
+    alloc: Global,
+    volume: &mut Volume,
+    to: &str,
+) -> Result<(), BundleOutFault>
+where
+    R::File: OwnedFile,
+    ensures same { volume.new ≡ volume.old }
+{
+    refuse_full(rt, alloc, to)?;
+    let bundle = bundle_of(alloc, volume)?;
+    let description = described(alloc, &bundle)?;
+    let Ok(Outgoing { items, sources }) = outgoing(alloc, volume, &[], false) else {
+        return Err(BundleOutFault::Memory);
+    };
+    let items = bundle_items(alloc, items, bundle.head.root_date, bundle.head.changed)?;
+    let mut bytes = BundleBytes {
+        files: VolumeBytes::of(volume, &sources),
+        description: &description,
+        last: items.len().saturating_sub(1),
+    };
+    match write_tree(rt, alloc, to, &items, &mut bytes, false) {
+        Ok(()) => Ok(()),
+        Err(fault) => Err(BundleOutFault::Host(fault)),
+    }
+}
+
+/// Refuses a directory that has something in it, and anything that is no directory. It may be missing.
+fn refuse_full<R: Files>(rt: &R, alloc: Global, directory: &str) -> Result<(), BundleOutFault> {
+    match has_some(rt, alloc, directory) {
+        Ok(false) => Ok(()),
+        Ok(true) => Err(BundleOutFault::Full(String::from_str(alloc, directory)?)),
+        Err(error) if error.kind() == ErrorKind::NotFound => Ok(()),
+        Err(error) => Err(BundleOutFault::Read {
+            path: String::from_str(alloc, directory)?,
+            error,
+        }),
+    }
+}
+
+/// Whether a directory has something in it.
+fn has_some<R: Files>(rt: &R, alloc: Global, directory: &str) -> Result<bool, Error> {
+    let mut names = fs::read_dir(&(rt, alloc), directory)?;
+    Ok(names.next().is_some())
+}
+
+/// The text of a bundle.
+fn described(alloc: Global, bundle: &Bundle) -> Result<Vec<u8>, BundleOutFault> {
+    match bundle_text(alloc, bundle) {
+        Ok(text) => Ok(text),
+        Err(fault) if fault.is_memory() => Err(BundleOutFault::Memory),
+        Err(fault) => Err(BundleOutFault::Description(fault)),
+    }
+}

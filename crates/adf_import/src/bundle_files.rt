@@ -1,0 +1,167 @@
+//! The files of a bundle on the host.
+
+use crate::bundle_fault::BundleInFault;
+use crate::fault::InFault;
+use crate::host_files::{read_host, unread};
+use adf_block::layout::BLOCK_BYTES;
+use adf_record::{Bundle, BundleEntry};
+use adf_text::host_name;
+use ados_name::Name;
+use std::alloc::{AllocError, Global};
+use std::fs;
+use std::rt::Files;
+
+/// The bytes of each entry of a bundle, from below `files` in a directory of the host. A directory has none.
+///
+/// A file that is missing, that is no regular file, or that has another size than its entry is refused. So is one that no
+/// volume of this size has room for, before it is read. `files` and each directory of the bundle are looked at before
+/// what is in them, and no link is followed.
+pub(crate) fn read_files<R: Files>(
+    rt: &R,
+    alloc: Global,
+    bundle: &Bundle,
+    directory: &str,
+) -> Result<Vec<Vec<u8>>, BundleInFault> {
+    refuse_no_top(rt, alloc, directory)?;
+    let mut contents = Vec::new(alloc);
+    let mut room = bundle.head.blocks as u64 * BLOCK_BYTES as u64;
+    for entry in bundle.entries.iter() {
+        let bytes = read_entry(rt, alloc, bundle, directory, entry, room)?;
+        room = room.saturating_sub(bytes.len() as u64);
+        contents.push(bytes)?;
+    }
+    Ok(contents)
+}
+
+/// Refuses what stands in place of `files`.
+fn refuse_no_top<R: Files>(rt: &R, alloc: Global, directory: &str) -> Result<(), BundleInFault> {
+    let path = format!(in alloc; "{directory}/files")?;
+    refuse_no_directory(rt, alloc, path.as_str())
+}
+
+/// The bytes of an entry, if there is so much room for them.
+fn read_entry<R: Files>(
+    rt: &R,
+    alloc: Global,
+    bundle: &Bundle,
+    directory: &str,
+    entry: &BundleEntry,
+    room: u64,
+) -> Result<Vec<u8>, BundleInFault> {
+    let path = host_path(alloc, directory, &bundle.entries, entry)?;
+    match entry.size {
+        Some(size) => read_file(rt, alloc, path.as_str(), size, room),
+        None => match refuse_no_directory(rt, alloc, path.as_str()) {
+            Ok(()) => Ok(Vec::new(alloc)),
+            Err(fault) => Err(fault),
+        },
+    }
+}
+
+/// The bytes of a file with this size, if there is so much room.
+fn read_file<R: Files>(
+    rt: &R,
+    alloc: Global,
+    path: &str,
+    size: u32,
+    room: u64,
+) -> Result<Vec<u8>, BundleInFault> {
+    let found = refuse_no_file(rt, alloc, path)?;
+    if found != size as u64 {
+        return Err(other_size(alloc, path, found, size));
+    }
+    if found > room {
+        return Err(no_room(alloc, path, found, room));
+    }
+    let bytes = read_host(rt, alloc, path, size as usize + 1)?;
+    if bytes.len() != size as usize {
+        return Err(other_size(alloc, path, bytes.len() as u64, size));
+    }
+    Ok(bytes)
+}
+
+/// The length of a regular file of the host. Anything else is refused, a symbolic link too.
+pub(crate) fn refuse_no_file<R: Files>(
+    rt: &R,
+    alloc: Global,
+    path: &str,
+) -> Result<u64, BundleInFault> {
+    match fs::symlink_metadata(rt, path) {
+        Ok(found) if found.is_file() => Ok(found.len()),
+        Ok(_) => Err(BundleInFault::NoFile(String::from_str(alloc, path)?)),
+        Err(_) => Err(BundleInFault::Put(unread(rt, alloc, path))),
+    }
+}
+
+/// Refuses what stands in place of a directory of the host, a symbolic link too. A directory may be missing.
+fn refuse_no_directory<R: Files>(rt: &R, alloc: Global, path: &str) -> Result<(), BundleInFault> {
+    match fs::symlink_metadata(rt, path) {
+        Ok(found) if !found.is_dir() => {
+            let path = String::from_str(alloc, path)?;
+            Err(BundleInFault::NoDirectory(path))
+        }
+        _ => Ok(()),
+    }
+}
+
+/// The fault of a file whose size is not that of its entry.
+fn other_size(alloc: Global, path: &str, found: u64, told: u32) -> BundleInFault {
+    match String::from_str(alloc, path) {
+        Ok(path) => BundleInFault::Size { path, found, told },
+        Err(_) => BundleInFault::Memory,
+    }
+}
+
+/// The fault of a file that is longer than all that is left of the volume.
+fn no_room(alloc: Global, path: &str, found: u64, room: u64) -> BundleInFault {
+    let block = BLOCK_BYTES as u64;
+    match String::from_str(alloc, path) {
+        Ok(path) => BundleInFault::Put(InFault::NoRoom {
+            path,
+            needed: found / block + 1,
+            free: u32::try_from(room / block).unwrap_or(u32::MAX),
+        }),
+        Err(_) => BundleInFault::Memory,
+    }
+}
+
+/// The path on the host of an entry of a bundle.
+pub(crate) fn host_path(
+    alloc: Global,
+    directory: &str,
+    entries: &[BundleEntry],
+    entry: &BundleEntry,
+) -> Result<String, AllocError> {
+    let mut path = format!(in alloc; "{directory}/files")?;
+    push_names(alloc, &mut path, &names_up(alloc, entries, entry)?)?;
+    Ok(path)
+}
+
+/// Appends the host names of these names to a path, the last name first.
+fn push_names(alloc: Global, path: &mut String, names: &[Name]) -> Result<(), AllocError> {
+    for name in names.iter().rev() {
+        let name = host_name(alloc, name)?;
+        path.push('/')?;
+        path.push_str(name.as_str())?;
+    }
+    Ok(())
+}
+
+/// The names of an entry and of the directories that it is in, its own first.
+fn names_up(
+    alloc: Global,
+    entries: &[BundleEntry],
+    entry: &BundleEntry,
+) -> Result<Vec<Name>, AllocError> {
+    let mut names = Vec::new(alloc);
+    names.push(entry.name)?;
+    let mut next = entry.above;
+    for _ in 0..entries.len() {
+        let Some(above) = next.and_then(|place| entries.get(place)) else {
+            break;
+        };
+        names.push(above.name)?;
+        next = above.above;
+    }
+    Ok(names)
+}

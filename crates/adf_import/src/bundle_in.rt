@@ -1,0 +1,55 @@
+//! A bundle read from a directory of the host, in place of an empty volume.
+
+use crate::bundle_fault::BundleInFault;
+use crate::bundle_files::{read_files, refuse_no_file};
+use crate::bundle_put::volume_of_bundle;
+use crate::host_files::read_host;
+use adf_record::{Bundle, MOST_BUNDLE_BYTES, bundle_of, format_word, read_bundle};
+use ados_volume::Volume;
+use std::alloc::Global;
+use std::rt::Files;
+
+/// The volume that a directory of the host describes, in place of an empty volume of the same kind and size. The files are
+/// below `files` there, and the description is `volume.json`.
+///
+/// The new volume has the description's label, dates and boot block, and no lost blocks. No link is followed, but for
+/// the directory itself.
+pub fn add_bundle<R: Files>(
+    rt: &R,
+    alloc: Global,
+    old: &Volume,
+    directory: &str,
+) -> Result<Volume, BundleInFault> {
+    let bundle = described(rt, alloc, directory)?;
+    refuse_other(alloc, old, &bundle)?;
+    let contents = read_files(rt, alloc, &bundle, directory)?;
+    volume_of_bundle(alloc, &bundle, &contents, directory)
+}
+
+/// The bundle that a directory of the host describes.
+fn described<R: Files>(rt: &R, alloc: Global, directory: &str) -> Result<Bundle, BundleInFault> {
+    let path = format!(in alloc; "{directory}/volume.json")?;
+    refuse_no_file(rt, alloc, path.as_str())?;
+    let text = read_host(rt, alloc, path.as_str(), MOST_BUNDLE_BYTES + 1)?;
+    match read_bundle(alloc, &text) {
+        Ok(bundle) => Ok(bundle),
+        Err(fault) if fault.is_memory() => Err(BundleInFault::Memory),
+        Err(fault) => Err(BundleInFault::Description { path, fault }),
+    }
+}
+
+/// Refuses a volume that has entries, or another kind or size than a bundle.
+fn refuse_other(alloc: Global, old: &Volume, bundle: &Bundle) -> Result<(), BundleInFault> {
+    let found = bundle_of(alloc, old)?;
+    if !found.entries.is_empty() {
+        return Err(BundleInFault::NotEmpty);
+    }
+    let head = bundle.head;
+    if found.head.format == head.format && found.head.blocks == head.blocks {
+        return Ok(());
+    }
+    Err(BundleInFault::OtherVolume {
+        kind: format_word(head.format),
+        blocks: head.blocks,
+    })
+}

@@ -1,0 +1,168 @@
+//! The volume of a bundle.
+ghost use Rattle.std.specs.Prelude.{IfOk, IsTrue, OnOk, map};
+ghost use Rattle.ados_model.specs.Stands.{Stands};
+ghost use Rattle.ados_model.specs.Tree.{Tree};
+ghost use Rattle.adf_record.specs.Bundle.{AreBundleOf, AreContentsOf};
+ghost use Rattle.adf_import.specs.Progress.{Advances, IsReady};
+
+use crate::bundle_fault::BundleInFault;
+use crate::bundle_files::host_path;
+use crate::fault::{InFault, refused};
+use crate::item::{Content, How, Item, put_bytes, put_directory};
+use crate::paths::directory_at;
+use crate::progress::Progress;
+use adf_block::layout::{CHECKSUM, DATE};
+use adf_block::{Image, size_ok};
+use adf_boot::restore_boot;
+use adf_record::{Bundle, BundleEntry, bundle_of, contents_of, same_bundle, same_contents};
+use adf_text::Uaem;
+use ados_change::put_date;
+use ados_model::DosError;
+use ados_name::Date3;
+use ados_volume::{Volume, blank, check};
+use std::alloc::{AllocError, Global};
+
+/// The volume of a bundle, with these bytes for its entries, one after the other: a blank volume, in which each entry is made
+/// in the order of the bundle. Faults name files below `files` in a directory of the host.
+///
+/// The volume is checked and looked through when it is made: if it had another bundle or other bytes, there is none.
+pub fn volume_of_bundle(
+    alloc: Global,
+    bundle: &Bundle,
+    contents: &[Vec<u8>],
+    directory: &str,
+) -> Result<Volume, BundleInFault>
+    ensures bundle { IfOk result (λ volume. (t : Tree) → Stands volume.image t → AreBundleOf volume.image t bundle.now) }
+    ensures contents { IfOk result (λ volume. (t : Tree) → Stands volume.image t → AreContentsOf t (map (λ bytes. bytes.items) contents.now)) }
+{
+    let image = image_of(alloc, bundle, contents, directory)?;
+    let Ok(volume) = check(alloc, image) else {
+        return Err(BundleInFault::Memory);
+    };
+    let made = is_made(alloc, &volume, bundle, contents)?;
+    if !made {
+        return Err(BundleInFault::Unlike);
+    }
+    Ok(volume)
+}
+
+/// Whether a volume has this bundle, and its entries these bytes.
+fn is_made(
+    alloc: Global,
+    volume: &Volume,
+    bundle: &Bundle,
+    contents: &[Vec<u8>],
+) -> Result<bool, AllocError>
+    ensures bundle { IfOk result (λ is_made. IsTrue is_made → (t : Tree) → Stands volume.now.image t → AreBundleOf volume.now.image t bundle.now) }
+    ensures contents { IfOk result (λ is_made. IsTrue is_made → (t : Tree) → Stands volume.now.image t
+        → AreContentsOf t (map (λ bytes. bytes.items) contents.now)) }
+{
+    let found = bundle_of(alloc, volume)?;
+    if !same_bundle(&found, bundle) {
+        return Ok(false);
+    }
+    let bytes = contents_of(alloc, volume)?;
+    Ok(same_contents(&bytes, contents))
+}
+
+/// The image with the entries, the root's date and the boot block of a bundle.
+fn image_of(
+    alloc: Global,
+    bundle: &Bundle,
+    contents: &[Vec<u8>],
+    directory: &str,
+) -> Result<Image, BundleInFault> {
+    let head = bundle.head;
+    if !size_ok(head.blocks) {
+        return Err(BundleInFault::Unlike);
+    }
+    let mut volume = blank(alloc, head.format, head.blocks, head.label, head.created)?;
+    put_entries(alloc, &mut volume, bundle, contents, directory)?;
+    volume.rename_disk(head.label, head.changed);
+    let mut image = volume.into_image();
+    date_root(&mut image, head.root_date);
+    if restore_boot(&mut image, &bundle.boot).is_err() {
+        return Err(BundleInFault::Unlike);
+    }
+    Ok(image)
+}
+
+/// Sets the root's own date, which each entry that is put into the root sets too.
+fn date_root(image: &mut Image, date: Date3) {
+    prove!(image.blocks() >= 16);
+    let root = image.root();
+    put_date(image, root, DATE, date);
+    image.settle(root, CHECKSUM);
+}
+
+/// Puts all entries of a bundle into a volume. Metadata of directories is set last, because each entry put into a
+/// directory sets its date.
+fn put_entries(
+    alloc: Global,
+    volume: &mut Volume,
+    bundle: &Bundle,
+    contents: &[Vec<u8>],
+    directory: &str,
+) -> Result<(), BundleInFault> {
+    let Ok(top) = directory_at(volume, b"") else {
+        return Err(BundleInFault::Unlike);
+    };
+    let moment = bundle.head.changed;
+    let mut progress = Progress::new(alloc, bundle.head.blocks)?;
+    for (place, entry) in bundle.entries.iter().enumerate() {
+        let path = host_path(alloc, directory, &bundle.entries, entry)?;
+        let item = Item {
+            path: path.as_str(),
+            dir: progress.directory(entry.above, top),
+            name: entry.name,
+            noted: noted_of(entry),
+        };
+        let bytes = match entry.size {
+            Some(_) => contents.get(place),
+            None => None,
+        };
+        put_entry(alloc, volume, &item, bytes, moment, &mut progress)?;
+    }
+    progress.note_directories(volume, moment);
+    Ok(())
+}
+
+/// Puts a file with these bytes, or makes a directory, which has none.
+///
+/// Error: 203 if an entry has the name.
+fn put_entry(
+    alloc: Global,
+    volume: &mut Volume,
+    item: &Item<'_>,
+    bytes: Option<&Vec<u8>>,
+    moment: Date3,
+    progress: &mut Progress,
+) -> Result<(), InFault>
+    requires { IsReady volume.old.image item.now.dir progress.old }
+    ensures { OnOk result (Advances volume.old.image volume.new.image progress.new) }
+{
+    let how = How {
+        force: false,
+        moment,
+    };
+    if let Some(bytes) = bytes {
+        let content = Content {
+            bytes: bytes.as_slice(),
+            more: 0,
+        };
+        return put_bytes(alloc, volume, item, content, how, progress);
+    }
+    if put_directory(alloc, volume, item, how, progress)? {
+        return Ok(());
+    }
+    Err(refused(alloc, item.path, DosError::ObjectExists))
+}
+
+/// The metadata of an entry.
+fn noted_of(entry: &BundleEntry) -> Uaem {
+    Uaem {
+        protect: entry.protection,
+        date: entry.date,
+        comment: entry.comment,
+    }
+}

@@ -1,2 +1,0 @@
--- Lemmas about tokens.
-pub mod Tokens

@@ -1,2 +1,0 @@
--- Members of JSON objects, as tokens.
-pub mod Members

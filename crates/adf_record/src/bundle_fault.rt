@@ -1,0 +1,101 @@
+//! Why a text is not the description of a bundle.
+ghost use Rattle.std.specs.Prelude.{◌≡◌, None};
+
+use std::alloc::{AllocError, AllocFailed};
+use std::fmt::{Display, Formatter};
+use std::{error, fmt};
+use thiserror::Error;
+
+/// Why a text is not the description of a bundle, and which entry this is about. Entries are counted from 1.
+#[derive(Debug, Drop)]
+pub struct BundleFault {
+    pub entry: Option<usize>,
+    pub why: BundleWhy,
+}
+
+/// Why a text is not the description of a bundle.
+#[derive(Debug, Drop, Error)]
+pub enum BundleWhy {
+    #[error("is longer than the 67,108,864 bytes that a description may have")]
+    Long,
+    #[error("is not UTF-8")]
+    NotText,
+    #[error("is no JSON of a bundle, from byte {0} on")]
+    NotJson(usize),
+    #[error("has no \"{0}\"")]
+    Missing(&'static str),
+    #[error("has \"{0}\" twice")]
+    Twice(&'static str),
+    #[error("has a \"{0}\", which no bundle has")]
+    Unknown(String),
+    #[error("has a wrong \"{member}\": expected {wanted}")]
+    Wrong {
+        member: &'static str,
+        wanted: &'static str,
+    },
+    #[error("has a \"path\" whose directory is not an entry right before what is in it")]
+    NoDirectory,
+    #[error("has more than the 101,602 entries of the largest volume")]
+    Many,
+    #[error("cannot be read: there is not enough memory")]
+    Memory,
+}
+
+impl Display for BundleFault {
+    fn fmt<W: fmt::Write>(&self, f: &mut Formatter<W>) -> fmt::Result {
+        match self.entry {
+            Some(number) => write!(f, "entry {number} {}", self.why),
+            None => write!(f, "{}", self.why),
+        }
+    }
+}
+
+impl error::Error for BundleFault {}
+
+impl BundleFault {
+    /// A fault that is about no entry.
+    pub(crate) fn of_volume(why: BundleWhy) -> BundleFault
+        ensures { result ≡ record { entry = None; why = why } }
+    {
+        BundleFault { entry: None, why }
+    }
+
+    /// Whether memory ran out.
+    pub fn is_memory(&self) -> bool {
+        matches!(self.why, BundleWhy::Memory)
+    }
+}
+
+impl From<AllocError> for BundleFault {
+    ghost use Rattle.std.specs.Prelude.{◌≡◌};
+    ghost use Rattle.adf_record.specs.Described.{no_memory};
+
+    ghost from_gives = { λ _ fault. fault ≡ no_memory };
+
+    fn from(_error: AllocError) -> BundleFault {
+        BundleFault::of_volume(BundleWhy::Memory)
+    }
+}
+
+impl<T: Drop> From<AllocFailed<T>> for BundleFault {
+    ghost use Rattle.std.specs.Prelude.{◌≡◌};
+    ghost use Rattle.adf_record.specs.Described.{no_memory};
+
+    ghost from_gives = { λ _ fault. fault ≡ no_memory };
+
+    fn from(_error: AllocFailed<T>) -> BundleFault {
+        BundleFault::of_volume(BundleWhy::Memory)
+    }
+}
+
+impl From<AllocError> for BundleWhy {
+    fn from(_error: AllocError) -> BundleWhy {
+        BundleWhy::Memory
+    }
+}
+
+impl<T: Drop> From<AllocFailed<T>> for BundleWhy {
+    fn from(_error: AllocFailed<T>) -> BundleWhy {
+        BundleWhy::Memory
+    }
+}

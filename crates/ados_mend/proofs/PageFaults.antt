@@ -1,0 +1,54 @@
+-- The bitmap blocks of an image that shows only faults which a new bitmap mends.
+use Rattle.std.proofs.Common.{◌≡◌, ◌≢◌, ℕ, ◌+◌, ◌<◌, ◌⊎◌, inl, inr, List, refl, sym, arith}
+use Rattle.std.proofs.lemmas.Bool.{cases_eq, cases_lt}
+use Rattle.adf_block.specs.Image.{IsInside, block_count}
+use Rattle.ados_map.specs.Pages.{LawfulPages, page_block, pages_of}
+use Rattle.ados_model.specs.declared.fault.FaultKind.{FaultKind}
+use Rattle.ados_model.specs.declared.fault.FaultKind.TheVariants.{BadPointer, BadSum, BlockUsedTwice, MarkedFree}
+use Rattle.ados_model.specs.declared.role.Role.TheVariants.{Page, Root}
+use Rattle.ados_model.specs.Faults.{InImage, PlaceNames, Shows, root_of}
+use Rattle.ados_model.specs.Faults.HasBadPointer.{outside}
+use Rattle.ados_model.specs.Faults.IsPlace.{root_page}
+use Rattle.ados_model.specs.Faults.IsUsedTwice.{root_named, two_longs}
+use Rattle.ados_model.specs.Faults.Reached.{start}
+use Rattle.ados_mend.specs.Mendable.{ShowsOnlyMendable}
+use Rattle.ados_mend.specs.steps.Settled.{MendableHasPages}
+
+inside_or_not : (n b : ℕ) → IsInside n b ⊎ ¬ IsInside n b
+inside_or_not n b = elim (cases_lt b 2) [
+  | inl l ↦ inr (λ h. omega (arith, h.0, l))
+  | inr l ↦ elim (cases_lt b n) [ inl m ↦ inl (l, m) | inr m ↦ inr (λ h. omega (arith, h.1, m)) ]
+]
+
+module _ (image : List ℕ) (only : ShowsOnlyMendable image) where
+  -- a fault of another kind is not shown
+  pub not_shown : (kind : FaultKind) (block : ℕ) → kind ≢ MarkedFree → kind ≢ BadSum → ¬ Shows image kind block
+  not_shown kind block m s h = elim (only kind block h) [ inl e ↦ m e | inr e ↦ s e.0 ]
+
+  names_page : (p : ℕ) → p < pages_of image → PlaceNames image (root_of image) (79 + p) (page_block image p)
+  names_page p l = record { role = Root; next = Page; reached = start; place = root_page l; names = refl }
+
+  page_inside : (p : ℕ) → p < pages_of image → InImage image (page_block image p)
+  page_inside p l = elim (inside_or_not (block_count image) (page_block image p)) [
+    | inl h ↦ h
+    | inr n ↦ absurd (not_shown BadPointer (root_of image) (λ z. cc z) (λ z. cc z) (outside {i = 79 + p} start (root_page l) n))
+  ]
+
+  -- two longs of the root that name one block are one long
+  used_once : (p q : ℕ) → p < pages_of image → q < pages_of image → page_block image p ≡ page_block image q → p ≡ q
+  used_once p q l m e = elim (cases_eq p q) [
+    | inl same ↦ same
+    | inr n ↦
+        let other : PlaceNames image (root_of image) (79 + q) (page_block image p) = record { role = Root; next = Page; reached = start; place = root_page m; names = sym e } in
+        absurd (not_shown BlockUsedTwice (page_block image p) (λ z. cc z) (λ z. cc z) (two_longs (page_inside p l) (names_page p l) other (λ z. n (omega (arith, z)))))
+  ]
+
+  pub mendable_pages : LawfulPages image
+  mendable_pages = record {
+    inside = page_inside;
+    apart = used_once;
+    beside_root = λ p l e. not_shown BlockUsedTwice (page_block image p) (λ z. cc z) (λ z. cc z) (root_named e (names_page p l));
+  }
+
+pub mendable_has_pages : MendableHasPages
+mendable_has_pages image only = mendable_pages image only

@@ -1,0 +1,7 @@
+use Rattle.std.proofs.Common.{ℕ, ◌<◌, ◌≤◌}
+use Rattle.adf_block.specs.Whole.{HasFreeBit}
+use Rattle.adf_salvage.specs.Sound.{IsSoundHeader}
+use Rattle.ados_mend.proofs.cautions.lost_header.Given as goal
+
+abbrev pub invariant-loop-block : goal.invariant-loop-block
+invariant-loop-block l = (k : ℕ) → 2 ≤ k → k < l.block → HasFreeBit l.new k → ¬ HasFreeBit l.old k → ¬ IsSoundHeader l.old k

@@ -1,0 +1,7 @@
+use Rattle.std.proofs.Common.{ℕ, ◌<◌}
+use Rattle.ados_map.specs.Pages.{page_block}
+use Rattle.ados_mend.specs.steps.Cautious.{IsSafePage}
+use Rattle.ados_mend.proofs.cautions.page_caution.Given as goal
+
+abbrev pub invariant-loop-p : goal.invariant-loop-p
+invariant-loop-p l = (q : ℕ) → q < l.p → IsSafePage l.old l.new (page_block l.old q)

@@ -1,0 +1,6 @@
+use Rattle.std.proofs.Common.{◌≢◌, ℕ, ◌<◌}
+use Rattle.ados_map.specs.Pages.{page_block}
+use Rattle.ados_mend.proofs.mendable.is_page.Given as goal
+
+abbrev pub invariant-loop-p : goal.invariant-loop-p
+invariant-loop-p l = (q : ℕ) → q < l.p → page_block l.image q ≢ l.block

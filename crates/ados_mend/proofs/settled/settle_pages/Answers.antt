@@ -1,0 +1,23 @@
+use Rattle.std.proofs.Common.{ℕ, ◌+◌, ◌<◌, ap, ◌∙◌, arith}
+use Rattle.adf_block.specs.Image.{long}
+use Rattle.ados_map.specs.Pages.{pages_of}
+use Rattle.ados_mend.proofs.SettlingPages.{page_within, settled_page}
+use Rattle.ados_mend.proofs.settled.settle_pages.Goals as goal
+
+pub settle-requires-clause-block : goal.settle-requires-clause-block
+settle-requires-clause-block c =
+    let end = c.page_count-p-end.ensures in
+    let blocks = c.blocks-3.ensures.count in
+    let within : c.loop-p.p < pages_of c.args.image.now = omega (arith, end, blocks) in
+    let few : c.loop-p.p < 25 = omega (arith, within) in
+    page_within c.args.image.now c.loop-p.image c.requires c.loop-p.invariant c.loop-p.p c.long-page.result within few
+    (c.long-page.ensures ∙ ap (λ (b : ℕ). long c.loop-p.image b (79 + c.loop-p.p)) c.root-root.ensures)
+
+pub loop-p-preserved : goal.loop-p-preserved
+loop-p-preserved c =
+    let end = c.page_count-p-end.ensures in
+    let blocks = c.blocks-3.ensures.count in
+    let within : c.loop-p.p < pages_of c.args.image.now = omega (arith, end, blocks) in
+    let few : c.loop-p.p < 25 = omega (arith, within) in
+    settled_page c.args.image.now c.loop-p.image c.requires c.loop-p.invariant c.settle.new.self c.loop-p.p c.long-page.result within few
+    (c.long-page.ensures ∙ ap (λ (b : ℕ). long c.loop-p.image b (79 + c.loop-p.p)) c.root-root.ensures) c.settle.ensures.rest

@@ -1,0 +1,6 @@
+use Rattle.adf_block.specs.Frame.{SameBut}
+use Rattle.ados_map.specs.Changes.{InPages}
+use Rattle.ados_mend.proofs.settled.settle_pages.Given as goal
+
+abbrev pub invariant-loop-p : goal.invariant-loop-p
+invariant-loop-p l = SameBut (InPages l.fn.image) l.fn.image l.image

@@ -1,0 +1,3 @@
+-- Steps of `validate`.
+pub mod Settled
+pub mod Cautious

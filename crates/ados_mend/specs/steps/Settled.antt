@@ -1,0 +1,22 @@
+-- The image that the check mends, and the bitmap blocks of the images.
+use Rattle.std.specs.Prelude.{◌≡◌, ℕ, List}
+use Rattle.adf_block.specs.Frame.{SameBut}
+use Rattle.adf_block.specs.Image.{block_count}
+use Rattle.adf_block.specs.Whole.{IsImage}
+use Rattle.ados_map.specs.Pages.{LawfulPages}
+use Rattle.ados_model.specs.Rebuilt.{HasValidBitmap, IsOfBitmap}
+use Rattle.ados_mend.specs.Mendable.{ShowsOnlyMendable}
+use Rattle.ados_mend.specs.Validated.{IsValidated}
+
+-- only the bitmap changed, and it is not valid
+pub record IsSettled (old settled : List ℕ) : Type 0 where
+  pub rest : SameBut (IsOfBitmap old) old settled
+  pub not_valid : ¬ HasValidBitmap settled
+
+-- an image that shows only faults which a new bitmap mends has lawful bitmap blocks
+abbrev pub MendableHasPages : Type 0
+MendableHasPages = (image : List ℕ) → ShowsOnlyMendable image → LawfulPages image
+
+-- so has the new image, which is as large
+abbrev pub ValidatedHasPages : Type 0
+ValidatedHasPages = (old new : List ℕ) → IsImage old → IsValidated old new → LawfulPages new × (block_count new ≡ block_count old)

@@ -1,0 +1,75 @@
+//! The image that the check mends, and the mended one.
+ghost use Rattle.std.specs.Prelude.{◌≡◌, IfOk, MatchResult, Bool};
+ghost use Rattle.adf_block.specs.Frame.{SameBut};
+ghost use Rattle.ados_map.specs.Changes.{InPages};
+ghost use Rattle.ados_map.specs.Pages.{LawfulPages};
+ghost use Rattle.ados_mend.specs.Answer.{IsReason};
+ghost use Rattle.ados_mend.specs.Mendable.{ShowsOnlyMendable};
+ghost use Rattle.ados_mend.specs.Validated.{IsValidated};
+ghost use Rattle.ados_mend.specs.steps.Settled.{IsSettled};
+
+use crate::answer::NotValidated;
+use crate::laws::lawful_pages;
+use adf_block::layout::{BITMAP_FLAG, CHECKSUM, FIRST_PAGE, MOST_BLOCKS, PAGE_CHECKSUM};
+use adf_block::{Image, page_count};
+use ados_check::check_image;
+use ados_model::FaultKind;
+use std::alloc::{AllocError, Global};
+
+/// The value of the root's flag for a bitmap that is not valid.
+const NOT_VALID: u32 = 0;
+
+/// The copy of an image with a new bitmap.
+pub(crate) fn mended(alloc: Global, image: &Image) -> Result<Image, NotValidated>
+    requires { ShowsOnlyMendable image.now }
+    ensures { (force : Bool) → MatchResult result (IsValidated image.now) (IsReason image.now force) }
+{
+    prove!(image.blocks() >= 16);
+    lawful_pages();
+    let Ok(mut settled) = copy(alloc, image) else {
+        return Err(NotValidated::Memory);
+    };
+    settle(&mut settled);
+    match check_image(alloc, settled) {
+        Ok(accepted) => Ok(accepted.image),
+        Err(rejected) if rejected.fault.kind == FaultKind::NoMemory => Err(NotValidated::Memory),
+        Err(rejected) => Err(NotValidated::StillFaulty(rejected.fault)),
+    }
+}
+
+/// A copy of an image.
+fn copy(alloc: Global, image: &Image) -> Result<Image, AllocError>
+    ensures { IfOk result (λ copy. copy ≡ image.now) }
+{
+    prove!(image.blocks() >= 16);
+    let bytes = Vec::from_slice(alloc, image.as_bytes())?;
+    let Ok(copy) = Image::from_bytes(bytes) else {
+        unreachable!()
+    };
+    Ok(copy)
+}
+
+/// Makes the checksums of the bitmap blocks right, and marks the bitmap as not valid.
+fn settle(image: &mut Image)
+    requires { LawfulPages image.old }
+    ensures { IsSettled image.old image.new }
+{
+    prove!(image.blocks() >= 16);
+    settle_pages(image);
+    let root = image.root();
+    image.set_long(root, BITMAP_FLAG, NOT_VALID);
+    image.settle(root, CHECKSUM);
+}
+
+/// Makes the checksums of the bitmap blocks right.
+fn settle_pages(image: &mut Image)
+    requires { LawfulPages image.old }
+    ensures { SameBut (InPages image.old) image.old image.new }
+{
+    prove!(image.blocks() <= MOST_BLOCKS);
+    let root = image.root();
+    for p in 0..page_count(image.blocks()) {
+        let page = image.long(root, FIRST_PAGE + p);
+        image.settle(page, PAGE_CHECKSUM);
+    }
+}
