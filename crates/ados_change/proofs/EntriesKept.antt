@@ -1,5 +1,5 @@
 -- A change of entries leaves all bytes outside fields untouched.
-use Rattle.std.proofs.Common.{◌≡◌, ◌≢◌, ℕ, ◌+◌, ◌-◌, ◌*◌, ◌/◌, ◌%◌, ◌<◌, ◌≤◌, List, length, slice_index, Some, None, refl, sym, ap, ◌∙◌, subst, arith}
+use Rattle.std.proofs.Common.{◌≡◌, ◌≢◌, ℕ, ◌+◌, ◌-◌, ◌/◌, ◌<◌, ◌≤◌, List, length, slice_index, Some, None, refl, sym, ap, ◌∙◌, subst, arith}
 use Rattle.adf_block.specs.Image.{byte_at, bytes_at, long}
 use Rattle.adf_block.specs.Whole.{HasFreeBit}
 use Rattle.adf_block.specs.Fields.{secondary_type}

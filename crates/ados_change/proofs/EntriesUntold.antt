@@ -116,12 +116,27 @@ module _ (old : List ℕ) (t : Tree) (st : Stands old t) where
 
 -- ---- the files
 
-module _ (old new : List ℕ) (t u : Tree) (st : Stands old t) (after : Spells new u st.layout) (proper : Proper u) (h : SameBut (IsWritten old t st new) old new) where
+module _ (old new : List ℕ) (t u : Tree) (st : Stands old t) (after : Spells new u st.layout) (proper : Proper u) where
   abbrev now : Stands new u
   now = stands new u st.layout proper after
 
   same_layout : now.layout ≡ st.layout
   same_layout = layout_is new u st.layout proper after
+
+  -- at these places there is no data block
+  module _ (At : ℕ → ℕ → Type 0) (h : SameBut At old new) (unwritten : (b i file q : ℕ) → HasDuty t st.layout b (Duty.Data file q) → ¬ At b i) where
+    data_stays : (file : ℕ) → HasFileKey old file → HasFileKey new file → KeepsData old new file
+    data_stays file was is =
+        let a = file_of_key old t st file was in
+        let b = file_of_key new u now file is in
+        record {
+          blocks = data_is new u now file b.node b.bytes b.at b.content ∙ ap (λ (l : Layout). l.file_data file) same_layout ∙ sym (data_is old t st file a.node a.bytes a.at a.content);
+          extensions = extensions_is new u now file b.node b.bytes b.at b.content ∙ ap (λ (l : Layout). l.extensions file) same_layout ∙ sym (extensions_is old t st file a.node a.bytes a.at a.content);
+          bytes = λ q i l m. h.same_byte (data_at old file q) i m (unwritten (data_at old file q) i file q (data_serves old t st file a q l));
+        }
+
+    pub untold_beside : KeepsPastEnd old new → KeepsUntold old new
+    untold_beside past = files_stay old new past data_stays
 
   -- no data block is written
   data_unwritten : (b i file q : ℕ) → HasDuty t st.layout b (Duty.Data file q) → ¬ IsWritten old t st new b i
@@ -130,15 +145,5 @@ module _ (old new : List ℕ) (t u : Tree) (st : Stands old t) (after : Spells n
   data_unwritten b i file q m (of_node a e p) = let duty = st.fits.one_duty b Duty.Key (Duty.Data file q) (rw e refl) m in cc duty
   data_unwritten b i file q m (of_name a e n text short) = let duty = st.fits.one_duty b Duty.Key (Duty.Data file q) (rw e refl) m in cc duty
 
-  data_stays : (file : ℕ) → HasFileKey old file → HasFileKey new file → KeepsData old new file
-  data_stays file was is =
-      let a = file_of_key old t st file was in
-      let b = file_of_key new u now file is in
-      record {
-        blocks = data_is new u now file b.node b.bytes b.at b.content ∙ ap (λ (l : Layout). l.file_data file) same_layout ∙ sym (data_is old t st file a.node a.bytes a.at a.content);
-        extensions = extensions_is new u now file b.node b.bytes b.at b.content ∙ ap (λ (l : Layout). l.extensions file) same_layout ∙ sym (extensions_is old t st file a.node a.bytes a.at a.content);
-        bytes = λ q i l m. h.same_byte (data_at old file q) i m (data_unwritten (data_at old file q) i file q (data_serves old t st file a q l));
-      }
-
-  pub untold_kept : KeepsPastEnd old new → KeepsUntold old new
-  untold_kept past = files_stay old new past data_stays
+  pub untold_kept : SameBut (IsWritten old t st new) old new → KeepsPastEnd old new → KeepsUntold old new
+  untold_kept h = untold_beside (IsWritten old t st new) h data_unwritten

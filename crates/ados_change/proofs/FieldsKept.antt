@@ -154,7 +154,7 @@ module _ (old new : List ℕ) (t : Tree) (s : Stands old t) where
     keeps_fields = record {
       kept = kept_fields;
       lowest = none_taken old new takes_none;
-      freed = λ b i inside free entry l. h.same_byte b i l (λ w.
+      freed = λ b inside free i l. h.same_byte b i l (λ w.
           s.marked_free b (inside.0, omega (arith, inside.1, count_same old t s)) (sym (marks_stay b (omega (arith, inside.0, inside.1))) ∙ free) (Duty.Key, is_key b i (fields b i l w)));
       untold = untold_stays;
     }

@@ -59,6 +59,6 @@ same_keeps image = record {
     first = λ file f g. record { same = λ _. refl; other = λ n. absurd (n refl) };
   };
   lowest = none_taken image image (λ block i free. free);
-  freed = λ block i inside free no_entry l. refl;
+  freed = λ block inside free i l. refl;
   untold = same_untold image;
 }

@@ -44,8 +44,10 @@ pub mod Removed
 pub mod EntriesKept
 pub mod Spared
 pub mod KeptSteps
+pub mod Since
 pub mod Reaching
 pub mod EntriesUntold
+pub mod Unreached
 pub mod Emptying
 pub mod Emptier
 pub mod Writable

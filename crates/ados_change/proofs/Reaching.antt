@@ -1,5 +1,5 @@
 -- A block that is reached after a removal was reached before, in the same role and with the same fields.
-use Rattle.std.proofs.Common.{◌≡◌, ◌≢◌, ℕ, ◌+◌, ◌-◌, ◌/◌, ◌<◌, ◌≤◌, ◌⊎◌, inl, inr, true, List, [], ◌∷◌, length, slice_index, Some, refl, sym, ap, ap₂, ◌∙◌, subst, arith}
+use Rattle.std.proofs.Common.{◌≡◌, ◌≢◌, ℕ, ◌+◌, ◌-◌, ◌/◌, ◌<◌, ◌≤◌, ◌⊎◌, inl, inr, true, List, length, slice_index, Some, refl, sym, ap, ap₂, ◌∙◌, subst, arith}
 use Rattle.std.proofs.lemmas.Bool.{cases_eq}
 use Rattle.adf_block.specs.declared.layout.TheConstants.{NEXT_IN_CHAIN}
 use Rattle.adf_block.specs.Image.{block_count, byte_at, long, page_count}
@@ -15,12 +15,11 @@ use Rattle.ados_model.specs.Tree.Content.{Directory, File}
 use Rattle.ados_model.specs.Faults.{InImage, IsFile, IsPlace, Reached}
 use Rattle.ados_model.specs.Faults.IsPlace.{root_page, root_slot, directory_slot, next_entry, header_pointer, first_extension, extension_pointer, further_extension}
 use Rattle.ados_model.specs.Faults.Reached.{start, named}
-use Rattle.ados_model.specs.Kept.{Kept, IsField, Alike, InLongs, InText}
-use Rattle.ados_model.specs.Kept.IsField.{root_longs, root_name, page_longs, directory_longs, file_longs, entry_name, entry_comment, extension_longs, ofs_data_longs, ofs_data, ffs_data}
+use Rattle.ados_model.specs.Kept.{Kept}
 use Rattle.ados_model.specs.Stands.{Duty, HasDuty, Stands}
 use Rattle.ados_model.specs.declared.role.Role.{Role}
 use Rattle.ados_model.specs.declared.role.Role.TheVariants as roles
-use Rattle.ados_change.proofs.Keeping.{first_stays, keeps_first_until}
+use Rattle.ados_change.proofs.Since.{HasSameExtent, place_long, place_was, kept_since as kept_after}
 use Rattle.ados_model.proofs.Standing.{count_same, duty_of, file_at, reached_stands, serves_at, slice_get-index}
 use Rattle.ados_change.specs.steps.Writes.{AtDate, AtLongs, Dated}
 use Rattle.ados_change.proofs.Relisted.{IsLinkPlace}
@@ -33,17 +32,6 @@ IsAside j = (j ≡ 5) ⊎ (((105 ≤ j) × (j < 108)) ⊎ ((118 ≤ j) × (j < 1
 -- a long that is neither such a long nor a link of a hash chain
 abbrev IsFixed : ℕ → Type 0
 IsFixed j = (j < 5) ⊎ (((78 ≤ j) × (j < 105)) ⊎ (((108 ≤ j) × (j < 118)) ⊎ (125 < j)))
-
--- a long that may be a place
-abbrev IsPlaceLong : ℕ → Type 0
-IsPlaceLong j = ((6 ≤ j) × (j < 105)) ⊎ ((j ≡ 124) ⊎ (j ≡ 126))
-
-alike_itself : (role : Role) → Alike role role
-alike_itself roles.Root = tt
-alike_itself roles.Page = tt
-alike_itself (roles.Entry dir s) = tt
-alike_itself (roles.Data file) = tt
-alike_itself (roles.Extension file) = tt
 
 is_at : (b i c j : ℕ) → ((b ≡ c) × (i ≡ j)) ⊎ ¬ ((b ≡ c) × (i ≡ j))
 is_at b i c j = elim (cases_eq b c) [
@@ -155,26 +143,14 @@ module _ (old : List ℕ) (t : Tree) (st : Stands old t) where
     few_pages : page_count (block_count new) ≤ 25
     few_pages = let s = st.proper.size in omega (arith, s.1, count, count_same old t st)
 
-    place_long : {block i : ℕ} {role next : Role} → IsPlace new block role i next → (role ≢ roles.Page) × IsPlaceLong i
-    place_long (root_page l) = (λ z. cc z, inl (omega arith, omega (arith, l, few_pages)))
-    place_long (root_slot l n) = (λ z. cc z, inl (omega arith, omega (arith, l)))
-    place_long (directory_slot e l n) = (λ z. cc z, inl (omega arith, omega (arith, l)))
-    place_long (next_entry n) = (λ z. cc z, inr (inl refl))
-    place_long (header_pointer e p) = (λ z. cc z, inl (omega (arith, p.0, p.1), omega arith))
-    place_long (first_extension e n) = (λ z. cc z, inr (inr refl))
-    place_long (extension_pointer p) = (λ z. cc z, inl (omega (arith, p.0, p.1), omega arith))
-    place_long (further_extension n) = (λ z. cc z, inr (inr refl))
-
-    -- a place with an unchanged long was a place before
-    place_was : {block i : ℕ} {role next : Role} → ¬ IsPage block → long new block i ≡ long old block i → IsPlace new block role i next → IsPlace old block role i next
-    place_was q same (root_page {i = i} l) = root_page (subst (λ (n : ℕ). i < page_count n) count l)
-    place_was q same (root_slot l n) = root_slot l (λ z. n (same ∙ z))
-    place_was {block = block} q same (directory_slot e l n) = directory_slot (sym (type_stays block q) ∙ e) l (λ z. n (same ∙ z))
-    place_was q same (next_entry n) = next_entry (λ z. n (same ∙ z))
-    place_was {block = block} q same (header_pointer {i = i} e p) = header_pointer (sym (type_stays block q) ∙ e) (subst (λ (n : ℕ). (i < n) × (n ≤ 72)) (pointers_stay block q) p)
-    place_was {block = block} q same (first_extension e n) = first_extension (sym (type_stays block q) ∙ e) (λ z. n (same ∙ z))
-    place_was {block = block} q same (extension_pointer {i = i} p) = extension_pointer (subst (λ (n : ℕ). (i < n) × (n ≤ 72)) (pointers_stay block q) p)
-    place_was q same (further_extension n) = further_extension (λ z. n (same ∙ z))
+    extent : (b : ℕ) → ¬ IsPage b → HasSameExtent old new b
+    extent b q = record {
+      secondary = type_stays b q;
+      pointers = pointers_stay b q;
+      held = long_stays b 3 q (omega arith) (inl (omega arith));
+      comment = byte_stays b 328 q (omega arith) (inr (inl (omega arith, omega arith)));
+      name = byte_stays b 432 q (omega arith) (inr (inr (inl (omega arith, omega arith))));
+    }
 
     -- ---- the link past the removed entry
 
@@ -242,41 +218,16 @@ module _ (old : List ℕ) (t : Tree) (st : Stands old t) where
       | inr n ↦ elim (is_at block i key NEXT_IN_CHAIN) [
         | inl w ↦ absurd (let zero = ap₂ (long new) w.0 w.1 ∙ ended in omega (arith, zero, inside.0))
         | inr m ↦
-            let is = place_long p in
+            let is = place_long old new count few_pages p in
             let q = reached_no_page block role is.0 r in
             let same = same_long W old new change block i (omega (arith, is.1)) (λ k e. stays block k q (λ x. omega (arith, x, e, is.1)) (λ w. n (w.0, sym e ∙ w.1)) (λ w. m (w.0, sym e ∙ w.1))) in
-            subst (λ (b : ℕ). Reached old b next) (sym same) (named r (place_was q same p) (subst (InImage old) same (in_old (long new block i) inside)))
+            subst (λ (b : ℕ). Reached old b next) (sym same) (named r (place_was old new count (extent block q) same p) (subst (InImage old) same (in_old (long new block i) inside)))
       ]
     ]
 
     reached_before : {block : ℕ} {role : Role} → Reached new block role → Reached old block role
     reached_before start = subst (λ (n : ℕ). Reached old ((n + 1) / 2) roles.Root) (sym count) start
     reached_before (named r p inside) = step (reached_before r) p inside
-
-    -- ---- fields
-
-    text_stays : (b from i : ℕ) → ¬ IsPage b → from < 512 → IsFixed (from / 4) → InText old b from i → InText new b from i
-    text_stays b from i q l f m = (m.0, omega (arith, m.1, byte_stays b from q l f))
-
-    ofs_stays : byte_at new 0 3 ≡ byte_at old 0 3
-    ofs_stays = byte_stays 0 3 boot_no_page (omega arith) (inl (omega arith))
-
-    field_stays : {b i : ℕ} {role : Role} → Reached old b role → IsField old b role i → IsField new b role i
-    field_stays {i = i} r (root_longs m) = root_longs (subst (λ (n : ℕ). InLongs ((0, 0) ∷ (3, 3) ∷ (5, 78) ∷ (79, 78 + page_count n) ∷ (105, 107) ∷ (118, 123) ∷ (125, 125) ∷ (127, 127) ∷ []) i) (sym count) m)
-    field_stays {b = b} {i = i} r (root_name m) = root_name (text_stays b 432 i (reached_no_page b roles.Root (λ z. cc z) r) (omega arith) (inr (inr (inl (omega arith, omega arith)))) m)
-    field_stays r (page_longs m) = page_longs m
-    field_stays {b = b} r (directory_longs {dir = d} {s = s} e m) = directory_longs (type_stays b (reached_no_page b (roles.Entry d s) (λ z. cc z) r) ∙ e) m
-    field_stays {b = b} {i = i} r (file_longs {dir = d} {s = s} e m) =
-        let q = reached_no_page b (roles.Entry d s) (λ z. cc z) r in
-        file_longs (type_stays b q ∙ e) (subst (λ (n : ℕ). InLongs ((0, 2) ∷ (4, 5) ∷ (78 - n, 77) ∷ (80, 81) ∷ (105, 107) ∷ (124, 127) ∷ []) i) (sym (pointers_stay b q)) m)
-    field_stays {b = b} {i = i} r (entry_name {dir = d} {s = s} m) = entry_name (text_stays b 432 i (reached_no_page b (roles.Entry d s) (λ z. cc z) r) (omega arith) (inr (inr (inl (omega arith, omega arith)))) m)
-    field_stays {b = b} {i = i} r (entry_comment {dir = d} {s = s} m) = entry_comment (text_stays b 328 i (reached_no_page b (roles.Entry d s) (λ z. cc z) r) (omega arith) (inr (inl (omega arith, omega arith))) m)
-    field_stays {b = b} {i = i} r (extension_longs {file = f} m) =
-        extension_longs (subst (λ (n : ℕ). InLongs ((0, 2) ∷ (5, 5) ∷ (78 - n, 77) ∷ (125, 127) ∷ []) i) (sym (pointers_stay b (reached_no_page b (roles.Extension f) (λ z. cc z) r))) m)
-    field_stays r (ofs_data_longs o m) = ofs_data_longs (ofs_stays ∙ o) m
-    field_stays {b = b} {i = i} r (ofs_data {file = f} o l m) =
-        ofs_data (ofs_stays ∙ o) l (subst (λ (n : ℕ). i < 24 + n) (sym (long_stays b 3 (reached_no_page b (roles.Data f) (λ z. cc z) r) (omega arith) (inl (omega arith)))) m)
-    field_stays r (ffs_data n) = ffs_data (λ o. n (sym ofs_stays ∙ o))
 
     -- the pointers of a file
     pointer_stays : (b : ℕ) → ¬ IsPage b → IsFile old b → (i : ℕ) → i < 72 → long new b (77 - i) ≡ long old b (77 - i)
@@ -295,16 +246,6 @@ module _ (old : List ℕ) (t : Tree) (st : Stands old t) where
 
     -- what an earlier change left untouched is still untouched
     pub kept_since : Kept old new → (first : List ℕ) → Kept first old → Kept first new
-    kept_since after first before = record {
-      size = after.size ∙ before.size;
-      boot = after.boot ∙ before.boot;
-      others = λ b i role role' l r r' alike n.
-          let mid = reached_before r' in
-          let none : ¬ IsField old b role' i = λ f. n (field_stays mid f) in
-          after.others b i role' role' l mid r' (alike_itself role') n ∙ before.others b i role role' l r mid alike none;
-      first = λ b f g.
-          let q = reached_no_page b (roles.Entry g.dir g.slot_of_chain) (λ z. cc z) (reached_before g.reached) in
-          let mid : IsFile old b = record { dir = g.dir; slot_of_chain = g.slot_of_chain; reached = reached_before g.reached; secondary = sym (type_stays b q) ∙ g.secondary } in
-          let firsts = first_stays old new b (pointers_stay b q) (λ i l. pointer_stays b q mid i l) in
-          keeps_first_until first old new b firsts (long_stays b 4 q (omega arith) (inl (omega arith))) (before.first b f mid);
-    }
+    kept_since =
+        kept_after old new count (byte_stays 0 3 boot_no_page (omega arith) (inl (omega arith))) (λ b role r. reached_before r) (λ b role n r. extent b (reached_no_page b role n r))
+        (λ b f. let q = reached_no_page b (roles.Entry f.dir f.slot_of_chain) (λ z. cc z) f.reached in (long_stays b 4 q (omega arith) (inl (omega arith)), pointer_stays b q f))

@@ -1,8 +1,9 @@
 -- The steps that remove an entry without contents.
-use Rattle.std.proofs.Common.{◌≡◌, ◌≢◌, ℕ, ◌+◌, ◌/◌, ◌<◌, inl, inr, List, ◌∷◌, length, slice_index, Contains, Some, IsSome, true, refl, sym, ap, ◌∙◌, subst, arith}
-use Rattle.std.proofs.lemmas.Bool.{cases_eq}
+use Rattle.std.proofs.Common.{◌≡◌, ◌≢◌, ℕ, ◌+◌, ◌<◌, inl, inr, Bool, true, false, List, ◌∷◌, length, slice_index, Contains, Option, Some, None, IsSome, is_some, refl, sym, ap, ◌∙◌, subst, arith}
+use Rattle.std.proofs.lemmas.Bool.{cases_eq, false≢true}
 use Rattle.std.proofs.lemmas.List.Elements.{Contains-append_left}
-use Rattle.adf_block.specs.Image.{Chained, block_count, byte_at, long, root_key, IsInside}
+use Rattle.adf_block.specs.Image.{Chained, block_count, has_free_bit, long, root_key, IsInside}
+use Rattle.adf_block.specs.Whole.{HasFreeBit}
 use Rattle.adf_block.specs.Fields.{parent_key, table_entry}
 use Rattle.adf_block.specs.Frame.{SameBut}
 use Rattle.adf_block.specs.declared.layout.TheConstants.{NEXT_IN_CHAIN}
@@ -13,15 +14,14 @@ use Rattle.ados_name.specs.declared.stamp.Date3.{Date3}
 use Rattle.ados_chain.proofs.Changes.{slot_at-small}
 use Rattle.ados_chain.proofs.Spelling.{Chained-behind}
 use Rattle.ados_chain.specs.Chains.{LawfulChains, slot_at}
-use Rattle.ados_chain.specs.Relinks.{AtLinks, CanUnlink, Unlinks, link_block, link_long}
-use Rattle.ados_model.specs.Change.{removed}
+use Rattle.ados_chain.specs.Relinks.{CanUnlink, Unlinks, link_block, link_long}
+use Rattle.ados_model.specs.Change.{left, removed}
 use Rattle.ados_model.specs.Kept.{Kept}
-use Rattle.ados_model.specs.Stands.{Duty, Stands, in_slot}
+use Rattle.ados_model.specs.Stands.{Duty, HasDuty, Named, Stands, in_slot}
 use Rattle.ados_change.specs.Untold.{KeepsUntold}
 use Rattle.ados_change.proofs.FilesStay.{past_end_trans}
 use Rattle.ados_model.specs.Tree.{Node, Tree, root, size_of}
 use Rattle.ados_model.proofs.Nodes.{parent_in}
-use Rattle.ados_model.proofs.Standing.{slice_get-index}
 use Rattle.ados_change.specs.Conditions.{CanRemove}
 use Rattle.ados_change.specs.steps.Emptied.{GivesBack}
 use Rattle.ados_change.specs.steps.Writes.{Dated}
@@ -30,12 +30,12 @@ use Rattle.ados_change.proofs.Lawful.{lawful_chains, not_root, page_is, page_wit
 use Rattle.ados_change.proofs.EntriesKept.{IsWritten, written_kept}
 use Rattle.ados_change.proofs.KeptSteps.{dated_kept, linked_kept, marked_kept, stamped_kept}
 use Rattle.ados_change.proofs.Listing.{place_behind}
-use Rattle.ados_change.proofs.Loose.{l, not_own_parent, unlisted_is_loose as out_is_loose}
+use Rattle.ados_change.proofs.Loose.{l, unlisted_is_loose as out_is_loose}
 use Rattle.ados_change.proofs.Reaching.{AtAside, dated_aside, kept_since, marked_aside, stamped_aside}
 use Rattle.ados_change.proofs.Relisted.{IsLinkPlace}
-use Rattle.ados_change.proofs.Relisted.IsLinkPlace.{in_table, in_entry}
-use Rattle.ados_change.proofs.Changed.{left_blocks, left_lost, removed_some}
+use Rattle.ados_change.proofs.Changed.{left_blocks, left_lost, nodes_here, removed_some}
 use Rattle.ados_change.proofs.Removing.{directory, out_pages, out_spells, removed_spells, removed_stands, removes_link, s, whole_loose}
+use Rattle.ados_change.proofs.Spells.{Spells}
 use Rattle.ados_change.proofs.Spared.{bytes_stay, still_free, was_free}
 use Rattle.ados_change.proofs.EntriesUntold.{IsOffMap, bit_past_end, dated_off, linked_off, off_past_end, old_pages, pages_after, stamped_off, untold_kept}
 
@@ -65,12 +65,12 @@ module _ (old : List ℕ) (t : Tree) (st : Stands old t) (moment : Date3) (key :
     count_m1 : block_count m1 ≡ t.blocks
     count_m1 = same_count _ old m1 unlinked.relinks.rest ∙ omega (arith, st.whole)
 
-    module _ (m2 : List ℕ) (left : Dated from 105 moment m1 m2) where
+    module _ (m2 : List ℕ) (touched : Dated from 105 moment m1 m2) where
       dated_from : Dated can.dir 105 moment m1 m2
-      dated_from = subst (λ (f : ℕ). Dated f 105 moment m1 m2) is_from left
+      dated_from = subst (λ (f : ℕ). Dated f 105 moment m1 m2) is_from touched
 
       count_m2 : block_count m2 ≡ t.blocks
-      count_m2 = dated_count from 105 moment m1 m2 left ∙ count_m1
+      count_m2 = dated_count from 105 moment m1 m2 touched ∙ count_m1
 
       pub key_still : IsInside (block_count m2) key
       key_still = (in_tree.0, omega (arith, in_tree.1, count_m2))
@@ -161,28 +161,28 @@ module _ (old : List ℕ) (t : Tree) (st : Stands old t) (moment : Date3) (key :
           untold_kept old m4 t (removed moment key t) st after (gone m3 m4 given stamp).proper (gone_written m3 m4 given stamp)
           (past_end_trans old m3 m4 (same ∙ count) (past_end_trans old m2 m3 count first bit) last)
 
-      -- in the entry's own block only the next-in-chain long and the checksum are written
-      own_stays : (m3 m4 : List ℕ) → BitChanged m2 key true m3 → Dated (root_key (block_count m3)) 118 moment m3 m4 → (i : ℕ) → i < 512 → i / 4 ≢ NEXT_IN_CHAIN → i / 4 ≢ 5 → byte_at m4 key i ≡ byte_at old key i
-      own_stays m3 m4 given stamp i l no_link no_sum =
-          (stamp_at_root m3 m4 given stamp).rest.same_byte key i l (λ w. not_root_key w.0)
-          ∙ given.rest.same_byte key i l (λ w. no_page (sym w.0))
-          ∙ dated_from.rest.same_byte key i l (λ w. no_parent (sym w.0))
-          ∙ unlinked.relinks.rest.same_byte key i l (unlinked_beside unlinked.front link_at)
+      -- the entry's own block has no use in the new tree, so it is marked free
+      key_free : (m3 m4 : List ℕ) → BitChanged m2 key true m3 → Dated (root_key (block_count m3)) 118 moment m3 m4 → HasFreeBit m4 key
+      key_free m3 m4 given stamp = go (has_free_bit m4 key) refl
         where
-          no_page : page_block m2 (page_of key) ≢ key
-          no_page e = let duty = st.fits.one_duty key (Duty.Page (page_of key)) Duty.Key (slice_get-index st.layout.pages (page_of key) page.0 ∙ ap Some (page.1 ∙ e)) (rw node.1 refl) in cc duty
+          after : Spells m4 (removed moment key t) st.layout
+          after = removed_spells old t st moment key can no_bytes m1 m2 m3 m4 unlinked dated_from given (stamp_at_root m3 m4 given stamp)
 
-          no_parent : can.dir ≢ key
-          no_parent = not_own_parent t st.proper key can.dir can.listed moment
+          key_duty : (duty : Duty) → HasDuty t st.layout key duty → duty ≡ Duty.Key
+          key_duty duty m = st.fits.one_duty key duty Duty.Key m (rw node.1 refl)
 
-          unlinked_beside : (front : List ℕ) → IsLinkPlace t can.dir (link_block can.dir front) (link_long (6 + slot_key) front) → ¬ AtLinks (link_block can.dir front) (link_long (6 + slot_key) front) key key i
-          unlinked_beside front place (inr (inl w)) = no_link w.1
-          unlinked_beside front place (inr (inr w)) = no_sum w.1
-          unlinked_beside front place (inl (inr w)) = no_sum w.1
-          unlinked_beside front (in_table e m n) (inl (inl w)) = no_parent (sym (w.0 ∙ e))
-          unlinked_beside front (in_entry x f n e) (inl (inl w)) = no_link (w.1 ∙ e)
+          unused : Named (removed moment key t) st.layout key → ⊥
+          unused (Duty.Page p, m) = let duty = key_duty (Duty.Page p) m in cc duty
+          unused (Duty.Key, m) = false≢true (ap is_some (sym (nodes_here key None (left moment key t))) ∙ m)
+          unused (Duty.Data file i, m) = let duty = key_duty (Duty.Data file i) m in cc duty
+          unused (Duty.Extension file i, m) = let duty = key_duty (Duty.Extension file i) m in cc duty
+          unused (Duty.Lost, m) = let duty = key_duty Duty.Lost (ap (λ (f : ℕ → Option (List ℕ)). is_some (f key)) (sym (left_lost moment key t)) ∙ m) in cc duty
 
-      -- no block is allocated; only the entry's own block is freed, and no other free block is written
+          go : (v : Bool) → has_free_bit m4 key ≡ v → HasFreeBit m4 key
+          go true e = e
+          go false e = absurd (unused (after.marked_used key (in_tree.0, omega (arith, in_tree.1, left_blocks moment key t)) (λ is. false≢true (sym e ∙ is))))
+
+      -- no block is allocated; the entry's own block is freed and no other, and no other free block is written
       pub gone_gives : (m3 m4 : List ℕ) → BitChanged m2 key true m3 → Dated (root_key (block_count m3)) 118 moment m3 m4 → GivesBack key old m4
       gone_gives m3 m4 given stamp =
           let u = removed moment key t in
@@ -191,7 +191,7 @@ module _ (old : List ℕ) (t : Tree) (st : Stands old t) (moment : Date3) (key :
           record {
             none = λ b inside free. still_free old m4 t u st after (left_blocks moment key t) (left_lost moment key t) b inside
                 (λ some. elim (cases_eq b key) [ inl e ↦ rw (ap t.nodes e ∙ node.1) refl | inr n ↦ sym (removed_some moment key t b n) ∙ some ]) free;
+            free = key_free m3 m4 given stamp;
             given = λ b inside n free. was_free old m4 t u st after (left_blocks moment key t) (left_lost moment key t) b inside (stays b n) free;
-            freed = λ b i inside n free l. bytes_stay old m4 t u st after (left_blocks moment key t) (left_lost moment key t) (gone_written m3 m4 given stamp) b inside free (stays b n) i l;
-            own = own_stays m3 m4 given stamp;
+            freed = λ b inside n free i l. bytes_stay old m4 t u st after (left_blocks moment key t) (left_lost moment key t) (gone_written m3 m4 given stamp) b inside free (stays b n) i l;
           }

@@ -242,7 +242,7 @@ module _ (moment : Date3) (old mid : List ℕ) (file : ℕ) (tree : HasTree old)
             lowest = lowest_before old mid tree.0 tree.1 file node.node node.at file_is_no_root rest new
                 (takes_lowest mid new u mid_tree.1 file f.node f.bytes f.at f.content (data_blocks new file) (extension_blocks new file) (contents new file) laid unnamed lowest
                 (subst (λ (xs : List ℕ). RisesBehind xs (data_blocks new file)) blocks rises) (subst (λ (xs : List ℕ). RisesBehind xs (extension_blocks new file)) lists rises'));
-            freed = λ b i inside free no_entry l.
+            freed = λ b inside free i l.
                 let used = key_used mid new u mid_tree.1 file f.node f.bytes f.at f.content (data_blocks new file) (extension_blocks new file) (contents new file) laid unnamed in
                 let at_root = used (root u) mid_tree.1.proper.root_node.0 mid_tree.1.proper.root_node.1 in
                 freed_stays mid new u mid_tree.1 file f.node f.bytes f.at f.content (data_blocks new file) (extension_blocks new file) (contents new file) laid unnamed b free i (inside_mid b inside) l

@@ -67,4 +67,4 @@ module _ (old new : List ℕ) (t u : Tree) (st : Stands old t) (after : Spells n
 
   -- no node is removed
   pub keeps_freed : SameBut (IsWritten old t st new) old new → ((k : ℕ) → IsSome (t.nodes k) → IsSome (u.nodes k)) → KeepsFreed old new
-  keeps_freed h stays b i inside free no_entry l = bytes_stay h b inside free (stays b) i l
+  keeps_freed h stays b inside free i l = bytes_stay h b inside free (stays b) i l

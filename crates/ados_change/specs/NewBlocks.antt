@@ -1,13 +1,13 @@
 -- How a change of an image allocates blocks, and what it leaves untouched otherwise.
-use Rattle.std.specs.Prelude.{◌≡◌, ℕ, ◌<◌, List, [], ◌∷◌, length, slice_index}
+use Rattle.std.specs.Prelude.{◌≡◌, ℕ, ◌<◌, List, length, slice_index}
 use Rattle.adf_block.specs.Image.{byte_at}
 use Rattle.adf_block.specs.Whole.{HasFreeBit}
-use Rattle.adf_block.specs.declared.layout.TheConstants.{BLOCK_BYTES, CHECKSUM, POINTER_COUNT, PROTECTION, FILE_SIZE, DATE, NEXT_IN_CHAIN, NEXT_EXTENSION, NEXT_DATA}
+use Rattle.adf_block.specs.declared.layout.TheConstants.{BLOCK_BYTES}
 use Rattle.ados_model.specs.File.{data_blocks, extension_blocks}
 use Rattle.ados_model.specs.declared.role.Role.{Role}
 use Rattle.ados_model.specs.Faults.{InImage, IsFile, Reached}
-use Rattle.ados_model.specs.Keys.{HasEntryKey, HasFileKey}
-use Rattle.ados_model.specs.Kept.{InLongs, IsField, Kept, NamesFirstData, date_longs, one_long}
+use Rattle.ados_model.specs.Keys.{HasFileKey}
+use Rattle.ados_model.specs.Kept.{IsField, Kept, NamesFirstData}
 use Rattle.ados_change.specs.Untold.{KeepsUntold}
 
 -- a block that was free and is now in use: it was allocated
@@ -34,15 +34,13 @@ pub record TakesLowest (old new : List ℕ) : Type 0 where
 abbrev pub TakesNone : List ℕ → List ℕ → Type 0
 TakesNone old new = (block : ℕ) → InImage old block → HasFreeBit old block → HasFreeBit new block
 
--- byte i is in a field that is written when an entry is removed: the count, size, first data and extension block,
--- protection bits, date, next in chain or checksum
-abbrev pub IsLeftField : ℕ → Type 0
-IsLeftField i =
-    InLongs (one_long POINTER_COUNT ∷ (NEXT_DATA, CHECKSUM) ∷ (PROTECTION, FILE_SIZE) ∷ date_longs DATE ∷ one_long NEXT_IN_CHAIN ∷ one_long NEXT_EXTENSION ∷ []) i
+-- all bytes of a block are unchanged
+abbrev pub KeepsBlock : ℕ → List ℕ → List ℕ → Type 0
+KeepsBlock block old new = (i : ℕ) → i < BLOCK_BYTES → byte_at new block i ≡ byte_at old block i
 
--- a block that is free afterwards has the bytes that it had before, except for those fields of a removed entry
+-- a block that is free afterwards has the bytes that it had before, the header of a removed entry too
 abbrev pub KeepsFreed : List ℕ → List ℕ → Type 0
-KeepsFreed old new = (block i : ℕ) → InImage old block → HasFreeBit new block → ¬ (HasEntryKey old block × IsLeftField i) → i < BLOCK_BYTES → byte_at new block i ≡ byte_at old block i
+KeepsFreed old new = (block : ℕ) → InImage old block → HasFreeBit new block → KeepsBlock block old new
 
 -- bytes in no field and bytes that no tree determines are unchanged; allocated blocks are the lowest free ones and are
 -- 0 outside their fields; blocks free afterwards keep their bytes

@@ -4,7 +4,7 @@ ghost use Rattle.std.specs.Prelude.{◌≡◌, [], MatchResult};
 ghost use Rattle.ados_model.specs.Tree.{Tree};
 ghost use Rattle.ados_model.specs.Stands.{Stands};
 ghost use Rattle.ados_model.specs.Keys.{HasKey, HasTree};
-ghost use Rattle.ados_change.specs.NewBlocks.{KeepsRest, TakesNone};
+ghost use Rattle.ados_change.specs.NewBlocks.{KeepsBlock, KeepsRest, TakesNone};
 ghost use Rattle.ados_model.specs.Change.{removed, renamed};
 ghost use Rattle.ados_change.specs.Behind.{KeepsBehindName};
 ghost use Rattle.ados_change.specs.Conditions.{CanMake, CanRemove, CanRename};
@@ -47,8 +47,8 @@ impl Volume {
         Ok(key)
     }
 
-    /// Removes a file, or a directory without entries. The bytes of freed blocks are unchanged, except for some fields
-    /// of the entry's own block.
+    /// Removes a file, or a directory without entries. The bytes of freed blocks are unchanged, those of the entry's
+    /// own block too.
     ///
     /// The date of the directory and the disk date become `moment`.
     pub fn remove(&mut self, key: u32, moment: Date3)
@@ -56,6 +56,7 @@ impl Volume {
         ensures stands { (t : Tree) → Stands self.old.image t → Stands self.new.image (removed moment key t) }
         ensures keeps { KeepsRest self.old.image self.new.image }
         ensures none { TakesNone self.old.image self.new.image }
+        ensures dead { KeepsBlock key self.old.image self.new.image }
         ensures validated { self.new.was_validated ≡ self.old.was_validated }
     {
         forget(&mut self.names, &mut self.told, &self.image, key);

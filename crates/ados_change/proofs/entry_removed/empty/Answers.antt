@@ -3,7 +3,7 @@ use Rattle.adf_block.specs.declared.layout.TheConstants.{FILE_TYPE}
 use Rattle.adf_block.specs.Fields.{secondary_type}
 use Rattle.ados_model.specs.Edits.{shortened}
 use Rattle.ados_change.proofs.Keeping.{same_keeps}
-use Rattle.ados_change.proofs.Emptier.{cut_to_nothing, entry_cut, is_file, kept_as_is, key_inside}
+use Rattle.ados_change.proofs.Emptier.{cut_to_nothing, is_file, kept_as_is, key_inside}
 use Rattle.ados_change.proofs.entry_removed.empty.Goals as goal
 
 pub long-requires-clause-block : goal.long-requires-clause-block
@@ -24,6 +24,3 @@ returns-clause-empties c = λ t s. (shortened c.args.moment c.args.key 0 t, c.cu
 
 pub returns-then-long-clause-keeps : goal.returns-then-long-clause-keeps
 returns-then-long-clause-keeps c = same_keeps c.args.image.now
-
-pub returns-clause-entry : goal.returns-clause-entry
-returns-clause-entry c = entry_cut c.args.image.now c.requires.tree.0 c.requires.tree.1 c.args.key (c.requires.can c.requires.tree.0 c.requires.tree.1) c.cut.new.image c.cut.ensures.header
