@@ -1,5 +1,6 @@
 -- The output for images.
-use Rattle.std.specs.Prelude.{ℕ, suc, false, if◌then◌else◌, List, [], ◌∷◌, ◌++◌, get_or, flat_map, decimal, codes, Option, Some, None, Vec, Global}
+use Rattle.std.specs.Prelude.{ℕ, suc, false, if◌then◌else◌, List, [], ◌∷◌, ◌++◌, get_or, flat_map, decimal, codes, Option, Some, None, Vec}
+use Rattle.std.specs.Global.{Global}
 use Rattle.adf_text.specs.Letters.{letters}
 use Rattle.adf_text.specs.Plain.{plain}
 use Rattle.adf_archive.specs.declared.report.AcceptedImage.{AcceptedImage}
@@ -33,10 +34,13 @@ path_or_header None file = codes "the file at block " ++ decimal file
 abbrev pub file_words : Suspect → List ℕ
 file_words suspect = path_or_header suspect.path suspect.file
 
+-- `suspect block BLOCK, data PLACE of `
+abbrev pub place_words : ℕ → ℕ → List ℕ
+place_words block place = codes "suspect block " ++ decimal block ++ codes ", data " ++ decimal place ++ codes " of "
+
 -- `suspect block BLOCK, data PLACE of PATH`
 abbrev pub suspect_words : Suspect → List ℕ
-suspect_words suspect =
-    codes "suspect block " ++ decimal suspect.block ++ codes ", data " ++ decimal suspect.place ++ codes " of " ++ file_words suspect
+suspect_words suspect = place_words suspect.block suspect.place ++ file_words suspect
 
 -- the line of a suspect block
 abbrev pub suspect_line : List ℕ → Suspect → List ℕ

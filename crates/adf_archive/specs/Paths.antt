@@ -1,5 +1,6 @@
 -- The path of a directory or file.
-use Rattle.std.specs.Prelude.{◌≡◌, ℕ, ◌<◌, ◌≤◌, List, [], ◌∷◌, ◌++◌, length, Option, Some, MatchOption, Vec, Global}
+use Rattle.std.specs.Prelude.{◌≡◌, ℕ, ◌<◌, ◌≤◌, List, [], ◌∷◌, ◌++◌, length, Option, Some, MatchOption, Vec}
+use Rattle.std.specs.Global.{Global}
 use Rattle.ados_model.specs.Tree.{Tree, name_of, parent_of, root}
 use Rattle.adf_archive.specs.declared.path.TheConstants.{MOST_PATH_BYTES}
 

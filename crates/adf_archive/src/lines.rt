@@ -1,6 +1,6 @@
 //! The lines of a report on an image.
 ghost use Rattle.std.specs.Prelude.{◌≡◌, ◌++◌, OnOk, flat_map};
-ghost use Rattle.adf_archive.specs.Lines.{accepted_lines, accepted_words, fault_lines, file_words, lines_of, refused_words, line_behind, shown_line, suspect_line};
+ghost use Rattle.adf_archive.specs.Lines.{accepted_lines, accepted_words, fault_lines, file_words, lines_of, place_words, refused_words, line_behind, shown_line, suspect_line};
 
 use crate::report::{AcceptedImage, ImageReport, RefusedImage, ShownFault};
 use crate::suspects::Suspect;
@@ -77,12 +77,19 @@ fn push_suspect(
 ) -> Result<(), AllocError>
     ensures { OnOk result (text.new.items ≡ text.old.items ++ suspect_line front.now suspect.now) }
 {
-    let (block, place) = (suspect.block, suspect.place);
-    let words = format!(in alloc; "suspect block {block}, data {place} of ")?;
     text.extend_from_slice(front)?;
-    text.extend_from_slice(words.as_bytes())?;
+    push_place(alloc, text, suspect.block, suspect.place)?;
     push_file(alloc, text, suspect)?;
     text.push(b'\n')?;
+    Ok(())
+}
+
+/// Appends `suspect block BLOCK, data PLACE of `.
+fn push_place(alloc: Global, text: &mut Vec<u8>, block: u32, place: u32) -> Result<(), AllocError>
+    ensures { OnOk result (text.new.items ≡ text.old.items ++ place_words block place) }
+{
+    let words = format!(in alloc; "suspect block {block}, data {place} of ")?;
+    text.extend_from_slice(words.as_bytes())?;
     Ok(())
 }
 

@@ -1,5 +1,5 @@
 //! The path of a directory or file, if it is not too long.
-ghost use Rattle.std.specs.Prelude.{◌≡◌, ◌++◌, ◌∷◌, IfOk};
+ghost use Rattle.std.specs.Prelude.{◌≡◌, ◌<◌, ◌++◌, ◌∷◌, IfOk, length};
 ghost use Rattle.ados_model.specs.Keys.{HasKey};
 ghost use Rattle.ados_model.specs.Stands.{Stands};
 ghost use Rattle.ados_model.specs.Tree.{Tree, name_of};
@@ -37,14 +37,10 @@ pub(crate) fn path_of(
 }
 
 /// A path from a directory, with the name of the directory in front.
-fn path_below(
-    alloc: Global,
-    volume: &Volume,
-    dir: u32,
-    path: &[u8],
-) -> Result<Vec<u8>, AllocError>
+fn path_below(alloc: Global, volume: &Volume, dir: u32, path: &[u8]) -> Result<Vec<u8>, AllocError>
     requires { HasKey volume.now.image dir }
-    ensures { IfOk result (λ longer. (t : Tree) → Stands volume.now.image t → longer.items ≡ name_of t dir ++ 47 ∷ path.now) }
+    ensures path { IfOk result (λ longer. (t : Tree) → Stands volume.now.image t → longer.items ≡ name_of t dir ++ 47 ∷ path.now) }
+    ensures longer { IfOk result (λ longer. length path.now < length longer.items) }
 {
     let mut longer = name_of(alloc, volume, dir)?;
     longer.push(b'/')?;
