@@ -1,5 +1,5 @@
 -- The path of a directory or file, from its end.
-use Rattle.std.proofs.Common.{◌≡◌, ◌≢◌, ℕ, ◌+◌, ◌<◌, ◌≤◌, List, [], ◌∷◌, ◌++◌, length, Option, Some, None, refl, sym, ap, ◌∙◌, subst, append_assoc, length-append, arith}
+use Rattle.std.proofs.Common.{◌≡◌, ◌≢◌, ℕ, ◌<◌, List, [], ◌∷◌, ◌++◌, length, Some, None, sym, ap, ◌∙◌, subst, append_assoc, length-append, arith}
 use Rattle.ados_model.specs.Tree.{Tree, name_of, parent_of, root}
 use Rattle.adf_archive.specs.Paths.{HasFront, HasPath}
 use Rattle.adf_archive.specs.Paths.HasFront.{at_root, below}

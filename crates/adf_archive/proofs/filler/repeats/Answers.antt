@@ -1,4 +1,4 @@
-use Rattle.std.proofs.Common.{ℕ, inl, inr, sym, subst, arith}
+use Rattle.std.proofs.Common.{ℕ, inl, inr, subst, arith}
 use Rattle.std.proofs.lemmas.Bool.{cases_lt}
 use Rattle.adf_archive.specs.Fillers.{RepeatsFrom}
 use Rattle.adf_archive.proofs.filler.repeats.Goals as goal
