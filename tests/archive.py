@@ -5,7 +5,8 @@ salvage of damaged images.
     tests/archive.py [PROGRAM]
 
 The environment variable ROUNDS is the number of changed images that are compared with the model of the faults. DAMAGED is the
-number of damaged images of each format that are served; a fifth as many are salvaged.
+number of damaged images of each format that are served; a fifth as many are salvaged. FILLED is the number of drawn volumes
+whose data blocks hold fillers.
 """
 from __future__ import annotations
 
@@ -24,10 +25,12 @@ from typing import Callable, Dict, Iterable, Iterator, List, NamedTuple, Optiona
 sys.dont_write_bytecode = True
 
 from all_faults_model import lines_of
+from drawn_volume import Drawer, drawn
 from harness import BLOCK, Image, Ran, Room, try_all
 
 ROUNDS = int(os.environ.get("ROUNDS", "2000"))
 DAMAGED = int(os.environ.get("DAMAGED", "5000"))
+FILLED = int(os.environ.get("FILLED", "60"))
 ROOT = 880
 LARGEST = 101_602 * BLOCK
 ALL_ONES = 2**32 - 1
@@ -274,6 +277,173 @@ def other_files(room: Room) -> None:
     room.report.check("other files: several, with their paths", ran, 3, lines, *texts)
     ran = room.run("check", "other.adf", "more.adf")
     room.report.same("other files: several, without texts", ran, Ran(3, lines, f"{totals(0, 2)}\n".encode()))
+
+
+# ---- data blocks that hold a filler
+
+# A sector that Greaseweazle could not read, and one that a PC formatted.
+GREASEWEAZLE = b"-=[BAD SECTOR]=-"
+FORMATTED = b"\xf6"
+LONGEST_TOLD = 255
+
+
+class Suspect(NamedTuple):
+    """A data block that holds a filler: its number, the header of its file, its position in the file, and the file's path."""
+
+    block: int
+    header: int
+    place: int
+    path: bytes
+
+    def line(self) -> str:
+        letters = "".join(f"%{ord(it):02X}" if ord(it) < 32 or 127 <= ord(it) < 160 else it for it in self.path.decode("latin-1"))
+        told = letters if len(self.path) <= LONGEST_TOLD else f"the file at block {self.header}"
+        return f"suspect block {self.block}, data {self.place} of {told}\n"
+
+    def member(self) -> Dict[str, object]:
+        path = self.path.decode("latin-1") if len(self.path) <= LONGEST_TOLD else None
+        return {"block": self.block, "header": self.header, "data": self.place, "path": path}
+
+
+def cover(image: Image, block: int, text: bytes, first: int = 0) -> None:
+    """Puts a text over all bytes for a file in a block, again and again, from one of its bytes on."""
+    start = 24 if image.data[3] == 0 else 0
+    many = text * (BLOCK // len(text) + 2)
+    image.data[BLOCK * block + start : BLOCK * (block + 1)] = many[first : first + BLOCK - start]
+    if start:
+        image.settle(block)
+
+
+def filler_blocks(room: Room) -> None:
+    """The data blocks that are told: the first, one in the middle and the last of a file, which is partly used; and others that are not."""
+    for kind in KINDS:
+        said = kind[0] if kind else "--ofs"
+        filled(room, "filler.adf", *kind)
+        clean = Volume(room.content("filler.adf"))
+        size = BLOCK if kind else 488
+        header = clean.header("long")
+        blocks = [*clean.pointers(header), *clean.pointers(clean.long(header, 126))]
+        room.report.expect(f"filler {said}: the last block is partly used", 60_000 % size > 0 and len(blocks) == 60_000 // size + 1)
+
+        def check(name: str, image: Image, told: Sequence[Suspect], *words: str, first: str = "ok\n") -> None:
+            room.write("filled.adf", bytes(image.data))
+            lines = first + "".join(it.line() for it in sorted(told))
+            room.report.check(f"filler {said}: {name}", room.run("check", "--filler", *words, "filled.adf"), 0, lines.encode())
+
+        check("none on a clean disk", clean, [])
+        for text, length in ((GREASEWEAZLE, 16), (FORMATTED, 1)):
+            for place in (0, 1, 71, 72, len(blocks) - 1):
+                for first in {0, length // 2, length - 1}:
+                    image = Volume(bytes(clean.data))
+                    cover(image, blocks[place], text, first)
+                    check(f"{text!r} from byte {first} in data block {place}", image, [Suspect(blocks[place], header, place, b"Docs/long")])
+        free = next(it for it in range(2, clean.blocks) if not any(clean.data[BLOCK * it : BLOCK * (it + 1)]))
+        image = Volume(bytes(clean.data))
+        cover(image, free, GREASEWEAZLE)
+        for at, text in enumerate((b"\0", b"\xe5", b"-=[BAD SECTOR]=", GREASEWEAZLE.lower())):
+            cover(image, blocks[at], text)
+        cover(image, blocks[20], GREASEWEAZLE)
+        image.data[BLOCK * blocks[20] + BLOCK - 1] ^= 1
+        cover(image, blocks[21], GREASEWEAZLE)
+        image.data[BLOCK * blocks[21] + 24] ^= 1
+        for it in [] if kind else blocks[20:22]:
+            image.settle(it)
+        check("a free block, other texts, and blocks with another first or last byte", image, [])
+        image = Volume(bytes(clean.data))
+        for it in blocks:
+            cover(image, it, FORMATTED)
+        told = [Suspect(it, header, place, b"Docs/long") for place, it in enumerate(blocks)]
+        check("each block of a file", image, told)
+        room.report.check(f"filler {said}: without the option", room.run("check", "filled.adf"), 0, b"ok\n")
+        paths = [f"{it}.adf" for it in ("filled", "filler", "filled")]
+        lines = {it: [f"{it}\tok\n", *(f"{it}\t{one.line()}" for one in sorted(told) if it == "filled.adf")] for it in paths}
+        several = "".join(line for it in paths for line in lines[it]).encode()
+        room.report.check(f"filler {said}: several", room.run("check", "--filler", *paths), 0, several, totals(3))
+        objects = [json.loads(it) for it in room.run("check", "--filler", "--json", *paths[:2]).output.splitlines()]
+        room.report.same(f"filler {said}: objects", [it["suspects"] for it in objects], [[it.member() for it in sorted(told)], []])
+        room.report.same(f"filler {said}: the fields of an object", list(objects[0]), [*FIELDS, "suspects"])
+        image.change(ROOT, 78, 0)
+        check("a bitmap that is made anew", image, told, first="ok validated\n")
+        image.put(header, 5, 0)
+        room.write("filled.adf", bytes(image.data))
+        for words in ([], ["--all"], ["--json"]):
+            refused = [room.run("check", *words, *more, "filled.adf") for more in ([], ["--filler"])]
+            room.report.same(f"filler {said}: a refused image {' '.join(words)}", refused[1], refused[0])
+
+
+def long_paths_of_fillers(room: Room) -> None:
+    """A path of 255 bytes is told, and of a longer one the header."""
+    directory = "/".join(["d" * 30] * 8)
+    for name in ("seven77", "eight888"):
+        room.write(name, GREASEWEAZLE * 32)
+    room.done("blank", "--ffs", "Work", "deep.adf")
+    room.done("mkdir", "--parents", "deep.adf", directory)
+    room.done("add", "--to", directory, "deep.adf", "seven77", "eight888")
+    image = Volume(room.content("deep.adf"))
+    told = []
+    for name in ("seven77", "eight888"):
+        header = image.header(name)
+        told.append(Suspect(image.pointers(header)[0], header, 0, f"{directory}/{name}".encode()))
+    room.report.same("filler: the lengths of two paths", [len(it.path) for it in told], [LONGEST_TOLD, LONGEST_TOLD + 1])
+    lines = "".join(it.line() for it in sorted(told))
+    room.report.check("filler: long paths", room.run("check", "--filler", "deep.adf"), 0, f"ok\n{lines}".encode())
+    objects = json.loads(room.run("check", "--filler", "--json", "deep.adf").output)["suspects"]
+    room.report.same("filler: objects of long paths", objects, [it.member() for it in sorted(told)])
+
+
+class Filling(Drawer):
+    """Draws a volume, and notes the data blocks of its files."""
+
+    def __init__(self, chance: random.Random, blocks: int, ofs: bool) -> None:
+        super().__init__(chance, blocks, ofs)
+        self.held: Dict[int, Tuple[int, int]] = {}
+
+    def put_bytes(self, key: int, blocks: List[int], data: bytes) -> None:
+        super().put_bytes(key, blocks, data)
+        room = 488 if self.ofs else BLOCK
+        self.held.update({it: (key, place) for place, it in enumerate(blocks[: (len(data) + room - 1) // room])})
+
+    def path(self, key: int) -> bytes:
+        names: List[bytes] = []
+        while key != self.root:
+            names.insert(0, self.text(key, 432))
+            key = self.long(key, 125)
+        return b"/".join(names)
+
+    def fill_some(self) -> List[Suspect]:
+        """Covers some data blocks with a filler, and others with nearly one. Those that are to be told."""
+        told = []
+        for block, (key, place) in self.held.items():
+            draw = self.chance.randrange(12)
+            text = self.chance.choice([GREASEWEAZLE, FORMATTED])
+            if draw > 2:
+                continue
+            cover(self, block, text, self.chance.randrange(len(text)))
+            if draw == 2:
+                self.data[BLOCK * block + self.chance.randrange(24, BLOCK)] ^= 1 << self.chance.randrange(8)
+                if self.ofs:
+                    self.settle(block)
+                continue
+            told.append(Suspect(block, key, place, self.path(key)))
+        return sorted(told)
+
+
+def drawn_fillers(room: Room) -> None:
+    """Drawn volumes, of which some data blocks hold a filler."""
+    faults, count = [], 0
+    for seed in range(FILLED):
+        disk = drawn(seed, Filling)
+        told = disk.fill_some()
+        count += len(told)
+        room.write("drawn.adf", bytes(disk.data))
+        ran = room.run("check", "--filler", "drawn.adf")
+        lines = "".join(it.line() for it in told).encode()
+        if ran.status or ran.texts or ran.output not in (b"ok\n" + lines, b"ok validated\n" + lines):
+            faults.append(f"{seed}: {ran}")
+        objects = json.loads(room.run("check", "--filler", "--json", "drawn.adf").output)["suspects"]
+        if objects != [it.member() for it in told]:
+            faults.append(f"{seed}: {objects}")
+    room.report.hold(f"filler: {count} blocks of {FILLED} drawn volumes", faults[0] if faults else None)
 
 
 # ---- JSON reports
@@ -1059,7 +1229,7 @@ def damages(room: Room) -> None:
 
 def main(words: List[str]) -> int:
     random.seed(3)
-    parts = (named_images, directories, strange_names, other_files, parallel, accepted_objects, refused_objects, shown_values, texts_told, bounded, many_faults, model, longs_told, salvage, rows, damages)
+    parts = (named_images, directories, strange_names, other_files, filler_blocks, long_paths_of_fillers, drawn_fillers, parallel, accepted_objects, refused_objects, shown_values, texts_told, bounded, many_faults, model, longs_told, salvage, rows, damages)
     return try_all(words, Room, *parts)
 
 

@@ -123,6 +123,8 @@ ADVICE: List[Tuple[str, str]] = [
 ]
 # Texts of faults that are not printed, because standard output says the same.
 NEVER = {"a script is faulty", "an image is refused", "an image is not checked", "not all is whole"}
+# How texts begin that are written to standard output.
+OF_OUTPUT = ("refused {", "suspect block {", "the file at block {")
 # A pattern of texts, and the exit status that follows, where it is another than that of the part.
 STATUSES: List[Tuple[str, str]] = [
     (r"waiting for|skipped|mounted or being|is cut short|all files that are|it is a (symbolic|note)|it is neither", ""),
@@ -146,7 +148,8 @@ def literal(text: str) -> str:
 
 def is_text(text: str) -> bool:
     """Whether it says something: it has a word beside its holes and the name of the program."""
-    return bool(re.search(r"[A-Za-z]{2}", re.sub(r"\{[^}]*\}|adf_serve:|DOS\\", "", text))) and not text.startswith("refused {")
+    has_words = re.search(r"[A-Za-z]{2}", re.sub(r"\{[^}]*\}|adf_serve:|DOS\\", "", text))
+    return bool(has_words) and not text.startswith(OF_OUTPUT)
 
 
 def sources(place: str) -> List[Path]:

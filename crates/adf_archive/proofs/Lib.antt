@@ -1,9 +1,11 @@
 -- Lemmas about archives.
 pub mod Chunks
+pub mod Climbing
 pub mod Counting
 pub mod Ends
 pub mod Gathered
 pub mod Listed
 pub mod Shown
 pub mod Sizes
+pub mod Suspecting
 pub mod Whole

@@ -42,16 +42,21 @@ not_broken_over zero tally NotChecked broken e = broken
 not_broken_over (suc n) tally fault broken e = not_broken tally.not_checked tally.refused fault broken e
 
 module _ (job : CheckJob) where
+  -- all that the command may report
+  everything : Detail
+  everything = record { all = job.all; contents = true; filler = job.filler; texts = true }
+
   -- no image was reported
   nothing : Archive job
+  unfolding everything
   nothing = record {
     paths = [];
     reports = [];
-    detail = record { all = job.all; contents = true; texts = true };
-    wanted = record { all = refl; texts = λ wanted. refl };
+    detail = everything;
+    wanted = record { all = refl; filler = refl; texts = λ wanted. refl };
     form = record { json = job.json; paths = true };
     within = omega arith;
-    checked = All-nil (IsReportOfSome (record { all = job.all; contents = true; texts = true }));
+    checked = All-nil (IsReportOfSome everything);
     json = refl;
     alone = λ e. absurd (cc e);
     several = λ l. refl;

@@ -25,9 +25,11 @@ abbrev pub LeavesOff : {F : Type 0} → Shared F (ℕ × Unit {0}) ImageReport �
 LeavesOff g f form paths old new =
     (count : ℕ) × (reports : List ImageReport) × (count ≤ length paths) × GivesFrom g f 0 count reports × WritesFront old new (told_from form paths 0 reports)
 
--- what a command reports: with `--all` all faults, and with `--all` and with `--json` the texts that explain them
+-- what a command reports: with `--all` all faults, with `--filler` the suspect blocks, and with `--all` and with `--json` the
+-- texts that explain faults
 pub record IsDetailOf (job : CheckJob) (detail : Detail) : Type 0 where
   pub all : detail.all ≡ job.all
+  pub filler : detail.filler ≡ job.filler
   pub texts : (job.all ≡ true) ⊎ (job.json ≡ true) → explains detail ≡ true
 
 -- the reports on images: their paths, the form, and the report on each, which is the check's result for the bytes of

@@ -1,10 +1,14 @@
 -- The output for images.
-use Rattle.std.specs.Prelude.{ℕ, suc, if◌then◌else◌, List, [], ◌∷◌, ◌++◌, get_or, flat_map, decimal, codes}
+use Rattle.std.specs.Prelude.{ℕ, suc, false, if◌then◌else◌, List, [], ◌∷◌, ◌++◌, get_or, flat_map, decimal, codes, Option, Some, None, Vec}
+use Rattle.std.specs.Global.{Global}
+use Rattle.adf_text.specs.Letters.{letters}
+use Rattle.adf_text.specs.Plain.{plain}
 use Rattle.adf_archive.specs.declared.report.AcceptedImage.{AcceptedImage}
 use Rattle.adf_archive.specs.declared.report.ImageReport.{ImageReport}
 use Rattle.adf_archive.specs.declared.report.ImageReport.TheVariants.{Accepted, Refused, WrongSize, NotChecked}
 use Rattle.adf_archive.specs.declared.report.RefusedImage.{RefusedImage}
 use Rattle.adf_archive.specs.declared.report.ShownFault.{ShownFault}
+use Rattle.adf_archive.specs.declared.suspects.Suspect.{Suspect}
 use Rattle.adf_archive.specs.declared.telling.Form.{Form}
 use Rattle.adf_archive.specs.Words.{kind_word, size_word}
 use Rattle.adf_archive.specs.Objects.{object_line}
@@ -21,6 +25,36 @@ refused_words word block = codes "refused " ++ word ++ 32 ∷ decimal block
 abbrev pub accepted_words : AcceptedImage → List ℕ
 accepted_words told = if told.validated then codes "ok validated" else codes "ok"
 
+-- a path in letters, with control characters as escapes; without a path, the block of the file's header
+abbrev pub path_or_header : Option (Vec ℕ Global) → ℕ → List ℕ
+path_or_header (Some path) file = plain false (letters path.items)
+path_or_header None file = codes "the file at block " ++ decimal file
+
+-- the file of a suspect block
+abbrev pub file_words : Suspect → List ℕ
+file_words suspect = path_or_header suspect.path suspect.file
+
+-- `suspect block BLOCK, data PLACE of `
+abbrev pub place_words : ℕ → ℕ → List ℕ
+place_words block place = codes "suspect block " ++ decimal block ++ codes ", data " ++ decimal place ++ codes " of "
+
+-- `suspect block BLOCK, data PLACE of PATH`
+abbrev pub suspect_words : Suspect → List ℕ
+suspect_words suspect = place_words suspect.block suspect.place ++ file_words suspect
+
+-- the line of a suspect block
+abbrev pub suspect_line : List ℕ → Suspect → List ℕ
+suspect_line front suspect = line_behind front (suspect_words suspect)
+
+-- the lines of the suspect blocks, if they were requested
+abbrev pub suspect_lines : List ℕ → Option (Vec Suspect Global) → List ℕ
+suspect_lines front None = []
+suspect_lines front (Some suspects) = flat_map (suspect_line front) suspects.items
+
+-- the lines of an accepted image
+abbrev pub accepted_lines : List ℕ → AcceptedImage → List ℕ
+accepted_lines front told = line_behind front (accepted_words told) ++ suspect_lines front told.suspects
+
 -- the line of a fault
 abbrev pub shown_line : List ℕ → ShownFault → List ℕ
 shown_line front shown = line_behind front (refused_words (kind_word shown.fault.kind) shown.fault.block)
@@ -33,7 +67,7 @@ fault_lines front told =
 
 -- the lines of a report, each after a prefix
 abbrev pub lines_of : List ℕ → ImageReport → List ℕ
-lines_of front (Accepted told) = line_behind front (accepted_words told)
+lines_of front (Accepted told) = accepted_lines front told
 lines_of front (Refused told) = fault_lines front told
 lines_of front (WrongSize fault) = line_behind front (refused_words (size_word fault) 0)
 lines_of front (NotChecked why) = []

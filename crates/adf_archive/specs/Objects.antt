@@ -1,5 +1,6 @@
 -- The JSON object of a report on an image, as tokens.
-use Rattle.std.specs.Prelude.{ℕ, Bool, true, false, if◌then◌else◌, List, [], ◌∷◌, ◌++◌, flat_map, decimal, codes, Option, Some, None, option_map}
+use Rattle.std.specs.Prelude.{ℕ, Bool, true, false, if◌then◌else◌, List, [], ◌∷◌, ◌++◌, flat_map, decimal, codes, Option, Some, None, option_map, Vec}
+use Rattle.std.specs.Global.{Global}
 use Rattle.std.specs.String.{string_bytes}
 use Rattle.json.specs.Token.{Token, begin_object, end_object, begin_array, end_array, key, string, number, boolean}
 use Rattle.json.specs.Print.{print}
@@ -13,6 +14,7 @@ use Rattle.adf_archive.specs.declared.report.Contents.{Contents}
 use Rattle.adf_archive.specs.declared.report.ImageReport.{ImageReport}
 use Rattle.adf_archive.specs.declared.report.ImageReport.TheVariants.{Accepted, Refused, WrongSize, NotChecked}
 use Rattle.adf_archive.specs.declared.report.ShownFault.{ShownFault}
+use Rattle.adf_archive.specs.declared.suspects.Suspect.{Suspect}
 use Rattle.adf_archive.specs.Words.{kind_word, size_word}
 
 -- the DOS type of a disk: `DOS\` and its last byte as a number
@@ -77,11 +79,35 @@ faults_tokens (Refused told) = flat_map shown_tokens told.faults.items
 faults_tokens (WrongSize fault) = fault_tokens (size_word fault) 0 None None None
 faults_tokens (NotChecked why) = []
 
+-- the path of a suspect block's file in letters
+abbrev pub path_text : Suspect → Option (List ℕ)
+path_text suspect = option_map (λ path. letters path.items) suspect.path
+
+-- the object of a suspect block
+abbrev pub suspect_tokens : Suspect → List Token
+suspect_tokens suspect =
+    begin_object ∷ key (codes "block") ∷ number (decimal suspect.block) ∷ key (codes "header") ∷ number (decimal suspect.file)
+    ∷ key (codes "data") ∷ number (decimal suspect.place) ∷ key (codes "path") ∷ string_token (path_text suspect) ∷ end_object ∷ []
+
+-- the member with the suspect blocks
+abbrev pub suspects_tokens : List Suspect → List Token
+suspects_tokens suspects = key (codes "suspects") ∷ begin_array ∷ flat_map suspect_tokens suspects ++ end_array ∷ []
+
+-- the same if they were requested; else no member
+abbrev pub asked_tokens : Option (Vec Suspect Global) → List Token
+asked_tokens (Some suspects) = suspects_tokens suspects.items
+asked_tokens None = []
+
+-- the member with the suspect blocks of a report; only that of an accepted image has them
+abbrev pub searched_tokens : ImageReport → List Token
+searched_tokens (Accepted told) = asked_tokens told.suspects
+searched_tokens report = []
+
 -- the object for the image at a path
 abbrev pub object_tokens : List ℕ → ImageReport → List Token
 object_tokens path report =
     begin_object ∷ key (codes "path") ∷ string path ∷ members_tokens (members_of report)
-    ++ key (codes "faults") ∷ begin_array ∷ faults_tokens report ++ end_array ∷ end_object ∷ []
+    ++ key (codes "faults") ∷ begin_array ∷ faults_tokens report ++ end_array ∷ (searched_tokens report ++ end_object ∷ [])
 
 -- the image was read and checked
 abbrev pub is_checked : ImageReport → Bool

@@ -17,6 +17,7 @@ use Rattle.adf_archive.specs.declared.report.ImageReport.{ImageReport}
 use Rattle.adf_archive.specs.declared.report.ImageReport.TheVariants.{Accepted, Refused, WrongSize, NotChecked}
 use Rattle.adf_archive.specs.declared.report.RefusedImage.{RefusedImage}
 use Rattle.adf_archive.specs.declared.report.ShownFault.{ShownFault}
+use Rattle.adf_archive.specs.Suspects.{AreSuspects}
 
 -- the contents of a tree's volume: its name, the numbers of files and directories below the root, and the free blocks
 pub record Tells (t : Tree) (contents : Contents) : Type 0 where
@@ -31,6 +32,7 @@ pub record IsAccepted (image : List ℕ) (told : AcceptedImage) : Type 0 where
   pub kind : HasKind checked told.kind
   pub blocks : told.blocks ≡ block_count checked
   pub contents : IfSome told.contents (λ contents. (t : Tree) → Stands checked t → Tells t contents)
+  pub suspects : IfSome told.suspects (λ suspects. (t : Tree) → Stands checked t → AreSuspects checked t suspects.items)
 
 -- the values of a fault are those of the first long that shows it, by these marks; it has none only if no long does
 abbrev pub HasValues : List ℕ → Marks → ShownFault → Type 0
@@ -75,11 +77,18 @@ abbrev pub IsComplete : List ℕ → ImageReport → Type 0
 IsComplete image (Refused told) = ListsEach image told.more (map (λ shown. shown.fault) told.faults.items)
 IsComplete image report = ⊤
 
--- the report is the check's result for these bytes; its faults are explained and complete, if that is wanted
+-- the suspect blocks of an accepted image are reported exactly if that is wanted
+abbrev pub IsSearched : Bool → ImageReport → Type 0
+IsSearched wanted (Accepted told) = is_some told.suspects ≡ wanted
+IsSearched wanted report = ⊤
+
+-- the report is the check's result for these bytes; its faults are explained and complete, and its suspect blocks are
+-- reported, if that is wanted
 pub record IsReportFor (detail : Detail) (image : List ℕ) (report : ImageReport) : Type 0 where
   pub is : IsReport image report
   pub texts : explains detail ≡ true → IsExplained report
   pub each : detail.all ≡ true → IsComplete image report
+  pub filler : IsSearched detail.filler report
 
 -- so it is for the bytes of some file
 abbrev pub IsReportOfSome : Detail → ImageReport → Type 0

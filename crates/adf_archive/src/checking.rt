@@ -1,16 +1,18 @@
 //! The check of one image, as a report.
-ghost use Rattle.std.specs.Prelude.{ℕ, List, IfOk, IfSome};
+ghost use Rattle.std.specs.Prelude.{◌≡◌, ℕ, List, IfOk, IfSome, is_some};
 ghost use Rattle.ados_model.specs.Tree.{Tree};
 ghost use Rattle.ados_model.specs.Stands.{Stands};
 ghost use Rattle.ados_model.specs.Accepted.{Accepts};
 ghost use Rattle.ados_model.specs.Faults.{Shows};
 ghost use Rattle.adf_archive.specs.Report.{IsReportFor, IsReportOfSome, Tells};
+ghost use Rattle.adf_archive.specs.Suspects.{AreSuspects};
 ghost use Rattle.adf_archive.specs.declared.checking.Detail.{Detail};
 
 use crate::contents::contents_of;
 use crate::faults::told_faults;
 use crate::reading::ReadImages;
 use crate::report::{AcceptedImage, Contents, ImageReport, RefusedImage, WhyNot};
+use crate::suspects::{Suspect, suspects_of};
 use adf_block::Image;
 use adf_io::LoadFault;
 use ados_check::accepted_kind;
@@ -25,6 +27,8 @@ pub struct Detail {
     pub all: bool,
     /// The contents of the volume, and the paths of faults and the texts that explain them.
     pub contents: bool,
+    /// The data blocks of files that hold nothing but a filler.
+    pub filler: bool,
     /// The texts that explain faults.
     pub texts: bool,
 }
@@ -43,12 +47,7 @@ pub fn report_file<R: ReadImages>(
     if !is_hosts {
         return not_checked(WhyNot::Name);
     }
-    let sketched = if detail.contents {
-        None
-    } else {
-        report_sketch(rt, alloc, path)
-    };
-    if let Some(report) = sketched {
+    if let Some(report) = report_sketch(rt, alloc, path, detail) {
         return report;
     }
     match rt.read_image(alloc, path) {
@@ -64,10 +63,18 @@ fn not_checked(why: WhyNot) -> ImageReport
     ImageReport::NotChecked(why)
 }
 
-/// The report on an image that is accepted as it is, if a sketch shows this.
-fn report_sketch<R: ReadImages>(rt: &R, alloc: Global, path: &str) -> Option<ImageReport>
-    ensures { IfSome result (λ report. (detail : Detail) → IsReportOfSome detail report) }
+/// The report on an image that is accepted as it is, if a sketch shows this and has all that is reported.
+fn report_sketch<R: ReadImages>(
+    rt: &R,
+    alloc: Global,
+    path: &str,
+    detail: Detail,
+) -> Option<ImageReport>
+    ensures { IfSome result (IsReportOfSome detail) }
 {
+    if detail.contents || detail.filler {
+        return None;
+    }
     let sketch = rt.read_sketch(alloc, path)?;
     let kind = accepted_kind(alloc, &sketch)?;
     Some(ImageReport::Accepted(AcceptedImage {
@@ -75,6 +82,7 @@ fn report_sketch<R: ReadImages>(rt: &R, alloc: Global, path: &str) -> Option<Ima
         blocks: sketch.blocks(),
         validated: false,
         contents: None,
+        suspects: None,
     }))
 }
 
@@ -120,12 +128,14 @@ fn accepted(alloc: Global, volume: &Volume, detail: Detail) -> Result<ImageRepor
     ensures { IfOk result (λ report. (old : List ℕ) → Accepts old volume.now.was_validated volume.now.image → IsReportFor detail old report) }
 {
     let contents = wanted_contents(alloc, volume, detail)?;
+    let suspects = wanted_suspects(alloc, volume, detail)?;
     let image = volume.image();
     Ok(ImageReport::Accepted(AcceptedImage {
         kind: image.boot_kind(),
         blocks: image.blocks(),
         validated: volume.was_validated(),
         contents,
+        suspects,
     }))
 }
 
@@ -141,6 +151,21 @@ fn wanted_contents(
         return Ok(None);
     }
     Ok(Some(contents_of(alloc, volume)?))
+}
+
+/// The data blocks of files that hold nothing but a filler, if requested.
+fn wanted_suspects(
+    alloc: Global,
+    volume: &Volume,
+    detail: Detail,
+) -> Result<Option<Vec<Suspect>>, AllocError>
+    ensures are { IfOk result (λ suspects. IfSome suspects (λ found. (t : Tree) → Stands volume.now.image t → AreSuspects volume.now.image t found.items)) }
+    ensures asked { IfOk result (λ suspects. is_some suspects ≡ detail.filler) }
+{
+    if !detail.filler {
+        return Ok(None);
+    }
+    Ok(Some(suspects_of(alloc, volume)?))
 }
 
 /// The report on a refused image.

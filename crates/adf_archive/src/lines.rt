@@ -1,13 +1,15 @@
 //! The lines of a report on an image.
 ghost use Rattle.std.specs.Prelude.{◌≡◌, ◌++◌, OnOk, flat_map};
-ghost use Rattle.adf_archive.specs.Lines.{fault_lines, lines_of, refused_words, line_behind, shown_line};
+ghost use Rattle.adf_archive.specs.Lines.{accepted_lines, accepted_words, fault_lines, file_words, lines_of, place_words, refused_words, line_behind, shown_line, suspect_line};
 
-use crate::report::{ImageReport, RefusedImage, ShownFault};
+use crate::report::{AcceptedImage, ImageReport, RefusedImage, ShownFault};
+use crate::suspects::Suspect;
 use crate::words::{kind_word, size_word};
+use adf_text::{letter_text, push_plain};
 use std::alloc::{AllocError, Global};
 
-/// Appends the lines of a report, each after this prefix: `ok` or `ok validated`; `refused KIND BLOCK` for each fault,
-/// and `more` if there may be more; no line for an image that was not checked.
+/// Appends the lines of a report, each after this prefix: `ok` or `ok validated`, and a line for each suspect block;
+/// `refused KIND BLOCK` for each fault, and `more` if there may be more; no line for an image that was not checked.
 pub fn push_lines(
     alloc: Global,
     text: &mut Vec<u8>,
@@ -17,11 +19,95 @@ pub fn push_lines(
     ensures { OnOk result (text.new.items ≡ text.old.items ++ lines_of front.now report.now) }
 {
     match report {
-        ImageReport::Accepted(told) if told.validated => push_line(text, front, b"ok validated"),
-        ImageReport::Accepted(_) => push_line(text, front, b"ok"),
+        ImageReport::Accepted(told) => push_accepted(alloc, text, front, told),
         ImageReport::Refused(told) => push_faults(alloc, text, front, told),
         ImageReport::WrongSize(fault) => push_refusal(alloc, text, front, size_word(*fault), 0),
         ImageReport::NotChecked(_) => Ok(()),
+    }
+}
+
+/// Appends the lines of an accepted image.
+fn push_accepted(
+    alloc: Global,
+    text: &mut Vec<u8>,
+    front: &[u8],
+    told: &AcceptedImage,
+) -> Result<(), AllocError>
+    ensures { OnOk result (text.new.items ≡ text.old.items ++ accepted_lines front.now told.now) }
+{
+    push_line(text, front, accepted_words(told))?;
+    if let Some(suspects) = &told.suspects {
+        push_suspects(alloc, text, front, suspects)?;
+    }
+    Ok(())
+}
+
+/// `ok`, or `ok validated` if the bitmap was rebuilt.
+fn accepted_words(told: &AcceptedImage) -> &'static [u8]
+    ensures { result.now ≡ accepted_words told.now }
+{
+    if told.validated {
+        b"ok validated"
+    } else {
+        b"ok"
+    }
+}
+
+/// Appends a line for each of these blocks.
+fn push_suspects(
+    alloc: Global,
+    text: &mut Vec<u8>,
+    front: &[u8],
+    suspects: &[Suspect],
+) -> Result<(), AllocError>
+    ensures { OnOk result (text.new.items ≡ text.old.items ++ flat_map (suspect_line front.now) suspects.now) }
+{
+    for suspect in suspects {
+        push_suspect(alloc, text, front, suspect)?;
+    }
+    Ok(())
+}
+
+/// Appends `suspect block BLOCK, data PLACE of PATH`.
+fn push_suspect(
+    alloc: Global,
+    text: &mut Vec<u8>,
+    front: &[u8],
+    suspect: &Suspect,
+) -> Result<(), AllocError>
+    ensures { OnOk result (text.new.items ≡ text.old.items ++ suspect_line front.now suspect.now) }
+{
+    text.extend_from_slice(front)?;
+    push_place(alloc, text, suspect.block, suspect.place)?;
+    push_file(alloc, text, suspect)?;
+    text.push(b'\n')?;
+    Ok(())
+}
+
+/// Appends `suspect block BLOCK, data PLACE of `.
+fn push_place(alloc: Global, text: &mut Vec<u8>, block: u32, place: u32) -> Result<(), AllocError>
+    ensures { OnOk result (text.new.items ≡ text.old.items ++ place_words block place) }
+{
+    let words = format!(in alloc; "suspect block {block}, data {place} of ")?;
+    text.extend_from_slice(words.as_bytes())?;
+    Ok(())
+}
+
+/// Appends the path of a suspect block's file in letters, with escapes for control characters; if the path is too long,
+/// the block of the file's header.
+fn push_file(alloc: Global, text: &mut Vec<u8>, suspect: &Suspect) -> Result<(), AllocError>
+    ensures { OnOk result (text.new.items ≡ text.old.items ++ file_words suspect.now) }
+{
+    match &suspect.path {
+        Some(path) => {
+            let letters = letter_text(alloc, path)?;
+            push_plain(text, letters.as_str())
+        }
+        None => {
+            let file = suspect.file;
+            let words = format!(in alloc; "the file at block {file}")?;
+            text.extend_from_slice(words.as_bytes())
+        }
     }
 }
 

@@ -1,10 +1,12 @@
 //! The JSON object of a report on an image.
-ghost use Rattle.std.specs.Prelude.{◌≡◌, ◌++◌, ◌∷◌, [], OnOk, codes, flat_map, option_map};
+ghost use Rattle.std.specs.Prelude.{◌≡◌, ◌++◌, ◌∷◌, [], IfOk, OnOk, codes, flat_map, option_map};
+ghost use Rattle.std.specs.String.{string_bytes};
 ghost use Rattle.json.specs.Token.{key};
 ghost use Rattle.adf_record.specs.Members.{string_token};
-ghost use Rattle.adf_archive.specs.Objects.{contents_tokens, fault_tokens, faults_tokens, found_in, is_checked, kind_text, known_tokens, members_of, members_tokens, object_line, object_tokens, shown_tokens, wanted_in};
+ghost use Rattle.adf_archive.specs.Objects.{contents_tokens, fault_tokens, faults_tokens, found_in, is_checked, kind_text, known_tokens, members_of, members_tokens, object_line, object_tokens, path_text, searched_tokens, shown_tokens, suspect_tokens, suspects_tokens, wanted_in};
 
 use crate::report::{Contents, ImageReport, ShownFault};
+use crate::suspects::Suspect;
 use crate::words::{kind_word, size_word};
 use adf_block::BootKind;
 use adf_record::{put_flag, put_number, put_text};
@@ -95,6 +97,7 @@ fn put_object(
     writer.begin_array()?;
     put_faults(writer, report)?;
     writer.end_array()?;
+    put_suspects_of(alloc, writer, report)?;
     writer.end_object()
 }
 
@@ -220,6 +223,70 @@ fn put_fault(
     put_number(writer, "wanted", wanted_in(values))?;
     put_text(writer, "text", text)?;
     writer.end_object()
+}
+
+/// Writes the member with the suspect blocks of a report, if they were requested of an image that is accepted.
+fn put_suspects_of(
+    alloc: Global,
+    writer: &mut Writer,
+    report: &ImageReport,
+) -> Result<(), AllocError>
+    ensures before { writer.new.before ≡ writer.old.before }
+    ensures tokens { OnOk result (writer.new.tokens ≡ writer.old.tokens ++ searched_tokens report.now) }
+{
+    match report {
+        ImageReport::Accepted(told) => match &told.suspects {
+            Some(suspects) => put_member(alloc, writer, suspects),
+            None => Ok(()),
+        },
+        _ => Ok(()),
+    }
+}
+
+/// Writes the member with these suspect blocks.
+fn put_member(alloc: Global, writer: &mut Writer, suspects: &[Suspect]) -> Result<(), AllocError>
+    ensures before { writer.new.before ≡ writer.old.before }
+    ensures tokens { OnOk result (writer.new.tokens ≡ writer.old.tokens ++ suspects_tokens suspects.now) }
+{
+    writer.key("suspects")?;
+    writer.begin_array()?;
+    put_each(alloc, writer, suspects)?;
+    writer.end_array()
+}
+
+/// Writes the objects of suspect blocks.
+fn put_each(alloc: Global, writer: &mut Writer, suspects: &[Suspect]) -> Result<(), AllocError>
+    ensures before { writer.new.before ≡ writer.old.before }
+    ensures tokens { OnOk result (writer.new.tokens ≡ writer.old.tokens ++ flat_map suspect_tokens suspects.now) }
+{
+    for suspect in suspects {
+        put_suspect(alloc, writer, suspect)?;
+    }
+    Ok(())
+}
+
+/// Writes the object of a suspect block.
+fn put_suspect(alloc: Global, writer: &mut Writer, suspect: &Suspect) -> Result<(), AllocError>
+    ensures before { writer.new.before ≡ writer.old.before }
+    ensures tokens { OnOk result (writer.new.tokens ≡ writer.old.tokens ++ suspect_tokens suspect.now) }
+{
+    let path = path_text(alloc, suspect)?;
+    writer.begin_object()?;
+    put_number(writer, "block", Some(u64::from(suspect.block)))?;
+    put_number(writer, "header", Some(u64::from(suspect.file)))?;
+    put_number(writer, "data", Some(u64::from(suspect.place)))?;
+    put_text(writer, "path", path.as_deref())?;
+    writer.end_object()
+}
+
+/// The path of a suspect block's file in letters.
+fn path_text(alloc: Global, suspect: &Suspect) -> Result<Option<String>, AllocError>
+    ensures { IfOk result (λ text. option_map string_bytes text ≡ path_text suspect.now) }
+{
+    match &suspect.path {
+        Some(path) => Ok(Some(letter_text(alloc, path)?)),
+        None => Ok(None),
+    }
 }
 
 /// The value of the long that shows a fault.

@@ -21,6 +21,7 @@ const ALONE: Manner = Manner {
 const FIRST_FAULT: Detail = Detail {
     all: false,
     contents: false,
+    filler: false,
     texts: true,
 };
 
@@ -28,6 +29,7 @@ const FIRST_FAULT: Detail = Detail {
 const EACH_FAULT: Detail = Detail {
     all: true,
     contents: false,
+    filler: false,
     texts: true,
 };
 

@@ -1,4 +1,5 @@
 //! The report on an image, as a value.
+use crate::suspects::Suspect;
 use adf_block::{BootKind, SizeFault};
 use adf_record::Counts;
 use ados_faults::FaultValues;
@@ -25,6 +26,8 @@ pub struct AcceptedImage {
     pub validated: bool,
     /// The contents of the volume, if requested.
     pub contents: Option<Contents>,
+    /// The data blocks of files that hold nothing but a filler, if requested.
+    pub suspects: Option<Vec<Suspect>>,
 }
 
 /// The contents of an accepted image.

@@ -94,6 +94,7 @@ fn detail_of(job: &CheckJob<'_>, form: Form) -> Detail
     Detail {
         all: job.all,
         contents: job.json,
+        filler: job.filler,
         texts: job.all || !form.paths,
     }
 }

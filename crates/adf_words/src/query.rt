@@ -10,6 +10,8 @@ pub struct CheckJob<'a> {
     pub all: bool,
     /// Whether the report on each image is a JSON object.
     pub json: bool,
+    /// Whether data blocks that hold nothing but the filler of a program are reported.
+    pub filler: bool,
     /// The number of images checked in parallel; by default the number of processors.
     pub jobs: Option<u32>,
     ghost some: { 0 < length files.items },

@@ -187,12 +187,13 @@ pub(crate) const COMMANDS: [CommandRow; 19] = [
     CommandRow {
         name: "check",
         about: "Prints `ok`, or why an image is refused. Several images, and those of a directory, get a line each",
-        examples: "Examples:\n  adf_serve check work.adf\n  adf_serve check --jobs 4 --all floppies more/work.adf",
+        examples: "Examples:\n  adf_serve check work.adf\n  adf_serve check --jobs 4 --all floppies more/work.adf\n  adf_serve check --filler floppies",
         changes: false,
         arguments: &[
             ArgumentRow { name: "jobs", kind: NUMBER, help: "Checks this number of images at a time. The default is the number of processors" },
             ArgumentRow { name: "all", kind: FLAG, help: "Prints every fault of an image, and not only one" },
             ArgumentRow { name: "json", kind: FLAG, help: "Prints a JSON object for each image" },
+            ArgumentRow { name: "filler", kind: FLAG, help: "Also prints each data block of a file that holds nothing but the filler of a program, as that of Greaseweazle for a sector that it could not read" },
             ArgumentRow { name: "FILE", kind: Kind::OneOrMore, help: "An image; or a directory, whose files that end in `.adf` or `.hdf` are checked, and those in all directories below it" },
         ],
     },

@@ -22,6 +22,7 @@ pub(crate) fn check_job<'a>(arguments: &Arguments<'a, '_>) -> Result<ImageJob<'a
         files,
         all: arguments.flag("all"),
         json: arguments.flag("json"),
+        filler: arguments.flag("filler"),
         jobs,
     }))
 }

@@ -12,7 +12,9 @@ returns c = λ old a. record {
     kind = subst (λ (image : List ℕ). HasKind image c.boot_kind.result) c.image-image.ensures.same c.boot_kind.ensures;
     blocks = c.blocks-2.ensures.count ∙ ap block_count c.image-image.ensures.same;
     contents = c.in_ok-contents.ensures;
+    suspects = c.in_ok-suspects.ensures.are;
   };
   texts = λ wanted. tt;
   each = λ wanted. tt;
+  filler = c.in_ok-suspects.ensures.asked;
 }

@@ -1,0 +1,107 @@
+-- The suspect blocks of an image, in the order of the blocks.
+use Rattle.std.proofs.Common.{◌≡◌, ℕ, zero, suc, ◌+◌, ◌-◌, ◌*◌, ◌<◌, ◌≤◌, ◌⊎◌, inl, inr, List, [], ◌∷◌, ◌++◌, length, slice_get, take, drop, All, AllPairs, Contains, Some, refl, sym, ap, ap₂, ◌∙◌, subst, arith}
+use Rattle.std.proofs.lemmas.Bool.{cases_lt}
+use Rattle.std.proofs.lemmas.List.{drop-drop, drop-take, map-append}
+use Rattle.adf_block.specs.Image.{bytes_at}
+use Rattle.std.proofs.lemmas.List.Elements.{All-nil, All-push, Contains-append_left, Contains-push}
+use Rattle.std.proofs.lemmas.List.Quantifiers.{all_pairs_push}
+use Rattle.ados_model.specs.Tree.{Tree}
+use Rattle.ados_model.specs.Tree.Content.{File}
+use Rattle.ados_model.specs.Stands.{Duty, Stands}
+use Rattle.ados_model.proofs.Nodes.{content_in}
+use Rattle.ados_change.proofs.Writable.{data_is}
+use Rattle.ados_volume.specs.Owners.{Owns}
+use Rattle.ados_volume.specs.declared.owner.Owner.{Owner}
+use Rattle.ados_volume.specs.declared.owner.Owner.TheVariants.{Data}
+use Rattle.adf_archive.specs.declared.suspects.Suspect.{Suspect}
+use Rattle.adf_archive.specs.Suspects.{AreSuspects, IsNoSuspect, IsSuspect, IsSuspectAt, TellsSuspect, blocks_of}
+
+-- these are the suspect blocks before block `n`
+pub record AreSuspectsBelow (image : List ℕ) (t : Tree) (n : ℕ) (suspects : List Suspect) : Type 0 where
+  pub told : All (TellsSuspect image t) suspects
+  pub every : (block file place : ℕ) → block < n → IsSuspect image t block file place → Contains (blocks_of suspects) block
+  pub within : All (λ block. block < n) (blocks_of suspects)
+  pub rising : AllPairs (λ a b. a < b) (blocks_of suspects)
+
+take_again : (n : ℕ) (xs : List ℕ) → take n (take n xs) ≡ take n xs
+take_again zero xs = refl
+take_again (suc n) [] = refl
+take_again (suc n) (x ∷ xs) = ap (λ (ys : List ℕ). x ∷ ys) (take_again n xs)
+
+-- the bytes of a block without the 24 of its header
+pub behind_header : (image : List ℕ) (block : ℕ) (bytes : List ℕ) → bytes ≡ bytes_at image block 0 512 → length bytes ≡ 512
+    → take (length bytes - 24) (drop 24 bytes) ≡ bytes_at image block 24 488
+unfolding bytes_at
+behind_header image block bytes is whole =
+    let size : length bytes - 24 ≡ 488 = omega (arith, whole) in
+    let place : 512 * block + 0 + 24 ≡ 512 * block + 24 = omega arith in
+    ap₂ (λ (n : ℕ) (xs : List ℕ). take n (drop 24 xs)) size is
+    ∙ ap (take 488) (drop-take 24 488 (drop (512 * block + 0) image) ∙ ap (take 488) (drop-drop 24 (512 * block + 0) image ∙ ap (λ (n : ℕ). drop n image) place))
+    ∙ take_again 488 (drop (512 * block + 24) image)
+
+pushed : (suspects : List Suspect) (suspect : Suspect) (block : ℕ) → suspect.block ≡ block → blocks_of (suspects ++ suspect ∷ []) ≡ blocks_of suspects ++ block ∷ []
+pushed suspects suspect block at = map-append (λ (s : Suspect). s.block) suspects (suspect ∷ []) ∙ ap (λ (b : ℕ). blocks_of suspects ++ b ∷ []) at
+
+wider : (n : ℕ) (blocks : List ℕ) → All (λ block. block < n) blocks → All (λ block. block < n + 1) blocks
+wider n blocks all = λ i d l. omega (arith, all i d l)
+
+module _ (image : List ℕ) (t : Tree) where
+  pub suspects_none : AreSuspectsBelow image t 0 []
+  suspects_none = record {
+    told = All-nil (TellsSuspect image t);
+    every = λ block file place l is. absurd (omega (arith, l));
+    within = All-nil (λ block. block < 0);
+    rising = λ i j d l m. absurd (omega (arith, m));
+  }
+
+  module _ (n : ℕ) (owner : Owner) (alone : (other : Owner) → Owns image t n other → other ≡ owner) (suspects : List Suspect) (old : AreSuspectsBelow image t n suspects) where
+    -- block `n` is not suspect
+    pub suspects_same : IsNoSuspect image n owner → AreSuspectsBelow image t (n + 1) suspects
+    suspects_same none = record {
+      told = old.told;
+      every = λ block file place l is. go block file place l is (cases_lt block n);
+      within = wider n (blocks_of suspects) old.within;
+      rising = old.rising;
+    }
+      where
+        go : (block file place : ℕ) → block < n + 1 → IsSuspect image t block file place → (block < n) ⊎ (n ≤ block) → Contains (blocks_of suspects) block
+        go block file place l is (inl before) = old.every block file place before is
+        go block file place l is (inr here) =
+            let same : block ≡ n = omega (arith, l, here) in
+            let at : IsSuspect image t n file place = subst (λ (b : ℕ). IsSuspect image t b file place) same is in
+            absurd (none file place (sym (alone (Data file place) at.owned)) at.filler)
+
+    -- block `n` is suspect
+    pub suspects_more : (suspect : Suspect) → IsSuspectAt image t n owner suspect → AreSuspectsBelow image t (n + 1) (suspects ++ suspect ∷ [])
+    suspects_more suspect is = record {
+      told = All-push (TellsSuspect image t) suspects suspect old.told is.told;
+      every = λ block file place l one. subst (λ (bs : List ℕ). Contains bs block) (sym blocks) (go block file place l one (cases_lt block n));
+      within = subst (All (λ block. block < n + 1)) (sym blocks) (All-push (λ block. block < n + 1) (blocks_of suspects) n (wider n (blocks_of suspects) old.within) (omega arith));
+      rising = subst (AllPairs (λ a b. a < b)) (sym blocks) (all_pairs_push (λ a b. a < b) (blocks_of suspects) n old.rising (λ k d l. old.within k d l));
+    }
+      where
+        blocks : blocks_of (suspects ++ suspect ∷ []) ≡ blocks_of suspects ++ n ∷ []
+        blocks = pushed suspects suspect n is.at
+
+        go : (block file place : ℕ) → block < n + 1 → IsSuspect image t block file place → (block < n) ⊎ (n ≤ block) → Contains (blocks_of suspects ++ n ∷ []) block
+        go block file place l one (inl before) = Contains-append_left (blocks_of suspects) (n ∷ []) block (old.every block file place before one)
+        go block file place l one (inr here) =
+            let same : n ≡ block = omega (arith, l, here) in
+            subst (λ (b : ℕ). Contains (blocks_of suspects ++ n ∷ []) b) same (Contains-push (blocks_of suspects) n)
+
+  -- a suspect block is one of the volume
+  pub inside : (s : Stands image t) (block file place : ℕ) → IsSuspect image t block file place → block < t.blocks
+  inside s block file place is =
+      let bytes = is.owned.0.0 in
+      let n = content_in (t.nodes file) (File bytes) is.owned.0.1 in
+      let held : slice_get (s.layout.file_data file) place ≡ Some block =
+      subst (λ (xs : List ℕ). slice_get xs place ≡ Some block) (data_is image t s file n.0 bytes n.1 n.2) is.owned.1 in
+      (s.fits.inside block (Duty.Data file place) held).1
+
+  -- all blocks were looked at
+  pub suspects_all : (n : ℕ) (suspects : List Suspect) → ((block file place : ℕ) → IsSuspect image t block file place → block < n) → AreSuspectsBelow image t n suspects → AreSuspects image t suspects
+  suspects_all n suspects inside old = record {
+    told = old.told;
+    every = λ block file place is. old.every block file place (inside block file place is) is;
+    rising = old.rising;
+  }

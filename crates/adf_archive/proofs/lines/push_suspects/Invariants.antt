@@ -1,0 +1,8 @@
+use Rattle.std.proofs.Common.{◌≡◌, ◌++◌, take}
+use Rattle.std.specs.Prelude.{flat_map}
+use Rattle.adf_archive.specs.Lines.{suspect_line}
+use Rattle.adf_archive.proofs.lines.push_suspects.Given as goal
+
+-- the lines of the blocks before this one
+abbrev pub invariant-loop-suspect : goal.invariant-loop-suspect
+invariant-loop-suspect l = l.text.items ≡ l.fn.text.items ++ flat_map (suspect_line l.front) (take l.suspect-index l.suspects)

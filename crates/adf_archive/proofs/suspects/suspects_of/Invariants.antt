@@ -1,0 +1,8 @@
+use Rattle.ados_model.specs.Stands.{Stands}
+use Rattle.ados_model.specs.Tree.{Tree}
+use Rattle.adf_archive.proofs.Suspecting.{AreSuspectsBelow}
+use Rattle.adf_archive.proofs.suspects.suspects_of.Given as goal
+
+-- the suspect blocks before this one
+abbrev pub invariant-loop-block : goal.invariant-loop-block
+invariant-loop-block l = (t : Tree) → Stands l.volume.image t → AreSuspectsBelow l.volume.image t l.block l.found.items

@@ -1,0 +1,56 @@
+//! What programs write where they have no bytes of the disk.
+ghost use Rattle.std.specs.Prelude.{◌≡◌, ◌<◌, ◌↔◌, IsTrue, length};
+ghost use Rattle.adf_archive.specs.Fillers.{IsFiller, Repeats, RepeatsFrom, filler_text};
+
+/// A filler, by what writes it. docs/COMMANDS.md has the same list.
+#[derive(Clone, Copy)]
+pub enum Filler {
+    /// Greaseweazle's host tools, in place of a sector that they could not read.
+    Greaseweazle,
+    /// FORMAT of MS-DOS and the BIOS of a PC, in each sector that they format.
+    PcFormat,
+}
+
+impl Filler {
+    /// Its text. A sector holds the text again and again.
+    fn text(self) -> &'static [u8]
+        ensures { result.now ≡ filler_text self }
+    {
+        match self {
+            Filler::Greaseweazle => b"-=[BAD SECTOR]=-",
+            Filler::PcFormat => b"\xf6",
+        }
+    }
+}
+
+/// Whether these bytes are a known filler from end to end. It may begin at any byte of its text.
+pub fn is_filler(bytes: &[u8]) -> bool
+    ensures { IsTrue result ↔ IsFiller bytes.now }
+{
+    repeats(Filler::Greaseweazle.text(), bytes) || repeats(Filler::PcFormat.text(), bytes)
+}
+
+/// Whether these bytes are a text, again and again, from some byte of it on.
+fn repeats(text: &[u8], bytes: &[u8]) -> bool
+    ensures { IsTrue result ↔ Repeats text.now bytes.now }
+{
+    for start in 0..text.len() {
+        if repeats_from(text, start, bytes) {
+            return true;
+        }
+    }
+    false
+}
+
+/// Whether these bytes are a text, again and again, from this byte of it on.
+fn repeats_from(text: &[u8], start: usize, bytes: &[u8]) -> bool
+    requires { start < length text.now }
+    ensures { IsTrue result ↔ RepeatsFrom text.now bytes.now start }
+{
+    for place in 0..bytes.len() {
+        if bytes[place] != text[(start + place) % text.len()] {
+            return false;
+        }
+    }
+    true
+}
