@@ -30,7 +30,7 @@ use Rattle.adf_commands.specs.declared.fault.CommandFault.{CommandFault}
 use Rattle.adf_commands.specs.declared.fault.CommandFault.TheVariants.{Dos, ImagesRefused, Memory, NotChecked, NotWhole, Output, Refused}
 use Rattle.adf_commands.specs.declared.refusal.Refusal.{Refusal}
 use Rattle.adf_commands.specs.declared.refusal.DosRefusal.{DosRefusal}
-use Rattle.adf_commands.specs.Texts.{BeginsJobText, BeginsListOf, BeginsListText, IsJobText, IsListed, IsListOf, IsListText, shown_form, IsPrintText, IsMapped, IsShown, IsShownBoot}
+use Rattle.adf_commands.specs.Texts.{AreEntryBlocks, AreOwnedBlocks, BeginsJobText, BeginsListOf, BeginsListText, IsJobText, IsListed, IsListOf, IsListText, shown_form, IsPrintText, IsMapped, IsShown, IsShownBoot}
 use Rattle.adf_commands.specs.Faults.{IsBlankFault, IsNoImage, IsNoImageRefusal, IsNoRefusal, IsRefusedFor, IsToldAs, IsToldOut, IsToldRun}
 use Rattle.adf_commands.specs.Commands.{Does, DoesJob, Ending, EndsOff, LeavesOff, Prints, prints, Tells, TellsFault, TellsJob, TellsOf, TellsSome}
 use Rattle.adf_commands.specs.Commands.Prints.{OnlyFaults, OfBytes, OfImages, OfRescue, Unsaid}
@@ -40,6 +40,9 @@ use Rattle.adf_words.specs.declared.query.CheckJob.{CheckJob}
 use Rattle.adf_words.specs.declared.query.ListForm.{ListForm}
 use Rattle.adf_words.specs.declared.query.ListJob.{ListJob}
 use Rattle.adf_words.specs.declared.query.ListOrder.{ListOrder}
+use Rattle.adf_words.specs.declared.query.WhereJob.{WhereJob}
+use Rattle.adf_export.specs.Where.{IsWhere, IsWhereOf}
+use Rattle.adf_export.specs.Words.{LeadsTo}
 use Rattle.adf_commands.specs.Archives.{EndsArchive}
 use Rattle.adf_commands.specs.Rescues.{DoesRescue, IsRescueText, IsSomeRescueText, TellsRescue}
 use Rattle.adf_commands.specs.Refusals.{dos_line, IsDosText, IsRefusalText, refusal_line, told_line}
@@ -162,6 +165,15 @@ module _ (image : List ℕ) (was_validated : Bool) (checked : List ℕ) (a : Acc
   pub map_shown : (json : Bool) (text : List ℕ) → ((t : Tree) → Stands checked t → IsMap json checked t text) → IsMapped json image text
   map_shown json text is =
       let s = accepted_tree image was_validated checked a in (was_validated, checked, s.0, a, s.1, is s.0 s.1)
+
+  pub blocks_told : (job : WhereJob) (text : List ℕ) → ((t : Tree) → Stands checked t → IsWhere job.json checked t job.blocks.items text) → AreOwnedBlocks job image text
+  blocks_told job text is =
+      let s = accepted_tree image was_validated checked a in (was_validated, checked, s.0, a, s.1, is s.0 s.1)
+
+  pub entry_told : (word : List ℕ) (key : ℕ) (text : List ℕ) → ((t : Tree) → Stands checked t → LeadsTo t word key) → ((t : Tree) → Stands checked t → IsWhereOf checked t key text)
+      → AreEntryBlocks word image text
+  entry_told word key text leads is =
+      let s = accepted_tree image was_validated checked a in (was_validated, checked, s.0, a, s.1, (key, leads s.0 s.1, is s.0 s.1))
 
   pub print_fault : (word : List ℕ) (old new : Option (List ℕ)) (fault : OutFault) (told : CommandFault) → ((t : Tree) → Stands checked t → IsPrintFault t word old new fault)
       → IsToldOut fault told → LeavesOff (IsPrintText word image) image old new told

@@ -22,11 +22,13 @@ use Rattle.adf_export.specs.Listing.{BeginsList, IsList}
 use Rattle.adf_record.specs.declared.told.FactsForm.{FactsForm}
 use Rattle.adf_record.specs.Told.{IsVolumeText, is_json}
 use Rattle.adf_words.specs.declared.job.ImageJob.{ImageJob}
-use Rattle.adf_words.specs.declared.job.ImageJob.TheVariants.{Info, List as ListOf, Map, Print, Show, ShowBoot, Validate}
+use Rattle.adf_words.specs.declared.job.ImageJob.TheVariants.{Info, List as ListOf, Map, Print, Show, ShowBoot, Validate, Where, WherePath}
 use Rattle.adf_words.specs.declared.query.ListForm.{ListForm}
 use Rattle.adf_words.specs.declared.query.ListForm.TheVariants.{Bold, Long}
 use Rattle.adf_words.specs.declared.query.ListJob.{ListJob}
 use Rattle.adf_words.specs.declared.query.ListOrder.{ListOrder}
+use Rattle.adf_words.specs.declared.query.WhereJob.{WhereJob}
+use Rattle.adf_export.specs.Where.{IsWhere, IsWhereOf}
 use Rattle.adf_export.specs.Words.{LeadsTo}
 use Rattle.ados_mend.specs.BlockMap.{IsMap}
 use Rattle.ados_mend.specs.Said.{validated_line}
@@ -96,6 +98,14 @@ IsShown json =
 abbrev pub IsMapped : Bool → List ℕ → List ℕ → Type 0
 IsMapped json = OfAccepted (λ was_validated checked t text. IsMap json checked t text)
 
+-- who owns the blocks that a job asks for: a line for each, or a JSON array
+abbrev pub AreOwnedBlocks : WhereJob → List ℕ → List ℕ → Type 0
+AreOwnedBlocks job = OfAccepted (λ was_validated checked t text. IsWhere job.json checked t job.blocks.items text)
+
+-- the blocks of the file or directory at a path
+abbrev pub AreEntryBlocks : List ℕ → List ℕ → List ℕ → Type 0
+AreEntryBlocks word = OfAccepted (λ was_validated checked t text. (key : ℕ) × LeadsTo t word key × IsWhereOf checked t key text)
+
 -- the output of a command for the bytes that it reads, and its beginning; `blank` has none
 abbrev pub IsJobText : ImageJob → List ℕ → List ℕ → Type 0
 IsJobText (Info file) = IsInfoText
@@ -105,6 +115,8 @@ IsJobText (ShowBoot image) = IsShownBoot
 IsJobText (Validate target force) = IsCountText
 IsJobText (Show image json) = IsShown json
 IsJobText (Map image json) = IsMapped json
+IsJobText (Where job) = AreOwnedBlocks job
+IsJobText (WherePath image path) = AreEntryBlocks path.now
 IsJobText job = λ bytes text. text ≡ []
 
 abbrev pub BeginsJobText : ImageJob → List ℕ → List ℕ → Type 0

@@ -4,6 +4,7 @@ ghost use Rattle.adf_commands.specs.Commands.{DoesJob, TellsJob};
 use crate::archive::check_images;
 use crate::blank::{blank_volume, write_new};
 use crate::block_map::print_map;
+use crate::blocks::{print_blocks, print_entry};
 use crate::boot::{change_boot, save_boot, show_boot};
 use crate::bundle::{put_bundle, take_bundle};
 use crate::changing::{change, given_or_now};
@@ -64,6 +65,7 @@ fn image_of<'a>(job: &ImageJob<'a>) -> Option<&'a str> {
         ImageJob::Info { file } => Some(*file),
         ImageJob::Show { image, .. }
         | ImageJob::Map { image, .. }
+        | ImageJob::WherePath { image, .. }
         | ImageJob::Print { image, .. }
         | ImageJob::ExtractBundle { image, .. }
         | ImageJob::SaveBoot { image, .. }
@@ -71,6 +73,7 @@ fn image_of<'a>(job: &ImageJob<'a>) -> Option<&'a str> {
         ImageJob::AddBundle { target, .. }
         | ImageJob::Validate { target, .. }
         | ImageJob::Boot { target, .. } => Some(target.image),
+        ImageJob::Where(job) => Some(job.image),
         ImageJob::List(job) => Some(job.image),
         ImageJob::Extract(job) => Some(job.image),
         ImageJob::Salvage(job) => Some(job.image),
@@ -120,6 +123,8 @@ where
             show_volume(rt, alloc, show, writer)
         }
         ImageJob::Map { image, json } => print_map(rt, alloc, image, json, writer),
+        ImageJob::Where(job) => print_blocks(rt, alloc, &job, writer),
+        ImageJob::WherePath { image, path } => print_entry(rt, alloc, image, path, writer),
         ImageJob::Check(job) => check_images(rt, alloc, &job, screen.progress, writer, faults),
         ImageJob::List(job) => print_list(rt, alloc, &job, screen.styled, writer),
         ImageJob::Print { image, path } => print_bytes(rt, alloc, image, path, writer),

@@ -3,6 +3,7 @@
 
 mod archive;
 mod blank;
+mod blocks;
 mod block_map;
 mod boot;
 mod bundle;

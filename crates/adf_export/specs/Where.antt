@@ -55,7 +55,7 @@ entry_of block owner = None
 
 -- the path of an entry in letters
 abbrev pub entry_path : Tree → Option ℕ → Option (List ℕ)
-entry_path t entry = option_map (λ key. letters (path_of t key)) entry
+entry_path t entry = option_map (λ entry. letters (path_of t entry)) entry
 
 -- the bytes of its file that are in a data block
 abbrev pub span_of : Tree → Owner → Option Span
@@ -192,17 +192,17 @@ pub record IsWhere (json : Bool) (image : List ℕ) (t : Tree) (words : List Blo
 
 -- a block with this owner belongs to the file or directory with this key; the root is its own
 abbrev pub belongs : ℕ → ℕ → Owner → Bool
-belongs key block Root = block == key
-belongs key block Directory = block == key
-belongs key block File = block == key
-belongs key block (Data file k) = file == key
-belongs key block (Extension file k) = file == key
-belongs key block owner = false
+belongs entry block Root = block == entry
+belongs entry block Directory = block == entry
+belongs entry block File = block == entry
+belongs entry block (Data file k) = file == entry
+belongs entry block (Extension file k) = file == entry
+belongs entry block owner = false
 
 -- the blocks of a file or directory, in order: those from this block on
 abbrev pub own_from : ℕ → ℕ → List Owner → List ℕ
-own_from key block [] = []
-own_from key block (owner ∷ owners) = (if belongs key block owner then block ∷ [] else []) ++ own_from key (block + 1) owners
+own_from entry block [] = []
+own_from entry block (owner ∷ owners) = (if belongs entry block owner then block ∷ [] else []) ++ own_from entry (block + 1) owners
 
 -- a range of numbers, on a line of its own
 abbrev pub range_line : ℕ → ℕ → List ℕ
@@ -220,4 +220,4 @@ ranges (first ∷ numbers) = ranges_from first first numbers
 
 -- the text is all blocks of a file or directory, as ranges
 abbrev pub IsWhereOf : List ℕ → Tree → ℕ → List ℕ → Type 0
-IsWhereOf image t key text = (owners : List Owner) × AreOwners image t owners × (text ≡ ranges (own_from key 0 owners))
+IsWhereOf image t entry text = (owners : List Owner) × AreOwners image t owners × (text ≡ ranges (own_from entry 0 owners))

@@ -6,7 +6,7 @@ ghost use Rattle.json.specs.Token.{key};
 ghost use Rattle.adf_record.specs.Members.{string_token};
 ghost use Rattle.adf_export.specs.Where.{owner_tokens, owner_word, place_tokens, position_of, seen, told_tokens, where_tokens};
 
-use crate::owned::OwnedBlock;
+use crate::owned::{OwnedBlock, Span};
 use crate::places::{cylinder_of, head_of, sector_of};
 use adf_record::{put_number, put_text};
 use ados_volume::Owner;
@@ -79,8 +79,8 @@ fn put_owner(writer: &mut Writer, owned: &OwnedBlock) -> Result<(), AllocError>
     put_text(writer, "owner", Some(owner_word(owned.owner)))?;
     put_path(writer, &owned.path)?;
     put_number(writer, "number", position_of(owned.owner))?;
-    put_number(writer, "first", owned.span.map(|span| span.first))?;
-    put_number(writer, "last", owned.span.map(|span| span.last))
+    put_number(writer, "first", first_of(owned.span))?;
+    put_number(writer, "last", last_of(owned.span))
 }
 
 /// Writes a path, or null.
@@ -118,5 +118,25 @@ fn position_of(owner: Owner) -> Option<u64>
     match owner {
         Owner::Page(k) | Owner::Data(_, k) | Owner::Extension(_, k) => Some(u64::from(k)),
         _ => None,
+    }
+}
+
+/// The first byte in a data block.
+fn first_of(span: Option<Span>) -> Option<u64>
+    ensures { result ≡ option_map (λ bytes. bytes.first) span }
+{
+    match span {
+        Some(span) => Some(span.first),
+        None => None,
+    }
+}
+
+/// The last byte in a data block.
+fn last_of(span: Option<Span>) -> Option<u64>
+    ensures { result ≡ option_map (λ bytes. bytes.last) span }
+{
+    match span {
+        Some(span) => Some(span.last),
+        None => None,
     }
 }

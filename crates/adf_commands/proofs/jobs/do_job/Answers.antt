@@ -52,6 +52,14 @@ pub returns-in-Validate : goal.returns-in-Validate
 returns-in-Validate g c =
     subst (λ (job : ImageJob). DoesJob job (g.W.Write.contents c.args.writer.now) (g.W.Write.contents c.validate_file.new.writer) c.validate_file.result) (sym c.in-Validate.is) c.validate_file.ensures
 
+pub returns-in-Where : goal.returns-in-Where
+returns-in-Where g c =
+    subst (λ (job : ImageJob). DoesJob job (g.W.Write.contents c.args.writer.now) (g.W.Write.contents c.print_blocks.new.writer) c.print_blocks.result) (sym c.in-Where.is) c.print_blocks.ensures
+
+pub returns-in-WherePath : goal.returns-in-WherePath
+returns-in-WherePath g c =
+    subst (λ (job : ImageJob). DoesJob job (g.W.Write.contents c.args.writer.now) (g.W.Write.contents c.print_entry.new.writer) c.print_entry.result) (sym c.in-WherePath.is) c.print_entry.ensures
+
 pub returns-in-Map : goal.returns-in-Map
 returns-in-Map g c =
     subst (λ (job : ImageJob). DoesJob job (g.W.Write.contents c.args.writer.now) (g.W.Write.contents c.print_map.new.writer) c.print_map.result) (sym c.in-Map.is) c.print_map.ensures
