@@ -1,34 +1,19 @@
 //! The command `where`.
-ghost use Rattle.std.specs.Prelude.{IfErr};
-ghost use Rattle.adf_commands.specs.Commands.{TellsOf, TellsSome};
+ghost use Rattle.adf_commands.specs.Commands.{TellsOf};
 ghost use Rattle.adf_commands.specs.Faults.{IsNoImageRefusal};
 ghost use Rattle.adf_commands.specs.Texts.{AreEntryBlocks, AreOwnedBlocks};
 
 use crate::fault::CommandFault;
-use crate::images::{accept, read_image};
+use crate::images::accept;
 use crate::output::tell;
 use adf_block::Image;
 use adf_export::{WhereFault, locate_word, where_path_text, where_text};
 use adf_words::WhereJob;
 use std::alloc::Global;
 use std::io::Write;
-use std::rt::Files;
-
-/// Prints who owns blocks of a file's image.
-pub(crate) fn print_blocks<'a, R: Files, W: Write>(
-    rt: &R,
-    alloc: Global,
-    job: &WhereJob<'a>,
-    writer: &mut W,
-) -> Result<(), CommandFault<'a>>
-    ensures { TellsSome (AreOwnedBlocks job.now) (AreOwnedBlocks job.now) (W.contents writer.old) (W.contents writer.new) result }
-{
-    let image = read_image(rt, alloc, job.image)?;
-    tell_blocks(alloc, image, job, writer)
-}
 
 /// Prints who owns blocks of an image.
-fn tell_blocks<'a, W: Write>(
+pub(crate) fn tell_blocks<'a, W: Write>(
     alloc: Global,
     image: Image,
     job: &WhereJob<'a>,
@@ -58,22 +43,8 @@ fn no_block<'a>(alloc: Global, fault: WhereFault, file: &'a str, blocks: u32) ->
     }
 }
 
-/// Prints all blocks of a file or directory in a file's image.
-pub(crate) fn print_entry<'a, R: Files, W: Write>(
-    rt: &R,
-    alloc: Global,
-    image: &'a str,
-    path: &'a str,
-    writer: &mut W,
-) -> Result<(), CommandFault<'a>>
-    ensures { TellsSome (AreEntryBlocks path.now) (AreEntryBlocks path.now) (W.contents writer.old) (W.contents writer.new) result }
-{
-    let image = read_image(rt, alloc, image)?;
-    tell_entry(alloc, image, path, writer)
-}
-
 /// Prints all blocks of a file or directory in an image.
-fn tell_entry<'a, W: Write>(
+pub(crate) fn tell_entry<'a, W: Write>(
     alloc: Global,
     image: Image,
     path: &'a str,

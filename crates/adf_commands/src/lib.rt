@@ -4,7 +4,6 @@
 mod archive;
 mod blank;
 mod blocks;
-mod block_map;
 mod boot;
 mod bundle;
 mod changing;
@@ -14,14 +13,15 @@ mod faulty_line;
 mod images;
 mod info;
 mod jobs;
+mod look;
 mod moving;
 mod output;
+mod query;
 mod refusal;
 mod rescue;
 mod screen;
 mod script_lines;
 mod serving;
-mod show;
 mod validate;
 
 pub use adf_import::StandardInput;
