@@ -5,9 +5,10 @@ ghost use Rattle.adf_commands.specs.Texts.{AreEntryBlocks, AreOwnedBlocks};
 
 use crate::fault::CommandFault;
 use crate::images::accept;
+use crate::moving::listed_object;
 use crate::output::tell;
 use adf_block::Image;
-use adf_export::{WhereFault, locate_word, where_path_text, where_text};
+use adf_export::{WhereFault, where_path_text, where_text};
 use adf_words::WhereJob;
 use std::alloc::Global;
 use std::io::Write;
@@ -53,10 +54,7 @@ pub(crate) fn tell_entry<'a, W: Write>(
     ensures { TellsOf (AreEntryBlocks path.now) (AreEntryBlocks path.now) image (W.contents writer.old) (W.contents writer.new) result }
 {
     let mut volume = accept(alloc, image)?;
-    let key = match locate_word(alloc, &mut volume, path) {
-        Ok(key) => key,
-        Err(fault) => return Err(CommandFault::from(fault)),
-    };
+    let key = listed_object(alloc, &mut volume, Some(path))?;
     let text = where_path_text(alloc, &volume, key)?;
     tell(writer, &text)
 }

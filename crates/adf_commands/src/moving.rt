@@ -49,7 +49,7 @@ fn shown_form(form: ListForm, styled: bool) -> ListForm
 }
 
 /// The object at a path; the root without one.
-fn listed_object<'a>(
+pub(crate) fn listed_object<'a>(
     alloc: Global,
     volume: &mut Volume,
     path: Option<&'a str>,

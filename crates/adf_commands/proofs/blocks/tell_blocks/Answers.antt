@@ -1,4 +1,5 @@
 use Rattle.std.proofs.Common.{ℕ, List, refl, subst, sym}
+use Rattle.std.proofs.KnownBytes.{Keeps-refl}
 use Rattle.ados_model.specs.Stands.{Stands}
 use Rattle.ados_model.specs.Tree.{Tree}
 use Rattle.adf_words.specs.declared.block_word.BlockWord.{BlockWord}
@@ -6,6 +7,9 @@ use Rattle.adf_export.specs.Where.{IsWhere}
 use Rattle.adf_commands.specs.Texts.{AreOwnedBlocks}
 use Rattle.adf_commands.proofs.Printing.{blocks_told, leaves_kept, told_text}
 use Rattle.adf_commands.proofs.blocks.tell_blocks.Goals as goal
+
+pub returns-in-Err : goal.returns-in-Err
+returns-in-Err g c = leaves_kept (AreOwnedBlocks c.args.job.now c.args.image) c.args.image _ _ c.no_block.result c.no_block.ensures (Keeps-refl _)
 
 pub returns : goal.returns
 returns g c =
