@@ -468,6 +468,8 @@ class Tried:
         self.agrees("info", "image.adf")
         self.agrees("boot", "--show", "image.adf")
         self.agrees("map", "image.adf")
+        self.agrees("where", "image.adf", "0", "15", "c0.h1.s3")
+        self.agrees("where", "--path", "", "image.adf")
         if not self.is_accepted:
             self.agrees("print", "image.adf", "any")
         for path in [it for it, data in sorted(whole.items()) if data is not None and not set('%:"\\') & set(it)][:2]:

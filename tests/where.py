@@ -1,10 +1,12 @@
 #!/usr/bin/env python3
-"""Tests the command `map` of the built program: the owner of each block, as text and as JSON, and images that it refuses.
+"""Tests the commands `map` and `where` of the built program: the owner of each block, as text and as JSON, the blocks of each
+file and directory, and what they refuse.
 
     tests/where.py [PROGRAM]
 
-The images are drawn in Python, by a program that notes the owner of each block as it draws. The environment variable ROUNDS is
-the number of images.
+The images are drawn in Python. For `map`, the drawing program notes the owner of each block as it draws. For `where`, a reader
+goes through the blocks of the drawn image: it counts the cylinders, heads and sectors off one by one, adds the bytes of a file
+up block by block, and finds the path of an entry from its parents. The environment variable ROUNDS is the number of images.
 """
 from __future__ import annotations
 
@@ -12,12 +14,12 @@ import json
 import os
 import random
 import sys
-from typing import Dict, List, Optional, Tuple
+from typing import Dict, Iterator, List, NamedTuple, Optional, Set, Tuple
 
 sys.dont_write_bytecode = True
 
-from drawn_volume import PAGE_BITS, Drawer, drawn
-from harness import BLOCK, Room, fault_of, try_all
+from drawn_volume import DIRECTORY, FILE, PAGE_BITS, SLOTS, Drawer, drawn
+from harness import BLOCK, MOMENT, Image, Ran, Room, fault_of, try_all
 
 ROUNDS = int(os.environ.get("ROUNDS", "60"))
 MEANINGS = [
@@ -90,6 +92,223 @@ def drawn_volumes(room: Room) -> None:
         room.report.ends(f"map of volume {seed}", lambda: fault_of_maps(room, seed))
 
 
+# ---- who owns a block
+
+
+class Owned(NamedTuple):
+    """What `where` tells of a block."""
+
+    owner: str
+    path: Optional[str] = None
+    number: Optional[int] = None
+    first: Optional[int] = None
+    last: Optional[int] = None
+
+
+Place = Tuple[int, int, int]
+
+
+def places_of(blocks: int) -> List[Place]:
+    """The cylinder, the head and the sector of each block, counted off one after the other."""
+    track = 22 if blocks == 3520 else 11
+    places = ((cylinder, head, sector) for cylinder in range(blocks) for head in range(2) for sector in range(track))
+    return [place for place, _ in zip(places, range(blocks))]
+
+
+class Reading(Image):
+    """Finds the owner of each block from the blocks of an accepted image."""
+
+    def __init__(self, data: bytes) -> None:
+        super().__init__(data)
+        self.root = (self.blocks + 1) // 2
+        self.owners: Dict[int, Owned] = {0: Owned("boot"), 1: Owned("boot"), self.root: Owned("root")}
+        self.own: Dict[int, Set[int]] = {self.root: {self.root}}
+        for at in range((self.blocks - 2 + PAGE_BITS - 1) // PAGE_BITS):
+            self.owners[self.long(self.root, 79 + at)] = Owned("bitmap", None, at)
+        for key in self.keys():
+            is_file = self.long(key, 127) == FILE
+            path = self.path(key)
+            self.owners[key] = Owned("file" if is_file else "directory", path)
+            self.own[key] = {key}
+            if is_file:
+                self.read_file(key, path)
+
+    def keys(self) -> Iterator[int]:
+        """All entries, each directory after the one that it is in."""
+        left = [self.root]
+        while left:
+            directory = left.pop()
+            for key in (self.long(directory, 6 + at) for at in range(SLOTS)):
+                while key:
+                    yield key
+                    if self.long(key, 127) == DIRECTORY:
+                        left.append(key)
+                    key = self.long(key, 124)
+
+    def path(self, key: int) -> str:
+        """The names from an entry up to the root, the other way round."""
+        names: List[bytes] = []
+        while key != self.root:
+            names.append(self.text(key, 432))
+            key = self.long(key, 125)
+        return b"/".join(reversed(names)).decode("latin-1")
+
+    def read_file(self, key: int, path: str) -> None:
+        """The data and extension blocks of a file. Each data block begins where the one before it ends."""
+        room, left, number, first, holder, extension = (488 if self.data[3] == 0 else BLOCK), self.long(key, 81), 0, 0, key, 0
+        while True:
+            for at in range(self.long(holder, 2)):
+                held = min(room, left)
+                block = self.long(holder, 77 - at)
+                self.put_owner(block, key, Owned("data", path, number, first, first + held - 1))
+                number, first, left = number + 1, first + held, left - held
+            holder = self.long(holder, 126)
+            if not holder:
+                return
+            self.put_owner(holder, key, Owned("extension", path, extension))
+            extension += 1
+
+    def put_owner(self, block: int, key: int, owned: Owned) -> None:
+        self.owners[block] = owned
+        self.own[key].add(block)
+
+    def owned(self, block: int) -> Owned:
+        if block in self.owners:
+            return self.owners[block]
+        page, bit = divmod(block - 2, PAGE_BITS)
+        is_free = self.long(self.root, 78) == 0 or self.long(self.long(self.root, 79 + page), 1 + bit // 32) >> bit % 32 & 1
+        return Owned("free" if is_free else "lost")
+
+
+def words_of(owned: Owned) -> str:
+    """What a block is, in the words of the text."""
+    path = "".join(f"%{ord(it):02X}" if ord(it) < 32 or 127 <= ord(it) < 160 else it for it in owned.path or "")
+    return {
+        "boot": "boot block",
+        "root": "root",
+        "bitmap": f"bitmap block {owned.number}",
+        "directory": f"header of {path}/",
+        "file": f"header of {path}",
+        "data": f"data {owned.number} of {path}, bytes {owned.first} to {owned.last}",
+        "extension": f"extension {owned.number} of {path}",
+        "lost": "lost",
+        "free": "free",
+    }[owned.owner]
+
+
+def lines_of(image: Reading, places: List[Place], asked: List[int]) -> bytes:
+    """The text for these blocks."""
+    lines = []
+    for it in asked:
+        cylinder, head, sector = places[it]
+        lines.append(f"{it}  cyl {cylinder} head {head} sector {sector}  {words_of(image.owned(it))}\n")
+    return "".join(lines).encode()
+
+
+def objects_of(image: Reading, places: List[Place], asked: List[int]) -> object:
+    """The objects for these blocks."""
+    return [{**dict(zip(("block", "cylinder", "head", "sector"), (it, *places[it]))), **image.owned(it)._asdict()} for it in asked]
+
+
+def fault_of_array(ran: Ran, wanted: object) -> Optional[str]:
+    """What is wrong with an array on a line of its own."""
+    fault = fault_of(ran, 0, None)
+    if fault or ran.output.count(b"\n") != 1 or not ran.output.endswith(b"\n"):
+        return fault or f"no line: {ran.output[:300]!r}"
+    found = json.loads(ran.output)
+    return None if found == wanted else f"another array: {str(found)[:300]} where {str(wanted)[:300]} is expected"
+
+
+def ranges_of(blocks: Set[int]) -> bytes:
+    """Numbers as ranges: each begins at a number whose predecessor is missing, and ends before the next missing one."""
+    lines = []
+    for first in sorted(it for it in blocks if it - 1 not in blocks):
+        last = next(it for it in range(first, first + len(blocks)) if it + 1 not in blocks)
+        lines.append(f"{first}\n" if first == last else f"{first} to {last}\n")
+    return "".join(lines).encode()
+
+
+def fault_of_blocks(room: Room, name: str, chance: random.Random, most: int = 9_000) -> Optional[str]:
+    """What is wrong with the answers for the blocks of an image, in any order and some of them twice, by number and by place."""
+    data = room.content(name)
+    image = Reading(data)
+    places = places_of(image.blocks)
+    asked = [chance.randrange(image.blocks) for _ in range(most - 2)] if image.blocks > most else [*range(image.blocks), 0]
+    asked += [image.blocks - 1, *image.own]
+    chance.shuffle(asked)
+    words = [str(it) if chance.random() < 0.5 else "c{}.h{}.s{}".format(*places[it]) for it in asked]
+    fault = fault_of(room.run("where", name, *words), 0, lines_of(image, places, asked))
+    fault = fault or fault_of_array(room.run("where", "--json", name, *words), objects_of(image, places, asked))
+    for key in chance.sample(sorted(image.own), min(20, len(image.own))):
+        path = "" if key == image.root else image.path(key)
+        if not {"\0"} & set(path):
+            fault = fault or fault_of(room.run("where", f"--path={path}", name), 0, ranges_of(image.own[key]))
+    return fault or (None if room.content(name) == data else "the image changed")
+
+
+def owners_of_volumes(room: Room) -> None:
+    for seed in range(ROUNDS):
+
+        def fault() -> Optional[str]:
+            room.write("drawn.adf", bytes(drawn(seed, Drawer).data))
+            return fault_of_blocks(room, "drawn.adf", random.Random(seed))
+
+        room.report.ends(f"owners in volume {seed}", fault)
+
+
+def sizes(room: Room) -> None:
+    """Volumes of each size in both formats, with an empty file, and with a file that has extension blocks if there is room."""
+    room.write("empty")
+    room.write("one", b"x")
+    room.write("long", bytes(60_000))
+    kinds: List[List[str]] = [[], ["--ffs"]]
+    for blocks in (16, 1_760, 3_520, 101_602):
+        for kind in kinds:
+            name = f"sized{blocks}{''.join(kind)}.adf"
+            room.done("blank", *kind, "--blocks", str(blocks), *MOMENT, "Sized", name)
+            room.done("mkdir", *MOMENT, name, "d")
+            room.done("add", *MOMENT, "--to", "d", name, "empty", "one", *(["long"] if blocks > 16 else []))
+            room.report.ends(f"owners in {name}", lambda: fault_of_blocks(room, name, random.Random(blocks), 3_000))
+
+
+def known_lines(room: Room) -> None:
+    """Lines that are known from the layout of the disk."""
+    room.done("blank", *MOMENT, "Known", "known.adf")
+    room.write("list", bytes(20_000))
+    room.done("mkdir", *MOMENT, "known.adf", "Docs")
+    room.done("add", *MOMENT, "--to", "Docs", "known.adf", "list")
+    blocks = {it.path: at for at, it in Reading(room.content("known.adf")).owners.items() if it.number == 34}
+    block = str(blocks["Docs/list"])
+    line = room.run("where", "known.adf", block).output.decode()
+    room.report.expect("data block 34 holds bytes 16592 to 17079", line.endswith("  data 34 of Docs/list, bytes 16592 to 17079\n"), line)
+    room.succeeds("block 912", "where", "known.adf", "912", output=b"912  cyl 41 head 0 sector 10  " + words_at(room, 912))
+    room.succeeds("the root by its place", "where", "known.adf", "c40.h0.s0", output=b"880  cyl 40 head 0 sector 0  root\n")
+    room.succeeds("the blocks of the root", "where", "--path", "", "known.adf", output=b"880\n")
+    room.done("blank", "--hd", *MOMENT, "Known", "high.adf")
+    room.succeeds("a track of 22 sectors", "where", "high.adf", "c40.h0.s0", "21", output=b"1760  cyl 40 head 0 sector 0  root\n21  cyl 0 head 0 sector 21  free\n")
+
+
+def words_at(room: Room, block: int) -> bytes:
+    return words_of(Reading(room.content("known.adf")).owned(block)).encode() + b"\n"
+
+
+def wrong_blocks(room: Room) -> None:
+    room.done("blank", *MOMENT, "Small", "plain.adf")
+    data = room.content("plain.adf")
+    for word in ("x", "+1", "007", "1.5", "", "4294967296", "c40", "c40.h0", "c40.h2.s0", "c40.h0.s22", "c040.h0.s0", "C40.h0.s0", "c.h0.s0", "c40.h0.s0 ", "c40.h0.s-1"):
+        room.report.check(f"block {word!r}", room.run("where", "plain.adf", "880", word), 1, b"", f"'{word}'", "BLOCK")
+    for word in ("1760", "4294967295", "c80.h0.s0", "c0.h0.s11", "c79.h1.s11", "c4294967295.h1.s10"):
+        fault = f"'plain.adf' has no block {word}: it has 1,760 blocks"
+        room.report.check(f"no block {word}", room.run("where", "plain.adf", "880", word), 3, b"", fault)
+        room.report.check(f"no object of block {word}", room.run("where", "--json", "plain.adf", "880", word, "1"), 3, b"", fault)
+    room.report.check("no block is named", room.run("where", "plain.adf"), 1, b"", "BLOCK")
+    room.report.check("a path and a block", room.run("where", "--path", "c", "plain.adf", "880"), 1, b"", "--path")
+    room.report.check("a path and JSON", room.run("where", "--path", "c", "--json", "plain.adf"), 1, b"", "--path")
+    room.report.check("a path that leads nowhere", room.run("where", "--path", "c", "plain.adf"), 3, b"refused 205 c\n", "c")
+    room.report.check("a path with a letter past U+00FF", room.run("where", "--path", "\u0100", "plain.adf"), 1, b"", "\u0100")
+    room.report.same("the image stays", room.content("plain.adf"), data)
+
+
 def other_images(room: Room) -> None:
     room.done("blank", "--blocks", "16", "Small", "small.adf")
     room.succeeds("map of 16 blocks", "map", "small.adf", output=SMALLEST)
@@ -103,12 +322,16 @@ def other_images(room: Room) -> None:
     room.write("other.adf", b"PFS\1" + bytes(BLOCK * 1760 - 4))
     room.report.check("another kind of disk", room.run("map", "other.adf"), 3, b"refused NotADosDisk 0\n", "not an AmigaDOS disk")
     room.report.check("no such file", room.run("map", "none.adf"), 2, b"", "none.adf")
+    room.report.check("where in a refused image", room.run("where", "bad.adf", "8"), 3, b"refused BadSum 8\n", "its checksum is wrong")
+    room.report.check("a path in a refused image", room.run("where", "--path", "", "bad.adf"), 3, b"refused BadSum 8\n", "its checksum is wrong")
+    room.report.check("where in no image", room.run("where", "short.adf", "8"), 3, b"refused NotWholeBlocks 0\n", "100 bytes")
+    room.report.check("where in no file", room.run("where", "none.adf", "8"), 2, b"", "none.adf")
     room.report.check("no argument", room.run("map"), 1, b"", "IMAGE")
     room.report.check("two images", room.run("map", "small.adf", "small.adf"), 1, b"", "small.adf")
 
 
 def main(words: List[str]) -> int:
-    return try_all(words, Room, drawn_volumes, other_images)
+    return try_all(words, Room, drawn_volumes, owners_of_volumes, sizes, known_lines, wrong_blocks, other_images)
 
 
 if __name__ == "__main__":

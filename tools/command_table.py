@@ -12,7 +12,7 @@ TOKEN = re.compile(r'"(?:[^"\\]|\\.)*"|[A-Za-z_][A-Za-z0-9_]*(?:::[A-Za-z_][A-Za
 Value = Union[str, bool, None, "Struct", List["Value"]]
 # What stands for a value of an option or for an argument.
 KINDS = {"FILE": "file", "DIR": "dir", "IMAGE": "file", "SCRIPT": "file", "PATH": "path", "OLD": "path", "NEW": "path", "NAME": "name",
-         "N": "number", "WHEN": "date", "KEY": "key", "LETTERS": "letters", "TEXT": "text"}
+         "N": "number", "WHEN": "date", "KEY": "key", "LETTERS": "letters", "TEXT": "text", "BLOCK": "number"}
 
 
 class Struct(NamedTuple):

@@ -105,6 +105,7 @@ ADVICE: List[Tuple[str, str]] = [
     (r"comment", "Use at most 79 characters"),
     (r"boot block", "Use at most 1,024 bytes"),
     (r"has 16 to 101,602 blocks", "Use a number in this range"),
+    (r"has no block", "Name a block that the image has"),
     (r"ran out of tries", "Raise `--turns`, or leave the machine less to do"),
     (r"script|line \{number\}", "Correct this line of the script"),
     (r"skipped|note of a file", "Nothing, unless it was to be added"),
@@ -129,7 +130,7 @@ OF_OUTPUT = ("refused {", "suspect block {", "the file at block {")
 STATUSES: List[Tuple[str, str]] = [
     (r"waiting for|skipped|mounted or being|is cut short|all files that are|it is a (symbolic|note)|it is neither", ""),
     (r"a volume has 16|past U\+00FF|no byte of an Amiga|is no protection", "1"),
-    (r"no name of a volume|1,024 bytes|line \{number\}|the script has more|^expected \{|^(a keyword|each \$k|a text in quotes)|^(a|the|each) .*(\$k|text|line|keyword|bytes)$", "3"),
+    (r"no name of a volume|has no block|1,024 bytes|line \{number\}|the script has more|^expected \{|^(a keyword|each \$k|a text in quotes)|^(a|the|each) .*(\$k|text|line|keyword|bytes)$", "3"),
     (r"ok, \{\} refused", ""),
     (r"its volume is|is not written|--force writes|bitmap block|nothing names it|faults than can be|does not mend|still has a fault", "3"),
     (r"^(the header of a directory|an extension block|a data block of)", "3"),

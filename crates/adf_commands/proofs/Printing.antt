@@ -13,11 +13,7 @@ use Rattle.ados_run.specs.declared.run.RunFault.{RunFault}
 use Rattle.ados_run.specs.declared.run.RunFault.TheVariants as of_run
 use Rattle.adf_script.specs.Streams.{Writes}
 use Rattle.adf_io.specs.Prefix.{WritesFront, WritesFrontOf}
-use Rattle.adf_boot.specs.Shown.{IsBootText}
-use Rattle.ados_mend.specs.BlockMap.{IsMap}
 use Rattle.adf_export.specs.Listing.{BeginsList, IsList}
-use Rattle.adf_record.specs.declared.told.FactsForm.{FactsForm}
-use Rattle.adf_record.specs.Told.{IsVolumeText, is_json}
 use Rattle.adf_words.specs.declared.job.ImageJob.{ImageJob}
 use Rattle.adf_words.specs.declared.job.ImageJob.TheVariants.{Blank}
 use Rattle.adf_export.specs.declared.fault.OutFault.{OutFault}
@@ -28,9 +24,10 @@ use Rattle.adf_export.specs.Rescue.{AreRescued, AreSomeRescued, IsRescue}
 use Rattle.adf_io.proofs.Prefixes.{writes_first}
 use Rattle.adf_commands.specs.declared.fault.CommandFault.{CommandFault}
 use Rattle.adf_commands.specs.declared.fault.CommandFault.TheVariants.{Dos, ImagesRefused, Memory, NotChecked, NotWhole, Output, Refused}
+use Rattle.adf_commands.specs.declared.look.Look.{Look}
 use Rattle.adf_commands.specs.declared.refusal.Refusal.{Refusal}
 use Rattle.adf_commands.specs.declared.refusal.DosRefusal.{DosRefusal}
-use Rattle.adf_commands.specs.Texts.{BeginsJobText, BeginsListOf, BeginsListText, IsJobText, IsListed, IsListOf, IsListText, shown_form, IsPrintText, IsMapped, IsShown, IsShownBoot}
+use Rattle.adf_commands.specs.Texts.{AreEntryBlocks, AreOwnedBlocks, BeginsJobText, BeginsListOf, BeginsListText, IsJobText, IsListed, IsListOf, IsListText, shown_form, IsLook, IsLookText, IsPrintText}
 use Rattle.adf_commands.specs.Faults.{IsBlankFault, IsNoImage, IsNoImageRefusal, IsNoRefusal, IsRefusedFor, IsToldAs, IsToldOut, IsToldRun}
 use Rattle.adf_commands.specs.Commands.{Does, DoesJob, Ending, EndsOff, LeavesOff, Prints, prints, Tells, TellsFault, TellsJob, TellsOf, TellsSome}
 use Rattle.adf_commands.specs.Commands.Prints.{OnlyFaults, OfBytes, OfImages, OfRescue, Unsaid}
@@ -40,6 +37,9 @@ use Rattle.adf_words.specs.declared.query.CheckJob.{CheckJob}
 use Rattle.adf_words.specs.declared.query.ListForm.{ListForm}
 use Rattle.adf_words.specs.declared.query.ListJob.{ListJob}
 use Rattle.adf_words.specs.declared.query.ListOrder.{ListOrder}
+use Rattle.adf_words.specs.declared.query.WhereJob.{WhereJob}
+use Rattle.adf_export.specs.Where.{IsWhere, IsWhereOf}
+use Rattle.adf_export.specs.Words.{LeadsTo}
 use Rattle.adf_commands.specs.Archives.{EndsArchive}
 use Rattle.adf_commands.specs.Rescues.{DoesRescue, IsRescueText, IsSomeRescueText, TellsRescue}
 use Rattle.adf_commands.specs.Refusals.{dos_line, IsDosText, IsRefusalText, refusal_line, told_line}
@@ -151,17 +151,18 @@ module _ (image : List ℕ) (was_validated : Bool) (checked : List ℕ) (a : Acc
       let s = accepted_tree image was_validated checked a in
       let w = h s.0 s.1 in (bytes_of s.0 w.0, w.3, (was_validated, checked, s.0, a, s.1, (w.0, w.1, w.2, refl)))
 
-  pub boot_shown : (text : List ℕ) → IsBootText checked text → IsShownBoot image text
-  boot_shown text is =
-      let s = accepted_tree image was_validated checked a in (was_validated, checked, s.0, a, s.1, is)
-
-  pub volume_shown : (form : FactsForm) (json : Bool) (text : List ℕ) → is_json form ≡ json → ((t : Tree) → Stands checked t → IsVolumeText form checked was_validated t text) → IsShown json image text
-  volume_shown form json text same is =
-      let s = accepted_tree image was_validated checked a in (was_validated, checked, s.0, a, s.1, (form, same, is s.0 s.1))
-
-  pub map_shown : (json : Bool) (text : List ℕ) → ((t : Tree) → Stands checked t → IsMap json checked t text) → IsMapped json image text
-  map_shown json text is =
+  pub looked : (look : Look) (text : List ℕ) → ((t : Tree) → Stands checked t → IsLook look was_validated checked t text) → IsLookText look image text
+  looked look text is =
       let s = accepted_tree image was_validated checked a in (was_validated, checked, s.0, a, s.1, is s.0 s.1)
+
+  pub blocks_told : (job : WhereJob) (text : List ℕ) → ((t : Tree) → Stands checked t → IsWhere job.json checked t job.blocks.items text) → AreOwnedBlocks job image text
+  blocks_told job text is =
+      let s = accepted_tree image was_validated checked a in (was_validated, checked, s.0, a, s.1, is s.0 s.1)
+
+  pub entry_told : (word : List ℕ) (key : ℕ) (text : List ℕ) → ((t : Tree) → Stands checked t → LeadsTo t word key) → ((t : Tree) → Stands checked t → IsWhereOf checked t key text)
+      → AreEntryBlocks word image text
+  entry_told word key text leads is =
+      let s = accepted_tree image was_validated checked a in (was_validated, checked, s.0, a, s.1, (key, leads s.0 s.1, is s.0 s.1))
 
   pub print_fault : (word : List ℕ) (old new : Option (List ℕ)) (fault : OutFault) (told : CommandFault) → ((t : Tree) → Stands checked t → IsPrintFault t word old new fault)
       → IsToldOut fault told → LeavesOff (IsPrintText word image) image old new told

@@ -10,7 +10,7 @@ use Rattle.adf_text.specs.Letters.{letters as letter_text}
 use Rattle.adf_export.specs.declared.fault.OutFault.{OutFault}
 use Rattle.adf_export.specs.declared.fault.OutFault.TheVariants as out
 use Rattle.adf_commands.specs.declared.fault.CommandFault.{CommandFault}
-use Rattle.adf_commands.specs.declared.fault.CommandFault.TheVariants.{Bitmap, Blocks, Dos, Letter, LongBoot, Memory, Name, ImagesRefused, NotWhole, OtherVolume, Output, Refused, Script}
+use Rattle.adf_commands.specs.declared.fault.CommandFault.TheVariants.{Bitmap, Blocks, Dos, Letter, LongBoot, Memory, Name, NoBlock, ImagesRefused, NotWhole, OtherVolume, Output, Refused, Script}
 use Rattle.adf_archive.specs.Words.{kind_word}
 use Rattle.adf_commands.specs.Refusals.{IsImageRefusal, IsSizeRefusal, refusal_line, refused_line, told_line}
 
@@ -77,6 +77,7 @@ status_of (Blocks blocks) = 1
 status_of (Letter word) = 1
 status_of (Name name) = 3
 status_of (LongBoot file) = 3
+status_of (NoBlock file block blocks) = 3
 status_of (Refused refusal) = 3
 status_of (Dos refusal) = 3
 status_of (Bitmap why) = 3

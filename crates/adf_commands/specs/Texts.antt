@@ -22,12 +22,18 @@ use Rattle.adf_export.specs.Listing.{BeginsList, IsList}
 use Rattle.adf_record.specs.declared.told.FactsForm.{FactsForm}
 use Rattle.adf_record.specs.Told.{IsVolumeText, is_json}
 use Rattle.adf_words.specs.declared.job.ImageJob.{ImageJob}
-use Rattle.adf_words.specs.declared.job.ImageJob.TheVariants.{Info, List as ListOf, Map, Print, Show, ShowBoot, Validate}
+use Rattle.adf_words.specs.declared.job.ImageJob.TheVariants.{Info, List as ListOf, Map, Print, Show, ShowBoot, Validate, Where, WherePath}
 use Rattle.adf_words.specs.declared.query.ListForm.{ListForm}
 use Rattle.adf_words.specs.declared.query.ListForm.TheVariants.{Bold, Long}
 use Rattle.adf_words.specs.declared.query.ListJob.{ListJob}
 use Rattle.adf_words.specs.declared.query.ListOrder.{ListOrder}
+use Rattle.adf_words.specs.declared.query.WhereJob.{WhereJob}
+use Rattle.adf_export.specs.Where.{IsWhere, IsWhereOf}
 use Rattle.adf_export.specs.Words.{LeadsTo}
+use Rattle.adf_commands.specs.declared.look.Look.{Look}
+use Rattle.adf_commands.specs.declared.look.Look.TheVariants as looks
+use Rattle.adf_commands.specs.declared.query.Query.{Query}
+use Rattle.adf_commands.specs.declared.query.Query.TheVariants as queries
 use Rattle.ados_mend.specs.BlockMap.{IsMap}
 use Rattle.ados_mend.specs.Said.{validated_line}
 use Rattle.ados_mend.specs.Validated.{IsValidated, free_only_in}
@@ -79,32 +85,52 @@ BeginsListOf job image text = (styled : Bool) × BeginsListText (option_map (λ 
 abbrev pub IsPrintText : List ℕ → List ℕ → List ℕ → Type 0
 IsPrintText word = OfAccepted (λ was_validated checked t text. (key : ℕ) × LeadsTo t word key × (is_file t key ≡ true) × (text ≡ bytes_of t key))
 
--- what the boot block is, and its bytes
-abbrev pub IsShownBoot : List ℕ → List ℕ → Type 0
-IsShownBoot = OfAccepted (λ was_validated checked t text. IsBootText checked text)
-
 -- how many bits of the bitmap changed, of an image with a new one
 abbrev pub IsCountText : List ℕ → List ℕ → Type 0
 IsCountText image text = (new : List ℕ) × IsValidated image new × (text ≡ validated_line (free_only_in image new) (free_only_in new image))
 
--- what a person wants to know of the volume: a JSON object, or text, with bold letters or without
-abbrev pub IsShown : Bool → List ℕ → List ℕ → Type 0
-IsShown json =
-    OfAccepted (λ was_validated checked t text. (form : FactsForm) × (is_json form ≡ json) × IsVolumeText form checked was_validated t text)
+-- a text about an accepted image, by whether its bitmap was rebuilt, the checked image and its tree: the facts of the volume,
+-- as a JSON object or in a form for people; its map, as a JSON object or as text; or what the boot block is, and its bytes
+abbrev pub IsLook : Look → Bool → List ℕ → Tree → List ℕ → Type 0
+IsLook (looks.Volume json) was_validated checked t text = (form : FactsForm) × (is_json form ≡ json) × IsVolumeText form checked was_validated t text
+IsLook (looks.Map json) was_validated checked t text = IsMap json checked t text
+IsLook looks.Boot was_validated checked t text = IsBootText checked text
 
--- the map of the volume: a JSON object, or text
-abbrev pub IsMapped : Bool → List ℕ → List ℕ → Type 0
-IsMapped json = OfAccepted (λ was_validated checked t text. IsMap json checked t text)
+abbrev pub IsLookText : Look → List ℕ → List ℕ → Type 0
+IsLookText look = OfAccepted (IsLook look)
+
+-- who owns the blocks that a job asks for: a line for each, or a JSON array
+abbrev pub AreOwnedBlocks : WhereJob → List ℕ → List ℕ → Type 0
+AreOwnedBlocks job = OfAccepted (λ was_validated checked t text. IsWhere job.json checked t job.blocks.items text)
+
+-- the blocks of the file or directory at a path
+abbrev pub AreEntryBlocks : List ℕ → List ℕ → List ℕ → Type 0
+AreEntryBlocks word = OfAccepted (λ was_validated checked t text. (key : ℕ) × LeadsTo t word key × IsWhereOf checked t key text)
+
+-- what is printed of an image, and its beginning
+abbrev pub IsQueryText : Query → List ℕ → List ℕ → Type 0
+IsQueryText queries.Disk = IsInfoText
+IsQueryText (queries.List job) = IsListOf job.now
+IsQueryText (queries.Bytes path) = IsPrintText path.now
+IsQueryText (queries.Look look) = IsLookText look
+IsQueryText (queries.Blocks job) = AreOwnedBlocks job.now
+IsQueryText (queries.Entry path) = AreEntryBlocks path.now
+
+abbrev pub BeginsQueryText : Query → List ℕ → List ℕ → Type 0
+BeginsQueryText (queries.List job) = BeginsListOf job.now
+BeginsQueryText query = IsQueryText query
 
 -- the output of a command for the bytes that it reads, and its beginning; `blank` has none
 abbrev pub IsJobText : ImageJob → List ℕ → List ℕ → Type 0
 IsJobText (Info file) = IsInfoText
 IsJobText (ListOf job) = IsListOf job
 IsJobText (Print image path) = IsPrintText path.now
-IsJobText (ShowBoot image) = IsShownBoot
+IsJobText (ShowBoot image) = IsLookText looks.Boot
 IsJobText (Validate target force) = IsCountText
-IsJobText (Show image json) = IsShown json
-IsJobText (Map image json) = IsMapped json
+IsJobText (Show image json) = IsLookText (looks.Volume json)
+IsJobText (Map image json) = IsLookText (looks.Map json)
+IsJobText (Where job) = AreOwnedBlocks job
+IsJobText (WherePath image path) = AreEntryBlocks path.now
 IsJobText job = λ bytes text. text ≡ []
 
 abbrev pub BeginsJobText : ImageJob → List ℕ → List ℕ → Type 0

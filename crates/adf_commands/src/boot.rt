@@ -1,14 +1,11 @@
-//! The command `boot`.
+//! The command `boot`, where it changes an image or saves a boot block.
 ghost use Rattle.adf_commands.specs.Boot.{PutsBoot, PutsFile};
-ghost use Rattle.adf_commands.specs.Texts.{IsShownBoot};
-ghost use Rattle.adf_commands.specs.Commands.{TellsOf, TellsSome};
 
 use crate::fault::CommandFault;
-use crate::images::{Work, accept, open_volume, read_image};
-use crate::output::tell;
+use crate::images::{Work, accept, open_volume};
 use crate::refusal::Refusal;
 use adf_block::Image;
-use adf_boot::{boot_bytes, boot_image, boot_text, install_standard};
+use adf_boot::{boot_bytes, boot_image, install_standard};
 use adf_host::{refuse_length, why_unreadable};
 use adf_io::read_bounded;
 use adf_words::{BootBlock, Rewrite};
@@ -28,8 +25,7 @@ pub(crate) fn change_boot<'a, R: Files<File = File> + Clock>(
     target: Rewrite<'a>,
     block: BootBlock<'a>,
 ) -> Result<(), CommandFault<'a>> {
-    let mut work = Work::begin(rt, target)?;
-    let mut image = work.read(alloc)?;
+    let (work, mut image) = Work::begin(rt, alloc, target)?;
     accept_copy(alloc, &image)?;
     put_boot(rt, alloc, &mut image, block)?;
     work.end(rt, alloc, &image)
@@ -99,32 +95,6 @@ fn read_code<'a, R: Files>(
         Ok(code) => Ok(code),
         Err(fault) => Err(CommandFault::of_input(rt, fault, file)),
     }
-}
-
-/// Prints what the boot block of a file's image is, and its bytes.
-pub(crate) fn show_boot<'a, R: Files, W: Write>(
-    rt: &R,
-    alloc: Global,
-    image: &'a str,
-    writer: &mut W,
-) -> Result<(), CommandFault<'a>>
-    ensures { TellsSome IsShownBoot IsShownBoot (W.contents writer.old) (W.contents writer.new) result }
-{
-    let image = read_image(rt, alloc, image)?;
-    tell_boot(alloc, image, writer)
-}
-
-/// Prints what the boot block of an image is, and its bytes.
-fn tell_boot<'a, W: Write>(
-    alloc: Global,
-    image: Image,
-    writer: &mut W,
-) -> Result<(), CommandFault<'a>>
-    ensures { TellsOf IsShownBoot IsShownBoot image (W.contents writer.old) (W.contents writer.new) result }
-{
-    let volume = accept(alloc, image)?;
-    let text = boot_text(alloc, volume.image())?;
-    tell(writer, &text)
 }
 
 /// Writes the boot block of an image file that is accepted to a new file of the host.

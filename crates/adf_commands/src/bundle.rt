@@ -31,8 +31,7 @@ pub(crate) fn put_bundle<'a, R: Files<File = File> + Clock>(
     from: &'a str,
 ) -> Result<(), CommandFault<'a>> {
     let file = target.image;
-    let mut work = Work::begin(rt, target)?;
-    let image = work.read(alloc)?;
+    let (work, image) = Work::begin(rt, alloc, target)?;
     let old = accept(alloc, image)?;
     let volume = match add_bundle(rt, alloc, &old, from) {
         Ok(volume) => volume,

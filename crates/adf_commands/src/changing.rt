@@ -31,8 +31,7 @@ where
     if reads_input(&job.change) && !rt.has_standard_input() {
         return Err(CommandFault::Added(InFault::Source(SourceFault::Input)));
     }
-    let mut work = Work::begin(rt, job.target)?;
-    let image = work.read(alloc)?;
+    let (work, image) = Work::begin(rt, alloc, job.target)?;
     let volume = changed(rt, alloc, image, job, faults)?;
     work.end(rt, alloc, volume.image())
 }

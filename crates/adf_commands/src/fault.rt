@@ -50,6 +50,9 @@ pub enum CommandFault<'a> {
     Letter(String),
     #[error("'{0}' has more than 1,024 bytes, the most of a boot block")]
     LongBoot(&'a str),
+    /// The image has so many blocks, and the argument names none of them.
+    #[error("'{0}' has no block {1}: it has {} blocks, from 0 on", Grouped(u64::from(*.2)))]
+    NoBlock(&'a str, String, u32),
     #[error("{0}")]
     Refused(Refusal),
     #[error("{0}")]
@@ -91,7 +94,7 @@ impl fmt::Debug for CommandFault<'_> {
 impl Drop for CommandFault<'_> {
     fn drop(self) {
         match self {
-            CommandFault::Letter(_word) => {}
+            CommandFault::Letter(_word) | CommandFault::NoBlock(_, _word, _) => {}
             CommandFault::Dos(_refusal) => {}
             CommandFault::Extracted(_fault) => {}
             CommandFault::Added(_fault) => {}
@@ -162,6 +165,7 @@ impl<'a> CommandFault<'a> {
             CommandFault::Blocks(_) | CommandFault::Letter(_) => 1,
             CommandFault::Name(_)
             | CommandFault::LongBoot(_)
+            | CommandFault::NoBlock(_, _, _)
             | CommandFault::Refused(_)
             | CommandFault::Dos(_)
             | CommandFault::Bitmap(_)

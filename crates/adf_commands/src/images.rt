@@ -101,8 +101,24 @@ impl Drop for Work<'_> {
 }
 
 impl<'a> Work<'a> {
-    /// Starts to change an image file. The new image goes to `out`, or else to the file itself.
+    /// Starts to change an image file: locks it, and reads the image once. The new image goes to `out`, or else to the file
+    /// itself.
     pub(crate) fn begin<R: Files<File = File> + Clock>(
+        rt: &R,
+        alloc: Global,
+        target: Rewrite<'a>,
+    ) -> Result<(Work<'a>, Image), CommandFault<'a>>
+        ensures { IfErr result IsNoImage }
+    {
+        let mut work = Work::lock(rt, target)?;
+        match work.held.read_image(alloc) {
+            Ok(image) => Ok((work, image)),
+            Err(fault) => Err(image_fault(fault, work.image)),
+        }
+    }
+
+    /// Locks an image file to change, and the file for the new image: `out`, or else the file itself.
+    fn lock<R: Files<File = File> + Clock>(
         rt: &R,
         target: Rewrite<'a>,
     ) -> Result<Work<'a>, CommandFault<'a>>
@@ -133,16 +149,6 @@ impl<'a> Work<'a> {
             out,
             held_out,
         })
-    }
-
-    /// Reads the image. It is read once.
-    pub(crate) fn read(&mut self, alloc: Global) -> Result<Image, CommandFault<'a>>
-        ensures { IfErr result IsNoImage }
-    {
-        match self.held.read_image(alloc) {
-            Ok(image) => Ok(image),
-            Err(fault) => Err(image_fault(fault, self.image)),
-        }
     }
 
     /// Writes the new image and ends the work.

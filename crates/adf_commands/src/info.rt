@@ -2,10 +2,9 @@
 ghost use Rattle.std.specs.Prelude.{◌≡◌, ℕ, List, IfOk};
 ghost use Rattle.ados_run.specs.Keeping.{KeepsVolume};
 ghost use Rattle.adf_commands.specs.Texts.{disk_info_steps, IsInfoText};
-ghost use Rattle.adf_commands.specs.Commands.{TellsOf, TellsSome};
+ghost use Rattle.adf_commands.specs.Commands.{TellsOf};
 
 use crate::fault::CommandFault;
-use crate::images::read_image;
 use adf_block::Image;
 use adf_export::write_info;
 use ados_handler::Handler;
@@ -15,7 +14,6 @@ use ados_port::{Outcome, RunDone, Step};
 use ados_run::run_volume;
 use std::alloc::{AllocError, Global};
 use std::io::Write;
-use std::rt::Files;
 
 /// 1 January 1978.
 pub const FIRST_MOMENT: Date3 = Date3 {
@@ -24,21 +22,8 @@ pub const FIRST_MOMENT: Date3 = Date3 {
     ticks: 0,
 };
 
-/// Prints the result of DISK_INFO for a file's image, and whether its boot checksum is right.
-pub(crate) fn print_info<'a, R: Files, W: Write>(
-    rt: &R,
-    alloc: Global,
-    file: &'a str,
-    writer: &mut W,
-) -> Result<(), CommandFault<'a>>
-    ensures { TellsSome IsInfoText IsInfoText (W.contents writer.old) (W.contents writer.new) result }
-{
-    let image = read_image(rt, alloc, file)?;
-    tell_info(alloc, image, writer)
-}
-
 /// Prints the result of DISK_INFO for an image, and whether its boot checksum is right.
-fn tell_info<'a, W: Write>(
+pub(crate) fn tell_info<'a, W: Write>(
     alloc: Global,
     image: Image,
     writer: &mut W,

@@ -3,18 +3,17 @@ ghost use Rattle.adf_commands.specs.Commands.{DoesJob, TellsJob};
 
 use crate::archive::check_images;
 use crate::blank::{blank_volume, write_new};
-use crate::block_map::print_map;
-use crate::boot::{change_boot, save_boot, show_boot};
+use crate::boot::{change_boot, save_boot};
 use crate::bundle::{put_bundle, take_bundle};
 use crate::changing::{change, given_or_now};
 use crate::fault::CommandFault;
-use crate::info::print_info;
-use crate::moving::{print_bytes, print_list, take_out};
+use crate::look::Look;
+use crate::moving::take_out;
 use crate::output::tell;
+use crate::query::{Query, print_query};
 use crate::rescue::take_rescue;
 use crate::screen::Screen;
 use crate::serving::serve;
-use crate::show::{Show, show_volume};
 use crate::validate::validate_file;
 use adf_archive::ReadImages;
 use adf_import::StandardInput;
@@ -32,7 +31,7 @@ use std::thread::Threads;
 pub fn run_job<'a, R, W, F>(
     rt: &R,
     alloc: Global,
-    job: ImageJob<'a>,
+    job: &ImageJob<'a>,
     screen: Screen,
     writer: &mut W,
     faults: &mut F,
@@ -41,14 +40,13 @@ where
     R: Files<File = File> + Clock + Threads + Wait + ReadImages + StandardInput + Copy + Send + Sync + Drop + 'static,
     W: Write,
     F: Write,
-    ensures { TellsJob job.entry (W.contents writer.old) (W.contents writer.new) result }
+    ensures { TellsJob job.now (W.contents writer.old) (W.contents writer.new) result }
 {
-    let image = image_of(&job);
     let fault = match do_job(rt, alloc, job, screen, writer, faults) {
         Ok(()) => return Ok(()),
         Err(fault) => fault,
     };
-    explain(rt, alloc, image, &fault, faults);
+    explain(rt, alloc, image_of(job), &fault, faults);
     let line = fault.line(alloc)?;
     let Some(text) = line else {
         return Err(fault);
@@ -64,6 +62,7 @@ fn image_of<'a>(job: &ImageJob<'a>) -> Option<&'a str> {
         ImageJob::Info { file } => Some(*file),
         ImageJob::Show { image, .. }
         | ImageJob::Map { image, .. }
+        | ImageJob::WherePath { image, .. }
         | ImageJob::Print { image, .. }
         | ImageJob::ExtractBundle { image, .. }
         | ImageJob::SaveBoot { image, .. }
@@ -71,6 +70,7 @@ fn image_of<'a>(job: &ImageJob<'a>) -> Option<&'a str> {
         ImageJob::AddBundle { target, .. }
         | ImageJob::Validate { target, .. }
         | ImageJob::Boot { target, .. } => Some(target.image),
+        ImageJob::Where(job) => Some(job.image),
         ImageJob::List(job) => Some(job.image),
         ImageJob::Extract(job) => Some(job.image),
         ImageJob::Salvage(job) => Some(job.image),
@@ -97,7 +97,7 @@ fn explain<R: Files + ReadImages, F: Write>(
 fn do_job<'a, R, W, F>(
     rt: &R,
     alloc: Global,
-    job: ImageJob<'a>,
+    job: &ImageJob<'a>,
     screen: Screen,
     writer: &mut W,
     faults: &mut F,
@@ -106,32 +106,35 @@ where
     R: Files<File = File> + Clock + Threads + Wait + ReadImages + StandardInput + Copy + Send + Sync + Drop + 'static,
     W: Write,
     F: Write,
-    ensures { DoesJob job.entry (W.contents writer.old) (W.contents writer.new) result }
+    ensures { DoesJob job.now (W.contents writer.old) (W.contents writer.new) result }
 {
     match job {
         ImageJob::Blank { format, blocks, moment, name, letters, file } => {
-            let moment = given_or_now(rt, moment)?;
-            let volume = blank_volume(alloc, format, blocks, name, letters, moment)?;
-            write_new(rt, alloc, &volume, file)
+            let moment = given_or_now(rt, *moment)?;
+            let volume = blank_volume(alloc, *format, *blocks, *name, *letters, moment)?;
+            write_new(rt, alloc, &volume, *file)
         }
-        ImageJob::Info { file } => print_info(rt, alloc, file, writer),
+        ImageJob::Info { file } => print_query(rt, alloc, *file, Query::Disk, screen.styled, writer),
         ImageJob::Show { image, json } => {
-            let show = Show { image, json, styled: screen.styled };
-            show_volume(rt, alloc, show, writer)
+            print_query(rt, alloc, *image, Query::Look(Look::Volume { json: *json }), screen.styled, writer)
         }
-        ImageJob::Map { image, json } => print_map(rt, alloc, image, json, writer),
-        ImageJob::Check(job) => check_images(rt, alloc, &job, screen.progress, writer, faults),
-        ImageJob::List(job) => print_list(rt, alloc, &job, screen.styled, writer),
-        ImageJob::Print { image, path } => print_bytes(rt, alloc, image, path, writer),
-        ImageJob::Extract(job) => take_out(rt, alloc, &job),
-        ImageJob::ExtractBundle { image, to } => take_bundle(rt, alloc, image, to),
-        ImageJob::AddBundle { target, from } => put_bundle(rt, alloc, target, from),
-        ImageJob::Salvage(job) => take_rescue(rt, alloc, &job, writer, faults),
-        ImageJob::Change(job) => change(rt, alloc, &job, faults),
-        ImageJob::Validate { target, force } => validate_file(rt, alloc, target, force, writer),
-        ImageJob::Boot { target, block } => change_boot(rt, alloc, target, block),
-        ImageJob::SaveBoot { image, file } => save_boot(rt, alloc, image, file),
-        ImageJob::ShowBoot { image } => show_boot(rt, alloc, image, writer),
-        ImageJob::Serve(job) => serve(rt, alloc, &job, writer, faults),
+        ImageJob::Map { image, json } => {
+            print_query(rt, alloc, *image, Query::Look(Look::Map { json: *json }), screen.styled, writer)
+        }
+        ImageJob::Where(job) => print_query(rt, alloc, job.image, Query::Blocks(job), screen.styled, writer),
+        ImageJob::WherePath { image, path } => print_query(rt, alloc, *image, Query::Entry(*path), screen.styled, writer),
+        ImageJob::ShowBoot { image } => print_query(rt, alloc, *image, Query::Look(Look::Boot), screen.styled, writer),
+        ImageJob::List(job) => print_query(rt, alloc, job.image, Query::List(job), screen.styled, writer),
+        ImageJob::Print { image, path } => print_query(rt, alloc, *image, Query::Bytes(*path), screen.styled, writer),
+        ImageJob::Check(job) => check_images(rt, alloc, job, screen.progress, writer, faults),
+        ImageJob::Extract(job) => take_out(rt, alloc, job),
+        ImageJob::ExtractBundle { image, to } => take_bundle(rt, alloc, *image, *to),
+        ImageJob::AddBundle { target, from } => put_bundle(rt, alloc, *target, *from),
+        ImageJob::Salvage(job) => take_rescue(rt, alloc, job, writer, faults),
+        ImageJob::Change(job) => change(rt, alloc, job, faults),
+        ImageJob::Validate { target, force } => validate_file(rt, alloc, *target, *force, writer),
+        ImageJob::Boot { target, block } => change_boot(rt, alloc, *target, *block),
+        ImageJob::SaveBoot { image, file } => save_boot(rt, alloc, *image, *file),
+        ImageJob::Serve(job) => serve(rt, alloc, job, writer, faults),
     }
 }

@@ -3,7 +3,7 @@
 
 mod archive;
 mod blank;
-mod block_map;
+mod blocks;
 mod boot;
 mod bundle;
 mod changing;
@@ -13,14 +13,15 @@ mod faulty_line;
 mod images;
 mod info;
 mod jobs;
+mod look;
 mod moving;
 mod output;
+mod query;
 mod refusal;
 mod rescue;
 mod screen;
 mod script_lines;
 mod serving;
-mod show;
 mod validate;
 
 pub use adf_import::StandardInput;

@@ -5,10 +5,10 @@ ghost use Rattle.ados_model.specs.Stands.{Stands};
 ghost use Rattle.ados_model.specs.Tree.{Tree};
 ghost use Rattle.adf_commands.specs.Texts.{BeginsListOf, IsListed, IsListOf, IsPrintText, shown_form};
 ghost use Rattle.adf_commands.specs.Faults.{IsNoImageRefusal, IsToldOut};
-ghost use Rattle.adf_commands.specs.Commands.{TellsOf, TellsSome};
+ghost use Rattle.adf_commands.specs.Commands.{TellsOf};
 
 use crate::fault::CommandFault;
-use crate::images::{accept, open_volume, read_image};
+use crate::images::{accept, open_volume};
 use crate::refusal::{Detail, DosRefusal};
 use adf_block::Image;
 use adf_export::{OutFault, extract, locate_word, print_file, write_list};
@@ -19,23 +19,8 @@ use std::fs::File;
 use std::io::Write;
 use std::rt::Files;
 
-/// Prints the list of a file or directory in a file's image. With `styled` the names of directories in a list for people
-/// are bold.
-pub(crate) fn print_list<'a, R: Files, W: Write>(
-    rt: &R,
-    alloc: Global,
-    job: &ListJob<'a>,
-    styled: bool,
-    writer: &mut W,
-) -> Result<(), CommandFault<'a>>
-    ensures { TellsSome (IsListOf job.now) (BeginsListOf job.now) (W.contents writer.old) (W.contents writer.new) result }
-{
-    let image = read_image(rt, alloc, job.image)?;
-    tell_list(alloc, image, job, styled, writer)
-}
-
-/// Prints the list of a file or directory in an image.
-fn tell_list<'a, W: Write>(
+/// Prints the list of a file or directory in an image. With `styled` the names of directories in a list for people are bold.
+pub(crate) fn tell_list<'a, W: Write>(
     alloc: Global,
     image: Image,
     job: &ListJob<'a>,
@@ -64,7 +49,7 @@ fn shown_form(form: ListForm, styled: bool) -> ListForm
 }
 
 /// The object at a path; the root without one.
-fn listed_object<'a>(
+pub(crate) fn listed_object<'a>(
     alloc: Global,
     volume: &mut Volume,
     path: Option<&'a str>,
@@ -83,22 +68,8 @@ fn listed_object<'a>(
     }
 }
 
-/// Prints the bytes of a file in a file's image.
-pub(crate) fn print_bytes<'a, R: Files, W: Write>(
-    rt: &R,
-    alloc: Global,
-    image: &'a str,
-    path: &'a str,
-    writer: &mut W,
-) -> Result<(), CommandFault<'a>>
-    ensures { TellsSome (IsPrintText path.now) (IsPrintText path.now) (W.contents writer.old) (W.contents writer.new) result }
-{
-    let image = read_image(rt, alloc, image)?;
-    tell_bytes(alloc, image, path, writer)
-}
-
 /// Prints the bytes of a file in an image.
-fn tell_bytes<'a, W: Write>(
+pub(crate) fn tell_bytes<'a, W: Write>(
     alloc: Global,
     image: Image,
     path: &'a str,

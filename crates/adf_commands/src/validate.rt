@@ -26,8 +26,7 @@ pub(crate) fn validate_file<'a, R: Files<File = File> + Clock, W: Write>(
 ) -> Result<(), CommandFault<'a>>
     ensures { TellsSome IsCountText IsCountText (W.contents writer.old) (W.contents writer.new) result }
 {
-    let mut work = Work::begin(rt, target)?;
-    let image = work.read(alloc)?;
+    let (work, image) = Work::begin(rt, alloc, target)?;
     write_anew(rt, alloc, work, &image, force, writer)
 }
 

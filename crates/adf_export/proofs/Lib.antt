@@ -1,4 +1,4 @@
--- Lemmas about the listing of a directory, the lines of its entries, and entries that become files of the host.
+-- Lemmas about the listing of a directory, the lines of its entries, entries that become files of the host, and owned blocks.
 pub mod Levels
 pub mod Lists
 pub mod Sorting
@@ -17,4 +17,5 @@ pub mod Under
 pub mod Entries
 pub mod Going
 pub mod Leading
+pub mod Belonging
 mod Telling

@@ -8,4 +8,5 @@ pub mod Printing
 pub mod Items
 pub mod Bytes
 pub mod Rescue
+pub mod Where
 pub mod steps

@@ -66,7 +66,7 @@ where
                 progress: faults.is_terminal(),
                 styled: writer.is_terminal() && takes_bold(rt),
             };
-            let done = run_job(rt, alloc, job, screen, writer, faults);
+            let done = run_job(rt, alloc, &job, screen, writer, faults);
             status_of(done, faults)
         }
         Err(fault) => tell_wrong_words(fault, faults),

@@ -1,15 +1,17 @@
 -- The changes, and the jobs for a boot block, that arguments ask for.
 use Rattle.std.specs.Prelude.{◌≡◌, ◌≢◌, ◌∷◌, ℕ, Bool, List, [], Some, None, IsSome, All, option_map, codes, map}
 use Rattle.std.specs.Borrow.{Bor}
-use Rattle.clap.specs.Matches.{first_value, one_text}
+use Rattle.std.specs.Option.{option_map_or}
+use Rattle.clap.specs.Matches.{first_value, matched_of, one_text, raw_values}
 use Rattle.clap.specs.declared.parser.matches.Found.{Found}
 use Rattle.adf_text.specs.ProtectWords.{protect_word}
+use Rattle.adf_words.specs.Blocks.{IsOnFloppy, block_text}
 use Rattle.adf_words.specs.Lists.{IsFlag}
 use Rattle.adf_words.specs.When.{IsWhen}
 use Rattle.adf_words.specs.declared.boot.BootBlock.{BootBlock}
 use Rattle.adf_words.specs.declared.boot.BootBlock.TheVariants.{Empty, Standard, File}
 use Rattle.adf_words.specs.declared.job.ImageJob.{ImageJob}
-use Rattle.adf_words.specs.declared.job.ImageJob.TheVariants.{Boot, Map, SaveBoot, Show, ShowBoot, Validate}
+use Rattle.adf_words.specs.declared.job.ImageJob.TheVariants.{Boot, Map, SaveBoot, Show, ShowBoot, Validate, Where, WherePath}
 use Rattle.adf_words.specs.declared.change.Change.{Change}
 use Rattle.adf_words.specs.declared.change.Change.TheVariants.{Add, AddAs, Date, Protect}
 use Rattle.adf_words.specs.declared.change.Rewrite.{Rewrite}
@@ -52,6 +54,20 @@ abbrev pub IsMapOf : Found → ImageJob → Type 0
 IsMapOf found (Map image json) =
     (first_value found (codes "IMAGE") ≡ Some image.now) × ((given : Bool) → IsFlag found (codes "json") given → json ≡ given)
 IsMapOf found _ = ⊥
+
+-- the values of an argument that can have many
+abbrev pub all_values : Found → List ℕ → List (List ℕ)
+all_values found id = option_map_or raw_values (matched_of found id) []
+
+-- `where`: with `--path` the path is this argument, else the blocks are those that the arguments name, and the form is as the
+-- option says; the image is this argument
+abbrev pub IsWhereOf : Found → ImageJob → Type 0
+IsWhereOf found (WherePath image path) = (first_value found (codes "IMAGE") ≡ Some image.now) × (first_value found (codes "path") ≡ Some path.now)
+IsWhereOf found (Where job) =
+    (first_value found (codes "IMAGE") ≡ Some job.image.now) × (first_value found (codes "path") ≡ None)
+    × (map block_text job.blocks.items ≡ all_values found (codes "BLOCK")) × All IsOnFloppy job.blocks.items
+    × ((given : Bool) → IsFlag found (codes "json") given → job.json ≡ given)
+IsWhereOf found _ = ⊥
 
 -- `validate`: the image is this argument, and it is forced if the option is given
 abbrev pub IsValidateOf : Found → ImageJob → Type 0

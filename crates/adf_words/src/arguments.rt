@@ -1,7 +1,7 @@
 //! The arguments of a command, as `clap` parsed them.
-ghost use Rattle.std.specs.Prelude.{◌≡◌, Bool, IfOk, IsFalse, IsTrue, Some, option_map};
+ghost use Rattle.std.specs.Prelude.{◌≡◌, Bool, IfOk, IsFalse, IsTrue, Some, map, option_map};
 ghost use Rattle.clap.specs.Matches.{first_value, found_of};
-ghost use Rattle.adf_words.specs.Asked.{IsGiven, IsLeftOut, IsTargetOf};
+ghost use Rattle.adf_words.specs.Asked.{IsGiven, IsLeftOut, IsTargetOf, all_values};
 ghost use Rattle.adf_words.specs.Lists.{IsFlag};
 
 use crate::change::Rewrite;
@@ -63,7 +63,9 @@ impl<'a> Arguments<'a, '_> {
     }
 
     /// The values of an argument that can have many.
-    pub(crate) fn words(&self, id: &str) -> Result<Vec<&'a str>, WordsFault> {
+    pub(crate) fn words(&self, id: &str) -> Result<Vec<&'a str>, WordsFault>
+        ensures { IfOk result (λ words. map (λ word. word.now) words.items ≡ all_values (found_of self.now.words.now) id.now) }
+    {
         Ok(Vec::from_slice(self.alloc, self.words.get_strs(id).unwrap_or(&[]))?)
     }
 

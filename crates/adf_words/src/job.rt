@@ -3,7 +3,7 @@ ghost use Rattle.std.specs.Prelude.{◌<◌, length};
 
 use crate::boot::BootBlock;
 use crate::change::{ChangeJob, Rewrite};
-use crate::query::{CheckJob, ExtractJob, ListJob, SalvageJob};
+use crate::query::{CheckJob, ExtractJob, ListJob, SalvageJob, WhereJob};
 use adf_block::Format;
 use ados_name::Date3;
 
@@ -32,6 +32,10 @@ pub enum ImageJob<'a> {
     Show { image: &'a str, json: bool },
     /// `map`: prints a letter for each block, or with `json` a JSON object.
     Map { image: &'a str, json: bool },
+    /// `where`: says who owns blocks.
+    Where(WhereJob<'a>),
+    /// `where --path`: prints the blocks of an entry.
+    WherePath { image: &'a str, path: &'a str },
     /// `check`: checks images.
     Check(CheckJob<'a>),
     /// `list`: lists directories and files.

@@ -2,12 +2,14 @@
 #![tactic(auto)]
 
 mod arguments;
+mod block_word;
 mod boot;
 mod change;
 mod changing;
 mod commands;
 mod dates;
 mod fault;
+mod floppy;
 mod given;
 mod job;
 mod letters;
@@ -18,11 +20,13 @@ mod refused;
 mod table;
 mod taking;
 
+pub use block_word::BlockWord;
 pub use boot::BootBlock;
 pub use change::{Change, ChangeJob, Rewrite, Source};
 pub use fault::WordsFault;
+pub use floppy::{DOUBLE_TRACK, HEADS, HIGH_DENSITY, HIGH_TRACK};
 pub use given::{given_words, word_of};
 pub use job::{ImageJob, Job, ServeJob};
-pub use query::{CheckJob, ExtractJob, ListForm, ListJob, ListOrder, SalvageJob};
+pub use query::{CheckJob, ExtractJob, ListForm, ListJob, ListOrder, SalvageJob, WhereJob};
 pub use reading::read_words;
 pub use refused::{Refused, error_words};

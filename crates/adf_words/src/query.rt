@@ -1,6 +1,8 @@
 //! The jobs of commands that change no image, as values.
 ghost use Rattle.std.specs.Prelude.{◌<◌, length};
 
+use crate::block_word::BlockWord;
+
 /// The arguments of `check`.
 #[derive(Drop)]
 pub struct CheckJob<'a> {
@@ -15,6 +17,16 @@ pub struct CheckJob<'a> {
     /// The number of images checked in parallel; by default the number of processors.
     pub jobs: Option<u32>,
     ghost some: { 0 < length files.items },
+}
+
+/// The arguments of `where` without `--path`.
+#[derive(Drop)]
+pub struct WhereJob<'a> {
+    pub image: &'a str,
+    /// The blocks to tell of.
+    pub blocks: Vec<BlockWord>,
+    /// Whether the output is a JSON array.
+    pub json: bool,
 }
 
 /// The arguments of `list`.

@@ -6,18 +6,14 @@ use crate::boot::boot_job;
 use crate::changing::{add_job, change_job, validate_job};
 use crate::commands::program;
 use crate::fault::WordsFault;
+use crate::floppy::{DOUBLE_DENSITY, HIGH_DENSITY};
 use crate::job::{ImageJob, Job, ServeJob};
 use crate::letters::letters_of;
 use crate::table::{BLOCKS, TURNS};
-use crate::taking::{check_job, extract_job, list_job, map_job, print_job, show_job};
+use crate::taking::{check_job, extract_job, list_job, map_job, print_job, show_job, where_job};
 use adf_block::Format;
 use clap::Command;
 use std::alloc::Global;
-
-/// The blocks of a double-density floppy and of a high-density floppy.
-const DOUBLE_DENSITY: u32 = 1_760;
-
-const HIGH_DENSITY: u32 = 3_520;
 
 /// The job of these arguments, which follow the program's name.
 pub fn read_words<'a>(alloc: Global, words: &'a [String]) -> Result<Job<'a>, WordsFault>
@@ -68,6 +64,7 @@ fn job_of<'a>(
         "info" => info_job(arguments),
         "show" => show_job(arguments),
         "map" => map_job(arguments),
+        "where" => where_job(arguments),
         "check" => check_job(arguments),
         "list" => list_job(arguments),
         "print" => print_job(arguments),

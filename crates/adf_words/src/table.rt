@@ -138,7 +138,7 @@ pub(crate) const CHANGING: [ArgumentRow; 7] = [
 
 /// All commands, in the order of the help.
 #[rattlefmt::skip]
-pub(crate) const COMMANDS: [CommandRow; 19] = [
+pub(crate) const COMMANDS: [CommandRow; 20] = [
     CommandRow {
         name: "blank",
         about: "Writes a blank image. Without options it has the Old File System and the size of a double-density floppy",
@@ -182,6 +182,18 @@ pub(crate) const COMMANDS: [CommandRow; 19] = [
         arguments: &[
             ArgumentRow { name: "json", kind: FLAG, help: "Prints a JSON object" },
             IMAGE,
+        ],
+    },
+    CommandRow {
+        name: "where",
+        about: "Says who owns a block of a disk, or prints the blocks of a file or a directory",
+        examples: "Examples:\n  adf_serve where work.adf 912\n  adf_serve where work.adf c40.h0.s10 880\n  adf_serve where --json work.adf 912\n  adf_serve where --path c/dir work.adf",
+        changes: false,
+        arguments: &[
+            ArgumentRow { name: "json", kind: FLAG, help: "Prints a JSON array with an object for each block" },
+            ArgumentRow { name: "path", kind: Kind::Instead { value: "PATH", excludes: &["json", "BLOCK"] }, help: "Prints all blocks of this file or directory, as ranges" },
+            IMAGE,
+            ArgumentRow { name: "BLOCK", kind: Kind::Any, help: "The number of a block, or its cylinder, head and sector as `c40.h0.s10`, each from 0. A track has 11 sectors, and 22 on a disk of 3,520 blocks" },
         ],
     },
     CommandRow {

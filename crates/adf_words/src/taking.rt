@@ -1,14 +1,15 @@
 //! From the arguments of a command that reads an image to its job.
 ghost use Rattle.std.specs.Prelude.{◌≡◌, IfErr, IfOk};
 ghost use Rattle.clap.specs.Matches.{found_of};
-ghost use Rattle.adf_words.specs.Asked.{IsMapOf, IsShowOf};
+ghost use Rattle.adf_words.specs.Asked.{IsMapOf, IsShowOf, IsWhereOf};
 ghost use Rattle.adf_words.specs.Lists.{form_of, IsFormOf, IsOrderOf, TellsNoOrder, order_word, usual_order};
 
 use crate::arguments::Arguments;
+use crate::block_word::asked_blocks;
 use crate::fault::WordsFault;
 use crate::job::ImageJob;
 use crate::letters::letters_of;
-use crate::query::{CheckJob, ExtractJob, ListForm, ListJob, ListOrder, SalvageJob};
+use crate::query::{CheckJob, ExtractJob, ListForm, ListJob, ListOrder, SalvageJob, WhereJob};
 use std::alloc::Global;
 
 /// The job of `check`.
@@ -96,6 +97,26 @@ pub(crate) fn map_job<'a>(arguments: &Arguments<'a, '_>) -> Result<ImageJob<'a>,
         image: arguments.word("IMAGE")?,
         json: arguments.flag("json"),
     })
+}
+
+/// The job of `where`: who owns blocks, or with `--path` the blocks of an entry.
+pub(crate) fn where_job<'a>(arguments: &Arguments<'a, '_>) -> Result<ImageJob<'a>, WordsFault>
+    ensures { IfOk result (IsWhereOf (found_of arguments.now.words.now)) }
+{
+    let image = arguments.word("IMAGE")?;
+    if let Some(path) = arguments.given("path") {
+        let path = letters_of(arguments.alloc, path)?;
+        return Ok(ImageJob::WherePath { image, path });
+    }
+    let words = arguments.words("BLOCK")?;
+    if words.is_empty() {
+        return Err(arguments.missing("BLOCK"));
+    }
+    Ok(ImageJob::Where(WhereJob {
+        image,
+        blocks: asked_blocks(arguments.alloc, &words)?,
+        json: arguments.flag("json"),
+    }))
 }
 
 /// The form of a list, by its options.

@@ -7,22 +7,22 @@ use Rattle.adf_commands.proofs.jobs.do_job.Goals as goal
 pub returns-in_err-moment-in-Blank : goal.returns-in_err-moment-in-Blank
 returns-in_err-moment-in-Blank g c =
     let silent = subst PrintsNothing (sym c.in-Blank.is) tt in
-    job_silent_fault c.args.job _ c.in_err-moment-in-Blank.field-0.0 _ silent c.in_err-moment-in-Blank.ensures c.from_residual.ensures.1
+    job_silent_fault c.args.job.now _ c.in_err-moment-in-Blank.field-0.0 _ silent c.in_err-moment-in-Blank.ensures c.from_residual.ensures.1
 
 pub returns-in_err-volume-in-Blank : goal.returns-in_err-volume-in-Blank
 returns-in_err-volume-in-Blank g c =
     let silent = subst PrintsNothing (sym c.in-Blank.is) tt in
     let plain = blank_no_refusal _ _ _ c.in_err-volume-in-Blank.field-0.0 c.in_err-volume-in-Blank.ensures in
-    job_silent_fault c.args.job _ c.in_err-volume-in-Blank.field-0.0 _ silent plain c.from_residual-in_err-volume-in-Blank.ensures.1
+    job_silent_fault c.args.job.now _ c.in_err-volume-in-Blank.field-0.0 _ silent plain c.from_residual-in_err-volume-in-Blank.ensures.1
 
 pub returns-in_ok-volume-in-Blank : goal.returns-in_ok-volume-in-Blank
 returns-in_ok-volume-in-Blank g c =
     let silent = subst PrintsNothing (sym c.in-Blank.is) tt in
-    job_silent c.args.job _ _ silent c.write_new.ensures
+    job_silent c.args.job.now _ _ silent c.write_new.ensures
 
 pub returns-in-Info : goal.returns-in-Info
 returns-in-Info g c =
-    subst (λ (job : ImageJob). DoesJob job (g.W.Write.contents c.args.writer.now) (g.W.Write.contents c.print_info.new.writer) c.print_info.result) (sym c.in-Info.is) c.print_info.ensures
+    subst (λ (job : ImageJob). DoesJob job (g.W.Write.contents c.args.writer.now) (g.W.Write.contents c.print_query.new.writer) c.print_query.result) (sym c.in-Info.is) c.print_query.ensures
 
 pub returns-in-Check : goal.returns-in-Check
 returns-in-Check g c =
@@ -30,11 +30,11 @@ returns-in-Check g c =
 
 pub returns-in-List : goal.returns-in-List
 returns-in-List g c =
-    subst (λ (job : ImageJob). DoesJob job (g.W.Write.contents c.args.writer.now) (g.W.Write.contents c.print_list.new.writer) c.print_list.result) (sym c.in-List.is) c.print_list.ensures
+    subst (λ (job : ImageJob). DoesJob job (g.W.Write.contents c.args.writer.now) (g.W.Write.contents c.print_query-in-List.new.writer) c.print_query-in-List.result) (sym c.in-List.is) c.print_query-in-List.ensures
 
 pub returns-in-Print : goal.returns-in-Print
 returns-in-Print g c =
-    subst (λ (job : ImageJob). DoesJob job (g.W.Write.contents c.args.writer.now) (g.W.Write.contents c.print_bytes.new.writer) c.print_bytes.result) (sym c.in-Print.is) c.print_bytes.ensures
+    subst (λ (job : ImageJob). DoesJob job (g.W.Write.contents c.args.writer.now) (g.W.Write.contents c.print_query-in-Print.new.writer) c.print_query-in-Print.result) (sym c.in-Print.is) c.print_query-in-Print.ensures
 
 pub returns-in-Salvage : goal.returns-in-Salvage
 returns-in-Salvage g c =
@@ -42,16 +42,24 @@ returns-in-Salvage g c =
 
 pub returns-in-ShowBoot : goal.returns-in-ShowBoot
 returns-in-ShowBoot g c =
-    subst (λ (job : ImageJob). DoesJob job (g.W.Write.contents c.args.writer.now) (g.W.Write.contents c.show_boot.new.writer) c.show_boot.result) (sym c.in-ShowBoot.is) c.show_boot.ensures
+    subst (λ (job : ImageJob). DoesJob job (g.W.Write.contents c.args.writer.now) (g.W.Write.contents c.print_query-in-ShowBoot.new.writer) c.print_query-in-ShowBoot.result) (sym c.in-ShowBoot.is) c.print_query-in-ShowBoot.ensures
 
 pub returns-in-Show : goal.returns-in-Show
 returns-in-Show g c =
-    subst (λ (job : ImageJob). DoesJob job (g.W.Write.contents c.args.writer.now) (g.W.Write.contents c.show_volume.new.writer) c.show_volume.result) (sym c.in-Show.is) c.show_volume.ensures
+    subst (λ (job : ImageJob). DoesJob job (g.W.Write.contents c.args.writer.now) (g.W.Write.contents c.print_query-in-Show.new.writer) c.print_query-in-Show.result) (sym c.in-Show.is) c.print_query-in-Show.ensures
 
 pub returns-in-Validate : goal.returns-in-Validate
 returns-in-Validate g c =
     subst (λ (job : ImageJob). DoesJob job (g.W.Write.contents c.args.writer.now) (g.W.Write.contents c.validate_file.new.writer) c.validate_file.result) (sym c.in-Validate.is) c.validate_file.ensures
 
+pub returns-in-Where : goal.returns-in-Where
+returns-in-Where g c =
+    subst (λ (job : ImageJob). DoesJob job (g.W.Write.contents c.args.writer.now) (g.W.Write.contents c.print_query-in-Where.new.writer) c.print_query-in-Where.result) (sym c.in-Where.is) c.print_query-in-Where.ensures
+
+pub returns-in-WherePath : goal.returns-in-WherePath
+returns-in-WherePath g c =
+    subst (λ (job : ImageJob). DoesJob job (g.W.Write.contents c.args.writer.now) (g.W.Write.contents c.print_query-in-WherePath.new.writer) c.print_query-in-WherePath.result) (sym c.in-WherePath.is) c.print_query-in-WherePath.ensures
+
 pub returns-in-Map : goal.returns-in-Map
 returns-in-Map g c =
-    subst (λ (job : ImageJob). DoesJob job (g.W.Write.contents c.args.writer.now) (g.W.Write.contents c.print_map.new.writer) c.print_map.result) (sym c.in-Map.is) c.print_map.ensures
+    subst (λ (job : ImageJob). DoesJob job (g.W.Write.contents c.args.writer.now) (g.W.Write.contents c.print_query-in-Map.new.writer) c.print_query-in-Map.result) (sym c.in-Map.is) c.print_query-in-Map.ensures

@@ -1,5 +1,4 @@
-use Rattle.std.proofs.Common.{inr}
-use Rattle.adf_commands.proofs.Printing.{rescue_cut, rescue_told, rescues_no_image}
+use Rattle.adf_commands.proofs.Printing.{rescues_no_image}
 use Rattle.adf_commands.proofs.rescue.take_rescue.Goals as goal
 
 pub returns-in_err-image : goal.returns-in_err-image

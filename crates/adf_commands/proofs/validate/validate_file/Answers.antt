@@ -4,6 +4,3 @@ use Rattle.adf_commands.proofs.validate.validate_file.Goals as goal
 
 pub returns-in_err-work : goal.returns-in_err-work
 returns-in_err-work g c = tells_no_image IsCountText IsCountText _ c.in_err-work.field-0.0 _ c.in_err-work.ensures c.from_residual.ensures.1
-
-pub returns-in_err-image : goal.returns-in_err-image
-returns-in_err-image g c = tells_no_image IsCountText IsCountText _ c.in_err-image.field-0.0 _ c.in_err-image.ensures c.from_residual-in_err-image.ensures.1

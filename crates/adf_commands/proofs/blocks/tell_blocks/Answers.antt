@@ -1,0 +1,21 @@
+use Rattle.std.proofs.Common.{ℕ, List, refl, subst, sym}
+use Rattle.std.proofs.KnownBytes.{Keeps-refl}
+use Rattle.ados_model.specs.Stands.{Stands}
+use Rattle.ados_model.specs.Tree.{Tree}
+use Rattle.adf_words.specs.declared.block_word.BlockWord.{BlockWord}
+use Rattle.adf_export.specs.Where.{IsWhere}
+use Rattle.adf_commands.specs.Texts.{AreOwnedBlocks}
+use Rattle.adf_commands.proofs.Printing.{blocks_told, leaves_kept, told_text}
+use Rattle.adf_commands.proofs.blocks.tell_blocks.Goals as goal
+
+pub returns-in-Err : goal.returns-in-Err
+returns-in-Err g c = leaves_kept (AreOwnedBlocks c.args.job.now c.args.image) c.args.image _ _ c.no_block.result c.no_block.ensures (Keeps-refl _)
+
+pub returns : goal.returns
+returns g c =
+    let volume = c.in_ok-volume.volume in
+    let job = c.args.job.now in
+    let named = λ t (s : Stands volume.image t). subst (λ (blocks : List BlockWord). IsWhere job.json volume.image t blocks c.in-Ok.text.items) c.deref.ensures.value (c.in-Ok.ensures.text t s) in
+    let told = subst (λ (text : List ℕ). (t : Tree) → Stands volume.image t → IsWhere job.json volume.image t job.blocks.items text) (sym c.deref-2.ensures.value) named in
+    told_text (AreOwnedBlocks job) c.args.image _ _ c.deref-2.result.now c.tell.result (blocks_told c.args.image _ _ c.in_ok-volume.ensures job _ told)
+    c.tell.ensures.ok c.tell.ensures.front c.tell.ensures.no_refusal

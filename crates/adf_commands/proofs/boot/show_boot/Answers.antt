@@ -1,6 +1,0 @@
-use Rattle.adf_commands.specs.Texts.{IsShownBoot}
-use Rattle.adf_commands.proofs.Printing.{tells_no_image}
-use Rattle.adf_commands.proofs.boot.show_boot.Goals as goal
-
-pub returns-in_err-image : goal.returns-in_err-image
-returns-in_err-image g c = tells_no_image IsShownBoot IsShownBoot _ c.in_err-image.field-0.0 _ c.in_err-image.ensures c.from_residual.ensures.1

@@ -1,6 +1,0 @@
-use Rattle.adf_commands.specs.Texts.{IsShown}
-use Rattle.adf_commands.proofs.Printing.{tells_no_image}
-use Rattle.adf_commands.proofs.show.show_volume.Goals as goal
-
-pub returns-in_err-image : goal.returns-in_err-image
-returns-in_err-image g c = tells_no_image (IsShown c.args.show.json) (IsShown c.args.show.json) _ c.in_err-image.field-0.0 _ c.in_err-image.ensures c.from_residual.ensures.1

@@ -1,0 +1,101 @@
+//! The lines of blocks with their owners.
+ghost use Rattle.std.specs.Prelude.{◌≡◌, ◌++◌, IfOk, OnOk, flat_map, option_map};
+ghost use Rattle.std.specs.String.{string_bytes};
+ghost use Rattle.adf_export.specs.Where.{owner_text, path_text, place_text, seen, slash, span_text, where_line};
+
+use crate::owned::{OwnedBlock, Span};
+use crate::places::{cylinder_of, head_of, sector_of};
+use adf_text::push_plain;
+use ados_volume::Owner;
+use std::alloc::{AllocError, Global};
+
+/// A line for each block of a disk with so many blocks.
+pub(crate) fn where_lines(
+    alloc: Global,
+    blocks: u32,
+    told: &[OwnedBlock],
+) -> Result<Vec<u8>, AllocError>
+    ensures { IfOk result (λ text. text.items ≡ flat_map (λ owned. where_line blocks (seen owned)) told.now) }
+{
+    let mut text = Vec::new(alloc);
+    for owned in told {
+        push_line(alloc, &mut text, blocks, owned)?;
+    }
+    Ok(text)
+}
+
+/// Appends the line of a block.
+fn push_line(
+    alloc: Global,
+    text: &mut Vec<u8>,
+    blocks: u32,
+    owned: &OwnedBlock,
+) -> Result<(), AllocError>
+    ensures { OnOk result (text.new.items ≡ text.old.items ++ where_line blocks (seen owned.now)) }
+{
+    let place = place_text(alloc, blocks, owned.block)?;
+    let owner = owner_text(alloc, owned.owner)?;
+    text.extend_from_slice(place.as_bytes())?;
+    text.extend_from_slice(owner.as_bytes())?;
+    push_path(text, &owned.path)?;
+    text.extend_from_slice(slash(owned.owner).as_bytes())?;
+    push_span(alloc, text, owned.span)?;
+    text.push(b'\n')?;
+    Ok(())
+}
+
+/// The line of a block up to its owner.
+fn place_text(alloc: Global, blocks: u32, block: u32) -> Result<String, AllocError>
+    ensures { IfOk result (λ text. string_bytes text ≡ place_text blocks block) }
+{
+    format!(in alloc; "{block}  cyl {} head {} sector {}  ",
+        cylinder_of(blocks, block), head_of(blocks, block), sector_of(blocks, block)
+    )
+}
+
+/// What a block is, up to the path of its entry.
+fn owner_text(alloc: Global, owner: Owner) -> Result<String, AllocError>
+    ensures { IfOk result (λ text. string_bytes text ≡ owner_text owner) }
+{
+    match owner {
+        Owner::Boot => String::from_str(alloc, "boot block"),
+        Owner::Root => String::from_str(alloc, "root"),
+        Owner::Page(i) => format!(in alloc; "bitmap block {i}"),
+        Owner::Directory | Owner::File => String::from_str(alloc, "header of "),
+        Owner::Data(_, k) => format!(in alloc; "data {k} of "),
+        Owner::Extension(_, k) => format!(in alloc; "extension {k} of "),
+        Owner::Lost => String::from_str(alloc, "lost"),
+        Owner::Free => String::from_str(alloc, "free"),
+    }
+}
+
+/// Appends a path, with escapes for control characters.
+fn push_path(text: &mut Vec<u8>, path: &Option<String>) -> Result<(), AllocError>
+    ensures { OnOk result (text.new.items ≡ text.old.items ++ path_text (option_map string_bytes path.now)) }
+{
+    match path {
+        Some(path) => push_plain(text, path.as_str()),
+        None => Ok(()),
+    }
+}
+
+/// The slash behind the path of a directory.
+fn slash(owner: Owner) -> &'static str
+    ensures { result.now ≡ slash owner }
+{
+    match owner {
+        Owner::Directory => "/",
+        _ => "",
+    }
+}
+
+/// Appends the bytes in a data block.
+fn push_span(alloc: Global, text: &mut Vec<u8>, span: Option<Span>) -> Result<(), AllocError>
+    ensures { OnOk result (text.new.items ≡ text.old.items ++ span_text span) }
+{
+    let Some(span) = span else {
+        return Ok(());
+    };
+    let bytes = format!(in alloc; ", bytes {} to {}", span.first, span.last)?;
+    text.extend_from_slice(bytes.as_bytes())
+}

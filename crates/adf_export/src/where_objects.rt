@@ -1,0 +1,142 @@
+//! The JSON objects of blocks with their owners.
+ghost use Rattle.std.specs.Prelude.{◌≡◌, ◌++◌, ◌∷◌, [], IfOk, OnOk, codes, flat_map, map, option_map};
+ghost use Rattle.std.specs.String.{string_bytes};
+ghost use Rattle.json.specs.Print.{print};
+ghost use Rattle.json.specs.Token.{key};
+ghost use Rattle.adf_record.specs.Members.{string_token};
+ghost use Rattle.adf_export.specs.Where.{owner_tokens, owner_word, place_tokens, position_of, seen, told_tokens, where_tokens};
+
+use crate::owned::{OwnedBlock, Span};
+use crate::places::{cylinder_of, head_of, sector_of};
+use adf_record::{put_number, put_text};
+use ados_volume::Owner;
+use json::Writer;
+use std::alloc::{AllocError, Global};
+
+/// The array of the blocks of a disk with so many blocks, on a line of its own.
+pub(crate) fn where_array(
+    alloc: Global,
+    blocks: u32,
+    told: &[OwnedBlock],
+) -> Result<Vec<u8>, AllocError>
+    ensures { IfOk result (λ text. text.items ≡ print (where_tokens blocks (map seen told.now)) ++ codes "\n") }
+{
+    let mut writer = Writer::new(Vec::new(alloc));
+    put_array(&mut writer, blocks, told)?;
+    let mut text = writer.into_inner();
+    text.push(b'\n')?;
+    Ok(text)
+}
+
+/// Writes the array.
+fn put_array(writer: &mut Writer, blocks: u32, told: &[OwnedBlock]) -> Result<(), AllocError>
+    ensures before { writer.new.before ≡ writer.old.before }
+    ensures tokens { OnOk result (writer.new.tokens ≡ writer.old.tokens ++ where_tokens blocks (map seen told.now)) }
+{
+    writer.begin_array()?;
+    put_objects(writer, blocks, told)?;
+    writer.end_array()
+}
+
+/// Writes the object of each block.
+fn put_objects(writer: &mut Writer, blocks: u32, told: &[OwnedBlock]) -> Result<(), AllocError>
+    ensures before { writer.new.before ≡ writer.old.before }
+    ensures tokens { OnOk result (writer.new.tokens ≡ writer.old.tokens ++ flat_map (λ owned. told_tokens blocks (seen owned)) told.now) }
+{
+    for owned in told {
+        put_object(writer, blocks, owned)?;
+    }
+    Ok(())
+}
+
+/// Writes the object of a block.
+fn put_object(writer: &mut Writer, blocks: u32, owned: &OwnedBlock) -> Result<(), AllocError>
+    ensures before { writer.new.before ≡ writer.old.before }
+    ensures tokens { OnOk result (writer.new.tokens ≡ writer.old.tokens ++ told_tokens blocks (seen owned.now)) }
+{
+    writer.begin_object()?;
+    put_place(writer, blocks, owned.block)?;
+    put_owner(writer, owned)?;
+    writer.end_object()
+}
+
+/// Writes the number of a block and its place on the disk.
+fn put_place(writer: &mut Writer, blocks: u32, block: u32) -> Result<(), AllocError>
+    ensures before { writer.new.before ≡ writer.old.before }
+    ensures tokens { OnOk result (writer.new.tokens ≡ writer.old.tokens ++ place_tokens blocks block) }
+{
+    put_number(writer, "block", Some(u64::from(block)))?;
+    put_number(writer, "cylinder", Some(u64::from(cylinder_of(blocks, block))))?;
+    put_number(writer, "head", Some(u64::from(head_of(blocks, block))))?;
+    put_number(writer, "sector", Some(u64::from(sector_of(blocks, block))))
+}
+
+/// Writes what a block is.
+fn put_owner(writer: &mut Writer, owned: &OwnedBlock) -> Result<(), AllocError>
+    ensures before { writer.new.before ≡ writer.old.before }
+    ensures tokens { OnOk result (writer.new.tokens ≡ writer.old.tokens ++ owner_tokens (seen owned.now)) }
+{
+    put_text(writer, "owner", Some(owner_word(owned.owner)))?;
+    put_path(writer, &owned.path)?;
+    put_number(writer, "number", position_of(owned.owner))?;
+    put_number(writer, "first", first_of(owned.span))?;
+    put_number(writer, "last", last_of(owned.span))
+}
+
+/// Writes a path, or null.
+fn put_path(writer: &mut Writer, path: &Option<String>) -> Result<(), AllocError>
+    ensures before { writer.new.before ≡ writer.old.before }
+    ensures tokens { OnOk result (writer.new.tokens ≡ writer.old.tokens ++ key (codes "path") ∷ string_token (option_map string_bytes path.now) ∷ []) }
+{
+    match path {
+        Some(path) => put_text(writer, "path", Some(path.as_str())),
+        None => put_text(writer, "path", None),
+    }
+}
+
+/// What a block is, as one word.
+fn owner_word(owner: Owner) -> &'static str
+    ensures { result.now ≡ owner_word owner }
+{
+    match owner {
+        Owner::Boot => "boot",
+        Owner::Root => "root",
+        Owner::Page(_) => "bitmap",
+        Owner::Directory => "directory",
+        Owner::File => "file",
+        Owner::Data(_, _) => "data",
+        Owner::Extension(_, _) => "extension",
+        Owner::Lost => "lost",
+        Owner::Free => "free",
+    }
+}
+
+/// The position of a block among those of its kind, from 0.
+fn position_of(owner: Owner) -> Option<u64>
+    ensures { result ≡ position_of owner }
+{
+    match owner {
+        Owner::Page(k) | Owner::Data(_, k) | Owner::Extension(_, k) => Some(u64::from(k)),
+        _ => None,
+    }
+}
+
+/// The first byte in a data block.
+fn first_of(span: Option<Span>) -> Option<u64>
+    ensures { result ≡ option_map (λ bytes. bytes.first) span }
+{
+    match span {
+        Some(span) => Some(span.first),
+        None => None,
+    }
+}
+
+/// The last byte in a data block.
+fn last_of(span: Option<Span>) -> Option<u64>
+    ensures { result ≡ option_map (λ bytes. bytes.last) span }
+{
+    match span {
+        Some(span) => Some(span.last),
+        None => None,
+    }
+}
