@@ -41,7 +41,8 @@ class Account(Image):
     # ---- headers
 
     def is_summed(self, block: int) -> bool:
-        return sum(LONGS.unpack_from(self.data, BLOCK * block)) % 2**32 == 0
+        longs: Tuple[int, ...] = LONGS.unpack_from(self.data, BLOCK * block)
+        return sum(longs) % 2**32 == 0
 
     def is_directory(self, block: int) -> bool:
         return self.long(block, 127) == DIRECTORY
