@@ -15,6 +15,7 @@ import multiprocessing
 import os
 import pty
 import random
+import re
 import shutil
 import subprocess
 import sys
@@ -24,6 +25,7 @@ from typing import Callable, Dict, Iterable, Iterator, List, NamedTuple, Optiona
 
 sys.dont_write_bytecode = True
 
+from account_model import account_of
 from all_faults_model import lines_of
 from drawn_volume import Drawer, drawn
 from harness import BLOCK, Image, Ran, Room, try_all
@@ -927,9 +929,9 @@ class Salvage:
         image = Volume(self.good)
         image.change(image.header("top"), 77, image.pointers(image.header("text"))[0])
         told = taken(self.room, image)
-        # In OFS the block itself names its file.
-        wanted = (3, "broken", "broken" if self.is_ffs else "whole", "whole")
-        found = (told.status, told.lines["top"].split()[0], told.lines["Docs/Deep/text"].split()[0], told.lines["Docs/long"])
+        # In OFS the block itself names its file, and the right one is linked. In FFS the first file is given it.
+        found = (told.status, sorted([told.lines["top"], told.lines["Docs/Deep/text"]]), told.lines["Docs/long"])
+        wanted = (3, ["broken 1", "doubtful"] if self.is_ffs else ["doubtful", "whole"], "whole")
         self.report.same(f"{self.title}: two files on one block are not whole", found, wanted)
 
     def lost_extension(self) -> None:
@@ -937,7 +939,8 @@ class Salvage:
         image.change(image.header("long"), 126, 0)
         told = taken(self.room, image)
         found = (told.status, told.lines["Docs/long"].split()[0])
-        self.report.same(f"{self.title}: a missing extension block", found, (3, "broken"))
+        # (in OFS the blocks are linked)
+        self.report.same(f"{self.title}: a missing extension block", found, (3, "broken" if self.is_ffs else "doubtful"))
         first = 72 * (512 if self.is_ffs else 488)
         self.report.same(f"{self.title}: its first blocks", told.written["Docs/long"][:first], self.files["Docs/long"][:first])
 
@@ -1049,8 +1052,8 @@ def try_damage(room: Room, name: str, image: Volume, files: Files, damage: Damag
     wanted = sorted(data for path, data in files.items() if damage.is_whole or path != "A/f")
     room.report.same(f"{name}: what is whole", [len(it) for it in whole], [len(it) for it in wanted])
     room.report.expect(f"{name}: its bytes", whole == wanted, "other bytes than were there")
-    is_broken = states["f"].split()[-2:-1] == ["broken"]
-    room.report.same(f"{name}: the rest is broken", (is_broken, told.status), (not damage.is_whole, 3))
+    is_left = states["f"].split()[-1] == "doubtful" or states["f"].split()[-2:-1] == ["broken"]
+    room.report.same(f"{name}: the rest is not whole", (is_left, told.status), (not damage.is_whole, 3))
 
 
 # ---- random and systematic damage: files reported as whole have their old bytes
@@ -1073,7 +1076,7 @@ def untrue(room: Room, job: Struck) -> Optional[str]:
     shutil.rmtree(at, ignore_errors=True)
     room.write(f"{at}.adf", job.data)
     ran = room.run("extract", "--damaged", "--to", at, f"{at}.adf")
-    if ran.status not in (0, 3) or ran.texts:
+    if ran.status not in (0, 3) or any(b"' is doubtful: " not in it for it in ran.texts.splitlines()):
         return f"image {job.number}: status {ran.status}, {ran.texts[:200]!r}"
     for line in ran.output.split(b"\n"):
         if line.startswith((b"whole ", b"found whole ")):
@@ -1104,30 +1107,44 @@ def mistaken(room: Room, job: Struck) -> Optional[str]:
     return None
 
 
-class Flipped(NamedTuple):
-    """An image with one flipped bit: its name, its bytes, the files whose header has it not, the number of lost entries, and the status
-    of its rescue."""
+class Flawed(NamedTuple):
+    """An image with a single damage: its name, its bytes, the files whose header was not hit, and for those of them whose other
+    blocks were not hit their bytes."""
 
     number: object
     data: bytes
+    names: List[str]
     files: Files
-    lost: int
-    status: int
 
 
-def silent(room: Room, job: Flipped) -> Optional[str]:
-    """What is wrong with the account of an image with one flipped bit: a file has no line, or a lost entry is not reported."""
-    at = f"flipped{os.getpid()}"
+def last_name(line: bytes) -> str:
+    """A line of a report with the last part of its path alone, without the escapes of names of the host."""
+    words = re.match(r"(found )?((whole|doubtful|lost|broken \d+) )?", line.decode())
+    assert words
+    path = line.decode()[words.end() :]
+    name = path.removesuffix("/").rsplit("/", 1)[-1]
+    return words[0] + re.sub("%([0-9A-F]{2})", lambda it: chr(int(it[1], 16)), name) + "/" * path.endswith("/")
+
+
+def silent(room: Room, job: Flawed) -> Optional[str]:
+    """What is wrong with the account of an image with a single damage: it is not that of the model, a file has no line, a file that was
+    not hit has other bytes, or standard error does not name just what is doubtful."""
+    at = f"flawed{os.getpid()}"
     shutil.rmtree(at, ignore_errors=True)
     room.write(f"{at}.adf", job.data)
     ran = room.run("extract", "--damaged", "--to", at, f"{at}.adf")
-    lines = ran.output.decode("latin-1").splitlines()
-    told = {line.rsplit("/", 1)[-1].rsplit(" ", 1)[-1] for line in lines}
-    missing = [it for it in job.files if it.rsplit("/", 1)[-1] not in told]
-    lost = [it for it in lines if it.removeprefix("found ").startswith("lost ")]
-    if missing or len(lost) != job.lost or ran.status != job.status or ran.texts:
-        return f"image {job.number}: no line for {missing}, {len(lost)} lost where {job.lost} are expected, {ran}"
-    return None
+    lines = sorted(map(last_name, ran.output.splitlines()))
+    status, wanted = account_of(job.data)
+    if (ran.status, lines) != (status, wanted):
+        return f"image {job.number}: {ran.status} {lines} where {status} {wanted} is expected"
+    told = {line.rsplit(" ", 1)[-1] for line in lines}
+    silent = [it for it in job.names if it.rsplit("/", 1)[-1] not in told]
+    doubts = sum("doubtful " in it for it in lines)
+    if silent or ran.texts.count(b"' is doubtful: ") != doubts or len(ran.texts.splitlines()) != doubts:
+        return f"image {job.number}: no line for {silent}, {ran}"
+    written = [room.content(os.path.join(top, name)) for top, _, names in os.walk(at) for name in names]
+    other = [path for path, data in job.files.items() if data not in written]
+    return f"image {job.number}: other bytes than {other}" if other else None
 
 
 class Damages:
@@ -1192,23 +1209,47 @@ class Damages:
                             other.settle(block, 0 if block == page else 5)
                         yield self.struck((block, at, value, is_settled), bytes(other.data))
 
-    def flipped(self) -> Iterator[Flipped]:
+    def entries(self) -> Dict[int, str]:
+        """The names of the entries by their headers."""
+        image = Volume(self.good)
+        headers = [it for it in range(2, image.blocks) if image.long(it, 1) == it and image.long(it, 0) == 2]
+        return {it: image.name(it) for it in headers}
+
+    def owners(self) -> Dict[int, str]:
+        """The name of the file of each data block and extension block."""
+        image = Volume(self.good)
+        owners: Dict[int, str] = {}
+        for path in self.files:
+            name = path.rsplit("/", 1)[-1]
+            block = image.header(name)
+            while block:
+                owners |= {it: name for it in [block, *image.pointers(block)]}
+                block = image.long(block, 126)
+        return owners
+
+    def flawed(self, number: object, data: bytes, block: int) -> Flawed:
+        """An image in which this block was damaged."""
+        header, owner = self.entries().get(block), self.owners().get(block)
+        names = [path for path in self.files if path.rsplit("/", 1)[-1] != header]
+        return Flawed(number, data, names, {path: data for path, data in self.files.items() if path.rsplit("/", 1)[-1] not in (header, owner)})
+
+    def flipped(self) -> Iterator[Flawed]:
         """One bit in each long of the root, the bitmap block, each header, the extension block and two data blocks."""
         image = Volume(self.good)
-        root = image.blocks // 2
-        entries = {it: image.text(it, 432).decode("latin-1") for it in range(2, image.blocks) if image.long(it, 1) == it and image.long(it, 0) == 2}
-        extension = image.long(image.header("long"), 126)
-        data = image.pointers(image.header("long"))[:2]
-        for block in [root, image.long(root, 79), *entries, extension, *data]:
-            files = {path: it for path, it in self.files.items() if path.rsplit("/", 1)[-1] != entries.get(block)}
-            status = 0 if self.is_ffs and block in data else 3
+        root, long = image.blocks // 2, image.header("long")
+        for block in [root, image.long(root, 79), *self.entries(), image.long(long, 126), *image.pointers(long)[:2]]:
             for at in range(128):
-                other = Volume(self.good)
-                other.put(block, at, image.long(block, at) ^ 1 << (13 * block + at) % 32)
-                # (a slot of the root may then name another block as an entry)
-                named = other.long(block, at) if block == root and 6 <= at < 78 else 0
-                is_lost = block in entries or 2 <= named < image.blocks and named not in entries
-                yield Flipped((block, at), bytes(other.data), files, int(is_lost), status)
+                for bit in ((13 * block + at) % 32, (7 * block + 5 * at + 16) % 32):
+                    other = Volume(self.good)
+                    other.put(block, at, image.long(block, at) ^ 1 << bit)
+                    yield self.flawed((block, at, bit), bytes(other.data), block)
+
+    def zeroed(self) -> Iterator[Flawed]:
+        """Each block behind the boot blocks becomes zeros."""
+        for block in range(2, len(self.good) // BLOCK):
+            other = Volume(self.good)
+            other.clear(block)
+            yield self.flawed(block, bytes(other.data), block)
 
     def all_true(self, name: str, jobs: Iterable[T], fault_in: Callable[[Room, T], Optional[str]]) -> None:
         with multiprocessing.Pool() as pool:
@@ -1224,7 +1265,8 @@ def damages(room: Room) -> None:
         tried.all_true(f"salvage {said}: {DAMAGED // 5} volumes with a few changed bytes behind the boot blocks", tried.changed(2 * BLOCK, DAMAGED // 5), untrue)
         tried.all_true(f"serve {said}: {DAMAGED} volumes with a few changed bytes", tried.changed(0, DAMAGED), mistaken)
         tried.all_true(f"salvage {said}: each long that is another", tried.swept(), untrue)
-        tried.all_true(f"salvage {said}: one bit in each long", tried.flipped(), silent)
+        tried.all_true(f"salvage {said}: two bits in each long, one at a time", tried.flipped(), silent)
+        tried.all_true(f"salvage {said}: each block of zeros", tried.zeroed(), silent)
 
 
 def main(words: List[str]) -> int:

@@ -995,7 +995,7 @@ def chains(size: int, room: Shared) -> None:
 def taken_out(room: Room, name: str, image: bytes, is_cut: bool) -> None:
     """Rescues broken files that claim too much: each is told, and all together are at most four times the image."""
     told = rescued(room, image)
-    broken = [it for it in told.lines if it.startswith(b"found broken ")]
+    broken = [it for it in told.lines if it.startswith((b"found broken ", b"found doubtful "))]
     headers = len(told.lines)
     is_told = told.status == 3 and len(set(broken)) == headers and len(told.sizes or []) == headers and headers > 800
     room.report.expect(f"{name}: every file is told", is_told, told)

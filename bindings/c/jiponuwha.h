@@ -593,9 +593,10 @@ int32_t jip_map(jip_handle *handle, jip_owner *owners, size_t room, size_t *coun
 
 /* ---- Salvage ----
  *
- * What can be trusted in an image that jip_open refuses: its files and directories whose own blocks are sound, wherever they
- * are, and the entries that are lost: a directory or another entry names them, and their header is not sound. For an image that jip_open accepts, these are all its files and directories, whole. The list has each header once,
- * and a directory before its entries. Positions in it count from 0. */
+ * What can be told of an image that jip_open refuses: its files and directories whose headers are sound, wherever they are; those
+ * with a damaged header that the root or another header names, as far as they can be told; and the entries that are lost: they are
+ * named too, and have no such header. For an image that jip_open accepts, these are all its files and directories, whole. The list
+ * has each header once, and a directory before its entries. Positions in it count from 0. */
 
 /* A list of entries; or a closed one, JIP_CLOSED or all zeros. Items 4 and 5 hold for it as for a handle. */
 typedef struct jip_salvage {
@@ -607,7 +608,9 @@ enum jip_state {
     JIP_STATE_DIRECTORY = 1,
     JIP_STATE_WHOLE = 2, /* a file, and no other sound file uses one of its blocks */
     JIP_STATE_BROKEN = 3, /* a file of which some data blocks are missing, or are used by another file too */
-    JIP_STATE_LOST = 4 /* an entry without a sound header: only its name, its header's number and its directory mean something */
+    JIP_STATE_LOST = 4, /* an entry without a header that can be told: only its name, its header's number and its directory mean something */
+    JIP_STATE_DOUBTFUL = 5, /* a file of which no data block is missing, but which is not whole: a checksum is wrong, or another file uses a block too */
+    JIP_STATE_DOUBTFUL_DIRECTORY = 6 /* a directory whose header has a wrong checksum or too long a comment */
 };
 
 /* The directory of an entry in the root, or directly in `lost+found`. */
@@ -651,7 +654,7 @@ int32_t jip_salvage_name(jip_salvage *salvage, size_t place, void *name, size_t 
    `lost+found`, and then has the directories above it, as far as their headers are sound. */
 int32_t jip_salvage_path(jip_salvage *salvage, size_t place, void *path, size_t room, size_t *length);
 
-/* The bytes of a file: all of a whole file; of a broken one those that are left, in their places, with zeros between. */
+/* The bytes of a file: all of a whole file; of one that is not whole those that are left, in their places, with zeros between. */
 int32_t jip_salvage_read(jip_salvage *salvage, size_t place, void *to, size_t room, size_t *length);
 
 /* ---- Read-only handles ----

@@ -109,14 +109,14 @@ static void without_root(void) {
     EXPECT("close", jip_salvage_close(&s) == JIP_DONE && jip_close(&h) == JIP_DONE);
 }
 
-/* A file whose second block has a wrong checksum keeps the others. */
+/* A file whose second block is lost keeps the others. */
 static void broken(void) {
     jip_handle h = prepared(JIP_OFS);
     jip_salvage s = JIP_CLOSED;
     size_t length;
     const uint32_t header = key_of(&h, "Docs/text");
     uint8_t *image = image_of(&h, &length), left[LENGTH];
-    image[512 * long_at(image, header, 76) + 100] ^= 1;
+    memset(image + 512 * long_at(image, header, 76), 0, 512);
     memcpy(left, text, sizeof left);
     memset(left + OFS_BYTES, 0, OFS_BYTES);
     EXPECT("open", jip_salvage_open(image, length, &s) == JIP_DONE && jip_salvage_count(&s) == 2);
@@ -128,14 +128,33 @@ static void broken(void) {
     EXPECT("close", jip_salvage_close(&s) == JIP_DONE && jip_close(&h) == JIP_DONE);
 }
 
-/* A file whose header has a wrong checksum is lost; its directory still names it. */
+/* A directory and a file whose headers have a wrong checksum are doubtful; the file has its bytes. */
+static void doubtful(void) {
+    jip_handle h = prepared(JIP_FFS);
+    jip_salvage s = JIP_CLOSED;
+    size_t length;
+    const uint32_t header = key_of(&h, "Docs/text"), above = key_of(&h, "Docs");
+    uint8_t *image = image_of(&h, &length);
+    image[512 * header + 400] ^= 1;
+    image[512 * above + 400] ^= 1;
+    EXPECT("open", jip_salvage_open(image, length, &s) == JIP_DONE && jip_salvage_count(&s) == 2);
+    const size_t docs = place_of(&s, "Docs"), place = place_of(&s, "Docs/text");
+    const jip_salvaged directory = entry_of(&s, docs), file = entry_of(&s, place);
+    EXPECT("a directory", directory.state == JIP_STATE_DOUBTFUL_DIRECTORY && directory.size == 0 && !directory.is_found && has(&s, docs, "", 0));
+    EXPECT("a file", file.state == JIP_STATE_DOUBTFUL && file.header == header && file.directory == docs && !file.missing && !file.is_found);
+    EXPECT("its bytes", file.size == sizeof text && has(&s, place, text, sizeof text));
+    free(image);
+    EXPECT("close", jip_salvage_close(&s) == JIP_DONE && jip_close(&h) == JIP_DONE);
+}
+
+/* A file whose header has the number of another block is lost; its directory still names it. */
 static void lost(void) {
     jip_handle h = prepared(JIP_FFS);
     jip_salvage s = JIP_CLOSED;
     size_t length;
     const uint32_t header = key_of(&h, "Docs/text");
     uint8_t *image = image_of(&h, &length);
-    image[512 * header + 400] ^= 1;
+    image[512 * header + 7] ^= 1;
     EXPECT("open", jip_salvage_open(image, length, &s) == JIP_DONE && jip_salvage_count(&s) == 2);
     const size_t place = place_of(&s, "Docs/text");
     const jip_salvaged file = entry_of(&s, place);
@@ -209,6 +228,7 @@ int main(void) {
     whole(JIP_FFS);
     without_root();
     broken();
+    doubtful();
     lost();
     same_names();
     arguments();

@@ -121,6 +121,8 @@ class State(IntEnum):
     WHOLE = 2
     BROKEN = 3
     LOST = 4
+    DOUBTFUL = 5
+    DOUBTFUL_DIRECTORY = 6
 
 
 class FaultKind(IntEnum):

@@ -88,11 +88,11 @@ class Salvaged:
 
     @property
     def is_dir(self) -> bool:
-        return self.state == State.DIRECTORY
+        return self.state in (State.DIRECTORY, State.DOUBTFUL_DIRECTORY)
 
     @property
     def is_file(self) -> bool:
-        return self.state in (State.WHOLE, State.BROKEN)
+        return self.state in (State.WHOLE, State.DOUBTFUL, State.BROKEN)
 
     @property
     def path_bytes(self) -> bytes:

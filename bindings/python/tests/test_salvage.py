@@ -63,13 +63,27 @@ class Salvage(unittest.TestCase):
         self.assertEqual(found, {"lost+found/Docs": b"", "lost+found/Docs/text": b"new"})
 
     def test_a_lost_block(self) -> None:
-        self.image[512 * self.second + 100] ^= 1
+        self.image[512 * self.second : 512 * (self.second + 1)] = bytes(512)
         file = self.entry("Docs/text")
         self.assertEqual((file.state, file.missing), (jip.State.BROKEN, 1))
         self.assertEqual(file.read(), DATA[:488] + bytes(488) + DATA[976:])
 
-    def test_a_lost_header(self) -> None:
+    def test_a_doubtful_block(self) -> None:
+        self.image[512 * self.second + 24] ^= 1
+        file = self.entry("Docs/text")
+        self.assertEqual((file.state, file.missing, file.is_file), (jip.State.DOUBTFUL, 0, True))
+        self.assertEqual(file.read(), DATA[:488] + bytes([DATA[488] ^ 1]) + DATA[489:])
+
+    def test_doubtful_headers(self) -> None:
         self.image[512 * self.header + 400] ^= 1
+        directory = self.entry("Docs").header
+        self.image[512 * directory + 400] ^= 1
+        docs, file = self.entry("Docs"), self.entry("Docs/text")
+        self.assertEqual((docs.state, docs.is_dir, docs.is_found), (jip.State.DOUBTFUL_DIRECTORY, True, False))
+        self.assertEqual((file.state, file.header, file.is_file, file.read()), (jip.State.DOUBTFUL, self.header, True, DATA))
+
+    def test_a_lost_header(self) -> None:
+        self.image[512 * self.header + 7] ^= 1
         file = self.entry("Docs/text")
         self.assertEqual((file.state, file.header, file.size, file.is_file, file.read()), (jip.State.LOST, self.header, 0, False, b""))
 

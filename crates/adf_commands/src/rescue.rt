@@ -6,7 +6,7 @@ ghost use Rattle.adf_commands.specs.Rescues.{DoesRescue, IsRescueEnd};
 use crate::fault::CommandFault;
 use crate::images::read_image;
 use adf_block::Image;
-use adf_export::{OutFault, PrintFault, Rescue, extract_damaged};
+use adf_export::{Doubt, OutFault, PrintFault, Rescue, extract_damaged};
 use adf_text::print_line;
 use adf_words::SalvageJob;
 use std::alloc::Global;
@@ -14,8 +14,8 @@ use std::fs::File;
 use std::io::Write;
 use std::rt::Files;
 
-/// Writes what can be trusted in an image file to files and directories of the host, and reports on it. It prints on
-/// `faults` which files are cut short.
+/// Writes what can be told of an image file to files and directories of the host, and reports on it. It prints on `faults`
+/// why entries are doubtful, and which files are cut short.
 pub(crate) fn take_rescue<'a, R, W, F>(
     rt: &R,
     alloc: Global,
@@ -31,7 +31,7 @@ where
 {
     let image = read_image(rt, alloc, job.image)?;
     let rescue = rescue_of(rt, alloc, image, job)?;
-    tell_cut(alloc, &rescue, faults);
+    tell_doubts(alloc, &rescue, faults);
     match rescue.tell(alloc, writer) {
         Ok(true) => Ok(()),
         Ok(false) => Err(CommandFault::NotWhole),
@@ -40,21 +40,34 @@ where
     }
 }
 
-/// Prints which files are cut short.
-fn tell_cut<F: Write>(alloc: Global, rescue: &Rescue, faults: &mut F) {
+/// Prints why entries are doubtful or cut short.
+fn tell_doubts<F: Write>(alloc: Global, rescue: &Rescue, faults: &mut F) {
     for place in 0..rescue.len() {
-        if let Ok(Some(path)) = rescue.cut_at(alloc, place) {
-            let path = path.as_str();
-            print_line(
-                faults,
-                format_args!("adf_serve: '{path}' is cut short: {CUT}"),
-            );
+        if let Ok(Some((path, doubt))) = rescue.doubt_at(alloc, place) {
+            let (path, why) = (path.as_str(), text_of(doubt));
+            print_line(faults, format_args!("adf_serve: '{path}' is {why}"));
         }
     }
 }
 
-/// Why a file is cut short.
-const CUT: &str = "all files that are not whole have four times the bytes of the image";
+/// Why an entry is doubtful or cut short, after its path.
+fn text_of(doubt: Doubt) -> &'static str {
+    match doubt {
+        Doubt::Header => HEADER,
+        Doubt::Blocks => BLOCKS,
+        Doubt::Cut => CUT,
+    }
+}
+
+/// A directory or file is doubtful because of its header.
+const HEADER: &str = "doubtful: its header has a wrong checksum or too long a comment";
+
+/// A file with a sound header is doubtful because of another block.
+const BLOCKS: &str =
+    "doubtful: a block of it has a wrong checksum or field, or is in another file too";
+
+/// A file is cut short because of the bound for all of them.
+const CUT: &str = "cut short: all files that are not whole have four times the bytes of the image";
 
 /// The rescue of an image.
 fn rescue_of<'a, R: Files<File = File>>(

@@ -1,9 +1,11 @@
 -- The report on a damaged image after everything that can be trusted was written.
-use Rattle.std.specs.Prelude.{◌≡◌, ℕ, Bool, true, false, List, [], ◌∷◌, ◌++◌, codes, decimal, if◌then◌else◌, ⊤}
+use Rattle.std.specs.Prelude.{◌≡◌, ℕ, Bool, true, false, List, [], ◌∷◌, ◌++◌, codes, decimal, Option, Some, None, if◌then◌else◌, ⊤}
 use Rattle.adf_salvage.specs.Salvaged.{Salvages, Saved}
 use Rattle.adf_salvage.specs.declared.salvaged.Salvaged.{Salvaged}
 use Rattle.adf_salvage.specs.declared.salvaged.State.{State}
-use Rattle.adf_salvage.specs.declared.salvaged.State.TheVariants.{Directory, Whole, Lost, Broken}
+use Rattle.adf_salvage.specs.declared.salvaged.State.TheVariants.{Directory, DoubtfulDirectory, Whole, Doubtful, Lost, Broken}
+use Rattle.adf_export.specs.declared.damaged.Doubt.{Doubt}
+use Rattle.adf_export.specs.declared.damaged.Doubt.TheVariants.{Header, Blocks, Cut}
 use Rattle.adf_export.specs.declared.damaged.Rescue.{Rescue}
 use Rattle.adf_export.specs.declared.fault.OutFault.{OutFault}
 use Rattle.adf_export.specs.declared.fault.OutFault.TheVariants.{Host, Memory}
@@ -12,13 +14,23 @@ use Rattle.adf_export.specs.declared.fault.OutFault.TheVariants.{Host, Memory}
 abbrev pub found_word : Bool → List ℕ
 found_word found = if found then codes "found " else []
 
--- the line of an entry; a directory that was not recovered has none
+-- the line of an entry; a sound directory that was not recovered has none
 abbrev pub rescue_line : Bool → State → List ℕ → List ℕ
 rescue_line true Directory path = codes "found " ++ path ++ codes "\n"
 rescue_line false Directory path = []
+rescue_line found DoubtfulDirectory path = found_word found ++ codes "doubtful " ++ path ++ codes "/\n"
 rescue_line found Lost path = found_word found ++ codes "lost " ++ path ++ codes "\n"
 rescue_line found Whole path = found_word found ++ codes "whole " ++ path ++ codes "\n"
+rescue_line found (Doubtful sound length) path = found_word found ++ codes "doubtful " ++ path ++ codes "\n"
 rescue_line found (Broken missing cut length) path = found_word found ++ codes "broken " ++ decimal missing ++ codes " " ++ path ++ codes "\n"
+
+-- why an entry is doubtful or cut short
+abbrev pub doubt_of : State → Option Doubt
+doubt_of DoubtfulDirectory = Some Header
+doubt_of (Doubtful true length) = Some Blocks
+doubt_of (Doubtful false length) = Some Header
+doubt_of (Broken missing true length) = Some Cut
+doubt_of _ = None
 
 -- the line of an entry at some host path
 abbrev pub IsRescueLine : Bool → State → List ℕ → Type 0

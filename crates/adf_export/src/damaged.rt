@@ -3,7 +3,7 @@ ghost use Rattle.std.specs.Prelude.{◌≡◌, IfErr, IfOk, OnErr};
 ghost use Rattle.std.specs.String.{string_bytes};
 ghost use Rattle.adf_script.specs.Streams.{Writes};
 ghost use Rattle.adf_io.specs.Prefix.{WritesFrontOf};
-ghost use Rattle.adf_export.specs.Rescue.{AreRescued, AreSomeRescued, IsRescue, IsRescueFault, IsRescueLine, rescue_line};
+ghost use Rattle.adf_export.specs.Rescue.{AreRescued, AreSomeRescued, IsRescue, IsRescueFault, IsRescueLine, doubt_of, rescue_line};
 
 use crate::fault::OutFault;
 use crate::output::write_text;
@@ -59,24 +59,50 @@ fn rescue_of(alloc: Global, image: Image, meta: bool) -> Result<Rescue, AllocErr
     Ok(Rescue { salvage, plan })
 }
 
+/// Why an entry is doubtful or cut short.
+#[derive(Clone, Copy)]
+pub enum Doubt {
+    /// Its header has a wrong checksum or too long a comment.
+    Header,
+    /// Its header is sound, but another of its blocks is not, or is named by another file too.
+    Blocks,
+    /// Its bytes end early, because of the limit for all files that are not whole.
+    Cut,
+}
+
+/// Why an entry with this state is doubtful or cut short, if it is.
+fn doubt_of(state: State) -> Option<Doubt>
+    ensures { result ≡ doubt_of state }
+{
+    match state {
+        State::DoubtfulDirectory | State::Doubtful { sound: false, .. } => Some(Doubt::Header),
+        State::Doubtful { sound: true, .. } => Some(Doubt::Blocks),
+        State::Broken { cut: true, .. } => Some(Doubt::Cut),
+        _ => None,
+    }
+}
+
 impl Rescue {
     /// The number of entries.
     pub fn len(&self) -> usize {
         self.salvage.entries().len()
     }
 
-    /// The path of the entry at a position, if it is a file that is cut short.
-    pub fn cut_at(&self, alloc: Global, place: usize) -> Result<Option<String>, AllocError> {
-        match self.salvage.entries().get(place) {
-            Some(entry) if matches!(entry.state, State::Broken { cut: true, .. }) => {
-                Ok(Some(self.plan.path_of(alloc, place)?))
-            }
-            _ => Ok(None),
+    /// The path of the entry at a position and why it is doubtful or cut short, if it is.
+    pub fn doubt_at(
+        &self,
+        alloc: Global,
+        place: usize,
+    ) -> Result<Option<(String, Doubt)>, AllocError> {
+        let state = self.salvage.entries().get(place).map(|entry| entry.state);
+        match state.and_then(doubt_of) {
+            Some(doubt) => Ok(Some((self.plan.path_of(alloc, place)?, doubt))),
+            None => Ok(None),
         }
     }
 
-    /// Writes a line for each file, for each recovered directory, and for each lost entry. The result is whether the image was
-    /// accepted: then every file is whole.
+    /// Writes a line for each file, for each recovered or doubtful directory, and for each lost entry. The result is whether the
+    /// image was accepted: then every file is whole.
     ///
     /// If the writer fails or memory runs out, it has written a prefix of that text.
     pub fn tell<W: Write>(&self, alloc: Global, writer: &mut W) -> Result<bool, PrintFault>
@@ -91,8 +117,8 @@ impl Rescue {
         Ok(self.salvage.is_accepted())
     }
 
-    /// The line of the entry at a position: `found` if it was recovered, `whole`, `lost` or the number of missing blocks, and
-    /// its path. A directory that was not recovered has none.
+    /// The line of the entry at a position: `found` if it was recovered, `whole`, `doubtful`, `lost` or the number of missing
+    /// blocks, and its path. A sound directory that was not recovered has none.
     fn line_at(
         &self,
         alloc: Global,
@@ -118,7 +144,9 @@ fn line_of_path(alloc: Global, found: bool, state: State, path: &str) -> Result<
     let line = match state {
         State::Directory if found => format!(in alloc; "found {path}\n")?,
         State::Directory => String::new(alloc),
+        State::DoubtfulDirectory => format!(in alloc; "{front}doubtful {path}/\n")?,
         State::Whole => format!(in alloc; "{front}whole {path}\n")?,
+        State::Doubtful { .. } => format!(in alloc; "{front}doubtful {path}\n")?,
         State::Lost => format!(in alloc; "{front}lost {path}\n")?,
         State::Broken { missing, .. } => format!(in alloc; "{front}broken {missing} {path}\n")?,
     };

@@ -35,7 +35,7 @@ mod words;
 
 pub use bundle_out::{BundleOutFault, extract_bundle};
 pub use bytes::VolumeBytes;
-pub use damaged::{Rescue, extract_damaged};
+pub use damaged::{Doubt, Rescue, extract_damaged};
 pub use entry::{Outgoing, Source};
 pub use extracting::extract;
 pub use fault::OutFault;

@@ -196,8 +196,8 @@ impl Plan {
                 self.planned.push(Planned::Lost { above, name })?;
                 return Ok(());
             }
-            State::Directory => Source::Directory,
-            State::Whole | State::Broken { .. } => Source::File(place),
+            State::Directory | State::DoubtfulDirectory => Source::Directory,
+            State::Whole | State::Doubtful { .. } | State::Broken { .. } => Source::File(place),
         };
         let item = self.push(above, name, source, entry.date)?;
         self.planned.push(Planned::Item(item))?;

@@ -3,6 +3,8 @@ pub mod SoundParts
 pub mod OwnBlocks
 pub mod Claiming
 pub mod Growing
+pub mod Naming
+pub mod Heading
 pub mod Following
 pub mod Answering
 pub mod Marked

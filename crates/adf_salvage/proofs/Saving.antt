@@ -4,26 +4,29 @@ use Rattle.std.proofs.lemmas.List.{get_or_default}
 use Rattle.adf_block.specs.Image.{block_count}
 use Rattle.adf_salvage.specs.declared.gathered.Gathered.{Gathered}
 use Rattle.adf_salvage.specs.declared.salvaged.State.{State}
-use Rattle.adf_salvage.specs.declared.salvaged.State.TheVariants.{Directory, Whole, Lost, Broken}
+use Rattle.adf_salvage.specs.declared.salvaged.State.TheVariants.{Directory, DoubtfulDirectory, Whole, Doubtful, Lost, Broken}
 use Rattle.adf_salvage.specs.declared.salvaged.Salvaged.{Salvaged}
 use Rattle.adf_salvage.specs.Lost.{IsLost}
 use Rattle.adf_salvage.specs.Salvaged.{AreApart, AreSalvaged, HasState, IsTold, Saved, SavesSound, broken_total, headers_of}
-use Rattle.adf_salvage.specs.steps.Gathering.{AreAllSound, AreGathered, place_at}
+use Rattle.adf_salvage.specs.steps.Gathering.{AreAllHeaders, AreGathered, place_at}
 use Rattle.adf_salvage.specs.steps.Keeping.{CanBeRead, IsKept, IsReadable}
+use Rattle.adf_salvage.proofs.Naming.{header_inside}
 
 -- a sound file that is whole can be read
 can_be_read : (image : List ℕ) (header : ℕ) (state : State) → header < block_count image → HasState image header state → CanBeRead image header state
 can_be_read image header Directory inside h = tt
+can_be_read image header DoubtfulDirectory inside h = tt
+can_be_read image header (Doubtful sound size) inside h = tt
 can_be_read image header Whole inside h = record { inside = inside; lawful = h.intact.lawful }
-can_be_read image header (Broken missing cut length) inside h = tt
+can_be_read image header (Broken missing cut size) inside h = tt
 can_be_read image header Lost inside h = absurd h
 
 told_readable : (image : List ℕ) (entry : Salvaged) → IsTold image entry → IsReadable image entry
-told_readable image entry (inl told) = can_be_read image entry.header entry.state told.header.inside.1 told.state
+told_readable image entry (inl told) = can_be_read image entry.header entry.state (header_inside image entry.header told.header) told.state
 told_readable image entry (inr lost) = subst (CanBeRead image entry.header) (sym lost.state) tt
 
 module _ (image : List ℕ) (gathered : Gathered) (g : AreGathered image gathered) where
-  pub all_salvaged : AreAllSound image gathered.places.items → ((block : ℕ) → IsLost image block → IsSome (place_at gathered.places.items block)) → AreSalvaged image gathered.entries.items
+  pub all_salvaged : AreAllHeaders image gathered.places.items → ((block : ℕ) → IsLost image block → IsSome (place_at gathered.places.items block)) → AreSalvaged image gathered.entries.items
   all_salvaged met lost_met = record {
     told = g.told;
     once = λ i j d l m e.
@@ -34,12 +37,13 @@ module _ (image : List ℕ) (gathered : Gathered) (g : AreGathered image gathere
         let both : Some i ≡ Some j = sym (g.placed i first) ∙ ap (place_at gathered.places.items) same ∙ g.placed j m in
         let is : i ≡ j = cc both in
         omega (arith, l, is);
-    sound = λ block sound. g.met block (met block sound);
+    sound = λ block sound. g.met block (met block (inl sound));
+    doubtful = λ block doubtful. g.met block (met block (inr doubtful.header));
     lost = λ block lost. g.met block (lost_met block lost);
   }
 
   pub saves_sound : (saved : Saved) → saved.image ≡ image → saved.entries ≡ gathered.entries.items → saved.given ≡ gathered.giving.pieces.items
-      → AreAllSound image gathered.places.items → ((block : ℕ) → IsLost image block → IsSome (place_at gathered.places.items block)) → SavesSound saved
+      → AreAllHeaders image gathered.places.items → ((block : ℕ) → IsLost image block → IsSome (place_at gathered.places.items block)) → SavesSound saved
   saves_sound saved same are given met lost_met = record {
     salvaged = subst (λ (xs : List ℕ). AreSalvaged xs saved.entries) (sym same) (subst (AreSalvaged image) (sym are) (all_salvaged met lost_met));
     apart = subst AreApart (sym given) g.giving.once;

@@ -1,9 +1,10 @@
 -- The descriptions of an image's entries.
-use Rattle.std.specs.Prelude.{◌≡◌, ◌≢◌, ℕ, zero, suc, ◌+◌, ◌*◌, ◌≤◌, ◌⊎◌, Bool, List, [], ◌∷◌, ◌++◌, decimal, length, All, AllPairs, Contains, map, None, Some, true, false, ⊤}
+use Rattle.std.specs.Prelude.{◌≡◌, ◌≢◌, ℕ, zero, suc, ◌+◌, ◌*◌, ◌≤◌, ◌⊎◌, Bool, MatchBool, List, [], ◌∷◌, ◌++◌, decimal, length, All, AllPairs, Contains, map, None, Some, true, false, ⊤}
 use Rattle.adf_block.specs.Boot.{HasKind}
 use Rattle.adf_block.specs.declared.boot.BootKind.TheVariants.{Ofs, Ffs}
 use Rattle.adf_block.specs.Frame.{OnlyLong}
 use Rattle.adf_block.specs.Fields.{protection}
+use Rattle.adf_block.specs.Image.{byte_at}
 use Rattle.adf_block.specs.declared.layout.TheConstants.{COMMENT_BYTE, DATE, NAME_BYTE}
 use Rattle.adf_block.specs.Whole.{text_at}
 use Rattle.ados_name.specs.Name.{IsName}
@@ -19,11 +20,12 @@ use Rattle.adf_salvage.specs.declared.giving.Piece.{Piece}
 use Rattle.adf_salvage.specs.declared.salvaged.Salvaged.{Salvaged}
 use Rattle.adf_salvage.specs.declared.salvaged.State.{State}
 use Rattle.adf_salvage.specs.declared.salvaged.State.TheVariants as states
+use Rattle.adf_salvage.specs.Doubtful.{IsDoubtfulHeader, IsHeader}
 use Rattle.adf_salvage.specs.Lost.{IsLost}
 use Rattle.adf_salvage.specs.Sound.{IsSoundHeader, IsWhole}
 
 -- how contracts see a salvage: whether the image was accepted, the image as it was read, its entries, and the blocks given
--- to broken files
+-- to files that are not whole
 pub record Saved : Type 0 where
   pub accepted : Bool
   pub image : List ℕ
@@ -35,20 +37,23 @@ unfoldable pub ended : List ℕ → ℕ → ℕ → List ℕ
 ended name header zero = name
 ended name header (suc endings) = ended name header endings ++ 126 ∷ decimal header
 
--- a directory, a whole file or a broken one, each with a sound header
+-- the state fits the header: a directory or file whose header is sound or doubtful, a whole file, or a broken one, which is not whole
 abbrev pub HasState : List ℕ → ℕ → State → Type 0
-HasState image block states.Directory = HasDirectoryType image block
+HasState image block states.Directory = IsSoundHeader image block × HasDirectoryType image block
+HasState image block states.DoubtfulDirectory = IsDoubtfulHeader image block × HasDirectoryType image block
 HasState image block states.Whole = IsWhole image block
+HasState image block (states.Doubtful sound length) = MatchBool sound (IsSoundHeader image block) (IsDoubtfulHeader image block) × HasFileType image block × ¬ IsWhole image block
 HasState image block (states.Broken missing cut length) = HasFileType image block × ¬ IsWhole image block
 HasState image block states.Lost = ⊥
 
--- the header is sound, and the description has its fields; where the entry is, and whether it was recovered, are free
+-- the header is sound or doubtful, and the description has its fields, but for a comment that is too long; where the entry is, and whether it
+-- was recovered, are free
 pub record IsSalvaged (image : List ℕ) (entry : Salvaged) : Type 0 where
-  pub header : IsSoundHeader image entry.header
+  pub header : IsHeader image entry.header
   pub name : entry.name ≡ text_at image entry.header NAME_BYTE
   pub protection_bits : entry.protection.0 ≡ protection image entry.header
   pub date_field : entry.date ≡ date_at image entry.header DATE
-  pub comment : entry.comment ≡ text_at image entry.header COMMENT_BYTE
+  pub comment : byte_at image entry.header COMMENT_BYTE ≤ 79 → entry.comment ≡ text_at image entry.header COMMENT_BYTE
   pub state : HasState image entry.header entry.state
 
 -- the entry is lost, and has the name in its block if that is valid; the rest of the description is free
@@ -57,7 +62,7 @@ pub record IsLostEntry (image : List ℕ) (entry : Salvaged) : Type 0 where
   pub name : IsName (text_at image entry.header NAME_BYTE) → entry.name ≡ text_at image entry.header NAME_BYTE
   pub state : entry.state ≡ states.Lost
 
--- the description of a sound header, or of a lost entry
+-- the description of a sound or doubtful header, or of a lost entry
 abbrev pub IsTold : List ℕ → Salvaged → Type 0
 IsTold image entry = IsSalvaged image entry ⊎ IsLostEntry image entry
 
@@ -65,11 +70,12 @@ IsTold image entry = IsSalvaged image entry ⊎ IsLostEntry image entry
 abbrev pub headers_of : List Salvaged → List ℕ
 headers_of found = map (λ entry. entry.header) found
 
--- the entries are exactly the sound headers and the lost entries of the image, each once
+-- the entries are exactly the sound headers, the doubtful headers and the lost entries of the image, each once
 pub record AreSalvaged (image : List ℕ) (found : List Salvaged) : Type 0 where
   pub told : All (IsTold image) found
   pub once : AllPairs (λ a b. a ≢ b) (headers_of found)
   pub sound : (block : ℕ) → IsSoundHeader image block → Contains (headers_of found) block
+  pub doubtful : (block : ℕ) → IsDoubtfulHeader image block → Contains (headers_of found) block
   pub lost : (block : ℕ) → IsLost image block → Contains (headers_of found) block
 
 -- a directory, or a whole file that has these bytes in the image
@@ -78,12 +84,13 @@ HoldsAll image header (Directory keys) states.Directory = ⊤
 HoldsAll image header (File bytes) states.Whole = contents image header ≡ bytes
 HoldsAll image header _ _ = ⊥
 
--- the number of bytes of a broken file
+-- the number of bytes of a file that is not whole
 abbrev pub broken_length : State → ℕ
+broken_length (states.Doubtful sound length) = length
 broken_length (states.Broken missing cut length) = length
 broken_length state = 0
 
--- the number of bytes of all broken files
+-- the number of bytes of all files that are not whole
 unfoldable pub broken_total : List Salvaged → ℕ
 broken_total [] = 0
 broken_total (entry ∷ rest) = broken_length entry.state + broken_total rest
@@ -118,8 +125,8 @@ pub record IsReadAs (image read : List ℕ) : Type 0 where
   pub known : HasKind image Ofs ⊎ HasKind image Ffs → read ≡ image
   pub rest : OnlyLong 0 0 image read
 
--- the entries are the sound headers and lost entries of the image, no block is given to two broken files, and all of these together have at
--- most four times the bytes of the image
+-- the entries are the sound and doubtful headers and the lost entries of the image, no block is given to two files, and all files that are
+-- not whole have together at most four times the bytes of the image
 pub record SavesSound (saved : Saved) : Type 0 where
   pub salvaged : AreSalvaged saved.image saved.entries
   pub apart : AreApart saved.given
@@ -132,7 +139,7 @@ pub record SavesTree (image : List ℕ) (saved : Saved) : Type 0 where
   pub accepts : Accepts image validated saved.image
   pub tree : (t : Tree) → Stands saved.image t → AreOfTree t saved
 
--- the image was refused, and these are its sound headers and lost entries
+-- the image was refused, and these are its sound and doubtful headers and its lost entries
 pub record SavesRest (image : List ℕ) (saved : Saved) : Type 0 where
   pub refused : saved.accepted ≡ false
   pub read : IsReadAs image saved.image

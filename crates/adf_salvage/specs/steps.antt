@@ -1,6 +1,7 @@
 -- The results for a file, block by block.
 pub mod Parts
 pub mod Claims
+pub mod Heading
 pub mod Giving
 pub mod Gathering
 pub mod Keeping

@@ -1,10 +1,11 @@
 //! The entries along the hash chains, from the root.
 ghost use Rattle.std.specs.Prelude.{◌<◌, OnOk};
 ghost use Rattle.adf_block.specs.Image.{block_count};
-ghost use Rattle.adf_salvage.specs.steps.Claims.{AreWhole};
 ghost use Rattle.adf_salvage.specs.steps.Gathering.{AreGathered};
+ghost use Rattle.adf_salvage.specs.steps.Heading.{AreKnown};
 
 use crate::gathered::Gathered;
+use crate::known::Known;
 use crate::names::Standing;
 use crate::salvaged::State;
 use adf_block::Image;
@@ -16,22 +17,24 @@ use std::alloc::{AllocError, Global};
 pub(crate) fn add_reached(
     alloc: Global,
     image: &Image,
-    whole: &[bool],
+    known: &Known,
     gathered: &mut Gathered,
 ) -> Result<(), AllocError>
     requires gathered { AreGathered image.now gathered.old }
-    requires whole { AreWhole image.now (block_count image.now) whole.now }
+    requires known { AreKnown image.now known.now }
     ensures { OnOk result (AreGathered image.now gathered.new) }
 {
     prove!(image.blocks() >= 16);
-    add_chains(alloc, image, whole, image.root(), None, gathered)?;
+    add_chains(alloc, image, known, image.root(), None, gathered)?;
     for place in 0..image.blocks() {
         let Some(entry) = gathered.entries.get(place as usize) else {
             break;
         };
-        if matches!(entry.state, State::Directory) && entry.header < image.blocks() {
+        if matches!(entry.state, State::Directory | State::DoubtfulDirectory)
+            && entry.header < image.blocks()
+        {
             let dir = entry.header;
-            add_chains(alloc, image, whole, dir, Some(place as usize), gathered)?;
+            add_chains(alloc, image, known, dir, Some(place as usize), gathered)?;
         }
     }
     Ok(())
@@ -41,34 +44,34 @@ pub(crate) fn add_reached(
 fn add_chains(
     alloc: Global,
     image: &Image,
-    whole: &[bool],
+    known: &Known,
     dir: u32,
     above: Option<usize>,
     gathered: &mut Gathered,
 ) -> Result<(), AllocError>
     requires dir { dir < block_count image.now }
     requires gathered { AreGathered image.now gathered.old }
-    requires whole { AreWhole image.now (block_count image.now) whole.now }
+    requires known { AreKnown image.now known.now }
     ensures { OnOk result (AreGathered image.now gathered.new) }
 {
     for slot in 0..TABLE_LONGS {
         let first = image.long(dir, FIRST_SLOT + slot);
-        add_chain(alloc, image, whole, first, above, gathered)?;
+        add_chain(alloc, image, known, first, above, gathered)?;
     }
     Ok(())
 }
 
-/// Adds the entries of a hash chain, as long as they are sound headers that were not found before.
+/// Adds the entries of a hash chain, as long as they are headers that were not found before.
 fn add_chain(
     alloc: Global,
     image: &Image,
-    whole: &[bool],
+    known: &Known,
     first: u32,
     above: Option<usize>,
     gathered: &mut Gathered,
 ) -> Result<(), AllocError>
     requires gathered { AreGathered image.now gathered.old }
-    requires whole { AreWhole image.now (block_count image.now) whole.now }
+    requires known { AreKnown image.now known.now }
     ensures { OnOk result (AreGathered image.now gathered.new) }
 {
     let standing = Standing {
@@ -77,10 +80,10 @@ fn add_chain(
     };
     let mut key = first;
     for _passed in 0..image.blocks() {
-        if !gathered.is_new(image, key) {
+        if !gathered.is_new(image, known, key) {
             break;
         }
-        gathered.add(alloc, image, whole, key, standing)?;
+        gathered.add(alloc, image, known, key, standing)?;
         key = image.long(key, NEXT_IN_CHAIN);
     }
     Ok(())

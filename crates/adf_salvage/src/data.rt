@@ -5,6 +5,7 @@ ghost use Rattle.adf_block.specs.Fields.{file_size, format_of};
 ghost use Rattle.adf_block.specs.declared.layout.Format.TheVariants.{Ofs};
 ghost use Rattle.ados_model.specs.Stands.{HasOfsData};
 ghost use Rattle.ados_model.specs.File.{data_blocks, extension_blocks};
+ghost use Rattle.adf_salvage.specs.steps.Giving.{IsOwnData};
 ghost use Rattle.adf_salvage.specs.steps.Parts.{HasData, HasHolders, IsDataBlock, data_needed};
 
 use adf_block::layout::{
@@ -67,16 +68,24 @@ fn is_data(image: &Image, file: u32, i: u32, before: u32, block: u32) -> bool
 }
 
 /// Whether a block has the fields of OFS data block `i` of a file.
-pub(crate) fn is_ofs_data(image: &Image, file: u32, i: u32, block: u32) -> bool
+fn is_ofs_data(image: &Image, file: u32, i: u32, block: u32) -> bool
     requires file { file < block_count image.now }
     requires block { block < block_count image.now }
     ensures { IsTrue result ↔ HasOfsData image.now file (file_size image.now file) i block }
 {
+    is_own_data(image, file, i, block)
+        && u64::from(image.long(block, HELD)) == held_in(image.long(file, FILE_SIZE), i)
+        && image.sum(block) == 0
+}
+
+/// Whether a block says that it is OFS data block `i` of a file, whatever its checksum is.
+pub(crate) fn is_own_data(image: &Image, file: u32, i: u32, block: u32) -> bool
+    requires { block < block_count image.now }
+    ensures { IsTrue result ↔ IsOwnData image.now file i block }
+{
     image.long(block, OWN_KEY) == file
         && u64::from(image.long(block, SEQUENCE)) == u64::from(i) + 1
         && image.long(block, PRIMARY_TYPE) == DATA_TYPE
-        && u64::from(image.long(block, HELD)) == held_in(image.long(file, FILE_SIZE), i)
-        && image.sum(block) == 0
 }
 
 /// The number of data bytes in OFS data block `i` of a file with this size.

@@ -2,11 +2,12 @@
 ghost use Rattle.std.specs.Prelude.{◌≡◌, ◌<◌, ◌↔◌, ℕ, None, length, IfOk, IsSome, IsTrue, OnOk};
 ghost use Rattle.adf_block.specs.Image.{block_count};
 ghost use Rattle.adf_salvage.specs.Lost.{IsLost};
-ghost use Rattle.adf_salvage.specs.steps.Claims.{AreWhole};
 ghost use Rattle.adf_salvage.specs.steps.Gathering.{AreGathered, GathersMore, IsNew, place_at};
+ghost use Rattle.adf_salvage.specs.steps.Heading.{AreKnown};
 
 use crate::giving::Giving;
-use crate::header::{is_sound_header, name_of, name_of_lost};
+use crate::header::{name_of, name_of_lost};
+use crate::known::Known;
 use crate::names::{Names, Standing};
 use crate::salvaged::{Salvaged, State};
 use crate::state::state_of;
@@ -44,14 +45,15 @@ impl Gathered {
         })
     }
 
-    /// Whether a block is a sound header that was not found before.
-    pub(crate) fn is_new(&self, image: &Image, block: u32) -> bool
-        requires { length self.now.places.items ≡ block_count image.now }
+    /// Whether a block is a header that was not found before.
+    pub(crate) fn is_new(&self, image: &Image, known: &Known, block: u32) -> bool
+        requires size { length self.now.places.items ≡ block_count image.now }
+        requires known { AreKnown image.now known.now }
         ensures { IsTrue result ↔ IsNew image.now self.now.places.items block }
     {
         block < image.blocks()
             && self.places[block as usize].is_none()
-            && is_sound_header(image, block)
+            && known.headers[block as usize]
     }
 
     /// Whether a block has an entry.
@@ -66,7 +68,7 @@ impl Gathered {
     pub(crate) fn directory(&self, block: u32) -> Option<usize> {
         let place = (*self.places.get(block as usize)?)?;
         match self.entries.get(place)?.state {
-            State::Directory => Some(place),
+            State::Directory | State::DoubtfulDirectory => Some(place),
             _ => None,
         }
     }
@@ -85,13 +87,13 @@ impl Gathered {
         &mut self,
         alloc: Global,
         image: &Image,
-        whole: &[bool],
+        known: &Known,
         block: u32,
         standing: Standing,
     ) -> Result<(), AllocError>
         requires gathered { AreGathered image.now self.old }
         requires met { IsNew image.now self.old.places.items block }
-        requires whole { AreWhole image.now (block_count image.now) whole.now }
+        requires known { AreKnown image.now known.now }
         ensures more { OnOk result (GathersMore image.now self.old self.new) }
         ensures met { OnOk result (IsSome (place_at self.new.places.items block)) }
     {
@@ -99,7 +101,7 @@ impl Gathered {
             unreachable!()
         };
         let place = self.entries.len();
-        let state = state_of(image, whole, block, place, &mut self.giving)?;
+        let state = state_of(image, &known.whole, block, place, &mut self.giving)?;
         let endings = self.names.take(alloc, standing, name.bytes(), block)?;
         let entry = told_of(image, block, standing, endings, state);
         self.entries.push(entry)?;

@@ -1,10 +1,10 @@
-//! The blocks given to broken files, each to one.
+//! The blocks given to files that are not whole, each to one.
 ghost use Rattle.std.specs.Prelude.{◌≡◌, ◌<◌, ◌≤◌, ◌*◌, ℕ, List, length, IfOk, IfSome, IsTrue, OnOk};
 ghost use Rattle.adf_block.specs.Image.{block_count};
 ghost use Rattle.adf_salvage.specs.steps.Giving.{IsGiving, IsOpen};
 
-use crate::data::is_ofs_data;
-use crate::holders::is_extension;
+use crate::data::is_own_data;
+use crate::holders::looks_like_extension;
 use adf_block::layout::{
     BLOCK_BYTES, BOOT_BLOCKS, FILE_SIZE, FIRST_PAGE, FIRST_POINTER, HEADER_TYPE, NEXT_DATA,
     NEXT_EXTENSION, OFS_DATA_BYTE, POINTER_COUNT, PRIMARY_TYPE, ROOT_TYPE, SECONDARY_TYPE,
@@ -16,13 +16,13 @@ use std::alloc::{AllocError, Global};
 /// Bytes in a block.
 pub(crate) const BLOCK: usize = BLOCK_BYTES as usize;
 
-/// The most bytes of all broken files together, as a multiple of the image's bytes.
+/// The most bytes of all files that are not whole together, as a multiple of the image's bytes.
 const SHARE: usize = 4;
 
 /// The most bitmap blocks that the root names.
 const PAGES: u32 = 25;
 
-/// A block given to a broken file.
+/// A block given to a file that is not whole.
 #[derive(Clone, Copy, Debug)]
 pub struct Piece {
     /// The position of the file in the list of entries.
@@ -40,11 +40,11 @@ pub(crate) struct Giving {
     /// For each block, whether it was passed as an extension block. Only one file passes it.
     pub(crate) passed: Vec<bool>,
     pub(crate) pieces: Vec<Piece>,
-    /// How many bytes further broken files may have.
+    /// How many bytes further such files may have.
     pub(crate) left: usize,
 }
 
-/// The rest of a broken file.
+/// What is left of a file that is not whole.
 #[derive(Clone, Copy)]
 pub(crate) struct Remains {
     /// The number of missing data blocks.
@@ -77,8 +77,8 @@ impl Giving {
         })
     }
 
-    /// Gives a broken file, whose entry has this position, those of its data blocks that are sound and were not given
-    /// before. It has at most as many as its size needs, and as the image has.
+    /// Gives a file that is not whole, whose entry has this position, its data blocks that were not given before. It has at
+    /// most as many as its size needs, and as the image has. A wrong checksum of one is no reason against it.
     pub(crate) fn give(
         &mut self,
         image: &Image,
@@ -135,8 +135,8 @@ impl Giving {
         Ok(())
     }
 
-    /// Data block `i` of a file, if it is sound and was not given before: the one in its pointer, or else, in OFS, the one
-    /// that the block before it links to.
+    /// Data block `i` of a file, if it was not given before: the one in its pointer, or else, in OFS, the one that the block
+    /// before it links to.
     fn block_at(&self, image: &Image, file: u32, i: u32, way: Way) -> Option<u32>
         requires file { file < block_count image.now }
         requires holder { IfSome way.holder (λ block. block < block_count image.now) }
@@ -169,12 +169,12 @@ impl Giving {
             return false;
         }
         match image.format() {
-            Format::Ofs => is_ofs_data(image, file, i, block),
+            Format::Ofs => is_own_data(image, file, i, block),
             Format::Ffs => true,
         }
     }
 
-    /// The extension block after a pointer block, if it is sound and was not passed before.
+    /// The extension block after a pointer block, if it says that it is one and was not passed before.
     fn next_holder(&mut self, image: &Image, file: u32, holder: Option<u32>) -> Option<u32>
         requires holder { IfSome holder (λ block. block < block_count image.now) }
         requires giving { IsGiving image.now self.old }
@@ -186,7 +186,7 @@ impl Giving {
         if next < BOOT_BLOCKS
             || next >= image.blocks()
             || self.passed[next as usize]
-            || !is_extension(image, file, next)
+            || !looks_like_extension(image, file, next)
         {
             return None;
         }

@@ -1,16 +1,17 @@
-//! Headers that are sound by themselves.
+//! Headers, by themselves.
 ghost use Rattle.std.specs.Prelude.{◌≡◌, ◌<◌, ◌↔◌, IfOk, IsTrue, MatchOption};
 ghost use Rattle.adf_block.specs.Image.{block_count};
 ghost use Rattle.adf_block.specs.Whole.{text_at};
 ghost use Rattle.ados_name.specs.Name.{IsName};
 ghost use Rattle.ados_check.specs.Marks.{HasEntryType};
-ghost use Rattle.ados_model.specs.Faults.{HasFileType};
+ghost use Rattle.ados_model.specs.Faults.{HasDirectoryType, HasFileType};
+ghost use Rattle.adf_salvage.specs.Doubtful.{HasTable, IsRoot, LooksLikeHeader};
 ghost use Rattle.adf_salvage.specs.Sound.{IsSoundHeader};
 
 use adf_block::Image;
 use adf_block::layout::{
     BOOT_BLOCKS, COMMENT_BYTE, DIRECTORY_TYPE, FILE_TYPE, HEADER_TYPE, NAME_BYTE, OWN_KEY,
-    PRIMARY_TYPE, SECONDARY_TYPE,
+    PRIMARY_TYPE, ROOT_TYPE, SECONDARY_TYPE,
 };
 use ados_name::{Comment, Name};
 use itoa::Buffer;
@@ -21,22 +22,55 @@ pub fn is_sound_header(image: &Image, block: u32) -> bool
     requires { block < block_count image.now }
     ensures { IsTrue result ↔ IsSoundHeader image.now block }
 {
-    block >= BOOT_BLOCKS
+    looks_like_header(image, block)
         && image.sum(block) == 0
+        && usize::from(image.byte(block, COMMENT_BYTE)) <= Comment::MAX_LEN
+}
+
+/// Whether a block has the types, the own number and the name of a header, whatever else is in it.
+pub(crate) fn looks_like_header(image: &Image, block: u32) -> bool
+    ensures { IsTrue result ↔ LooksLikeHeader image.now block }
+{
+    block >= BOOT_BLOCKS
+        && block < image.blocks()
         && image.long(block, PRIMARY_TYPE) == HEADER_TYPE
         && is_entry(image, block)
         && image.long(block, OWN_KEY) == block
         && name_of(image, block).is_some()
-        && usize::from(image.byte(block, COMMENT_BYTE)) <= Comment::MAX_LEN
+}
+
+/// Whether a block is in the place of the root, with the types of one.
+pub(crate) fn is_root(image: &Image, block: u32) -> bool
+    requires { block < block_count image.now }
+    ensures { IsTrue result ↔ IsRoot image.now block }
+{
+    block == image.root()
+        && image.long(block, PRIMARY_TYPE) == HEADER_TYPE
+        && image.long(block, SECONDARY_TYPE) == ROOT_TYPE
+}
+
+/// Whether a block has the type of a root or of a directory, which have a hash table.
+pub(crate) fn has_table(image: &Image, block: u32) -> bool
+    requires { block < block_count image.now }
+    ensures { IsTrue result ↔ HasTable image.now block }
+{
+    image.long(block, SECONDARY_TYPE) == ROOT_TYPE || is_directory(image, block)
+}
+
+/// Whether a header has the type of a directory.
+pub(crate) fn is_directory(image: &Image, block: u32) -> bool
+    requires { block < block_count image.now }
+    ensures { IsTrue result ↔ HasDirectoryType image.now block }
+{
+    image.long(block, SECONDARY_TYPE) == DIRECTORY_TYPE
 }
 
 /// Whether a header has the type of a directory or of a file.
-fn is_entry(image: &Image, block: u32) -> bool
+pub(crate) fn is_entry(image: &Image, block: u32) -> bool
     requires { block < block_count image.now }
     ensures { IsTrue result ↔ HasEntryType image.now block }
 {
-    let kind = image.long(block, SECONDARY_TYPE);
-    kind == DIRECTORY_TYPE || kind == FILE_TYPE
+    is_directory(image, block) || is_file(image, block)
 }
 
 /// Whether a header has the type of a file.

@@ -4,6 +4,7 @@ ghost use Rattle.adf_block.specs.Image.{block_count};
 ghost use Rattle.ados_model.specs.Stands.{HasExtension};
 ghost use Rattle.ados_model.specs.File.{extension_blocks};
 ghost use Rattle.adf_salvage.specs.Sound.{IsIntact};
+ghost use Rattle.adf_salvage.specs.steps.Giving.{LooksLikeExtension};
 ghost use Rattle.adf_salvage.specs.steps.Parts.{HasHolders, IsHolder, data_needed};
 
 use adf_block::layout::{
@@ -87,13 +88,20 @@ fn pointers_in(q: u32, needed: u32) -> u64
 }
 
 /// Whether a block is an extension block of a file.
-pub(crate) fn is_extension(image: &Image, file: u32, block: u32) -> bool
+fn is_extension(image: &Image, file: u32, block: u32) -> bool
     requires { block < block_count image.now }
     ensures { IsTrue result ↔ HasExtension image.now file block }
+{
+    looks_like_extension(image, file, block) && image.sum(block) == 0
+}
+
+/// Whether a block says that it is an extension block of a file, whatever its checksum is.
+pub(crate) fn looks_like_extension(image: &Image, file: u32, block: u32) -> bool
+    requires { block < block_count image.now }
+    ensures { IsTrue result ↔ LooksLikeExtension image.now file block }
 {
     image.long(block, PARENT) == file
         && image.long(block, PRIMARY_TYPE) == LIST_TYPE
         && image.long(block, SECONDARY_TYPE) == FILE_TYPE
         && image.long(block, OWN_KEY) == block
-        && image.sum(block) == 0
 }

@@ -1,5 +1,5 @@
-//! What can be trusted in an image that the check refuses: each sound header, the bytes of each file whose blocks no other
-//! file names, and the entries that are lost.
+//! What can be told of an image that the check refuses: each sound header, the bytes of each file whose blocks no other
+//! file names, the doubtful headers, and the entries that are lost.
 #![tactic(auto)]
 
 mod chains;
@@ -8,9 +8,11 @@ mod data;
 mod gathered;
 mod giving;
 mod header;
+mod headers;
 mod holders;
 mod intact;
 mod kind;
+mod known;
 mod listing;
 mod lost;
 mod names;

@@ -1,50 +1,57 @@
-//! Lost entries: blocks that are named as entries, and that are no sound headers.
+//! Lost entries: blocks that are named as entries, and that are no headers that can be told.
 ghost use Rattle.std.specs.Prelude.{◌≡◌, ◌<◌, ◌⊎◌, ℕ, ◌+◌, ◌↔◌, IsSome, IsTrue, OnOk};
 ghost use Rattle.adf_block.specs.Image.{block_count};
-ghost use Rattle.adf_salvage.specs.Lost.{HasTable, IsAcceptedPlace, IsLost, IsNext, IsRoot, IsSlot};
-ghost use Rattle.adf_salvage.specs.steps.Gathering.{AreAllSound, AreFollowed, AreGathered, GathersMore, IsFollowed, place_at};
+ghost use Rattle.adf_salvage.specs.Doubtful.{IsNext, IsPlaceIn, IsSlot, NamesEntries};
+ghost use Rattle.adf_salvage.specs.Lost.{IsLost};
+ghost use Rattle.adf_salvage.specs.steps.Gathering.{AreAllHeaders, AreFollowed, AreGathered, GathersMore, IsFollowed, place_at};
+ghost use Rattle.adf_salvage.specs.steps.Heading.{AreKnown};
 
 use crate::gathered::Gathered;
-use crate::header::is_sound_header;
+use crate::header::{has_table, is_entry};
+use crate::known::Known;
 use crate::names::Standing;
 use adf_block::Image;
-use adf_block::layout::{
-    BOOT_BLOCKS, DIRECTORY_TYPE, FIRST_SLOT, HEADER_TYPE, NEXT_IN_CHAIN, PRIMARY_TYPE, ROOT_TYPE,
-    SECONDARY_TYPE, TABLE_LONGS,
-};
+use adf_block::layout::{BOOT_BLOCKS, FIRST_SLOT, NEXT_IN_CHAIN, TABLE_LONGS};
 use std::alloc::{AllocError, Global};
 
-/// Adds all lost entries, after all sound headers were found.
+/// Adds all lost entries, after all headers were found.
 pub(crate) fn add_lost(
     alloc: Global,
     image: &Image,
+    known: &Known,
     gathered: &mut Gathered,
 ) -> Result<(), AllocError>
+    requires known { AreKnown image.now known.now }
     requires gathered { AreGathered image.now gathered.old }
-    requires sound { AreAllSound image.now gathered.old.places.items }
+    requires headers { AreAllHeaders image.now gathered.old.places.items }
     ensures gathered { OnOk result (AreGathered image.now gathered.new) }
-    ensures sound { OnOk result (AreAllSound image.now gathered.new.places.items) }
+    ensures headers { OnOk result (AreAllHeaders image.now gathered.new.places.items) }
     ensures lost { OnOk result ((block : ℕ) → IsLost image.now block → IsSome (place_at gathered.new.places.items block)) }
 {
     for block in 0..image.blocks() {
-        follow(alloc, image, block, gathered)?;
+        follow(alloc, image, known, block, gathered)?;
     }
     Ok(())
 }
 
-/// Adds the lost entries that a block names.
+/// Adds the lost entries that a block names, if it is the root or a header.
 fn follow(
     alloc: Global,
     image: &Image,
+    known: &Known,
     block: u32,
     gathered: &mut Gathered,
 ) -> Result<(), AllocError>
     requires inside { block < block_count image.now }
+    requires known { AreKnown image.now known.now }
     requires gathered { AreGathered image.now gathered.old }
-    requires sound { AreAllSound image.now gathered.old.places.items }
+    requires headers { AreAllHeaders image.now gathered.old.places.items }
     ensures more { OnOk result (GathersMore image.now gathered.old gathered.new) }
     ensures followed { OnOk result (AreFollowed image.now gathered.new.places.items block) }
 {
+    if !known.names_entries(image, block) {
+        return Ok(());
+    }
     follow_slots(alloc, image, block, gathered)?;
     follow_next(alloc, image, block, gathered)
 }
@@ -57,8 +64,9 @@ fn follow_slots(
     gathered: &mut Gathered,
 ) -> Result<(), AllocError>
     requires inside { block < block_count image.now }
+    requires accepted { NamesEntries image.now block }
     requires gathered { AreGathered image.now gathered.old }
-    requires sound { AreAllSound image.now gathered.old.places.items }
+    requires headers { AreAllHeaders image.now gathered.old.places.items }
     ensures more { OnOk result (GathersMore image.now gathered.old gathered.new) }
     ensures followed { OnOk result ((at : ℕ) → IsSlot image.now block at → IsFollowed image.now gathered.new.places.items block at) }
 {
@@ -72,7 +80,7 @@ fn follow_slots(
     Ok(())
 }
 
-/// Adds the lost entry that follows a block in its hash chain, if it is a sound header.
+/// Adds the lost entry that follows a block in its hash chain, if it has the type of an entry.
 fn follow_next(
     alloc: Global,
     image: &Image,
@@ -80,12 +88,13 @@ fn follow_next(
     gathered: &mut Gathered,
 ) -> Result<(), AllocError>
     requires inside { block < block_count image.now }
+    requires accepted { NamesEntries image.now block }
     requires gathered { AreGathered image.now gathered.old }
-    requires sound { AreAllSound image.now gathered.old.places.items }
+    requires headers { AreAllHeaders image.now gathered.old.places.items }
     ensures more { OnOk result (GathersMore image.now gathered.old gathered.new) }
     ensures followed { OnOk result ((at : ℕ) → IsNext image.now block at → IsFollowed image.now gathered.new.places.items block at) }
 {
-    if !is_sound_header(image, block) {
+    if !is_entry(image, block) {
         return Ok(());
     }
     let standing = gathered.standing_beside(block);
@@ -102,9 +111,10 @@ fn follow_long(
     gathered: &mut Gathered,
 ) -> Result<(), AllocError>
     requires inside { (block < block_count image.now) × (at < 128) }
-    requires place { IsAcceptedPlace image.now block at }
+    requires accepted { NamesEntries image.now block }
+    requires place { IsSlot image.now block at ⊎ IsNext image.now block at }
     requires gathered { AreGathered image.now gathered.old }
-    requires sound { AreAllSound image.now gathered.old.places.items }
+    requires headers { AreAllHeaders image.now gathered.old.places.items }
     ensures more { OnOk result (GathersMore image.now gathered.old gathered.new) }
     ensures followed { OnOk result (IsFollowed image.now gathered.new.places.items block at) }
 {
@@ -113,23 +123,4 @@ fn follow_long(
         return Ok(());
     }
     gathered.add_lost(alloc, image, named, standing)
-}
-
-/// Whether a block has a hash table: the root, or the sound header of a directory.
-fn has_table(image: &Image, block: u32) -> bool
-    requires { block < block_count image.now }
-    ensures { IsTrue result ↔ HasTable image.now block }
-{
-    is_root(image, block)
-        || (is_sound_header(image, block) && image.long(block, SECONDARY_TYPE) == DIRECTORY_TYPE)
-}
-
-/// Whether a block is in the place of the root, with the types of one.
-fn is_root(image: &Image, block: u32) -> bool
-    requires { block < block_count image.now }
-    ensures { IsTrue result ↔ IsRoot image.now block }
-{
-    block == image.root()
-        && image.long(block, PRIMARY_TYPE) == HEADER_TYPE
-        && image.long(block, SECONDARY_TYPE) == ROOT_TYPE
 }

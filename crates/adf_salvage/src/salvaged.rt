@@ -32,8 +32,17 @@ pub struct Salvaged {
 #[derive(Clone, Copy, Debug, PartialEq, Eq)]
 pub enum State {
     Directory,
+    /// A directory whose header has a wrong checksum or too long a comment.
+    DoubtfulDirectory,
     Whole,
-    /// An entry that its directory or another entry names, without a sound header. Nothing is left of it.
+    /// A file of which no data block is missing, but which is not whole.
+    Doubtful {
+        /// Whether its header is sound. Then another of its blocks is not, or is named by another file too.
+        sound: bool,
+        /// The number of its bytes.
+        length: usize,
+    },
+    /// An entry that its directory or another entry names, without a header that can be told. Nothing is left of it.
     Lost,
     /// A file of which only the blocks are left that were given to it. `missing` is the number of its other data
     /// blocks.

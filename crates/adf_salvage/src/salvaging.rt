@@ -8,21 +8,22 @@ use crate::chains::add_reached;
 use crate::gathered::Gathered;
 use crate::giving::Giving;
 use crate::kind::with_kind;
+use crate::known::known_of;
 use crate::listing::volume_entries;
 use crate::lost::add_lost;
 use crate::saved::Salvage;
 use crate::unreached::add_unreached;
-use crate::whole::whole_files;
 use adf_block::Image;
 use ados_volume::{FaultKind, check};
 use std::alloc::{AllocError, Global};
 
-/// Everything in an image that can be trusted, each header once, a directory before its entries.
+/// Everything in an image that can be told, each header once, a directory before its entries.
 ///
-/// For an image that the check accepts, these are the entries of its tree. For any other, they are its sound headers, first
-/// those along hash chains from the root and then the others, and then its lost entries. If its first four bytes are neither OFS nor FFS, it
-/// is read as the kind that its blocks suggest. A block is given to one broken file at most, to the first in this order,
-/// and all broken files together have at most four times the bytes of the image.
+/// For an image that the check accepts, these are the entries of its tree. For any other, they are its sound and doubtful
+/// headers, first those along hash chains from the root and then the others, and then its lost entries. If its first four
+/// bytes are neither OFS nor FFS, it is read as the kind that its blocks suggest. A block is given to one file at most of
+/// those that are not whole, to the first in this order, and all of these together have at most four times the bytes of the
+/// image.
 ///
 /// The bytes of files are made when they are asked for.
 pub fn salvage(alloc: Global, image: Image) -> Result<Salvage, AllocError>
@@ -33,22 +34,22 @@ pub fn salvage(alloc: Global, image: Image) -> Result<Salvage, AllocError>
         Ok(volume) => volume_entries(alloc, volume),
         Err(rejected) => match rejected.fault.kind {
             FaultKind::NoMemory => Err(AllocError),
-            _ => sound_headers(alloc, with_kind(rejected.image)),
+            _ => told_headers(alloc, with_kind(rejected.image)),
         },
     }
 }
 
-/// The entries of all sound headers of an image, and its lost entries.
-fn sound_headers(alloc: Global, image: Image) -> Result<Salvage, AllocError>
+/// The entries of all sound and doubtful headers of an image, and its lost entries.
+fn told_headers(alloc: Global, image: Image) -> Result<Salvage, AllocError>
     ensures refused { IfOk result (λ saved. saved.accepted ≡ false) }
     ensures image { IfOk result (λ saved. saved.image ≡ image) }
     ensures saves { IfOk result SavesSound }
 {
-    let whole = whole_files(alloc, &image)?;
+    let known = known_of(alloc, &image)?;
     let mut gathered = Gathered::new(alloc, &image)?;
-    add_reached(alloc, &image, &whole, &mut gathered)?;
-    add_unreached(alloc, &image, &whole, &mut gathered)?;
-    add_lost(alloc, &image, &mut gathered)?;
+    add_reached(alloc, &image, &known, &mut gathered)?;
+    add_unreached(alloc, &image, &known, &mut gathered)?;
+    add_lost(alloc, &image, &known, &mut gathered)?;
     let Gathered {
         entries,
         giving,

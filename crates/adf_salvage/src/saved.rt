@@ -17,7 +17,8 @@ use std::marker::Model;
 
 /// What can be trusted in an image: its entries, and the bytes of their files when they are asked for.
 ///
-/// Contracts see whether the image was accepted, the image as it was read, the entries, and the blocks given to broken files.
+/// Contracts see whether the image was accepted, the image as it was read, the entries, and the blocks given to files
+/// that are not whole.
 #[derive(Drop)]
 pub struct Salvage {
     accepted: bool,
@@ -80,9 +81,9 @@ impl Salvage {
     {
         let entry = &self.entries[place];
         match entry.state {
-            State::Directory | State::Lost => 0,
+            State::Directory | State::DoubtfulDirectory | State::Lost => 0,
             State::Whole => self.image.long(entry.header, FILE_SIZE) as usize,
-            State::Broken { length, .. } => length,
+            State::Doubtful { length, .. } | State::Broken { length, .. } => length,
         }
     }
 
@@ -94,9 +95,9 @@ impl Salvage {
     {
         let entry = &self.entries[place];
         match entry.state {
-            State::Directory | State::Lost => Ok(Vec::new(alloc)),
+            State::Directory | State::DoubtfulDirectory | State::Lost => Ok(Vec::new(alloc)),
             State::Whole => whole_bytes(alloc, &self.image, entry.header),
-            State::Broken { length, .. } => {
+            State::Doubtful { length, .. } | State::Broken { length, .. } => {
                 pieced(alloc, &self.image, self.pieces.as_slice(), place, length)
             }
         }

@@ -1,19 +1,20 @@
 //! The state of a file.
-ghost use Rattle.std.specs.Prelude.{◌≡◌, ◌+◌, IfOk, OnOk};
+ghost use Rattle.std.specs.Prelude.{◌≡◌, ◌+◌, IfOk, OnOk, if◌then◌else◌};
 ghost use Rattle.adf_block.specs.Image.{block_count};
 ghost use Rattle.adf_salvage.specs.Salvaged.{HasState, broken_length};
-ghost use Rattle.adf_salvage.specs.Sound.{IsSoundHeader};
+ghost use Rattle.adf_salvage.specs.declared.salvaged.State.TheVariants.{Directory, DoubtfulDirectory};
+ghost use Rattle.adf_salvage.specs.Doubtful.{IsHeader};
 ghost use Rattle.adf_salvage.specs.steps.Claims.{AreWhole};
 ghost use Rattle.adf_salvage.specs.steps.Giving.{IsGiving};
 
 use crate::giving::Giving;
-use crate::header::is_file;
+use crate::header::{is_file, is_sound_header};
 use crate::salvaged::State;
 use adf_block::Image;
 use std::alloc::AllocError;
 
-/// Whether a sound header, whose entry has this position, is a directory, a whole file or a broken one. A broken file is
-/// given its blocks, and as many bytes as are left for it.
+/// The state of a header whose entry has this position. A file that is not whole is given its blocks, and as many bytes as
+/// are left for it. If no block is missing, and it has all these bytes, it is doubtful.
 pub(crate) fn state_of(
     image: &Image,
     whole: &[bool],
@@ -21,15 +22,16 @@ pub(crate) fn state_of(
     place: usize,
     giving: &mut Giving,
 ) -> Result<State, AllocError>
-    requires header { IsSoundHeader image.now block }
+    requires header { IsHeader image.now block }
     requires whole { AreWhole image.now (block_count image.now) whole.now }
     requires giving { IsGiving image.now giving.old }
     ensures state { IfOk result (HasState image.now block) }
     ensures giving { OnOk result (IsGiving image.now giving.new) }
     ensures left { IfOk result (λ state. broken_length state + giving.new.left ≡ giving.old.left) }
 {
+    let sound = is_sound_header(image, block);
     if !is_file(image, block) {
-        return Ok(State::Directory);
+        return Ok(directory(sound));
     }
     if whole[block as usize] {
         return Ok(State::Whole);
@@ -37,9 +39,24 @@ pub(crate) fn state_of(
     let remains = giving.give(image, block, place)?;
     let length = remains.end.min(giving.left);
     giving.left -= length;
+    let cut = length < remains.end;
+    if remains.missing == 0 && !cut {
+        return Ok(State::Doubtful { sound, length });
+    }
     Ok(State::Broken {
         missing: remains.missing,
-        cut: length < remains.end,
+        cut,
         length,
     })
+}
+
+/// The state of a directory, whose header is sound or doubtful.
+fn directory(sound: bool) -> State
+    ensures { result ≡ (if sound then Directory else DoubtfulDirectory) }
+{
+    if sound {
+        State::Directory
+    } else {
+        State::DoubtfulDirectory
+    }
 }

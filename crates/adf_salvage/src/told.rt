@@ -1,11 +1,11 @@
-//! The entry of a sound header.
+//! The entry of a header.
 ghost use Rattle.std.specs.Prelude.{◌≡◌, ◌<◌, ◌≤◌, length};
 ghost use Rattle.adf_block.specs.Image.{block_count, byte_at};
 ghost use Rattle.adf_block.specs.Whole.{text_at};
 ghost use Rattle.ados_model.specs.Stands.{date_at};
 ghost use Rattle.adf_salvage.specs.Salvaged.{HasState, IsSalvaged};
 ghost use Rattle.adf_salvage.specs.declared.salvaged.State.TheVariants.{Lost};
-ghost use Rattle.adf_salvage.specs.Sound.{IsSoundHeader};
+ghost use Rattle.adf_salvage.specs.Doubtful.{IsHeader};
 
 use crate::header::name_of;
 use crate::names::Standing;
@@ -14,7 +14,7 @@ use adf_block::Image;
 use adf_block::layout::{COMMENT_BYTE, DATE, PROTECTION};
 use ados_name::{Comment, Date3, Name, Protect};
 
-/// The entry of a sound header, with this state.
+/// The entry of a header, with this state.
 pub(crate) fn told_of(
     image: &Image,
     block: u32,
@@ -22,7 +22,7 @@ pub(crate) fn told_of(
     endings: u32,
     state: State,
 ) -> Salvaged
-    requires header { IsSoundHeader image.now block }
+    requires header { IsHeader image.now block }
     requires state { HasState image.now block state }
     ensures told { IsSalvaged image.now result }
     ensures header { result.header ≡ block }
@@ -56,12 +56,14 @@ fn date_of(image: &Image, block: u32) -> Date3
     }
 }
 
-/// The comment in a header.
+/// The comment in a header, or none if it is too long for one.
 fn comment_of(image: &Image, block: u32) -> Comment
     requires inside { block < block_count image.now }
-    requires short { byte_at image.now block COMMENT_BYTE ≤ 79 }
-    ensures { result ≡ text_at image.now block COMMENT_BYTE }
+    ensures { byte_at image.now block COMMENT_BYTE ≤ 79 → result ≡ text_at image.now block COMMENT_BYTE }
 {
+    if usize::from(image.byte(block, COMMENT_BYTE)) > Comment::MAX_LEN {
+        return as_comment(b"");
+    }
     as_comment(comment_text(image, block))
 }
 

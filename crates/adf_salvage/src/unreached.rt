@@ -1,33 +1,34 @@
-//! The sound headers that no hash chain leads to.
+//! The headers that no hash chain from the root leads to.
 ghost use Rattle.std.specs.Prelude.{◌≡◌, ℕ, length, IsSome, OnOk};
 ghost use Rattle.adf_block.specs.Image.{block_count};
-ghost use Rattle.adf_salvage.specs.Sound.{IsSoundHeader};
-ghost use Rattle.adf_salvage.specs.steps.Claims.{AreWhole};
-ghost use Rattle.adf_salvage.specs.steps.Gathering.{AreGathered, GathersMore, IsNew, place_at};
+ghost use Rattle.adf_salvage.specs.Doubtful.{IsHeader};
+ghost use Rattle.adf_salvage.specs.steps.Gathering.{AreAllHeaders, AreGathered, GathersMore, IsNew, place_at};
+ghost use Rattle.adf_salvage.specs.steps.Heading.{AreKnown};
 
 use crate::gathered::Gathered;
+use crate::known::Known;
 use crate::names::Standing;
 use adf_block::Image;
 use adf_block::layout::{DIRECTORY_TYPE, PARENT, SECONDARY_TYPE};
 use std::alloc::{AllocError, Global};
 
-/// Adds each sound header that was not found yet. A directory comes before the entries that name it as their parent.
+/// Adds each header that was not found yet. A directory comes before the entries that name it as their parent.
 pub(crate) fn add_unreached(
     alloc: Global,
     image: &Image,
-    whole: &[bool],
+    known: &Known,
     gathered: &mut Gathered,
 ) -> Result<(), AllocError>
     requires gathered { AreGathered image.now gathered.old }
-    requires whole { AreWhole image.now (block_count image.now) whole.now }
+    requires known { AreKnown image.now known.now }
     ensures gathered { OnOk result (AreGathered image.now gathered.new) }
-    ensures all { OnOk result ((block : ℕ) → IsSoundHeader image.now block → IsSome (place_at gathered.new.places.items block)) }
+    ensures all { OnOk result (AreAllHeaders image.now gathered.new.places.items) }
 {
-    take_asides(alloc, image, gathered)?;
+    take_asides(alloc, image, known, gathered)?;
     let mut climbed = vec![in alloc; false; image.blocks() as usize]?;
     for block in 0..image.blocks() {
-        if gathered.is_new(image, block) {
-            add_with_parents(alloc, image, whole, block, &mut climbed, gathered)?;
+        if gathered.is_new(image, known, block) {
+            add_with_parents(alloc, image, known, block, &mut climbed, gathered)?;
         }
     }
     Ok(())
@@ -35,12 +36,18 @@ pub(crate) fn add_unreached(
 
 /// Takes the names of the directories along the hash chains in which recovered entries are, before recovered entries get
 /// names.
-fn take_asides(alloc: Global, image: &Image, gathered: &mut Gathered) -> Result<(), AllocError>
+fn take_asides(
+    alloc: Global,
+    image: &Image,
+    known: &Known,
+    gathered: &mut Gathered,
+) -> Result<(), AllocError>
+    requires known { AreKnown image.now known.now }
     requires gathered { AreGathered image.now gathered.old }
     ensures gathered { OnOk result (AreGathered image.now gathered.new) }
 {
     for block in 0..image.blocks() {
-        if !gathered.is_new(image, block) {
+        if !gathered.is_new(image, known, block) {
             continue;
         }
         if let Some(dir) = gathered.directory(image.long(block, PARENT)) {
@@ -54,7 +61,7 @@ fn take_asides(alloc: Global, image: &Image, gathered: &mut Gathered) -> Result<
 fn add_with_parents(
     alloc: Global,
     image: &Image,
-    whole: &[bool],
+    known: &Known,
     block: u32,
     climbed: &mut Vec<bool>,
     gathered: &mut Gathered,
@@ -62,7 +69,7 @@ fn add_with_parents(
     requires met { IsNew image.now gathered.old.places.items block }
     requires climbed { length climbed.old.items ≡ block_count image.now }
     requires gathered { AreGathered image.now gathered.old }
-    requires whole { AreWhole image.now (block_count image.now) whole.now }
+    requires known { AreKnown image.now known.now }
     ensures climbed { length climbed.new.items ≡ block_count image.now }
     ensures more { OnOk result (GathersMore image.now gathered.old gathered.new) }
     ensures met { OnOk result (IsSome (place_at gathered.new.places.items block)) }
@@ -70,7 +77,7 @@ fn add_with_parents(
     let mut above = Vec::new(alloc);
     let mut key = image.long(block, PARENT);
     for _step in 0..image.blocks() {
-        if !gathered.is_new(image, key)
+        if !gathered.is_new(image, known, key)
             || climbed[key as usize]
             || image.long(key, SECONDARY_TYPE) != DIRECTORY_TYPE
         {
@@ -81,30 +88,30 @@ fn add_with_parents(
         key = image.long(key, PARENT);
     }
     while let Some(dir) = above.pop() {
-        add_found(alloc, image, whole, dir, gathered)?;
+        add_found(alloc, image, known, dir, gathered)?;
     }
-    add_found(alloc, image, whole, block, gathered)
+    add_found(alloc, image, known, block, gathered)
 }
 
 /// Adds a header that no hash chain leads to, unless it was found already.
 fn add_found(
     alloc: Global,
     image: &Image,
-    whole: &[bool],
+    known: &Known,
     block: u32,
     gathered: &mut Gathered,
 ) -> Result<(), AllocError>
     requires gathered { AreGathered image.now gathered.old }
-    requires whole { AreWhole image.now (block_count image.now) whole.now }
+    requires known { AreKnown image.now known.now }
     ensures more { OnOk result (GathersMore image.now gathered.old gathered.new) }
-    ensures met { OnOk result (IsSoundHeader image.now block → IsSome (place_at gathered.new.places.items block)) }
+    ensures met { OnOk result (IsHeader image.now block → IsSome (place_at gathered.new.places.items block)) }
 {
-    if !gathered.is_new(image, block) {
+    if !gathered.is_new(image, known, block) {
         return Ok(());
     }
     let standing = Standing {
         above: gathered.directory(image.long(block, PARENT)),
         found: true,
     };
-    gathered.add(alloc, image, whole, block, standing)
+    gathered.add(alloc, image, known, block, standing)
 }

@@ -2,7 +2,7 @@
 use Rattle.std.specs.Prelude.{ℕ, Bool, false, if◌then◌else◌, length, Option, Some, None}
 use Rattle.adf_salvage.specs.declared.salvaged.Salvaged.{Salvaged}
 use Rattle.adf_salvage.specs.declared.salvaged.State.{State}
-use Rattle.adf_salvage.specs.declared.salvaged.State.TheVariants.{Directory, Whole, Broken, Lost}
+use Rattle.adf_salvage.specs.declared.salvaged.State.TheVariants.{Directory, DoubtfulDirectory, Whole, Doubtful, Broken, Lost}
 use Rattle.c_values.specs.Dates.{told_date}
 use Rattle.c_values.specs.Telling.{cells_of}
 use Rattle.c_values.specs.declared.salvaged.JipSalvaged.{JipSalvaged}
@@ -18,6 +18,8 @@ told_state Directory = 1
 told_state Whole = 2
 told_state (Broken missing cut size) = 3
 told_state Lost = 4
+told_state (Doubtful sound size) = 5
+told_state DoubtfulDirectory = 6
 
 -- how many data blocks are missing, and whether the bytes end early
 abbrev pub told_missing : State → ℕ

@@ -15,7 +15,8 @@ pub struct JipSalvaged {
     pub directory: usize,
     /// The number of its bytes; 0 for a directory and a lost entry.
     pub size: usize,
-    /// 1 for a directory, 2 for a whole file, 3 for a broken one, 4 for a lost entry.
+    /// 1 for a directory, 2 for a whole file, 3 for a broken one, 4 for a lost entry, 5 for a doubtful file, 6 for a doubtful
+    /// directory.
     pub state: u32,
     /// The block number of its header.
     pub header: u32,
@@ -70,6 +71,8 @@ fn state_number(state: State) -> u32
         State::Whole => 2,
         State::Broken { .. } => 3,
         State::Lost => 4,
+        State::Doubtful { .. } => 5,
+        State::DoubtfulDirectory => 6,
     }
 }
 

@@ -1,9 +1,8 @@
 -- The entries of a damaged image while they are gathered.
-use Rattle.std.specs.Prelude.{◌≡◌, ℕ, ◌+◌, ◌*◌, ◌<◌, ◌≤◌, List, length, All, Contains, slice_index, slice_index_or, Option, Some, None, IsSome}
+use Rattle.std.specs.Prelude.{◌≡◌, ℕ, ◌+◌, ◌*◌, ◌<◌, ◌≤◌, ◌⊎◌, List, length, All, Contains, slice_index, slice_index_or, Option, Some, None, IsSome}
 use Rattle.adf_block.specs.Image.{block_count, long, IsInside}
 use Rattle.adf_salvage.specs.declared.gathered.Gathered.{Gathered}
-use Rattle.adf_salvage.specs.Sound.{IsSoundHeader}
-use Rattle.adf_salvage.specs.Lost.{IsAcceptedPlace}
+use Rattle.adf_salvage.specs.Doubtful.{IsHeader, IsNext, IsSlot, NamesEntries}
 use Rattle.adf_salvage.specs.Salvaged.{IsTold, broken_total, headers_of}
 use Rattle.adf_salvage.specs.steps.Giving.{IsGiving}
 
@@ -11,9 +10,9 @@ use Rattle.adf_salvage.specs.steps.Giving.{IsGiving}
 abbrev pub place_at : List (Option ℕ) → ℕ → Option ℕ
 place_at places block = slice_index_or places block None
 
--- all sound headers were found
-abbrev pub AreAllSound : List ℕ → List (Option ℕ) → Type 0
-AreAllSound image places = (block : ℕ) → IsSoundHeader image block → IsSome (place_at places block)
+-- all headers were found
+abbrev pub AreAllHeaders : List ℕ → List (Option ℕ) → Type 0
+AreAllHeaders image places = (block : ℕ) → IsHeader image block → IsSome (place_at places block)
 
 -- if the long names a block, the block was found
 abbrev pub IsFollowed : List ℕ → List (Option ℕ) → ℕ → ℕ → Type 0
@@ -21,11 +20,11 @@ IsFollowed image places block at = IsInside (block_count image) (long image bloc
 
 -- each block that this one names as an entry was found
 abbrev pub AreFollowed : List ℕ → List (Option ℕ) → ℕ → Type 0
-AreFollowed image places block = (at : ℕ) → IsAcceptedPlace image block at → IsFollowed image places block at
+AreFollowed image places block = NamesEntries image block → (at : ℕ) → IsSlot image block at ⊎ IsNext image block at → IsFollowed image places block at
 
--- a sound header that was not found before
+-- a header that was not found before
 abbrev pub IsNew : List ℕ → List (Option ℕ) → ℕ → Type 0
-IsNew image places block = IsSoundHeader image block × (place_at places block ≡ None)
+IsNew image places block = IsHeader image block × (place_at places block ≡ None)
 
 -- the entries found so far; the index of each header is right, and the blocks given and the bytes left fit the broken files
 pub record AreGathered (image : List ℕ) (gathered : Gathered) : Type 0 where

@@ -1,10 +1,10 @@
 use Rattle.std.proofs.Common.{ℕ, ◌+◌, ◌<◌}
-use Rattle.adf_salvage.specs.steps.Gathering.{AreAllSound, GathersMore, IsFollowed}
+use Rattle.adf_salvage.specs.steps.Gathering.{AreAllHeaders, GathersMore, IsFollowed}
 use Rattle.adf_salvage.proofs.lost.follow_slots.Given as goal
 
 abbrev pub invariant-loop-slot : goal.invariant-loop-slot
 invariant-loop-slot l = record {
   more : GathersMore l.image l.initial.gathered l.gathered;
-  sound : AreAllSound l.image l.gathered.places.items;
+  headers : AreAllHeaders l.image l.gathered.places.items;
   followed : (slot : ℕ) → slot < l.slot → IsFollowed l.image l.gathered.places.items l.block (6 + slot);
 }

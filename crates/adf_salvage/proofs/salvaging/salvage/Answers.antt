@@ -24,18 +24,18 @@ returns-in-Ok-clause-tree c =
 
 pub returns-in_default-clause-salvages : goal.returns-in_default-clause-salvages
 returns-in_default-clause-salvages c =
-    all_ok c.sound_headers.result (λ saved. saved.accepted ≡ false) (λ saved. saved.image ≡ c.with_kind.result) SavesSound (Salvages c.args.image)
+    all_ok c.told_headers.result (λ saved. saved.accepted ≡ false) (λ saved. saved.image ≡ c.with_kind.result) SavesSound (Salvages c.args.image)
     (λ saved refused same sound. inr (record {
       refused = refused;
       read = subst (IsReadAs c.args.image) (sym same) (subst (λ (xs : List ℕ). IsReadAs xs c.with_kind.result) c.in-Err.ensures.0 c.with_kind.ensures);
       saves = sound;
     }))
-    c.sound_headers.ensures.refused c.sound_headers.ensures.image c.sound_headers.ensures.saves
+    c.told_headers.ensures.refused c.told_headers.ensures.image c.told_headers.ensures.saves
 
 pub returns-in_default-clause-tree : goal.returns-in_default-clause-tree
 returns-in_default-clause-tree c =
-    if_ok c.sound_headers.result SavesSound (λ saved. (t : Tree) → Stands c.args.image t → AreOfTree t saved)
+    if_ok c.told_headers.result SavesSound (λ saved. (t : Tree) → Stands c.args.image t → AreOfTree t saved)
     (λ saved sound t s. elim c.in-Err.ensures.1 [
       | inl shown ↦ absurd (faults_have_no_tree c.args.image t c.in-Err.rejected.fault.kind c.in-Err.rejected.fault.block shown s)
       | inr memory ↦ absurd (c.in_default.not-NoMemory memory.0)
-    ]) c.sound_headers.ensures.saves
+    ]) c.told_headers.ensures.saves

@@ -1,6 +1,6 @@
 use Rattle.std.proofs.Common.{◌≡◌, ℕ, ◌<◌, length, IsSome}
 use Rattle.adf_block.specs.Image.{block_count}
-use Rattle.adf_salvage.specs.Sound.{IsSoundHeader}
+use Rattle.adf_salvage.specs.Doubtful.{IsHeader}
 use Rattle.adf_salvage.specs.steps.Gathering.{AreGathered, place_at}
 use Rattle.adf_salvage.proofs.unreached.add_unreached.Given as goal
 
@@ -8,5 +8,5 @@ abbrev pub invariant-loop-block : goal.invariant-loop-block
 invariant-loop-block l = record {
   gathered : AreGathered l.image l.gathered;
   climbed : length l.climbed.items ≡ block_count l.image;
-  all : (b : ℕ) → b < l.block → IsSoundHeader l.image b → IsSome (place_at l.gathered.places.items b);
+  all : (b : ℕ) → b < l.block → IsHeader l.image b → IsSome (place_at l.gathered.places.items b);
 }

@@ -1,4 +1,4 @@
-use Rattle.std.proofs.Common.{inr, ◌∙◌, ◌+◌, refl, arith}
+use Rattle.std.proofs.Common.{inr, ◌∙◌, refl}
 use Rattle.adf_salvage.proofs.Growing.{gathers_more, lost_takes_none, lost_told}
 use Rattle.adf_salvage.proofs.gathered.Gathered.add_lost.Goals as goal
 

@@ -1,0 +1,7 @@
+use Rattle.std.proofs.Common.{arith}
+use Rattle.adf_salvage.proofs.Naming.{header_inside}
+use Rattle.adf_salvage.proofs.unreached.add_unreached.Goals as goal
+
+pub returns-clause-all : goal.returns-clause-all
+returns-clause-all c = λ block header.
+    c.loop-block.invariant.all block (omega (arith, header_inside c.args.image.now block header, c.loop-block-test.false, c.blocks-block-end.ensures.count)) header

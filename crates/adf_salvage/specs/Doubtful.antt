@@ -1,0 +1,71 @@
+-- Headers that are damaged, but can still be told as the entries that a damaged image names.
+use Rattle.std.specs.Prelude.{◌≡◌, ℕ, ◌+◌, ◌<◌, ◌⊎◌, List}
+use Rattle.adf_block.specs.Image.{block_count, long, root_key, IsInside}
+use Rattle.adf_block.specs.Fields.{own_key, parent_key, primary_type, secondary_type}
+use Rattle.adf_block.specs.declared.layout.TheConstants.{FIRST_SLOT, HEADER_TYPE, NAME_BYTE, NEXT_IN_CHAIN, ROOT_TYPE, TABLE_LONGS}
+use Rattle.adf_block.specs.Whole.{text_at}
+use Rattle.ados_name.specs.Name.{IsName}
+use Rattle.ados_check.specs.Marks.{HasEntryType}
+use Rattle.ados_model.specs.Faults.{HasDirectoryType}
+use Rattle.adf_salvage.specs.Sound.{IsSoundHeader}
+
+-- the block is in the place of the root, with the types of one
+pub record IsRoot (image : List ℕ) (block : ℕ) : Type 0 where
+  pub place : block ≡ root_key (block_count image)
+  pub primary : primary_type image block ≡ HEADER_TYPE
+  pub secondary : secondary_type image block ≡ ROOT_TYPE
+
+-- the block has the types of the header of a directory or file, its own number and a valid name, whatever else it has
+pub record LooksLikeHeader (image : List ℕ) (block : ℕ) : Type 0 where
+  pub inside : IsInside (block_count image) block
+  pub primary : primary_type image block ≡ HEADER_TYPE
+  pub secondary : HasEntryType image block
+  pub key_field : own_key image block ≡ block
+  pub name : IsName (text_at image block NAME_BYTE)
+
+-- the block has a hash table by its type, that of the root or of a directory
+abbrev pub HasTable : List ℕ → ℕ → Type 0
+HasTable image block = (secondary_type image block ≡ ROOT_TYPE) ⊎ HasDirectoryType image block
+
+-- the long is a slot of a hash table
+abbrev pub IsSlot : List ℕ → ℕ → ℕ → Type 0
+IsSlot image block at = HasTable image block × ((slot : ℕ) × (slot < TABLE_LONGS) × (at ≡ FIRST_SLOT + slot))
+
+-- the long is the one of an entry that names the next entry in its hash chain
+abbrev pub IsNext : List ℕ → ℕ → ℕ → Type 0
+IsNext image block at = HasEntryType image block × (at ≡ NEXT_IN_CHAIN)
+
+-- the long is a place for entries of the directory: a slot of the directory itself, or the next-entry long of an entry that has
+-- it as its parent
+abbrev pub IsPlaceIn : List ℕ → ℕ → ℕ → ℕ → Type 0
+IsPlaceIn image dir block at = ((block ≡ dir) × IsSlot image block at) ⊎ ((parent_key image block ≡ dir) × IsNext image block at)
+
+-- the blocks whose places are accepted: the root, each sound header, and each block that an accepted place of its parent names
+-- and that looks like a header
+pub data NamesEntries (image : List ℕ) : ℕ → Type 0 where
+  of_root : {block : ℕ} → IsRoot image block → NamesEntries image block
+  of_sound : {block : ℕ} → IsSoundHeader image block → NamesEntries image block
+  of_named : {block holder at : ℕ} → NamesEntries image holder → IsPlaceIn image (parent_key image block) holder at → long image holder at ≡ block
+      → LooksLikeHeader image block → NamesEntries image block
+
+-- an accepted place for entries of the directory names the block
+pub record IsNamedIn (image : List ℕ) (dir block : ℕ) : Type 0 where
+  pub holder : ℕ
+  pub at : ℕ
+  pub accepted : NamesEntries image holder
+  pub place : IsPlaceIn image dir holder at
+  pub named : long image holder at ≡ block
+
+-- a block that looks like a header, and that an accepted place for entries of its parent names
+pub record IsNamedHeader (image : List ℕ) (block : ℕ) : Type 0 where
+  pub looks : LooksLikeHeader image block
+  pub named : IsNamedIn image (parent_key image block) block
+
+-- a doubtful header: such a block that is no sound header
+pub record IsDoubtfulHeader (image : List ℕ) (block : ℕ) : Type 0 where
+  pub header : IsNamedHeader image block
+  pub unsound : ¬ IsSoundHeader image block
+
+-- a header that can be told: a sound one, or one that its parent names, so each is sound or doubtful
+abbrev pub IsHeader : List ℕ → ℕ → Type 0
+IsHeader image block = IsSoundHeader image block ⊎ IsNamedHeader image block

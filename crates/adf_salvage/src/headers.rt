@@ -1,0 +1,157 @@
+//! The headers of an image: all sound ones, and the doubtful ones that the root or another header names.
+ghost use Rattle.std.specs.Prelude.{◌≡◌, ◌<◌, ◌↔◌, ℕ, List, length, IfOk, IsTrue, OnOk};
+ghost use Rattle.adf_block.specs.Image.{block_count};
+ghost use Rattle.adf_block.specs.Fields.{parent_key};
+ghost use Rattle.adf_salvage.specs.Doubtful.{IsHeader, IsNext, IsPlaceIn, IsRoot, IsSlot, LooksLikeHeader, NamesEntries};
+ghost use Rattle.adf_salvage.specs.Sound.{IsSoundHeader};
+ghost use Rattle.adf_salvage.specs.steps.Heading.{AreFound, AreHeaders, AreSought, FindsMore, IsFound, IsSought};
+
+use crate::header::{has_table, is_entry, is_root, is_sound_header, looks_like_header};
+use adf_block::Image;
+use adf_block::layout::{FIRST_SLOT, NEXT_IN_CHAIN, PARENT, TABLE_LONGS};
+use std::alloc::{AllocError, Global};
+
+/// The headers found so far.
+#[derive(Drop)]
+pub(crate) struct Found {
+    /// For each block, whether it is one.
+    marks: Vec<bool>,
+    /// Each of them once.
+    blocks: Vec<u32>,
+}
+
+/// For each block of an image, whether it is a sound or a doubtful header.
+pub(crate) fn headers(alloc: Global, image: &Image) -> Result<Vec<bool>, AllocError>
+    ensures { IfOk result (λ headers. AreHeaders image.now headers.items) }
+{
+    let mut found = first_headers(alloc, image)?;
+    let mut place = 0;
+    while place < found.blocks.len() {
+        let block = found.blocks[place];
+        found.follow(image, block)?;
+        place += 1;
+    }
+    Ok(found.marks)
+}
+
+/// All sound headers of an image, and those that its root names.
+fn first_headers(alloc: Global, image: &Image) -> Result<Found, AllocError>
+    ensures found { IfOk result (AreFound image.now) }
+    ensures sound { IfOk result (λ found. (block : ℕ) → IsSoundHeader image.now block → IsFound found.marks.items block) }
+    ensures root { IfOk result (λ found. (block : ℕ) → IsRoot image.now block → AreSought image.now found.marks.items block) }
+{
+    let mut found = all_sound(alloc, image)?;
+    prove!(image.blocks() >= 16);
+    let root = image.root();
+    if !is_root(image, root) {
+        return Ok(found);
+    }
+    found.follow(image, root)?;
+    Ok(found)
+}
+
+/// All sound headers of an image.
+fn all_sound(alloc: Global, image: &Image) -> Result<Found, AllocError>
+    ensures found { IfOk result (AreFound image.now) }
+    ensures all { IfOk result (λ found. (block : ℕ) → IsSoundHeader image.now block → IsFound found.marks.items block) }
+{
+    let mut found = no_headers(alloc, image)?;
+    for block in 0..image.blocks() {
+        if is_sound_header(image, block) {
+            found.note(block)?;
+        }
+    }
+    Ok(found)
+}
+
+/// No headers.
+fn no_headers(alloc: Global, image: &Image) -> Result<Found, AllocError>
+    ensures { IfOk result (AreFound image.now) }
+{
+    let count = image.blocks() as usize;
+    Ok(Found {
+        marks: vec![in alloc; false; count]?,
+        blocks: Vec::with_capacity(alloc, count)?,
+    })
+}
+
+impl Found {
+    /// Notes a header, unless it was found before.
+    fn note(&mut self, block: u32) -> Result<(), AllocError>
+        requires inside { block < length self.old.marks.items }
+        ensures more { OnOk result ((image : List ℕ) → IsHeader image block → AreFound image self.old → FindsMore image self.old self.new) }
+        ensures found { OnOk result (IsFound self.new.marks.items block) }
+    {
+        if self.marks[block as usize] {
+            return Ok(());
+        }
+        self.marks[block as usize] = true;
+        self.blocks.push(block)?;
+        Ok(())
+    }
+
+    /// Notes the doubtful headers that a block names as entries.
+    fn follow(&mut self, image: &Image, block: u32) -> Result<(), AllocError>
+        requires inside { block < block_count image.now }
+        requires accepted { NamesEntries image.now block }
+        requires found { AreFound image.now self.old }
+        ensures more { OnOk result (FindsMore image.now self.old self.new) }
+        ensures sought { OnOk result (AreSought image.now self.new.marks.items block) }
+    {
+        self.follow_slots(image, block)?;
+        self.follow_next(image, block)
+    }
+
+    /// Notes those that the slots of a block name, if it has a hash table.
+    fn follow_slots(&mut self, image: &Image, block: u32) -> Result<(), AllocError>
+        requires inside { block < block_count image.now }
+        requires accepted { NamesEntries image.now block }
+        requires found { AreFound image.now self.old }
+        ensures more { OnOk result (FindsMore image.now self.old self.new) }
+        ensures sought { OnOk result ((at : ℕ) → IsSlot image.now block at → IsSought image.now self.new.marks.items block block at) }
+    {
+        if !has_table(image, block) {
+            return Ok(());
+        }
+        for slot in 0..TABLE_LONGS {
+            self.follow_long(image, block, FIRST_SLOT + slot, block)?;
+        }
+        Ok(())
+    }
+
+    /// Notes the one that follows a block in its hash chain.
+    fn follow_next(&mut self, image: &Image, block: u32) -> Result<(), AllocError>
+        requires inside { block < block_count image.now }
+        requires accepted { NamesEntries image.now block }
+        requires found { AreFound image.now self.old }
+        ensures more { OnOk result (FindsMore image.now self.old self.new) }
+        ensures sought { OnOk result ((at : ℕ) → IsNext image.now block at → IsSought image.now self.new.marks.items (parent_key image.now block) block at) }
+    {
+        if !is_entry(image, block) {
+            return Ok(());
+        }
+        self.follow_long(image, block, NEXT_IN_CHAIN, image.long(block, PARENT))
+    }
+
+    /// Notes the block that a place of a directory names, if it looks like a header of that directory.
+    fn follow_long(
+        &mut self,
+        image: &Image,
+        block: u32,
+        at: u32,
+        dir: u32,
+    ) -> Result<(), AllocError>
+        requires inside { (block < block_count image.now) × (at < 128) }
+        requires accepted { NamesEntries image.now block }
+        requires place { IsPlaceIn image.now dir block at }
+        requires found { AreFound image.now self.old }
+        ensures more { OnOk result (FindsMore image.now self.old self.new) }
+        ensures sought { OnOk result (IsSought image.now self.new.marks.items dir block at) }
+    {
+        let named = image.long(block, at);
+        if !looks_like_header(image, named) || image.long(named, PARENT) != dir {
+            return Ok(());
+        }
+        self.note(named)
+    }
+}
