@@ -26,7 +26,7 @@ put_bytes-requires-clause-inside c =
 
 -- only the entry's own block is written again
 written_back : (c : goal.After-put_bytes) → OnlyBlock c.args.key c.remove_empty.new.image c.put_bytes.new.self
-written_back c = same_weaken (Within c.args.key 0 (0 + length c.copy_from_slice.new.self)) (InBlock c.args.key) c.remove_empty.new.image c.put_bytes.new.self (λ b i w. w.0) c.put_bytes.ensures.rest
+written_back c = same_weaken _ (InBlock c.args.key) c.remove_empty.new.image c.put_bytes.new.self (λ b i w. w.0) c.put_bytes.ensures.rest
 
 pub returns-clause-dead : goal.returns-clause-dead
 returns-clause-dead c = λ i l.
