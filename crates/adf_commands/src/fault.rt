@@ -51,7 +51,7 @@ pub enum CommandFault<'a> {
     #[error("'{0}' has more than 1,024 bytes, the most of a boot block")]
     LongBoot(&'a str),
     /// The image has so many blocks, and the argument names none of them.
-    #[error("'{0}' has no block {1}: it has {} blocks, from 0 on", Grouped(u64::from(*.2)))]
+    #[error("'{}' has no block {}: it has {} blocks, from 0 on", .0, .1, Grouped(u64::from(*.2)))]
     NoBlock(&'a str, String, u32),
     #[error("{0}")]
     Refused(Refusal),
