@@ -112,10 +112,15 @@ tells_no_image IsText BeginsText w fault (Ok x) is same = absurd same
 tells_no_image IsText BeginsText w fault (Err told) is same = no_image BeginsText w told (subst IsNoImage (sym same) is)
 
 -- a blank image that is not made is not a refused one
-pub blank_no_refusal : (s : Bool) (blocks : ℕ) (word : List ℕ) (fault : CommandFault) → IsBlankFault s blocks word fault → IsNoRefusal fault
-blank_no_refusal s blocks word (Refused refusal) e = absurd (cc e)
-blank_no_refusal s blocks word (Dos refusal) e = absurd (cc e)
-blank_no_refusal s blocks word fault e = refl
+blank_plain : (s : Bool) (blocks : ℕ) (word : List ℕ) (fault : CommandFault) → IsBlankFault s blocks word fault → IsNoRefusal fault
+blank_plain s blocks word (Refused refusal) e = absurd (cc e)
+blank_plain s blocks word (Dos refusal) e = absurd (cc e)
+blank_plain s blocks word fault e = refl
+
+pub blank_no_refusal : (s : Bool) (blocks : ℕ) (word : List ℕ) (fault : CommandFault) (done : Ending) → IsBlankFault s blocks word fault
+    → IsErrAnd done (λ told. told ≡ fault) → IfErr done IsNoRefusal
+blank_no_refusal s blocks word fault (Ok x) e same = tt
+blank_no_refusal s blocks word fault (Err told) e same = subst IsNoRefusal (sym same) (blank_plain s blocks word fault e)
 
 accepted_tree : (image : List ℕ) (was_validated : Bool) (checked : List ℕ) → Accepts image was_validated checked → (t : Tree) × Stands checked t
 accepted_tree image false checked a = (a.3.0, a.3.1)
@@ -192,11 +197,6 @@ pub job_silent : (job : ImageJob) (w : Option (List ℕ)) (done : Ending) → Pr
 job_silent (Blank format blocks moment name as_letters file) w (Ok x) silent plain = ([], ([], Appends-nil w, refl))
 job_silent (Blank format blocks moment name as_letters file) w (Err fault) silent plain = ([], leaves_nothing (λ text. text ≡ []) [] w fault plain)
 job_silent job w done silent plain = absurd silent
-
-pub job_silent_fault : (job : ImageJob) (w : Option (List ℕ)) (fault : CommandFault) (done : Ending) → PrintsNothing job → IsNoRefusal fault
-    → IsErrAnd done (λ told. told ≡ fault) → DoesJob job w w done
-job_silent_fault job w fault (Ok x) silent plain same = absurd same
-job_silent_fault job w fault (Err told) silent plain same = job_silent job w (Err told) silent (subst IsNoRefusal (sym same) plain)
 
 -- an option without a value, and one with a value
 pub none_told : {A : Type 0} (f : A → List ℕ) (o : Option A) (told : Option (List ℕ)) → option_map f o ≡ told → o ≡ None → told ≡ None

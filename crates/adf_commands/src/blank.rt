@@ -4,6 +4,7 @@ ghost use Rattle.ados_name.specs.Name.{IsName};
 ghost use Rattle.ados_model.specs.Blank.{IsBlank};
 ghost use Rattle.adf_commands.specs.Faults.{IsBlankFault, IsNamed, IsNameFault, IsNoRefusal};
 
+use crate::changing::given_or_now;
 use crate::fault::CommandFault;
 use crate::images::{hold_out, write_image};
 use adf_block::{Format, size_ok};
@@ -14,8 +15,33 @@ use std::alloc::Global;
 use std::fs::File;
 use std::rt::{Clock, Files};
 
-/// A blank volume. `blank` writes its image to a file.
-pub(crate) fn blank_volume<'a>(
+/// A volume to make.
+#[derive(Clone, Copy)]
+pub(crate) struct NewVolume<'a> {
+    pub(crate) format: Format,
+    pub(crate) blocks: u32,
+    pub(crate) moment: Option<Date3>,
+    pub(crate) name: &'a str,
+    /// Whether the letters of the name are its bytes.
+    pub(crate) letters: bool,
+}
+
+/// Writes the image of a blank volume to a file.
+pub(crate) fn make_blank<'a, R: Files<File = File> + Clock>(
+    rt: &R,
+    alloc: Global,
+    new: NewVolume<'a>,
+    file: &'a str,
+) -> Result<(), CommandFault<'a>>
+    ensures { IfErr result IsNoRefusal }
+{
+    let moment = given_or_now(rt, new.moment)?;
+    let volume = blank_volume(alloc, new.format, new.blocks, new.name, new.letters, moment)?;
+    write_new(rt, alloc, &volume, file)
+}
+
+/// A blank volume.
+fn blank_volume<'a>(
     alloc: Global,
     format: Format,
     blocks: u32,
@@ -62,7 +88,7 @@ fn named<'a>(bytes: &[u8], word: &'a str) -> Result<Name, CommandFault<'a>>
 }
 
 /// Writes the image of a new volume in place of a file. An existing file is locked meanwhile.
-pub(crate) fn write_new<'a, R: Files<File = File> + Clock>(
+fn write_new<'a, R: Files<File = File> + Clock>(
     rt: &R,
     alloc: Global,
     volume: &Volume,

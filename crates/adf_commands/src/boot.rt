@@ -104,8 +104,8 @@ pub(crate) fn save_boot<'a, R: Files<File = File>>(
     image: &'a str,
     file: &'a str,
 ) -> Result<(), CommandFault<'a>> {
-    let volume = open_volume(rt, alloc, image)?;
-    let Err(why) = write_new(rt, file, boot_bytes(volume.image())) else {
+    let image = open_volume(rt, alloc, image)?.into_image();
+    let Err(why) = write_new(rt, file, boot_bytes(&image)) else {
         return Ok(());
     };
     Err(CommandFault::Extracted(WriteFault {

@@ -10,7 +10,6 @@ use adf_import::{InFault, SourceFault, StandardInput, change_volume};
 use adf_text::print_line;
 use adf_words::{Change, ChangeJob, Source};
 use ados_name::Date3;
-use ados_volume::Volume;
 use host_trees::{PassedOver, moment_of};
 use std::alloc::Global;
 use std::fs::File;
@@ -32,18 +31,18 @@ where
         return Err(CommandFault::Added(InFault::Source(SourceFault::Input)));
     }
     let (work, image) = Work::begin(rt, alloc, job.target)?;
-    let volume = changed(rt, alloc, image, job, faults)?;
-    work.end(rt, alloc, volume.image())
+    let new = changed(rt, alloc, image, job, faults)?;
+    work.end(rt, alloc, &new)
 }
 
-/// The changed volume of an image. It prints what was skipped on `faults`.
+/// The image after a change of its volume. It prints what was skipped on `faults`.
 fn changed<'a, R, F>(
     rt: &R,
     alloc: Global,
     image: Image,
     job: &ChangeJob<'a>,
     faults: &mut F,
-) -> Result<Volume, CommandFault<'a>>
+) -> Result<Image, CommandFault<'a>>
 where
     R: Files<File = File> + Clock + StandardInput,
     F: Write,
@@ -53,7 +52,7 @@ where
     match change_volume(rt, alloc, &mut volume, &job.change, moment) {
         Ok(passed_over) => {
             tell_passed_over(&passed_over, faults);
-            Ok(volume)
+            Ok(volume.into_image())
         }
         Err(fault) => Err(explained(alloc, &mut volume, &job.change, fault)),
     }

@@ -2,10 +2,10 @@
 ghost use Rattle.adf_commands.specs.Commands.{DoesJob, TellsJob};
 
 use crate::archive::check_images;
-use crate::blank::{blank_volume, write_new};
+use crate::blank::{NewVolume, make_blank};
 use crate::boot::{change_boot, save_boot};
 use crate::bundle::{put_bundle, take_bundle};
-use crate::changing::{change, given_or_now};
+use crate::changing::change;
 use crate::fault::CommandFault;
 use crate::look::Look;
 use crate::moving::take_out;
@@ -110,9 +110,8 @@ where
 {
     match job {
         ImageJob::Blank { format, blocks, moment, name, letters, file } => {
-            let moment = given_or_now(rt, *moment)?;
-            let volume = blank_volume(alloc, *format, *blocks, *name, *letters, moment)?;
-            write_new(rt, alloc, &volume, *file)
+            let new = NewVolume { format: *format, blocks: *blocks, moment: *moment, name: *name, letters: *letters };
+            make_blank(rt, alloc, new, *file)
         }
         ImageJob::Info { file } => print_query(rt, alloc, *file, Query::Disk, screen.styled, writer),
         ImageJob::Show { image, json } => {

@@ -1,5 +1,5 @@
 //! The command `extract --damaged`.
-ghost use Rattle.std.specs.Prelude.{IfErr, IfOk};
+ghost use Rattle.std.specs.Prelude.{ℕ, List, IfErr, IfOk};
 ghost use Rattle.adf_export.specs.Rescue.{IsRescue};
 ghost use Rattle.adf_commands.specs.Rescues.{DoesRescue, IsRescueEnd};
 
@@ -14,8 +14,7 @@ use std::fs::File;
 use std::io::Write;
 use std::rt::Files;
 
-/// Writes what can be told of an image file to files and directories of the host, and reports on it. It prints on `faults`
-/// why entries are doubtful, and which files are cut short.
+/// Writes what can be told of an image file to files and directories of the host, and reports on it.
 pub(crate) fn take_rescue<'a, R, W, F>(
     rt: &R,
     alloc: Global,
@@ -31,7 +30,20 @@ where
 {
     let image = read_image(rt, alloc, job.image)?;
     let rescue = rescue_of(rt, alloc, image, job)?;
-    tell_doubts(alloc, &rescue, faults);
+    tell_rescue(alloc, &rescue, writer, faults)
+}
+
+/// Reports on a rescue, and prints on `faults` why entries are doubtful, and which files
+/// are cut short.
+fn tell_rescue<'a, W: Write, F: Write>(
+    alloc: Global,
+    rescue: &Rescue,
+    writer: &mut W,
+    faults: &mut F,
+) -> Result<(), CommandFault<'a>>
+    ensures { (image : List ℕ) → IsRescue image rescue.now → DoesRescue (W.contents writer.old) (W.contents writer.new) result }
+{
+    tell_doubts(alloc, rescue, faults);
     match rescue.tell(alloc, writer) {
         Ok(true) => Ok(()),
         Ok(false) => Err(CommandFault::NotWhole),

@@ -10,7 +10,7 @@ use adf_host::{HeldFile, HoldFault, hold_target, why_unreadable};
 use adf_io::{read_bounded, write_output};
 use adf_script::{LONGEST_SCRIPT, read_script};
 use adf_words::ServeJob;
-use ados_run::{ClientEnding, OpenGate, VolumeServed, serve_volume};
+use ados_run::{ClientEnding, OpenGate, serve_volume};
 use std::alloc::Global;
 use std::fs::{self, File, OpenFile};
 use std::io::Write;
@@ -20,6 +20,20 @@ use std::thread::Threads;
 
 /// The output of a client, and how it ended.
 type ClientText = (Vec<u8>, ClientEnding);
+
+/// The scripts of the clients, none of which a gate holds back, and copies of their bytes, in order.
+#[derive(Drop)]
+struct Scripts {
+    scripts: Vec<(Vec<u8>, OpenGate)>,
+    copies: Vec<Vec<u8>>,
+}
+
+/// The image after all packets, and the output of each client and how it ended, in order.
+#[derive(Drop)]
+struct Served {
+    image: Image,
+    texts: Vec<ClientText>,
+}
 
 /// The file to write, and the lock on it, if it exists, or why it is not locked.
 type OutFile<'a> = (&'a str, Result<Option<HeldFile>, HoldFault>);
@@ -55,19 +69,21 @@ fn serve_files<'a, R, F>(
     alloc: Global,
     job: &ServeJob<'a>,
     faults: &mut F,
-) -> Result<VolumeServed, CommandFault<'a>>
+) -> Result<Served, CommandFault<'a>>
 where
     R: Files<File = File> + Clock + Threads + Wait + Copy + Send + Drop + 'static,
     F: Write,
 {
     let moment = given_or_now(rt, job.moment)?;
     let volume = open_volume(rt, alloc, job.image)?;
-    let scripts = read_scripts(rt, alloc, job.scripts.as_slice())?;
-    let copies = copies_of(alloc, scripts.as_slice())?;
+    let Scripts { scripts, copies } = read_scripts(rt, alloc, job.scripts.as_slice())?;
     match serve_volume(rt, alloc, volume, scripts, moment, job.turns) {
         Ok(served) => {
             tell_faulty(alloc, job, &copies, &served.texts, faults);
-            Ok(served)
+            Ok(Served {
+                image: served.handler.into_volume().into_image(),
+                texts: served.texts,
+            })
         }
         Err(fault) => Err(CommandFault::from(fault)),
     }
@@ -124,12 +140,12 @@ fn tell_faulty_script<F: Write>(
 fn finish<'a, R: Files<File = File>, W: Write>(
     rt: &R,
     alloc: Global,
-    served: &VolumeServed,
+    served: &Served,
     out: Option<OutFile<'a>>,
     writer: &mut W,
 ) -> Result<(), CommandFault<'a>> {
     let is_told = tell_all(&served.texts, writer);
-    write_out(rt, alloc, served.handler.volume().image(), out)?;
+    write_out(rt, alloc, &served.image, out)?;
     if !is_told {
         return Err(CommandFault::Output);
     }
@@ -152,20 +168,21 @@ fn write_out<'a, R: Files<File = File>>(
     }
 }
 
-/// The scripts in these files, in order. No gate holds back their packets.
+/// The scripts in these files, in order.
 fn read_scripts<'a, R: Files>(
     rt: &R,
     alloc: Global,
     files: &[&'a str],
-) -> Result<Vec<(Vec<u8>, OpenGate)>, CommandFault<'a>>
-    ensures { IfOk result (λ scripts. length scripts.items ≡ length files.now) }
+) -> Result<Scripts, CommandFault<'a>>
+    ensures { IfOk result (λ read. length read.scripts.items ≡ length files.now) }
 {
     let mut scripts = Vec::new(alloc);
     for file in files {
         scripts.reserve(1)?;
         scripts.push_reserved((script_of(rt, alloc, *file)?, OpenGate));
     }
-    Ok(scripts)
+    let copies = copies_of(alloc, scripts.as_slice())?;
+    Ok(Scripts { scripts, copies })
 }
 
 /// The script in a file. Of one that is too long, the start is kept, which is too long as well.

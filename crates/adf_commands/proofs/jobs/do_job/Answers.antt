@@ -1,24 +1,11 @@
 use Rattle.std.proofs.Common.{subst, sym}
 use Rattle.adf_words.specs.declared.job.ImageJob.{ImageJob}
 use Rattle.adf_commands.specs.Commands.{DoesJob}
-use Rattle.adf_commands.proofs.Printing.{PrintsNothing, blank_no_refusal, job_silent, job_silent_fault}
+use Rattle.adf_commands.proofs.Printing.{PrintsNothing, job_silent}
 use Rattle.adf_commands.proofs.jobs.do_job.Goals as goal
 
-pub returns-in_err-moment-in-Blank : goal.returns-in_err-moment-in-Blank
-returns-in_err-moment-in-Blank g c =
-    let silent = subst PrintsNothing (sym c.in-Blank.is) tt in
-    job_silent_fault c.args.job.now _ c.in_err-moment-in-Blank.field-0.0 _ silent c.in_err-moment-in-Blank.ensures c.from_residual.ensures.1
-
-pub returns-in_err-volume-in-Blank : goal.returns-in_err-volume-in-Blank
-returns-in_err-volume-in-Blank g c =
-    let silent = subst PrintsNothing (sym c.in-Blank.is) tt in
-    let plain = blank_no_refusal _ _ _ c.in_err-volume-in-Blank.field-0.0 c.in_err-volume-in-Blank.ensures in
-    job_silent_fault c.args.job.now _ c.in_err-volume-in-Blank.field-0.0 _ silent plain c.from_residual-in_err-volume-in-Blank.ensures.1
-
-pub returns-in_ok-volume-in-Blank : goal.returns-in_ok-volume-in-Blank
-returns-in_ok-volume-in-Blank g c =
-    let silent = subst PrintsNothing (sym c.in-Blank.is) tt in
-    job_silent c.args.job.now _ _ silent c.write_new.ensures
+pub returns-in-Blank : goal.returns-in-Blank
+returns-in-Blank g c = job_silent c.args.job.now _ _ (subst PrintsNothing (sym c.in-Blank.is) tt) c.make_blank.ensures
 
 pub returns-in-Info : goal.returns-in-Info
 returns-in-Info g c =
