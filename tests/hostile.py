@@ -1159,6 +1159,35 @@ def sound_lists(image: Image, places: Places) -> Tuple[int, int, int]:
     return 3, len(files), len(files)
 
 
+def spoil(image: Image, places: Places) -> None:
+    """Makes the checksums of headers wrong."""
+    for block in places:
+        image.put(block, 5, image.long(block, 5) + 1)
+
+
+def doubtful_chains(image: Image, places: Places) -> Tuple[int, int, int]:
+    """As many chains of directories with wrong checksums as the root has slots."""
+    chains = parts_of(places, min(LOW, len(places) // SLOTS))[:SLOTS]
+    for slot, chain in enumerate(chains):
+        parents = [image.blocks // 2, *chain]
+        for at, block in enumerate(chain):
+            put_entry(image, block, DIRECTORY, b"d%d" % block if at == 0 else b"d", parents[at], slot=0 if at + 1 == len(chain) else chain[at + 1])
+        hang(image, image.blocks // 2, chain[0], slot)
+        spoil(image, chain)
+    return 3, sum(map(len, chains)), 0
+
+
+def doubtful_tables(image: Image, places: Places) -> Tuple[int, int, int]:
+    """Directories with wrong checksums, in a hash chain, that all name each of the first ones in their slots."""
+    for block in places:
+        put_entry(image, block, DIRECTORY, b"d%d" % block, image.blocks // 2)
+        image.put_all(block, 6, places[:SLOTS])
+    join(image, places)
+    hang(image, image.blocks // 2, places[0])
+    spoil(image, places)
+    return 3, len(places), 0
+
+
 def extensions_fit(image: Image, places: Places) -> Tuple[int, int, int]:
     """The extension block of each file is its own next one, and the file is as long as the image."""
     half = len(places) // 2
@@ -1178,6 +1207,8 @@ WORST = [
     Worst("all files in one chain", files_in_one_chain),
     Worst("directories that name the same lost entries", lost_names),
     Worst("sound files of one list", sound_lists),
+    Worst("chains of doubtful directories", doubtful_chains),
+    Worst("doubtful directories that all name the same ones", doubtful_tables),
     Worst("extension blocks that follow themselves, in files that fit", extensions_fit),
 ]
 

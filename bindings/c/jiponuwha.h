@@ -593,10 +593,10 @@ int32_t jip_map(jip_handle *handle, jip_owner *owners, size_t room, size_t *coun
 
 /* ---- Salvage ----
  *
- * What can be told of an image that jip_open refuses: its files and directories whose headers are sound, wherever they are; those
- * with a damaged header that the root or another header names, as far as they can be told; and the entries that are lost: they are
- * named too, and have no such header. For an image that jip_open accepts, these are all its files and directories, whole. The list
- * has each header once, and a directory before its entries. Positions in it count from 0. */
+ * What can be told of an image that jip_open refuses: its files and directories whose headers are sound, wherever they are;
+ * those with a damaged header that their directory names, as far as they can be told; and the entries that are lost: they are
+ * named too, and have no such header. For an image that jip_open accepts, these are all its files and directories, whole. The
+ * list has each header once, and a directory before its entries. Positions in it count from 0. */
 
 /* A list of entries; or a closed one, JIP_CLOSED or all zeros. Items 4 and 5 hold for it as for a handle. */
 typedef struct jip_salvage {
@@ -608,8 +608,8 @@ enum jip_state {
     JIP_STATE_DIRECTORY = 1,
     JIP_STATE_WHOLE = 2, /* a file, and no other sound file uses one of its blocks */
     JIP_STATE_BROKEN = 3, /* a file of which some data blocks are missing, or are used by another file too */
-    JIP_STATE_LOST = 4, /* an entry without a header that can be told: only its name, its header's number and its directory mean something */
-    JIP_STATE_DOUBTFUL = 5, /* a file of which no data block is missing, but which is not whole: a checksum is wrong, or another file uses a block too */
+    JIP_STATE_LOST = 4, /* an entry with no header to tell: only its name, its header's number and its directory mean something */
+    JIP_STATE_DOUBTFUL = 5, /* a file that lacks no data block but is not whole: a block is damaged, or used by another file too */
     JIP_STATE_DOUBTFUL_DIRECTORY = 6 /* a directory whose header has a wrong checksum or too long a comment */
 };
 

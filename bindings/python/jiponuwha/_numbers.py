@@ -114,8 +114,8 @@ class Role(IntEnum):
 
 
 class State(IntEnum):
-    """How much is left of an entry of a damaged image. A whole file shares no block with another sound file; of a lost entry
-    nothing is left but its name."""
+    """How much is left of an entry of a damaged image. A whole file shares no block with another sound file; a doubtful one
+    lacks no block, but one is damaged or shared; of a lost entry nothing is left but its name."""
 
     DIRECTORY = 1
     WHOLE = 2
