@@ -10,3 +10,5 @@ pub mod Saving
 pub mod Holding
 pub mod Filled
 pub mod Ending
+pub mod Trusting
+pub mod Recovering

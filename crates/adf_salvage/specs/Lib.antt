@@ -3,4 +3,5 @@ pub mod Sound
 pub mod Lost
 pub mod Salvaged
 pub mod Saved
+pub mod Deleted
 pub mod steps

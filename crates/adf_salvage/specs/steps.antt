@@ -4,3 +4,4 @@ pub mod Claims
 pub mod Giving
 pub mod Gathering
 pub mod Keeping
+pub mod Deleting

@@ -5,6 +5,7 @@
 mod chains;
 mod claims;
 mod data;
+mod deleted;
 mod gathered;
 mod giving;
 mod header;
@@ -15,14 +16,17 @@ mod listing;
 mod lost;
 mod names;
 mod pieces;
+mod recovery;
 mod salvaged;
 mod salvaging;
 mod saved;
 mod state;
 mod told;
+mod trust;
 mod unreached;
 mod whole;
 
+pub use deleted::{Deleted, DeletedEntries, Recovery, deleted_entries, intact_bytes};
 pub use giving::Piece;
 pub use header::is_sound_header;
 pub use salvaged::{Salvaged, State};
