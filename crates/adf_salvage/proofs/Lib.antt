@@ -12,3 +12,4 @@ pub mod Filled
 pub mod Ending
 pub mod Trusting
 pub mod Recovering
+pub mod ListingDeleted

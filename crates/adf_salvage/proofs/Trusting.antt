@@ -1,9 +1,8 @@
 -- Whether a bitmap can be trusted, by the faults of the image.
-use Rattle.std.proofs.Common.{◌≡◌, ◌≢◌, ℕ, ◌+◌, ◌-◌, ◌/◌, ◌<◌, ◌≤◌, inl, inr, Bool, true, false, not, MatchBool, List, All, Contains, Option, Some, None, MatchOption, is_some, refl, sym, ap, ◌∙◌, subst, arith}
+use Rattle.std.proofs.Common.{◌≡◌, ℕ, ◌+◌, ◌-◌, ◌/◌, ◌<◌, inl, inr, Bool, true, false, not, MatchBool, List, All, Contains, Option, Some, None, MatchOption, is_some, refl, sym, ◌∙◌, subst, arith}
 use Rattle.std.proofs.lemmas.Bool.{cases_order}
-use Rattle.std.proofs.lemmas.List.{get_or_default}
-use Rattle.adf_block.specs.Image.{block_count, long}
-use Rattle.adf_block.specs.Whole.{IsImage, HasFreeBit}
+use Rattle.adf_block.specs.Image.{long}
+use Rattle.adf_block.specs.Whole.{IsImage}
 use Rattle.ados_check.specs.declared.mark.Mark.{Mark}
 use Rattle.ados_check.specs.Marks.{mark_at}
 use Rattle.ados_faults.specs.Listed.{AreMarks, fault_of, root_mark}
@@ -12,14 +11,13 @@ use Rattle.ados_map.specs.Pages.{LawfulPages, page_block, pages_of}
 use Rattle.ados_model.specs.declared.fault.FaultKind.{FaultKind}
 use Rattle.ados_model.specs.declared.fault.FaultKind.TheVariants.{BlockUsedTwice, MarkedFree}
 use Rattle.ados_model.specs.declared.fault.VolumeFault.{VolumeFault}
-use Rattle.ados_model.specs.declared.role.Role.{Role}
 use Rattle.ados_model.specs.declared.role.Role.TheVariants.{Page, Root}
 use Rattle.ados_model.specs.Faults.{InImage, IsReachedAndFree, PlaceNames, Reached, Shows, root_of}
 use Rattle.ados_model.specs.Faults.IsPlace.{root_page}
 use Rattle.ados_model.specs.Faults.IsUsedTwice.{root_named}
 use Rattle.ados_model.specs.Faults.Reached.{named, start}
 use Rattle.ados_model.specs.Rebuilt.{HasValidBitmap}
-use Rattle.adf_salvage.specs.Deleted.{AreTrustedPages, IsTrustedBitmap, IsTrustedPage}
+use Rattle.adf_salvage.specs.Deleted.{AreTrustedPages, IsTrustedBitmap}
 use Rattle.adf_salvage.specs.steps.Deleting.{AreFaults, AreOfReached, IsDoubt}
 
 module _ (image : List ℕ) (pages : AreTrustedPages image) where

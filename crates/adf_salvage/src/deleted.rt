@@ -32,7 +32,10 @@ pub enum Recovery {
         by: Option<u32>,
     },
     /// All blocks of the file are free, but `shared` of `all` are in other sound files that no directory leads to.
-    Shared { shared: usize, all: usize },
+    Shared {
+        shared: usize,
+        all: usize,
+    },
     /// The blocks of the file are not those that its size needs.
     NotIntact,
 }

@@ -43,11 +43,7 @@ pub(crate) fn trust_of(alloc: Global, image: &Image) -> Result<Trust, AllocError
 }
 
 /// The marks of the reached blocks of an image, with all its faults.
-fn marks_of(
-    alloc: Global,
-    image: &Image,
-    found: AllFaults,
-) -> Result<Vec<Option<Mark>>, AllocError>
+fn marks_of(alloc: Global, image: &Image, found: AllFaults) -> Result<Vec<Option<Mark>>, AllocError>
     requires { (found.faults.items ≡ []) ⊎ AreMarks image.now found.marks.items }
     ensures { IfOk result (λ marks. AreOfReached image.now marks.items) }
 {

@@ -1,5 +1,5 @@
 -- What is known of an image while its deleted entries are told.
-use Rattle.std.specs.Prelude.{◌≡◌, ℕ, ◌<◌, ◌⊎◌, ◌&&◌, nat_le, nat_lt, not, Bool, true, false, List, length, All, Contains, Option, Some}
+use Rattle.std.specs.Prelude.{◌≡◌, ℕ, ◌<◌, ◌⊎◌, ◌&&◌, nat_le, nat_lt, not, Bool, true, false, List, length, map, All, AllPairs, Contains, Option, Some}
 use Rattle.adf_block.specs.declared.layout.TheConstants.{BOOT_BLOCKS}
 use Rattle.adf_block.specs.Image.{block_count, has_free_bit}
 use Rattle.ados_check.specs.declared.mark.Mark.{Mark}
@@ -12,9 +12,10 @@ use Rattle.ados_model.specs.Accepted.{ShowsNoFault}
 use Rattle.ados_model.specs.Faults.{InImage, Reached, Shows, root_of}
 use Rattle.adf_salvage.specs.declared.claims.Claim.{Claim}
 use Rattle.adf_salvage.specs.declared.claims.Claim.TheVariants.{Several}
+use Rattle.adf_salvage.specs.declared.deleted.Deleted.{Deleted}
 use Rattle.adf_salvage.specs.declared.trust.Trust.{Trust}
 use Rattle.adf_salvage.specs.declared.trust.Trust.TheVariants as trusts
-use Rattle.adf_salvage.specs.Deleted.{IsTrustedBitmap}
+use Rattle.adf_salvage.specs.Deleted.{IsDeleted, IsToldDeleted, IsTrustedBitmap}
 use Rattle.adf_salvage.specs.steps.Claims.{AreClaims}
 
 -- each marked block of the image is reached in the role of its mark
@@ -49,3 +50,10 @@ is_used image block = nat_le BOOT_BLOCKS block && nat_lt block (block_count imag
 abbrev pub is_several : Claim → Bool
 is_several Several = true
 is_several claim = false
+
+-- the entries are the deleted ones below block n, each once, by block
+pub record AreListedBelow (image : List ℕ) (n : ℕ) (entries : List Deleted) : Type 0 where
+  pub told : All (IsToldDeleted image) entries
+  pub in_order : AllPairs (λ a b. a.header < b.header) entries
+  pub below : All (λ entry. entry.header < n) entries
+  pub all : (block : ℕ) → block < n → IsDeleted image block → Contains (map (λ entry. entry.header) entries) block

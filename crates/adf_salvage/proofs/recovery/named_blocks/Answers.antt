@@ -1,4 +1,4 @@
-use Rattle.std.proofs.Common.{◌≡◌, ◌<◌, ◌/◌, ◌∙◌, arith}
+use Rattle.std.proofs.Common.{◌≡◌, ◌<◌, ◌/◌, arith}
 use Rattle.ados_data.proofs.Sizes.{in_extensions}
 use Rattle.adf_salvage.specs.steps.Parts.{data_needed}
 use Rattle.adf_salvage.proofs.OwnBlocks.{all_data, gathered_more, holder_below, holder_read, holder_there, named_block}
