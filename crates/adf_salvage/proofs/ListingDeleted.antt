@@ -1,5 +1,5 @@
 -- The deleted entries while they are listed, block by block.
-use Rattle.std.proofs.Common.{◌≡◌, ℕ, ◌+◌, ◌<◌, inl, inr, List, [], ◌∷◌, ◌++◌, map, All, AllPairs, Contains, refl, sym, ap, subst, arith}
+use Rattle.std.proofs.Common.{◌≡◌, ℕ, zero, suc, ◌+◌, ◌<◌, inl, inr, List, [], ◌∷◌, ◌++◌, map, All, AllPairs, Contains, refl, sym, ap, subst, arith}
 use Rattle.std.proofs.lemmas.Bool.{cases_lt}
 use Rattle.std.proofs.lemmas.List.Elements.{Contains-append_left, Contains-append_right}
 use Rattle.std.proofs.lemmas.List.Quantifiers.{all_pairs_push}
@@ -53,3 +53,9 @@ module _ (image : List ℕ) (n : ℕ) (xs : List Deleted) (h : AreListedBelow im
   -- all blocks were looked at
   pub listed_all : n ≡ block_count image → ListsDeleted image xs
   listed_all end = record { told = h.told; in_order = h.in_order; all = λ block d. h.all block (omega (arith, end, d.header.inside.1)) d }
+
+-- what is so of the headers of all entries is so of a block that is one of them
+pub met_by : (P : ℕ → Type 0) (xs : List Deleted) → All (λ (entry : Deleted). P entry.header) xs → (block : ℕ) → Contains (map (λ (entry : Deleted). entry.header) xs) block → P block
+met_by P [] all block (k, l, e) = absurd (omega (arith, l))
+met_by P (x ∷ xs) all block (zero, l, e) = subst P e (all 0 x (omega arith))
+met_by P (x ∷ xs) all block (suc k, l, e) = met_by P xs (λ j d m. all (suc j) d (omega (arith, m))) block (k, omega (arith, l), e)

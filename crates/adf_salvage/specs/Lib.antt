@@ -4,4 +4,5 @@ pub mod Lost
 pub mod Salvaged
 pub mod Saved
 pub mod Deleted
+pub mod Undeleted
 pub mod steps

@@ -5,3 +5,4 @@ pub mod Giving
 pub mod Gathering
 pub mod Keeping
 pub mod Deleting
+pub mod Undeleting

@@ -23,6 +23,7 @@ mod saved;
 mod state;
 mod told;
 mod trust;
+mod undeleted;
 mod unreached;
 mod whole;
 
@@ -32,3 +33,4 @@ pub use header::is_sound_header;
 pub use salvaged::{Salvaged, State};
 pub use salvaging::salvage;
 pub use saved::Salvage;
+pub use undeleted::{Undeleted, UndeletedEntries, undelete};

@@ -51,7 +51,7 @@ fn take_asides(alloc: Global, image: &Image, gathered: &mut Gathered) -> Result<
 }
 
 /// Adds a header after the directories above it that were not found yet.
-fn add_with_parents(
+pub(crate) fn add_with_parents(
     alloc: Global,
     image: &Image,
     whole: &[bool],
