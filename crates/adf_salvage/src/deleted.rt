@@ -22,8 +22,10 @@ use std::alloc::{AllocError, Global};
 pub enum Recovery {
     /// The entry is a directory, which has no bytes.
     Directory,
-    /// All blocks of the file are free, and no other sound file has one of them.
-    Free,
+    /// All blocks of the file are free, as many as `all`, and no other sound file has one of them.
+    Free {
+        all: usize,
+    },
     /// Some blocks of the file are used now: `used` of `all`, the header among them. `by` is the header of an entry that has
     /// one of them, where one is known.
     Used {

@@ -77,7 +77,7 @@ fn recovery_of_intact(
             all: blocks.len(),
         };
     }
-    Recovery::Free
+    Recovery::Free { all: blocks.len() }
 }
 
 /// All blocks of a file, as its pointers name them: its header, its extension blocks and its data blocks, whatever is in these

@@ -21,4 +21,5 @@ pub returns : goal.returns
 returns c = (
   whole_by c.args.image.now c.args.file c.requires.intact c.args.claims.now c.requires.claims c.args.blocks.now c.requires.own (sym c.count_several-shared.ensures ∙ omega (arith, c.if-shared-gt0.false)),
   all_free c.args.image.now c.args.file c.requires.intact c.args.blocks.now c.requires.own (rw c.in_default.is at c.use_of.ensures),
+  ap length c.requires.own,
 )
