@@ -1,5 +1,5 @@
 //! What can be trusted in an image that the check refuses: each sound header, the bytes of each file whose blocks no other
-//! file names, and the entries that are lost.
+//! file names, and the entries that are lost. And the deleted entries of an image, accepted or refused.
 #![tactic(auto)]
 
 mod chains;
