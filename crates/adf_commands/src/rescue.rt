@@ -33,8 +33,7 @@ where
     tell_rescue(alloc, &rescue, writer, faults)
 }
 
-/// Reports on a rescue, and prints on `faults` why entries are doubtful, and which files
-/// are cut short.
+/// Reports on a rescue, and prints on `faults` why entries are doubtful, and which files are cut short.
 fn tell_rescue<'a, W: Write, F: Write>(
     alloc: Global,
     rescue: &Rescue,

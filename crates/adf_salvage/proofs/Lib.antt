@@ -12,3 +12,6 @@ pub mod Saving
 pub mod Holding
 pub mod Filled
 pub mod Ending
+pub mod Trusting
+pub mod Recovering
+pub mod ListingDeleted

@@ -4,4 +4,6 @@ pub mod Doubtful
 pub mod Lost
 pub mod Salvaged
 pub mod Saved
+pub mod Deleted
+pub mod Undeleted
 pub mod steps

@@ -5,3 +5,5 @@ pub mod Heading
 pub mod Giving
 pub mod Gathering
 pub mod Keeping
+pub mod Deleting
+pub mod Undeleting

@@ -1,10 +1,12 @@
 //! What can be told of an image that the check refuses: each sound header, the bytes of each file whose blocks no other
-//! file names, the doubtful headers, and the entries that are lost.
+//! file names, the doubtful headers, and the entries that are lost. And the deleted entries of an image, accepted or
+//! refused.
 #![tactic(auto)]
 
 mod chains;
 mod claims;
 mod data;
+mod deleted;
 mod gathered;
 mod giving;
 mod header;
@@ -17,16 +19,21 @@ mod listing;
 mod lost;
 mod names;
 mod pieces;
+mod recovery;
 mod salvaged;
 mod salvaging;
 mod saved;
 mod state;
 mod told;
+mod trust;
+mod undeleted;
 mod unreached;
 mod whole;
 
+pub use deleted::{Deleted, DeletedEntries, Recovery, deleted_entries, intact_bytes};
 pub use giving::Piece;
 pub use header::is_sound_header;
 pub use salvaged::{Salvaged, State};
 pub use salvaging::salvage;
 pub use saved::Salvage;
+pub use undeleted::{Undeleted, UndeletedEntries, undelete};

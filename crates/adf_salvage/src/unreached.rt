@@ -58,7 +58,7 @@ fn take_asides(
 }
 
 /// Adds a header after the directories above it that were not found yet.
-fn add_with_parents(
+pub(crate) fn add_with_parents(
     alloc: Global,
     image: &Image,
     known: &Known,

@@ -1,0 +1,96 @@
+-- Whether a bitmap can be trusted, by the faults of the image.
+use Rattle.std.proofs.Common.{◌≡◌, ℕ, ◌+◌, ◌-◌, ◌/◌, ◌<◌, inl, inr, Bool, true, false, not, MatchBool, List, All, Contains, Option, Some, None, MatchOption, is_some, refl, sym, ◌∙◌, subst, arith}
+use Rattle.std.proofs.lemmas.Bool.{cases_order}
+use Rattle.adf_block.specs.Image.{long}
+use Rattle.adf_block.specs.Whole.{IsImage}
+use Rattle.ados_check.specs.declared.mark.Mark.{Mark}
+use Rattle.ados_check.specs.Marks.{mark_at}
+use Rattle.ados_faults.specs.Listed.{AreMarks, fault_of, root_mark}
+use Rattle.ados_faults.proofs.Insides.{reached_inside}
+use Rattle.ados_map.specs.Pages.{LawfulPages, page_block, pages_of}
+use Rattle.ados_model.specs.declared.fault.FaultKind.{FaultKind}
+use Rattle.ados_model.specs.declared.fault.FaultKind.TheVariants.{BlockUsedTwice, MarkedFree}
+use Rattle.ados_model.specs.declared.fault.VolumeFault.{VolumeFault}
+use Rattle.ados_model.specs.declared.role.Role.TheVariants.{Page, Root}
+use Rattle.ados_model.specs.Faults.{InImage, IsReachedAndFree, PlaceNames, Reached, Shows, root_of}
+use Rattle.ados_model.specs.Faults.IsPlace.{root_page}
+use Rattle.ados_model.specs.Faults.IsUsedTwice.{root_named}
+use Rattle.ados_model.specs.Faults.Reached.{named, start}
+use Rattle.ados_model.specs.Rebuilt.{HasValidBitmap}
+use Rattle.adf_salvage.specs.Deleted.{AreTrustedPages, IsTrustedBitmap}
+use Rattle.adf_salvage.specs.steps.Deleting.{AreFaults, AreOfReached, IsDoubt}
+
+module _ (image : List ℕ) (pages : AreTrustedPages image) where
+  used_once : (p q : ℕ) → p < pages_of image → q < pages_of image → page_block image p ≡ page_block image q → p ≡ q
+  used_once p q l m e = elim (cases_order p q) [
+    | inl same ↦ same
+    | inr (inl below) ↦ absurd ((pages q m).apart p below e)
+    | inr (inr above) ↦ absurd ((pages p l).apart q above (sym e))
+  ]
+
+  -- the block with the bit of a block is a bitmap block inside the image
+  bit_inside : (block : ℕ) → InImage image block → InImage image (page_block image ((block - 2) / 4064))
+  bit_inside block at =
+      let page : (block - 2) / 4064 < pages_of image = omega (arith, at.0, at.1) in
+      (pages ((block - 2) / 4064) page).inside
+
+-- a trusted bitmap has lawful bitmap blocks: a root that is one of them would be used twice
+pub trusted_pages : (image : List ℕ) → IsTrustedBitmap image → LawfulPages image
+trusted_pages image t = record {
+  inside = λ p l. (t.pages p l).inside;
+  apart = used_once image t.pages;
+  beside_root = λ p l e.
+      let named : PlaceNames image (root_of image) (79 + p) (page_block image p) = record { role = Root; next = Page; reached = start; place = root_page l; names = refl } in
+      t.root BlockUsedTwice (subst (Shows image BlockUsedTwice) e (root_named e named));
+}
+
+module _ (image : List ℕ) (faults : List VolumeFault) (f : AreFaults image faults) where
+  -- a fault that is shown is one of them
+  met : (P : VolumeFault → Type 0) → All P faults → (kind : FaultKind) (block : ℕ) → Shows image kind block → P (fault_of kind block)
+  met P all kind block shown =
+      let there = f.each kind block shown in
+      subst P there.2 (all there.0 _ there.1)
+
+  -- no doubt is left
+  pub trusted_by : IsImage image → HasValidBitmap image → AreTrustedPages image → All (λ fault. ¬ IsDoubt image fault) faults → IsTrustedBitmap image
+  trusted_by im valid pages none = record {
+    root = λ kind shown. met (λ fault. ¬ IsDoubt image fault) none kind (root_of image) shown (inr refl);
+    valid = valid;
+    pages = pages;
+    in_use = λ block role reached free.
+        let bit : IsReachedAndFree image block = record { valid = valid; role = role; reached = reached; page = bit_inside image pages block (reached_inside image im reached); free = free } in
+        met (λ fault. ¬ IsDoubt image fault) none MarkedFree block bit (inl refl);
+  }
+
+  shown_at : (fault : VolumeFault) → Contains faults fault → Shows image fault.kind fault.block
+  shown_at fault (k, l, e) = subst (λ (g : VolumeFault). Shows image g.kind g.block) e (f.shown k fault l)
+
+  pub doubted_by : (fault : VolumeFault) → Contains faults fault → IsDoubt image fault → ¬ IsTrustedBitmap image
+  doubted_by fault there doubt t = elim doubt [
+    | inl e ↦
+        let free : IsReachedAndFree image fault.block = subst (λ (kind : FaultKind). Shows image kind fault.block) e (shown_at fault there) in
+        t.in_use fault.block free.role free.reached free.free
+    | inr e ↦ t.root fault.kind (subst (Shows image fault.kind) e (shown_at fault there))
+  ]
+
+  -- the first doubt decides, if there is one
+  pub trust_decided : IsImage image → HasValidBitmap image → AreTrustedPages image → (first : Option VolumeFault) (none : Bool) → is_some first ≡ not none
+      → MatchOption first (All (λ fault. ¬ IsDoubt image fault) faults) (λ fault. Contains faults fault × IsDoubt image fault) → MatchBool none (IsTrustedBitmap image) (¬ IsTrustedBitmap image)
+  trust_decided im valid pages (Some fault) true e d = absurd (cc e)
+  trust_decided im valid pages (Some fault) false e d = doubted_by fault d.0 d.1
+  trust_decided im valid pages None true e d = trusted_by im valid pages d
+  trust_decided im valid pages None false e d = absurd (cc e)
+
+-- a marked block inside the image is reached: it is the root, or the place in its mark names it
+pub marks_reach : (image : List ℕ) (marks : List (Option Mark)) → AreMarks image marks → AreOfReached image marks
+marks_reach image marks m block mark e inside = elim (m.named block mark e) [
+  | inl is ↦
+      let of_root : mark_at marks block ≡ Some root_mark = subst (λ (b : ℕ). mark_at marks b ≡ Some root_mark) (sym is) m.root in
+      subst (λ (k : Mark). Reached image block k.role) (some_same (sym of_root ∙ e)) (subst (λ (b : ℕ). Reached image b Root) (sym is) start)
+  | inr n ↦
+      let there : InImage image (long image mark.holder mark.long) = subst (InImage image) (sym n.names) inside in
+      subst (λ (b : ℕ). Reached image b mark.role) n.names (named n.reached n.place there)
+]
+  where
+    some_same : {x y : Mark} → Some x ≡ Some y → x ≡ y
+    some_same e = cc e

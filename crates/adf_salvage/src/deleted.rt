@@ -1,0 +1,134 @@
+//! The deleted entries of an image, and how much of each can be had back.
+ghost use Rattle.std.specs.Prelude.{◌≡◌, ◌+◌, IfOk, OnOk, MatchOption};
+ghost use Rattle.ados_model.specs.Faults.{InImage};
+ghost use Rattle.ados_model.specs.File.{contents};
+ghost use Rattle.adf_salvage.specs.Deleted.{IsDeleted, IsToldDeleted, IsTrustedBitmap, ListsDeleted, TellsDeleted};
+ghost use Rattle.adf_salvage.specs.Sound.{IsIntact};
+ghost use Rattle.adf_salvage.specs.steps.Deleting.{AreAllClaims, AreOfReached};
+ghost use Rattle.adf_salvage.specs.steps.Parts.{AreUsersBelow};
+
+use crate::claims::{Claim, claims};
+use crate::intact::no_users;
+use crate::recovery::recovery_of;
+use crate::saved::whole_bytes;
+use crate::trust::{Trust, is_deleted, trust_of};
+use adf_block::Image;
+use adf_block::layout::BOOT_BLOCKS;
+use ados_check::Mark;
+use std::alloc::{AllocError, Global};
+
+/// How much of a deleted entry can be had back.
+#[derive(Clone, Copy, Debug, PartialEq, Eq)]
+pub enum Recovery {
+    /// The entry is a directory, which has no bytes.
+    Directory,
+    /// All blocks of the file are free, as many as `all`, and no other sound file has one of them.
+    Free {
+        all: usize,
+    },
+    /// Some blocks of the file are used now: `used` of `all`, the header among them. `by` is the header of an entry that has
+    /// one of them, where one is known.
+    Used {
+        used: usize,
+        all: usize,
+        by: Option<u32>,
+    },
+    /// All blocks of the file are free, but `shared` of `all` are in other sound files that no directory leads to.
+    Shared {
+        shared: usize,
+        all: usize,
+    },
+    /// The blocks of the file are not those that its size needs.
+    NotIntact,
+}
+
+/// A deleted entry.
+#[derive(Clone, Copy, Debug)]
+pub struct Deleted {
+    /// The block number of its header.
+    pub header: u32,
+    pub recovery: Recovery,
+}
+
+/// The deleted entries of an image, if its bitmap says which they are.
+#[derive(Drop)]
+pub enum DeletedEntries {
+    /// All of them, by block.
+    Found(Vec<Deleted>),
+    /// The bitmap cannot be trusted.
+    NoTrustedBitmap,
+    /// The blocks of the image name each other too often for the faults to be listed that the trust needs.
+    ManyFaults,
+}
+
+/// The deleted entries of an image, which may be accepted or refused by the check.
+///
+/// Time and memory grow about linearly with the size of the image.
+pub fn deleted_entries(alloc: Global, image: &Image) -> Result<DeletedEntries, AllocError>
+    ensures { IfOk result (TellsDeleted image.now) }
+{
+    match trust_of(alloc, image)? {
+        Trust::Trusted(marks) => {
+            let found = all_deleted(alloc, image, &marks)?;
+            Ok(DeletedEntries::Found(found))
+        }
+        Trust::NotTrusted => Ok(DeletedEntries::NoTrustedBitmap),
+        Trust::ManyFaults => Ok(DeletedEntries::ManyFaults),
+    }
+}
+
+/// All deleted entries of an image with a trusted bitmap.
+fn all_deleted(
+    alloc: Global,
+    image: &Image,
+    marks: &[Option<Mark>],
+) -> Result<Vec<Deleted>, AllocError>
+    requires trusted { IsTrustedBitmap image.now }
+    requires marks { AreOfReached image.now marks.now }
+    ensures { IfOk result (λ found. ListsDeleted image.now found.items) }
+{
+    prove!(image.blocks() >= 16);
+    let claims = claims(alloc, image)?;
+    let mut users = no_users(alloc, image)?;
+    let mut found = Vec::new(alloc);
+    for header in BOOT_BLOCKS..image.blocks() {
+        if let Some(entry) = deleted_at(alloc, image, header, &claims, marks, &mut users)? {
+            found.push(entry)?;
+        }
+    }
+    Ok(found)
+}
+
+/// The deleted entry with this header, if the header is one.
+#[tactic(auto, using(crate::proofs::OwnBlocks::users_kept))]
+fn deleted_at(
+    alloc: Global,
+    image: &Image,
+    header: u32,
+    claims: &[Claim],
+    marks: &[Option<Mark>],
+    users: &mut Vec<u32>,
+) -> Result<Option<Deleted>, AllocError>
+    requires inside { InImage image.now header }
+    requires trusted { IsTrustedBitmap image.now }
+    requires claims { AreAllClaims image.now claims.now }
+    requires marks { AreOfReached image.now marks.now }
+    requires users { AreUsersBelow image.now header users.old.items }
+    ensures users { OnOk result (AreUsersBelow image.now (header + 1) users.new.items) }
+    ensures told { IfOk result (λ found. MatchOption found (¬ IsDeleted image.now header)
+        (λ entry. IsToldDeleted image.now entry × (entry.header ≡ header))) }
+{
+    if !is_deleted(image, header) {
+        return Ok(None);
+    }
+    let recovery = recovery_of(alloc, image, header, claims, marks, users)?;
+    Ok(Some(Deleted { header, recovery }))
+}
+
+/// All bytes of a sound file.
+pub fn intact_bytes(alloc: Global, image: &Image, file: u32) -> Result<Vec<u8>, AllocError>
+    requires { IsIntact image.now file }
+    ensures { IfOk result (λ bytes. bytes.items ≡ contents image.now file) }
+{
+    whole_bytes(alloc, image, file)
+}

@@ -1,0 +1,159 @@
+//! Whether the bitmap of an image can be trusted, and which entries it says are deleted.
+ghost use Rattle.std.specs.Prelude.{◌≡◌, ◌≢◌, ◌<◌, ◌⊎◌, ◌↔◌, ℕ, [], All, Contains, IfOk, IsTrue, MatchBool, MatchOption};
+ghost use Rattle.adf_block.specs.Whole.{IsImage};
+ghost use Rattle.ados_faults.specs.Listed.{AreMarks};
+ghost use Rattle.ados_map.specs.Pages.{LawfulPages, page_block, pages_of};
+ghost use Rattle.ados_model.specs.Accepted.{ShowsNoFault};
+ghost use Rattle.ados_model.specs.Faults.{InImage};
+ghost use Rattle.adf_salvage.specs.Deleted.{AreTrustedPages, IsDeleted, IsTrustedBitmap, IsTrustedPage};
+ghost use Rattle.adf_salvage.specs.steps.Deleting.{AreFaults, AreOfReached, IsDoubt, IsTrust, is_used};
+
+use crate::header::is_sound_header;
+use adf_block::layout::{BITMAP_FLAG, BITMAP_VALID, BOOT_BLOCKS, FIRST_PAGE, MOST_BLOCKS};
+use adf_block::{Image, page_count};
+use ados_check::{Mark, Source, reach};
+use ados_faults::{AllFaults, all_faults};
+use ados_map::is_free;
+use ados_model::{FaultKind, VolumeFault};
+use std::alloc::{AllocError, Global};
+
+/// Whether the bitmap of an image can be trusted.
+#[derive(Drop)]
+pub(crate) enum Trust {
+    /// It can. For each block, the first place that names it, if one does.
+    Trusted(Vec<Option<Mark>>),
+    NotTrusted,
+    /// The faults of the image cannot all be listed.
+    ManyFaults,
+}
+
+/// Whether the bitmap of an image can be trusted.
+pub(crate) fn trust_of(alloc: Global, image: &Image) -> Result<Trust, AllocError>
+    ensures { IfOk result (IsTrust image.now) }
+{
+    let found = all_faults(alloc, image, usize::MAX)?;
+    if found.more {
+        return Ok(Trust::ManyFaults);
+    }
+    if !is_trusted(image, &found.faults) {
+        return Ok(Trust::NotTrusted);
+    }
+    let marks = marks_of(alloc, image, found)?;
+    Ok(Trust::Trusted(marks))
+}
+
+/// The marks of the reached blocks of an image, with all its faults.
+fn marks_of(alloc: Global, image: &Image, found: AllFaults) -> Result<Vec<Option<Mark>>, AllocError>
+    requires { (found.faults.items ≡ []) ⊎ AreMarks image.now found.marks.items }
+    ensures { IfOk result (λ marks. AreOfReached image.now marks.items) }
+{
+    if !found.faults.is_empty() {
+        return Ok(found.marks);
+    }
+    match reach(alloc, &Source::whole(image)) {
+        Ok(marks) => Ok(marks),
+        Err(_) => Err(AllocError),
+    }
+}
+
+/// Whether the bitmap of an image with these faults can be trusted.
+fn is_trusted(image: &Image, faults: &[VolumeFault]) -> bool
+    requires { AreFaults image.now faults.now }
+    ensures { MatchBool result (IsTrustedBitmap image.now) (¬ IsTrustedBitmap image.now) }
+{
+    prove!(image.blocks() >= 16);
+    if image.long(image.root(), BITMAP_FLAG) != BITMAP_VALID {
+        return false;
+    }
+    if !are_trusted_pages(image) {
+        return false;
+    }
+    first_doubt(image, faults).is_none()
+}
+
+/// The first of these faults for which the bitmap is not trusted.
+fn first_doubt(image: &Image, faults: &[VolumeFault]) -> Option<VolumeFault>
+    ensures doubt { MatchOption result (All (λ fault. ¬ IsDoubt image.now fault) faults.now)
+        (λ fault. Contains faults.now fault × IsDoubt image.now fault) }
+    ensures image { IsImage image.now }
+{
+    prove!(image.blocks() >= 16);
+    for fault in faults {
+        if is_doubt(image, *fault) {
+            return Some(*fault);
+        }
+    }
+    None
+}
+
+/// Whether a fault is one for which the bitmap is not trusted.
+fn is_doubt(image: &Image, fault: VolumeFault) -> bool
+    ensures { IsTrue result ↔ IsDoubt image.now fault }
+{
+    fault.kind == FaultKind::MarkedFree || fault.block == image.root()
+}
+
+/// Whether each bitmap block can be trusted by itself.
+fn are_trusted_pages(image: &Image) -> bool
+    ensures { MatchBool result (AreTrustedPages image.now) (¬ AreTrustedPages image.now) }
+{
+    for p in 0..page_count(image.blocks()) {
+        if !is_trusted_page(image, p) {
+            return false;
+        }
+    }
+    true
+}
+
+/// Whether a bitmap block is inside the image, has a right checksum, and is none of those before it.
+fn is_trusted_page(image: &Image, p: u32) -> bool
+    requires { p < pages_of image.now }
+    ensures { MatchBool result (IsTrustedPage image.now p) (¬ IsTrustedPage image.now p) }
+{
+    let page = page_at(image, p);
+    if page < BOOT_BLOCKS || page >= image.blocks() || image.sum(page) != 0 {
+        return false;
+    }
+    !is_page_before(image, p, page)
+}
+
+/// Whether one of the first bitmap blocks is this block.
+fn is_page_before(image: &Image, count: u32, page: u32) -> bool
+    requires { count < pages_of image.now }
+    ensures { MatchBool result ((q : ℕ) × (q < count) × (page_block image.now q ≡ page)) ((q : ℕ) → q < count → page_block image.now q ≢ page) }
+{
+    for q in 0..count {
+        if page_at(image, q) == page {
+            return true;
+        }
+    }
+    false
+}
+
+/// A bitmap block, by the root.
+fn page_at(image: &Image, p: u32) -> u32
+    requires { p < pages_of image.now }
+    ensures { result ≡ page_block image.now p }
+{
+    prove!(image.blocks() <= MOST_BLOCKS);
+    image.long(image.root(), FIRST_PAGE + p)
+}
+
+/// Whether a block is a deleted entry, by a trusted bitmap.
+#[tactic(auto, using(crate::proofs::Trusting::trusted_pages))]
+pub(crate) fn is_deleted(image: &Image, block: u32) -> bool
+    requires inside { InImage image.now block }
+    requires trusted { IsTrustedBitmap image.now }
+    ensures { MatchBool result (IsDeleted image.now block) (¬ IsDeleted image.now block) }
+{
+    is_free(image, block) && is_sound_header(image, block)
+}
+
+/// Whether a block is one of the volume that is marked used.
+#[tactic(auto, using(crate::proofs::Trusting::trusted_pages))]
+pub(crate) fn is_used(image: &Image, block: u32) -> bool
+    requires { IsTrustedBitmap image.now }
+    ensures { result ≡ is_used image.now block }
+{
+    BOOT_BLOCKS <= block && block < image.blocks() && !is_free(image, block)
+}

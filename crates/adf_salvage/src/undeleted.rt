@@ -1,0 +1,138 @@
+//! The deleted entries of an image, with the directories that they were in.
+ghost use Rattle.std.specs.Prelude.{◌≡◌, length, IfOk, IsSome, OnOk};
+ghost use Rattle.adf_block.specs.Image.{block_count};
+ghost use Rattle.adf_salvage.specs.Deleted.{ListsDeleted};
+ghost use Rattle.adf_salvage.specs.Undeleted.{IsUndeleted, TellsUndeleted};
+ghost use Rattle.adf_salvage.specs.steps.Claims.{AreWhole};
+ghost use Rattle.adf_salvage.specs.Sound.{IsSoundHeader};
+ghost use Rattle.adf_salvage.specs.steps.Gathering.{AreGathered, GathersMore, place_at};
+ghost use Rattle.adf_salvage.specs.steps.Undeleting.{AreHeaders, HasEach};
+
+use crate::deleted::{Deleted, DeletedEntries, Recovery, deleted_entries};
+use crate::gathered::Gathered;
+use crate::giving::Giving;
+use crate::saved::Salvage;
+use crate::unreached::add_with_parents;
+use crate::whole::whole_files;
+use adf_block::Image;
+use std::alloc::{AllocError, Global};
+
+/// The deleted entries of an image, and all directories above them as far as these are sound.
+#[derive(Drop)]
+pub struct Undeleted {
+    /// The deleted entries, the entries that have blocks of deleted files now, and the directories above all of these, a
+    /// directory before its entries. An entry that is in none of them is in the root, or in a directory that is not sound. A file that is not whole has zeros where
+    /// its blocks are not there.
+    pub salvage: Salvage,
+    /// The deleted entries, by block.
+    pub deleted: Vec<Deleted>,
+    /// For each block, the position of its entry, if it has one. Each deleted entry has one.
+    pub places: Vec<Option<usize>>,
+}
+
+/// The deleted entries of an image with their directories, if its bitmap says which they are.
+#[derive(Drop)]
+pub enum UndeletedEntries {
+    Found(Undeleted),
+    /// The bitmap cannot be trusted.
+    NoTrustedBitmap,
+    /// The blocks of the image name each other too often for the faults to be listed that the trust needs.
+    ManyFaults,
+}
+
+/// The deleted entries of an image with their directories.
+///
+/// Time and memory grow as a sort of the blocks does.
+pub fn undelete(alloc: Global, image: Image) -> Result<UndeletedEntries, AllocError>
+    ensures { IfOk result (TellsUndeleted image) }
+{
+    match deleted_entries(alloc, &image)? {
+        DeletedEntries::Found(deleted) => {
+            let found = with_directories(alloc, image, deleted)?;
+            Ok(UndeletedEntries::Found(found))
+        }
+        DeletedEntries::NoTrustedBitmap => Ok(UndeletedEntries::NoTrustedBitmap),
+        DeletedEntries::ManyFaults => Ok(UndeletedEntries::ManyFaults),
+    }
+}
+
+/// Deleted entries with the directories above them.
+fn with_directories(
+    alloc: Global,
+    image: Image,
+    deleted: Vec<Deleted>,
+) -> Result<Undeleted, AllocError>
+    requires { ListsDeleted image deleted.items }
+    ensures { IfOk result (IsUndeleted image) }
+{
+    let whole = whole_files(alloc, &image)?;
+    let gathered = gathered_deleted(alloc, &image, &whole, &deleted)?;
+    let Gathered {
+        entries,
+        places,
+        giving,
+        ..
+    } = gathered;
+    let Giving { pieces, .. } = giving;
+    let salvage = Salvage::of(false, image, entries, pieces);
+    Ok(Undeleted {
+        salvage,
+        deleted,
+        places,
+    })
+}
+
+/// The deleted entries, each after the directories above it. The entries that have blocks of deleted files now come first, so
+/// that their names have no endings.
+fn gathered_deleted(
+    alloc: Global,
+    image: &Image,
+    whole: &[bool],
+    deleted: &[Deleted],
+) -> Result<Gathered, AllocError>
+    requires sound { AreHeaders image.now deleted.now }
+    requires whole { AreWhole image.now (block_count image.now) whole.now }
+    ensures gathered { IfOk result (AreGathered image.now) }
+    ensures each { IfOk result (λ gathered. HasEach gathered.places.items deleted.now) }
+{
+    let mut gathered = Gathered::new(alloc, image)?;
+    let mut climbed = vec![in alloc; false; image.blocks() as usize]?;
+    for entry in deleted {
+        if let Recovery::Used { by: Some(user), .. } = entry.recovery {
+            add_entry(alloc, image, whole, user, &mut climbed, &mut gathered)?;
+        }
+    }
+    for entry in deleted {
+        add_entry(
+            alloc,
+            image,
+            whole,
+            entry.header,
+            &mut climbed,
+            &mut gathered,
+        )?;
+    }
+    Ok(gathered)
+}
+
+/// Adds a header after the directories above it, if it is sound and was not added before.
+fn add_entry(
+    alloc: Global,
+    image: &Image,
+    whole: &[bool],
+    header: u32,
+    climbed: &mut Vec<bool>,
+    gathered: &mut Gathered,
+) -> Result<(), AllocError>
+    requires climbed { length climbed.old.items ≡ block_count image.now }
+    requires gathered { AreGathered image.now gathered.old }
+    requires whole { AreWhole image.now (block_count image.now) whole.now }
+    ensures climbed { OnOk result (length climbed.new.items ≡ block_count image.now) }
+    ensures more { OnOk result (GathersMore image.now gathered.old gathered.new) }
+    ensures met { OnOk result (IsSoundHeader image.now header → IsSome (place_at gathered.new.places.items header)) }
+{
+    if !gathered.is_new(image, header) {
+        return Ok(());
+    }
+    add_with_parents(alloc, image, whole, header, climbed, gathered)
+}
