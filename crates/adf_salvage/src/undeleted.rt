@@ -3,17 +3,17 @@ ghost use Rattle.std.specs.Prelude.{◌≡◌, length, IfOk, IsSome, OnOk};
 ghost use Rattle.adf_block.specs.Image.{block_count};
 ghost use Rattle.adf_salvage.specs.Deleted.{ListsDeleted};
 ghost use Rattle.adf_salvage.specs.Undeleted.{IsUndeleted, TellsUndeleted};
-ghost use Rattle.adf_salvage.specs.steps.Claims.{AreWhole};
 ghost use Rattle.adf_salvage.specs.Sound.{IsSoundHeader};
 ghost use Rattle.adf_salvage.specs.steps.Gathering.{AreGathered, GathersMore, place_at};
+ghost use Rattle.adf_salvage.specs.steps.Heading.{AreKnown};
 ghost use Rattle.adf_salvage.specs.steps.Undeleting.{AreHeaders, HasEach};
 
 use crate::deleted::{Deleted, DeletedEntries, Recovery, deleted_entries};
 use crate::gathered::Gathered;
 use crate::giving::Giving;
+use crate::known::{Known, known_of};
 use crate::saved::Salvage;
 use crate::unreached::add_with_parents;
-use crate::whole::whole_files;
 use adf_block::Image;
 use std::alloc::{AllocError, Global};
 
@@ -21,8 +21,8 @@ use std::alloc::{AllocError, Global};
 #[derive(Drop)]
 pub struct Undeleted {
     /// The deleted entries, the entries that have blocks of deleted files now, and the directories above all of these, a
-    /// directory before its entries. An entry that is in none of them is in the root, or in a directory that is not sound. A file that is not whole has zeros where
-    /// its blocks are not there.
+    /// directory before its entries. An entry that is in none of them is in the root, or in a directory that is not sound. A
+    /// file that is not whole has zeros where its blocks are not there.
     pub salvage: Salvage,
     /// The deleted entries, by block.
     pub deleted: Vec<Deleted>,
@@ -65,8 +65,8 @@ fn with_directories(
     requires { ListsDeleted image deleted.items }
     ensures { IfOk result (IsUndeleted image) }
 {
-    let whole = whole_files(alloc, &image)?;
-    let gathered = gathered_deleted(alloc, &image, &whole, &deleted)?;
+    let known = known_of(alloc, &image)?;
+    let gathered = gathered_deleted(alloc, &image, &known, &deleted)?;
     let Gathered {
         entries,
         places,
@@ -87,11 +87,11 @@ fn with_directories(
 fn gathered_deleted(
     alloc: Global,
     image: &Image,
-    whole: &[bool],
+    known: &Known,
     deleted: &[Deleted],
 ) -> Result<Gathered, AllocError>
     requires sound { AreHeaders image.now deleted.now }
-    requires whole { AreWhole image.now (block_count image.now) whole.now }
+    requires known { AreKnown image.now known.now }
     ensures gathered { IfOk result (AreGathered image.now) }
     ensures each { IfOk result (λ gathered. HasEach gathered.places.items deleted.now) }
 {
@@ -99,14 +99,14 @@ fn gathered_deleted(
     let mut climbed = vec![in alloc; false; image.blocks() as usize]?;
     for entry in deleted {
         if let Recovery::Used { by: Some(user), .. } = entry.recovery {
-            add_entry(alloc, image, whole, user, &mut climbed, &mut gathered)?;
+            add_entry(alloc, image, known, user, &mut climbed, &mut gathered)?;
         }
     }
     for entry in deleted {
         add_entry(
             alloc,
             image,
-            whole,
+            known,
             entry.header,
             &mut climbed,
             &mut gathered,
@@ -119,20 +119,20 @@ fn gathered_deleted(
 fn add_entry(
     alloc: Global,
     image: &Image,
-    whole: &[bool],
+    known: &Known,
     header: u32,
     climbed: &mut Vec<bool>,
     gathered: &mut Gathered,
 ) -> Result<(), AllocError>
     requires climbed { length climbed.old.items ≡ block_count image.now }
     requires gathered { AreGathered image.now gathered.old }
-    requires whole { AreWhole image.now (block_count image.now) whole.now }
+    requires known { AreKnown image.now known.now }
     ensures climbed { OnOk result (length climbed.new.items ≡ block_count image.now) }
     ensures more { OnOk result (GathersMore image.now gathered.old gathered.new) }
     ensures met { OnOk result (IsSoundHeader image.now header → IsSome (place_at gathered.new.places.items header)) }
 {
-    if !gathered.is_new(image, header) {
+    if !gathered.is_new(image, known, header) {
         return Ok(());
     }
-    add_with_parents(alloc, image, whole, header, climbed, gathered)
+    add_with_parents(alloc, image, known, header, climbed, gathered)
 }

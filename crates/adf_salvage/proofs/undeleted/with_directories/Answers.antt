@@ -17,5 +17,5 @@ returns c =
       places = subst (λ (es : List Salvaged). ArePlaces (headers_of es) c.in_ok-gathered.gathered.places.items) entries (record { placed = λ i l. gathered.placed i l; among = gathered.met });
       there = λ block d.
           met_by (λ (header : ℕ). IsSome (slice_index_or c.in_ok-gathered.gathered.places.items header None)) c.args.deleted.items
-          (subst (All (IsThere c.in_ok-gathered.gathered.places.items)) c.deref-2.ensures.value c.in_ok-gathered.ensures.each) block (c.requires.all block d);
+          (subst (All (IsThere c.in_ok-gathered.gathered.places.items)) c.deref.ensures.value c.in_ok-gathered.ensures.each) block (c.requires.all block d);
     }
