@@ -372,9 +372,10 @@ def filler_blocks(room: Room) -> None:
         check("a bitmap that is made anew", image, told, first="ok validated\n")
         image.put(header, 5, 0)
         room.write("filled.adf", bytes(image.data))
-        for words in ([], ["--all"], ["--json"]):
-            refused = [room.run("check", *words, *more, "filled.adf") for more in ([], ["--filler"])]
-            room.report.same(f"filler {said}: a refused image {' '.join(words)}", refused[1], refused[0])
+        every: List[List[str]] = [[], ["--all"], ["--json"]]
+        for words in every:
+            without = room.run("check", *words, "filled.adf")
+            room.report.same(f"filler {said}: a refused image {' '.join(words)}", room.run("check", "--filler", *words, "filled.adf"), without)
 
 
 def long_paths_of_fillers(room: Room) -> None:
