@@ -398,6 +398,25 @@ def long_paths_of_fillers(room: Room) -> None:
     room.report.same("filler: objects of long paths", objects, [it.member() for it in sorted(told)])
 
 
+def largest_filled(room: Room) -> None:
+    """Each block of the largest image holds a filler, in a file with a long path. The last block is partly used, and holds zeros too."""
+    directory = "/".join(["d" * 30] * 7)
+    room.write("f6", FORMATTED * 51_000_000)
+    room.done("blank", "--ffs", "--blocks", "101602", "Large", "large.hdf")
+    room.done("mkdir", "--parents", "large.hdf", directory)
+    room.done("add", "--to", directory, "large.hdf", "f6")
+    for words in (["--filler"], ["--filler", "--json"]):
+        with open("lines", "wb") as lines:
+            ran = subprocess.Popen([str(room.program), "check", *words, "large.hdf"], stdout=lines)
+            _, status, used = os.wait4(ran.pid, 0)
+        said = f"filler: the largest image as {'JSON' if words[1:] else 'lines'}"
+        room.report.same(said, (status, room.content("lines").count(b"/f6")), (0, 51_000_000 // BLOCK))
+        room.report.expect(f"{said}: memory", used.ru_maxrss < 300_000, f"{used.ru_maxrss} KB")
+        room.report.expect(f"{said}: time", used.ru_utime + used.ru_stime < 10, f"{used.ru_utime + used.ru_stime} seconds")
+    for it in ("f6", "large.hdf", "lines"):
+        os.remove(it)
+
+
 class Filling(Drawer):
     """Draws a volume, and notes the data blocks of its files."""
 
@@ -1236,7 +1255,7 @@ def damages(room: Room) -> None:
 
 def main(words: List[str]) -> int:
     random.seed(3)
-    parts = (named_images, directories, strange_names, other_files, filler_blocks, long_paths_of_fillers, drawn_fillers, parallel, accepted_objects, refused_objects, shown_values, texts_told, bounded, many_faults, model, longs_told, salvage, rows, damages)
+    parts = (named_images, directories, strange_names, other_files, filler_blocks, long_paths_of_fillers, largest_filled, drawn_fillers, parallel, accepted_objects, refused_objects, shown_values, texts_told, bounded, many_faults, model, longs_told, salvage, rows, damages)
     return try_all(words, Room, *parts)
 
 
