@@ -238,7 +238,14 @@ def other_files(room: Room) -> None:
 
     whole = "are no whole number of blocks: cut short, or not an ADF file"
     few, many = (f"are too {it} for a volume, which has 16 to 101,602 blocks of 512 bytes" for it in ("few", "many"))
-    check("an image without its last byte", good[:-1], "NotWholeBlocks 0", f"901,119 bytes {whole}")
+    fits = "the root at block 880 fits 1,760 blocks; the file has"
+    check("an image without its last byte", good[:-1], "NotWholeBlocks 0", f"901,119 bytes {whole}", f"{fits} 1,759 and 511 bytes")
+    check("an image and 100 bytes", good + bytes(100), "NotWholeBlocks 0", f"901,220 bytes {whole}", f"{fits} 1,760 and 100 bytes")
+    check("an image up to its root", good[: 881 * BLOCK + 1], "NotWholeBlocks 0", f"451,073 bytes {whole}", f"{fits} 881 and 1 byte")
+    check("an image without a byte of its root", good[: 881 * BLOCK - 1], "NotWholeBlocks 0", f"451,071 bytes {whole}")
+    check("zeros of no whole blocks", bytes(1_234), "NotWholeBlocks 0", f"1,234 bytes {whole}", "each of its bytes is 00: nothing was written or read")
+    check("three blocks of FF", b"\xff" * 3 * BLOCK, "TooFewBlocks 0", f"1,536 bytes {few}", "each of its bytes is FF: nothing was written or read")
+    check("zeros but for the last byte", bytes(1_233) + b"x", "NotWholeBlocks 0", f"1,234 bytes {whole}")
     check("1,234 bytes", good[:1_234], "NotWholeBlocks 0", f"1,234 bytes {whole}")
     check("no bytes", b"", "TooFewBlocks 0", f"0 bytes {few}")
     check("fifteen blocks", good[: 15 * BLOCK], "TooFewBlocks 0", f"7,680 bytes {few}")
@@ -263,7 +270,6 @@ def other_files(room: Room) -> None:
         check(f"only {byte:02X}", bytes([byte]) * len(good), "NotADosDisk 0", begins, every)
     begins = "block 0: not an AmigaDOS disk: its boot block begins with 00 00 00 00 (a game's own format, perhaps)"
     check("only 00 but for the last byte", bytes(len(good) - 1) + b"x", "NotADosDisk 0", begins)
-    fits = "the root at block 880 fits 1,760 blocks; the file has"
     roots: List[Tuple[str, bytes, int, List[str]]] = [
         ("two cylinders more", good + bytes(44 * BLOCK), 902, [f"{fits} 1,804"]),
         ("fewer blocks", good[: 1_000 * BLOCK], 500, [f"{fits} 1,000"]),
@@ -358,8 +364,8 @@ def filler_blocks(room: Room) -> None:
         check("each block of a file", image, told)
         room.report.check(f"filler {said}: without the option", room.run("check", "filled.adf"), 0, b"ok\n")
         paths = [f"{it}.adf" for it in ("filled", "filler", "filled")]
-        lines = {it: [f"{it}\tok\n", *(f"{it}\t{one.line()}" for one in sorted(told) if it == "filled.adf")] for it in paths}
-        several = "".join(line for it in paths for line in lines[it]).encode()
+        found = "".join(f"filled.adf\t{it.line()}" for it in sorted(told))
+        several = f"filled.adf\tok\n{found}filler.adf\tok\nfilled.adf\tok\n{found}".encode()
         room.report.check(f"filler {said}: several", room.run("check", "--filler", *paths), 0, several, totals(3))
         objects = [json.loads(it) for it in room.run("check", "--filler", "--json", *paths[:2]).output.splitlines()]
         room.report.same(f"filler {said}: objects", [it["suspects"] for it in objects], [[it.member() for it in sorted(told)], []])
@@ -368,9 +374,10 @@ def filler_blocks(room: Room) -> None:
         check("a bitmap that is made anew", image, told, first="ok validated\n")
         image.put(header, 5, 0)
         room.write("filled.adf", bytes(image.data))
-        for words in ([], ["--all"], ["--json"]):
-            refused = [room.run("check", *words, *more, "filled.adf") for more in ([], ["--filler"])]
-            room.report.same(f"filler {said}: a refused image {' '.join(words)}", refused[1], refused[0])
+        every: List[List[str]] = [[], ["--all"], ["--json"]]
+        for words in every:
+            without = room.run("check", *words, "filled.adf")
+            room.report.same(f"filler {said}: a refused image {' '.join(words)}", room.run("check", "--filler", *words, "filled.adf"), without)
 
 
 def long_paths_of_fillers(room: Room) -> None:
@@ -391,6 +398,25 @@ def long_paths_of_fillers(room: Room) -> None:
     room.report.check("filler: long paths", room.run("check", "--filler", "deep.adf"), 0, f"ok\n{lines}".encode())
     objects = json.loads(room.run("check", "--filler", "--json", "deep.adf").output)["suspects"]
     room.report.same("filler: objects of long paths", objects, [it.member() for it in sorted(told)])
+
+
+def largest_filled(room: Room) -> None:
+    """Each block of the largest image holds a filler, in a file with a long path. The last block is partly used, and holds zeros too."""
+    directory = "/".join(["d" * 30] * 7)
+    room.write("f6", FORMATTED * 51_000_000)
+    room.done("blank", "--ffs", "--blocks", "101602", "Large", "large.hdf")
+    room.done("mkdir", "--parents", "large.hdf", directory)
+    room.done("add", "--to", directory, "large.hdf", "f6")
+    for words in (["--filler"], ["--filler", "--json"]):
+        with open("lines", "wb") as lines:
+            ran = subprocess.Popen([str(room.program), "check", *words, "large.hdf"], stdout=lines)
+            _, status, used = os.wait4(ran.pid, 0)
+        said = f"filler: the largest image as {'JSON' if words[1:] else 'lines'}"
+        room.report.same(said, (status, room.content("lines").count(b"/f6")), (0, 51_000_000 // BLOCK))
+        room.report.expect(f"{said}: memory", used.ru_maxrss < 300_000, f"{used.ru_maxrss} KB")
+        room.report.expect(f"{said}: time", used.ru_utime + used.ru_stime < 10, f"{used.ru_utime + used.ru_stime} seconds")
+    for it in ("f6", "large.hdf", "lines"):
+        os.remove(it)
 
 
 class Filling(Drawer):
@@ -1271,7 +1297,7 @@ def damages(room: Room) -> None:
 
 def main(words: List[str]) -> int:
     random.seed(3)
-    parts = (named_images, directories, strange_names, other_files, filler_blocks, long_paths_of_fillers, drawn_fillers, parallel, accepted_objects, refused_objects, shown_values, texts_told, bounded, many_faults, model, longs_told, salvage, rows, damages)
+    parts = (named_images, directories, strange_names, other_files, filler_blocks, long_paths_of_fillers, largest_filled, drawn_fillers, parallel, accepted_objects, refused_objects, shown_values, texts_told, bounded, many_faults, model, longs_told, salvage, rows, damages)
     return try_all(words, Room, *parts)
 
 

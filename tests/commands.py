@@ -1498,7 +1498,7 @@ def refused_shows(tried: Commands) -> None:
     size = ", double density, 1,760 blocks"
     rows: List[Tuple[str, bytes, str, List[str]]] = [
         ("short.adf", blank[:7680], "TooFewBlocks 0", ["7,680 bytes are too few for a volume, which has 16 to 101,602 blocks of 512 bytes\n"]),
-        ("odd.adf", blank[:901119], "NotWholeBlocks 0", ["901,119 bytes are no whole number of blocks: cut short, or not an ADF file\n"]),
+        ("odd.adf", blank[:901119], "NotWholeBlocks 0", [f"901,119{WHY_NOT_BLOCKS}", "block 880 fits 1,760 blocks; the file has 1,759 and 511 bytes\n"]),
         ("kind.adf", poked(blank, 0, 0, b"DOS\2"), "UnsupportedKind 0", [f"DOS\\2{size}\n", "block 0"]),
         ("nodos.adf", poked(blank, 0, 0, b"\0"), "NotADosDisk 0", [f"no AmigaDOS format{size}\n", "DOS"]),
         ("sum.adf", poked(blank, 880, 100, b"\1"), "BadSum 880", [f"FFS{size}\n", "block 880"]),

@@ -72,7 +72,7 @@ ADVICE: List[Tuple[str, str]] = [
     (r"--force writes|bitmap block|but nothing names it", "Save what can be trusted with `extract --damaged` before `--force`"),
     (r"^(the header of a directory|an extension block|a data block of)", "Save it with `extract --damaged` before `--force`"),
     (r"ok, \{\} refused|^(OFS|FFS|DOS|no AmigaDOS)|^\{\} bytes$", "Nothing: it counts and describes"),
-    (r"the root at block", "Look whether the file is cut short"),
+    (r"the root at block|^and \{rest\} bytes$", "Look whether the file is cut short"),
     (r"UTF-8", "Rename the file, or give it another name with `add --as`"),
     (r"stands? for no byte|past U\+00FF|no character of an Amiga", "Leave out letters past U+00FF"),
     (r"standard input, which has no name", "Name it with `--as NAME`"),
@@ -135,7 +135,7 @@ STATUSES: List[Tuple[str, str]] = [
     (r"ok, \{\} refused", ""),
     (r"its volume is|is not written|--force writes|bitmap block|nothing names it|faults than can be|does not mend|still has a fault", "3"),
     (r"^(the header of a directory|an extension block|a data block of)", "3"),
-    (r"it looks like|^\{\} bytes$|nothing was written or read|the root at block|^(OFS|FFS|no AmigaDOS)", "3"),
+    (r"it looks like|^\{\} bytes$|nothing was written or read|the root at block|^and \{rest\} bytes$|^(OFS|FFS|no AmigaDOS)", "3"),
     (r"blocks are needed|one name on|needs a file|into itself|characters|allows in no|no character of", "3"),
 ]
 ADVICE_OF_FAULTS = "`check --all` names each fault, and `extract --damaged` takes out what is sound"

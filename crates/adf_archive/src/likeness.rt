@@ -1,12 +1,13 @@
 //! What a file that is no image looks like.
-ghost use Rattle.std.specs.Prelude.{◌<◌, MatchOption};
-ghost use Rattle.adf_block.specs.Image.{block_count};
-ghost use Rattle.adf_archive.specs.Likeness.{BeginsAs};
+ghost use Rattle.std.specs.Prelude.{◌<◌, ◌↔◌, ℕ, IsTrue, MatchOption};
+ghost use Rattle.adf_block.specs.Image.{IsInside, block_count};
+ghost use Rattle.adf_archive.specs.Likeness.{BeginsAs, IsFirstRoot, LooksLikeRoot};
 ghost use Rattle.adf_archive.specs.declared.likeness.Likeness.{Likeness};
 
 use adf_block::Image;
 use adf_block::layout::{
-    BOOT_BLOCKS, HEADER_TYPE, PRIMARY_TYPE, ROOT_TYPE, SECONDARY_TYPE, TABLE_LONGS, TABLE_SIZE,
+    BLOCK_BYTES, BOOT_BLOCKS, FEWEST_BLOCKS, HEADER_TYPE, MOST_BLOCKS, PRIMARY_TYPE, ROOT_TYPE,
+    SECONDARY_TYPE, TABLE_LONGS, TABLE_SIZE,
 };
 use thiserror::Error;
 
@@ -59,6 +60,24 @@ pub(crate) fn other_root(image: &Image) -> Option<u32> {
     if looks_like_root(image, image.root()) {
         return None;
     }
+    first_root(image)
+}
+
+/// The first block that looks like a root in the first bytes of a file of any length.
+pub(crate) fn root_in(mut front: Vec<u8>) -> Option<u32> {
+    let blocks = front.len().div_ceil(BLOCK_BYTES as usize);
+    let most = blocks.clamp(FEWEST_BLOCKS as usize, MOST_BLOCKS as usize);
+    front.resize(most * BLOCK_BYTES as usize, 0).ok()?;
+    match Image::from_bytes(front) {
+        Ok(image) => first_root(&image),
+        Err(_) => None,
+    }
+}
+
+/// The first block that looks like a root.
+fn first_root(image: &Image) -> Option<u32>
+    ensures { MatchOption result ((block : ℕ) → IsInside (block_count image.now) block → ¬ LooksLikeRoot image.now block) (IsFirstRoot image.now) }
+{
     for block in BOOT_BLOCKS..image.blocks() {
         if looks_like_root(image, block) {
             return Some(block);
@@ -70,6 +89,7 @@ pub(crate) fn other_root(image: &Image) -> Option<u32> {
 /// Whether a block has the types, the table size and the checksum of a root.
 fn looks_like_root(image: &Image, block: u32) -> bool
     requires { block < block_count image.now }
+    ensures { IsTrue result ↔ LooksLikeRoot image.now block }
 {
     image.long(block, PRIMARY_TYPE) == HEADER_TYPE
         && image.long(block, SECONDARY_TYPE) == ROOT_TYPE

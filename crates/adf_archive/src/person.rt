@@ -1,11 +1,12 @@
 //! What a person is told of images beside the reports.
 use crate::finding::Remark;
-use crate::likeness::{filling, likeness_of, other_root};
+use crate::likeness::{filling, likeness_of, other_root, root_in};
 use crate::reading::ReadImages;
 use crate::report::{ImageReport, RefusedImage, WhyNot};
+use adf_block::layout::{BLOCK_BYTES, MOST_BLOCKS};
 use adf_block::{Image, SizeFault};
 use adf_host::why_unreadable;
-use adf_io::read_some;
+use adf_io::read_bounded;
 use adf_record::Grouped;
 use adf_text::print_line;
 use ados_model::FaultKind;
@@ -14,6 +15,12 @@ use std::fmt::{Display, Formatter};
 use std::io::Write;
 use std::rt::Files;
 use std::{fmt, fs};
+
+/// The bytes at the start of a file that tell its kind.
+const KIND_BYTES: usize = 4;
+
+/// The most bytes that an image has.
+const MOST_BYTES: usize = MOST_BLOCKS as usize * BLOCK_BYTES as usize;
 
 /// How a person is told of images.
 #[derive(Clone, Copy)]
@@ -58,7 +65,7 @@ fn tell_report<R: Files + ReadImages, F: Write>(
     match report {
         ImageReport::NotChecked(why) => tell_unread(rt, path, *why, faults),
         ImageReport::WrongSize(fault) if manner.texts => {
-            tell_size(rt, path, *fault, manner, faults);
+            tell_size(rt, alloc, path, *fault, manner, faults);
         }
         ImageReport::Refused(told) if manner.texts => {
             tell_refused(rt, alloc, path, told, manner, faults);
@@ -117,9 +124,37 @@ impl Display for WrongLength {
     }
 }
 
+/// The text for a file whose root is that of an image of another size.
+#[derive(Clone, Copy)]
+struct OtherSize {
+    root: u32,
+    /// The bytes of the file.
+    length: u64,
+}
+
+impl Display for OtherSize {
+    fn fmt<W: fmt::Write>(&self, f: &mut Formatter<W>) -> fmt::Result {
+        let root = u64::from(self.root);
+        let block = u64::from(BLOCK_BYTES);
+        write!(
+            f,
+            "the root at block {} fits {} blocks; the file has {}",
+            Grouped(root),
+            Grouped(2 * root),
+            Grouped(self.length / block)
+        )?;
+        match self.length % block {
+            0 => Ok(()),
+            1 => f.write_str(" and 1 byte"),
+            rest => write!(f, " and {rest} bytes"),
+        }
+    }
+}
+
 /// Prints what explains a wrong size, and what the file looks like.
 pub(crate) fn tell_size<R: Files, F: Write>(
     rt: &R,
+    alloc: Global,
     path: &str,
     fault: SizeFault,
     manner: Manner,
@@ -127,18 +162,48 @@ pub(crate) fn tell_size<R: Files, F: Write>(
 ) {
     let length = regular_length(rt, path);
     tell(path, manner, WrongLength { fault, length }, faults);
-    if length.is_none() {
+    if let Some(length) = length {
+        let front = front_of(rt, alloc, path, length);
+        tell_front(path, front, length, manner, faults);
+    }
+}
+
+/// The bytes of a file of this length; none if they cannot be read. Of a longer file than an image, only the first ones are
+/// read, which tell its kind.
+fn front_of<R: Files>(rt: &R, alloc: Global, path: &str, length: u64) -> Vec<u8> {
+    let most = if length > MOST_BYTES as u64 {
+        KIND_BYTES
+    } else {
+        MOST_BYTES
+    };
+    match fs::open(rt, path) {
+        Ok(mut file) => match read_bounded(alloc, &mut file, most) {
+            Ok(front) => front,
+            Err(_) => Vec::new(alloc),
+        },
+        Err(_) => Vec::new(alloc),
+    }
+}
+
+/// Prints what a file of this length looks like, by its first bytes.
+fn tell_front<F: Write>(path: &str, front: Vec<u8>, length: u64, manner: Manner, faults: &mut F) {
+    tell_bytes(path, &front, length, manner, faults);
+    if let Some(root) = root_in(front) {
+        tell(path, manner, OtherSize { root, length }, faults);
+    }
+}
+
+/// Prints what a file of this length looks like, by its first bytes: another kind of file, or one byte from end to end.
+fn tell_bytes<F: Write>(path: &str, front: &[u8], length: u64, manner: Manner, faults: &mut F) {
+    if let Some(likeness) = likeness_of(front) {
+        tell(path, manner, likeness, faults);
+    }
+    if front.len() as u64 != length {
         return;
     }
-    let mut front = [0; 4];
-    let Ok(mut file) = fs::open(rt, path) else {
-        return;
-    };
-    let Ok(count) = read_some(&mut file, &mut front) else {
-        return;
-    };
-    if let Some(likeness) = likeness_of(&front[..count]) {
-        tell(path, manner, likeness, faults);
+    if let Some(byte) = filling(front) {
+        let text = format_args!("each of its bytes is {byte:02X}: nothing was written or read");
+        tell(path, manner, text, faults);
     }
 }
 
@@ -200,22 +265,10 @@ fn may_be_other(told: &RefusedImage) -> bool {
 /// Prints what a refused image looks like.
 fn tell_looks<F: Write>(path: &str, image: &Image, manner: Manner, faults: &mut F) {
     let bytes = image.as_bytes();
-    if let Some(likeness) = likeness_of(bytes) {
-        tell(path, manner, likeness, faults);
-    }
-    if let Some(byte) = filling(bytes) {
-        let text = format_args!("each of its bytes is {byte:02X}: nothing was written or read");
-        tell(path, manner, text, faults);
-    }
+    let length = bytes.len() as u64;
+    tell_bytes(path, bytes, length, manner, faults);
     if let Some(root) = other_root(image) {
-        let root = u64::from(root);
-        let text = format_args!(
-            "the root at block {} fits {} blocks; the file has {}",
-            Grouped(root),
-            Grouped(2 * root),
-            Grouped(u64::from(image.blocks()))
-        );
-        tell(path, manner, text, faults);
+        tell(path, manner, OtherSize { root, length }, faults);
     }
 }
 

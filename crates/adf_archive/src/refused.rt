@@ -55,7 +55,7 @@ pub fn explain_refused<R: Files + ReadImages, F: Write>(
             }
             tell_other(rt, alloc, path, &told, ALONE, faults);
         }
-        ImageReport::WrongSize(fault) => tell_size(rt, path, fault, ALONE, faults),
+        ImageReport::WrongSize(fault) => tell_size(rt, alloc, path, fault, ALONE, faults),
         _ => {}
     }
 }
