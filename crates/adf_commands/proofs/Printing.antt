@@ -19,8 +19,6 @@ use Rattle.adf_words.specs.declared.job.ImageJob.TheVariants.{Blank}
 use Rattle.adf_export.specs.declared.fault.OutFault.{OutFault}
 use Rattle.adf_export.specs.declared.fault.OutFault.TheVariants as out
 use Rattle.adf_export.specs.Printing.{IsPrinted, IsPrintFault}
-use Rattle.adf_export.specs.declared.damaged.Rescue.{Rescue}
-use Rattle.adf_export.specs.Rescue.{AreRescued, AreSomeRescued, IsRescue}
 use Rattle.adf_io.proofs.Prefixes.{writes_first}
 use Rattle.adf_commands.specs.declared.fault.CommandFault.{CommandFault}
 use Rattle.adf_commands.specs.declared.fault.CommandFault.TheVariants.{Dos, ImagesRefused, Memory, NotChecked, NotWhole, Output, Refused}
@@ -41,7 +39,7 @@ use Rattle.adf_words.specs.declared.query.WhereJob.{WhereJob}
 use Rattle.adf_export.specs.Where.{IsWhere, IsWhereOf}
 use Rattle.adf_export.specs.Words.{LeadsTo}
 use Rattle.adf_commands.specs.Archives.{EndsArchive}
-use Rattle.adf_commands.specs.Rescues.{DoesRescue, IsRescueText, IsSomeRescueText, TellsRescue}
+use Rattle.adf_commands.specs.Rescues.{DoesRescue, TellsRescue}
 use Rattle.adf_commands.specs.Refusals.{dos_line, IsDosText, IsRefusalText, refusal_line, told_line}
 
 -- an image is refused, as the fault says
@@ -242,13 +240,6 @@ no_image_rescued w fault is = inl (Keeps-refl w)
 pub rescues_no_image : (w : Option (List ℕ)) (fault : CommandFault) (done : Ending) → IsNoImage fault → IsErrAnd done (λ told. told ≡ fault) → DoesRescue w w done
 rescues_no_image w fault (Ok x) is same = absurd same
 rescues_no_image w fault (Err told) is same = no_image_rescued w told (subst IsNoImage (sym same) is)
-
--- the report on a rescue, whole or as far as the writer accepts it
-pub rescue_told : (old new : Option (List ℕ)) (image : List ℕ) (rescue : Rescue) (whole : Bool) → IsRescue image rescue → Writes old new (AreRescued rescue.salvage whole) → Writes old new (IsRescueText whole)
-rescue_told old new image rescue whole is (text, written, told) = (text, written, (image, record { saved = rescue.salvage; salvaged = is; told = told }))
-
-pub rescue_cut : (old new : Option (List ℕ)) (image : List ℕ) (rescue : Rescue) → IsRescue image rescue → WritesFrontOf old new (AreSomeRescued rescue.salvage) → WritesFrontOf old new IsSomeRescueText
-rescue_cut old new image rescue is (text, (whole, told), front) = (text, (whole, (image, record { saved = rescue.salvage; salvaged = is; told = told })), front)
 
 -- for jobs with such texts for bytes
 module _ (IsText BeginsText : List ℕ → List ℕ → Type 0) where
