@@ -15,7 +15,8 @@ pub returns : goal.returns
 returns g c =
     let volume = c.in_ok-volume.volume in
     let job = c.args.job.now in
-    let named = λ t (s : Stands volume.image t). subst (λ (blocks : List BlockWord). IsWhere job.json volume.image t blocks c.in-Ok.text.items) c.deref.ensures.value (c.in-Ok.ensures.text t s) in
+    let named : (t : Tree) → Stands volume.image t → IsWhere job.json volume.image t job.blocks.items c.in-Ok.text.items =
+    λ t s. subst (λ (blocks : List BlockWord). IsWhere job.json volume.image t blocks c.in-Ok.text.items) c.deref.ensures.value (c.in-Ok.ensures.text t s) in
     let told = subst (λ (text : List ℕ). (t : Tree) → Stands volume.image t → IsWhere job.json volume.image t job.blocks.items text) (sym c.deref-2.ensures.value) named in
     told_text (AreOwnedBlocks job) c.args.image _ _ c.deref-2.result.now c.tell.result (blocks_told c.args.image _ _ c.in_ok-volume.ensures job _ told)
     c.tell.ensures.ok c.tell.ensures.front c.tell.ensures.no_refusal
