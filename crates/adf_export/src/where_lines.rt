@@ -48,8 +48,11 @@ fn push_line(
 fn place_text(alloc: Global, blocks: u32, block: u32) -> Result<String, AllocError>
     ensures { IfOk result (λ text. string_bytes text ≡ place_text blocks block) }
 {
-    format!(in alloc; "{block}  cyl {} head {} sector {}  ",
-        cylinder_of(blocks, block), head_of(blocks, block), sector_of(blocks, block)
+    format!(in alloc;
+        "{block}  cyl {} head {} sector {}  ",
+        cylinder_of(blocks, block),
+        head_of(blocks, block),
+        sector_of(blocks, block)
     )
 }
 

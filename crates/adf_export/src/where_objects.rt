@@ -66,7 +66,11 @@ fn put_place(writer: &mut Writer, blocks: u32, block: u32) -> Result<(), AllocEr
     ensures tokens { OnOk result (writer.new.tokens ≡ writer.old.tokens ++ place_tokens blocks block) }
 {
     put_number(writer, "block", Some(u64::from(block)))?;
-    put_number(writer, "cylinder", Some(u64::from(cylinder_of(blocks, block))))?;
+    put_number(
+        writer,
+        "cylinder",
+        Some(u64::from(cylinder_of(blocks, block))),
+    )?;
     put_number(writer, "head", Some(u64::from(head_of(blocks, block))))?;
     put_number(writer, "sector", Some(u64::from(sector_of(blocks, block))))
 }
