@@ -36,7 +36,8 @@ def copy_crates(names: list[str], to: Path) -> None:
     # (`rt ci` holds a lock in it)
     (to / ".git").mkdir()
     (to / "tools").mkdir()
-    shutil.copy2(TOP / "tools/gate_libraries", to / "tools")
+    for tool in ("gate_libraries", "kit.py"):
+        shutil.copy2(TOP / "tools" / tool, to / "tools")
 
 
 def hand_over(made: Path, to: Path) -> None:
