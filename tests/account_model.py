@@ -3,8 +3,8 @@
 
     tests/account_model.py IMAGE
 
-It follows the definitions of crates/adf_salvage/specs: it first finds all headers that can be told, by going over all blocks until
-nothing changes, and then looks at each of them. It tells of no bytes, and a block is given to each file that names it, so it serves
+It follows the definitions of crates/adf_salvage/specs: it first finds the deleted entries, then all headers that can be told, by
+going over all blocks until nothing changes, and then looks at each of them. Deleted entries have one line together, `deleted N`. It tells of no bytes, and a block is given to each file that names it, so it serves
 for images in which no two broken files share a block.
 """
 from __future__ import annotations
@@ -15,7 +15,7 @@ from typing import Dict, Iterator, List, Optional, Set, Tuple
 
 sys.dont_write_bytecode = True
 
-from all_faults_model import lines_of
+from all_faults_model import Model
 from harness import BLOCK, LONGS, Image
 
 ROOT, DIRECTORY, FILE = 1, 2, 2**32 - 3
@@ -32,8 +32,11 @@ class Account(Image):
         self.is_ofs = self.data[3] == 0
         self.room = 488 if self.is_ofs else 512
         self.inside = range(2, self.blocks)
-        self.accepted = not lines_of(data)
-        self.sound = {it for it in self.inside if self.is_sound(it)}
+        self.model = Model(data)
+        self.faults = self.model.all_faults()
+        self.accepted = not self.faults
+        self.deleted = self.deleted_headers()
+        self.sound = {it for it in self.inside if self.is_sound(it)} - self.deleted
         self.told = self.headers()
         self.reached = self.from_root()
         self.intact = {it: blocks for it in self.sound if (blocks := self.blocks_of(it)) is not None}
@@ -77,7 +80,7 @@ class Account(Image):
             before = len(told)
             for holder in self.holders(told):
                 for block, directory in self.named_by(holder):
-                    if block in self.inside and self.looks_like_header(block) and self.long(block, 125) == directory:
+                    if block in self.inside and block not in self.deleted and self.looks_like_header(block) and self.long(block, 125) == directory:
                         told.add(block)
         return told
 
@@ -92,6 +95,28 @@ class Account(Image):
                 reached.add(block)
                 places += [it for it, _ in self.named_by(block)]
         return reached
+
+    # ---- deleted entries
+
+    def is_free(self, block: int) -> bool:
+        page = self.long(self.root, 79 + (block - 2) // 4064)
+        return bool(self.long(page, 1 + (block - 2) % 4064 // 32) >> (block - 2) % 32 & 1)
+
+    def is_trusted(self) -> bool:
+        """Whether the bitmap can be trusted."""
+        if self.long(self.root, 78) != 2**32 - 1 or any(block == self.root for block, _ in self.faults):
+            return False
+        pages = [self.long(self.root, 79 + it) for it in range(self.model.pages())]
+        if len(set(pages)) < len(pages) or not all(it in self.inside and self.is_summed(it) for it in pages):
+            return False
+        return not any(self.is_free(it) for it, _ in self.model.reached)
+
+    def deleted_headers(self) -> Set[int]:
+        """The sound headers that nothing names from the root, and that a trusted bitmap marks free."""
+        if not self.is_trusted():
+            return set()
+        named = {it for it, _ in self.model.reached}
+        return {it for it in self.inside if it not in named and self.is_free(it) and self.is_sound(it)}
 
     # ---- files
 
@@ -179,7 +204,7 @@ class Account(Image):
         lost: Dict[int, bool] = {}
         for holder in self.holders(self.told):
             for block, _ in self.named_by(holder):
-                if block in self.inside and block not in self.told:
+                if block in self.inside and block not in self.told | self.deleted:
                     lost.setdefault(block, holder in self.told and holder not in self.reached)
         return lost
 
@@ -187,9 +212,9 @@ class Account(Image):
         return self.text(block, 432).decode("latin-1") if self.has_name(block) else f"block-{block}"
 
     def lines(self) -> List[str]:
+        lines = [f"deleted {len(self.deleted)}"] * bool(self.deleted)
         if self.accepted:
-            return sorted(f"whole {self.name(it)}" for it in self.reached if not self.is_directory(it))
-        lines = []
+            return sorted([*lines, *(f"whole {self.name(it)}" for it in self.reached if not self.is_directory(it))])
         for block in self.told:
             found, state = block not in self.reached, self.state(block)
             if found or state:

@@ -6,7 +6,7 @@ salvage of damaged images.
 
 The environment variable ROUNDS is the number of changed images that are compared with the model of the faults. DAMAGED is the
 number of damaged images of each format that are served; a fifth as many are salvaged. FILLED is the number of drawn volumes
-whose data blocks hold fillers.
+whose data blocks hold fillers, and of those with deleted entries.
 """
 from __future__ import annotations
 
@@ -27,7 +27,7 @@ sys.dont_write_bytecode = True
 
 from account_model import account_of
 from all_faults_model import lines_of
-from drawn_volume import Drawer, drawn
+from drawn_volume import DIRECTORY, FILE, HEADER, Drawer, drawn, read, slot
 from harness import BLOCK, Image, Ran, Room, try_all
 
 ROUNDS = int(os.environ.get("ROUNDS", "2000"))
@@ -1295,9 +1295,99 @@ def damages(room: Room) -> None:
         tried.all_true(f"salvage {said}: each block of zeros", tried.zeroed(), silent)
 
 
+# ---- deleted entries
+
+
+class Deleting(Filling):
+    """Draws a volume, and leaves deleted entries in its free blocks."""
+
+    def leave(self, most: int) -> int:
+        """Leaves at most so many deleted entries. Live files have data blocks of the files, and a directory names any blocks. How many
+        there are."""
+        live = sorted(self.held)
+        left = 0
+        while left < most and len(self.unused) > 12:
+            key, data = self.take(), [self.take() for _ in range(self.chance.randrange(5))]
+            is_directory = self.chance.random() < 0.3
+            self.put_all(key, 0, [HEADER, key])
+            self.put_text(key, 432, self.name())
+            self.put(key, 125, self.root)
+            self.put(key, 127, DIRECTORY if is_directory else FILE)
+            if is_directory:
+                self.put_all(key, 6, [self.chance.randrange(2, self.blocks) for _ in range(72)])
+            else:
+                self.put_bytes(key, data, self.chance.randbytes((488 if self.ofs else BLOCK) * len(data)))
+                for at, block in enumerate(self.chance.sample(live, min(len(data), len(live), self.chance.randrange(5)))):
+                    self.put(key, 77 - at, block)
+            self.settle(key)
+            left += 1
+        return left
+
+    def misplace(self) -> bool:
+        """Renames an entry of the root in its block, which is then in another hash chain than that of its name."""
+        for at in range(72):
+            key = self.long(self.root, 6 + at)
+            names = [bytes([first]) + self.text(key, 432)[1:] for first in b"abcdefgh"] if key else []
+            others = [it for it in names if slot(it) != at]
+            if others:
+                self.put_text(key, 432, others[0])
+                self.settle(key)
+                return True
+        return False
+
+
+class Left(NamedTuple):
+    """How deleted entries are told: the status, how many lines start with each word, the last line if it tells of them, and the bytes of
+    the files in order."""
+
+    status: int
+    whole: int
+    found: int
+    others: int
+    last: bytes
+    written: List[bytes]
+
+
+def left_in(room: Room, data: bytes) -> Left:
+    shutil.rmtree("left", ignore_errors=True)
+    room.write("left.adf", data)
+    ran = room.run("extract", "--damaged", "--to", "left", "left.adf")
+    lines = ran.output.splitlines()
+    last = lines.pop() if lines and lines[-1].startswith(b"deleted ") else b""
+    whole = sum(it.startswith(b"whole ") for it in lines)
+    found = sum(it.startswith(b"found ") and not it.startswith(b"found lost ") for it in lines)
+    written = [room.content(os.path.join(top, name)) for top, _, names in os.walk("left") for name in names]
+    return Left(ran.status, whole, found, len(lines) - whole - found, last, sorted(written))
+
+
+def deleted_entries(room: Room) -> None:
+    """Drawn volumes with deleted entries, whose blocks live files have now: accepted, and refused for one other fault. Then with a bitmap
+    that is not valid, in which nothing is deleted."""
+    faults, count = [], 0
+    for seed in range(FILLED):
+        volume = drawn(seed, Deleting)
+        left = volume.leave(volume.chance.choice([1, 5, 200]))
+        if volume.long(volume.root, 78) != ALL_ONES or not left:
+            continue
+        last = b"deleted %d" % left
+        files = sorted(it.data for it in read(bytes(volume.data)).entries if it.data is not None)
+        wanted = Left(0, len(files), 0, 0, last, files)
+        accepted = left_in(room, bytes(volume.data))
+        if not volume.misplace():
+            continue
+        refused = left_in(room, bytes(volume.data))
+        volume.put(volume.root, 78, 0)
+        volume.settle(volume.root)
+        untrusted = left_in(room, bytes(volume.data))
+        if accepted != wanted or refused != wanted._replace(status=3) or (untrusted.found, untrusted.last) != (left, b""):
+            faults.append((seed, wanted[:5], accepted[:5], refused[:5], untrusted[:5]))
+        count += 1
+    room.report.expect(f"{count} drawn volumes with deleted entries, whose blocks live files have", count > FILLED // 3 and not faults, faults[:1])
+
+
 def main(words: List[str]) -> int:
     random.seed(3)
-    parts = (named_images, directories, strange_names, other_files, filler_blocks, long_paths_of_fillers, largest_filled, drawn_fillers, parallel, accepted_objects, refused_objects, shown_values, texts_told, bounded, many_faults, model, longs_told, salvage, rows, damages)
+    parts = (named_images, directories, strange_names, other_files, filler_blocks, long_paths_of_fillers, largest_filled, drawn_fillers, parallel, accepted_objects, refused_objects, shown_values, texts_told, bounded, many_faults, model, longs_told, salvage, rows, deleted_entries, damages)
     return try_all(words, Room, *parts)
 
 

@@ -26,7 +26,7 @@ sys.dont_write_bytecode = True
 from harmful import FILE, Drawing
 from harness import BLOCK, TOP, Failed, Image, Ran, Room, Variables, fault_of, run, try_all
 
-COMMANDS = "blank info show map where check list print extract add mkdir delete rename protect date comment relabel validate boot serve".split()
+COMMANDS = "blank info show map where check list print extract undelete add mkdir delete rename protect date comment relabel validate boot serve".split()
 # The commands for an image other than `info`, `check`, `list` and `serve`, with arguments.
 ON_IMAGES = [
     *("print IMAGE x", "extract IMAGE", "add IMAGE x", "mkdir IMAGE x", "delete IMAGE x", "rename IMAGE x y"),

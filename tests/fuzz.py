@@ -511,6 +511,7 @@ class Tried:
         self.listed(told)
         whole = self.taken_out()
         self.rescued(whole)
+        self.run("undelete", "--list", "image.adf")
         self.printed(whole)
         self.served()
         if self.is_accepted and shutil.which("unadf"):

@@ -595,8 +595,9 @@ int32_t jip_map(jip_handle *handle, jip_owner *owners, size_t room, size_t *coun
  *
  * What can be told of an image that jip_open refuses: its files and directories whose headers are sound, wherever they are;
  * those with a damaged header that their directory names, as far as they can be told; and the entries that are lost: they are
- * named too, and have no such header. For an image that jip_open accepts, these are all its files and directories, whole. The
- * list has each header once, and a directory before its entries. Positions in it count from 0. */
+ * named too, and have no such header. Deleted files and directories are left out, if the bitmap can be trusted. For an image that
+ * jip_open accepts, these are all its files and directories, whole. The list has each header once, and a directory before its
+ * entries. Positions in it count from 0. */
 
 /* A list of entries; or a closed one, JIP_CLOSED or all zeros. Items 4 and 5 hold for it as for a handle. */
 typedef struct jip_salvage {

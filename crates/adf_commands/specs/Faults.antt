@@ -10,7 +10,7 @@ use Rattle.adf_text.specs.Letters.{letters as letter_text}
 use Rattle.adf_export.specs.declared.fault.OutFault.{OutFault}
 use Rattle.adf_export.specs.declared.fault.OutFault.TheVariants as out
 use Rattle.adf_commands.specs.declared.fault.CommandFault.{CommandFault}
-use Rattle.adf_commands.specs.declared.fault.CommandFault.TheVariants.{Bitmap, Blocks, Dos, Letter, LongBoot, Memory, Name, NoBlock, ImagesRefused, NotWhole, OtherVolume, Output, Refused, Script}
+use Rattle.adf_commands.specs.declared.fault.CommandFault.TheVariants.{Bitmap, Blocks, Dos, Letter, LongBoot, Memory, Name, NoBlock, ImagesRefused, NotWhole, OtherVolume, Output, Refused, Script, Undelete}
 use Rattle.adf_archive.specs.Words.{kind_word}
 use Rattle.adf_commands.specs.Refusals.{IsImageRefusal, IsSizeRefusal, refusal_line, refused_line, told_line}
 
@@ -81,6 +81,7 @@ status_of (NoBlock file block blocks) = 3
 status_of (Refused refusal) = 3
 status_of (Dos refusal) = 3
 status_of (Bitmap why) = 3
+status_of (Undelete why) = 3
 status_of (OtherVolume image fault) = 3
 status_of Script = 3
 status_of ImagesRefused = 3

@@ -1,5 +1,5 @@
 -- The output of commands for an image, by its bytes.
-use Rattle.std.specs.Prelude.{◌≡◌, ℕ, pos, Bool, true, false, List, [], ◌∷◌, Option, Some, None, option_map}
+use Rattle.std.specs.Prelude.{◌≡◌, ℕ, pos, Bool, true, false, List, [], ◌∷◌, Option, Some, None, map, option_map}
 use Rattle.ados_name.specs.declared.stamp.Date3.{Date3}
 use Rattle.ados_model.specs.Packet.{dos_true}
 use Rattle.ados_model.specs.Actions.{action_number}
@@ -22,12 +22,14 @@ use Rattle.adf_export.specs.Listing.{BeginsList, IsList}
 use Rattle.adf_record.specs.declared.told.FactsForm.{FactsForm}
 use Rattle.adf_record.specs.Told.{IsVolumeText, is_json}
 use Rattle.adf_words.specs.declared.job.ImageJob.{ImageJob}
-use Rattle.adf_words.specs.declared.job.ImageJob.TheVariants.{Info, List as ListOf, Map, Print, Show, ShowBoot, Validate, Where, WherePath}
+use Rattle.adf_words.specs.declared.job.ImageJob.TheVariants.{Info, List as ListOf, Map, Print, Show, ShowBoot, Undelete, Validate, Where, WherePath}
 use Rattle.adf_words.specs.declared.query.ListForm.{ListForm}
 use Rattle.adf_words.specs.declared.query.ListForm.TheVariants.{Bold, Long}
 use Rattle.adf_words.specs.declared.query.ListJob.{ListJob}
 use Rattle.adf_words.specs.declared.query.ListOrder.{ListOrder}
+use Rattle.adf_words.specs.declared.query.UndeleteJob.{UndeleteJob}
 use Rattle.adf_words.specs.declared.query.WhereJob.{WhereJob}
+use Rattle.adf_export.specs.Undelete.{IsUndeleteText, key_of}
 use Rattle.adf_export.specs.Where.{IsWhere, IsWhereOf}
 use Rattle.adf_export.specs.Words.{LeadsTo}
 use Rattle.adf_commands.specs.declared.look.Look.{Look}
@@ -107,6 +109,10 @@ AreOwnedBlocks job = OfAccepted (λ was_validated checked t text. IsWhere job.js
 abbrev pub AreEntryBlocks : List ℕ → List ℕ → List ℕ → Type 0
 AreEntryBlocks word = OfAccepted (λ was_validated checked t text. (key : ℕ) × LeadsTo t word key × IsWhereOf checked t key text)
 
+-- a line for each deleted entry that the job's paths choose; the image may be accepted or refused
+abbrev pub AreDeletedLines : UndeleteJob → List ℕ → List ℕ → Type 0
+AreDeletedLines job image text = IsUndeleteText image (map (λ word. key_of word.now) job.paths.items) text
+
 -- what is printed of an image, and its beginning
 abbrev pub IsQueryText : Query → List ℕ → List ℕ → Type 0
 IsQueryText queries.Disk = IsInfoText
@@ -115,6 +121,7 @@ IsQueryText (queries.Bytes path) = IsPrintText path.now
 IsQueryText (queries.Look look) = IsLookText look
 IsQueryText (queries.Blocks job) = AreOwnedBlocks job.now
 IsQueryText (queries.Entry path) = AreEntryBlocks path.now
+IsQueryText (queries.Deleted job) = AreDeletedLines job.now
 
 abbrev pub BeginsQueryText : Query → List ℕ → List ℕ → Type 0
 BeginsQueryText (queries.List job) = BeginsListOf job.now
@@ -131,6 +138,7 @@ IsJobText (Show image json) = IsLookText (looks.Volume json)
 IsJobText (Map image json) = IsLookText (looks.Map json)
 IsJobText (Where job) = AreOwnedBlocks job
 IsJobText (WherePath image path) = AreEntryBlocks path.now
+IsJobText (Undelete job) = AreDeletedLines job
 IsJobText job = λ bytes text. text ≡ []
 
 abbrev pub BeginsJobText : ImageJob → List ℕ → List ℕ → Type 0

@@ -6,7 +6,7 @@ ghost use Rattle.adf_commands.specs.Refusals.{told_line};
 
 use crate::refusal::{Detail, DosRefusal, Refusal, Room};
 use adf_archive::ArchiveFault;
-use adf_export::{BundleOutFault, OutFault, PrintFault};
+use adf_export::{BundleOutFault, OutFault, PrintFault, UndeleteFault};
 use adf_host::{HoldFault, ReadReason, ReplaceFault, why_unreadable};
 use adf_import::{BundleInFault, InFault};
 use adf_io::InputFault;
@@ -60,6 +60,8 @@ pub enum CommandFault<'a> {
     #[error("{0}")]
     Bitmap(NotValidated),
     #[error("{0}")]
+    Undelete(UndeleteFault),
+    #[error("{0}")]
     Extracted(WriteFault),
     #[error("{0}")]
     Added(InFault),
@@ -96,6 +98,7 @@ impl Drop for CommandFault<'_> {
         match self {
             CommandFault::Letter(_word) | CommandFault::NoBlock(_, _word, _) => {}
             CommandFault::Dos(_refusal) => {}
+            CommandFault::Undelete(_fault) => {}
             CommandFault::Extracted(_fault) => {}
             CommandFault::Added(_fault) => {}
             CommandFault::BundleOut(_fault) => {}
@@ -169,6 +172,7 @@ impl<'a> CommandFault<'a> {
             | CommandFault::Refused(_)
             | CommandFault::Dos(_)
             | CommandFault::Bitmap(_)
+            | CommandFault::Undelete(_)
             | CommandFault::OtherVolume(_, _)
             | CommandFault::Script
             | CommandFault::ImagesRefused
@@ -223,6 +227,22 @@ impl From<OutFault> for CommandFault<'_> {
             OutFault::Host(fault) => CommandFault::Extracted(fault),
             OutFault::Output => CommandFault::Output,
             OutFault::Memory => CommandFault::Memory,
+        }
+    }
+}
+
+impl From<UndeleteFault> for CommandFault<'_> {
+    ghost use Rattle.adf_commands.specs.Faults.{IsNoRefusal};
+
+    ghost from_gives = { λ _ fault. IsNoRefusal fault };
+
+    fn from(fault: UndeleteFault) -> Self
+        ensures { IsNoRefusal result }
+    {
+        match fault {
+            UndeleteFault::Host(fault) => CommandFault::Extracted(fault),
+            UndeleteFault::Memory => CommandFault::Memory,
+            other => CommandFault::Undelete(other),
         }
     }
 }

@@ -74,6 +74,7 @@ fn image_of<'a>(job: &ImageJob<'a>) -> Option<&'a str> {
         ImageJob::List(job) => Some(job.image),
         ImageJob::Extract(job) => Some(job.image),
         ImageJob::Salvage(job) => Some(job.image),
+        ImageJob::Undelete(job) => Some(job.image),
         ImageJob::Change(job) => Some(job.target.image),
         ImageJob::Serve(job) => Some(job.image),
     }
@@ -130,6 +131,7 @@ where
         ImageJob::ExtractBundle { image, to } => take_bundle(rt, alloc, *image, *to),
         ImageJob::AddBundle { target, from } => put_bundle(rt, alloc, *target, *from),
         ImageJob::Salvage(job) => take_rescue(rt, alloc, job, writer, faults),
+        ImageJob::Undelete(job) => print_query(rt, alloc, job.image, Query::Deleted(job), screen.styled, writer),
         ImageJob::Change(job) => change(rt, alloc, job, faults),
         ImageJob::Validate { target, force } => validate_file(rt, alloc, *target, *force, writer),
         ImageJob::Boot { target, block } => change_boot(rt, alloc, *target, *block),

@@ -7,6 +7,7 @@ mod blocks;
 mod boot;
 mod bundle;
 mod changing;
+mod deleted;
 mod explaining;
 mod fault;
 mod faulty_line;

@@ -3,13 +3,15 @@ ghost use Rattle.adf_commands.specs.Commands.{TellsSome};
 ghost use Rattle.adf_commands.specs.Texts.{BeginsQueryText, IsQueryText};
 
 use crate::blocks::{tell_blocks, tell_entry};
+use crate::deleted::tell_deleted;
 use crate::fault::CommandFault;
 use crate::images::read_image;
 use crate::info::tell_info;
 use crate::look::{Look, tell_look};
 use crate::moving::{tell_bytes, tell_list};
-use adf_words::{ListJob, WhereJob};
+use adf_words::{ListJob, UndeleteJob, WhereJob};
 use std::alloc::Global;
+use std::fs::File;
 use std::io::Write;
 use std::rt::Files;
 
@@ -26,12 +28,14 @@ pub(crate) enum Query<'a, 'b> {
     Blocks(&'b WhereJob<'a>),
     /// All blocks of the file or directory at a path.
     Entry(&'a str),
+    /// The lines about deleted entries, which are written to the host.
+    Deleted(&'b UndeleteJob<'a>),
     /// A text that is made whole before any of it is printed.
     Look(Look),
 }
 
 /// Prints what is asked of the image of a file. With `styled` text for people has bold letters.
-pub(crate) fn print_query<'a, R: Files, W: Write>(
+pub(crate) fn print_query<'a, R: Files<File = File>, W: Write>(
     rt: &R,
     alloc: Global,
     file: &'a str,
@@ -48,6 +52,7 @@ pub(crate) fn print_query<'a, R: Files, W: Write>(
         Query::Bytes(path) => tell_bytes(alloc, image, path, writer),
         Query::Blocks(job) => tell_blocks(alloc, image, job, writer),
         Query::Entry(path) => tell_entry(alloc, image, path, writer),
+        Query::Deleted(job) => tell_deleted(rt, alloc, image, job, writer),
         Query::Look(look) => tell_look(alloc, image, look, styled, writer),
     }
 }

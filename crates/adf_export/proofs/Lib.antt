@@ -19,3 +19,4 @@ pub mod Going
 pub mod Leading
 pub mod Belonging
 mod Telling
+mod Asking

@@ -7,7 +7,7 @@ use Rattle.adf_io.specs.Prefix.{WritesFront, WritesFrontOf}
 use Rattle.adf_script.specs.Streams.{Writes}
 use Rattle.adf_salvage.specs.Salvaged.{Saved}
 use Rattle.adf_salvage.specs.declared.salvaged.Salvaged.{Salvaged}
-use Rattle.adf_export.specs.Rescue.{AreLines, AreRescued, AreSomeRescued, IsRescueLine, rescue_line}
+use Rattle.adf_export.specs.Rescue.{AreLines, AreRescued, AreSomeRescued, IsRescueLine, deleted_line, rescue_line}
 use Rattle.adf_export.specs.Rescue.AreLines.{none, one}
 
 -- the lines of the first entries are written
@@ -81,8 +81,45 @@ told_all entries place old new so_far all =
 
 -- the lines are those of a salvage
 module _ (saved : Saved) (entries : List Salvaged) (old new : Option (List ℕ)) (are : entries ≡ saved.entries) where
-  pub told_saved : (accepted : Bool) → saved.accepted ≡ accepted → Writes old new (AreLines entries) → Writes old new (AreRescued saved accepted)
-  told_saved accepted is (text, written, told) = (text, written, (is, subst (λ (es : List Salvaged). AreLines es text) are told))
+  pub told_saved : Writes old new (AreLines entries) → Writes old new (AreLines saved.entries)
+  told_saved (text, written, told) = (text, written, subst (λ (es : List Salvaged). AreLines es text) are told)
 
-  pub told_some : WritesFrontOf old new (AreLines entries) → WritesFrontOf old new (AreSomeRescued saved)
-  told_some (text, told, front) = (text, (saved.accepted, (refl, subst (λ (es : List Salvaged). AreLines es text) are told)), front)
+  pub told_some : WritesFrontOf old new (AreLines entries) → WritesFrontOf old new (AreLines saved.entries)
+  told_some (text, told, front) = (text, subst (λ (es : List Salvaged). AreLines es text) are told, front)
+
+-- the line of the deleted entries comes after those of the entries
+module _ (saved : Saved) where
+  abbrev pub last_line : List ℕ
+  last_line = deleted_line (length saved.deleted)
+
+  rescued : (accepted : Bool) → saved.accepted ≡ accepted → (text : List ℕ) → AreLines saved.entries text → AreRescued saved accepted (text ++ last_line)
+  rescued accepted is text told = record { accepts = is; lines = text; told = told; last = refl }
+
+  pub front_of_lines : (old new : Option (List ℕ)) → WritesFrontOf old new (AreLines saved.entries) → WritesFrontOf old new (AreSomeRescued saved)
+  front_of_lines old new (text, told, (written, appended, (rest, split))) = (
+    text ++ last_line,
+    (saved.accepted, rescued saved.accepted refl text told),
+    (written, appended, (rest ++ last_line, ap (λ (xs : List ℕ). xs ++ last_line) split ∙ append_assoc written rest last_line)),
+  )
+
+  pub lines_alone : (old new : Option (List ℕ)) → Writes old new (AreLines saved.entries) → WritesFrontOf old new (AreSomeRescued saved)
+  lines_alone old new (text, written, told) = (text ++ last_line, (saved.accepted, rescued saved.accepted refl text told), (text, written, (last_line, refl)))
+
+  module _ (old mid new : Option (List ℕ)) (lines : Writes old mid (AreLines saved.entries)) (last : List ℕ) (is : last ≡ last_line) where
+    pub front_of_last : WritesFront mid new last → WritesFrontOf old new (AreSomeRescued saved)
+    front_of_last (written, appended, (rest, split)) = (
+      lines.0 ++ last_line,
+      (saved.accepted, rescued saved.accepted refl lines.0 lines.2),
+      (
+        lines.0 ++ written,
+        Appends-trans old mid new lines.0 written lines.1 appended,
+        (rest, ap (λ (xs : List ℕ). lines.0 ++ xs) (sym is ∙ split) ∙ sym (append_assoc lines.0 written rest)),
+      ),
+    )
+
+    pub all_told : (accepted : Bool) → saved.accepted ≡ accepted → Appends mid new last → Writes old new (AreRescued saved accepted)
+    all_told accepted accepts appended = (
+      lines.0 ++ last_line,
+      subst (λ (xs : List ℕ). Appends old new (lines.0 ++ xs)) is (Appends-trans old mid new lines.0 last lines.1 appended),
+      rescued accepted accepts lines.0 lines.2,
+    )

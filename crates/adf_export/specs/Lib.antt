@@ -9,4 +9,5 @@ pub mod Items
 pub mod Bytes
 pub mod Rescue
 pub mod Where
+pub mod Undelete
 pub mod steps

@@ -1,9 +1,12 @@
 -- The report on a damaged image after everything that can be trusted was written.
-use Rattle.std.specs.Prelude.{◌≡◌, ℕ, Bool, true, false, List, [], ◌∷◌, ◌++◌, codes, decimal, Option, Some, None, if◌then◌else◌, ⊤}
+use Rattle.std.specs.Prelude.{◌≡◌, ◌<◌, ℕ, Bool, true, false, List, [], ◌∷◌, ◌++◌, ◌==◌, codes, decimal, length, Option, Some, None, if◌then◌else◌, ⊤}
 use Rattle.adf_salvage.specs.Salvaged.{Salvages, Saved}
 use Rattle.adf_salvage.specs.declared.salvaged.Salvaged.{Salvaged}
 use Rattle.adf_salvage.specs.declared.salvaged.State.{State}
 use Rattle.adf_salvage.specs.declared.salvaged.State.TheVariants.{Directory, DoubtfulDirectory, Whole, Doubtful, Lost, Broken}
+use Rattle.adf_salvage.specs.Saved.{HasBytes, IsAt}
+use Rattle.adf_export.specs.declared.plan.Source.{Source}
+use Rattle.adf_export.specs.declared.plan.Source.TheVariants.{File}
 use Rattle.adf_export.specs.declared.damaged.Doubt.{Doubt}
 use Rattle.adf_export.specs.declared.damaged.Doubt.TheVariants.{Header, Blocks, Cut}
 use Rattle.adf_export.specs.declared.damaged.Rescue.{Rescue}
@@ -42,9 +45,16 @@ pub data AreLines : List Salvaged → List ℕ → Type 0 where
   one : (entries : List Salvaged) (entry : Salvaged) (text line : List ℕ) → AreLines entries text → IsRescueLine entry.found entry.state line
       → AreLines (entries ++ entry ∷ []) (text ++ line)
 
--- the text has the lines of all entries, and the image was accepted or not
-abbrev pub AreRescued : Saved → Bool → List ℕ → Type 0
-AreRescued saved accepted text = (saved.accepted ≡ accepted) × AreLines saved.entries text
+-- the line of the deleted entries, which are left out: how many they are; none if there are none
+abbrev pub deleted_line : ℕ → List ℕ
+deleted_line count = if count == 0 then [] else codes "deleted " ++ decimal count ++ codes "\n"
+
+-- the text has the lines of all entries and then that of the deleted ones, and the image was accepted or not
+pub record AreRescued (saved : Saved) (accepted : Bool) (text : List ℕ) : Type 0 where
+  pub accepts : saved.accepted ≡ accepted
+  pub lines : List ℕ
+  pub told : AreLines saved.entries lines
+  pub last : text ≡ lines ++ deleted_line (length saved.deleted)
 
 abbrev pub AreSomeRescued : Saved → List ℕ → Type 0
 AreSomeRescued saved text = (accepted : Bool) × AreRescued saved accepted text
@@ -58,6 +68,12 @@ pub record IsReport (image : List ℕ) (accepted : Bool) (text : List ℕ) : Typ
   pub saved : Saved
   pub salvaged : Salvages image saved
   pub told : AreRescued saved accepted text
+
+-- these are the bytes of an item: of a file, those of its entry
+abbrev pub HasSource : Saved → Source → List ℕ → Type 0
+HasSource saved (File position) bytes =
+    position < length saved.entries → (entry : Salvaged) → IsAt saved.entries position entry → HasBytes saved.image saved.given position entry.header entry.state bytes
+HasSource saved source bytes = ⊤
 
 -- why there is no report: the host files cannot be written, or memory ran out
 abbrev pub IsRescueFault : OutFault → Type 0

@@ -3,3 +3,4 @@ pub mod Ranked
 pub mod Levels
 pub mod Going
 pub mod Fronting
+pub mod Asking

@@ -1,10 +1,11 @@
 //! What can be trusted in a damaged image, as files and directories of the host.
-ghost use Rattle.std.specs.Prelude.{◌≡◌, IfErr, IfOk, OnErr};
+ghost use Rattle.std.specs.Prelude.{◌≡◌, IfErr, IfOk, OnErr, OnOk};
 ghost use Rattle.std.specs.String.{string_bytes};
 ghost use Rattle.adf_script.specs.Streams.{Writes};
 ghost use Rattle.adf_io.specs.Prefix.{WritesFrontOf};
-ghost use Rattle.adf_export.specs.Rescue.{AreRescued, AreSomeRescued, IsRescue, IsRescueFault, IsRescueLine, doubt_of, rescue_line};
+ghost use Rattle.adf_export.specs.Rescue.{AreLines, AreRescued, AreSomeRescued, IsRescue, IsRescueFault, IsRescueLine, doubt_of, rescue_line};
 
+use crate::deleted_line::deleted_line;
 use crate::fault::OutFault;
 use crate::output::write_text;
 use crate::plan::Plan;
@@ -101,20 +102,31 @@ impl Rescue {
         }
     }
 
-    /// Writes a line for each file, for each recovered or doubtful directory, and for each lost entry. The result is whether the
-    /// image was accepted: then every file is whole.
+    /// Writes a line for each file, for each recovered or doubtful directory, and for each lost entry, and then one with the number
+    /// of deleted entries, if there are some. The result is whether the image was accepted: then every file is whole.
     ///
     /// If the writer fails or memory runs out, it has written a prefix of that text.
     pub fn tell<W: Write>(&self, alloc: Global, writer: &mut W) -> Result<bool, PrintFault>
         ensures ok { IfOk result (λ accepted. Writes (W.contents writer.old) (W.contents writer.new) (AreRescued self.now.salvage accepted)) }
         ensures front { OnErr result (WritesFrontOf (W.contents writer.old) (W.contents writer.new) (AreSomeRescued self.now.salvage)) }
     {
+        self.tell_entries(alloc, writer)?;
+        let last = deleted_line(alloc, self.salvage.deleted().len())?;
+        write_text(last.as_bytes(), writer)?;
+        Ok(self.salvage.is_accepted())
+    }
+
+    /// Writes the lines of the entries.
+    fn tell_entries<W: Write>(&self, alloc: Global, writer: &mut W) -> Result<(), PrintFault>
+        ensures ok { OnOk result (Writes (W.contents writer.old) (W.contents writer.new) (AreLines self.now.salvage.entries)) }
+        ensures front { OnErr result (WritesFrontOf (W.contents writer.old) (W.contents writer.new) (AreLines self.now.salvage.entries)) }
+    {
         let entries = self.salvage.entries();
         for (place, entry) in entries.iter().enumerate() {
             let line = self.line_at(alloc, place, entry.found, entry.state)?;
             write_text(line.as_bytes(), writer)?;
         }
-        Ok(self.salvage.is_accepted())
+        Ok(())
     }
 
     /// The line of the entry at a position: `found` if it was recovered, `whole`, `doubtful`, `lost` or the number of missing

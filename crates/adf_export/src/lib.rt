@@ -2,15 +2,20 @@
 //! file.
 #![tactic(auto)]
 
+mod asked;
 mod bundle_items;
 mod bundle_out;
 mod bytes;
+mod chosen;
 mod damaged;
+mod deleted_line;
+mod deleted_lines;
 mod entry;
 mod extracting;
 mod fault;
 mod front;
 mod head;
+mod idle;
 mod info;
 mod items;
 mod keys;
@@ -24,9 +29,13 @@ mod output;
 mod own_blocks;
 mod owned;
 mod places;
+mod placing;
 mod plan;
 mod print;
 mod print_fault;
+mod saving;
+mod undelete_fault;
+mod undeleting;
 mod where_blocks;
 mod where_fault;
 mod where_lines;
@@ -46,6 +55,8 @@ pub use list::write_list;
 pub use own_blocks::where_path_text;
 pub use print::print_file;
 pub use print_fault::PrintFault;
+pub use undelete_fault::UndeleteFault;
+pub use undeleting::{Undeletion, undelete_entries};
 pub use where_blocks::where_text;
 pub use where_fault::WhereFault;
 pub use words::locate_word;

@@ -1,5 +1,6 @@
 //! The host files and directories for what can be trusted in a damaged image.
-ghost use Rattle.std.specs.Prelude.{◌≢◌, ◌≤◌, All, IfSome, IsTrue, length};
+ghost use Rattle.std.specs.Prelude.{◌≢◌, ◌≤◌, All, IfOk, IfSome, IsTrue, length, slice_get};
+ghost use Rattle.adf_export.specs.Rescue.{HasSource};
 
 use crate::bytes::line_of;
 use adf_salvage::{Salvage, Salvaged, State};
@@ -11,7 +12,7 @@ use std::str::from_utf8;
 
 /// Where the bytes of an item are.
 #[derive(Clone, Copy)]
-enum Source {
+pub(crate) enum Source {
     Directory,
     /// The file of an entry, by its position.
     File(usize),
@@ -45,11 +46,21 @@ pub(crate) struct Plan {
     asides: Vec<Option<usize>>,
 }
 
-/// The bytes of the items of a plan.
+/// The bytes of items, by their sources.
 #[derive(Drop)]
 pub(crate) struct Rescued<'a> {
-    salvage: &'a Salvage,
-    sources: &'a [Source],
+    pub(crate) salvage: &'a Salvage,
+    pub(crate) sources: &'a [Source],
+}
+
+impl Source {
+    /// The kind of an item with these bytes.
+    pub(crate) fn kind(self) -> ItemKind {
+        match self {
+            Source::Directory => ItemKind::Directory,
+            Source::File(_) | Source::Note(_) => ItemKind::File,
+        }
+    }
 }
 
 impl Plan {
@@ -216,10 +227,7 @@ impl Plan {
         date: Date3,
     ) -> Result<usize, AllocError> {
         let place = self.items.len();
-        let kind = match source {
-            Source::Directory => ItemKind::Directory,
-            Source::File(_) | Source::Note(_) => ItemKind::File,
-        };
+        let kind = source.kind();
         self.items.push(HostItem {
             above,
             name,
@@ -232,7 +240,9 @@ impl Plan {
 }
 
 impl Contents for Rescued<'_> {
-    fn bytes_of(&mut self, alloc: Global, place: usize) -> Result<Vec<u8>, AllocError> {
+    fn bytes_of(&mut self, alloc: Global, place: usize) -> Result<Vec<u8>, AllocError>
+        ensures { IfOk result (λ bytes. IfSome (slice_get self.old.sources.now place) (λ source. HasSource self.old.salvage.now source bytes.items)) }
+    {
         let entries = self.salvage.entries();
         match self.sources.get(place).copied() {
             Some(Source::File(place)) if place < entries.len() => {
@@ -263,7 +273,7 @@ fn lost_name(alloc: Global) -> Result<HostName, AllocError> {
 }
 
 /// The host name of an entry in its directory.
-fn name_of(alloc: Global, entry: &Salvaged) -> Result<HostName, AllocError> {
+pub(crate) fn name_of(alloc: Global, entry: &Salvaged) -> Result<HostName, AllocError> {
     if entry.endings == 0 {
         return HostName::of_name(alloc, &entry.name);
     }

@@ -15,6 +15,10 @@ pub all_ok : {A E : Type 0} (r : Result A E) (P Q R S : A → Type 0) → ((a : 
 all_ok (Ok a) P Q R S f p q r = f a p q r
 all_ok (Err e) P Q R S f p q r = p
 
+pub both_ok : {A E : Type 0} (r : Result A E) (P Q : A → Type 0) → IfOk r P → IfOk r Q → IfOk r (λ a. P a × Q a)
+both_ok (Ok a) P Q p q = (p, q)
+both_ok (Err e) P Q p q = p
+
 pub on_ok : {A E : Type 0} (r : Result A E) (P Q : Type 0) → (P → Q) → OnOk r P → OnOk r Q
 on_ok (Ok a) P Q f h = f h
 on_ok (Err e) P Q f h = h

@@ -8,15 +8,15 @@ use Rattle.std.proofs.lemmas.List.Elements.{Contains-append_cases, Contains-appe
 use Rattle.adf_block.specs.Image.{block_count}
 use Rattle.adf_salvage.specs.declared.claims.Claim.{Claim}
 use Rattle.adf_salvage.specs.declared.claims.Claim.TheVariants.{Free, One, Several}
-use Rattle.adf_salvage.specs.Sound.{IsIntact, IsWhole, Names, own_blocks}
+use Rattle.adf_salvage.specs.Sound.{IsClaimant, IsIntact, IsWhole, Names, own_blocks}
 use Rattle.adf_salvage.specs.steps.Claims.{AreClaims, AreWhole, IsClaim, IsNoted, claim_at, with_claim}
 use Rattle.adf_salvage.specs.steps.Giving.{mark_at}
 use Rattle.adf_salvage.proofs.SoundParts.{lawful_holders, lawful_data_blocks}
 use Rattle.adf_salvage.proofs.OwnBlocks.{own_inside}
 
-module _ (image : List ℕ) (n block : ℕ) where
+module _ (out image : List ℕ) (n block : ℕ) where
   -- one more sound file names the block
-  pub claim_more : (c : Claim) → IsClaim image n block c → IsIntact image n → Names image n block → IsClaim image (n + 1) block (with_claim n c)
+  pub claim_more : (c : Claim) → IsClaim out image n block c → IsClaimant out image n → Names image n block → IsClaim out image (n + 1) block (with_claim n c)
   claim_more Free h intact names = (
     omega arith,
     intact,
@@ -32,11 +32,11 @@ module _ (image : List ℕ) (n block : ℕ) where
   claim_more Several h intact names = h
 
   -- the next file is not sound, or does not name the block
-  pub claim_same : (c : Claim) → IsClaim image n block c → (IsIntact image n → Names image n block → ⊥) → IsClaim image (n + 1) block c
+  pub claim_same : (c : Claim) → IsClaim out image n block c → (IsClaimant out image n → Names image n block → ⊥) → IsClaim out image (n + 1) block c
   claim_same Free h none = λ file l i m. elim (cases_lt file n) [
     | inl below ↦ h file below i m
     | inr above ↦ (let here : file ≡ n = omega (arith, l, above) in
-        none (subst (IsIntact image) here i) (subst (λ (k : ℕ). Names image k block) here m))
+        none (subst (IsClaimant out image) here i) (subst (λ (k : ℕ). Names image k block) here m))
   ]
   claim_same (One one) h none = (
     omega (arith, h.0),
@@ -45,7 +45,7 @@ module _ (image : List ℕ) (n block : ℕ) where
     λ file l i m. elim (cases_lt file n) [
       | inl below ↦ h.3 file below i m
       | inr above ↦ (let here : file ≡ n = omega (arith, l, above) in
-          absurd (none (subst (IsIntact image) here i) (subst (λ (k : ℕ). Names image k block) here m)))
+          absurd (none (subst (IsClaimant out image) here i) (subst (λ (k : ℕ). Names image k block) here m)))
     ],
   )
   claim_same Several h none = h
@@ -85,14 +85,14 @@ noted_more file x block xs old new new' h here there = elim (cases_eq block x) [
     only y b (suc k, l, e) = absurd (omega (arith, l))
 
 -- the claims are right for the sound files below n, and for one more
-pub claims_more : (image : List ℕ) (n : ℕ) (old new : List Claim) → AreClaims image n old → IsIntact image n → ((block : ℕ) → block < block_count image → IsNoted n (own_blocks image n) old new block) → AreClaims image (n + 1) new
-claims_more image n old new h intact noted block l = elim (noted block l) [
-  | inl a ↦ subst (IsClaim image (n + 1) block) (sym a.1) (claim_more image n block (claim_at old block) (h block l) intact a.0)
-  | inr a ↦ subst (IsClaim image (n + 1) block) (sym a.1) (claim_same image n block (claim_at old block) (h block l) (λ _ m. a.0 m))
+pub claims_more : (out image : List ℕ) (n : ℕ) (old new : List Claim) → AreClaims out image n old → IsClaimant out image n → ((block : ℕ) → block < block_count image → IsNoted n (own_blocks image n) old new block) → AreClaims out image (n + 1) new
+claims_more out image n old new h intact noted block l = elim (noted block l) [
+  | inl a ↦ subst (IsClaim out image (n + 1) block) (sym a.1) (claim_more out image n block (claim_at old block) (h block l) intact a.0)
+  | inr a ↦ subst (IsClaim out image (n + 1) block) (sym a.1) (claim_same out image n block (claim_at old block) (h block l) (λ _ m. a.0 m))
 ]
 
-pub claims_same : (image : List ℕ) (n : ℕ) (old : List Claim) → AreClaims image n old → ¬ IsIntact image n → AreClaims image (n + 1) old
-claims_same image n old h none block l = claim_same image n block (claim_at old block) (h block l) (λ i _. none i)
+pub claims_same : (out image : List ℕ) (n : ℕ) (old : List Claim) → AreClaims out image n old → ¬ IsClaimant out image n → AreClaims out image (n + 1) old
+claims_same out image n old h none block l = claim_same out image n block (claim_at old block) (h block l) (λ i _. none i)
 
 -- the blocks of a sound file are inside the image
 pub own_within : (image : List ℕ) (file : ℕ) → IsIntact image file → (block : ℕ) → Names image file block → block < block_count image
@@ -100,41 +100,41 @@ own_within image file i block m =
     let here = own_inside image file (lawful_holders image file i.lawful) (lawful_data_blocks image file i.lawful) m.0 m.1 in
     omega (arith, here.1, get_or_default (own_blocks image file) m.0 0 block m.1, m.2)
 
-module _ (image : List ℕ) (claims : List Claim) (h : AreClaims image (block_count image) claims) (file : ℕ) (i : IsIntact image file) where
+module _ (out image : List ℕ) (claims : List Claim) (h : AreClaims out image (block_count image) claims) (file : ℕ) (i : IsClaimant out image file) where
   -- a sound file is whole if only it names its blocks
-  pub is_whole : All (λ (block : ℕ). claim_at claims block ≡ One file) (own_blocks image file) → IsWhole image file
+  pub is_whole : All (λ (block : ℕ). claim_at claims block ≡ One file) (own_blocks image file) → IsWhole out image file
   is_whole all = record {
-    intact = i;
+    claimant = i;
     alone = λ other block j m k.
         let noted : claim_at claims block ≡ One file =
         ap (claim_at claims) (sym m.2) ∙ all m.0 block m.1 in
-        let told : IsClaim image (block_count image) block (One file) = subst (IsClaim image (block_count image) block) noted (h block (own_within image file i block m)) in
-        told.3 other j.header.inside.1 j k;
+        let told : IsClaim out image (block_count image) block (One file) = subst (IsClaim out image (block_count image) block) noted (h block (own_within image file i.intact block m)) in
+        told.3 other j.intact.header.inside.1 j k;
   }
 
   -- each block of a whole file has its claim
-  pub whole_noted : IsWhole image file → All (λ (block : ℕ). claim_at claims block ≡ One file) (own_blocks image file)
+  pub whole_noted : IsWhole out image file → All (λ (block : ℕ). claim_at claims block ≡ One file) (own_blocks image file)
   whole_noted w = λ k d l.
       let block = get_or (own_blocks image file) k d in
       let named : Names image file (get_or (own_blocks image file) k d) = (k, l, get_or_default (own_blocks image file) k (get_or (own_blocks image file) k d) d l) in
-      go (get_or (own_blocks image file) k d) (claim_at claims (get_or (own_blocks image file) k d)) named (h (get_or (own_blocks image file) k d) (own_within image file i (get_or (own_blocks image file) k d) named))
+      go (get_or (own_blocks image file) k d) (claim_at claims (get_or (own_blocks image file) k d)) named (h (get_or (own_blocks image file) k d) (own_within image file i.intact (get_or (own_blocks image file) k d) named))
     where
-      go : (block : ℕ) (c : Claim) → Names image file block → IsClaim image (block_count image) block c → c ≡ One file
-      go block Free m told = absurd (told file i.header.inside.1 i m)
+      go : (block : ℕ) (c : Claim) → Names image file block → IsClaim out image (block_count image) block c → c ≡ One file
+      go block Free m told = absurd (told file i.intact.header.inside.1 i m)
       go block (One one) m told = ap One (w.alone one block told.1 m told.2)
       go block Several m told =
           absurd (told.2 (w.alone told.0 block told.3 m told.4 ∙ sym (w.alone told.1 block told.5 m told.6)))
 
 -- one more file is decided
-pub whole_more : (image : List ℕ) (n : ℕ) (old : List Bool) (answer : Bool) → AreWhole image n old → n < length old → MatchBool answer (IsWhole image n) (¬ IsWhole image n) → AreWhole image (n + 1) (set old n answer)
-whole_more image n old answer h inside now = record {
+pub whole_more : (out image : List ℕ) (n : ℕ) (old : List Bool) (answer : Bool) → AreWhole out image n old → n < length old → MatchBool answer (IsWhole out image n) (¬ IsWhole out image n) → AreWhole out image (n + 1) (set old n answer)
+whole_more out image n old answer h inside now = record {
   size = length-set old n answer ∙ h.size;
   decided = λ block l. elim (cases_eq block n) [
     | inl e ↦
-        subst (λ (b : ℕ). MatchBool (mark_at (set old n answer) b) (IsWhole image b) (¬ IsWhole image b)) (sym e)
-        (subst (λ (mark : Bool). MatchBool mark (IsWhole image n) (¬ IsWhole image n)) (sym (get_or-set_same old n answer false inside)) now)
+        subst (λ (b : ℕ). MatchBool (mark_at (set old n answer) b) (IsWhole out image b) (¬ IsWhole out image b)) (sym e)
+        (subst (λ (mark : Bool). MatchBool mark (IsWhole out image n) (¬ IsWhole out image n)) (sym (get_or-set_same old n answer false inside)) now)
     | inr e ↦
-        subst (λ (mark : Bool). MatchBool mark (IsWhole image block) (¬ IsWhole image block)) (sym (get_or-set_other old n block answer false e)) (h.decided block (omega (arith, l, e)))
+        subst (λ (mark : Bool). MatchBool mark (IsWhole out image block) (¬ IsWhole out image block)) (sym (get_or-set_other old n block answer false e)) (h.decided block (omega (arith, l, e)))
   ];
 }
 
@@ -144,11 +144,11 @@ all_within image file i xs n e size = subst (λ (ys : List ℕ). All (λ (block 
     (λ k d l. omega (arith, size, own_within image file i (get_or (own_blocks image file) k d) (k, l, get_or_default (own_blocks image file) k (get_or (own_blocks image file) k d) d l)))
 
 -- the claims of its blocks decide whether a sound file is whole
-pub whole_decided : (image : List ℕ) (claims : List Claim) (file : ℕ) (xs : List ℕ) (answer : Bool) → AreClaims image (block_count image) claims → IsIntact image file → xs ≡ own_blocks image file
-    → MatchBool answer (All (λ (block : ℕ). claim_at claims block ≡ One file) xs) (¬ All (λ (block : ℕ). claim_at claims block ≡ One file) xs) → MatchBool answer (IsWhole image file) (¬ IsWhole image file)
-whole_decided image claims file xs true h i e all = is_whole image claims h file i (subst (λ (ys : List ℕ). All (λ (block : ℕ). claim_at claims block ≡ One file) ys) e all)
-whole_decided image claims file xs false h i e none = λ w.
-    none (subst (λ (ys : List ℕ). All (λ (block : ℕ). claim_at claims block ≡ One file) ys) (sym e) (whole_noted image claims h file i w))
+pub whole_decided : (out image : List ℕ) (claims : List Claim) (file : ℕ) (xs : List ℕ) (answer : Bool) → AreClaims out image (block_count image) claims → IsClaimant out image file → xs ≡ own_blocks image file
+    → MatchBool answer (All (λ (block : ℕ). claim_at claims block ≡ One file) xs) (¬ All (λ (block : ℕ). claim_at claims block ≡ One file) xs) → MatchBool answer (IsWhole out image file) (¬ IsWhole out image file)
+whole_decided out image claims file xs true h i e all = is_whole out image claims h file i (subst (λ (ys : List ℕ). All (λ (block : ℕ). claim_at claims block ≡ One file) ys) e all)
+whole_decided out image claims file xs false h i e none = λ w.
+    none (subst (λ (ys : List ℕ). All (λ (block : ℕ). claim_at claims block ≡ One file) ys) (sym e) (whole_noted out image claims h file i w))
 
 -- a list overwritten by one of the same length
 pub refilled : {X : Type 0} (new old : List X) (len : ℕ) → length new ≡ length old → len ≡ length old → take len (new ++ drop (length new) old) ≡ new

@@ -41,10 +41,10 @@ pub none_told : {X : Type 0} (P : X → Type 0) → All P []
 none_told P k d l = absurd (omega (arith, l))
 
 -- nothing is found yet
-pub gathers_none : (image : List ℕ) (g : Gathered) → g.entries.items ≡ [] → length g.places.items ≡ block_count image → ((block : ℕ) → place_at g.places.items block ≡ None) → IsGiving image g.giving
-    → g.giving.left ≤ 4 * length image → AreGathered image g
-gathers_none image g entries size places giving share = record {
-  told = subst (All (IsTold image)) (sym entries) (none_told (IsTold image));
+pub gathers_none : (out image : List ℕ) (g : Gathered) → g.entries.items ≡ [] → length g.places.items ≡ block_count image → ((block : ℕ) → place_at g.places.items block ≡ None) → IsGiving image g.giving
+    → g.giving.left ≤ 4 * length image → AreGathered out image g
+gathers_none out image g entries size places giving share = record {
+  told = subst (All (IsTold out image)) (sym entries) (none_told (IsTold out image));
   size = size;
   placed = λ i l. absurd (omega (arith, l, ap (λ (es : List Salvaged). length (headers_of es)) entries));
   met = λ block some.
@@ -53,7 +53,7 @@ gathers_none image g entries size places giving share = record {
   bounded = omega (arith, share, ap broken_total entries, none_broken);
 }
 
-module _ (image : List ℕ) (old new : Gathered) (g : AreGathered image old) (e : Salvaged) (block : ℕ) (told : IsTold image e) (is : e.header ≡ block) (below : block < block_count image) (free : place_at old.places.items block ≡ None) where
+module _ (out image : List ℕ) (old new : Gathered) (g : AreGathered out image old) (e : Salvaged) (block : ℕ) (told : IsTold out image e) (is : e.header ≡ block) (below : block < block_count image) (free : place_at old.places.items block ≡ None) where
   inside : block < length old.places.items
   inside = omega (arith, below, g.size)
 
@@ -68,14 +68,14 @@ module _ (image : List ℕ) (old new : Gathered) (g : AreGathered image old) (e 
 
   -- one more entry, whose state takes its share
   pub gathers_more : (place : ℕ) → new.entries.items ≡ old.entries.items ++ e ∷ [] → new.places.items ≡ set old.places.items block (Some place) → place ≡ length old.entries.items
-      → IsGiving image new.giving → broken_length e.state + new.giving.left ≡ old.giving.left → GathersMore image old new × IsSome (place_at new.places.items block)
+      → IsGiving image new.giving → broken_length e.state + new.giving.left ≡ old.giving.left → GathersMore out image old new × IsSome (place_at new.places.items block)
   gathers_more place grown noted at giving share =
       let more_headers : headers_of new.entries.items ≡ headers_of old.entries.items ++ block ∷ [] =
       ap headers_of grown ∙ headers_more old.entries.items e ∙ ap (λ (b : ℕ). headers_of old.entries.items ++ b ∷ []) is in
       let here : place_at new.places.items block ≡ Some place = ap (λ (ps : List (Option ℕ)). place_at ps block) noted ∙ now_met place in
       let there : (b : ℕ) → b ≢ block → place_at new.places.items b ≡ place_at old.places.items b = λ b other. ap (λ (ps : List (Option ℕ)). place_at ps b) noted ∙ still place b other in
-      let gathered : AreGathered image new = record {
-        told = subst (All (IsTold image)) (sym grown) (all_more (IsTold image) old.entries.items e g.told told);
+      let gathered : AreGathered out image new = record {
+        told = subst (All (IsTold out image)) (sym grown) (all_more (IsTold out image) old.entries.items e g.told told);
         size = ap length noted ∙ length-set old.places.items block (Some place) ∙ g.size;
         placed = λ i l.
             let same : slice_index (headers_of new.entries.items) i ≡ slice_index (headers_of old.entries.items ++ block ∷ []) i = ap (λ (xs : List ℕ). slice_index xs i) more_headers in
@@ -107,10 +107,10 @@ module _ (image : List ℕ) (old new : Gathered) (g : AreGathered image old) (e 
       )
 
 -- a lost entry with the name in its block, if that is valid
-pub lost_told : (image : List ℕ) (block : ℕ) (e : Salvaged) → IsLost image block → e.header ≡ block → (name : List ℕ) → e.name ≡ name → (IsName (text_at image block NAME_BYTE) → name ≡ text_at image block NAME_BYTE)
-    → e.state ≡ Lost → IsLostEntry image e
-lost_told image block e lost is name named valid state = record {
-  lost = subst (IsLost image) (sym is) lost;
+pub lost_told : (out image : List ℕ) (block : ℕ) (e : Salvaged) → IsLost out image block → e.header ≡ block → (name : List ℕ) → e.name ≡ name → (IsName (text_at image block NAME_BYTE) → name ≡ text_at image block NAME_BYTE)
+    → e.state ≡ Lost → IsLostEntry out image e
+lost_told out image block e lost is name named valid state = record {
+  lost = subst (IsLost out image) (sym is) lost;
   name = subst (λ (b : ℕ). IsName (text_at image b NAME_BYTE) → e.name ≡ text_at image b NAME_BYTE) (sym is) (λ right. named ∙ valid right);
   state = state;
 }

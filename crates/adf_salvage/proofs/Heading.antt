@@ -10,8 +10,7 @@ use Rattle.adf_block.specs.Fields.{parent_key}
 use Rattle.adf_block.specs.declared.layout.TheConstants.{FIRST_SLOT, TABLE_LONGS}
 use Rattle.ados_check.proofs.Counting.{AreDifferent, different_few}
 use Rattle.adf_salvage.specs.declared.headers.Found.{Found}
-use Rattle.adf_salvage.specs.Sound.{IsSoundHeader}
-use Rattle.adf_salvage.specs.Doubtful.{IsHeader, IsNamedHeader, IsNext, IsRoot, IsSlot, LooksLikeHeader, NamesEntries}
+use Rattle.adf_salvage.specs.Doubtful.{IsHeader, IsNamedHeader, IsNext, IsRoot, IsSlot, IsToldHeader, MayBeHeader, NamesEntries}
 use Rattle.adf_salvage.specs.Doubtful.NamesEntries.{of_root, of_sound, of_named}
 use Rattle.adf_salvage.specs.steps.Giving.{mark_at}
 use Rattle.adf_salvage.specs.steps.Heading.{AreFound, AreHeaders, AreSought, FindsMore, IsFound, IsSought}
@@ -19,12 +18,12 @@ use Rattle.adf_salvage.proofs.Growing.{all_more}
 use Rattle.adf_salvage.proofs.Naming.{header_inside, header_names}
 
 -- nothing more was found
-pub finds_same : (image : List ℕ) (found : Found) → AreFound image found → FindsMore image found found
-finds_same image found f = record { found = f; kept = λ block is. is; more = []; grown = sym (append-nil found.blocks.items) }
+pub finds_same : (out image : List ℕ) (found : Found) → AreFound out image found → FindsMore out image found found
+finds_same out image found f = record { found = f; kept = λ block is. is; more = []; grown = sym (append-nil found.blocks.items) }
 
 -- more and more
-pub finds_on : (image : List ℕ) (old mid new : Found) → FindsMore image old mid → FindsMore image mid new → FindsMore image old new
-finds_on image old mid new a b = record {
+pub finds_on : (out image : List ℕ) (old mid new : Found) → FindsMore out image old mid → FindsMore out image mid new → FindsMore out image old new
+finds_on out image old mid new a b = record {
   found = b.found;
   kept = λ block is. b.kept block (a.kept block is);
   more = a.more ++ b.more;
@@ -32,9 +31,9 @@ finds_on image old mid new a b = record {
 }
 
 -- one more header
-pub finds_one : (image : List ℕ) (old new : Found) (block : ℕ) → block < length old.marks.items → mark_at old.marks.items block ≡ false → new.marks.items ≡ set old.marks.items block true
-    → new.blocks.items ≡ old.blocks.items ++ block ∷ [] → IsHeader image block → AreFound image old → FindsMore image old new
-finds_one image old new block inside free noted grown header f =
+pub finds_one : (out image : List ℕ) (old new : Found) (block : ℕ) → block < length old.marks.items → mark_at old.marks.items block ≡ false → new.marks.items ≡ set old.marks.items block true
+    → new.blocks.items ≡ old.blocks.items ++ block ∷ [] → IsHeader out image block → AreFound out image old → FindsMore out image old new
+finds_one out image old new block inside free noted grown header f =
     let now : mark_at new.marks.items block ≡ true = ap (λ (marks : List Bool). mark_at marks block) noted ∙ get_or-set_same old.marks.items block true false inside in
     let there : (b : ℕ) → b ≢ block → mark_at new.marks.items b ≡ mark_at old.marks.items b = λ b other. ap (λ (marks : List Bool). mark_at marks b) noted ∙ get_or-set_other old.marks.items block b true false other in
     let kept : (b : ℕ) → IsFound old.marks.items b → IsFound new.marks.items b = λ b is.
@@ -46,7 +45,7 @@ finds_one image old new block inside free noted grown header f =
       found = record {
         size = ap length noted ∙ length-set old.marks.items block true ∙ f.size;
         right = λ b is. elim (cases_eq b block) [
-          | inl e ↦ subst (IsHeader image) (sym e) header
+          | inl e ↦ subst (IsHeader out image) (sym e) header
           | inr e ↦ f.right b (sym (there b e) ∙ is)
         ];
         listed = λ b is. subst (λ (xs : List ℕ). Contains xs b) (sym grown) (elim (cases_eq b block) [
@@ -62,38 +61,38 @@ finds_one image old new block inside free noted grown header f =
       grown = grown;
     }
 
-module _ (image : List ℕ) (old new : Found) (more : FindsMore image old new) where
-  pub long_sought : (dir block at : ℕ) → IsSought image old.marks.items dir block at → IsSought image new.marks.items dir block at
+module _ (out image : List ℕ) (old new : Found) (more : FindsMore out image old new) where
+  pub long_sought : (dir block at : ℕ) → IsSought out image old.marks.items dir block at → IsSought out image new.marks.items dir block at
   long_sought dir block at sought looks parent = more.kept (long image block at) (sought looks parent)
 
-  pub sought_kept : (block : ℕ) → AreSought image old.marks.items block → AreSought image new.marks.items block
+  pub sought_kept : (block : ℕ) → AreSought out image old.marks.items block → AreSought out image new.marks.items block
   sought_kept block sought dir at place looks parent = more.kept (long image block at) (sought dir at place looks parent)
 
 -- the blocks at places of the list that were followed
-pub sought_before : (image : List ℕ) (old new : Found) (n : ℕ) → FindsMore image old new → n ≤ length old.blocks.items
-    → ((k : ℕ) → k < n → AreSought image old.marks.items (slice_index old.blocks.items k)) → (k : ℕ) → k < n → AreSought image new.marks.items (slice_index new.blocks.items k)
-sought_before image old new n more there all k l =
+pub sought_before : (out image : List ℕ) (old new : Found) (n : ℕ) → FindsMore out image old new → n ≤ length old.blocks.items
+    → ((k : ℕ) → k < n → AreSought out image old.marks.items (slice_index old.blocks.items k)) → (k : ℕ) → k < n → AreSought out image new.marks.items (slice_index new.blocks.items k)
+sought_before out image old new n more there all k l =
     let same : slice_index old.blocks.items k ≡ slice_index new.blocks.items k =
     sym (ap (λ (xs : List ℕ). slice_index xs k) more.grown ∙ get_or_append_left old.blocks.items more.more 0 k (omega (arith, l, there))) in
-    subst (AreSought image new.marks.items) same (sought_kept image old new more (slice_index old.blocks.items k) (all k l))
+    subst (AreSought out image new.marks.items) same (sought_kept out image old new more (slice_index old.blocks.items k) (all k l))
 
 -- all slots, by their numbers
-pub slots_sought : (image : List ℕ) (marks : List Bool) (block : ℕ) → ((slot : ℕ) → slot < TABLE_LONGS → IsSought image marks block block (FIRST_SLOT + slot))
-    → (at : ℕ) → IsSlot image block at → IsSought image marks block block at
-slots_sought image marks block all at (table, (slot, below, is)) = subst (IsSought image marks block block) (sym is) (all slot below)
+pub slots_sought : (out image : List ℕ) (marks : List Bool) (block : ℕ) → ((slot : ℕ) → slot < TABLE_LONGS → IsSought out image marks block block (FIRST_SLOT + slot))
+    → (at : ℕ) → IsSlot image block at → IsSought out image marks block block at
+slots_sought out image marks block all at (table, (slot, below, is)) = subst (IsSought out image marks block block) (sym is) (all slot below)
 
 -- all places of a block, by both kinds
-pub both_sought : (image : List ℕ) (marks : List Bool) (block : ℕ) → ((at : ℕ) → IsSlot image block at → IsSought image marks block block at)
-    → ((at : ℕ) → IsNext image block at → IsSought image marks (parent_key image block) block at) → AreSought image marks block
-both_sought image marks block slots next dir at (inl (here, slot)) = subst (λ (d : ℕ). IsSought image marks d block at) here (slots at slot)
-both_sought image marks block slots next dir at (inr (here, beside)) = subst (λ (d : ℕ). IsSought image marks d block at) here (next at beside)
+pub both_sought : (out image : List ℕ) (marks : List Bool) (block : ℕ) → ((at : ℕ) → IsSlot image block at → IsSought out image marks block block at)
+    → ((at : ℕ) → IsNext image block at → IsSought out image marks (parent_key image block) block at) → AreSought out image marks block
+both_sought out image marks block slots next dir at (inl (here, slot)) = subst (λ (d : ℕ). IsSought out image marks d block at) here (slots at slot)
+both_sought out image marks block slots next dir at (inr (here, beside)) = subst (λ (d : ℕ). IsSought out image marks d block at) here (next at beside)
 
 -- the list has at most as many blocks as the image
-pub few_found : (image : List ℕ) (found : Found) → AreFound image found → length found.blocks.items ≤ block_count image
-few_found image found f = different_few (block_count image) found.blocks.items below different
+pub few_found : (out image : List ℕ) (found : Found) → AreFound out image found → length found.blocks.items ≤ block_count image
+few_found out image found f = different_few (block_count image) found.blocks.items below different
   where
     below : (i : ℕ) → i < length found.blocks.items → slice_index found.blocks.items i < block_count image
-    below i l = header_inside image (slice_index found.blocks.items i) (f.right (slice_index found.blocks.items i) (f.marked i 0 l))
+    below i l = header_inside out image (slice_index found.blocks.items i) (f.right (slice_index found.blocks.items i) (f.marked i 0 l))
 
     different : AreDifferent found.blocks.items
     different i j l m e = elim (cases_order i j) [
@@ -103,46 +102,46 @@ few_found image found f = different_few (block_count image) found.blocks.items b
     ]
 
 -- where the root and all marked blocks were followed, each block that can name entries is the root or marked
-module _ (image : List ℕ) (marks : List Bool) (sound : (block : ℕ) → IsSoundHeader image block → IsFound marks block)
-    (root : (block : ℕ) → IsRoot image block → AreSought image marks block) (others : (block : ℕ) → IsFound marks block → AreSought image marks block) where
-  names_found : {block : ℕ} → NamesEntries image block → IsRoot image block ⊎ IsFound marks block
+module _ (out image : List ℕ) (marks : List Bool) (sound : (block : ℕ) → IsToldHeader out image block → IsFound marks block)
+    (root : (block : ℕ) → IsRoot image block → AreSought out image marks block) (others : (block : ℕ) → IsFound marks block → AreSought out image marks block) where
+  names_found : {block : ℕ} → NamesEntries out image block → IsRoot image block ⊎ IsFound marks block
   names_found (of_root r) = inl r
   names_found (of_sound s) = inr (sound _ s)
   names_found (of_named {block} {holder} {at} h place named looks) =
-      let sought : AreSought image marks holder = elim (names_found h) [
+      let sought : AreSought out image marks holder = elim (names_found h) [
         | inl r ↦ root holder r
         | inr m ↦ others holder m
       ] in
-      inr (subst (IsFound marks) named (sought (parent_key image block) at place (subst (LooksLikeHeader image) (sym named) looks) (ap (parent_key image) named)))
+      inr (subst (IsFound marks) named (sought (parent_key image block) at place (subst (MayBeHeader out image) (sym named) looks) (ap (parent_key image) named)))
 
-  pub named_found : (block : ℕ) → IsNamedHeader image block → IsFound marks block
+  pub named_found : (block : ℕ) → IsNamedHeader out image block → IsFound marks block
   named_found block d =
       let n = d.named in
-      let sought : AreSought image marks n.holder = elim (names_found n.accepted) [
+      let sought : AreSought out image marks n.holder = elim (names_found n.accepted) [
         | inl r ↦ root n.holder r
         | inr m ↦ others n.holder m
       ] in
-      subst (IsFound marks) n.named (sought (parent_key image block) n.at n.place (subst (LooksLikeHeader image) (sym n.named) d.looks) (ap (parent_key image) n.named))
+      subst (IsFound marks) n.named (sought (parent_key image block) n.at n.place (subst (MayBeHeader out image) (sym n.named) d.header) (ap (parent_key image) n.named))
 
 -- then the marks are right
-pub are_headers : (image : List ℕ) (found : Found) → AreFound image found → ((block : ℕ) → IsSoundHeader image block → IsFound found.marks.items block)
-    → ((block : ℕ) → IsRoot image block → AreSought image found.marks.items block) → (n : ℕ) → length found.blocks.items ≤ n
-    → ((k : ℕ) → k < n → AreSought image found.marks.items (slice_index found.blocks.items k)) → AreHeaders image found.marks.items
-are_headers image found f sound root n all followed = record {
+pub are_headers : (out image : List ℕ) (found : Found) → AreFound out image found → ((block : ℕ) → IsToldHeader out image block → IsFound found.marks.items block)
+    → ((block : ℕ) → IsRoot image block → AreSought out image found.marks.items block) → (n : ℕ) → length found.blocks.items ≤ n
+    → ((k : ℕ) → k < n → AreSought out image found.marks.items (slice_index found.blocks.items k)) → AreHeaders out image found.marks.items
+are_headers out image found f sound root n all followed = record {
   size = f.size;
   decided = λ block l. go (mark_at found.marks.items block) block refl;
 }
   where
-    others : (block : ℕ) → IsFound found.marks.items block → AreSought image found.marks.items block
+    others : (block : ℕ) → IsFound found.marks.items block → AreSought out image found.marks.items block
     others block is =
         let at = f.listed block is in
-        subst (AreSought image found.marks.items) (get_or_default found.blocks.items at.0 0 block at.1 ∙ at.2) (followed at.0 (omega (arith, at.1, all)))
+        subst (AreSought out image found.marks.items) (get_or_default found.blocks.items at.0 0 block at.1 ∙ at.2) (followed at.0 (omega (arith, at.1, all)))
 
-    header_found : (block : ℕ) → IsHeader image block → IsFound found.marks.items block
+    header_found : (block : ℕ) → IsHeader out image block → IsFound found.marks.items block
     header_found block (inl s) = sound block s
-    header_found block (inr d) = named_found image found.marks.items sound root others block d
+    header_found block (inr d) = named_found out image found.marks.items sound root others block d
 
-    go : (mark : Bool) (block : ℕ) → mark_at found.marks.items block ≡ mark → MatchBool mark (IsHeader image block) (¬ IsHeader image block)
+    go : (mark : Bool) (block : ℕ) → mark_at found.marks.items block ≡ mark → MatchBool mark (IsHeader out image block) (¬ IsHeader out image block)
     go true block is = f.right block is
     go false block is = λ header. let both : true ≡ false = sym (header_found block header) ∙ is in absurd (cc both)
 
@@ -151,23 +150,23 @@ pub mark_read : (marks : List Bool) (block : ℕ) (mark : Bool) → block < leng
 mark_read marks block mark inside is = get_or_default marks block false mark inside ∙ sym is
 
 -- a block of the list can name entries
-pub listed_names : (image : List ℕ) (found : Found) (k block : ℕ) → AreFound image found → k < length found.blocks.items → block ≡ get_or found.blocks.items k block → (block < block_count image) × NamesEntries image block
-listed_names image found k block f l is =
-    let header : IsHeader image block = subst (IsHeader image) (sym is) (f.right (get_or found.blocks.items k block) (f.marked k block l)) in
-    (header_inside image block header, header_names image block header)
+pub listed_names : (out image : List ℕ) (found : Found) (k block : ℕ) → AreFound out image found → k < length found.blocks.items → block ≡ get_or found.blocks.items k block → (block < block_count image) × NamesEntries out image block
+listed_names out image found k block f l is =
+    let header : IsHeader out image block = subst (IsHeader out image) (sym is) (f.right (get_or found.blocks.items k block) (f.marked k block l)) in
+    (header_inside out image block header, header_names out image block header)
 
 -- the block at the next place of the list was followed
-module _ (image : List ℕ) (old new : Found) (more : FindsMore image old new) (k : ℕ) (there : k < length old.blocks.items) where
-  pub sought_next : (block : ℕ) → block ≡ get_or old.blocks.items k block → AreSought image new.marks.items block → AreSought image new.marks.items (slice_index new.blocks.items k)
+module _ (out image : List ℕ) (old new : Found) (more : FindsMore out image old new) (k : ℕ) (there : k < length old.blocks.items) where
+  pub sought_next : (block : ℕ) → block ≡ get_or old.blocks.items k block → AreSought out image new.marks.items block → AreSought out image new.marks.items (slice_index new.blocks.items k)
   sought_next block is sought =
-      subst (AreSought image new.marks.items)
+      subst (AreSought out image new.marks.items)
       (is ∙ get_or_default old.blocks.items k block 0 there ∙ sym (ap (λ (xs : List ℕ). slice_index xs k) more.grown ∙ get_or_append_left old.blocks.items more.more 0 k there)) sought
 
   pub next_within : k + 1 ≤ length new.blocks.items
   next_within = omega (arith, there, ap length more.grown, length-append old.blocks.items more.more)
 
 -- whether a block is a header, as it is read
-pub header_read : (image : List ℕ) (headers : List Bool) (block : ℕ) (mark read : Bool) → AreHeaders image headers → block < block_count image → mark ≡ get_or headers block mark → mark ≡ read
-    → MatchBool read (IsHeader image block) (¬ IsHeader image block)
-header_read image headers block mark read h inside is found =
-    subst (λ (b : Bool). MatchBool b (IsHeader image block) (¬ IsHeader image block)) (mark_read headers block mark (omega (arith, inside, h.size)) is ∙ found) (h.decided block inside)
+pub header_read : (out image : List ℕ) (headers : List Bool) (block : ℕ) (mark read : Bool) → AreHeaders out image headers → block < block_count image → mark ≡ get_or headers block mark → mark ≡ read
+    → MatchBool read (IsHeader out image block) (¬ IsHeader out image block)
+header_read out image headers block mark read h inside is found =
+    subst (λ (b : Bool). MatchBool b (IsHeader out image block) (¬ IsHeader out image block)) (mark_read headers block mark (omega (arith, inside, h.size)) is ∙ found) (h.decided block inside)

@@ -1,5 +1,5 @@
 -- How much of a sound file can be had back, by its blocks and their claims.
-use Rattle.std.proofs.Common.{◌≡◌, ℕ, ◌<◌, inl, inr, Bool, true, false, cond, MatchBool, count_by, List, length, get_or, All, refl, sym, ap, ◌∙◌, subst, arith}
+use Rattle.std.proofs.Common.{◌≡◌, ℕ, ◌<◌, inl, inr, Bool, true, false, cond, MatchBool, count_by, List, [], length, get_or, All, refl, sym, ap, ◌∙◌, subst, arith}
 use Rattle.std.proofs.lemmas.Bool.{cases_eq}
 use Rattle.std.proofs.lemmas.List.{get_or_default}
 use Rattle.std.proofs.lemmas.List.Sums.{get_or-le-sum_by}
@@ -9,10 +9,11 @@ use Rattle.ados_model.specs.Faults.{InImage}
 use Rattle.adf_salvage.specs.declared.claims.Claim.{Claim}
 use Rattle.adf_salvage.specs.declared.claims.Claim.TheVariants.{Free, One, Several}
 use Rattle.adf_salvage.specs.Deleted.{AreAllFree, HasCount, IsShared, IsUsed}
-use Rattle.adf_salvage.specs.Sound.{IsIntact, IsWhole, Names, own_blocks}
+use Rattle.adf_salvage.specs.Sound.{IsClaimant, IsIntact, IsWhole, Names, own_blocks}
 use Rattle.adf_salvage.specs.steps.Claims.{IsClaim, claim_at}
 use Rattle.adf_salvage.specs.steps.Deleting.{AreAllClaims, is_several}
 use Rattle.adf_salvage.proofs.Claiming.{own_within}
+use Rattle.adf_salvage.proofs.Leaving.{none_contained}
 use Rattle.adf_salvage.proofs.OwnBlocks.{own_inside}
 use Rattle.adf_salvage.proofs.SoundParts.{lawful_data_blocks, lawful_holders}
 
@@ -28,6 +29,10 @@ free_by : (image : List ℕ) (block : ℕ) → InImage image block → ¬ IsUsed
 free_by image block inside unused true e = e
 free_by image block inside unused false e = absurd (unused (inside, λ h. absurd (cc (h, e))))
 
+-- where nothing is left out, each sound file claims its blocks
+claimant_of : (image : List ℕ) (file : ℕ) → IsIntact image file → IsClaimant [] image file
+claimant_of image file i = record { intact = i; told = none_contained file }
+
 module _ (image : List ℕ) (file : ℕ) (i : IsIntact image file) where
   -- all blocks of a sound file are inside the volume, so those that are not used are free
   pub all_free : (xs : List ℕ) → xs ≡ own_blocks image file → All (λ block. ¬ IsUsed image block) xs → AreAllFree image file
@@ -39,12 +44,13 @@ module _ (image : List ℕ) (file : ℕ) (i : IsIntact image file) where
 
   module _ (claims : List Claim) (h : AreAllClaims image claims) where
     -- the claim of a block of the file says whether another sound file names it
-    shared_by : (block : ℕ) → Names image file block → (c : Claim) → IsClaim image (block_count image) block c → MatchBool (is_several c) (IsShared image file block) (¬ IsShared image file block)
-    shared_by block m Free told = absurd (told file i.header.inside.1 i m)
-    shared_by block m (One one) told = λ s. s.1 (told.3 s.0 s.2.header.inside.1 s.2 s.3 ∙ sym (told.3 file i.header.inside.1 i m))
+    shared_by : (block : ℕ) → Names image file block → (c : Claim) → IsClaim [] image (block_count image) block c → MatchBool (is_several c) (IsShared image file block) (¬ IsShared image file block)
+    shared_by block m Free told = absurd (told file i.header.inside.1 (claimant_of image file i) m)
+    shared_by block m (One one) told = λ s.
+        s.1 (told.3 s.0 s.2.header.inside.1 (claimant_of image s.0 s.2) s.3 ∙ sym (told.3 file i.header.inside.1 (claimant_of image file i) m))
     shared_by block m Several told = elim (cases_eq told.0 file) [
-      | inl e ↦ (told.1, λ z. told.2 (e ∙ sym z), told.5, told.6)
-      | inr n ↦ (told.0, n, told.3, told.4)
+      | inl e ↦ (told.1, λ z. told.2 (e ∙ sym z), told.5.intact, told.6)
+      | inr n ↦ (told.0, n, told.3.intact, told.4)
     ]
 
     shared_at : (block : ℕ) → Names image file block → MatchBool (is_several (claim_at claims block)) (IsShared image file block) (¬ IsShared image file block)
@@ -60,15 +66,15 @@ module _ (image : List ℕ) (file : ℕ) (i : IsIntact image file) where
       counted = is ∙ ap (count_by (λ block. is_several (claim_at claims block))) e;
     }
 
-    pub whole_by : (xs : List ℕ) → xs ≡ own_blocks image file → count_by (λ block. is_several (claim_at claims block)) xs ≡ 0 → IsWhole image file
+    pub whole_by : (xs : List ℕ) → xs ≡ own_blocks image file → count_by (λ block. is_several (claim_at claims block)) xs ≡ 0 → IsWhole [] image file
     whole_by xs e none = record {
-      intact = i;
+      claimant = claimant_of image file i;
       alone = λ other block j m k. elim (cases_eq other file) [
         | inl same ↦ same
         | inr n ↦
             (let one : is_several (claim_at claims block) ≡ false =
             ap (λ (b : ℕ). is_several (claim_at claims b)) (sym m.2)
             ∙ none_counted (λ b. is_several (claim_at claims b)) (own_blocks image file) (ap (count_by (λ b. is_several (claim_at claims b))) (sym e) ∙ none) m.0 block m.1 in
-            absurd (subst (λ (several : Bool). MatchBool several (IsShared image file block) (¬ IsShared image file block)) one (shared_at block m) (other, n, j, k)))
+            absurd (subst (λ (several : Bool). MatchBool several (IsShared image file block) (¬ IsShared image file block)) one (shared_at block m) (other, n, j.intact, k)))
       ];
     }

@@ -7,26 +7,26 @@ use Rattle.adf_salvage.specs.declared.salvaged.State.{State}
 use Rattle.adf_salvage.specs.declared.salvaged.State.TheVariants.{Directory, DoubtfulDirectory, Whole, Doubtful, Lost, Broken}
 use Rattle.adf_salvage.specs.declared.salvaged.Salvaged.{Salvaged}
 use Rattle.adf_salvage.specs.Lost.{IsLost}
-use Rattle.adf_salvage.specs.Salvaged.{AreApart, AreSalvaged, HasState, IsTold, Saved, SavesSound, broken_total, headers_of}
+use Rattle.adf_salvage.specs.Salvaged.{AreApart, AreLeftOut, AreSalvaged, HasState, IsTold, Saved, SavesSound, broken_total, headers_of}
 use Rattle.adf_salvage.specs.steps.Gathering.{AreAllHeaders, AreGathered, place_at}
 use Rattle.adf_salvage.specs.steps.Keeping.{CanBeRead, IsKept, IsReadable}
 use Rattle.adf_salvage.proofs.Naming.{header_inside}
 
 -- a sound file that is whole can be read
-can_be_read : (image : List ℕ) (header : ℕ) (state : State) → header < block_count image → HasState image header state → CanBeRead image header state
-can_be_read image header Directory inside h = tt
-can_be_read image header DoubtfulDirectory inside h = tt
-can_be_read image header (Doubtful sound size) inside h = tt
-can_be_read image header Whole inside h = record { inside = inside; lawful = h.intact.lawful }
-can_be_read image header (Broken missing cut size) inside h = tt
-can_be_read image header Lost inside h = absurd h
+can_be_read : (out image : List ℕ) (header : ℕ) (state : State) → header < block_count image → HasState out image header state → CanBeRead image header state
+can_be_read out image header Directory inside h = tt
+can_be_read out image header DoubtfulDirectory inside h = tt
+can_be_read out image header (Doubtful sound size) inside h = tt
+can_be_read out image header Whole inside h = record { inside = inside; lawful = h.claimant.intact.lawful }
+can_be_read out image header (Broken missing cut size) inside h = tt
+can_be_read out image header Lost inside h = absurd h
 
-told_readable : (image : List ℕ) (entry : Salvaged) → IsTold image entry → IsReadable image entry
-told_readable image entry (inl told) = can_be_read image entry.header entry.state (header_inside image entry.header told.header) told.state
-told_readable image entry (inr lost) = subst (CanBeRead image entry.header) (sym lost.state) tt
+told_readable : (out image : List ℕ) (entry : Salvaged) → IsTold out image entry → IsReadable image entry
+told_readable out image entry (inl told) = can_be_read out image entry.header entry.state (header_inside out image entry.header told.header) told.state
+told_readable out image entry (inr lost) = subst (CanBeRead image entry.header) (sym lost.state) tt
 
-module _ (image : List ℕ) (gathered : Gathered) (g : AreGathered image gathered) where
-  pub all_salvaged : AreAllHeaders image gathered.places.items → ((block : ℕ) → IsLost image block → IsSome (place_at gathered.places.items block)) → AreSalvaged image gathered.entries.items
+module _ (out image : List ℕ) (gathered : Gathered) (g : AreGathered out image gathered) where
+  pub all_salvaged : AreAllHeaders out image gathered.places.items → ((block : ℕ) → IsLost out image block → IsSome (place_at gathered.places.items block)) → AreSalvaged out image gathered.entries.items
   all_salvaged met lost_met = record {
     told = g.told;
     once = λ i j d l m e.
@@ -42,16 +42,18 @@ module _ (image : List ℕ) (gathered : Gathered) (g : AreGathered image gathere
     lost = λ block lost. g.met block (lost_met block lost);
   }
 
-  pub saves_sound : (saved : Saved) → saved.image ≡ image → saved.entries ≡ gathered.entries.items → saved.given ≡ gathered.giving.pieces.items
-      → AreAllHeaders image gathered.places.items → ((block : ℕ) → IsLost image block → IsSome (place_at gathered.places.items block)) → SavesSound saved
-  saves_sound saved same are given met lost_met = record {
-    salvaged = subst (λ (xs : List ℕ). AreSalvaged xs saved.entries) (sym same) (subst (AreSalvaged image) (sym are) (all_salvaged met lost_met));
+  pub saves_sound : (saved : Saved) → AreLeftOut image out → saved.deleted ≡ out → saved.image ≡ image → saved.entries ≡ gathered.entries.items → saved.given ≡ gathered.giving.pieces.items
+      → AreAllHeaders out image gathered.places.items → ((block : ℕ) → IsLost out image block → IsSome (place_at gathered.places.items block)) → SavesSound saved
+  saves_sound saved left_out leaves same are given met lost_met = record {
+    left_out = subst (λ (xs : List ℕ). AreLeftOut xs saved.deleted) (sym same) (subst (AreLeftOut image) (sym leaves) left_out);
+    salvaged = subst (λ (xs : List ℕ). AreSalvaged saved.deleted xs saved.entries) (sym same)
+        (subst (λ (xs : List ℕ). AreSalvaged xs image saved.entries) (sym leaves) (subst (AreSalvaged out image) (sym are) (all_salvaged met lost_met)));
     apart = subst AreApart (sym given) g.giving.once;
     bounded = omega (arith, g.bounded, ap broken_total are, ap length same);
   }
 
   pub all_kept : IsKept image gathered.entries.items gathered.giving.pieces.items
   all_kept = record {
-    readable = λ k d l. told_readable image (get_or gathered.entries.items k d) (g.told k d l);
+    readable = λ k d l. told_readable out image (get_or gathered.entries.items k d) (g.told k d l);
     inside = λ k d l. let marked = g.giving.marked k d l in omega (arith, marked.inside, g.giving.size);
   }

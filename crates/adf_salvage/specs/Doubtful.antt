@@ -1,5 +1,5 @@
--- Headers that are damaged, but can still be told as the entries that a damaged image names.
-use Rattle.std.specs.Prelude.{◌≡◌, ℕ, ◌+◌, ◌<◌, ◌⊎◌, List}
+-- Headers that are damaged, but can still be told as the entries that a damaged image names. Some sound headers may be left out.
+use Rattle.std.specs.Prelude.{◌≡◌, ℕ, ◌+◌, ◌<◌, ◌⊎◌, List, Contains}
 use Rattle.adf_block.specs.Image.{block_count, long, root_key, IsInside}
 use Rattle.adf_block.specs.Fields.{own_key, parent_key, primary_type, secondary_type}
 use Rattle.adf_block.specs.declared.layout.TheConstants.{FIRST_SLOT, HEADER_TYPE, NAME_BYTE, NEXT_IN_CHAIN, ROOT_TYPE, TABLE_LONGS}
@@ -40,32 +40,42 @@ IsNext image block at = HasEntryType image block × (at ≡ NEXT_IN_CHAIN)
 abbrev pub IsPlaceIn : List ℕ → ℕ → ℕ → ℕ → Type 0
 IsPlaceIn image dir block at = ((block ≡ dir) × IsSlot image block at) ⊎ ((parent_key image block ≡ dir) × IsNext image block at)
 
+-- a sound header that is told: it is not left out
+pub record IsToldHeader (out image : List ℕ) (block : ℕ) : Type 0 where
+  pub sound : IsSoundHeader image block
+  pub told : ¬ Contains out block
+
+-- a block that looks like a header, and is not left out
+pub record MayBeHeader (out image : List ℕ) (block : ℕ) : Type 0 where
+  pub looks : LooksLikeHeader image block
+  pub told : ¬ Contains out block
+
 -- the blocks whose places are accepted: the root, each sound header, and each block that an accepted place of its parent names
--- and that looks like a header
-pub data NamesEntries (image : List ℕ) : ℕ → Type 0 where
-  of_root : {block : ℕ} → IsRoot image block → NamesEntries image block
-  of_sound : {block : ℕ} → IsSoundHeader image block → NamesEntries image block
-  of_named : {block holder at : ℕ} → NamesEntries image holder → IsPlaceIn image (parent_key image block) holder at → long image holder at ≡ block
-      → LooksLikeHeader image block → NamesEntries image block
+-- and that looks like a header; of these, none that is left out
+pub data NamesEntries (out image : List ℕ) : ℕ → Type 0 where
+  of_root : {block : ℕ} → IsRoot image block → NamesEntries out image block
+  of_sound : {block : ℕ} → IsToldHeader out image block → NamesEntries out image block
+  of_named : {block holder at : ℕ} → NamesEntries out image holder → IsPlaceIn image (parent_key image block) holder at → long image holder at ≡ block
+      → MayBeHeader out image block → NamesEntries out image block
 
 -- an accepted place for entries of the directory names the block
-pub record IsNamedIn (image : List ℕ) (dir block : ℕ) : Type 0 where
+pub record IsNamedIn (out image : List ℕ) (dir block : ℕ) : Type 0 where
   pub holder : ℕ
   pub at : ℕ
-  pub accepted : NamesEntries image holder
+  pub accepted : NamesEntries out image holder
   pub place : IsPlaceIn image dir holder at
   pub named : long image holder at ≡ block
 
--- a block that looks like a header, and that an accepted place for entries of its parent names
-pub record IsNamedHeader (image : List ℕ) (block : ℕ) : Type 0 where
-  pub looks : LooksLikeHeader image block
-  pub named : IsNamedIn image (parent_key image block) block
+-- a block that looks like a header and is not left out, and that an accepted place for entries of its parent names
+pub record IsNamedHeader (out image : List ℕ) (block : ℕ) : Type 0 where
+  pub header : MayBeHeader out image block
+  pub named : IsNamedIn out image (parent_key image block) block
 
 -- a doubtful header: such a block that is no sound header
-pub record IsDoubtfulHeader (image : List ℕ) (block : ℕ) : Type 0 where
-  pub header : IsNamedHeader image block
+pub record IsDoubtfulHeader (out image : List ℕ) (block : ℕ) : Type 0 where
+  pub header : IsNamedHeader out image block
   pub unsound : ¬ IsSoundHeader image block
 
--- a header that can be told: a sound one, or one that its parent names, so each is sound or doubtful
-abbrev pub IsHeader : List ℕ → ℕ → Type 0
-IsHeader image block = IsSoundHeader image block ⊎ IsNamedHeader image block
+-- a header that is told: a sound one, or one that its parent names, so each is sound or doubtful; none that is left out
+abbrev pub IsHeader : List ℕ → List ℕ → ℕ → Type 0
+IsHeader out image block = IsToldHeader out image block ⊎ IsNamedHeader out image block

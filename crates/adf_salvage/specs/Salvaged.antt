@@ -1,5 +1,5 @@
 -- The descriptions of an image's entries.
-use Rattle.std.specs.Prelude.{◌≡◌, ◌≢◌, ℕ, zero, suc, ◌+◌, ◌*◌, ◌≤◌, ◌⊎◌, Bool, MatchBool, List, [], ◌∷◌, ◌++◌, decimal, length, All, AllPairs, Contains, map, None, Some, true, false, ⊤}
+use Rattle.std.specs.Prelude.{◌≡◌, ◌≢◌, ℕ, zero, suc, ◌+◌, ◌*◌, ◌<◌, ◌≤◌, ◌⊎◌, Bool, MatchBool, List, [], ◌∷◌, ◌++◌, decimal, length, All, AllPairs, Contains, map, None, Some, true, false, ⊤}
 use Rattle.adf_block.specs.Boot.{HasKind}
 use Rattle.adf_block.specs.declared.boot.BootKind.TheVariants.{Ofs, Ffs}
 use Rattle.adf_block.specs.Frame.{OnlyLong}
@@ -9,7 +9,7 @@ use Rattle.adf_block.specs.declared.layout.TheConstants.{COMMENT_BYTE, DATE, NAM
 use Rattle.adf_block.specs.Whole.{text_at}
 use Rattle.ados_name.specs.Name.{IsName}
 use Rattle.ados_model.specs.File.{contents}
-use Rattle.ados_model.specs.Accepted.{Accepts}
+use Rattle.ados_model.specs.Accepted.{Accepts, ShowsNoFault}
 use Rattle.ados_model.specs.Stands.{date_at, Stands}
 use Rattle.ados_model.specs.Faults.{HasDirectoryType, HasFileType}
 use Rattle.ados_model.specs.Tree.{Content, Node, Tree, entries, root}
@@ -20,16 +20,18 @@ use Rattle.adf_salvage.specs.declared.giving.Piece.{Piece}
 use Rattle.adf_salvage.specs.declared.salvaged.Salvaged.{Salvaged}
 use Rattle.adf_salvage.specs.declared.salvaged.State.{State}
 use Rattle.adf_salvage.specs.declared.salvaged.State.TheVariants as states
-use Rattle.adf_salvage.specs.Doubtful.{IsDoubtfulHeader, IsHeader}
+use Rattle.adf_salvage.specs.Deleted.{IsDeleted}
+use Rattle.adf_salvage.specs.Doubtful.{IsDoubtfulHeader, IsHeader, IsToldHeader}
 use Rattle.adf_salvage.specs.Lost.{IsLost}
 use Rattle.adf_salvage.specs.Sound.{IsSoundHeader, IsWhole}
 
--- how contracts see a salvage: whether the image was accepted, the image as it was read, its entries, and the blocks given
--- to files that are not whole
+-- how contracts see a salvage: whether the image was accepted, the image as it was read, its entries, the headers that were
+-- left out, and the blocks given to files that are not whole
 pub record Saved : Type 0 where
   pub accepted : Bool
   pub image : List ℕ
   pub entries : List Salvaged
+  pub deleted : List ℕ
   pub given : List Piece
 
 -- a name with `~` and the number of a header behind it, so many times
@@ -37,46 +39,59 @@ unfoldable pub ended : List ℕ → ℕ → ℕ → List ℕ
 ended name header zero = name
 ended name header (suc endings) = ended name header endings ++ 126 ∷ decimal header
 
--- the state fits the header: a directory or file whose header is sound or doubtful, a whole file, or a broken one, which is not whole
-abbrev pub HasState : List ℕ → ℕ → State → Type 0
-HasState image block states.Directory = IsSoundHeader image block × HasDirectoryType image block
-HasState image block states.DoubtfulDirectory = IsDoubtfulHeader image block × HasDirectoryType image block
-HasState image block states.Whole = IsWhole image block
-HasState image block (states.Doubtful sound length) = MatchBool sound (IsSoundHeader image block) (IsDoubtfulHeader image block) × HasFileType image block × ¬ IsWhole image block
-HasState image block (states.Broken missing cut length) = HasFileType image block × ¬ IsWhole image block
-HasState image block states.Lost = ⊥
+-- the state fits the header, where some headers are left out: a directory or file whose header is sound or doubtful, a whole file, or a
+-- broken one, which is not whole
+abbrev pub HasState : List ℕ → List ℕ → ℕ → State → Type 0
+HasState out image block states.Directory = IsSoundHeader image block × HasDirectoryType image block
+HasState out image block states.DoubtfulDirectory = IsDoubtfulHeader out image block × HasDirectoryType image block
+HasState out image block states.Whole = IsWhole out image block
+HasState out image block (states.Doubtful sound length) =
+    MatchBool sound (IsSoundHeader image block) (IsDoubtfulHeader out image block) × HasFileType image block × ¬ IsWhole out image block
+HasState out image block (states.Broken missing cut length) = HasFileType image block × ¬ IsWhole out image block
+HasState out image block states.Lost = ⊥
 
 -- the header is sound or doubtful, and the description has its fields, but for a comment that is too long; where the entry is, and whether it
 -- was recovered, are free
-pub record IsSalvaged (image : List ℕ) (entry : Salvaged) : Type 0 where
-  pub header : IsHeader image entry.header
+pub record IsSalvaged (out image : List ℕ) (entry : Salvaged) : Type 0 where
+  pub header : IsHeader out image entry.header
   pub name : entry.name ≡ text_at image entry.header NAME_BYTE
   pub protection_bits : entry.protection.0 ≡ protection image entry.header
   pub date_field : entry.date ≡ date_at image entry.header DATE
   pub comment : byte_at image entry.header COMMENT_BYTE ≤ 79 → entry.comment ≡ text_at image entry.header COMMENT_BYTE
-  pub state : HasState image entry.header entry.state
+  pub state : HasState out image entry.header entry.state
 
 -- the entry is lost, and has the name in its block if that is valid; the rest of the description is free
-pub record IsLostEntry (image : List ℕ) (entry : Salvaged) : Type 0 where
-  pub lost : IsLost image entry.header
+pub record IsLostEntry (out image : List ℕ) (entry : Salvaged) : Type 0 where
+  pub lost : IsLost out image entry.header
   pub name : IsName (text_at image entry.header NAME_BYTE) → entry.name ≡ text_at image entry.header NAME_BYTE
   pub state : entry.state ≡ states.Lost
 
 -- the description of a sound or doubtful header, or of a lost entry
-abbrev pub IsTold : List ℕ → Salvaged → Type 0
-IsTold image entry = IsSalvaged image entry ⊎ IsLostEntry image entry
+abbrev pub IsTold : List ℕ → List ℕ → Salvaged → Type 0
+IsTold out image entry = IsSalvaged out image entry ⊎ IsLostEntry out image entry
 
 -- the headers of these entries
 abbrev pub headers_of : List Salvaged → List ℕ
 headers_of found = map (λ entry. entry.header) found
 
--- the entries are exactly the sound headers, the doubtful headers and the lost entries of the image, each once
-pub record AreSalvaged (image : List ℕ) (found : List Salvaged) : Type 0 where
-  pub told : All (IsTold image) found
+-- the entries are exactly the told ones, each once: the sound headers but those that are left out, the doubtful headers and the
+-- lost entries of the image
+pub record AreSalvaged (out image : List ℕ) (found : List Salvaged) : Type 0 where
+  pub told : All (IsTold out image) found
   pub once : AllPairs (λ a b. a ≢ b) (headers_of found)
-  pub sound : (block : ℕ) → IsSoundHeader image block → Contains (headers_of found) block
-  pub doubtful : (block : ℕ) → IsDoubtfulHeader image block → Contains (headers_of found) block
-  pub lost : (block : ℕ) → IsLost image block → Contains (headers_of found) block
+  pub sound : (block : ℕ) → IsToldHeader out image block → Contains (headers_of found) block
+  pub doubtful : (block : ℕ) → IsDoubtfulHeader out image block → Contains (headers_of found) block
+  pub lost : (block : ℕ) → IsLost out image block → Contains (headers_of found) block
+
+-- the headers are exactly those of the deleted entries, each once, by block. Without a trusted bitmap there are none
+pub record AreDeleted (image headers : List ℕ) : Type 0 where
+  pub deleted : All (IsDeleted image) headers
+  pub in_order : AllPairs (λ a b. a < b) headers
+  pub all : (block : ℕ) → IsDeleted image block → Contains headers block
+
+-- the headers are those of the deleted entries; or none, since the image, which is refused, shows too much
+abbrev pub AreLeftOut : List ℕ → List ℕ → Type 0
+AreLeftOut image headers = AreDeleted image headers ⊎ ((headers ≡ []) × ¬ ShowsNoFault image)
 
 -- a directory, or a whole file that has these bytes in the image
 abbrev pub HoldsAll : List ℕ → ℕ → Content → State → Type 0
@@ -125,21 +140,23 @@ pub record IsReadAs (image read : List ℕ) : Type 0 where
   pub known : HasKind image Ofs ⊎ HasKind image Ffs → read ≡ image
   pub rest : OnlyLong 0 0 image read
 
--- the entries are the sound and doubtful headers and the lost entries of the image, no block is given to two files, and all files that are
--- not whole have together at most four times the bytes of the image
+-- the deleted entries are left out, and the entries are all others that are told; no block is given to two files, and all files
+-- that are not whole have together at most four times the bytes of the image
 pub record SavesSound (saved : Saved) : Type 0 where
-  pub salvaged : AreSalvaged saved.image saved.entries
+  pub left_out : AreLeftOut saved.image saved.deleted
+  pub salvaged : AreSalvaged saved.deleted saved.image saved.entries
   pub apart : AreApart saved.given
   pub bounded : broken_total saved.entries ≤ 4 * length saved.image
 
--- the image was accepted, possibly with a new bitmap, and these are the entries of its tree
+-- the image was accepted, possibly with a new bitmap, and these are the entries of its tree, and its deleted entries
 pub record SavesTree (image : List ℕ) (saved : Saved) : Type 0 where
   pub accepted : saved.accepted ≡ true
   pub validated : Bool
   pub accepts : Accepts image validated saved.image
   pub tree : (t : Tree) → Stands saved.image t → AreOfTree t saved
+  pub deleted : AreDeleted image saved.deleted
 
--- the image was refused, and these are its sound and doubtful headers and its lost entries
+-- the image was refused, and these are its told entries
 pub record SavesRest (image : List ℕ) (saved : Saved) : Type 0 where
   pub refused : saved.accepted ≡ false
   pub read : IsReadAs image saved.image

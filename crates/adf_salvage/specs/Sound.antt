@@ -34,7 +34,12 @@ own_blocks image file = (file ∷ extension_blocks image file) ++ data_blocks im
 abbrev pub Names : List ℕ → ℕ → ℕ → Type 0
 Names image file block = Contains (own_blocks image file) block
 
--- a whole file: sound, and no other sound file names one of its blocks
-pub record IsWhole (image : List ℕ) (file : ℕ) : Type 0 where
+-- a sound file that claims its blocks: one whose header is not left out
+pub record IsClaimant (out image : List ℕ) (file : ℕ) : Type 0 where
   pub intact : IsIntact image file
-  pub alone : (other block : ℕ) → IsIntact image other → Names image file block → Names image other block → other ≡ file
+  pub told : ¬ Contains out file
+
+-- a whole file, where these headers are left out: it claims its blocks, and no other sound file claims one of them
+pub record IsWhole (out image : List ℕ) (file : ℕ) : Type 0 where
+  pub claimant : IsClaimant out image file
+  pub alone : (other block : ℕ) → IsClaimant out image other → Names image file block → Names image other block → other ≡ file

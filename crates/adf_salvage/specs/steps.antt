@@ -7,3 +7,4 @@ pub mod Gathering
 pub mod Keeping
 pub mod Deleting
 pub mod Undeleting
+pub mod Leaving

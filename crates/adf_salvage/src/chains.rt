@@ -20,9 +20,9 @@ pub(crate) fn add_reached(
     known: &Known,
     gathered: &mut Gathered,
 ) -> Result<(), AllocError>
-    requires gathered { AreGathered image.now gathered.old }
+    requires gathered { AreGathered known.now.left_out image.now gathered.old }
     requires known { AreKnown image.now known.now }
-    ensures { OnOk result (AreGathered image.now gathered.new) }
+    ensures { OnOk result (AreGathered known.now.left_out image.now gathered.new) }
 {
     prove!(image.blocks() >= 16);
     add_chains(alloc, image, known, image.root(), None, gathered)?;
@@ -50,9 +50,9 @@ fn add_chains(
     gathered: &mut Gathered,
 ) -> Result<(), AllocError>
     requires dir { dir < block_count image.now }
-    requires gathered { AreGathered image.now gathered.old }
+    requires gathered { AreGathered known.now.left_out image.now gathered.old }
     requires known { AreKnown image.now known.now }
-    ensures { OnOk result (AreGathered image.now gathered.new) }
+    ensures { OnOk result (AreGathered known.now.left_out image.now gathered.new) }
 {
     for slot in 0..TABLE_LONGS {
         let first = image.long(dir, FIRST_SLOT + slot);
@@ -70,9 +70,9 @@ fn add_chain(
     above: Option<usize>,
     gathered: &mut Gathered,
 ) -> Result<(), AllocError>
-    requires gathered { AreGathered image.now gathered.old }
+    requires gathered { AreGathered known.now.left_out image.now gathered.old }
     requires known { AreKnown image.now known.now }
-    ensures { OnOk result (AreGathered image.now gathered.new) }
+    ensures { OnOk result (AreGathered known.now.left_out image.now gathered.new) }
 {
     let standing = Standing {
         above,

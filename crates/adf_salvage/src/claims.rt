@@ -1,15 +1,18 @@
-//! The sound files that name a block.
-ghost use Rattle.std.specs.Prelude.{◌≡◌, ◌<◌, ℕ, length, All, IfOk, MatchBool};
+//! The sound files that claim a block.
+ghost use Rattle.std.specs.Prelude.{◌≡◌, ◌+◌, ◌<◌, ℕ, length, All, IfOk, OnOk, MatchBool, MatchOption};
 ghost use Rattle.adf_block.specs.Image.{block_count};
+ghost use Rattle.adf_salvage.specs.Sound.{IsClaimant, own_blocks};
 ghost use Rattle.adf_salvage.specs.steps.Claims.{AreClaims, IsNoted, claim_at, with_claim};
+ghost use Rattle.adf_salvage.specs.steps.Parts.{AreUsersBelow};
 ghost use Rattle.adf_salvage.specs.declared.claims.Claim.TheVariants.{One as one};
 
 use crate::intact::{no_users, own_blocks};
+use crate::left_out::LeftOut;
 use adf_block::Image;
 use adf_block::layout::BOOT_BLOCKS;
 use std::alloc::{AllocError, Global};
 
-/// The sound files that name a block.
+/// The sound files that claim a block.
 #[derive(Clone, Copy, Debug, PartialEq, Eq)]
 pub(crate) enum Claim {
     /// None.
@@ -20,7 +23,7 @@ pub(crate) enum Claim {
 }
 
 impl Claim {
-    /// The claim after one more file names the block.
+    /// The claim after one more file claims the block.
     fn with(self, file: u32) -> Claim
         ensures { result ≡ with_claim file self }
     {
@@ -32,23 +35,48 @@ impl Claim {
     }
 }
 
-/// For each block of an image, the sound files that name it.
-pub(crate) fn claims(alloc: Global, image: &Image) -> Result<Vec<Claim>, AllocError>
+/// For each block of an image, the sound files that claim it. Those that are left out claim none.
+pub(crate) fn claims(
+    alloc: Global,
+    image: &Image,
+    left_out: &LeftOut,
+) -> Result<Vec<Claim>, AllocError>
     ensures count { IfOk result (λ claims. length claims.items ≡ block_count image.now) }
-    ensures claims { IfOk result (λ claims. AreClaims image.now (block_count image.now) claims.items) }
+    ensures claims { IfOk result (λ claims. AreClaims left_out.now image.now (block_count image.now) claims.items) }
 {
     let mut claims = vec![in alloc; Claim::Free; image.blocks() as usize]?;
     let mut users = no_users(alloc, image)?;
     prove!(image.blocks() >= 16);
     for file in BOOT_BLOCKS..image.blocks() {
-        if let Some(blocks) = own_blocks(alloc, image, file, &mut users)? {
+        if let Some(blocks) = claimed_blocks(alloc, image, left_out, file, &mut users)? {
             note(&mut claims, file, &blocks);
         }
     }
     Ok(claims)
 }
 
-/// Notes that a file names these blocks.
+/// The blocks of a file, if it is sound and not left out.
+#[tactic(auto, using(crate::proofs::OwnBlocks::users_kept))]
+pub(crate) fn claimed_blocks(
+    alloc: Global,
+    image: &Image,
+    left_out: &LeftOut,
+    file: u32,
+    users: &mut Vec<u32>,
+) -> Result<Option<Vec<u32>>, AllocError>
+    requires file { file < block_count image.now }
+    requires users { AreUsersBelow image.now file users.old.items }
+    ensures users { OnOk result (AreUsersBelow image.now (file + 1) users.new.items) }
+    ensures own { IfOk result (λ found. MatchOption found (¬ IsClaimant left_out.now image.now file)
+        (λ blocks. IsClaimant left_out.now image.now file × (blocks.items ≡ own_blocks image.now file))) }
+{
+    if left_out.has(file) {
+        return Ok(None);
+    }
+    own_blocks(alloc, image, file, users)
+}
+
+/// Notes that a file claims these blocks.
 fn note(claims: &mut [Claim], file: u32, blocks: &[u32])
     requires { All (λ block. block < length claims.old) blocks.now }
     ensures count { length claims.new ≡ length claims.old }
@@ -59,7 +87,7 @@ fn note(claims: &mut [Claim], file: u32, blocks: &[u32])
     }
 }
 
-/// Whether only this file names each of these blocks.
+/// Whether only this file claims each of these blocks.
 pub(crate) fn are_alone(claims: &[Claim], file: u32, blocks: &[u32]) -> bool
     requires { All (λ block. block < length claims.now) blocks.now }
     ensures { MatchBool result (All (λ block. claim_at claims.now block ≡ one file) blocks.now) (¬ All (λ block. claim_at claims.now block ≡ one file) blocks.now) }

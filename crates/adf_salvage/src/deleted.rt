@@ -9,6 +9,7 @@ ghost use Rattle.adf_salvage.specs.steps.Parts.{AreUsersBelow};
 
 use crate::claims::{Claim, claims};
 use crate::intact::no_users;
+use crate::left_out::LeftOut;
 use crate::recovery::recovery_of;
 use crate::saved::whole_bytes;
 use crate::trust::{Trust, is_deleted, trust_of};
@@ -88,7 +89,7 @@ fn all_deleted(
     ensures { IfOk result (λ found. ListsDeleted image.now found.items) }
 {
     prove!(image.blocks() >= 16);
-    let claims = claims(alloc, image)?;
+    let claims = claims(alloc, image, &LeftOut::none(alloc))?;
     let mut users = no_users(alloc, image)?;
     let mut found = Vec::new(alloc);
     for header in BOOT_BLOCKS..image.blocks() {

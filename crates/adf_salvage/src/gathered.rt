@@ -1,5 +1,5 @@
 //! The entries of a damaged image, while they are gathered.
-ghost use Rattle.std.specs.Prelude.{◌≡◌, ◌<◌, ◌↔◌, ℕ, None, length, IfOk, IsSome, IsTrue, OnOk};
+ghost use Rattle.std.specs.Prelude.{◌≡◌, ◌<◌, ◌↔◌, ℕ, List, None, length, IfOk, IsSome, IsTrue, OnOk};
 ghost use Rattle.adf_block.specs.Image.{block_count};
 ghost use Rattle.adf_salvage.specs.Lost.{IsLost};
 ghost use Rattle.adf_salvage.specs.steps.Gathering.{AreGathered, GathersMore, IsNew, place_at};
@@ -13,6 +13,7 @@ use crate::salvaged::{Salvaged, State};
 use crate::state::state_of;
 use crate::told::{told_of, told_of_lost};
 use adf_block::Image;
+use adf_block::layout::NEXT_IN_CHAIN;
 use std::alloc::{AllocError, Global};
 
 /// The entries found so far.
@@ -30,7 +31,7 @@ pub(crate) struct Gathered {
 impl Gathered {
     /// No entries.
     pub(crate) fn new(alloc: Global, image: &Image) -> Result<Gathered, AllocError>
-        ensures { IfOk result (AreGathered image.now) }
+        ensures { IfOk result (λ gathered. (out : List ℕ) → AreGathered out image.now gathered) }
     {
         // A block has at most one entry. A list that grows would take twice the memory while it is copied.
         let entries = Vec::with_capacity(alloc, image.blocks() as usize)?;
@@ -45,11 +46,11 @@ impl Gathered {
         })
     }
 
-    /// Whether a block is a header that was not found before.
+    /// Whether a block is a header that is told and was not found before.
     pub(crate) fn is_new(&self, image: &Image, known: &Known, block: u32) -> bool
         requires size { length self.now.places.items ≡ block_count image.now }
         requires known { AreKnown image.now known.now }
-        ensures { IsTrue result ↔ IsNew image.now self.now.places.items block }
+        ensures { IsTrue result ↔ IsNew known.now.left_out image.now self.now.places.items block }
     {
         block < image.blocks()
             && self.places[block as usize].is_none()
@@ -91,17 +92,17 @@ impl Gathered {
         block: u32,
         standing: Standing,
     ) -> Result<(), AllocError>
-        requires gathered { AreGathered image.now self.old }
-        requires met { IsNew image.now self.old.places.items block }
+        requires gathered { AreGathered known.now.left_out image.now self.old }
+        requires met { IsNew known.now.left_out image.now self.old.places.items block }
         requires known { AreKnown image.now known.now }
-        ensures more { OnOk result (GathersMore image.now self.old self.new) }
+        ensures more { OnOk result (GathersMore known.now.left_out image.now self.old self.new) }
         ensures met { OnOk result (IsSome (place_at self.new.places.items block)) }
     {
         let Some(name) = name_of(image, block) else {
             unreachable!()
         };
         let place = self.entries.len();
-        let state = state_of(image, &known.whole, block, place, &mut self.giving)?;
+        let state = state_of(image, known, block, place, &mut self.giving)?;
         let endings = self.names.take(alloc, standing, name.bytes(), block)?;
         let entry = told_of(image, block, standing, endings, state);
         self.entries.push(entry)?;
@@ -111,8 +112,17 @@ impl Gathered {
 }
 
 impl Gathered {
+    /// Where an entry is that a long of a block names: a slot, or the one for the next entry in its hash chain.
+    pub(crate) fn standing_at(&self, block: u32, at: u32) -> Standing {
+        if at == NEXT_IN_CHAIN {
+            self.standing_beside(block)
+        } else {
+            self.standing_in(block)
+        }
+    }
+
     /// Where an entry is that a slot of the root or of a directory names.
-    pub(crate) fn standing_in(&self, dir: u32) -> Standing {
+    fn standing_in(&self, dir: u32) -> Standing {
         let above = self.directory(dir);
         let found = match above {
             Some(place) => self.entries.get(place).is_some_and(|entry| entry.found),
@@ -122,7 +132,7 @@ impl Gathered {
     }
 
     /// Where an entry is that follows this one in its hash chain.
-    pub(crate) fn standing_beside(&self, block: u32) -> Standing {
+    fn standing_beside(&self, block: u32) -> Standing {
         let place = self.places.get(block as usize).copied().flatten();
         match place.and_then(|place| self.entries.get(place)) {
             Some(entry) => Standing {
@@ -141,13 +151,14 @@ impl Gathered {
         &mut self,
         alloc: Global,
         image: &Image,
+        known: &Known,
         block: u32,
         standing: Standing,
     ) -> Result<(), AllocError>
-        requires gathered { AreGathered image.now self.old }
+        requires gathered { AreGathered known.now.left_out image.now self.old }
         requires free { place_at self.old.places.items block ≡ None }
-        requires lost { IsLost image.now block }
-        ensures more { OnOk result (GathersMore image.now self.old self.new) }
+        requires lost { IsLost known.now.left_out image.now block }
+        ensures more { OnOk result (GathersMore known.now.left_out image.now self.old self.new) }
         ensures met { OnOk result (IsSome (place_at self.new.places.items block)) }
     {
         let place = self.entries.len();

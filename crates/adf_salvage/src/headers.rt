@@ -1,12 +1,13 @@
-//! The headers of an image: all sound ones, and the doubtful ones that the root or another header names.
+//! The headers of an image that are told: all sound ones but those that are left out, and the doubtful ones that the root
+//! or another header names.
 ghost use Rattle.std.specs.Prelude.{◌≡◌, ◌<◌, ◌↔◌, ℕ, List, length, IfOk, IsTrue, OnOk};
 ghost use Rattle.adf_block.specs.Image.{block_count};
 ghost use Rattle.adf_block.specs.Fields.{parent_key};
-ghost use Rattle.adf_salvage.specs.Doubtful.{IsHeader, IsNext, IsPlaceIn, IsRoot, IsSlot, LooksLikeHeader, NamesEntries};
-ghost use Rattle.adf_salvage.specs.Sound.{IsSoundHeader};
+ghost use Rattle.adf_salvage.specs.Doubtful.{IsHeader, IsNext, IsPlaceIn, IsRoot, IsSlot, IsToldHeader, MayBeHeader, NamesEntries};
 ghost use Rattle.adf_salvage.specs.steps.Heading.{AreFound, AreHeaders, AreSought, FindsMore, IsFound, IsSought};
 
 use crate::header::{has_table, is_entry, is_root, is_sound_header, looks_like_header};
+use crate::left_out::LeftOut;
 use adf_block::Image;
 use adf_block::layout::{FIRST_SLOT, NEXT_IN_CHAIN, PARENT, TABLE_LONGS};
 use std::alloc::{AllocError, Global};
@@ -20,53 +21,65 @@ pub(crate) struct Found {
     blocks: Vec<u32>,
 }
 
-/// For each block of an image, whether it is a sound or a doubtful header.
-pub(crate) fn headers(alloc: Global, image: &Image) -> Result<Vec<bool>, AllocError>
-    ensures { IfOk result (λ headers. AreHeaders image.now headers.items) }
+/// For each block of an image, whether it is a sound or a doubtful header, and not left out.
+pub(crate) fn headers(
+    alloc: Global,
+    image: &Image,
+    left_out: &LeftOut,
+) -> Result<Vec<bool>, AllocError>
+    ensures { IfOk result (λ headers. AreHeaders left_out.now image.now headers.items) }
 {
-    let mut found = first_headers(alloc, image)?;
+    let mut found = first_headers(alloc, image, left_out)?;
     let mut place = 0;
     while place < found.blocks.len() {
         let block = found.blocks[place];
-        found.follow(image, block)?;
+        found.follow(image, left_out, block)?;
         place += 1;
     }
     Ok(found.marks)
 }
 
-/// All sound headers of an image, and those that its root names.
-fn first_headers(alloc: Global, image: &Image) -> Result<Found, AllocError>
-    ensures found { IfOk result (AreFound image.now) }
-    ensures sound { IfOk result (λ found. (block : ℕ) → IsSoundHeader image.now block → IsFound found.marks.items block) }
-    ensures root { IfOk result (λ found. (block : ℕ) → IsRoot image.now block → AreSought image.now found.marks.items block) }
+/// All sound headers of an image that are not left out, and those that its root names.
+fn first_headers(alloc: Global, image: &Image, left_out: &LeftOut) -> Result<Found, AllocError>
+    ensures found { IfOk result (AreFound left_out.now image.now) }
+    ensures sound { IfOk result (λ found. (block : ℕ) → IsToldHeader left_out.now image.now block → IsFound found.marks.items block) }
+    ensures root { IfOk result (λ found. (block : ℕ) → IsRoot image.now block → AreSought left_out.now image.now found.marks.items block) }
 {
-    let mut found = all_sound(alloc, image)?;
+    let mut found = all_sound(alloc, image, left_out)?;
     prove!(image.blocks() >= 16);
     let root = image.root();
     if !is_root(image, root) {
         return Ok(found);
     }
-    found.follow(image, root)?;
+    found.follow(image, left_out, root)?;
     Ok(found)
 }
 
-/// All sound headers of an image.
-fn all_sound(alloc: Global, image: &Image) -> Result<Found, AllocError>
-    ensures found { IfOk result (AreFound image.now) }
-    ensures all { IfOk result (λ found. (block : ℕ) → IsSoundHeader image.now block → IsFound found.marks.items block) }
+/// All sound headers of an image that are not left out.
+fn all_sound(alloc: Global, image: &Image, left_out: &LeftOut) -> Result<Found, AllocError>
+    ensures found { IfOk result (AreFound left_out.now image.now) }
+    ensures all { IfOk result (λ found. (block : ℕ) → IsToldHeader left_out.now image.now block → IsFound found.marks.items block) }
 {
     let mut found = no_headers(alloc, image)?;
     for block in 0..image.blocks() {
-        if is_sound_header(image, block) {
+        if is_told_header(image, left_out, block) {
             found.note(block)?;
         }
     }
     Ok(found)
 }
 
+/// Whether a block is a sound header, and not left out.
+fn is_told_header(image: &Image, left_out: &LeftOut, block: u32) -> bool
+    requires { block < block_count image.now }
+    ensures { IsTrue result ↔ IsToldHeader left_out.now image.now block }
+{
+    is_sound_header(image, block) && !left_out.has(block)
+}
+
 /// No headers.
 fn no_headers(alloc: Global, image: &Image) -> Result<Found, AllocError>
-    ensures { IfOk result (AreFound image.now) }
+    ensures { IfOk result (λ found. (out : List ℕ) → AreFound out image.now found) }
 {
     let count = image.blocks() as usize;
     Ok(Found {
@@ -79,7 +92,7 @@ impl Found {
     /// Notes a header, unless it was found before.
     fn note(&mut self, block: u32) -> Result<(), AllocError>
         requires inside { block < length self.old.marks.items }
-        ensures more { OnOk result ((image : List ℕ) → IsHeader image block → AreFound image self.old → FindsMore image self.old self.new) }
+        ensures more { OnOk result ((out image : List ℕ) → IsHeader out image block → AreFound out image self.old → FindsMore out image self.old self.new) }
         ensures found { OnOk result (IsFound self.new.marks.items block) }
     {
         if self.marks[block as usize] {
@@ -91,67 +104,86 @@ impl Found {
     }
 
     /// Notes the doubtful headers that a block names as entries.
-    fn follow(&mut self, image: &Image, block: u32) -> Result<(), AllocError>
+    fn follow(&mut self, image: &Image, left_out: &LeftOut, block: u32) -> Result<(), AllocError>
         requires inside { block < block_count image.now }
-        requires accepted { NamesEntries image.now block }
-        requires found { AreFound image.now self.old }
-        ensures more { OnOk result (FindsMore image.now self.old self.new) }
-        ensures sought { OnOk result (AreSought image.now self.new.marks.items block) }
+        requires accepted { NamesEntries left_out.now image.now block }
+        requires found { AreFound left_out.now image.now self.old }
+        ensures more { OnOk result (FindsMore left_out.now image.now self.old self.new) }
+        ensures sought { OnOk result (AreSought left_out.now image.now self.new.marks.items block) }
     {
-        self.follow_slots(image, block)?;
-        self.follow_next(image, block)
+        self.follow_slots(image, left_out, block)?;
+        self.follow_next(image, left_out, block)
     }
 
     /// Notes those that the slots of a block name, if it has a hash table.
-    fn follow_slots(&mut self, image: &Image, block: u32) -> Result<(), AllocError>
+    fn follow_slots(
+        &mut self,
+        image: &Image,
+        left_out: &LeftOut,
+        block: u32,
+    ) -> Result<(), AllocError>
         requires inside { block < block_count image.now }
-        requires accepted { NamesEntries image.now block }
-        requires found { AreFound image.now self.old }
-        ensures more { OnOk result (FindsMore image.now self.old self.new) }
-        ensures sought { OnOk result ((at : ℕ) → IsSlot image.now block at → IsSought image.now self.new.marks.items block block at) }
+        requires accepted { NamesEntries left_out.now image.now block }
+        requires found { AreFound left_out.now image.now self.old }
+        ensures more { OnOk result (FindsMore left_out.now image.now self.old self.new) }
+        ensures sought { OnOk result ((at : ℕ) → IsSlot image.now block at → IsSought left_out.now image.now self.new.marks.items block block at) }
     {
         if !has_table(image, block) {
             return Ok(());
         }
         for slot in 0..TABLE_LONGS {
-            self.follow_long(image, block, FIRST_SLOT + slot, block)?;
+            self.follow_long(image, left_out, block, FIRST_SLOT + slot, block)?;
         }
         Ok(())
     }
 
     /// Notes the one that follows a block in its hash chain.
-    fn follow_next(&mut self, image: &Image, block: u32) -> Result<(), AllocError>
+    fn follow_next(
+        &mut self,
+        image: &Image,
+        left_out: &LeftOut,
+        block: u32,
+    ) -> Result<(), AllocError>
         requires inside { block < block_count image.now }
-        requires accepted { NamesEntries image.now block }
-        requires found { AreFound image.now self.old }
-        ensures more { OnOk result (FindsMore image.now self.old self.new) }
-        ensures sought { OnOk result ((at : ℕ) → IsNext image.now block at → IsSought image.now self.new.marks.items (parent_key image.now block) block at) }
+        requires accepted { NamesEntries left_out.now image.now block }
+        requires found { AreFound left_out.now image.now self.old }
+        ensures more { OnOk result (FindsMore left_out.now image.now self.old self.new) }
+        ensures sought { OnOk result ((at : ℕ) → IsNext image.now block at → IsSought left_out.now image.now self.new.marks.items (parent_key image.now block) block at) }
     {
         if !is_entry(image, block) {
             return Ok(());
         }
-        self.follow_long(image, block, NEXT_IN_CHAIN, image.long(block, PARENT))
+        let dir = image.long(block, PARENT);
+        self.follow_long(image, left_out, block, NEXT_IN_CHAIN, dir)
     }
 
     /// Notes the block that a place of a directory names, if it looks like a header of that directory.
     fn follow_long(
         &mut self,
         image: &Image,
+        left_out: &LeftOut,
         block: u32,
         at: u32,
         dir: u32,
     ) -> Result<(), AllocError>
         requires inside { (block < block_count image.now) × (at < 128) }
-        requires accepted { NamesEntries image.now block }
+        requires accepted { NamesEntries left_out.now image.now block }
         requires place { IsPlaceIn image.now dir block at }
-        requires found { AreFound image.now self.old }
-        ensures more { OnOk result (FindsMore image.now self.old self.new) }
-        ensures sought { OnOk result (IsSought image.now self.new.marks.items dir block at) }
+        requires found { AreFound left_out.now image.now self.old }
+        ensures more { OnOk result (FindsMore left_out.now image.now self.old self.new) }
+        ensures sought { OnOk result (IsSought left_out.now image.now self.new.marks.items dir block at) }
     {
         let named = image.long(block, at);
-        if !looks_like_header(image, named) || image.long(named, PARENT) != dir {
+        if !may_be_header(image, left_out, named) || image.long(named, PARENT) != dir {
             return Ok(());
         }
         self.note(named)
     }
+}
+
+/// Whether a block looks like a header, and is not left out.
+fn may_be_header(image: &Image, left_out: &LeftOut, block: u32) -> bool
+    ensures { IsTrue result ↔ MayBeHeader left_out.now image.now block }
+{
+    looks_like_header(image, block) && !left_out.has(block)
 }

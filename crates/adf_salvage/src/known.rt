@@ -1,11 +1,12 @@
 //! What is known of the blocks of an image before its entries are gathered.
-ghost use Rattle.std.specs.Prelude.{◌<◌, ◌↔◌, IfOk, IsTrue};
+ghost use Rattle.std.specs.Prelude.{◌≡◌, ◌<◌, ◌↔◌, IfOk, IsTrue};
 ghost use Rattle.adf_block.specs.Image.{block_count};
 ghost use Rattle.adf_salvage.specs.Doubtful.{NamesEntries};
 ghost use Rattle.adf_salvage.specs.steps.Heading.{AreKnown};
 
 use crate::header::is_root;
 use crate::headers::headers;
+use crate::left_out::LeftOut;
 use crate::whole::whole_files;
 use adf_block::Image;
 use std::alloc::{AllocError, Global};
@@ -13,28 +14,34 @@ use std::alloc::{AllocError, Global};
 /// What is known of the blocks of an image.
 #[derive(Drop)]
 pub(crate) struct Known {
-    /// For each block, whether it is a header, sound or doubtful.
+    /// The headers that are left out.
+    pub(crate) left_out: LeftOut,
+    /// For each block, whether it is a header that is told, sound or doubtful.
     pub(crate) headers: Vec<bool>,
     /// For each block, whether it is the header of a whole file.
     pub(crate) whole: Vec<bool>,
 }
 
-/// What is known of the blocks of an image.
-pub(crate) fn known_of(alloc: Global, image: &Image) -> Result<Known, AllocError>
-    ensures { IfOk result (AreKnown image.now) }
+/// What is known of the blocks of an image, where some headers are left out.
+pub(crate) fn known_of(alloc: Global, image: &Image, left_out: LeftOut) -> Result<Known, AllocError>
+    ensures known { IfOk result (AreKnown image.now) }
+    ensures left_out { IfOk result (λ known. known.left_out ≡ left_out) }
 {
+    let headers = headers(alloc, image, &left_out)?;
+    let whole = whole_files(alloc, image, &left_out)?;
     Ok(Known {
-        headers: headers(alloc, image)?,
-        whole: whole_files(alloc, image)?,
+        left_out,
+        headers,
+        whole,
     })
 }
 
 impl Known {
-    /// Whether a block can name entries: it is the root or a header.
+    /// Whether a block can name entries: it is the root or a header that is told.
     pub(crate) fn names_entries(&self, image: &Image, block: u32) -> bool
         requires inside { block < block_count image.now }
         requires known { AreKnown image.now self.now }
-        ensures { IsTrue result ↔ NamesEntries image.now block }
+        ensures { IsTrue result ↔ NamesEntries self.now.left_out image.now block }
     {
         self.headers[block as usize] || is_root(image, block)
     }

@@ -1,6 +1,6 @@
-//! What can be told of an image that the check refuses: each sound header, the bytes of each file whose blocks no other
-//! file names, the doubtful headers, and the entries that are lost. And the deleted entries of an image, accepted or
-//! refused.
+//! What can be told of an image that the check refuses: each sound header that is not deleted, the bytes of each file whose
+//! blocks no other such file names, the doubtful headers, and the entries that are lost. And the deleted entries of an
+//! image, accepted or refused.
 #![tactic(auto)]
 
 mod chains;
@@ -15,6 +15,7 @@ mod holders;
 mod intact;
 mod kind;
 mod known;
+mod left_out;
 mod listing;
 mod lost;
 mod names;

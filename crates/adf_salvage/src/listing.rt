@@ -1,25 +1,30 @@
 //! The entries of an accepted volume.
-ghost use Rattle.std.specs.Prelude.{◌≡◌, All, IfOk, Some, true, map};
+ghost use Rattle.std.specs.Prelude.{◌≡◌, ℕ, List, All, IfOk, Some, true, map};
+ghost use Rattle.ados_model.specs.Accepted.{Accepts};
 ghost use Rattle.ados_model.specs.Keys.{HasKey};
 ghost use Rattle.ados_model.specs.Stands.{Stands};
 ghost use Rattle.ados_model.specs.Tree.{Node, Tree};
-ghost use Rattle.adf_salvage.specs.Salvaged.{AreOfTree, HoldsAll, IsOfTree, located_of};
+ghost use Rattle.adf_salvage.specs.Salvaged.{AreDeleted, AreOfTree, HoldsAll, IsOfTree, located_of};
 ghost use Rattle.adf_salvage.specs.steps.Keeping.{CanBeRead, IsReadable};
 
+use crate::left_out::deleted_in;
 use crate::salvaged::{Salvaged, State};
 use crate::saved::Salvage;
 use ados_volume::{Below, Volume, entries_below};
 use std::alloc::{AllocError, Global};
 
-/// All entries of a volume, in its order, with whole files.
+/// All entries of a volume, in its order, with whole files; and its deleted entries.
 pub(crate) fn volume_entries(alloc: Global, volume: Volume) -> Result<Salvage, AllocError>
     ensures accepted { IfOk result (λ saved. saved.accepted ≡ true) }
     ensures image { IfOk result (λ saved. saved.image ≡ volume.image) }
+    ensures deleted { IfOk result (λ saved. (image : List ℕ) → Accepts image volume.was_validated volume.image → AreDeleted image saved.deleted) }
     ensures told { IfOk result (λ saved. (t : Tree) → Stands volume.image t → AreOfTree t saved) }
 {
+    let deleted = deleted_in(alloc, &volume)?;
     let below = entries_below(alloc, &volume, volume.root())?;
     let entries = entries_of(alloc, &volume, &below)?;
-    Ok(Salvage::of(true, volume.into_image(), entries, Vec::new(alloc)))
+    let pieces = Vec::new(alloc);
+    Ok(Salvage::of(true, volume.into_image(), entries, deleted, pieces))
 }
 
 /// These entries of a volume, with whole files.

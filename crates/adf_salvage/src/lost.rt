@@ -9,7 +9,6 @@ ghost use Rattle.adf_salvage.specs.steps.Heading.{AreKnown};
 use crate::gathered::Gathered;
 use crate::header::{has_table, is_entry};
 use crate::known::Known;
-use crate::names::Standing;
 use adf_block::Image;
 use adf_block::layout::{BOOT_BLOCKS, FIRST_SLOT, NEXT_IN_CHAIN, TABLE_LONGS};
 use std::alloc::{AllocError, Global};
@@ -22,11 +21,11 @@ pub(crate) fn add_lost(
     gathered: &mut Gathered,
 ) -> Result<(), AllocError>
     requires known { AreKnown image.now known.now }
-    requires gathered { AreGathered image.now gathered.old }
-    requires headers { AreAllHeaders image.now gathered.old.places.items }
-    ensures gathered { OnOk result (AreGathered image.now gathered.new) }
-    ensures headers { OnOk result (AreAllHeaders image.now gathered.new.places.items) }
-    ensures lost { OnOk result ((block : ℕ) → IsLost image.now block → IsSome (place_at gathered.new.places.items block)) }
+    requires gathered { AreGathered known.now.left_out image.now gathered.old }
+    requires headers { AreAllHeaders known.now.left_out image.now gathered.old.places.items }
+    ensures gathered { OnOk result (AreGathered known.now.left_out image.now gathered.new) }
+    ensures headers { OnOk result (AreAllHeaders known.now.left_out image.now gathered.new.places.items) }
+    ensures lost { OnOk result ((block : ℕ) → IsLost known.now.left_out image.now block → IsSome (place_at gathered.new.places.items block)) }
 {
     for block in 0..image.blocks() {
         follow(alloc, image, known, block, gathered)?;
@@ -44,38 +43,38 @@ fn follow(
 ) -> Result<(), AllocError>
     requires inside { block < block_count image.now }
     requires known { AreKnown image.now known.now }
-    requires gathered { AreGathered image.now gathered.old }
-    requires headers { AreAllHeaders image.now gathered.old.places.items }
-    ensures more { OnOk result (GathersMore image.now gathered.old gathered.new) }
-    ensures followed { OnOk result (AreFollowed image.now gathered.new.places.items block) }
+    requires gathered { AreGathered known.now.left_out image.now gathered.old }
+    requires headers { AreAllHeaders known.now.left_out image.now gathered.old.places.items }
+    ensures more { OnOk result (GathersMore known.now.left_out image.now gathered.old gathered.new) }
+    ensures followed { OnOk result (AreFollowed known.now.left_out image.now gathered.new.places.items block) }
 {
     if !known.names_entries(image, block) {
         return Ok(());
     }
-    follow_slots(alloc, image, block, gathered)?;
-    follow_next(alloc, image, block, gathered)
+    follow_slots(alloc, image, known, block, gathered)?;
+    follow_next(alloc, image, known, block, gathered)
 }
 
 /// Adds the lost entries that the slots of a block name, if it has a hash table.
 fn follow_slots(
     alloc: Global,
     image: &Image,
+    known: &Known,
     block: u32,
     gathered: &mut Gathered,
 ) -> Result<(), AllocError>
     requires inside { block < block_count image.now }
-    requires accepted { NamesEntries image.now block }
-    requires gathered { AreGathered image.now gathered.old }
-    requires headers { AreAllHeaders image.now gathered.old.places.items }
-    ensures more { OnOk result (GathersMore image.now gathered.old gathered.new) }
-    ensures followed { OnOk result ((at : ℕ) → IsSlot image.now block at → IsFollowed image.now gathered.new.places.items block at) }
+    requires accepted { NamesEntries known.now.left_out image.now block }
+    requires gathered { AreGathered known.now.left_out image.now gathered.old }
+    requires headers { AreAllHeaders known.now.left_out image.now gathered.old.places.items }
+    ensures more { OnOk result (GathersMore known.now.left_out image.now gathered.old gathered.new) }
+    ensures followed { OnOk result ((at : ℕ) → IsSlot image.now block at → IsFollowed known.now.left_out image.now gathered.new.places.items block at) }
 {
     if !has_table(image, block) {
         return Ok(());
     }
-    let standing = gathered.standing_in(block);
     for slot in 0..TABLE_LONGS {
-        follow_long(alloc, image, block, FIRST_SLOT + slot, standing, gathered)?;
+        follow_long(alloc, image, known, block, FIRST_SLOT + slot, gathered)?;
     }
     Ok(())
 }
@@ -84,43 +83,47 @@ fn follow_slots(
 fn follow_next(
     alloc: Global,
     image: &Image,
+    known: &Known,
     block: u32,
     gathered: &mut Gathered,
 ) -> Result<(), AllocError>
     requires inside { block < block_count image.now }
-    requires accepted { NamesEntries image.now block }
-    requires gathered { AreGathered image.now gathered.old }
-    requires headers { AreAllHeaders image.now gathered.old.places.items }
-    ensures more { OnOk result (GathersMore image.now gathered.old gathered.new) }
-    ensures followed { OnOk result ((at : ℕ) → IsNext image.now block at → IsFollowed image.now gathered.new.places.items block at) }
+    requires accepted { NamesEntries known.now.left_out image.now block }
+    requires gathered { AreGathered known.now.left_out image.now gathered.old }
+    requires headers { AreAllHeaders known.now.left_out image.now gathered.old.places.items }
+    ensures more { OnOk result (GathersMore known.now.left_out image.now gathered.old gathered.new) }
+    ensures followed { OnOk result ((at : ℕ) → IsNext image.now block at → IsFollowed known.now.left_out image.now gathered.new.places.items block at) }
 {
     if !is_entry(image, block) {
         return Ok(());
     }
-    let standing = gathered.standing_beside(block);
-    follow_long(alloc, image, block, NEXT_IN_CHAIN, standing, gathered)
+    follow_long(alloc, image, known, block, NEXT_IN_CHAIN, gathered)
 }
 
-/// Adds the entry that a long of a block names, if it is lost and was not added before.
+/// Adds the entry that a long of a block names, if it is lost and neither left out nor added before.
 fn follow_long(
     alloc: Global,
     image: &Image,
+    known: &Known,
     block: u32,
     at: u32,
-    standing: Standing,
     gathered: &mut Gathered,
 ) -> Result<(), AllocError>
     requires inside { (block < block_count image.now) × (at < 128) }
-    requires accepted { NamesEntries image.now block }
+    requires accepted { NamesEntries known.now.left_out image.now block }
     requires place { IsSlot image.now block at ⊎ IsNext image.now block at }
-    requires gathered { AreGathered image.now gathered.old }
-    requires headers { AreAllHeaders image.now gathered.old.places.items }
-    ensures more { OnOk result (GathersMore image.now gathered.old gathered.new) }
-    ensures followed { OnOk result (IsFollowed image.now gathered.new.places.items block at) }
+    requires gathered { AreGathered known.now.left_out image.now gathered.old }
+    requires headers { AreAllHeaders known.now.left_out image.now gathered.old.places.items }
+    ensures more { OnOk result (GathersMore known.now.left_out image.now gathered.old gathered.new) }
+    ensures followed { OnOk result (IsFollowed known.now.left_out image.now gathered.new.places.items block at) }
 {
     let named = image.long(block, at);
     if named < BOOT_BLOCKS || named >= image.blocks() || gathered.has(named) {
         return Ok(());
     }
-    gathered.add_lost(alloc, image, named, standing)
+    if known.left_out.has(named) {
+        return Ok(());
+    }
+    let standing = gathered.standing_at(block, at);
+    gathered.add_lost(alloc, image, known, named, standing)
 }

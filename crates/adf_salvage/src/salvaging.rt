@@ -9,6 +9,7 @@ use crate::gathered::Gathered;
 use crate::giving::Giving;
 use crate::kind::with_kind;
 use crate::known::known_of;
+use crate::left_out::left_out_of;
 use crate::listing::volume_entries;
 use crate::lost::add_lost;
 use crate::saved::Salvage;
@@ -20,7 +21,8 @@ use std::alloc::{AllocError, Global};
 /// Everything in an image that can be told, each header once, a directory before its entries.
 ///
 /// For an image that the check accepts, these are the entries of its tree. For any other, they are its sound and doubtful
-/// headers, first those along hash chains from the root and then the others, and then its lost entries. If its first four
+/// headers, first those along hash chains from the root and then the others, and then its lost entries. Deleted entries are
+/// left out, if the bitmap can be trusted: they claim no blocks, so a file that has such blocks now can be whole. If its first four
 /// bytes are neither OFS nor FFS, it is read as the kind that its blocks suggest. A block is given to one file at most of
 /// those that are not whole, to the first in this order, and all of these together have at most four times the bytes of the
 /// image.
@@ -39,13 +41,14 @@ pub fn salvage(alloc: Global, image: Image) -> Result<Salvage, AllocError>
     }
 }
 
-/// The entries of all sound and doubtful headers of an image, and its lost entries.
+/// The entries of all sound and doubtful headers of an image but the deleted ones, and its lost entries.
 fn told_headers(alloc: Global, image: Image) -> Result<Salvage, AllocError>
     ensures refused { IfOk result (λ saved. saved.accepted ≡ false) }
     ensures image { IfOk result (λ saved. saved.image ≡ image) }
     ensures saves { IfOk result SavesSound }
 {
-    let known = known_of(alloc, &image)?;
+    let left_out = left_out_of(alloc, &image)?;
+    let known = known_of(alloc, &image, left_out)?;
     let mut gathered = Gathered::new(alloc, &image)?;
     add_reached(alloc, &image, &known, &mut gathered)?;
     add_unreached(alloc, &image, &known, &mut gathered)?;
@@ -56,5 +59,6 @@ fn told_headers(alloc: Global, image: Image) -> Result<Salvage, AllocError>
         ..
     } = gathered;
     let Giving { pieces, .. } = giving;
-    Ok(Salvage::of(false, image, entries, pieces))
+    let deleted = known.left_out.into_headers();
+    Ok(Salvage::of(false, image, entries, deleted, pieces))
 }

@@ -17,13 +17,14 @@ use std::marker::Model;
 
 /// What can be trusted in an image: its entries, and the bytes of their files when they are asked for.
 ///
-/// Contracts see whether the image was accepted, the image as it was read, the entries, and the blocks given to files
-/// that are not whole.
+/// Contracts see whether the image was accepted, the image as it was read, the entries, the headers of the deleted entries,
+/// which are left out, and the blocks given to files that are not whole.
 #[derive(Drop)]
 pub struct Salvage {
     accepted: bool,
     image: Image,
     entries: Vec<Salvaged>,
+    deleted: Vec<u32>,
     pieces: Vec<Piece>,
 }
 
@@ -33,7 +34,7 @@ impl Model for Salvage {
 
     ghost Value = { Saved };
 
-    ghost view = { λ s. record { accepted = s.accepted; image = s.image; entries = s.entries.items; given = s.pieces.items } };
+    ghost view = { λ s. record { accepted = s.accepted; image = s.image; entries = s.entries.items; deleted = s.deleted.items; given = s.pieces.items } };
 
     ghost invariant = { λ s. IsKept s.image s.entries.items s.pieces.items };
 }
@@ -44,18 +45,21 @@ impl Salvage {
         accepted: bool,
         image: Image,
         entries: Vec<Salvaged>,
+        deleted: Vec<u32>,
         pieces: Vec<Piece>,
     ) -> Salvage
         requires { IsKept image entries.items pieces.items }
         ensures accepted { result.accepted ≡ accepted }
         ensures image { result.image ≡ image }
         ensures entries { result.entries ≡ entries.items }
+        ensures deleted { result.deleted ≡ deleted.items }
         ensures given { result.given ≡ pieces.items }
     {
         Salvage {
             accepted,
             image,
             entries,
+            deleted,
             pieces,
         }
     }
@@ -72,6 +76,14 @@ impl Salvage {
         ensures { result.now ≡ self.now.entries }
     {
         self.entries.as_slice()
+    }
+
+    /// The headers of the deleted entries, which are left out: there is no entry of them, and they claim no blocks. There are
+    /// none if the bitmap cannot be trusted.
+    pub fn deleted(&self) -> &[u32]
+        ensures { result.now ≡ self.now.deleted }
+    {
+        self.deleted.as_slice()
     }
 
     /// The number of bytes of the file at this position of the entries; 0 for a directory and a lost entry.

@@ -1,14 +1,14 @@
 //! The state of a file.
 ghost use Rattle.std.specs.Prelude.{◌≡◌, ◌+◌, IfOk, OnOk, if◌then◌else◌};
-ghost use Rattle.adf_block.specs.Image.{block_count};
 ghost use Rattle.adf_salvage.specs.Salvaged.{HasState, broken_length};
 ghost use Rattle.adf_salvage.specs.declared.salvaged.State.TheVariants.{Directory, DoubtfulDirectory};
 ghost use Rattle.adf_salvage.specs.Doubtful.{IsHeader};
-ghost use Rattle.adf_salvage.specs.steps.Claims.{AreWhole};
 ghost use Rattle.adf_salvage.specs.steps.Giving.{IsGiving};
+ghost use Rattle.adf_salvage.specs.steps.Heading.{AreKnown};
 
 use crate::giving::Giving;
 use crate::header::{is_file, is_sound_header};
+use crate::known::Known;
 use crate::salvaged::State;
 use adf_block::Image;
 use std::alloc::AllocError;
@@ -17,15 +17,15 @@ use std::alloc::AllocError;
 /// are left for it. If no block is missing, and it has all these bytes, it is doubtful.
 pub(crate) fn state_of(
     image: &Image,
-    whole: &[bool],
+    known: &Known,
     block: u32,
     place: usize,
     giving: &mut Giving,
 ) -> Result<State, AllocError>
-    requires header { IsHeader image.now block }
-    requires whole { AreWhole image.now (block_count image.now) whole.now }
+    requires header { IsHeader known.now.left_out image.now block }
+    requires known { AreKnown image.now known.now }
     requires giving { IsGiving image.now giving.old }
-    ensures state { IfOk result (HasState image.now block) }
+    ensures state { IfOk result (HasState known.now.left_out image.now block) }
     ensures giving { OnOk result (IsGiving image.now giving.new) }
     ensures left { IfOk result (λ state. broken_length state + giving.new.left ≡ giving.old.left) }
 {
@@ -33,7 +33,7 @@ pub(crate) fn state_of(
     if !is_file(image, block) {
         return Ok(directory(sound));
     }
-    if whole[block as usize] {
+    if known.whole[block as usize] {
         return Ok(State::Whole);
     }
     let remains = giving.give(image, block, place)?;

@@ -1,11 +1,11 @@
 //! The entry of a header.
-ghost use Rattle.std.specs.Prelude.{◌≡◌, ◌<◌, ◌≤◌, length};
+ghost use Rattle.std.specs.Prelude.{◌≡◌, ◌<◌, ◌≤◌, ℕ, List, length};
 ghost use Rattle.adf_block.specs.Image.{block_count, byte_at};
 ghost use Rattle.adf_block.specs.Whole.{text_at};
 ghost use Rattle.ados_model.specs.Stands.{date_at};
 ghost use Rattle.adf_salvage.specs.Salvaged.{HasState, IsSalvaged};
 ghost use Rattle.adf_salvage.specs.declared.salvaged.State.TheVariants.{Lost};
-ghost use Rattle.adf_salvage.specs.Doubtful.{IsHeader};
+ghost use Rattle.adf_salvage.specs.Doubtful.{IsHeader, LooksLikeHeader};
 
 use crate::header::name_of;
 use crate::names::Standing;
@@ -22,9 +22,8 @@ pub(crate) fn told_of(
     endings: u32,
     state: State,
 ) -> Salvaged
-    requires header { IsHeader image.now block }
-    requires state { HasState image.now block state }
-    ensures told { IsSalvaged image.now result }
+    requires { LooksLikeHeader image.now block }
+    ensures told { (out : List ℕ) → IsHeader out image.now block → HasState out image.now block state → IsSalvaged out image.now result }
     ensures header { result.header ≡ block }
     ensures state { result.state ≡ state }
 {

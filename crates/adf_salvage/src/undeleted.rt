@@ -1,5 +1,5 @@
 //! The deleted entries of an image, with the directories that they were in.
-ghost use Rattle.std.specs.Prelude.{◌≡◌, length, IfOk, IsSome, OnOk};
+ghost use Rattle.std.specs.Prelude.{◌≡◌, [], length, IfOk, IsSome, OnOk};
 ghost use Rattle.adf_block.specs.Image.{block_count};
 ghost use Rattle.adf_salvage.specs.Deleted.{ListsDeleted};
 ghost use Rattle.adf_salvage.specs.Undeleted.{IsUndeleted, TellsUndeleted};
@@ -12,6 +12,7 @@ use crate::deleted::{Deleted, DeletedEntries, Recovery, deleted_entries};
 use crate::gathered::Gathered;
 use crate::giving::Giving;
 use crate::known::{Known, known_of};
+use crate::left_out::LeftOut;
 use crate::saved::Salvage;
 use crate::unreached::add_with_parents;
 use adf_block::Image;
@@ -65,7 +66,7 @@ fn with_directories(
     requires { ListsDeleted image deleted.items }
     ensures { IfOk result (IsUndeleted image) }
 {
-    let known = known_of(alloc, &image)?;
+    let known = known_of(alloc, &image, LeftOut::none(alloc))?;
     let gathered = gathered_deleted(alloc, &image, &known, &deleted)?;
     let Gathered {
         entries,
@@ -74,7 +75,7 @@ fn with_directories(
         ..
     } = gathered;
     let Giving { pieces, .. } = giving;
-    let salvage = Salvage::of(false, image, entries, pieces);
+    let salvage = Salvage::of(false, image, entries, Vec::new(alloc), pieces);
     Ok(Undeleted {
         salvage,
         deleted,
@@ -92,7 +93,8 @@ fn gathered_deleted(
 ) -> Result<Gathered, AllocError>
     requires sound { AreHeaders image.now deleted.now }
     requires known { AreKnown image.now known.now }
-    ensures gathered { IfOk result (AreGathered image.now) }
+    requires all { known.now.left_out ≡ [] }
+    ensures gathered { IfOk result (AreGathered [] image.now) }
     ensures each { IfOk result (λ gathered. HasEach gathered.places.items deleted.now) }
 {
     let mut gathered = Gathered::new(alloc, image)?;
@@ -125,10 +127,11 @@ fn add_entry(
     gathered: &mut Gathered,
 ) -> Result<(), AllocError>
     requires climbed { length climbed.old.items ≡ block_count image.now }
-    requires gathered { AreGathered image.now gathered.old }
+    requires gathered { AreGathered [] image.now gathered.old }
     requires known { AreKnown image.now known.now }
+    requires all { known.now.left_out ≡ [] }
     ensures climbed { OnOk result (length climbed.new.items ≡ block_count image.now) }
-    ensures more { OnOk result (GathersMore image.now gathered.old gathered.new) }
+    ensures more { OnOk result (GathersMore [] image.now gathered.old gathered.new) }
     ensures met { OnOk result (IsSoundHeader image.now header → IsSome (place_at gathered.new.places.items header)) }
 {
     if !gathered.is_new(image, known, header) {

@@ -19,10 +19,10 @@ pub(crate) fn add_unreached(
     known: &Known,
     gathered: &mut Gathered,
 ) -> Result<(), AllocError>
-    requires gathered { AreGathered image.now gathered.old }
+    requires gathered { AreGathered known.now.left_out image.now gathered.old }
     requires known { AreKnown image.now known.now }
-    ensures gathered { OnOk result (AreGathered image.now gathered.new) }
-    ensures all { OnOk result (AreAllHeaders image.now gathered.new.places.items) }
+    ensures gathered { OnOk result (AreGathered known.now.left_out image.now gathered.new) }
+    ensures all { OnOk result (AreAllHeaders known.now.left_out image.now gathered.new.places.items) }
 {
     take_asides(alloc, image, known, gathered)?;
     let mut climbed = vec![in alloc; false; image.blocks() as usize]?;
@@ -43,8 +43,8 @@ fn take_asides(
     gathered: &mut Gathered,
 ) -> Result<(), AllocError>
     requires known { AreKnown image.now known.now }
-    requires gathered { AreGathered image.now gathered.old }
-    ensures gathered { OnOk result (AreGathered image.now gathered.new) }
+    requires gathered { AreGathered known.now.left_out image.now gathered.old }
+    ensures gathered { OnOk result (AreGathered known.now.left_out image.now gathered.new) }
 {
     for block in 0..image.blocks() {
         if !gathered.is_new(image, known, block) {
@@ -66,12 +66,12 @@ pub(crate) fn add_with_parents(
     climbed: &mut Vec<bool>,
     gathered: &mut Gathered,
 ) -> Result<(), AllocError>
-    requires met { IsNew image.now gathered.old.places.items block }
+    requires met { IsNew known.now.left_out image.now gathered.old.places.items block }
     requires climbed { length climbed.old.items ≡ block_count image.now }
-    requires gathered { AreGathered image.now gathered.old }
+    requires gathered { AreGathered known.now.left_out image.now gathered.old }
     requires known { AreKnown image.now known.now }
     ensures climbed { length climbed.new.items ≡ block_count image.now }
-    ensures more { OnOk result (GathersMore image.now gathered.old gathered.new) }
+    ensures more { OnOk result (GathersMore known.now.left_out image.now gathered.old gathered.new) }
     ensures met { OnOk result (IsSome (place_at gathered.new.places.items block)) }
 {
     let mut above = Vec::new(alloc);
@@ -101,10 +101,10 @@ fn add_found(
     block: u32,
     gathered: &mut Gathered,
 ) -> Result<(), AllocError>
-    requires gathered { AreGathered image.now gathered.old }
+    requires gathered { AreGathered known.now.left_out image.now gathered.old }
     requires known { AreKnown image.now known.now }
-    ensures more { OnOk result (GathersMore image.now gathered.old gathered.new) }
-    ensures met { OnOk result (IsHeader image.now block → IsSome (place_at gathered.new.places.items block)) }
+    ensures more { OnOk result (GathersMore known.now.left_out image.now gathered.old gathered.new) }
+    ensures met { OnOk result (IsHeader known.now.left_out image.now block → IsSome (place_at gathered.new.places.items block)) }
 {
     if !gathered.is_new(image, known, block) {
         return Ok(());

@@ -11,7 +11,7 @@ use Rattle.adf_words.specs.When.{IsWhen}
 use Rattle.adf_words.specs.declared.boot.BootBlock.{BootBlock}
 use Rattle.adf_words.specs.declared.boot.BootBlock.TheVariants.{Empty, Standard, File}
 use Rattle.adf_words.specs.declared.job.ImageJob.{ImageJob}
-use Rattle.adf_words.specs.declared.job.ImageJob.TheVariants.{Boot, Map, SaveBoot, Show, ShowBoot, Validate, Where, WherePath}
+use Rattle.adf_words.specs.declared.job.ImageJob.TheVariants.{Boot, Map, SaveBoot, Show, ShowBoot, Undelete, Validate, Where, WherePath}
 use Rattle.adf_words.specs.declared.change.Change.{Change}
 use Rattle.adf_words.specs.declared.change.Change.TheVariants.{Add, AddAs, Date, Protect}
 use Rattle.adf_words.specs.declared.change.Rewrite.{Rewrite}
@@ -68,6 +68,14 @@ IsWhereOf found (Where job) =
     × (map block_text job.blocks.items ≡ all_values found (codes "BLOCK")) × All IsOnFloppy job.blocks.items
     × ((given : Bool) → IsFlag found (codes "json") given → job.json ≡ given)
 IsWhereOf found _ = ⊥
+
+-- `undelete`: the image, the paths and the directory are these arguments, the current directory without one, and each option is as given
+abbrev pub IsUndeleteOf : Found → ImageJob → Type 0
+IsUndeleteOf found (Undelete job) =
+    (first_value found (codes "IMAGE") ≡ Some job.image.now) × (map (λ word. word.now) job.paths.items ≡ all_values found (codes "PATH"))
+    × (job.to.now ≡ option_map_or (λ word. word) (first_value found (codes "to")) (codes ".")) × ((given : Bool) → IsFlag found (codes "list") given → job.list ≡ given)
+    × ((given : Bool) → IsFlag found (codes "meta") given → job.meta ≡ given) × ((given : Bool) → IsFlag found (codes "force") given → job.force ≡ given)
+IsUndeleteOf found _ = ⊥
 
 -- `validate`: the image is this argument, and it is forced if the option is given
 abbrev pub IsValidateOf : Found → ImageJob → Type 0

@@ -1,5 +1,5 @@
 //! The arguments of a command, as `clap` parsed them.
-ghost use Rattle.std.specs.Prelude.{◌≡◌, Bool, IfOk, IsFalse, IsTrue, Some, map, option_map};
+ghost use Rattle.std.specs.Prelude.{◌≡◌, Bool, IfOk, IsFalse, IsTrue, Some, codes, map, option_map};
 ghost use Rattle.clap.specs.Matches.{first_value, found_of};
 ghost use Rattle.adf_words.specs.Asked.{IsGiven, IsLeftOut, IsTargetOf, all_values};
 ghost use Rattle.adf_words.specs.Lists.{IsFlag};
@@ -77,7 +77,9 @@ impl<'a> Arguments<'a, '_> {
     }
 
     /// The paths of a command.
-    pub(crate) fn paths(&self) -> Result<Vec<&'a str>, WordsFault> {
+    pub(crate) fn paths(&self) -> Result<Vec<&'a str>, WordsFault>
+        ensures { IfOk result (λ words. map (λ word. word.now) words.items ≡ all_values (found_of self.now.words.now) (codes "PATH")) }
+    {
         for path in self.words.get_strs("PATH").unwrap_or(&[]) {
             letters_of(self.alloc, *path)?;
         }

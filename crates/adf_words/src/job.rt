@@ -3,7 +3,7 @@ ghost use Rattle.std.specs.Prelude.{◌<◌, length};
 
 use crate::boot::BootBlock;
 use crate::change::{ChangeJob, Rewrite};
-use crate::query::{CheckJob, ExtractJob, ListJob, SalvageJob, WhereJob};
+use crate::query::{CheckJob, ExtractJob, ListJob, SalvageJob, UndeleteJob, WhereJob};
 use adf_block::Format;
 use ados_name::Date3;
 
@@ -44,6 +44,8 @@ pub enum ImageJob<'a> {
     Extract(ExtractJob<'a>),
     /// `extract --damaged`: copies what can be trusted of a possibly damaged image.
     Salvage(SalvageJob<'a>),
+    /// `undelete`: lists deleted entries, and writes them to files and directories of the host.
+    Undelete(UndeleteJob<'a>),
     /// `extract --bundle`: writes everything in an image to a new directory of the host.
     ExtractBundle { image: &'a str, to: &'a str },
     /// `print`: prints the bytes of a file.

@@ -27,6 +27,8 @@ pub use fault::WordsFault;
 pub use floppy::{DOUBLE_TRACK, HEADS, HIGH_DENSITY, HIGH_TRACK};
 pub use given::{given_words, word_of};
 pub use job::{ImageJob, Job, ServeJob};
-pub use query::{CheckJob, ExtractJob, ListForm, ListJob, ListOrder, SalvageJob, WhereJob};
+pub use query::{
+    CheckJob, ExtractJob, ListForm, ListJob, ListOrder, SalvageJob, UndeleteJob, WhereJob,
+};
 pub use reading::read_words;
 pub use refused::{Refused, error_words};

@@ -82,6 +82,22 @@ pub struct ExtractJob<'a> {
     pub force: bool,
 }
 
+/// The arguments of `undelete`.
+#[derive(Drop)]
+pub struct UndeleteJob<'a> {
+    pub image: &'a str,
+    /// The deleted entries, each with everything that was below it; by default all of them.
+    pub paths: Vec<&'a str>,
+    /// Whether the entries are only listed: nothing is written to the host.
+    pub list: bool,
+    /// The host directory to write to.
+    pub to: &'a str,
+    /// Whether a note `.uaem` is written beside each entry.
+    pub meta: bool,
+    /// Whether entries are written of which blocks are used again or damaged, and existing files of the host are replaced.
+    pub force: bool,
+}
+
 /// The arguments of `extract --damaged`.
 #[derive(Drop)]
 pub struct SalvageJob<'a> {

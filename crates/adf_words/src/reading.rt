@@ -10,7 +10,9 @@ use crate::floppy::{DOUBLE_DENSITY, HIGH_DENSITY};
 use crate::job::{ImageJob, Job, ServeJob};
 use crate::letters::letters_of;
 use crate::table::{BLOCKS, TURNS};
-use crate::taking::{check_job, extract_job, list_job, map_job, print_job, show_job, where_job};
+use crate::taking::{
+    check_job, extract_job, list_job, map_job, print_job, show_job, undelete_job, where_job,
+};
 use adf_block::Format;
 use clap::Command;
 use std::alloc::Global;
@@ -69,6 +71,7 @@ fn job_of<'a>(
         "list" => list_job(arguments),
         "print" => print_job(arguments),
         "extract" => extract_job(arguments),
+        "undelete" => undelete_job(arguments),
         "validate" => validate_job(arguments),
         "boot" => boot_job(arguments),
         "serve" => serve_job(arguments),

@@ -138,7 +138,7 @@ pub(crate) const CHANGING: [ArgumentRow; 7] = [
 
 /// All commands, in the order of the help.
 #[rattlefmt::skip]
-pub(crate) const COMMANDS: [CommandRow; 20] = [
+pub(crate) const COMMANDS: [CommandRow; 21] = [
     CommandRow {
         name: "blank",
         about: "Writes a blank image. Without options it has the Old File System and the size of a double-density floppy",
@@ -246,6 +246,20 @@ pub(crate) const COMMANDS: [CommandRow; 20] = [
             ArgumentRow { name: "damaged", kind: Kind::Flag { excludes: &["force", "PATH"] }, help: "Writes all that can be trusted of an image that may be refused, and prints a line for each file and directory" },
             IMAGE,
             ArgumentRow { name: "PATH", kind: Kind::Any, help: "A file, or a directory with everything in it. Without PATH everything in the image is written" },
+        ],
+    },
+    CommandRow {
+        name: "undelete",
+        about: "Lists the deleted files and directories of an image, and writes those whose blocks are all free to the host",
+        examples: "Examples:\n  adf_serve undelete --list work.adf\n  adf_serve undelete --to here work.adf\n  adf_serve undelete --meta --to here work.adf s c/dir",
+        changes: false,
+        arguments: &[
+            ArgumentRow { name: "list", kind: FLAG, help: "Only prints a line for each deleted file and directory, and writes nothing" },
+            ArgumentRow { name: "to", kind: Kind::Option { value: "DIR", default: Some(".") }, help: "The directory to write to. It is made if it does not exist" },
+            ArgumentRow { name: "meta", kind: FLAG, help: "Writes the protection bits, the date and the comment of each entry `x` to a file `x.uaem`" },
+            ArgumentRow { name: "force", kind: FLAG, help: "Also writes files of which blocks are used again or damaged, and replaces files that already exist" },
+            IMAGE,
+            ArgumentRow { name: "PATH", kind: Kind::Any, help: "A deleted file or directory, or a directory in which something was deleted, from the root. Without PATH everything that was deleted is taken" },
         ],
     },
     CommandRow {

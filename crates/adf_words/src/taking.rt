@@ -1,7 +1,7 @@
 //! From the arguments of a command that reads an image to its job.
 ghost use Rattle.std.specs.Prelude.{◌≡◌, IfErr, IfOk};
 ghost use Rattle.clap.specs.Matches.{found_of};
-ghost use Rattle.adf_words.specs.Asked.{IsMapOf, IsShowOf, IsWhereOf};
+ghost use Rattle.adf_words.specs.Asked.{IsMapOf, IsShowOf, IsUndeleteOf, IsWhereOf};
 ghost use Rattle.adf_words.specs.Lists.{form_of, IsFormOf, IsOrderOf, TellsNoOrder, order_word, usual_order};
 
 use crate::arguments::Arguments;
@@ -9,7 +9,9 @@ use crate::block_word::asked_blocks;
 use crate::fault::WordsFault;
 use crate::job::ImageJob;
 use crate::letters::letters_of;
-use crate::query::{CheckJob, ExtractJob, ListForm, ListJob, ListOrder, SalvageJob, WhereJob};
+use crate::query::{
+    CheckJob, ExtractJob, ListForm, ListJob, ListOrder, SalvageJob, UndeleteJob, WhereJob,
+};
 use std::alloc::Global;
 
 /// The job of `check`.
@@ -162,6 +164,20 @@ pub(crate) fn extract_job<'a>(arguments: &Arguments<'a, '_>) -> Result<ImageJob<
         paths: arguments.paths()?,
         to,
         meta,
+        force: arguments.flag("force"),
+    }))
+}
+
+/// The job of `undelete`.
+pub(crate) fn undelete_job<'a>(arguments: &Arguments<'a, '_>) -> Result<ImageJob<'a>, WordsFault>
+    ensures { IfOk result (IsUndeleteOf (found_of arguments.now.words.now)) }
+{
+    Ok(ImageJob::Undelete(UndeleteJob {
+        image: arguments.word("IMAGE")?,
+        paths: arguments.paths()?,
+        list: arguments.flag("list"),
+        to: arguments.given("to").unwrap_or("."),
+        meta: arguments.flag("meta"),
         force: arguments.flag("force"),
     }))
 }

@@ -3,7 +3,7 @@ use Rattle.std.specs.Prelude.{◌≡◌, ◌≢◌, ℕ, ◌<◌, ◌==◌, ◌�
 use Rattle.adf_block.specs.Image.{block_count}
 use Rattle.adf_salvage.specs.declared.claims.Claim.{Claim}
 use Rattle.adf_salvage.specs.declared.claims.Claim.TheVariants.{Free, One, Several}
-use Rattle.adf_salvage.specs.Sound.{IsIntact, IsWhole, Names}
+use Rattle.adf_salvage.specs.Sound.{IsClaimant, IsWhole, Names}
 use Rattle.adf_salvage.specs.steps.Giving.{mark_at}
 
 -- the claim for a block
@@ -16,22 +16,22 @@ with_claim file Free = One file
 with_claim file (One other) = if other == file then One file else Several
 with_claim file Several = Several
 
--- the claim is right for the sound files below n: none of them names the block, exactly one does, or two do
-abbrev pub IsClaim : List ℕ → ℕ → ℕ → Claim → Type 0
-IsClaim image n block Free = (file : ℕ) → file < n → IsIntact image file → ¬ Names image file block
-IsClaim image n block (One one) = (one < n) × IsIntact image one × Names image one block
-    × ((file : ℕ) → file < n → IsIntact image file → Names image file block → file ≡ one)
-IsClaim image n block Several = (one : ℕ) × (other : ℕ) × (one ≢ other) × IsIntact image one × Names image one block
-    × IsIntact image other × Names image other block
+-- the claim is right for the sound files below n that are not left out: none of them names the block, exactly one does, or two do
+abbrev pub IsClaim : List ℕ → List ℕ → ℕ → ℕ → Claim → Type 0
+IsClaim out image n block Free = (file : ℕ) → file < n → IsClaimant out image file → ¬ Names image file block
+IsClaim out image n block (One one) = (one < n) × IsClaimant out image one × Names image one block
+    × ((file : ℕ) → file < n → IsClaimant out image file → Names image file block → file ≡ one)
+IsClaim out image n block Several = (one : ℕ) × (other : ℕ) × (one ≢ other) × IsClaimant out image one × Names image one block
+    × IsClaimant out image other × Names image other block
 
--- the claims are right for all sound files below n
-abbrev pub AreClaims : List ℕ → ℕ → List Claim → Type 0
-AreClaims image n claims = (block : ℕ) → block < block_count image → IsClaim image n block (claim_at claims block)
+-- the claims are right for all sound files below n that are not left out
+abbrev pub AreClaims : List ℕ → List ℕ → ℕ → List Claim → Type 0
+AreClaims out image n claims = (block : ℕ) → block < block_count image → IsClaim out image n block (claim_at claims block)
 
 -- for each block below n, whether it is the header of a whole file; there is a mark for each block of the image
-pub record AreWhole (image : List ℕ) (n : ℕ) (whole : List Bool) : Type 0 where
+pub record AreWhole (out image : List ℕ) (n : ℕ) (whole : List Bool) : Type 0 where
   pub size : length whole ≡ block_count image
-  pub decided : (block : ℕ) → block < n → MatchBool (mark_at whole block) (IsWhole image block) (¬ IsWhole image block)
+  pub decided : (block : ℕ) → block < n → MatchBool (mark_at whole block) (IsWhole out image block) (¬ IsWhole out image block)
 
 -- the claim of a block was updated if it is one of these blocks, and is unchanged otherwise
 abbrev pub IsNoted : ℕ → List ℕ → List Claim → List Claim → ℕ → Type 0

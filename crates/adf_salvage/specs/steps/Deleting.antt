@@ -1,5 +1,5 @@
 -- What is known of an image while its deleted entries are told.
-use Rattle.std.specs.Prelude.{◌≡◌, ℕ, ◌<◌, ◌⊎◌, ◌&&◌, nat_le, nat_lt, not, Bool, true, false, List, length, map, All, AllPairs, Contains, Option, Some}
+use Rattle.std.specs.Prelude.{◌≡◌, ℕ, ◌<◌, ◌⊎◌, ◌&&◌, nat_le, nat_lt, not, Bool, true, false, List, [], length, map, All, AllPairs, Contains, Option, Some}
 use Rattle.adf_block.specs.declared.layout.TheConstants.{BOOT_BLOCKS}
 use Rattle.adf_block.specs.Image.{block_count, has_free_bit}
 use Rattle.ados_check.specs.declared.mark.Mark.{Mark}
@@ -25,7 +25,7 @@ AreOfReached image marks = (block : ℕ) (mark : Mark) → mark_at marks block �
 -- a claim for each block, right for all sound files of the image
 pub record AreAllClaims (image : List ℕ) (claims : List Claim) : Type 0 where
   pub size : length claims ≡ block_count image
-  pub right : AreClaims image (block_count image) claims
+  pub right : AreClaims [] image (block_count image) claims
 
 -- a fault for which a bitmap is not trusted: one at the root, or a reached block that is marked free
 abbrev pub IsDoubt : List ℕ → VolumeFault → Type 0

@@ -11,24 +11,25 @@ abbrev pub place_at : List (Option ℕ) → ℕ → Option ℕ
 place_at places block = slice_index_or places block None
 
 -- all headers were found
-abbrev pub AreAllHeaders : List ℕ → List (Option ℕ) → Type 0
-AreAllHeaders image places = (block : ℕ) → IsHeader image block → IsSome (place_at places block)
+abbrev pub AreAllHeaders : List ℕ → List ℕ → List (Option ℕ) → Type 0
+AreAllHeaders out image places = (block : ℕ) → IsHeader out image block → IsSome (place_at places block)
 
--- if the long names a block, the block was found
-abbrev pub IsFollowed : List ℕ → List (Option ℕ) → ℕ → ℕ → Type 0
-IsFollowed image places block at = IsInside (block_count image) (long image block at) → IsSome (place_at places (long image block at))
+-- if the long names a block, the block was found, or it is left out
+abbrev pub IsFollowed : List ℕ → List ℕ → List (Option ℕ) → ℕ → ℕ → Type 0
+IsFollowed out image places block at =
+    IsInside (block_count image) (long image block at) → ¬ Contains out (long image block at) → IsSome (place_at places (long image block at))
 
--- each block that this one names as an entry was found
-abbrev pub AreFollowed : List ℕ → List (Option ℕ) → ℕ → Type 0
-AreFollowed image places block = NamesEntries image block → (at : ℕ) → IsSlot image block at ⊎ IsNext image block at → IsFollowed image places block at
+-- each block that this one names as an entry was found, or it is left out
+abbrev pub AreFollowed : List ℕ → List ℕ → List (Option ℕ) → ℕ → Type 0
+AreFollowed out image places block = NamesEntries out image block → (at : ℕ) → IsSlot image block at ⊎ IsNext image block at → IsFollowed out image places block at
 
 -- a header that was not found before
-abbrev pub IsNew : List ℕ → List (Option ℕ) → ℕ → Type 0
-IsNew image places block = IsHeader image block × (place_at places block ≡ None)
+abbrev pub IsNew : List ℕ → List ℕ → List (Option ℕ) → ℕ → Type 0
+IsNew out image places block = IsHeader out image block × (place_at places block ≡ None)
 
 -- the entries found so far; the index of each header is right, and the blocks given and the bytes left fit the broken files
-pub record AreGathered (image : List ℕ) (gathered : Gathered) : Type 0 where
-  pub told : All (IsTold image) gathered.entries.items
+pub record AreGathered (out image : List ℕ) (gathered : Gathered) : Type 0 where
+  pub told : All (IsTold out image) gathered.entries.items
   pub size : length gathered.places.items ≡ block_count image
   pub placed : (i : ℕ) → i < length (headers_of gathered.entries.items)
       → place_at gathered.places.items (slice_index (headers_of gathered.entries.items) i) ≡ Some i
@@ -41,5 +42,5 @@ abbrev pub KeepsMet : List (Option ℕ) → List (Option ℕ) → Type 0
 KeepsMet old new = (block : ℕ) → IsSome (place_at old block) → IsSome (place_at new block)
 
 -- more entries were gathered
-abbrev pub GathersMore : List ℕ → Gathered → Gathered → Type 0
-GathersMore image old new = AreGathered image new × KeepsMet old.places.items new.places.items
+abbrev pub GathersMore : List ℕ → List ℕ → Gathered → Gathered → Type 0
+GathersMore out image old new = AreGathered out image new × KeepsMet old.places.items new.places.items

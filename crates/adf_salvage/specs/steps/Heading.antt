@@ -4,7 +4,7 @@ use Rattle.adf_block.specs.Image.{block_count, long}
 use Rattle.adf_block.specs.Fields.{parent_key}
 use Rattle.adf_salvage.specs.declared.headers.Found.{Found}
 use Rattle.adf_salvage.specs.declared.known.Known.{Known}
-use Rattle.adf_salvage.specs.Doubtful.{IsHeader, IsPlaceIn, LooksLikeHeader}
+use Rattle.adf_salvage.specs.Doubtful.{IsHeader, IsPlaceIn, MayBeHeader}
 use Rattle.adf_salvage.specs.steps.Claims.{AreWhole}
 use Rattle.adf_salvage.specs.steps.Giving.{mark_at}
 
@@ -13,35 +13,35 @@ abbrev pub IsFound : List Bool → ℕ → Type 0
 IsFound marks block = mark_at marks block ≡ true
 
 -- there is a mark for each block, each marked block is a header, and the list has each of them once
-pub record AreFound (image : List ℕ) (found : Found) : Type 0 where
+pub record AreFound (out image : List ℕ) (found : Found) : Type 0 where
   pub size : length found.marks.items ≡ block_count image
-  pub right : (block : ℕ) → IsFound found.marks.items block → IsHeader image block
+  pub right : (block : ℕ) → IsFound found.marks.items block → IsHeader out image block
   pub listed : (block : ℕ) → IsFound found.marks.items block → Contains found.blocks.items block
   pub marked : All (IsFound found.marks.items) found.blocks.items
   pub once : AllPairs (λ a b. a ≢ b) found.blocks.items
 
 -- more headers were found: those found before are still marked, and in their places of the list
-pub record FindsMore (image : List ℕ) (old new : Found) : Type 0 where
-  pub found : AreFound image new
+pub record FindsMore (out image : List ℕ) (old new : Found) : Type 0 where
+  pub found : AreFound out image new
   pub kept : (block : ℕ) → IsFound old.marks.items block → IsFound new.marks.items block
   pub more : List ℕ
   pub grown : new.blocks.items ≡ old.blocks.items ++ more
 
--- if the long names a block that looks like a header of the directory, the block is marked
-abbrev pub IsSought : List ℕ → List Bool → ℕ → ℕ → ℕ → Type 0
-IsSought image marks dir block at =
-    LooksLikeHeader image (long image block at) → parent_key image (long image block at) ≡ dir → IsFound marks (long image block at)
+-- if the long names a block that looks like a header of the directory and is not left out, the block is marked
+abbrev pub IsSought : List ℕ → List ℕ → List Bool → ℕ → ℕ → ℕ → Type 0
+IsSought out image marks dir block at =
+    MayBeHeader out image (long image block at) → parent_key image (long image block at) ≡ dir → IsFound marks (long image block at)
 
 -- each header that this block names as an entry is marked
-abbrev pub AreSought : List ℕ → List Bool → ℕ → Type 0
-AreSought image marks block = (dir at : ℕ) → IsPlaceIn image dir block at → IsSought image marks dir block at
+abbrev pub AreSought : List ℕ → List ℕ → List Bool → ℕ → Type 0
+AreSought out image marks block = (dir at : ℕ) → IsPlaceIn image dir block at → IsSought out image marks dir block at
 
--- for each block, whether it is a header
-pub record AreHeaders (image : List ℕ) (headers : List Bool) : Type 0 where
+-- for each block, whether it is a header that is told
+pub record AreHeaders (out image : List ℕ) (headers : List Bool) : Type 0 where
   pub size : length headers ≡ block_count image
-  pub decided : (block : ℕ) → block < block_count image → MatchBool (mark_at headers block) (IsHeader image block) (¬ IsHeader image block)
+  pub decided : (block : ℕ) → block < block_count image → MatchBool (mark_at headers block) (IsHeader out image block) (¬ IsHeader out image block)
 
--- what is known of the blocks of an image: which are headers, and which are headers of whole files
+-- what is known of the blocks of an image, where some headers are left out: which are headers that are told, and which are headers of whole files
 pub record AreKnown (image : List ℕ) (known : Known) : Type 0 where
-  pub headers : AreHeaders image known.headers.items
-  pub whole : AreWhole image (block_count image) known.whole.items
+  pub headers : AreHeaders known.left_out image known.headers.items
+  pub whole : AreWhole known.left_out image (block_count image) known.whole.items

@@ -7,6 +7,6 @@ use Rattle.adf_salvage.proofs.claims.claims.Given as goal
 abbrev pub invariant-loop-file : goal.invariant-loop-file
 invariant-loop-file l = record {
   size : length l.claims.items ≡ block_count l.image;
-  claims : AreClaims l.image l.file l.claims.items;
+  claims : AreClaims l.left_out l.image l.file l.claims.items;
   users : AreUsersBelow l.image l.file l.users.items;
 }

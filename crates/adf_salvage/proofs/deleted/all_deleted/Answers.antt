@@ -1,9 +1,18 @@
-use Rattle.std.proofs.Common.{Vec, Global, ◌+◌, sym, ap, ◌∙◌, subst}
+use Rattle.std.proofs.Common.{ℕ, List, Vec, Global, ◌+◌, sym, ap, ◌∙◌, subst}
 use Rattle.adf_salvage.specs.declared.deleted.Deleted.{Deleted}
-use Rattle.adf_salvage.specs.steps.Deleting.{AreListedBelow}
+use Rattle.adf_block.specs.Image.{block_count}
+use Rattle.adf_salvage.specs.steps.Claims.{AreClaims}
+use Rattle.adf_salvage.specs.steps.Deleting.{AreAllClaims, AreListedBelow}
 use Rattle.adf_salvage.proofs.ListingDeleted.{listed_more, listed_same}
 use Rattle.adf_salvage.proofs.deleted.all_deleted.Goals as goal
 use Rattle.adf_salvage.proofs.deleted.all_deleted.Goals.{in-Some+in_ok-push, in_default}
+
+pub deleted_at-requires-clause-claims : goal.deleted_at-requires-clause-claims
+deleted_at-requires-clause-claims c =
+    subst (AreAllClaims c.args.image.now) (sym c.deref.ensures.value) (record {
+      size = c.in_ok-claims.ensures.count;
+      right = subst (λ (out : List ℕ). AreClaims out c.args.image.now (block_count c.args.image.now) c.in_ok-claims.claims.items) c.none.ensures c.in_ok-claims.ensures.claims;
+    })
 
 pub loop-header-preserved : goal.loop-header-preserved
 loop-header-preserved c = record {

@@ -1,10 +1,10 @@
 use Rattle.std.proofs.Common.{ℕ, ◌<◌}
-use Rattle.adf_salvage.specs.Sound.{IsSoundHeader}
+use Rattle.adf_salvage.specs.Doubtful.{IsToldHeader}
 use Rattle.adf_salvage.specs.steps.Heading.{AreFound, IsFound}
 use Rattle.adf_salvage.proofs.headers.all_sound.Given as goal
 
 abbrev pub invariant-loop-block : goal.invariant-loop-block
 invariant-loop-block l = record {
-  found : AreFound l.image l.found;
-  sound : (block : ℕ) → block < l.block → IsSoundHeader l.image block → IsFound l.found.marks.items block;
+  found : AreFound l.left_out l.image l.found;
+  sound : (block : ℕ) → block < l.block → IsToldHeader l.left_out l.image block → IsFound l.found.marks.items block;
 }

@@ -1,17 +1,16 @@
 use Rattle.std.proofs.Common.{ℕ, ◌-◌, ◌<◌, ◌≤◌, length, slice_index}
 use Rattle.adf_block.specs.Image.{block_count}
-use Rattle.adf_salvage.specs.Doubtful.{IsRoot}
-use Rattle.adf_salvage.specs.Sound.{IsSoundHeader}
+use Rattle.adf_salvage.specs.Doubtful.{IsRoot, IsToldHeader}
 use Rattle.adf_salvage.specs.steps.Heading.{AreFound, AreSought, IsFound}
 use Rattle.adf_salvage.proofs.headers.headers.Given as goal
 
 abbrev pub invariant-loop-place : goal.invariant-loop-place
 invariant-loop-place l = record {
-  found : AreFound l.image l.found;
-  sound : (block : ℕ) → IsSoundHeader l.image block → IsFound l.found.marks.items block;
-  root : (block : ℕ) → IsRoot l.image block → AreSought l.image l.found.marks.items block;
+  found : AreFound l.left_out l.image l.found;
+  sound : (block : ℕ) → IsToldHeader l.left_out l.image block → IsFound l.found.marks.items block;
+  root : (block : ℕ) → IsRoot l.image block → AreSought l.left_out l.image l.found.marks.items block;
   within : l.place ≤ length l.found.blocks.items;
-  sought : (k : ℕ) → k < l.place → AreSought l.image l.found.marks.items (slice_index l.found.blocks.items k);
+  sought : (k : ℕ) → k < l.place → AreSought l.left_out l.image l.found.marks.items (slice_index l.found.blocks.items k);
 }
 
 abbrev pub decreases-loop-place : goal.decreases-loop-place

@@ -4,6 +4,7 @@ use Rattle.ados_model.specs.Tree.{entries}
 use Rattle.ados_volume.specs.Below.{AreBelow}
 use Rattle.ados_volume.proofs.AllBelow.{there_below}
 use Rattle.adf_salvage.specs.declared.giving.Piece.{Piece}
+use Rattle.adf_salvage.specs.Salvaged.{AreDeleted}
 use Rattle.adf_salvage.specs.steps.Keeping.{IsReadable}
 use Rattle.adf_salvage.proofs.Growing.{none_told}
 use Rattle.adf_salvage.proofs.Holding.{of_tree}
@@ -17,8 +18,11 @@ entries_of-requires c = λ k d l t s.
 pub of-requires : goal.of-requires
 of-requires c = record {
   readable = subst (λ (image : List ℕ). All (IsReadable image) c.in_ok-entries.entries.items) (sym c.into_image.ensures.same) c.in_ok-entries.ensures.readable;
-  inside = subst (All (λ (piece : Piece). piece.block < block_count c.into_image.result)) (sym c.new.ensures.items) (none_told (λ (piece : Piece). piece.block < block_count c.into_image.result));
+  inside = subst (All (λ (piece : Piece). piece.block < block_count c.into_image.result)) (sym c.new-pieces.ensures.items) (none_told (λ (piece : Piece). piece.block < block_count c.into_image.result));
 }
+
+pub returns-clause-deleted : goal.returns-clause-deleted
+returns-clause-deleted c = λ image accepts. subst (AreDeleted image) (sym c.of.ensures.deleted) (c.in_ok-deleted.ensures image accepts)
 
 pub returns-clause-told : goal.returns-clause-told
 returns-clause-told c = λ t s.

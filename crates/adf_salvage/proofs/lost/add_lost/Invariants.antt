@@ -4,7 +4,7 @@ use Rattle.adf_salvage.proofs.lost.add_lost.Given as goal
 
 abbrev pub invariant-loop-block : goal.invariant-loop-block
 invariant-loop-block l = record {
-  gathered : AreGathered l.image l.gathered;
-  headers : AreAllHeaders l.image l.gathered.places.items;
-  followed : (block : ℕ) → block < l.block → AreFollowed l.image l.gathered.places.items block;
+  gathered : AreGathered l.known.left_out l.image l.gathered;
+  headers : AreAllHeaders l.known.left_out l.image l.gathered.places.items;
+  followed : (block : ℕ) → block < l.block → AreFollowed l.known.left_out l.image l.gathered.places.items block;
 }

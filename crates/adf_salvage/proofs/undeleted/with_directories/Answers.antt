@@ -1,4 +1,4 @@
-use Rattle.std.proofs.Common.{ℕ, List, All, None, IsSome, slice_index_or, sym, subst}
+use Rattle.std.proofs.Common.{ℕ, List, [], All, None, IsSome, slice_index_or, sym, subst}
 use Rattle.adf_salvage.specs.declared.salvaged.Salvaged.{Salvaged}
 use Rattle.adf_salvage.specs.Salvaged.{IsTold, headers_of}
 use Rattle.adf_salvage.specs.Undeleted.{ArePlaces}
@@ -13,7 +13,7 @@ returns c =
     record {
       same = c.of-salvage.ensures.image;
       deleted = c.requires;
-      told = subst (All (IsTold c.args.image)) entries gathered.told;
+      told = subst (All (IsTold [] c.args.image)) entries gathered.told;
       places = subst (λ (es : List Salvaged). ArePlaces (headers_of es) c.in_ok-gathered.gathered.places.items) entries (record { placed = λ i l. gathered.placed i l; among = gathered.met });
       there = λ block d.
           met_by (λ (header : ℕ). IsSome (slice_index_or c.in_ok-gathered.gathered.places.items header None)) c.args.deleted.items

@@ -6,7 +6,7 @@ use Rattle.adf_salvage.proofs.unreached.add_unreached.Given as goal
 
 abbrev pub invariant-loop-block : goal.invariant-loop-block
 invariant-loop-block l = record {
-  gathered : AreGathered l.image l.gathered;
+  gathered : AreGathered l.known.left_out l.image l.gathered;
   climbed : length l.climbed.items ≡ block_count l.image;
-  all : (b : ℕ) → b < l.block → IsHeader l.image b → IsSome (place_at l.gathered.places.items b);
+  all : (b : ℕ) → b < l.block → IsHeader l.known.left_out l.image b → IsSome (place_at l.gathered.places.items b);
 }

@@ -7,7 +7,7 @@ abbrev pub invariant-loop-step : goal.invariant-loop-step
 invariant-loop-step l = length l.climbed.items ≡ block_count l.image
 
 abbrev pub invariant-loop-dir : goal.invariant-loop-dir
-invariant-loop-dir l = GathersMore l.image l.initial.gathered l.gathered
+invariant-loop-dir l = GathersMore l.known.left_out l.image l.initial.gathered l.gathered
 
 abbrev pub decreases-loop-dir : goal.decreases-loop-dir
 decreases-loop-dir l = vec_len l.above

@@ -4,6 +4,6 @@ use Rattle.adf_salvage.proofs.whole.whole_files.Given as goal
 
 abbrev pub invariant-loop-file : goal.invariant-loop-file
 invariant-loop-file l = record {
-  whole : AreWhole l.image l.file l.whole.items;
+  whole : AreWhole l.left_out l.image l.file l.whole.items;
   users : AreUsersBelow l.image l.file l.users.items;
 }

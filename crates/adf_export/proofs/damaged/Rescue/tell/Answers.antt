@@ -1,31 +1,22 @@
-use Rattle.std.proofs.Common.{sym, subst, arith}
-use Rattle.adf_export.specs.Rescue.{IsRescueLine}
+use Rattle.std.proofs.Common.{length, sym, ap, ◌∙◌}
+use Rattle.adf_export.specs.Rescue.{deleted_line}
 use Rattle.adf_export.proofs.Outcomes.{at_any_err}
-use Rattle.adf_export.proofs.Telling.{told_all, told_front, told_more, told_none, told_part, told_saved, told_some}
+use Rattle.adf_export.proofs.Telling.{all_told, front_of_last, front_of_lines, lines_alone}
 use Rattle.adf_export.proofs.damaged.Rescue.tell.Goals as goal
 
-pub loop-place-init : goal.loop-place-init
-loop-place-init g c = told_none c.entries-entries.result.now _
+pub returns-in_err-tell_entries-clause-front : goal.returns-in_err-tell_entries-clause-front
+returns-in_err-tell_entries-clause-front g c = at_any_err _ (front_of_lines c.args.self.now.salvage _ _ c.in_err-tell_entries.ensures.front)
 
-pub returns-in_err-line-clause-front : goal.returns-in_err-line-clause-front
-returns-in_err-line-clause-front g c =
-    at_any_err _ (told_some c.args.self.now.salvage c.entries-entries.result.now _ _ c.entries-entries.ensures
-    (told_front c.entries-entries.result.now c.loop-place.place _ _ c.loop-place.invariant))
+pub returns-in_err-last-clause-front : goal.returns-in_err-last-clause-front
+returns-in_err-last-clause-front g c = at_any_err _ (lines_alone c.args.self.now.salvage _ _ c.in_ok-tell_entries.ensures.ok)
 
 pub returns-in_err-write_text-clause-front : goal.returns-in_err-write_text-clause-front
 returns-in_err-write_text-clause-front g c =
-    let is = subst (IsRescueLine c.index-entries-place.result.found c.index-entries-place.result.state) (sym c.as_bytes.ensures.value) c.in_ok-line.ensures in
-    at_any_err _ (told_some c.args.self.now.salvage c.entries-entries.result.now _ _ c.entries-entries.ensures
-    (told_part c.entries-entries.result.now c.loop-place.place _ _ c.loop-place.invariant c.index-entries-place.result c.as_bytes.result.now _ (omega (arith, c.loop-place-test.true)) (sym c.index-entries-place.is) is
-    c.in_err-write_text.ensures.front))
-
-pub loop-place-preserved : goal.loop-place-preserved
-loop-place-preserved g c =
-    let is = subst (IsRescueLine c.index-entries-place.result.found c.index-entries-place.result.state) (sym c.as_bytes.ensures.value) c.in_ok-line.ensures in
-    told_more c.entries-entries.result.now c.loop-place.place _ _ c.loop-place.invariant c.index-entries-place.result c.as_bytes.result.now _ (omega (arith, c.loop-place-test.true)) (sym c.index-entries-place.is) is
-    c.in_ok-write_text.ensures.ok
+    at_any_err _ (front_of_last c.args.self.now.salvage _ _ _ c.in_ok-tell_entries.ensures.ok c.as_bytes.result.now
+    (c.as_bytes.ensures.value ∙ c.in_ok-last.ensures ∙ ap deleted_line (ap length c.deleted.ensures)) c.in_err-write_text.ensures.front)
 
 pub returns-clause-ok : goal.returns-clause-ok
 returns-clause-ok g c =
-    told_saved c.args.self.now.salvage c.entries-entries.result.now _ _ c.entries-entries.ensures c.is_accepted.result (sym c.is_accepted.ensures)
-    (told_all c.entries-entries.result.now c.loop-place.place _ _ c.loop-place.invariant (omega (arith, c.loop-place-test.false)))
+    all_told c.args.self.now.salvage _ _ _ c.in_ok-tell_entries.ensures.ok c.as_bytes.result.now
+    (c.as_bytes.ensures.value ∙ c.in_ok-last.ensures ∙ ap deleted_line (ap length c.deleted.ensures)) c.is_accepted.result (sym c.is_accepted.ensures)
+    c.in_ok-write_text.ensures.ok

@@ -1,5 +1,5 @@
 use Rattle.adf_export.proofs.Telling.{IsTold}
-use Rattle.adf_export.proofs.damaged.Rescue.tell.Given as goal
+use Rattle.adf_export.proofs.damaged.Rescue.tell_entries.Given as goal
 
 -- the entries before this one have their lines
 abbrev pub invariant-loop-place : goal.invariant-loop-place

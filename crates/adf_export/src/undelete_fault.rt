@@ -1,0 +1,59 @@
+//! Why deleted entries are neither told nor written.
+ghost use Rattle.std.specs.Prelude.{ℕ, List};
+ghost use Rattle.adf_export.specs.Undelete.{IsUndeleteFault};
+
+use host_trees::WriteFault;
+use std::alloc::{AllocError, AllocFailed, Global};
+use thiserror::Error;
+
+/// Why deleted entries are neither told nor written.
+#[derive(Debug, Drop, Error)]
+pub enum UndeleteFault {
+    /// The bitmap cannot be trusted, so it is not known what was deleted.
+    #[error("the bitmap cannot be trusted, so nothing says what was deleted")]
+    NoTrustedBitmap,
+    /// The blocks of the image name each other too often for its faults to be listed.
+    #[error("the image has too many faults for a bitmap that can be trusted")]
+    ManyFaults,
+    /// An argument that chooses no deleted entry.
+    #[error("nothing that was deleted is at '{0}' or below it")]
+    NothingDeleted(String),
+    #[error("{0}")]
+    Host(WriteFault),
+    #[error("there is not enough memory")]
+    Memory,
+}
+
+impl UndeleteFault {
+    /// The fault of an argument that chooses nothing.
+    pub(crate) fn nothing(alloc: Global, word: &str) -> UndeleteFault
+        ensures { (image : List ℕ) → IsUndeleteFault image result }
+    {
+        match String::from_str(alloc, word) {
+            Ok(word) => UndeleteFault::NothingDeleted(word),
+            Err(_) => UndeleteFault::Memory,
+        }
+    }
+}
+
+impl From<AllocError> for UndeleteFault {
+    ghost use Rattle.std.specs.Prelude.{◌≡◌};
+    ghost use Rattle.adf_export.specs.declared.undelete_fault.UndeleteFault.TheVariants.{Memory};
+
+    ghost from_gives = { λ _ fault. fault ≡ Memory };
+
+    fn from(_error: AllocError) -> UndeleteFault {
+        UndeleteFault::Memory
+    }
+}
+
+impl<T: Drop> From<AllocFailed<T>> for UndeleteFault {
+    ghost use Rattle.std.specs.Prelude.{◌≡◌};
+    ghost use Rattle.adf_export.specs.declared.undelete_fault.UndeleteFault.TheVariants.{Memory};
+
+    ghost from_gives = { λ _ fault. fault ≡ Memory };
+
+    fn from(_error: AllocFailed<T>) -> UndeleteFault {
+        UndeleteFault::Memory
+    }
+}

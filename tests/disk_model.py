@@ -1,0 +1,549 @@
+#!/usr/bin/env python3
+"""A model of an image that may be damaged: who owns each block, and what `extract --damaged` has to tell of it.
+
+    tests/disk_model.py IMAGE [--page | --owners]
+
+It prints the exit status and the lines of `extract --damaged`; with `--owners`, for each block its faults and what the places that name
+it make of it, also where the image is refused. It works from the definitions and in an order of its own: all places
+that name a block come first, then the headers that can be told, then each file by itself. What the pages say of damaged images and
+the program does not do yet, or does otherwise, is in `Rules`, each with its reason. `--page` follows the pages alone.
+"""
+from __future__ import annotations
+
+import sys
+from collections import defaultdict
+from pathlib import Path
+from typing import Dict, Iterator, List, NamedTuple, Optional, Set, Tuple
+
+sys.dont_write_bytecode = True
+
+from all_faults_model import DATA, DIRECTORY, FILE, HEADER, KINDS, LIST, ROOT, Model, Role
+from harness import BLOCK, LONGS, Image
+
+ALL_ONES = 2**32 - 1
+SLOTS = range(6, 78)
+
+
+class Rules(NamedTuple):
+    """What is read in which way. The defaults are the definitions."""
+
+    # In OFS a block that no pointer names is there if the data block before it names it.
+    links: bool = False
+    # A block counts as an extension block only if its types, its file and its own number are right.
+    typed: bool = False
+    # A count over 72 counts as 72.
+    capped: bool = False
+    # A block that an earlier pointer of the file named, and that was not its data there, may be there at a later one.
+    again: bool = False
+    # Of a root with the right types all 25 longs for bitmap blocks name one, of another root none. (On the pages, as many as are used.)
+    stale: bool = False
+    # Deleted entries claim no block and are counted in a line of their own.
+    deleted: bool = True
+    # Blocks that are used and belong to nothing are counted in the last line.
+    unaccounted: bool = True
+    # In OFS, data blocks whose header is gone become a file.
+    headless: bool = True
+
+
+PAGE = Rules()
+# What the program does with files, and without the lines that it may not print yet.
+NOW = Rules(links=True, typed=True, capped=True, again=True, stale=True, unaccounted=False, headless=False)
+
+
+class Place(NamedTuple):
+    """A long that names an entry: the block that has it, and the directory whose entry is named."""
+
+    holder: int
+    at: int
+    directory: int
+
+
+class Entry(NamedTuple):
+    """A line of the account: the header, the state, the path, and whether the entry was found."""
+
+    header: int
+    state: str
+    path: str
+    found: bool
+
+    def line(self) -> str:
+        return " ".join([*["found"] * self.found, *[self.state] * bool(self.state), self.path])
+
+
+class Blocks(NamedTuple):
+    """The blocks of a file: its header with its extension blocks, and its data blocks, both in order."""
+
+    heads: List[int]
+    data: List[int]
+
+
+class Owner(NamedTuple):
+    """What a place makes of a block: `boot`, `root`, `bitmap`, `directory`, `file`, `extension` or `data`, the header of its file or
+    directory, and its number among the blocks of its kind."""
+
+    what: str
+    header: Optional[int] = None
+    number: Optional[int] = None
+
+
+def host_name(name: bytes) -> str:
+    """A name as the host has it."""
+    if name in (b".", b".."):
+        return "%2E" + name[1:].decode()
+    return "".join(f"%{it:02X}" if it < 32 or 127 <= it < 160 or it in b"%\\" else chr(it) for it in name)
+
+
+def with_kind(data: bytes) -> bytes:
+    """The image with a known kind. A kind that is lost is that of OFS if a sound data block of OFS names a sound header of a file."""
+    if data[:4] in (b"DOS\0", b"DOS\1"):
+        return data
+    disk = Disk(b"DOS\0" + data[4:])
+    blocks = [it for it in disk.inside if disk.long(it, 0) == DATA and disk.is_summed(it)]
+    is_ofs = any(disk.long(it, 1) in disk.sound and disk.long(disk.long(it, 1), 127) == FILE for it in blocks)
+    return b"DOS" + (b"\0" if is_ofs else b"\1") + data[4:]
+
+
+class Headers(Image):
+    """An image, and which of its blocks are headers."""
+
+    def is_summed(self, block: int) -> bool:
+        longs: Tuple[int, ...] = LONGS.unpack_from(self.data, BLOCK * block)
+        return sum(longs) % 2**32 == 0
+
+    def has_name(self, block: int) -> bool:
+        return 1 <= self.data[BLOCK * block + 432] <= 30 and not set(self.text(block, 432)) & set(b"/:")
+
+    def has_fields(self, block: int) -> bool:
+        """The types of a header, its own number and a legal name."""
+        types = (self.long(block, 0), self.long(block, 127))
+        return types in ((HEADER, DIRECTORY), (HEADER, FILE)) and self.long(block, 1) == block and self.has_name(block)
+
+    def is_sound_header(self, block: int) -> bool:
+        return self.has_fields(block) and self.is_summed(block) and self.data[BLOCK * block + 328] <= 79
+
+    def is_directory(self, block: int) -> bool:
+        return self.long(block, 127) == DIRECTORY
+
+
+class Disk(Headers):
+    """An image of a known kind, with the headers that are sound by themselves."""
+
+    def __init__(self, data: bytes) -> None:
+        super().__init__(data)
+        self.root = (self.blocks + 1) // 2
+        self.is_ofs = self.data[3] == 0
+        self.room = 488 if self.is_ofs else BLOCK
+        self.inside = range(2, self.blocks)
+        self.sound = {it for it in self.inside if self.is_sound_header(it)}
+
+
+class Bitmap:
+    """What the bitmap says, and whether it can be trusted."""
+
+    def __init__(self, disk: Disk, shown: Model) -> None:
+        self.disk = disk
+        self.pages = [disk.long(disk.root, 79 + it) for it in range(shown.pages())]
+        sound = all(it in disk.inside and disk.is_summed(it) for it in self.pages) and len(set(self.pages)) == len(self.pages)
+        shown.all_faults()
+        root = not any(block == disk.root for block, _ in shown.found)
+        reached = {block for block, _ in shown.reached}
+        self.is_trusted = sound and root and disk.long(disk.root, 78) == ALL_ONES and not any(self.is_free(it) for it in reached)
+
+    def is_free(self, block: int) -> bool:
+        if self.disk.long(self.disk.root, 78) != ALL_ONES:
+            return True
+        page = self.pages[(block - 2) // 4064]
+        return page in self.disk.inside and bool(self.disk.long(page, 1 + (block - 2) % 4064 // 32) >> (block - 2) % 32 & 1)
+
+
+class Owners(Model):
+    """The owners of the blocks of any image, by all places that name them."""
+
+    def __init__(self, data: bytes) -> None:
+        super().__init__(data)
+        self.bitmap = Bitmap(Disk(data), Model(data))
+        self.owners: Dict[int, Set[Owner]] = defaultdict(set)
+        for block in (0, 1):
+            self.owners[block].add(Owner("boot"))
+        self.owners[self.root].add(Owner("root", self.root))
+        for block, role in self.reached:
+            for at, next_role in self.places_of(block, role):
+                if self.inside(self.long(block, at)):
+                    self.owners[self.long(block, at)].add(self.owner(block, at, next_role))
+
+    def owner(self, holder: int, at: int, role: Role) -> Owner:
+        named = self.long(holder, at)
+        if role.what == "page":
+            return Owner("bitmap", None, at - 79)
+        if role.what == "entry":
+            return Owner("file" if self.long(named, 127) == FILE else "directory", named)
+        before = self.headers_of(role.holder)
+        if role.what == "extension":
+            return Owner("extension", role.holder, before.index(holder))
+        pointers = sum(len(self.data_of(it)) for it in before[: before.index(holder)])
+        return Owner("data", role.holder, pointers + 77 - at)
+
+    def lines(self) -> List[str]:
+        """For each block that has any its owners, and the kinds of its faults."""
+        faults: Dict[int, List[str]] = defaultdict(list)
+        for block, kind in self.all_faults():
+            faults[block].append(KINDS[kind])
+        lines = []
+        for block in range(self.blocks):
+            owners = [" ".join(str(it) for it in owner if it is not None) for owner in self.owners.get(block, [])] or [self.unowned(block)]
+            if owners != ["free"] or faults[block]:
+                lines.append(f"{block}: {', '.join([*sorted(owners), *faults[block]])}")
+        return lines
+
+    def unowned(self, block: int) -> str:
+        """What a block is that no place names."""
+        return "free" if self.bitmap.is_free(block) else "lost"
+
+
+class Account(Disk):
+    """What has to be told of an image."""
+
+    def __init__(self, data: bytes, rules: Rules) -> None:
+        self.is_accepted = not Model(data).all_faults()
+        super().__init__(with_kind(data))
+        self.rules = rules
+        shown = Model(bytes(self.data))
+        self.bitmap = Bitmap(self, shown)
+        self.pages = self.bitmap_blocks()
+        self.reached_blocks = {block for block, _ in shown.reached}
+        self.deleted = {it for it in self.sound if self.is_deleted(it)} if rules.deleted else set()
+        self.places: Dict[int, List[Place]] = defaultdict(list)
+        self.told = self.headers()
+        self.lost = [it for it in self.places if it not in self.told and it not in self.sound]
+        self.intact = {it: blocks for it in self.sound - self.deleted if (blocks := self.sound_blocks(it)) is not None}
+        self.users: Dict[int, Set[int]] = defaultdict(set)
+        for file, blocks in self.intact.items():
+            for block in [*blocks.heads, *blocks.data]:
+                self.users[block].add(file)
+        self.given: Dict[int, int] = {}
+        self.bytes: Dict[int, bytes] = {}
+        self.left = 4 * len(self.data)
+
+    # ---- which headers are told
+
+    def has_root(self) -> bool:
+        """Whether the root has the types of one."""
+        return (self.long(self.root, 0), self.long(self.root, 127)) == (HEADER, ROOT)
+
+    def bitmap_blocks(self) -> Set[int]:
+        if self.rules.stale:
+            return {self.long(self.root, it) for it in range(79, 104)} if self.has_root() else set()
+        return set(self.bitmap.pages)
+
+    def is_deleted(self, block: int) -> bool:
+        return self.bitmap.is_trusted and block not in self.reached_blocks and self.bitmap.is_free(block)
+
+    def places_in(self, holder: int) -> Iterator[Tuple[int, Place]]:
+        """The accepted places of a header that is told, or of the root."""
+        if self.is_directory(holder) or holder == self.root and self.long(holder, 127) == ROOT:
+            for at in SLOTS:
+                yield self.long(holder, at), Place(holder, at, holder)
+        if self.long(holder, 127) != ROOT:
+            yield self.long(holder, 124), Place(holder, 124, self.long(holder, 125))
+
+    def headers(self) -> Set[int]:
+        """All headers that are told. Each accepted place is looked at once, and may add one."""
+        told = self.sound - self.deleted
+        pending = [*[self.root] * self.has_root(), *sorted(told - {self.root}), *({self.root} & told)]
+        while pending:
+            for named, place in self.places_in(pending.pop()):
+                if named in self.inside:
+                    self.places[named].append(place)
+                    if named not in told and named not in self.sound and self.has_fields(named) and self.long(named, 125) == place.directory:
+                        told.add(named)
+                        pending.append(named)
+        return told
+
+    # ---- files that are whole
+
+    def sound_blocks(self, file: int) -> Optional[Blocks]:
+        """All blocks of a file with the right fields and distinct, or None. Its header is sound."""
+        needed, heads = -(-self.long(file, 81) // self.room), [file]
+        if self.is_directory(file) or needed > self.blocks:
+            return None
+        while len(heads) * 72 < needed:
+            after = self.long(heads[-1], 126)
+            if after not in self.inside or after in heads or not self.is_extension(file, after) or not self.is_summed(after):
+                return None
+            heads.append(after)
+        counts = [min(72, needed - 72 * it) for it in range(len(heads))]
+        if [self.long(it, 2) for it in heads] != counts or self.long(heads[-1], 126) != 0:
+            return None
+        data = [self.long(head, 77 - it) for head, count in zip(heads, counts) for it in range(count)]
+        if any(it not in self.inside for it in data) or len({*heads, *data}) < len(heads) + len(data):
+            return None
+        return Blocks(heads, data) if not self.is_ofs or self.is_linked(file, data) else None
+
+    def is_extension(self, file: int, block: int) -> bool:
+        return [self.long(block, it) for it in (0, 1, 125, 127)] == [LIST, block, file, FILE]
+
+    def is_linked(self, file: int, data: List[int]) -> bool:
+        """The data blocks of OFS have all their fields, and each names the next one."""
+        size = self.long(file, 81)
+        for i, block in enumerate(data):
+            wanted = [DATA, file, i + 1, min(488, size - 488 * i), data[i + 1] if i + 1 < len(data) else 0]
+            if [self.long(block, it) for it in range(5)] != wanted or not self.is_summed(block):
+                return False
+        return self.long(file, 4) == (data[0] if data else 0)
+
+    def is_whole(self, file: int) -> bool:
+        return file in self.intact and all(self.users[it] == {file} for part in self.intact[file] for it in part)
+
+    # ---- files that are not
+
+    def pointer_blocks(self, file: int) -> List[int]:
+        """The header and the blocks that L126 longs reach from it, each once."""
+        heads = [file]
+        while True:
+            after = self.long(heads[-1], 126)
+            if after not in self.inside or after in heads or self.rules.typed and not self.is_extension(file, after):
+                return heads
+            heads.append(after)
+
+    def named_by_pointers(self, file: int) -> Dict[int, int]:
+        """The block that the pointer for each data block names, where that is within a count."""
+        named = {}
+        for q, head in enumerate(self.pointer_blocks(file)):
+            count = self.long(head, 2)
+            count = min(count, 72) if self.rules.capped or count <= 72 else 0
+            named.update({72 * q + it: self.long(head, 77 - it) for it in range(count)})
+        return named
+
+    def piece_of(self, file: int, k: int, block: Optional[int]) -> bool:
+        """Whether a block is data block `k` of a file, and not given away."""
+        if block not in self.inside or block is None or block == self.root or block in self.pages or block in self.given:
+            return False
+        return not self.is_ofs or [self.long(block, it) for it in range(3)] == [DATA, file, k + 1]
+
+    def give(self, file: int) -> Tuple[int, Dict[int, int]]:
+        """How many data blocks the size needs, and which of them are there. From now on they are this file's."""
+        needed = min(-(-self.long(file, 81) // self.room), self.blocks)
+        named = self.named_by_pointers(file)
+        there: Dict[int, int] = {}
+        passed: Set[int] = set()
+        for k in range(needed):
+            before = there.get(k - 1) if k else file
+            linked = self.long(before, 4) if self.rules.links and self.is_ofs and before is not None else None
+            for block in (named.get(k), linked):
+                if block is not None and k not in there and block not in passed and self.piece_of(file, k, block):
+                    there[k] = block
+                    self.given[block] = file
+            if not self.rules.again:
+                passed.add(named.get(k, 0))
+        return needed, there
+
+    def broken_state(self, file: int) -> str:
+        """The state of a file that is not whole; keeps its bytes."""
+        needed, there = self.give(file)
+        size = min(self.long(file, 81), self.blocks * self.room)
+        end = min(size, self.room * (max(there) + 1)) if there else 0
+        kept = min(end, self.left)
+        self.left -= kept
+        self.keep(file, there, kept)
+        missing = needed - len(there)
+        return f"broken {missing}" if missing or kept < end else "doubtful"
+
+    def keep(self, file: int, there: Dict[int, int], size: int) -> None:
+        data = bytearray(-(-size // self.room) * self.room)
+        for k, block in there.items():
+            piece = self.data[BLOCK * block + BLOCK - self.room : BLOCK * (block + 1)]
+            if self.room * k < len(data):
+                data[self.room * k : self.room * (k + 1)] = piece
+        self.bytes[file] = bytes(data[:size])
+
+    # ---- where entries are
+
+    def in_chains(self) -> Dict[int, int]:
+        """The headers to which hash chains lead from the root, each with its directory, in the order of the walk. Of an accepted
+        image each directory comes directly before what is in it; of a refused one all that is in a directory comes before what is in
+        the next. (The root's slots are followed whatever its types are.)"""
+        above: Dict[int, int] = {}
+        levels = [(self.root, self.along(self.root, above))]
+        while levels:
+            at = -1 if self.is_accepted else 0
+            directory, chain = levels[at]
+            block = next(chain, None)
+            if block is None:
+                levels.pop(at)
+                continue
+            above[block] = directory
+            if self.is_directory(block):
+                levels.append((block, self.along(block, above)))
+        return above
+
+    def along(self, directory: int, met: Dict[int, int]) -> Iterator[int]:
+        """The headers along the hash chains of a directory, up to one that is not told or was met before."""
+        for at in SLOTS:
+            block = self.long(directory, at)
+            while block in self.told and block not in met:
+                yield block
+                block = self.long(block, 124)
+
+    def entries(self) -> List[Entry]:
+        """All entries in the order of the account; of an accepted image, its tree."""
+        walk = Walk(self)
+        loose = self.loose_files() if self.rules.headless and self.is_ofs and not self.is_accepted else {}
+        entries = [Entry(it, loose.pop(it, "") or self.state(it), walk.paths[it] + self.ending(it), it in walk.found) for it in walk.order]
+        return [*entries, *(Entry(it, state, f"lost+found/block-{it}", True) for it, state in sorted(loose.items()))]
+
+    def loose_files(self) -> Dict[int, str]:
+        """The states of the files that OFS data blocks with right checksums make, by the number of the header that is none."""
+        pieces: Dict[int, Dict[int, int]] = defaultdict(dict)
+        for block in self.inside:
+            kind, header, number = (self.long(block, it) for it in range(3))
+            if kind == DATA and number and self.is_summed(block):
+                pieces[header].setdefault(number, block)
+        states = {}
+        for header, there in pieces.items():
+            is_file = header in self.told and not self.is_directory(header)
+            if not is_file and not (self.bitmap.is_trusted and all(self.bitmap.is_free(it) for it in there.values())):
+                last = max(there)
+                missing = last - len(there) + (self.long(there[last], 4) != 0)
+                states[header] = f"broken {missing}" if missing else "doubtful"
+                self.given.update({it: header for it in there.values()})
+        return states
+
+    def is_told_directory(self, block: int) -> bool:
+        return block in self.told and self.is_directory(block)
+
+    def state(self, block: int) -> str:
+        if block not in self.told:
+            return "lost"
+        if self.is_directory(block):
+            return "" if block in self.sound else "doubtful"
+        if self.is_accepted or self.is_whole(block):
+            self.keep(block, dict(enumerate(self.intact[block].data)), self.long(block, 81))
+            return "whole"
+        return self.broken_state(block)
+
+    def ending(self, block: int) -> str:
+        return "/" if self.is_told_directory(block) and block not in self.sound else ""
+
+    def lines(self) -> List[str]:
+        """The lines; the entries stay, and the bytes of each file that is written."""
+        entries = self.told_entries = self.entries()
+        shown = [it for it in entries if it.found or it.state]
+        last = []
+        if self.deleted:
+            last.append(f"deleted {len(self.deleted)}")
+        if self.rules.unaccounted and (rest := self.unaccounted(entries)):
+            last.append(f"unaccounted {len(rest)}")
+        return [it.line() for it in shown] + last
+
+    def unaccounted(self, entries: List[Entry]) -> List[int]:
+        """The blocks that are used and belong to nothing. A file has the blocks that are written, and the extension blocks
+        that full lists of these lead to."""
+        known = {self.root, *self.bitmap.pages, *(it.header for it in entries), *self.given}
+        for it in entries:
+            known |= {block for part in self.intact[it.header] for block in part} if it.state == "whole" else set()
+            if it.header in self.told and not self.is_directory(it.header):
+                needed = min(-(-self.long(it.header, 81) // self.room), self.blocks)
+                known |= set(self.pointer_blocks(it.header)[: 1 + needed // 72])
+        return [it for it in self.inside if it not in known and self.is_used(it)]
+
+    def is_used(self, block: int) -> bool:
+        if self.bitmap.is_trusted:
+            return not self.bitmap.is_free(block)
+        return block in self.reached_blocks or any(self.data[BLOCK * block : BLOCK * (block + 1)])
+
+
+class Walk:
+    """The order of the entries of an account, and their paths."""
+
+    def __init__(self, account: Account) -> None:
+        self.account = account
+        above = self.above = account.in_chains()
+        self.order: List[int] = list(above)
+        self.found = set() if account.is_accepted else account.told - set(above)
+        self.paths: Dict[int, str] = {}
+        self.taken: Set[str] = set()
+        for block, directory in above.items():
+            self.put(block, self.paths[directory] + "/" if directory != account.root else "")
+        # (a directory in the tree that has found entries is below lost+found too, and takes its name there first)
+        for block in self.found:
+            directory = account.long(block, 125)
+            while directory in above and account.is_told_directory(directory):
+                self.taken.add(f"lost+found/{self.paths[directory]}")
+                directory = above[directory]
+        for block in sorted(self.found):
+            self.put_found(block)
+        if not account.is_accepted:
+            self.put_lost()
+
+    def name(self, block: int) -> str:
+        account = self.account
+        return host_name(account.text(block, 432)) if account.has_name(block) else f"block-{block}"
+
+    def put(self, block: int, front: str) -> None:
+        name = self.name(block)
+        while front + name in self.taken:
+            name += f"~{block}"
+        self.taken.add(front + name)
+        self.paths[block] = front + name
+
+    def put_found(self, block: int) -> None:
+        """A found entry stands behind the directories that it is in. If these lead round to it, it is the top itself; if they lead round
+        without it, the last new one is."""
+        climbed = [block]
+        while climbed[-1] not in self.paths:
+            above = self.account.long(climbed[-1], 125)
+            if not self.account.is_told_directory(above):
+                break
+            is_round = above in climbed
+            if not is_round or above == block:
+                climbed.append(above)
+            if is_round:
+                break
+        for entry in reversed(climbed):
+            if entry not in self.paths:
+                self.put_at(entry, self.front_of(self.account.long(entry, 125)))
+
+    def front_of(self, directory: int) -> str:
+        """The path below lost+found before the names in a directory."""
+        path = self.paths.get(directory) if self.account.is_told_directory(directory) else None
+        if path is None:
+            return "lost+found/"
+        return f"{path}/" if directory in self.found else f"lost+found/{path}/"
+
+    def put_at(self, block: int, front: str) -> None:
+        self.put(block, front)
+        self.order.append(block)
+
+    def put_lost(self) -> None:
+        """Lost entries come last, in the order of the first places that name them. The root may be one of them."""
+        account = self.account
+        fronts = {it: f"{path}/" for it, path in self.paths.items() if account.is_told_directory(it)}
+        first = {it: min(account.places[it]) for it in account.lost}
+        for block in sorted(first, key=lambda it: first[it]):
+            place = first[block]
+            is_found = place.holder in self.found
+            # (an entry is in the directory whose hash chain leads to it, whatever the one before it has as its parent)
+            directory = self.above.get(place.holder, place.directory) if place.at == 124 else place.directory
+            self.put_at(block, self.front_of(directory) if is_found else fronts.get(directory, ""))
+            if is_found:
+                self.found.add(block)
+
+
+def account_of(data: bytes, rules: Rules = NOW) -> Tuple[int, List[str]]:
+    """The exit status of `extract --damaged`, and its lines."""
+    account = Account(data, rules)
+    return 0 if account.is_accepted else 3, account.lines()
+
+
+def main(words: List[str]) -> int:
+    data = Path(words[0]).read_bytes()
+    if "--owners" in words:
+        print("\n".join(Owners(data).lines()))
+        return 0
+    status, lines = account_of(data, PAGE if "--page" in words else NOW)
+    print("\n".join([*lines, f"status {status}"]))
+    return 0
+
+
+if __name__ == "__main__":
+    sys.exit(main(sys.argv[1:]))

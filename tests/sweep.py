@@ -1,0 +1,540 @@
+#!/usr/bin/env python3
+"""Tests that nothing of a damaged floppy is lost in silence: `extract --damaged` of the built program has a line for each file.
+
+    tests/sweep.py [PROGRAM] [--all] [--images N] [--seed S] [--page] [--jobs N] [--keep DIR]
+
+The floppies are drawn in Python, in both formats. Each gets one damage: a flipped bit in a block of each role, a track of noise,
+a block of zeros, or no root. The expected account comes from the floppy as it was: each file has exactly one line, a file that was
+not hit is whole with its bytes, and the status is the one that `check` asks for. Without `--all`, some of the damages are tried;
+they are the same in each run.
+
+Then come images that tests/fuzz.py damages at random, 100 or N. tests/disk_model.py says what `extract --damaged` has to print and
+to write, and `map` and `where` of those that are accepted. `--page` compares with the pages alone, and so shows where the program
+does more or less. `--keep` keeps the images that show a fault.
+"""
+from __future__ import annotations
+
+import argparse
+import os
+import random
+import re
+import shutil
+import sys
+from functools import partial
+from multiprocessing import Pool
+from pathlib import Path
+from typing import Callable, Dict, Iterator, List, Mapping, NamedTuple, Optional, Sequence, Set, Tuple, TypeVar
+
+sys.dont_write_bytecode = True
+
+from all_faults_model import lines_of
+from disk_model import NOW, PAGE, Account, Headers, Owners, Rules, host_name
+from drawn_volume import Drawer
+from fuzz import FEWEST, LARGEST, PER_BASE, Base, Damaged, a_chain, a_name, a_parent, a_pointer, a_size, base_of, damaged, told_of
+from harness import BLOCK, Image, Ran, Report, Room, in_memory, processors, program_of
+from where import Owned, Reading, page_of, places_of, words_of
+
+T = TypeVar("T")
+FLOPPY = 1760
+TRACK = 11
+# The roles of blocks, as `Reading` calls them. Blocks of data have headers in OFS alone.
+ROLES = ["root", "directory", "file", "extension", "bitmap", "data"]
+# Longs of a block that have a meaning in one role at least.
+TELLING = [*range(0, 6), 6, 7, 30, 75, 76, 77, 78, 79, 80, 81, 82, 83, 104, 105, 106, 107, 108, 109, 124, 125, 126, 127]
+# Longs of the header of a file, of a directory and of an extension block, without which not all of it can be told: types, own number,
+# count, pointers, size, directory or file, next extension block.
+CRUCIAL = {"file": {0, 1, 2, *range(6, 78), 81, 125, 126, 127}, "directory": {0, 1, 125, 127}, "extension": {0, 1, 2, *range(6, 78), 125, 126, 127}}
+NAME = range(108, 116)
+LINE = re.compile(r"(found )?(?:(whole|doubtful|lost|broken [0-9]+) )?(.+)")
+LETTERS = {"boot": "B", "root": "R", "bitmap": "M", "directory": "D", "file": "F", "extension": "X", "data": "#", "lost": "L", "free": "."}
+LAST = re.compile(r"(unaccounted|deleted) [1-9][0-9]*")
+
+
+# ---- floppies
+
+
+class Distinct(Drawer):
+    """Draws a volume in which no two entries have one name."""
+
+    names = 0
+
+    def name(self) -> bytes:
+        self.names += 1
+        front = bytes(self.chance.choice(b"abcDEF.-0189_%\\\x9b\xe4\xd6") for _ in range(self.chance.choice([0, 1, 4, 20])))
+        return b"%bn%d" % (front, self.names)
+
+
+class Floppy(NamedTuple):
+    """An accepted floppy: its bytes, its format, and for each header the path, the data blocks in order, and all of its blocks."""
+
+    data: bytes
+    ofs: bool
+    paths: Dict[int, str]
+    parts: Dict[int, List[int]]
+    own: Dict[int, Set[int]]
+    roles: Dict[str, List[int]]
+
+    def files(self) -> List[int]:
+        return [it for it in self.paths if it in self.parts]
+
+    def content(self, image: Image, key: int) -> bytes:
+        """The bytes of a file in this image, by the blocks that it has on the floppy."""
+        first = 24 if self.ofs else 0
+        pieces = [image.data[BLOCK * it + first : BLOCK * (it + 1)] for it in self.parts[key]]
+        return b"".join(pieces)[: Image(self.data).long(key, 81)]
+
+
+def host_path(image: Reading, key: int) -> str:
+    names = []
+    while key != image.root:
+        names.append(host_name(image.text(key, 432)))
+        key = image.long(key, 125)
+    return "/".join(reversed(names))
+
+
+def floppy_of(data: bytes) -> Floppy:
+    image = Reading(data)
+    roles: Dict[str, List[int]] = {it: [] for it in ROLES}
+    for block, owned in sorted(image.owners.items()):
+        if owned.owner in roles:
+            roles[owned.owner].append(block)
+    own = {it: blocks for it, blocks in image.own.items() if it != image.root}
+    numbered = {it: sorted((image.owners[block].number or 0, block) for block in own[it] if image.owners[block].owner == "data") for it in roles["file"]}
+    return Floppy(
+        data=data,
+        ofs=data[3] == 0,
+        paths={it: host_path(image, it) for it in own},
+        parts={it: [block for _, block in pairs] for it, pairs in numbered.items()},
+        own=own,
+        roles=roles,
+    )
+
+
+def floppies(ofs: bool, count: int) -> Iterator[Floppy]:
+    """So many drawn floppies that have blocks of each role, and a bitmap that is valid."""
+    seed = 0
+    while count:
+        seed += 1
+        drawer = Distinct(random.Random(f"floppy {seed} {ofs}"), FLOPPY, ofs)
+        drawer.draw(40)
+        data = bytes(drawer.data)
+        if drawer.long(drawer.root, 78) == 0:
+            continue
+        floppy = floppy_of(data)
+        if len(floppy.roles["directory"]) >= 3 and len(floppy.roles["file"]) >= 10 and floppy.roles["extension"]:
+            assert not lines_of(data), f"floppy {seed} is not accepted"
+            count -= 1
+            yield floppy
+
+
+# ---- damages
+
+
+class Damage(NamedTuple):
+    """A damaged floppy: what was done, and the bytes of each block that was hit."""
+
+    what: str
+    hit: Mapping[int, bytes]
+    # Nothing leads to any entry.
+    is_rootless: bool = False
+
+    def of(self, floppy: Floppy) -> Image:
+        image = Image(floppy.data)
+        for block, data in self.hit.items():
+            image.data[BLOCK * block : BLOCK * (block + 1)] = data
+        return image
+
+
+class Flip(NamedTuple):
+    """A flipped bit."""
+
+    block: int
+    long: int
+    bit: int
+
+    def damage(self, floppy: Floppy) -> Damage:
+        image = Image(floppy.data)
+        image.put(self.block, self.long, image.long(self.block, self.long) ^ 1 << self.bit)
+        return Damage(f"bit {self.bit} of long {self.long} of block {self.block}", {self.block: bytes(image.data[BLOCK * self.block : BLOCK * (self.block + 1)])})
+
+
+def flips(floppy: Floppy, chance: random.Random, each: int) -> Iterator[Damage]:
+    """So many flipped bits in blocks of each role, each block as often as the others."""
+    for role in ROLES[: 6 if floppy.ofs else 5]:
+        blocks = list(floppy.roles[role])
+        chance.shuffle(blocks)
+        for number in range(each):
+            at = chance.randrange(6) if role == "data" else chance.choice(TELLING) if chance.random() < 0.7 else chance.randrange(128)
+            yield Flip(blocks[number % len(blocks)], at, chance.randrange(32)).damage(floppy)
+
+
+def tracks(floppy: Floppy) -> Iterator[Damage]:
+    """Each track in turn is noise."""
+    for first in range(0, FLOPPY, TRACK):
+        chance = random.Random(f"track {first}")
+        yield Damage(f"noise from block {first}", {it: chance.randbytes(BLOCK) for it in range(first, first + TRACK)})
+
+
+def zeros(floppy: Floppy) -> Iterator[Damage]:
+    """Each block in turn is zeros, if it is not yet."""
+    for block in (it for it in range(FLOPPY) if any(floppy.data[BLOCK * it : BLOCK * (it + 1)])):
+        yield Damage(f"zeros in block {block}", {block: bytes(BLOCK)})
+
+
+def rootless(floppy: Floppy) -> Iterator[Damage]:
+    """The root is gone, alone, with the boot blocks, or with the bitmap."""
+    root, page, chance = floppy.roles["root"][0], floppy.roles["bitmap"][0], random.Random("root")
+    yield Damage("no root", {root: bytes(BLOCK)}, True)
+    yield Damage("noise for the root", {root: chance.randbytes(BLOCK)}, True)
+    yield Damage("no root and no boot blocks", {it: bytes(BLOCK) for it in (0, 1, root)}, True)
+    yield Damage("no root and no bitmap", {it: bytes(BLOCK) for it in (root, page)}, True)
+    yield Damage("a bitmap block for the root", {root: floppy.data[BLOCK * page : BLOCK * (page + 1)]}, True)
+
+
+# ---- the account
+
+
+class Line(NamedTuple):
+    """A line of the account. A directory has no state, or is doubtful or lost."""
+
+    found: bool
+    state: str
+    path: str
+
+    def names(self) -> Set[str]:
+        """The last part of the path, with and without the ending of a name that was taken."""
+        last = self.path.rstrip("/").rsplit("/", 1)[-1]
+        return {last, re.sub(r"~[0-9]+$", "", last)}
+
+
+def parsed(output: bytes) -> List[Line]:
+    """The lines of an account but for the last ones, which tell of no entry."""
+    lines = output.decode().splitlines()
+    while lines and LAST.fullmatch(lines[-1]):
+        lines.pop()
+    found = [LINE.fullmatch(it) for it in lines]
+    bad = [line for line, match in zip(lines, found) if match is None]
+    assert not bad, f"no line of an account: {bad[0]!r}"
+    return [Line(bool(it[1]), it[2] or "", it[3]) for it in found if it]
+
+
+class Told:
+    """What the program tells of a damaged floppy, and what it wrote. A broken rule raises AssertionError."""
+
+    def __init__(self, room: Room, floppy: Floppy, damage: Damage) -> None:
+        self.room, self.floppy, self.damage, self.image = room, floppy, damage, damage.of(floppy)
+        # (a test that goes on after a fault may not find files of the one before)
+        shutil.rmtree("out", ignore_errors=True)
+        room.write("image.adf", bytes(self.image.data))
+        checked = room.run("check", "image.adf")
+        ran = room.run("extract", "--damaged", "--to", "out", "image.adf")
+        wanted = 0 if checked.output.startswith(b"ok") else 3
+        assert (checked.status, ran.status) == (wanted, wanted), f"status {ran.status} where check has {checked}"
+        self.is_accepted = wanted == 0
+        self.lines = parsed(ran.output)
+        self.by_name: Dict[str, List[Line]] = {}
+        for it in self.lines:
+            for name in it.names():
+                self.by_name.setdefault(name, []).append(it)
+
+    def all(self) -> None:
+        for key in self.floppy.files():
+            self.file(key)
+        for key in self.floppy.roles["directory"]:
+            self.directory(key)
+        self.nothing_else()
+        self.written()
+
+    def names(self, key: int) -> Set[str]:
+        """The names that an entry may have in the account: its own, and if its header was hit that of the block."""
+        names = {host_name(Image(self.floppy.data).text(key, 432))}
+        if key in self.damage.hit:
+            names |= {host_name(self.image.text(key, 432)), f"block-{key}"}
+        return names
+
+    def lines_for(self, key: int) -> List[Line]:
+        return list(dict.fromkeys(line for name in self.names(key) for line in self.by_name.get(name, [])))
+
+    def file(self, key: int) -> None:
+        """A file has one line, with the state that its blocks leave it. What is whole or doubtful has the bytes of its blocks."""
+        path, lines = self.floppy.paths[key], self.lines_for(key)
+        assert len(lines) == 1, f"{path} has {len(lines)} lines: {lines[:3]}"
+        line, wanted = lines[0], self.state(key)
+        assert line.state == wanted if wanted else line.state not in ("", "whole"), f"{path}: {line} where {wanted} is expected"
+        if wanted in ("whole", "doubtful"):
+            assert self.content(line) == self.floppy.content(self.image, key), f"{path} has other bytes"
+        if wanted and self.damage.hit.keys() <= self.floppy.own[key]:
+            assert not line.found, f"its directory leads to {path}: {line}"
+
+    def state(self, key: int) -> str:
+        """The state of a file after this damage; nothing where it may be any but whole."""
+        hit = self.floppy.own[key] & self.damage.hit.keys()
+        headers = hit - set(self.floppy.parts[key])
+        if any(self.is_crucial(it, "file" if it == key else "extension") for it in headers):
+            return ""
+        if not hit or not self.floppy.ofs and not headers:
+            # (no checksum covers a data block of FFS)
+            return "whole"
+        missing = sum(1 for it in hit - headers if self.floppy.ofs and self.changed(it) & {0, 1, 2})
+        return f"broken {missing}" if missing else "doubtful"
+
+    def changed(self, block: int) -> Set[int]:
+        """The longs that are other ones than before."""
+        sound = Image(self.floppy.data)
+        return {at for at in range(128) if sound.long(block, at) != self.image.long(block, at)}
+
+    def is_crucial(self, block: int, role: str) -> bool:
+        """Whether something differs in a header without which not all of it can be told."""
+        changed = self.changed(block)
+        is_named = role == "extension" or not changed & set(NAME) or Headers(self.image.data).has_name(block)
+        return bool(changed & CRUCIAL[role]) or not is_named
+
+    def content(self, line: Line) -> bytes:
+        return Path("out", line.path).read_bytes()
+
+    def directory(self, key: int) -> None:
+        """A directory that was hit has a line. Another one has one where no directory leads to it."""
+        path, lines = self.floppy.paths[key], self.lines_for(key)
+        if key in self.damage.hit:
+            is_doubtful = len(lines) == 1 and lines[0].state == "doubtful" and lines[0].path.endswith("/")
+            is_lost = self.is_crucial(key, "directory") and len(lines) == 1 and lines[0].state == "lost"
+            assert is_doubtful or is_lost, f"{path}/ was hit: {lines}"
+        else:
+            is_told = len(lines) == 1 and lines[0].found and lines[0].state == ""
+            assert is_told or not lines and not self.damage.is_rootless, f"{path}/ was not hit: {lines}"
+
+    def nothing_else(self) -> None:
+        """The other lines are of blocks that a damaged place names."""
+        known = {name for key in self.floppy.paths for name in self.names(key)}
+        for it in self.lines:
+            assert it.names() & known or it.state == "lost", f"a line for nothing: {it}"
+        paths = [it.path for it in self.lines]
+        assert len(set(paths)) == len(paths), "two lines have one path"
+
+    def written(self) -> None:
+        """Exactly the files that are told are written, but for the lost ones."""
+        told = {it.path for it in self.lines if it.state not in ("", "lost") and not it.path.endswith("/")}
+        written = {os.path.relpath(os.path.join(top, name), "out") for top, _, names in os.walk("out") for name in names}
+        assert told == written, f"told or written alone: {sorted(told ^ written)[:4]}"
+
+
+# ---- the floppies
+
+
+class Job(NamedTuple):
+    """A damage of the floppy with a number."""
+
+    title: str
+    floppy: int
+    damage: Damage
+
+
+def fault_of(bases: Sequence[Floppy], program: Path, kept: Optional[Path], job: Job) -> Optional[str]:
+    """What is wrong with the account of a damaged floppy, which is kept then."""
+    with Room(program, inside=in_memory()) as room:
+        floppy = bases[job.floppy]
+        try:
+            Told(room, floppy, job.damage).all()
+        except Exception as fault:
+            said = f"{job.damage.what} of {'OFS' if floppy.ofs else 'FFS'} floppy {job.floppy}: {str(fault)[:400] or repr(fault)}"
+            keep(kept, f"sweep-{job.floppy}-{job.damage.what.replace(' ', '-')}", bytes(job.damage.of(floppy).data), said)
+            return said
+    return None
+
+
+def keep(kept: Optional[Path], name: str, data: bytes, said: str) -> None:
+    if kept:
+        kept.mkdir(parents=True, exist_ok=True)
+        kept.joinpath(f"{name}.adf").write_bytes(data)
+        kept.joinpath(f"{name}.txt").write_text(f"{said}\n")
+
+
+def some(damages: Iterator[Damage], count: Optional[int], chance: random.Random) -> List[Damage]:
+    every = list(damages)
+    return every if count is None else chance.sample(every, min(count, len(every)))
+
+
+def jobs_of(bases: Sequence[Floppy], is_all: bool) -> List[Job]:
+    """The damages of each floppy: all of them, or some."""
+    jobs: List[Job] = []
+    kinds: List[Tuple[str, Callable[[Floppy], Iterator[Damage]], int]] = [("a track of noise", tracks, 12), ("a block of zeros", zeros, 25), ("no root", rootless, 5)]
+    for number, floppy in enumerate(bases):
+        chance = random.Random(f"damages {number}")
+        jobs += [Job("a flipped bit", number, it) for it in flips(floppy, chance, 61 if is_all else 10)]
+        for title, damages, count in kinds:
+            # (zeros in each block of one floppy of each format are enough)
+            if not is_all or title != "a block of zeros" or number in (0, len(bases) // 2):
+                jobs += [Job(title, number, it) for it in some(damages(floppy), None if is_all else count, chance)]
+    return jobs
+
+
+def swept(report: Report, program: Path, is_all: bool, most: int, kept: Optional[Path]) -> None:
+    """Each title is one check, with the number of its floppies."""
+    count = 3 if is_all else 1
+    bases = [*floppies(True, count), *floppies(False, count)]
+    jobs = jobs_of(bases, is_all)
+    with Pool(most) as pool:
+        faults = pool.map(partial(fault_of, bases, program, kept), jobs, 8)
+    for title in dict.fromkeys(it.title for it in jobs):
+        mine = [fault for job, fault in zip(jobs, faults) if job.title == title]
+        wrong = [it for it in mine if it]
+        report.hold(f"{title}: {len(mine)} floppies", f"{len(wrong)}, as {'; '.join(wrong[:3])}" if wrong else None)
+
+
+# ---- images damaged at random, and the model
+
+
+def differing(found: Sequence[object], wanted: Sequence[object]) -> str:
+    """The first elements that are in one list only, or in other places."""
+    alone = [it for it in found if it not in wanted], [it for it in wanted if it not in found]
+    if any(alone):
+        return f"{alone[0][:4]} where {alone[1][:4]} is expected"
+    first = next(at for at, (one, other) in enumerate(zip(found, wanted)) if one != other)
+    return f"in another order from {found[first]} on, where {wanted[first]} is expected"
+
+
+class Compared:
+    """An image, what the model says of it, and what the program does. A difference raises AssertionError."""
+
+    def __init__(self, room: Room, data: bytes, rules: Rules) -> None:
+        shutil.rmtree("out", ignore_errors=True)
+        room.write("image.adf", data)
+        self.room, self.data, self.rules = room, data, rules
+
+    def all(self) -> None:
+        faults = told_of(self.data)
+        # (another file is no image, and nothing is told of it)
+        if len(self.data) % BLOCK == 0 and FEWEST <= len(self.data) // BLOCK <= LARGEST:
+            self.account(Account(self.data, self.rules))
+        if faults.accepted is not None:
+            self.owners()
+
+    def account(self, account: Account) -> None:
+        wanted = account.lines()
+        ran = self.room.run("extract", "--damaged", "--to", "out", "image.adf")
+        lines = ran.output.decode().splitlines()
+        doubts = sum(it.state == "doubtful" for it in account.told_entries)
+        assert ran.status == (0 if account.is_accepted else 3), f"status {ran.status}"
+        assert ran.texts.count(b"' is doubtful: ") == doubts, f"standard error: {ran.texts[:300]!r}"
+        assert lines == wanted, differing(lines, wanted)
+        written = {os.path.relpath(os.path.join(top, name), "out"): Path(top, name).read_bytes() for top, _, names in os.walk("out") for name in names}
+        told = {it.path: account.bytes[it.header] for it in account.told_entries if it.header in account.bytes}
+        assert written.keys() == told.keys(), differing(sorted(written), sorted(told))
+        other = sorted(it for it in told if told[it] != written[it])
+        assert not other, f"other bytes in {other[:4]}: {[(len(written[it]), len(told[it])) for it in other[:4]]}"
+
+    def owners(self) -> None:
+        """`map` and `where` of an accepted image."""
+        model = Owners(self.data)
+        owned = [self.owned(model, it) for it in range(model.blocks)]
+        letters = "".join(LETTERS[it.owner] for it in owned)
+        self.same(self.room.run("map", "image.adf"), page_of(letters))
+        lines = [f"{it}  cyl {place[0]} head {place[1]} sector {place[2]}  {words_of(owned[it])}\n" for it, place in enumerate(places_of(model.blocks))]
+        self.same(self.room.run("where", "image.adf", *map(str, range(model.blocks))), "".join(lines).encode())
+
+    def same(self, ran: Ran, wanted: bytes) -> None:
+        assert ran.status == 0, ran
+        assert ran.output == wanted, differing(ran.output.splitlines(), wanted.splitlines())
+
+    def owned(self, model: Owners, block: int) -> Owned:
+        """The one owner of a block of an accepted image."""
+        owners = model.owners.get(block)
+        if owners is None:
+            return Owned(model.unowned(block))
+        assert len(owners) == 1, f"block {block} has {len(owners)} owners"
+        owner = next(iter(owners))
+        path = self.path(model, owner.header) if owner.header not in (None, model.root) else None
+        if owner.what != "data":
+            return Owned(owner.what, path, owner.number)
+        assert owner.header is not None and owner.number is not None
+        room = 488 if model.ofs else BLOCK
+        return Owned("data", path, owner.number, room * owner.number, min(room * owner.number + room, model.long(owner.header, 81)) - 1)
+
+    def path(self, model: Owners, header: Optional[int]) -> str:
+        names = []
+        while header is not None and header != model.root:
+            names.append(model.text(header, 432).decode("latin-1"))
+            header = model.long(header, 125)
+        return "/".join(reversed(names))
+
+
+def scattered(base: Base, seed: str, number: int) -> bytes:
+    """An image with many damages of names, parents and pointers, in most cases without a root: most entries are found, many in
+    directories that lead to each other, or under a name that is taken."""
+    chance = random.Random(f"{seed} scattered {number}")
+    image = Damaged(base, chance)
+    for _ in range(chance.choice([1, 4, 12, 30])):
+        chance.choice([a_parent, a_parent, a_name, a_chain, a_pointer, a_size])(image)
+    image.mend()
+    if chance.random() < 0.7:
+        first = chance.choice([0, 24])
+        image.data[BLOCK * image.root + first : BLOCK * (image.root + 1)] = bytes(BLOCK - first)
+    return bytes(image.data)
+
+
+def rules_of(report: Report, program: Path) -> Rules:
+    """What the program does, by an OFS floppy with a lost block, and a file without a header."""
+    floppy = next(floppies(True, 1))
+    image, reader = Image(floppy.data), Reading(floppy.data)
+    lost = next(it for it in range(2, FLOPPY) if reader.owned(it).owner == "free" and not any(floppy.data[BLOCK * it : BLOCK * (it + 1)]))
+    headless = next(it for it in floppy.files() if floppy.parts[it])
+    image.data[BLOCK * headless : BLOCK * (headless + 1)] = bytes(BLOCK)
+    image.put(lost, 9, 1)
+    page, at = floppy.roles["bitmap"][0], 1 + (lost - 2) // 32
+    image.put(page, at, image.long(page, at) & ~(1 << (lost - 2) % 32))
+    image.settle(page, 0)
+    with Room(program, inside=in_memory()) as room:
+        room.write("image.adf", bytes(image.data))
+        lines = room.run("extract", "--damaged", "--to", "out", "image.adf").output.decode().splitlines()
+    does = {
+        "unaccounted": any(it.startswith("unaccounted ") for it in lines),
+        "headless": not any(re.fullmatch(rf"lost (.*/)?block-{headless}", it) for it in lines),
+    }
+    for rule, what in (("unaccounted", "a line for unaccounted blocks"), ("headless", "files from OFS data blocks without a header")):
+        if not does[rule]:
+            report.skip(what, "the program does not tell them yet")
+    return NOW._replace(**does)
+
+
+def fault_of_base(program: Path, seed: str, rules: Rules, kept: Optional[Path], number: int) -> List[str]:
+    """What is wrong with the images of a base."""
+    faults = []
+    with Room(program, inside=in_memory()) as room:
+        base = base_of(room, seed, number)
+        for at in range(number * PER_BASE, (number + 1) * PER_BASE):
+            data = (scattered if at % 5 == 4 else damaged)(base, seed, at)
+            try:
+                Compared(room, data, rules).all()
+            except Exception as fault:
+                faults.append(f"image {at} of seed {seed}: {str(fault)[:600] or repr(fault)}")
+                keep(kept, f"random-{seed}-{at}", data, faults[-1])
+    return faults
+
+
+def compared(report: Report, program: Path, images: int, seed: str, rules: Rules, most: int, kept: Optional[Path]) -> None:
+    with Pool(most) as pool:
+        bases = range(-(-images // PER_BASE))
+        faults = [fault for it in pool.imap(partial(fault_of_base, program, seed, rules, kept), bases) for fault in it]
+    title = f"{len(bases) * PER_BASE} images damaged at random are told as by the model"
+    report.hold(title, f"{len(faults)} are not, as {'; '.join(faults[:3])}" if faults else None)
+
+
+def main(words: List[str]) -> int:
+    parser = argparse.ArgumentParser(description="Tests the account of damaged floppies.")
+    parser.add_argument("program", nargs="*", help="the program to test")
+    parser.add_argument("--all", action="store_true", help="all damages, not some of them")
+    parser.add_argument("--images", type=int, default=100, help="how many images damaged at random (default: 100)")
+    parser.add_argument("--seed", default="sweep", help="selects these images")
+    parser.add_argument("--page", action="store_true", help="compares with the pages alone")
+    parser.add_argument("--jobs", type=int, default=processors(), help="how many floppies at a time (default: one for each processor)")
+    parser.add_argument("--keep", type=Path, help="a directory for images that show a fault")
+    given = parser.parse_args(words)
+    program, report = program_of(given.program), Report()
+    kept = given.keep and given.keep.absolute()
+    swept(report, program, given.all, given.jobs, kept)
+    compared(report, program, given.images, given.seed, PAGE if given.page else rules_of(report, program), given.jobs, kept)
+    return report.end()
+
+
+if __name__ == "__main__":
+    sys.exit(main(sys.argv[1:]))
