@@ -27,6 +27,7 @@ sys.dont_write_bytecode = True
 
 from account_model import account_of
 from all_faults_model import lines_of
+from disk_model import rest_of, rest_text, rest_told
 from drawn_volume import DIRECTORY, FILE, HEADER, Drawer, drawn, read, slot
 from harness import BLOCK, Image, Ran, Room, try_all
 
@@ -890,13 +891,25 @@ class Taken(NamedTuple):
     written: Files
 
 
+LAST = re.compile(rb"(deleted|unaccounted) [1-9][0-9]*")
+
+
+def account_lines(output: bytes) -> Tuple[List[bytes], List[bytes]]:
+    """The lines of a report that tell of entries, and the last ones."""
+    lines = output.splitlines()
+    last = len(lines)
+    while last and LAST.fullmatch(lines[last - 1]):
+        last -= 1
+    return lines[:last], lines[last:]
+
+
 def taken(room: Room, image: Image, *words: str) -> Taken:
     shutil.rmtree("out", ignore_errors=True)
     room.write("damaged.adf", bytes(image.data))
     ran = room.run("extract", "--damaged", "--to", "out", *words, "damaged.adf")
     lines = {}
-    for line in ran.output.decode().splitlines():
-        state, path = line.rsplit(" ", 1)
+    for line in account_lines(ran.output)[0]:
+        state, path = line.decode().rsplit(" ", 1)
         lines[path] = state
     paths = [os.path.join(top, name) for top, _, names in os.walk("out") for name in names]
     return Taken(ran.status, lines, {os.path.relpath(it, "out"): room.content(it) for it in paths})
@@ -1102,7 +1115,7 @@ def untrue(room: Room, job: Struck) -> Optional[str]:
     shutil.rmtree(at, ignore_errors=True)
     room.write(f"{at}.adf", job.data)
     ran = room.run("extract", "--damaged", "--to", at, f"{at}.adf")
-    if ran.status not in (0, 3) or any(b"' is doubtful: " not in it for it in ran.texts.splitlines()):
+    if ran.status not in (0, 3) or any(b"' is doubtful: " not in it for it in ran.texts.removesuffix(rest_told(ran.texts)).splitlines()):
         return f"image {job.number}: status {ran.status}, {ran.texts[:200]!r}"
     for line in ran.output.split(b"\n"):
         if line.startswith((b"whole ", b"found whole ")):
@@ -1154,19 +1167,21 @@ def last_name(line: bytes) -> str:
 
 def silent(room: Room, job: Flawed) -> Optional[str]:
     """What is wrong with the account of an image with a single damage: it is not that of the model, a file has no line, a file that was
-    not hit has other bytes, or standard error does not name just what is doubtful."""
+    not hit has other bytes, or standard error does not name just what is doubtful, and the blocks that belong to nothing."""
     at = f"flawed{os.getpid()}"
     shutil.rmtree(at, ignore_errors=True)
     room.write(f"{at}.adf", job.data)
     ran = room.run("extract", "--damaged", "--to", at, f"{at}.adf")
     lines = sorted(map(last_name, ran.output.splitlines()))
-    status, wanted = account_of(job.data)
+    rest, (status, wanted) = rest_of(job.data), account_of(job.data)
+    wanted = sorted([*wanted, *[f"unaccounted {len(rest)}"] * bool(rest)])
     if (ran.status, lines) != (status, wanted):
         return f"image {job.number}: {ran.status} {lines} where {status} {wanted} is expected"
+    doubtful = ran.texts.removesuffix(rest_text(rest))
     told = {line.rsplit(" ", 1)[-1] for line in lines}
     silent = [it for it in job.names if it.rsplit("/", 1)[-1] not in told]
     doubts = sum("doubtful " in it for it in lines)
-    if silent or ran.texts.count(b"' is doubtful: ") != doubts or len(ran.texts.splitlines()) != doubts:
+    if silent or doubtful.count(b"' is doubtful: ") != doubts or len(doubtful.splitlines()) != doubts or rest_told(ran.texts) != rest_text(rest):
         return f"image {job.number}: no line for {silent}, {ran}"
     written = [room.content(os.path.join(top, name)) for top, _, names in os.walk(at) for name in names]
     other = [path for path, data in job.files.items() if data not in written]
@@ -1337,14 +1352,15 @@ class Deleting(Filling):
 
 
 class Left(NamedTuple):
-    """How deleted entries are told: the status, how many lines start with each word, the last line if it tells of them, and the bytes of
-    the files in order."""
+    """How deleted entries are told: the status, how many lines start with each word, the last lines, which tell of no entry, the blocks that
+    standard error names, and the bytes of the files in order."""
 
     status: int
     whole: int
     found: int
     others: int
-    last: bytes
+    last: List[bytes]
+    rest: bytes
     written: List[bytes]
 
 
@@ -1352,12 +1368,16 @@ def left_in(room: Room, data: bytes) -> Left:
     shutil.rmtree("left", ignore_errors=True)
     room.write("left.adf", data)
     ran = room.run("extract", "--damaged", "--to", "left", "left.adf")
-    lines = ran.output.splitlines()
-    last = lines.pop() if lines and lines[-1].startswith(b"deleted ") else b""
+    lines, last = account_lines(ran.output)
     whole = sum(it.startswith(b"whole ") for it in lines)
     found = sum(it.startswith(b"found ") and not it.startswith(b"found lost ") for it in lines)
     written = [room.content(os.path.join(top, name)) for top, _, names in os.walk("left") for name in names]
-    return Left(ran.status, whole, found, len(lines) - whole - found, last, sorted(written))
+    return Left(ran.status, whole, found, len(lines) - whole - found, last, rest_told(ran.texts), sorted(written))
+
+
+def last_lines(deleted: int, rest: List[int]) -> List[bytes]:
+    """The last lines of a report: so many entries are deleted, and these blocks belong to nothing."""
+    return [*[b"deleted %d" % deleted] * bool(deleted), *[b"unaccounted %d" % len(rest)] * bool(rest)]
 
 
 def deleted_entries(room: Room) -> None:
@@ -1369,18 +1389,20 @@ def deleted_entries(room: Room) -> None:
         left = volume.leave(volume.chance.choice([1, 5, 200]))
         if volume.long(volume.root, 78) != ALL_ONES or not left:
             continue
-        last = b"deleted %d" % left
         files = sorted(it.data for it in read(bytes(volume.data)).entries if it.data is not None)
-        wanted = Left(0, len(files), 0, 0, last, files)
+        # (no entry but the deleted ones is lost, so what belongs to nothing is the same if the image is refused)
+        rest = rest_of(bytes(volume.data))
+        wanted = Left(0, len(files), 0, 0, last_lines(left, rest), rest_text(rest), files)
         accepted = left_in(room, bytes(volume.data))
         if not volume.misplace():
             continue
         refused = left_in(room, bytes(volume.data))
         volume.put(volume.root, 78, 0)
         volume.settle(volume.root)
-        untrusted = left_in(room, bytes(volume.data))
-        if accepted != wanted or refused != wanted._replace(status=3) or (untrusted.found, untrusted.last) != (left, b""):
-            faults.append((seed, wanted[:5], accepted[:5], refused[:5], untrusted[:5]))
+        untrusted, rest = left_in(room, bytes(volume.data)), rest_of(bytes(volume.data))
+        told = (untrusted.found, untrusted.last, untrusted.rest)
+        if accepted != wanted or refused != wanted._replace(status=3) or told != (left, last_lines(0, rest), rest_text(rest)):
+            faults.append((seed, wanted[:6], accepted[:6], refused[:6], untrusted[:6]))
         count += 1
     room.report.expect(f"{count} drawn volumes with deleted entries, whose blocks live files have", count > FILLED // 3 and not faults, faults[:1])
 

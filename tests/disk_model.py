@@ -3,10 +3,11 @@
 
     tests/disk_model.py IMAGE [--page | --owners]
 
-It prints the exit status and the lines of `extract --damaged`; with `--owners`, for each block its faults and what the places that name
-it make of it, also where the image is refused. It works from the definitions and in an order of its own: all places
-that name a block come first, then the headers that can be told, then each file by itself. What the pages say of damaged images and
-the program does not do yet, or does otherwise, is in `Rules`, each with its reason. `--page` follows the pages alone.
+It prints the lines of `extract --damaged`, the exit status, and what standard error says of blocks that are used and belong to
+nothing; with `--owners`, for each block its faults and what the places that name it make of it, also where the image is refused.
+It works from the definitions and in an order of its own: all places that name a block come first, then the headers that can be
+told, then each file by itself. What the pages say of damaged images and the program does not do yet, or does otherwise, is in
+`Rules`, each with its reason. `--page` follows the pages alone.
 """
 from __future__ import annotations
 
@@ -19,6 +20,7 @@ sys.dont_write_bytecode = True
 
 from all_faults_model import DATA, DIRECTORY, FILE, HEADER, KINDS, LIST, ROOT, Model, Role
 from harness import BLOCK, LONGS, Image
+from where import ranges_of
 
 ALL_ONES = 2**32 - 1
 SLOTS = range(6, 78)
@@ -41,13 +43,19 @@ class Rules(NamedTuple):
     deleted: bool = True
     # Blocks that are used and belong to nothing are counted in the last line.
     unaccounted: bool = True
+    # Without a trusted bitmap a reached block of zeros does not count as used.
+    zeros: bool = False
+    # An accepted image without a valid bitmap has the one that a handler writes, which marks the reached blocks alone as used.
+    anew: bool = False
     # In OFS, data blocks whose header is gone become a file.
     headless: bool = True
 
 
 PAGE = Rules()
-# What the program does with files, and without the lines that it may not print yet.
-NOW = Rules(links=True, typed=True, capped=True, again=True, stale=True, unaccounted=False, headless=False)
+# What the program does with files and used blocks, and without the files that it may not tell yet.
+NOW = Rules(links=True, typed=True, capped=True, again=True, stale=True, zeros=True, anew=True, headless=False)
+# What stands on standard error before the numbers of the blocks that are used and belong to nothing.
+HEADING = b"adf_serve: blocks that are used, but belong to nothing that is told:\n"
 
 
 class Place(NamedTuple):
@@ -425,31 +433,36 @@ class Account(Disk):
         return "/" if self.is_told_directory(block) and block not in self.sound else ""
 
     def lines(self) -> List[str]:
-        """The lines; the entries stay, and the bytes of each file that is written."""
+        """The lines; the entries stay, the bytes of each file that is written, and the blocks that are used and belong to nothing."""
         entries = self.told_entries = self.entries()
+        self.rest = self.unaccounted(entries) if self.rules.unaccounted else []
         shown = [it for it in entries if it.found or it.state]
         last = []
         if self.deleted:
             last.append(f"deleted {len(self.deleted)}")
-        if self.rules.unaccounted and (rest := self.unaccounted(entries)):
-            last.append(f"unaccounted {len(rest)}")
+        if self.rest:
+            last.append(f"unaccounted {len(self.rest)}")
         return [it.line() for it in shown] + last
 
     def unaccounted(self, entries: List[Entry]) -> List[int]:
-        """The blocks that are used and belong to nothing. A file has the blocks that are written, and the extension blocks
-        that full lists of these lead to."""
+        """The blocks that are used and belong to nothing. A whole file has all its blocks; another one those that are written, and the
+        extension blocks that its header leads to, or if these may be any blocks, those that full lists lead to."""
         known = {self.root, *self.bitmap.pages, *(it.header for it in entries), *self.given}
         for it in entries:
             known |= {block for part in self.intact[it.header] for block in part} if it.state == "whole" else set()
-            if it.header in self.told and not self.is_directory(it.header):
+            if it.state != "whole" and it.header in self.told and not self.is_directory(it.header):
                 needed = min(-(-self.long(it.header, 81) // self.room), self.blocks)
-                known |= set(self.pointer_blocks(it.header)[: 1 + needed // 72])
+                heads = self.pointer_blocks(it.header)
+                known |= set(heads if self.rules.typed else heads[: 1 + needed // 72])
         return [it for it in self.inside if it not in known and self.is_used(it)]
 
     def is_used(self, block: int) -> bool:
         if self.bitmap.is_trusted:
             return not self.bitmap.is_free(block)
-        return block in self.reached_blocks or any(self.data[BLOCK * block : BLOCK * (block + 1)])
+        if self.is_accepted and self.rules.anew:
+            return block in self.reached_blocks
+        is_reached = block in self.reached_blocks and not self.rules.zeros
+        return is_reached or any(self.data[BLOCK * block : BLOCK * (block + 1)])
 
 
 class Walk:
@@ -529,10 +542,21 @@ class Walk:
                 self.found.add(block)
 
 
-def account_of(data: bytes, rules: Rules = NOW) -> Tuple[int, List[str]]:
-    """The exit status of `extract --damaged`, and its lines."""
-    account = Account(data, rules)
-    return 0 if account.is_accepted else 3, account.lines()
+def rest_of(data: bytes) -> List[int]:
+    """The blocks of an image that are used and belong to nothing that `extract --damaged` tells."""
+    account = Account(data, NOW)
+    account.lines()
+    return account.rest
+
+
+def rest_text(blocks: List[int]) -> bytes:
+    """How standard error ends after `extract --damaged` of an image with these blocks: their numbers, as ranges."""
+    return HEADING + ranges_of(set(blocks)) if blocks else b""
+
+
+def rest_told(texts: bytes) -> bytes:
+    """The end of standard error after `extract --damaged`, from its blocks that belong to nothing on."""
+    return b"".join(texts.partition(HEADING)[1:])
 
 
 def main(words: List[str]) -> int:
@@ -540,8 +564,10 @@ def main(words: List[str]) -> int:
     if "--owners" in words:
         print("\n".join(Owners(data).lines()))
         return 0
-    status, lines = account_of(data, PAGE if "--page" in words else NOW)
-    print("\n".join([*lines, f"status {status}"]))
+    account = Account(data, PAGE if "--page" in words else NOW)
+    lines = account.lines()
+    print("\n".join([*lines, f"status {0 if account.is_accepted else 3}"]))
+    print(rest_text(account.rest).decode(), end="")
     return 0
 
 

@@ -913,8 +913,8 @@ SECONDS = [(3_520, 10), (101_602, 60)]
 
 
 class Rescued(NamedTuple):
-    """How a rescue ended: its status or None if it took too long, its lines, its messages, and the sizes of the files that it
-    wrote, or None if it made no directory."""
+    """How a rescue ended: its status or None if it took too long, its lines but that of blocks that belong to nothing, its messages, and
+    the sizes of the files that it wrote, or None if it made no directory."""
 
     status: Optional[int]
     lines: List[bytes]
@@ -944,7 +944,8 @@ def rescued(room: Room, image: bytes) -> Rescued:
         sizes = [int(it) for it in found.split()]
     # (deeper than Python's own removal can go)
     subprocess.run(["rm", "-rf", "bomb"])
-    return Rescued(status, room.content("lines").splitlines(), room.content("texts"), sizes)
+    told = [it for it in room.content("lines").splitlines() if not it.startswith(b"unaccounted ")]
+    return Rescued(status, told, room.content("texts"), sizes)
 
 
 def deep(room: Room, title: str, words: List[str], depths: Sequence[int], drawn_by: Callable[[Image, Places, int], None]) -> None:

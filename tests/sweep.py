@@ -28,7 +28,7 @@ from typing import Callable, Dict, Iterator, List, Mapping, NamedTuple, Optional
 sys.dont_write_bytecode = True
 
 from all_faults_model import lines_of
-from disk_model import NOW, PAGE, Account, Headers, Owners, Rules, host_name
+from disk_model import NOW, PAGE, Account, Headers, Owners, Rules, host_name, rest_of, rest_text, rest_told
 from drawn_volume import Drawer
 from fuzz import FEWEST, LARGEST, PER_BASE, Base, Damaged, a_chain, a_name, a_parent, a_pointer, a_size, base_of, damaged, told_of
 from harness import BLOCK, Image, Ran, Report, Room, in_memory, processors, program_of
@@ -231,6 +231,7 @@ class Told:
         wanted = 0 if checked.output.startswith(b"ok") else 3
         assert (checked.status, ran.status) == (wanted, wanted), f"status {ran.status} where check has {checked}"
         self.is_accepted = wanted == 0
+        self.ran = ran
         self.lines = parsed(ran.output)
         self.by_name: Dict[str, List[Line]] = {}
         for it in self.lines:
@@ -243,6 +244,7 @@ class Told:
         for key in self.floppy.roles["directory"]:
             self.directory(key)
         self.nothing_else()
+        self.rest()
         self.written()
 
     def names(self, key: int) -> Set[str]:
@@ -310,6 +312,16 @@ class Told:
             assert it.names() & known or it.state == "lost", f"a line for nothing: {it}"
         paths = [it.path for it in self.lines]
         assert len(set(paths)) == len(paths), "two lines have one path"
+
+    def rest(self) -> None:
+        """The blocks that are used and belong to nothing are those of the model: their line is the last, and standard error has their
+        numbers."""
+        rest = rest_of(bytes(self.image.data))
+        last = self.ran.output.splitlines()[-1:]
+        wanted = [b"unaccounted %d" % len(rest)] if rest else []
+        told = last if last and last[0].startswith(b"unaccounted ") else []
+        assert told == wanted, f"{told} where {wanted} is expected"
+        assert rest_told(self.ran.texts) == rest_text(rest), f"standard error: {rest_told(self.ran.texts)!r} where {rest_text(rest)!r} is expected"
 
     def written(self) -> None:
         """Exactly the files that are told are written, but for the lost ones."""
@@ -417,6 +429,8 @@ class Compared:
         assert ran.status == (0 if account.is_accepted else 3), f"status {ran.status}"
         assert ran.texts.count(b"' is doubtful: ") == doubts, f"standard error: {ran.texts[:300]!r}"
         assert lines == wanted, differing(lines, wanted)
+        rest, wanted_rest = rest_told(ran.texts).splitlines(), rest_text(account.rest).splitlines()
+        assert rest == wanted_rest, differing(rest, wanted_rest)
         written = {os.path.relpath(os.path.join(top, name), "out"): Path(top, name).read_bytes() for top, _, names in os.walk("out") for name in names}
         told = {it.path: account.bytes[it.header] for it in account.told_entries if it.header in account.bytes}
         assert written.keys() == told.keys(), differing(sorted(written), sorted(told))
@@ -473,27 +487,18 @@ def scattered(base: Base, seed: str, number: int) -> bytes:
 
 
 def rules_of(report: Report, program: Path) -> Rules:
-    """What the program does, by an OFS floppy with a lost block, and a file without a header."""
+    """What the program does, by an OFS floppy with a file without a header."""
     floppy = next(floppies(True, 1))
-    image, reader = Image(floppy.data), Reading(floppy.data)
-    lost = next(it for it in range(2, FLOPPY) if reader.owned(it).owner == "free" and not any(floppy.data[BLOCK * it : BLOCK * (it + 1)]))
+    image = Image(floppy.data)
     headless = next(it for it in floppy.files() if floppy.parts[it])
     image.data[BLOCK * headless : BLOCK * (headless + 1)] = bytes(BLOCK)
-    image.put(lost, 9, 1)
-    page, at = floppy.roles["bitmap"][0], 1 + (lost - 2) // 32
-    image.put(page, at, image.long(page, at) & ~(1 << (lost - 2) % 32))
-    image.settle(page, 0)
     with Room(program, inside=in_memory()) as room:
         room.write("image.adf", bytes(image.data))
         lines = room.run("extract", "--damaged", "--to", "out", "image.adf").output.decode().splitlines()
-    does = {
-        "unaccounted": any(it.startswith("unaccounted ") for it in lines),
-        "headless": not any(re.fullmatch(rf"lost (.*/)?block-{headless}", it) for it in lines),
-    }
-    for rule, what in (("unaccounted", "a line for unaccounted blocks"), ("headless", "files from OFS data blocks without a header")):
-        if not does[rule]:
-            report.skip(what, "the program does not tell them yet")
-    return NOW._replace(**does)
+    is_told = not any(re.fullmatch(rf"lost (.*/)?block-{headless}", it) for it in lines)
+    if not is_told:
+        report.skip("files from OFS data blocks without a header", "the program does not tell them yet")
+    return NOW._replace(headless=is_told)
 
 
 def fault_of_base(program: Path, seed: str, rules: Rules, kept: Optional[Path], number: int) -> List[str]:

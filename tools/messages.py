@@ -56,6 +56,7 @@ PARTS = [
 # A pattern of texts, and what to do.
 ADVICE: List[Tuple[str, str]] = [
     (r"^doubtful: |is \{why\}$", "Compare it with another copy; the files that are `whole` are as they were"),
+    (r"belong to nothing", "Keep the image: these blocks may hold what is left of a file"),
     (r"unpacked first", "Unpack it with a program for this format"),
     (r"IPF file", "Convert it to an ADF file with a program for this format"),
     (r"nothing was written or read", "Read the disk again, or look for another copy of the image"),
@@ -131,7 +132,7 @@ NEVER = {"a script is faulty", "an image is refused", "an image is not checked",
 OF_OUTPUT = ("refused {", "suspect block {", "the file at block {")
 # A pattern of texts, and the exit status that follows, where it is another than that of the part.
 STATUSES: List[Tuple[str, str]] = [
-    (r"waiting for|skipped|mounted or being|^doubtful: |is \{why\}$|all files that are|it is a (symbolic|note)|it is neither", ""),
+    (r"waiting for|skipped|mounted or being|^doubtful: |is \{why\}$|all files that are|belong to nothing|it is a (symbolic|note)|it is neither", ""),
     (r"a volume has 16|past U\+00FF|no byte of an Amiga|is no protection", "1"),
     (r"no name of a volume|has no block|1,024 bytes|line \{number\}|the script has more|^expected \{|^(a keyword|each \$k|a text in quotes)|^(a|the|each) .*(\$k|text|line|keyword|bytes)$", "3"),
     (r"ok, \{\} refused", ""),

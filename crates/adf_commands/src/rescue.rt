@@ -7,6 +7,7 @@ use crate::fault::CommandFault;
 use crate::images::read_image;
 use adf_block::Image;
 use adf_export::{Doubt, OutFault, PrintFault, Rescue, extract_damaged};
+use adf_io::write_output;
 use adf_text::print_line;
 use adf_words::SalvageJob;
 use std::alloc::Global;
@@ -33,7 +34,8 @@ where
     tell_rescue(alloc, &rescue, writer, faults)
 }
 
-/// Reports on a rescue, and prints on `faults` why entries are doubtful, and which files are cut short.
+/// Reports on a rescue, and prints on `faults` why entries are doubtful, which files are cut short, and which used blocks belong to
+/// nothing.
 fn tell_rescue<'a, W: Write, F: Write>(
     alloc: Global,
     rescue: &Rescue,
@@ -43,6 +45,7 @@ fn tell_rescue<'a, W: Write, F: Write>(
     ensures { (image : List ℕ) → IsRescue image rescue.now → DoesRescue (W.contents writer.old) (W.contents writer.new) result }
 {
     tell_doubts(alloc, rescue, faults);
+    tell_unaccounted(alloc, rescue, faults);
     match rescue.tell(alloc, writer) {
         Ok(true) => Ok(()),
         Ok(false) => Err(CommandFault::NotWhole),
@@ -57,6 +60,21 @@ fn tell_doubts<F: Write>(alloc: Global, rescue: &Rescue, faults: &mut F) {
         if let Ok(Some((path, doubt))) = rescue.doubt_at(alloc, place) {
             let (path, why) = (path.as_str(), text_of(doubt));
             print_line(faults, format_args!("adf_serve: '{path}' is {why}"));
+        }
+    }
+}
+
+/// Prints the numbers of the blocks that are used and belong to nothing that is told, if there are some.
+fn tell_unaccounted<F: Write>(alloc: Global, rescue: &Rescue, faults: &mut F) {
+    if let Ok(ranges) = rescue.unaccounted_ranges(alloc) {
+        if !ranges.is_empty() {
+            print_line(
+                faults,
+                format_args!(
+                    "adf_serve: blocks that are used, but belong to nothing that is told:"
+                ),
+            );
+            let _ = write_output(&ranges, faults);
         }
     }
 }

@@ -7,7 +7,7 @@ use Rattle.adf_io.specs.Prefix.{WritesFront, WritesFrontOf}
 use Rattle.adf_script.specs.Streams.{Writes}
 use Rattle.adf_salvage.specs.Salvaged.{Saved}
 use Rattle.adf_salvage.specs.declared.salvaged.Salvaged.{Salvaged}
-use Rattle.adf_export.specs.Rescue.{AreLines, AreRescued, AreSomeRescued, IsRescueLine, deleted_line, rescue_line}
+use Rattle.adf_export.specs.Rescue.{AreLines, AreRescued, AreSomeRescued, IsRescueLine, deleted_count_line, rescue_line, unaccounted_count_line}
 use Rattle.adf_export.specs.Rescue.AreLines.{none, one}
 
 -- the lines of the first entries are written
@@ -87,28 +87,28 @@ module _ (saved : Saved) (entries : List Salvaged) (old new : Option (List ℕ))
   pub told_some : WritesFrontOf old new (AreLines entries) → WritesFrontOf old new (AreLines saved.entries)
   told_some (text, told, front) = (text, subst (λ (es : List Salvaged). AreLines es text) are told, front)
 
--- the line of the deleted entries comes after those of the entries
-module _ (saved : Saved) where
-  abbrev pub last_line : List ℕ
-  last_line = deleted_line (length saved.deleted)
+-- the lines of the deleted entries and of the unaccounted blocks come after those of the entries
+module _ (saved : Saved) (unaccounted : List ℕ) where
+  abbrev pub last_lines : List ℕ
+  last_lines = deleted_count_line (length saved.deleted) ++ unaccounted_count_line (length unaccounted)
 
-  rescued : (accepted : Bool) → saved.accepted ≡ accepted → (text : List ℕ) → AreLines saved.entries text → AreRescued saved accepted (text ++ last_line)
+  rescued : (accepted : Bool) → saved.accepted ≡ accepted → (text : List ℕ) → AreLines saved.entries text → AreRescued saved unaccounted accepted (text ++ last_lines)
   rescued accepted is text told = record { accepts = is; lines = text; told = told; last = refl }
 
-  pub front_of_lines : (old new : Option (List ℕ)) → WritesFrontOf old new (AreLines saved.entries) → WritesFrontOf old new (AreSomeRescued saved)
+  pub front_of_lines : (old new : Option (List ℕ)) → WritesFrontOf old new (AreLines saved.entries) → WritesFrontOf old new (AreSomeRescued saved unaccounted)
   front_of_lines old new (text, told, (written, appended, (rest, split))) = (
-    text ++ last_line,
+    text ++ last_lines,
     (saved.accepted, rescued saved.accepted refl text told),
-    (written, appended, (rest ++ last_line, ap (λ (xs : List ℕ). xs ++ last_line) split ∙ append_assoc written rest last_line)),
+    (written, appended, (rest ++ last_lines, ap (λ (xs : List ℕ). xs ++ last_lines) split ∙ append_assoc written rest last_lines)),
   )
 
-  pub lines_alone : (old new : Option (List ℕ)) → Writes old new (AreLines saved.entries) → WritesFrontOf old new (AreSomeRescued saved)
-  lines_alone old new (text, written, told) = (text ++ last_line, (saved.accepted, rescued saved.accepted refl text told), (text, written, (last_line, refl)))
+  pub lines_alone : (old new : Option (List ℕ)) → Writes old new (AreLines saved.entries) → WritesFrontOf old new (AreSomeRescued saved unaccounted)
+  lines_alone old new (text, written, told) = (text ++ last_lines, (saved.accepted, rescued saved.accepted refl text told), (text, written, (last_lines, refl)))
 
-  module _ (old mid new : Option (List ℕ)) (lines : Writes old mid (AreLines saved.entries)) (last : List ℕ) (is : last ≡ last_line) where
-    pub front_of_last : WritesFront mid new last → WritesFrontOf old new (AreSomeRescued saved)
+  module _ (old mid new : Option (List ℕ)) (lines : Writes old mid (AreLines saved.entries)) (last : List ℕ) (is : last ≡ last_lines) where
+    pub front_of_last : WritesFront mid new last → WritesFrontOf old new (AreSomeRescued saved unaccounted)
     front_of_last (written, appended, (rest, split)) = (
-      lines.0 ++ last_line,
+      lines.0 ++ last_lines,
       (saved.accepted, rescued saved.accepted refl lines.0 lines.2),
       (
         lines.0 ++ written,
@@ -117,9 +117,9 @@ module _ (saved : Saved) where
       ),
     )
 
-    pub all_told : (accepted : Bool) → saved.accepted ≡ accepted → Appends mid new last → Writes old new (AreRescued saved accepted)
+    pub all_told : (accepted : Bool) → saved.accepted ≡ accepted → Appends mid new last → Writes old new (AreRescued saved unaccounted accepted)
     all_told accepted accepts appended = (
-      lines.0 ++ last_line,
+      lines.0 ++ last_lines,
       subst (λ (xs : List ℕ). Appends old new (lines.0 ++ xs)) is (Appends-trans old mid new lines.0 last lines.1 appended),
       rescued accepted accepts lines.0 lines.2,
     )

@@ -5,6 +5,7 @@ use Rattle.adf_salvage.specs.declared.salvaged.Salvaged.{Salvaged}
 use Rattle.adf_salvage.specs.declared.salvaged.State.{State}
 use Rattle.adf_salvage.specs.declared.salvaged.State.TheVariants.{Directory, DoubtfulDirectory, Whole, Doubtful, Lost, Broken}
 use Rattle.adf_salvage.specs.Saved.{HasBytes, IsAt}
+use Rattle.ados_mend.specs.Account.{AreUnaccounted}
 use Rattle.adf_export.specs.declared.plan.Source.{Source}
 use Rattle.adf_export.specs.declared.plan.Source.TheVariants.{File}
 use Rattle.adf_export.specs.declared.damaged.Doubt.{Doubt}
@@ -45,29 +46,39 @@ pub data AreLines : List Salvaged → List ℕ → Type 0 where
   one : (entries : List Salvaged) (entry : Salvaged) (text line : List ℕ) → AreLines entries text → IsRescueLine entry.found entry.state line
       → AreLines (entries ++ entry ∷ []) (text ++ line)
 
--- the line of the deleted entries, which are left out: how many they are; none if there are none
-abbrev pub deleted_line : ℕ → List ℕ
-deleted_line count = if count == 0 then [] else codes "deleted " ++ decimal count ++ codes "\n"
+-- the line of things that have no lines of their own: what they are, and how many; none if there are none
+abbrev pub count_line : List ℕ → ℕ → List ℕ
+count_line word count = if count == 0 then [] else word ++ codes " " ++ decimal count ++ codes "\n"
 
--- the text has the lines of all entries and then that of the deleted ones, and the image was accepted or not
-pub record AreRescued (saved : Saved) (accepted : Bool) (text : List ℕ) : Type 0 where
+-- the line of the deleted entries, which are left out
+abbrev pub deleted_count_line : ℕ → List ℕ
+deleted_count_line count = count_line (codes "deleted") count
+
+-- the line of the blocks that are used and belong to nothing that is told
+abbrev pub unaccounted_count_line : ℕ → List ℕ
+unaccounted_count_line count = count_line (codes "unaccounted") count
+
+-- the text has the lines of all entries, then that of the deleted ones and that of these blocks, and the image was accepted or not
+pub record AreRescued (saved : Saved) (unaccounted : List ℕ) (accepted : Bool) (text : List ℕ) : Type 0 where
   pub accepts : saved.accepted ≡ accepted
   pub lines : List ℕ
   pub told : AreLines saved.entries lines
-  pub last : text ≡ lines ++ deleted_line (length saved.deleted)
+  pub last : text ≡ lines ++ (deleted_count_line (length saved.deleted) ++ unaccounted_count_line (length unaccounted))
 
-abbrev pub AreSomeRescued : Saved → List ℕ → Type 0
-AreSomeRescued saved text = (accepted : Bool) × AreRescued saved accepted text
+abbrev pub AreSomeRescued : Saved → List ℕ → List ℕ → Type 0
+AreSomeRescued saved unaccounted text = (accepted : Bool) × AreRescued saved unaccounted accepted text
 
--- everything in an image that can be trusted
+-- everything in an image that can be trusted, and the blocks that are used and belong to nothing of it
 abbrev pub IsRescue : List ℕ → Rescue → Type 0
-IsRescue image rescue = Salvages image rescue.salvage
+IsRescue image rescue = Salvages image rescue.salvage × AreUnaccounted rescue.salvage rescue.unaccounted.items
 
--- the report on everything in an image that can be trusted, which was accepted or not
+-- the report on everything in an image that can be trusted and on the other used blocks; the image was accepted or not
 pub record IsReport (image : List ℕ) (accepted : Bool) (text : List ℕ) : Type 0 where
   pub saved : Saved
   pub salvaged : Salvages image saved
-  pub told : AreRescued saved accepted text
+  pub unaccounted : List ℕ
+  pub are_unaccounted : AreUnaccounted saved unaccounted
+  pub told : AreRescued saved unaccounted accepted text
 
 -- these are the bytes of an item: of a file, those of its entry
 abbrev pub HasSource : Saved → Source → List ℕ → Type 0

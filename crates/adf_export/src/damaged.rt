@@ -1,19 +1,22 @@
 //! What can be trusted in a damaged image, as files and directories of the host.
-ghost use Rattle.std.specs.Prelude.{◌≡◌, IfErr, IfOk, OnErr, OnOk};
+ghost use Rattle.std.specs.Prelude.{◌≡◌, ◌++◌, IfErr, IfOk, OnErr, OnOk, length};
 ghost use Rattle.std.specs.String.{string_bytes};
 ghost use Rattle.adf_script.specs.Streams.{Writes};
 ghost use Rattle.adf_io.specs.Prefix.{WritesFrontOf};
-ghost use Rattle.adf_export.specs.Rescue.{AreLines, AreRescued, AreSomeRescued, IsRescue, IsRescueFault, IsRescueLine, doubt_of, rescue_line};
+ghost use Rattle.adf_export.specs.Rescue.{AreLines, AreRescued, AreSomeRescued, IsRescue, IsRescueFault, IsRescueLine, deleted_count_line, doubt_of, rescue_line, unaccounted_count_line};
+ghost use Rattle.adf_export.specs.Where.{ranges};
 
-use crate::deleted_line::deleted_line;
+use crate::count_line::count_line;
 use crate::fault::OutFault;
 use crate::output::write_text;
 use crate::plan::Plan;
 use crate::print_fault::PrintFault;
+use crate::ranges::ranges_text;
 use adf_block::Image;
 use adf_host::OwnedFile;
 use adf_salvage::{Salvage, State, salvage};
 use adf_words::SalvageJob;
+use ados_mend::unaccounted_blocks;
 use host_trees::write_tree;
 use std::alloc::{AllocError, Global};
 use std::io::Write;
@@ -24,6 +27,8 @@ use std::rt::Files;
 pub struct Rescue {
     salvage: Salvage,
     plan: Plan,
+    /// The blocks that are used and belong to nothing of the salvage.
+    unaccounted: Vec<u32>,
 }
 
 /// Writes everything in an image that can be trusted below a directory of the host. With `meta`, a note is written beside
@@ -51,13 +56,18 @@ where
     }
 }
 
-/// What can be trusted in an image, and the host files and directories for it.
+/// What can be trusted in an image, the host files and directories for it, and the used blocks that belong to nothing of it.
 fn rescue_of(alloc: Global, image: Image, meta: bool) -> Result<Rescue, AllocError>
     ensures { IfOk result (IsRescue image) }
 {
     let salvage = salvage(alloc, image)?;
     let plan = Plan::of(alloc, &salvage, meta)?;
-    Ok(Rescue { salvage, plan })
+    let unaccounted = unaccounted_blocks(alloc, &salvage)?;
+    Ok(Rescue {
+        salvage,
+        plan,
+        unaccounted,
+    })
 }
 
 /// Why an entry is doubtful or cut short.
@@ -102,18 +112,37 @@ impl Rescue {
         }
     }
 
+    /// The numbers of the blocks that are used and belong to nothing that is told, as ranges on lines of their own.
+    pub fn unaccounted_ranges(&self, alloc: Global) -> Result<Vec<u8>, AllocError>
+        ensures { IfOk result (λ text. text.items ≡ ranges self.now.unaccounted.items) }
+    {
+        let numbers = widened(alloc, &self.unaccounted)?;
+        ranges_text(alloc, &numbers)
+    }
+
     /// Writes a line for each file, for each recovered or doubtful directory, and for each lost entry, and then one with the number
-    /// of deleted entries, if there are some. The result is whether the image was accepted: then every file is whole.
+    /// of deleted entries and one with that of the used blocks that belong to nothing, each if there are some. The result is whether
+    /// the image was accepted: then every file is whole.
     ///
     /// If the writer fails or memory runs out, it has written a prefix of that text.
     pub fn tell<W: Write>(&self, alloc: Global, writer: &mut W) -> Result<bool, PrintFault>
-        ensures ok { IfOk result (λ accepted. Writes (W.contents writer.old) (W.contents writer.new) (AreRescued self.now.salvage accepted)) }
-        ensures front { OnErr result (WritesFrontOf (W.contents writer.old) (W.contents writer.new) (AreSomeRescued self.now.salvage)) }
+        ensures ok { IfOk result (λ accepted. Writes (W.contents writer.old) (W.contents writer.new) (AreRescued self.now.salvage self.now.unaccounted.items accepted)) }
+        ensures front { OnErr result (WritesFrontOf (W.contents writer.old) (W.contents writer.new) (AreSomeRescued self.now.salvage self.now.unaccounted.items)) }
     {
         self.tell_entries(alloc, writer)?;
-        let last = deleted_line(alloc, self.salvage.deleted().len())?;
+        let last = self.count_lines(alloc)?;
         write_text(last.as_bytes(), writer)?;
         Ok(self.salvage.is_accepted())
+    }
+
+    /// The line with the number of deleted entries, and that with the number of used blocks that belong to nothing.
+    fn count_lines(&self, alloc: Global) -> Result<String, AllocError>
+        ensures { IfOk result (λ lines. string_bytes lines ≡ deleted_count_line (length self.now.salvage.deleted) ++ unaccounted_count_line (length self.now.unaccounted.items)) }
+    {
+        let mut lines = count_line(alloc, "deleted", self.salvage.deleted().len())?;
+        let unaccounted = count_line(alloc, "unaccounted", self.unaccounted.len())?;
+        lines.push_str(unaccounted.as_str())?;
+        Ok(lines)
     }
 
     /// Writes the lines of the entries.
@@ -146,6 +175,17 @@ impl Rescue {
         let path = self.plan.path_of(alloc, place)?;
         line_of_path(alloc, found, state, path.as_str())
     }
+}
+
+/// Numbers of blocks as positions.
+fn widened(alloc: Global, blocks: &[u32]) -> Result<Vec<usize>, AllocError>
+    ensures { IfOk result (λ numbers. numbers.items ≡ blocks.now) }
+{
+    let mut numbers = Vec::new(alloc);
+    for block in blocks {
+        numbers.push(*block as usize)?;
+    }
+    Ok(numbers)
 }
 
 /// The line of an entry at a host path.

@@ -1,12 +1,13 @@
 -- Headers that are damaged, but can still be told as the entries that a damaged image names. Some sound headers may be left out.
+-- And damaged extension blocks.
 use Rattle.std.specs.Prelude.{◌≡◌, ℕ, ◌+◌, ◌<◌, ◌⊎◌, List, Contains}
 use Rattle.adf_block.specs.Image.{block_count, long, root_key, IsInside}
 use Rattle.adf_block.specs.Fields.{own_key, parent_key, primary_type, secondary_type}
-use Rattle.adf_block.specs.declared.layout.TheConstants.{FIRST_SLOT, HEADER_TYPE, NAME_BYTE, NEXT_IN_CHAIN, ROOT_TYPE, TABLE_LONGS}
+use Rattle.adf_block.specs.declared.layout.TheConstants.{FIRST_SLOT, HEADER_TYPE, LIST_TYPE, NAME_BYTE, NEXT_IN_CHAIN, ROOT_TYPE, TABLE_LONGS}
 use Rattle.adf_block.specs.Whole.{text_at}
 use Rattle.ados_name.specs.Name.{IsName}
 use Rattle.ados_check.specs.Marks.{HasEntryType}
-use Rattle.ados_model.specs.Faults.{HasDirectoryType}
+use Rattle.ados_model.specs.Faults.{HasDirectoryType, HasFileType}
 use Rattle.adf_salvage.specs.Sound.{IsSoundHeader}
 
 -- the block is in the place of the root, with the types of one
@@ -22,6 +23,13 @@ pub record LooksLikeHeader (image : List ℕ) (block : ℕ) : Type 0 where
   pub secondary : HasEntryType image block
   pub key_field : own_key image block ≡ block
   pub name : IsName (text_at image block NAME_BYTE)
+
+-- the block is an extension block of the file by its types, its file and its own number, whatever else it has
+pub record LooksLikeExtension (image : List ℕ) (file block : ℕ) : Type 0 where
+  pub primary : primary_type image block ≡ LIST_TYPE
+  pub secondary : HasFileType image block
+  pub of_file : parent_key image block ≡ file
+  pub key_field : own_key image block ≡ block
 
 -- the block has a hash table by its type, that of the root or of a directory
 abbrev pub HasTable : List ℕ → ℕ → Type 0

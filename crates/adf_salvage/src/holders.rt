@@ -3,8 +3,8 @@ ghost use Rattle.std.specs.Prelude.{◌≡◌, ◌<◌, ◌-◌, ◌*◌, ◌∷
 ghost use Rattle.adf_block.specs.Image.{block_count};
 ghost use Rattle.ados_model.specs.Stands.{HasExtension};
 ghost use Rattle.ados_model.specs.File.{extension_blocks};
+ghost use Rattle.adf_salvage.specs.Doubtful.{LooksLikeExtension};
 ghost use Rattle.adf_salvage.specs.Sound.{IsIntact};
-ghost use Rattle.adf_salvage.specs.steps.Giving.{LooksLikeExtension};
 ghost use Rattle.adf_salvage.specs.steps.Parts.{HasHolders, IsHolder, data_needed};
 
 use adf_block::layout::{
@@ -96,7 +96,7 @@ fn is_extension(image: &Image, file: u32, block: u32) -> bool
 }
 
 /// Whether a block says that it is an extension block of a file, whatever its checksum is.
-pub(crate) fn looks_like_extension(image: &Image, file: u32, block: u32) -> bool
+pub fn looks_like_extension(image: &Image, file: u32, block: u32) -> bool
     requires { block < block_count image.now }
     ensures { IsTrue result ↔ LooksLikeExtension image.now file block }
 {

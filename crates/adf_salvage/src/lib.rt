@@ -34,6 +34,7 @@ mod whole;
 pub use deleted::{Deleted, DeletedEntries, Recovery, deleted_entries, intact_bytes};
 pub use giving::Piece;
 pub use header::is_sound_header;
+pub use holders::looks_like_extension;
 pub use salvaged::{Salvaged, State};
 pub use salvaging::salvage;
 pub use saved::Salvage;

@@ -71,6 +71,21 @@ impl Salvage {
         self.accepted
     }
 
+    /// The image as it was read.
+    pub fn image(&self) -> &Image
+        ensures image { result.now ≡ self.now.image }
+        ensures kept { IsKept self.now.image self.now.entries self.now.given }
+    {
+        &self.image
+    }
+
+    /// The blocks given to files that are not whole.
+    pub fn pieces(&self) -> &[Piece]
+        ensures { result.now ≡ self.now.given }
+    {
+        self.pieces.as_slice()
+    }
+
     /// The entries, each block once, a directory before its entries. Lost entries come last.
     pub fn entries(&self) -> &[Salvaged]
         ensures { result.now ≡ self.now.entries }

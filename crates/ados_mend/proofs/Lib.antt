@@ -1,4 +1,4 @@
--- The bitmap blocks of an image, what stays when only the bitmap changes, and the image with a new bitmap.
+-- The bitmap blocks of an image, what stays when only the bitmap changes, the image with a new bitmap; and the marks of the account.
 pub mod PageFaults
 pub mod PageRoles
 pub mod Carry
@@ -9,3 +9,8 @@ pub mod Counted
 pub mod Passed
 pub mod SettlingPages
 mod Numbered
+pub mod Marking
+pub mod Walking
+pub mod OwnBlocks
+pub mod AllKinds
+pub mod Remaining

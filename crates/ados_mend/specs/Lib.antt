@@ -1,8 +1,9 @@
--- The faults that a new bitmap mends, the image with a new bitmap, and what may be lost with the old one; and the map of a volume.
+-- The faults that a new bitmap mends, the image with a new bitmap, and what may be lost with the old one; the map of a volume; and the account of a damaged image.
 pub mod Mendable
 pub mod Validated
 pub mod Cautions
 pub mod Answer
 pub mod Said
 pub mod BlockMap
+pub mod Account
 pub mod steps

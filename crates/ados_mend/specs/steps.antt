@@ -1,3 +1,4 @@
--- Steps of `validate`.
+-- Steps of `validate`, and of the account.
 pub mod Settled
 pub mod Cautious
+pub mod Accounting

@@ -1,5 +1,6 @@
 //! The bitmap of an image, written anew: where nothing else is faulty, and without force only where nothing may be lost
-//! with the old one. And the map of a volume, a letter for each block.
+//! with the old one. The map of a volume, a letter for each block. And the account of an image: its blocks that are used and
+//! belong to nothing that a salvage tells.
 #![tactic(auto)]
 
 // The answers.
@@ -22,6 +23,12 @@ mod validating;
 mod block_map;
 mod map_object;
 
+// The account.
+mod account;
+mod accounted;
+mod extensions;
+
+pub use account::unaccounted_blocks;
 pub use answer::{NotValidated, Validated};
 pub use block_map::map_text;
 pub use caution::{Caution, Look};

@@ -1,9 +1,8 @@
 -- The blocks given to broken files.
 use Rattle.std.specs.Prelude.{◌≡◌, ℕ, ◌+◌, ◌<◌, Bool, true, false, List, length, All, slice_index_or}
 use Rattle.adf_block.specs.Image.{block_count}
-use Rattle.adf_block.specs.Fields.{own_key, parent_key, primary_type, sequence_number}
-use Rattle.adf_block.specs.declared.layout.TheConstants.{DATA_TYPE, LIST_TYPE}
-use Rattle.ados_model.specs.Faults.{HasFileType}
+use Rattle.adf_block.specs.Fields.{own_key, primary_type, sequence_number}
+use Rattle.adf_block.specs.declared.layout.TheConstants.{DATA_TYPE}
 use Rattle.adf_salvage.specs.declared.giving.Giving.{Giving}
 use Rattle.adf_salvage.specs.declared.giving.Piece.{Piece}
 use Rattle.adf_salvage.specs.Salvaged.{AreApart}
@@ -17,13 +16,6 @@ pub record IsOwnData (image : List ℕ) (file i block : ℕ) : Type 0 where
   pub primary : primary_type image block ≡ DATA_TYPE
   pub of_file : own_key image block ≡ file
   pub number : sequence_number image block ≡ i + 1
-
--- the block is an extension block of the file by its types, its file and its own number, whatever else it has
-pub record LooksLikeExtension (image : List ℕ) (file block : ℕ) : Type 0 where
-  pub primary : primary_type image block ≡ LIST_TYPE
-  pub secondary : HasFileType image block
-  pub of_file : parent_key image block ≡ file
-  pub key_field : own_key image block ≡ block
 
 -- a block that can still be given
 pub record IsOpen (given : List Bool) (block : ℕ) : Type 0 where

@@ -1,6 +1,6 @@
 use Rattle.std.proofs.Common.{◌≡◌, ◌++◌, drop}
 use Rattle.adf_export.specs.Where.{ranges_from}
-use Rattle.adf_export.proofs.own_blocks.push_ranges.Given as goal
+use Rattle.adf_export.proofs.ranges.push_ranges.Given as goal
 
 -- the ranges so far, and those of the other numbers behind them, are the whole text
 abbrev pub invariant-loop-next : goal.invariant-loop-next

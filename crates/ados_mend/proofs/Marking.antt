@@ -1,0 +1,116 @@
+-- Marks of blocks, set one by one and kind by kind.
+use Rattle.std.proofs.Common.{◌≡◌, ◌≢◌, ℕ, ◌+◌, ◌<◌, ◌⊎◌, inl, inr, Bool, true, false, List, [], ◌∷◌, ◌++◌, take, length, get_or, get_or-set_same, get_or-set_other, length-set, Contains, refl, sym, ap, ◌∙◌, subst, arith}
+use Rattle.std.proofs.Math.ListN.{set}
+use Rattle.std.proofs.lemmas.Bool.{cases_eq}
+use Rattle.std.proofs.lemmas.List.{take_more}
+use Rattle.std.proofs.lemmas.List.Elements.{Contains-push, Contains-push_cases, Contains-append_left}
+use Rattle.ados_map.specs.Pages.{page_block}
+use Rattle.ados_mend.specs.steps.Accounting.{Adds, IsMarked, OfOne, mark_at}
+
+module _ (marks : List Bool) (block : ℕ) (inside : block < length marks) where
+  pub now_marked : mark_at (set marks block true) block ≡ true
+  now_marked = get_or-set_same marks block true false inside
+
+  pub others_same : (b : ℕ) → b ≢ block → mark_at (set marks block true) b ≡ mark_at marks b
+  others_same b other = get_or-set_other marks block b true false other
+
+  pub still_marked : (b : ℕ) → IsMarked marks b → IsMarked (set marks block true) b
+  still_marked b is = elim (cases_eq b block) [
+    | inl e ↦ ap (mark_at (set marks block true)) e ∙ now_marked
+    | inr e ↦ others_same b e ∙ is
+  ]
+
+  pub marked_before : (b : ℕ) → IsMarked (set marks block true) b → IsMarked marks b ⊎ (b ≡ block)
+  marked_before b is = elim (cases_eq b block) [
+    | inl e ↦ inr e
+    | inr e ↦ inl (sym (others_same b e) ∙ is)
+  ]
+
+  -- one block
+  pub adds_one : Adds (λ b. b ≡ block) marks (set marks block true)
+  adds_one = record {
+    size = length-set marks block true;
+    kept = still_marked;
+    added = λ b l e. ap (mark_at (set marks block true)) e ∙ now_marked;
+    only = marked_before;
+  }
+
+-- no block has the property
+pub adds_none : (P : ℕ → Type 0) (marks : List Bool) → ((b : ℕ) → b < length marks → ¬ P b) → Adds P marks marks
+adds_none P marks none = record {
+  size = refl;
+  kept = λ b is. is;
+  added = λ b l p. absurd (none b l p);
+  only = λ b is. inl is;
+}
+
+-- a kind under another name
+pub adds_as : (P Q : ℕ → Type 0) (old new : List Bool) → ((b : ℕ) → P b → Q b) → ((b : ℕ) → Q b → P b) → Adds P old new → Adds Q old new
+adds_as P Q old new there back a = record {
+  size = a.size;
+  kept = a.kept;
+  added = λ b l q. a.added b l (back b q);
+  only = λ b is. elim (a.only b is) [
+    | inl m ↦ inl m
+    | inr p ↦ inr (there b p)
+  ];
+}
+
+-- one kind and then another
+pub adds_both : (P Q : ℕ → Type 0) (old mid new : List Bool) → Adds P old mid → Adds Q mid new → Adds (λ b. P b ⊎ Q b) old new
+adds_both P Q old mid new a c = record {
+  size = c.size ∙ a.size;
+  kept = λ b is. c.kept b (a.kept b is);
+  added = λ b l h. elim h [
+    | inl p ↦ c.kept b (a.added b l p)
+    | inr q ↦ c.added b (omega (arith, l, a.size)) q
+  ];
+  only = λ b is. elim (c.only b is) [
+    | inl m ↦ elim (a.only b m) [
+      | inl o ↦ inl o
+      | inr p ↦ inr (inl p)
+    ]
+    | inr q ↦ inr (inr q)
+  ];
+}
+
+module _ {X : Type 0} (P : X → ℕ → Type 0) where
+  pub of_none : (xs : List X) (i : ℕ) → i ≡ 0 → (b : ℕ) → ¬ OfOne P (take i xs) b
+  of_none xs i none b o =
+      let empty : Contains (take 0 xs) o.one = subst (λ (k : ℕ). Contains (take k xs) o.one) none o.listed in
+      absurd (omega (arith, empty.1))
+
+  of_more : (xs : List X) (x : X) (b : ℕ) → OfOne P xs b ⊎ P x b → OfOne P (xs ++ x ∷ []) b
+  of_more xs x b (inl o) = record { one = o.one; listed = Contains-append_left xs (x ∷ []) o.one o.listed; has = o.has }
+  of_more xs x b (inr p) = record { one = x; listed = Contains-push xs x; has = p }
+
+  of_fewer : (xs : List X) (x : X) (b : ℕ) → OfOne P (xs ++ x ∷ []) b → OfOne P xs b ⊎ P x b
+  of_fewer xs x b o = elim (Contains-push_cases xs x o.one o.listed) [
+    | inl there ↦ inl (record { one = o.one; listed = there; has = o.has })
+    | inr e ↦ inr (subst (λ (y : X). P y b) (sym e) o.has)
+  ]
+
+  -- for one more of a list
+  pub adds_more : (xs : List X) (i : ℕ) (x : X) → i < length xs → x ≡ get_or xs i x → (old mid new : List Bool) → Adds (OfOne P (take i xs)) old mid → Adds (P x) mid new → Adds (OfOne P (take (i + 1) xs)) old new
+  adds_more xs i x l is old mid new a c =
+      let grown : take (i + 1) xs ≡ take i xs ++ x ∷ [] = take_more xs i x l ∙ ap (λ (y : X). take i xs ++ y ∷ []) (sym is) in
+      subst (λ (ys : List X). Adds (OfOne P ys) old new) (sym grown)
+      (adds_as (λ b. OfOne P (take i xs) b ⊎ P x b) (OfOne P (take i xs ++ x ∷ [])) old new (of_more (take i xs) x) (of_fewer (take i xs) x) (adds_both (OfOne P (take i xs)) (P x) old mid new a c))
+
+-- one of the first bitmap blocks
+abbrev pub IsPageBelow : List ℕ → ℕ → ℕ → Type 0
+IsPageBelow image n block = (p : ℕ) × (p < n) × (page_block image p ≡ block)
+
+pub page_more : (image : List ℕ) (n page : ℕ) (old mid new : List Bool) → page ≡ page_block image n → Adds (IsPageBelow image n) old mid → Adds (λ b. b ≡ page) mid new → Adds (IsPageBelow image (n + 1)) old new
+page_more image n page old mid new is a c =
+    adds_as (λ b. IsPageBelow image n b ⊎ (b ≡ page)) (IsPageBelow image (n + 1)) old new there back (adds_both (IsPageBelow image n) (λ b. b ≡ page) old mid new a c)
+  where
+    there : (b : ℕ) → IsPageBelow image n b ⊎ (b ≡ page) → IsPageBelow image (n + 1) b
+    there b (inl (p, l, e)) = (p, omega (arith, l), e)
+    there b (inr e) = (n, omega arith, sym (e ∙ is))
+
+    back : (b : ℕ) → IsPageBelow image (n + 1) b → IsPageBelow image n b ⊎ (b ≡ page)
+    back b (p, l, e) = elim (cases_eq p n) [
+      | inl same ↦ inr (sym e ∙ ap (page_block image) same ∙ sym is)
+      | inr other ↦ inl (p, omega (arith, l, other), e)
+    ]

@@ -1,0 +1,11 @@
+use Rattle.std.proofs.Common.{◌≡◌, ◌-◌, ◌/◌}
+use Rattle.ados_model.specs.File.{pointer_block}
+use Rattle.ados_mend.specs.steps.Accounting.{Adds}
+use Rattle.ados_mend.proofs.OwnBlocks.{IsOfFile}
+use Rattle.ados_mend.proofs.accounted.mark_file.Given as goal
+
+abbrev pub invariant-loop-i : goal.invariant-loop-i
+invariant-loop-i l = record {
+  holder : l.holder ≡ pointer_block l.image l.file ((l.i - 1) / 72);
+  marked : Adds (IsOfFile l.image l.file l.i) l.fn.marks.items l.marks.items;
+}

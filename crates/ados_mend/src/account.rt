@@ -1,0 +1,99 @@
+//! The account of an image: the blocks that are used and belong to nothing that a salvage tells.
+ghost use Rattle.std.specs.Prelude.{IfOk, MatchBool};
+ghost use Rattle.ados_model.specs.Faults.{InImage};
+ghost use Rattle.ados_mend.specs.Account.{AreUnaccounted, CountsAsUsed, HasContent, IsUnaccounted, TellsTrust};
+ghost use Rattle.ados_mend.specs.steps.Accounting.{AreAccounted};
+
+use crate::accounted::accounted_marks;
+use adf_block::Image;
+use adf_block::layout::{BLOCK_BYTES, BOOT_BLOCKS};
+use adf_salvage::{DeletedEntries, Salvage, deleted_entries};
+use ados_map::is_free;
+use std::alloc::{AllocError, Global};
+
+/// The blocks of the volume that are used and belong to nothing that a salvage tells, in order.
+///
+/// The root, the bitmap blocks and the headers of all entries are accounted for, all blocks of whole files, the blocks given
+/// to files that are not whole, and their extension blocks. If the bitmap can be trusted, all blocks that it does not mark
+/// free are used; else all that are not filled with zeros.
+///
+/// Time and memory grow about linearly with the size of the image.
+pub fn unaccounted_blocks(alloc: Global, salvage: &Salvage) -> Result<Vec<u32>, AllocError>
+    ensures { IfOk result (λ blocks. AreUnaccounted salvage.now blocks.items) }
+{
+    let trusted = is_trusted(alloc, salvage.image())?;
+    let marks = accounted_marks(alloc, salvage)?;
+    unmarked_blocks(alloc, salvage, trusted, &marks)
+}
+
+/// Whether the bitmap of an image is trusted. If the image has more faults than can be listed, it is not.
+fn is_trusted(alloc: Global, image: &Image) -> Result<bool, AllocError>
+    ensures { IfOk result (TellsTrust image.now) }
+{
+    match deleted_entries(alloc, image)? {
+        DeletedEntries::Found(_) => Ok(true),
+        DeletedEntries::NoTrustedBitmap => Ok(false),
+        DeletedEntries::ManyFaults => Ok(false),
+    }
+}
+
+/// The blocks of the volume that are used and have no mark.
+fn unmarked_blocks(
+    alloc: Global,
+    salvage: &Salvage,
+    trusted: bool,
+    marks: &[bool],
+) -> Result<Vec<u32>, AllocError>
+    requires trust { TellsTrust salvage.now.image trusted }
+    requires marks { AreAccounted salvage.now marks.now }
+    ensures { IfOk result (λ blocks. AreUnaccounted salvage.now blocks.items) }
+{
+    let count = salvage.image().blocks();
+    let mut blocks = Vec::new(alloc);
+    for block in BOOT_BLOCKS..count {
+        if is_unaccounted(salvage, trusted, marks, block) {
+            blocks.push(block)?;
+        }
+    }
+    Ok(blocks)
+}
+
+/// Whether a block is used and has no mark.
+fn is_unaccounted(salvage: &Salvage, trusted: bool, marks: &[bool], block: u32) -> bool
+    requires inside { InImage salvage.now.image block }
+    requires trust { TellsTrust salvage.now.image trusted }
+    requires marks { AreAccounted salvage.now marks.now }
+    ensures { MatchBool result (IsUnaccounted salvage.now trusted block) (¬ IsUnaccounted salvage.now trusted block) }
+{
+    if marks[block as usize] {
+        return false;
+    }
+    counts_as_used(salvage.image(), trusted, block)
+}
+
+/// Whether a block counts as used.
+#[tactic(auto, using(adf_salvage::proofs::Trusting::trusted_pages))]
+fn counts_as_used(image: &Image, trusted: bool, block: u32) -> bool
+    requires inside { InImage image.now block }
+    requires trust { TellsTrust image.now trusted }
+    ensures { MatchBool result (CountsAsUsed image.now trusted block) (¬ CountsAsUsed image.now trusted block) }
+{
+    if trusted {
+        !is_free(image, block)
+    } else {
+        has_content(image, block)
+    }
+}
+
+/// Whether a byte of a block is not 0.
+fn has_content(image: &Image, block: u32) -> bool
+    requires { InImage image.now block }
+    ensures { MatchBool result (HasContent image.now block) (¬ HasContent image.now block) }
+{
+    for at in 0..BLOCK_BYTES {
+        if image.byte(block, at) != 0 {
+            return true;
+        }
+    }
+    false
+}
