@@ -17,8 +17,8 @@ from typing import Dict, Iterator, List, NamedTuple, Optional, Set, Tuple
 
 sys.dont_write_bytecode = True
 
-from all_faults_model import DATA, DIRECTORY, FILE, HEADER, KINDS, LIST, ROOT, Model, Role
-from harness import BLOCK, LONGS, Image
+from all_faults_model import KINDS, Model, Role
+from harness import BLOCK, DATA, DIRECTORY, FILE, HEADER, LIST, ROOT, Image, host_name
 
 ALL_ONES = 2**32 - 1
 SLOTS = range(6, 78)
@@ -86,13 +86,6 @@ class Owner(NamedTuple):
     number: Optional[int] = None
 
 
-def host_name(name: bytes) -> str:
-    """A name as the host has it."""
-    if name in (b".", b".."):
-        return "%2E" + name[1:].decode()
-    return "".join(f"%{it:02X}" if it < 32 or 127 <= it < 160 or it in b"%\\" else chr(it) for it in name)
-
-
 def with_kind(data: bytes) -> bytes:
     """The image with a known kind. A kind that is lost is that of OFS if a sound data block of OFS names a sound header of a file."""
     if data[:4] in (b"DOS\0", b"DOS\1"):
@@ -107,8 +100,7 @@ class Headers(Image):
     """An image, and which of its blocks are headers."""
 
     def is_summed(self, block: int) -> bool:
-        longs: Tuple[int, ...] = LONGS.unpack_from(self.data, BLOCK * block)
-        return sum(longs) % 2**32 == 0
+        return self.sum(block) == 0
 
     def has_name(self, block: int) -> bool:
         return 1 <= self.data[BLOCK * block + 432] <= 30 and not set(self.text(block, 432)) & set(b"/:")
@@ -130,9 +122,6 @@ class Disk(Headers):
 
     def __init__(self, data: bytes) -> None:
         super().__init__(data)
-        self.root = (self.blocks + 1) // 2
-        self.is_ofs = self.data[3] == 0
-        self.room = 488 if self.is_ofs else BLOCK
         self.inside = range(2, self.blocks)
         self.sound = {it for it in self.inside if self.is_sound_header(it)}
 
@@ -277,7 +266,7 @@ class Account(Disk):
         data = [self.long(head, 77 - it) for head, count in zip(heads, counts) for it in range(count)]
         if any(it not in self.inside for it in data) or len({*heads, *data}) < len(heads) + len(data):
             return None
-        return Blocks(heads, data) if not self.is_ofs or self.is_linked(file, data) else None
+        return Blocks(heads, data) if not self.ofs or self.is_linked(file, data) else None
 
     def is_extension(self, file: int, block: int) -> bool:
         return [self.long(block, it) for it in (0, 1, 125, 127)] == [LIST, block, file, FILE]
@@ -318,7 +307,7 @@ class Account(Disk):
         """Whether a block is data block `k` of a file, and not given away."""
         if block not in self.inside or block is None or block == self.root or block in self.pages or block in self.given:
             return False
-        return not self.is_ofs or [self.long(block, it) for it in range(3)] == [DATA, file, k + 1]
+        return not self.ofs or [self.long(block, it) for it in range(3)] == [DATA, file, k + 1]
 
     def give(self, file: int) -> Tuple[int, Dict[int, int]]:
         """How many data blocks the size needs, and which of them are there. From now on they are this file's."""
@@ -328,7 +317,7 @@ class Account(Disk):
         passed: Set[int] = set()
         for k in range(needed):
             before = there.get(k - 1) if k else file
-            linked = self.long(before, 4) if self.rules.links and self.is_ofs and before is not None else None
+            linked = self.long(before, 4) if self.rules.links and self.ofs and before is not None else None
             for block in (named.get(k), linked):
                 if block is not None and k not in there and block not in passed and self.piece_of(file, k, block):
                     there[k] = block
@@ -387,7 +376,7 @@ class Account(Disk):
     def entries(self) -> List[Entry]:
         """All entries in the order of the account; of an accepted image, its tree."""
         walk = Walk(self)
-        loose = self.loose_files() if self.rules.headless and self.is_ofs and not self.is_accepted else {}
+        loose = self.loose_files() if self.rules.headless and self.ofs and not self.is_accepted else {}
         entries = [Entry(it, loose.pop(it, "") or self.state(it), walk.paths[it] + self.ending(it), it in walk.found) for it in walk.order]
         return [*entries, *(Entry(it, state, f"lost+found/block-{it}", True) for it, state in sorted(loose.items()))]
 

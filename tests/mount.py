@@ -28,9 +28,26 @@ from typing import Callable, Dict, Iterator, List, Mapping, Optional, Sequence, 
 
 sys.dont_write_bytecode = True
 
-from all_faults_model import slot_of
-from harmful import DIRECTORY, FILE, Drawing
-from harness import BLOCK, TOP, Failed, Image, Ran, Report, Room, built_program, done, fault_of, in_memory, limited, run, wait_until_free
+from harmful import Drawing
+from harness import (
+    BLOCK,
+    DIRECTORY,
+    FILE,
+    TOP,
+    Failed,
+    Image,
+    Ran,
+    Report,
+    Room,
+    built_program,
+    done,
+    fault_of,
+    in_memory,
+    limited,
+    run,
+    slot_of,
+    wait_until_free,
+)
 
 FUSE, CLIENT = TOP / "bindings/fuse", TOP / "tests/mount_client.py"
 SEED = os.environ.get("SEED") or str(random.randrange(32_768))
