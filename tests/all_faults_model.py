@@ -15,13 +15,11 @@ from typing import Dict, Iterator, List, NamedTuple, Optional, Set, Tuple
 
 sys.dont_write_bytecode = True
 
-from harness import BLOCK, LONGS, Image, upper
+from harness import DATA, DIRECTORY, FILE, HEADER, LIST, ROOT, Image, slot_of, upper
 
 KINDS = ["NotADosDisk", "UnsupportedKind", "BadSum", "BadType", "BadOwnKey", "BadParent", "BadPointer", "BlockUsedTwice",
          "WrongChain", "BadName", "DuplicateName", "BadComment", "BadCount", "BadSequence", "LinkEntry", "MarkedFree"]
-ROOT, DIRECTORY, FILE = 1, 2, 2 ** 32 - 3
 LINKS = {3, 4, 2 ** 32 - 4}
-HEADER, DATA, LIST = 2, 8, 16
 MOST = 1000
 
 
@@ -39,8 +37,6 @@ class Model(Image):
 
     def __init__(self, data: bytes) -> None:
         super().__init__(data)
-        self.root = (self.blocks + 1) // 2
-        self.ofs = data[3] == 0
         self.found: Set[Tuple[int, int]] = set()
         self.reached: Set[Tuple[int, Role]] = set()
         self.places: List[Tuple[int, int, int]] = []  # (holder, long, named block)
@@ -48,10 +44,6 @@ class Model(Image):
 
     def inside(self, block: int) -> bool:
         return 2 <= block < self.blocks
-
-    def sum(self, block: int) -> int:
-        longs: Tuple[int, ...] = LONGS.unpack_from(self.data, BLOCK * block)
-        return sum(longs) % 2**32
 
     def length(self, block: int, offset: int) -> int:
         """The length byte before a text."""
@@ -203,8 +195,7 @@ class Model(Image):
     def file(self, file: int) -> None:
         blocks = [block for header in self.headers_of(file) for block in self.data_of(header)]
         size = self.long(file, 81)
-        room = 488 if self.ofs else 512
-        self.show_if(len(blocks) != (size + room - 1) // room, "BadCount", file)
+        self.show_if(len(blocks) != (size + self.room - 1) // self.room, "BadCount", file)
         if not self.ofs:
             return
         for at, block in enumerate(blocks):
@@ -235,13 +226,6 @@ class Model(Image):
             if len(blocks) > 1:
                 for block in blocks:
                     self.show("DuplicateName", block)
-
-
-def slot_of(text: bytes) -> int:
-    hashed = len(text)
-    for letter in upper(text):
-        hashed = (13 * hashed + letter) % 2048
-    return hashed % 72
 
 
 def lines_of(image: bytes) -> List[str]:

@@ -17,7 +17,7 @@ from typing import List, Sequence
 sys.dont_write_bytecode = True
 
 from harness import TOP, Report, run
-from library import Library, put_in_place
+from library import SANITIZED, Library, put_in_place
 
 C = TOP / "tests" / "c"
 HEADER = TOP / "bindings/c/jiponuwha_amiga.h"
@@ -26,7 +26,6 @@ SOURCE = Path("here/share/jiponuwha/amiga.c")
 OTHERS = [str(it) for it in sorted((TOP / "bindings/c/src").glob("*.c")) if it.name != "amiga.c"]
 STRICT = ["-Wall", "-Wextra", "-Wpedantic", "-Wconversion", "-Werror", "-g", "-O1", "-Ihere/include"]
 LINKED = ["-Lhere/lib", "-ljiponuwha"]
-SANITIZED = ["-fsanitize=address,undefined", "-fno-sanitize-recover=all"]
 WRAPPED = [f"-Wl,--wrap={it}" for it in ("malloc", "calloc", "realloc")]
 
 
@@ -52,23 +51,14 @@ def quick_starts(tried: Library, compiler: str) -> None:
         tried.report.expect("it has at most twenty lines", len(lines) <= 20, len(lines))
 
 
-def has_sanitizers(tried: Library, compiler: str) -> bool:
-    tried.write("empty.c", b"int main(void) { return 0; }\n")
-    return run([compiler, *SANITIZED, "empty.c", "-o", "empty"]).status == 0
-
-
 def in_c(tried: Library, compiler: str) -> bool:
     """Runs the worked packets in C: with the library, and with its source under sanitizers. Returns whether they ran."""
     report, test = tried.report, str(C / "amiga.c")
     words = [compiler, "-std=c11", *STRICT]
     if builds(report, f"{compiler} amiga", [*words, test, *LINKED, "-o", f"{compiler}-amiga"]):
-        tried.passes(f"{compiler} amiga runs", [f"./{compiler}-amiga"])
-        if shutil.which("valgrind"):
-            checked = ["valgrind", "-q", "--error-exitcode=9", "--leak-check=full", f"./{compiler}-amiga"]
-            tried.passes(f"{compiler} amiga under valgrind", checked)
+        tried.passes_checked(f"{compiler}-amiga")
     quick_starts(tried, compiler)
-    if not has_sanitizers(tried, compiler):
-        report.skip(f"{compiler} with sanitizers", "there is no library of them")
+    if not tried.has_sanitizers(compiler):
         return False
     sanitized = [*words, *SANITIZED, test, str(SOURCE), *OTHERS, *LINKED, "-o", f"{compiler}-sanitized"]
     if builds(report, f"{compiler} amiga with sanitizers", sanitized):

@@ -13,7 +13,6 @@ from __future__ import annotations
 import json
 import multiprocessing
 import os
-import pty
 import random
 import re
 import shutil
@@ -25,11 +24,10 @@ from typing import Callable, Dict, Iterable, Iterator, List, NamedTuple, Optiona
 
 sys.dont_write_bytecode = True
 
-from account_model import account_of
 from all_faults_model import lines_of
-from disk_model import rest_of, rest_text, rest_told
-from drawn_volume import DIRECTORY, FILE, HEADER, Drawer, drawn, read, slot
-from harness import BLOCK, Image, Ran, Room, try_all
+from disk_model import account_of, rest_of, rest_text, rest_told
+from drawn_volume import Drawer, drawn, read
+from harness import BLOCK, DIRECTORY, FILE, HEADER, Image, Ran, Room, slot_of, try_all
 
 ROUNDS = int(os.environ.get("ROUNDS", "2000"))
 DAMAGED = int(os.environ.get("DAMAGED", "5000"))
@@ -58,6 +56,16 @@ class Volume(Image):
 
     def clear(self, block: int) -> None:
         self.data[BLOCK * block : BLOCK * (block + 1)] = bytes(BLOCK)
+
+    def changed(self, longs: Sequence[Tuple[int, int, int]]) -> "Volume":
+        """A copy in which longs are changed, each with its block, its place and its new value. Each changed block but the boot block
+        gets its checksum."""
+        image, page = Volume(self.data), self.long(ROOT, 79)
+        for block, at, value in longs:
+            image.put(block, at, value)
+        for block in {it[0] for it in longs} - {0}:
+            image.settle(block, 0 if block == page else 5)
+        return image
 
     def name(self, block: int) -> str:
         return self.text(block, 432).decode("latin-1")
@@ -196,22 +204,6 @@ def put_many(room: Room) -> None:
     room.done("blank", "--ffs", "--blocks", "50000", "Large", "many/large.hdf")
 
 
-def on_terminal(room: Room) -> Tuple[bytes, bytes]:
-    """The output and the terminal messages when many images are checked."""
-    shown, main_end = pty.openpty()
-    began = subprocess.Popen([str(room.program), "check", "--jobs", "2", "many"], stdout=subprocess.PIPE, stderr=main_end)
-    output = began.communicate()[0]
-    os.close(main_end)
-    told = b""
-    try:
-        while part := os.read(shown, 65_536):
-            told += part
-    except OSError:
-        pass
-    os.close(shown)
-    return output, told
-
-
 def parallel(room: Room) -> None:
     put_many(room)
     every: List[List[str]] = [[], ["--all"], ["--json"], ["--all", "--json"]]
@@ -220,9 +212,9 @@ def parallel(room: Room) -> None:
         for jobs in ["2", "4", "61", "1000"]:
             room.report.same(f"check {' '.join(words)} with {jobs} jobs", room.run("check", "--jobs", jobs, *words, "many", "good.adf"), one)
         room.report.same(f"check {' '.join(words)} with as many jobs as processors", room.run("check", *words, "many", "good.adf"), one)
-    output, told = on_terminal(room)
+    ran, told = room.on_terminal(2, "check", "--jobs", "2", "many")
     room.report.expect("how many of how many on a terminal", b"2 of 61 images" in told, f"told {told[:200]!r}")
-    room.report.same("what is printed beside a terminal", output, room.run("check", "--jobs", "1", "many").output)
+    room.report.same("what is printed beside a terminal", ran.output, room.run("check", "--jobs", "1", "many").output)
 
 
 # ---- files that are no images
@@ -429,15 +421,10 @@ class Filling(Drawer):
 
     def put_bytes(self, key: int, blocks: List[int], data: bytes) -> None:
         super().put_bytes(key, blocks, data)
-        room = 488 if self.ofs else BLOCK
-        self.held.update({it: (key, place) for place, it in enumerate(blocks[: (len(data) + room - 1) // room])})
+        self.held.update({it: (key, place) for place, it in enumerate(blocks[: (len(data) + self.room - 1) // self.room])})
 
     def path(self, key: int) -> bytes:
-        names: List[bytes] = []
-        while key != self.root:
-            names.insert(0, self.text(key, 432))
-            key = self.long(key, 125)
-        return b"/".join(names)
+        return b"/".join(self.names_of(key))
 
     def fill_some(self) -> List[Suspect]:
         """Covers some data blocks with a filler, and others with nearly one. Those that are to be told."""
@@ -634,12 +621,7 @@ def shown_values(room: Room) -> None:
         good = Volume(room.content("shown.adf"))
         page = good.long(ROOT, 79)
         for count, (changes, shown) in enumerate([*of_any_kind(good), *([] if kind else of_ofs(good))]):
-            image = Volume(good.data)
-            for block, at, value in changes:
-                image.put(block, at, value)
-            for block in {it[0] for it in changes} - {0}:
-                image.settle(block, 0 if block == page else 5)
-            room.report.same(f"{name}: long of fault {count}", told_of(room, image, shown), [shown])
+            room.report.same(f"{name}: long of fault {count}", told_of(room, good.changed(changes), shown), [shown])
         for block, at in [(ROOT, 5), (good.header("long"), 5), (page, 0), *([] if kind else [(good.pointers(good.header("long"))[3], 5)])]:
             image = Volume(good.data)
             image.put(block, at, good.long(block, at) + 16)
@@ -655,14 +637,6 @@ def told_of(room: Room, image: Volume, shown: Shown) -> List[Shown]:
     return [it for it in every if it[:2] == shown[:2]]
 
 # ---- the texts of faults
-
-
-def slot_of(name: str) -> int:
-    """The slot of a name, by the hash of the AmigaDOS manual."""
-    value = len(name)
-    for letter in name.upper().encode():
-        value = (value * 13 + letter) & 0x7FF
-    return value % 72
 
 
 # Longs to change, each with its block and its new value; the kind of a fault, its block, and its text. The blocks are settled.
@@ -701,14 +675,14 @@ def texts_of_any_kind(image: Volume) -> Iterator[ToldChange]:
         (empty, 2, 73, "BadCount", "it has 73 data pointers; it should have at most 72"),
         (extension, 2, 0, "BadCount", "it is an extension block without data pointers; it should have 1 to 72"),
         (long, 81, 1, "BadCount", "its size of 1 bytes does not match its data blocks"),
-        (docs, 108, 0x04446F64, "WrongChain", f"its hash chain is that of slot {slot_of('Docs')}; its name belongs to slot {slot_of('Dods')}"),
+        (docs, 108, 0x04446F64, "WrongChain", f"its hash chain is that of slot {slot_of(b'Docs')}; its name belongs to slot {slot_of(b'Dods')}"),
         # The walk takes the longs of a block in rising order.
         (long, 76, first, "BlockUsedTwice", f"it is used twice: by block {long} (pointer 2) and by block {long} (pointer 1)"),
         (top, 126, extension, "BlockUsedTwice", f"it is used twice: by block {top} (extension block) and by block {long} (extension block)"),
         (docs, 6, ROOT, "BlockUsedTwice", f"it is the root; block {docs} (hash slot 0) names it too"),
-        (docs, 7, startup, "BlockUsedTwice", f"it is used twice: by block {ROOT} (hash slot {slot_of('S')}) and by block {docs} (hash slot 1)"),
+        (docs, 7, startup, "BlockUsedTwice", f"it is used twice: by block {ROOT} (hash slot {slot_of(b'S')}) and by block {docs} (hash slot 1)"),
         (docs, 7, startup, "BadParent", f"its parent is block {ROOT}; block {docs} (hash slot 1) names it too"),
-        (docs, 124, startup, "BlockUsedTwice", f"it is used twice: by block {ROOT} (hash slot {slot_of('S')}) and by block {docs} (next entry)"),
+        (docs, 124, startup, "BlockUsedTwice", f"it is used twice: by block {ROOT} (hash slot {slot_of(b'S')}) and by block {docs} (next entry)"),
     ]:
         named = {"BlockUsedTwice": value, "BadParent": value if at == 7 else block}.get(kind, block)
         yield [(block, at, value)], kind, named, text
@@ -747,14 +721,8 @@ def texts_told(room: Room) -> None:
         name = kind[0] if kind else "--ofs"
         filled(room, "told.adf", *kind)
         good = Volume(room.content("told.adf"))
-        page = good.long(ROOT, 79)
         for count, (changes, fault, block, text) in enumerate([*texts_of_any_kind(good), *([] if kind else texts_of_ofs(good))]):
-            image = Volume(good.data)
-            for changed, at, value in changes:
-                image.put(changed, at, value)
-            for changed in {it[0] for it in changes} - {0}:
-                image.settle(changed, 0 if changed == page else 5)
-            room.write("told.adf", bytes(image.data))
+            room.write("told.adf", bytes(good.changed(changes).data))
             ran = room.run("check", "--all", "--json", "told.adf")
             faults = json.loads(ran.output)["faults"]
             told = [it["text"] for it in faults if (it["kind"], it["block"]) == (fault, block)]
@@ -1156,15 +1124,6 @@ class Flawed(NamedTuple):
     files: Files
 
 
-def last_name(line: bytes) -> str:
-    """A line of a report with the last part of its path alone, without the escapes of names of the host."""
-    words = re.match(r"(found )?((whole|doubtful|lost|broken \d+) )?", line.decode())
-    assert words
-    path = line.decode()[words.end() :]
-    name = path.removesuffix("/").rsplit("/", 1)[-1]
-    return words[0] + re.sub("%([0-9A-F]{2})", lambda it: chr(int(it[1], 16)), name) + "/" * path.endswith("/")
-
-
 def silent(room: Room, job: Flawed) -> Optional[str]:
     """What is wrong with the account of an image with a single damage: it is not that of the model, a file has no line, a file that was
     not hit has other bytes, or standard error does not name just what is doubtful, and the blocks that belong to nothing."""
@@ -1172,13 +1131,12 @@ def silent(room: Room, job: Flawed) -> Optional[str]:
     shutil.rmtree(at, ignore_errors=True)
     room.write(f"{at}.adf", job.data)
     ran = room.run("extract", "--damaged", "--to", at, f"{at}.adf")
-    lines = sorted(map(last_name, ran.output.splitlines()))
-    rest, (status, wanted) = rest_of(job.data), account_of(job.data)
-    wanted = sorted([*wanted, *[f"unaccounted {len(rest)}"] * bool(rest)])
+    lines = ran.output.decode().splitlines()
+    status, wanted, rest = account_of(job.data)
     if (ran.status, lines) != (status, wanted):
         return f"image {job.number}: {ran.status} {lines} where {status} {wanted} is expected"
     doubtful = ran.texts.removesuffix(rest_text(rest))
-    told = {line.rsplit(" ", 1)[-1] for line in lines}
+    told = {re.split("[ /]", line.removesuffix("/"))[-1] for line in lines}
     silent = [it for it in job.names if it.rsplit("/", 1)[-1] not in told]
     doubts = sum("doubtful " in it for it in lines)
     if silent or doubtful.count(b"' is doubtful: ") != doubts or len(doubtful.splitlines()) != doubts or rest_told(ran.texts) != rest_text(rest):
@@ -1331,7 +1289,7 @@ class Deleting(Filling):
             if is_directory:
                 self.put_all(key, 6, [self.chance.randrange(2, self.blocks) for _ in range(72)])
             else:
-                self.put_bytes(key, data, self.chance.randbytes((488 if self.ofs else BLOCK) * len(data)))
+                self.put_bytes(key, data, self.chance.randbytes(self.room * len(data)))
                 for at, block in enumerate(self.chance.sample(live, min(len(data), len(live), self.chance.randrange(5)))):
                     self.put(key, 77 - at, block)
             self.settle(key)
@@ -1343,7 +1301,7 @@ class Deleting(Filling):
         for at in range(72):
             key = self.long(self.root, 6 + at)
             names = [bytes([first]) + self.text(key, 432)[1:] for first in b"abcdefgh"] if key else []
-            others = [it for it in names if slot(it) != at]
+            others = [it for it in names if slot_of(it) != at]
             if others:
                 self.put_text(key, 432, others[0])
                 self.settle(key)

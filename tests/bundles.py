@@ -20,8 +20,23 @@ from typing import Any, Callable, Dict, List, Optional, Set, Tuple
 
 sys.dont_write_bytecode = True
 
-from drawn_volume import OFS_ROOM, POINTERS, Told, draw, read, slot
-from harness import BLOCK, MOMENT, TOP, Report, Room, fault_of, has_strace, in_memory, injected, limited, program_of
+from drawn_volume import Told, draw, read
+from harness import (
+    BLOCK,
+    MOMENT,
+    OFS_ROOM,
+    POINTERS,
+    TOP,
+    Report,
+    Room,
+    fault_of,
+    has_strace,
+    in_memory,
+    injected,
+    limited,
+    program_of,
+    slot_of,
+)
 
 DRAWN, BY_ADFLIB = 40, 200
 # The cylinders, heads and sectors of ADFlib's images: floppies of both densities, and small hard files.
@@ -278,7 +293,7 @@ def descriptions(room: Room) -> None:
     with_json("entry: one path twice", lambda it: it["entries"].insert(place, it["entries"][place]), "object already exists", status=3)
     shutil.copy("b/files/d/f", "b/files/d/F")
     with_json("entry: two names that are one on an Amiga", lambda it: it["entries"].insert(place, {**it["entries"][place], "path": "d/F"}), "object already exists", status=3)
-    wrong = sorted(("zz%d" % at for at in range(6)), key=lambda it: -slot(it.encode()))
+    wrong = sorted(("zz%d" % at for at in range(6)), key=lambda it: -slot_of(it.encode()))
     row: Json = {"type": "directory", "bits": 0, "date": "1978-01-01 00:00:00.00", "comment": ""}
     with_json("entries in an order that no disk has", lambda it: it.update({"entries": [{"path": name, **row} for name in wrong]}), "order")
     # A name with dots is a name on an Amiga, and leads nowhere on the host.

@@ -23,8 +23,8 @@ from typing import Callable, Dict, List, NamedTuple, Optional, Sequence, Set, Tu
 
 sys.dont_write_bytecode = True
 
-from harmful import FILE, Drawing
-from harness import BLOCK, TOP, Failed, Image, Ran, Room, Variables, fault_of, run, try_all
+from harmful import Drawing
+from harness import BLOCK, FILE, TOP, Failed, Image, Ran, Room, Variables, fault_of, redirected, run, try_all
 
 COMMANDS = "blank info show map where check list print extract undelete add mkdir delete rename protect date comment relabel validate boot serve".split()
 # The commands for an image other than `info`, `check`, `list` and `serve`, with arguments.
@@ -431,7 +431,7 @@ def at_a_terminal(tried: Commands) -> None:
         os.write(keys, b"other 5\n\x04" if is_there else b"other 5\n")
         if not is_there:
             os.close(keys)
-        ran = tried.run(before=reads_from(terminal))
+        ran = tried.run(before=redirected(terminal, 0))
         parts = ["waiting for the lines of a script", "Ctrl-D", "adf_serve --help"] if is_there else []
         tried.report.check(f"a script from {name}", ran, 0, b"1.1 0 209\n", *parts)
         for it in (terminal, keys) if is_there else (terminal,):
@@ -624,15 +624,6 @@ def directories_on_the_way(tried: Commands) -> None:
     tried.stays("a full disk stays as it was", "way.adf", before)
 
 
-def reads_from(handle: int) -> Callable[[], None]:
-    """What makes standard input the file of a handle."""
-
-    def change() -> None:
-        os.dup2(handle, 0)
-
-    return change
-
-
 def files_under_names(tried: Commands) -> None:
     """`add --as`: one file, or standard input, under a name."""
     blank = f"blank --ffs --blocks 16 {AT} Work named.adf"
@@ -698,10 +689,10 @@ def files_under_names(tried: Commands) -> None:
     ran = tried.run("add", "--as", "long", "named.adf", "-", input=bytes(16 * BLOCK + 2))
     tried.report.check("add - of more bytes than the disk has", ran, 3, b"refused 221 long\n", "disk is full", "18 blocks")
     with open("/dev/zero", "rb") as endless:
-        ran = tried.run("add", "--as", "long", "named.adf", "-", before=reads_from(endless.fileno()))
+        ran = tried.run("add", "--as", "long", "named.adf", "-", before=redirected(endless.fileno(), 0))
     tried.report.check("add - of an input that never ends", ran, 3, b"refused 221 long\n", "disk is full")
     folder = os.open(".", os.O_RDONLY)
-    ran = tried.run("add", "--as", "folder", "named.adf", "-", before=reads_from(folder))
+    ran = tried.run("add", "--as", "folder", "named.adf", "-", before=redirected(folder, 0))
     tried.report.check("add - of a directory", ran, 2, b"", "standard input cannot be read")
     os.close(folder)
     tried.stays("what add --as refuses changes nothing", "named.adf", before)
@@ -1514,16 +1505,7 @@ def refused_shows(tried: Commands) -> None:
 
 def on_terminal(tried: Commands, words: str, env: Variables = None) -> bytes:
     """What the program writes to a terminal. A terminal ends lines with two bytes."""
-    ours, theirs = pty.openpty()
-    ran = tried.run(*words.split(), before=prints_to(theirs), env=env)
-    os.close(theirs)
-    text = b""
-    try:
-        while more := os.read(ours, 65536):
-            text += more
-    except OSError:
-        pass
-    os.close(ours)
+    ran, text = tried.on_terminal(1, *words.split(), env=env)
     if ran.status:
         raise Failed(f"{words} ends with {ran}")
     return text.replace(b"\r\n", b"\n")
@@ -1596,23 +1578,14 @@ def sorted_lists(tried: Commands) -> None:
 # ---- Standard output that cannot be written ----
 
 
-def prints_to(descriptor: int) -> Callable[[], None]:
-    """For `before` of a run: this descriptor becomes its standard output."""
-
-    def put() -> None:
-        os.dup2(descriptor, 1)
-
-    return put
-
-
 def refused_output(tried: Commands) -> None:
     full = os.open("/dev/full", os.O_WRONLY)
     reader, unread = os.pipe()
     os.close(reader)
     outputs: Dict[str, Callable[[], None]] = {
-        "onto a full device": prints_to(full),
+        "onto a full device": redirected(full, 1),
         "onto a closed output": partial(os.close, 1),
-        "into a pipe that nobody reads": prints_to(unread),
+        "into a pipe that nobody reads": redirected(unread, 1),
     }
     for words in ("info ffs.adf", "check ffs.adf", "list ffs.adf", "boot --show ffs.adf", "check kind.adf", "serve --out full.adf ffs.adf write"):
         for name, before in outputs.items():

@@ -18,8 +18,8 @@ from typing import Dict, Iterator, List, NamedTuple, Optional, Set, Tuple
 
 sys.dont_write_bytecode = True
 
-from all_faults_model import DATA, DIRECTORY, FILE, HEADER, KINDS, LIST, ROOT, Model, Role
-from harness import BLOCK, LONGS, Image
+from all_faults_model import KINDS, Model, Role
+from harness import BLOCK, DATA, DIRECTORY, FILE, HEADER, LIST, ROOT, Image, host_name
 from where import ranges_of
 
 ALL_ONES = 2**32 - 1
@@ -94,13 +94,6 @@ class Owner(NamedTuple):
     number: Optional[int] = None
 
 
-def host_name(name: bytes) -> str:
-    """A name as the host has it."""
-    if name in (b".", b".."):
-        return "%2E" + name[1:].decode()
-    return "".join(f"%{it:02X}" if it < 32 or 127 <= it < 160 or it in b"%\\" else chr(it) for it in name)
-
-
 def with_kind(data: bytes) -> bytes:
     """The image with a known kind. A kind that is lost is that of OFS if a sound data block of OFS names a sound header of a file."""
     if data[:4] in (b"DOS\0", b"DOS\1"):
@@ -115,8 +108,7 @@ class Headers(Image):
     """An image, and which of its blocks are headers."""
 
     def is_summed(self, block: int) -> bool:
-        longs: Tuple[int, ...] = LONGS.unpack_from(self.data, BLOCK * block)
-        return sum(longs) % 2**32 == 0
+        return self.sum(block) == 0
 
     def has_name(self, block: int) -> bool:
         return 1 <= self.data[BLOCK * block + 432] <= 30 and not set(self.text(block, 432)) & set(b"/:")
@@ -138,9 +130,6 @@ class Disk(Headers):
 
     def __init__(self, data: bytes) -> None:
         super().__init__(data)
-        self.root = (self.blocks + 1) // 2
-        self.is_ofs = self.data[3] == 0
-        self.room = 488 if self.is_ofs else BLOCK
         self.inside = range(2, self.blocks)
         self.sound = {it for it in self.inside if self.is_sound_header(it)}
 
@@ -285,7 +274,7 @@ class Account(Disk):
         data = [self.long(head, 77 - it) for head, count in zip(heads, counts) for it in range(count)]
         if any(it not in self.inside for it in data) or len({*heads, *data}) < len(heads) + len(data):
             return None
-        return Blocks(heads, data) if not self.is_ofs or self.is_linked(file, data) else None
+        return Blocks(heads, data) if not self.ofs or self.is_linked(file, data) else None
 
     def is_extension(self, file: int, block: int) -> bool:
         return [self.long(block, it) for it in (0, 1, 125, 127)] == [LIST, block, file, FILE]
@@ -326,7 +315,7 @@ class Account(Disk):
         """Whether a block is data block `k` of a file, and not given away."""
         if block not in self.inside or block is None or block == self.root or block in self.pages or block in self.given:
             return False
-        return not self.is_ofs or [self.long(block, it) for it in range(3)] == [DATA, file, k + 1]
+        return not self.ofs or [self.long(block, it) for it in range(3)] == [DATA, file, k + 1]
 
     def give(self, file: int) -> Tuple[int, Dict[int, int]]:
         """How many data blocks the size needs, and which of them are there. From now on they are this file's."""
@@ -336,7 +325,7 @@ class Account(Disk):
         passed: Set[int] = set()
         for k in range(needed):
             before = there.get(k - 1) if k else file
-            linked = self.long(before, 4) if self.rules.links and self.is_ofs and before is not None else None
+            linked = self.long(before, 4) if self.rules.links and self.ofs and before is not None else None
             for block in (named.get(k), linked):
                 if block is not None and k not in there and block not in passed and self.piece_of(file, k, block):
                     there[k] = block
@@ -395,7 +384,7 @@ class Account(Disk):
     def entries(self) -> List[Entry]:
         """All entries in the order of the account; of an accepted image, its tree."""
         walk = Walk(self)
-        loose = self.loose_files() if self.rules.headless and self.is_ofs and not self.is_accepted else {}
+        loose = self.loose_files() if self.rules.headless and self.ofs and not self.is_accepted else {}
         entries = [Entry(it, loose.pop(it, "") or self.state(it), walk.paths[it] + self.ending(it), it in walk.found) for it in walk.order]
         return [*entries, *(Entry(it, state, f"lost+found/block-{it}", True) for it, state in sorted(loose.items()))]
 
@@ -542,11 +531,16 @@ class Walk:
                 self.found.add(block)
 
 
+def account_of(data: bytes, rules: Rules = NOW) -> Tuple[int, List[str], List[int]]:
+    """The exit status of `extract --damaged`, its lines, and the blocks that are used and belong to nothing."""
+    account = Account(data, rules)
+    lines = account.lines()
+    return 0 if account.is_accepted else 3, lines, account.rest
+
+
 def rest_of(data: bytes) -> List[int]:
     """The blocks of an image that are used and belong to nothing that `extract --damaged` tells."""
-    account = Account(data, NOW)
-    account.lines()
-    return account.rest
+    return account_of(data)[2]
 
 
 def rest_text(blocks: List[int]) -> bytes:
@@ -564,10 +558,9 @@ def main(words: List[str]) -> int:
     if "--owners" in words:
         print("\n".join(Owners(data).lines()))
         return 0
-    account = Account(data, PAGE if "--page" in words else NOW)
-    lines = account.lines()
-    print("\n".join([*lines, f"status {0 if account.is_accepted else 3}"]))
-    print(rest_text(account.rest).decode(), end="")
+    status, lines, rest = account_of(data, PAGE if "--page" in words else NOW)
+    print("\n".join([*lines, f"status {status}"]))
+    print(rest_text(rest).decode(), end="")
     return 0
 
 

@@ -8,13 +8,8 @@ from __future__ import annotations
 import random
 from typing import Dict, Iterator, List, NamedTuple, Optional, Tuple, Type, TypeVar
 
-from harness import BLOCK, Image, upper
+from harness import BLOCK, DATA, DIRECTORY, FILE, HEADER, LIST, OFS_ROOM, PAGE_BITS, POINTERS, SLOTS, Image, slot_of, upper
 
-DIRECTORY, FILE = 2, 2**32 - 3
-HEADER, DATA, LIST = 2, 8, 16
-SLOTS = POINTERS = 72
-OFS_ROOM = 488
-PAGE_BITS = 4064
 Stamp = Tuple[int, int, int]
 AnyDrawer = TypeVar("AnyDrawer", bound="Drawer")
 
@@ -42,13 +37,6 @@ class Told(NamedTuple):
     entries: List[Entry]
 
 
-def slot(name: bytes) -> int:
-    value = len(name)
-    for it in upper(name):
-        value = (13 * value + it) % 2048
-    return value % SLOTS
-
-
 # ---- the reader
 
 
@@ -56,7 +44,7 @@ class Reader(Image):
     """Reads a volume from its header blocks."""
 
     def told(self) -> Told:
-        root = (self.blocks + 1) // 2
+        root = self.root
         return Told(
             kind=bytes(self.data[:4]),
             blocks=self.blocks,
@@ -86,19 +74,12 @@ class Reader(Image):
             if not is_file:
                 levels.append((path + b"/", self.keys(key)))
 
-    def keys(self, directory: int) -> Iterator[int]:
-        for at in range(6, 6 + SLOTS):
-            key = self.long(directory, at)
-            while key:
-                yield key
-                key = self.long(key, 124)
-
     def bytes_of(self, key: int) -> bytes:
         size, found, holder = self.long(key, 81), bytearray(), key
         while holder:
             for at in range(self.long(holder, 2)):
                 start = BLOCK * self.long(holder, 77 - at)
-                found += self.data[start + (24 if self.data[3] == 0 else 0) : start + BLOCK]
+                found += self.data[start + BLOCK - self.room : start + BLOCK]
             holder = self.long(holder, 126)
         return bytes(found[:size])
 
@@ -120,7 +101,7 @@ class Drawer(Image):
     def __init__(self, chance: random.Random, blocks: int, ofs: bool) -> None:
         super().__init__(bytes(BLOCK * blocks))
         self.chance, self.ofs = chance, ofs
-        self.root = (blocks + 1) // 2
+        self.room = OFS_ROOM if ofs else BLOCK
         self.unused = [it for it in range(2, blocks) if it != self.root]
         chance.shuffle(self.unused)
         self.pages = [self.unused.pop() for _ in range((blocks - 2 + PAGE_BITS - 1) // PAGE_BITS)]
@@ -173,7 +154,7 @@ class Drawer(Image):
         few = {self.chance.randrange(SLOTS) for _ in range(self.chance.choice([1, 3, SLOTS]))}
         for _ in range(400):
             name = self.name()
-            if slot(name) in few and len(names) < self.chance.choice([4, 12, 40]):
+            if slot_of(name) in few and len(names) < self.chance.choice([4, 12, 40]):
                 names.setdefault(upper(name), name)
         chosen = list(names.values())
         self.chance.shuffle(chosen)
@@ -208,26 +189,24 @@ class Drawer(Image):
         self.put(key, 127, DIRECTORY if is_directory else FILE)
         if not is_directory:
             self.put_bytes(key, blocks[1:], bytes(self.chance.randrange(256) for _ in range(size)))
-        self.chain(directory, slot(name), key, ends)
+        self.chain(directory, slot_of(name), key, ends)
         return key, is_directory
 
     def blocks_of(self, size: int) -> List[int]:
         """The blocks of a file: its header, its data and its extension blocks."""
-        room = OFS_ROOM if self.ofs else BLOCK
-        data = (size + room - 1) // room
+        data = (size + self.room - 1) // self.room
         wanted = 1 + data + max(0, (data + POINTERS - 1) // POINTERS - 1)
         if len(self.unused) < wanted + 2:
             raise Full
         return [self.take() for _ in range(wanted)]
 
     def put_bytes(self, key: int, blocks: List[int], data: bytes) -> None:
-        room = OFS_ROOM if self.ofs else BLOCK
-        count = (len(data) + room - 1) // room
+        count = (len(data) + self.room - 1) // self.room
         used, extensions = blocks[:count], blocks[count:]
         self.put(key, 81, len(data))
         self.put(key, 4, used[0] if used else 0)
         for at, block in enumerate(used):
-            piece = data[room * at : room * (at + 1)]
+            piece = data[self.room * at : self.room * (at + 1)]
             start = BLOCK * block
             if self.ofs:
                 self.put_all(block, 0, [DATA, key, at + 1, len(piece), used[at + 1] if at + 1 < count else 0])

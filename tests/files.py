@@ -19,7 +19,7 @@ from typing import Callable, Dict, List, NamedTuple, Optional, Sequence, Set, Tu
 
 sys.dont_write_bytecode = True
 
-from harness import TOP, Report, Room, fault_of, limited, program_of, upper
+from harness import TOP, Report, Room, escaped, fault_of, host_name, limited, program_of, upper
 
 # 1 January 1978, midnight, in seconds of the host's clock.
 FIRST_DAY = 252_460_800
@@ -76,16 +76,6 @@ def blank(room: Room, kind: str = "ffs", size: Sequence[str] = (), file: str = "
 
 
 # ---- names, dates and notes, as emulators keep them
-
-
-def escaped(text: bytes, marks: bytes) -> str:
-    """The letters of a text; those that no host has and these marks as escapes."""
-    return "".join(f"%{it:02X}" if it < 0x20 or 0x7F <= it <= 0x9F or it in marks else chr(it) for it in text)
-
-
-def host_name(name: bytes) -> str:
-    shown = escaped(name, b"%\\")
-    return "%2E" + shown[1:] if name in (b".", b"..") else shown
 
 
 def noted_comment(comment: bytes) -> str:

@@ -162,7 +162,7 @@ class Damaged(Image):
         super().__init__(base.data)
         self.chance, self.touched = chance, {0}
         sound = Model(base.data)
-        self.root, self.is_ofs, self.places = sound.root, sound.ofs, sound.places
+        self.places = sound.places
         self.roles: Dict[str, List[int]] = defaultdict(list)
         for block, role in sorted(sound.reached):
             self.roles[role.what].append(block)
@@ -185,7 +185,7 @@ class Damaged(Image):
     def mend(self) -> None:
         """Sets the checksums of most changed blocks right."""
         for block in self.touched - {0}:
-            if self.chance.random() < 0.85 and (self.is_ofs or block not in self.roles["data"]):
+            if self.chance.random() < 0.85 and (self.ofs or block not in self.roles["data"]):
                 self.settle(block, 0 if block in self.roles["page"] else 5)
 
 
@@ -225,7 +225,7 @@ def a_size(image: Damaged) -> None:
     """The size of a file, the number of its pointers, or in OFS what a data block says of itself."""
     block = image.chance.choice(image.roles["entry"] or image.headers)
     at = image.chance.choice([81, 81, 2, 4])
-    if image.is_ofs and image.roles["data"] and image.chance.random() < 0.4:
+    if image.ofs and image.roles["data"] and image.chance.random() < 0.4:
         block, at = image.chance.choice(image.roles["data"]), image.chance.choice([1, 2, 3, 4])
     now = image.long(block, at)
     image.change(block, at, image.chance.choice([now + 1, now - 1, now + 512, image.chance.choice(EDGES)]))

@@ -7,10 +7,8 @@ from __future__ import annotations
 
 from typing import Callable, Dict, Iterator, List, Sequence, Tuple
 
-from all_faults_model import slot_of
-from harness import BLOCK, LONGS, Image
+from harness import BLOCK, DIRECTORY, FILE, SLOTS, Image, slot_of
 
-SLOTS, DIRECTORY, FILE = 72, 2, 0xFFFFFFFD
 # The names of an image are at most this many.
 MOST_NAMES = 101_602
 
@@ -23,7 +21,7 @@ class Drawing:
 
     def __init__(self, blank: bytes) -> None:
         self.image = Image(blank)
-        self.root = self.image.blocks // 2
+        self.root = self.image.root
         self.image.put(self.root, 78, 0)
         self.left = [it for it in range(self.image.blocks - 1, 1, -1) if blank[it * BLOCK : (it + 1) * BLOCK] == bytes(BLOCK)]
         self.drawn = [self.root]
@@ -44,13 +42,11 @@ class Drawing:
 
     def done(self, wrong: Sequence[int] = ()) -> bytes:
         """The image, with wrong checksums in some blocks."""
-        data = self.image.data
         for block in self.drawn:
-            total = sum(LONGS.unpack_from(data, block * BLOCK)) - self.image.long(block, 5)
-            self.image.put(block, 5, -total)
+            self.image.settle(block)
         for block in wrong:
             self.image.put(block, 5, self.image.long(block, 5) + 1)
-        return bytes(data)
+        return bytes(self.image.data)
 
 
 def put_name(image: Image, block: int, name: bytes) -> None:

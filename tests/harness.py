@@ -8,6 +8,7 @@ from __future__ import annotations
 
 import fcntl
 import os
+import pty
 import re
 import resource
 import shutil
@@ -17,6 +18,7 @@ import subprocess
 import sys
 import tempfile
 import time
+from contextlib import suppress
 from functools import partial
 from pathlib import Path
 from types import TracebackType
@@ -195,6 +197,20 @@ class Room:
         """Runs the program with these arguments, after a command `front` that runs it."""
         return run([*front, str(self.program), *words], input, before, env)
 
+    def on_terminal(self, standard: int, *words: str, env: Variables = None) -> Tuple[Ran, bytes]:
+        """Runs the program with these arguments. Its standard output (1) or standard error (2) is a terminal. Returns also what the
+        terminal got."""
+        ours, theirs = pty.openpty()
+        ran = self.run(*words, before=redirected(theirs, standard), env=env)
+        os.close(theirs)
+        text = b""
+        # (the read after the last byte fails)
+        with suppress(OSError):
+            while more := os.read(ours, 65536):
+                text += more
+        os.close(ours)
+        return ran, text
+
     def succeeds(self, name: str, *words: str, output: Optional[bytes] = b"") -> None:
         """The program succeeds with these arguments: it prints this output, and nothing on standard error."""
         self.report.check(name, self.run(*words), 0, output)
@@ -327,14 +343,24 @@ def program_of(words: Sequence[str]) -> Path:
 
 # The longs of a block.
 LONGS = struct.Struct(f">{BLOCK // 4}I")
+# The numbers of the disk: primary and secondary types of blocks, the slots of a directory and the pointers of a list, the bits of a
+# bitmap block, and the bytes of a file in an OFS data block.
+HEADER, DATA, LIST = 2, 8, 16
+ROOT, DIRECTORY, FILE = 1, 2, 2**32 - 3
+SLOTS = POINTERS = 72
+PAGE_BITS, OFS_ROOM = 4064, 488
 
 
 class Image:
-    """The bytes of an image, with its longs."""
+    """The bytes of an image, with its longs. `ofs` says whether it is an OFS disk, and `room` how many bytes of a file a data block
+    holds."""
 
     def __init__(self, data: Union[bytes, bytearray]) -> None:
         self.data = bytearray(data)
         self.blocks = len(data) // BLOCK
+        self.root = (self.blocks + 1) // 2
+        self.ofs = self.data[3:4] == b"\0"
+        self.room = OFS_ROOM if self.ofs else BLOCK
 
     def long(self, block: int, at: int) -> int:
         start = BLOCK * block + 4 * at
@@ -350,7 +376,32 @@ class Image:
 
     def settle(self, block: int, at: int = 5) -> None:
         """Sets the checksum of the block: all its longs add up to 0."""
-        self.put(block, at, self.long(block, at) - sum(LONGS.unpack_from(self.data, BLOCK * block)))
+        self.put(block, at, self.long(block, at) - self.sum(block))
+
+    def sum(self, block: int) -> int:
+        longs: Tuple[int, ...] = LONGS.unpack_from(self.data, BLOCK * block)
+        return sum(longs) % 2**32
+
+    def is_free(self, block: int) -> bool:
+        """Whether the bitmap marks a block as free."""
+        page, bit = divmod(block - 2, PAGE_BITS)
+        return bool(self.long(self.long(self.root, 79 + page), 1 + bit // 32) >> bit % 32 & 1)
+
+    def keys(self, directory: int) -> Iterator[int]:
+        """The entries of a directory, in the order of its hash chains."""
+        for at in range(6, 6 + SLOTS):
+            key = self.long(directory, at)
+            while key:
+                yield key
+                key = self.long(key, 124)
+
+    def names_of(self, key: int) -> List[bytes]:
+        """The names on the path from the root to an entry."""
+        names: List[bytes] = []
+        while key != self.root:
+            names.insert(0, self.text(key, 432))
+            key = self.long(key, 125)
+        return names
 
     def text(self, block: int, offset: int) -> bytes:
         """The bytes after their number, as a name or a comment is stored in a block."""
@@ -361,6 +412,34 @@ class Image:
 def upper(name: bytes) -> bytes:
     """A name in upper case; only ASCII letters change."""
     return bytes(it - 32 if 97 <= it <= 122 else it for it in name)
+
+
+def slot_of(name: bytes) -> int:
+    """The hash slot of a name."""
+    value = len(name)
+    for it in upper(name):
+        value = (13 * value + it) % 2048
+    return value % SLOTS
+
+
+def escaped(text: bytes, marks: bytes) -> str:
+    """A text for the host: each byte as its letter; control characters and these marks as escapes."""
+    return "".join(f"%{it:02X}" if it < 0x20 or 0x7F <= it <= 0x9F or it in marks else chr(it) for it in text)
+
+
+def host_name(name: bytes) -> str:
+    """The name of an entry as that of a file of the host."""
+    shown = escaped(name, b"%\\")
+    return "%2E" + shown[1:] if name in (b".", b"..") else shown
+
+
+def redirected(descriptor: int, standard: int) -> Callable[[], None]:
+    """For `before` of a run: this descriptor becomes standard input (0), standard output (1) or standard error (2)."""
+
+    def redirect() -> None:
+        os.dup2(descriptor, standard)
+
+    return redirect
 
 
 def limited(what: int, most: int) -> Callable[[], None]:

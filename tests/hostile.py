@@ -59,9 +59,6 @@ from typing import Callable, Dict, List, NamedTuple, NoReturn, Optional, Sequenc
 sys.dont_write_bytecode = True
 
 from harmful import (
-    DIRECTORY,
-    FILE,
-    SLOTS,
     Places,
     chains_down,
     deep_chain,
@@ -85,8 +82,11 @@ from harmful import (
 )
 from harness import (
     BLOCK,
+    DIRECTORY,
+    FILE,
     LONGEST,
     MOMENT,
+    SLOTS,
     TOP,
     Call,
     Ended,

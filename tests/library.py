@@ -16,7 +16,7 @@ from typing import List, Optional, Sequence, Tuple
 
 sys.dont_write_bytecode = True
 
-from harness import TOP, Report, Room, built_program, fault_of, run
+from harness import TOP, Report, Room, Variables, built_program, fault_of, run
 from walk import LIBRARY, code_of, first_floppy, first_program, link_lines, page_of, walk
 
 TESTS, EXAMPLES = TOP / "tests" / "c", TOP / "examples" / "c"
@@ -26,6 +26,8 @@ CALLS, READ_ONLY = (TOP / f"crates/adf_c/specs/{it}.antt" for it in ("Calls", "R
 FAULTS, STATUS = (TOP / f"crates/c_values/specs/{it}.antt" for it in ("Faults", "Status"))
 BUILT = TOP / "crates/adf_c/out/libadf_c.a"
 STRICT = ["-Wall", "-Wextra", "-Wpedantic", "-Werror"]
+SANITIZED = ["-fsanitize=address,undefined", "-fno-sanitize-recover=all"]
+VALGRIND = ["valgrind", "-q", "--error-exitcode=9", "--leak-check=full"]
 # Constants of the header, each with the file and the line of the definition that has its number.
 STATED = """
 DOSTRUE = -1|ados_model/specs/Packet.antt|dos_true = negsuc 0
@@ -148,11 +150,31 @@ def numbers(tried: Library) -> None:
 class Library(Room):
     """The room for the library, below `here`, and for programs that use it."""
 
+    def runs(self, name: str, command: Sequence[str], env: Variables = None) -> bool:
+        """A command of this machine succeeds. Returns whether it did."""
+        ran = run(command, env=env, longest=None)
+        self.report.expect(name, ran.status == 0, ran)
+        return ran.status == 0
+
     def passes(self, name: str, command: Sequence[str]) -> None:
         """The command succeeds, and its last line is `N passed, 0 failed`."""
         ran = run(command, longest=None)
         passed = ran.status == 0 and re.search(rb"(^|\n)[1-9][0-9]* passed, 0 failed\n?$", ran.output) is not None
         self.report.expect(name, passed, ran)
+
+    def passes_checked(self, name: str) -> None:
+        """A program in the room passes, and again under valgrind, if it is installed."""
+        self.passes(f"{name} runs", [f"./{name}"])
+        if shutil.which("valgrind"):
+            self.passes(f"{name} under valgrind", [*VALGRIND, f"./{name}"])
+
+    def has_sanitizers(self, compiler: str) -> bool:
+        """Whether a compiler has the libraries of its sanitizers."""
+        self.write("empty.c", b"int main(void) { return 0; }\n")
+        found = run([compiler, *SANITIZED, "empty.c", "-o", "empty"]).status == 0
+        if not found:
+            self.report.lacks(f"{compiler} with sanitizers", "library of them")
+        return found
 
     def build(self, compiler: str, name: str, *flags: str) -> None:
         """Builds a test or an example. The name up to a dash is that of its source."""
@@ -182,19 +204,13 @@ def put_in_place(tried: Library) -> bool:
 
 def tests(tried: Library, compiler: str) -> None:
     """The tests in C with this compiler, plain, sanitized and under valgrind."""
-    tried.write("empty.c", b"int main(void) { return 0; }\n")
-    sanitized = run([compiler, "-fsanitize=address,undefined", "empty.c", "-o", "empty"]).status == 0
-    if not sanitized:
-        tried.report.lacks(f"{compiler} with sanitizers", "library of them")
+    sanitized = tried.has_sanitizers(compiler)
     for name in ("cases", "calls", "threads"):
         tried.build(compiler, name)
-        tried.passes(f"{compiler} {name} runs", [f"./{compiler}-{name}"])
+        tried.passes_checked(f"{compiler}-{name}")
         if sanitized:
-            tried.build(compiler, f"{name}-sanitized", "-fsanitize=address,undefined", "-fno-sanitize-recover=all")
-            tried.passes(f"{compiler} {name}-sanitized runs", [f"./{compiler}-{name}-sanitized"])
-        if shutil.which("valgrind"):
-            checked = ["valgrind", "-q", "--error-exitcode=9", "--leak-check=full", f"./{compiler}-{name}"]
-            tried.passes(f"{compiler} {name} under valgrind", checked)
+            tried.build(compiler, f"{name}-sanitized", *SANITIZED)
+            tried.passes(f"{compiler}-{name}-sanitized runs", [f"./{compiler}-{name}-sanitized"])
 
 
 def examples(tried: Library, compiler: str) -> None:

@@ -28,9 +28,26 @@ from typing import Callable, Dict, Iterator, List, Mapping, Optional, Sequence, 
 
 sys.dont_write_bytecode = True
 
-from all_faults_model import slot_of
-from harmful import DIRECTORY, FILE, Drawing
-from harness import BLOCK, TOP, Failed, Image, Ran, Report, Room, built_program, done, fault_of, in_memory, limited, run, wait_until_free
+from harmful import Drawing
+from harness import (
+    BLOCK,
+    DIRECTORY,
+    FILE,
+    TOP,
+    Failed,
+    Image,
+    Ran,
+    Report,
+    Room,
+    built_program,
+    done,
+    fault_of,
+    in_memory,
+    limited,
+    run,
+    slot_of,
+    wait_until_free,
+)
 
 FUSE, CLIENT = TOP / "bindings/fuse", TOP / "tests/mount_client.py"
 SEED = os.environ.get("SEED") or str(random.randrange(32_768))
@@ -421,13 +438,18 @@ def leave_background(tried: Mount) -> None:
     done(["fusermount3", "-u", tried.place])
 
 
+def make_in_background(tried: Mount, image: str, name: str) -> None:
+    """Mounts an image in the background, makes a directory, and unmounts it again. The mount may still save."""
+    done([tried.adf_mount, image, "mount"])
+    Path(f"mount/{name}").mkdir()
+    leave_background(tried)
+
+
 def one_after_another(tried: Mount) -> Optional[str]:
     """Each mount starts as soon as the one before is unmounted, which may still save."""
     tried.blank("turns.adf")
     for turn in range(20):
-        done([tried.adf_mount, "turns.adf", "mount"])
-        Path(f"mount/dir{turn}").mkdir()
-        leave_background(tried)
+        make_in_background(tried, "turns.adf", f"dir{turn}")
     ran = run([tried.adf_mount, "--wait", "turns.adf"])
     found = [f" dir{turn}\n" in tried.listing("turns.adf") for turn in range(20)]
     return fault_of(ran) or untrue({"all directories are there": all(found)})
@@ -458,9 +480,7 @@ def waits_for_lock(tried: Mount) -> Optional[str]:
 def waits_for_save(tried: Mount) -> Optional[str]:
     """After `--wait` the image's file has what was written last."""
     for turn in range(10):
-        done([tried.adf_mount, "blank.adf", "mount"])
-        Path(f"mount/last{turn}").mkdir()
-        leave_background(tried)
+        make_in_background(tried, "blank.adf", f"last{turn}")
         ran = run([tried.adf_mount, "--wait", "blank.adf"])
         if ran != (0, b"", b"") or f" last{turn}\n" not in tried.listing("blank.adf"):
             return f"in turn {turn}: {ran}"

@@ -21,7 +21,8 @@ from typing import List, Optional
 sys.dont_write_bytecode = True
 
 from harness import TOP, Ran, Report, run
-from shared import LIBRARY, PAGE, Place, put_in_place, version
+from library import put_in_place
+from shared import LIBRARY, PAGE, Place, version
 
 PACKAGE = TOP / "bindings" / "python"
 WHEEL = str(TOP / "tools" / "wheel")

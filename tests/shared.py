@@ -16,11 +16,12 @@ import shutil
 import sys
 from functools import partial
 from pathlib import Path
-from typing import Callable, Dict, List, Mapping, Optional, Sequence, Set
+from typing import Callable, Dict, List, Set
 
 sys.dont_write_bytecode = True
 
-from harness import TOP, Report, Room, run
+from harness import TOP, Report, built_program, run
+from library import SANITIZED, Library, put_in_place
 from walk import section_of
 
 C = TOP / "bindings" / "c"
@@ -28,7 +29,6 @@ HEADER, AMIGA = C / "jiponuwha.h", C / "jiponuwha_amiga.h"
 SYMBOLS, TEXTS = C / "jiponuwha.map", C / "src" / "texts.c"
 PAGE = TOP / "docs" / "LIBRARY.md"
 WORDS = TOP / "crates/adf_words/src/refused.rt"
-BUILT = TOP / "crates/adf_c/out/libadf_c.a"
 STRICT = ["-Wall", "-Wextra", "-Wpedantic", "-Wconversion", "-Werror"]
 STANDARDS = {"gcc": "c11", "clang": "c11", "g++": "c++17", "clang++": "c++17"}
 LIBRARY = "here/lib/libjiponuwha.so.1"
@@ -65,40 +65,16 @@ int main(int count, char **words) {
 """
 
 
-class Place(Room):
-    """A temporary directory with the library, in `here`, and the programs that use it."""
+class Place(Library):
+    """The room for the library and for programs that use its shared form."""
 
     def __init__(self, report: Report) -> None:
-        super().__init__(TOP / "crates/adf_serve/out/adf_serve", report)
-
-    def runs(self, name: str, command: Sequence[str], env: Optional[Mapping[str, str]] = None) -> bool:
-        """Returns whether a command of this machine succeeds."""
-        ran = run(command, env=env, longest=None)
-        self.report.expect(name, ran.status == 0, ran)
-        return ran.status == 0
-
-    def passes(self, name: str, command: Sequence[str]) -> None:
-        """Checks that a command succeeds, and that its last line is `N passed, 0 failed`."""
-        ran = run(command, longest=None)
-        passed = ran.status == 0 and re.search(rb"(^|\n)[1-9][0-9]* passed, 0 failed\n?$", ran.output) is not None
-        self.report.expect(name, passed, ran)
+        super().__init__(built_program([]), report)
 
     def compile(self, compiler: str, source: Path, to: str, *flags: str) -> bool:
         """Builds a program. Returns whether that succeeded."""
         words = [compiler, f"-std={STANDARDS[compiler]}", "-O1", "-g", *STRICT, "-Ihere/include", str(source), "-o", to]
         return self.runs(f"{to} is built", [*words, *flags])
-
-
-def put_in_place(tried: Place) -> bool:
-    """Installs the built library in `here`. Returns whether that succeeded."""
-    lacking = [it for it in ("ar", "rt", os.environ.get("CC") or "cc") if not shutil.which(it)]
-    if lacking:
-        tried.report.skip("the library", f"there is no {lacking[0]}")
-    elif not BUILT.is_file():
-        tried.report.skip("the library", "there is no crates/adf_c/out/libadf_c.a (bindings/c/build.sh builds it)")
-    else:
-        return tried.runs("the library is put in its place", [str(C / "build.sh"), "--built", "here"])
-    return False
 
 
 # ---- Exported symbols ----
@@ -191,10 +167,7 @@ def symbols(tried: Place) -> None:
 
 def clients(tried: Place, compiler: str) -> None:
     """Runs the tests in C or C++ with this compiler."""
-    tried.write("empty.c", b"int main(void) { return 0; }\n")
-    has_sanitizers = run([compiler, "-fsanitize=address,undefined", "empty.c", "-o", "empty"]).status == 0
-    if not has_sanitizers:
-        tried.report.skip(f"{compiler} with sanitizers", "there is no library of them")
+    has_sanitizers = tried.has_sanitizers(compiler)
     for source in SOURCES[STANDARDS[compiler]]:
         client(tried, compiler, TOP / "tests" / "c" / source, has_sanitizers)
 
@@ -203,26 +176,21 @@ def client(tried: Place, compiler: str, source: Path, has_sanitizers: bool) -> N
     """Runs one program: plain, under valgrind, over the static library, and with sanitizers."""
     name = f"{compiler}-{source.stem}"
     if tried.compile(compiler, source, name, *SHARED):
-        tried.passes(f"{name} runs", [f"./{name}"])
-        if shutil.which("valgrind"):
-            tried.passes(f"{name} under valgrind", ["valgrind", "-q", "--error-exitcode=9", "--leak-check=full", f"./{name}"])
+        tried.passes_checked(name)
     if tried.compile(compiler, source, f"{name}-static", *STATIC):
         tried.passes(f"{name}-static runs", [f"./{name}-static"])
-    sanitized = ["-fsanitize=address,undefined", "-fno-sanitize-recover=all"]
-    if has_sanitizers and tried.compile(compiler, source, f"{name}-sanitized", *SHARED, *sanitized):
+    if has_sanitizers and tried.compile(compiler, source, f"{name}-sanitized", *SHARED, *SANITIZED):
         tried.passes(f"{name}-sanitized runs", [f"./{name}-sanitized"])
 
 
 def sanitized_library(tried: Place) -> None:
     """Runs the tests with the C code of the library under sanitizers too."""
-    flags = "-fsanitize=address,undefined -fno-sanitize-recover=all"
-    if run(["gcc", *flags.split(), "empty.c", "-o", "empty"]).status != 0:
-        tried.report.skip("a sanitized library", "there is no library of them")
+    if not tried.has_sanitizers("gcc"):
         return
-    built = tried.runs("a sanitized library", [str(C / "build.sh"), "--built", "sane"], {"CC": "gcc", "CFLAGS": flags})
+    built = tried.runs("a sanitized library", [str(C / "build.sh"), "--built", "sane"], {"CC": "gcc", "CFLAGS": " ".join(SANITIZED)})
     for name in SOURCES["c11"] if built else []:
         program = f"sane-{Path(name).stem}"
-        if tried.compile("gcc", TOP / "tests" / "c" / name, program, "sane/lib/libjiponuwha.a", *flags.split()):
+        if tried.compile("gcc", TOP / "tests" / "c" / name, program, "sane/lib/libjiponuwha.a", *SANITIZED):
             tried.passes(f"{name} over it", [f"./{program}"])
 
 

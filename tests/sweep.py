@@ -28,10 +28,10 @@ from typing import Callable, Dict, Iterator, List, Mapping, NamedTuple, Optional
 sys.dont_write_bytecode = True
 
 from all_faults_model import lines_of
-from disk_model import NOW, PAGE, Account, Headers, Owners, Rules, host_name, rest_of, rest_text, rest_told
+from disk_model import NOW, PAGE, Account, Headers, Owners, Rules, rest_of, rest_text, rest_told
 from drawn_volume import Drawer
 from fuzz import FEWEST, LARGEST, PER_BASE, Base, Damaged, a_chain, a_name, a_parent, a_pointer, a_size, base_of, damaged, told_of
-from harness import BLOCK, Image, Ran, Report, Room, in_memory, processors, program_of
+from harness import BLOCK, Image, Ran, Report, Room, host_name, in_memory, processors, program_of
 from where import Owned, Reading, page_of, places_of, words_of
 
 T = TypeVar("T")
@@ -85,11 +85,7 @@ class Floppy(NamedTuple):
 
 
 def host_path(image: Reading, key: int) -> str:
-    names = []
-    while key != image.root:
-        names.append(host_name(image.text(key, 432)))
-        key = image.long(key, 125)
-    return "/".join(reversed(names))
+    return "/".join(map(host_name, image.names_of(key)))
 
 
 def floppy_of(data: bytes) -> Floppy:
@@ -461,8 +457,8 @@ class Compared:
         if owner.what != "data":
             return Owned(owner.what, path, owner.number)
         assert owner.header is not None and owner.number is not None
-        room = 488 if model.ofs else BLOCK
-        return Owned("data", path, owner.number, room * owner.number, min(room * owner.number + room, model.long(owner.header, 81)) - 1)
+        first = model.room * owner.number
+        return Owned("data", path, owner.number, first, min(first + model.room, model.long(owner.header, 81)) - 1)
 
     def path(self, model: Owners, header: Optional[int]) -> str:
         names = []

@@ -21,8 +21,26 @@ from typing import Dict, Iterator, List, NamedTuple, Optional, Set, Tuple
 
 sys.dont_write_bytecode = True
 
-from drawn_volume import DATA, DIRECTORY, FILE, HEADER, LIST, OFS_ROOM, PAGE_BITS, POINTERS, SLOTS, Drawer, Reader, drawn, slot
-from harness import BLOCK, MOMENT, Image, Room, fault_of, try_all, upper
+from drawn_volume import Drawer, Reader, drawn
+from harness import (
+    BLOCK,
+    DATA,
+    DIRECTORY,
+    FILE,
+    HEADER,
+    LIST,
+    MOMENT,
+    OFS_ROOM,
+    PAGE_BITS,
+    POINTERS,
+    Image,
+    Room,
+    fault_of,
+    host_name,
+    slot_of,
+    try_all,
+    upper,
+)
 
 ROUNDS = int(os.environ.get("ROUNDS", "60"))
 LONGEST = 255
@@ -46,8 +64,6 @@ class Deleting(Image):
 
     def __init__(self, data: bytes) -> None:
         super().__init__(data)
-        self.root = (self.blocks + 1) // 2
-        self.ofs = self.data[3] == 0
         self.users: Dict[int, int] = {}
         self.live: Set[int] = {self.root}
         self.reach(self.root)
@@ -58,13 +74,6 @@ class Deleting(Image):
         self.names: Dict[int, bytes] = {}
         self.taken: Set[Tuple[int, bytes]] = set()
 
-    def is_free(self, block: int) -> bool:
-        page, bit = divmod(block - 2, PAGE_BITS)
-        return bool(self.long(self.long(self.root, 79 + page), 1 + bit // 32) >> bit % 32 & 1)
-
-    def sum(self, block: int) -> int:
-        return sum(self.long(block, at) for at in range(BLOCK // 4)) % 2**32
-
     def is_sound(self, block: int) -> bool:
         if self.long(block, 0) != HEADER or self.long(block, 1) != block or self.long(block, 127) not in (DIRECTORY, FILE):
             return False
@@ -73,21 +82,18 @@ class Deleting(Image):
 
     def reach(self, directory: int) -> None:
         """Notes who uses each block of the tree."""
-        for at in range(SLOTS):
-            key = self.long(directory, 6 + at)
-            while key:
-                self.live.add(key)
-                self.users[key] = key
-                if self.long(key, 127) == DIRECTORY:
-                    self.reach(key)
-                else:
-                    self.users.update({it: key for it in self.blocks_of(key)[0] or []})
-                key = self.long(key, 124)
+        for key in self.keys(directory):
+            self.live.add(key)
+            self.users[key] = key
+            if self.long(key, 127) == DIRECTORY:
+                self.reach(key)
+            else:
+                self.users.update({it: key for it in self.blocks_of(key)[0] or []})
 
     def blocks_of(self, file: int) -> Tuple[Optional[List[int]], bool]:
         """The blocks that a file names, its header, its extensions and its data, and whether all of them are still its own. None if
         an extension is another's."""
-        size, room = self.long(file, 81), OFS_ROOM if self.ofs else BLOCK
+        size, room = self.long(file, 81), self.room
         needed = (size + room - 1) // room
         holders, holder = [file], file
         data: List[int] = []
@@ -206,12 +212,8 @@ class Deleter(Drawer):
         self.put(self.pages[page], at, old | mask if is_free else old & ~mask)
         self.settle(self.pages[page], 0)
 
-    def is_free(self, block: int) -> bool:
-        page, bit = divmod(block - 2, PAGE_BITS)
-        return bool(self.long(self.pages[page], 1 + bit // 32) >> bit % 32 & 1)
-
     def unlink(self, directory: int, key: int) -> None:
-        at = slot(self.text(key, 432))
+        at = slot_of(self.text(key, 432))
         holder, place = directory, 6 + at
         while self.long(holder, place) != key:
             holder, place = self.long(holder, place), 124
@@ -292,13 +294,6 @@ def disks(kind: str, seed: int) -> Tuple[bytes, Dict[int, bytes]]:
         reuse_some(disk, chance, deleted)
         deleted = {}
     return bytes(disk.data), deleted
-
-
-def host_name(name: bytes) -> str:
-    """The name of an entry as that of a host file."""
-    if name in (b".", b".."):
-        return "%2E" + name[1:].decode()
-    return "".join(f"%{it:02X}" if it < 32 or 127 <= it < 160 or it in b"%\\" else chr(it) for it in name)
 
 
 def host_path(image: Deleting, key: int) -> str:

@@ -17,13 +17,12 @@ from typing import Callable, List, NamedTuple, Optional, Sequence, Set, Tuple
 
 sys.dont_write_bytecode = True
 
-from all_faults_model import DATA, DIRECTORY, FILE, HEADER, KINDS, LIST, ROOT, Model
-from harness import BLOCK, LONGS, Room, try_all
+from all_faults_model import KINDS, Model
+from harness import BLOCK, DATA, DIRECTORY, FILE, HEADER, LIST, LONGS, PAGE_BITS, ROOT, Room, try_all
 
 ROUNDS = int(os.environ.get("ROUNDS", "200"))
 VALID = 2**32 - 1
 # The bits of a bitmap block.
-PAGE_BITS = 127 * 32
 # The longs of a bitmap block after its sum, in the order in which the bits of blocks go up.
 PAGE = struct.Struct("<127I")
 # The most bits of a bitmap block with a wrong sum that change without `--force`.

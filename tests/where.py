@@ -18,8 +18,8 @@ from typing import Dict, Iterator, List, NamedTuple, Optional, Set, Tuple
 
 sys.dont_write_bytecode = True
 
-from drawn_volume import DIRECTORY, FILE, PAGE_BITS, SLOTS, Drawer, drawn
-from harness import BLOCK, MOMENT, Image, Ran, Room, fault_of, try_all
+from drawn_volume import Drawer, drawn
+from harness import BLOCK, DIRECTORY, FILE, MOMENT, PAGE_BITS, Image, Ran, Room, fault_of, try_all
 
 ROUNDS = int(os.environ.get("ROUNDS", "60"))
 MEANINGS = [
@@ -56,16 +56,14 @@ class Noting(Drawer):
 
     def put_bytes(self, key: int, blocks: List[int], data: bytes) -> None:
         super().put_bytes(key, blocks, data)
-        room = 488 if self.ofs else BLOCK
-        count = (len(data) + room - 1) // room
+        count = (len(data) + self.room - 1) // self.room
         self.letters.update({block: "#" if at < count else "X" for at, block in enumerate(blocks)})
         self.headers.update({block: key for block in blocks})
 
     def letter(self, block: int) -> str:
         """Its letter. A block that nothing took is lost if a valid bitmap says that it is used."""
-        page, bit = divmod(block - 2, PAGE_BITS)
         is_valid = self.long(self.root, 78) == 2**32 - 1
-        unused = "L" if is_valid and not self.long(self.pages[page], 1 + bit // 32) >> bit % 32 & 1 else "."
+        unused = "L" if is_valid and not self.is_free(block) else "."
         return self.letters.get(block) or unused
 
 
@@ -120,12 +118,11 @@ class Reading(Image):
 
     def __init__(self, data: bytes) -> None:
         super().__init__(data)
-        self.root = (self.blocks + 1) // 2
         self.owners: Dict[int, Owned] = {0: Owned("boot"), 1: Owned("boot"), self.root: Owned("root")}
         self.own: Dict[int, Set[int]] = {self.root: {self.root}}
         for at in range((self.blocks - 2 + PAGE_BITS - 1) // PAGE_BITS):
             self.owners[self.long(self.root, 79 + at)] = Owned("bitmap", None, at)
-        for key in self.keys():
+        for key in self.all_keys():
             is_file = self.long(key, 127) == FILE
             path = self.path(key)
             self.owners[key] = Owned("file" if is_file else "directory", path)
@@ -133,32 +130,24 @@ class Reading(Image):
             if is_file:
                 self.read_file(key, path)
 
-    def keys(self) -> Iterator[int]:
+    def all_keys(self) -> Iterator[int]:
         """All entries, each directory after the one that it is in."""
         left = [self.root]
         while left:
-            directory = left.pop()
-            for key in (self.long(directory, 6 + at) for at in range(SLOTS)):
-                while key:
-                    yield key
-                    if self.long(key, 127) == DIRECTORY:
-                        left.append(key)
-                    key = self.long(key, 124)
+            for key in self.keys(left.pop()):
+                yield key
+                if self.long(key, 127) == DIRECTORY:
+                    left.append(key)
 
     def path(self, key: int) -> str:
-        """The names from an entry up to the root, the other way round."""
-        names: List[bytes] = []
-        while key != self.root:
-            names.append(self.text(key, 432))
-            key = self.long(key, 125)
-        return b"/".join(reversed(names)).decode("latin-1")
+        return b"/".join(self.names_of(key)).decode("latin-1")
 
     def read_file(self, key: int, path: str) -> None:
         """The data and extension blocks of a file. Each data block begins where the one before it ends."""
-        room, left, number, first, holder, extension = (488 if self.data[3] == 0 else BLOCK), self.long(key, 81), 0, 0, key, 0
+        left, number, first, holder, extension = self.long(key, 81), 0, 0, key, 0
         while True:
             for at in range(self.long(holder, 2)):
-                held = min(room, left)
+                held = min(self.room, left)
                 block = self.long(holder, 77 - at)
                 self.put_owner(block, key, Owned("data", path, number, first, first + held - 1))
                 number, first, left = number + 1, first + held, left - held
@@ -175,9 +164,7 @@ class Reading(Image):
     def owned(self, block: int) -> Owned:
         if block in self.owners:
             return self.owners[block]
-        page, bit = divmod(block - 2, PAGE_BITS)
-        is_free = self.long(self.root, 78) == 0 or self.long(self.long(self.root, 79 + page), 1 + bit // 32) >> bit % 32 & 1
-        return Owned("free" if is_free else "lost")
+        return Owned("free" if self.long(self.root, 78) == 0 or self.is_free(block) else "lost")
 
 
 def words_of(owned: Owned) -> str:

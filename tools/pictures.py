@@ -23,29 +23,22 @@ The image of docs/floppy.svg was made by these commands:
 from __future__ import annotations
 
 import re
-import struct
 import sys
 from dataclasses import dataclass, field
 from pathlib import Path
 from xml.sax.saxutils import escape
 
 TOP = Path(__file__).resolve().parent.parent
+sys.dont_write_bytecode = True
+sys.path.insert(0, str(TOP / "tests"))
+
+from all_faults_model import lines_of
+from where import Reading
+
 CRATES = TOP / "docs/crates.svg"
 FLOPPY = TOP / "docs/floppy.svg"
 WIDTH = 800
-
-# The format of the disk, from `adf_block::layout`: indices of longs in a block, types, and counts.
-BLOCK_BYTES = 512
-BOOT_BLOCKS = 2
-POINTER_COUNT = 2
-FIRST_SLOT, LAST_SLOT = 6, 77
-FIRST_BITMAP_LONG, BITMAP_LONGS = 79, 25
-NAME_BYTE = 432
-NEXT_IN_CHAIN = 124
-NEXT_EXTENSION = 126
-SECONDARY_TYPE = 127
-DIRECTORY_TYPE, FILE_TYPE = 2, 0xFFFFFFFD
-LONG_BITS, MAP_LONGS = 32, 127
+# Of a floppy.
 CYLINDERS, SIDES = 80, 2
 
 # The roles of a block: the colour, and the text of the legend for one block and for several.
@@ -92,74 +85,12 @@ def label(x: float, y: float, said: str, look: str = "") -> str:
 # The floppy.
 
 
-class Floppy:
+class Floppy(Reading):
     """The image of a floppy with the role of each block."""
 
     def __init__(self, data: bytes) -> None:
-        self.data = data
-        self.blocks = len(data) // BLOCK_BYTES
-        self.root = (self.blocks + 1) // 2
-        self.roles = ["free" if self.is_free(block) else "lost" for block in range(self.blocks)]
-        for block in range(BOOT_BLOCKS):
-            self.roles[block] = "boot"
-        self.roles[self.root] = "root"
-        for block in self.bitmap_blocks():
-            self.roles[block] = "bitmap"
-        self.walk()
-
-    def long(self, block: int, at: int) -> int:
-        """Returns a long of a block."""
-        return int(struct.unpack_from(">I", self.data, block * BLOCK_BYTES + 4 * at)[0])
-
-    def name(self) -> str:
-        """Returns the name of the volume."""
-        at = self.root * BLOCK_BYTES + NAME_BYTE
-        return self.data[at + 1 : at + 1 + self.data[at]].decode("latin-1")
-
-    def bitmap_blocks(self) -> list[int]:
-        """Returns the bitmap blocks."""
-        longs = [self.long(self.root, FIRST_BITMAP_LONG + at) for at in range(BITMAP_LONGS)]
-        return [block for block in longs if block]
-
-    def is_free(self, block: int) -> bool:
-        """Returns whether the bitmap marks the block as free."""
-        at, bit = divmod(block - BOOT_BLOCKS, LONG_BITS)
-        place, at = divmod(at, MAP_LONGS)
-        return block >= BOOT_BLOCKS and bool(self.long(self.bitmap_blocks()[place], 1 + at) >> bit & 1)
-
-    def take(self, block: int, role: str) -> bool:
-        """Sets the role of a block. In a valid image the block has no role yet."""
-        if not 0 < block < self.blocks or self.roles[block] not in ("free", "lost"):
-            return False
-        self.roles[block] = role
-        return True
-
-    def walk(self) -> None:
-        """Sets the role of each block that is reachable from the root block."""
-        left = [self.root]
-        while left:
-            directory = left.pop()
-            for slot in range(FIRST_SLOT, LAST_SLOT + 1):
-                entry = self.long(directory, slot)
-                while entry:
-                    kind = self.long(entry, SECONDARY_TYPE)
-                    if not self.take(entry, "file" if kind == FILE_TYPE else "directory"):
-                        break
-                    if kind == FILE_TYPE:
-                        self.walk_file(entry)
-                    elif kind == DIRECTORY_TYPE:
-                        left.append(entry)
-                    entry = self.long(entry, NEXT_IN_CHAIN)
-
-    def walk_file(self, header: int) -> None:
-        """Sets the roles of the data and extension blocks of a file."""
-        block = header
-        while True:
-            for at in range(min(self.long(block, POINTER_COUNT), LAST_SLOT - FIRST_SLOT + 1)):
-                self.take(self.long(block, LAST_SLOT - at), "data")
-            block = self.long(block, NEXT_EXTENSION)
-            if not self.take(block, "extension"):
-                return
+        super().__init__(data)
+        self.roles = [self.owned(block).owner for block in range(self.blocks)]
 
     def legend_of(self, role: str) -> str:
         """Returns the text of the legend for a role."""
@@ -197,7 +128,8 @@ def draw_floppy(data: bytes) -> str:
     """Returns the picture of the blocks of a floppy."""
     floppy = Floppy(data)
     track = floppy.blocks // CYLINDERS // SIDES
-    title = f"The {floppy.blocks:,} blocks of the floppy {floppy.name()}, by what they hold"
+    name = floppy.text(floppy.root, 432).decode("latin-1")
+    title = f"The {floppy.blocks:,} blocks of the floppy {name}, by what they hold"
     parts = [label(LEFT, 28, title, "head")]
     parts.append(label(LEFT, 48, "A column is a cylinder. Blocks are numbered downwards, then to the right.", "small"))
     for cylinder in [*range(0, CYLINDERS, 10), CYLINDERS - 1]:
@@ -495,13 +427,10 @@ def main(arguments: list[str]) -> int:
         print(__doc__)
         return 0 if arguments in (["-h"], ["--help"]) else 1
     data = Path(arguments[0]).read_bytes()
-    try:
-        if len(data) not in (901_120, 1_802_240):
-            raise ValueError
-        FLOPPY.write_text(draw_floppy(data))
-    except (IndexError, ValueError, struct.error):
+    if len(data) not in (901_120, 1_802_240) or lines_of(data):
         print(f"{arguments[0]} is no image of a floppy that `check` accepts")
         return 1
+    FLOPPY.write_text(draw_floppy(data))
     return 0
 
 

@@ -44,12 +44,6 @@ static void faults(void) {
     EXPECT("close", jip_close(&h) == JIP_DONE);
 }
 
-/* The long at a place of a block, which is big-endian. */
-static uint32_t long_at(const uint8_t *image, uint32_t block, uint32_t at) {
-    const uint8_t *bytes = image + 512 * block + 4 * at;
-    return (uint32_t)bytes[0] << 24 | (uint32_t)bytes[1] << 16 | (uint32_t)bytes[2] << 8 | (uint32_t)bytes[3];
-}
-
 /* Faults with the longs that show them: a checksum, a key that is not the block's own, and a name. */
 static void values(void) {
     jip_handle h = blank(JIP_FFS, JIP_DOUBLE_DENSITY);
@@ -62,7 +56,7 @@ static void values(void) {
     image[512 * key + 7] ^= 1; /* long 1, the header's own key */
     EXPECT("check", jip_check_values(image, length, found, 8, &count, &more) == JIP_DONE && count == 2 && more == 0);
     EXPECT("a checksum", found[0].kind == JIP_FAULT_BAD_SUM && found[0].block == key && found[0].known == 2 && found[0].at == 5);
-    EXPECT("the right checksum", found[0].found == long_at(image, key, 5) && found[0].wanted - found[0].found == (key & 1) - ((key ^ 1) & 1));
+    EXPECT("the right checksum", found[0].found == long_in(image, key, 5) && found[0].wanted - found[0].found == (key & 1) - ((key ^ 1) & 1));
     EXPECT("a key", found[1].kind == JIP_FAULT_BAD_OWN_KEY && found[1].known == 2 && found[1].at == 1);
     EXPECT("the right key", found[1].found == (key ^ 1) && found[1].wanted == key);
     memset(found, 0x77, sizeof found);
@@ -126,14 +120,14 @@ static void map(int32_t format, uint32_t bytes_of_block) {
     uint8_t *image = image_of(&h, &length);
     EXPECT("map", jip_map(&h, map_of, JIP_DOUBLE_DENSITY, &count) == JIP_DONE && count == JIP_DOUBLE_DENSITY);
     EXPECT("boot blocks", owns(0, JIP_ROLE_BOOT, 0, 0) && owns(1, JIP_ROLE_BOOT, 0, 0));
-    EXPECT("the root", owns(880, JIP_ROLE_ROOT, 880, 0) && owns(long_at(image, 880, 79), JIP_ROLE_BITMAP, 0, 0));
+    EXPECT("the root", owns(880, JIP_ROLE_ROOT, 880, 0) && owns(long_in(image, 880, 79), JIP_ROLE_BITMAP, 0, 0));
     EXPECT("headers", owns(directory, JIP_ROLE_DIRECTORY, directory, 0) && owns(empty, JIP_ROLE_FILE, empty, 0));
     EXPECT("a header", owns(file.key, JIP_ROLE_FILE, file.key, 0));
-    const uint32_t extension = long_at(image, file.key, 126);
+    const uint32_t extension = long_in(image, file.key, 126);
     EXPECT("an extension block", owns(extension, JIP_ROLE_EXTENSION, file.key, 0));
     for (uint32_t k = 0; k < BLOCKS; k++) {
         const uint32_t holder = k < 72 ? file.key : extension;
-        EXPECT("a data block", owns(long_at(image, holder, 77 - k % 72), JIP_ROLE_DATA, file.key, k));
+        EXPECT("a data block", owns(long_in(image, holder, 77 - k % 72), JIP_ROLE_DATA, file.key, k));
     }
     for (size_t block = 0; block < JIP_DOUBLE_DENSITY; block++) {
         if (map_of[block].header == file.key) own++;

@@ -40,13 +40,9 @@ static int32_t save(void *context) {
     return save_error;
 }
 
-static uint32_t long_at(uint32_t at) {
-    return (uint32_t)ram[at] << 24 | (uint32_t)ram[at + 1] << 16 | (uint32_t)ram[at + 2] << 8 | ram[at + 3];
-}
+static uint32_t long_at(uint32_t at) { return long_of(ram + at); }
 
-static void set_long(uint32_t at, uint32_t value) {
-    for (uint32_t k = 0; k < 4; k++) ram[at + k] = (uint8_t)(value >> (24 - 8 * k));
-}
+static void set_long(uint32_t at, uint32_t value) { put_long(ram + at, value); }
 
 static void set_up(int32_t format) {
     const jip_date first = {1, 2, 3};

@@ -18,7 +18,6 @@ static uint8_t ram[RAM], bytes[MOST];
 static jip_handle floppy = JIP_CLOSED, twin = JIP_CLOSED;
 static jip_guest guest;
 static struct pair locks[LOCKS], files[FILES];
-static uint64_t draws;
 
 static int peek(void *context, uint32_t at, void *to, uint32_t length) {
     (void)context;
@@ -34,18 +33,9 @@ static int poke(void *context, uint32_t at, const void *from, uint32_t length) {
     return 1;
 }
 
-static uint32_t long_at(uint32_t at) {
-    return (uint32_t)ram[at] << 24 | (uint32_t)ram[at + 1] << 16 | (uint32_t)ram[at + 2] << 8 | ram[at + 3];
-}
+static uint32_t long_at(uint32_t at) { return long_of(ram + at); }
 
-static void set_long(uint32_t at, uint32_t value) {
-    for (uint32_t k = 0; k < 4; k++) ram[at + k] = (uint8_t)(value >> (24 - 8 * k));
-}
-
-static uint32_t draw(uint32_t below) {
-    draws = draws * 6364136223846793005 + 1442695040888963407;
-    return (uint32_t)(draws >> 33) % below;
-}
+static void set_long(uint32_t at, uint32_t value) { put_long(ram + at, value); }
 
 /* ---- Names and numbers ---- */
 

@@ -116,6 +116,26 @@ static inline int is_named(jip_answer answer, const char *name) {
     return answer.res2 == 0 && answer.entry.name_length == strlen(name) && strcmp((const char *)answer.entry.name, name) == 0;
 }
 
+/* The big-endian long at a place in memory. */
+static inline uint32_t long_of(const uint8_t *bytes) {
+    return (uint32_t)bytes[0] << 24 | (uint32_t)bytes[1] << 16 | (uint32_t)bytes[2] << 8 | (uint32_t)bytes[3];
+}
+
+static inline void put_long(uint8_t *bytes, uint32_t value) {
+    for (uint32_t k = 0; k < 4; k++) bytes[k] = (uint8_t)(value >> (24 - 8 * k));
+}
+
+/* A long of a block of an image. */
+static inline uint32_t long_in(const uint8_t *image, uint32_t block, uint32_t at) { return long_of(image + 512 * block + 4 * at); }
+
+static uint64_t draws;
+
+/* Draws a number below this one. The numbers depend on the first value of `draws`. */
+static inline uint32_t draw(uint32_t below) {
+    draws = draws * 6364136223846793005u + 1442695040888963407u;
+    return (uint32_t)(draws >> 33) % below;
+}
+
 /* Returns a copy of the image. The caller frees it. */
 static inline uint8_t *image_of(jip_handle *h, size_t *length) {
     *length = jip_image_length(h);

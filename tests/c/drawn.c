@@ -6,18 +6,12 @@
  */
 #include "asking.h"
 
-static uint64_t seed;
 static FILE *script, *wanted;
 static int number;
 
-static uint32_t drawn(uint32_t below) {
-    seed = seed * 6364136223846793005u + 1442695040888963407u;
-    return (uint32_t)(seed >> 33) % below;
-}
-
 static const char *name(void) {
     static const char *const names[] = {"a", "B", "ab", "DP", "dir", "dir/a", "dir/b", "dir/dir", "a//B", ":", "/", "", "x:a", "dir/"};
-    return names[drawn(sizeof names / sizeof *names)];
+    return names[draw(sizeof names / sizeof *names)];
 }
 
 /* Prints the answer as the program prints it. */
@@ -38,11 +32,11 @@ static void tell(const jip_answer *answer, const jip_packet *packet) {
 
 /* Draws a packet on a lock or on a path, and writes its line. */
 static void draw_object(jip_packet *p) {
-    uint32_t lock = drawn(6), other_lock = drawn(6), bits = drawn(4) == 0 ? drawn(128) : 0;
+    uint32_t lock = draw(6), other_lock = draw(6), bits = draw(4) == 0 ? draw(128) : 0;
     const char *path = name(), *to = name();
-    int32_t mode = drawn(4) == 0 ? JIP_EXCLUSIVE_LOCK : JIP_SHARED_LOCK;
-    unsigned l = lock, o = other_lock, key = drawn(3) == 0 ? drawn(12) : 880;
-    switch (drawn(17)) {
+    int32_t mode = draw(4) == 0 ? JIP_EXCLUSIVE_LOCK : JIP_SHARED_LOCK;
+    unsigned l = lock, o = other_lock, key = draw(3) == 0 ? draw(12) : 880;
+    switch (draw(17)) {
     case 0: jip_locate_object(p, now, lock, path, mode); fprintf(script, "locate %u %d \"%s\"\n", l, (int)mode, path); break;
     case 1:
     case 2: jip_free_lock(p, now, lock); fprintf(script, "free %u\n", l); break;
@@ -66,12 +60,12 @@ static void draw_object(jip_packet *p) {
 /* The same for a packet on a file. */
 static void draw_file(jip_packet *p) {
     static char buffer[6000];
-    uint32_t file = 1 + drawn(4), lock = drawn(3), length = drawn(8) == 0 ? drawn(6000) : drawn(40);
-    int32_t offset = (int32_t)drawn(900) - 100, mode = (int32_t)drawn(4) - 1;
+    uint32_t file = 1 + draw(4), lock = draw(3), length = draw(8) == 0 ? draw(6000) : draw(40);
+    int32_t offset = (int32_t)draw(900) - 100, mode = (int32_t)draw(4) - 1;
     const char *path = name();
     unsigned f = file, l = lock, n = length;
     memset(buffer, '.', sizeof buffer);
-    switch (drawn(9)) {
+    switch (draw(9)) {
     case 0: jip_findinput(p, now, lock, path); fprintf(script, "input %u \"%s\"\n", l, path); break;
     case 1: jip_findoutput(p, now, lock, path); fprintf(script, "output %u \"%s\"\n", l, path); break;
     case 2: jip_findupdate(p, now, lock, path); fprintf(script, "update %u \"%s\"\n", l, path); break;
@@ -80,7 +74,7 @@ static void draw_file(jip_packet *p) {
     case 5: jip_set_file_size(p, now, file, offset, mode); fprintf(script, "size %u %d %d\n", f, (int)offset, (int)mode); break;
     case 6: jip_end(p, now, file); fprintf(script, "end %u\n", f); break;
     default:
-        for (uint32_t k = 0; k < length; k++) buffer[k] = (char)('a' + drawn(26));
+        for (uint32_t k = 0; k < length; k++) buffer[k] = (char)('a' + draw(26));
         jip_write(p, now, file, buffer, length);
         fprintf(script, "write %u \"%.*s\"\n", f, (int)length, buffer);
     }
@@ -110,7 +104,7 @@ static void follow(jip_handle *h, uint8_t *copy, size_t length) {
 int main(int count, char **words) {
     static uint8_t bytes[52020224];
     if (count != 6) return 2;
-    seed = strtoull(words[1], NULL, 10);
+    draws = strtoull(words[1], NULL, 10);
     FILE *from = fopen(words[2], "rb");
     size_t length = from == NULL ? 0 : fread(bytes, 1, sizeof bytes, from);
     jip_handle h = JIP_CLOSED;
@@ -123,7 +117,7 @@ int main(int count, char **words) {
     if (script == NULL || wanted == NULL || after == NULL || jip_open(bytes, length, &h, &fault) != JIP_DONE) return 2;
     for (number = 1; number <= 2000; number++) {
         jip_packet packet;
-        if (drawn(2) == 0) draw_object(&packet);
+        if (draw(2) == 0) draw_object(&packet);
         else draw_file(&packet);
         jip_answer answer = asked(&h, &packet);
         tell(&answer, &packet);

@@ -20,29 +20,18 @@ static int is_refused(const struct told *told) {
     return told->status == JIP_WRONG_ARGUMENT && told->length == nothing.length && strcmp(told->bytes, nothing.bytes) == 0;
 }
 
-static struct told host_of(const char *name, size_t length) {
-    struct told told = nothing;
-    told.status = jip_host_of_name(name, length, told.bytes, sizeof told.bytes, &told.length);
-    return told;
-}
+/* Defines a function that calls one of the four conversions of texts. */
+#define CONVERSION(name, call)                                                         \
+    static struct told name(const char *from, size_t length) {                         \
+        struct told told = nothing;                                                    \
+        told.status = call(from, length, told.bytes, sizeof told.bytes, &told.length); \
+        return told;                                                                   \
+    }
 
-static struct told name_of(const char *host, size_t length) {
-    struct told told = nothing;
-    told.status = jip_name_of_host(host, length, told.bytes, sizeof told.bytes, &told.length);
-    return told;
-}
-
-static struct told letters_of(const char *bytes, size_t length) {
-    struct told told = nothing;
-    told.status = jip_letters_of_bytes(bytes, length, told.bytes, sizeof told.bytes, &told.length);
-    return told;
-}
-
-static struct told bytes_of(const char *letters, size_t length) {
-    struct told told = nothing;
-    told.status = jip_bytes_of_letters(letters, length, told.bytes, sizeof told.bytes, &told.length);
-    return told;
-}
+CONVERSION(host_of, jip_host_of_name)
+CONVERSION(name_of, jip_name_of_host)
+CONVERSION(letters_of, jip_letters_of_bytes)
+CONVERSION(bytes_of, jip_bytes_of_letters)
 
 static struct told line_of(uint32_t bits, jip_date date, const char *text, size_t length) {
     struct told told = nothing;
@@ -189,6 +178,7 @@ static void read_notes(void) {
     EXPECT("null", jip_read_uaem(NULL, 1, &note) == JIP_WRONG_ARGUMENT && jip_read_uaem("x", 1, NULL) == JIP_WRONG_ARGUMENT);
 }
 
+/* Dates with their texts, both ways, and texts of no date. */
 static void dates(void) {
     static const struct {
         jip_date date;
@@ -201,27 +191,6 @@ static void dates(void) {
         {{1, 1440, 0}, "raw 1 1440 0"},
         {{UINT32_MAX, UINT32_MAX, UINT32_MAX}, "raw 4294967295 4294967295 4294967295"},
     };
-    for (size_t i = 0; i < sizeof rows / sizeof rows[0]; i++) {
-        char text[40];
-        size_t length = 0;
-        EXPECT(rows[i].text, jip_text_of_date(rows[i].date, text, sizeof text, &length) == JIP_DONE);
-        EXPECT(rows[i].text, length == strlen(rows[i].text) && memcmp(text, rows[i].text, length) == 0);
-    }
-    EXPECT("null", jip_text_of_date(now, NULL, 1, NULL) == JIP_WRONG_ARGUMENT);
-}
-
-/* Dates that come back from their texts, and texts of no date. */
-static void read_dates(void) {
-    static const struct {
-        jip_date date;
-        const char *text;
-    } rows[] = {
-        {{0, 0, 0}, "1978-01-01 00:00:00.00"},
-        {{8095, 754, 2003}, "2000-03-01 12:34:40.06"},
-        {{2929974, 1439, 2999}, "9999-12-31 23:59:59.98"},
-        {{1, 1440, 0}, "raw 1 1440 0"},
-        {{UINT32_MAX, UINT32_MAX, UINT32_MAX}, "raw 4294967295 4294967295 4294967295"},
-    };
     static const char *const none[] = {
         "", "1978-01-01", "1978-01-01 00:00:00.01", "2001-02-29 00:00:00.00", "1977-12-31 00:00:00.00",
         "1978-01-01 24:00:00.00", "1978-01-01 00:00:00.00 ", "1978-01-01 00:00:00.00 x", "raw 0 0 0", "raw 1 1440 00",
@@ -229,6 +198,10 @@ static void read_dates(void) {
     };
     jip_date date;
     for (size_t i = 0; i < sizeof rows / sizeof rows[0]; i++) {
+        char text[40];
+        size_t length = 0;
+        EXPECT(rows[i].text, jip_text_of_date(rows[i].date, text, sizeof text, &length) == JIP_DONE);
+        EXPECT(rows[i].text, length == strlen(rows[i].text) && memcmp(text, rows[i].text, length) == 0);
         memset(&date, 0x77, sizeof date);
         EXPECT(rows[i].text, jip_date_of_text(rows[i].text, strlen(rows[i].text), &date) == JIP_DONE);
         EXPECT(rows[i].text, memcmp(&date, &rows[i].date, sizeof date) == 0);
@@ -238,6 +211,7 @@ static void read_dates(void) {
         EXPECT(none[i], jip_date_of_text(none[i], strlen(none[i]), &date) == JIP_WRONG_ARGUMENT && date.days == 77);
     EXPECT("null", jip_date_of_text(NULL, 0, &date) == JIP_WRONG_ARGUMENT && jip_date_of_text(NULL, 1, &date) == JIP_WRONG_ARGUMENT);
     EXPECT("null", jip_date_of_text("", 0, NULL) == JIP_WRONG_ARGUMENT);
+    EXPECT("null", jip_text_of_date(now, NULL, 1, NULL) == JIP_WRONG_ARGUMENT);
 }
 
 /* Times of the host. The seconds are those that `date -u +%s` gives for the texts of the dates. */
@@ -287,7 +261,6 @@ int main(void) {
     notes();
     read_notes();
     dates();
-    read_dates();
     times();
     return summed_up();
 }

@@ -23,11 +23,6 @@ static uint32_t key_of(jip_handle *h, const char *path) {
     return key;
 }
 
-static uint32_t long_at(const uint8_t *image, uint32_t block, uint32_t at) {
-    const uint8_t *bytes = image + 512 * block + 4 * at;
-    return (uint32_t)bytes[0] << 24 | (uint32_t)bytes[1] << 16 | (uint32_t)bytes[2] << 8 | (uint32_t)bytes[3];
-}
-
 static jip_salvaged entry_of(jip_salvage *s, size_t place) {
     jip_salvaged entry;
     memset(&entry, 0x77, sizeof entry);
@@ -116,7 +111,7 @@ static void broken(void) {
     size_t length;
     const uint32_t header = key_of(&h, "Docs/text");
     uint8_t *image = image_of(&h, &length), left[LENGTH];
-    memset(image + 512 * long_at(image, header, 76), 0, 512);
+    memset(image + 512 * long_in(image, header, 76), 0, 512);
     memcpy(left, text, sizeof left);
     memset(left + OFS_BYTES, 0, OFS_BYTES);
     EXPECT("open", jip_salvage_open(image, length, &s) == JIP_DONE && jip_salvage_count(&s) == 2);

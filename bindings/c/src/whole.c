@@ -48,16 +48,20 @@ int32_t jip_reach(jip_handle *handle, const char *path, size_t path_length, uint
     return JIP_DONE;
 }
 
-/* Opens the file at a place by FINDINPUT, FINDOUTPUT or FINDUPDATE. */
-static int32_t open_file(jip_handle *handle, int32_t action, jip_date moment, const struct place *at, uint32_t *file) {
+/* Serves a packet about the object at a place. */
+static int32_t ask_at(jip_handle *handle, int32_t action, jip_date moment, const struct place *at, jip_answer *answer) {
     jip_packet packet;
-    jip_answer answer;
-    int32_t result;
     jip_begin(&packet, action, moment);
     packet.lock = at->lock;
     packet.path = (const uint8_t *)at->path;
     packet.path_length = at->length;
-    result = ask(handle, &packet, &answer);
+    return ask(handle, &packet, answer);
+}
+
+/* Opens the file at a place by FINDINPUT, FINDOUTPUT or FINDUPDATE. */
+static int32_t open_file(jip_handle *handle, int32_t action, jip_date moment, const struct place *at, uint32_t *file) {
+    jip_answer answer;
+    const int32_t result = ask_at(handle, action, moment, at, &answer);
     if (result == JIP_DONE) *file = answer.handle;
     return result;
 }
@@ -126,13 +130,8 @@ static int32_t fill(jip_handle *handle, uint32_t file, const struct content *con
 
 /* Deletes the file at a place. */
 static void delete_at(jip_handle *handle, const struct place *at, jip_date moment) {
-    jip_packet packet;
     jip_answer answer;
-    jip_begin(&packet, JIP_ACTION_DELETE_OBJECT, moment);
-    packet.lock = at->lock;
-    packet.path = (const uint8_t *)at->path;
-    packet.path_length = at->length;
-    (void)ask(handle, &packet, &answer);
+    (void)ask_at(handle, JIP_ACTION_DELETE_OBJECT, moment, at, &answer);
 }
 
 /* Writes the file at a place. A new one that cannot be filled is deleted again. */
