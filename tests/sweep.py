@@ -5,7 +5,8 @@
 
 The floppies are drawn in Python, in both formats. Each gets one damage: a flipped bit in a block of each role, a track of noise,
 a block of zeros, or no root. The expected account comes from the floppy as it was: each file has exactly one line, a file that was
-not hit is whole with its bytes, and the status is the one that `check` asks for. Without `--all`, some of the damages are tried;
+not hit is whole with its bytes, and the status is the one that `check` asks for. The blocks that are used and belong to nothing
+are those of tests/disk_model.py. Without `--all`, some of the damages are tried;
 they are the same in each run.
 
 Then come images that tests/fuzz.py damages at random, 100 or N. tests/disk_model.py says what `extract --damaged` has to print and
