@@ -6,7 +6,7 @@ use Rattle.std.proofs.lemmas.List.Elements.{Contains-append_cases, Contains-appe
 use Rattle.std.proofs.lemmas.List.{get_or-map, get_or_default, length-map, map_more}
 use Rattle.ados_model.specs.Accepted.{Accepts, ShowsNoFault}
 use Rattle.adf_salvage.specs.declared.deleted.Deleted.{Deleted}
-use Rattle.adf_salvage.specs.Deleted.{IsDeleted, IsTrustedBitmap, ListsDeleted}
+use Rattle.adf_salvage.specs.Deleted.{IsDeleted, IsTrustedBitmap, ListsDeleted, TellsTrust}
 use Rattle.adf_salvage.specs.Salvaged.{AreDeleted, AreLeftOut}
 use Rattle.adf_salvage.specs.steps.Giving.{mark_at}
 use Rattle.adf_salvage.specs.steps.Leaving.{AreMarked}
@@ -99,3 +99,17 @@ valid_deleted image new headers false e left_out accepts = subst (λ (xs : List 
   | inl deleted ↦ deleted
   | inr (none, shows) ↦ absurd (shows (subst ShowsNoFault (sym accepts.2) accepts.0))
 ])
+
+-- whether their bitmaps are trusted
+pub invalid_trust : (image new : List ℕ) (validated : Bool) → validated ≡ true → Accepts image validated new → TellsTrust image false
+invalid_trust image new true e accepts = inl (λ t. accepts.1.was_not_valid t.valid)
+invalid_trust image new false e accepts = absurd (cc e)
+
+pub valid_trust : (image new : List ℕ) (validated trusted : Bool) → validated ≡ false → TellsTrust new trusted → Accepts image validated new → TellsTrust image trusted
+valid_trust image new true trusted e trust accepts = absurd (cc e)
+valid_trust image new false trusted e trust accepts = subst (λ (xs : List ℕ). TellsTrust xs trusted) accepts.2 trust
+
+-- a bitmap that is called trusted is
+pub is_trusted : (image : List ℕ) (trusted : Bool) → TellsTrust image trusted → trusted ≡ true → IsTrustedBitmap image
+is_trusted image true trust e = trust
+is_trusted image false trust e = absurd (cc e)

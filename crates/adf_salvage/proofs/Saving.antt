@@ -1,11 +1,12 @@
 -- The entries of all sound headers, and what can be read of them.
-use Rattle.std.proofs.Common.{◌≡◌, ℕ, ◌<◌, inl, inr, List, length, get_or, slice_index, Some, IsSome, sym, ap, ◌∙◌, subst, arith}
+use Rattle.std.proofs.Common.{◌≡◌, ℕ, ◌<◌, inl, inr, Bool, true, List, length, get_or, slice_index, Some, IsSome, sym, ap, ◌∙◌, subst, arith}
 use Rattle.std.proofs.lemmas.List.{get_or_default}
 use Rattle.adf_block.specs.Image.{block_count}
 use Rattle.adf_salvage.specs.declared.gathered.Gathered.{Gathered}
 use Rattle.adf_salvage.specs.declared.salvaged.State.{State}
 use Rattle.adf_salvage.specs.declared.salvaged.State.TheVariants.{Directory, DoubtfulDirectory, Whole, Doubtful, Lost, Broken}
 use Rattle.adf_salvage.specs.declared.salvaged.Salvaged.{Salvaged}
+use Rattle.adf_salvage.specs.Deleted.{IsTrustedBitmap, TellsTrust}
 use Rattle.adf_salvage.specs.Lost.{IsLost}
 use Rattle.adf_salvage.specs.Salvaged.{AreApart, AreLeftOut, AreSalvaged, HasState, IsTold, Saved, SavesSound, broken_total, headers_of}
 use Rattle.adf_salvage.specs.steps.Gathering.{AreAllHeaders, AreGathered, place_at}
@@ -42,9 +43,10 @@ module _ (out image : List ℕ) (gathered : Gathered) (g : AreGathered out image
     lost = λ block lost. g.met block (lost_met block lost);
   }
 
-  pub saves_sound : (saved : Saved) → AreLeftOut image out → saved.deleted ≡ out → saved.image ≡ image → saved.entries ≡ gathered.entries.items → saved.given ≡ gathered.giving.pieces.items
+  pub saves_sound : (saved : Saved) (trusted : Bool) → TellsTrust image trusted → saved.trusted ≡ trusted → AreLeftOut image out → saved.deleted ≡ out → saved.image ≡ image → saved.entries ≡ gathered.entries.items → saved.given ≡ gathered.giving.pieces.items
       → AreAllHeaders out image gathered.places.items → ((block : ℕ) → IsLost out image block → IsSome (place_at gathered.places.items block)) → SavesSound saved
-  saves_sound saved left_out leaves same are given met lost_met = record {
+  saves_sound saved trusted trust tells left_out leaves same are given met lost_met = record {
+    trust = subst (λ (xs : List ℕ). TellsTrust xs saved.trusted) (sym same) (subst (TellsTrust image) (sym tells) trust);
     left_out = subst (λ (xs : List ℕ). AreLeftOut xs saved.deleted) (sym same) (subst (AreLeftOut image) (sym leaves) left_out);
     salvaged = subst (λ (xs : List ℕ). AreSalvaged saved.deleted xs saved.entries) (sym same)
         (subst (λ (xs : List ℕ). AreSalvaged xs image saved.entries) (sym leaves) (subst (AreSalvaged out image) (sym are) (all_salvaged met lost_met)));
@@ -52,8 +54,9 @@ module _ (out image : List ℕ) (gathered : Gathered) (g : AreGathered out image
     bounded = omega (arith, g.bounded, ap broken_total are, ap length same);
   }
 
-  pub all_kept : IsKept image gathered.entries.items gathered.giving.pieces.items
-  all_kept = record {
+  pub all_kept : (trusted : Bool) → (trusted ≡ true → IsTrustedBitmap image) → IsKept image trusted gathered.entries.items gathered.giving.pieces.items
+  all_kept trusted trust = record {
+    trust = trust;
     readable = λ k d l. told_readable out image (get_or gathered.entries.items k d) (g.told k d l);
     inside = λ k d l. let marked = g.giving.marked k d l in omega (arith, marked.inside, g.giving.size);
   }

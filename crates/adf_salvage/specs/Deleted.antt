@@ -1,5 +1,5 @@
 -- Deleted entries: what is left of an entry that was removed, and how much of a deleted file can be had back.
-use Rattle.std.specs.Prelude.{◌≡◌, ◌≢◌, ℕ, ◌<◌, Bool, MatchBool, IfSome, List, [], length, map, count_by, All, AllPairs, Contains, Option, Some, None}
+use Rattle.std.specs.Prelude.{◌≡◌, ◌≢◌, ◌⊎◌, ℕ, ◌<◌, Bool, true, false, MatchBool, IfSome, List, [], length, map, count_by, All, AllPairs, Contains, Option, Some, None}
 use Rattle.adf_block.specs.Image.{block_sum}
 use Rattle.adf_block.specs.Whole.{HasFreeBit}
 use Rattle.ados_map.specs.Pages.{page_block, pages_of}
@@ -33,6 +33,11 @@ pub record IsTrustedBitmap (image : List ℕ) : Type 0 where
   pub valid : HasValidBitmap image
   pub pages : AreTrustedPages image
   pub in_use : (block : ℕ) (role : Role) → Reached image block role → ¬ HasFreeBit image block
+
+-- whether the bitmap is trusted: it can be; or it cannot, or the image, which is refused, shows too much to tell
+abbrev pub TellsTrust : List ℕ → Bool → Type 0
+TellsTrust image true = IsTrustedBitmap image
+TellsTrust image false = (¬ IsTrustedBitmap image) ⊎ (¬ ShowsNoFault image)
 
 -- a deleted entry: a sound header that nothing names from the root, and that a trusted bitmap marks free
 pub record IsDeleted (image : List ℕ) (block : ℕ) : Type 0 where

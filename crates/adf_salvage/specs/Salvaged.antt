@@ -20,16 +20,17 @@ use Rattle.adf_salvage.specs.declared.giving.Piece.{Piece}
 use Rattle.adf_salvage.specs.declared.salvaged.Salvaged.{Salvaged}
 use Rattle.adf_salvage.specs.declared.salvaged.State.{State}
 use Rattle.adf_salvage.specs.declared.salvaged.State.TheVariants as states
-use Rattle.adf_salvage.specs.Deleted.{IsDeleted}
+use Rattle.adf_salvage.specs.Deleted.{IsDeleted, TellsTrust}
 use Rattle.adf_salvage.specs.Doubtful.{IsDoubtfulHeader, IsHeader, IsToldHeader}
 use Rattle.adf_salvage.specs.Lost.{IsLost}
 use Rattle.adf_salvage.specs.Sound.{IsSoundHeader, IsWhole}
 
--- how contracts see a salvage: whether the image was accepted, the image as it was read, its entries, the headers that were
--- left out, and the blocks given to files that are not whole
+-- how contracts see a salvage: whether the image was accepted, the image as it was read, whether its bitmap is trusted, its
+-- entries, the headers that were left out, and the blocks given to files that are not whole
 pub record Saved : Type 0 where
   pub accepted : Bool
   pub image : List ℕ
+  pub trusted : Bool
   pub entries : List Salvaged
   pub deleted : List ℕ
   pub given : List Piece
@@ -140,20 +141,23 @@ pub record IsReadAs (image read : List ℕ) : Type 0 where
   pub known : HasKind image Ofs ⊎ HasKind image Ffs → read ≡ image
   pub rest : OnlyLong 0 0 image read
 
--- the deleted entries are left out, and the entries are all others that are told; no block is given to two files, and all files
+-- the bitmap is trusted or not. The deleted entries are left out, and the entries are all others that are told; no block is given to two files, and all files
 -- that are not whole have together at most four times the bytes of the image
 pub record SavesSound (saved : Saved) : Type 0 where
+  pub trust : TellsTrust saved.image saved.trusted
   pub left_out : AreLeftOut saved.image saved.deleted
   pub salvaged : AreSalvaged saved.deleted saved.image saved.entries
   pub apart : AreApart saved.given
   pub bounded : broken_total saved.entries ≤ 4 * length saved.image
 
--- the image was accepted, possibly with a new bitmap, and these are the entries of its tree, and its deleted entries
+-- the image was accepted, possibly with a new bitmap, and these are the entries of its tree, and its deleted entries; its
+-- bitmap, as it was given, is trusted or not
 pub record SavesTree (image : List ℕ) (saved : Saved) : Type 0 where
   pub accepted : saved.accepted ≡ true
   pub validated : Bool
   pub accepts : Accepts image validated saved.image
   pub tree : (t : Tree) → Stands saved.image t → AreOfTree t saved
+  pub trust : TellsTrust image saved.trusted
   pub deleted : AreDeleted image saved.deleted
 
 -- the image was refused, and these are its told entries

@@ -1,7 +1,8 @@
 //! The headers that are left out of a salvage.
-ghost use Rattle.std.specs.Prelude.{◌≡◌, ◌<◌, ℕ, List, [], map, All, Contains, IfOk, MatchBool};
+ghost use Rattle.std.specs.Prelude.{◌≡◌, ◌<◌, ℕ, List, [], map, true, All, Contains, IfOk, MatchBool};
 ghost use Rattle.adf_block.specs.Image.{block_count};
 ghost use Rattle.ados_model.specs.Accepted.{Accepts};
+ghost use Rattle.adf_salvage.specs.Deleted.{IsTrustedBitmap, TellsTrust};
 ghost use Rattle.adf_salvage.specs.Salvaged.{AreDeleted, AreLeftOut};
 
 use crate::deleted::{Deleted, DeletedEntries, deleted_entries};
@@ -31,26 +32,32 @@ impl Model for LeftOut {
     ghost invariant = { λ l. AreMarked l.marks.items l.headers.items };
 }
 
-/// The headers of the deleted entries of an image, as far as its bitmap says which they are.
-pub(crate) fn left_out_of(alloc: Global, image: &Image) -> Result<LeftOut, AllocError>
-    ensures { IfOk result (AreLeftOut image.now) }
+/// The headers of the deleted entries of an image, as far as its bitmap says which they are; and whether it is trusted.
+pub(crate) fn left_out_of(alloc: Global, image: &Image) -> Result<(LeftOut, bool), AllocError>
+    ensures left_out { IfOk result (λ left. AreLeftOut image.now left.0) }
+    ensures trust { IfOk result (λ left. TellsTrust image.now left.1) }
 {
     match deleted_entries(alloc, image)? {
-        DeletedEntries::Found(deleted) => LeftOut::of(alloc, image, &deleted),
-        DeletedEntries::NoTrustedBitmap => Ok(LeftOut::none(alloc)),
-        DeletedEntries::ManyFaults => Ok(LeftOut::none(alloc)),
+        DeletedEntries::Found(deleted) => {
+            let left_out = LeftOut::of(alloc, image, &deleted)?;
+            Ok((left_out, true))
+        }
+        DeletedEntries::NoTrustedBitmap => Ok((LeftOut::none(alloc), false)),
+        DeletedEntries::ManyFaults => Ok((LeftOut::none(alloc), false)),
     }
 }
 
-/// The headers of the deleted entries of an accepted image. A bitmap that was not valid is not trusted.
-pub(crate) fn deleted_in(alloc: Global, volume: &Volume) -> Result<Vec<u32>, AllocError>
-    ensures { IfOk result (λ headers. (image : List ℕ) → Accepts image volume.now.was_validated volume.now.image → AreDeleted image headers.items) }
+/// The headers of the deleted entries of an accepted image, and whether its bitmap is trusted. One that was not valid is not.
+pub(crate) fn deleted_in(alloc: Global, volume: &Volume) -> Result<(Vec<u32>, bool), AllocError>
+    ensures deleted { IfOk result (λ left. (image : List ℕ) → Accepts image volume.now.was_validated volume.now.image → AreDeleted image left.0.items) }
+    ensures trust { IfOk result (λ left. (image : List ℕ) → Accepts image volume.now.was_validated volume.now.image → TellsTrust image left.1) }
+    ensures stays { IfOk result (λ left. left.1 ≡ true → IsTrustedBitmap volume.now.image) }
 {
     if volume.was_validated() {
-        return Ok(Vec::new(alloc));
+        return Ok((Vec::new(alloc), false));
     }
-    let left_out = left_out_of(alloc, volume.image())?;
-    Ok(left_out.into_headers())
+    let (left_out, trusted) = left_out_of(alloc, volume.image())?;
+    Ok((left_out.into_headers(), trusted))
 }
 
 impl LeftOut {

@@ -4,6 +4,7 @@ ghost use Rattle.ados_model.specs.Accepted.{Accepts};
 ghost use Rattle.ados_model.specs.Keys.{HasKey};
 ghost use Rattle.ados_model.specs.Stands.{Stands};
 ghost use Rattle.ados_model.specs.Tree.{Node, Tree};
+ghost use Rattle.adf_salvage.specs.Deleted.{TellsTrust};
 ghost use Rattle.adf_salvage.specs.Salvaged.{AreDeleted, AreOfTree, HoldsAll, IsOfTree, located_of};
 ghost use Rattle.adf_salvage.specs.steps.Keeping.{CanBeRead, IsReadable};
 
@@ -13,18 +14,20 @@ use crate::saved::Salvage;
 use ados_volume::{Below, Volume, entries_below};
 use std::alloc::{AllocError, Global};
 
-/// All entries of a volume, in its order, with whole files; and its deleted entries.
+/// All entries of a volume, in its order, with whole files; and its deleted entries, if its bitmap is trusted.
 pub(crate) fn volume_entries(alloc: Global, volume: Volume) -> Result<Salvage, AllocError>
     ensures accepted { IfOk result (λ saved. saved.accepted ≡ true) }
     ensures image { IfOk result (λ saved. saved.image ≡ volume.image) }
     ensures deleted { IfOk result (λ saved. (image : List ℕ) → Accepts image volume.was_validated volume.image → AreDeleted image saved.deleted) }
+    ensures trust { IfOk result (λ saved. (image : List ℕ) → Accepts image volume.was_validated volume.image → TellsTrust image saved.trusted) }
     ensures told { IfOk result (λ saved. (t : Tree) → Stands volume.image t → AreOfTree t saved) }
 {
-    let deleted = deleted_in(alloc, &volume)?;
+    let (deleted, trusted) = deleted_in(alloc, &volume)?;
     let below = entries_below(alloc, &volume, volume.root())?;
     let entries = entries_of(alloc, &volume, &below)?;
     let pieces = Vec::new(alloc);
-    Ok(Salvage::of(true, volume.into_image(), entries, deleted, pieces))
+    let image = volume.into_image();
+    Ok(Salvage::of(true, image, trusted, entries, deleted, pieces))
 }
 
 /// These entries of a volume, with whole files.

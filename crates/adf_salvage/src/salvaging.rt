@@ -47,7 +47,7 @@ fn told_headers(alloc: Global, image: Image) -> Result<Salvage, AllocError>
     ensures image { IfOk result (λ saved. saved.image ≡ image) }
     ensures saves { IfOk result SavesSound }
 {
-    let left_out = left_out_of(alloc, &image)?;
+    let (left_out, trusted) = left_out_of(alloc, &image)?;
     let known = known_of(alloc, &image, left_out)?;
     let mut gathered = Gathered::new(alloc, &image)?;
     add_reached(alloc, &image, &known, &mut gathered)?;
@@ -60,5 +60,5 @@ fn told_headers(alloc: Global, image: Image) -> Result<Salvage, AllocError>
     } = gathered;
     let Giving { pieces, .. } = giving;
     let deleted = known.left_out.into_headers();
-    Ok(Salvage::of(false, image, entries, deleted, pieces))
+    Ok(Salvage::of(false, image, trusted, entries, deleted, pieces))
 }

@@ -17,12 +17,13 @@ use std::marker::Model;
 
 /// What can be trusted in an image: its entries, and the bytes of their files when they are asked for.
 ///
-/// Contracts see whether the image was accepted, the image as it was read, the entries, the headers of the deleted entries,
-/// which are left out, and the blocks given to files that are not whole.
+/// Contracts see whether the image was accepted, the image as it was read, whether its bitmap is trusted, the entries, the
+/// headers of the deleted entries, which are left out, and the blocks given to files that are not whole.
 #[derive(Drop)]
 pub struct Salvage {
     accepted: bool,
     image: Image,
+    trusted: bool,
     entries: Vec<Salvaged>,
     deleted: Vec<u32>,
     pieces: Vec<Piece>,
@@ -34,9 +35,9 @@ impl Model for Salvage {
 
     ghost Value = { Saved };
 
-    ghost view = { λ s. record { accepted = s.accepted; image = s.image; entries = s.entries.items; deleted = s.deleted.items; given = s.pieces.items } };
+    ghost view = { λ s. record { accepted = s.accepted; image = s.image; trusted = s.trusted; entries = s.entries.items; deleted = s.deleted.items; given = s.pieces.items } };
 
-    ghost invariant = { λ s. IsKept s.image s.entries.items s.pieces.items };
+    ghost invariant = { λ s. IsKept s.image s.trusted s.entries.items s.pieces.items };
 }
 
 impl Salvage {
@@ -44,13 +45,15 @@ impl Salvage {
     pub(crate) fn of(
         accepted: bool,
         image: Image,
+        trusted: bool,
         entries: Vec<Salvaged>,
         deleted: Vec<u32>,
         pieces: Vec<Piece>,
     ) -> Salvage
-        requires { IsKept image entries.items pieces.items }
+        requires { IsKept image trusted entries.items pieces.items }
         ensures accepted { result.accepted ≡ accepted }
         ensures image { result.image ≡ image }
+        ensures trusted { result.trusted ≡ trusted }
         ensures entries { result.entries ≡ entries.items }
         ensures deleted { result.deleted ≡ deleted.items }
         ensures given { result.given ≡ pieces.items }
@@ -58,6 +61,7 @@ impl Salvage {
         Salvage {
             accepted,
             image,
+            trusted,
             entries,
             deleted,
             pieces,
@@ -74,9 +78,17 @@ impl Salvage {
     /// The image as it was read.
     pub fn image(&self) -> &Image
         ensures image { result.now ≡ self.now.image }
-        ensures kept { IsKept self.now.image self.now.entries self.now.given }
+        ensures kept { IsKept self.now.image self.now.trusted self.now.entries self.now.given }
     {
         &self.image
+    }
+
+    /// Whether the bitmap of the image, as it was given, can be trusted. It is not if the image has more faults than can be
+    /// listed, and then there are no deleted entries.
+    pub fn is_bitmap_trusted(&self) -> bool
+        ensures { result ≡ self.now.trusted }
+    {
+        self.trusted
     }
 
     /// The blocks given to files that are not whole.

@@ -1,7 +1,7 @@
 //! The deleted entries of an image, with the directories that they were in.
 ghost use Rattle.std.specs.Prelude.{◌≡◌, [], length, IfOk, IsSome, OnOk};
 ghost use Rattle.adf_block.specs.Image.{block_count};
-ghost use Rattle.adf_salvage.specs.Deleted.{ListsDeleted};
+ghost use Rattle.adf_salvage.specs.Deleted.{IsTrustedBitmap, ListsDeleted};
 ghost use Rattle.adf_salvage.specs.Undeleted.{IsUndeleted, TellsUndeleted};
 ghost use Rattle.adf_salvage.specs.Sound.{IsSoundHeader};
 ghost use Rattle.adf_salvage.specs.steps.Gathering.{AreGathered, GathersMore, place_at};
@@ -63,7 +63,8 @@ fn with_directories(
     image: Image,
     deleted: Vec<Deleted>,
 ) -> Result<Undeleted, AllocError>
-    requires { ListsDeleted image deleted.items }
+    requires trusted { IsTrustedBitmap image }
+    requires deleted { ListsDeleted image deleted.items }
     ensures { IfOk result (IsUndeleted image) }
 {
     let known = known_of(alloc, &image, LeftOut::none(alloc))?;
@@ -75,7 +76,7 @@ fn with_directories(
         ..
     } = gathered;
     let Giving { pieces, .. } = giving;
-    let salvage = Salvage::of(false, image, entries, Vec::new(alloc), pieces);
+    let salvage = Salvage::of(false, image, true, entries, Vec::new(alloc), pieces);
     Ok(Undeleted {
         salvage,
         deleted,

@@ -7,11 +7,9 @@ use Rattle.adf_salvage.specs.declared.giving.Piece.{Piece}
 use Rattle.adf_salvage.specs.declared.salvaged.Salvaged.{Salvaged}
 use Rattle.adf_salvage.specs.declared.salvaged.State.{State}
 use Rattle.adf_salvage.specs.declared.salvaged.State.TheVariants as states
-use Rattle.adf_salvage.specs.Deleted.{IsTrustedBitmap}
 use Rattle.adf_salvage.specs.Doubtful.{LooksLikeExtension}
 use Rattle.adf_salvage.specs.Salvaged.{Saved}
 use Rattle.adf_salvage.specs.Sound.{Names}
-use Rattle.ados_model.specs.Accepted.{ShowsNoFault}
 use Rattle.ados_model.specs.Faults.{InImage, root_of}
 use Rattle.ados_mend.specs.Mendable.{IsPage}
 
@@ -41,11 +39,6 @@ pub data IsAccounted (saved : Saved) (block : ℕ) : Type 0 where
   of_entry : {entry : Salvaged} → Contains saved.entries entry → BelongsTo saved.image entry.header entry.state block → IsAccounted saved block
   of_piece : {piece : Piece} → Contains saved.given piece → block ≡ piece.block → IsAccounted saved block
 
--- whether the bitmap is trusted: it can be; or it cannot, or the image, which is refused, shows too much to tell
-abbrev pub TellsTrust : List ℕ → Bool → Type 0
-TellsTrust image true = IsTrustedBitmap image
-TellsTrust image false = (¬ IsTrustedBitmap image) ⊎ (¬ ShowsNoFault image)
-
 -- a byte of the block is not 0
 abbrev pub HasContent : List ℕ → ℕ → Type 0
 HasContent image block = (at : ℕ) × (at < BLOCK_BYTES) × (byte_at image block at ≢ 0)
@@ -56,16 +49,14 @@ CountsAsUsed image true block = ¬ HasFreeBit image block
 CountsAsUsed image false block = HasContent image block
 
 -- a block of the volume that is used and not accounted for
-pub record IsUnaccounted (saved : Saved) (trusted : Bool) (block : ℕ) : Type 0 where
+pub record IsUnaccounted (saved : Saved) (block : ℕ) : Type 0 where
   pub inside : InImage saved.image block
-  pub used : CountsAsUsed saved.image trusted block
+  pub used : CountsAsUsed saved.image saved.trusted block
   pub left : ¬ IsAccounted saved block
 
--- the blocks are exactly those that are used and not accounted for, in order, each once. The bitmap is that of the image as it was read: where
--- the check wrote it anew, it marks only reached blocks used
+-- the blocks are exactly those that are used and not accounted for, in order, each once. A bitmap that the check wrote anew is not trusted: it
+-- marks only reached blocks used
 pub record AreUnaccounted (saved : Saved) (blocks : List ℕ) : Type 0 where
-  pub trusted : Bool
-  pub trust : TellsTrust saved.image trusted
   pub in_order : AllPairs (λ a b. a < b) blocks
-  pub unaccounted : All (IsUnaccounted saved trusted) blocks
-  pub all : (block : ℕ) → IsUnaccounted saved trusted block → Contains blocks block
+  pub unaccounted : All (IsUnaccounted saved) blocks
+  pub all : (block : ℕ) → IsUnaccounted saved block → Contains blocks block

@@ -1,13 +1,14 @@
 //! The account of an image: the blocks that are used and belong to nothing that a salvage tells.
-ghost use Rattle.std.specs.Prelude.{IfOk, MatchBool};
+ghost use Rattle.std.specs.Prelude.{◌≡◌, IfOk, MatchBool, true};
 ghost use Rattle.ados_model.specs.Faults.{InImage};
-ghost use Rattle.ados_mend.specs.Account.{AreUnaccounted, CountsAsUsed, HasContent, IsUnaccounted, TellsTrust};
+ghost use Rattle.adf_salvage.specs.Deleted.{IsTrustedBitmap};
+ghost use Rattle.ados_mend.specs.Account.{AreUnaccounted, CountsAsUsed, HasContent, IsUnaccounted};
 ghost use Rattle.ados_mend.specs.steps.Accounting.{AreAccounted};
 
 use crate::accounted::accounted_marks;
 use adf_block::Image;
 use adf_block::layout::{BLOCK_BYTES, BOOT_BLOCKS};
-use adf_salvage::{DeletedEntries, Salvage, deleted_entries};
+use adf_salvage::Salvage;
 use ados_map::is_free;
 use std::alloc::{AllocError, Global};
 
@@ -21,37 +22,19 @@ use std::alloc::{AllocError, Global};
 pub fn unaccounted_blocks(alloc: Global, salvage: &Salvage) -> Result<Vec<u32>, AllocError>
     ensures { IfOk result (λ blocks. AreUnaccounted salvage.now blocks.items) }
 {
-    let trusted = is_trusted(alloc, salvage.image())?;
     let marks = accounted_marks(alloc, salvage)?;
-    unmarked_blocks(alloc, salvage, trusted, &marks)
-}
-
-/// Whether the bitmap of an image is trusted. If the image has more faults than can be listed, it is not.
-fn is_trusted(alloc: Global, image: &Image) -> Result<bool, AllocError>
-    ensures { IfOk result (TellsTrust image.now) }
-{
-    match deleted_entries(alloc, image)? {
-        DeletedEntries::Found(_) => Ok(true),
-        DeletedEntries::NoTrustedBitmap => Ok(false),
-        DeletedEntries::ManyFaults => Ok(false),
-    }
+    unmarked_blocks(alloc, salvage, &marks)
 }
 
 /// The blocks of the volume that are used and have no mark.
-fn unmarked_blocks(
-    alloc: Global,
-    salvage: &Salvage,
-    trusted: bool,
-    marks: &[bool],
-) -> Result<Vec<u32>, AllocError>
-    requires trust { TellsTrust salvage.now.image trusted }
-    requires marks { AreAccounted salvage.now marks.now }
+fn unmarked_blocks(alloc: Global, salvage: &Salvage, marks: &[bool]) -> Result<Vec<u32>, AllocError>
+    requires { AreAccounted salvage.now marks.now }
     ensures { IfOk result (λ blocks. AreUnaccounted salvage.now blocks.items) }
 {
     let count = salvage.image().blocks();
     let mut blocks = Vec::new(alloc);
     for block in BOOT_BLOCKS..count {
-        if is_unaccounted(salvage, trusted, marks, block) {
+        if is_unaccounted(salvage, marks, block) {
             blocks.push(block)?;
         }
     }
@@ -59,23 +42,22 @@ fn unmarked_blocks(
 }
 
 /// Whether a block is used and has no mark.
-fn is_unaccounted(salvage: &Salvage, trusted: bool, marks: &[bool], block: u32) -> bool
+fn is_unaccounted(salvage: &Salvage, marks: &[bool], block: u32) -> bool
     requires inside { InImage salvage.now.image block }
-    requires trust { TellsTrust salvage.now.image trusted }
     requires marks { AreAccounted salvage.now marks.now }
-    ensures { MatchBool result (IsUnaccounted salvage.now trusted block) (¬ IsUnaccounted salvage.now trusted block) }
+    ensures { MatchBool result (IsUnaccounted salvage.now block) (¬ IsUnaccounted salvage.now block) }
 {
     if marks[block as usize] {
         return false;
     }
-    counts_as_used(salvage.image(), trusted, block)
+    counts_as_used(salvage.image(), salvage.is_bitmap_trusted(), block)
 }
 
 /// Whether a block counts as used.
 #[tactic(auto, using(adf_salvage::proofs::Trusting::trusted_pages))]
 fn counts_as_used(image: &Image, trusted: bool, block: u32) -> bool
     requires inside { InImage image.now block }
-    requires trust { TellsTrust image.now trusted }
+    requires trust { trusted ≡ true → IsTrustedBitmap image.now }
     ensures { MatchBool result (CountsAsUsed image.now trusted block) (¬ CountsAsUsed image.now trusted block) }
 {
     if trusted {

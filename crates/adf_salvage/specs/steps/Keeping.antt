@@ -1,9 +1,10 @@
 -- A salvage whose bytes can be read.
-use Rattle.std.specs.Prelude.{◌≡◌, ℕ, ◌<◌, ◌⊎◌, List, All, slice_index, ⊤}
+use Rattle.std.specs.Prelude.{◌≡◌, ℕ, ◌<◌, ◌⊎◌, Bool, true, List, All, slice_index, ⊤}
 use Rattle.adf_block.specs.Image.{block_count}
 use Rattle.ados_model.specs.File.{LawfulFile}
 use Rattle.adf_salvage.specs.declared.giving.Piece.{Piece}
 use Rattle.adf_salvage.specs.declared.salvaged.Salvaged.{Salvaged}
+use Rattle.adf_salvage.specs.Deleted.{IsTrustedBitmap}
 use Rattle.adf_salvage.specs.Saved.{IsByteOf}
 use Rattle.adf_salvage.specs.declared.salvaged.State.{State}
 use Rattle.adf_salvage.specs.declared.salvaged.State.TheVariants as states
@@ -21,8 +22,9 @@ CanBeRead image header state = ⊤
 abbrev pub IsReadable : List ℕ → Salvaged → Type 0
 IsReadable image entry = CanBeRead image entry.header entry.state
 
--- all whole files can be read, and the given blocks are inside the image
-pub record IsKept (image : List ℕ) (entries : List Salvaged) (given : List Piece) : Type 0 where
+-- a bitmap that is called trusted is; all whole files can be read, and the given blocks are inside the image
+pub record IsKept (image : List ℕ) (trusted : Bool) (entries : List Salvaged) (given : List Piece) : Type 0 where
+  pub trust : trusted ≡ true → IsTrustedBitmap image
   pub readable : All (IsReadable image) entries
   pub inside : All (λ piece. piece.block < block_count image) given
 

@@ -3,6 +3,7 @@ use Rattle.ados_model.specs.Accepted.{Accepts}
 use Rattle.ados_model.specs.Stands.{Stands}
 use Rattle.ados_model.specs.Tree.{Tree}
 use Rattle.ados_model.proofs.NoFaults.{faults_have_no_tree}
+use Rattle.adf_salvage.specs.Deleted.{TellsTrust}
 use Rattle.adf_salvage.specs.Salvaged.{AreDeleted, AreOfTree, IsReadAs, Salvages, Saved, SavesSound}
 use Rattle.adf_salvage.proofs.Answering.{all_ok, both_ok, if_ok, same_tree}
 use Rattle.adf_salvage.proofs.salvaging.salvage.Goals as goal
@@ -11,15 +12,18 @@ pub returns-in-Ok-clause-salvages : goal.returns-in-Ok-clause-salvages
 returns-in-Ok-clause-salvages c =
     let OfTree : Saved → Type 0 = λ saved. (t : Tree) → Stands c.in-Ok.volume.image t → AreOfTree t saved in
     let Deleted : Saved → Type 0 = λ saved. (image : List ℕ) → Accepts image c.in-Ok.volume.was_validated c.in-Ok.volume.image → AreDeleted image saved.deleted in
-    all_ok c.volume_entries.result (λ saved. saved.accepted ≡ true) (λ saved. saved.image ≡ c.in-Ok.volume.image) (λ saved. OfTree saved × Deleted saved) (Salvages c.args.image)
+    let Trust : Saved → Type 0 = λ saved. (image : List ℕ) → Accepts image c.in-Ok.volume.was_validated c.in-Ok.volume.image → TellsTrust image saved.trusted in
+    all_ok c.volume_entries.result (λ saved. saved.accepted ≡ true) (λ saved. saved.image ≡ c.in-Ok.volume.image) (λ saved. OfTree saved × (Deleted saved × Trust saved)) (Salvages c.args.image)
     (λ saved accepted same both. inl (record {
       accepted = accepted;
       validated = c.in-Ok.volume.was_validated;
       accepts = subst (Accepts c.args.image c.in-Ok.volume.was_validated) (sym same) c.in-Ok.ensures;
       tree = λ t s. both.0 t (subst (λ (image : List ℕ). Stands image t) same s);
-      deleted = both.1 c.args.image c.in-Ok.ensures;
+      trust = both.1.1 c.args.image c.in-Ok.ensures;
+      deleted = both.1.0 c.args.image c.in-Ok.ensures;
     }))
-    c.volume_entries.ensures.accepted c.volume_entries.ensures.image (both_ok c.volume_entries.result OfTree Deleted c.volume_entries.ensures.told c.volume_entries.ensures.deleted)
+    c.volume_entries.ensures.accepted c.volume_entries.ensures.image (both_ok c.volume_entries.result OfTree (λ saved. Deleted saved × Trust saved) c.volume_entries.ensures.told
+    (both_ok c.volume_entries.result Deleted Trust c.volume_entries.ensures.deleted c.volume_entries.ensures.trust))
 
 pub returns-in-Ok-clause-tree : goal.returns-in-Ok-clause-tree
 returns-in-Ok-clause-tree c =

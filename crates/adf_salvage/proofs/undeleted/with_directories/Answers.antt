@@ -12,10 +12,10 @@ returns c =
     let entries = sym c.of-salvage.ensures.entries in
     record {
       same = c.of-salvage.ensures.image;
-      deleted = c.requires;
+      deleted = c.requires.deleted;
       told = subst (All (IsTold [] c.args.image)) entries gathered.told;
       places = subst (λ (es : List Salvaged). ArePlaces (headers_of es) c.in_ok-gathered.gathered.places.items) entries (record { placed = λ i l. gathered.placed i l; among = gathered.met });
       there = λ block d.
           met_by (λ (header : ℕ). IsSome (slice_index_or c.in_ok-gathered.gathered.places.items header None)) c.args.deleted.items
-          (subst (All (IsThere c.in_ok-gathered.gathered.places.items)) c.deref.ensures.value c.in_ok-gathered.ensures.each) block (c.requires.all block d);
+          (subst (All (IsThere c.in_ok-gathered.gathered.places.items)) c.deref.ensures.value c.in_ok-gathered.ensures.each) block (c.requires.deleted.all block d);
     }

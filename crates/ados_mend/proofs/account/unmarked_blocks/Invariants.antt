@@ -3,4 +3,4 @@ use Rattle.ados_mend.proofs.Remaining.{ListsBelow}
 use Rattle.ados_mend.proofs.account.unmarked_blocks.Given as goal
 
 abbrev pub invariant-loop-block : goal.invariant-loop-block
-invariant-loop-block l = ListsBelow (IsUnaccounted l.salvage l.trusted) l.block l.blocks.items
+invariant-loop-block l = ListsBelow (IsUnaccounted l.salvage) l.block l.blocks.items
