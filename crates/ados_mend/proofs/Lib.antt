@@ -14,3 +14,4 @@ pub mod Walking
 pub mod OwnBlocks
 pub mod AllKinds
 pub mod Remaining
+pub mod Reaching

@@ -7,14 +7,8 @@ use Rattle.ados_model.specs.Faults.{InImage}
 use Rattle.adf_salvage.specs.declared.salvaged.Salvaged.{Salvaged}
 use Rattle.ados_mend.specs.Account.{HasExtensionBlock, IsNextExtension}
 use Rattle.ados_mend.specs.Account.HasExtensionBlock.{first, further}
-use Rattle.ados_mend.specs.steps.Accounting.{Adds, AreClosed, AreMarkedAfter, IsDamagedFile, IsMarked, IsNewAfter, IsOfDamaged, mark_at}
+use Rattle.ados_mend.specs.steps.Accounting.{Adds, AreClosed, AreMarkedAfter, IsDamagedFile, IsMarked, IsNewAfter, IsOfDamaged, mark_at, unmarked}
 use Rattle.ados_mend.proofs.Marking.{adds_none, marked_before, now_marked, still_marked}
-
--- the number of blocks without a mark
-unfoldable pub unmarked : List Bool → ℕ
-unmarked [] = 0
-unmarked (true ∷ marks) = unmarked marks
-unmarked (false ∷ marks) = suc (unmarked marks)
 
 -- a mark is set
 pub fewer_unmarked : (marks : List Bool) (block : ℕ) → block < length marks → mark_at marks block ≡ false → unmarked (set marks block true) < unmarked marks

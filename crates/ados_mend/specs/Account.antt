@@ -10,7 +10,8 @@ use Rattle.adf_salvage.specs.declared.salvaged.State.TheVariants as states
 use Rattle.adf_salvage.specs.Doubtful.{LooksLikeExtension}
 use Rattle.adf_salvage.specs.Salvaged.{Saved}
 use Rattle.adf_salvage.specs.Sound.{Names}
-use Rattle.ados_model.specs.Faults.{InImage, root_of}
+use Rattle.ados_model.specs.declared.role.Role.{Role}
+use Rattle.ados_model.specs.Faults.{InImage, Reached, root_of}
 use Rattle.ados_mend.specs.Mendable.{IsPage}
 
 -- the holder names the block as the next extension block, and the block looks like one of this file; its checksum may be wrong
@@ -43,10 +44,14 @@ pub data IsAccounted (saved : Saved) (block : ℕ) : Type 0 where
 abbrev pub HasContent : List ℕ → ℕ → Type 0
 HasContent image block = (at : ℕ) × (at < BLOCK_BYTES) × (byte_at image block at ≢ 0)
 
--- the block counts as used: a trusted bitmap does not mark it free, or without one it is not all zeros
+-- the block is reached, in some role
+abbrev pub IsReached : List ℕ → ℕ → Type 0
+IsReached image block = (role : Role) × Reached image block role
+
+-- the block counts as used: a trusted bitmap does not mark it free; or without one it is not all zeros, or it is reached
 abbrev pub CountsAsUsed : List ℕ → Bool → ℕ → Type 0
 CountsAsUsed image true block = ¬ HasFreeBit image block
-CountsAsUsed image false block = HasContent image block
+CountsAsUsed image false block = HasContent image block ⊎ IsReached image block
 
 -- a block of the volume that is used and not accounted for
 pub record IsUnaccounted (saved : Saved) (block : ℕ) : Type 0 where

@@ -2,3 +2,4 @@
 pub mod Settled
 pub mod Cautious
 pub mod Accounting
+pub mod Reaching

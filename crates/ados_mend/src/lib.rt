@@ -27,6 +27,7 @@ mod map_object;
 mod account;
 mod accounted;
 mod extensions;
+mod reached;
 
 pub use account::unaccounted_blocks;
 pub use answer::{NotValidated, Validated};

@@ -1,5 +1,5 @@
 -- Marks of the blocks that are accounted for.
-use Rattle.std.specs.Prelude.{◌≡◌, ◌⊎◌, ℕ, ◌<◌, Bool, MatchBool, true, false, List, length, Contains, slice_index_or, ⊤}
+use Rattle.std.specs.Prelude.{◌≡◌, ◌⊎◌, ℕ, suc, ◌<◌, Bool, MatchBool, true, false, List, [], ◌∷◌, length, Contains, slice_index_or, ⊤}
 use Rattle.adf_block.specs.Fields.{parent_key}
 use Rattle.adf_block.specs.Image.{block_count}
 use Rattle.adf_salvage.specs.declared.giving.Piece.{Piece}
@@ -17,6 +17,12 @@ mark_at marks block = slice_index_or marks block false
 -- the block is marked
 abbrev pub IsMarked : List Bool → ℕ → Type 0
 IsMarked marks block = mark_at marks block ≡ true
+
+-- the number of marks that are not set
+unfoldable pub unmarked : List Bool → ℕ
+unmarked [] = 0
+unmarked (true ∷ marks) = unmarked marks
+unmarked (false ∷ marks) = suc (unmarked marks)
 
 -- there is a mark for each block of the image, and no block is marked
 pub record HasNoMarks (image : List ℕ) (marks : List Bool) : Type 0 where

@@ -1,4 +1,5 @@
-use Rattle.ados_mend.proofs.Walking.{Walks, unmarked}
+use Rattle.ados_mend.specs.steps.Accounting.{unmarked}
+use Rattle.ados_mend.proofs.Walking.{Walks}
 use Rattle.ados_mend.proofs.extensions.follow.Given as goal
 
 abbrev pub invariant-loop-next : goal.invariant-loop-next

@@ -1,0 +1,211 @@
+-- Reached blocks while a walk finds them, and that it finds all.
+use Rattle.std.proofs.Common.{◌≡◌, ℕ, ◌+◌, ◌*◌, ◌-◌, ◌<◌, ◌≤◌, inl, inr, Bool, true, false, List, [], ◌∷◌, ◌++◌, length, get_or, Some, set, length-set, refl, sym, ap, ap₂, ◌∙◌, subst, arith}
+use Rattle.std.specs.List.{All, slice_get}
+use Rattle.std.proofs.lemmas.Bool.{cases_lt}
+use Rattle.std.proofs.lemmas.List.{length_push, get_or_push, get_or_append_left}
+use Rattle.std.proofs.lemmas.List.Elements.{All-push}
+use Rattle.std.proofs.lemmas.Option.{same_Some, slice_get-get_or, slice_get_within}
+use Rattle.adf_block.specs.declared.layout.TheConstants.{FIRST_PAGE, FIRST_POINTER, FIRST_SLOT, NEXT_EXTENSION, NEXT_IN_CHAIN}
+use Rattle.adf_block.specs.Image.{block_count, long, page_count}
+use Rattle.adf_block.specs.Whole.{IsImage}
+use Rattle.ados_faults.proofs.Insides.{root_inside}
+use Rattle.ados_check.proofs.PlaceLemmas.{place_within}
+use Rattle.ados_model.specs.declared.role.Role.{Role}
+use Rattle.ados_model.specs.declared.role.Role.TheVariants.{Root, Page, Entry, Data, Extension}
+use Rattle.ados_model.specs.Faults.{InImage, IsPlace, LeadsInside, Reached, root_of}
+use Rattle.ados_model.specs.Faults.IsPlace.{root_page, root_slot, directory_slot, next_entry, header_pointer, first_extension, extension_pointer, further_extension}
+use Rattle.ados_model.specs.Faults.Reached.{named, start}
+use Rattle.ados_mend.specs.Account.{IsReached}
+use Rattle.ados_mend.specs.declared.reached.Step.{Step}
+use Rattle.ados_mend.specs.declared.reached.Walk.{Walk}
+use Rattle.ados_mend.specs.steps.Accounting.{IsMarked, mark_at, unmarked}
+use Rattle.ados_mend.specs.steps.Reaching.{AreCells, AreKept, AreVisited, AreWalked, IsPassed, IsStep, cell, form}
+use Rattle.ados_mend.proofs.Marking.{marked_before, still_marked}
+use Rattle.ados_mend.proofs.Walking.{fewer_unmarked}
+
+-- ---- the forms of roles
+
+is_root : (role : Role) → form role ≡ 0 → role ≡ Root
+is_root Root e = refl
+is_root (Entry dir s) e = absurd (omega (arith, e))
+is_root (Extension file) e = absurd (omega (arith, e))
+is_root (Data file) e = absurd (omega (arith, e))
+is_root Page e = absurd (omega (arith, e))
+
+is_entry : (role : Role) → form role ≡ 1 → (dir : ℕ) × (s : ℕ) × (role ≡ Entry dir s)
+is_entry Root e = absurd (omega (arith, e))
+is_entry (Entry dir s) e = (dir, s, refl)
+is_entry (Extension file) e = absurd (omega (arith, e))
+is_entry (Data file) e = absurd (omega (arith, e))
+is_entry Page e = absurd (omega (arith, e))
+
+is_extension : (role : Role) → form role ≡ 2 → (file : ℕ) × (role ≡ Extension file)
+is_extension Root e = absurd (omega (arith, e))
+is_extension (Entry dir s) e = absurd (omega (arith, e))
+is_extension (Extension file) e = (file, refl)
+is_extension (Data file) e = absurd (omega (arith, e))
+is_extension Page e = absurd (omega (arith, e))
+
+pub form_small : (role : Role) → form role < 4
+form_small Root = omega arith
+form_small (Entry dir s) = omega arith
+form_small (Extension file) = omega arith
+form_small (Data file) = omega arith
+form_small Page = omega arith
+
+-- a block and a form have their own cell
+same_cell : (block other : ℕ) (role next : Role) → cell block role ≡ cell other next → (block ≡ other) × (form role ≡ form next)
+same_cell block other role next e =
+    let few = form_small role in
+    let small = form_small next in
+    (omega (arith, e, few, small), omega (arith, e, few, small))
+
+-- a place of a block in a role is one in each role of this form, and gives a role of the same form
+module _ (image : List ℕ) where
+  same_place : {block i : ℕ} {role next : Role} → IsPlace image block role i next → (other : Role) → form other ≡ form role
+      → (last : Role) × IsPlace image block other i last × (form last ≡ form next)
+  same_place (root_page {block = b} {i = p} l) other e = (Page, subst (λ (r : Role). IsPlace image b r (FIRST_PAGE + p) Page) (sym (is_root other e)) (root_page l), refl)
+  same_place (root_slot {block = b} {s = s} l h) other e = (Entry b s, subst (λ (r : Role). IsPlace image b r (FIRST_SLOT + s) (Entry b s)) (sym (is_root other e)) (root_slot l h), refl)
+  same_place (directory_slot {block = b} {s = s} y l h) other e =
+      let is = is_entry other e in (Entry b s, subst (λ (r : Role). IsPlace image b r (FIRST_SLOT + s) (Entry b s)) (sym is.2) (directory_slot y l h), refl)
+  same_place (next_entry {block = b} h) other e =
+      let is = is_entry other e in (Entry is.0 is.1, subst (λ (r : Role). IsPlace image b r NEXT_IN_CHAIN (Entry is.0 is.1)) (sym is.2) (next_entry h), refl)
+  same_place (header_pointer {block = b} {i = i} y p) other e =
+      let is = is_entry other e in (Data b, subst (λ (r : Role). IsPlace image b r (FIRST_POINTER - i) (Data b)) (sym is.2) (header_pointer y p), refl)
+  same_place (first_extension {block = b} y h) other e =
+      let is = is_entry other e in (Extension b, subst (λ (r : Role). IsPlace image b r NEXT_EXTENSION (Extension b)) (sym is.2) (first_extension y h), refl)
+  same_place (extension_pointer {block = b} {i = i} p) other e =
+      let is = is_extension other e in (Data is.0, subst (λ (r : Role). IsPlace image b r (FIRST_POINTER - i) (Data is.0)) (sym is.1) (extension_pointer p), refl)
+  same_place (further_extension {block = b} h) other e =
+      let is = is_extension other e in (Extension is.0, subst (λ (r : Role). IsPlace image b r NEXT_EXTENSION (Extension is.0)) (sym is.1) (further_extension h), refl)
+
+pub root_step : (image : List ℕ) (root : ℕ) → IsImage image → root ≡ root_of image → IsStep image (record { block = root; role = Root })
+root_step image root im e = record {
+  inside = subst (InImage image) (sym e) (root_inside image im);
+  reached = subst (λ (b : ℕ). Reached image b Root) (sym e) start;
+}
+
+-- ---- one more step
+
+pushed_stays : (steps : List Step) (step : Step) (k : ℕ) → k < length steps → slice_get (steps ++ step ∷ []) k ≡ slice_get steps k
+pushed_stays steps step k l =
+    slice_get-get_or (steps ++ step ∷ []) k step (omega (arith, l, length_push steps step))
+    ∙ ap (λ (s : Step). Some s) (get_or_append_left steps (step ∷ []) step k l) ∙ sym (slice_get-get_or steps k step l)
+
+pushed_there : (steps : List Step) (step : Step) → slice_get (steps ++ step ∷ []) (length steps) ≡ Some step
+pushed_there steps step =
+    slice_get-get_or (steps ++ step ∷ []) (length steps) step (omega (arith, length_push steps step)) ∙ ap (λ (s : Step). Some s) (get_or_push steps step step (length steps) refl)
+
+pub none_walked : (image : List ℕ) (cells : List Bool) (steps : List Step) → IsImage image → length cells ≡ 4 * block_count image → ((c : ℕ) → ¬ IsMarked cells c) → steps ≡ [] → AreWalked image cells steps
+none_walked image cells steps im size none is = record {
+  whole = im;
+  size = size;
+  reached = subst (All (IsStep image)) (sym is) (λ k d l. absurd (omega (arith, l)));
+  listed = λ c marked. absurd (none c marked);
+}
+
+module _ (image : List ℕ) (step : Step) (c : ℕ) (is : cell step.block step.role ≡ c) where
+  pub walked_more : (cells : List Bool) (steps more : List Step) → AreWalked image cells steps → IsStep image step → c < length cells → more ≡ steps ++ step ∷ [] → AreWalked image (set cells c true) more
+  walked_more cells steps more w new within e = subst (AreWalked image (set cells c true)) (sym e) (record {
+    whole = w.whole;
+    size = length-set cells c true ∙ w.size;
+    reached = All-push (IsStep image) steps step w.reached new;
+    listed = λ d marked. elim (marked_before cells c within d marked) [
+      | inl before ↦
+          (let has = w.listed d before in
+          record { k = has.k; step = has.step; at = pushed_stays steps step has.k (slice_get_within steps has.k has.step has.at) ∙ has.at; is = has.is })
+      | inr here ↦ record { k = length steps; step = step; at = pushed_there steps step; is = is ∙ sym here }
+    ];
+  })
+
+-- ---- a walk that goes on
+
+pub kept_same : (walk : Walk) → AreKept walk walk
+kept_same walk = record { marks_stay = λ c is. is; longer = omega arith; steps_stay = λ k l. refl; room = omega arith }
+
+pub kept_on : {walk later last : Walk} → AreKept walk later → AreKept later last → AreKept walk last
+kept_on a b = record {
+  marks_stay = λ c is. b.marks_stay c (a.marks_stay c is);
+  longer = omega (arith, a.longer, b.longer);
+  steps_stay = λ k l. b.steps_stay k (omega (arith, l, a.longer)) ∙ a.steps_stay k l;
+  room = omega (arith, a.room, b.room);
+}
+
+pub kept_more : (walk later : Walk) (step : Step) (c : ℕ) → c < length walk.cells.items → mark_at walk.cells.items c ≡ false → later.cells.items ≡ set walk.cells.items c true → later.steps.items ≡ walk.steps.items ++ step ∷ []
+    → AreKept walk later
+kept_more walk later step c within free cells steps = record {
+  marks_stay = λ d is. subst (λ (xs : List Bool). IsMarked xs d) (sym cells) (still_marked walk.cells.items c within d is);
+  longer = omega (arith, ap length steps, length_push walk.steps.items step);
+  steps_stay = λ k l. ap (λ (xs : List Step). slice_get xs k) steps ∙ pushed_stays walk.steps.items step k l;
+  room = omega (arith, ap length steps, length_push walk.steps.items step, ap unmarked cells, fewer_unmarked walk.cells.items c within free);
+}
+
+-- ---- the places of a step
+
+few_pages : (image : List ℕ) → IsImage image → page_count (block_count image) ≤ 25
+few_pages image im = omega (arith, im.whole, im.size.0, im.size.1)
+
+module _ (image : List ℕ) (cells : List Bool) (step : Step) (whole : IsImage image) where
+  pub passed_below : (i : ℕ) → i < 6 → IsPassed image cells step i
+  passed_below i l next place inside = absurd (omega (arith, l, (place_within place (few_pages image whole)).0))
+
+  pub all_passed : ((i : ℕ) → i < 127 → IsPassed image cells step i) → (i : ℕ) → IsPassed image cells step i
+  all_passed below i next place inside = below i (place_within place (few_pages image whole)).1 next place inside
+
+pub visited_more : (image : List ℕ) (walk later : Walk) (n : ℕ) (step : Step) → slice_get walk.steps.items n ≡ Some step → AreVisited image walk.cells.items walk.steps.items n → AreKept walk later
+    → ((i : ℕ) → IsPassed image later.cells.items step i) → AreVisited image later.cells.items later.steps.items (n + 1)
+visited_more image walk later n step at before kept this k other l e i next place inside =
+    let within : n < length walk.steps.items = slice_get_within walk.steps.items n step at in
+    let was : slice_get walk.steps.items k ≡ Some other = sym (kept.steps_stay k (omega (arith, l, within))) ∙ e in
+    elim (cases_lt k n) [
+      | inl less ↦ kept.marks_stay (cell (long image other.block i) next) (before k other less was i next place inside)
+      | inr past ↦
+          (let here : k ≡ n = omega (arith, l, past) in
+          let h : Some step ≡ Some other = sym at ∙ ap (slice_get walk.steps.items) (sym here) ∙ was in
+          let same : step ≡ other = same_Some step other h in
+          subst (λ (s : Step). (j : ℕ) → IsPassed image later.cells.items s j) same this i next place inside)
+    ]
+
+-- after all steps
+module _ (image : List ℕ) (cells : List Bool) (steps : List Step) (n : ℕ) (w : AreWalked image cells steps) (v : AreVisited image cells steps n) (all : length steps ≤ n)
+    (root : IsMarked cells (cell (root_of image) Root)) where
+  next_marked : (block i : ℕ) (role next : Role) → IsMarked cells (cell block role) → IsPlace image block role i next → LeadsInside image block i → IsMarked cells (cell (long image block i) next)
+  next_marked block i role next marked place inside =
+      let has = w.listed (cell block role) marked in
+      let parts = same_cell has.step.block block has.step.role role has.is in
+      let other = same_place image (subst (λ (b : ℕ). IsPlace image b role i next) (sym parts.0) place) has.step.role parts.1 in
+      let there : LeadsInside image has.step.block i = subst (λ (b : ℕ). LeadsInside image b i) (sym parts.0) inside in
+      let same : cell (long image has.step.block i) other.0 ≡ cell (long image block i) next = ap₂ (λ (b : ℕ) (f : ℕ). 4 * long image b i + f) parts.0 other.2 in
+      subst (IsMarked cells) same (v has.k has.step (omega (arith, slice_get_within steps has.k has.step has.at, all)) has.at i other.0 other.1 there)
+
+  reached_marked : {block : ℕ} {role : Role} → Reached image block role → IsMarked cells (cell block role)
+  reached_marked start = root
+  reached_marked (named {block = b} {i = i} {role = r} {next = x} h place inside) = next_marked b i r x (reached_marked h) place inside
+
+  step_reached : (k : ℕ) (step : Step) → slice_get steps k ≡ Some step → IsStep image step
+  step_reached k step at =
+      let l = slice_get_within steps k step at in
+      subst (IsStep image) (same_Some (get_or steps k step) step (sym (slice_get-get_or steps k step l) ∙ at)) (w.reached k step l)
+
+  pub all_cells : AreCells image cells
+  all_cells = record {
+    size = w.size;
+    all = λ block role h. reached_marked h;
+    only = λ c marked.
+        let has = w.listed c marked in
+        record { block = has.step.block; role = has.step.role; reached = (step_reached has.k has.step has.at).reached; is = has.is };
+  }
+
+-- the cells of a block
+module _ (image : List ℕ) (cells : List Bool) (block : ℕ) (a : AreCells image cells) where
+  pub reached_at : (k : ℕ) → k < 4 → IsMarked cells (4 * block + k) → IsReached image block
+  reached_at k few marked =
+      let of = a.only (4 * block + k) marked in
+      let small = form_small of.role in
+      let same : of.block ≡ block = omega (arith, of.is, small, few) in
+      (of.role, subst (λ (b : ℕ). Reached image b of.role) same of.reached)
+
+  pub unreached_at : ((k : ℕ) → k < 4 → mark_at cells (4 * block + k) ≡ false) → ¬ IsReached image block
+  unreached_at none (role, reached) =
+      let both : true ≡ false = sym (a.all block role reached) ∙ none (form role) (form_small role) in
+      absurd (cc both)

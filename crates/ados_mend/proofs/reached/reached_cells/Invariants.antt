@@ -1,0 +1,16 @@
+use Rattle.std.proofs.Common.{◌+◌, ◌-◌, length}
+use Rattle.ados_model.specs.declared.role.Role.TheVariants.{Root}
+use Rattle.ados_model.specs.Faults.{root_of}
+use Rattle.ados_mend.specs.steps.Accounting.{IsMarked, unmarked}
+use Rattle.ados_mend.specs.steps.Reaching.{AreVisited, AreWalked, cell}
+use Rattle.ados_mend.proofs.reached.reached_cells.Given as goal
+
+abbrev pub invariant-loop-done : goal.invariant-loop-done
+invariant-loop-done l = record {
+  walked : AreWalked l.image l.walk.cells.items l.walk.steps.items;
+  root : IsMarked l.walk.cells.items (cell (root_of l.image) Root);
+  visited : AreVisited l.image l.walk.cells.items l.walk.steps.items l.done;
+}
+
+abbrev pub decreases-loop-done : goal.decreases-loop-done
+decreases-loop-done l = length l.walk.steps.items + unmarked l.walk.cells.items - l.done
