@@ -43,15 +43,13 @@ class Rules(NamedTuple):
     deleted: bool = True
     # Blocks that are used and belong to nothing are counted in the last line.
     unaccounted: bool = True
-    # Without a trusted bitmap a reached block of zeros does not count as used.
-    zeros: bool = False
     # In OFS, data blocks whose header is gone become a file.
     headless: bool = True
 
 
 PAGE = Rules()
 # What the program does with files and used blocks, and without the files that it may not tell yet.
-NOW = Rules(links=True, typed=True, capped=True, again=True, stale=True, zeros=True, headless=False)
+NOW = Rules(links=True, typed=True, capped=True, again=True, stale=True, headless=False)
 # What stands on standard error before the numbers of the blocks that are used and belong to nothing.
 HEADING = b"adf_serve: blocks that are used, but belong to nothing that is told:\n"
 
@@ -446,8 +444,7 @@ class Account(Disk):
     def is_used(self, block: int) -> bool:
         if self.bitmap.is_trusted:
             return not self.bitmap.is_free(block)
-        is_reached = block in self.reached_blocks and not self.rules.zeros
-        return is_reached or any(self.data[BLOCK * block : BLOCK * (block + 1)])
+        return block in self.reached_blocks or any(self.data[BLOCK * block : BLOCK * (block + 1)])
 
 
 class Walk:
