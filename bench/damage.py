@@ -44,13 +44,12 @@ sys.dont_write_bytecode = True
 from harmful_images import REFUSED, Drawn, Headers, drawings, headers, refused
 from measuring import HERE, Run, compile_measured, measured
 import harmful
-from drawn_volume import PAGE_BITS, Reader
-from harness import BLOCK, MOMENT, Image, done, in_memory, program_of
+from harness import BLOCK, FILE, MOMENT, OFS_ROOM, PAGE_BITS, POINTERS, Image, done, in_memory, program_of
 
 SIZES = [1_760, 3_520, 25_400, 101_602]
 LARGEST = 101_602
 # The seconds after which a run is ended, and one of a peer.
-LONGEST, LONGEST_PEER = 60, 5
+LONGEST, LONGEST_PEER = 60, 3
 # The bounds of the two ratios.
 MOST, MOST_ALL = 4.0, 2.0
 # The files of the images with deleted entries, and how many of them are deleted; the entries of the largest image with a cut chain.
@@ -96,6 +95,8 @@ COMMANDS: Dict[str, Words] = {
     "undelete": lambda it: ["undelete", "--to", "out", "image.adf"],
     "undelete --force": lambda it: ["undelete", "--force", "--to", "out", "image.adf"],
 }
+# Those that run over hostile images. The other forms take the same ways there, or print a thousand paths of a megabyte each.
+OVER_HOSTILE = [it for it in COMMANDS if "json" not in it and "1,000" not in it and "force" not in it]
 PEERS: Dict[str, Sequence[str]] = {
     "cat": ["cat", "image.adf"],
     "unadf -lr": ["unadf", "-lr", "image.adf"],
@@ -131,12 +132,12 @@ def of_full(image: Image) -> Drawn:
 
 
 def files_of_filler(disk: Disk) -> Drawn:
-    """Files in one directory, all of one size, that hold nothing but a filler."""
+    """Files in one directory, all of one size, that hold nothing but a filler. On small disks they are empty."""
     Path("made.adf").write_bytes(disk.blank())
-    each = max((disk.blocks - 100) // FILES - 1, 0)
-    each -= (each - 1) // harmful.SLOTS if each else 0
+    count = max((disk.blocks - 100) // FILES - 1, 0)
+    count -= count // POINTERS
+    Path("one").write_bytes(FILLER * (count * (OFS_ROOM if disk.ofs else BLOCK)))
     os.mkdir("files")
-    Path("one").write_bytes(FILLER * (each * (488 if disk.ofs else BLOCK)))
     for number in range(FILES):
         os.link("one", f"files/{number}")
     done([disk.program, "add", *MOMENT, "made.adf", "files"])
@@ -153,26 +154,25 @@ def with_deleted(disk: Disk) -> Drawn:
 def flipped_header(disk: Disk) -> Drawn:
     """A bit of the number of a data block in the header of a file is flipped."""
     image = disk.full()
-    files = [it for it in Reader(image.data).keys(disk.blocks // 2) if image.long(it, 127) == harmful.FILE]
-    image.put(files[1], 77, image.long(files[1], 77) ^ 1 << 9)
+    file = next(it for it in image.keys(image.root) if image.long(it, 127) == FILE)
+    image.put(file, 77, image.long(file, 77) ^ 1 << 9)
     return of_full(image)
 
 
 def wrong_bitmap(disk: Disk) -> Drawn:
     """The first long of each bitmap block marks its blocks free."""
     image = disk.full()
-    root = (disk.blocks + 1) // 2
     for at in range(-(-(disk.blocks - 2) // PAGE_BITS)):
-        page = image.long(root, 79 + at)
+        page = image.long(image.root, 79 + at)
         image.put(page, 1, -1)
         image.settle(page, 0)
     return of_full(image)
 
 
 def cut_chain(disk: Disk) -> Drawn:
-    """A directory with many entries, of which one hash chain is cut in the middle."""
+    """A directory with many entries, of which the first hash chain is cut in the middle."""
     image = disk.full(ENTRIES * disk.blocks // LARGEST)
-    chain = [image.long((disk.blocks + 1) // 2, 6)]
+    chain = [image.long(image.root, 6)]
     while image.long(chain[-1], 124):
         chain.append(image.long(chain[-1], 124))
     middle = chain[len(chain) // 2]
@@ -216,7 +216,7 @@ def hostile_images(chosen: Sequence[str], disk: Disk) -> Iterator[Tuple[str, Cal
 
 
 Images = Callable[[Disk], Iterator[Tuple[str, Callable[[], Drawn]]]]
-CHOSEN = "dwclepnsbmgotELPNBMGQX"
+CHOSEN = "dcnstgNL"
 GROUPS: Dict[str, Tuple[str, Images]] = {
     "sound": ("Sound images", lambda it: iter([("full", lambda: of_full(it.full())), ("filler", lambda: files_of_filler(it))])),
     "fault": ("One fault", lambda it: iter([("header", lambda: flipped_header(it)), ("bitmap", lambda: wrong_bitmap(it))])),
@@ -256,6 +256,10 @@ def least(command: Sequence[str], runs: int, longest: int, nice: Optional[int]) 
     return Took(1_000 * min(it.seconds for it in found), "", found[0].status)
 
 
+def commands_of(group: str) -> List[str]:
+    return OVER_HOSTILE if group == "hostile" else [*COMMANDS]
+
+
 class Measuring:
     """Measures the commands over images, and keeps what they took."""
 
@@ -265,8 +269,8 @@ class Measuring:
 
     def image(self, group: str, name: str, disk: Disk, drawn: Drawn) -> None:
         Path("image.adf").write_bytes(drawn.data)
-        for command, words in COMMANDS.items():
-            took = least([self.program, *words(drawn)], self.runs, LONGEST, self.nice)
+        for command in commands_of(group):
+            took = least([self.program, *COMMANDS[command](drawn)], self.runs, LONGEST, self.nice)
             self.keep((group, name, command, disk.ofs, disk.blocks), took)
         for command in self.peers:
             took = least(PEERS[command], self.runs, LONGEST_PEER, self.nice)
@@ -417,7 +421,7 @@ def main(words: List[str]) -> int:
         measure(measuring, given)
         tables = Tables(measuring.took, given.blocks)
         for group in given.group:
-            tables.group(group, GROUPS[group][0], [*COMMANDS, *peers])
+            tables.group(group, GROUPS[group][0], [*commands_of(group), *peers])
         tables.of_all()
         print(f"\nOver {MOST:.0f}: {'; '.join(tables.over) or 'none'}.")
     finally:
