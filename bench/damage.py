@@ -20,10 +20,11 @@ The groups:
     hostile     images that are drawn to take long. Lower case letters are those of bench/harmful_images.py and of FURTHER here. In
                 upper case it is the same image with a sound root: all its headers count as deleted
 
-The last table compares `check --all` with `check` of the same refused image. `unadf` runs on the same images if it is installed, and
-`cat` too. With `--adflib` ADFlib in process lists deleted entries (bench/adflib_peer.c over Debian's source, which is fetched). `--images`
-keeps the images in a directory, and takes those that it has. `--nice` sets the priority of the measured runs. It needs cc and rustc.
-All files are in a file system in memory, if there is one.
+A cell says so if the command printed over 100 MB, or took over 60 seconds, or a peer over 3. The last table compares `check --all` with
+`check` of the same refused image; for floppies a ratio over 2 is bold. `unadf` runs on the same images if it is installed, and `cat`
+too. With `--adflib` ADFlib in process lists deleted entries (bench/adflib_peer.c over Debian's source, which is fetched). `--images`
+keeps the hostile images in a directory, and takes those that it has. `--nice` sets the priority of the measured runs. It needs cc and
+rustc. All files are in a file system in memory, if there is one.
 """
 from __future__ import annotations
 
@@ -47,7 +48,7 @@ import harmful
 from harness import BLOCK, FILE, MOMENT, OFS_ROOM, PAGE_BITS, POINTERS, Image, done, in_memory, program_of
 
 SIZES = [1_760, 3_520, 25_400, 101_602]
-LARGEST = 101_602
+LARGEST, FLOPPY = 101_602, 3_520
 # The seconds after which a run is ended, and one of a peer.
 LONGEST, LONGEST_PEER = 60, 3
 # The bounds of the two ratios.
@@ -276,6 +277,14 @@ class Measuring:
             took = least(PEERS[command], self.runs, LONGEST_PEER, self.nice)
             self.keep((group, name, command, disk.ofs, disk.blocks), took)
 
+    def base_again(self, blocks: int, images: Optional[Path]) -> List[float]:
+        """The check of a full image of each format once more: what the machine changed meanwhile."""
+        found = []
+        for ofs in (True, False):
+            Path("image.adf").write_bytes(Disk(self.program, ofs, blocks, images).full().data)
+            found.append(least([self.program, "check", "image.adf"], self.runs, LONGEST, self.nice).milliseconds)
+        return found
+
     def keep(self, key: Key, took: Took) -> None:
         self.took[key] = took
         print(*key, *took, file=sys.stderr, flush=True)
@@ -362,7 +371,8 @@ class Tables:
                         ratio = took.milliseconds / self.took[group, name, "check", ofs, size].milliseconds
                         found.append((ratio, f"{name or group} {'OFS' if ofs else 'FFS'}"))
                 ratio, name = max(found, default=(float("nan"), ""))
-                cells.append(f"{f'**{ratio:.2f}**' if ratio > MOST_ALL else f'{ratio:.2f}'} {name}")
+                is_over = ratio > MOST_ALL and blocks <= FLOPPY
+                cells.append(f"{f'**{ratio:.2f}**' if is_over else f'{ratio:.2f}'} {name}")
             print(f"| `{form}` | {' | '.join(cells)} |")
 
 
@@ -424,6 +434,8 @@ def main(words: List[str]) -> int:
             tables.group(group, GROUPS[group][0], [*commands_of(group), *peers])
         tables.of_all()
         print(f"\nOver {MOST:.0f}: {'; '.join(tables.over) or 'none'}.")
+        again = measuring.base_again(max(given.blocks), given.images)
+        print(f"\n`check` of the full images of {max(given.blocks):,} blocks once more, at the end: {', '.join(map(number, again))}.")
     finally:
         shutil.rmtree(room, ignore_errors=True)
     return 0
