@@ -1,7 +1,7 @@
 #!/usr/bin/env python3
 """Prints what the commands for damaged disks take, as tables in Markdown.
 
-    bench/damage.py [PROGRAM] [--blocks N..] [--runs N] [--group NAME..] [--images DIR] [--adflib] [--nice N]
+    bench/damage.py [PROGRAM] [--blocks N..] [--runs N] [--group NAME..] [--letters LETTERS] [--images DIR] [--adflib] [--nice N]
 
 Each image is made in each size and in both formats. A cell has the milliseconds of processor time of the fastest of three runs (or
 of N), with the start of the program: in the Old File System, and in the Fast File System. If a group has several images, it is that
@@ -56,7 +56,8 @@ MOST, MOST_ALL = 4.0, 2.0
 # The files of the images with deleted entries, and how many of them are deleted; the entries of the largest image with a cut chain.
 FILES, DELETED, ENTRIES = 1_100, 1_000, 20_000
 FILLER = b"\xf6"
-# The letters of further images, by their names in tests/harmful.py.
+# The letters of the hostile images that are measured, and of further images, by their names in tests/harmful.py.
+CHOSEN = "dcnstgNL"
 FURTHER = {
     "b": "chains side by side",
     "k": "chains in the last directory of a chain",
@@ -110,12 +111,14 @@ PEERS: Dict[str, Sequence[str]] = {
 
 
 class Disk(NamedTuple):
-    """What images are made for: a program that makes them, a format, a size, and a directory that keeps those that are drawn."""
+    """What images are made for: a program that makes them, a format, a size, a directory that keeps the hostile ones, and the letters
+    of these."""
 
     program: str
     ofs: bool
     blocks: int
     images: Optional[Path]
+    letters: str
 
     def blank(self) -> bytes:
         done([self.program, "blank", *([] if self.ofs else ["--ffs"]), "--blocks", str(self.blocks), *MOMENT, "Work", "blank.adf"])
@@ -211,19 +214,18 @@ def kept(disk: Disk, letter: str, draw: Callable[[], Drawn]) -> Drawn:
     return Drawn(bytes(data), *json.loads(paths.read_text()))
 
 
-def hostile_images(chosen: Sequence[str], disk: Disk) -> Iterator[Tuple[str, Callable[[], Drawn]]]:
+def hostile_images(disk: Disk) -> Iterator[Tuple[str, Callable[[], Drawn]]]:
     found = hostile(disk._replace(ofs=False).blank())
-    return ((letter, partial(kept, disk, letter, draw)) for letter, draw in found.items() if letter in chosen)
+    return ((letter, partial(kept, disk, letter, draw)) for letter, draw in found.items() if letter in disk.letters)
 
 
 Images = Callable[[Disk], Iterator[Tuple[str, Callable[[], Drawn]]]]
-CHOSEN = "dcnstgNL"
 GROUPS: Dict[str, Tuple[str, Images]] = {
     "sound": ("Sound images", lambda it: iter([("full", lambda: of_full(it.full())), ("filler", lambda: files_of_filler(it))])),
     "fault": ("One fault", lambda it: iter([("header", lambda: flipped_header(it)), ("bitmap", lambda: wrong_bitmap(it))])),
     "deleted": ("1,000 deleted files", lambda it: iter([("", lambda: with_deleted(it))])),
     "cut": ("A directory with a cut hash chain", lambda it: iter([("", lambda: cut_chain(it))])),
-    "hostile": ("Hostile images", partial(hostile_images, CHOSEN)),
+    "hostile": ("Hostile images", hostile_images),
 }
 
 
@@ -277,11 +279,11 @@ class Measuring:
             took = least(PEERS[command], self.runs, LONGEST_PEER, self.nice)
             self.keep((group, name, command, disk.ofs, disk.blocks), took)
 
-    def base_again(self, blocks: int, images: Optional[Path]) -> List[float]:
+    def base_again(self, blocks: int) -> List[float]:
         """The check of a full image of each format once more: what the machine changed meanwhile."""
         found = []
         for ofs in (True, False):
-            Path("image.adf").write_bytes(Disk(self.program, ofs, blocks, images).full().data)
+            Path("image.adf").write_bytes(Disk(self.program, ofs, blocks, None, "").full().data)
             found.append(least([self.program, "check", "image.adf"], self.runs, LONGEST, self.nice).milliseconds)
         return found
 
@@ -400,6 +402,7 @@ def parsed(words: List[str]) -> argparse.Namespace:
     parser.add_argument("--blocks", type=int, nargs="+", default=SIZES, help="the sizes of the images")
     parser.add_argument("--runs", type=int, default=3, help="how many times each command runs (default: 3)")
     parser.add_argument("--group", nargs="+", choices=[*GROUPS], default=[*GROUPS], help="the groups of images")
+    parser.add_argument("--letters", default=CHOSEN, help=f"the hostile images (default: {CHOSEN})")
     parser.add_argument("--images", type=Path, help="a directory for drawn images")
     parser.add_argument("--adflib", action="store_true", help="measures ADFlib too")
     parser.add_argument("--nice", type=int, help="the priority of the measured runs")
@@ -410,7 +413,7 @@ def measure(measuring: Measuring, given: argparse.Namespace) -> None:
     for group in given.group:
         for blocks in given.blocks:
             for ofs in (True, False):
-                disk = Disk(measuring.program, ofs, blocks, given.images)
+                disk = Disk(measuring.program, ofs, blocks, given.images, given.letters)
                 for name, draw in GROUPS[group][1](disk):
                     measuring.image(group, name, disk, draw())
 
@@ -434,7 +437,7 @@ def main(words: List[str]) -> int:
             tables.group(group, GROUPS[group][0], [*commands_of(group), *peers])
         tables.of_all()
         print(f"\nOver {MOST:.0f}: {'; '.join(tables.over) or 'none'}.")
-        again = measuring.base_again(max(given.blocks), given.images)
+        again = measuring.base_again(max(given.blocks))
         print(f"\n`check` of the full images of {max(given.blocks):,} blocks once more, at the end: {', '.join(map(number, again))}.")
     finally:
         shutil.rmtree(room, ignore_errors=True)
