@@ -329,7 +329,10 @@ class Tables:
     def ratio(self, group: str, command: str, of: Callable[[str, bool], float], most: Optional[float]) -> str:
         """The largest ratio of the images and formats."""
         found = [(of(name, ofs), name) for name in self.names[group] for ofs in (True, False)]
-        ratio, name = max((it for it in found if it[0] < float("inf")), default=(float("nan"), ""))
+        measured_ones = [it for it in found if it[0] < float("inf")]
+        if not measured_ones:
+            return "-"
+        ratio, name = max(measured_ones)
         if most is None or not ratio > most:
             return self.named(group, f"{ratio:.2f}", name)
         self.over.append(f"`{command}` of {group}{f' {name}' if name else ''}: {ratio:.2f}")
