@@ -1,6 +1,6 @@
 /* What `bench` times, by ADFlib in the same process: adflib_peer list FILE | read FILE | changes FILE ofs|ffs FILES DIRS |
- * add FILE DIRECTORY. What was done goes to standard output, and microseconds from the start on, after each step, to standard
- * error. */
+ * add FILE DIRECTORY | deleted FILE. What was done goes to standard output, and microseconds from the start on, after each step,
+ * to standard error. */
 #define _XOPEN_SOURCE 700
 #include <dirent.h>
 #include <stdint.h>
@@ -228,6 +228,22 @@ static void add(char *image, const char *path) {
     printf("%ld files, %lld bytes\n", found.files, found.bytes);
 }
 
+/* A line for each deleted entry. */
+static void list_deleted(char *path) {
+    long long start = micros();
+    struct Device *device = adfMountDev(path, TRUE);
+    struct Volume *volume = mount(device, TRUE);
+    struct List *entries = adfGetDelEnt(volume);
+    for (struct List *it = entries; it != NULL; it = it->next) {
+        struct GenBlock *block = it->content;
+        printf("%ld %s\n", (long)block->sect, block->name == NULL ? "" : block->name);
+    }
+    adfFreeDelList(entries);
+    fprintf(stderr, "deleted %lld\n", micros() - start);
+    adfUnMount(volume);
+    adfUnMountDev(device);
+}
+
 /* ADFlib tells of each step on standard output; nothing of that is wanted. */
 static void quiet(char *text) {
     (void)text;
@@ -246,8 +262,10 @@ int main(int count, char **words) {
         change(words[2], kind, strtol(words[4], NULL, 10), strtol(words[5], NULL, 10));
     } else if (count == 4 && strcmp(words[1], "add") == 0) {
         add(words[2], words[3]);
+    } else if (count == 3 && strcmp(words[1], "deleted") == 0) {
+        list_deleted(words[2]);
     } else {
-        fail("list FILE | read FILE | changes FILE ofs|ffs FILES DIRS | add FILE DIRECTORY");
+        fail("list FILE | read FILE | changes FILE ofs|ffs FILES DIRS | add FILE DIRECTORY | deleted FILE");
     }
     adfEnvCleanUp();
     return 0;

@@ -57,7 +57,7 @@ int main(int count, char **words) {
         fprintf(stderr, "%s ended with status %#x\n", words[2], (unsigned)status);
         return 1;
     }
-    printf("%.4f %.4f %ld", wall, seconds_of(used.ru_utime) + seconds_of(used.ru_stime), used.ru_maxrss);
+    printf("%.6f %.6f %ld", wall, seconds_of(used.ru_utime) + seconds_of(used.ru_stime), used.ru_maxrss);
     if (any) printf(" %d", WEXITSTATUS(status));
     printf("\n");
     return 0;

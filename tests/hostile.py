@@ -59,7 +59,9 @@ from typing import Callable, Dict, List, NamedTuple, NoReturn, Optional, Sequenc
 sys.dont_write_bytecode = True
 
 from harmful import (
+    WORST,
     Places,
+    Worst,
     chains_down,
     deep_chain,
     deep_files,
@@ -74,7 +76,6 @@ from harmful import (
     parents_round,
     parents_up,
     places_in,
-    put_entry,
     put_header,
     put_name,
     refused,
@@ -82,11 +83,9 @@ from harmful import (
 )
 from harness import (
     BLOCK,
-    DIRECTORY,
     FILE,
     LONGEST,
     MOMENT,
-    SLOTS,
     TOP,
     Call,
     Ended,
@@ -1031,187 +1030,6 @@ def one_name(size: int, room: Shared) -> None:
     told = rescued(room, refused(image))
     found = (told.status, len(set(told.lines)), told.sizes)
     room.report.expect(f"{title} of one name", found == (3, len(places), [0] * len(places)), told)
-
-
-# The levels of directories in images that are made to take long: as many as a path of the host can have, and as many as leave less
-# than 100 MB of lines for the largest image.
-HIGH, LOW = 1_900, 400
-
-
-class Worst(NamedTuple):
-    """An image made to take long: its name, and how it is drawn. The drawing returns the status, the lines and the files of its
-    rescue."""
-
-    name: str
-    draw: Callable[[Image, Places], Tuple[int, int, int]]
-
-
-def hang(image: Image, directory: int, first: int, slot: int = 0) -> None:
-    """Makes an entry the first one of a slot of a directory."""
-    image.put(directory, 6 + slot, first)
-    image.settle(directory)
-
-
-def join(image: Image, chain: Places) -> None:
-    """Makes entries a hash chain."""
-    for before, behind in zip(chain, chain[1:]):
-        image.put(before, 124, behind)
-        image.settle(before)
-
-
-def go_down(image: Image, directories: Places) -> None:
-    """Draws directories by hash chains, each in the one before."""
-    for at, block in enumerate(directories):
-        put_entry(image, block, DIRECTORY, b"d%d" % block if at == 0 else b"d", slot=0 if at + 1 == len(directories) else directories[at + 1])
-
-
-def parts_of(places: Places, size: int) -> List[Places]:
-    """Parts of the places with so many each; what is left over is in none."""
-    return [places[at : at + size] for at in range(0, len(places) - size + 1, size)]
-
-
-def chains_beside(image: Image, places: Places) -> Tuple[int, int, int]:
-    """As many chains of directories as the root has slots, all equally deep."""
-    for slot, chain in enumerate(parts_of(places, len(places) // SLOTS)[:SLOTS]):
-        go_down(image, chain)
-        hang(image, image.blocks // 2, chain[0], slot)
-    return 3, 0, 0
-
-
-def comb(image: Image, places: Places) -> Tuple[int, int, int]:
-    """One chain of directories, and in the last one many chains that are longer than as many directories as are open at a time."""
-    high = min(HIGH, len(places) // 2)
-    go_down(image, places[:high])
-    hang(image, image.blocks // 2, places[0])
-    chains_of_last = parts_of(places[high:], 62)
-    for chain in chains_of_last:
-        go_down(image, chain)
-    join(image, [it[0] for it in chains_of_last])
-    hang(image, places[high - 1], chains_of_last[0][0])
-    return 3, 0, 0
-
-
-def comb_by_parents(image: Image, places: Places) -> Tuple[int, int, int]:
-    """The same, held together by parents alone, and the last directories first."""
-    trunk = places[-LOW:]
-    go_up(image, trunk, 0)
-    teeth = parts_of(places[:-LOW], 62)
-    for chain in teeth:
-        go_up(image, chain, trunk[0])
-    count = LOW + 62 * len(teeth)
-    return 3, count, 0
-
-
-def go_up(image: Image, directories: Places, parent: int) -> None:
-    """Draws directories by their parents, each in the one behind it, and the last one in this parent."""
-    for block, above in zip(directories, [*directories[1:], parent]):
-        put_entry(image, block, DIRECTORY, b"d%d" % block if above == parent else b"d", above)
-
-
-def by_turns(image: Image, places: Places) -> Tuple[int, int, int]:
-    """Two chains of directories, and files that no directory leads to, by turns with the last one of each chain as parent."""
-    chains = (places[:LOW], places[LOW : 2 * LOW])
-    for slot, chain in enumerate(chains):
-        go_down(image, chain)
-        hang(image, image.blocks // 2, chain[0], slot)
-    files = places[2 * LOW :]
-    for at, block in enumerate(files):
-        put_entry(image, block, FILE, b"f%d" % block, chains[at % 2][-1])
-    return 3, len(files), len(files)
-
-
-def one_in_each(image: Image, places: Places) -> Tuple[int, int, int]:
-    """Chains of directories, and in each directory a file that only its parent holds there. The first directory has the last file."""
-    half = len(places) // 2
-    found = parts_of(places[:half], min(LOW, half // SLOTS))[:SLOTS]
-    for slot, chain in enumerate(found):
-        go_down(image, chain)
-        hang(image, image.blocks // 2, chain[0], slot)
-    directories = [it for chain in found for it in chain]
-    for block, parent in zip(reversed(places[half:]), directories):
-        put_entry(image, block, FILE, b"f", parent)
-    return 3, len(directories), len(directories)
-
-
-def files_in_one_chain(image: Image, places: Places) -> Tuple[int, int, int]:
-    """All files in one hash chain."""
-    for block in places:
-        put_entry(image, block, FILE, b"f%d" % block)
-    join(image, places)
-    hang(image, image.blocks // 2, places[0])
-    return 3, len(places), len(places)
-
-
-def lost_names(image: Image, places: Places) -> Tuple[int, int, int]:
-    """Directories without parents that all name the same blocks, which are no headers."""
-    directories, lost = places[SLOTS:], places[:SLOTS]
-    for block in directories:
-        put_entry(image, block, DIRECTORY, b"d%d" % block)
-        image.put_all(block, 6, lost)
-        image.settle(block)
-    return 3, len(directories) + len(lost), 0
-
-
-def sound_lists(image: Image, places: Places) -> Tuple[int, int, int]:
-    """Sound files that all have one list of blocks."""
-    files = places[SLOTS:]
-    for block in files:
-        put_header(image, block, SLOTS * BLOCK, places[:SLOTS])
-    return 3, len(files), len(files)
-
-
-def spoil(image: Image, places: Places) -> None:
-    """Makes the checksums of headers wrong."""
-    for block in places:
-        image.put(block, 5, image.long(block, 5) + 1)
-
-
-def doubtful_chains(image: Image, places: Places) -> Tuple[int, int, int]:
-    """As many chains of directories with wrong checksums as the root has slots."""
-    chains = parts_of(places, min(LOW, len(places) // SLOTS))[:SLOTS]
-    for slot, chain in enumerate(chains):
-        parents = [image.blocks // 2, *chain]
-        for at, block in enumerate(chain):
-            put_entry(image, block, DIRECTORY, b"d%d" % block if at == 0 else b"d", parents[at], slot=0 if at + 1 == len(chain) else chain[at + 1])
-        hang(image, image.blocks // 2, chain[0], slot)
-        spoil(image, chain)
-    return 3, sum(map(len, chains)), 0
-
-
-def doubtful_tables(image: Image, places: Places) -> Tuple[int, int, int]:
-    """Directories with wrong checksums, in a hash chain, that all name each of the first ones in their slots."""
-    for block in places:
-        put_entry(image, block, DIRECTORY, b"d%d" % block, image.blocks // 2)
-        image.put_all(block, 6, places[:SLOTS])
-    join(image, places)
-    hang(image, image.blocks // 2, places[0])
-    spoil(image, places)
-    return 3, len(places), 0
-
-
-def extensions_fit(image: Image, places: Places) -> Tuple[int, int, int]:
-    """The extension block of each file is its own next one, and the file is as long as the image."""
-    half = len(places) // 2
-    extensions_round(image, places)
-    for block in places[:half]:
-        image.put(block, 81, image.blocks * BLOCK)
-        image.settle(block)
-    return 3, half, half
-
-
-WORST = [
-    Worst("chains side by side", chains_beside),
-    Worst("chains in the last directory of a chain", comb),
-    Worst("the same, by their parents", comb_by_parents),
-    Worst("files that are in two deep directories by turns", by_turns),
-    Worst("a file in each of many deep directories", one_in_each),
-    Worst("all files in one chain", files_in_one_chain),
-    Worst("directories that name the same lost entries", lost_names),
-    Worst("sound files of one list", sound_lists),
-    Worst("chains of doubtful directories", doubtful_chains),
-    Worst("doubtful directories that all name the same ones", doubtful_tables),
-    Worst("extension blocks that follow themselves, in files that fit", extensions_fit),
-]
 
 
 def worst(size: int, it: Worst, room: Shared) -> None:
