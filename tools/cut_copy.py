@@ -1,12 +1,13 @@
 """Copies some crates and their dependencies, so that the kit's gate proves only these.
 
-./prove, tools/early_library and tools/wrong_bodies use this module. With a kit that keeps proofs the gate reuses those that `rt ci`
+./prove, tools/early_library, tools/gate_bodies and tools/wrong_bodies use this module. With a kit that keeps proofs the gate reuses those that `rt ci`
 made in such a copy, since the key of a kept proof covers neither the edits nor the path of the files.
 """
 import os
 import re
 import shutil
 import subprocess
+import time
 from pathlib import Path
 
 TOP = Path(__file__).resolve().parent.parent
@@ -38,6 +39,18 @@ def copy_crates(names: list[str], to: Path) -> None:
     (to / "tools").mkdir()
     for tool in ("gate_libraries", "kit.py"):
         shutil.copy2(TOP / "tools" / tool, to / "tools")
+
+
+def all_proved(names: set[str], said: Path, during: Path) -> bool:
+    """Waits until these crates are proved. Returns false if `rt ci`, or what started this script, ends before."""
+    parent, goes_on = os.getppid(), True
+    while goes_on:
+        goes_on = during.is_dir() and os.getppid() == parent
+        text = said.read_text(errors="replace") if said.exists() else ""
+        if names <= {*re.findall(r"(?m)^rt: (\w+) (?:proved\b|is kept:)", text)}:
+            return True
+        time.sleep(2)
+    return False
 
 
 def hand_over(made: Path, to: Path) -> None:

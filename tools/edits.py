@@ -1,0 +1,125 @@
+"""Edits: wrong bodies of functions, which the prover must refuse. An edit is a file with lines 'file:', 'old:' and 'new:'."""
+from __future__ import annotations
+
+import re
+from dataclasses import dataclass, field
+from pathlib import Path
+from typing import Iterator
+
+from cut_copy import TOP
+
+# Those that each run of the test tries, and all of them.
+GATE, OTHERS = "wrong-bodies/gate", "wrong-bodies"
+# The first line of a function, with its name, or of another item.
+ITEM = re.compile(r"\s*(?:pub(?:\([^)]*\))?\s+)?(?:const\s+|unsafe\s+|extern\s+\S+\s+)*(fn\s+(\w+)|(?:struct|enum|impl|trait|mod)\b)")
+
+
+def edits_of(name: str, folders: list[str]) -> list[Path]:
+    """Returns the files in these folders of a crate, pages aside."""
+    found = [it for folder in folders for it in (TOP / "crates" / name / folder).glob("*")]
+    return sorted(it for it in found if it.is_file() and it.suffix != ".md")
+
+
+def crate_of(edit: Path) -> Path:
+    """Returns the folder of an edit's crate."""
+    return TOP / "crates" / edit.relative_to(TOP / "crates").parts[0]
+
+
+def replacements(edit: Path) -> Iterator[tuple[str, str, str]]:
+    """Yields the file, the old text and the new text of each replacement of an edit."""
+    file = old = ""
+    for line in edit.read_text().split("\n"):
+        word, _, rest = line.partition(":")
+        rest = rest.removeprefix(" ")
+        if word == "file":
+            file = rest.strip()
+        elif word == "old":
+            old = rest
+        elif word == "new":
+            yield file, old, rest
+
+
+def misfit(edit: Path) -> str:
+    """Returns why an edit does not apply to its crate, or nothing."""
+    if not re.fullmatch(r"[A-Za-z0-9_-][A-Za-z0-9_.-]*\.edit", edit.name):
+        return "only edits NAME.edit, and pages .md, have a place here"
+    crate, texts, pairs = crate_of(edit), dict[str, str](), 0
+    for file, old, new in replacements(edit):
+        if not re.match(r"(src|proofs)/", file) or not (crate / file).is_file():
+            return f"there is no file {file} of code or proofs"
+        text = texts.get(file) or (crate / file).read_text()
+        if not old or text.count(old) != 1:
+            return f"an 'old:' text is in {file} {text.count(old)} times, and not once"
+        texts[file], pairs = text.replace(old, new), pairs + 1
+    return "" if pairs else "it has no 'old:' and 'new:' pair"
+
+
+def function_at(text: str, place: int) -> str:
+    """Returns the name of the function around a place of a file, or nothing if that place is in none."""
+    above = [*text[:place].split("\n")[:-1], text[text.rfind("\n", 0, place) + 1 :].split("\n")[0]]
+    least = len(above[-1]) - len(above[-1].lstrip())
+    for line in reversed(above):
+        indent = len(line) - len(line.lstrip())
+        item = ITEM.match(line) if line.strip() and indent <= least else None
+        if item:
+            return item[2] or ""
+        least = min(least, indent) if line.strip() else least
+    return ""
+
+
+def label(edit: Path) -> str:
+    return f"{crate_of(edit).name}/{edit.stem}"
+
+
+def functions_of(edit: Path) -> set[str]:
+    """Returns the functions whose bodies an edit changes, each as the path of its module and its name; none if it changes
+    anything else."""
+    found = set[str]()
+    for file, old, new in replacements(edit):
+        text = (crate_of(edit) / file).read_text()
+        name = function_at(text, text.find(old))
+        if not name or not file.startswith("src/") or re.search(r"\bfn \w", old + new):
+            return set()
+        found.add(f"{module_of(file)}::{name}")
+    return found
+
+
+def module_of(file: str) -> str:
+    """Returns the path of the module of a file of src/."""
+    return file.removeprefix("src/").removesuffix(".rt").replace("/", "::")
+
+
+@dataclass
+class Round:
+    """Edits of one crate that are made together, each with the functions that it changes; and the texts of the changed files. An edit
+    that changes more than bodies is alone."""
+
+    edits: dict[Path, set[str]] = field(default_factory=dict)
+    texts: dict[str, str] = field(default_factory=dict)
+
+    @property
+    def is_of_bodies(self) -> bool:
+        return all(self.edits.values())
+
+    def take(self, edit: Path) -> bool:
+        """Adds an edit that changes other functions than those before, and that fits beside these."""
+        texts, functions = dict(self.texts), functions_of(edit)
+        if self.edits and (not functions or not self.is_of_bodies or any(functions & it for it in self.edits.values())):
+            return False
+        for file, old, new in replacements(edit):
+            text = texts.get(file) or (crate_of(edit) / file).read_text()
+            if text.count(old) != 1:
+                return False
+            texts[file] = text.replace(old, new)
+        self.edits[edit], self.texts = functions, texts
+        return True
+
+
+def rounds_of(edits: list[Path]) -> list[Round]:
+    """Divides the edits of a crate, each of which applies, among rounds."""
+    rounds: list[Round] = []
+    for edit in edits:
+        if not any(it.take(edit) for it in rounds):
+            rounds.append(Round())
+            rounds[-1].take(edit)
+    return rounds
