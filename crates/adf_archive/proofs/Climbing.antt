@@ -1,5 +1,5 @@
 -- The path of a directory or file, from its end.
-use Rattle.std.proofs.Common.{◌≡◌, ◌≢◌, ℕ, ◌<◌, List, [], ◌∷◌, ◌++◌, length, Some, None, sym, ap, ◌∙◌, subst, append_assoc, length-append, arith}
+use Rattle.std.proofs.Common.{◌≡◌, ◌≢◌, ℕ, ◌<◌, List, [], ◌∷◌, ◌++◌, length, Some, sym, ap, ◌∙◌, subst, append_assoc, length-append, arith}
 use Rattle.ados_model.specs.Tree.{Tree, name_of, parent_of, root}
 use Rattle.adf_archive.specs.Paths.{HasFront, HasPath}
 use Rattle.adf_archive.specs.Paths.HasFront.{at_root, below}
@@ -13,13 +13,6 @@ some_same : {a b : ℕ} → Some a ≡ Some b → a ≡ b
 some_same e = cc e
 
 module _ (t : Tree) (key : ℕ) where
-  -- the name alone
-  pub ends_name : (name : List ℕ) → name ≡ name_of t key → EndsPath t key key name
-  ends_name name is = record {
-    to = λ dir front up before. record { dir = dir; front = front; parent = up; before = before; is = ap (λ (n : List ℕ). front ++ n) is };
-    from = λ whole path. (path.dir, path.front, path.parent, path.before, path.is ∙ ap (λ (n : List ℕ). path.front ++ n) (sym is));
-  }
-
   module _ (top above : ℕ) (path : List ℕ) (up : parent_of t top ≡ Some above) (ends : EndsPath t key top path) where
     -- at the root it is the whole path
     pub ends_at_root : above ≡ root t → HasPath t key path
@@ -52,10 +45,6 @@ module _ (t : Tree) (key : ℕ) where
     }
 
   module _ (top : ℕ) (path : List ℕ) (ends : EndsPath t key top path) where
-    -- nothing leads to what has no directory
-    pub no_path : parent_of t top ≡ None → (whole : List ℕ) → HasPath t key whole → ⊥
-    no_path none whole has = let old = ends.from whole has in cc (old.2, none)
-
     -- the whole path is no shorter
     pub no_shorter : (n : ℕ) → n < length path → (whole : List ℕ) → HasPath t key whole → n < length whole
     no_shorter n long whole has =

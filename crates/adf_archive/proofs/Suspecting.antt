@@ -3,7 +3,7 @@ use Rattle.std.proofs.Common.{◌≡◌, ℕ, zero, suc, ◌+◌, ◌-◌, ◌*�
 use Rattle.std.proofs.lemmas.Bool.{cases_lt}
 use Rattle.std.proofs.lemmas.List.{drop-drop, drop-take, map-append}
 use Rattle.adf_block.specs.Image.{bytes_at}
-use Rattle.std.proofs.lemmas.List.Elements.{All-nil, All-push, Contains-append_left, Contains-push}
+use Rattle.std.proofs.lemmas.List.Elements.{All-push, Contains-append_left, Contains-push}
 use Rattle.std.proofs.lemmas.List.Quantifiers.{all_pairs_push}
 use Rattle.ados_model.specs.Tree.{Tree}
 use Rattle.ados_model.specs.Tree.Content.{File}
@@ -46,14 +46,6 @@ wider : (n : ℕ) (blocks : List ℕ) → All (λ block. block < n) blocks → A
 wider n blocks all = λ i d l. omega (arith, all i d l)
 
 module _ (image : List ℕ) (t : Tree) where
-  pub suspects_none : AreSuspectsBelow image t 0 []
-  suspects_none = record {
-    told = All-nil (TellsSuspect image t);
-    every = λ block file place l is. absurd (omega (arith, l));
-    within = All-nil (λ block. block < 0);
-    rising = λ i j d l m. absurd (omega (arith, m));
-  }
-
   module _ (n : ℕ) (owner : Owner) (alone : (other : Owner) → Owns image t n other → other ≡ owner) (suspects : List Suspect) (old : AreSuspectsBelow image t n suspects) where
     -- block `n` is not suspect
     pub suspects_same : IsNoSuspect image n owner → AreSuspectsBelow image t (n + 1) suspects

@@ -1,6 +1,6 @@
 //! The image: its bytes, blocks and longs.
 
-ghost use Rattle.std.specs.Prelude.{◌≡◌, ◌<◌, ◌≤◌, ◌^◌, ◌*◌, ◌+◌, ◌-◌, ◌/◌, ◌++◌, ◌⊎◌, ◌≢◌, ℕ, length, take, drop, slice_index, IfOk, IfErr};
+ghost use Rattle.std.specs.Prelude.{◌≡◌, ◌<◌, ◌≤◌, ◌*◌, ◌+◌, ◌-◌, ◌/◌, ◌++◌, ◌⊎◌, ◌≢◌, ℕ, length, take, drop, slice_index, IfOk, IfErr};
 ghost use Rattle.std.specs.Borrow.{sem};
 ghost use Rattle.byteorder.specs.Endian.{big_bytes};
 ghost use Rattle.adf_block.specs.declared.layout.TheConstants.{BLOCK_LONGS};

@@ -1,7 +1,6 @@
 //! What more is known of a refused change than the error of AmigaDOS.
-ghost use Rattle.std.specs.Prelude.{◌≡◌, IfSome};
+ghost use Rattle.std.specs.Prelude.{IfSome};
 ghost use Rattle.std.specs.String.{string_bytes};
-ghost use Rattle.ados_model.specs.Keys.{HasKey};
 ghost use Rattle.adf_commands.specs.Explained.{IsDeniedPath};
 
 use crate::fault::CommandFault;

@@ -1,5 +1,5 @@
 //! Why a command fails.
-ghost use Rattle.std.specs.Prelude.{◌≡◌, IfOk, IfErr, option_map};
+ghost use Rattle.std.specs.Prelude.{◌≡◌, IfOk, option_map};
 ghost use Rattle.std.specs.String.{string_bytes};
 ghost use Rattle.adf_commands.specs.Faults.{status_of};
 ghost use Rattle.adf_commands.specs.Refusals.{told_line};

@@ -1,7 +1,6 @@
 -- Blocks with their owners: the entry that a block belongs to, and the bytes that are in it.
-use Rattle.std.proofs.Common.{◌≡◌, ℕ, ◌+◌, ◌*◌, ◌-◌, ◌<◌, min, List, [], ◌∷◌, ◌++◌, length, get_or, map, take, Option, Some, None, IsSome, option_map, is_some, flat_map, refl, sym, ap, ap₂, ◌∙◌, subst, arith}
-use Rattle.std.proofs.lemmas.List.{map-append, take_more}
-use Rattle.ados_model.specs.Tree.{Content, Node, Tree, bytes_in, content_at, data_size, size_of}
+use Rattle.std.proofs.Common.{◌≡◌, ℕ, ◌+◌, ◌*◌, ◌-◌, min, List, [], ◌∷◌, ◌++◌, map, Option, Some, IsSome, is_some, flat_map, refl, sym, ap, ap₂, ◌∙◌, subst}
+use Rattle.ados_model.specs.Tree.{Content, Tree, content_at, data_size, size_of}
 use Rattle.ados_model.proofs.Nodes.{content_in}
 use Rattle.ados_volume.specs.declared.owner.Owner.{Owner}
 use Rattle.ados_volume.specs.declared.owner.Owner.TheVariants.{Boot, Root, Page, Directory, File, Data, Extension, Lost, Free}
@@ -38,13 +37,6 @@ data_span t owner file k number room size last is of_number of_room of_size of_l
     ∙ ap (λ (n : ℕ). some_span (room * n) (min (room * n + room) size - 1)) of_number
     ∙ ap₂ (λ (r z : ℕ). some_span (r * k) (min (r * k + r) z - 1)) of_room of_size
     ∙ sym (ap (span_of t) is)
-
--- one element more has a value
-pub one_more : {X Y : Type 0} (f : X → Option Y) (xs : List X) (i : ℕ) (d : X) → i < length xs → (ys : List Y) (y : Y)
-    → map f (take i xs) ≡ map Some ys → f (get_or xs i d) ≡ Some y → map f (take (i + 1) xs) ≡ map Some (ys ++ y ∷ [])
-one_more f xs i d inside ys y before here =
-    ap (map f) (take_more xs i d inside) ∙ map-append f (take i xs) (get_or xs i d ∷ [])
-    ∙ ap₂ (λ rs ss. rs ++ ss) before (ap (λ r. r ∷ []) here) ∙ sym (map-append Some ys (y ∷ []))
 
 -- what the elements of a list give, seen in another way
 pub flat_seen : {X Y Z : Type 0} (f : Y → List Z) (g : X → Y) (xs : List X) → flat_map (λ x. f (g x)) xs ≡ flat_map f (map g xs)

@@ -1,8 +1,8 @@
 -- The objects of path arguments, and their faults.
-use Rattle.std.proofs.Common.{◌≡◌, ℕ, ◌+◌, ◌<◌, ◌≤◌, ◌==◌, inl, inr, false, true, Bor, List, [], ◌∷◌, ◌++◌, length, get_or, map, take, Option, Some, None, Ok, refl, sym, ap, ap₂, ◌∙◌, subst, arith}
+use Rattle.std.proofs.Common.{◌≡◌, ℕ, ◌+◌, ◌<◌, ◌==◌, inl, inr, false, Bor, List, [], ◌∷◌, ◌++◌, length, get_or, map, take, Option, Some, None, Ok, refl, sym, ap, ap₂, ◌∙◌, subst, arith}
 use Rattle.std.specs.Str.{chars}
 use Rattle.std.specs.Io.KnownBytes.{Keeps}
-use Rattle.std.proofs.lemmas.Bool.{false≢true, ne_eqb}
+use Rattle.std.proofs.lemmas.Bool.{false≢true}
 use Rattle.std.proofs.lemmas.List.{get_or-map, length-map, map-append, take_more}
 use Rattle.ados_model.specs.declared.dos_error.DosError.{DosError}
 use Rattle.ados_model.specs.Tree.{Tree}
@@ -20,15 +20,6 @@ text_of word = word.now
 -- a default for an argument that does not exist
 abbrev pub no_word : Bor (List ℕ)
 no_word = record { ref_ptr = (0, 0); now = [] }
-
--- a list that is not empty, and an empty one
-pub some_items : {X : Type 0} (xs : List X) → (length xs == 0) ≡ false → 0 < length xs
-some_items [] h = absurd (false≢true (sym h))
-some_items (x ∷ xs) h = omega arith
-
-pub no_items : {X : Type 0} (xs : List X) → (length xs == 0) ≡ true → length xs ≤ 0
-no_items [] h = omega arith
-no_items (x ∷ xs) h = absurd (false≢true (sym (ne_eqb (length (x ∷ xs)) 0 (λ e. omega (arith, e))) ∙ h))
 
 keeps_same : (o : Option (List ℕ)) → Keeps o o
 keeps_same None = tt

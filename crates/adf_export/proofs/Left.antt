@@ -3,7 +3,7 @@ use Rattle.std.proofs.Common.{◌≡◌, ℕ, zero, suc, ◌+◌, ◌-◌, ◌*�
 use Rattle.std.specs.List.{flat_map}
 use Rattle.std.proofs.lemmas.List.{same_from_push, length_push, take_at}
 use Rattle.ados_model.proofs.KeyLists.{Contains-here, Contains-later}
-use Rattle.ados_model.specs.Tree.{Node, Tree, Proper, LeadsToRoot, entries, name_of, parent_of}
+use Rattle.ados_model.specs.Tree.{Node, Tree, Proper, LeadsToRoot, name_of, parent_of}
 use Rattle.ados_model.specs.Tree.LeadsToRoot.{by_parent}
 use Rattle.adf_export.specs.declared.listing.Level.{Level}
 use Rattle.ados_volume.specs.Located.{Located}

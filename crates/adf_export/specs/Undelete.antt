@@ -16,7 +16,6 @@ use Rattle.adf_salvage.specs.declared.deleted.Recovery.{Recovery}
 use Rattle.adf_salvage.specs.declared.deleted.Recovery.TheVariants.{Directory, Free, Used, Shared, NotIntact}
 use Rattle.adf_salvage.specs.declared.salvaged.Salvaged.{Salvaged}
 use Rattle.adf_salvage.specs.declared.undeleted.Undeleted.{Undeleted}
-use Rattle.adf_words.specs.declared.query.UndeleteJob.{UndeleteJob}
 use Rattle.adf_export.specs.declared.chosen.Chosen.{Chosen}
 use Rattle.adf_export.specs.declared.placing.Placed.{Placed}
 use Rattle.adf_export.specs.declared.placing.TheConstants.{MOST_PATH_BYTES}

@@ -1,5 +1,5 @@
 //! The result of DISK_INFO as text, and whether the disk is bootable.
-ghost use Rattle.std.specs.Prelude.{◌≡◌, IfOk, OnOk, OnErr};
+ghost use Rattle.std.specs.Prelude.{◌≡◌, OnOk, OnErr};
 ghost use Rattle.std.specs.Io.KnownBytes.{Appends, Keeps};
 ghost use Rattle.adf_io.specs.Prefix.{WritesFront};
 ghost use Rattle.adf_export.specs.Info.{boot_line, info_text};

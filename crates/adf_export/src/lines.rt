@@ -1,7 +1,7 @@
 //! The texts of entries in a list.
 ghost use Rattle.std.specs.Prelude.{◌≡◌, ◌++◌, OnOk};
 ghost use Rattle.ados_name.specs.Protection.{letters};
-ghost use Rattle.adf_script.specs.Text.{line, spaced};
+ghost use Rattle.adf_script.specs.Text.{spaced};
 ghost use Rattle.adf_export.specs.Listing.{right_in, shown, size_text};
 ghost use Rattle.adf_export.specs.steps.Going.{PushesEntry, PushesLine};
 

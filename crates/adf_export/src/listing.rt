@@ -1,6 +1,5 @@
 //! The listing of everything below a directory of a volume.
 ghost use Rattle.std.specs.Prelude.{◌≡◌, ◌+◌, ◌<◌, ◌∷◌, ℕ, [], List, IfNone, IfOk, IfSome, OnErr, OnOk, OnSome, drop, length, slice_index};
-ghost use Rattle.std.specs.Io.KnownBytes.{Appends};
 ghost use Rattle.ados_model.specs.Keys.{HasDirectory};
 ghost use Rattle.ados_model.specs.Stands.{Stands};
 ghost use Rattle.ados_model.specs.Tree.{Tree};

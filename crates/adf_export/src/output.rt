@@ -1,5 +1,5 @@
 //! Output of a text, or of a prefix if the writer fails.
-ghost use Rattle.std.specs.Prelude.{◌≡◌, ◌≢◌, OnOk, OnErr};
+ghost use Rattle.std.specs.Prelude.{◌≢◌, OnOk, OnErr};
 ghost use Rattle.std.specs.Io.KnownBytes.{Appends};
 ghost use Rattle.adf_io.specs.Prefix.{WritesFront};
 

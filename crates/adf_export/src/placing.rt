@@ -1,7 +1,7 @@
 //! The paths of deleted entries and of the directories above them, and which of them are asked for.
 ghost use Rattle.std.specs.Prelude.{◌≡◌, ℕ, List, [], None, IfOk, length, map, option_map, slice_get};
 ghost use Rattle.std.specs.Option.{option_map_or};
-ghost use Rattle.adf_export.specs.Undelete.{Place, above_in, asked_in, path_in, place_after, place_in, places_of, seen_place};
+ghost use Rattle.adf_export.specs.Undelete.{above_in, asked_in, path_in, place_after, place_in, places_of, seen_place};
 ghost use Rattle.adf_export.specs.steps.Asking.{AreAsked};
 
 use crate::asked::Asked;

@@ -1,5 +1,5 @@
 //! Single reads.
-ghost use Rattle.std.specs.Prelude.{◌≡◌, ◌≢◌, length, IfOk};
+ghost use Rattle.std.specs.Prelude.{◌≢◌, length, IfOk};
 ghost use Rattle.std.specs.Io.KnownBytes.{ReadConsumes};
 ghost use Rattle.std.specs.Io.{ReadsAtMost};
 ghost use Rattle.adf_io.specs.steps.Reads.{ReadsPart};

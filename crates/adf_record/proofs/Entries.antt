@@ -1,6 +1,6 @@
 -- The entries of a bundle, one after the other.
-use Rattle.std.proofs.Common.{◌≡◌, ℕ, ◌+◌, ◌<◌, None, List, [], ◌∷◌, ◌++◌, length, get_or, map, take, All, sym, ap, ap₂, ◌∙◌, subst}
-use Rattle.std.proofs.lemmas.List.{map-append, take_more}
+use Rattle.std.proofs.Common.{◌≡◌, ℕ, ◌+◌, ◌<◌, None, List, [], ◌∷◌, ◌++◌, length, get_or, take, All, sym, ap, ◌∙◌, subst}
+use Rattle.std.proofs.lemmas.List.{take_more}
 use Rattle.ados_model.specs.Keys.{HasKey}
 use Rattle.ados_model.specs.Stands.{Stands}
 use Rattle.ados_model.specs.Tree.{Tree, entries, root}
@@ -28,16 +28,6 @@ module _ (t : Tree) where
       let last : take (i + 1) found ≡ take i found ++ e ∷ [] = take_more found i e inside ∙ ap (λ (f : Below). take i found ++ f ∷ []) (sym is) in
       subst (AreEntriesOf t (take (i + 1) found)) (sym grown)
       (subst (λ (es : List Below). AreEntriesOf t es (old ++ x ∷ [])) (sym last) (told_append (take i found) (e ∷ []) old (x ∷ []) a (one_more own no_entries)))
-
--- two lists are equal in one place more
-pub same_more : {A B : Type 0} (f : A → B) (xs ys : List A) (i : ℕ) (x y : A) → i < length xs → i < length ys → x ≡ get_or xs i x → y ≡ get_or ys i y
-    → map f (take i xs) ≡ map f (take i ys) → f x ≡ f y → map f (take (i + 1) xs) ≡ map f (take (i + 1) ys)
-same_more {A = A} {B = B} f xs ys i x y in_xs in_ys at_x at_y before own =
-    let one : take (i + 1) xs ≡ take i xs ++ x ∷ [] = take_more xs i x in_xs ∙ ap (λ (z : A). take i xs ++ z ∷ []) (sym at_x) in
-    let other : take (i + 1) ys ≡ take i ys ++ y ∷ [] = take_more ys i y in_ys ∙ ap (λ (z : A). take i ys ++ z ∷ []) (sym at_y) in
-    ap (map f) one ∙ map-append f (take i xs) (x ∷ [])
-    ∙ ap₂ (λ (zs : List B) (z : B). zs ++ z ∷ []) before own
-    ∙ sym (ap (map f) other ∙ map-append f (take i ys) (y ∷ []))
 
 -- all entries below the root of an image are in it
 pub all_there : (image : List ℕ) (found : List Below) → ((t : Tree) → Stands image t → AreBelow t None 0 (entries t (root t)) found) → All (λ e. HasKey image e.key) found

@@ -10,8 +10,5 @@ four a b c d = sym (simp append_assoc)
 pub five : (a b c d e : List ℕ) → a ++ (b ++ (c ++ (d ++ e))) ≡ a ++ b ++ c ++ d ++ e
 five a b c d e = sym (simp append_assoc)
 
-pub six : (a b c d e f : List ℕ) → a ++ (b ++ (c ++ (d ++ (e ++ f)))) ≡ a ++ b ++ c ++ d ++ e ++ f
-six a b c d e f = sym (simp append_assoc)
-
 pub eight : (a b c d e f g h : List ℕ) → a ++ (b ++ (c ++ (d ++ (e ++ (f ++ (g ++ h)))))) ≡ a ++ b ++ c ++ d ++ e ++ f ++ g ++ h
 eight a b c d e f g h = sym (simp append_assoc)

@@ -1,10 +1,8 @@
 -- The bytes of a broken file, block by block.
-use Rattle.std.proofs.Common.{◌≡◌, ℕ, ◌<◌, inl, inr, List, length, replicate, slice_index, get_or-set_same, get_or-set_other, Contains, sym, ap, ◌∙◌, subst, arith}
-use Rattle.std.proofs.Math.ListN.{set}
-use Rattle.std.proofs.lemmas.Bool.{cases_eq}
+use Rattle.std.proofs.Common.{◌≡◌, ℕ, ◌<◌, inl, inr, List, length, replicate, slice_index, Contains, sym, ap, ◌∙◌, subst, arith}
 use Rattle.std.proofs.lemmas.List.{get_or-replicate, length-replicate}
 use Rattle.adf_salvage.specs.declared.giving.Piece.{Piece}
-use Rattle.adf_salvage.specs.Saved.{IsByteOf, IsOfGiven, IsPieced}
+use Rattle.adf_salvage.specs.Saved.{IsOfGiven, IsPieced}
 use Rattle.adf_salvage.specs.steps.Keeping.{IsPutAt}
 
 module _ (image : List ℕ) (given : List Piece) (place count : ℕ) where
@@ -24,17 +22,3 @@ module _ (image : List ℕ) (given : List Piece) (place count : ℕ) where
       | inr byte ↦ inr (piece, there, is, byte)
     ];
   }
-
--- one more byte is put
-pub put_more : (image : List ℕ) (block : ℕ) (old mid : List ℕ) (at byte k : ℕ) → IsByteOf image block byte → at < length mid → IsPutAt image block old mid k → IsPutAt image block old (set mid at byte) k
-put_more image block old mid at byte k is inside put = elim (cases_eq k at) [
-  | inl e ↦
-      (let here : slice_index (set mid at byte) k ≡ byte = ap (slice_index (set mid at byte)) e ∙ get_or-set_same mid at byte 0 inside in
-      inr (subst (IsByteOf image block) (sym here) is))
-  | inr e ↦
-      (let same : slice_index (set mid at byte) k ≡ slice_index mid k = get_or-set_other mid at k byte 0 e in
-      elim put [
-        | inl kept ↦ inl (same ∙ kept)
-        | inr byte ↦ inr (subst (IsByteOf image block) (sym same) byte)
-      ])
-]

@@ -1,5 +1,5 @@
 -- The headers, one by one.
-use Rattle.std.proofs.Common.{◌≡◌, ◌≢◌, ℕ, ◌+◌, ◌<◌, ◌≤◌, ◌⊎◌, inl, inr, Bool, true, false, MatchBool, All, AllPairs, List, [], ◌∷◌, ◌++◌, length, slice_index, get_or, get_or-set_same, get_or-set_other, length-set, Contains, refl, sym, ap, ◌∙◌, subst, append_assoc, append-nil, arith}
+use Rattle.std.proofs.Common.{◌≡◌, ◌≢◌, ℕ, ◌+◌, ◌<◌, ◌≤◌, ◌⊎◌, inl, inr, Bool, true, false, MatchBool, All, AllPairs, List, [], ◌∷◌, ◌++◌, length, slice_index, get_or, get_or-set_same, get_or-set_other, length-set, Contains, refl, sym, ap, ◌∙◌, subst, append_assoc, arith}
 use Rattle.std.proofs.Math.ListN.{set}
 use Rattle.std.proofs.lemmas.Bool.{cases_eq, cases_order}
 use Rattle.std.proofs.lemmas.List.{get_or_append_left, get_or_default, length-append}
@@ -10,16 +10,12 @@ use Rattle.adf_block.specs.Fields.{parent_key}
 use Rattle.adf_block.specs.declared.layout.TheConstants.{FIRST_SLOT, TABLE_LONGS}
 use Rattle.ados_check.proofs.Counting.{AreDifferent, different_few}
 use Rattle.adf_salvage.specs.declared.headers.Found.{Found}
-use Rattle.adf_salvage.specs.Doubtful.{IsHeader, IsNamedHeader, IsNext, IsRoot, IsSlot, IsToldHeader, MayBeHeader, NamesEntries}
+use Rattle.adf_salvage.specs.Doubtful.{IsHeader, IsNamedHeader, IsRoot, IsSlot, IsToldHeader, MayBeHeader, NamesEntries}
 use Rattle.adf_salvage.specs.Doubtful.NamesEntries.{of_root, of_sound, of_named}
 use Rattle.adf_salvage.specs.steps.Giving.{mark_at}
 use Rattle.adf_salvage.specs.steps.Heading.{AreFound, AreHeaders, AreSought, FindsMore, IsFound, IsSought}
 use Rattle.adf_salvage.proofs.Growing.{all_more}
 use Rattle.adf_salvage.proofs.Naming.{header_inside, header_names}
-
--- nothing more was found
-pub finds_same : (out image : List ℕ) (found : Found) → AreFound out image found → FindsMore out image found found
-finds_same out image found f = record { found = f; kept = λ block is. is; more = []; grown = sym (append-nil found.blocks.items) }
 
 -- more and more
 pub finds_on : (out image : List ℕ) (old mid new : Found) → FindsMore out image old mid → FindsMore out image mid new → FindsMore out image old new
@@ -80,12 +76,6 @@ sought_before out image old new n more there all k l =
 pub slots_sought : (out image : List ℕ) (marks : List Bool) (block : ℕ) → ((slot : ℕ) → slot < TABLE_LONGS → IsSought out image marks block block (FIRST_SLOT + slot))
     → (at : ℕ) → IsSlot image block at → IsSought out image marks block block at
 slots_sought out image marks block all at (table, (slot, below, is)) = subst (IsSought out image marks block block) (sym is) (all slot below)
-
--- all places of a block, by both kinds
-pub both_sought : (out image : List ℕ) (marks : List Bool) (block : ℕ) → ((at : ℕ) → IsSlot image block at → IsSought out image marks block block at)
-    → ((at : ℕ) → IsNext image block at → IsSought out image marks (parent_key image block) block at) → AreSought out image marks block
-both_sought out image marks block slots next dir at (inl (here, slot)) = subst (λ (d : ℕ). IsSought out image marks d block at) here (slots at slot)
-both_sought out image marks block slots next dir at (inr (here, beside)) = subst (λ (d : ℕ). IsSought out image marks d block at) here (next at beside)
 
 -- the list has at most as many blocks as the image
 pub few_found : (out image : List ℕ) (found : Found) → AreFound out image found → length found.blocks.items ≤ block_count image

@@ -1,5 +1,5 @@
 -- Headers that are left out, one by one.
-use Rattle.std.proofs.Common.{◌≡◌, ℕ, zero, suc, ◌+◌, ◌<◌, inl, inr, Bool, true, false, MatchBool, All, AllPairs, List, [], ◌∷◌, ◌++◌, length, map, get_or, Contains, get_or-set_same, get_or-set_other, length-set, replicate, take, refl, sym, ap, ◌∙◌, subst, arith}
+use Rattle.std.proofs.Common.{◌≡◌, ℕ, zero, suc, ◌+◌, ◌<◌, inl, inr, Bool, true, false, MatchBool, All, AllPairs, List, [], ◌∷◌, ◌++◌, length, map, get_or, Contains, get_or-set_same, get_or-set_other, length-set, take, sym, ap, ◌∙◌, subst, arith}
 use Rattle.std.proofs.Math.ListN.{set}
 use Rattle.std.proofs.lemmas.Bool.{cases_eq}
 use Rattle.std.proofs.lemmas.List.Elements.{Contains-append_cases, Contains-append_left, Contains-append_right}
@@ -16,17 +16,6 @@ use Rattle.adf_salvage.proofs.ListingDeleted.{met_by}
 -- no block is one of none
 pub none_contained : (block : ℕ) → ¬ Contains [] block
 none_contained block (k, l, e) = absurd (omega (arith, l))
-
--- no block is marked
-all_false : (n block : ℕ) → mark_at (replicate n false) block ≡ false
-all_false zero block = refl
-all_false (suc n) zero = refl
-all_false (suc n) (suc block) = all_false n block
-
-pub none_marked : (marks : List Bool) (n : ℕ) → marks ≡ replicate n false → AreMarked marks []
-none_marked marks n is block =
-    subst (λ (mark : Bool). MatchBool mark (Contains [] block) (¬ Contains [] block))
-    (sym (ap (λ (ms : List Bool). mark_at ms block) is ∙ all_false n block)) (none_contained block)
 
 -- one more header
 pub marked_more : (marks : List Bool) (headers : List ℕ) (block : ℕ) → block < length marks → AreMarked marks headers → AreMarked (set marks block true) (headers ++ block ∷ [])

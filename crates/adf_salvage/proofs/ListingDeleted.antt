@@ -1,25 +1,16 @@
 -- The deleted entries while they are listed, block by block.
-use Rattle.std.proofs.Common.{◌≡◌, ℕ, zero, suc, ◌+◌, ◌<◌, inl, inr, List, [], ◌∷◌, ◌++◌, map, All, AllPairs, Contains, refl, sym, ap, subst, arith}
+use Rattle.std.proofs.Common.{◌≡◌, ℕ, zero, suc, ◌+◌, ◌<◌, inl, inr, List, [], ◌∷◌, ◌++◌, map, All, Contains, refl, sym, ap, subst, arith}
 use Rattle.std.proofs.lemmas.Bool.{cases_lt}
 use Rattle.std.proofs.lemmas.List.Elements.{Contains-append_left, Contains-append_right}
 use Rattle.std.proofs.lemmas.List.Quantifiers.{all_pairs_push}
-use Rattle.adf_block.specs.Image.{block_count}
 use Rattle.adf_salvage.specs.declared.deleted.Deleted.{Deleted}
-use Rattle.adf_salvage.specs.Deleted.{IsDeleted, IsToldDeleted, ListsDeleted}
+use Rattle.adf_salvage.specs.Deleted.{IsDeleted, IsToldDeleted}
 use Rattle.adf_salvage.specs.steps.Deleting.{AreListedBelow}
-use Rattle.adf_salvage.proofs.Growing.{all_more, none_told}
+use Rattle.adf_salvage.proofs.Growing.{all_more}
 
 headers_more : (xs : List Deleted) (e : Deleted) → map (λ (entry : Deleted). entry.header) (xs ++ e ∷ []) ≡ map (λ (entry : Deleted). entry.header) xs ++ e.header ∷ []
 headers_more [] e = refl
 headers_more (x ∷ xs) e = ap (λ (ys : List ℕ). x.header ∷ ys) (headers_more xs e)
-
-pub listed_none : (image : List ℕ) (xs : List Deleted) → xs ≡ [] → AreListedBelow image 2 xs
-listed_none image xs e = record {
-  told = subst (All (IsToldDeleted image)) (sym e) (none_told (IsToldDeleted image));
-  in_order = subst (AllPairs (λ (a b : Deleted). a.header < b.header)) (sym e) (λ i j d l m. absurd (omega (arith, l, m)));
-  below = subst (All (λ (entry : Deleted). entry.header < 2)) (sym e) (none_told (λ (entry : Deleted). entry.header < 2));
-  all = λ block l d. absurd (omega (arith, l, d.header.inside.0));
-}
 
 module _ (image : List ℕ) (n : ℕ) (xs : List Deleted) (h : AreListedBelow image n xs) where
   -- the next block is no deleted entry
@@ -49,10 +40,6 @@ module _ (image : List ℕ) (n : ℕ) (xs : List Deleted) (h : AreListedBelow im
               Contains-append_right (map (λ (entry : Deleted). entry.header) xs) (e.header ∷ []) block (0, omega arith, here))
         ]);
   })
-
-  -- all blocks were looked at
-  pub listed_all : n ≡ block_count image → ListsDeleted image xs
-  listed_all end = record { told = h.told; in_order = h.in_order; all = λ block d. h.all block (omega (arith, end, d.header.inside.1)) d }
 
 -- what is so of the headers of all entries is so of a block that is one of them
 pub met_by : (P : ℕ → Type 0) (xs : List Deleted) → All (λ (entry : Deleted). P entry.header) xs → (block : ℕ) → Contains (map (λ (entry : Deleted). entry.header) xs) block → P block

@@ -1,30 +1,11 @@
 -- The entries of all sound headers, and what can be read of them.
-use Rattle.std.proofs.Common.{◌≡◌, ℕ, ◌<◌, inl, inr, Bool, true, List, length, get_or, slice_index, Some, IsSome, sym, ap, ◌∙◌, subst, arith}
+use Rattle.std.proofs.Common.{◌≡◌, ℕ, ◌<◌, inl, inr, Bool, List, length, slice_index, Some, IsSome, sym, ap, ◌∙◌, subst, arith}
 use Rattle.std.proofs.lemmas.List.{get_or_default}
-use Rattle.adf_block.specs.Image.{block_count}
 use Rattle.adf_salvage.specs.declared.gathered.Gathered.{Gathered}
-use Rattle.adf_salvage.specs.declared.salvaged.State.{State}
-use Rattle.adf_salvage.specs.declared.salvaged.State.TheVariants.{Directory, DoubtfulDirectory, Whole, Doubtful, Lost, Broken}
-use Rattle.adf_salvage.specs.declared.salvaged.Salvaged.{Salvaged}
-use Rattle.adf_salvage.specs.Deleted.{IsTrustedBitmap, TellsTrust}
+use Rattle.adf_salvage.specs.Deleted.{TellsTrust}
 use Rattle.adf_salvage.specs.Lost.{IsLost}
-use Rattle.adf_salvage.specs.Salvaged.{AreApart, AreLeftOut, AreSalvaged, HasState, IsTold, Saved, SavesSound, broken_total, headers_of}
+use Rattle.adf_salvage.specs.Salvaged.{AreApart, AreLeftOut, AreSalvaged, Saved, SavesSound, broken_total, headers_of}
 use Rattle.adf_salvage.specs.steps.Gathering.{AreAllHeaders, AreGathered, place_at}
-use Rattle.adf_salvage.specs.steps.Keeping.{CanBeRead, IsKept, IsReadable}
-use Rattle.adf_salvage.proofs.Naming.{header_inside}
-
--- a sound file that is whole can be read
-can_be_read : (out image : List ℕ) (header : ℕ) (state : State) → header < block_count image → HasState out image header state → CanBeRead image header state
-can_be_read out image header Directory inside h = tt
-can_be_read out image header DoubtfulDirectory inside h = tt
-can_be_read out image header (Doubtful sound size) inside h = tt
-can_be_read out image header Whole inside h = record { inside = inside; lawful = h.claimant.intact.lawful }
-can_be_read out image header (Broken missing cut size) inside h = tt
-can_be_read out image header Lost inside h = absurd h
-
-told_readable : (out image : List ℕ) (entry : Salvaged) → IsTold out image entry → IsReadable image entry
-told_readable out image entry (inl told) = can_be_read out image entry.header entry.state (header_inside out image entry.header told.header) told.state
-told_readable out image entry (inr lost) = subst (CanBeRead image entry.header) (sym lost.state) tt
 
 module _ (out image : List ℕ) (gathered : Gathered) (g : AreGathered out image gathered) where
   pub all_salvaged : AreAllHeaders out image gathered.places.items → ((block : ℕ) → IsLost out image block → IsSome (place_at gathered.places.items block)) → AreSalvaged out image gathered.entries.items
@@ -52,11 +33,4 @@ module _ (out image : List ℕ) (gathered : Gathered) (g : AreGathered out image
         (subst (λ (xs : List ℕ). AreSalvaged xs image saved.entries) (sym leaves) (subst (AreSalvaged out image) (sym are) (all_salvaged met lost_met)));
     apart = subst AreApart (sym given) g.giving.once;
     bounded = omega (arith, g.bounded, ap broken_total are, ap length same);
-  }
-
-  pub all_kept : (trusted : Bool) → (trusted ≡ true → IsTrustedBitmap image) → IsKept image trusted gathered.entries.items gathered.giving.pieces.items
-  all_kept trusted trust = record {
-    trust = trust;
-    readable = λ k d l. told_readable out image (get_or gathered.entries.items k d) (g.told k d l);
-    inside = λ k d l. let marked = g.giving.marked k d l in omega (arith, marked.inside, g.giving.size);
   }

@@ -1,9 +1,7 @@
 //! The deleted entries of an image, and how much of each can be had back.
 ghost use Rattle.std.specs.Prelude.{◌≡◌, ◌+◌, IfOk, OnOk, MatchOption};
 ghost use Rattle.ados_model.specs.Faults.{InImage};
-ghost use Rattle.ados_model.specs.File.{contents};
 ghost use Rattle.adf_salvage.specs.Deleted.{IsDeleted, IsToldDeleted, IsTrustedBitmap, ListsDeleted, TellsDeleted};
-ghost use Rattle.adf_salvage.specs.Sound.{IsIntact};
 ghost use Rattle.adf_salvage.specs.steps.Deleting.{AreAllClaims, AreOfReached};
 ghost use Rattle.adf_salvage.specs.steps.Parts.{AreUsersBelow};
 
@@ -11,7 +9,6 @@ use crate::claims::{Claim, claims};
 use crate::intact::no_users;
 use crate::left_out::LeftOut;
 use crate::recovery::recovery_of;
-use crate::saved::whole_bytes;
 use crate::trust::{Trust, is_deleted, trust_of};
 use adf_block::Image;
 use adf_block::layout::BOOT_BLOCKS;
@@ -124,12 +121,4 @@ fn deleted_at(
     }
     let recovery = recovery_of(alloc, image, header, claims, marks, users)?;
     Ok(Some(Deleted { header, recovery }))
-}
-
-/// All bytes of a sound file.
-pub fn intact_bytes(alloc: Global, image: &Image, file: u32) -> Result<Vec<u8>, AllocError>
-    requires { IsIntact image.now file }
-    ensures { IfOk result (λ bytes. bytes.items ≡ contents image.now file) }
-{
-    whole_bytes(alloc, image, file)
 }

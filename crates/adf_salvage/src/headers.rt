@@ -1,6 +1,6 @@
 //! The headers of an image that are told: all sound ones but those that are left out, and the doubtful ones that the root
 //! or another header names.
-ghost use Rattle.std.specs.Prelude.{◌≡◌, ◌<◌, ◌↔◌, ℕ, List, length, IfOk, IsTrue, OnOk};
+ghost use Rattle.std.specs.Prelude.{◌<◌, ◌↔◌, ℕ, List, length, IfOk, IsTrue, OnOk};
 ghost use Rattle.adf_block.specs.Image.{block_count};
 ghost use Rattle.adf_block.specs.Fields.{parent_key};
 ghost use Rattle.adf_salvage.specs.Doubtful.{IsHeader, IsNext, IsPlaceIn, IsRoot, IsSlot, IsToldHeader, MayBeHeader, NamesEntries};

@@ -1,6 +1,5 @@
 //! The kind of a damaged image.
 ghost use Rattle.adf_salvage.specs.Salvaged.{IsReadAs};
-ghost use Rattle.std.specs.Prelude.{IsTrue};
 
 use crate::header::{is_file, is_sound_header};
 use adf_block::layout::{DATA_TYPE, KIND, OWN_KEY, PRIMARY_TYPE};

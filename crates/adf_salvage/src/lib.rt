@@ -31,7 +31,7 @@ mod undeleted;
 mod unreached;
 mod whole;
 
-pub use deleted::{Deleted, DeletedEntries, Recovery, deleted_entries, intact_bytes};
+pub use deleted::{Deleted, DeletedEntries, Recovery, deleted_entries};
 pub use giving::Piece;
 pub use header::is_sound_header;
 pub use holders::looks_like_extension;

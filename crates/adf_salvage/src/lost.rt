@@ -1,7 +1,7 @@
 //! Lost entries: blocks that are named as entries, and that are no headers that can be told.
-ghost use Rattle.std.specs.Prelude.{◌≡◌, ◌<◌, ◌⊎◌, ℕ, ◌+◌, ◌↔◌, IsSome, IsTrue, OnOk};
+ghost use Rattle.std.specs.Prelude.{◌<◌, ◌⊎◌, ℕ, ◌+◌, IsSome, OnOk};
 ghost use Rattle.adf_block.specs.Image.{block_count};
-ghost use Rattle.adf_salvage.specs.Doubtful.{IsNext, IsPlaceIn, IsSlot, NamesEntries};
+ghost use Rattle.adf_salvage.specs.Doubtful.{IsNext, IsSlot, NamesEntries};
 ghost use Rattle.adf_salvage.specs.Lost.{IsLost};
 ghost use Rattle.adf_salvage.specs.steps.Gathering.{AreAllHeaders, AreFollowed, AreGathered, GathersMore, IsFollowed, place_at};
 ghost use Rattle.adf_salvage.specs.steps.Heading.{AreKnown};

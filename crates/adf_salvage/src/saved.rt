@@ -144,7 +144,7 @@ impl Salvage {
 }
 
 /// All bytes of a file.
-pub(crate) fn whole_bytes(alloc: Global, image: &Image, file: u32) -> Result<Vec<u8>, AllocError>
+fn whole_bytes(alloc: Global, image: &Image, file: u32) -> Result<Vec<u8>, AllocError>
     requires inside { file < block_count image.now }
     requires lawful { LawfulFile image.now file }
     ensures { IfOk result (λ bytes. bytes.items ≡ contents image.now file) }

@@ -2,8 +2,7 @@
 ghost use Rattle.std.specs.Prelude.{◌≡◌, ◌≢◌, ◌<◌, ◌⊎◌, ◌↔◌, ℕ, [], All, Contains, IfOk, IsTrue, MatchBool, MatchOption};
 ghost use Rattle.adf_block.specs.Whole.{IsImage};
 ghost use Rattle.ados_faults.specs.Listed.{AreMarks};
-ghost use Rattle.ados_map.specs.Pages.{LawfulPages, page_block, pages_of};
-ghost use Rattle.ados_model.specs.Accepted.{ShowsNoFault};
+ghost use Rattle.ados_map.specs.Pages.{page_block, pages_of};
 ghost use Rattle.ados_model.specs.Faults.{InImage};
 ghost use Rattle.adf_salvage.specs.Deleted.{AreTrustedPages, IsDeleted, IsTrustedBitmap, IsTrustedPage};
 ghost use Rattle.adf_salvage.specs.steps.Deleting.{AreFaults, AreOfReached, IsDoubt, IsTrust, is_used};

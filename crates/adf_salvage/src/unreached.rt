@@ -1,5 +1,5 @@
 //! The headers that no hash chain from the root leads to.
-ghost use Rattle.std.specs.Prelude.{◌≡◌, ℕ, length, IsSome, OnOk};
+ghost use Rattle.std.specs.Prelude.{◌≡◌, length, IsSome, OnOk};
 ghost use Rattle.adf_block.specs.Image.{block_count};
 ghost use Rattle.adf_salvage.specs.Doubtful.{IsHeader};
 ghost use Rattle.adf_salvage.specs.steps.Gathering.{AreAllHeaders, AreGathered, GathersMore, IsNew, place_at};

@@ -1,5 +1,5 @@
 //! Fields after the word of a line. Each follows one space, and a call returns the rest of the line.
-ghost use Rattle.std.specs.Prelude.{◌≡◌, ◌≢◌, ◌∷◌, ◌++◌, [], ℕ, false, List, Option, replicate, IfOk, IfSome, MatchOption};
+ghost use Rattle.std.specs.Prelude.{◌≡◌, ◌≢◌, ◌∷◌, ℕ, List, Option, replicate, IfOk, IfSome, MatchOption};
 ghost use Rattle.ados_name.specs.Path.{IsPathText};
 ghost use Rattle.adf_script.specs.Pieces.{IsCut};
 ghost use Rattle.adf_script.specs.steps.Reading.{IsQuoted, IsUnquoted, a_value, a_number, a_signed, a_text, a_long_text, a_buffer, an_object, a_date, ReadsNone, Reads};

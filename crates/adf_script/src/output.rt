@@ -1,5 +1,5 @@
 //! Writes the output of a script.
-ghost use Rattle.std.specs.Prelude.{◌≡◌, ◌≢◌, OnOk};
+ghost use Rattle.std.specs.Prelude.{◌≢◌, OnOk};
 ghost use Rattle.std.specs.Io.KnownBytes.{Appends};
 ghost use Rattle.adf_script.specs.Text.{reply_line, closed_line, fault_line};
 

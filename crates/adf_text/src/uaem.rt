@@ -1,5 +1,5 @@
 //! The note that emulators keep beside a host file: metadata that the host cannot store.
-ghost use Rattle.std.specs.Prelude.{◌≡◌, IfOk};
+ghost use Rattle.std.specs.Prelude.{IfOk};
 ghost use Rattle.std.specs.String.{string_bytes};
 ghost use Rattle.adf_text.specs.Uaem.{IsLineOf, LineTellsOne};
 

@@ -1,6 +1,5 @@
 //! The program's command line arguments.
 ghost use Rattle.std.specs.Prelude.{◌≡◌, IfOk, IfErr};
-ghost use Rattle.std.specs.Str.{IsUtf8};
 ghost use Rattle.std.specs.String.{string_bytes};
 ghost use Rattle.adf_words.specs.Given.{TellsForeign};
 

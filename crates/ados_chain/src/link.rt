@@ -1,6 +1,6 @@
 //! Links of hash chains.
 
-ghost use Rattle.std.specs.Prelude.{◌≡◌, ◌≢◌, ◌<◌, ◌+◌, ◌^◌, ℕ, List};
+ghost use Rattle.std.specs.Prelude.{◌≡◌, ◌≢◌, ◌<◌, ◌+◌, ℕ, List};
 ghost use Rattle.adf_block.specs.declared.layout.TheConstants.{TABLE_LONGS};
 ghost use Rattle.adf_block.specs.Image.{block_count, long};
 ghost use Rattle.adf_block.specs.Whole.{IsImage};

@@ -1,6 +1,6 @@
 //! Changes of a file's bytes.
 
-ghost use Rattle.std.specs.Prelude.{◌≡◌, ◌<◌, ◌≤◌, IfOk, MatchResult};
+ghost use Rattle.std.specs.Prelude.{◌<◌, ◌≤◌, IfOk, MatchResult};
 ghost use Rattle.ados_data.specs.Place.{IsPlace};
 ghost use Rattle.ados_map.specs.Pages.{NoneFreeBelow};
 ghost use Rattle.ados_model.specs.Tree.{Tree, size_of};

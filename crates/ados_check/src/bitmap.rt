@@ -1,5 +1,5 @@
 //! The bitmap of an image with known reached blocks.
-ghost use Rattle.std.specs.Prelude.{◌≡◌, ◌↔◌, ◌<◌, ◌≤◌, IsTrue, map, is_some, IfOk, IfErr, MatchOption};
+ghost use Rattle.std.specs.Prelude.{◌≡◌, ◌↔◌, ◌<◌, IsTrue, map, is_some, IfOk, IfErr, MatchOption};
 ghost use Rattle.adf_block.specs.Whole.{IsImage};
 ghost use Rattle.adf_block.specs.Image.{IsInside, block_count, has_free_bit};
 ghost use Rattle.ados_model.specs.Rebuilt.{HasValidBitmap};

@@ -1,5 +1,5 @@
 //! The marked entries, block by block.
-ghost use Rattle.std.specs.Prelude.{◌≡◌, ◌<◌, ℕ, length, MatchOption, MatchResult};
+ghost use Rattle.std.specs.Prelude.{◌<◌, ℕ, length, MatchOption, MatchResult};
 ghost use Rattle.adf_block.specs.Whole.{IsImage};
 ghost use Rattle.adf_block.specs.Image.{block_count};
 ghost use Rattle.ados_model.specs.Faults.{Shows};

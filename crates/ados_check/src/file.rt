@@ -1,5 +1,5 @@
 //! The check of one file: its counts, its size and, in OFS, the links of its data blocks.
-ghost use Rattle.std.specs.Prelude.{◌≡◌, MatchResult};
+ghost use Rattle.std.specs.Prelude.{MatchResult};
 ghost use Rattle.ados_check.specs.Marks.{IsSoundFile};
 ghost use Rattle.ados_model.specs.Faults.{Shows};
 ghost use Rattle.ados_check.specs.steps.Files.{IsReachedFile};

@@ -1,6 +1,6 @@
 //! A sketch of an image: only the bytes that its check needs.
 
-ghost use Rattle.std.specs.Prelude.{◌≡◌, ◌≢◌, ◌<◌, ◌≤◌, ◌+◌, ◌*◌, ◌/◌, ◌%◌, ◌^◌, ◌++◌, [], ℕ, List, length, slice_index, drop, IfOk, MatchBool};
+ghost use Rattle.std.specs.Prelude.{◌≡◌, ◌≢◌, ◌<◌, ◌≤◌, ◌+◌, ◌*◌, ◌/◌, ◌%◌, ◌++◌, [], ℕ, List, length, drop, IfOk, MatchBool};
 ghost use Rattle.byteorder.specs.Endian.{big_number};
 ghost use Rattle.adf_block.specs.Whole.{IsImage, IsSize};
 ghost use Rattle.adf_block.specs.Image.{block_count, block_sum, bytes_at, byte_at, long};

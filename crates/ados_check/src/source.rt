@@ -1,6 +1,6 @@
 //! The blocks that a check reads: those of an image, or of a sketch.
 
-ghost use Rattle.std.specs.Prelude.{◌≡◌, ◌≢◌, ◌<◌, ◌*◌, ◌/◌, ℕ, length, MatchBool, true, false};
+ghost use Rattle.std.specs.Prelude.{◌≡◌, ◌≢◌, ◌<◌, ◌*◌, ◌/◌, length, MatchBool, true, false};
 ghost use Rattle.adf_block.specs.declared.layout.TheConstants.{BLOCK_BYTES, BLOCK_LONGS};
 ghost use Rattle.adf_block.specs.Whole.{IsImage, IsSize};
 ghost use Rattle.adf_block.specs.Image.{block_count, block_sum, bytes_at, byte_at, long, root_key};

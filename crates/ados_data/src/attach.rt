@@ -1,6 +1,6 @@
 //! A new block appended to those of a file.
 
-ghost use Rattle.std.specs.Prelude.{◌≡◌, ◌≢◌, ◌<◌, ◌≤◌, ◌-◌, ◌*◌, ◌+◌, ◌^◌, ◌%◌, ℕ};
+ghost use Rattle.std.specs.Prelude.{◌≡◌, ◌≢◌, ◌<◌, ◌-◌, ◌+◌, ◌^◌, ◌%◌, ℕ};
 ghost use Rattle.adf_block.specs.declared.layout.TheConstants.{BLOCK_BYTES};
 ghost use Rattle.adf_block.specs.Image.{block_count, block_sum, byte_at, long};
 ghost use Rattle.adf_block.specs.Frame.{SameBut};

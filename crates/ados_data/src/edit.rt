@@ -1,9 +1,9 @@
 //! Edits of fields in one block. The checksum follows each edit: a right one stays right.
 
-ghost use Rattle.std.specs.Prelude.{◌≡◌, ◌≢◌, ℕ, ◌<◌, ◌+◌, ◌^◌, ◌⊎◌};
-ghost use Rattle.adf_block.specs.Image.{block_count, block_sum, byte_at, long};
+ghost use Rattle.std.specs.Prelude.{◌≡◌, ◌≢◌, ℕ, ◌<◌, ◌⊎◌};
+ghost use Rattle.adf_block.specs.Image.{block_count, block_sum, long};
 ghost use Rattle.adf_block.specs.Fields.{primary_type, own_key, sequence_number, held_count};
-ghost use Rattle.adf_block.specs.Frame.{SameBut, OnlyBlock};
+ghost use Rattle.adf_block.specs.Frame.{SameBut};
 ghost use Rattle.adf_block.specs.declared.layout.TheConstants.{BLOCK_LONGS, NEXT_DATA};
 ghost use Rattle.ados_model.specs.Stands.{HasExtension};
 ghost use Rattle.ados_data.specs.steps.Edits.{AtField, AtFields, AtExtensionFields, AtDataFields};

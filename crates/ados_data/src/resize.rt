@@ -1,6 +1,6 @@
 //! The size of a file, and the fields that depend on it.
 
-ghost use Rattle.std.specs.Prelude.{◌≡◌, ◌≢◌, ◌<◌, ◌≤◌, ◌-◌, ◌*◌, ◌+◌, ◌^◌};
+ghost use Rattle.std.specs.Prelude.{◌≡◌, ◌≢◌, ◌<◌, ◌≤◌, ◌-◌, ◌*◌};
 ghost use Rattle.adf_block.specs.Image.{block_count, block_sum, long};
 ghost use Rattle.adf_block.specs.Fields.{held_count};
 ghost use Rattle.adf_block.specs.Frame.{SameBut};

@@ -1,11 +1,10 @@
 //! A file made shorter.
 
-ghost use Rattle.std.specs.Prelude.{◌≡◌, ℕ, true, slice_index, ◌<◌, ◌≤◌, ◌+◌, ◌-◌, ◌%◌, length, take};
-ghost use Rattle.adf_block.specs.Image.{IsInside, has_free_bit, block_count, byte_at, long};
+ghost use Rattle.std.specs.Prelude.{◌≡◌, ℕ, true, ◌<◌, ◌≤◌, ◌-◌, ◌%◌, length, take};
+ghost use Rattle.adf_block.specs.Image.{IsInside, has_free_bit, block_count, long};
 ghost use Rattle.adf_block.specs.Fields.{format_of};
-ghost use Rattle.adf_block.specs.Whole.{free_bit_count};
 ghost use Rattle.ados_map.specs.Pages.{LawfulPages};
-ghost use Rattle.ados_model.specs.Tree.{block_cost, data_count, extension_count};
+ghost use Rattle.ados_model.specs.Tree.{data_count, extension_count};
 ghost use Rattle.ados_model.specs.File.{contents, data_blocks, extension_blocks};
 ghost use Rattle.ados_data.specs.Cut.{CutsHeader, FreesData, FreesExtensions, KeepsData};
 ghost use Rattle.ados_data.specs.Changing.{PaysFor, SummedFile, WritableFile};

@@ -1,17 +1,13 @@
 -- The first long of a disk of another kind.
-use Rattle.std.proofs.Common.{◌≡◌, ◌≢◌, ℕ, ◌<◌, ◌≤◌, List, length, Option, Some, None, refl, sym, subst, arith}
+use Rattle.std.proofs.Common.{◌≡◌, ◌≢◌, ℕ, ◌<◌, ◌≤◌, List, length, refl, sym, subst, arith}
 use Rattle.adf_block.specs.Boot.{IsDos, HasKind}
 use Rattle.adf_block.specs.Image.{byte_at}
 use Rattle.adf_block.specs.declared.boot.BootKind.{BootKind}
 use Rattle.adf_block.specs.declared.boot.BootKind.TheVariants.{Ofs, Ffs, OtherDos, NotDos}
-use Rattle.ados_check.specs.Marks.{mark_at}
-use Rattle.ados_check.specs.declared.mark.Mark.{Mark}
 use Rattle.ados_check.proofs.KindLemmas.{is_dos, not_dos}
 use Rattle.ados_model.specs.declared.fault.FaultKind.{FaultKind}
-use Rattle.ados_model.specs.declared.fault.FaultKind.TheVariants.{NotADosDisk, UnsupportedKind, BadSum, BadType, BadOwnKey, BadParent, BadPointer, BlockUsedTwice, WrongChain, BadName, DuplicateName, BadComment, BadCount, BadSequence, LinkEntry, MarkedFree, NoMemory}
-use Rattle.ados_faults.specs.Listed.{Marks}
-use Rattle.std.specs.Option.{option_and_then}
-use Rattle.ados_faults.specs.Values.{ShowsDisk, right_at, wanted_at}
+use Rattle.ados_model.specs.declared.fault.FaultKind.TheVariants.{NotADosDisk, UnsupportedKind}
+use Rattle.ados_faults.specs.Values.{ShowsDisk}
 
 dos_of : (image : List ℕ) (k : BootKind) → HasKind image k → k ≢ NotDos → IsDos image
 dos_of image Ofs h other = h.0
@@ -38,31 +34,3 @@ known image NotDos room has other block i s = absurd (not_dos image room has s.0
 
 pub known_kind : (image : List ℕ) (kind : FaultKind) (block i : ℕ) (k : BootKind) → 4 ≤ length image → kind ≡ UnsupportedKind → HasKind image k → ((n : ℕ) → k ≢ OtherDos n) → ¬ ShowsDisk image kind block i
 known_kind image kind block i k room e has other s = known image k room has other block i (subst (λ (k : FaultKind). ShowsDisk image k block i) e s)
-
--- several values are right there
-pub disk_wants_none : (image : List ℕ) (marks : Marks) (kind : FaultKind) (block i : ℕ) → ShowsDisk image kind block i → wanted_at image marks kind block i ≡ None
-disk_wants_none image marks NotADosDisk block i s = go (mark_at marks block)
-  where
-    go : (o : Option Mark) → option_and_then (λ (mark : Mark). right_at image marks mark NotADosDisk block i) o ≡ None
-    go None = refl
-    go (Some mark) = refl
-disk_wants_none image marks UnsupportedKind block i s = go (mark_at marks block)
-  where
-    go : (o : Option Mark) → option_and_then (λ (mark : Mark). right_at image marks mark UnsupportedKind block i) o ≡ None
-    go None = refl
-    go (Some mark) = refl
-disk_wants_none image marks BadSum block i s = absurd s
-disk_wants_none image marks BadType block i s = absurd s
-disk_wants_none image marks BadOwnKey block i s = absurd s
-disk_wants_none image marks BadParent block i s = absurd s
-disk_wants_none image marks BadPointer block i s = absurd s
-disk_wants_none image marks BlockUsedTwice block i s = absurd s
-disk_wants_none image marks WrongChain block i s = absurd s
-disk_wants_none image marks BadName block i s = absurd s
-disk_wants_none image marks DuplicateName block i s = absurd s
-disk_wants_none image marks BadComment block i s = absurd s
-disk_wants_none image marks BadCount block i s = absurd s
-disk_wants_none image marks BadSequence block i s = absurd s
-disk_wants_none image marks LinkEntry block i s = absurd s
-disk_wants_none image marks MarkedFree block i s = absurd s
-disk_wants_none image marks NoMemory block i s = absurd s

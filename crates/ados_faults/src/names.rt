@@ -1,5 +1,5 @@
 //! The names of the entries: each once in its directory.
-ghost use Rattle.std.specs.Prelude.{◌≡◌, ◌≢◌, All, IfOk};
+ghost use Rattle.std.specs.Prelude.{◌≢◌, All, IfOk};
 ghost use Rattle.adf_block.specs.Whole.{IsImage};
 ghost use Rattle.ados_model.specs.declared.fault.FaultKind.TheVariants.{DuplicateName};
 ghost use Rattle.ados_faults.specs.steps.Named.{AreDuplicatesNoted, AreFirst, AreNamesKept, IsEntryName, IsNameMet, IsStepNamed};

@@ -1,5 +1,5 @@
 -- The texts of packets that are names or comments.
-use Rattle.std.proofs.Common.{◌≡◌, ◌≢◌, ℕ, zero, suc, ◌+◌, ◌-◌, ◌<◌, ◌≤◌, ◌==◌, Bool, true, false, cond, nat_lt, not, List, length, drop, get_or, All, refl, sym, ap, subst, ◌∙◌, arith, get_or-drop, length-drop, ltb-false}
+use Rattle.std.proofs.Common.{◌≡◌, ◌≢◌, ℕ, zero, suc, ◌+◌, ◌-◌, ◌<◌, ◌≤◌, ◌==◌, Bool, true, false, nat_lt, not, List, length, drop, get_or, All, refl, sym, ap, subst, ◌∙◌, arith, get_or-drop, length-drop, ltb-false}
 use Rattle.std.specs.Prelude.{◌||◌}
 use Rattle.std.specs.List.{list_any, suffix_len}
 use Rattle.std.proofs.lemmas.List.Folds.{list_any_none, list_any_at}

@@ -6,7 +6,6 @@ use Rattle.std.specs.Option.{option_map_or}
 use Rattle.std.specs.Result.{result_err, result_unwrap_or}
 use Rattle.std.specs.FinMap.{get}
 use Rattle.ados_name.specs.Name.{denies_delete, denies_write}
-use Rattle.ados_name.specs.declared.stamp.Date3.{Date3}
 use Rattle.ados_model.specs.Tree.{Tree, entries, free, needs_more, root, size_of}
 use Rattle.ados_model.specs.Change.{child_of, is_file}
 use Rattle.ados_model.specs.declared.dos_error.WalkFault.{WalkFault}
@@ -14,19 +13,19 @@ use Rattle.ados_model.specs.declared.dos_error.WalkFault.TheVariants as walks
 use Rattle.ados_model.specs.declared.dos_error.PlaceFault.{PlaceFault}
 use Rattle.ados_model.specs.declared.dos_error.PlaceFault.TheVariants as places
 use Rattle.ados_model.specs.declared.dos_error.DosError.{DosError}
-use Rattle.ados_model.specs.declared.dos_error.DosError.TheVariants.{CommentTooBig, DeleteProtected, DeviceNotMounted, DirectoryNotEmpty, DiskFull, InvalidComponentName, InvalidLock, ObjectExists, ObjectInUse, ObjectWrongType, SeekError, WriteProtected}
+use Rattle.ados_model.specs.declared.dos_error.DosError.TheVariants.{DeleteProtected, DeviceNotMounted, DirectoryNotEmpty, DiskFull, InvalidLock, ObjectExists, ObjectInUse, ObjectWrongType, SeekError, WriteProtected}
 use Rattle.ados_model.specs.declared.packet.Packet.{Packet}
-use Rattle.ados_model.specs.declared.packet.Packet.TheVariants.{RenameDisk, DeleteObject, RenameObject, SetProtect, CreateDir, SetComment, SetDate, Write, FindUpdate, FindOutput, SetFileSize}
+use Rattle.ados_model.specs.declared.packet.Packet.TheVariants.{DeleteObject, RenameObject, CreateDir, Write, FindUpdate, FindOutput, SetFileSize}
 use Rattle.ados_model.specs.declared.holds.HandleHold.{HandleHold}
 use Rattle.ados_model.specs.Session.{Session, is_held, is_held_exclusively, is_in_use, is_lock, handle_key, handle_position}
 use Rattle.ados_model.specs.Objects.{handle_target, is_bad_target, is_under, place_error, placed, protection_of, target_number, walk_error, found}
 use Rattle.ados_model.specs.Reads.{seek_target}
 use Rattle.ados_model.specs.Resolved.{place_result, walk_result}
-use Rattle.ados_model.specs.Refusals.{first_refusal, has_no_room, is_comment, is_directory_there, is_empty, is_name, is_some_and, refusals, refuse}
+use Rattle.ados_model.specs.Refusals.{first_refusal, has_no_room, is_directory_there, is_empty, is_some_and, refusals, refuse}
 use Rattle.ados_model.specs.DiskDate.{sets_disk_date}
 use Rattle.ados_handler.specs.Writes.{lacks_space_at_most, would_write}
 use Rattle.ados_handler.specs.steps.Moves.{both, move_refusal, move_refusals}
-use Rattle.ados_handler.specs.steps.Allowed.{can_empty, can_make, can_move, can_output, can_remove, can_resize, can_write, leads_to_entry, ok_and, removes}
+use Rattle.ados_handler.specs.steps.Allowed.{can_empty, can_make, can_move, can_output, can_remove, can_resize, can_write, ok_and, removes}
 
 and_false : (b : Bool) → b && false ≡ false
 and_false true = refl
@@ -41,9 +40,6 @@ walk_bars walks.DirectoryNotFound rest = refl
 walk_bars walks.ObjectNotFound rest = refl
 walk_bars walks.WrongType rest = refl
 
-and_bars : (c : Bool) (fault : WalkFault) (rest : List (Option DosError)) → c && false ≡ passes (Some (walk_error fault) ∷ rest)
-and_bars c fault rest = and_false c ∙ walk_bars fault rest
-
 place_bars : (fault : PlaceFault) (rest : List (Option DosError)) → false ≡ passes (Some (place_error fault) ∷ rest)
 place_bars places.DirectoryNotFound rest = refl
 place_bars places.ObjectNotFound rest = refl
@@ -51,19 +47,6 @@ place_bars places.WrongType rest = refl
 place_bars places.InvalidName rest = refl
 
 -- rows of refusals by their conditions
-entry_row : (r : Bool) → not r ≡ passes (refuse ObjectWrongType r ∷ [])
-entry_row true = refl
-entry_row false = refl
-
-comment_row : (c r : Bool) → c && not r ≡ passes (refuse CommentTooBig (not c) ∷ refuse ObjectWrongType r ∷ [])
-comment_row true true = refl
-comment_row true false = refl
-comment_row false r = refl
-
-name_row : (n : Bool) → n ≡ passes (refuse InvalidComponentName (not n) ∷ [])
-name_row true = refl
-name_row false = refl
-
 remove_row : (r h e d : Bool) → not r && not h && e && not d ≡ passes (refuse ObjectWrongType r ∷ refuse ObjectInUse h ∷ refuse DirectoryNotEmpty (not e) ∷ refuse DeleteProtected d ∷ [])
 remove_row true h e d = refl
 remove_row false true e d = refl
@@ -103,11 +86,7 @@ size_row false false true m = refl
 size_row false false false m = full_row m
 
 module _ (t : Tree) (s : Session) where
-  -- a dead handler refuses every packet, and a living one refuses by the packet's row
-  pub dead : (packet : Packet) → s.died ≡ true → false ≡ would_write t s packet
-  dead packet died =
-      sym (ap (λ (d : Bool). sets_disk_date t s packet && passes (refuse DeviceNotMounted d ∷ refusals t s packet)) died ∙ and_false (sets_disk_date t s packet))
-
+  -- a living handler refuses a packet by the packet's row
   living : (packet : Packet) → s.died ≡ false → sets_disk_date t s packet && passes (refusals t s packet) ≡ would_write t s packet
   living packet alive = sym (ap (λ (d : Bool). sets_disk_date t s packet && passes (refuse DeviceNotMounted d ∷ refusals t s packet)) alive)
 
@@ -126,29 +105,6 @@ module _ (t : Tree) (s : Session) where
   place_row test rest same false r = refl
 
   module _ (alive : s.died ≡ false) where
-    pub disk_renamed_by : (name : List ℕ) → is_name name ≡ would_write t s (RenameDisk name)
-    disk_renamed_by name = name_row (is_name name) ∙ living (RenameDisk name) alive
-
-    pub protected_by : (lock : ℕ) (path : List ℕ) (bits : ℕ) → leads_to_entry t s lock path ≡ would_write t s (SetProtect lock path bits)
-    protected_by lock path bits =
-        walk_row lock path _ (λ key. refuse ObjectWrongType (key == root t) ∷ []) (λ key. entry_row (key == root t)) (is_lock s lock) (found t s lock path)
-        ∙ living (SetProtect lock path bits) alive
-
-    pub dated_by : (lock : ℕ) (path : List ℕ) (date : Date3) → leads_to_entry t s lock path ≡ would_write t s (SetDate lock path date)
-    dated_by lock path date =
-        walk_row lock path _ (λ key. refuse ObjectWrongType (key == root t) ∷ []) (λ key. entry_row (key == root t)) (is_lock s lock) (found t s lock path)
-        ∙ living (SetDate lock path date) alive
-
-    pub commented_by : (lock : ℕ) (path comment : List ℕ) → is_comment comment && leads_to_entry t s lock path ≡ would_write t s (SetComment lock path comment)
-    commented_by lock path comment = go (is_comment comment) (is_lock s lock) (found t s lock path) ∙ living (SetComment lock path comment) alive
-      where
-        go : (c b : Bool) (r : Result ℕ WalkFault) → c && ok_and (λ key. not (key == root t)) (cond b (walk_result r) (Err InvalidLock))
-            ≡ passes (refuse InvalidLock (not b) ∷ option_map walk_error (result_err r) ∷ refuse CommentTooBig (not c) ∷ refuse ObjectWrongType (result_unwrap_or r 0 == root t) ∷ [])
-        go c true (Ok key) = comment_row c (key == root t)
-        go c true (Err fault) = and_bars c fault (refuse CommentTooBig (not c) ∷ refuse ObjectWrongType (0 == root t) ∷ [])
-        go true false r = refl
-        go false false r = refl
-
     pub deleted_by : (lock : ℕ) (path : List ℕ) → removes t s lock path ≡ would_write t s (DeleteObject lock path)
     deleted_by lock path =
         walk_row lock path _ (λ key. refuse ObjectWrongType (key == root t) ∷ refuse ObjectInUse (is_held s key) ∷ refuse DirectoryNotEmpty (not (is_empty (entries t key))) ∷ refuse DeleteProtected (denies_delete (protection_of t key)) ∷ [])

@@ -1,6 +1,6 @@
 //! The target of a SEEK or a SET_FILE_SIZE.
 
-ghost use Rattle.std.specs.Prelude.{◌≡◌, MatchOption, pos, true, false, option_map};
+ghost use Rattle.std.specs.Prelude.{◌≡◌, MatchOption, true, false};
 ghost use Rattle.ados_model.specs.Objects.{is_bad_target, target_number};
 ghost use Rattle.ados_model.specs.Reads.{seek_target};
 

@@ -1,6 +1,6 @@
 //! One bitmap block, and one long of it.
 
-ghost use Rattle.std.specs.Prelude.{◌≡◌, ◌<◌, ◌≤◌, ◌+◌, ◌*◌, length};
+ghost use Rattle.std.specs.Prelude.{◌≡◌, ◌<◌, ◌+◌, ◌*◌};
 ghost use Rattle.adf_block.specs.declared.layout.TheConstants.{PAGE_LONGS};
 ghost use Rattle.adf_block.specs.Image.{IsInside, block_count};
 ghost use Rattle.adf_block.specs.Whole.{IsSize};

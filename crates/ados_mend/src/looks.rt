@@ -1,5 +1,5 @@
 //! What a block looks like by its types.
-ghost use Rattle.std.specs.Prelude.{◌≡◌, ◌<◌, ◌↔◌, IsTrue, MatchOption};
+ghost use Rattle.std.specs.Prelude.{◌<◌, ◌↔◌, IsTrue, MatchOption};
 ghost use Rattle.adf_block.specs.Image.{block_count};
 ghost use Rattle.ados_mend.specs.Cautions.{HasLook, IsHeaderType};
 ghost use Rattle.ados_mend.specs.declared.caution.Look.{Look};

@@ -1,6 +1,5 @@
 //! The faults that a new bitmap mends, and others.
-ghost use Rattle.std.specs.Prelude.{◌≡◌, ◌<◌, ◌↔◌, IsTrue, MatchOption, MatchResult, All, Bool, Contains};
-ghost use Rattle.adf_block.specs.Whole.{IsImage};
+ghost use Rattle.std.specs.Prelude.{◌<◌, ◌↔◌, IsTrue, MatchOption, MatchResult, All, Bool, Contains};
 ghost use Rattle.ados_mend.specs.Answer.{IsReason};
 ghost use Rattle.ados_mend.specs.Mendable.{IsMendable, IsPage, ShowsOnlyMendable};
 

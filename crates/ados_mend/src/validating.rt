@@ -1,7 +1,5 @@
 //! The bitmap written anew.
-ghost use Rattle.std.specs.Prelude.{IfOk, MatchResult};
-ghost use Rattle.ados_mend.specs.Answer.{IsNew, IsReason, Validates};
-ghost use Rattle.ados_mend.specs.Mendable.{ShowsOnlyMendable};
+ghost use Rattle.ados_mend.specs.Answer.{Validates};
 ghost use Rattle.ados_mend.specs.Validated.{IsValidated};
 
 use crate::answer::{NotValidated, Validated};

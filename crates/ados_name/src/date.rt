@@ -1,5 +1,5 @@
 //! Dates, and their text.
-ghost use Rattle.std.specs.Prelude.{◌≡◌, ◌≤◌, IfOk, IsTrue, ◌↔◌};
+ghost use Rattle.std.specs.Prelude.{◌≡◌, ◌≤◌, IfOk};
 ghost use Rattle.std.specs.String.{string_bytes};
 ghost use Rattle.ados_name.specs.CivilDay.{IsDaysAfterEpoch};
 

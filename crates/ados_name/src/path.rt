@@ -1,5 +1,5 @@
 //! Paths and their steps.
-ghost use Rattle.std.specs.Prelude.{◌≡◌, ◌↔◌, IsTrue, IsOk, IfOk, false};
+ghost use Rattle.std.specs.Prelude.{◌≡◌, ◌↔◌, IsOk, IfOk, false};
 ghost use Rattle.std.specs.List.{list_any, before_first, after_first};
 ghost use Rattle.ados_name.specs.Name.{is_slash, is_separator, is_from_root, steps, front, last_name};
 ghost use Rattle.ados_name.specs.Path.{walked_part, IsPathText};

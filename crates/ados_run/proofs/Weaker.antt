@@ -1,5 +1,5 @@
 -- A packet served in one way was served in each way that follows from it, by the same servers.
-use Rattle.std.proofs.Common.{◌≡◌, ℕ, Bool, List, [], ◌∷◌, length}
+use Rattle.std.proofs.Common.{ℕ, Bool, List, [], ◌∷◌, length}
 use Rattle.ados_name.specs.declared.stamp.Date3.{Date3}
 use Rattle.ados_port.specs.History.{PortState, opening_port, PortHistory, Serving, ServerMeaning, Run}
 use Rattle.ados_port.specs.Step.{Step}

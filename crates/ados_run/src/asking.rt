@@ -1,5 +1,5 @@
 //! One packet of a client, until its reply.
-ghost use Rattle.std.specs.Prelude.{◌≡◌, ◌++◌, ◌∷◌, [], length, true, IfSome, IfNone, MatchResult};
+ghost use Rattle.std.specs.Prelude.{◌≡◌, IfSome, IfNone, MatchResult};
 ghost use Rattle.ados_port.specs.Grown.{Grown};
 ghost use Rattle.ados_run.specs.Asking.{HasPut, HasTaken, Replied, StoppedBy};
 

@@ -1,5 +1,5 @@
 //! The job of a client's thread.
-ghost use Rattle.std.specs.Prelude.{◌≡◌, IfOk};
+ghost use Rattle.std.specs.Prelude.{IfOk};
 ghost use Rattle.ados_run.specs.Scripts.{IsUnused, Tells};
 
 use crate::gate::Gate;

@@ -1,5 +1,5 @@
 -- Everything below a directory: all keys whose parents lead up to it, each after its own directory.
-use Rattle.std.proofs.Common.{◌≡◌, ◌≢◌, ℕ, zero, suc, ◌+◌, ◌<◌, Option, None, Some, ◌⊎◌, inl, inr, List, [], ◌∷◌, ◌++◌, length, get_or, Contains, IsSome, is_some, refl, sym, ap, ◌∙◌, subst, arith}
+use Rattle.std.proofs.Common.{◌≡◌, ◌≢◌, ℕ, zero, suc, ◌+◌, ◌<◌, Option, None, Some, inl, inr, List, [], ◌∷◌, ◌++◌, length, get_or, Contains, IsSome, is_some, refl, sym, ap, subst, arith}
 use Rattle.std.proofs.lemmas.List.{get_or_default, map-append}
 use Rattle.std.proofs.lemmas.List.Elements.{Contains-append_cases, Contains-append_left, Contains-append_right}
 use Rattle.ados_model.proofs.KeyLists.{Contains-cases, Contains-here, Contains-later, Contains-nil}
@@ -12,18 +12,6 @@ use Rattle.ados_volume.specs.Below.{AreBelow, placed}
 use Rattle.ados_volume.specs.Below.AreBelow.{none, entry}
 use Rattle.ados_volume.proofs.Loops.{no_loop}
 use Rattle.ados_volume.proofs.GoingBelow.{keys_of}
-
--- an element of a concatenation is in the first list, or in the second
-split_append : (xs ys front : List ℕ) (x : ℕ) (back : List ℕ) → xs ++ ys ≡ front ++ x ∷ back
-    → ((rest : List ℕ) × (xs ≡ front ++ x ∷ rest)) ⊎ ((more : List ℕ) × (front ≡ xs ++ more) × (ys ≡ more ++ x ∷ back))
-split_append [] ys front x back e = inr (front, refl, e)
-split_append (z ∷ zs) ys [] x back e = inl (zs, let same : z ≡ x = cc e in ap (λ (y : ℕ). y ∷ zs) same)
-split_append (z ∷ zs) ys (y ∷ front) x back e =
-    let first : z ≡ y = cc e in
-    elim (split_append zs ys front x back (let rest : zs ++ ys ≡ front ++ x ∷ back = cc e in rest)) [
-      | inl i ↦ inl (i.0, λ k. first k ∷ i.1 k)
-      | inr i ↦ inr (i.0, (λ k. sym first k ∷ i.1 k), i.2)
-    ]
 
 -- the key of a list's entry is among the list's keys
 pub key_among : (es : List Below) (i : ℕ) (e : Below) → i < length es → e ≡ get_or es i e → Contains (keys_of es) e.key
@@ -73,43 +61,6 @@ module _ (t : Tree) (proper : Proper t) where
           | inr behind ↦ all_held top above (length inner + suc at) others rest x o (λ k m. h k (Contains-later key others k m)) behind
         ]
       ]
-
-  -- each comes after its own directory, except the first ones
-  pub behind_own : (dir : ℕ) (above : Option ℕ) (at : ℕ) (keys : List ℕ) (es : List Below) (before : List ℕ) (x : ℕ) (after : List ℕ) → AreBelow t above at keys es → ((k : ℕ) → Contains keys k → parent_of t k ≡ Some dir) → keys_of es ≡ before ++ x ∷ after
-      → (d : ℕ) → parent_of t x ≡ Some d → Contains (dir ∷ before) d
-  behind_own dir above at keys es before x after none h e d p = absurd (nothing before e)
-    where
-      nothing : (before : List ℕ) → [] ≡ before ++ x ∷ after → ⊥
-      nothing [] e = cc e
-      nothing (b ∷ bs) e = cc e
-  behind_own dir above at keys es before x after (entry {key = key} {keys = others} {inner = inner} {others = rest} i o) h e d p =
-      go before (sym (keys_entry above key inner rest) ∙ e)
-      (λ f b g. behind_own key (Some at) (suc at) (entries t key) inner f x b i (λ k c. (proper.listed key k).0 c) g d p)
-      (λ f b g. behind_own dir above (length inner + suc at) others rest f x b o (λ k c. h k (Contains-later key others k c)) g d p)
-    where
-      go : (before : List ℕ) → key ∷ (keys_of inner ++ keys_of rest) ≡ before ++ x ∷ after
-          → ((f b : List ℕ) → keys_of inner ≡ f ++ x ∷ b → Contains (key ∷ f) d)
-          → ((f b : List ℕ) → keys_of rest ≡ f ++ x ∷ b → Contains (dir ∷ f) d)
-          → Contains (dir ∷ before) d
-      go [] e in_it behind_it =
-          let same : key ≡ x = cc e in
-          let up : parent_of t x ≡ Some dir = subst (λ (k : ℕ). parent_of t k ≡ Some dir) same (h key (Contains-here key others)) in
-          let is : dir ≡ d = cc (up, p) in
-          subst (Contains (dir ∷ [])) is (Contains-here dir [])
-      go (b ∷ bs) e in_it behind_it =
-          let first : key ≡ b = cc e in
-          let behind : keys_of inner ++ keys_of rest ≡ bs ++ x ∷ after = cc e in
-          elim (split_append (keys_of inner) (keys_of rest) bs x after behind) [
-            | inl s ↦
-                let m : Contains (key ∷ bs) d = in_it bs s.0 s.1 in
-                Contains-later dir (b ∷ bs) d (subst (λ (k : ℕ). Contains (k ∷ bs) d) first m)
-            | inr s ↦
-                let m : Contains (dir ∷ s.0) d = behind_it s.0 after s.2 in
-                elim (Contains-cases dir s.0 d m) [
-                  | inl same ↦ subst (Contains (dir ∷ (b ∷ bs))) same (Contains-here dir (b ∷ bs))
-                  | inr c ↦ Contains-later dir (b ∷ bs) d (Contains-later b bs d (subst (λ (ks : List ℕ). Contains ks d) (sym s.1) (Contains-append_right (keys_of inner) s.0 d c)))
-                ]
-          ]
 
   -- a key whose parents lead up to the top is the top or among them
   pub under_among : (top : ℕ) (es : List Below) (k : ℕ) → AreBelow t None 0 (entries t top) es → IsUnder t top k → Contains (top ∷ keys_of es) k

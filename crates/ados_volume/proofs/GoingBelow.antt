@@ -1,5 +1,5 @@
 -- The progress of a walk over everything below a directory.
-use Rattle.std.proofs.Common.{◌≡◌, ◌≢◌, ℕ, suc, ◌+◌, ◌<◌, Option, None, Some, inl, inr, List, [], ◌∷◌, ◌++◌, length, map, reverse, Contains, IsSome, is_some, refl, sym, ap, ◌∙◌, subst, arith, append_assoc, length-append}
+use Rattle.std.proofs.Common.{◌≡◌, ◌≢◌, ℕ, suc, ◌+◌, ◌<◌, Option, Some, inl, inr, List, [], ◌∷◌, ◌++◌, length, map, reverse, Contains, IsSome, is_some, refl, sym, ap, ◌∙◌, subst, arith, append_assoc, length-append}
 use Rattle.std.proofs.lemmas.List.{append-nil, map-append, reverse-append}
 use Rattle.std.proofs.lemmas.List.Elements.{Contains-append_cases, Contains-append_left, Contains-append_right}
 use Rattle.ados_model.proofs.KeyLists.{Once, Once-before, Once-front, Contains-cases, Contains-here, Contains-later, Contains-nil, length-once, Once-append}

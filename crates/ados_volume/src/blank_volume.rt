@@ -1,7 +1,7 @@
 //! A blank volume: an empty root in the middle, followed by the bitmap blocks.
 
 ghost use Rattle.std.specs.Prelude.{◌≡◌, ◌<◌, ◌+◌, ◌*◌, ℕ, length, IfOk, false};
-ghost use Rattle.adf_block.specs.Whole.{IsImage, IsSize};
+ghost use Rattle.adf_block.specs.Whole.{IsSize};
 ghost use Rattle.adf_block.specs.Image.{long_byte, block_count, byte_at, bytes_at, long, page_count, root_key};
 ghost use Rattle.adf_block.specs.declared.layout.TheConstants.{KIND_BYTE};
 ghost use Rattle.adf_block.specs.Frame.{OnlyBlock, SameBut, Within};

@@ -1,6 +1,6 @@
 //! Walks along paths.
 
-ghost use Rattle.std.specs.Prelude.{◌≡◌, IfOk, IfSome, option_map, List, ℕ};
+ghost use Rattle.std.specs.Prelude.{◌≡◌, IfOk, IfSome};
 ghost use Rattle.ados_name.specs.StepView.{step_of};
 ghost use Rattle.ados_model.specs.Tree.{Tree, parent_of};
 ghost use Rattle.ados_model.specs.Stands.{Stands};

@@ -1,6 +1,5 @@
 //! Texts for C, in a buffer of the caller.
 
-ghost use Rattle.std.specs.Prelude.{◌≡◌};
 ghost use Rattle.c_values.specs.Buffers.{Puts};
 
 /// Copies a text to the start of the buffer, if there is room, and returns the length that it needs.

@@ -1,5 +1,5 @@
 //! A port with all its ends in one value.
-ghost use Rattle.std.specs.Prelude.{◌≡◌, ◌<◌, false, IfErr, length};
+ghost use Rattle.std.specs.Prelude.{◌≡◌, ◌<◌, false, IfErr};
 ghost use Rattle.ados_port.specs.Ends.{AreEnds};
 
 use crate::rows::Opening;

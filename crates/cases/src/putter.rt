@@ -1,5 +1,4 @@
 //! A client that puts one packet after another.
-ghost use Rattle.std.specs.Prelude.{◌≡◌};
 ghost use Rattle.ados_port.specs.Grown.{Grown};
 
 use ados_port::{Client, ClientEnd, Server};

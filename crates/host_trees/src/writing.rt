@@ -1,5 +1,5 @@
 //! Files and directories written below a directory of the host.
-ghost use Rattle.std.specs.Prelude.{◌≡◌, ◌≤◌, length, IfErr};
+ghost use Rattle.std.specs.Prelude.{◌≤◌, length, IfErr};
 
 use crate::dates::host_time;
 use crate::faults::{ItemFault, WriteFault, WriteWhy};

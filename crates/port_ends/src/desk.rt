@@ -1,6 +1,5 @@
 //! The server with the history of what it served.
 ghost use Rattle.std.specs.Prelude.{◌≡◌, ◌<◌, [], ◌∷◌, ◌++◌, length, true, false, IfOk, IsTrue};
-ghost use Rattle.port_history.specs.History.{Serving};
 ghost use Rattle.port_history.specs.Lawful.{MeaningRun};
 
 use crate::closing_mark::{CloseReader, CloseSetter};

@@ -1,5 +1,5 @@
 //! Opens a port.
-ghost use Rattle.std.specs.Prelude.{◌≡◌, ◌<◌, false, length, MatchResult};
+ghost use Rattle.std.specs.Prelude.{◌≡◌, ◌<◌, false, MatchResult};
 ghost use Rattle.port_ends.specs.Ends.{IsOpened};
 
 use crate::client::ClientEnd;

@@ -1,5 +1,5 @@
 //! The rule of the port's queue, and the moves that keep it.
-ghost use Rattle.std.specs.Prelude.{◌≡◌, ◌+◌, ◌<◌, ◌≤◌, [], ◌∷◌, ◌++◌, length};
+ghost use Rattle.std.specs.Prelude.{◌≡◌, ◌+◌, ◌<◌, [], ◌∷◌, ◌++◌};
 ghost use Rattle.port_ends.specs.steps.Rule.{ArePutLists, TakesOne, client};
 ghost use Rattle.port_ends.specs.Ends.{OfClients};
 

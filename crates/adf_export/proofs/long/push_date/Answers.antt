@@ -1,4 +1,4 @@
-use Rattle.std.proofs.Common.{◌≡◌, ℕ, ◌++◌, [], ◌∷◌, List, append_assoc, ap₂, ◌∙◌}
+use Rattle.std.proofs.Common.{ℕ, ◌++◌, [], ◌∷◌, List, append_assoc, ap₂, ◌∙◌}
 use Rattle.std.proofs.lemmas.Result.{on_ok_weaker}
 use Rattle.adf_record.specs.Second.{PushesSecond, to_second}
 use Rattle.adf_export.specs.steps.Going.{PushesDate}

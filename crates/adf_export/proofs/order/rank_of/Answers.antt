@@ -1,4 +1,4 @@
-use Rattle.std.proofs.Common.{◌≡◌, ℕ, List, [], Option, map, refl, sym, ap, ◌∙◌}
+use Rattle.std.proofs.Common.{[], Option, map, refl, sym, ap, ◌∙◌}
 use Rattle.std.specs.Option.{option_map_or}
 use Rattle.ados_name.specs.Name.{upper}
 use Rattle.ados_model.proofs.Nodes.{some_in}

@@ -1,5 +1,5 @@
 use Rattle.std.proofs.Common.{◌≡◌, ℕ, ◌+◌, ◌/◌, List, length, slice_index, sym, ap, ◌∙◌, arith}
-use Rattle.adf_block.specs.Frame.{InBlock, OnlyBlock, Within}
+use Rattle.adf_block.specs.Frame.{InBlock, OnlyBlock}
 use Rattle.adf_block.specs.Image.{byte_at}
 use Rattle.adf_block.proofs.Blocks.{byte-bytes_at}
 use Rattle.adf_block.proofs.Frames.{same_weaken}

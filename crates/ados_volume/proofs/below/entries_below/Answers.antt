@@ -1,6 +1,5 @@
-use Rattle.std.proofs.Common.{◌≡◌, ◌≢◌, ℕ, None, List, [], ◌++◌, length, map, AllPairs, sym, ap, ◌∙◌, subst}
+use Rattle.std.proofs.Common.{◌≡◌, ◌≢◌, ℕ, None, List, [], ◌++◌, length, AllPairs, sym, ap, ◌∙◌, subst}
 use Rattle.ados_model.specs.Tree.{Tree, entries}
-use Rattle.ados_model.specs.Stands.{Stands}
 use Rattle.ados_volume.specs.declared.below.Below.{Below}
 use Rattle.ados_volume.specs.Below.{AreBelow, HasGrown}
 use Rattle.ados_volume.proofs.GoingBelow.{keys_of}

@@ -1,4 +1,4 @@
-use Rattle.std.proofs.Common.{◌++◌, List, [], ◌∷◌, drop, refl, ap, ◌∙◌, arith}
+use Rattle.std.proofs.Common.{◌++◌, List, [], ◌∷◌, ap, ◌∙◌, arith}
 use Rattle.adf_export.specs.declared.listing.Level.{Level}
 use Rattle.adf_export.proofs.Directories.{node_of, node_there}
 use Rattle.adf_export.proofs.Left.{starts}
