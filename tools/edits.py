@@ -84,14 +84,6 @@ def functions_of(edit: Path) -> set[str]:
     return found
 
 
-def aimed_at(crate: Path, function: str) -> str:
-    """Returns how the prover is told to check a function alone: by its name if it is the only one of that name in the crate, else by
-    its module."""
-    module, _, name = function.rpartition("::")
-    texts = (it.read_text() for it in (crate / "src").rglob("*.rt"))
-    return name if sum(len(re.findall(rf"\bfn {name}\b", it)) for it in texts) == 1 else module
-
-
 def module_of(file: str) -> str:
     """Returns the path of the module of a file of src/."""
     return file.removeprefix("src/").removesuffix(".rt").replace("/", "::")
@@ -110,9 +102,9 @@ class Round:
         return all(self.edits.values())
 
     @property
-    def only(self) -> list[str]:
-        """How the prover is told to check the changed functions alone."""
-        return sorted({aimed_at(crate_of(edit), it) for edit, found in self.edits.items() for it in found})
+    def modules(self) -> list[str]:
+        """The modules of the changed functions."""
+        return sorted({it.rpartition("::")[0] for found in self.edits.values() for it in found})
 
     def take(self, edit: Path) -> bool:
         """Adds an edit that changes other functions than those before, and that fits beside these."""
