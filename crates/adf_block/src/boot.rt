@@ -10,7 +10,7 @@ use crate::floppy::Image;
 use crate::layout::{BLOCK_LONGS, BOOT_BLOCKS, BOOT_CHECKSUM, KIND_BYTE};
 
 /// The DOS type of a disk: the first four bytes of its image.
-#[derive(Clone, Copy, Debug, PartialEq, Eq)]
+#[derive(Clone, Copy, PartialEq, Eq)]
 pub enum BootKind {
     /// `DOS`, 0: the old file system.
     Ofs,

@@ -4,7 +4,7 @@
 //! names another unit. Code, contracts and definitions all cite these constants.
 
 /// The layout of data blocks.
-#[derive(Clone, Copy, Debug, PartialEq, Eq)]
+#[derive(Clone, Copy, PartialEq, Eq)]
 pub enum Format {
     /// The old file system: a header of 24 bytes, then 488 bytes of data.
     Ofs,

@@ -24,7 +24,7 @@ pub fn page_count(blocks: u32) -> u32
 }
 
 /// Why bytes are no image. The faults are tested in this order.
-#[derive(Clone, Copy, Debug, PartialEq, Eq)]
+#[derive(Clone, Copy, PartialEq, Eq)]
 pub enum SizeFault {
     /// The length is no multiple of 512 bytes.
     NotWholeBlocks,
@@ -35,7 +35,7 @@ pub enum SizeFault {
 }
 
 /// The first fault of a size, with the unchanged bytes.
-#[derive(Debug, Drop)]
+#[derive(Drop)]
 pub struct SizeRefused {
     pub fault: SizeFault,
     pub bytes: Vec<u8>,

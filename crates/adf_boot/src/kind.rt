@@ -7,7 +7,7 @@ use adf_block::Image;
 use adf_block::layout::{BLOCK_BYTES, BOOT_BLOCKS};
 
 /// What the boot block of an image is.
-#[derive(Clone, Copy, Debug, PartialEq, Eq)]
+#[derive(Clone, Copy, PartialEq, Eq)]
 pub enum BootCode {
     /// None: only zeros follow the kind of the disk.
     Empty,

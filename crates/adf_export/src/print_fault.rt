@@ -2,7 +2,7 @@
 use std::alloc::AllocError;
 
 /// Why a text is not printed whole.
-#[derive(Clone, Copy, Debug, PartialEq, Eq)]
+#[derive(Clone, Copy, PartialEq, Eq)]
 pub enum PrintFault {
     /// A write failed, or wrote no byte.
     Write,

@@ -13,7 +13,7 @@ use std::rt::Files;
 use std::time::SystemTime;
 
 /// The number of a file on its host: the device, and the inode there. No two files have it at one time.
-#[derive(Clone, Copy, Debug, PartialEq, Eq)]
+#[derive(Clone, Copy, PartialEq, Eq)]
 pub struct FileNumber {
     device: u64,
     inode: u64,

@@ -3,7 +3,7 @@ use std::fmt;
 use std::io::{Error, ErrorKind};
 
 /// Why a file cannot be written, as the end of a sentence: `cannot write 'NAME': REASON`.
-#[derive(Clone, Copy, Debug)]
+#[derive(Clone, Copy)]
 pub struct WriteReason(pub Error);
 
 impl fmt::Display for WriteReason {

@@ -8,7 +8,7 @@ use std::alloc::{AllocError, Global};
 use std::io::{Error, Read};
 
 /// Why input was not read to its end.
-#[derive(Clone, Copy, Debug, PartialEq, Eq)]
+#[derive(Clone, Copy, PartialEq, Eq)]
 pub enum InputFault {
     /// A read failed.
     Read,

@@ -10,7 +10,7 @@ use std::alloc::Global;
 use std::io::Read;
 
 /// Why no image was read.
-#[derive(Debug, Drop)]
+#[derive(Drop)]
 pub enum LoadFault {
     /// A read failed.
     Read,

@@ -5,7 +5,7 @@ ghost use Rattle.std.specs.Io.KnownBytes.{Appends};
 use std::io::{ErrorKind, Write};
 
 /// A write failed, or accepted no byte.
-#[derive(Clone, Copy, Debug, PartialEq, Eq)]
+#[derive(Clone, Copy, PartialEq, Eq)]
 pub struct StoreFault {
     /// The number of bytes written before.
     pub written: usize,

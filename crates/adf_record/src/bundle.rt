@@ -13,7 +13,7 @@ pub struct Bundle {
 }
 
 /// What is told of the volume itself.
-#[derive(Clone, Copy, Debug)]
+#[derive(Clone, Copy)]
 pub struct BundleHead {
     pub format: Format,
     pub blocks: u32,
@@ -27,7 +27,7 @@ pub struct BundleHead {
 }
 
 /// A file or a directory.
-#[derive(Clone, Copy, Debug)]
+#[derive(Clone, Copy)]
 pub struct BundleEntry {
     /// The position of its directory in the list, which is before it. `None`: the root.
     pub above: Option<usize>,

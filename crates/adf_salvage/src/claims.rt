@@ -13,7 +13,7 @@ use adf_block::layout::BOOT_BLOCKS;
 use std::alloc::{AllocError, Global};
 
 /// The sound files that claim a block.
-#[derive(Clone, Copy, Debug, PartialEq, Eq)]
+#[derive(Clone, Copy, PartialEq, Eq)]
 pub(crate) enum Claim {
     /// None.
     Free,

@@ -16,7 +16,7 @@ use ados_check::Mark;
 use std::alloc::{AllocError, Global};
 
 /// How much of a deleted entry can be had back.
-#[derive(Clone, Copy, Debug, PartialEq, Eq)]
+#[derive(Clone, Copy, PartialEq, Eq)]
 pub enum Recovery {
     /// The entry is a directory, which has no bytes.
     Directory,
@@ -41,7 +41,7 @@ pub enum Recovery {
 }
 
 /// A deleted entry.
-#[derive(Clone, Copy, Debug)]
+#[derive(Clone, Copy)]
 pub struct Deleted {
     /// The block number of its header.
     pub header: u32,

@@ -23,7 +23,7 @@ const SHARE: usize = 4;
 const PAGES: u32 = 25;
 
 /// A block given to a file that is not whole.
-#[derive(Clone, Copy, Debug)]
+#[derive(Clone, Copy)]
 pub struct Piece {
     /// The position of the file in the list of entries.
     pub place: usize,

@@ -11,7 +11,7 @@ const LOST_AND_FOUND: &[u8] = b"lost+found";
 const MOST_ENDINGS: u32 = 16;
 
 /// Where an entry is.
-#[derive(Clone, Copy, Debug, PartialEq, Eq, PartialOrd, Ord)]
+#[derive(Clone, Copy, PartialEq, Eq, PartialOrd, Ord)]
 pub(crate) struct Standing {
     /// The position of its directory in the list of entries.
     pub(crate) above: Option<usize>,

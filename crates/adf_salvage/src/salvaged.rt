@@ -29,7 +29,7 @@ pub struct Salvaged {
 }
 
 /// The kind of an entry, and how much of it is left.
-#[derive(Clone, Copy, Debug, PartialEq, Eq)]
+#[derive(Clone, Copy, PartialEq, Eq)]
 pub enum State {
     Directory,
     /// A directory whose header has a wrong checksum or too long a comment.

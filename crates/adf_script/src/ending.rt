@@ -1,7 +1,7 @@
 //! How a client's script ends.
 
 /// How the script of a client at a running port ended.
-#[derive(Clone, Copy, Debug, PartialEq, Eq)]
+#[derive(Clone, Copy, PartialEq, Eq)]
 pub enum ClientEnding {
     /// All lines were run, or the port was closed.
     Done,

@@ -3,7 +3,7 @@ use adf_io::InputFault;
 use std::alloc::AllocError;
 
 /// Why a script's run failed.
-#[derive(Clone, Copy, Debug, PartialEq, Eq)]
+#[derive(Clone, Copy, PartialEq, Eq)]
 pub enum TryFault {
     /// A line of the script is faulty, or the script is too long. The last line of the written text has the number.
     Script,

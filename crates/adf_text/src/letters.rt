@@ -7,7 +7,7 @@ ghost use Rattle.adf_text.specs.Letters.{IsByte, letters, IsFaultOf, LettersCome
 use std::alloc::{AllocError, Global};
 
 /// Why a text has no bytes.
-#[derive(Clone, Copy, Debug, PartialEq, Eq)]
+#[derive(Clone, Copy, PartialEq, Eq)]
 pub enum LettersFault {
     /// The first letter past U+00FF, and the number of letters before it.
     NoByte { letter: char, place: usize },

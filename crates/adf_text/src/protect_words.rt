@@ -7,7 +7,7 @@ use crate::protection::{bit, protection_letters};
 use ados_name::Protect;
 
 /// What a word does with the letters that an entry shows.
-#[derive(Clone, Copy, Debug, PartialEq, Eq)]
+#[derive(Clone, Copy, PartialEq, Eq)]
 pub enum Form {
     /// The entry shows these letters, and no others.
     Exactly,
@@ -20,7 +20,7 @@ pub enum Form {
 }
 
 /// A word for protection bits: its letters of `hsparwed`, in lower or upper case and perhaps with dashes, and its form.
-#[derive(Clone, Copy, Debug)]
+#[derive(Clone, Copy)]
 pub struct ProtectWord<'a> {
     pub form: Form,
     pub letters: &'a [u8],

@@ -10,7 +10,7 @@ use ados_name::{Comment, Date3, Protect};
 use std::alloc::{AllocError, Global};
 
 /// The contents of a note. Of the protection bits it has the low eight.
-#[derive(Clone, Copy, Debug, PartialEq, Eq)]
+#[derive(Clone, Copy, PartialEq, Eq)]
 pub struct Uaem {
     pub protect: Protect,
     pub date: Date3,

@@ -13,7 +13,7 @@ use adf_block::layout::{BOOT_BLOCKS, FIRST_SLOT, NEXT_IN_CHAIN, TABLE_LONGS};
 use ados_name::Name;
 
 /// What follows a key in the order of a directory.
-#[derive(Clone, Copy, Debug, PartialEq, Eq)]
+#[derive(Clone, Copy, PartialEq, Eq)]
 pub enum Next {
     /// The next entry.
     Entry(u32),

@@ -7,7 +7,7 @@ ghost use Rattle.ados_change.specs.Kinds.{content_of};
 use adf_block::layout::{DIRECTORY_TYPE, FILE_TYPE};
 
 /// A directory or a file.
-#[derive(Clone, Copy, Debug, PartialEq, Eq)]
+#[derive(Clone, Copy, PartialEq, Eq)]
 pub enum NodeKind {
     Directory,
     File,

@@ -2,7 +2,7 @@
 use ados_model::Role;
 
 /// The role of a reached block, and the long that names it.
-#[derive(Clone, Copy, Debug, PartialEq, Eq)]
+#[derive(Clone, Copy, PartialEq, Eq)]
 pub struct Mark {
     pub role: Role,
     /// The block with this long; 0 for the root.

@@ -15,7 +15,7 @@ use ados_check::Mark;
 use ados_model::{FaultKind, Role, VolumeFault};
 
 /// The long of a block that shows a fault.
-#[derive(Clone, Copy, Debug, PartialEq, Eq)]
+#[derive(Clone, Copy, PartialEq, Eq)]
 pub struct FaultValues {
     /// The index of the long in the fault's block, 0 to 127.
     pub long: u32,

@@ -28,7 +28,7 @@ impl<T> Model for Table<T> {
 }
 
 /// There is no memory, or no free number below 2^31.
-#[derive(Clone, Copy, Debug, PartialEq, Eq)]
+#[derive(Clone, Copy, PartialEq, Eq)]
 pub struct NoPlace;
 
 impl<T> Table<T> {

@@ -6,7 +6,7 @@ ghost use Rattle.ados_model.specs.Actions.{action_number, kind_of};
 use crate::packet::Packet;
 
 /// An action, under its name in the AmigaDOS Technical Reference.
-#[derive(Clone, Copy, Debug, PartialEq, Eq)]
+#[derive(Clone, Copy, PartialEq, Eq)]
 pub enum Action {
     Die,
     LocateObject,

@@ -22,7 +22,7 @@ pub struct Answer {
 }
 
 /// What EXAMINE_OBJECT and EXAMINE_NEXT return of an object.
-#[derive(Clone, Copy, Debug, PartialEq, Eq)]
+#[derive(Clone, Copy, PartialEq, Eq)]
 pub struct FileInfo {
     pub key: u32,
     pub entry_type: i32, // 1 for the root, 2 for a directory, -3 for a file.
@@ -35,7 +35,7 @@ pub struct FileInfo {
 }
 
 /// What DISK_INFO and INFO return of a volume.
-#[derive(Clone, Copy, Debug, PartialEq, Eq)]
+#[derive(Clone, Copy, PartialEq, Eq)]
 pub struct DiskInfo {
     pub state: u32, // 80 write protected, 81 validating, 82 valid.
     pub blocks: u32, // The number of blocks after the boot blocks.

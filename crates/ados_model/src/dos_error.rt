@@ -25,7 +25,7 @@ pub enum DosError {
 }
 
 /// Why a walk along a path finds no object.
-#[derive(Clone, Copy, Debug, PartialEq, Eq)]
+#[derive(Clone, Copy, PartialEq, Eq)]
 pub enum WalkFault {
     DirectoryNotFound, // A directory before the last component does not exist. DOS error 204.
     ObjectNotFound, // The object does not exist, or the path goes above the root. DOS error 205.
@@ -33,7 +33,7 @@ pub enum WalkFault {
 }
 
 /// Why a path names no place for an entry.
-#[derive(Clone, Copy, Debug, PartialEq, Eq)]
+#[derive(Clone, Copy, PartialEq, Eq)]
 pub enum PlaceFault {
     DirectoryNotFound, // A directory before the last name does not exist. DOS error 204.
     ObjectNotFound, // The path goes above the root. DOS error 205.

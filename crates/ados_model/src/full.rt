@@ -1,5 +1,5 @@
 //! A full volume.
 
 /// Fewer blocks are free than needed. DOS error 221.
-#[derive(Clone, Copy, Debug, PartialEq, Eq)]
+#[derive(Clone, Copy, PartialEq, Eq)]
 pub struct Full;

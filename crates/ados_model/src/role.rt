@@ -1,7 +1,7 @@
 //! The use of a block.
 
 /// The role of a block that is reached from the root. Directories and files are given by their block numbers.
-#[derive(Clone, Copy, Debug, PartialEq, Eq)]
+#[derive(Clone, Copy, PartialEq, Eq)]
 pub enum Role {
     Root,
     /// A bitmap block.

@@ -6,7 +6,7 @@ use crate::short_text::ShortText;
 use std::marker::Model;
 
 /// A comment of at most 79 bytes.
-#[derive(Clone, Copy, Debug, PartialEq, Eq)]
+#[derive(Clone, Copy, PartialEq, Eq)]
 pub struct Comment {
     text: ShortText<79>,
 }
@@ -22,7 +22,7 @@ impl Model for Comment {
 }
 
 /// The text is longer than 79 bytes.
-#[derive(Clone, Copy, Debug, PartialEq, Eq)]
+#[derive(Clone, Copy, PartialEq, Eq)]
 pub struct CommentTooLong;
 
 impl Comment {

@@ -12,7 +12,7 @@ use std::marker::Model;
 /// A name of 1 to 30 bytes without `/` and `:`.
 ///
 /// `==` compares the bytes. `same` compares names as AmigaDOS does.
-#[derive(Clone, Copy, Debug, PartialEq, Eq)]
+#[derive(Clone, Copy, PartialEq, Eq)]
 pub struct Name {
     text: ShortText<30>,
 }

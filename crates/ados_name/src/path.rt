@@ -9,7 +9,7 @@ use bstr::ByteSlice;
 use std::marker::Model;
 
 /// A path, or another text in a packet: at most 255 bytes.
-#[derive(Clone, Copy, Debug, PartialEq, Eq)]
+#[derive(Clone, Copy, PartialEq, Eq)]
 pub struct PathText {
     text: ShortText<255>,
 }
@@ -84,7 +84,7 @@ impl PathText {
 }
 
 /// One step of a walk.
-#[derive(Clone, Copy, Debug, PartialEq, Eq)]
+#[derive(Clone, Copy, PartialEq, Eq)]
 pub enum Step<'a> {
     Parent,
     /// To the child of this name. The name may be longer than 30 bytes or have a `:`.

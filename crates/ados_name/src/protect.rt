@@ -6,7 +6,7 @@ ghost use Rattle.ados_name.specs.Protection.{is_archived, letters};
 use bitflags::{Flag, Flags, bitflag_items};
 
 /// The protection long of a header (ROM Kernel Manual). Bits without a name here keep their values.
-#[derive(Clone, Copy, Debug, PartialEq, Eq)]
+#[derive(Clone, Copy, PartialEq, Eq)]
 pub struct Protect(pub u32);
 
 bitflag_items! {

@@ -4,7 +4,7 @@ ghost use Rattle.std.specs.Prelude.{◌≡◌, ◌<◌, ◌≤◌, All, length};
 use std::marker::Model;
 
 /// At most `CAPACITY` bytes. The cells after them are 0.
-#[derive(Clone, Copy, Debug, PartialEq, Eq)]
+#[derive(Clone, Copy, PartialEq, Eq)]
 pub(crate) struct ShortText<const CAPACITY: usize> {
     cells: [u8; CAPACITY],
     len: usize,

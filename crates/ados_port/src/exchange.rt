@@ -41,7 +41,7 @@ impl<S: Server> Model for Exchange<S> {
 }
 
 /// The server of an exchange that was not made because memory ran out, unchanged.
-#[derive(Debug, Drop)]
+#[derive(Drop)]
 pub struct NewRefused<S> {
     pub server: S,
 }

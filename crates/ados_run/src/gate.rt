@@ -13,7 +13,7 @@ pub trait Gate {
 }
 
 /// A gate that never stops a client.
-#[derive(Clone, Copy, Debug, PartialEq, Eq)]
+#[derive(Clone, Copy, PartialEq, Eq)]
 pub struct OpenGate;
 
 impl Gate for OpenGate {

@@ -31,7 +31,7 @@ pub struct ScriptsDone<S: Server> {
 }
 
 /// Why the ends are lost: memory ran out, or a thread could not be started.
-#[derive(Clone, Copy, Debug, PartialEq, Eq)]
+#[derive(Clone, Copy, PartialEq, Eq)]
 pub enum ScriptsFault {
     Memory,
     Thread,

@@ -21,7 +21,7 @@ use ados_name::{Name, PathSteps, Step};
 use bstr::ByteSlice;
 
 /// Where the walk along a path stops: the object where the next step fails, and the DOS error of that step.
-#[derive(Clone, Copy, Debug, PartialEq, Eq)]
+#[derive(Clone, Copy, PartialEq, Eq)]
 pub struct Stopped {
     pub at: u32,
     pub error: DosError,

@@ -8,7 +8,7 @@ use ados_name::Date3;
 use std::alloc::{AllocError, Global};
 
 /// A file or directory to write below a directory of the host.
-#[derive(Debug, Drop)]
+#[derive(Drop)]
 pub struct HostItem {
     /// The item of its directory, by its position in the list of items, which comes before it. `None`: directly below
     /// the top.
@@ -21,7 +21,7 @@ pub struct HostItem {
 }
 
 /// What an item is.
-#[derive(Clone, Copy, Debug, PartialEq, Eq)]
+#[derive(Clone, Copy, PartialEq, Eq)]
 pub enum ItemKind {
     Directory,
     File,

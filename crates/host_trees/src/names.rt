@@ -11,7 +11,7 @@ use std::alloc::{AllocError, Global};
 use std::marker::Model;
 
 /// One name of a host file: not empty, not `.` or `..`, with no `/` and no NUL. Contracts see the bytes.
-#[derive(Debug, Drop)]
+#[derive(Drop)]
 pub struct HostName {
     text: String,
 }

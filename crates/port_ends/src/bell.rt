@@ -14,7 +14,7 @@ const LOOKS: u64 = 64;
 const YIELDS: u64 = 64;
 
 /// What an end does between two polls, if the first was in vain.
-#[derive(Clone, Copy, Debug, PartialEq, Eq)]
+#[derive(Clone, Copy, PartialEq, Eq)]
 pub enum Rest {
     Look,
     Yield,

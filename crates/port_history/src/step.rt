@@ -1,7 +1,7 @@
 //! The steps of a port and their outcomes. Clients are numbered from 1.
 
 /// A step of a client or of the handler at a port.
-#[derive(Debug, PartialEq, Eq, Drop)]
+#[derive(PartialEq, Eq, Drop)]
 pub enum Step<Q, M> {
     Put { client: usize, packet: Q }, // A client puts a packet, as with `PutMsg`.
     Serve { moment: M }, // The handler serves the first waiting packet, as after `GetMsg`.
@@ -9,21 +9,21 @@ pub enum Step<Q, M> {
 }
 
 /// A refused put. It returns the packet and changes nothing.
-#[derive(Debug, PartialEq, Eq, Drop)]
+#[derive(PartialEq, Eq, Drop)]
 pub enum PutRefused<Q> {
     Closed(Q), // The server has died.
     NoRoom(Q), // No memory is left for the packet or its reply, or a counter is at its maximum.
 }
 
 /// A reply, with the number of the client's packet.
-#[derive(Debug, PartialEq, Eq, Drop)]
+#[derive(PartialEq, Eq, Drop)]
 pub struct Reply<A> {
     pub number: u64, // The number of the client's packet, from 1.
     pub answer: A,
 }
 
 /// The outcome of a step.
-#[derive(Debug, PartialEq, Eq, Drop)]
+#[derive(PartialEq, Eq, Drop)]
 pub enum Outcome<Q, A> {
     Accepted(u64), // It waits at the port. The number counts the client's accepted packets from 1.
     Refused(PutRefused<Q>), // The packet was refused.
