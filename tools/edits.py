@@ -101,6 +101,11 @@ class Round:
     def is_of_bodies(self) -> bool:
         return all(self.edits.values())
 
+    @property
+    def modules(self) -> list[str]:
+        """The modules of the changed functions."""
+        return sorted({it.rpartition("::")[0] for found in self.edits.values() for it in found})
+
     def take(self, edit: Path) -> bool:
         """Adds an edit that changes other functions than those before, and that fits beside these."""
         texts, functions = dict(self.texts), functions_of(edit)
