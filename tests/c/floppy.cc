@@ -89,11 +89,15 @@ void check() {
     expect("one with a fault", jip_open(bytes.data(), bytes.size(), damaged.at(), &fault) == JIP_NOT_AN_IMAGE);
     expect("the fault", fault.kind == JIP_FAULT_NOT_A_DOS_DISK && fault.block == 0);
     bytes[880 * JIP_BLOCK_BYTES + 20] ^= 1;
+    bytes[881 * JIP_BLOCK_BYTES] ^= 1;
     std::vector<jip_fault> faults(JIP_MOST_FAULTS);
     std::size_t count = 0;
     int32_t more = 1;
+    expect("the kind", jip_check(bytes.data(), bytes.size(), faults.data(), faults.size(), &count, &more) == JIP_DONE);
+    expect("that alone", count == 1 && more == 0 && faults[0].block == 0 && faults[0].kind == JIP_FAULT_NOT_A_DOS_DISK);
+    bytes[0] = 'D';
     expect("all faults", jip_check(bytes.data(), bytes.size(), faults.data(), faults.size(), &count, &more) == JIP_DONE);
-    expect("two faults", count == 2 && more == 0 && faults[0].block == 0 && faults[1].block == 880 && faults[1].kind == JIP_FAULT_BAD_SUM);
+    expect("two faults", count == 2 && more == 0 && faults[0].block == 880 && faults[1].block == 881 && faults[1].kind == JIP_FAULT_BAD_SUM);
     expect("its text", std::string_view(jip_fault_text(fault.kind)).find("DOS") != std::string_view::npos);
 }
 
