@@ -1,10 +1,12 @@
 #!/usr/bin/env python3
-"""Prints every fault of an image as a line `KIND BLOCK`, sorted by block and then by kind.
+"""Prints every fault of an image as a line `KIND BLOCK`, sorted by block and then by kind; of an image that is no DOS disk, or
+one of an unsupported kind, only that.
 
     tests/all_faults_model.py IMAGE
 
 It follows only the definition `Shows` of crates/ados_model/specs/Faults.antt. It first computes all reachable pairs of a block and
-a role, then applies each rule to all of them. If there are more than 1,000 faults, the last line is `more`.
+a role, then applies each rule to all of them, and leaves out the rest of a disk of another kind at the end. If there are more than
+1,000 faults, the last line is `more`.
 """
 from __future__ import annotations
 
@@ -19,6 +21,7 @@ from harness import DATA, DIRECTORY, FILE, HEADER, LIST, ROOT, Image, slot_of, u
 
 KINDS = ["NotADosDisk", "UnsupportedKind", "BadSum", "BadType", "BadOwnKey", "BadParent", "BadPointer", "BlockUsedTwice",
          "WrongChain", "BadName", "DuplicateName", "BadComment", "BadCount", "BadSequence", "LinkEntry", "MarkedFree"]
+OTHER_KINDS = {"NotADosDisk", "UnsupportedKind"}
 LINKS = {3, 4, 2 ** 32 - 4}
 MOST = 1000
 
@@ -105,6 +108,12 @@ class Model(Image):
             self.show(kind, block)
 
     def all_faults(self) -> List[Tuple[int, int]]:
+        """The faults as they are told: of a disk of another kind nothing but that."""
+        every = self.shown_faults()
+        return [it for it in every if KINDS[it[1]] in OTHER_KINDS] or every
+
+    def shown_faults(self) -> List[Tuple[int, int]]:
+        """Every fault that the image shows, of whatever kind the disk is."""
         if self.data[:3] != b"DOS":
             self.show("NotADosDisk", 0)
         elif self.data[3] > 1:

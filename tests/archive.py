@@ -796,6 +796,52 @@ def many_faults(room: Room) -> None:
     room.succeeds("every fault of an image that shows none", "check", "--all", "filled.adf", output=b"ok\n")
 
 
+def other_kinds(room: Room) -> None:
+    """Of a disk of another kind only that is listed, whatever the rest of the image is. With its first long back every fault is
+    listed."""
+    for kind in KINDS:
+        name = kind[0] if kind else "--ofs"
+        filled(room, "kinds.adf", *kind)
+        good = Volume(room.content("kinds.adf"))
+        docs, long = good.header("Docs"), good.header("long")
+        damages: List[List[Tuple[int, int, int]]] = [
+            [],
+            [(docs, 1, docs + 1), (long, 81, 1)],
+            [(ROOT, 127, 7), (ROOT, 79, 1), (docs, 124, long)],
+            [(ROOT, it, docs) for it in range(6, 78)],
+        ]
+        for count, longs in enumerate(damages):
+            damaged = good.changed(longs)
+            for first, told in (
+                (0x004F_5300, "NotADosDisk"),
+                (0x444F_5401, "NotADosDisk"),
+                (0x4B49_434B, "NotADosDisk"),
+                (0x444F_5302, "UnsupportedKind"),
+                (0x444F_53FF, "UnsupportedKind"),
+            ):
+                image = Volume(damaged.data)
+                image.put(0, 0, first)
+                see_alone(room, f"{name}: {first:08X} with damage {count}", image, told)
+            room.write("kinds.adf", bytes(damaged.data))
+            lines = [f"refused {it}" if it != "more" else it for it in lines_of(bytes(damaged.data))]
+            found = room.run("check", "--all", "kinds.adf").output.decode().splitlines()
+            room.report.same(f"{name}: every fault of damage {count}", found, lines or ["ok"])
+
+
+def see_alone(room: Room, name: str, image: Volume, told: str) -> None:
+    """One line, one fault in JSON and one text, which the model has too; `check` without `--all` prints the same line."""
+    room.write("kinds.adf", bytes(image.data))
+    line = f"refused {told} 0\n".encode()
+    room.report.same(f"{name}, by the model", lines_of(bytes(image.data)), [f"{told} 0"])
+    for words in (["check"], ["check", "--all"]):
+        ran = room.run(*words, "kinds.adf")
+        texts = [it for it in ran.texts.decode().splitlines() if it.startswith("block ")]
+        room.report.same(f"{name}, {words[-1]}", (ran.status, ran.output, [it[:9] for it in texts]), (3, line, ["block 0: "]))
+    faults = json.loads(room.run("check", "--all", "--json", "kinds.adf").output)["faults"]
+    found = [(it["kind"], it["block"], it["found"], it["wanted"]) for it in faults]
+    room.report.same(f"{name}, as an object", found, [(told, 0, image.long(0, 0), None)])
+
+
 def put_changed(room: Room, good: bytes) -> None:
     """A directory with images in which a few longs are changed."""
     draws = random.Random(11)
@@ -1367,7 +1413,7 @@ def deleted_entries(room: Room) -> None:
 
 def main(words: List[str]) -> int:
     random.seed(3)
-    parts = (named_images, directories, strange_names, other_files, filler_blocks, long_paths_of_fillers, largest_filled, drawn_fillers, parallel, accepted_objects, refused_objects, shown_values, texts_told, bounded, many_faults, model, longs_told, salvage, rows, deleted_entries, damages)
+    parts = (named_images, directories, strange_names, other_files, filler_blocks, long_paths_of_fillers, largest_filled, drawn_fillers, parallel, accepted_objects, refused_objects, shown_values, texts_told, bounded, many_faults, other_kinds, model, longs_told, salvage, rows, deleted_entries, damages)
     return try_all(words, Room, *parts)
 
 

@@ -137,7 +137,7 @@ class Bitmap:
         self.disk = disk
         self.pages = [disk.long(disk.root, 79 + it) for it in range(shown.pages())]
         sound = all(it in disk.inside and disk.is_summed(it) for it in self.pages) and len(set(self.pages)) == len(self.pages)
-        shown.all_faults()
+        shown.shown_faults()
         root = not any(block == disk.root for block, _ in shown.found)
         reached = {block for block, _ in shown.reached}
         self.is_trusted = sound and root and disk.long(disk.root, 78) == ALL_ONES and not any(self.is_free(it) for it in reached)

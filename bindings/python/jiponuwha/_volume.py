@@ -504,7 +504,8 @@ def create(
 
 
 def check(source: HostPath | AnyBytes) -> tuple[Fault, ...]:
-    """Returns the faults of an image, by block and then by kind; none if it is valid. It returns at most 1,000."""
+    """Returns the faults of an image, by block and then by kind; none if it is valid. It returns at most 1,000. Of an image that is
+    no DOS disk, or one of an unsupported kind, it returns only that."""
     handle = CHandle()
     try:
         _opened(source, handle, read_only=True)

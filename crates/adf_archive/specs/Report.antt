@@ -7,7 +7,7 @@ use Rattle.ados_model.specs.Tree.{Tree, free, name_of, root}
 use Rattle.ados_model.specs.Stands.{Stands}
 use Rattle.ados_model.specs.Accepted.{Accepts}
 use Rattle.ados_model.specs.Faults.{Shows}
-use Rattle.ados_faults.specs.Listed.{AreMarks, ListsEach, Marks}
+use Rattle.ados_faults.specs.Listed.{AreAllFaults, AreMarks, Marks}
 use Rattle.ados_faults.specs.Values.{AreValues, NoneShows}
 use Rattle.adf_record.specs.Counts.{AreCounts}
 use Rattle.adf_archive.specs.declared.checking.Detail.{Detail}
@@ -72,9 +72,9 @@ abbrev pub IsExplained : ImageReport → Type 0
 IsExplained (Refused told) = HaveTexts true told.faults.items
 IsExplained report = ⊤
 
--- each fault that the image shows is reported, unless there may be more
+-- of a disk of another kind that alone is reported; of any other each fault that it shows, unless there may be more
 abbrev pub IsComplete : List ℕ → ImageReport → Type 0
-IsComplete image (Refused told) = ListsEach image told.more (map (λ shown. shown.fault) told.faults.items)
+IsComplete image (Refused told) = AreAllFaults image told.more (map (λ shown. shown.fault) told.faults.items)
 IsComplete image report = ⊤
 
 -- the suspect blocks of an accepted image are reported exactly if that is wanted

@@ -2,7 +2,7 @@
 ghost use Rattle.std.specs.Prelude.{◌≡◌, ◌<◌, ◌⊎◌, [], All, IfOk, false, is_some, length, map, true};
 ghost use Rattle.ados_model.specs.Accepted.{ShowsNoFault};
 ghost use Rattle.ados_model.specs.Faults.{Shows};
-ghost use Rattle.ados_faults.specs.Listed.{AreMarks, ListsEach};
+ghost use Rattle.ados_faults.specs.Listed.{AreAllFaults, AreMarks};
 ghost use Rattle.adf_archive.specs.Report.{HasValues, HaveTexts, HaveValues, explains};
 
 use crate::checking::Detail;
@@ -34,7 +34,7 @@ pub(crate) fn told_faults(
     ensures shown { IfOk result (λ told. All (λ shown. Shows image.now shown.fault.kind shown.fault.block) told.faults.items) }
     ensures values { IfOk result (λ told. HaveValues image.now told.faults.items) }
     ensures texts { IfOk result (λ told. HaveTexts (explains detail) told.faults.items) }
-    ensures each { IfOk result (λ told. detail.all ≡ true → ListsEach image.now told.more (map (λ shown. shown.fault) told.faults.items)) }
+    ensures each { IfOk result (λ told. detail.all ≡ true → AreAllFaults image.now told.more (map (λ shown. shown.fault) told.faults.items)) }
 {
     if detail.all {
         return all_told(alloc, image, detail);
@@ -49,7 +49,7 @@ fn all_told(alloc: Global, image: &Image, detail: Detail) -> Result<ToldFaults, 
     ensures shown { IfOk result (λ told. All (λ shown. Shows image.now shown.fault.kind shown.fault.block) told.faults.items) }
     ensures values { IfOk result (λ told. HaveValues image.now told.faults.items) }
     ensures texts { IfOk result (λ told. HaveTexts (explains detail) told.faults.items) }
-    ensures each { IfOk result (λ told. ListsEach image.now told.more (map (λ shown. shown.fault) told.faults.items)) }
+    ensures each { IfOk result (λ told. AreAllFaults image.now told.more (map (λ shown. shown.fault) told.faults.items)) }
 {
     let found = all_faults(alloc, image, MOST_FAULTS)?;
     let faults = shown_faults(alloc, image, &found.marks, &found.faults, detail)?;

@@ -11,7 +11,7 @@ use crate::header::is_sound_header;
 use adf_block::layout::{BITMAP_FLAG, BITMAP_VALID, BOOT_BLOCKS, FIRST_PAGE, MOST_BLOCKS};
 use adf_block::{Image, page_count};
 use ados_check::{Mark, Source, reach};
-use ados_faults::{AllFaults, all_faults};
+use ados_faults::{AllFaults, faults_of_any_disk};
 use ados_map::is_free;
 use ados_model::{FaultKind, VolumeFault};
 use std::alloc::{AllocError, Global};
@@ -30,7 +30,7 @@ pub(crate) enum Trust {
 pub(crate) fn trust_of(alloc: Global, image: &Image) -> Result<Trust, AllocError>
     ensures { IfOk result (IsTrust image.now) }
 {
-    let found = all_faults(alloc, image, usize::MAX)?;
+    let found = faults_of_any_disk(alloc, image, usize::MAX)?;
     if found.more {
         return Ok(Trust::ManyFaults);
     }

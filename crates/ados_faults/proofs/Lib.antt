@@ -9,6 +9,7 @@ pub mod Sameness
 pub mod Freed
 pub mod Above
 pub mod Disk
+pub mod OtherKinds
 pub mod Told
 pub mod Looking
 pub mod Each

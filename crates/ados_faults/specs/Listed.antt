@@ -1,5 +1,5 @@
 -- Faults of an image, in order, and the marks of its blocks.
-use Rattle.std.specs.Prelude.{◌≡◌, ℕ, ◌<◌, ◌≤◌, ◌⊎◌, Bool, false, List, length, All, AllPairs, Contains, Option, Some}
+use Rattle.std.specs.Prelude.{◌≡◌, ℕ, ◌<◌, ◌≤◌, ◌⊎◌, Bool, false, List, [], ◌∷◌, length, All, AllPairs, Contains, Option, Some}
 use Rattle.adf_block.specs.Image.{block_count, long}
 use Rattle.ados_check.specs.Marks.{mark_at}
 use Rattle.ados_check.specs.declared.mark.Mark.{Mark}
@@ -47,6 +47,25 @@ fault_of kind block = record { kind = kind; block = block }
 -- each fault that the image shows is in the list, unless there may be more
 abbrev pub ListsEach : List ℕ → Bool → List VolumeFault → Type 0
 ListsEach image more faults = more ≡ false → (kind : FaultKind) (block : ℕ) → Shows image kind block → Contains faults (fault_of kind block)
+
+-- the image shows by a fault of this kind that it is no DOS disk, or one of an unsupported kind
+pub record IsOtherKind (image : List ℕ) (kind : FaultKind) : Type 0 where
+  pub of_boot : (kind ≡ NotADosDisk) ⊎ (kind ≡ UnsupportedKind)
+  pub shown : Shows image kind 0
+
+-- the image is no DOS disk, or one of an unsupported kind
+abbrev pub ShowsOtherKind : List ℕ → Type 0
+ShowsOtherKind image = (kind : FaultKind) × IsOtherKind image kind
+
+-- if the image is no DOS disk, or one of an unsupported kind, the list has this one fault, and there are no more
+abbrev pub ListsKindAlone : List ℕ → Bool → List VolumeFault → Type 0
+ListsKindAlone image more faults = (kind : FaultKind) → IsOtherKind image kind → (faults ≡ fault_of kind 0 ∷ []) × (more ≡ false)
+
+-- the faults of a disk as they are told: of a disk of another kind that alone; of any other each fault that it shows,
+-- unless there may be more
+pub record AreAllFaults (image : List ℕ) (more : Bool) (faults : List VolumeFault) : Type 0 where
+  pub alone : ListsKindAlone image more faults
+  pub each : ¬ ShowsOtherKind image → ListsEach image more faults
 
 -- for each block of an image its mark, if it has one
 abbrev pub Marks : Type 0

@@ -34,7 +34,7 @@ mod wrongs;
 
 pub use ados_check::Mark;
 pub use explained::explain;
-pub use listing::{AllFaults, all_faults};
+pub use listing::{AllFaults, all_faults, faults_of_any_disk};
 pub use path::place_of;
 pub use places::second_places;
 pub use values::{FaultValues, values_of};

@@ -1,18 +1,18 @@
 //! All faults of an image, in order.
-ghost use Rattle.std.specs.Prelude.{◌≡◌, ◌<◌, ◌≤◌, ◌↔◌, ◌⊎◌, [], IfOk, false, length};
+ghost use Rattle.std.specs.Prelude.{◌≡◌, ◌<◌, ◌≤◌, ◌↔◌, ◌⊎◌, [], IfOk, MatchOption, false, length};
 ghost use Rattle.adf_block.specs.Whole.{IsImage};
 ghost use Rattle.ados_model.specs.Accepted.{ShowsNoFault};
 ghost use Rattle.ados_model.specs.Faults.{Shows};
-ghost use Rattle.ados_faults.specs.Listed.{AreMarks, ListsEach, ListsFaults};
+ghost use Rattle.ados_faults.specs.Listed.{AreMarks, IsOtherKind, ListsEach, ListsFaults, ListsKindAlone, ShowsOtherKind};
 
 use crate::files::look_at_files;
 use crate::first::first_fault;
 use crate::looks::{look_at_all, look_at_disk};
 use crate::names::note_duplicates;
 use crate::walk::walked;
-use adf_block::Image;
+use adf_block::{BootKind, Image};
 use ados_check::Mark;
-use ados_model::VolumeFault;
+use ados_model::{FaultKind, VolumeFault};
 use std::alloc::{AllocError, Global};
 
 /// The faults of an image, and the first place that names each block.
@@ -27,12 +27,35 @@ pub struct AllFaults {
     pub marks: Vec<Option<Mark>>,
 }
 
-/// The first `most` of all faults that an image shows.
+/// The first `most` of all faults of an image, as they are told to a user.
 ///
-/// The list is empty exactly if the image is accepted. A walk that goes on after each fault finds the others. Each fault
-/// that the image shows is in the list, unless `more` is true: there are more than `most`, or the walk had to end early,
-/// because the blocks of the image name each other too often.
+/// Of an image that is no DOS disk, or one of an unsupported kind, this is the one fault: the rest of the image is not of
+/// this file system. Of any other each fault that it shows is in the list, unless `more` is true: there are more than
+/// `most`, or the walk had to end early, because the blocks of the image name each other too often. The list is empty
+/// exactly if the image is accepted.
 pub fn all_faults(alloc: Global, image: &Image, most: usize) -> Result<AllFaults, AllocError>
+    ensures lists { IfOk result (λ found. ListsFaults image.now most found.faults.items) }
+    ensures none { IfOk result (λ found. 1 ≤ most → (found.faults.items ≡ []) ↔ ShowsNoFault image.now) }
+    ensures whole { IfOk result (λ found. ShowsNoFault image.now → found.more ≡ false) }
+    ensures alone { IfOk result (λ found. 1 ≤ most → ListsKindAlone image.now found.more found.faults.items) }
+    ensures each { IfOk result (λ found. ¬ ShowsOtherKind image.now → ListsEach image.now found.more found.faults.items) }
+    ensures marked { IfOk result (λ found. ShowsNoFault image.now ⊎ AreMarks image.now found.marks.items) }
+{
+    match other_kind(image) {
+        Some(kind) => kind_alone(alloc, image, kind, most),
+        None => faults_of_any_disk(alloc, image, most),
+    }
+}
+
+/// The first `most` of all faults that an image shows, of whatever kind its disk is.
+///
+/// The list is empty exactly if the image is accepted. A walk that goes on after each fault finds the others, also below
+/// a boot block of another kind. Each fault that the image shows is in the list, unless `more` is true.
+pub fn faults_of_any_disk(
+    alloc: Global,
+    image: &Image,
+    most: usize,
+) -> Result<AllFaults, AllocError>
     ensures lists { IfOk result (λ found. ListsFaults image.now most found.faults.items) }
     ensures none { IfOk result (λ found. 1 ≤ most → (found.faults.items ≡ []) ↔ ShowsNoFault image.now) }
     ensures whole { IfOk result (λ found. ShowsNoFault image.now → found.more ≡ false) }
@@ -49,6 +72,43 @@ pub fn all_faults(alloc: Global, image: &Image, most: usize) -> Result<AllFaults
     };
     let found = faults_with(alloc, image, first, most)?;
     Ok(found)
+}
+
+/// The fault of an image that is no DOS disk, or one of an unsupported kind.
+fn other_kind(image: &Image) -> Option<FaultKind>
+    ensures { MatchOption result (¬ ShowsOtherKind image.now) (IsOtherKind image.now) }
+{
+    prove!(image.blocks() >= 16);
+    match image.boot_kind() {
+        BootKind::Ofs | BootKind::Ffs => None,
+        BootKind::OtherDos(_) => Some(FaultKind::UnsupportedKind),
+        BootKind::NotDos => Some(FaultKind::NotADosDisk),
+    }
+}
+
+/// Only that an image is no DOS disk, or one of an unsupported kind.
+fn kind_alone(
+    alloc: Global,
+    image: &Image,
+    kind: FaultKind,
+    most: usize,
+) -> Result<AllFaults, AllocError>
+    requires { IsOtherKind image.now kind }
+    ensures lists { IfOk result (λ found. ListsFaults image.now most found.faults.items) }
+    ensures some { IfOk result (λ found. 1 ≤ most → 0 < length found.faults.items) }
+    ensures alone { IfOk result (λ found. 1 ≤ most → ListsKindAlone image.now found.more found.faults.items) }
+    ensures marked { IfOk result (λ found. AreMarks image.now found.marks.items) }
+{
+    let walk = walked(alloc, image)?;
+    let mut faults = Vec::new(alloc);
+    if most > 0 {
+        faults.push(VolumeFault { kind, block: 0 })?;
+    }
+    Ok(AllFaults {
+        faults,
+        more: most == 0,
+        marks: walk.marks,
+    })
 }
 
 /// The first `most` of all faults; one of them is known.

@@ -6,7 +6,7 @@ ghost use Rattle.ados_mend.specs.Mendable.{IsMendable, IsPage, ShowsOnlyMendable
 use crate::answer::NotValidated;
 use adf_block::layout::{FIRST_PAGE, MOST_BLOCKS};
 use adf_block::{Image, page_count};
-use ados_faults::all_faults;
+use ados_faults::faults_of_any_disk;
 use ados_model::{FaultKind, VolumeFault};
 use std::alloc::Global;
 
@@ -14,7 +14,7 @@ use std::alloc::Global;
 pub(crate) fn refuse_other_faults(alloc: Global, image: &Image) -> Result<(), NotValidated>
     ensures { (force : Bool) → MatchResult result (λ _. ShowsOnlyMendable image.now) (IsReason image.now force) }
 {
-    let Ok(found) = all_faults(alloc, image, usize::MAX) else {
+    let Ok(found) = faults_of_any_disk(alloc, image, usize::MAX) else {
         return Err(NotValidated::Memory);
     };
     if let Some(fault) = first_other(image, &found.faults) {

@@ -3,7 +3,7 @@ use Rattle.std.specs.Prelude.{◌≡◌, ◌↔◌, ◌⊎◌, ⊤, ℕ, ℤ, po
 use Rattle.adf_block.specs.Size.{IsSizeFault}
 use Rattle.adf_block.specs.Whole.{IsImage}
 use Rattle.adf_block.specs.declared.volume_size.SizeFault.{SizeFault}
-use Rattle.ados_faults.specs.Listed.{AreMarks, ListsEach, ListsFaults, Marks}
+use Rattle.ados_faults.specs.Listed.{AreAllFaults, AreMarks, ListsFaults, Marks}
 use Rattle.ados_faults.specs.Values.{AreValues, NoneShows}
 use Rattle.ados_faults.specs.declared.values.FaultValues.{FaultValues}
 use Rattle.ados_model.specs.Accepted.{ShowsNoFault}
@@ -59,7 +59,7 @@ pub record TellsFindings (bytes : List ℕ) (told : List JipFinding) (more : Boo
   pub image : IsImage bytes
   pub faults : List VolumeFault
   pub lists : ListsFaults bytes MOST_FAULTS faults
-  pub each : ListsEach bytes more faults
+  pub all : AreAllFaults bytes more faults
   pub marks : Marks
   pub marked : ShowsNoFault bytes ⊎ AreMarks bytes marks
   pub told_are : AreFindings bytes marks faults told

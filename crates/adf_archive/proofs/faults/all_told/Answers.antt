@@ -1,5 +1,5 @@
 use Rattle.std.proofs.Common.{List, All, ◌∙◌, inl, arith, sym, subst}
-use Rattle.ados_faults.specs.Listed.{ListsEach, Marks}
+use Rattle.ados_faults.specs.Listed.{AreAllFaults, Marks}
 use Rattle.ados_model.specs.declared.fault.VolumeFault.{VolumeFault}
 use Rattle.adf_archive.specs.Report.{HasValues}
 use Rattle.adf_archive.proofs.Shown.{have_values, many, marks_of, not_empty, shown_all}
@@ -22,5 +22,6 @@ returns-clause-values c =
 
 pub returns-clause-each : goal.returns-clause-each
 returns-clause-each c =
-    subst (λ (faults : List VolumeFault). ListsEach c.args.image.now c.in_ok-found.found.more faults)
-    (sym (c.in_ok-faults.ensures.faults ∙ c.deref-2.ensures.value)) c.in_ok-found.ensures.each
+    subst (λ (faults : List VolumeFault). AreAllFaults c.args.image.now c.in_ok-found.found.more faults)
+    (sym (c.in_ok-faults.ensures.faults ∙ c.deref-2.ensures.value))
+    (record { alone = c.in_ok-found.ensures.alone (omega arith); each = c.in_ok-found.ensures.each })
