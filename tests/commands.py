@@ -296,6 +296,11 @@ def wrong_words_for_files(tried: Commands) -> None:
         wrong("relabel without a name", "relabel a", "NAME", "Usage"),
         wrong("boot with a number that is none", "boot --ticks x none.adf", "'x' for '--ticks"),
     )
+    for words in ("--to d none.adf", "--meta none.adf", "--force none.adf", "--bundle d none.adf", "none.adf PATH"):
+        tried.rows(wrong(f"extract --damaged --list {words}", f"extract --damaged --list {words}", "--list", words.replace("none.adf", "").split()[0], "Usage"))
+    for option in ("--list", "--json"):
+        tried.rows(wrong(f"extract {option} without --damaged", f"extract {option} none.adf", "--damaged", "Usage"))
+        tried.rows(wrong(f"extract --bundle {option}", f"extract --bundle d {option} none.adf", "--bundle", "Usage"))
     for command in ("mkdir", "delete", "rename", "comment"):
         words = f"{command} --days=-1 none.adf b c"
         tried.rows(wrong(f"{command} with a number that is none", words, "'-1' for '--days"))

@@ -11,6 +11,7 @@ told, then each file by itself. What the pages say of damaged images and the pro
 """
 from __future__ import annotations
 
+import json
 import sys
 from collections import defaultdict
 from pathlib import Path
@@ -63,7 +64,7 @@ class Place(NamedTuple):
 
 
 class Entry(NamedTuple):
-    """A line of the account: the header, the state, the path, and whether the entry was found."""
+    """A line of the account: the header, the state, the path, and whether the entry was found. A sound directory has no state."""
 
     header: int
     state: str
@@ -216,6 +217,7 @@ class Account(Disk):
         self.given: Dict[int, int] = {}
         self.bytes: Dict[int, bytes] = {}
         self.left = 4 * len(self.data)
+        self.cut: Set[int] = set()
 
     # ---- which headers are told
 
@@ -338,6 +340,8 @@ class Account(Disk):
         kept = min(end, self.left)
         self.left -= kept
         self.keep(file, there, kept)
+        if kept < end:
+            self.cut.add(file)
         missing = needed - len(there)
         return f"broken {missing}" if missing or kept < end else "doubtful"
 
@@ -428,6 +432,17 @@ class Account(Disk):
         if self.rest:
             last.append(f"unaccounted {len(self.rest)}")
         return [it.line() for it in shown] + last
+
+    def object(self) -> bytes:
+        """The object that `--json` prints in place of `lines`, which come first."""
+        entries = []
+        for it in self.told_entries:
+            if it.found or it.state:
+                state, _, missing = (it.state or "whole").partition(" ")
+                path = it.path + "/" * (not it.state)
+                entries.append({"path": path, "state": state, "found": it.found, "missing": int(missing or 0), "cut": it.header in self.cut})
+        told = {"entries": entries, "deleted": len(self.deleted), "unaccounted": self.rest}
+        return json.dumps(told, ensure_ascii=False, separators=(",", ":")).encode() + b"\n"
 
     def unaccounted(self, entries: List[Entry]) -> List[int]:
         """The blocks that are used and belong to nothing. A whole file has all its blocks; another one those that are written, and the

@@ -433,6 +433,18 @@ class Compared:
         assert written.keys() == told.keys(), differing(sorted(written), sorted(told))
         other = sorted(it for it in told if told[it] != written[it])
         assert not other, f"other bytes in {other[:4]}: {[(len(written[it]), len(told[it])) for it in other[:4]]}"
+        self.listed(account, ran)
+
+    def listed(self, account: Account, ran: Ran) -> None:
+        """`--list` prints the same, and with `--json` the object, and neither writes anything."""
+        before = sorted(os.listdir())
+        lines = self.room.run("extract", "--damaged", "--list", "image.adf")
+        assert lines == ran, f"--list: {lines} where {ran} is expected"
+        told = self.room.run("extract", "--damaged", "--list", "--json", "image.adf")
+        assert told._replace(output=ran.output) == ran, f"--json: {told}"
+        wanted = account.object()
+        assert told.output == wanted, differing(told.output.split(b"},{"), wanted.split(b"},{"))
+        assert sorted(os.listdir()) == before, f"--list wrote {sorted(os.listdir())}"
 
     def owners(self) -> None:
         """`map` and `where` of an accepted image."""

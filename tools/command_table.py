@@ -32,7 +32,7 @@ class Argument(NamedTuple):
     help: str
 
     def is_option(self) -> bool:
-        return self.kind in ("Flag", "Option", "Instead")
+        return self.kind in ("Flag", "With", "Option", "Instead")
 
     def value_kind(self) -> str:
         """What completes its value: empty for an option without one."""

@@ -21,7 +21,7 @@ use Rattle.adf_export.specs.declared.fault.OutFault.TheVariants as out
 use Rattle.adf_export.specs.Printing.{IsPrinted, IsPrintFault}
 use Rattle.adf_io.proofs.Prefixes.{writes_first}
 use Rattle.adf_commands.specs.declared.fault.CommandFault.{CommandFault}
-use Rattle.adf_commands.specs.declared.fault.CommandFault.TheVariants.{Dos, ImagesRefused, Memory, NotChecked, NotWhole, Output, Refused}
+use Rattle.adf_commands.specs.declared.fault.CommandFault.TheVariants.{Dos, Extracted, ImagesRefused, Memory, NotChecked, NotWhole, Output, Refused}
 use Rattle.adf_commands.specs.declared.look.Look.{Look}
 use Rattle.adf_commands.specs.declared.refusal.Refusal.{Refusal}
 use Rattle.adf_commands.specs.declared.refusal.DosRefusal.{DosRefusal}
@@ -34,6 +34,7 @@ use Rattle.adf_archive.specs.Archive.{told_in}
 use Rattle.adf_words.specs.declared.query.CheckJob.{CheckJob}
 use Rattle.adf_words.specs.declared.query.ListForm.{ListForm}
 use Rattle.adf_words.specs.declared.query.ListJob.{ListJob}
+use Rattle.adf_words.specs.declared.query.SalvageJob.{SalvageJob}
 use Rattle.adf_words.specs.declared.query.ListOrder.{ListOrder}
 use Rattle.adf_words.specs.declared.query.WhereJob.{WhereJob}
 use Rattle.adf_words.specs.declared.query.UndeleteJob.{UndeleteJob}
@@ -230,30 +231,32 @@ archive_unsaid job old new Memory front = front
 archive_unsaid job old new fault none = absurd none
 
 -- a rescue whose fault has no line, or whose line has no memory
-rescue_failed : (old new : Option (List ℕ)) (fault : CommandFault) → DoesRescue old new (Err fault) → IsNoRefusal fault → TellsRescue old new (Err fault)
-rescue_failed old new NotWhole told plain = told
-rescue_failed old new (Refused refusal) d plain = absurd (cc plain)
-rescue_failed old new (Dos refusal) d plain = absurd (cc plain)
-rescue_failed old new fault (inl keeps) plain = inl keeps
-rescue_failed old new fault (inr (text, is, front)) plain = inr (text, inl is, front)
+module _ (job : SalvageJob) where
+  rescue_failed : (old new : Option (List ℕ)) (fault : CommandFault) → DoesRescue job old new (Err fault) → IsNoRefusal fault → TellsRescue job old new (Err fault)
+  rescue_failed old new NotWhole told plain = told
+  rescue_failed old new (Refused refusal) d plain = absurd (cc plain)
+  rescue_failed old new (Dos refusal) d plain = absurd (cc plain)
+  rescue_failed old new fault (host, inl keeps) plain = (host, inl keeps)
+  rescue_failed old new fault (host, inr (text, is, front)) plain = (host, inr (text, inl is, front))
 
-rescue_unsaid : (old new : Option (List ℕ)) (fault : CommandFault) → DoesRescue old new (Err fault) → TellsRescue old new (Err Memory)
-rescue_unsaid old new NotWhole d = inr (d.0, inl (false, d.2), told_front old new d.0 d.1)
-rescue_unsaid old new (Refused refusal) d = inl d.0
-rescue_unsaid old new (Dos refusal) keeps = inl keeps
-rescue_unsaid old new fault (inl keeps) = inl keeps
-rescue_unsaid old new fault (inr (text, is, front)) = inr (text, inl is, front)
+  rescue_unsaid : (old new : Option (List ℕ)) (fault : CommandFault) → DoesRescue job old new (Err fault) → TellsRescue job old new (Err Memory)
+  rescue_unsaid old new NotWhole d = (tt, inr (d.0, inl (false, d.2), told_front old new d.0 d.1))
+  rescue_unsaid old new (Refused refusal) d = (tt, inl d.0)
+  rescue_unsaid old new (Dos refusal) keeps = (tt, inl keeps)
+  rescue_unsaid old new fault (host, inl keeps) = (tt, inl keeps)
+  rescue_unsaid old new fault (host, inr (text, is, front)) = (tt, inr (text, inl is, front))
 
--- nothing is written if no image was read
-no_image_rescued : (w : Option (List ℕ)) (fault : CommandFault) → IsNoImage fault → DoesRescue w w (Err fault)
-no_image_rescued w NotWhole is = absurd is
-no_image_rescued w (Refused refusal) is = (Keeps-refl w, is)
-no_image_rescued w (Dos refusal) is = Keeps-refl w
-no_image_rescued w fault is = inl (Keeps-refl w)
+  -- nothing is written if no image was read
+  no_image_rescued : (w : Option (List ℕ)) (fault : CommandFault) → IsNoImage fault → DoesRescue job w w (Err fault)
+  no_image_rescued w NotWhole is = absurd is
+  no_image_rescued w (Extracted why) is = absurd is
+  no_image_rescued w (Refused refusal) is = (Keeps-refl w, is)
+  no_image_rescued w (Dos refusal) is = Keeps-refl w
+  no_image_rescued w fault is = (tt, inl (Keeps-refl w))
 
-pub rescues_no_image : (w : Option (List ℕ)) (fault : CommandFault) (done : Ending) → IsNoImage fault → IsErrAnd done (λ told. told ≡ fault) → DoesRescue w w done
-rescues_no_image w fault (Ok x) is same = absurd same
-rescues_no_image w fault (Err told) is same = no_image_rescued w told (subst IsNoImage (sym same) is)
+  pub rescues_no_image : (w : Option (List ℕ)) (fault : CommandFault) (done : Ending) → IsNoImage fault → IsErrAnd done (λ told. told ≡ fault) → DoesRescue job w w done
+  rescues_no_image w fault (Ok x) is same = absurd same
+  rescues_no_image w fault (Err told) is same = no_image_rescued w told (subst IsNoImage (sym same) is)
 
 -- for jobs with such texts for bytes
 module _ (IsText BeginsText : List ℕ → List ℕ → Type 0) where
@@ -262,7 +265,7 @@ module _ (IsText BeginsText : List ℕ → List ℕ → Type 0) where
   done OnlyFaults old new x h = h
   done OfBytes old new x h = h
   done (OfImages job) old new x h = h
-  done OfRescue old new x h = h
+  done (OfRescue job) old new x h = h
   done Unsaid old new x h = tt
 
   -- a job whose fault has no line
@@ -271,7 +274,7 @@ module _ (IsText BeginsText : List ℕ → List ℕ → Type 0) where
   failed OnlyFaults old new fault keeps plain = rw plain (inl keeps)
   failed Unsaid old new fault h plain = tt
   failed (OfImages job) old new fault h plain = h
-  failed OfRescue old new fault h plain = rescue_failed old new fault h plain
+  failed (OfRescue job) old new fault h plain = rescue_failed job old new fault h plain
   failed OfBytes old new (Refused refusal) h plain = absurd (cc plain)
   failed OfBytes old new (Dos refusal) h plain = absurd (cc plain)
   failed OfBytes old new fault (bytes, inl keeps) plain = (bytes, inl keeps)
@@ -282,7 +285,7 @@ module _ (IsText BeginsText : List ℕ → List ℕ → Type 0) where
   unsaid OnlyFaults old new fault keeps = inl keeps
   unsaid Unsaid old new fault h = tt
   unsaid (OfImages job) old new fault h = archive_unsaid job old new fault h
-  unsaid OfRescue old new fault h = rescue_unsaid old new fault h
+  unsaid (OfRescue job) old new fault h = rescue_unsaid job old new fault h
   unsaid OfBytes old new (Refused refusal) d = (d.0, inl d.1.1)
   unsaid OfBytes old new (Dos refusal) d = (d.0, inl d.1)
   unsaid OfBytes old new fault (bytes, inl keeps) = (bytes, inl keeps)
@@ -295,7 +298,7 @@ module _ (IsText BeginsText : List ℕ → List ℕ → Type 0) where
     told_refused OnlyFaults refusal keeps w = (refusal_line refusal, kept_appends old mid new (refusal_line refusal) keeps w, refl)
     told_refused Unsaid refusal d w = tt
     told_refused (OfImages job) refusal d w = absurd d
-    told_refused OfRescue refusal (keeps, is) w = (refusal_line refusal, kept_appends old mid new (refusal_line refusal) keeps w, is)
+    told_refused (OfRescue job) refusal (keeps, is) w = (refusal_line refusal, kept_appends old mid new (refusal_line refusal) keeps w, is)
     told_refused OfBytes refusal (bytes, (is, keeps)) w = (bytes, (refusal_line refusal, kept_appends old mid new (refusal_line refusal) keeps w, is))
 
     -- a refusal by AmigaDOS is reported
@@ -304,7 +307,7 @@ module _ (IsText BeginsText : List ℕ → List ℕ → Type 0) where
     told_dos OnlyFaults refusal keeps w = (dos_line refusal, kept_appends old mid new (dos_line refusal) keeps w, refl)
     told_dos Unsaid refusal d w = tt
     told_dos (OfImages job) refusal d w = absurd d
-    told_dos OfRescue refusal keeps w = (dos_line refusal, kept_appends old mid new (dos_line refusal) keeps w, refl)
+    told_dos (OfRescue job) refusal keeps w = (dos_line refusal, kept_appends old mid new (dos_line refusal) keeps w, refl)
     told_dos OfBytes refusal (bytes, keeps) w = (bytes, (dos_line refusal, kept_appends old mid new (dos_line refusal) keeps w, refl))
 
     -- a prefix of the output after no output
@@ -327,7 +330,7 @@ module _ (IsText BeginsText : List ℕ → List ℕ → Type 0) where
     broken_refused OnlyFaults refusal keeps front = broken_quiet (Refused refusal) Output (refusal_line refusal) refl refl keeps front
     broken_refused Unsaid refusal d front = tt
     broken_refused (OfImages job) refusal d front = absurd d
-    broken_refused OfRescue refusal (keeps, is) front = inr (refusal_line refusal, inr (Refused refusal, refl), kept_front (refusal_line refusal) keeps front)
+    broken_refused (OfRescue job) refusal (keeps, is) front = (tt, inr (refusal_line refusal, inr (Refused refusal, refl), kept_front (refusal_line refusal) keeps front))
     broken_refused OfBytes refusal (bytes, (is, keeps)) front =
         (bytes, ends_front bytes Output refl (refusal_line refusal, inr (inl is), kept_front (refusal_line refusal) keeps front))
 
@@ -336,7 +339,7 @@ module _ (IsText BeginsText : List ℕ → List ℕ → Type 0) where
     broken_dos OnlyFaults refusal keeps front = broken_quiet (Dos refusal) Output (dos_line refusal) refl refl keeps front
     broken_dos Unsaid refusal d front = tt
     broken_dos (OfImages job) refusal d front = absurd d
-    broken_dos OfRescue refusal keeps front = inr (dos_line refusal, inr (Dos refusal, refl), kept_front (dos_line refusal) keeps front)
+    broken_dos (OfRescue job) refusal keeps front = (tt, inr (dos_line refusal, inr (Dos refusal, refl), kept_front (dos_line refusal) keeps front))
     broken_dos OfBytes refusal (bytes, keeps) front =
         (bytes, ends_front bytes Output refl (dos_line refusal, inr (inr (refusal, refl)), kept_front (dos_line refusal) keeps front))
 

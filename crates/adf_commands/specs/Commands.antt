@@ -6,6 +6,7 @@ use Rattle.adf_io.specs.Prefix.{WritesFrontOf}
 use Rattle.adf_words.specs.declared.job.ImageJob.{ImageJob}
 use Rattle.adf_words.specs.declared.job.ImageJob.TheVariants.{AddBundle, Check, Extract, ExtractBundle, Change, Boot, SaveBoot, Salvage, Serve}
 use Rattle.adf_words.specs.declared.query.CheckJob.{CheckJob}
+use Rattle.adf_words.specs.declared.query.SalvageJob.{SalvageJob}
 use Rattle.adf_commands.specs.declared.fault.CommandFault.{CommandFault}
 use Rattle.adf_commands.specs.declared.fault.CommandFault.TheVariants.{Dos, Refused}
 use Rattle.adf_commands.specs.Archives.{EndsArchive}
@@ -39,12 +40,12 @@ pub data Prints : Type 0 where
   OnlyFaults : Prints
   OfBytes : Prints
   OfImages : CheckJob → Prints
-  OfRescue : Prints
+  OfRescue : SalvageJob → Prints
   Unsaid : Prints
 
 abbrev pub prints : ImageJob → Prints
 prints (Check job) = OfImages job
-prints (Salvage job) = OfRescue
+prints (Salvage job) = OfRescue job
 prints (Extract job) = OnlyFaults
 prints (ExtractBundle image to) = OnlyFaults
 prints (AddBundle target from) = OnlyFaults
@@ -59,7 +60,7 @@ abbrev pub Does : Prints → (IsText BeginsText : List ℕ → List ℕ → Type
 Does OnlyFaults IsText BeginsText old new result = Keeps old new
 Does OfBytes IsText BeginsText old new result = TellsSome IsText BeginsText old new result
 Does (OfImages job) IsText BeginsText old new result = EndsArchive job old new result
-Does OfRescue IsText BeginsText old new result = DoesRescue old new result
+Does (OfRescue job) IsText BeginsText old new result = DoesRescue job old new result
 Does Unsaid IsText BeginsText old new result = ⊤
 
 abbrev pub DoesJob : ImageJob → Option (List ℕ) → Option (List ℕ) → Ending → Type 0
@@ -92,7 +93,7 @@ abbrev pub Tells : Prints → (IsText BeginsText : List ℕ → List ℕ → Typ
 Tells OnlyFaults IsText BeginsText old new result = TellsFault old new result
 Tells OfBytes IsText BeginsText old new result = EndsSome IsText BeginsText old new result
 Tells (OfImages job) IsText BeginsText old new result = EndsArchive job old new result
-Tells OfRescue IsText BeginsText old new result = TellsRescue old new result
+Tells (OfRescue job) IsText BeginsText old new result = TellsRescue job old new result
 Tells Unsaid IsText BeginsText old new result = ⊤
 
 -- the result of a job

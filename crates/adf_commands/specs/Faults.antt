@@ -10,7 +10,7 @@ use Rattle.adf_text.specs.Letters.{letters as letter_text}
 use Rattle.adf_export.specs.declared.fault.OutFault.{OutFault}
 use Rattle.adf_export.specs.declared.fault.OutFault.TheVariants as out
 use Rattle.adf_commands.specs.declared.fault.CommandFault.{CommandFault}
-use Rattle.adf_commands.specs.declared.fault.CommandFault.TheVariants.{Bitmap, Blocks, Dos, Letter, LongBoot, Memory, Name, NoBlock, ImagesRefused, NotWhole, OtherVolume, Output, Refused, Script, Undelete}
+use Rattle.adf_commands.specs.declared.fault.CommandFault.TheVariants.{Bitmap, Blocks, Dos, Extracted, Letter, LongBoot, Memory, Name, NoBlock, ImagesRefused, NotWhole, OtherVolume, Output, Refused, Script, Undelete}
 use Rattle.adf_archive.specs.Words.{kind_word}
 use Rattle.adf_commands.specs.Refusals.{IsImageRefusal, IsSizeRefusal, refusal_line, refused_line, told_line}
 
@@ -52,6 +52,7 @@ IsToldOut fault told = IsNoImageRefusal told
 -- bytes are refused for their number, or no image was read
 abbrev pub IsNoImage : CommandFault → Type 0
 IsNoImage NotWhole = ⊥
+IsNoImage (Extracted fault) = ⊥
 IsNoImage (Refused refusal) = (bytes : List ℕ) × IsSizeRefusal bytes (refusal_line refusal)
 IsNoImage fault = ⊤
 

@@ -15,7 +15,7 @@ use std::fs::File;
 use std::io::Write;
 use std::rt::Files;
 
-/// Writes what can be told of an image file to files and directories of the host, and reports on it.
+/// Writes what can be told of an image file to files and directories of the host, unless the job only lists, and reports on it.
 pub(crate) fn take_rescue<'a, R, W, F>(
     rt: &R,
     alloc: Global,
@@ -27,11 +27,11 @@ where
     R: Files<File = File>,
     W: Write,
     F: Write,
-    ensures { DoesRescue (W.contents writer.old) (W.contents writer.new) result }
+    ensures { DoesRescue job.now (W.contents writer.old) (W.contents writer.new) result }
 {
     let image = read_image(rt, alloc, job.image)?;
     let rescue = rescue_of(rt, alloc, image, job)?;
-    tell_rescue(alloc, &rescue, writer, faults)
+    tell_rescue(alloc, &rescue, job, writer, faults)
 }
 
 /// Reports on a rescue, and prints on `faults` why entries are doubtful, which files are cut short, and which used blocks belong to
@@ -39,14 +39,15 @@ where
 fn tell_rescue<'a, W: Write, F: Write>(
     alloc: Global,
     rescue: &Rescue,
+    job: &SalvageJob<'a>,
     writer: &mut W,
     faults: &mut F,
 ) -> Result<(), CommandFault<'a>>
-    ensures { (image : List ℕ) → IsRescue image rescue.now → DoesRescue (W.contents writer.old) (W.contents writer.new) result }
+    ensures { (image : List ℕ) → IsRescue image rescue.now → DoesRescue job.now (W.contents writer.old) (W.contents writer.new) result }
 {
     tell_doubts(alloc, rescue, faults);
     tell_unaccounted(alloc, rescue, faults);
-    match rescue.tell(alloc, writer) {
+    match rescue.tell(alloc, job.json, writer) {
         Ok(true) => Ok(()),
         Ok(false) => Err(CommandFault::NotWhole),
         Err(PrintFault::Write) => Err(CommandFault::Output),
@@ -106,7 +107,7 @@ fn rescue_of<'a, R: Files<File = File>>(
     job: &SalvageJob<'a>,
 ) -> Result<Rescue, CommandFault<'a>>
     ensures told { IfOk result (λ rescue. IsRescue image rescue) }
-    ensures fault { IfErr result IsRescueEnd }
+    ensures fault { IfErr result (IsRescueEnd job.now.list) }
 {
     match extract_damaged(rt, alloc, image, job) {
         Ok(rescue) => Ok(rescue),

@@ -19,4 +19,5 @@ pub mod Going
 pub mod Leading
 pub mod Belonging
 mod Telling
+mod TellingObjects
 mod Asking

@@ -6,6 +6,11 @@ pub at_any_err : {T E Q : Type 0} (r : Result T E) → Q → OnErr r Q
 at_any_err (Ok x) q = tt
 at_any_err (Err e) q = q
 
+-- a consequence of a fact about an error
+pub on_err_weaker : {T E P Q : Type 0} (r : Result T E) → (P → Q) → OnErr r P → OnErr r Q
+on_err_weaker (Ok x) f p = tt
+on_err_weaker (Err e) f p = f p
+
 -- a consequence of two facts about a success
 pub on_ok_both : {T E P Q R : Type 0} (r : Result T E) → (P → Q → R) → OnOk r P → OnOk r Q → OnOk r R
 on_ok_both (Ok x) f p q = f p q

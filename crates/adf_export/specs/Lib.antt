@@ -8,6 +8,7 @@ pub mod Printing
 pub mod Items
 pub mod Bytes
 pub mod Rescue
+pub mod RescueObject
 pub mod Where
 pub mod Undelete
 pub mod steps

@@ -6,6 +6,7 @@ use Rattle.adf_salvage.specs.declared.salvaged.State.{State}
 use Rattle.adf_salvage.specs.declared.salvaged.State.TheVariants.{Directory, DoubtfulDirectory, Whole, Doubtful, Lost, Broken}
 use Rattle.adf_salvage.specs.Saved.{HasBytes, IsAt}
 use Rattle.ados_mend.specs.Account.{AreUnaccounted}
+use Rattle.adf_export.specs.RescueObject.{IsReportObject}
 use Rattle.adf_export.specs.declared.plan.Source.{Source}
 use Rattle.adf_export.specs.declared.plan.Source.TheVariants.{File}
 use Rattle.adf_export.specs.declared.damaged.Doubt.{Doubt}
@@ -58,27 +59,36 @@ deleted_count_line count = count_line (codes "deleted") count
 abbrev pub unaccounted_count_line : ℕ → List ℕ
 unaccounted_count_line count = count_line (codes "unaccounted") count
 
--- the text has the lines of all entries, then that of the deleted ones and that of these blocks, and the image was accepted or not
-pub record AreRescued (saved : Saved) (unaccounted : List ℕ) (accepted : Bool) (text : List ℕ) : Type 0 where
-  pub accepts : saved.accepted ≡ accepted
-  pub lines : List ℕ
-  pub told : AreLines saved.entries lines
-  pub last : text ≡ lines ++ (deleted_count_line (length saved.deleted) ++ unaccounted_count_line (length unaccounted))
+-- the text has the lines of all entries, then that of so many deleted ones and that of these blocks
+abbrev pub AreReportLines : List Salvaged → ℕ → List ℕ → List ℕ → Type 0
+AreReportLines entries deleted unaccounted text =
+    (lines : List ℕ) × AreLines entries lines × (text ≡ lines ++ (deleted_count_line deleted ++ unaccounted_count_line (length unaccounted)))
 
-abbrev pub AreSomeRescued : Saved → List ℕ → List ℕ → Type 0
-AreSomeRescued saved unaccounted text = (accepted : Bool) × AreRescued saved unaccounted accepted text
+-- the report on what was saved and on the blocks that are used and belong to nothing of it: as lines, or with `json` as an object
+abbrev pub IsTold : Bool → Saved → List ℕ → List ℕ → Type 0
+IsTold false saved unaccounted text = AreReportLines saved.entries (length saved.deleted) unaccounted text
+IsTold true saved unaccounted text = IsReportObject saved.entries (length saved.deleted) unaccounted text
+
+-- that report, and the image was accepted or not
+pub record AreRescued (json : Bool) (saved : Saved) (unaccounted : List ℕ) (accepted : Bool) (text : List ℕ) : Type 0 where
+  pub accepts : saved.accepted ≡ accepted
+  pub told : IsTold json saved unaccounted text
+
+abbrev pub AreSomeRescued : Bool → Saved → List ℕ → List ℕ → Type 0
+AreSomeRescued json saved unaccounted text = (accepted : Bool) × AreRescued json saved unaccounted accepted text
 
 -- everything in an image that can be trusted, and the blocks that are used and belong to nothing of it
 abbrev pub IsRescue : List ℕ → Rescue → Type 0
 IsRescue image rescue = Salvages image rescue.salvage × AreUnaccounted rescue.salvage rescue.unaccounted.items
 
--- the report on everything in an image that can be trusted and on the other used blocks; the image was accepted or not
-pub record IsReport (image : List ℕ) (accepted : Bool) (text : List ℕ) : Type 0 where
+-- the report on everything in an image that can be trusted and on the other used blocks, as lines or as an object; the image was
+-- accepted or not
+pub record IsReport (json : Bool) (image : List ℕ) (accepted : Bool) (text : List ℕ) : Type 0 where
   pub saved : Saved
   pub salvaged : Salvages image saved
   pub unaccounted : List ℕ
   pub are_unaccounted : AreUnaccounted saved unaccounted
-  pub told : AreRescued saved unaccounted accepted text
+  pub told : AreRescued json saved unaccounted accepted text
 
 -- these are the bytes of an item: of a file, those of its entry
 abbrev pub HasSource : Saved → Source → List ℕ → Type 0
@@ -86,8 +96,8 @@ HasSource saved (File position) bytes =
     position < length saved.entries → (entry : Salvaged) → IsAt saved.entries position entry → HasBytes saved.image saved.given position entry.header entry.state bytes
 HasSource saved source bytes = ⊤
 
--- why there is no report: the host files cannot be written, or memory ran out
-abbrev pub IsRescueFault : OutFault → Type 0
-IsRescueFault (Host fault) = ⊤
-IsRescueFault Memory = ⊤
-IsRescueFault fault = ⊥
+-- why there is no report: memory ran out, or the host files cannot be written; an image that is only listed writes none
+abbrev pub IsRescueFault : Bool → OutFault → Type 0
+IsRescueFault list Memory = ⊤
+IsRescueFault false (Host fault) = ⊤
+IsRescueFault list fault = ⊥

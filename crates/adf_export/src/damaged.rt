@@ -1,10 +1,11 @@
 //! What can be trusted in a damaged image, as files and directories of the host.
-ghost use Rattle.std.specs.Prelude.{◌≡◌, ◌++◌, IfErr, IfOk, OnErr, OnOk, length};
+ghost use Rattle.std.specs.Prelude.{◌≡◌, ◌++◌, IfErr, IfOk, OnErr, OnOk, false, length};
 ghost use Rattle.std.specs.String.{string_bytes};
 ghost use Rattle.adf_script.specs.Streams.{Writes};
 ghost use Rattle.adf_io.specs.Prefix.{WritesFrontOf};
-ghost use Rattle.adf_export.specs.Rescue.{AreLines, AreRescued, AreSomeRescued, IsRescue, IsRescueFault, IsRescueLine, deleted_count_line, doubt_of, rescue_line, unaccounted_count_line};
+ghost use Rattle.adf_export.specs.Rescue.{AreLines, AreRescued, AreSomeRescued, IsRescue, IsRescueFault, IsRescueLine, IsTold, deleted_count_line, doubt_of, rescue_line, unaccounted_count_line};
 ghost use Rattle.adf_export.specs.Where.{ranges};
+ghost use Rattle.adf_export.specs.steps.Reporting.{ArePrinted, IsNextObject};
 
 use crate::count_line::count_line;
 use crate::fault::OutFault;
@@ -12,9 +13,10 @@ use crate::output::write_text;
 use crate::plan::Plan;
 use crate::print_fault::PrintFault;
 use crate::ranges::ranges_text;
+use crate::rescue_object::{entry_object, is_told, rest_text, write_front};
 use adf_block::Image;
 use adf_host::OwnedFile;
-use adf_salvage::{Salvage, State, salvage};
+use adf_salvage::{Salvage, Salvaged, State, salvage};
 use adf_words::SalvageJob;
 use ados_mend::unaccounted_blocks;
 use host_trees::write_tree;
@@ -32,7 +34,7 @@ pub struct Rescue {
 }
 
 /// Writes everything in an image that can be trusted below a directory of the host. With `meta`, a note is written beside
-/// each entry. Nothing is written if an existing file or directory of the host is in the way.
+/// each entry. Nothing is written if the job only lists, or if an existing file or directory of the host is in the way.
 pub fn extract_damaged<R: Files>(
     rt: &R,
     alloc: Global,
@@ -42,18 +44,16 @@ pub fn extract_damaged<R: Files>(
 where
     R::File: OwnedFile,
     ensures told { IfOk result (IsRescue image) }
-    ensures fault { IfErr result IsRescueFault }
+    ensures fault { IfErr result (IsRescueFault job.now.list) }
 {
     let rescue = match rescue_of(alloc, image, job.meta) {
         Ok(rescue) => rescue,
         Err(_) => return Err(OutFault::Memory),
     };
-    let items = rescue.plan.items.as_slice();
-    let mut contents = rescue.plan.contents(&rescue.salvage);
-    match write_tree(rt, alloc, job.to, items, &mut contents, false) {
-        Ok(()) => Ok(rescue),
-        Err(fault) => Err(OutFault::Host(fault)),
+    if !job.list {
+        rescue.write(rt, alloc, job.to)?;
     }
+    Ok(rescue)
 }
 
 /// What can be trusted in an image, the host files and directories for it, and the used blocks that belong to nothing of it.
@@ -94,6 +94,20 @@ fn doubt_of(state: State) -> Option<Doubt>
 }
 
 impl Rescue {
+    /// Writes the files and directories of the host below this one.
+    fn write<R: Files>(&self, rt: &R, alloc: Global, to: &str) -> Result<(), OutFault>
+    where
+        R::File: OwnedFile,
+        ensures { IfErr result (IsRescueFault false) }
+    {
+        let items = self.plan.items.as_slice();
+        let mut contents = self.plan.contents(&self.salvage);
+        match write_tree(rt, alloc, to, items, &mut contents, false) {
+            Ok(()) => Ok(()),
+            Err(fault) => Err(OutFault::Host(fault)),
+        }
+    }
+
     /// The number of entries.
     pub fn len(&self) -> usize {
         self.salvage.entries().len()
@@ -121,18 +135,93 @@ impl Rescue {
     }
 
     /// Writes a line for each file, for each recovered or doubtful directory, and for each lost entry, and then one with the number
-    /// of deleted entries and one with that of the used blocks that belong to nothing, each if there are some. The result is whether
-    /// the image was accepted: then every file is whole.
+    /// of deleted entries and one with that of the used blocks that belong to nothing, each if there are some. With `json` it writes
+    /// an object that says the same, with the numbers of these blocks. The result is whether the image was accepted: then every
+    /// file is whole.
     ///
     /// If the writer fails or memory runs out, it has written a prefix of that text.
-    pub fn tell<W: Write>(&self, alloc: Global, writer: &mut W) -> Result<bool, PrintFault>
-        ensures ok { IfOk result (λ accepted. Writes (W.contents writer.old) (W.contents writer.new) (AreRescued self.now.salvage self.now.unaccounted.items accepted)) }
-        ensures front { OnErr result (WritesFrontOf (W.contents writer.old) (W.contents writer.new) (AreSomeRescued self.now.salvage self.now.unaccounted.items)) }
+    pub fn tell<W: Write>(
+        &self,
+        alloc: Global,
+        json: bool,
+        writer: &mut W,
+    ) -> Result<bool, PrintFault>
+        ensures ok { IfOk result (λ accepted. Writes (W.contents writer.old) (W.contents writer.new) (AreRescued json self.now.salvage self.now.unaccounted.items accepted)) }
+        ensures front { OnErr result (WritesFrontOf (W.contents writer.old) (W.contents writer.new) (AreSomeRescued json self.now.salvage self.now.unaccounted.items)) }
+    {
+        self.tell_form(alloc, json, writer)?;
+        Ok(self.salvage.is_accepted())
+    }
+
+    /// Writes the report as lines, or with `json` as an object.
+    fn tell_form<W: Write>(
+        &self,
+        alloc: Global,
+        json: bool,
+        writer: &mut W,
+    ) -> Result<(), PrintFault>
+        ensures ok { OnOk result (Writes (W.contents writer.old) (W.contents writer.new) (IsTold json self.now.salvage self.now.unaccounted.items)) }
+        ensures front { OnErr result (WritesFrontOf (W.contents writer.old) (W.contents writer.new) (IsTold json self.now.salvage self.now.unaccounted.items)) }
+    {
+        if json {
+            self.tell_object(alloc, writer)
+        } else {
+            self.tell_lines(alloc, writer)
+        }
+    }
+
+    /// Writes the report as lines.
+    fn tell_lines<W: Write>(&self, alloc: Global, writer: &mut W) -> Result<(), PrintFault>
+        ensures ok { OnOk result (Writes (W.contents writer.old) (W.contents writer.new) (IsTold false self.now.salvage self.now.unaccounted.items)) }
+        ensures front { OnErr result (WritesFrontOf (W.contents writer.old) (W.contents writer.new) (IsTold false self.now.salvage self.now.unaccounted.items)) }
     {
         self.tell_entries(alloc, writer)?;
         let last = self.count_lines(alloc)?;
-        write_text(last.as_bytes(), writer)?;
-        Ok(self.salvage.is_accepted())
+        write_text(last.as_bytes(), writer)
+    }
+
+    /// Writes the report as an object, entry by entry: it may be much longer than the image.
+    fn tell_object<W: Write>(&self, alloc: Global, writer: &mut W) -> Result<(), PrintFault>
+        ensures ok { OnOk result (Writes (W.contents writer.old) (W.contents writer.new) (IsTold true self.now.salvage self.now.unaccounted.items)) }
+        ensures front { OnErr result (WritesFrontOf (W.contents writer.old) (W.contents writer.new) (IsTold true self.now.salvage self.now.unaccounted.items)) }
+    {
+        self.tell_objects(alloc, writer)?;
+        let deleted = self.salvage.deleted().len() as u64;
+        let last = rest_text(alloc, deleted, &self.unaccounted)?;
+        write_text(&last, writer)
+    }
+
+    /// Writes the begin of the object and the objects of the entries.
+    fn tell_objects<W: Write>(&self, alloc: Global, writer: &mut W) -> Result<(), PrintFault>
+        ensures ok { OnOk result (Writes (W.contents writer.old) (W.contents writer.new) (ArePrinted self.now.salvage.entries)) }
+        ensures front { OnErr result (WritesFrontOf (W.contents writer.old) (W.contents writer.new) (ArePrinted self.now.salvage.entries)) }
+    {
+        write_front(writer)?;
+        let entries = self.salvage.entries();
+        let mut after = false;
+        for (place, entry) in entries.iter().enumerate() {
+            let object = self.object_at(alloc, place, entry, after)?;
+            write_text(&object, writer)?;
+            after = after || is_told(entry.state, entry.found);
+        }
+        Ok(())
+    }
+
+    /// The object of the entry at a position, if it is told, behind a comma after another one.
+    fn object_at(
+        &self,
+        alloc: Global,
+        place: usize,
+        entry: &Salvaged,
+        after: bool,
+    ) -> Result<Vec<u8>, AllocError>
+        ensures { IfOk result (λ text. IsNextObject after entry.now.found entry.now.state text.items) }
+    {
+        if !is_told(entry.state, entry.found) {
+            return Ok(Vec::new(alloc));
+        }
+        let path = self.plan.path_of(alloc, place)?;
+        entry_object(alloc, entry.found, entry.state, path.as_str(), after)
     }
 
     /// The line with the number of deleted entries, and that with the number of used blocks that belong to nothing.

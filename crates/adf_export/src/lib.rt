@@ -34,6 +34,7 @@ mod plan;
 mod print;
 mod print_fault;
 mod ranges;
+mod rescue_object;
 mod saving;
 mod undelete_fault;
 mod undeleting;

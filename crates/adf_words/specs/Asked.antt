@@ -11,7 +11,7 @@ use Rattle.adf_words.specs.When.{IsWhen}
 use Rattle.adf_words.specs.declared.boot.BootBlock.{BootBlock}
 use Rattle.adf_words.specs.declared.boot.BootBlock.TheVariants.{Empty, Standard, File}
 use Rattle.adf_words.specs.declared.job.ImageJob.{ImageJob}
-use Rattle.adf_words.specs.declared.job.ImageJob.TheVariants.{Boot, Map, SaveBoot, Show, ShowBoot, Undelete, Validate, Where, WherePath}
+use Rattle.adf_words.specs.declared.job.ImageJob.TheVariants.{Boot, Extract, ExtractBundle, Map, Salvage, SaveBoot, Show, ShowBoot, Undelete, Validate, Where, WherePath}
 use Rattle.adf_words.specs.declared.change.Change.{Change}
 use Rattle.adf_words.specs.declared.change.Change.TheVariants.{Add, AddAs, Date, Protect}
 use Rattle.adf_words.specs.declared.change.Rewrite.{Rewrite}
@@ -69,11 +69,29 @@ IsWhereOf found (Where job) =
     × ((given : Bool) → IsFlag found (codes "json") given → job.json ≡ given)
 IsWhereOf found _ = ⊥
 
+-- the directory to write to is this argument, the current directory without one
+abbrev pub IsInto : Found → List ℕ → Type 0
+IsInto found to = to ≡ option_map_or (λ word. word) (first_value found (codes "to")) (codes ".")
+
+-- `extract`: with `--bundle` everything goes to this new directory, else with `--damaged` it is a rescue, else the paths are taken out;
+-- the image, the paths and the directory are these arguments, and each option is as given
+abbrev pub IsExtractOf : Found → ImageJob → Type 0
+IsExtractOf found (ExtractBundle image to) = (first_value found (codes "IMAGE") ≡ Some image.now) × (first_value found (codes "bundle") ≡ Some to.now)
+IsExtractOf found (Salvage job) =
+    (first_value found (codes "IMAGE") ≡ Some job.image.now) × (first_value found (codes "bundle") ≡ None) × IsGiven found (codes "damaged") × IsInto found job.to.now
+    × ((given : Bool) → IsFlag found (codes "list") given → job.list ≡ given) × ((given : Bool) → IsFlag found (codes "json") given → job.json ≡ given)
+    × ((given : Bool) → IsFlag found (codes "meta") given → job.meta ≡ given)
+IsExtractOf found (Extract job) =
+    (first_value found (codes "IMAGE") ≡ Some job.image.now) × (first_value found (codes "bundle") ≡ None) × IsLeftOut found (codes "damaged") × IsInto found job.to.now
+    × (map (λ word. word.now) job.paths.items ≡ all_values found (codes "PATH"))
+    × ((given : Bool) → IsFlag found (codes "meta") given → job.meta ≡ given) × ((given : Bool) → IsFlag found (codes "force") given → job.force ≡ given)
+IsExtractOf found _ = ⊥
+
 -- `undelete`: the image, the paths and the directory are these arguments, the current directory without one, and each option is as given
 abbrev pub IsUndeleteOf : Found → ImageJob → Type 0
 IsUndeleteOf found (Undelete job) =
     (first_value found (codes "IMAGE") ≡ Some job.image.now) × (map (λ word. word.now) job.paths.items ≡ all_values found (codes "PATH"))
-    × (job.to.now ≡ option_map_or (λ word. word) (first_value found (codes "to")) (codes ".")) × ((given : Bool) → IsFlag found (codes "list") given → job.list ≡ given)
+    × IsInto found job.to.now × ((given : Bool) → IsFlag found (codes "list") given → job.list ≡ given)
     × ((given : Bool) → IsFlag found (codes "meta") given → job.meta ≡ given) × ((given : Bool) → IsFlag found (codes "force") given → job.force ≡ given)
 IsUndeleteOf found _ = ⊥
 

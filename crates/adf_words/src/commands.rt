@@ -91,6 +91,10 @@ fn argument_of<'a>(alloc: Global, row: &ArgumentRow) -> Result<Arg<'a>, AllocErr
             let flag = argument.long(row.name).action(ArgAction::SetTrue);
             return excluding(flag, excludes);
         }
+        Kind::With { option, excludes } => {
+            let flag = argument.long(row.name).action(ArgAction::SetTrue);
+            return excluding(flag.requires_arg(option)?, excludes);
+        }
         Kind::Option { value, default } => {
             let option = argument.long(row.name).action(ArgAction::Set);
             with_default(option.value_name(value), default)

@@ -42,7 +42,7 @@ pub enum ImageJob<'a> {
     List(ListJob<'a>),
     /// `extract`: copies entries to files and directories of the host.
     Extract(ExtractJob<'a>),
-    /// `extract --damaged`: copies what can be trusted of a possibly damaged image.
+    /// `extract --damaged`: copies what can be trusted of a possibly damaged image, or only reports on it.
     Salvage(SalvageJob<'a>),
     /// `undelete`: lists deleted entries, and writes them to files and directories of the host.
     Undelete(UndeleteJob<'a>),

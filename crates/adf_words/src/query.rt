@@ -102,6 +102,10 @@ pub struct UndeleteJob<'a> {
 #[derive(Drop)]
 pub struct SalvageJob<'a> {
     pub image: &'a str,
+    /// Whether entries are only reported: nothing is written to the host.
+    pub list: bool,
+    /// Whether the report is a JSON object.
+    pub json: bool,
     /// The host directory to write to.
     pub to: &'a str,
     /// Whether a note `.uaem` is written beside each entry.

@@ -29,6 +29,11 @@ pub(crate) enum Kind {
     Flag {
         excludes: &'static [&'static str],
     },
+    /// An option without a value that needs another option; that option, and the arguments that it excludes.
+    With {
+        option: &'static str,
+        excludes: &'static [&'static str],
+    },
     /// An option with a value; the value's name in the help, and its default.
     Option {
         value: &'static str,
@@ -236,7 +241,7 @@ pub(crate) const COMMANDS: [CommandRow; 21] = [
     CommandRow {
         name: "extract",
         about: "Writes files and directories of an image as those of the host",
-        examples: "Examples:\n  adf_serve extract --to here work.adf\n  adf_serve extract --meta --to here work.adf s c/dir\n  adf_serve extract --damaged --to here work.adf\n  adf_serve extract --bundle work work.adf",
+        examples: "Examples:\n  adf_serve extract --to here work.adf\n  adf_serve extract --meta --to here work.adf s c/dir\n  adf_serve extract --damaged --to here work.adf\n  adf_serve extract --damaged --list work.adf\n  adf_serve extract --bundle work work.adf",
         changes: false,
         arguments: &[
             ArgumentRow { name: "to", kind: Kind::Option { value: "DIR", default: Some(".") }, help: "The directory to write to. It is made if it does not exist" },
@@ -244,6 +249,8 @@ pub(crate) const COMMANDS: [CommandRow; 21] = [
             FORCE,
             ArgumentRow { name: "bundle", kind: Kind::Instead { value: "DIR", excludes: &["to", "meta", "force", "damaged", "PATH"] }, help: "Writes everything to this new directory: the files below `DIR/files`, and in `DIR/volume.json` all else that `add --bundle` needs to make the volume again" },
             ArgumentRow { name: "damaged", kind: Kind::Flag { excludes: &["force", "PATH"] }, help: "Writes all that can be trusted of an image that may be refused, and prints a line for each file and directory" },
+            ArgumentRow { name: "list", kind: Kind::With { option: "damaged", excludes: &["to", "meta", "force", "bundle", "PATH"] }, help: "With `--damaged`: only prints the lines, and writes nothing" },
+            ArgumentRow { name: "json", kind: Kind::With { option: "damaged", excludes: &["bundle"] }, help: "With `--damaged`: prints a JSON object in place of the lines" },
             IMAGE,
             ArgumentRow { name: "PATH", kind: Kind::Any, help: "A file, or a directory with everything in it. Without PATH everything in the image is written" },
         ],

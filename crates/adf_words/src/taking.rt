@@ -1,7 +1,7 @@
 //! From the arguments of a command that reads an image to its job.
 ghost use Rattle.std.specs.Prelude.{◌≡◌, IfErr, IfOk};
 ghost use Rattle.clap.specs.Matches.{found_of};
-ghost use Rattle.adf_words.specs.Asked.{IsMapOf, IsShowOf, IsUndeleteOf, IsWhereOf};
+ghost use Rattle.adf_words.specs.Asked.{IsExtractOf, IsMapOf, IsShowOf, IsUndeleteOf, IsWhereOf};
 ghost use Rattle.adf_words.specs.Lists.{form_of, IsFormOf, IsOrderOf, TellsNoOrder, order_word, usual_order};
 
 use crate::arguments::Arguments;
@@ -150,14 +150,23 @@ pub(crate) fn print_job<'a>(arguments: &Arguments<'a, '_>) -> Result<ImageJob<'a
 }
 
 /// The job of `extract`.
-pub(crate) fn extract_job<'a>(arguments: &Arguments<'a, '_>) -> Result<ImageJob<'a>, WordsFault> {
+pub(crate) fn extract_job<'a>(arguments: &Arguments<'a, '_>) -> Result<ImageJob<'a>, WordsFault>
+    ensures { IfOk result (IsExtractOf (found_of arguments.now.words.now)) }
+{
     let image = arguments.word("IMAGE")?;
     if let Some(to) = arguments.given("bundle") {
         return Ok(ImageJob::ExtractBundle { image, to });
     }
     let (to, meta) = (arguments.given("to").unwrap_or("."), arguments.flag("meta"));
     if arguments.flag("damaged") {
-        return Ok(ImageJob::Salvage(SalvageJob { image, to, meta }));
+        let (list, json) = (arguments.flag("list"), arguments.flag("json"));
+        return Ok(ImageJob::Salvage(SalvageJob {
+            image,
+            list,
+            json,
+            to,
+            meta,
+        }));
     }
     Ok(ImageJob::Extract(ExtractJob {
         image,
