@@ -1,7 +1,8 @@
 -- The kind of a disk, by its first four bytes.
-use Rattle.std.proofs.Common.{◌≡◌, ℕ, ◌<◌, ◌≤◌, ◌⊎◌, inl, inr, List, [], ◌∷◌, length, refl, sym, ◌∙◌, subst, arith}
-use Rattle.adf_block.specs.Boot.{HasKind}
+use Rattle.std.proofs.Common.{◌≡◌, ℕ, ◌<◌, ◌≤◌, ◌⊎◌, inl, inr, List, length, refl, subst, arith}
+use Rattle.adf_block.specs.Boot.{HasKind, IsDos}
 use Rattle.adf_block.specs.Image.{byte_at}
+use Rattle.adf_block.specs.declared.boot.BootKind.{BootKind}
 use Rattle.adf_block.specs.declared.boot.BootKind.TheVariants.{Ofs, Ffs, OtherDos, NotDos}
 use Rattle.ados_check.proofs.KindLemmas.{is_dos, not_dos}
 use Rattle.ados_model.specs.declared.fault.FaultKind.{FaultKind}
@@ -9,18 +10,23 @@ use Rattle.ados_model.specs.declared.fault.FaultKind.TheVariants.{NotADosDisk, U
 use Rattle.ados_model.specs.Faults.{Shows}
 use Rattle.ados_faults.specs.Listed.{IsOtherKind, ShowsOtherKind}
 
-shown_as : (image : List ℕ) (kind is : FaultKind) → kind ≡ is → Shows image kind 0 → Shows image is 0
-shown_as image kind is e h = subst (λ (k : FaultKind). Shows image k 0) e h
+supported : (image : List ℕ) (k : BootKind) → HasKind image k → (k ≡ Ofs) ⊎ (k ≡ Ffs) → IsDos image × (byte_at image 0 3 ≤ 1)
+supported image Ofs has is = (has.0, omega (arith, has.1))
+supported image Ffs has is = (has.0, omega (arith, has.1))
+supported image (OtherDos n) has (inl e) = absurd (cc e)
+supported image (OtherDos n) has (inr e) = absurd (cc e)
+supported image NotDos has (inl e) = absurd (cc e)
+supported image NotDos has (inr e) = absurd (cc e)
 
 -- OFS and FFS are no other kinds
-pub no_other : (image : List ℕ) → 4 ≤ length image → HasKind image Ofs ⊎ HasKind image Ffs → ¬ ShowsOtherKind image
-no_other image long has (kind, other) = go has other.of_boot
+pub no_other : (image : List ℕ) (k : BootKind) → 4 ≤ length image → HasKind image k → (k ≡ Ofs) ⊎ (k ≡ Ffs) → ¬ ShowsOtherKind image
+no_other image k long has is (kind, other) = go other.of_boot
   where
-    go : HasKind image Ofs ⊎ HasKind image Ffs → (kind ≡ NotADosDisk) ⊎ (kind ≡ UnsupportedKind) → ⊥
-    go (inl ofs) (inl e) = (shown_as image kind NotADosDisk e other.shown).0 (is_dos image long ofs.0)
-    go (inr ffs) (inl e) = (shown_as image kind NotADosDisk e other.shown).0 (is_dos image long ffs.0)
-    go (inl ofs) (inr e) = let above : 1 < byte_at image 0 3 = (shown_as image kind UnsupportedKind e other.shown).1 in omega (arith, ofs.1)
-    go (inr ffs) (inr e) = let above : 1 < byte_at image 0 3 = (shown_as image kind UnsupportedKind e other.shown).1 in omega (arith, ffs.1)
+    dos : IsDos image × (byte_at image 0 3 ≤ 1)
+    dos = supported image k has is
+    go : (kind ≡ NotADosDisk) ⊎ (kind ≡ UnsupportedKind) → ⊥
+    go (inl e) = (subst (λ (k : FaultKind). Shows image k 0) e other.shown).0 (is_dos image long dos.0)
+    go (inr e) = let above : 1 < byte_at image 0 3 = (subst (λ (k : FaultKind). Shows image k 0) e other.shown).1 in omega (arith, dos.1)
 
 pub unsupported : (image : List ℕ) (n : ℕ) → 4 ≤ length image → HasKind image (OtherDos n) → IsOtherKind image UnsupportedKind
 unsupported image n long has =
@@ -29,13 +35,3 @@ unsupported image n long has =
 
 pub no_dos_disk : (image : List ℕ) → 4 ≤ length image → HasKind image NotDos → IsOtherKind image NotADosDisk
 no_dos_disk image long has = record { of_boot = inl refl; shown = (not_dos image long has, refl) }
-
--- no image shows both
-pub one_kind : (image : List ℕ) (kind other : FaultKind) → IsOtherKind image kind → IsOtherKind image other → kind ≡ other
-one_kind image kind other one two = go one.of_boot two.of_boot
-  where
-    go : (kind ≡ NotADosDisk) ⊎ (kind ≡ UnsupportedKind) → (other ≡ NotADosDisk) ⊎ (other ≡ UnsupportedKind) → kind ≡ other
-    go (inl e) (inl f) = e ∙ sym f
-    go (inr e) (inr f) = e ∙ sym f
-    go (inl e) (inr f) = absurd ((shown_as image kind NotADosDisk e one.shown).0 (shown_as image other UnsupportedKind f two.shown).0)
-    go (inr e) (inl f) = absurd ((shown_as image other NotADosDisk f two.shown).0 (shown_as image kind UnsupportedKind e one.shown).0)
