@@ -92,13 +92,12 @@ rest_line deleted unaccounted = print (rest_tokens deleted unaccounted) ++ codes
 pub object_whole : (saved : Saved) (unaccounted text : List ℕ) → ArePrinted saved.entries text
     → IsReportObject saved.entries (length saved.deleted) unaccounted (text ++ rest_line (length saved.deleted) unaccounted)
 object_whole saved unaccounted text printed =
-    let rest = rest_tokens (length saved.deleted) unaccounted in
-    (
+    let rest = rest_tokens (length saved.deleted) unaccounted in (
       printed.objects,
       printed.are,
       sym (append_assoc text (print rest) (codes "\n"))
           ∙ ap (λ t. t ++ codes "\n")
-              (ap (λ t. t ++ print rest) printed.text
-              ∙ ap (λ p. print (front_tokens printed.objects) ++ p) (sym (no_comma (after_value false printed.objects) (length saved.deleted) unaccounted))
-              ∙ sym (print_from-append false (front_tokens printed.objects) rest)),
+          (ap (λ t. t ++ print rest) printed.text
+          ∙ ap (λ p. print (front_tokens printed.objects) ++ p) (sym (no_comma (after_value false printed.objects) (length saved.deleted) unaccounted))
+          ∙ sym (print_from-append false (front_tokens printed.objects) rest)),
     )

@@ -50,12 +50,7 @@ fn comma(alloc: Global, after: bool) -> Result<Vec<u8>, AllocError>
 }
 
 /// Writes the object of an entry with this path.
-fn put_entry(
-    writer: &mut Writer,
-    found: bool,
-    state: State,
-    path: &str,
-) -> Result<(), AllocError>
+fn put_entry(writer: &mut Writer, found: bool, state: State, path: &str) -> Result<(), AllocError>
     ensures before { writer.new.before ≡ writer.old.before }
     ensures tokens { OnOk result (writer.new.tokens ≡ writer.old.tokens ++ entry_tokens found state path.now) }
 {

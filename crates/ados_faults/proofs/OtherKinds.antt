@@ -24,6 +24,7 @@ no_other image k long has is (kind, other) = go other.of_boot
   where
     dos : IsDos image × (byte_at image 0 3 ≤ 1)
     dos = supported image k has is
+
     go : (kind ≡ NotADosDisk) ⊎ (kind ≡ UnsupportedKind) → ⊥
     go (inl e) = (subst (λ (k : FaultKind). Shows image k 0) e other.shown).0 (is_dos image long dos.0)
     go (inr e) = let above : 1 < byte_at image 0 3 = (subst (λ (k : FaultKind). Shows image k 0) e other.shown).1 in omega (arith, dos.1)
