@@ -9,5 +9,6 @@ pub mod Items
 pub mod Bytes
 pub mod Rescue
 pub mod Where
+pub mod Faulty
 pub mod Undelete
 pub mod steps
