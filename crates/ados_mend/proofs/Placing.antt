@@ -22,7 +22,7 @@ use Rattle.ados_mend.proofs.Reaching.{few_pages, form_small, same_place}
 
 -- ---- the order of places
 
-by_rank : ℕ → Naming
+abbrev by_rank : ℕ → Naming
 by_rank n = if n == 0 then Entry else (if n == 1 then NextEntry else (if n == 2 then Extension else (if n == 3 then Data else Page)))
 
 of_rank : (a : Naming) → by_rank (rank a) ≡ a
@@ -97,19 +97,13 @@ module _ (image : List ℕ) where
           let block : of.block ≡ place.holder = omega (arith, of.is, small, few) in
           let kind : form of.role ≡ k = omega (arith, of.is, small, few) in
           record { role = of.role; of_form = kind; reached = subst (λ (b : ℕ). Reached image b of.role) block of.reached; gives = same_gives place role of.role (kind ∙ sym of_form) g }
-      given_in few marked role of_form false none g = none (same_gives place g.role role (of_form ∙ sym g.of_form) g.gives)
+      given_in few marked role of_form false none = λ g. none (same_gives place g.role role (of_form ∙ sym g.of_form) g.gives)
 
   pub given_is : (place : Place) (k : ℕ) → IsGivenIn image place k → IsPlaceOfReached image place
   given_is place k g = record { role = g.role; reached = g.reached; gives = g.gives }
 
   pub no_form_gives : (place : Place) → ((k : ℕ) → k < 4 → ¬ IsGivenIn image place k) → ¬ IsPlaceOfReached image place
   no_form_gives place none h = none (form h.role) (form_small h.role) (record { role = h.role; of_form = refl; reached = h.reached; gives = h.gives })
-
--- whether a role gives a place, by the only role that the long gives
-pub gives_next : (image : List ℕ) (place : Place) (role next : Role) → ((other : Role) → IsPlace image place.holder role place.long other → next ≡ other) → IsPlace image place.holder role place.long next
-    → (r : Bool) → MatchBool r (naming_of next place.long ≡ place.naming) (naming_of next place.long ≢ place.naming) → MatchBool r (Gives image place role) (¬ Gives image place role)
-gives_next image place role next only is true makes = record { next = next; is_place = is; makes = makes }
-gives_next image place role next only is false not g = not (ap (λ (other : Role). naming_of other place.long) (only g.next g.is_place) ∙ g.makes)
 
 module _ (image : List ℕ) (im : IsImage image) where
   long_small : (place : Place) → IsPlaceOfReached image place → place.long < 128

@@ -1,6 +1,7 @@
 //! The places that name a block, whatever faults an image shows.
 ghost use Rattle.std.specs.Prelude.{◌≡◌, ◌+◌, ◌*◌, ◌<◌, false, IfOk, MatchBool, OnOk};
 ghost use Rattle.adf_block.specs.Image.{block_count, long};
+ghost use Rattle.adf_block.specs.Whole.{IsImage};
 ghost use Rattle.adf_block.specs.declared.layout.TheConstants.{BLOCK_LONGS};
 ghost use Rattle.ados_mend.specs.declared.naming.Place.{Place};
 ghost use Rattle.ados_mend.specs.Places.{AreAllPlaces, Gives, IsPlaceOfReached, naming_of};
@@ -43,6 +44,7 @@ fn put_places(
     holder: u32,
     places: &mut Vec<Place>,
 ) -> Result<(), AllocError>
+    requires whole { IsImage image.now }
     requires cells { AreCells image.now cells.now }
     requires inside { holder < block_count image.now }
     requires below { ArePlacesBelow image.now block (640 * holder) places.old.items }
@@ -82,6 +84,7 @@ fn put_namings(
     i: u32,
     places: &mut Vec<Place>,
 ) -> Result<(), AllocError>
+    requires whole { IsImage image.now }
     requires cells { AreCells image.now cells.now }
     requires inside { holder < block_count image.now }
     requires long { i < BLOCK_LONGS }
