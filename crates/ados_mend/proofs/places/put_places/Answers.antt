@@ -15,7 +15,7 @@ loop-i-preserved c =
     elim c.if-long-block.branch [
       | then-long-block+in_ok-put_namings w ↦
           subst (λ (v : Vec Place Global). ArePlacesBelow c.args.image.now c.args.block n v.items) (sym w.places-is)
-          (subst (λ (block : ℕ). ArePlacesBelow c.args.image.now block n w.put_namings.new.places.items) (sym c.long.ensures ∙ w.if-long-block.true) (w.in_ok-put_namings.ensures tt))
+          (subst (λ (block : ℕ). ArePlacesBelow c.args.image.now block n w.put_namings.new.places.items) (sym c.long.ensures ∙ w.if-long-block.true) w.in_ok-put_namings.ensures)
       | else-long-block w ↦
           subst (λ (v : Vec Place Global). ArePlacesBelow c.args.image.now c.args.block n v.items) (sym w.places-is)
           (long_skipped c.args.image.now c.requires.whole c.args.block c.args.holder c.loop-i.i c.loop-i.places.items c.loop-i-test.true
