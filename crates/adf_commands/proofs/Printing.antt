@@ -1,5 +1,5 @@
 -- The output for an image, whole or in part.
-use Rattle.std.proofs.Common.{◌≡◌, ℕ, Bor, ◌⊎◌, inl, inr, Bool, true, false, List, [], ◌++◌, map, Option, Some, None, option_map, Ok, Err, IfErr, OnErr, OnOk, IsErrAnd, refl, sym, ap, ◌∙◌, subst}
+use Rattle.std.proofs.Common.{◌≡◌, ◌≢◌, ℕ, Bor, ◌⊎◌, inl, inr, Bool, true, false, List, [], ◌++◌, map, Option, Some, None, option_map, Ok, Err, IfErr, OnErr, OnOk, IsErrAnd, refl, sym, ap, ◌∙◌, subst}
 use Rattle.std.specs.Prelude.{⊤}
 use Rattle.std.specs.Io.KnownBytes.{Appends, Keeps}
 use Rattle.std.proofs.KnownBytes.{Appends-nil, Keeps-refl}
@@ -28,7 +28,7 @@ use Rattle.adf_commands.specs.declared.refusal.DosRefusal.{DosRefusal}
 use Rattle.adf_commands.specs.Texts.{AreDeletedLines, AreEntryBlocks, AreOwnedBlocks, BeginsJobText, BeginsListOf, BeginsListText, IsJobText, IsListed, IsListOf, IsListText, shown_form, IsLook, IsLookText, IsPrintText}
 use Rattle.adf_commands.specs.Faults.{IsBlankFault, IsNoImage, IsNoImageRefusal, IsNoRefusal, IsRefusedFor, IsToldAs, IsToldOut, IsToldRun}
 use Rattle.adf_commands.specs.Commands.{Does, DoesJob, Ending, EndsOff, LeavesOff, Prints, prints, Tells, TellsFault, TellsJob, TellsOf, TellsSome}
-use Rattle.adf_commands.specs.Commands.Prints.{OnlyFaults, OfBytes, OfImages, OfRescue, Unsaid}
+use Rattle.adf_commands.specs.Commands.Prints.{OnlyFaults, OfBlocks, OfBytes, OfImages, OfRescue, Unsaid}
 use Rattle.std.proofs.lemmas.List.{append-nil}
 use Rattle.adf_archive.specs.Archive.{told_in}
 use Rattle.adf_words.specs.declared.query.CheckJob.{CheckJob}
@@ -43,8 +43,10 @@ use Rattle.adf_export.specs.Undelete.{IsUndeletion, key_of}
 use Rattle.adf_export.specs.Where.{IsWhere, IsWhereOf}
 use Rattle.adf_export.specs.Words.{LeadsTo}
 use Rattle.adf_commands.specs.Archives.{EndsArchive}
+use Rattle.adf_commands.specs.Placed.{IsBareLine, IsWhereText}
+use Rattle.adf_commands.specs.Reports.{DoesReport, TellsReport}
 use Rattle.adf_commands.specs.Rescues.{DoesRescue, TellsRescue}
-use Rattle.adf_commands.specs.Refusals.{dos_line, IsDosText, IsRefusalText, refusal_line, told_line}
+use Rattle.adf_commands.specs.Refusals.{dos_line, IsDosText, IsRefusalText, IsSizeRefusal, refusal_line, told_line}
 
 -- an image is refused, as the fault says
 pub refused_for : (image : List ℕ) (fault : VolumeFault) (told : CommandFault) → IsRefusal image fault → IsToldAs fault told → IsRefusedFor image told
@@ -258,6 +260,51 @@ module _ (job : SalvageJob) where
   rescues_no_image w fault (Ok x) is same = absurd same
   rescues_no_image w fault (Err told) is same = no_image_rescued w told (subst IsNoImage (sym same) is)
 
+-- a report on an image
+module _ (IsText : Bool → List ℕ → Type 0) (IsPlain : List ℕ → Type 0) where
+  -- the fault has no line, or no memory for it
+  report_failed : (old new : Option (List ℕ)) (fault : CommandFault) → DoesReport IsText IsPlain old new (Err fault) → IsNoRefusal fault → TellsReport IsText IsPlain old new (Err fault)
+  report_failed old new NotWhole told plain = told
+  report_failed old new (Refused refusal) d plain = absurd (cc plain)
+  report_failed old new (Dos refusal) d plain = absurd (cc plain)
+  report_failed old new fault (inl keeps) plain = inl keeps
+  report_failed old new fault (inr (text, is, front)) plain = inr (text, inl is, front)
+
+  report_unsaid : (old new : Option (List ℕ)) (fault : CommandFault) → DoesReport IsText IsPlain old new (Err fault) → TellsReport IsText IsPlain old new (Err Memory)
+  report_unsaid old new NotWhole d = inr (d.0, inl (false, d.2), told_front old new d.0 d.1)
+  report_unsaid old new (Refused refusal) d = inl d.0
+  report_unsaid old new (Dos refusal) keeps = inl keeps
+  report_unsaid old new fault (inl keeps) = inl keeps
+  report_unsaid old new fault (inr (text, is, front)) = inr (text, inl is, front)
+
+  -- nothing is written for a fault without a report
+  pub reports_nothing : (w : Option (List ℕ)) (fault : CommandFault) → IsNoRefusal fault → fault ≢ NotWhole → DoesReport IsText IsPlain w w (Err fault)
+  reports_nothing w NotWhole plain other = absurd (other refl)
+  reports_nothing w (Refused refusal) plain other = absurd (cc plain)
+  reports_nothing w (Dos refusal) plain other = Keeps-refl w
+  reports_nothing w fault plain other = inl (Keeps-refl w)
+
+  -- nothing is written if no image was read
+  no_image_reported : (w : Option (List ℕ)) (fault : CommandFault) → ((bytes text : List ℕ) → IsSizeRefusal bytes text → IsPlain text) → IsNoImage fault → DoesReport IsText IsPlain w w (Err fault)
+  no_image_reported w NotWhole plain is = absurd is
+  no_image_reported w (Refused refusal) plain is = (Keeps-refl w, plain is.0 (refusal_line refusal) is.1)
+  no_image_reported w (Dos refusal) plain is = Keeps-refl w
+  no_image_reported w fault plain is = inl (Keeps-refl w)
+
+  pub reports_no_image : (w : Option (List ℕ)) (fault : CommandFault) (done : Ending) → ((bytes text : List ℕ) → IsSizeRefusal bytes text → IsPlain text) → IsNoImage fault
+      → IsErrAnd done (λ told. told ≡ fault) → DoesReport IsText IsPlain w w done
+  reports_no_image w fault (Ok x) plain is same = absurd same
+  reports_no_image w fault (Err told) plain is same = no_image_reported w told plain (subst IsNoImage (sym same) is)
+
+  -- a report is written, whole or as far as the writer accepts it
+  pub report_front : (whole : Bool) (old new : Option (List ℕ)) (text : List ℕ) (fault : CommandFault) → IsText whole text → WritesFront old new text → fault ≡ Output → DoesReport IsText IsPlain old new (Err fault)
+  report_front whole old new text fault is front output = subst (λ (f : CommandFault). DoesReport IsText IsPlain old new (Err f)) (sym output) (inr (text, (whole, is), front))
+
+  pub reported : (old new : Option (List ℕ)) (text : List ℕ) (done : Ending) → IsText true text → OnOk done (Appends old new text) → OnErr done (WritesFront old new text)
+      → IfErr done (λ fault. fault ≡ Output) → DoesReport IsText IsPlain old new done
+  reported old new text (Ok x) is told front output = (text, told, is)
+  reported old new text (Err fault) is told front output = report_front true old new text fault is front output
+
 -- for jobs with such texts for bytes
 module _ (IsText BeginsText : List ℕ → List ℕ → Type 0) where
   -- a job succeeds
@@ -266,6 +313,7 @@ module _ (IsText BeginsText : List ℕ → List ℕ → Type 0) where
   done OfBytes old new x h = h
   done (OfImages job) old new x h = h
   done (OfRescue job) old new x h = h
+  done (OfBlocks job) old new x h = h
   done Unsaid old new x h = tt
 
   -- a job whose fault has no line
@@ -275,6 +323,7 @@ module _ (IsText BeginsText : List ℕ → List ℕ → Type 0) where
   failed Unsaid old new fault h plain = tt
   failed (OfImages job) old new fault h plain = h
   failed (OfRescue job) old new fault h plain = rescue_failed job old new fault h plain
+  failed (OfBlocks job) old new fault h plain = report_failed (IsWhereText job) (IsBareLine job) old new fault h plain
   failed OfBytes old new (Refused refusal) h plain = absurd (cc plain)
   failed OfBytes old new (Dos refusal) h plain = absurd (cc plain)
   failed OfBytes old new fault (bytes, inl keeps) plain = (bytes, inl keeps)
@@ -286,6 +335,7 @@ module _ (IsText BeginsText : List ℕ → List ℕ → Type 0) where
   unsaid Unsaid old new fault h = tt
   unsaid (OfImages job) old new fault h = archive_unsaid job old new fault h
   unsaid (OfRescue job) old new fault h = rescue_unsaid job old new fault h
+  unsaid (OfBlocks job) old new fault h = report_unsaid (IsWhereText job) (IsBareLine job) old new fault h
   unsaid OfBytes old new (Refused refusal) d = (d.0, inl d.1.1)
   unsaid OfBytes old new (Dos refusal) d = (d.0, inl d.1)
   unsaid OfBytes old new fault (bytes, inl keeps) = (bytes, inl keeps)
@@ -299,6 +349,7 @@ module _ (IsText BeginsText : List ℕ → List ℕ → Type 0) where
     told_refused Unsaid refusal d w = tt
     told_refused (OfImages job) refusal d w = absurd d
     told_refused (OfRescue job) refusal (keeps, is) w = (refusal_line refusal, kept_appends old mid new (refusal_line refusal) keeps w, is)
+    told_refused (OfBlocks job) refusal (keeps, is) w = (refusal_line refusal, kept_appends old mid new (refusal_line refusal) keeps w, is)
     told_refused OfBytes refusal (bytes, (is, keeps)) w = (bytes, (refusal_line refusal, kept_appends old mid new (refusal_line refusal) keeps w, is))
 
     -- a refusal by AmigaDOS is reported
@@ -308,6 +359,7 @@ module _ (IsText BeginsText : List ℕ → List ℕ → Type 0) where
     told_dos Unsaid refusal d w = tt
     told_dos (OfImages job) refusal d w = absurd d
     told_dos (OfRescue job) refusal keeps w = (dos_line refusal, kept_appends old mid new (dos_line refusal) keeps w, refl)
+    told_dos (OfBlocks job) refusal keeps w = (dos_line refusal, kept_appends old mid new (dos_line refusal) keeps w, refl)
     told_dos OfBytes refusal (bytes, keeps) w = (bytes, (dos_line refusal, kept_appends old mid new (dos_line refusal) keeps w, refl))
 
     -- a prefix of the output after no output
@@ -331,6 +383,7 @@ module _ (IsText BeginsText : List ℕ → List ℕ → Type 0) where
     broken_refused Unsaid refusal d front = tt
     broken_refused (OfImages job) refusal d front = absurd d
     broken_refused (OfRescue job) refusal (keeps, is) front = (tt, inr (refusal_line refusal, inr (Refused refusal, refl), kept_front (refusal_line refusal) keeps front))
+    broken_refused (OfBlocks job) refusal (keeps, is) front = inr (refusal_line refusal, inr (Refused refusal, refl), kept_front (refusal_line refusal) keeps front)
     broken_refused OfBytes refusal (bytes, (is, keeps)) front =
         (bytes, ends_front bytes Output refl (refusal_line refusal, inr (inl is), kept_front (refusal_line refusal) keeps front))
 
@@ -340,6 +393,7 @@ module _ (IsText BeginsText : List ℕ → List ℕ → Type 0) where
     broken_dos Unsaid refusal d front = tt
     broken_dos (OfImages job) refusal d front = absurd d
     broken_dos (OfRescue job) refusal keeps front = (tt, inr (dos_line refusal, inr (Dos refusal, refl), kept_front (dos_line refusal) keeps front))
+    broken_dos (OfBlocks job) refusal keeps front = inr (dos_line refusal, inr (Dos refusal, refl), kept_front (dos_line refusal) keeps front)
     broken_dos OfBytes refusal (bytes, keeps) front =
         (bytes, ends_front bytes Output refl (dos_line refusal, inr (inr (refusal, refl)), kept_front (dos_line refusal) keeps front))
 
