@@ -2,9 +2,10 @@
 use Rattle.std.proofs.Common.{◌≡◌, ℕ, Bool, true, false, ◌||◌, List, [], ◌∷◌, ◌++◌, length, take, append_assoc, codes, decimal, refl, sym, ap, ◌∙◌, subst}
 use Rattle.std.specs.Prelude.{if◌then◌else◌, flat_map, fold}
 use Rattle.std.specs.List.{list_any}
-use Rattle.std.proofs.lemmas.List.{fold-append, list_any-append}
+use Rattle.std.proofs.lemmas.List.Sums.{fold-append}
+use Rattle.std.proofs.lemmas.List.Folds.{list_any-append}
 use Rattle.json.specs.Token.{Token, begin_array, end_array, end_object, key, number}
-use Rattle.json.specs.Print.{ends, print, print_from}
+use Rattle.json.specs.Print.{ends, escape_byte, print, print_from}
 use Rattle.json.proofs.Printed.Tokens.{print_from-append}
 use Rattle.adf_salvage.specs.Salvaged.{Saved}
 use Rattle.adf_salvage.specs.declared.salvaged.Salvaged.{Salvaged}
@@ -48,9 +49,35 @@ after_objects _ _ (one entries entry objects object are (path, is)) =
     or_more false true = refl
     or_more false false = refl
 
+-- what is before the objects
+pub front_is : print (front_tokens []) ≡ 123 ∷ 34 ∷ (codes "entries" ++ 34 ∷ 58 ∷ 91 ∷ [])
+unfolding print_from escape_byte
+front_is = refl
+
+-- an object behind a comma, if it is not the first
+pub object_printed : (after found : Bool) (state : State) (path : List ℕ) → (if after then codes "," else []) ++ print (entry_tokens found state path) ≡ print_from after (entry_tokens found state path)
+unfolding print_from
+object_printed true found state path = refl
+object_printed false found state path = refl
+
+taken : (told : Bool) (x : List ℕ) → told ≡ true → x ≡ (if told then x else [])
+taken true x e = refl
+taken false x e = absurd (cc e)
+
+skipped : (told : Bool) (x : List ℕ) → told ≡ false → [] ≡ (if told then x else [])
+skipped true x e = absurd (cc e)
+skipped false x e = refl
+
+-- the object of an entry that is told, and none of one that is not
+pub next_object : (after found : Bool) (state : State) (path text : List ℕ) → is_told state found ≡ true → text ≡ print_from after (entry_tokens found state (path ++ path_end state)) → IsNextObject after found state text
+next_object after found state path text told is = (path, is ∙ taken (is_told state found) (print_from after (entry_tokens found state (path ++ path_end state))) told)
+
+pub no_object : (after found : Bool) (state : State) → is_told state found ≡ false → IsNextObject after found state []
+no_object after found state told = ([], skipped (is_told state found) (print_from after (entry_tokens found state ([] ++ path_end state))) told)
+
 -- nothing is told yet
 pub none_printed : ArePrinted [] (print (front_tokens []))
-none_printed = record { objects = []; are = none; text = refl }
+none_printed = record { objects = []; are = none; printed = refl }
 
 -- one more object is printed
 print_more : (objects object : List Token) (after : Bool) → after_value false objects ≡ after → print (front_tokens (objects ++ object)) ≡ print (front_tokens objects) ++ print_from after object
@@ -58,6 +85,7 @@ print_more objects object after is = print_from-append false (front_tokens objec
 
 -- the printed object of an entry, if it is told
 pub if_printed : (told after : Bool) (tokens : List Token) → (if told then print_from after tokens else []) ≡ print_from after (if told then tokens else [])
+unfolding print_from
 if_printed true after tokens = refl
 if_printed false after tokens = refl
 
@@ -66,8 +94,8 @@ module _ (entries : List Salvaged) (entry : Salvaged) (text : List ℕ) (printed
   printed_more after part is (path, next) = record {
     objects = printed.objects ++ object_of entry path;
     are = one entries entry printed.objects (object_of entry path) printed.are (path, refl);
-    text =
-        ap (λ t. t ++ part) printed.text
+    printed =
+        ap (λ t. t ++ part) printed.printed
         ∙ ap (λ p. print (front_tokens printed.objects) ++ p) (next ∙ if_printed (is_told entry.state entry.found) after (entry_tokens entry.found entry.state (path ++ path_end entry.state)))
         ∙ sym (print_more printed.objects (object_of entry path) after (after_objects entries printed.objects printed.are ∙ sym is));
   }
@@ -81,6 +109,7 @@ objects_on first e text printed =
 
 -- what is behind the objects has no comma before it
 no_comma : (after : Bool) (deleted : ℕ) (unaccounted : List ℕ) → print_from after (rest_tokens deleted unaccounted) ≡ print (rest_tokens deleted unaccounted)
+unfolding print_from
 no_comma true deleted unaccounted = refl
 no_comma false deleted unaccounted = refl
 
@@ -97,7 +126,7 @@ object_whole saved unaccounted text printed =
       printed.are,
       sym (append_assoc text (print rest) (codes "\n"))
           ∙ ap (λ t. t ++ codes "\n")
-          (ap (λ t. t ++ print rest) printed.text
+          (ap (λ t. t ++ print rest) printed.printed
           ∙ ap (λ p. print (front_tokens printed.objects) ++ p) (sym (no_comma (after_value false printed.objects) (length saved.deleted) unaccounted))
           ∙ sym (print_from-append false (front_tokens printed.objects) rest)),
     )

@@ -1,9 +1,11 @@
 //! What can be trusted in a damaged image, as files and directories of the host.
-ghost use Rattle.std.specs.Prelude.{◌≡◌, ◌++◌, IfErr, IfOk, OnErr, OnOk, false, length};
+ghost use Rattle.std.specs.Prelude.{◌≡◌, ◌++◌, IfErr, IfOk, OnErr, OnOk, codes, false, length, true, ◌||◌};
 ghost use Rattle.std.specs.String.{string_bytes};
+ghost use Rattle.json.specs.Print.{print};
 ghost use Rattle.adf_script.specs.Streams.{Writes};
 ghost use Rattle.adf_io.specs.Prefix.{WritesFrontOf};
 ghost use Rattle.adf_export.specs.Rescue.{AreLines, AreRescued, AreSomeRescued, IsRescue, IsRescueFault, IsRescueLine, IsTold, deleted_count_line, doubt_of, rescue_line, unaccounted_count_line};
+ghost use Rattle.adf_export.specs.RescueObject.{is_told, rest_tokens};
 ghost use Rattle.adf_export.specs.Where.{ranges};
 ghost use Rattle.adf_export.specs.steps.Reporting.{ArePrinted, IsNextObject};
 
@@ -50,10 +52,13 @@ where
         Ok(rescue) => rescue,
         Err(_) => return Err(OutFault::Memory),
     };
-    if !job.list {
-        rescue.write(rt, alloc, job.to)?;
+    if job.list {
+        return Ok(rescue);
     }
-    Ok(rescue)
+    match rescue.write(rt, alloc, job.to) {
+        Ok(()) => Ok(rescue),
+        Err(fault) => Err(fault),
+    }
 }
 
 /// What can be trusted in an image, the host files and directories for it, and the used blocks that belong to nothing of it.
@@ -164,10 +169,9 @@ impl Rescue {
         ensures front { OnErr result (WritesFrontOf (W.contents writer.old) (W.contents writer.new) (IsTold json self.now.salvage self.now.unaccounted.items)) }
     {
         if json {
-            self.tell_object(alloc, writer)
-        } else {
-            self.tell_lines(alloc, writer)
+            return self.tell_object(alloc, writer);
         }
+        self.tell_lines(alloc, writer)
     }
 
     /// Writes the report as lines.
@@ -186,9 +190,16 @@ impl Rescue {
         ensures front { OnErr result (WritesFrontOf (W.contents writer.old) (W.contents writer.new) (IsTold true self.now.salvage self.now.unaccounted.items)) }
     {
         self.tell_objects(alloc, writer)?;
-        let deleted = self.salvage.deleted().len() as u64;
-        let last = rest_text(alloc, deleted, &self.unaccounted)?;
+        let last = self.rest_line(alloc)?;
         write_text(&last, writer)
+    }
+
+    /// What is behind the objects of the entries, and a line feed.
+    fn rest_line(&self, alloc: Global) -> Result<Vec<u8>, AllocError>
+        ensures { IfOk result (λ text. text.items ≡ print (rest_tokens (length self.now.salvage.deleted) self.now.unaccounted.items) ++ codes "\n") }
+    {
+        let deleted = self.salvage.deleted().len() as u64;
+        rest_text(alloc, deleted, &self.unaccounted)
     }
 
     /// Writes the begin of the object and the objects of the entries.
@@ -202,7 +213,7 @@ impl Rescue {
         for (place, entry) in entries.iter().enumerate() {
             let object = self.object_at(alloc, place, entry, after)?;
             write_text(&object, writer)?;
-            after = after || is_told(entry.state, entry.found);
+            after = is_after(after, entry);
         }
         Ok(())
     }
@@ -264,6 +275,13 @@ impl Rescue {
         let path = self.plan.path_of(alloc, place)?;
         line_of_path(alloc, found, state, path.as_str())
     }
+}
+
+/// Whether an object is written, after this entry too.
+fn is_after(after: bool, entry: &Salvaged) -> bool
+    ensures { result ≡ (after || is_told entry.now.state entry.now.found) }
+{
+    after || is_told(entry.state, entry.found)
 }
 
 /// Numbers of blocks as positions.

@@ -1,6 +1,7 @@
 //! The parts of the JSON object that reports on a damaged image.
 ghost use Rattle.std.specs.Prelude.{◌≡◌, ◌++◌, ◌∷◌, [], IfOk, OnErr, OnOk, codes, decimal, flat_map, if◌then◌else◌};
 ghost use Rattle.std.specs.Io.KnownBytes.{Appends};
+ghost use Rattle.std.specs.String.{string_bytes};
 ghost use Rattle.json.specs.Print.{print, print_from};
 ghost use Rattle.json.specs.Token.{number};
 ghost use Rattle.adf_io.specs.Prefix.{WritesFront};
@@ -33,10 +34,19 @@ pub(crate) fn entry_object(
 ) -> Result<Vec<u8>, AllocError>
     ensures { IfOk result (λ text. text.items ≡ print_from after (entry_tokens found state (path.now ++ path_end state))) }
 {
-    let path = format!(in alloc; "{path}{}", path_end(state))?;
+    let path = slashed(alloc, state, path)?;
     let mut writer = Writer::new(comma(alloc, after)?);
     put_entry(&mut writer, found, state, path.as_str())?;
     Ok(writer.into_inner())
+}
+
+/// The path of an entry, with a slash behind that of a directory.
+fn slashed(alloc: Global, state: State, path: &str) -> Result<String, AllocError>
+    ensures { IfOk result (λ slashed. string_bytes slashed ≡ path.now ++ path_end state) }
+{
+    let end = path_end(state);
+    let slashed = format!(in alloc; "{path}{end}")?;
+    Ok(slashed)
 }
 
 /// A comma after an object.

@@ -13,7 +13,7 @@ front_tokens objects = begin_object ∷ key (codes "entries") ∷ begin_array �
 pub record ArePrinted (entries : List Salvaged) (text : List ℕ) : Type 0 where
   pub objects : List Token
   pub are : AreObjects entries objects
-  pub text : text ≡ print (front_tokens objects)
+  pub printed : text ≡ print (front_tokens objects)
 
 -- the object of an entry at some host path, if it is told, behind a comma after another object
 abbrev pub IsNextObject : Bool → Bool → State → List ℕ → Type 0

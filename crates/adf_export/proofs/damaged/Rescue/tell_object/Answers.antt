@@ -24,16 +24,16 @@ pub returns-clause-ok : goal.returns-clause-ok
 returns-clause-ok g c =
     let saved = c.args.self.now.salvage in
     let blocks = c.args.self.now.unaccounted.items in
-    let is : c.deref-2.result.now ≡ rest_line (length saved.deleted) blocks = ? in
+    let is : c.deref.result.now ≡ rest_line (length saved.deleted) blocks = c.deref.ensures.value ∙ c.in_ok-last.ensures in
     on_ok_weaker c.write_text.result
-    (all_told (ArePrinted saved.entries) (IsReportObject saved.entries (length saved.deleted) blocks) (rest_line (length saved.deleted) blocks) (object_whole saved blocks) _ _ _ c.in_ok-tell_objects.ensures.ok c.deref-2.result.now is)
+    (all_told (ArePrinted saved.entries) (IsReportObject saved.entries (length saved.deleted) blocks) (rest_line (length saved.deleted) blocks) (object_whole saved blocks) _ _ _ c.in_ok-tell_objects.ensures.ok c.deref.result.now is)
     c.write_text.ensures.ok
 
 pub returns-clause-front : goal.returns-clause-front
 returns-clause-front g c =
     let saved = c.args.self.now.salvage in
     let blocks = c.args.self.now.unaccounted.items in
-    let is : c.deref-2.result.now ≡ rest_line (length saved.deleted) blocks = ? in
+    let is : c.deref.result.now ≡ rest_line (length saved.deleted) blocks = c.deref.ensures.value ∙ c.in_ok-last.ensures in
     on_err_weaker c.write_text.result
-    (front_of_rest (ArePrinted saved.entries) (IsReportObject saved.entries (length saved.deleted) blocks) (rest_line (length saved.deleted) blocks) (object_whole saved blocks) _ _ _ c.in_ok-tell_objects.ensures.ok c.deref-2.result.now is)
+    (front_of_rest (ArePrinted saved.entries) (IsReportObject saved.entries (length saved.deleted) blocks) (rest_line (length saved.deleted) blocks) (object_whole saved blocks) _ _ _ c.in_ok-tell_objects.ensures.ok c.deref.result.now is)
     c.write_text.ensures.front

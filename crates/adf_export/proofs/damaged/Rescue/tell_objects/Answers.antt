@@ -1,6 +1,7 @@
 use Rattle.std.proofs.Common.{◌≡◌, Bool, ◌||◌, [], refl, ap, sym, subst, take, ◌∙◌, arith}
-use Rattle.std.proofs.lemmas.List.{list_any_more}
+use Rattle.std.proofs.lemmas.List.Folds.{list_any_more}
 use Rattle.json.specs.Print.{print}
+use Rattle.adf_salvage.specs.declared.salvaged.Salvaged.{Salvaged}
 use Rattle.adf_export.specs.RescueObject.{is_told}
 use Rattle.adf_export.specs.steps.Reporting.{ArePrinted, IsNextObject, front_tokens}
 use Rattle.adf_export.proofs.Outcomes.{at_any_err}
@@ -42,7 +43,11 @@ loop-place-preserved g c =
           told_more ArePrinted objects_on entries c.loop-place.place _ _ c.loop-place.invariant.begun entry c.deref.result.now _ (omega (arith, c.loop-place-test.true)) (sym c.index-entries-place.is)
           (printed_more (take c.loop-place.place entries) entry c.loop-place.invariant.begun.text c.loop-place.invariant.begun.told c.loop-place.after c.deref.result.now c.loop-place.invariant.after next)
           c.in_ok-write_text.ensures.ok;
-      after = ?;
+      after =
+          c.is_after-after.ensures
+          ∙ ap (λ b. b || is_told entry.state entry.found) c.loop-place.invariant.after
+          ∙ sym (list_any_more (λ (e : Salvaged). is_told e.state e.found) entries c.loop-place.place entry (omega (arith, c.loop-place-test.true))
+          ∙ ap (λ (e : Salvaged). are_told (take c.loop-place.place entries) || is_told e.state e.found) (sym c.index-entries-place.is));
     }
 
 pub returns-clause-ok : goal.returns-clause-ok
