@@ -15,6 +15,7 @@ import json
 import os
 import random
 import sys
+from itertools import islice
 from typing import Dict, Iterator, List, NamedTuple, Optional, Set, Tuple
 
 sys.dont_write_bytecode = True
@@ -247,11 +248,11 @@ def fault_of_places(room: Room, name: str, chance: random.Random) -> Optional[st
     chance.shuffle(asked)
     words = [str(it) if chance.random() < 0.5 else "c{}.h{}.s{}".format(*places[it]) for it in asked]
     refused = room.run("check", name).output
-    fault = fault_of(room.run("where", name, *words), 3, refused + placed_lines(model, places, asked))
+    fault = fault_of(room.run("where", name, *words), 3, refused + placed_lines(model, places, asked), " blocks\n")
     ran = room.run("where", "--json", name, *words)
     first, _, rest = ran.output.partition(b"\n")
     fault = fault or (None if (ran.status, first + b"\n") == (3, refused) else f"status {ran.status}, {first!r}")
-    fault = fault or fault_of_array(ran._replace(status=0, output=rest), placed_objects(model, places, asked))
+    fault = fault or fault_of_array(ran._replace(status=0, output=rest, texts=b""), placed_objects(model, places, asked))
     return fault or (None if room.content(name) == data else "the image changed")
 
 
@@ -260,8 +261,8 @@ def places_in_volumes(room: Room) -> None:
     for seed in range(ROUNDS):
         base = base_of(room, "places", seed)
         datas = (damaged(base, "places", at) for at in range(20 * seed, 20 * seed + 20))
-        refused = [it for it in datas if len(it) % BLOCK == 0 and len(it) >= 16 * BLOCK and Owners(it).all_faults()][:3]
-        for number, data in enumerate(refused):
+        refused = (it for it in datas if len(it) % BLOCK == 0 and len(it) >= 16 * BLOCK and Owners(it).all_faults())
+        for number, data in enumerate(islice(refused, 2)):
             room.write("damaged.adf", data)
             room.report.ends(f"places in damaged volume {seed} {number}", lambda: fault_of_places(room, "damaged.adf", random.Random(seed)))
 
