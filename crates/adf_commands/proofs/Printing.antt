@@ -1,12 +1,13 @@
 -- The output for an image, whole or in part.
-use Rattle.std.proofs.Common.{◌≡◌, ◌≢◌, ℕ, Bor, ◌⊎◌, inl, inr, Bool, true, false, List, [], ◌++◌, map, Option, Some, None, option_map, Ok, Err, IfErr, OnErr, OnOk, IsErrAnd, refl, sym, ap, ◌∙◌, subst}
+use Rattle.std.proofs.Common.{◌≡◌, ◌≢◌, ℕ, Bor, ◌⊎◌, inl, inr, Bool, true, false, List, [], ◌++◌, map, Option, Some, None, option_map, Ok, Err, IfErr, OnErr, OnOk, IsErrAnd, refl, sym, ap, ap₂, ◌∙◌, subst}
 use Rattle.std.specs.Prelude.{⊤}
 use Rattle.std.specs.Io.KnownBytes.{Appends, Keeps}
 use Rattle.std.proofs.KnownBytes.{Appends-nil, Keeps-refl}
-use Rattle.ados_model.specs.Accepted.{Accepts, IsRefusal}
+use Rattle.ados_model.specs.Accepted.{Accepts, HandsBack, IsRefusal}
 use Rattle.ados_model.specs.Faults.{Shows}
 use Rattle.ados_model.specs.Stands.{Stands}
 use Rattle.ados_model.specs.Tree.{Tree, bytes_of}
+use Rattle.ados_model.specs.declared.fault.FaultKind.TheVariants.{NoMemory}
 use Rattle.ados_model.specs.declared.fault.VolumeFault.{VolumeFault}
 use Rattle.ados_run.specs.Refused.{IsRunFault}
 use Rattle.ados_run.specs.declared.run.RunFault.{RunFault}
@@ -31,6 +32,7 @@ use Rattle.adf_commands.specs.Commands.{Does, DoesJob, Ending, EndsOff, LeavesOf
 use Rattle.adf_commands.specs.Commands.Prints.{OnlyFaults, OfBlocks, OfBytes, OfImages, OfRescue, Unsaid}
 use Rattle.std.proofs.lemmas.List.{append-nil}
 use Rattle.adf_archive.specs.Archive.{told_in}
+use Rattle.adf_archive.specs.Words.{kind_word}
 use Rattle.adf_words.specs.declared.query.CheckJob.{CheckJob}
 use Rattle.adf_words.specs.declared.query.ListForm.{ListForm}
 use Rattle.adf_words.specs.declared.query.ListJob.{ListJob}
@@ -43,10 +45,10 @@ use Rattle.adf_export.specs.Undelete.{IsUndeletion, key_of}
 use Rattle.adf_export.specs.Where.{IsWhere, IsWhereOf}
 use Rattle.adf_export.specs.Words.{LeadsTo}
 use Rattle.adf_commands.specs.Archives.{EndsArchive}
-use Rattle.adf_commands.specs.Placed.{IsBareLine, IsWhereText}
+use Rattle.adf_commands.specs.Placed.{IsBareLine, IsUnplaced, IsWhereText}
 use Rattle.adf_commands.specs.Reports.{DoesReport, TellsReport}
 use Rattle.adf_commands.specs.Rescues.{DoesRescue, TellsRescue}
-use Rattle.adf_commands.specs.Refusals.{dos_line, IsDosText, IsRefusalText, IsSizeRefusal, refusal_line, told_line}
+use Rattle.adf_commands.specs.Refusals.{dos_line, IsDosText, IsImageRefusal, IsRefusalText, IsSizeRefusal, refusal_line, refused_line, told_line}
 
 -- an image is refused, as the fault says
 pub refused_for : (image : List ℕ) (fault : VolumeFault) (told : CommandFault) → IsRefusal image fault → IsToldAs fault told → IsRefusedFor image told
@@ -300,10 +302,34 @@ module _ (IsText : Bool → List ℕ → Type 0) (IsPlain : List ℕ → Type 0)
   pub report_front : (whole : Bool) (old new : Option (List ℕ)) (text : List ℕ) (fault : CommandFault) → IsText whole text → WritesFront old new text → fault ≡ Output → DoesReport IsText IsPlain old new (Err fault)
   report_front whole old new text fault is front output = subst (λ (f : CommandFault). DoesReport IsText IsPlain old new (Err f)) (sym output) (inr (text, (whole, is), front))
 
+  pub front_reported : (whole : Bool) (old new : Option (List ℕ)) (text : List ℕ) (fault : CommandFault) (done : Ending) → IsText whole text → WritesFront old new text → fault ≡ Output
+      → IsErrAnd done (λ told. told ≡ fault) → DoesReport IsText IsPlain old new done
+  front_reported whole old new text fault (Ok x) is front output same = absurd same
+  front_reported whole old new text fault (Err told) is front output same = report_front whole old new text told is front (same ∙ output)
+
   pub reported : (old new : Option (List ℕ)) (text : List ℕ) (done : Ending) → IsText true text → OnOk done (Appends old new text) → OnErr done (WritesFront old new text)
       → IfErr done (λ fault. fault ≡ Output) → DoesReport IsText IsPlain old new done
   reported old new text (Ok x) is told front output = (text, told, is)
   reported old new text (Err fault) is told front output = report_front true old new text fault is front output
+
+-- the report on a refused image, or why there is none
+module _ (job : WhereJob) (image : List ℕ) where
+  -- the fault that a refusal of an image that is handed back names
+  pub refusal_shown : (old : List ℕ) (fault : VolumeFault) (refusal : Refusal) → HandsBack old image fault → refusal.kind.now ≡ kind_word fault.kind → refusal.block ≡ fault.block
+      → fault.kind ≢ NoMemory → IsImageRefusal image (refusal_line refusal)
+  refusal_shown old fault refusal handed kind block memory =
+      refused_for image fault (Refused refusal) (subst (λ (i : List ℕ). IsRefusal i fault) (sym handed.0) handed.1) (memory, ap₂ refused_line kind block)
+
+  unplaced : (w : Option (List ℕ)) (fault : CommandFault) → IsUnplaced job image fault → DoesReport (IsWhereText job) (IsBareLine job) w w (Err fault)
+  unplaced w (Refused refusal) is = (Keeps-refl w, (image, inr is))
+  unplaced w (Dos refusal) is = Keeps-refl w
+  unplaced w NotWhole is = absurd (cc is)
+  unplaced w fault is = inl (Keeps-refl w)
+
+  pub reports_unplaced : (w : Option (List ℕ)) (fault : CommandFault) (done : Ending) → IsUnplaced job image fault → IsErrAnd done (λ told. told ≡ fault)
+      → DoesReport (IsWhereText job) (IsBareLine job) w w done
+  reports_unplaced w fault (Ok x) is same = absurd same
+  reports_unplaced w fault (Err told) is same = unplaced w told (subst (IsUnplaced job image) (sym same) is)
 
 -- for jobs with such texts for bytes
 module _ (IsText BeginsText : List ℕ → List ℕ → Type 0) where

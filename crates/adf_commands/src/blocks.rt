@@ -1,8 +1,9 @@
 //! The command `where`.
-ghost use Rattle.std.specs.Prelude.{ℕ, List, IfErr, IfOk};
+ghost use Rattle.std.specs.Prelude.{◌≢◌, ℕ, List, IfErr, IfOk};
 ghost use Rattle.ados_model.specs.Accepted.{Accepts};
 ghost use Rattle.adf_commands.specs.Commands.{TellsOf};
-ghost use Rattle.adf_commands.specs.Faults.{IsNoImageRefusal};
+ghost use Rattle.adf_commands.specs.Faults.{IsNoRefusal};
+ghost use Rattle.adf_commands.specs.declared.fault.CommandFault.TheVariants.{NotWhole};
 ghost use Rattle.adf_commands.specs.Placed.{DoesWhere, IsPlacedIn, IsUnplaced};
 ghost use Rattle.adf_commands.specs.Refusals.{IsImageRefusal, refusal_line};
 ghost use Rattle.adf_commands.specs.Texts.{AreEntryBlocks};
@@ -100,7 +101,8 @@ fn placed_text<'a, F: Write>(
 
 /// The fault of an argument that names no block of a file's image, which has so many.
 fn no_block<'a>(alloc: Global, fault: WhereFault, file: &'a str, blocks: u32) -> CommandFault<'a>
-    ensures { IsNoImageRefusal result }
+    ensures plain { IsNoRefusal result }
+    ensures other { result ≢ NotWhole }
 {
     match fault {
         WhereFault::NoBlock(word) => match word.text(alloc) {

@@ -1,15 +1,14 @@
 use Rattle.std.proofs.Common.{ℕ, List, subst, sym}
-use Rattle.std.proofs.KnownBytes.{Keeps-refl}
 use Rattle.ados_model.specs.Stands.{Stands}
 use Rattle.ados_model.specs.Tree.{Tree}
 use Rattle.adf_words.specs.declared.block_word.BlockWord.{BlockWord}
 use Rattle.adf_export.specs.Where.{IsWhere}
 use Rattle.adf_commands.specs.Placed.{IsBareLine, IsWhereText}
-use Rattle.adf_commands.proofs.Printing.{blocks_told, reported}
+use Rattle.adf_commands.proofs.Printing.{blocks_told, reported, reports_nothing}
 use Rattle.adf_commands.proofs.blocks.tell_owners.Goals as goal
 
 pub returns-in-Err : goal.returns-in-Err
-returns-in-Err g c = ?
+returns-in-Err g c = λ image accepts. reports_nothing (IsWhereText c.args.job.now) (IsBareLine c.args.job.now) _ c.no_block.result c.no_block.ensures.plain c.no_block.ensures.other
 
 pub returns : goal.returns
 returns g c = λ image accepts.
