@@ -33,7 +33,8 @@ pub(crate) fn faulty_blocks(
 {
     let mut told = Vec::new(alloc);
     for block in blocks {
-        told.push(faulty_block(alloc, image, cells, found, *block)?)?;
+        let faulty = faulty_block(alloc, image, cells, found, *block)?;
+        told.push(faulty)?;
     }
     Ok(told)
 }

@@ -11,7 +11,7 @@ use crate::places::named_blocks;
 use crate::where_fault::WhereFault;
 use adf_block::Image;
 use adf_words::BlockWord;
-use ados_faults::all_faults;
+use ados_faults::faults_of_any_disk;
 use ados_mend::reached_cells;
 use std::alloc::{AllocError, Global};
 
@@ -34,7 +34,7 @@ pub fn faulty_where_text(
         Err(fault) => return Err(fault),
     };
     let cells = reached_cells(alloc, image)?;
-    let found = all_faults(alloc, image, usize::MAX)?;
+    let found = faults_of_any_disk(alloc, image, usize::MAX)?;
     let told = faulty_blocks(alloc, image, &cells, &found, &blocks)?;
     let text = faulty_text(alloc, count, found.more, &told, json)?;
     Ok(text)
