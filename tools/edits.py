@@ -89,6 +89,11 @@ def module_of(file: str) -> str:
     return file.removeprefix("src/").removesuffix(".rt").replace("/", "::")
 
 
+def last_name(path: str) -> str:
+    """Returns the name of a function in its path."""
+    return path.split("::")[-1]
+
+
 @dataclass
 class Round:
     """Edits of one crate that are made together, each with the functions that it changes; and the texts of the changed files. An edit
@@ -102,14 +107,19 @@ class Round:
         return all(self.edits.values())
 
     @property
+    def names(self) -> set[str]:
+        """The names of the changed functions, without their modules, by which the prover's lines are told apart."""
+        return {last_name(it) for found in self.edits.values() for it in found}
+
+    @property
     def modules(self) -> list[str]:
         """The modules of the changed functions."""
         return sorted({it.rpartition("::")[0] for found in self.edits.values() for it in found})
 
     def take(self, edit: Path) -> bool:
-        """Adds an edit that changes other functions than those before, and that fits beside these."""
+        """Adds an edit that changes functions with other names than those before, and that fits beside these."""
         texts, functions = dict(self.texts), functions_of(edit)
-        if self.edits and (not functions or not self.is_of_bodies or any(functions & it for it in self.edits.values())):
+        if self.edits and (not functions or not self.is_of_bodies or self.names & {*map(last_name, functions)}):
             return False
         for file, old, new in replacements(edit):
             text = texts.get(file) or (crate_of(edit) / file).read_text()
