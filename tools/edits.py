@@ -14,15 +14,15 @@ GATE, OTHERS = "wrong-bodies/gate", "wrong-bodies"
 ITEM = re.compile(r"\s*(?:pub(?:\([^)]*\))?\s+)?(?:const\s+|unsafe\s+|extern\s+\S+\s+)*(fn\s+(\w+)|(?:struct|enum|impl|trait|mod)\b)")
 
 
-def edits_of(name: str, folders: list[str]) -> list[Path]:
-    """Returns the files in these folders of a crate, pages aside."""
-    found = [it for folder in folders for it in (TOP / "crates" / name / folder).glob("*")]
+def edits_of(name: str, folders: list[str], top: Path = TOP) -> list[Path]:
+    """Returns the files in these folders of a crate of the repository, or of a copy of it, pages aside."""
+    found = [it for folder in folders for it in (top / "crates" / name / folder).glob("*")]
     return sorted(it for it in found if it.is_file() and it.suffix != ".md")
 
 
 def crate_of(edit: Path) -> Path:
     """Returns the folder of an edit's crate."""
-    return TOP / "crates" / edit.relative_to(TOP / "crates").parts[0]
+    return next(it.parent for it in edit.parents if it.name == OTHERS)
 
 
 def replacements(edit: Path) -> Iterator[tuple[str, str, str]]:
