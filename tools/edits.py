@@ -10,8 +10,9 @@ from cut_copy import TOP
 
 # Those that each run of the test tries, and all of them.
 GATE, OTHERS = "wrong-bodies/gate", "wrong-bodies"
-# The first line of a function, with its name, or of another item.
-ITEM = re.compile(r"\s*(?:pub(?:\([^)]*\))?\s+)?(?:const\s+|unsafe\s+|extern\s+\S+\s+)*(fn\s+(\w+)|(?:struct|enum|impl|trait|mod)\b)")
+# The first line of a function, with its name; of an `impl` block, with the name of its type; or of another item.
+IMPL = r"impl\b(?:<[^{]*?>(?=\s))?(?:.*\sfor)?\s+(?:&?(?:'\w+\s+)?(?:mut\s+)?)?(?:\w+::)*(\w+)"
+ITEM = re.compile(rf"\s*(?:pub(?:\([^)]*\))?\s+)?(?:const\s+|unsafe\s+|extern\s+\S+\s+)*(?:fn\s+(\w+)|{IMPL}|(?:struct|enum|impl|trait|mod)\b)")
 
 
 def edits_of(name: str, folders: list[str], top: Path = TOP) -> list[Path]:
@@ -55,16 +56,20 @@ def misfit(edit: Path) -> str:
 
 
 def function_at(text: str, place: int) -> str:
-    """Returns the name of the function around a place of a file, or nothing if that place is in none."""
+    """Returns the path in its file, as `name` or `Type::name`, of the function around a place, or nothing if that place is in none."""
     above = [*text[:place].split("\n")[:-1], text[text.rfind("\n", 0, place) + 1 :].split("\n")[0]]
-    least = len(above[-1]) - len(above[-1].lstrip())
+    least, path = len(above[-1]) - len(above[-1].lstrip()), ""
     for line in reversed(above):
         indent = len(line) - len(line.lstrip())
         item = ITEM.match(line) if line.strip() and indent <= least else None
+        if item and path:
+            return f"{item[2]}::{path}" if item[2] else path
+        if item and (not item[1] or not indent):
+            return item[1] or ""
         if item:
-            return item[2] or ""
-        least = min(least, indent) if line.strip() else least
-    return ""
+            path = item[1]
+        least = min(least, indent - bool(item)) if line.strip() else least
+    return path
 
 
 def label(edit: Path) -> str:
@@ -72,8 +77,7 @@ def label(edit: Path) -> str:
 
 
 def functions_of(edit: Path) -> set[str]:
-    """Returns the functions whose bodies an edit changes, each as the path of its module and its name; none if it changes
-    anything else."""
+    """Returns the functions whose bodies an edit changes, each by its path in the crate; none if it changes anything else."""
     found = set[str]()
     for file, old, new in replacements(edit):
         text = (crate_of(edit) / file).read_text()
@@ -112,9 +116,14 @@ class Round:
         return {last_name(it) for found in self.edits.values() for it in found}
 
     @property
-    def modules(self) -> list[str]:
-        """The modules of the changed functions."""
-        return sorted({it.rpartition("::")[0] for found in self.edits.values() for it in found})
+    def functions(self) -> list[str]:
+        """The changed functions."""
+        return sorted({it for found in self.edits.values() for it in found})
+
+    @property
+    def parents(self) -> list[str]:
+        """Their types, or the modules of those that are no methods."""
+        return sorted({it.rpartition("::")[0] for it in self.functions})
 
     def take(self, edit: Path) -> bool:
         """Adds an edit that changes functions with other names than those before, and that fits beside these."""
