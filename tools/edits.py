@@ -107,28 +107,24 @@ class Round:
     texts: dict[str, str] = field(default_factory=dict)
 
     @property
-    def is_of_bodies(self) -> bool:
-        return all(self.edits.values())
-
-    @property
     def names(self) -> set[str]:
         """The names of the changed functions, without their modules, by which the prover's lines are told apart."""
         return {last_name(it) for found in self.edits.values() for it in found}
 
     @property
-    def functions(self) -> list[str]:
-        """The changed functions."""
-        return sorted({it for found in self.edits.values() for it in found})
-
-    @property
-    def parents(self) -> list[str]:
-        """Their types, or the modules of those that are no methods."""
-        return sorted({it.rpartition("::")[0] for it in self.functions})
+    def asked(self) -> list[list[str]]:
+        """What the prover is asked for: the changed functions, or if a name fits several, their types and modules; and for an edit that
+        changes more than bodies the modules of its files."""
+        functions = sorted({it for found in self.edits.values() for it in found})
+        if functions:
+            return [functions, sorted({it.rpartition("::")[0] for it in functions})]
+        modules = sorted(module_of(it) for it in self.texts if it.startswith("src/"))
+        return [modules] if modules else []
 
     def take(self, edit: Path) -> bool:
         """Adds an edit that changes functions with other names than those before, and that fits beside these."""
         texts, functions = dict(self.texts), functions_of(edit)
-        if self.edits and (not functions or not self.is_of_bodies or self.names & {*map(last_name, functions)}):
+        if self.edits and (not functions or not self.names or self.names & {*map(last_name, functions)}):
             return False
         for file, old, new in replacements(edit):
             text = texts.get(file) or (crate_of(edit) / file).read_text()
