@@ -20,8 +20,7 @@ from typing import Dict, Iterator, List, NamedTuple, Optional, Set, Tuple
 sys.dont_write_bytecode = True
 
 from all_faults_model import KINDS, Model, Role
-from harness import BLOCK, DATA, DIRECTORY, FILE, HEADER, LIST, ROOT, Image, host_name
-from where import ranges_of
+from harness import BLOCK, DATA, DIRECTORY, FILE, HEADER, LIST, ROOT, Image, host_name, ranges_of
 
 ALL_ONES = 2**32 - 1
 SLOTS = range(6, 78)
@@ -91,6 +90,14 @@ class Owner(NamedTuple):
     number: Optional[int] = None
 
 
+class Named(NamedTuple):
+    """A place: the block that has it, its long there, and what it makes of the block that it names."""
+
+    holder: int
+    at: int
+    role: str
+
+
 def with_kind(data: bytes) -> bytes:
     """The image with a known kind. A kind that is lost is that of OFS if a sound data block of OFS names a sound header of a file."""
     if data[:4] in (b"DOS\0", b"DOS\1"):
@@ -157,11 +164,14 @@ class Owners(Model):
         super().__init__(data)
         self.bitmap = Bitmap(Disk(data), Model(data))
         self.owners: Dict[int, Set[Owner]] = defaultdict(set)
+        self.names: Dict[int, Set[Named]] = defaultdict(set)
+        self.shown: Dict[int, List[str]] = defaultdict(list)
         for block in (0, 1):
             self.owners[block].add(Owner("boot"))
         self.owners[self.root].add(Owner("root", self.root))
         for block, role in self.reached:
             for at, next_role in self.places_of(block, role):
+                self.names[self.long(block, at)].add(self.named_as(block, at, next_role))
                 if self.inside(self.long(block, at)):
                     self.owners[self.long(block, at)].add(self.owner(block, at, next_role))
 
@@ -177,16 +187,31 @@ class Owners(Model):
         pointers = sum(len(self.data_of(it)) for it in before[: before.index(holder)])
         return Owner("data", role.holder, pointers + 77 - at)
 
+    def named_as(self, holder: int, at: int, role: Role) -> Named:
+        """The place, with what it makes of the block that it names."""
+        if role.what == "entry":
+            return Named(holder, at, "next" if at == 124 else "entry")
+        return Named(holder, at, "bitmap" if role.what == "page" else role.what)
+
+    def named_by(self, block: int) -> List[Named]:
+        """The places that name a block, by the blocks that have them and then by their longs."""
+        order = ["entry", "next", "extension", "data", "bitmap"]
+        return sorted(self.names.get(block, ()), key=lambda it: (it.holder, it.at, order.index(it.role)))
+
+    def faults_of(self, block: int) -> List[str]:
+        """The kinds of all faults that a block shows, of whatever kind the disk is."""
+        if not self.shown:
+            for shown, kind in self.shown_faults():
+                self.shown[shown].append(KINDS[kind])
+        return self.shown.get(block, [])
+
     def lines(self) -> List[str]:
         """For each block that has any its owners, and the kinds of its faults."""
-        faults: Dict[int, List[str]] = defaultdict(list)
-        for block, kind in self.all_faults():
-            faults[block].append(KINDS[kind])
         lines = []
         for block in range(self.blocks):
             owners = [" ".join(str(it) for it in owner if it is not None) for owner in self.owners.get(block, [])] or [self.unowned(block)]
-            if owners != ["free"] or faults[block]:
-                lines.append(f"{block}: {', '.join([*sorted(owners), *faults[block]])}")
+            if owners != ["free"] or self.faults_of(block):
+                lines.append(f"{block}: {', '.join([*sorted(owners), *self.faults_of(block)])}")
         return lines
 
     def unowned(self, block: int) -> str:

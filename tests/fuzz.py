@@ -468,7 +468,7 @@ class Tried:
         self.agrees("info", "image.adf")
         self.agrees("boot", "--show", "image.adf")
         self.agrees("map", "image.adf")
-        self.agrees("where", "image.adf", "0", "15", "c0.h1.s3")
+        self.placed()
         self.agrees("where", "--path", "", "image.adf")
         if not self.is_accepted:
             self.agrees("print", "image.adf", "any")
@@ -476,6 +476,12 @@ class Tried:
             ran = self.run("print", "image.adf", path)
             # (a file that denies to be read is refused, and so is a path with an empty name)
             assert ran.output == whole[path] or ran.status == 3, f"print: {ran.output[:200]!r}"
+
+    def placed(self) -> None:
+        """`where` of blocks begins with the refusal of an image that is refused."""
+        ran = self.run("where", "image.adf", "0", "15", "c0.h1.s3")
+        front = b"" if self.is_accepted else self.refused
+        assert (ran.status, ran.output[: len(front)]) == (0 if self.is_accepted else 3, front), f"where: status {ran.status}, {ran.output[:200]!r}"
 
     def served(self) -> None:
         """`serve` refuses what `check` refuses, and otherwise leaves an image that is accepted."""

@@ -22,7 +22,7 @@ from contextlib import suppress
 from functools import partial
 from pathlib import Path
 from types import TracebackType
-from typing import IO, Callable, Dict, Iterator, List, Mapping, NamedTuple, NoReturn, Optional, Sequence, Tuple, Type, TypeVar, Union
+from typing import IO, Callable, Dict, Iterator, List, Mapping, NamedTuple, NoReturn, Optional, Sequence, Set, Tuple, Type, TypeVar, Union
 
 TOP = Path(__file__).resolve().parent.parent
 BLOCK = 512
@@ -431,6 +431,15 @@ def host_name(name: bytes) -> str:
     """The name of an entry as that of a file of the host."""
     shown = escaped(name, b"%\\")
     return "%2E" + shown[1:] if name in (b".", b"..") else shown
+
+
+def ranges_of(blocks: Set[int]) -> bytes:
+    """Numbers as ranges: each begins at a number whose predecessor is missing, and ends before the next missing one."""
+    lines = []
+    for first in sorted(it for it in blocks if it - 1 not in blocks):
+        last = next(it for it in range(first, first + len(blocks)) if it + 1 not in blocks)
+        lines.append(f"{first}\n" if first == last else f"{first} to {last}\n")
+    return "".join(lines).encode()
 
 
 def redirected(descriptor: int, standard: int) -> Callable[[], None]:

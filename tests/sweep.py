@@ -10,8 +10,8 @@ are those of tests/disk_model.py. Without `--all`, some of the damages are tried
 they are the same in each run.
 
 Then come images that tests/fuzz.py damages at random, 100 or N. tests/disk_model.py says what `extract --damaged` has to print and
-to write, and `map` and `where` of those that are accepted. `--page` compares with the pages alone, and so shows where the program
-does more or less. `--keep` keeps the images that show a fault.
+to write, what `map` and `where` print of those that are accepted, and `where` of those that are refused. `--page` compares with the
+pages alone, and so shows where the program does more or less. `--keep` keeps the images that show a fault.
 """
 from __future__ import annotations
 
@@ -33,7 +33,7 @@ from disk_model import NOW, PAGE, Account, Headers, Owners, Rules, rest_of, rest
 from drawn_volume import Drawer
 from fuzz import FEWEST, LARGEST, PER_BASE, Base, Damaged, a_chain, a_name, a_parent, a_pointer, a_size, base_of, damaged, told_of
 from harness import BLOCK, Image, Ran, Report, Room, host_name, in_memory, processors, program_of
-from where import Owned, Reading, page_of, places_of, words_of
+from where import Owned, Reading, page_of, placed_lines, places_of, words_of
 
 T = TypeVar("T")
 FLOPPY = 1760
@@ -415,6 +415,8 @@ class Compared:
         # (another file is no image, and nothing is told of it)
         if len(self.data) % BLOCK == 0 and FEWEST <= len(self.data) // BLOCK <= LARGEST:
             self.account(Account(self.data, self.rules))
+            if faults.accepted is None:
+                self.places(Owners(self.data))
         if faults.accepted is not None:
             self.owners()
 
@@ -454,6 +456,14 @@ class Compared:
         self.same(self.room.run("map", "image.adf"), page_of(letters))
         lines = [f"{it}  cyl {place[0]} head {place[1]} sector {place[2]}  {words_of(owned[it])}\n" for it, place in enumerate(places_of(model.blocks))]
         self.same(self.room.run("where", "image.adf", *map(str, range(model.blocks))), "".join(lines).encode())
+
+    def places(self, model: Owners) -> None:
+        """`where` of a refused image: the places that name the first blocks and those of which two places or a fault tell."""
+        asked = [it for it in range(model.blocks) if it < 8 or len(model.named_by(it)) > 1 or model.faults_of(it)][:200]
+        first, _, rest = self.room.run("where", "image.adf", *map(str, asked)).output.partition(b"\n")
+        assert first.startswith(b"refused "), first
+        wanted = placed_lines(model, places_of(model.blocks), asked)
+        assert rest == wanted, differing(rest.splitlines(), wanted.splitlines())
 
     def same(self, ran: Ran, wanted: bytes) -> None:
         assert ran.status == 0, ran

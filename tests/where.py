@@ -1,12 +1,13 @@
 #!/usr/bin/env python3
 """Tests the commands `map` and `where` of the built program: the owner of each block, as text and as JSON, the blocks of each
-file and directory, and what they refuse.
+file and directory, what they refuse, and the places that name the blocks of a refused image.
 
     tests/where.py [PROGRAM]
 
 The images are drawn in Python. For `map`, the drawing program notes the owner of each block as it draws. For `where`, a reader
 goes through the blocks of the drawn image: it counts the cylinders, heads and sectors off one by one, adds the bytes of a file
-up block by block, and finds the path of an entry from its parents. The environment variable ROUNDS is the number of images.
+up block by block, and finds the path of an entry from its parents. tests/disk_model.py has the places that name a block of a
+damaged image. The environment variable ROUNDS is the number of images.
 """
 from __future__ import annotations
 
@@ -14,12 +15,15 @@ import json
 import os
 import random
 import sys
+from itertools import islice
 from typing import Dict, Iterator, List, NamedTuple, Optional, Set, Tuple
 
 sys.dont_write_bytecode = True
 
+from disk_model import Named, Owners
 from drawn_volume import Drawer, drawn
-from harness import BLOCK, DIRECTORY, FILE, MOMENT, PAGE_BITS, Image, Ran, Room, fault_of, try_all
+from fuzz import base_of, damaged
+from harness import BLOCK, DIRECTORY, FILE, MOMENT, PAGE_BITS, Image, Ran, Room, fault_of, ranges_of, try_all
 
 ROUNDS = int(os.environ.get("ROUNDS", "60"))
 MEANINGS = [
@@ -197,6 +201,91 @@ def objects_of(image: Reading, places: List[Place], asked: List[int]) -> object:
     return [{**dict(zip(("block", "cylinder", "head", "sector"), (it, *places[it]))), **image.owned(it)._asdict()} for it in asked]
 
 
+# ---- what names a block of a refused image
+
+
+def words_of_place(named: Named) -> str:
+    """What a place makes of the block that it names, in the words of the text."""
+    of_block = f"of block {named.holder}"
+    return {
+        "entry": f"entry {of_block}, long {named.at}",
+        "next": f"next entry {of_block}",
+        "extension": f"extension {of_block}",
+        "data": f"data {77 - named.at} {of_block}",
+        "bitmap": f"bitmap block {named.at - 79} {of_block}",
+    }[named.role]
+
+
+def placed_lines(model: Owners, places: List[Place], asked: List[int]) -> bytes:
+    """The text for these blocks of a refused image, after the line of the refusal."""
+    lines = []
+    for it in asked:
+        cylinder, head, sector = places[it]
+        words = [words_of_place(named) for named in model.named_by(it)]
+        fixed = ["boot block"] * (it < 2) + ["root"] * (it == model.root)
+        for said in fixed + words or ["named by nothing"]:
+            lines.append(f"{it}  cyl {cylinder} head {head} sector {sector}  {said}\n")
+        lines += [f"{it}  fault {kind}\n" for kind in model.faults_of(it)]
+    return "".join(lines).encode()
+
+
+def placed_objects(model: Owners, places: List[Place], asked: List[int]) -> object:
+    """The objects for these blocks."""
+    named = {it: [{"block": one.holder, "long": one.at, "role": one.role} for one in model.named_by(it)] for it in asked}
+    return [
+        {**dict(zip(("block", "cylinder", "head", "sector"), (it, *places[it]))), "places": named[it], "faults": model.faults_of(it), "more": False}
+        for it in asked
+    ]
+
+
+def fault_of_places(room: Room, name: str, chance: random.Random) -> Optional[str]:
+    """What is wrong with the places that name the blocks of a refused image."""
+    data = room.content(name)
+    model = Owners(data)
+    places = places_of(model.blocks)
+    asked = [it for it in range(model.blocks) if model.named_by(it) and chance.random() < 0.1 or model.faults_of(it) or len(model.named_by(it)) > 1][:300]
+    asked += [0, 1, model.root, model.blocks - 1, *(chance.randrange(model.blocks) for _ in range(10))]
+    chance.shuffle(asked)
+    words = [str(it) if chance.random() < 0.5 else "c{}.h{}.s{}".format(*places[it]) for it in asked]
+    refused = room.run("check", name).output
+    fault = fault_of(room.run("where", name, *words), 3, refused + placed_lines(model, places, asked), " blocks\n")
+    ran = room.run("where", "--json", name, *words)
+    first, _, rest = ran.output.partition(b"\n")
+    fault = fault or (None if (ran.status, first + b"\n") == (3, refused) else f"status {ran.status}, {first!r}")
+    fault = fault or fault_of_array(ran._replace(status=0, output=rest, texts=b""), placed_objects(model, places, asked))
+    return fault or (None if room.content(name) == data else "the image changed")
+
+
+def places_in_volumes(room: Room) -> None:
+    """Images that are damaged at random."""
+    for seed in range(ROUNDS):
+        base = base_of(room, "places", seed)
+        datas = (damaged(base, "places", at) for at in range(20 * seed, 20 * seed + 20))
+        refused = (it for it in datas if len(it) % BLOCK == 0 and len(it) >= 16 * BLOCK and Owners(it).all_faults())
+        for number, data in enumerate(islice(refused, 2)):
+            room.write("damaged.adf", data)
+            room.report.ends(f"places in damaged volume {seed} {number}", lambda: fault_of_places(room, "damaged.adf", random.Random(seed)))
+
+
+def known_places(room: Room) -> None:
+    """Lines that are known from the layout of the disk."""
+    room.done("blank", "--blocks", "16", *MOMENT, "Known", "placed.adf")
+    room.write("f", b"x")
+    room.done("add", *MOMENT, "placed.adf", "f")
+    data = bytearray(room.content("placed.adf"))
+    image = Image(bytes(data))
+    key = next(iter(image.keys(image.root)))
+    # (a pointer of the root to a bitmap block names the header too)
+    at = BLOCK * image.root + 4 * 79
+    data[at : at + 4] = key.to_bytes(4, "big")
+    room.write("placed.adf", bytes(data))
+    slot = next(it for it in range(6, 78) if image.long(image.root, it) == key)
+    front = f"{key}  cyl 0 head 0 sector {key}  " if key < 11 else f"{key}  cyl 0 head 1 sector {key - 11}  "
+    wanted = f"{front}entry of block {image.root}, long {slot}\n{front}bitmap block 0 of block {image.root}\n{key}  fault BlockUsedTwice\n"
+    ran = room.run("where", "placed.adf", str(key))
+    room.report.expect("a header that two places name", ran.status == 3 and ran.output.partition(b"\n")[2] == wanted.encode(), ran)
+
+
 def fault_of_array(ran: Ran, wanted: object) -> Optional[str]:
     """What is wrong with an array on a line of its own."""
     fault = fault_of(ran, 0, None)
@@ -204,15 +293,6 @@ def fault_of_array(ran: Ran, wanted: object) -> Optional[str]:
         return fault or f"no line: {ran.output[:300]!r}"
     found = json.loads(ran.output)
     return None if found == wanted else f"another array: {str(found)[:300]} where {str(wanted)[:300]} is expected"
-
-
-def ranges_of(blocks: Set[int]) -> bytes:
-    """Numbers as ranges: each begins at a number whose predecessor is missing, and ends before the next missing one."""
-    lines = []
-    for first in sorted(it for it in blocks if it - 1 not in blocks):
-        last = next(it for it in range(first, first + len(blocks)) if it + 1 not in blocks)
-        lines.append(f"{first}\n" if first == last else f"{first} to {last}\n")
-    return "".join(lines).encode()
 
 
 def fault_of_blocks(room: Room, name: str, chance: random.Random, most: int = 9_000) -> Optional[str]:
@@ -309,7 +389,9 @@ def other_images(room: Room) -> None:
     room.write("other.adf", b"PFS\1" + bytes(BLOCK * 1760 - 4))
     room.report.check("another kind of disk", room.run("map", "other.adf"), 3, b"refused NotADosDisk 0\n", "not an AmigaDOS disk")
     room.report.check("no such file", room.run("map", "none.adf"), 2, b"", "none.adf")
-    room.report.check("where in a refused image", room.run("where", "bad.adf", "8"), 3, b"refused BadSum 8\n", "its checksum is wrong")
+    bad = b"refused BadSum 8\n8  cyl 0 head 0 sector 8  root\n8  fault BadSum\n0  cyl 0 head 0 sector 0  boot block\n12  cyl 0 head 1 sector 1  named by nothing\n"
+    room.report.check("where in a refused image", room.run("where", "bad.adf", "8", "0", "12"), 3, bad, "its checksum is wrong")
+    room.report.check("no such block in a refused image", room.run("where", "bad.adf", "8", "16"), 3, b"refused BadSum 8\n", "'bad.adf' has no block 16: it has 16 blocks", "its checksum is wrong")
     room.report.check("a path in a refused image", room.run("where", "--path", "", "bad.adf"), 3, b"refused BadSum 8\n", "its checksum is wrong")
     room.report.check("where in no image", room.run("where", "short.adf", "8"), 3, b"refused NotWholeBlocks 0\n", "100 bytes")
     room.report.check("where in no file", room.run("where", "none.adf", "8"), 2, b"", "none.adf")
@@ -318,7 +400,7 @@ def other_images(room: Room) -> None:
 
 
 def main(words: List[str]) -> int:
-    return try_all(words, Room, drawn_volumes, owners_of_volumes, sizes, known_lines, wrong_blocks, other_images)
+    return try_all(words, Room, drawn_volumes, owners_of_volumes, places_in_volumes, sizes, known_lines, known_places, wrong_blocks, other_images)
 
 
 if __name__ == "__main__":

@@ -1,12 +1,13 @@
 -- The output for an image, whole or in part.
-use Rattle.std.proofs.Common.{◌≡◌, ℕ, Bor, ◌⊎◌, inl, inr, Bool, true, false, List, [], ◌++◌, map, Option, Some, None, option_map, Ok, Err, IfErr, OnErr, OnOk, IsErrAnd, refl, sym, ap, ◌∙◌, subst}
+use Rattle.std.proofs.Common.{◌≡◌, ◌≢◌, ℕ, Bor, ◌⊎◌, inl, inr, Bool, true, false, List, [], ◌++◌, map, Option, Some, None, option_map, Ok, Err, IfErr, OnErr, OnOk, IsErrAnd, refl, sym, ap, ap₂, ◌∙◌, subst}
 use Rattle.std.specs.Prelude.{⊤}
 use Rattle.std.specs.Io.KnownBytes.{Appends, Keeps}
 use Rattle.std.proofs.KnownBytes.{Appends-nil, Keeps-refl}
-use Rattle.ados_model.specs.Accepted.{Accepts, IsRefusal}
+use Rattle.ados_model.specs.Accepted.{Accepts, HandsBack, IsRefusal}
 use Rattle.ados_model.specs.Faults.{Shows}
 use Rattle.ados_model.specs.Stands.{Stands}
 use Rattle.ados_model.specs.Tree.{Tree, bytes_of}
+use Rattle.ados_model.specs.declared.fault.FaultKind.TheVariants.{NoMemory}
 use Rattle.ados_model.specs.declared.fault.VolumeFault.{VolumeFault}
 use Rattle.ados_run.specs.Refused.{IsRunFault}
 use Rattle.ados_run.specs.declared.run.RunFault.{RunFault}
@@ -28,13 +29,13 @@ use Rattle.adf_commands.specs.declared.refusal.DosRefusal.{DosRefusal}
 use Rattle.adf_commands.specs.Texts.{AreDeletedLines, AreEntryBlocks, AreOwnedBlocks, BeginsJobText, BeginsListOf, BeginsListText, IsJobText, IsListed, IsListOf, IsListText, shown_form, IsLook, IsLookText, IsPrintText}
 use Rattle.adf_commands.specs.Faults.{IsBlankFault, IsNoImage, IsNoImageRefusal, IsNoRefusal, IsRefusedFor, IsToldAs, IsToldOut, IsToldRun}
 use Rattle.adf_commands.specs.Commands.{Does, DoesJob, Ending, EndsOff, LeavesOff, Prints, prints, Tells, TellsFault, TellsJob, TellsOf, TellsSome}
-use Rattle.adf_commands.specs.Commands.Prints.{OnlyFaults, OfBytes, OfImages, OfRescue, Unsaid}
+use Rattle.adf_commands.specs.Commands.Prints.{OnlyFaults, OfBlocks, OfBytes, OfImages, OfRescue, Unsaid}
 use Rattle.std.proofs.lemmas.List.{append-nil}
 use Rattle.adf_archive.specs.Archive.{told_in}
+use Rattle.adf_archive.specs.Words.{kind_word}
 use Rattle.adf_words.specs.declared.query.CheckJob.{CheckJob}
 use Rattle.adf_words.specs.declared.query.ListForm.{ListForm}
 use Rattle.adf_words.specs.declared.query.ListJob.{ListJob}
-use Rattle.adf_words.specs.declared.query.SalvageJob.{SalvageJob}
 use Rattle.adf_words.specs.declared.query.ListOrder.{ListOrder}
 use Rattle.adf_words.specs.declared.query.WhereJob.{WhereJob}
 use Rattle.adf_words.specs.declared.query.UndeleteJob.{UndeleteJob}
@@ -43,8 +44,10 @@ use Rattle.adf_export.specs.Undelete.{IsUndeletion, key_of}
 use Rattle.adf_export.specs.Where.{IsWhere, IsWhereOf}
 use Rattle.adf_export.specs.Words.{LeadsTo}
 use Rattle.adf_commands.specs.Archives.{EndsArchive}
-use Rattle.adf_commands.specs.Rescues.{DoesRescue, TellsRescue}
-use Rattle.adf_commands.specs.Refusals.{dos_line, IsDosText, IsRefusalText, refusal_line, told_line}
+use Rattle.adf_commands.specs.Placed.{DoesWhere, IsBareLine, IsUnplaced, IsWhereText, MayEnd}
+use Rattle.adf_commands.specs.Reports.{DoesReport, TellsReport}
+use Rattle.adf_commands.specs.Rescues.{IsHostEnd, IsRescueText, IsSizeLine}
+use Rattle.adf_commands.specs.Refusals.{dos_line, IsDosText, IsImageRefusal, IsRefusalText, IsSizeRefusal, refusal_line, refused_line, told_line}
 
 -- an image is refused, as the fault says
 pub refused_for : (image : List ℕ) (fault : VolumeFault) (told : CommandFault) → IsRefusal image fault → IsToldAs fault told → IsRefusedFor image told
@@ -230,33 +233,87 @@ archive_unsaid job old new Output front = front
 archive_unsaid job old new Memory front = front
 archive_unsaid job old new fault none = absurd none
 
--- a rescue whose fault has no line, or whose line has no memory
-module _ (job : SalvageJob) where
-  rescue_failed : (old new : Option (List ℕ)) (fault : CommandFault) → DoesRescue job old new (Err fault) → IsNoRefusal fault → TellsRescue job old new (Err fault)
-  rescue_failed old new NotWhole told plain = told
-  rescue_failed old new (Refused refusal) d plain = absurd (cc plain)
-  rescue_failed old new (Dos refusal) d plain = absurd (cc plain)
-  rescue_failed old new fault (host, inl keeps) plain = (host, inl keeps)
-  rescue_failed old new fault (host, inr (text, is, front)) plain = (host, inr (text, inl is, front))
+-- a report on an image
+module _ (IsText : Bool → List ℕ → Type 0) (IsPlain : List ℕ → Type 0) (MayEnd : CommandFault → Type 0) where
+  -- the fault has no line, or no memory for it
+  report_failed : (old new : Option (List ℕ)) (fault : CommandFault) → DoesReport IsText IsPlain MayEnd old new (Err fault) → IsNoRefusal fault → TellsReport IsText IsPlain MayEnd old new (Err fault)
+  report_failed old new NotWhole told plain = told
+  report_failed old new (Refused refusal) d plain = absurd (cc plain)
+  report_failed old new (Dos refusal) d plain = absurd (cc plain)
+  report_failed old new fault (may, inl keeps) plain = (may, inl keeps)
+  report_failed old new fault (may, inr (text, is, front)) plain = (may, inr (text, inl is, front))
 
-  rescue_unsaid : (old new : Option (List ℕ)) (fault : CommandFault) → DoesRescue job old new (Err fault) → TellsRescue job old new (Err Memory)
-  rescue_unsaid old new NotWhole d = (tt, inr (d.0, inl (false, d.2), told_front old new d.0 d.1))
-  rescue_unsaid old new (Refused refusal) d = (tt, inl d.0)
-  rescue_unsaid old new (Dos refusal) keeps = (tt, inl keeps)
-  rescue_unsaid old new fault (host, inl keeps) = (tt, inl keeps)
-  rescue_unsaid old new fault (host, inr (text, is, front)) = (tt, inr (text, inl is, front))
+  report_unsaid : (old new : Option (List ℕ)) (fault : CommandFault) → MayEnd Memory → DoesReport IsText IsPlain MayEnd old new (Err fault) → TellsReport IsText IsPlain MayEnd old new (Err Memory)
+  report_unsaid old new NotWhole may d = (may, inr (d.0, inl (false, d.2), told_front old new d.0 d.1))
+  report_unsaid old new (Refused refusal) may d = (may, inl d.0)
+  report_unsaid old new (Dos refusal) may keeps = (may, inl keeps)
+  report_unsaid old new fault may (ends, inl keeps) = (may, inl keeps)
+  report_unsaid old new fault may (ends, inr (text, is, front)) = (may, inr (text, inl is, front))
+
+  -- nothing is written for a fault without a report
+  pub reports_nothing : (w : Option (List ℕ)) (fault : CommandFault) → IsNoRefusal fault → fault ≢ NotWhole → MayEnd fault → DoesReport IsText IsPlain MayEnd w w (Err fault)
+  reports_nothing w NotWhole plain other may = absurd (other refl)
+  reports_nothing w (Refused refusal) plain other may = absurd (cc plain)
+  reports_nothing w (Dos refusal) plain other may = Keeps-refl w
+  reports_nothing w fault plain other may = (may, inl (Keeps-refl w))
 
   -- nothing is written if no image was read
-  no_image_rescued : (w : Option (List ℕ)) (fault : CommandFault) → IsNoImage fault → DoesRescue job w w (Err fault)
-  no_image_rescued w NotWhole is = absurd is
-  no_image_rescued w (Extracted why) is = absurd is
-  no_image_rescued w (Refused refusal) is = (Keeps-refl w, is)
-  no_image_rescued w (Dos refusal) is = Keeps-refl w
-  no_image_rescued w fault is = (tt, inl (Keeps-refl w))
+  no_image_reported : (w : Option (List ℕ)) (fault : CommandFault) → ((bytes text : List ℕ) → IsSizeRefusal bytes text → IsPlain text) → (IsNoImage fault → MayEnd fault) → IsNoImage fault
+      → DoesReport IsText IsPlain MayEnd w w (Err fault)
+  no_image_reported w NotWhole plain may is = absurd is
+  no_image_reported w (Refused refusal) plain may is = (Keeps-refl w, plain is.0 (refusal_line refusal) is.1)
+  no_image_reported w (Dos refusal) plain may is = Keeps-refl w
+  no_image_reported w fault plain may is = (may is, inl (Keeps-refl w))
 
-  pub rescues_no_image : (w : Option (List ℕ)) (fault : CommandFault) (done : Ending) → IsNoImage fault → IsErrAnd done (λ told. told ≡ fault) → DoesRescue job w w done
-  rescues_no_image w fault (Ok x) is same = absurd same
-  rescues_no_image w fault (Err told) is same = no_image_rescued w told (subst IsNoImage (sym same) is)
+  pub reports_no_image : (w : Option (List ℕ)) (fault : CommandFault) (done : Ending) → ((bytes text : List ℕ) → IsSizeRefusal bytes text → IsPlain text)
+      → ((told : CommandFault) → IsNoImage told → MayEnd told) → IsNoImage fault → IsErrAnd done (λ told. told ≡ fault) → DoesReport IsText IsPlain MayEnd w w done
+  reports_no_image w fault (Ok x) plain may is same = absurd same
+  reports_no_image w fault (Err told) plain may is same = no_image_reported w told plain (may told) (subst IsNoImage (sym same) is)
+
+  -- a report is written, whole or as far as the writer accepts it
+  pub report_front : (whole : Bool) (old new : Option (List ℕ)) (text : List ℕ) (fault : CommandFault) → IsText whole text → WritesFront old new text → MayEnd Output → fault ≡ Output
+      → DoesReport IsText IsPlain MayEnd old new (Err fault)
+  report_front whole old new text fault is front may output = subst (λ (f : CommandFault). DoesReport IsText IsPlain MayEnd old new (Err f)) (sym output) (may, inr (text, (whole, is), front))
+
+  pub front_reported : (whole : Bool) (old new : Option (List ℕ)) (text : List ℕ) (fault : CommandFault) (done : Ending) → IsText whole text → WritesFront old new text → MayEnd Output → fault ≡ Output
+      → IsErrAnd done (λ told. told ≡ fault) → DoesReport IsText IsPlain MayEnd old new done
+  front_reported whole old new text fault (Ok x) is front may output same = absurd same
+  front_reported whole old new text fault (Err told) is front may output same = report_front whole old new text told is front may (same ∙ output)
+
+  pub reported : (old new : Option (List ℕ)) (text : List ℕ) (done : Ending) → IsText true text → OnOk done (Appends old new text) → OnErr done (WritesFront old new text)
+      → MayEnd Output → IfErr done (λ fault. fault ≡ Output) → DoesReport IsText IsPlain MayEnd old new done
+  reported old new text (Ok x) is told front may output = (text, told, is)
+  reported old new text (Err fault) is told front may output = report_front true old new text fault is front may output
+
+-- a rescue ends for the host only if it writes
+pub host_ends : (list : Bool) (fault : CommandFault) → IsNoImage fault → IsHostEnd fault list
+host_ends list (Extracted why) is = absurd is
+host_ends list fault is = tt
+
+-- two texts that are pushed one after the other
+pub pushed : (text front none first second line rest : List ℕ) → text ≡ front ++ second → front ≡ none ++ first → none ≡ [] → first ≡ line → second ≡ rest → text ≡ line ++ rest
+pushed text front none first second line rest is front_is none_is first_is second_is =
+    let join = λ (a b : List ℕ). a ++ b in
+    is ∙ ap₂ join (front_is ∙ ap₂ join none_is first_is) second_is
+
+-- the report on a refused image, or why there is none
+module _ (job : WhereJob) (image : List ℕ) where
+  -- the fault that a refusal of an image that is handed back names
+  pub refusal_shown : (old : List ℕ) (fault : VolumeFault) (refusal : Refusal) → HandsBack old image fault → refusal.kind.now ≡ kind_word fault.kind → refusal.block ≡ fault.block
+      → fault.kind ≢ NoMemory → IsImageRefusal image (refusal_line refusal)
+  refusal_shown old fault refusal handed kind block memory =
+      refused_for image fault (Refused refusal) (subst (λ (i : List ℕ). IsRefusal i fault) (sym handed.0) handed.1) (memory, ap₂ refused_line kind block)
+
+  unplaced : (w : Option (List ℕ)) (fault : CommandFault) → IsUnplaced job image fault → DoesWhere job w w (Err fault)
+  unplaced w (Refused refusal) is = (Keeps-refl w, (image, inr is))
+  unplaced w (Dos refusal) is = Keeps-refl w
+  unplaced w NotWhole is = absurd (cc is)
+  unplaced w fault is = (tt, inl (Keeps-refl w))
+
+  pub reports_unplaced : (w : Option (List ℕ)) (fault : CommandFault) (done : Ending) → IsUnplaced job image fault → IsErrAnd done (λ told. told ≡ fault)
+      → DoesWhere job w w done
+  reports_unplaced w fault (Ok x) is same = absurd same
+  reports_unplaced w fault (Err told) is same = unplaced w told (subst (IsUnplaced job image) (sym same) is)
 
 -- for jobs with such texts for bytes
 module _ (IsText BeginsText : List ℕ → List ℕ → Type 0) where
@@ -266,6 +323,7 @@ module _ (IsText BeginsText : List ℕ → List ℕ → Type 0) where
   done OfBytes old new x h = h
   done (OfImages job) old new x h = h
   done (OfRescue job) old new x h = h
+  done (OfBlocks job) old new x h = h
   done Unsaid old new x h = tt
 
   -- a job whose fault has no line
@@ -274,7 +332,8 @@ module _ (IsText BeginsText : List ℕ → List ℕ → Type 0) where
   failed OnlyFaults old new fault keeps plain = rw plain (inl keeps)
   failed Unsaid old new fault h plain = tt
   failed (OfImages job) old new fault h plain = h
-  failed (OfRescue job) old new fault h plain = rescue_failed job old new fault h plain
+  failed (OfRescue job) old new fault h plain = report_failed (IsRescueText job.json) IsSizeLine (λ (fault : CommandFault). IsHostEnd fault job.list) old new fault h plain
+  failed (OfBlocks job) old new fault h plain = report_failed (IsWhereText job) (IsBareLine job) MayEnd old new fault h plain
   failed OfBytes old new (Refused refusal) h plain = absurd (cc plain)
   failed OfBytes old new (Dos refusal) h plain = absurd (cc plain)
   failed OfBytes old new fault (bytes, inl keeps) plain = (bytes, inl keeps)
@@ -285,7 +344,8 @@ module _ (IsText BeginsText : List ℕ → List ℕ → Type 0) where
   unsaid OnlyFaults old new fault keeps = inl keeps
   unsaid Unsaid old new fault h = tt
   unsaid (OfImages job) old new fault h = archive_unsaid job old new fault h
-  unsaid (OfRescue job) old new fault h = rescue_unsaid job old new fault h
+  unsaid (OfRescue job) old new fault h = report_unsaid (IsRescueText job.json) IsSizeLine (λ (fault : CommandFault). IsHostEnd fault job.list) old new fault tt h
+  unsaid (OfBlocks job) old new fault h = report_unsaid (IsWhereText job) (IsBareLine job) MayEnd old new fault tt h
   unsaid OfBytes old new (Refused refusal) d = (d.0, inl d.1.1)
   unsaid OfBytes old new (Dos refusal) d = (d.0, inl d.1)
   unsaid OfBytes old new fault (bytes, inl keeps) = (bytes, inl keeps)
@@ -299,6 +359,7 @@ module _ (IsText BeginsText : List ℕ → List ℕ → Type 0) where
     told_refused Unsaid refusal d w = tt
     told_refused (OfImages job) refusal d w = absurd d
     told_refused (OfRescue job) refusal (keeps, is) w = (refusal_line refusal, kept_appends old mid new (refusal_line refusal) keeps w, is)
+    told_refused (OfBlocks job) refusal (keeps, is) w = (refusal_line refusal, kept_appends old mid new (refusal_line refusal) keeps w, is)
     told_refused OfBytes refusal (bytes, (is, keeps)) w = (bytes, (refusal_line refusal, kept_appends old mid new (refusal_line refusal) keeps w, is))
 
     -- a refusal by AmigaDOS is reported
@@ -308,6 +369,7 @@ module _ (IsText BeginsText : List ℕ → List ℕ → Type 0) where
     told_dos Unsaid refusal d w = tt
     told_dos (OfImages job) refusal d w = absurd d
     told_dos (OfRescue job) refusal keeps w = (dos_line refusal, kept_appends old mid new (dos_line refusal) keeps w, refl)
+    told_dos (OfBlocks job) refusal keeps w = (dos_line refusal, kept_appends old mid new (dos_line refusal) keeps w, refl)
     told_dos OfBytes refusal (bytes, keeps) w = (bytes, (dos_line refusal, kept_appends old mid new (dos_line refusal) keeps w, refl))
 
     -- a prefix of the output after no output
@@ -331,6 +393,7 @@ module _ (IsText BeginsText : List ℕ → List ℕ → Type 0) where
     broken_refused Unsaid refusal d front = tt
     broken_refused (OfImages job) refusal d front = absurd d
     broken_refused (OfRescue job) refusal (keeps, is) front = (tt, inr (refusal_line refusal, inr (Refused refusal, refl), kept_front (refusal_line refusal) keeps front))
+    broken_refused (OfBlocks job) refusal (keeps, is) front = (tt, inr (refusal_line refusal, inr (Refused refusal, refl), kept_front (refusal_line refusal) keeps front))
     broken_refused OfBytes refusal (bytes, (is, keeps)) front =
         (bytes, ends_front bytes Output refl (refusal_line refusal, inr (inl is), kept_front (refusal_line refusal) keeps front))
 
@@ -340,6 +403,7 @@ module _ (IsText BeginsText : List ℕ → List ℕ → Type 0) where
     broken_dos Unsaid refusal d front = tt
     broken_dos (OfImages job) refusal d front = absurd d
     broken_dos (OfRescue job) refusal keeps front = (tt, inr (dos_line refusal, inr (Dos refusal, refl), kept_front (dos_line refusal) keeps front))
+    broken_dos (OfBlocks job) refusal keeps front = (tt, inr (dos_line refusal, inr (Dos refusal, refl), kept_front (dos_line refusal) keeps front))
     broken_dos OfBytes refusal (bytes, keeps) front =
         (bytes, ends_front bytes Output refl (dos_line refusal, inr (inr (refusal, refl)), kept_front (dos_line refusal) keeps front))
 

@@ -4,12 +4,14 @@ use Rattle.std.specs.Io.KnownBytes.{Keeps}
 use Rattle.adf_script.specs.Streams.{Writes}
 use Rattle.adf_io.specs.Prefix.{WritesFrontOf}
 use Rattle.adf_words.specs.declared.job.ImageJob.{ImageJob}
-use Rattle.adf_words.specs.declared.job.ImageJob.TheVariants.{AddBundle, Check, Extract, ExtractBundle, Change, Boot, SaveBoot, Salvage, Serve}
+use Rattle.adf_words.specs.declared.job.ImageJob.TheVariants.{AddBundle, Check, Extract, ExtractBundle, Change, Boot, SaveBoot, Salvage, Serve, Where}
 use Rattle.adf_words.specs.declared.query.CheckJob.{CheckJob}
 use Rattle.adf_words.specs.declared.query.SalvageJob.{SalvageJob}
+use Rattle.adf_words.specs.declared.query.WhereJob.{WhereJob}
 use Rattle.adf_commands.specs.declared.fault.CommandFault.{CommandFault}
 use Rattle.adf_commands.specs.declared.fault.CommandFault.TheVariants.{Dos, Refused}
 use Rattle.adf_commands.specs.Archives.{EndsArchive}
+use Rattle.adf_commands.specs.Placed.{DoesWhere, TellsWhere}
 use Rattle.adf_commands.specs.Rescues.{DoesRescue, TellsRescue}
 use Rattle.adf_commands.specs.Texts.{BeginsJobText, IsJobText}
 use Rattle.adf_commands.specs.Faults.{status_of}
@@ -35,17 +37,19 @@ abbrev pub TellsSome : (IsText BeginsText : List ℕ → List ℕ → Type 0) �
 TellsSome IsText BeginsText old new result = (bytes : List ℕ) × TellsOf IsText BeginsText bytes old new result
 
 -- the kind of a job's output: only the line of its fault; a text for the bytes of its file; the reports on checked
--- images; the report on a rescue; or output without a promise
+-- images; the report on a rescue; what is told of blocks; or output without a promise
 pub data Prints : Type 0 where
   OnlyFaults : Prints
   OfBytes : Prints
   OfImages : CheckJob → Prints
   OfRescue : SalvageJob → Prints
+  OfBlocks : WhereJob → Prints
   Unsaid : Prints
 
 abbrev pub prints : ImageJob → Prints
 prints (Check job) = OfImages job
 prints (Salvage job) = OfRescue job
+prints (Where job) = OfBlocks job
 prints (Extract job) = OnlyFaults
 prints (ExtractBundle image to) = OnlyFaults
 prints (AddBundle target from) = OnlyFaults
@@ -61,6 +65,7 @@ Does OnlyFaults IsText BeginsText old new result = Keeps old new
 Does OfBytes IsText BeginsText old new result = TellsSome IsText BeginsText old new result
 Does (OfImages job) IsText BeginsText old new result = EndsArchive job old new result
 Does (OfRescue job) IsText BeginsText old new result = DoesRescue job old new result
+Does (OfBlocks job) IsText BeginsText old new result = DoesWhere job old new result
 Does Unsaid IsText BeginsText old new result = ⊤
 
 abbrev pub DoesJob : ImageJob → Option (List ℕ) → Option (List ℕ) → Ending → Type 0
@@ -94,6 +99,7 @@ Tells OnlyFaults IsText BeginsText old new result = TellsFault old new result
 Tells OfBytes IsText BeginsText old new result = EndsSome IsText BeginsText old new result
 Tells (OfImages job) IsText BeginsText old new result = EndsArchive job old new result
 Tells (OfRescue job) IsText BeginsText old new result = TellsRescue job old new result
+Tells (OfBlocks job) IsText BeginsText old new result = TellsWhere job old new result
 Tells Unsaid IsText BeginsText old new result = ⊤
 
 -- the result of a job

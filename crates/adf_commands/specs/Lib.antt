@@ -5,6 +5,8 @@ pub mod Refusals
 pub mod Explained
 pub mod Faults
 pub mod Archives
+pub mod Reports
 pub mod Rescues
+pub mod Placed
 pub mod Boot
 pub mod Commands

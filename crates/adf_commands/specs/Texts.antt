@@ -22,7 +22,7 @@ use Rattle.adf_export.specs.Listing.{BeginsList, IsList}
 use Rattle.adf_record.specs.declared.told.FactsForm.{FactsForm}
 use Rattle.adf_record.specs.Told.{IsVolumeText, is_json}
 use Rattle.adf_words.specs.declared.job.ImageJob.{ImageJob}
-use Rattle.adf_words.specs.declared.job.ImageJob.TheVariants.{Info, List as ListOf, Map, Print, Show, ShowBoot, Undelete, Validate, Where, WherePath}
+use Rattle.adf_words.specs.declared.job.ImageJob.TheVariants.{Info, List as ListOf, Map, Print, Show, ShowBoot, Undelete, Validate, WherePath}
 use Rattle.adf_words.specs.declared.query.ListForm.{ListForm}
 use Rattle.adf_words.specs.declared.query.ListForm.TheVariants.{Bold, Long}
 use Rattle.adf_words.specs.declared.query.ListJob.{ListJob}
@@ -119,7 +119,6 @@ IsQueryText queries.Disk = IsInfoText
 IsQueryText (queries.List job) = IsListOf job.now
 IsQueryText (queries.Bytes path) = IsPrintText path.now
 IsQueryText (queries.Look look) = IsLookText look
-IsQueryText (queries.Blocks job) = AreOwnedBlocks job.now
 IsQueryText (queries.Entry path) = AreEntryBlocks path.now
 IsQueryText (queries.Deleted job) = AreDeletedLines job.now
 
@@ -136,7 +135,6 @@ IsJobText (ShowBoot image) = IsLookText looks.Boot
 IsJobText (Validate target force) = IsCountText
 IsJobText (Show image json) = IsLookText (looks.Volume json)
 IsJobText (Map image json) = IsLookText (looks.Map json)
-IsJobText (Where job) = AreOwnedBlocks job
 IsJobText (WherePath image path) = AreEntryBlocks path.now
 IsJobText (Undelete job) = AreDeletedLines job
 IsJobText job = λ bytes text. text ≡ []

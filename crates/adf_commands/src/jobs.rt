@@ -3,6 +3,7 @@ ghost use Rattle.adf_commands.specs.Commands.{DoesJob, TellsJob};
 
 use crate::archive::check_images;
 use crate::blank::{NewVolume, make_blank};
+use crate::blocks::tell_where;
 use crate::boot::{change_boot, save_boot};
 use crate::bundle::{put_bundle, take_bundle};
 use crate::changing::change;
@@ -121,7 +122,7 @@ where
         ImageJob::Map { image, json } => {
             print_query(rt, alloc, *image, Query::Look(Look::Map { json: *json }), screen.styled, writer)
         }
-        ImageJob::Where(job) => print_query(rt, alloc, job.image, Query::Blocks(job), screen.styled, writer),
+        ImageJob::Where(job) => tell_where(rt, alloc, job, writer, faults),
         ImageJob::WherePath { image, path } => print_query(rt, alloc, *image, Query::Entry(*path), screen.styled, writer),
         ImageJob::ShowBoot { image } => print_query(rt, alloc, *image, Query::Look(Look::Boot), screen.styled, writer),
         ImageJob::List(job) => print_query(rt, alloc, job.image, Query::List(job), screen.styled, writer),

@@ -2,14 +2,14 @@
 ghost use Rattle.adf_commands.specs.Commands.{TellsSome};
 ghost use Rattle.adf_commands.specs.Texts.{BeginsQueryText, IsQueryText};
 
-use crate::blocks::{tell_blocks, tell_entry};
+use crate::blocks::tell_entry;
 use crate::deleted::tell_deleted;
 use crate::fault::CommandFault;
 use crate::images::read_image;
 use crate::info::tell_info;
 use crate::look::{Look, tell_look};
 use crate::moving::{tell_bytes, tell_list};
-use adf_words::{ListJob, UndeleteJob, WhereJob};
+use adf_words::{ListJob, UndeleteJob};
 use std::alloc::Global;
 use std::fs::File;
 use std::io::Write;
@@ -24,8 +24,6 @@ pub(crate) enum Query<'a, 'b> {
     List(&'b ListJob<'a>),
     /// The bytes of the file at a path.
     Bytes(&'a str),
-    /// Who owns blocks.
-    Blocks(&'b WhereJob<'a>),
     /// All blocks of the file or directory at a path.
     Entry(&'a str),
     /// The lines about deleted entries, which are written to the host.
@@ -50,7 +48,6 @@ pub(crate) fn print_query<'a, R: Files<File = File>, W: Write>(
         Query::Disk => tell_info(alloc, image, writer),
         Query::List(job) => tell_list(alloc, image, job, styled, writer),
         Query::Bytes(path) => tell_bytes(alloc, image, path, writer),
-        Query::Blocks(job) => tell_blocks(alloc, image, job, writer),
         Query::Entry(path) => tell_entry(alloc, image, path, writer),
         Query::Deleted(job) => tell_deleted(rt, alloc, image, job, writer),
         Query::Look(look) => tell_look(alloc, image, look, styled, writer),

@@ -1,4 +1,4 @@
--- Lemmas about the listing of a directory, the lines of its entries, entries that become files of the host, and owned blocks.
+-- Lemmas about the listing of a directory, the lines of its entries, entries that become files of the host, owned blocks, and the faults of a block.
 pub mod Levels
 pub mod Lists
 pub mod Sorting
@@ -18,6 +18,7 @@ pub mod Entries
 pub mod Going
 pub mod Leading
 pub mod Belonging
+pub mod FaultsThere
 mod Telling
 mod TellingObjects
 mod Asking

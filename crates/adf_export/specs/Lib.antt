@@ -10,5 +10,6 @@ pub mod Bytes
 pub mod Rescue
 pub mod RescueObject
 pub mod Where
+pub mod Faulty
 pub mod Undelete
 pub mod steps

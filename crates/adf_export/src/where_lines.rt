@@ -45,7 +45,7 @@ fn push_line(
 }
 
 /// The line of a block up to its owner.
-fn place_text(alloc: Global, blocks: u32, block: u32) -> Result<String, AllocError>
+pub(crate) fn place_text(alloc: Global, blocks: u32, block: u32) -> Result<String, AllocError>
     ensures { IfOk result (λ text. string_bytes text ≡ place_text blocks block) }
 {
     format!(in alloc;

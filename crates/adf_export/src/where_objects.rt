@@ -61,7 +61,7 @@ fn put_object(writer: &mut Writer, blocks: u32, owned: &OwnedBlock) -> Result<()
 }
 
 /// Writes the number of a block and its place on the disk.
-fn put_place(writer: &mut Writer, blocks: u32, block: u32) -> Result<(), AllocError>
+pub(crate) fn put_place(writer: &mut Writer, blocks: u32, block: u32) -> Result<(), AllocError>
     ensures before { writer.new.before ≡ writer.old.before }
     ensures tokens { OnOk result (writer.new.tokens ≡ writer.old.tokens ++ place_tokens blocks block) }
 {

@@ -1,4 +1,4 @@
--- The bitmap blocks of an image, what stays when only the bitmap changes, the image with a new bitmap; and the marks of the account.
+-- The bitmap blocks of an image, what stays when only the bitmap changes, the image with a new bitmap; the marks of the account; and the places that name a block.
 pub mod PageFaults
 pub mod PageRoles
 pub mod Carry
@@ -15,3 +15,4 @@ pub mod OwnBlocks
 pub mod AllKinds
 pub mod Remaining
 pub mod Reaching
+pub mod Placing

@@ -18,6 +18,7 @@ use Rattle.ados_model.specs.Faults.Reached.{named, start}
 use Rattle.ados_mend.specs.Account.{IsReached}
 use Rattle.ados_mend.specs.declared.reached.Step.{Step}
 use Rattle.ados_mend.specs.declared.reached.Walk.{Walk}
+use Rattle.ados_mend.specs.Places.{naming_of}
 use Rattle.ados_mend.specs.steps.Accounting.{IsMarked, mark_at, unmarked}
 use Rattle.ados_mend.specs.steps.Reaching.{AreCells, AreKept, AreVisited, AreWalked, IsPassed, IsStep, cell, form}
 use Rattle.ados_mend.proofs.Marking.{marked_before, still_marked}
@@ -60,24 +61,25 @@ same_cell block other role next e =
     let small = form_small next in
     (omega (arith, e, few, small), omega (arith, e, few, small))
 
--- a place of a block in a role is one in each role of this form, and gives a role of the same form
+-- a place of a block in a role is one in each role of this form, gives a role of the same form, and makes the same of the
+-- block that it names
 module _ (image : List ℕ) where
-  same_place : {block i : ℕ} {role next : Role} → IsPlace image block role i next → (other : Role) → form other ≡ form role
-      → (last : Role) × IsPlace image block other i last × (form last ≡ form next)
-  same_place (root_page {block = b} {i = p} l) other e = (Page, subst (λ (r : Role). IsPlace image b r (FIRST_PAGE + p) Page) (sym (is_root other e)) (root_page l), refl)
-  same_place (root_slot {block = b} {s = s} l h) other e = (Entry b s, subst (λ (r : Role). IsPlace image b r (FIRST_SLOT + s) (Entry b s)) (sym (is_root other e)) (root_slot l h), refl)
+  pub same_place : {block i : ℕ} {role next : Role} → IsPlace image block role i next → (other : Role) → form other ≡ form role
+      → (last : Role) × IsPlace image block other i last × (form last ≡ form next) × (naming_of last i ≡ naming_of next i)
+  same_place (root_page {block = b} {i = p} l) other e = (Page, subst (λ (r : Role). IsPlace image b r (FIRST_PAGE + p) Page) (sym (is_root other e)) (root_page l), refl, refl)
+  same_place (root_slot {block = b} {s = s} l h) other e = (Entry b s, subst (λ (r : Role). IsPlace image b r (FIRST_SLOT + s) (Entry b s)) (sym (is_root other e)) (root_slot l h), refl, refl)
   same_place (directory_slot {block = b} {s = s} y l h) other e =
-      let is = is_entry other e in (Entry b s, subst (λ (r : Role). IsPlace image b r (FIRST_SLOT + s) (Entry b s)) (sym is.2) (directory_slot y l h), refl)
+      let is = is_entry other e in (Entry b s, subst (λ (r : Role). IsPlace image b r (FIRST_SLOT + s) (Entry b s)) (sym is.2) (directory_slot y l h), refl, refl)
   same_place (next_entry {block = b} h) other e =
-      let is = is_entry other e in (Entry is.0 is.1, subst (λ (r : Role). IsPlace image b r NEXT_IN_CHAIN (Entry is.0 is.1)) (sym is.2) (next_entry h), refl)
+      let is = is_entry other e in (Entry is.0 is.1, subst (λ (r : Role). IsPlace image b r NEXT_IN_CHAIN (Entry is.0 is.1)) (sym is.2) (next_entry h), refl, refl)
   same_place (header_pointer {block = b} {i = i} y p) other e =
-      let is = is_entry other e in (Data b, subst (λ (r : Role). IsPlace image b r (FIRST_POINTER - i) (Data b)) (sym is.2) (header_pointer y p), refl)
+      let is = is_entry other e in (Data b, subst (λ (r : Role). IsPlace image b r (FIRST_POINTER - i) (Data b)) (sym is.2) (header_pointer y p), refl, refl)
   same_place (first_extension {block = b} y h) other e =
-      let is = is_entry other e in (Extension b, subst (λ (r : Role). IsPlace image b r NEXT_EXTENSION (Extension b)) (sym is.2) (first_extension y h), refl)
+      let is = is_entry other e in (Extension b, subst (λ (r : Role). IsPlace image b r NEXT_EXTENSION (Extension b)) (sym is.2) (first_extension y h), refl, refl)
   same_place (extension_pointer {block = b} {i = i} p) other e =
-      let is = is_extension other e in (Data is.0, subst (λ (r : Role). IsPlace image b r (FIRST_POINTER - i) (Data is.0)) (sym is.1) (extension_pointer p), refl)
+      let is = is_extension other e in (Data is.0, subst (λ (r : Role). IsPlace image b r (FIRST_POINTER - i) (Data is.0)) (sym is.1) (extension_pointer p), refl, refl)
   same_place (further_extension {block = b} h) other e =
-      let is = is_extension other e in (Extension is.0, subst (λ (r : Role). IsPlace image b r NEXT_EXTENSION (Extension is.0)) (sym is.1) (further_extension h), refl)
+      let is = is_extension other e in (Extension is.0, subst (λ (r : Role). IsPlace image b r NEXT_EXTENSION (Extension is.0)) (sym is.1) (further_extension h), refl, refl)
 
 pub root_step : (image : List ℕ) (root : ℕ) → IsImage image → root ≡ root_of image → IsStep image (record { block = root; role = Root })
 root_step image root im e = record {
@@ -142,7 +144,7 @@ kept_more walk later step c within free cells steps = record {
 
 -- ---- the places of a step
 
-few_pages : (image : List ℕ) → IsImage image → page_count (block_count image) ≤ 25
+pub few_pages : (image : List ℕ) → IsImage image → page_count (block_count image) ≤ 25
 few_pages image im = omega (arith, im.whole, im.size.0, im.size.1)
 
 module _ (image : List ℕ) (cells : List Bool) (step : Step) (whole : IsImage image) where

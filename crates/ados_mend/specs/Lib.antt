@@ -1,4 +1,4 @@
--- The faults that a new bitmap mends, the image with a new bitmap, and what may be lost with the old one; the map of a volume; and the account of a damaged image.
+-- The faults that a new bitmap mends, the image with a new bitmap, and what may be lost with the old one; the map of a volume; the account of a damaged image; and the places that name a block.
 pub mod Mendable
 pub mod Validated
 pub mod Cautions
@@ -6,4 +6,5 @@ pub mod Answer
 pub mod Said
 pub mod BlockMap
 pub mod Account
+pub mod Places
 pub mod steps

@@ -1,5 +1,6 @@
--- Steps of `validate`, and of the account.
+-- Steps of `validate`, of the account, and of the places that name a block.
 pub mod Settled
 pub mod Cautious
 pub mod Accounting
 pub mod Reaching
+pub mod Placing

@@ -15,7 +15,10 @@ use ados_model::Role;
 use std::alloc::{AllocError, Global};
 
 /// The number of forms of roles. A block has the same places in all roles of one form.
-const FORMS: u32 = 4;
+pub(crate) const FORMS: u32 = 4;
+
+/// The number of forms in which a block can name others: all but the last, that of data and bitmap blocks.
+pub(crate) const NAMING_FORMS: u32 = 3;
 
 /// A reached block in a role.
 #[derive(Clone, Copy)]
@@ -35,7 +38,7 @@ pub(crate) struct Walk {
 /// For each block and each form of a role, whether the block is reached in such a role.
 ///
 /// Time and memory grow linearly with the size of the image, even if its blocks name each other arbitrarily.
-pub(crate) fn reached_cells(alloc: Global, image: &Image) -> Result<Vec<bool>, AllocError>
+pub fn reached_cells(alloc: Global, image: &Image) -> Result<Vec<bool>, AllocError>
     ensures { IfOk result (λ cells. AreCells image.now cells.items) }
 {
     let mut walk = Walk::none(alloc, image)?;

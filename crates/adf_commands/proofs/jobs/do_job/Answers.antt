@@ -41,7 +41,7 @@ returns-in-Validate g c =
 
 pub returns-in-Where : goal.returns-in-Where
 returns-in-Where g c =
-    subst (λ (job : ImageJob). DoesJob job (g.W.Write.contents c.args.writer.now) (g.W.Write.contents c.print_query-in-Where.new.writer) c.print_query-in-Where.result) (sym c.in-Where.is) c.print_query-in-Where.ensures
+    subst (λ (job : ImageJob). DoesJob job (g.W.Write.contents c.args.writer.now) (g.W.Write.contents c.tell_where.new.writer) c.tell_where.result) (sym c.in-Where.is) c.tell_where.ensures
 
 pub returns-in-WherePath : goal.returns-in-WherePath
 returns-in-WherePath g c =

@@ -29,11 +29,6 @@ returns-in-Look g c =
     subst (λ (query : Query). TellsSome (IsQueryText query) (BeginsQueryText query) (g.W.Write.contents c.args.writer.now) (g.W.Write.contents c.tell_look.new.writer) c.tell_look.result)
     (sym c.in-Look.is) (c.in_ok-image.image, c.tell_look.ensures)
 
-pub returns-in-Blocks : goal.returns-in-Blocks
-returns-in-Blocks g c =
-    subst (λ (query : Query). TellsSome (IsQueryText query) (BeginsQueryText query) (g.W.Write.contents c.args.writer.now) (g.W.Write.contents c.tell_blocks.new.writer) c.tell_blocks.result)
-    (sym c.in-Blocks.is) (c.in_ok-image.image, c.tell_blocks.ensures)
-
 pub returns-in-Entry : goal.returns-in-Entry
 returns-in-Entry g c =
     subst (λ (query : Query). TellsSome (IsQueryText query) (BeginsQueryText query) (g.W.Write.contents c.args.writer.now) (g.W.Write.contents c.tell_entry.new.writer) c.tell_entry.result)

@@ -1,0 +1,17 @@
+use Rattle.std.proofs.Common.{ℕ, List, refl, ap, ◌∙◌}
+use Rattle.std.specs.Prelude.{◌==◌, filter}
+use Rattle.ados_model.specs.declared.fault.VolumeFault.{VolumeFault}
+use Rattle.adf_export.proofs.FaultsThere.{faults_there}
+use Rattle.adf_export.proofs.faulty.faulty_block.Goals as goal
+
+pub returns : goal.returns
+returns c =
+    let block = c.args.block in
+    let at = λ (fault : VolumeFault). fault.block == block in
+    let kept = c.in_ok-faults.ensures ∙ ap (λ (faults : List VolumeFault). filter at faults) c.deref.ensures.value in
+    record {
+      block_is = refl;
+      root = ap (λ (root : ℕ). block == root) c.root.ensures;
+      places = c.in_ok-places.ensures;
+      faults = faults_there c.args.image.now block c.args.found.now c.in_ok-faults.faults.items c.requires.found kept;
+    }
