@@ -404,6 +404,10 @@ def without_room(tried: Mount) -> Optional[str]:
     before = tried.content(image)
     with tried.mounted(image):
         ran = run(["cp", "part", "mount/file"])
+        # (when the kernel lets go of the file, the mount tries once more to save it, beside the image)
+        ends = time.monotonic() + LONGEST_START
+        while os.listdir("small") != ["floppy.adf"] and time.monotonic() < ends:
+            time.sleep(0.02)
         stays = tried.content(image) == before and os.listdir("small") == ["floppy.adf"]
         done(["mount", "-o", "remount,size=4m", "small"])
         done(["sync", "mount/file"])
