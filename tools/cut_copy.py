@@ -1,6 +1,6 @@
 """Copies some crates and their dependencies, so that the kit's gate proves only these.
 
-./prove, tools/early_library, tools/gate_bodies and tools/wrong_bodies use this module. With a kit that keeps proofs the gate reuses those that `rt ci`
+./prove, tools/early_library and tools/wrong_bodies use this module. With a kit that keeps proofs the gate reuses those that `rt ci`
 made in such a copy, since the key of a kept proof covers neither the edits nor the path of the files.
 """
 import os

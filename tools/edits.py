@@ -10,8 +10,8 @@ from cut_copy import TOP
 
 # Those that each run of the test tries, and all of them.
 GATE, OTHERS = "wrong-bodies/gate", "wrong-bodies"
-# The first line of a function, with its name; of an `impl` block, with the name of its type; or of another item.
-IMPL = r"impl\b(?:<[^{]*?>(?=\s))?(?:.*\sfor)?\s+(?:&?(?:'\w+\s+)?(?:mut\s+)?)?(?:\w+::)*(\w+)"
+# The first line of a function, with its name; of an `impl` block, with its trait if it has one, and its type; or of another item.
+IMPL = r"impl\b(?:<[^{]*?>(?=\s))?\s+(?:(.*)\sfor\s+)?(?:&?(?:'\w+\s+)?(?:mut\s+)?)?(?:\w+::)*(\w+)"
 ITEM = re.compile(rf"\s*(?:pub(?:\([^)]*\))?\s+)?(?:const\s+|unsafe\s+|extern\s+\S+\s+)*(?:fn\s+(\w+)|{IMPL}|(?:struct|enum|impl|trait|mod)\b)")
 
 
@@ -56,14 +56,16 @@ def misfit(edit: Path) -> str:
 
 
 def function_at(text: str, place: int) -> str:
-    """Returns the path in its file, as `name` or `Type::name`, of the function around a place, or nothing if that place is in none."""
+    """Returns the path in its file, as `name`, `Type::name` or `TypeTrait::name`, of the function around a place, or nothing if that
+    place is in none."""
     above = [*text[:place].split("\n")[:-1], text[text.rfind("\n", 0, place) + 1 :].split("\n")[0]]
     least, path = len(above[-1]) - len(above[-1].lstrip()), ""
     for line in reversed(above):
         indent = len(line) - len(line.lstrip())
         item = ITEM.match(line) if line.strip() and indent <= least else None
         if item and path:
-            return f"{item[2]}::{path}" if item[2] else path
+            # (the prover's name of a trait's method has both: CommandFaultFromArchiveFault::from)
+            return "".join([item[3], *re.findall(r"(?<!')\b[A-Z]\w*", item[2] or "")]) + f"::{path}" if item[3] else path
         if item and (not item[1] or not indent):
             return item[1] or ""
         if item:
