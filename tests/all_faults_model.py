@@ -23,6 +23,8 @@ KINDS = ["NotADosDisk", "UnsupportedKind", "BadSum", "BadType", "BadOwnKey", "Ba
          "WrongChain", "BadName", "DuplicateName", "BadComment", "BadCount", "BadSequence", "LinkEntry", "MarkedFree"]
 OTHER_KINDS = {"NotADosDisk", "UnsupportedKind"}
 LINKS = {3, 4, 2 ** 32 - 4}
+# The roles of blocks that name no other block.
+WITHOUT_PLACES = {"data", "page"}
 MOST = 1000
 
 
@@ -59,22 +61,24 @@ class Model(Image):
 
     def places_of(self, block: int, role: Role) -> Iterator[Tuple[int, Role]]:
         """The longs that are places of a block in a role, each with the role that it gives."""
-        secondary = self.long(block, 127)
+        longs = self.longs(block)
+        secondary = longs[127]
         if role.what == "root":
             for page in range(self.pages()):
                 yield 79 + page, Role("page")
         if role.what == "root" or role.what == "entry" and secondary == DIRECTORY:
-            for slot in range(72):
-                if self.long(block, 6 + slot) != 0:
+            for slot, named in enumerate(longs[6:78]):
+                if named != 0:
                     yield 6 + slot, Role("entry", block, slot)
-        if role.what == "entry" and self.long(block, 124) != 0:
+        if role.what == "entry" and longs[124] != 0:
             yield 124, role
         file = self.file_of(block, role)
         if file is not None:
-            if self.long(block, 2) <= 72:
-                for at in range(self.long(block, 2)):
-                    yield 77 - at, Role("data", file)
-            if self.long(block, 126) != 0:
+            if longs[2] <= 72:
+                role_of_data = Role("data", file)
+                for at in range(longs[2]):
+                    yield 77 - at, role_of_data
+            if longs[126] != 0:
                 yield 126, Role("extension", file)
 
     def file_of(self, block: int, role: Role) -> Optional[int]:
@@ -90,8 +94,11 @@ class Model(Image):
             if (block, role) in self.reached:
                 continue
             self.reached.add((block, role))
+            if role.what in WITHOUT_PLACES:
+                continue
+            longs = self.longs(block)
             for at, next_role in self.places_of(block, role):
-                named = self.long(block, at)
+                named = longs[at]
                 self.places.append((block, at, named))
                 if self.inside(named):
                     pending.append((named, next_role))
@@ -189,8 +196,9 @@ class Model(Image):
         self.show_if(count < 72 and self.long(block, 126) != 0, "BadCount", block)
 
     def data_of(self, block: int) -> List[int]:
-        count = self.long(block, 2)
-        return [self.long(block, 77 - at) for at in range(count)] if count <= 72 else []
+        longs = self.longs(block)
+        count = longs[2]
+        return [*longs[78 - count : 78]][::-1] if count <= 72 else []
 
     def headers_of(self, file: int) -> List[int]:
         """The header of a file and its extension blocks, up to the first one that is invalid or was visited before."""
@@ -210,11 +218,11 @@ class Model(Image):
         for at, block in enumerate(blocks):
             if not self.inside(block):
                 continue
-            held = self.long(block, 3)
+            number, held, link = self.longs(block)[2:5]
             is_last = at + 1 == len(blocks)
-            self.show_if(self.long(block, 2) != at + 1, "BadSequence", block)
+            self.show_if(number != at + 1, "BadSequence", block)
             self.show_if(held == 0 or held > 488 or not is_last and held != 488, "BadCount", block)
-            self.show_if(self.long(block, 4) != (0 if is_last else blocks[at + 1]), "BadPointer", block)
+            self.show_if(link != (0 if is_last else blocks[at + 1]), "BadPointer", block)
         if all(self.inside(block) for block in blocks):
             self.show_if(sum(self.long(block, 3) for block in blocks) != size, "BadCount", file)
 

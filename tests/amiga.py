@@ -2,7 +2,7 @@
 """Tests packets in an emulated machine's memory (bindings/c/jiponuwha_amiga.h): worked packets, and random ones in harmful
 memory, under sanitizers.
 
-    tests/amiga.py [SECONDS [SEED]]     runs random packets for SECONDS in all; the default is 60
+    tests/amiga.py [SECONDS [SEED]]     runs random packets for SECONDS in all; the default is 20
 
 The same seed gives the same packets, and the time determines their number. `tests/amiga.py 600` is the long run.
 """
@@ -88,7 +88,7 @@ def random_packets(tried: Library, compiler: str, seconds: float, seed: int) -> 
 
 
 def main(words: List[str]) -> int:
-    seconds = float(words[0]) if words else 60.0
+    seconds = float(words[0]) if words else 20.0
     seed = int(words[1]) if len(words) > 1 else 1
     report = Report()
     with Library(TOP / "crates/adf_serve/out/adf_serve", report) as tried:

@@ -1236,8 +1236,9 @@ class Damages:
             yield self.struck(number, bytes(data), [it // BLOCK for it in places])
 
     def swept(self) -> Iterator[Struck]:
-        """Each long of the root, the bitmap block, each header, the extension block and a data block is changed. In
-        OFS, where each block names its file, the checksum is also set right."""
+        """Each long of the root, the bitmap block, each header, the extension block and a data block is changed, to one of three values by
+        turns: a wrong checksum does not tell them apart. In OFS, where each block names its file, the checksum is also set right, with
+        each of the three."""
         image = Volume(self.good)
         root = image.blocks // 2
         page = image.long(root, 79)
@@ -1245,14 +1246,14 @@ class Damages:
         of_data = [] if self.is_ffs else [image.pointers(image.header("long"))[1]]
         for block in [root, page, *headers, *of_data]:
             for at in range(128):
-                for value in (0, image.long(block, at) + 1, ALL_ONES):
-                    is_left = self.is_ffs or at == 5 or block in of_data and at > 5
-                    for is_settled in [False] if is_left else [False, True]:
-                        other = Volume(self.good)
-                        other.put(block, at, value)
-                        if is_settled:
-                            other.settle(block, 0 if block == page else 5)
-                        yield self.struck((block, at, value, is_settled), bytes(other.data))
+                values = (0, image.long(block, at) + 1, ALL_ONES)
+                is_left = self.is_ffs or at == 5 or block in of_data and at > 5
+                for value, is_settled in [(values[(block + at) % 3], False), *((it, True) for it in ([] if is_left else values))]:
+                    other = Volume(self.good)
+                    other.put(block, at, value)
+                    if is_settled:
+                        other.settle(block, 0 if block == page else 5)
+                    yield self.struck((block, at, value, is_settled), bytes(other.data))
 
     def entries(self) -> Dict[int, str]:
         """The names of the entries by their headers."""

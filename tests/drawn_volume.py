@@ -6,12 +6,17 @@ walks the header blocks of an image, and gives all that a volume tells but its b
 from __future__ import annotations
 
 import random
-from typing import Dict, Iterator, List, NamedTuple, Optional, Tuple, Type, TypeVar
+from typing import Dict, Iterable, Iterator, List, NamedTuple, Optional, Tuple, Type, TypeVar
 
 from harness import BLOCK, DATA, DIRECTORY, FILE, HEADER, LIST, OFS_ROOM, PAGE_BITS, POINTERS, SLOTS, Image, slot_of, upper
 
 Stamp = Tuple[int, int, int]
 AnyDrawer = TypeVar("AnyDrawer", bound="Drawer")
+# The bytes that a name may have, and those of a plain one.
+LEGAL = bytes(it for it in range(256) if it not in b"/:")
+# The longs of a bitmap block after its checksum.
+BITMAP_LONGS = PAGE_BITS // 32
+PLAIN = b"abcDEF.-0189_\xe4\xd6"
 
 
 class Entry(NamedTuple):
@@ -122,10 +127,10 @@ class Drawer(Image):
         kind = self.chance.randrange(8)
         length = self.chance.choice([1, 2, 3, 8, 29, 30])
         if kind == 0:
-            return bytes(self.chance.choice([it for it in range(256) if it not in b"/:"]) for _ in range(length))
+            return bytes(self.chance.choices(LEGAL, k=length))
         if kind == 1:
             return self.chance.choice([b"..", b".", b"%41", b'"', b"\\", b"\0", b"\n", b"con", b"x.uaem", b"\xff\xfe", b" ", b"{", b"volume.json"])
-        return bytes(self.chance.choice(b"abcDEF.-0189_\xe4\xd6") for _ in range(length))
+        return bytes(self.chance.choices(PLAIN, k=length))
 
     def put_stamp(self, block: int, at: int, stamp: Stamp) -> None:
         self.put_all(block, at, stamp)
@@ -182,13 +187,13 @@ class Drawer(Image):
         key = blocks[0]
         self.put_all(key, 0, [HEADER, key, 0, 0])
         self.put(key, 80, self.chance.choice([0, 1, 0x0F, 0xF0, 0xFFFFFFFF, self.chance.randrange(2**32)]))
-        self.put_text(key, 328, bytes(self.chance.randrange(256) for _ in range(self.chance.choice([0, 0, 5, 79]))))
+        self.put_text(key, 328, self.chance.randbytes(self.chance.choice([0, 0, 5, 79])))
         self.put_stamp(key, 105, self.stamp())
         self.put_text(key, 432, name)
         self.put(key, 125, directory)
         self.put(key, 127, DIRECTORY if is_directory else FILE)
         if not is_directory:
-            self.put_bytes(key, blocks[1:], bytes(self.chance.randrange(256) for _ in range(size)))
+            self.put_bytes(key, blocks[1:], self.chance.randbytes(size))
         self.chain(directory, slot_of(name), key, ends)
         return key, is_directory
 
@@ -240,22 +245,30 @@ class Drawer(Image):
 
     def finish(self) -> None:
         """Draws the boot block and the bitmap: valid, valid with lost blocks, or invalid and damaged."""
-        boot = self.chance.choice([b"", b"", bytes(self.chance.randrange(256) for _ in range(1020)), b"\0\0\0\0\0\0\x03\x70" + b"code"])
+        boot = self.chance.choice([b"", b"", self.chance.randbytes(1020), b"\0\0\0\0\0\0\x03\x70" + b"code"])
         self.data[: 4 + len(boot)] = b"DOS" + (b"\0" if self.ofs else b"\1") + boot
         is_valid = self.chance.random() < 0.8
         lost = set(self.unused[: self.chance.choice([0, 0, 3])])
         for it in lost:
-            self.data[BLOCK * it : BLOCK * (it + 1)] = bytes(self.chance.randrange(256) for _ in range(BLOCK))
-        unused = set(self.unused) - lost
-        for at, page in enumerate(self.pages):
-            self.put(self.root, 79 + at, page)
-            first = 2 + PAGE_BITS * at
-            for long in range(127):
-                bits = sum(1 << bit for bit in range(32) if first + 32 * long + bit in unused)
-                self.put(page, 1 + long, bits if is_valid else self.chance.randrange(2**32))
-            self.settle(page, 0)
+            self.data[BLOCK * it : BLOCK * (it + 1)] = self.chance.randbytes(BLOCK)
+        self.put_all(self.root, 79, self.pages)
+        self.put_bitmap(set(self.unused) - lost)
+        if not is_valid:
+            for page in self.pages:
+                self.data[BLOCK * page + 4 : BLOCK * (page + 1)] = self.chance.randbytes(BLOCK - 4)
+                self.settle(page, 0)
         self.put(self.root, 78, 2**32 - 1 if is_valid else 0)
         self.settle(self.root)
+
+    def put_bitmap(self, unused: Iterable[int]) -> None:
+        """Marks exactly these blocks as free."""
+        longs = [[0] * BITMAP_LONGS for _ in self.pages]
+        for block in unused:
+            page, bit = divmod(block - 2, PAGE_BITS)
+            longs[page][bit // 32] |= 1 << bit % 32
+        for page, marks in zip(self.pages, longs):
+            self.put_all(page, 1, marks)
+            self.settle(page, 0)
 
 
 def drawn(seed: int, kind: Type[AnyDrawer]) -> AnyDrawer:

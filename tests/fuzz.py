@@ -584,7 +584,7 @@ def alone(program: Path, seed: str, number: int) -> Done:
 def main(words: List[str]) -> int:
     parser = argparse.ArgumentParser(description="Runs the commands that read an image over damaged images.")
     parser.add_argument("program", nargs="*", help="the program to test")
-    parser.add_argument("--minutes", type=float, default=1.0, help="how long (default: 1)")
+    parser.add_argument("--minutes", type=float, default=0.25, help="how long (default: 0.25)")
     parser.add_argument("--jobs", type=int, default=len(os.sched_getaffinity(0)), help="how many images at a time (default: one for each processor)")
     parser.add_argument("--seed", default=str(random.randrange(10**6)), help="selects the images")
     parser.add_argument("--only", type=int, help="the number of the only image to try")

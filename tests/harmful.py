@@ -5,6 +5,7 @@ checksum into the root of one, so that only a rescue reads it.
 """
 from __future__ import annotations
 
+import struct
 from typing import Callable, Dict, Iterator, List, NamedTuple, Sequence, Tuple
 
 from harness import BLOCK, DIRECTORY, FILE, SLOTS, Image, slot_of
@@ -127,11 +128,13 @@ def one_chain(blank: bytes, spare: int) -> bytes:
 def put_entry(image: Image, block: int, kind: int, name: bytes, parent: int = 0, slot: int = 0) -> None:
     """Draws the header of a directory or an empty file over a block, sound by itself: with its parent, and the first entry of
     its first slot."""
+    first, last, text = (2, block, 0, 0, 0, 0, slot), (parent, 0, kind), bytes([len(name)]) + name
     image.data[block * BLOCK : (block + 1) * BLOCK] = bytes(BLOCK)
-    image.put_all(block, 0, (2, block, 0, 0, 0, 0, slot))
-    image.put_all(block, 125, (parent, 0, kind))
-    put_name(image, block, name)
-    image.settle(block)
+    image.put_all(block, 0, first)
+    image.put_all(block, 125, last)
+    image.data[block * BLOCK + 432 : block * BLOCK + 432 + len(text)] = text
+    # (these are all of its longs that are not 0)
+    image.put(block, 5, -sum(first) - sum(last) - sum(struct.unpack(">8I", text.ljust(32, b"\0"))))
 
 
 def put_pointers(image: Image, block: int, size: int, pointers: Sequence[int], extension: int = 0) -> None:

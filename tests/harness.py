@@ -341,7 +341,8 @@ def program_of(words: Sequence[str]) -> Path:
     return program
 
 
-# The longs of a block.
+# A long, and the longs of a block.
+LONG = struct.Struct(">I")
 LONGS = struct.Struct(f">{BLOCK // 4}I")
 # The numbers of the disk: primary and secondary types of blocks, the slots of a directory and the pointers of a list, the bits of a
 # bitmap block, and the bytes of a file in an OFS data block.
@@ -363,12 +364,15 @@ class Image:
         self.room = OFS_ROOM if self.ofs else BLOCK
 
     def long(self, block: int, at: int) -> int:
-        start = BLOCK * block + 4 * at
-        return int.from_bytes(self.data[start : start + 4], "big")
+        found: int = LONG.unpack_from(self.data, BLOCK * block + 4 * at)[0]
+        return found
+
+    def longs(self, block: int) -> Tuple[int, ...]:
+        """All longs of a block."""
+        return LONGS.unpack_from(self.data, BLOCK * block)
 
     def put(self, block: int, at: int, value: int) -> None:
-        start = BLOCK * block + 4 * at
-        self.data[start : start + 4] = (value % 2**32).to_bytes(4, "big")
+        LONG.pack_into(self.data, BLOCK * block + 4 * at, value % 2**32)
 
     def put_all(self, block: int, at: int, values: Sequence[int]) -> None:
         """Sets longs one after another."""
@@ -379,8 +383,7 @@ class Image:
         self.put(block, at, self.long(block, at) - self.sum(block))
 
     def sum(self, block: int) -> int:
-        longs: Tuple[int, ...] = LONGS.unpack_from(self.data, BLOCK * block)
-        return sum(longs) % 2**32
+        return sum(self.longs(block)) % 2**32
 
     def is_free(self, block: int) -> bool:
         """Whether the bitmap marks a block as free."""
@@ -389,8 +392,7 @@ class Image:
 
     def keys(self, directory: int) -> Iterator[int]:
         """The entries of a directory, in the order of its hash chains."""
-        for at in range(6, 6 + SLOTS):
-            key = self.long(directory, at)
+        for key in self.longs(directory)[6 : 6 + SLOTS]:
             while key:
                 yield key
                 key = self.long(key, 124)
@@ -411,7 +413,7 @@ class Image:
 
 def upper(name: bytes) -> bytes:
     """A name in upper case; only ASCII letters change."""
-    return bytes(it - 32 if 97 <= it <= 122 else it for it in name)
+    return name.upper()
 
 
 def slot_of(name: bytes) -> int:

@@ -172,12 +172,21 @@ def clients(tried: Place, compiler: str) -> None:
         client(tried, compiler, TOP / "tests" / "c" / source, has_sanitizers)
 
 
+def is_first(compiler: str) -> bool:
+    """Whether this is the first compiler of its language here."""
+    return compiler == next(it for it, standard in STANDARDS.items() if standard == STANDARDS[compiler] and shutil.which(it))
+
+
 def client(tried: Place, compiler: str, source: Path, has_sanitizers: bool) -> None:
-    """Runs one program: plain, under valgrind, over the static library, and with sanitizers."""
+    """Runs one program: plain and with sanitizers, and by the first compiler of its language under valgrind and over the static library,
+    since both look at the library, which is the same for all."""
     name = f"{compiler}-{source.stem}"
     if tried.compile(compiler, source, name, *SHARED):
-        tried.passes_checked(name)
-    if tried.compile(compiler, source, f"{name}-static", *STATIC):
+        if is_first(compiler):
+            tried.passes_checked(name)
+        else:
+            tried.passes(f"{name} runs", [f"./{name}"])
+    if is_first(compiler) and tried.compile(compiler, source, f"{name}-static", *STATIC):
         tried.passes(f"{name}-static runs", [f"./{name}-static"])
     if has_sanitizers and tried.compile(compiler, source, f"{name}-sanitized", *SHARED, *SANITIZED):
         tried.passes(f"{name}-sanitized runs", [f"./{name}-sanitized"])

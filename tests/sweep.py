@@ -61,7 +61,7 @@ class Distinct(Drawer):
 
     def name(self) -> bytes:
         self.names += 1
-        front = bytes(self.chance.choice(b"abcDEF.-0189_%\\\x9b\xe4\xd6") for _ in range(self.chance.choice([0, 1, 4, 20])))
+        front = bytes(self.chance.choices(b"abcDEF.-0189_%\\\x9b\xe4\xd6", k=self.chance.choice([0, 1, 4, 20])))
         return b"%bn%d" % (front, self.names)
 
 

@@ -196,12 +196,7 @@ class Deleter(Drawer):
 
     def finish(self) -> None:
         super().finish()
-        unused = {*self.unused}
-        for at, page in enumerate(self.pages):
-            first = 2 + PAGE_BITS * at
-            for long in range(127):
-                self.put(page, 1 + long, sum(1 << bit for bit in range(32) if first + 32 * long + bit in unused))
-            self.settle(page, 0)
+        self.put_bitmap(self.unused)
         self.put(self.root, 78, 2**32 - 1)
         self.settle(self.root)
 
@@ -262,7 +257,7 @@ def reuse_some(disk: Deleter, chance: random.Random, deleted: Dict[int, bytes]) 
         if kind == 0:
             disk.mark_free(block, False)
         elif kind == 1 and block != key:
-            disk.data[BLOCK * block : BLOCK * (block + 1)] = bytes(chance.randrange(256) for _ in range(BLOCK))
+            disk.data[BLOCK * block : BLOCK * (block + 1)] = chance.randbytes(BLOCK)
         elif kind == 2 and not disk.ofs:
             others = [it for it in deleted if it != key and disk.long(it, 2) and disk.long(key, 2)]
             if others:

@@ -67,8 +67,7 @@ class Noting(Drawer):
     def letter(self, block: int) -> str:
         """Its letter. A block that nothing took is lost if a valid bitmap says that it is used."""
         is_valid = self.long(self.root, 78) == 2**32 - 1
-        unused = "L" if is_valid and not self.is_free(block) else "."
-        return self.letters.get(block) or unused
+        return self.letters.get(block) or ("L" if is_valid and not self.is_free(block) else ".")
 
 
 def page_of(letters: str) -> bytes:
