@@ -161,7 +161,11 @@ def wanted_of(data: bytes, force: bool) -> Wanted:
 
 def fault_of_run(room: Room, data: bytes, force: bool, out: bool = False) -> Optional[str]:
     """What is wrong with a run over these bytes."""
-    wanted = wanted_of(data, force)
+    return fault_beside(room, data, force, wanted_of(data, force), out)
+
+
+def fault_beside(room: Room, data: bytes, force: bool, wanted: Wanted, out: bool = False) -> Optional[str]:
+    """What is wrong with a run over these bytes, where this is expected of it."""
     room.write("damaged.adf", data)
     options = ["--force"] * force + ["--out", "out.adf"] * out
     ran = room.run("validate", *options, "damaged.adf")
@@ -186,10 +190,11 @@ def hold(room: Room, name: str, disk: Disk, asks: Optional[bool] = None) -> None
     """A damaged image is validated as the rules say, or refused, without `--force` and with it. `asks` says whether a question is
     expected at all."""
     data = bytes(disk.data)
-    room.report.hold(name, fault_of_run(room, data, False))
+    wanted = wanted_of(data, False)
+    room.report.hold(name, fault_beside(room, data, False, wanted))
     room.report.hold(f"{name}, forced", fault_of_run(room, data, True))
     if asks is not None:
-        room.report.same(f"{name}: whether it asks", wanted_of(data, False).asked is not None, asks)
+        room.report.same(f"{name}: whether it asks", wanted.asked is not None, asks)
 
 
 # ---- each damage
