@@ -48,8 +48,8 @@ class Rules(NamedTuple):
 
 
 PAGE = Rules()
-# What the program does with files and used blocks, and without the files that it may not tell yet.
-NOW = Rules(links=True, typed=True, capped=True, again=True, stale=True, headless=False)
+# What the program does with files and used blocks.
+NOW = Rules(links=True, typed=True, capped=True, again=True, stale=True)
 # What stands on standard error before the numbers of the blocks that are used and belong to nothing.
 HEADING = b"adf_serve: blocks that are used, but belong to nothing that is told:\n"
 
@@ -243,6 +243,7 @@ class Account(Disk):
         self.bytes: Dict[int, bytes] = {}
         self.left = 4 * len(self.data)
         self.cut: Set[int] = set()
+        self.loose: Dict[int, Dict[int, int]] = {}
 
     # ---- which headers are told
 
@@ -409,33 +410,45 @@ class Account(Disk):
     def entries(self) -> List[Entry]:
         """All entries in the order of the account; of an accepted image, its tree."""
         walk = Walk(self)
-        loose = self.loose_files() if self.rules.headless and self.ofs and not self.is_accepted else {}
-        entries = [Entry(it, loose.pop(it, "") or self.state(it), walk.paths[it] + self.ending(it), it in walk.found) for it in walk.order]
-        return [*entries, *(Entry(it, state, f"lost+found/block-{it}", True) for it, state in sorted(loose.items()))]
+        self.loose = self.loose_blocks() if self.rules.headless and self.ofs and not self.is_accepted else {}
+        entries = [Entry(it, self.state(it), walk.paths[it] + self.ending(it), it in walk.found) for it in walk.order]
+        found = sorted(set(self.loose) - set(walk.order))
+        return [*entries, *(Entry(it, self.loose_state(it), f"lost+found/block-{it}", True) for it in found)]
 
-    def loose_files(self) -> Dict[int, str]:
-        """The states of the files that OFS data blocks with right checksums make, by the number of the header that is none."""
-        pieces: Dict[int, Dict[int, int]] = defaultdict(dict)
+    def loose_blocks(self) -> Dict[int, Dict[int, int]]:
+        """The OFS data blocks with right checksums that name a header which is not told, by that header and by their numbers; of one
+        number the lowest. Those of a deleted file are left out."""
+        blocks: Dict[int, Dict[int, int]] = defaultdict(dict)
+        used = set()
         for block in self.inside:
             kind, header, number = (self.long(block, it) for it in range(3))
-            if kind == DATA and number and self.is_summed(block):
-                pieces[header].setdefault(number, block)
-        states = {}
-        for header, there in pieces.items():
-            is_file = header in self.told and not self.is_directory(header)
-            if not is_file and not (self.bitmap.is_trusted and all(self.bitmap.is_free(it) for it in there.values())):
-                last = max(there)
-                missing = last - len(there) + (self.long(there[last], 4) != 0)
-                states[header] = f"broken {missing}" if missing else "doubtful"
-                self.given.update({it: header for it in there.values()})
-        return states
+            if kind == DATA and number and self.is_summed(block) and header not in self.told:
+                if not self.bitmap.is_trusted or not self.bitmap.is_free(block):
+                    used.add(header)
+                if block not in {self.root, *self.pages}:
+                    blocks[header].setdefault(number, block)
+        return {header: there for header, there in blocks.items() if header in used}
+
+    def loose_state(self, header: int) -> str:
+        """The state of a file without a header; keeps its bytes."""
+        there = self.loose[header]
+        last = max(there)
+        end = min(488 * (last - 1) + min(488, self.long(there[last], 3)), 488 * self.blocks)
+        kept = min(end, self.left)
+        self.left -= kept
+        self.keep(header, {number - 1: block for number, block in there.items()}, kept)
+        self.given.update({it: header for it in there.values()})
+        if kept < end:
+            self.cut.add(header)
+        missing = last - len(there) + (self.long(there[last], 4) != 0)
+        return f"broken {missing}" if missing or kept < end else "doubtful"
 
     def is_told_directory(self, block: int) -> bool:
         return block in self.told and self.is_directory(block)
 
     def state(self, block: int) -> str:
         if block not in self.told:
-            return "lost"
+            return self.loose_state(block) if block in self.loose else "lost"
         if self.is_directory(block):
             return "" if block in self.sound else "doubtful"
         if self.is_accepted or self.is_whole(block):
@@ -475,7 +488,7 @@ class Account(Disk):
         known = {self.root, *self.bitmap.pages, *(it.header for it in entries), *self.given}
         for it in entries:
             known |= {block for part in self.intact[it.header] for block in part} if it.state == "whole" else set()
-            if it.state != "whole" and it.header in self.told and not self.is_directory(it.header):
+            if it.state != "whole" and it.header in self.inside and (it.header in self.loose or it.header in self.told and not self.is_directory(it.header)):
                 needed = min(-(-self.long(it.header, 81) // self.room), self.blocks)
                 heads = self.pointer_blocks(it.header)
                 known |= set(heads if self.rules.typed else heads[: 1 + needed // 72])

@@ -505,21 +505,6 @@ def scattered(base: Base, seed: str, number: int) -> bytes:
     return bytes(image.data)
 
 
-def rules_of(report: Report, program: Path) -> Rules:
-    """What the program does, by an OFS floppy with a file without a header."""
-    floppy = next(floppies(True, 1))
-    image = Image(floppy.data)
-    headless = next(it for it in floppy.files() if floppy.parts[it])
-    image.data[BLOCK * headless : BLOCK * (headless + 1)] = bytes(BLOCK)
-    with Room(program, inside=in_memory()) as room:
-        room.write("image.adf", bytes(image.data))
-        lines = room.run("extract", "--damaged", "--to", "out", "image.adf").output.decode().splitlines()
-    is_told = not any(re.fullmatch(rf"lost (.*/)?block-{headless}", it) for it in lines)
-    if not is_told:
-        report.skip("files from OFS data blocks without a header", "the program does not tell them yet")
-    return NOW._replace(headless=is_told)
-
-
 def fault_of_base(program: Path, seed: str, rules: Rules, kept: Optional[Path], number: int) -> List[str]:
     """What is wrong with the images of a base."""
     faults = []
@@ -556,7 +541,7 @@ def main(words: List[str]) -> int:
     program, report = program_of(given.program), Report()
     kept = given.keep and given.keep.absolute()
     swept(report, program, given.all, given.jobs, kept)
-    compared(report, program, given.images, given.seed, PAGE if given.page else rules_of(report, program), given.jobs, kept)
+    compared(report, program, given.images, given.seed, PAGE if given.page else NOW, given.jobs, kept)
     return report.end()
 
 

@@ -611,7 +611,8 @@ enum jip_state {
     JIP_STATE_WHOLE = 2, /* a file, and no other sound file uses one of its blocks */
     JIP_STATE_BROKEN = 3, /* a file of which some data blocks are missing, or are used by another file too */
     JIP_STATE_LOST = 4, /* an entry with no header to tell: only its name, its header's number and its directory mean something */
-    JIP_STATE_DOUBTFUL = 5, /* a file that lacks no data block but is not whole: a block is damaged, or used by another file too */
+    JIP_STATE_DOUBTFUL = 5, /* a file that lacks no data block but is not whole: a block is damaged, or used by another file too, or the
+                               header is gone, and OFS data blocks name it */
     JIP_STATE_DOUBTFUL_DIRECTORY = 6 /* a directory whose header has a wrong checksum or too long a comment */
 };
 
@@ -623,7 +624,7 @@ typedef struct jip_salvaged {
     size_t directory;  /* the position of its directory, which is before it; or JIP_NO_DIRECTORY */
     size_t size;       /* of a file, in bytes: what jip_salvage_read gives; 0 for a directory */
     uint32_t state;    /* a jip_state */
-    uint32_t header;   /* the block number of its header */
+    uint32_t header;   /* the block number of its header, which may be gone */
     uint32_t is_found; /* 1 if no hash chain from the root leads to it, else 0: its path then starts with `lost+found` */
     uint32_t missing;  /* how many data blocks of a broken file are missing; else 0 */
     uint32_t is_cut;   /* 1 if a broken file ends early, because all of them together would be too long; else 0 */

@@ -21,7 +21,9 @@ class Salvage(unittest.TestCase):
             floppy.comment("Docs/text", "r\u00e9ad me")
             floppy.protect("Docs/text", 5)
             self.header = floppy.stat("Docs/text").key
-            self.second = floppy.map().index(jip.Owner(jip.Role.DATA, self.header, 1))
+            owners = floppy.map()
+            self.data = [owners.index(jip.Owner(jip.Role.DATA, self.header, it)) for it in range(3)]
+            self.second = self.data[1]
             self.image = bytearray(floppy.image())
             floppy.close(discard=True)
 
@@ -82,8 +84,15 @@ class Salvage(unittest.TestCase):
         self.assertEqual((docs.state, docs.is_dir, docs.is_found), (jip.State.DOUBTFUL_DIRECTORY, True, False))
         self.assertEqual((file.state, file.header, file.is_file, file.read()), (jip.State.DOUBTFUL, self.header, True, DATA))
 
-    def test_a_lost_header(self) -> None:
+    def test_a_header_that_is_gone(self) -> None:
         self.image[512 * self.header + 7] ^= 1
+        file = self.entry("Docs/text")
+        self.assertEqual((file.state, file.header, file.missing, file.is_found), (jip.State.DOUBTFUL, self.header, 0, False))
+        self.assertEqual((file.size, file.is_file, file.read()), (len(DATA), True, DATA))
+
+    def test_a_lost_header(self) -> None:
+        for block in (self.header, *self.data):
+            self.image[512 * block + 7] ^= 1
         file = self.entry("Docs/text")
         self.assertEqual((file.state, file.header, file.size, file.is_file, file.read()), (jip.State.LOST, self.header, 0, False, b""))
 

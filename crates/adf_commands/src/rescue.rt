@@ -85,6 +85,7 @@ fn text_of(doubt: Doubt) -> &'static str {
     match doubt {
         Doubt::Header => HEADER,
         Doubt::Blocks => BLOCKS,
+        Doubt::Gone => GONE,
         Doubt::Cut => CUT,
     }
 }
@@ -95,6 +96,9 @@ const HEADER: &str = "doubtful: its header has a wrong checksum or too long a co
 /// A file with a sound header is doubtful because of another block.
 const BLOCKS: &str =
     "doubtful: a block of it has a wrong checksum or field, or is in another file too";
+
+/// A file is doubtful because it has no header.
+const GONE: &str = "doubtful: its header is gone, and it is made of the data blocks that name it";
 
 /// A file is cut short because of the bound for all of them.
 const CUT: &str = "cut short: all files that are not whole have four times the bytes of the image";

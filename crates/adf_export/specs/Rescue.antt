@@ -1,6 +1,7 @@
 -- The report on a damaged image after everything that can be trusted was written.
 use Rattle.std.specs.Prelude.{◌≡◌, ◌<◌, ℕ, Bool, true, false, List, [], ◌∷◌, ◌++◌, ◌==◌, codes, decimal, length, Option, Some, None, if◌then◌else◌, ⊤}
 use Rattle.adf_salvage.specs.Salvaged.{Salvages, Saved}
+use Rattle.adf_salvage.specs.declared.salvaged.HeaderState.TheVariants as heads
 use Rattle.adf_salvage.specs.declared.salvaged.Salvaged.{Salvaged}
 use Rattle.adf_salvage.specs.declared.salvaged.State.{State}
 use Rattle.adf_salvage.specs.declared.salvaged.State.TheVariants.{Directory, DoubtfulDirectory, Whole, Doubtful, Lost, Broken}
@@ -10,7 +11,7 @@ use Rattle.adf_export.specs.RescueObject.{IsReportObject}
 use Rattle.adf_export.specs.declared.plan.Source.{Source}
 use Rattle.adf_export.specs.declared.plan.Source.TheVariants.{File}
 use Rattle.adf_export.specs.declared.damaged.Doubt.{Doubt}
-use Rattle.adf_export.specs.declared.damaged.Doubt.TheVariants.{Header, Blocks, Cut}
+use Rattle.adf_export.specs.declared.damaged.Doubt.TheVariants.{Header, Blocks, Gone, Cut}
 use Rattle.adf_export.specs.declared.damaged.Rescue.{Rescue}
 use Rattle.adf_export.specs.declared.fault.OutFault.{OutFault}
 use Rattle.adf_export.specs.declared.fault.OutFault.TheVariants.{Host, Memory}
@@ -26,14 +27,15 @@ rescue_line false Directory path = []
 rescue_line found DoubtfulDirectory path = found_word found ++ codes "doubtful " ++ path ++ codes "/\n"
 rescue_line found Lost path = found_word found ++ codes "lost " ++ path ++ codes "\n"
 rescue_line found Whole path = found_word found ++ codes "whole " ++ path ++ codes "\n"
-rescue_line found (Doubtful sound length) path = found_word found ++ codes "doubtful " ++ path ++ codes "\n"
+rescue_line found (Doubtful header length) path = found_word found ++ codes "doubtful " ++ path ++ codes "\n"
 rescue_line found (Broken missing cut length) path = found_word found ++ codes "broken " ++ decimal missing ++ codes " " ++ path ++ codes "\n"
 
 -- why an entry is doubtful or cut short
 abbrev pub doubt_of : State → Option Doubt
 doubt_of DoubtfulDirectory = Some Header
-doubt_of (Doubtful true length) = Some Blocks
-doubt_of (Doubtful false length) = Some Header
+doubt_of (Doubtful heads.Sound length) = Some Blocks
+doubt_of (Doubtful heads.Doubtful length) = Some Header
+doubt_of (Doubtful heads.Gone length) = Some Gone
 doubt_of (Broken missing true length) = Some Cut
 doubt_of _ = None
 

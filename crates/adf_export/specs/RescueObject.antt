@@ -1,10 +1,11 @@
 -- The report on a damaged image as a JSON object.
-use Rattle.std.specs.Prelude.{◌≡◌, ℕ, Bool, true, false, List, [], ◌∷◌, ◌++◌, codes, decimal, flat_map, if◌then◌else◌}
+use Rattle.std.specs.Prelude.{◌≡◌, ℕ, Bool, true, List, [], ◌∷◌, ◌++◌, codes, decimal, flat_map, if◌then◌else◌}
 use Rattle.json.specs.Token.{Token, begin_object, end_object, begin_array, end_array, key, string, number, boolean}
 use Rattle.json.specs.Print.{print}
 use Rattle.adf_salvage.specs.declared.salvaged.Salvaged.{Salvaged}
 use Rattle.adf_salvage.specs.declared.salvaged.State.{State}
 use Rattle.adf_salvage.specs.declared.salvaged.State.TheVariants.{Directory, DoubtfulDirectory, Whole, Doubtful, Lost, Broken}
+use Rattle.adf_salvage.specs.Salvaged.{is_cut, missing_in}
 
 -- an entry is told, unless it is a sound directory that was not recovered
 abbrev pub is_told : State → Bool → Bool
@@ -16,18 +17,9 @@ abbrev pub state_word : State → List ℕ
 state_word Directory = codes "whole"
 state_word DoubtfulDirectory = codes "doubtful"
 state_word Whole = codes "whole"
-state_word (Doubtful sound length) = codes "doubtful"
+state_word (Doubtful header length) = codes "doubtful"
 state_word Lost = codes "lost"
 state_word (Broken missing cut length) = codes "broken"
-
--- how many data blocks of an entry are missing, and whether it is cut short: only a broken file has missing ones or is cut
-abbrev pub missing_in : State → ℕ
-missing_in (Broken missing cut length) = missing
-missing_in state = 0
-
-abbrev pub is_cut : State → Bool
-is_cut (Broken missing cut length) = cut
-is_cut state = false
 
 -- a slash behind the path of a directory
 abbrev pub path_end : State → List ℕ

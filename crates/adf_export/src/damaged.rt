@@ -18,7 +18,7 @@ use crate::ranges::ranges_text;
 use crate::rescue_object::{entry_object, is_told, rest_text, write_front};
 use adf_block::Image;
 use adf_host::OwnedFile;
-use adf_salvage::{Salvage, Salvaged, State, salvage};
+use adf_salvage::{HeaderState, Salvage, Salvaged, State, salvage};
 use adf_words::SalvageJob;
 use ados_mend::unaccounted_blocks;
 use host_trees::write_tree;
@@ -82,6 +82,8 @@ pub enum Doubt {
     Header,
     /// Its header is sound, but another of its blocks is not, or is named by another file too.
     Blocks,
+    /// It has no header: it is what is left in the data blocks that name it.
+    Gone,
     /// Its bytes end early, because of the limit for all files that are not whole.
     Cut,
 }
@@ -91,8 +93,12 @@ fn doubt_of(state: State) -> Option<Doubt>
     ensures { result ≡ doubt_of state }
 {
     match state {
-        State::DoubtfulDirectory | State::Doubtful { sound: false, .. } => Some(Doubt::Header),
-        State::Doubtful { sound: true, .. } => Some(Doubt::Blocks),
+        State::DoubtfulDirectory => Some(Doubt::Header),
+        State::Doubtful { header, .. } => Some(match header {
+            HeaderState::Sound => Doubt::Blocks,
+            HeaderState::Doubtful => Doubt::Header,
+            HeaderState::Gone => Doubt::Gone,
+        }),
         State::Broken { cut: true, .. } => Some(Doubt::Cut),
         _ => None,
     }

@@ -5,7 +5,7 @@ ghost use Rattle.std.specs.String.{string_bytes};
 ghost use Rattle.json.specs.Print.{print, print_from};
 ghost use Rattle.json.specs.Token.{number};
 ghost use Rattle.adf_io.specs.Prefix.{WritesFront};
-ghost use Rattle.adf_export.specs.RescueObject.{entry_tokens, is_cut, is_told, missing_in, path_end, rest_tokens, state_word};
+ghost use Rattle.adf_export.specs.RescueObject.{entry_tokens, is_told, path_end, rest_tokens, state_word};
 ghost use Rattle.adf_export.specs.steps.Reporting.{front_tokens};
 
 use crate::output::write_text;
@@ -68,8 +68,8 @@ fn put_entry(writer: &mut Writer, found: bool, state: State, path: &str) -> Resu
     put_text(writer, "path", Some(path))?;
     put_text(writer, "state", Some(state_word(state)))?;
     put_flag(writer, "found", found)?;
-    put_number(writer, "missing", Some(missing_in(state)))?;
-    put_flag(writer, "cut", is_cut(state))?;
+    put_number(writer, "missing", Some(u64::from(state.missing())))?;
+    put_flag(writer, "cut", state.is_cut())?;
     writer.end_object()
 }
 
@@ -132,26 +132,6 @@ fn state_word(state: State) -> &'static str
         State::DoubtfulDirectory | State::Doubtful { .. } => "doubtful",
         State::Lost => "lost",
         State::Broken { .. } => "broken",
-    }
-}
-
-/// The number of the missing data blocks of an entry.
-fn missing_in(state: State) -> u64
-    ensures { result ≡ missing_in state }
-{
-    match state {
-        State::Broken { missing, .. } => u64::from(missing),
-        _ => 0,
-    }
-}
-
-/// Whether an entry is cut short.
-fn is_cut(state: State) -> bool
-    ensures { result ≡ is_cut state }
-{
-    match state {
-        State::Broken { cut, .. } => cut,
-        _ => false,
     }
 }
 

@@ -17,7 +17,7 @@ use Rattle.adf_salvage.specs.Salvaged.{IsLostEntry, IsTold, broken_length, broke
 use Rattle.adf_salvage.specs.steps.Giving.{IsGiving}
 use Rattle.adf_salvage.specs.steps.Gathering.{AreGathered, GathersMore, place_at}
 
-headers_more : (xs : List Salvaged) (e : Salvaged) → headers_of (xs ++ e ∷ []) ≡ headers_of xs ++ e.header ∷ []
+pub headers_more : (xs : List Salvaged) (e : Salvaged) → headers_of (xs ++ e ∷ []) ≡ headers_of xs ++ e.header ∷ []
 headers_more [] e = refl
 headers_more (x ∷ xs) e = ap (λ (ys : List ℕ). x.header ∷ ys) (headers_more xs e)
 

@@ -10,6 +10,7 @@ pub mod Following
 pub mod Answering
 pub mod Marked
 pub mod Saving
+pub mod Settling
 pub mod Holding
 pub mod Filled
 pub mod Ending

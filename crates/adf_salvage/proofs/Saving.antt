@@ -6,11 +6,12 @@ use Rattle.adf_salvage.specs.Deleted.{TellsTrust}
 use Rattle.adf_salvage.specs.Lost.{IsLost}
 use Rattle.adf_salvage.specs.Salvaged.{AreApart, AreLeftOut, AreSalvaged, Saved, SavesSound, broken_total, headers_of}
 use Rattle.adf_salvage.specs.steps.Gathering.{AreAllHeaders, AreGathered, place_at}
+use Rattle.adf_salvage.specs.steps.Settling.{AreSettled}
 
 module _ (out image : List ℕ) (gathered : Gathered) (g : AreGathered out image gathered) where
   pub all_salvaged : AreAllHeaders out image gathered.places.items → ((block : ℕ) → IsLost out image block → IsSome (place_at gathered.places.items block)) → AreSalvaged out image gathered.entries.items
   all_salvaged met lost_met = record {
-    told = g.told;
+    told = λ i d l. inl (g.told i d l);
     once = λ i j d l m e.
         let headers = headers_of gathered.entries.items in
         let first : i < length (headers_of gathered.entries.items) = omega (arith, l, m) in
@@ -24,13 +25,13 @@ module _ (out image : List ℕ) (gathered : Gathered) (g : AreGathered out image
     lost = λ block lost. g.met block (lost_met block lost);
   }
 
-  pub saves_sound : (saved : Saved) (trusted : Bool) → TellsTrust image trusted → saved.trusted ≡ trusted → AreLeftOut image out → saved.deleted ≡ out → saved.image ≡ image → saved.entries ≡ gathered.entries.items → saved.given ≡ gathered.giving.pieces.items
-      → AreAllHeaders out image gathered.places.items → ((block : ℕ) → IsLost out image block → IsSome (place_at gathered.places.items block)) → SavesSound saved
-  saves_sound saved trusted trust tells left_out leaves same are given met lost_met = record {
-    trust = subst (λ (xs : List ℕ). TellsTrust xs saved.trusted) (sym same) (subst (TellsTrust image) (sym tells) trust);
-    left_out = subst (λ (xs : List ℕ). AreLeftOut xs saved.deleted) (sym same) (subst (AreLeftOut image) (sym leaves) left_out);
-    salvaged = subst (λ (xs : List ℕ). AreSalvaged saved.deleted xs saved.entries) (sym same)
-        (subst (λ (xs : List ℕ). AreSalvaged xs image saved.entries) (sym leaves) (subst (AreSalvaged out image) (sym are) (all_salvaged met lost_met)));
-    apart = subst AreApart (sym given) g.giving.once;
-    bounded = omega (arith, g.bounded, ap broken_total are, ap length same);
-  }
+pub saves_sound : (out image : List ℕ) (next : ℕ) (gathered : Gathered) (saved : Saved) (trusted : Bool) → AreSettled out image next gathered → TellsTrust image trusted → saved.trusted ≡ trusted → AreLeftOut image out → saved.deleted ≡ out
+    → saved.image ≡ image → saved.entries ≡ gathered.entries.items → saved.given ≡ gathered.giving.pieces.items → SavesSound saved
+saves_sound out image next gathered saved trusted s trust tells left_out leaves same are given = record {
+  trust = subst (λ (xs : List ℕ). TellsTrust xs saved.trusted) (sym same) (subst (TellsTrust image) (sym tells) trust);
+  left_out = subst (λ (xs : List ℕ). AreLeftOut xs saved.deleted) (sym same) (subst (AreLeftOut image) (sym leaves) left_out);
+  salvaged = subst (λ (xs : List ℕ). AreSalvaged saved.deleted xs saved.entries) (sym same)
+      (subst (λ (xs : List ℕ). AreSalvaged xs image saved.entries) (sym leaves) (subst (AreSalvaged out image) (sym are) s.salvaged));
+  apart = subst AreApart (sym given) s.giving.once;
+  bounded = omega (arith, s.bounded, ap broken_total are, ap length same);
+}

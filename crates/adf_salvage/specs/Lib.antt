@@ -1,6 +1,7 @@
 -- Which files of an image can be trusted, and the descriptions of entries. Definitions for steps are in `steps`.
 pub mod Sound
 pub mod Doubtful
+pub mod Loose
 pub mod Lost
 pub mod Salvaged
 pub mod Saved

@@ -17,11 +17,14 @@ use Rattle.ados_model.specs.Tree.Content.{Directory, File}
 use Rattle.ados_volume.specs.Below.{AreBelow, placed}
 use Rattle.ados_volume.specs.declared.below.Below.{Below}
 use Rattle.adf_salvage.specs.declared.giving.Piece.{Piece}
+use Rattle.adf_salvage.specs.declared.salvaged.HeaderState.{HeaderState}
+use Rattle.adf_salvage.specs.declared.salvaged.HeaderState.TheVariants as heads
 use Rattle.adf_salvage.specs.declared.salvaged.Salvaged.{Salvaged}
 use Rattle.adf_salvage.specs.declared.salvaged.State.{State}
 use Rattle.adf_salvage.specs.declared.salvaged.State.TheVariants as states
 use Rattle.adf_salvage.specs.Deleted.{IsDeleted, TellsTrust}
 use Rattle.adf_salvage.specs.Doubtful.{IsDoubtfulHeader, IsHeader, IsToldHeader}
+use Rattle.adf_salvage.specs.Loose.{IsLooseData}
 use Rattle.adf_salvage.specs.Lost.{IsLost}
 use Rattle.adf_salvage.specs.Sound.{IsSoundHeader, IsWhole}
 
@@ -40,14 +43,19 @@ unfoldable pub ended : List ℕ → ℕ → ℕ → List ℕ
 ended name header zero = name
 ended name header (suc endings) = ended name header endings ++ 126 ∷ decimal header
 
+-- the header of a file is like that, where some headers are left out
+abbrev pub HasHeaderState : List ℕ → List ℕ → ℕ → HeaderState → Type 0
+HasHeaderState out image block heads.Sound = IsSoundHeader image block
+HasHeaderState out image block heads.Doubtful = IsDoubtfulHeader out image block
+HasHeaderState out image block heads.Gone = ⊥
+
 -- the state fits the header, where some headers are left out: a directory or file whose header is sound or doubtful, a whole file, or a
 -- broken one, which is not whole
 abbrev pub HasState : List ℕ → List ℕ → ℕ → State → Type 0
 HasState out image block states.Directory = IsSoundHeader image block × HasDirectoryType image block
 HasState out image block states.DoubtfulDirectory = IsDoubtfulHeader out image block × HasDirectoryType image block
 HasState out image block states.Whole = IsWhole out image block
-HasState out image block (states.Doubtful sound length) =
-    MatchBool sound (IsSoundHeader image block) (IsDoubtfulHeader out image block) × HasFileType image block × ¬ IsWhole out image block
+HasState out image block (states.Doubtful heading length) = HasHeaderState out image block heading × HasFileType image block × ¬ IsWhole out image block
 HasState out image block (states.Broken missing cut length) = HasFileType image block × ¬ IsWhole out image block
 HasState out image block states.Lost = ⊥
 
@@ -71,14 +79,30 @@ pub record IsLostEntry (out image : List ℕ) (entry : Salvaged) : Type 0 where
 abbrev pub IsTold : List ℕ → List ℕ → Salvaged → Type 0
 IsTold out image entry = IsSalvaged out image entry ⊎ IsLostEntry out image entry
 
+-- the state of a file without a header: no data block is missing, or some are or it is cut short
+abbrev pub IsGone : State → Type 0
+IsGone (states.Doubtful heads.Gone length) = ⊤
+IsGone (states.Broken missing cut length) = ⊤
+IsGone state = ⊥
+
+-- a file whose header is no header that is told: it is made of OFS data blocks that name it. The rest of the description is free
+pub record IsLoose (out image : List ℕ) (header : ℕ) (state : State) : Type 0 where
+  pub untold : ¬ IsHeader out image header
+  pub named : (block : ℕ) × IsLooseData image header block
+  pub gone : IsGone state
+
+-- the description of an entry that is told, or of a file without a header
+abbrev pub IsListed : List ℕ → List ℕ → Salvaged → Type 0
+IsListed out image entry = IsTold out image entry ⊎ IsLoose out image entry.header entry.state
+
 -- the headers of these entries
 abbrev pub headers_of : List Salvaged → List ℕ
 headers_of found = map (λ entry. entry.header) found
 
--- the entries are exactly the told ones, each once: the sound headers but those that are left out, the doubtful headers and the
--- lost entries of the image
+-- the entries are the told ones, each once: the sound headers but those that are left out, the doubtful headers and the
+-- lost entries of the image; and files without a header, some of them in place of a lost entry
 pub record AreSalvaged (out image : List ℕ) (found : List Salvaged) : Type 0 where
-  pub told : All (IsTold out image) found
+  pub told : All (IsListed out image) found
   pub once : AllPairs (λ a b. a ≢ b) (headers_of found)
   pub sound : (block : ℕ) → IsToldHeader out image block → Contains (headers_of found) block
   pub doubtful : (block : ℕ) → IsDoubtfulHeader out image block → Contains (headers_of found) block
@@ -102,9 +126,18 @@ HoldsAll image header _ _ = ⊥
 
 -- the number of bytes of a file that is not whole
 abbrev pub broken_length : State → ℕ
-broken_length (states.Doubtful sound length) = length
+broken_length (states.Doubtful heading length) = length
 broken_length (states.Broken missing cut length) = length
 broken_length state = 0
+
+-- how many data blocks of an entry are missing, and whether it is cut short: only a broken file has missing ones or is cut
+abbrev pub missing_in : State → ℕ
+missing_in (states.Broken missing cut length) = missing
+missing_in state = 0
+
+abbrev pub is_cut : State → Bool
+is_cut (states.Broken missing cut length) = cut
+is_cut state = false
 
 -- the number of bytes of all files that are not whole
 unfoldable pub broken_total : List Salvaged → ℕ

@@ -28,7 +28,7 @@ size_of image header states.Directory = 0
 size_of image header states.DoubtfulDirectory = 0
 size_of image header states.Lost = 0
 size_of image header states.Whole = file_size image header
-size_of image header (states.Doubtful sound length) = length
+size_of image header (states.Doubtful heading length) = length
 size_of image header (states.Broken missing cut length) = length
 
 -- the bytes of an entry: all those of a whole file, and those of the blocks given to one that is not whole
@@ -37,7 +37,7 @@ HasBytes image given place header states.Directory bytes = bytes ≡ []
 HasBytes image given place header states.DoubtfulDirectory bytes = bytes ≡ []
 HasBytes image given place header states.Lost bytes = bytes ≡ []
 HasBytes image given place header states.Whole bytes = bytes ≡ contents image header
-HasBytes image given place header (states.Doubtful sound length) bytes = IsPieced image given place length bytes
+HasBytes image given place header (states.Doubtful heading length) bytes = IsPieced image given place length bytes
 HasBytes image given place header (states.Broken missing cut length) bytes = IsPieced image given place length bytes
 
 -- the entry is at this position

@@ -8,3 +8,4 @@ pub mod Keeping
 pub mod Deleting
 pub mod Undeleting
 pub mod Leaving
+pub mod Settling

@@ -1,17 +1,18 @@
 //! The entries of a damaged image, while they are gathered.
-ghost use Rattle.std.specs.Prelude.{◌≡◌, ◌<◌, ◌↔◌, ℕ, List, None, length, IfOk, IsSome, IsTrue, OnOk};
+ghost use Rattle.std.specs.Prelude.{◌≡◌, ◌<◌, ◌↔◌, ◌++◌, ◌∷◌, [], ℕ, List, None, length, IfOk, IsSome, IsTrue, OnOk};
 ghost use Rattle.adf_block.specs.Image.{block_count};
+ghost use Rattle.adf_salvage.specs.declared.salvaged.Salvaged.{Salvaged as Entry};
 ghost use Rattle.adf_salvage.specs.Lost.{IsLost};
 ghost use Rattle.adf_salvage.specs.steps.Gathering.{AreGathered, GathersMore, IsNew, place_at};
 ghost use Rattle.adf_salvage.specs.steps.Heading.{AreKnown};
 
 use crate::giving::Giving;
-use crate::header::{name_of, name_of_lost};
+use crate::header::{name_of, name_of_lost, numbered_name};
 use crate::known::Known;
 use crate::names::{Names, Standing};
 use crate::salvaged::{Salvaged, State};
 use crate::state::state_of;
-use crate::told::{told_of, told_of_lost};
+use crate::told::{told_by_name, told_of};
 use adf_block::Image;
 use adf_block::layout::NEXT_IN_CHAIN;
 use std::alloc::{AllocError, Global};
@@ -164,9 +165,40 @@ impl Gathered {
         let place = self.entries.len();
         let name = name_of_lost(alloc, image, block)?;
         let endings = self.names.take(alloc, standing, name.bytes(), block)?;
-        self.entries
-            .push(told_of_lost(block, standing, endings, name))?;
+        let entry = told_by_name(block, standing, endings, name, State::Lost);
+        self.entries.push(entry)?;
         self.places[block as usize] = Some(place);
+        Ok(())
+    }
+}
+
+impl Gathered {
+    /// Whether a header has an entry that was gathered.
+    pub(crate) fn is_there(&self, header: u32) -> bool
+        ensures { IsTrue result ↔ IsSome (place_at self.now.places.items header) }
+    {
+        (header as usize) < self.places.len() && self.places[header as usize].is_some()
+    }
+
+    /// Adds the entry of a file without a header, as a recovered one. Its header needs no place.
+    pub(crate) fn add_loose(
+        &mut self,
+        alloc: Global,
+        header: u32,
+        state: State,
+    ) -> Result<(), AllocError>
+        ensures entries { OnOk result ((entry : Entry) × (entry.header ≡ header) × (entry.state ≡ state) × (self.new.entries.items ≡ self.old.entries.items ++ entry ∷ [])) }
+        ensures places { self.new.places ≡ self.old.places }
+        ensures giving { self.new.giving ≡ self.old.giving }
+    {
+        let standing = Standing {
+            above: None,
+            found: true,
+        };
+        let name = numbered_name(alloc, header)?;
+        let endings = self.names.take(alloc, standing, name.bytes(), header)?;
+        let entry = told_by_name(header, standing, endings, name, state);
+        self.entries.push(entry)?;
         Ok(())
     }
 }

@@ -124,8 +124,15 @@ impl Giving {
         })
     }
 
+    /// Whether a block can still be given.
+    pub(crate) fn is_open(&self, block: u32) -> bool
+        ensures { IsTrue result → IsOpen self.now.given.items block }
+    {
+        (block as usize) < self.given.len() && !self.given[block as usize]
+    }
+
     /// Notes that a block is given.
-    fn note(&mut self, piece: Piece) -> Result<(), AllocError>
+    pub(crate) fn note(&mut self, piece: Piece) -> Result<(), AllocError>
         requires fresh { IsOpen self.old.given.items piece.block }
         ensures giving { OnOk result ((image : List ℕ) → IsGiving image self.old → IsGiving image self.new) }
         ensures left { self.new.left ≡ self.old.left }

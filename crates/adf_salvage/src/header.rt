@@ -101,9 +101,14 @@ pub(crate) fn name_of_lost(alloc: Global, image: &Image, block: u32) -> Result<N
     requires { block < block_count image.now }
     ensures { IfOk result (λ name. IsName (text_at image.now block NAME_BYTE) → name ≡ text_at image.now block NAME_BYTE) }
 {
-    if let Some(name) = name_of(image, block) {
-        return Ok(name);
+    match name_of(image, block) {
+        Some(name) => Ok(name),
+        None => numbered_name(alloc, block),
     }
+}
+
+/// The name of an entry without a valid one: `block-` and the number of its block.
+pub(crate) fn numbered_name(alloc: Global, block: u32) -> Result<Name, AllocError> {
     let mut text = Vec::from_slice(alloc, b"block-")?;
     text.extend_from_slice(Buffer::new().format(block).as_bytes())?;
     match Name::new(text.as_slice()) {

@@ -1,6 +1,6 @@
 //! What can be told of an image that the check refuses: each sound header that is not deleted, the bytes of each file whose
-//! blocks no other such file names, the doubtful headers, and the entries that are lost. And the deleted entries of an
-//! image, accepted or refused.
+//! blocks no other such file names, the doubtful headers, the entries that are lost, and what is left in OFS data blocks of files
+//! whose header is gone. And the deleted entries of an image, accepted or refused.
 #![tactic(auto)]
 
 mod chains;
@@ -17,6 +17,7 @@ mod kind;
 mod known;
 mod left_out;
 mod listing;
+mod loose;
 mod lost;
 mod names;
 mod pieces;
@@ -35,7 +36,7 @@ pub use deleted::{Deleted, DeletedEntries, Recovery, deleted_entries};
 pub use giving::Piece;
 pub use header::is_sound_header;
 pub use holders::looks_like_extension;
-pub use salvaged::{Salvaged, State};
+pub use salvaged::{HeaderState, Salvaged, State};
 pub use salvaging::salvage;
 pub use saved::Salvage;
 pub use undeleted::{Undeleted, UndeletedEntries, undelete};

@@ -1,6 +1,6 @@
 //! The description of an entry.
 ghost use Rattle.std.specs.Prelude.{◌≡◌, ◌++◌, ◌∷◌, decimal, IfOk, OnOk};
-ghost use Rattle.adf_salvage.specs.Salvaged.{ended};
+ghost use Rattle.adf_salvage.specs.Salvaged.{broken_length, ended, is_cut, missing_in};
 
 use ados_name::{Comment, Date3, Name, Protect};
 use itoa::Buffer;
@@ -10,7 +10,7 @@ use std::alloc::{AllocError, Global};
 /// something.
 #[derive(Drop)]
 pub struct Salvaged {
-    /// The block number of its header.
+    /// The block number of its header, which may be gone.
     pub header: u32,
     /// The position of its directory in the list of entries, which is before it. `None` is the root, or `lost+found` for
     /// a recovered entry.
@@ -18,7 +18,8 @@ pub struct Salvaged {
     /// Whether it was recovered: no hash chain from the root leads to it. Its path then starts with `lost+found`, even
     /// if its directory was not recovered.
     pub found: bool,
-    /// The name in the header. If a lost entry has none that is valid, it is `block-` with the number of its block.
+    /// The name in the header. If a lost entry has none that is valid, or no header is left, it is `block-` with the number of
+    /// its block.
     pub name: Name,
     /// How often `~` and the header follow the name, since it is in use in the directory already.
     pub endings: u32,
@@ -37,8 +38,7 @@ pub enum State {
     Whole,
     /// A file of which no data block is missing, but which is not whole.
     Doubtful {
-        /// Whether its header is sound. Then another of its blocks is not, or is named by another file too.
-        sound: bool,
+        header: HeaderState,
         /// The number of its bytes.
         length: usize,
     },
@@ -53,6 +53,49 @@ pub enum State {
         /// The number of its bytes.
         length: usize,
     },
+}
+
+/// What the header of a file is like that is not whole.
+#[derive(Clone, Copy, PartialEq, Eq)]
+pub enum HeaderState {
+    /// It is sound. Then another of its blocks is not, or is named by another file too.
+    Sound,
+    /// It has a wrong checksum or too long a comment.
+    Doubtful,
+    /// It is gone: the file is what is left in the OFS data blocks that name it.
+    Gone,
+}
+
+impl State {
+    /// The number of missing data blocks: only a broken file has any.
+    pub fn missing(self) -> u32
+        ensures { result ≡ missing_in self }
+    {
+        match self {
+            State::Broken { missing, .. } => missing,
+            _ => 0,
+        }
+    }
+
+    /// Whether it is cut short: only a broken file is.
+    pub fn is_cut(self) -> bool
+        ensures { result ≡ is_cut self }
+    {
+        match self {
+            State::Broken { cut, .. } => cut,
+            _ => false,
+        }
+    }
+
+    /// The number of bytes of a file that is not whole.
+    pub(crate) fn broken_length(self) -> usize
+        ensures { result ≡ broken_length self }
+    {
+        match self {
+            State::Doubtful { length, .. } | State::Broken { length, .. } => length,
+            _ => 0,
+        }
+    }
 }
 
 impl Salvaged {

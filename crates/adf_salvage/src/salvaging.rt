@@ -11,6 +11,7 @@ use crate::kind::with_kind;
 use crate::known::known_of;
 use crate::left_out::left_out_of;
 use crate::listing::volume_entries;
+use crate::loose::add_loose;
 use crate::lost::add_lost;
 use crate::saved::Salvage;
 use crate::unreached::add_unreached;
@@ -21,7 +22,8 @@ use std::alloc::{AllocError, Global};
 /// Everything in an image that can be told, each header once, a directory before its entries.
 ///
 /// For an image that the check accepts, these are the entries of its tree. For any other, they are its sound and doubtful
-/// headers, first those along hash chains from the root and then the others, and then its lost entries. Deleted entries are
+/// headers, first those along hash chains from the root and then the others, and then its lost entries. In OFS, data blocks that
+/// name no such header make a file, in place of the lost entry with that header, or else behind all others. Deleted entries are
 /// left out, if the bitmap can be trusted: they claim no blocks, so a file that has such blocks now can be whole. If its first four
 /// bytes are neither OFS nor FFS, it is read as the kind that its blocks suggest. A block is given to one file at most of
 /// those that are not whole, to the first in this order, and all of these together have at most four times the bytes of the
@@ -41,7 +43,8 @@ pub fn salvage(alloc: Global, image: Image) -> Result<Salvage, AllocError>
     }
 }
 
-/// The entries of all sound and doubtful headers of an image but the deleted ones, and its lost entries.
+/// The entries of all sound and doubtful headers of an image but the deleted ones, its lost entries, and the files without a
+/// header.
 fn told_headers(alloc: Global, image: Image) -> Result<Salvage, AllocError>
     ensures refused { IfOk result (λ saved. saved.accepted ≡ false) }
     ensures image { IfOk result (λ saved. saved.image ≡ image) }
@@ -53,6 +56,7 @@ fn told_headers(alloc: Global, image: Image) -> Result<Salvage, AllocError>
     add_reached(alloc, &image, &known, &mut gathered)?;
     add_unreached(alloc, &image, &known, &mut gathered)?;
     add_lost(alloc, &image, &known, &mut gathered)?;
+    add_loose(alloc, &image, &known, trusted, &mut gathered)?;
     let Gathered {
         entries,
         giving,

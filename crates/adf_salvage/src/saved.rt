@@ -98,7 +98,8 @@ impl Salvage {
         self.pieces.as_slice()
     }
 
-    /// The entries, each block once, a directory before its entries. Lost entries come last.
+    /// The entries, each header once, a directory before its entries. Lost entries come last, and behind them only recovered files
+    /// without a header.
     pub fn entries(&self) -> &[Salvaged]
         ensures { result.now ≡ self.now.entries }
     {

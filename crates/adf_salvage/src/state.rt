@@ -1,15 +1,16 @@
 //! The state of a file.
-ghost use Rattle.std.specs.Prelude.{◌≡◌, ◌+◌, IfOk, OnOk, if◌then◌else◌};
+ghost use Rattle.std.specs.Prelude.{◌≡◌, ◌+◌, ◌≤◌, IfOk, OnOk, if◌then◌else◌};
 ghost use Rattle.adf_salvage.specs.Salvaged.{HasState, broken_length};
+ghost use Rattle.adf_salvage.specs.steps.Settling.{IsDamaged};
 ghost use Rattle.adf_salvage.specs.declared.salvaged.State.TheVariants.{Directory, DoubtfulDirectory};
 ghost use Rattle.adf_salvage.specs.Doubtful.{IsHeader};
 ghost use Rattle.adf_salvage.specs.steps.Giving.{IsGiving};
 ghost use Rattle.adf_salvage.specs.steps.Heading.{AreKnown};
 
-use crate::giving::Giving;
+use crate::giving::{Giving, Remains};
 use crate::header::{is_file, is_sound_header};
 use crate::known::Known;
-use crate::salvaged::State;
+use crate::salvaged::{HeaderState, State};
 use adf_block::Image;
 use std::alloc::AllocError;
 
@@ -37,17 +38,31 @@ pub(crate) fn state_of(
         return Ok(State::Whole);
     }
     let remains = giving.give(image, block, place)?;
-    let length = remains.end.min(giving.left);
-    giving.left -= length;
+    let header = if sound {
+        HeaderState::Sound
+    } else {
+        HeaderState::Doubtful
+    };
+    let state = damaged(remains, giving.left, header);
+    giving.left -= state.broken_length();
+    Ok(state)
+}
+
+/// The state of a file that is not whole, with as many of its bytes as are left for it.
+pub(crate) fn damaged(remains: Remains, left: usize, header: HeaderState) -> State
+    ensures state { IsDamaged header result }
+    ensures length { broken_length result ≤ left }
+{
+    let length = remains.end.min(left);
     let cut = length < remains.end;
     if remains.missing == 0 && !cut {
-        return Ok(State::Doubtful { sound, length });
+        return State::Doubtful { header, length };
     }
-    Ok(State::Broken {
+    State::Broken {
         missing: remains.missing,
         cut,
         length,
-    })
+    }
 }
 
 /// The state of a directory, whose header is sound or doubtful.

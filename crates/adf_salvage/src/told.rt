@@ -4,7 +4,6 @@ ghost use Rattle.adf_block.specs.Image.{block_count, byte_at};
 ghost use Rattle.adf_block.specs.Whole.{text_at};
 ghost use Rattle.ados_model.specs.Stands.{date_at};
 ghost use Rattle.adf_salvage.specs.Salvaged.{HasState, IsSalvaged};
-ghost use Rattle.adf_salvage.specs.declared.salvaged.State.TheVariants.{Lost};
 ghost use Rattle.adf_salvage.specs.Doubtful.{IsHeader, LooksLikeHeader};
 
 use crate::header::name_of;
@@ -89,11 +88,17 @@ fn as_comment(text: &[u8]) -> Comment
     }
 }
 
-/// The entry of a lost block.
-pub(crate) fn told_of_lost(block: u32, standing: Standing, endings: u32, name: Name) -> Salvaged
+/// The entry of a block that is no header, under this name.
+pub(crate) fn told_by_name(
+    block: u32,
+    standing: Standing,
+    endings: u32,
+    name: Name,
+    state: State,
+) -> Salvaged
     ensures header { result.header ≡ block }
     ensures name { result.name ≡ name }
-    ensures state { result.state ≡ Lost }
+    ensures state { result.state ≡ state }
 {
     Salvaged {
         header: block,
@@ -108,6 +113,6 @@ pub(crate) fn told_of_lost(block: u32, standing: Standing, endings: u32, name: N
             ticks: 0,
         },
         comment: as_comment(b""),
-        state: State::Lost,
+        state,
     }
 }

@@ -1,17 +1,18 @@
 -- The cells of faults, and the faults in the order of their cells.
 use Rattle.std.proofs.Common.{◌≡◌, ◌≢◌, ℕ, zero, suc, ◌+◌, ◌<◌, ◌≤◌, ◌⊎◌, inl, inr, Bool, true, false, List, [], ◌∷◌, ◌++◌, length, get_or, set, refl, sym, ap, ap₂, ◌∙◌, subst, arith, length-set, get_or-set_same, get_or-set_other}
-use Rattle.std.proofs.lemmas.Bool.{cases_eq, cases_lt, cases_order, false≢true}
-use Rattle.std.proofs.lemmas.List.{length_push}
+use Rattle.std.proofs.lemmas.Bool.{cases_Bool, cases_eq, cases_lt, cases_order, false≢true}
+use Rattle.std.proofs.lemmas.List.{get_or_default, length_push}
 use Rattle.std.proofs.lemmas.List.Elements.{All-push, Contains-append_left, Contains-push}
-use Rattle.std.specs.List.{Contains}
+use Rattle.std.specs.List.{All, AllPairs, Contains}
 use Rattle.std.proofs.lemmas.List.Quantifiers.{all_pairs_push}
 use Rattle.adf_block.specs.Image.{block_count}
 use Rattle.ados_model.specs.declared.fault.FaultKind.{FaultKind}
 use Rattle.ados_model.specs.declared.fault.FaultKind.TheVariants.{NotADosDisk, UnsupportedKind, BadSum, BadType, BadOwnKey, BadParent, BadPointer, BlockUsedTwice, WrongChain, BadName, DuplicateName, BadComment, BadCount, BadSequence, LinkEntry, MarkedFree, NoMemory}
 use Rattle.ados_model.specs.declared.fault.VolumeFault.{VolumeFault}
+use Rattle.ados_model.specs.Accepted.{ShowsNoFault}
 use Rattle.ados_model.specs.Faults.{Shows}
-use Rattle.ados_faults.specs.Listed.{fault_of, rank, StandsBefore}
-use Rattle.ados_faults.specs.steps.Noted.{AreListed, AreNoted, AreStillNoted, IsNoted, ListsNoted, cell_at, cell_of}
+use Rattle.ados_faults.specs.Listed.{AreFirstFaults, ShowsMoreThan, fault_of, rank, StandsBefore}
+use Rattle.ados_faults.specs.steps.Noted.{AreListed, AreNoted, AreStillNoted, IsFull, IsNoted, ListsNoted, cell_at, cell_of}
 
 all_kinds : List FaultKind
 all_kinds = NotADosDisk ∷ UnsupportedKind ∷ BadSum ∷ BadType ∷ BadOwnKey ∷ BadParent ∷ BadPointer ∷ BlockUsedTwice ∷ WrongChain ∷ BadName ∷ DuplicateName ∷ BadComment ∷ BadCount ∷ BadSequence ∷ LinkEntry ∷ MarkedFree ∷ NoMemory ∷ []
@@ -125,12 +126,32 @@ module _ (image : List ℕ) (cells : List Bool) (most below : ℕ) (faults : Lis
     ];
   }
 
+  -- the fault of a set cell, behind the list
+  module _ (fault : VolumeFault) (here : cell_at fault ≡ below) (is_set : get_or cells below false ≡ true) where
+    pushed_shown : All (λ (f : VolumeFault). Shows image f.kind f.block) (faults ++ fault ∷ [])
+    pushed_shown = All-push (λ (f : VolumeFault). Shows image f.kind f.block) faults fault a.lists.shown (n.shown fault.kind fault.block (ap (λ (c : ℕ). get_or cells c false) here ∙ is_set))
+
+    pushed_order : AllPairs StandsBefore (faults ++ fault ∷ [])
+    pushed_order = all_pairs_push StandsBefore faults fault a.lists.in_order (λ k d l. before_by_cell (get_or faults k d) fault (let b = a.cells_below k d l in omega (arith, b, here)))
+
+    -- a list without room for it
+    pub listed_full : length faults ≡ most → IsFull image cells most faults
+    listed_full full = record {
+      lists = a.lists;
+      full = full;
+      first = λ kind block e. elim (cases_lt (cell_of kind block) below) [
+        | inl before ↦ inl (a.each kind block before e)
+        | inr not_before ↦ inr (λ k d l. before_by_cell (get_or faults k d) (fault_of kind block) (let b = a.cells_below k d l in omega (arith, b, not_before)))
+      ];
+      more = record { faults = faults ++ fault ∷ []; shown = pushed_shown; in_order = pushed_order; many = omega (arith, length_push faults fault, full) };
+    }
+
   -- a cell that is set
   pub listed_more : (fault : VolumeFault) → cell_at fault ≡ below → get_or cells below false ≡ true → length faults < most → AreListed image cells most (below + 1) (faults ++ fault ∷ [])
   listed_more fault here is_set room = record {
     lists = record {
-      shown = All-push (λ (f : VolumeFault). Shows image f.kind f.block) faults fault a.lists.shown (n.shown fault.kind fault.block (ap (λ (c : ℕ). get_or cells c false) here ∙ is_set));
-      in_order = all_pairs_push StandsBefore faults fault a.lists.in_order (λ k d l. before_by_cell (get_or faults k d) fault (let b = a.cells_below k d l in omega (arith, b, here)));
+      shown = pushed_shown fault here is_set;
+      in_order = pushed_order fault here is_set;
       few = omega (arith, grown, room);
     };
     cells_below = All-push (λ (f : VolumeFault). cell_at f < below + 1) faults fault (λ k d l. let b = a.cells_below k d l in omega (arith, b)) (omega (arith, here));
@@ -160,3 +181,73 @@ pub all_listed : (image : List ℕ) (cells : List Bool) (most below : ℕ) (faul
 all_listed image cells most below faults a whole kind block e =
     let within = set_within cells (cell_of kind block) e in
     a.each kind block (omega (arith, within, whole)) e
+
+-- ---- the first faults
+
+one_way : (x y : VolumeFault) → StandsBefore x y → StandsBefore y x → ⊥
+one_way x y (inl a) (inl b) = omega (arith, a, b)
+one_way x y (inl a) (inr b) = let e = b.0 in omega (arith, a, e)
+one_way x y (inr a) (inl b) = let e = a.0 in omega (arith, b, e)
+one_way x y (inr a) (inr b) = let l = a.1 in let m = b.1 in omega (arith, l, m)
+
+-- faults in order that stand in another list in order, each at least so far behind
+module _ (all faults : List VolumeFault) (in_order : AllPairs StandsBefore all) (sorted : AllPairs StandsBefore faults) (d : VolumeFault) (held : (k : ℕ) → k < length all → Contains faults (get_or all k d)) where
+  record IsAt (k : ℕ) : Type 0 where
+    place : ℕ
+    within : place < length faults
+    far : k ≤ place
+    here : get_or faults place d ≡ get_or all k d
+
+  found_at : (k : ℕ) → k < length all → IsAt k
+  found_at zero l = let h = held zero l in record { place = h.0; within = h.1; far = omega arith; here = get_or_default faults h.0 d (get_or all zero d) h.1 ∙ h.2 }
+  found_at (suc k) l = go (found_at k (omega (arith, l))) (held (suc k) l)
+    where
+      go : IsAt k → Contains faults (get_or all (suc k) d) → IsAt (suc k)
+      go p h =
+          let at : get_or faults h.0 d ≡ get_or all (suc k) d = get_or_default faults h.0 d (get_or all (suc k) d) h.1 ∙ h.2 in
+          let before : StandsBefore (get_or all k d) (get_or all (suc k) d) = in_order k (suc k) d (omega arith) l in
+          elim (cases_order p.place h.0) [
+            | inl same ↦
+                let e : get_or all k d ≡ get_or all (suc k) d = sym p.here ∙ ap (λ (i : ℕ). get_or faults i d) same ∙ at in
+                absurd (one_way (get_or all (suc k) d) (get_or all (suc k) d) (subst (λ (x : VolumeFault). StandsBefore x (get_or all (suc k) d)) e before) (subst (λ (x : VolumeFault). StandsBefore x (get_or all (suc k) d)) e before))
+            | inr (inl less) ↦ record { place = h.0; within = h.1; far = let f = p.far in omega (arith, f, less); here = at }
+            | inr (inr past) ↦
+                let back : StandsBefore (get_or all (suc k) d) (get_or all k d) = subst (λ (x : VolumeFault). StandsBefore x (get_or all k d)) at (subst (StandsBefore (get_or faults h.0 d)) p.here (sorted h.0 p.place d past p.within)) in
+                absurd (one_way (get_or all k d) (get_or all (suc k) d) before back)
+          ]
+
+  pub not_longer : (most : ℕ) → length faults ≤ most → most < length all → ⊥
+  not_longer most few many = let p = found_at most many in let f = p.far in let w = p.within in omega (arith, f, w, few)
+
+-- where each fault that the image shows is noted
+pub first_faults : (image : List ℕ) (cells : List Bool) (most : ℕ) (more : Bool) (faults : List VolumeFault) → ((kind : FaultKind) (block : ℕ) → Shows image kind block → IsNoted cells (cell_of kind block))
+    → (more ≡ true → IsFull image cells most faults) → (more ≡ false → ListsNoted cells faults) → length faults ≤ most → AllPairs StandsBefore faults → AreFirstFaults image most more faults
+first_faults image cells most more faults noted full whole few sorted = record {
+  first = λ kind block h. elim (cases_Bool more) [
+    | inl over ↦ (full over).first kind block (noted kind block h)
+    | inr last ↦ inl (whole last kind block (noted kind block h))
+  ];
+  full = λ over. (full over).full;
+  exact = (
+    λ over. (full over).more,
+    λ m. elim (cases_Bool more) [
+      | inl over ↦ over
+      | inr last ↦ absurd (none_left m last)
+    ],
+  );
+}
+  where
+    none_left : ShowsMoreThan image most → more ≡ false → ⊥
+    none_left m last =
+        not_longer m.faults faults m.in_order sorted (fault_of NoMemory 0)
+        (λ k l. let f = get_or m.faults k (fault_of NoMemory 0) in whole last f.kind f.block (noted f.kind f.block (m.shown k (fault_of NoMemory 0) l))) most few m.many
+
+pub no_faults : (image : List ℕ) (most : ℕ) → ShowsNoFault image → AreFirstFaults image most false []
+no_faults image most none = record {
+  first = λ kind block h. absurd (none kind block h);
+  full = λ e. absurd (false≢true e);
+  exact = (
+    λ e. absurd (false≢true e),
+    λ m. let f = get_or m.faults 0 (fault_of NoMemory 0) in absurd (none f.kind f.block (m.shown 0 (fault_of NoMemory 0) (let l = m.many in omega (arith, l)))),
+  );
+}

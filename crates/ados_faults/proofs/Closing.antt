@@ -11,6 +11,7 @@ use Rattle.std.specs.BTreeSet.{BTreeSet, contains}
 use Rattle.std.proofs.lemmas.Bool.{cases_Bool, cases_eq, cases_lt, false≢true}
 use Rattle.std.proofs.lemmas.List.{length_push, get_or_push, get_or_append_left}
 use Rattle.std.proofs.lemmas.List.Elements.{All-push}
+use Rattle.std.proofs.lemmas.List.Quantifiers.{all_pairs_push}
 use Rattle.std.proofs.lemmas.List.Sums.{sum_by-le}
 use Rattle.std.proofs.lemmas.Option.{same_Some, slice_get-get_or, slice_get_within}
 use Rattle.adf_block.specs.Whole.{IsImage}
@@ -29,9 +30,9 @@ use Rattle.ados_check.proofs.PlaceLemmas.{place_within}
 use Rattle.ados_faults.specs.declared.walk.Step.{Step}
 use Rattle.ados_faults.specs.declared.walk.StepKey.{StepKey}
 use Rattle.ados_faults.specs.declared.walk.Walk.{Walk}
-use Rattle.ados_faults.specs.Listed.{AreClosed, IsNamedAs, Marks, root_mark}
+use Rattle.ados_faults.specs.Listed.{AreClosed, IsMarked, IsNamedAs, IsTangled, Marks, root_mark}
 use Rattle.ados_faults.specs.steps.Noted.{IsNoted, cell_of}
-use Rattle.ados_faults.specs.steps.Walked.{AreAllSteps, AreKept, AreOutsideNoted, AreTaken, AreTwiceNoted, AreVisited, IsListed, IsMetBy, IsPassed, IsStep, IsVisited, IsWalked, key_cmp, role_by, role_of, step_of}
+use Rattle.ados_faults.specs.steps.Walked.{AreAllSteps, AreKept, AreOutsideNoted, AreTaken, AreTwiceNoted, AreVisited, IsListed, IsKnown, IsMetBy, IsPassed, IsStep, IsVisited, IsWalked, key_cmp, key_for, role_by, role_of, root_step, step_of}
 use Rattle.ados_faults.proofs.Insides.{root_inside}
 
 -- ---- one more step in a list
@@ -137,23 +138,59 @@ same_keys x y e =
       same_role x.kind y.kind x.holder y.holder x.slot y.slot (nat_cmp-IsAntisymmetric x.kind y.kind kinds.0) (nat_cmp-IsAntisymmetric x.holder y.holder rest.0) (nat_cmp-IsAntisymmetric x.slot y.slot rest.1),
     )
 
-pub taken_none : (others : BTreeSet StepKey) (steps : List Step) → others.keys ≡ [] → AreTaken others steps
-taken_none others steps none = record { listed = λ key e. absurd (false≢true (sym (ap (λ (ks : List StepKey). list_any (is_at (key_cmp key)) ks) none) ∙ e)) }
+pushed_cases : (steps : List Step) (new : Step) (k : ℕ) (step : Step) → slice_get (steps ++ new ∷ []) k ≡ Some step → (slice_get steps k ≡ Some step) ⊎ (new ≡ step)
+unfolding pushed_there
+pushed_cases steps new k step e = elim (cases_lt k (length steps)) [
+  | inl l ↦ inl (sym (pushed_stays steps new k l) ∙ e)
+  | inr past ↦
+      let within = slice_get_within (steps ++ new ∷ []) k step e in
+      let here : k ≡ length steps = omega (arith, past, within, length_push steps new) in
+      let there : slice_get (steps ++ new ∷ []) (length steps) ≡ Some new = (pushed_there steps new).1 in
+      inr (same_Some new step (sym there ∙ ap (slice_get (steps ++ new ∷ [])) (sym here) ∙ e))
+]
+
+pub taken_none : (marks : Marks) (others : BTreeSet StepKey) (root : ℕ) (steps : List Step) → mark_at marks root ≡ Some root_mark → others.keys ≡ [] → steps ≡ root_step root ∷ [] → AreTaken marks others steps
+taken_none marks others root steps marked none only = record {
+  listed = λ key e. absurd (false≢true (sym (ap (λ (ks : List StepKey). list_any (is_at (key_cmp key)) ks) none) ∙ e));
+  known = λ k step e. elim (pushed_cases [] (root_step root) k step (ap (λ (xs : List Step). slice_get xs k) (sym only) ∙ e)) [
+    | inl old ↦ absurd (omega (arith, slice_get_within [] k step old))
+    | inr new ↦ subst (IsKnown marks others) new (record { mark = root_mark; marked = marked; taken = inl refl })
+  ];
+  once = λ i j d l m. absurd (omega (arith, l, m, ap length only));
+}
 
 -- the step of a key in the set
-pub taken_step : (others : BTreeSet StepKey) (steps : List Step) (key : StepKey) (block : ℕ) (role : Role) → AreTaken others steps → contains key_cmp others key ≡ true → key.block ≡ block → role_of key ≡ role
-    → IsListed steps (step_of block role)
-taken_step others steps key block role t has is_block is_role = subst (IsListed steps) (ap₂ step_of is_block is_role) (t.listed key has)
+pub taken_step : (marks : Marks) (others : BTreeSet StepKey) (steps : List Step) (key : StepKey) (block : ℕ) (role : Role) → AreTaken marks others steps → contains key_cmp others key ≡ true → key.block ≡ block
+    → role_of key ≡ role → IsListed steps (step_of block role)
+taken_step marks others steps key block role t has is_block is_role = subst (IsListed steps) (ap₂ step_of is_block is_role) (t.listed key has)
 
--- a step without a key
-pub taken_on : (others : BTreeSet StepKey) (steps : List Step) (step : Step) → AreTaken others steps → AreTaken others (steps ++ step ∷ [])
-taken_on others steps step t = record { listed = λ key e. listed_on steps step (step_of key.block (role_of key)) (t.listed key e) }
+-- a step of a block that had no mark
+pub taken_on : (marks later : Marks) (others : BTreeSet StepKey) (steps : List Step) (block : ℕ) (mark : Mark) → mark_at marks block ≡ None → mark_at later block ≡ Some mark
+    → ((other : ℕ) (old : Mark) → mark_at marks other ≡ Some old → mark_at later other ≡ Some old) → AreTaken marks others steps → AreTaken later others (steps ++ step_of block mark.role ∷ [])
+taken_on marks later others steps block mark none marked stay t = record {
+  listed = λ key e. listed_on steps (step_of block mark.role) (step_of key.block (role_of key)) (t.listed key e);
+  known = λ k step e. elim (pushed_cases steps (step_of block mark.role) k step e) [
+    | inl old ↦ (let n = t.known k step old in record { mark = n.mark; marked = stay step.block n.mark n.marked; taken = n.taken })
+    | inr new ↦ subst (IsKnown later others) new (record { mark = mark; marked = marked; taken = inl refl })
+  ];
+  once = all_pairs_push (λ (a b : Step). a ≢ b) steps (step_of block mark.role) t.once (λ k d l z.
+      let n = subst (IsKnown marks others) z (t.known k (get_or steps k d) (slice_get-get_or steps k d l)) in
+      let h : None ≡ Some n.mark = sym none ∙ n.marked in
+      absurd (cc h));
+}
 
 -- a step with its key
-pub taken_more : (others more : BTreeSet StepKey) (steps : List Step) (key : StepKey) (block : ℕ) (role : Role) → AreTaken others steps
-    → ((q : StepKey) → contains key_cmp more q ≡ cond (is_at (key_cmp key) q) true (contains key_cmp others q)) → key.block ≡ block → role_of key ≡ role
-    → AreTaken more (steps ++ step_of block role ∷ [])
-taken_more others more steps key block role t updates is_block is_role = record { listed = λ q e. go q e (cases_Bool (is_at (key_cmp key) q)) }
+pub taken_more : (marks : Marks) (others more : BTreeSet StepKey) (steps : List Step) (key : StepKey) (block : ℕ) (role : Role) → AreTaken marks others steps
+    → ((q : StepKey) → contains key_cmp more q ≡ cond (is_at (key_cmp key) q) true (contains key_cmp others q)) → contains key_cmp more key ≡ true → contains key_cmp others key ≡ false → key ≡ key_for block role
+    → key.block ≡ block → role_of key ≡ role → IsMarked marks block → ((mark : Mark) → mark_at marks block ≡ Some mark → mark.role ≢ role) → AreTaken marks more (steps ++ step_of block role ∷ [])
+taken_more marks others more steps key block role t updates there new is_key is_block is_role marked other = record {
+  listed = λ q e. go q e (cases_Bool (is_at (key_cmp key) q));
+  known = λ k step e. elim (pushed_cases steps (step_of block role) k step e) [
+    | inl old ↦ still step (t.known k step old)
+    | inr here ↦ subst (IsKnown marks more) here (record { mark = marked.0; marked = marked.1; taken = inr (ap (contains key_cmp more) (sym is_key) ∙ there) })
+  ];
+  once = all_pairs_push (λ (a b : Step). a ≢ b) steps (step_of block role) t.once (λ k d l z. absurd (unknown (subst (IsKnown marks others) z (t.known k (get_or steps k d) (slice_get-get_or steps k d l)))));
+}
   where
     go : (q : StepKey) → contains key_cmp more q ≡ true → (is_at (key_cmp key) q ≡ true) ⊎ (is_at (key_cmp key) q ≡ false) → IsListed (steps ++ step_of block role ∷ []) (step_of q.block (role_of q))
     go q e (inl a) =
@@ -162,6 +199,31 @@ taken_more others more steps key block role t updates is_block is_role = record 
     go q e (inr a) =
         let old : contains key_cmp others q ≡ true = ap (λ (b : Bool). cond b true (contains key_cmp others q)) (sym a) ∙ sym (updates q) ∙ e in
         listed_on steps (step_of block role) (step_of q.block (role_of q)) (t.listed q old)
+
+    kept : (b old : Bool) → old ≡ true → cond b true old ≡ true
+    kept true old e = refl
+    kept false old e = e
+
+    still : (step : Step) → IsKnown marks others step → IsKnown marks more step
+    still step n = record {
+      mark = n.mark;
+      marked = n.marked;
+      taken = elim n.taken [
+        | inl first ↦ inl first
+        | inr has ↦ (let q = key_for step.block step.role in inr (updates q ∙ kept (is_at (key_cmp key) q) (contains key_cmp others q) has))
+      ];
+    }
+
+    unknown : IsKnown marks others (step_of block role) → ⊥
+    unknown n = elim n.taken [
+      | inl first ↦ other n.mark n.marked first
+      | inr has ↦ false≢true (sym new ∙ ap (contains key_cmp others) is_key ∙ has)
+    ]
+
+-- a walk with so many steps
+pub tangled : (image : List ℕ) (cells : List Bool) (marks : Marks) (others : BTreeSet StepKey) (steps : List Step) → IsWalked image cells marks steps → AreTaken marks others steps → 4 * block_count image ≤ length steps
+    → IsTangled image
+tangled image cells marks others steps w t many = record { steps = steps; reached = λ k d l. (w.reached k d l).reached; once = t.once; many = many }
 
 -- ---- a walk that goes on
 

@@ -1,5 +1,5 @@
 -- The blocks along links, one more at a time, and the set of visited ones.
-use Rattle.std.proofs.Common.{◌≡◌, ◌≢◌, ℕ, ◌+◌, ◌-◌, ◌<◌, ◌⊎◌, inl, inr, Bool, true, false, cond, List, [], ◌∷◌, ◌++◌, length, slice_index, refl, sym, ap, ◌∙◌, subst, arith}
+use Rattle.std.proofs.Common.{◌≡◌, ◌≢◌, ℕ, ◌+◌, ◌-◌, ◌<◌, ◌≤◌, ◌⊎◌, inl, inr, Bool, true, false, cond, List, [], ◌∷◌, ◌++◌, length, slice_index, refl, sym, ap, ◌∙◌, subst, arith}
 use Rattle.std.specs.List.{Contains, list_any}
 use Rattle.std.specs.Ordering.{nat_cmp}
 use Rattle.std.specs.FinMap.{nat_cmp-IsAntisymmetric}
@@ -9,9 +9,10 @@ use Rattle.std.proofs.lemmas.Bool.{cases_lt, cases_Bool, false≢true}
 use Rattle.std.proofs.lemmas.List.{get_or_default, length_push, get_or_push, get_or_append_left}
 use Rattle.std.proofs.lemmas.List.Elements.{All-push, Contains-push, Contains-push_cases, Contains-append_left}
 use Rattle.std.proofs.lemmas.List.Quantifiers.{all_pairs_push}
-use Rattle.adf_block.specs.Image.{long}
+use Rattle.adf_block.specs.Image.{block_count, long}
 use Rattle.ados_model.specs.Faults.{InImage, LinkedOnce, LeadOn, FurtherAreInside, last_link}
 use Rattle.ados_faults.specs.steps.Chain.{HasMet, IsChain}
+use Rattle.ados_model.proofs.KeyLists.{length-once}
 use Rattle.ados_check.proofs.Entered.{is_equal}
 
 -- only the first block
@@ -25,6 +26,10 @@ chain_start image link first within = record {
 }
 
 module _ (image : List ℕ) (link : ℕ) (blocks : List ℕ) (c : IsChain image link blocks) where
+  -- each is another block of the image
+  pub chain_few : length blocks ≤ block_count image
+  chain_few = length-once blocks (block_count image) c.once (λ x h. (subst (InImage image) h.2 (c.inside h.0 x h.1)).1)
+
   -- the links lead outside, or back
   pub chain_whole : (next : ℕ) → last_link image link blocks ≡ next → (InImage image next → Contains blocks next) → LinkedOnce image link (slice_index blocks 0) blocks
   chain_whole next e back = record {

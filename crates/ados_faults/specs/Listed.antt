@@ -1,5 +1,5 @@
 -- Faults of an image, in order, and the marks of its blocks.
-use Rattle.std.specs.Prelude.{◌≡◌, ℕ, ◌<◌, ◌≤◌, ◌⊎◌, Bool, false, List, [], ◌∷◌, length, All, AllPairs, Contains, Option, Some}
+use Rattle.std.specs.Prelude.{◌≡◌, ◌≢◌, ℕ, ◌*◌, ◌<◌, ◌≤◌, ◌⊎◌, ◌↔◌, Bool, true, false, List, [], ◌∷◌, length, All, AllPairs, Contains, Option, Some}
 use Rattle.adf_block.specs.Image.{block_count, long}
 use Rattle.ados_check.specs.Marks.{mark_at}
 use Rattle.ados_check.specs.declared.mark.Mark.{Mark}
@@ -8,6 +8,7 @@ use Rattle.ados_model.specs.declared.fault.FaultKind.TheVariants.{NotADosDisk, U
 use Rattle.ados_model.specs.declared.fault.VolumeFault.{VolumeFault}
 use Rattle.ados_model.specs.declared.role.Role.{Role}
 use Rattle.ados_model.specs.declared.role.Role.TheVariants.{Root}
+use Rattle.ados_faults.specs.declared.walk.Step.{Step}
 use Rattle.ados_model.specs.Faults.{IsPlace, LeadsInside, Reached, Shows, root_of}
 
 -- the number of a kind
@@ -47,6 +48,32 @@ fault_of kind block = record { kind = kind; block = block }
 -- each fault that the image shows is in the list, unless there may be more
 abbrev pub ListsEach : List ℕ → Bool → List VolumeFault → Type 0
 ListsEach image more faults = more ≡ false → (kind : FaultKind) (block : ℕ) → Shows image kind block → Contains faults (fault_of kind block)
+
+-- more than this many faults that the image shows, by block and then by kind, each once
+pub record ShowsMoreThan (image : List ℕ) (most : ℕ) : Type 0 where
+  pub faults : List VolumeFault
+  pub shown : All (λ fault. Shows image fault.kind fault.block) faults
+  pub in_order : AllPairs StandsBefore faults
+  pub many : most < length faults
+
+-- the blocks of the image are reached in at least four times as many roles as the image has blocks
+pub record IsTangled (image : List ℕ) : Type 0 where
+  pub steps : List Step
+  pub reached : All (λ step. Reached image step.block step.role) steps
+  pub once : AllPairs (λ a b. a ≢ b) steps
+  pub many : 4 * block_count image ≤ length steps
+
+-- each fault that the image shows is in the list, or stands behind all of the list
+abbrev pub AreTheFirst : List ℕ → List VolumeFault → Type 0
+AreTheFirst image faults =
+    (kind : FaultKind) (block : ℕ) → Shows image kind block → Contains faults (fault_of kind block) ⊎ All (λ fault. StandsBefore fault (fault_of kind block)) faults
+
+-- the first faults that the image shows. There are more exactly if it shows more than the most that a list may have, and
+-- then the list has so many
+pub record AreFirstFaults (image : List ℕ) (most : ℕ) (more : Bool) (faults : List VolumeFault) : Type 0 where
+  pub first : AreTheFirst image faults
+  pub full : more ≡ true → length faults ≡ most
+  pub exact : (more ≡ true) ↔ ShowsMoreThan image most
 
 -- the image shows by a fault of this kind that it is no DOS disk, or one of an unsupported kind
 pub record IsOtherKind (image : List ℕ) (kind : FaultKind) : Type 0 where

@@ -1,5 +1,5 @@
 //! The header and extension blocks of a file, and the data blocks in their pointers.
-ghost use Rattle.std.specs.Prelude.{◌≡◌, ◌<◌, ◌++◌, ◌∷◌, [], All, flat_map, false, IfOk, IfSome, slice_index};
+ghost use Rattle.std.specs.Prelude.{◌≡◌, ◌≢◌, ◌<◌, ◌≤◌, ◌+◌, ◌++◌, ◌∷◌, [], All, flat_map, false, true, IfOk, IfSome, None, length, slice_index};
 ghost use Rattle.adf_block.specs.Image.{block_count};
 ghost use Rattle.ados_model.specs.Faults.{AreDataBlocks, InImage, IsFile, LinkedOnce, pointers_of};
 ghost use Rattle.ados_faults.specs.steps.Chain.{HasMet, IsChain};
@@ -27,6 +27,7 @@ pub(crate) fn headers_of(
     requires { InImage image.now file }
     ensures linked { IfOk result (λ found. IfSome found (λ headers. LinkedOnce image.now NEXT_EXTENSION file headers.items)) }
     ensures inside { IfOk result (λ found. IfSome found (λ headers. All (InImage image.now) headers.items)) }
+    ensures all { IfOk result (λ found. block_count image.now ≤ most → found ≢ None) }
 {
     let mut headers = Headers::start(alloc, image, file)?;
     for passed in 0..most {
@@ -44,6 +45,7 @@ impl Headers {
         requires { InImage image.now file }
         ensures chain { IfOk result (λ headers. IsChain image.now NEXT_EXTENSION headers.blocks.items) }
         ensures head { IfOk result (λ headers. slice_index headers.blocks.items 0 ≡ file) }
+        ensures one { IfOk result (λ headers. length headers.blocks.items ≡ 1) }
         ensures met { IfOk result (λ headers. HasMet headers.met headers.blocks.items) }
     {
         let _image = image;
@@ -72,6 +74,7 @@ impl Headers {
         ensures chain { IfOk result (λ _. IsChain image.now NEXT_EXTENSION self.new.blocks.items) }
         ensures met { IfOk result (λ _. HasMet self.new.met self.new.blocks.items) }
         ensures head { IfOk result (λ _. slice_index self.new.blocks.items 0 ≡ slice_index self.old.blocks.items 0) }
+        ensures longer { IfOk result (λ more. more ≡ true → length self.new.blocks.items ≡ length self.old.blocks.items + 1) }
         ensures whole { IfOk result (λ more. more ≡ false → LinkedOnce image.now NEXT_EXTENSION (slice_index self.new.blocks.items 0) self.new.blocks.items) }
     {
         let last = self.blocks[self.blocks.len() - 1];

@@ -17,35 +17,42 @@ use adf_block::layout::{FFS_ROOM, FILE_SIZE, FILE_TYPE, KIND_BYTE, OFS_ROOM, SEC
 use ados_model::{FaultKind, Role};
 use std::alloc::{AllocError, Global};
 
-/// The files that were checked, and the number of header and extension blocks that may still be visited.
+/// The files that were checked.
 #[derive(Drop)]
 struct Looked {
     files: Vec<bool>,
+    /// Whether only some header and extension blocks may be visited.
+    is_bounded: bool,
+    /// The number of header and extension blocks that may still be visited, if only some may be.
     left: usize,
 }
 
-/// Checks the blocks of each file, once. The result is true if some were left out, because the files together have
-/// more header and extension blocks than the walk may visit.
+/// Checks the blocks of each file, once.
+///
+/// If the walk was cut, files are left out once so many header and extension blocks were visited as the walk may have
+/// steps. Else each such block of each file is a step, so that there are no more of them.
 pub(crate) fn look_at_files(
     alloc: Global,
     image: &Image,
     steps: &[Step],
+    is_cut: bool,
     notes: &mut Notes,
-) -> Result<bool, AllocError>
+) -> Result<(), AllocError>
     requires noted { AreNoted image.now notes.old.cells.items }
     requires steps { All (IsStep image.now) steps.now }
     ensures noted { IfOk result (λ _. AreNoted image.now notes.new.cells.items) }
     ensures stays { IfOk result (λ _. AreStillNoted notes.old.cells.items notes.new.cells.items) }
-    ensures whole { IfOk result (λ left_out. left_out ≡ false → AreAllFilesNoted image.now notes.new.cells.items steps.now) }
+    ensures whole { IfOk result (λ _. is_cut ≡ false → AreAllFilesNoted image.now notes.new.cells.items steps.now) }
 {
     let mut looked = Looked {
         files: Vec::from_elem(alloc, false, image.blocks() as usize)?,
+        is_bounded: is_cut,
         left: most_steps(image) as usize,
     };
     for step in steps {
         looked.look_at(alloc, image, *step, notes)?;
     }
-    Ok(looked.left == 0)
+    Ok(())
 }
 
 impl Looked {
@@ -60,10 +67,11 @@ impl Looked {
         requires noted { AreNoted image.now notes.old.cells.items }
         requires step { IsStep image.now step }
         requires cells { length self.old.files.items ≡ block_count image.now }
-        requires whole { self.old.left ≢ 0 → AreFilesNoted image.now notes.old.cells.items self.old.files.items }
+        requires whole { self.old.is_bounded ≡ false → AreFilesNoted image.now notes.old.cells.items self.old.files.items }
         ensures noted { IfOk result (λ _. AreNoted image.now notes.new.cells.items) }
         ensures stays { IfOk result (λ _. AreStillNoted notes.old.cells.items notes.new.cells.items) }
-        ensures whole { IfOk result (λ _. self.new.left ≢ 0 → AreFilesNoted image.now notes.new.cells.items self.new.files.items) }
+        ensures whole { IfOk result (λ _. self.old.is_bounded ≡ false → AreFilesNoted image.now notes.new.cells.items self.new.files.items) }
+        ensures bounded { IfOk result (λ _. self.new.is_bounded ≡ self.old.is_bounded) }
         ensures checked { IfOk result (λ _. IsStepChecked image.now self.new.files.items step) }
         ensures files { IfOk result (λ _. AreStillNoted self.old.files.items self.new.files.items) }
         ensures cells { length self.new.files.items ≡ length self.old.files.items }
@@ -79,18 +87,30 @@ impl Looked {
             return Ok(());
         }
         self.files[file as usize] = true;
-        self.left = look_at_file(alloc, image, file, self.left, notes)?;
+        let most = self.most(image);
+        self.left = look_at_file(alloc, image, file, most, notes)?;
         Ok(())
+    }
+
+    /// The most header and extension blocks that a file may have so that it is not left out.
+    fn most(&self, image: &Image) -> usize
+        ensures { self.now.is_bounded ≡ false → result ≡ block_count image.now }
+    {
+        if self.is_bounded {
+            self.left
+        } else {
+            image.blocks() as usize
+        }
     }
 }
 
-/// Checks the blocks of a file, unless it has at least as many header and extension blocks as may be visited. It
-/// returns how many are left.
+/// Checks the blocks of a file, unless it has more header and extension blocks than may be visited. It returns how many
+/// are left.
 fn look_at_file(
     alloc: Global,
     image: &Image,
     file: u32,
-    left: usize,
+    most: usize,
     notes: &mut Notes,
 ) -> Result<usize, AllocError>
     requires noted { AreNoted image.now notes.old.cells.items }
@@ -98,15 +118,14 @@ fn look_at_file(
     requires file { IsFile image.now file }
     ensures noted { IfOk result (λ _. AreNoted image.now notes.new.cells.items) }
     ensures stays { IfOk result (λ _. AreStillNoted notes.old.cells.items notes.new.cells.items) }
-    ensures whole { IfOk result (λ rest. rest ≢ 0 → IsFileNoted image.now notes.new.cells.items file) }
-    ensures fewer { IfOk result (λ rest. rest ≤ left) }
+    ensures whole { IfOk result (λ _. block_count image.now ≤ most → IsFileNoted image.now notes.new.cells.items file) }
 {
-    let Some(headers) = headers_of(alloc, image, file, left)? else {
+    let Some(headers) = headers_of(alloc, image, file, most)? else {
         return Ok(0);
     };
     let blocks = data_blocks(alloc, image, file, &headers)?;
     look_at_blocks(image, file, &blocks, notes);
-    Ok(left.saturating_sub(headers.len()))
+    Ok(most.saturating_sub(headers.len()))
 }
 
 /// Checks the data blocks of a file.

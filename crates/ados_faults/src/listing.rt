@@ -3,7 +3,7 @@ ghost use Rattle.std.specs.Prelude.{◌≡◌, ◌<◌, ◌≤◌, ◌↔◌, �
 ghost use Rattle.adf_block.specs.Whole.{IsImage};
 ghost use Rattle.ados_model.specs.Accepted.{ShowsNoFault};
 ghost use Rattle.ados_model.specs.Faults.{Shows};
-ghost use Rattle.ados_faults.specs.Listed.{AreMarks, IsOtherKind, ListsEach, ListsFaults, ListsKindAlone, ShowsOtherKind};
+ghost use Rattle.ados_faults.specs.Listed.{AreFirstFaults, AreMarks, IsOtherKind, IsTangled, ListsEach, ListsFaults, ListsKindAlone, ShowsOtherKind};
 
 use crate::files::look_at_files;
 use crate::first::first_fault;
@@ -20,7 +20,8 @@ use std::alloc::{AllocError, Global};
 pub struct AllFaults {
     /// By block, then by kind, each once. Never `NoMemory`.
     pub faults: Vec<VolumeFault>,
-    /// Whether the image may show faults that are not in the list.
+    /// Whether the image may show faults that are not in the list. It does, unless its blocks are reached in too many
+    /// roles.
     pub more: bool,
     /// A cell for each block, with the place that named it first and the role by that place. It is empty if the image
     /// shows no fault.
@@ -30,15 +31,18 @@ pub struct AllFaults {
 /// The first `most` of all faults of an image, as they are told to a user.
 ///
 /// Of an image that is no DOS disk, or one of an unsupported kind, this is the one fault: the rest of the image is not of
-/// this file system. Of any other each fault that it shows is in the list, unless `more` is true: there are more than
-/// `most`, or the walk had to end early, because the blocks of the image name each other too often. The list is empty
+/// this file system. Of any other each fault that it shows is in the list, unless `more` is true. The list is empty
 /// exactly if the image is accepted.
+///
+/// `more` is true if there are more than `most`, and the list has the first ones. It may also be true if the walk had to
+/// end early: blocks are reached in at least four times as many roles as the image has blocks.
 pub fn all_faults(alloc: Global, image: &Image, most: usize) -> Result<AllFaults, AllocError>
     ensures lists { IfOk result (λ found. ListsFaults image.now most found.faults.items) }
     ensures none { IfOk result (λ found. 1 ≤ most → (found.faults.items ≡ []) ↔ ShowsNoFault image.now) }
     ensures whole { IfOk result (λ found. ShowsNoFault image.now → found.more ≡ false) }
     ensures alone { IfOk result (λ found. 1 ≤ most → ListsKindAlone image.now found.more found.faults.items) }
     ensures each { IfOk result (λ found. ¬ ShowsOtherKind image.now → ListsEach image.now found.more found.faults.items) }
+    ensures first { IfOk result (λ found. ¬ ShowsOtherKind image.now → ¬ IsTangled image.now → AreFirstFaults image.now most found.more found.faults.items) }
     ensures marked { IfOk result (λ found. ShowsNoFault image.now ⊎ AreMarks image.now found.marks.items) }
 {
     match other_kind(image) {
@@ -50,7 +54,9 @@ pub fn all_faults(alloc: Global, image: &Image, most: usize) -> Result<AllFaults
 /// The first `most` of all faults that an image shows, of whatever kind its disk is.
 ///
 /// The list is empty exactly if the image is accepted. A walk that goes on after each fault finds the others, also below
-/// a boot block of another kind. Each fault that the image shows is in the list, unless `more` is true.
+/// a boot block of another kind. Each fault that the image shows is in the list, unless `more` is true. Then there are more
+/// than `most`, and the list has the first ones; or the walk had to end early, because blocks are reached in at least
+/// four times as many roles as the image has blocks.
 pub fn faults_of_any_disk(
     alloc: Global,
     image: &Image,
@@ -60,6 +66,7 @@ pub fn faults_of_any_disk(
     ensures none { IfOk result (λ found. 1 ≤ most → (found.faults.items ≡ []) ↔ ShowsNoFault image.now) }
     ensures whole { IfOk result (λ found. ShowsNoFault image.now → found.more ≡ false) }
     ensures each { IfOk result (λ found. ListsEach image.now found.more found.faults.items) }
+    ensures first { IfOk result (λ found. ¬ IsTangled image.now → AreFirstFaults image.now most found.more found.faults.items) }
     ensures marked { IfOk result (λ found. ShowsNoFault image.now ⊎ AreMarks image.now found.marks.items) }
 {
     prove!(image.blocks() >= 16);
@@ -124,18 +131,19 @@ fn faults_with(
     ensures some { IfOk result (λ found. 1 ≤ most → 0 < length found.faults.items) }
     ensures refused { IfOk result (λ _. ¬ ShowsNoFault image.now) }
     ensures each { IfOk result (λ found. ListsEach image.now found.more found.faults.items) }
+    ensures first { IfOk result (λ found. ¬ IsTangled image.now → AreFirstFaults image.now most found.more found.faults.items) }
     ensures marked { IfOk result (λ found. AreMarks image.now found.marks.items) }
 {
     let mut walk = walked(alloc, image)?;
     look_at_all(image, &walk.steps, &mut walk.notes);
     note_duplicates(alloc, image, &walk.steps, &mut walk.notes)?;
-    let left_out = look_at_files(alloc, image, &walk.steps, &mut walk.notes)?;
+    look_at_files(alloc, image, &walk.steps, walk.is_cut, &mut walk.notes)?;
     look_at_disk(image, &mut walk.notes);
     walk.notes.note(image, first.kind, first.block);
     let listed = walk.notes.listed(alloc, image, most)?;
     Ok(AllFaults {
         faults: listed.faults,
-        more: listed.more || walk.is_cut || left_out,
+        more: listed.more || walk.is_cut,
         marks: walk.marks,
     })
 }

@@ -3,7 +3,7 @@ ghost use Rattle.std.specs.Prelude.{◌≡◌, ◌<◌, ◌≤◌, ◌+◌, ◌*
 ghost use Rattle.adf_block.specs.Image.{block_count};
 ghost use Rattle.ados_model.specs.Faults.{Shows};
 ghost use Rattle.ados_faults.specs.Listed.{ListsFaults};
-ghost use Rattle.ados_faults.specs.steps.Noted.{AreListed, AreNoted, AreStillNoted, HasNote, IsNoted, ListsNoted, cell_of};
+ghost use Rattle.ados_faults.specs.steps.Noted.{AreListed, AreNoted, AreStillNoted, HasNote, IsFull, IsNoted, ListsNoted, cell_of};
 
 use crate::kinds::{KINDS, kind_at, rank_of};
 use adf_block::Image;
@@ -72,6 +72,7 @@ impl Notes {
         ensures lists { IfOk result (λ listed. ListsFaults image.now most listed.faults.items) }
         ensures some { IfOk result (λ listed. HasNote self.now.cells.items → 1 ≤ most → 0 < length listed.faults.items) }
         ensures each { IfOk result (λ listed. listed.more ≡ false → ListsNoted self.now.cells.items listed.faults.items) }
+        ensures full { IfOk result (λ listed. listed.more ≡ true → IsFull image.now self.now.cells.items most listed.faults.items) }
     {
         let mut faults = Vec::new(alloc);
         for cell in 0..self.cells.len() {
@@ -98,7 +99,7 @@ impl Notes {
         requires within { cell < length self.now.cells.items }
         requires listed { AreListed image.now self.now.cells.items most cell faults.old.items }
         ensures listed { IfOk result (λ room. room ≡ true → AreListed image.now self.now.cells.items most (cell + 1) faults.new.items) }
-        ensures full { IfOk result (λ room. room ≡ false → ListsFaults image.now most faults.new.items × (length faults.new.items ≡ most)) }
+        ensures full { IfOk result (λ room. room ≡ false → IsFull image.now self.now.cells.items most faults.new.items) }
     {
         if self.is_set(cell) {
             return self.add_fault(image, cell, most, faults);
@@ -119,12 +120,12 @@ impl Notes {
         requires is_set { IsNoted self.now.cells.items cell }
         requires listed { AreListed image.now self.now.cells.items most cell faults.old.items }
         ensures listed { IfOk result (λ room. room ≡ true → AreListed image.now self.now.cells.items most (cell + 1) faults.new.items) }
-        ensures full { IfOk result (λ room. room ≡ false → ListsFaults image.now most faults.new.items × (length faults.new.items ≡ most)) }
+        ensures full { IfOk result (λ room. room ≡ false → IsFull image.now self.now.cells.items most faults.new.items) }
     {
+        let fault = fault_at(image, cell);
         if faults.len() == most {
             return Ok(false);
         }
-        let fault = fault_at(image, cell);
         faults.push(fault)?;
         Ok(true)
     }

@@ -1,14 +1,14 @@
 //! The walk from the root over every place of every reached block, past all faults.
-ghost use Rattle.std.specs.Prelude.{◌≡◌, ◌≢◌, ◌*◌, ◌<◌, ◌⊎◌, ◌↔◌, ◌∷◌, [], false, IfOk, IsTrue, None, Some, replicate};
+ghost use Rattle.std.specs.Prelude.{◌≡◌, ◌≢◌, ◌*◌, ◌<◌, ◌⊎◌, ◌↔◌, ◌∷◌, [], false, true, IfOk, IsTrue, None, Some, replicate};
 ghost use Rattle.adf_block.specs.declared.layout.TheConstants.{BLOCK_LONGS};
 ghost use Rattle.adf_block.specs.Whole.{IsImage};
 ghost use Rattle.adf_block.specs.Image.{block_count, long};
 ghost use Rattle.ados_check.specs.Marks.{mark_at};
 ghost use Rattle.ados_model.specs.Faults.{InImage, IsPlace, LeadsInside, Reached};
-ghost use Rattle.ados_faults.specs.Listed.{AreClosed, IsNamedAs};
+ghost use Rattle.ados_faults.specs.Listed.{AreClosed, IsMarked, IsNamedAs, IsTangled};
 ghost use Rattle.ados_model.specs.declared.fault.FaultKind.TheVariants.{BadPointer, BlockUsedTwice};
 ghost use Rattle.ados_faults.specs.steps.Noted.{IsNoted, cell_of};
-ghost use Rattle.ados_faults.specs.steps.Walked.{AreAllSteps, AreKept, AreOutsideNoted, AreTaken, AreTwiceNoted, IsListed, IsMetBy, IsPassed, IsStep, IsVisited, IsWalked, role_of, root_step, step_of};
+ghost use Rattle.ados_faults.specs.steps.Walked.{AreAllSteps, AreKept, AreOutsideNoted, AreTaken, AreTwiceNoted, IsListed, IsMetBy, IsPassed, IsStep, IsVisited, IsWalked, key_for, role_of, root_step, step_of};
 
 use crate::bits::is_inside;
 use crate::notes::Notes;
@@ -52,8 +52,8 @@ pub(crate) struct Walk {
     pub(crate) is_cut: bool,
 }
 
-/// The steps after which a walk takes only blocks without a mark, and the most header and extension blocks that are
-/// visited.
+/// The steps after which a walk takes only blocks without a mark, and then the most header and extension blocks that
+/// are visited.
 pub(crate) fn most_steps(image: &Image) -> u32
     ensures { result ≡ 4 * block_count image.now }
 {
@@ -64,6 +64,7 @@ pub(crate) fn most_steps(image: &Image) -> u32
 pub(crate) fn walked(alloc: Global, image: &Image) -> Result<Walk, AllocError>
     ensures walked { IfOk result (λ walk. IsWalked image.now walk.notes.cells.items walk.marks.items walk.steps.items) }
     ensures closed { IfOk result (λ walk. AreClosed image.now walk.marks.items) }
+    ensures cut { IfOk result (λ walk. walk.is_cut ≡ true → IsTangled image.now) }
     ensures all { IfOk result (λ walk. walk.is_cut ≡ false → AreAllSteps image.now walk.steps.items) }
     ensures twice { IfOk result (λ walk. walk.is_cut ≡ false → AreTwiceNoted image.now walk.notes.cells.items) }
     ensures outside { IfOk result (λ walk. walk.is_cut ≡ false → AreOutsideNoted image.now walk.notes.cells.items) }
@@ -84,7 +85,8 @@ impl Walk {
     /// Only the root.
     fn start(alloc: Global, image: &Image) -> Result<Walk, AllocError>
         ensures walked { IfOk result (λ walk. IsWalked image.now walk.notes.cells.items walk.marks.items walk.steps.items) }
-        ensures taken { IfOk result (λ walk. AreTaken walk.others walk.steps.items) }
+        ensures taken { IfOk result (λ walk. AreTaken walk.marks.items walk.others walk.steps.items) }
+        ensures whole { IfOk result (λ walk. walk.is_cut ≡ false) }
     {
         let root = image.root();
         let notes = Notes::none(alloc, image)?;
@@ -108,10 +110,12 @@ impl Walk {
     /// Visits the places of a block in a role.
     fn go_through(&mut self, image: &Image, step: Step) -> Result<(), AllocError>
         requires walked { IsWalked image.now self.old.notes.cells.items self.old.marks.items self.old.steps.items }
-        requires taken { AreTaken self.old.others self.old.steps.items }
+        requires taken { AreTaken self.old.marks.items self.old.others self.old.steps.items }
+        requires cut { self.old.is_cut ≡ true → IsTangled image.now }
         requires step { IsStep image.now step }
         ensures walked { IfOk result (λ _. IsWalked image.now self.new.notes.cells.items self.new.marks.items self.new.steps.items) }
-        ensures taken { IfOk result (λ _. AreTaken self.new.others self.new.steps.items) }
+        ensures taken { IfOk result (λ _. AreTaken self.new.marks.items self.new.others self.new.steps.items) }
+        ensures cut { IfOk result (λ _. self.new.is_cut ≡ true → IsTangled image.now) }
         ensures kept { IfOk result (λ _. AreKept self.old self.new) }
         ensures visited { IfOk result (λ _. IsVisited image.now self.new step) }
     {
@@ -124,11 +128,13 @@ impl Walk {
     /// Visits one long of a block in a role, if it is a place.
     fn visit(&mut self, image: &Image, step: Step, i: u32) -> Result<(), AllocError>
         requires walked { IsWalked image.now self.old.notes.cells.items self.old.marks.items self.old.steps.items }
-        requires taken { AreTaken self.old.others self.old.steps.items }
+        requires taken { AreTaken self.old.marks.items self.old.others self.old.steps.items }
+        requires cut { self.old.is_cut ≡ true → IsTangled image.now }
         requires step { IsStep image.now step }
         requires long { i < BLOCK_LONGS }
         ensures walked { IfOk result (λ _. IsWalked image.now self.new.notes.cells.items self.new.marks.items self.new.steps.items) }
-        ensures taken { IfOk result (λ _. AreTaken self.new.others self.new.steps.items) }
+        ensures taken { IfOk result (λ _. AreTaken self.new.marks.items self.new.others self.new.steps.items) }
+        ensures cut { IfOk result (λ _. self.new.is_cut ≡ true → IsTangled image.now) }
         ensures kept { IfOk result (λ _. AreKept self.old self.new) }
         ensures passed { IfOk result (λ _. IsPassed image.now self.new step i) }
     {
@@ -143,12 +149,14 @@ impl Walk {
     /// Visits one long, a place that gives the role.
     fn pass(&mut self, image: &Image, step: Step, role: Role, i: u32) -> Result<(), AllocError>
         requires walked { IsWalked image.now self.old.notes.cells.items self.old.marks.items self.old.steps.items }
-        requires taken { AreTaken self.old.others self.old.steps.items }
+        requires taken { AreTaken self.old.marks.items self.old.others self.old.steps.items }
+        requires cut { self.old.is_cut ≡ true → IsTangled image.now }
         requires step { IsStep image.now step }
         requires long { i < BLOCK_LONGS }
         requires place { IsPlace image.now step.block step.role i role }
         ensures walked { IfOk result (λ _. IsWalked image.now self.new.notes.cells.items self.new.marks.items self.new.steps.items) }
-        ensures taken { IfOk result (λ _. AreTaken self.new.others self.new.steps.items) }
+        ensures taken { IfOk result (λ _. AreTaken self.new.marks.items self.new.others self.new.steps.items) }
+        ensures cut { IfOk result (λ _. self.new.is_cut ≡ true → IsTangled image.now) }
         ensures kept { IfOk result (λ _. AreKept self.old self.new) }
         ensures met { IfOk result (λ _. LeadsInside image.now step.block i → IsMetBy self.new (long image.now step.block i) step.block i role) }
         ensures outside { IfOk result (λ _. ¬ LeadsInside image.now step.block i → IsNoted self.new.notes.cells.items (cell_of BadPointer step.block)) }
@@ -169,12 +177,14 @@ impl Walk {
     /// Handles a block that a place names.
     fn meet(&mut self, image: &Image, block: u32, mark: Mark) -> Result<(), AllocError>
         requires walked { IsWalked image.now self.old.notes.cells.items self.old.marks.items self.old.steps.items }
-        requires taken { AreTaken self.old.others self.old.steps.items }
+        requires taken { AreTaken self.old.marks.items self.old.others self.old.steps.items }
+        requires cut { self.old.is_cut ≡ true → IsTangled image.now }
         requires inside { InImage image.now block }
         requires reached { Reached image.now block mark.role }
         requires named { IsNamedAs image.now block mark }
         ensures walked { IfOk result (λ _. IsWalked image.now self.new.notes.cells.items self.new.marks.items self.new.steps.items) }
-        ensures taken { IfOk result (λ _. AreTaken self.new.others self.new.steps.items) }
+        ensures taken { IfOk result (λ _. AreTaken self.new.marks.items self.new.others self.new.steps.items) }
+        ensures cut { IfOk result (λ _. self.new.is_cut ≡ true → IsTangled image.now) }
         ensures kept { IfOk result (λ _. AreKept self.old self.new) }
         ensures met { IfOk result (λ _. IsMetBy self.new block mark.holder mark.long mark.role) }
     {
@@ -192,12 +202,14 @@ impl Walk {
     /// Notes a block that another place has marked.
     fn note_twice(&mut self, image: &Image, block: u32, first: Mark, mark: Mark)
         requires walked { IsWalked image.now self.old.notes.cells.items self.old.marks.items self.old.steps.items }
-        requires taken { AreTaken self.old.others self.old.steps.items }
+        requires taken { AreTaken self.old.marks.items self.old.others self.old.steps.items }
+        requires cut { self.old.is_cut ≡ true → IsTangled image.now }
         requires marked { mark_at self.old.marks.items block ≡ Some first }
         requires inside { InImage image.now block }
         requires named { IsNamedAs image.now block mark }
         ensures walked { IsWalked image.now self.new.notes.cells.items self.new.marks.items self.new.steps.items }
-        ensures taken { AreTaken self.new.others self.new.steps.items }
+        ensures taken { AreTaken self.new.marks.items self.new.others self.new.steps.items }
+        ensures cut { self.new.is_cut ≡ true → IsTangled image.now }
         ensures kept { AreKept self.old self.new }
         ensures marked { mark_at self.new.marks.items block ≡ Some first }
         ensures twice { (first.holder ≢ mark.holder) ⊎ (first.long ≢ mark.long) → IsNoted self.new.notes.cells.items (cell_of BlockUsedTwice block) }
@@ -210,13 +222,15 @@ impl Walk {
     /// Marks a block that had no mark, and adds its step.
     fn take_first(&mut self, image: &Image, block: u32, mark: Mark) -> Result<(), AllocError>
         requires walked { IsWalked image.now self.old.notes.cells.items self.old.marks.items self.old.steps.items }
-        requires taken { AreTaken self.old.others self.old.steps.items }
+        requires taken { AreTaken self.old.marks.items self.old.others self.old.steps.items }
+        requires cut { self.old.is_cut ≡ true → IsTangled image.now }
         requires unmarked { mark_at self.old.marks.items block ≡ None }
         requires inside { InImage image.now block }
         requires reached { Reached image.now block mark.role }
         requires named { IsNamedAs image.now block mark }
         ensures walked { IfOk result (λ _. IsWalked image.now self.new.notes.cells.items self.new.marks.items self.new.steps.items) }
-        ensures taken { IfOk result (λ _. AreTaken self.new.others self.new.steps.items) }
+        ensures taken { IfOk result (λ _. AreTaken self.new.marks.items self.new.others self.new.steps.items) }
+        ensures cut { IfOk result (λ _. self.new.is_cut ≡ true → IsTangled image.now) }
         ensures kept { IfOk result (λ _. AreKept self.old self.new) }
         ensures met { IfOk result (λ _. IsMetBy self.new block mark.holder mark.long mark.role) }
     {
@@ -231,11 +245,15 @@ impl Walk {
     /// Adds the step of a marked block in another role, unless it was taken, or the walk may take no more.
     fn take_other(&mut self, image: &Image, block: u32, role: Role) -> Result<(), AllocError>
         requires walked { IsWalked image.now self.old.notes.cells.items self.old.marks.items self.old.steps.items }
-        requires taken { AreTaken self.old.others self.old.steps.items }
+        requires taken { AreTaken self.old.marks.items self.old.others self.old.steps.items }
+        requires cut { self.old.is_cut ≡ true → IsTangled image.now }
         requires inside { InImage image.now block }
         requires reached { Reached image.now block role }
+        requires other { (mark : Mark) → mark_at self.old.marks.items block ≡ Some mark → mark.role ≢ role }
+        requires marked { IsMarked self.old.marks.items block }
         ensures walked { IfOk result (λ _. IsWalked image.now self.new.notes.cells.items self.new.marks.items self.new.steps.items) }
-        ensures taken { IfOk result (λ _. AreTaken self.new.others self.new.steps.items) }
+        ensures taken { IfOk result (λ _. AreTaken self.new.marks.items self.new.others self.new.steps.items) }
+        ensures cut { IfOk result (λ _. self.new.is_cut ≡ true → IsTangled image.now) }
         ensures kept { IfOk result (λ _. AreKept self.old self.new) }
         ensures listed { IfOk result (λ _. self.new.is_cut ≡ false → IsListed self.new.steps.items (step_of block role)) }
     {
@@ -288,7 +306,7 @@ pub(crate) fn is_other_place(first: Mark, mark: Mark) -> bool
 
 /// Whether two roles are the same.
 fn is_same_role(role: Role, other: Role) -> bool
-    ensures { IsTrue result → role ≡ other }
+    ensures { IsTrue result ↔ role ≡ other }
 {
     role == other
 }
@@ -297,6 +315,7 @@ fn is_same_role(role: Role, other: Role) -> bool
 fn key_of(block: u32, role: Role) -> StepKey
     ensures block { result.block ≡ block }
     ensures role { role_of result ≡ role }
+    ensures key { result ≡ key_for block role }
 {
     let (kind, holder, slot) = match role {
         Role::Root => (0, 0, 0),

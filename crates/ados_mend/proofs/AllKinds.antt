@@ -15,7 +15,7 @@ own_belongs : (image : List ℕ) (header block : ℕ) (state : State) → IsOwnI
 own_belongs image header block Directory own = own
 own_belongs image header block DoubtfulDirectory own = own
 own_belongs image header block Whole own = own
-own_belongs image header block (Doubtful sound length) own = inl own
+own_belongs image header block (Doubtful heading length) own = inl own
 own_belongs image header block Lost own = own
 own_belongs image header block (Broken missing cut length) own = inl own
 
@@ -23,7 +23,7 @@ extension_belongs : (image : List ℕ) (header block : ℕ) (state : State) → 
 extension_belongs image header block Directory damaged extension = absurd damaged
 extension_belongs image header block DoubtfulDirectory damaged extension = absurd damaged
 extension_belongs image header block Whole damaged extension = absurd damaged
-extension_belongs image header block (Doubtful sound length) damaged extension = inr extension
+extension_belongs image header block (Doubtful heading length) damaged extension = inr extension
 extension_belongs image header block Lost damaged extension = absurd damaged
 extension_belongs image header block (Broken missing cut length) damaged extension = inr extension
 
@@ -31,8 +31,8 @@ belongs_by : (image : List ℕ) (header block : ℕ) (state : State) → Belongs
 belongs_by image header block Directory own = inl own
 belongs_by image header block DoubtfulDirectory own = inl own
 belongs_by image header block Whole own = inl own
-belongs_by image header block (Doubtful sound length) (inl own) = inl own
-belongs_by image header block (Doubtful sound length) (inr extension) = inr (_, extension)
+belongs_by image header block (Doubtful heading length) (inl own) = inl own
+belongs_by image header block (Doubtful heading length) (inr extension) = inr (_, extension)
 belongs_by image header block Lost own = inl own
 belongs_by image header block (Broken missing cut length) (inl own) = inl own
 belongs_by image header block (Broken missing cut length) (inr extension) = inr (_, extension)

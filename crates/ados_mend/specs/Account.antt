@@ -29,7 +29,7 @@ pub data HasExtensionBlock (image : List ℕ) (file : ℕ) : ℕ → Type 0 wher
 -- a file that is not whole has also its extension blocks
 abbrev pub BelongsTo : List ℕ → ℕ → State → ℕ → Type 0
 BelongsTo image header states.Whole block = Names image header block
-BelongsTo image header (states.Doubtful sound length) block = (block ≡ header) ⊎ HasExtensionBlock image header block
+BelongsTo image header (states.Doubtful heading length) block = (block ≡ header) ⊎ HasExtensionBlock image header block
 BelongsTo image header (states.Broken missing cut length) block = (block ≡ header) ⊎ HasExtensionBlock image header block
 BelongsTo image header state block = block ≡ header
 

@@ -1,8 +1,9 @@
 -- The entries of a salvage, for C.
-use Rattle.std.specs.Prelude.{ℕ, Bool, false, if◌then◌else◌, length, Option, Some, None}
+use Rattle.std.specs.Prelude.{ℕ, Bool, if◌then◌else◌, length, Option, Some, None}
 use Rattle.adf_salvage.specs.declared.salvaged.Salvaged.{Salvaged}
 use Rattle.adf_salvage.specs.declared.salvaged.State.{State}
 use Rattle.adf_salvage.specs.declared.salvaged.State.TheVariants.{Directory, DoubtfulDirectory, Whole, Doubtful, Broken, Lost}
+use Rattle.adf_salvage.specs.Salvaged.{is_cut, missing_in}
 use Rattle.c_values.specs.Dates.{told_date}
 use Rattle.c_values.specs.Telling.{cells_of}
 use Rattle.c_values.specs.declared.salvaged.JipSalvaged.{JipSalvaged}
@@ -18,17 +19,8 @@ told_state Directory = 1
 told_state Whole = 2
 told_state (Broken missing cut size) = 3
 told_state Lost = 4
-told_state (Doubtful sound size) = 5
+told_state (Doubtful header size) = 5
 told_state DoubtfulDirectory = 6
-
--- how many data blocks are missing, and whether the bytes end early
-abbrev pub told_missing : State → ℕ
-told_missing (Broken missing cut size) = missing
-told_missing _ = 0
-
-abbrev pub told_cut : State → Bool
-told_cut (Broken missing cut size) = cut
-told_cut _ = false
 
 -- the number of a yes or no
 abbrev pub yes_number : Bool → ℕ
@@ -42,8 +34,8 @@ told_salvaged e size = record {
   state = told_state e.state;
   header = e.header;
   is_found = yes_number e.found;
-  missing = told_missing e.state;
-  is_cut = yes_number (told_cut e.state);
+  missing = missing_in e.state;
+  is_cut = yes_number (is_cut e.state);
   protection = e.protection.0;
   date = told_date e.date;
   comment_length = length e.comment;

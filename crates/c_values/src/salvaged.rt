@@ -1,7 +1,7 @@
 //! The entries of a salvage for C.
 
 ghost use Rattle.std.specs.Prelude.{◌≡◌};
-ghost use Rattle.c_values.specs.Salvaged.{told_above, told_cut, told_missing, told_salvaged, told_state, yes_number};
+ghost use Rattle.c_values.specs.Salvaged.{told_above, told_salvaged, told_state, yes_number};
 
 use crate::answer::cells;
 use crate::date::JipDate;
@@ -44,8 +44,8 @@ impl JipSalvaged {
             state: state_number(entry.state),
             header: entry.header,
             is_found: yes_number(entry.found),
-            missing: missing_of(entry.state),
-            is_cut: yes_number(is_cut(entry.state)),
+            missing: entry.state.missing(),
+            is_cut: yes_number(entry.state.is_cut()),
             protection: entry.protection.bits(),
             date: JipDate::of(entry.date),
             comment_length: comment.len() as u32,
@@ -73,24 +73,6 @@ fn state_number(state: State) -> u32
         State::Lost => 4,
         State::Doubtful { .. } => 5,
         State::DoubtfulDirectory => 6,
-    }
-}
-
-fn missing_of(state: State) -> u32
-    ensures { result ≡ told_missing state }
-{
-    match state {
-        State::Broken { missing, .. } => missing,
-        _ => 0,
-    }
-}
-
-fn is_cut(state: State) -> bool
-    ensures { result ≡ told_cut state }
-{
-    match state {
-        State::Broken { cut, .. } => cut,
-        _ => false,
     }
 }
 

@@ -1,10 +1,10 @@
 -- Cells for the faults found in an image.
-use Rattle.std.specs.Prelude.{◌≡◌, ℕ, ◌+◌, ◌*◌, ◌<◌, List, Bool, true, false, length, slice_index_or, All, Contains}
+use Rattle.std.specs.Prelude.{◌≡◌, ℕ, ◌+◌, ◌*◌, ◌<◌, ◌⊎◌, List, Bool, true, false, length, slice_index_or, All, Contains}
 use Rattle.adf_block.specs.Image.{block_count}
 use Rattle.ados_model.specs.declared.fault.FaultKind.{FaultKind}
 use Rattle.ados_model.specs.Faults.{Shows}
 use Rattle.ados_model.specs.declared.fault.VolumeFault.{VolumeFault}
-use Rattle.ados_faults.specs.Listed.{ListsFaults, fault_of, rank}
+use Rattle.ados_faults.specs.Listed.{ListsFaults, ShowsMoreThan, StandsBefore, fault_of, rank}
 
 -- the cell for a kind of fault and a block
 abbrev pub cell_of : FaultKind → ℕ → ℕ
@@ -34,6 +34,18 @@ cell_at fault = cell_of fault.kind fault.block
 -- each noted fault is in the list
 abbrev pub ListsNoted : List Bool → List VolumeFault → Type 0
 ListsNoted cells faults = (kind : FaultKind) (block : ℕ) → IsNoted cells (cell_of kind block) → Contains faults (fault_of kind block)
+
+-- each noted fault is in the list, or stands behind all of the list
+abbrev pub ListsFirst : List Bool → List VolumeFault → Type 0
+ListsFirst cells faults =
+    (kind : FaultKind) (block : ℕ) → IsNoted cells (cell_of kind block) → Contains faults (fault_of kind block) ⊎ All (λ fault. StandsBefore fault (fault_of kind block)) faults
+
+-- the list has as many of the noted faults as it may have, the first ones, and there are more
+pub record IsFull (image : List ℕ) (cells : List Bool) (most : ℕ) (faults : List VolumeFault) : Type 0 where
+  pub lists : ListsFaults image most faults
+  pub full : length faults ≡ most
+  pub first : ListsFirst cells faults
+  pub more : ShowsMoreThan image most
 
 -- the faults of the cells below a bound
 pub record AreListed (image : List ℕ) (cells : List Bool) (most below : ℕ) (faults : List VolumeFault) : Type 0 where

@@ -1,5 +1,5 @@
 -- The progress of a walk past the faults of an image.
-use Rattle.std.specs.Prelude.{◌≡◌, ◌≢◌, ℕ, ◌+◌, ◌*◌, ◌-◌, ◌/◌, ◌<◌, ◌≤◌, ◌⊎◌, ◌==◌, if◌then◌else◌, List, length, All, Bool, true, false, Some, slice_get}
+use Rattle.std.specs.Prelude.{◌≡◌, ◌≢◌, ℕ, ◌+◌, ◌*◌, ◌-◌, ◌/◌, ◌<◌, ◌≤◌, ◌⊎◌, ◌==◌, if◌then◌else◌, List, length, All, AllPairs, Bool, true, false, Some, slice_get}
 use Rattle.std.specs.declared.cmp.Ordering.{Ordering}
 use Rattle.std.specs.Ordering.{nat_cmp, ordering_then}
 use Rattle.std.specs.BTreeSet.{BTreeSet, contains}
@@ -72,9 +72,25 @@ role_of key = role_by key.kind key.holder key.slot
 abbrev pub key_cmp : StepKey → StepKey → Ordering
 key_cmp x y = ordering_then (nat_cmp x.block y.block) (ordering_then (nat_cmp x.kind y.kind) (ordering_then (nat_cmp x.holder y.holder) (nat_cmp x.slot y.slot)))
 
--- each key in the set is that of a step
-pub record AreTaken (others : BTreeSet StepKey) (steps : List Step) : Type 0 where
+-- the key of a block in a role
+abbrev pub key_for : ℕ → Role → StepKey
+key_for block Root = record { block = block; kind = 0; holder = 0; slot = 0 }
+key_for block Page = record { block = block; kind = 1; holder = 0; slot = 0 }
+key_for block (Entry dir s) = record { block = block; kind = 2; holder = dir; slot = s }
+key_for block (Data file) = record { block = block; kind = 3; holder = file; slot = 0 }
+key_for block (Extension file) = record { block = block; kind = 4; holder = file; slot = 0 }
+
+-- the block of the step has a mark, and the step is in the role of the mark or has its key in the set
+pub record IsKnown (marks : Marks) (others : BTreeSet StepKey) (step : Step) : Type 0 where
+  pub mark : Mark
+  pub marked : mark_at marks step.block ≡ Some mark
+  pub taken : (mark.role ≡ step.role) ⊎ (contains key_cmp others (key_for step.block step.role) ≡ true)
+
+-- each key in the set is that of a step, each step is known, and no two steps are equal
+pub record AreTaken (marks : Marks) (others : BTreeSet StepKey) (steps : List Step) : Type 0 where
   pub listed : (key : StepKey) → contains key_cmp others key ≡ true → IsListed steps (step_of key.block (role_of key))
+  pub known : (k : ℕ) (step : Step) → slice_get steps k ≡ Some step → IsKnown marks others step
+  pub once : AllPairs (λ a b. a ≢ b) steps
 
 -- the notes, the marks and the steps stay as they were, and others may have come; a walk that was cut stays so
 pub record AreKept (walk later : Walk) : Type 0 where

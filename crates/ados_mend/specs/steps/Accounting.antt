@@ -61,7 +61,7 @@ IsOwn image entry block = IsOwnIn image entry.header entry.state block
 
 -- the state of a file that is not whole
 abbrev pub IsDamagedFile : State → Type 0
-IsDamagedFile (states.Doubtful sound length) = ⊤
+IsDamagedFile (states.Doubtful heading length) = ⊤
 IsDamagedFile (states.Broken missing cut length) = ⊤
 IsDamagedFile state = ⊥
 

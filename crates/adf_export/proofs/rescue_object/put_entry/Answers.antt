@@ -2,7 +2,8 @@ use Rattle.std.proofs.Common.{◌≡◌, ℕ, List, [], ◌∷◌, ◌++◌, cod
 use Rattle.std.proofs.lemmas.Result.{on_ok_weaker}
 use Rattle.json.specs.Token.{Token, begin_object, boolean, end_object, key, number, string}
 use Rattle.adf_record.proofs.Tokens.{behind}
-use Rattle.adf_export.specs.RescueObject.{is_cut, missing_in, state_word}
+use Rattle.adf_salvage.specs.Salvaged.{is_cut, missing_in}
+use Rattle.adf_export.specs.RescueObject.{state_word}
 use Rattle.adf_export.proofs.rescue_object.put_entry.Goals as goal
 
 pub returns-clause-tokens : goal.returns-clause-tokens
@@ -22,6 +23,6 @@ returns-clause-tokens c =
     (behind c.begin_object.new.self.tokens c.put_text.new.writer.tokens new path (state ++ (found ++ (missing ++ (cut ++ end)))) c.in_ok-put_text.ensures.tokens
     (behind c.put_text.new.writer.tokens c.put_text-2.new.writer.tokens new state (found ++ (missing ++ (cut ++ end))) second
     (behind c.put_text-2.new.writer.tokens c.put_flag.new.writer.tokens new found (missing ++ (cut ++ end)) c.in_ok-put_flag.ensures.tokens
-    (behind c.put_flag.new.writer.tokens c.put_number.new.writer.tokens new missing (cut ++ end) (c.in_ok-put_number.ensures.tokens ∙ ap (λ (n : ℕ). c.put_flag.new.writer.tokens ++ key (codes "missing") ∷ number (decimal n) ∷ []) c.missing_in.ensures)
+    (behind c.put_flag.new.writer.tokens c.put_number.new.writer.tokens new missing (cut ++ end) (c.in_ok-put_number.ensures.tokens ∙ ap (λ (n : ℕ). c.put_flag.new.writer.tokens ++ key (codes "missing") ∷ number (decimal n) ∷ []) (c.from.ensures ∙ c.missing.ensures))
     (behind c.put_number.new.writer.tokens c.put_flag-2.new.writer.tokens new cut end (c.in_ok-put_flag-2.ensures.tokens ∙ ap (λ b. c.put_number.new.writer.tokens ++ key (codes "cut") ∷ boolean b ∷ []) c.is_cut.ensures) last))))))
     c.end_object.ensures.ok

@@ -1,5 +1,4 @@
-use Rattle.std.proofs.Common.{get_or, eq-eqb, sym, ◌∙◌}
-use Rattle.std.proofs.lemmas.Bool.{false≢true}
+use Rattle.std.proofs.Common.{get_or, sym, ◌∙◌}
 use Rattle.std.proofs.lemmas.Option.{slice_get-get_or}
 use Rattle.ados_model.specs.declared.role.Role.TheVariants.{Root}
 use Rattle.ados_faults.specs.steps.Walked.{step_of}
@@ -15,12 +14,16 @@ loop-step-preserved c =
       noted = done.noted;
       stays = noted_on c.loop-step.invariant.stays done.stays;
       cells = done.cells ∙ c.loop-step.invariant.cells;
-      whole = done.whole;
+      bounded = done.bounded ∙ c.loop-step.invariant.bounded;
+      whole = λ free. done.whole (c.loop-step.invariant.bounded ∙ free);
       checked = steps_more c.args.image.now c.loop-step.looked.files.items c.look_at.new.self.files.items c.args.steps.now n (get_or c.args.steps.now n (step_of 0 Root))
           (slice_get-get_or c.args.steps.now n (step_of 0 Root) c.loop-step-test.true) c.loop-step.invariant.checked done.files done.checked;
     }
 
 pub returns-clause-whole : goal.returns-clause-whole
-returns-clause-whole c = λ some.
-    all_files c.args.image.now c.loop-step.notes.cells.items c.loop-step.looked.files.items c.args.steps.now c.loop-step.step-index (c.loop-step.invariant.whole (λ none. false≢true (sym some ∙ eq-eqb c.loop-step.looked.left 0 none)))
+returns-clause-whole c = λ free.
+    all_files c.args.image.now c.loop-step.notes.cells.items c.loop-step.looked.files.items c.args.steps.now c.loop-step.step-index (c.loop-step.invariant.whole free)
     c.loop-step.invariant.checked c.loop-step-test.false
+
+pub look_at-requires-clause-whole : goal.look_at-requires-clause-whole
+look_at-requires-clause-whole c = λ free. c.loop-step.invariant.whole (sym c.loop-step.invariant.bounded ∙ free)

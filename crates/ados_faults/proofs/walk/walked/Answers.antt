@@ -1,4 +1,5 @@
-use Rattle.std.proofs.Common.{◌≡◌, ◌*◌, ◌<◌, ◌≤◌, length, Some, refl, arith}
+use Rattle.std.proofs.Common.{◌≡◌, ◌*◌, ◌<◌, ◌≤◌, length, Some, refl, sym, ◌∙◌, arith}
+use Rattle.std.proofs.lemmas.Bool.{false≢true}
 use Rattle.std.specs.List.{slice_get}
 use Rattle.std.proofs.lemmas.Option.{slice_get_read}
 use Rattle.adf_block.specs.Image.{block_count}
@@ -9,6 +10,7 @@ pub loop-i-init : goal.loop-i-init
 loop-i-init c = record {
   walked = c.in_ok-walk.ensures.walked;
   taken = c.in_ok-walk.ensures.taken;
+  cut = λ e. absurd (false≢true (sym c.in_ok-walk.ensures.whole ∙ e));
   visited = record { visited = λ k step l e. absurd (omega (arith, l)) };
 }
 
@@ -38,6 +40,7 @@ loop-i-preserved c =
     record {
       walked = done.walked;
       taken = done.taken;
+      cut = done.cut;
       visited = visited_more c.args.image.now walk c.go_through.new.self c.loop-i.i c.index-step.result.now at c.loop-i.invariant.visited done.kept done.visited;
     }
 

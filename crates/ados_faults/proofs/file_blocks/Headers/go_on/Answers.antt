@@ -1,6 +1,6 @@
 use Rattle.std.proofs.Common.{◌≡◌, ◌-◌, ◌<◌, ℕ, List, length, slice_index, refl, sym, ap, ◌∙◌, subst, arith}
 use Rattle.std.proofs.lemmas.Bool.{false≢true}
-use Rattle.std.proofs.lemmas.List.{get_or_default}
+use Rattle.std.proofs.lemmas.List.{get_or_default, length_push}
 use Rattle.adf_block.specs.Image.{long}
 use Rattle.adf_block.specs.declared.layout.TheConstants.{NEXT_EXTENSION}
 use Rattle.ados_model.specs.Faults.{last_link}
@@ -40,3 +40,6 @@ returns-clause-chain c =
 pub returns-clause-head : goal.returns-clause-head
 returns-clause-head c =
     ap (λ (xs : List ℕ). slice_index xs 0) c.in_ok-add.ensures.blocks ∙ head_kept c.args.self.now.blocks.items c.long-next.result c.requires.chain.not_empty
+
+pub returns-clause-longer : goal.returns-clause-longer
+returns-clause-longer c = λ _. ap length c.in_ok-add.ensures.blocks ∙ length_push c.args.self.now.blocks.items c.long-next.result

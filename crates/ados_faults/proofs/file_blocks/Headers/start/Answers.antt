@@ -1,4 +1,4 @@
-use Rattle.std.proofs.Common.{List, ℕ, [], ◌∷◌, ◌++◌, slice_index, sym, ap, ◌∙◌, subst}
+use Rattle.std.proofs.Common.{List, ℕ, [], ◌∷◌, ◌++◌, length, slice_index, sym, ap, ◌∙◌, subst}
 use Rattle.adf_block.specs.declared.layout.TheConstants.{NEXT_EXTENSION}
 use Rattle.ados_faults.specs.steps.Chain.{HasMet, IsChain}
 use Rattle.ados_faults.proofs.Linking.{chain_start, met_none}
@@ -14,3 +14,6 @@ returns-clause-chain c =
 
 pub returns-clause-head : goal.returns-clause-head
 returns-clause-head c = ap (λ (xs : List ℕ). slice_index xs 0) (c.in_ok-add.ensures.blocks ∙ ap (λ (xs : List ℕ). xs ++ c.args.file ∷ []) c.new-blocks.ensures.items)
+
+pub returns-clause-one : goal.returns-clause-one
+returns-clause-one c = ap length (c.in_ok-add.ensures.blocks ∙ ap (λ (xs : List ℕ). xs ++ c.args.file ∷ []) c.new-blocks.ensures.items)

@@ -1,4 +1,7 @@
-use Rattle.std.proofs.Common.{◌<◌, length, arith, subst, ◌∙◌}
+use Rattle.std.proofs.Common.{◌<◌, ◌≡◌, length, arith, sym, ap, subst, ◌∙◌}
+use Rattle.std.proofs.lemmas.Bool.{false≢true}
+use Rattle.std.proofs.lemmas.Option.{same_Some}
+use Rattle.ados_check.specs.declared.mark.Mark.{Mark}
 use Rattle.ados_check.proofs.MarkLemmas.{mark_read}
 use Rattle.ados_model.specs.declared.role.Role.{Role}
 use Rattle.ados_model.specs.declared.fault.FaultKind.TheVariants.{BlockUsedTwice}
@@ -31,5 +34,13 @@ returns-then-is_same_role-clause-met c = record {
   first = c.in-Some.first;
   marked = c.note_twice.ensures.marked;
   twice = c.note_twice.ensures.twice;
-  taken = λ _. subst (λ (r : Role). IsListed c.note_twice.new.self.steps.items (step_of c.args.block r)) (c.is_same_role.ensures c.if-is_same_role.true) (c.note_twice.ensures.walked.listed c.args.block c.in-Some.first c.note_twice.ensures.marked);
+  taken = λ _. subst (λ (r : Role). IsListed c.note_twice.new.self.steps.items (step_of c.args.block r)) (c.is_same_role.ensures.0 c.if-is_same_role.true) (c.note_twice.ensures.walked.listed c.args.block c.in-Some.first c.note_twice.ensures.marked);
 }
+
+pub take_other-requires-clause-other : goal.take_other-requires-clause-other
+take_other-requires-clause-other c = λ mark marked.
+    let same : c.in-Some.first ≡ mark = same_Some c.in-Some.first mark (sym c.note_twice.ensures.marked ∙ marked) in
+    λ e. false≢true (sym c.if-is_same_role.false ∙ c.is_same_role.ensures.1 (ap (λ (m : Mark). m.role) same ∙ e))
+
+pub take_other-requires-clause-marked : goal.take_other-requires-clause-marked
+take_other-requires-clause-marked c = (c.in-Some.first, c.note_twice.ensures.marked)

@@ -13,7 +13,11 @@ returns-clause-walked c =
 pub returns-clause-taken : goal.returns-clause-taken
 returns-clause-taken c =
     let self = c.args.self.now in
-    subst (AreTaken self.others) (sym c.in_ok-push.ensures.items) (taken_on self.others self.steps.items (step_of c.args.block c.args.mark.role) c.requires.taken)
+    let marks = set self.marks.items c.args.block (Some c.args.mark) in
+    subst (AreTaken marks self.others) (sym c.in_ok-push.ensures.items)
+    (taken_on self.marks.items marks self.others self.steps.items c.args.block c.args.mark c.requires.unmarked
+    (marked_first c.args.image.now self.notes.cells.items self.marks.items self.steps.items c.requires.walked c.args.block c.args.mark c.requires.inside c.requires.unmarked)
+    (marks_first c.args.image.now self.notes.cells.items self.marks.items self.steps.items c.requires.walked c.args.block c.args.mark c.requires.inside c.requires.unmarked) c.requires.taken)
 
 pub returns-clause-kept : goal.returns-clause-kept
 returns-clause-kept c =

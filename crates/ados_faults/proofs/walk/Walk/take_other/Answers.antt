@@ -2,7 +2,7 @@ use Rattle.std.proofs.Common.{◌<◌, ◌*◌, List, length, sym, subst, ◌∙
 use Rattle.adf_block.specs.Image.{block_count}
 use Rattle.ados_faults.specs.declared.walk.Step.{Step}
 use Rattle.ados_faults.specs.steps.Walked.{AreTaken, IsListed, IsWalked, step_of}
-use Rattle.ados_faults.proofs.Closing.{kept_push, pushed_there, taken_more, taken_step, took_other}
+use Rattle.ados_faults.proofs.Closing.{kept_push, pushed_there, taken_more, taken_step, tangled, took_other}
 use Rattle.ados_faults.proofs.walk.Walk.take_other.Goals as goal
 
 pub returns-clause-walked : goal.returns-clause-walked
@@ -15,8 +15,14 @@ returns-clause-walked c =
 pub returns-clause-taken : goal.returns-clause-taken
 returns-clause-taken c =
     let self = c.args.self.now in
-    subst (AreTaken c.insert.new.self) (sym c.in_ok-push.ensures.items)
-    (taken_more self.others c.insert.new.self self.steps.items c.key_of-key.result c.args.block c.args.role c.requires.taken c.in_ok-insert.ensures.updates.0 c.key_of-key.ensures.block c.key_of-key.ensures.role)
+    subst (AreTaken self.marks.items c.insert.new.self) (sym c.in_ok-push.ensures.items)
+    (taken_more self.marks.items self.others c.insert.new.self self.steps.items c.key_of-key.result c.args.block c.args.role c.requires.taken c.in_ok-insert.ensures.updates.0 c.in_ok-insert.ensures.updates.1
+    (sym c.contains.ensures ∙ c.if-contains.false) c.key_of-key.ensures.key c.key_of-key.ensures.block c.key_of-key.ensures.role c.requires.marked c.requires.other)
+
+pub returns-then-len-most_steps-clause-cut : goal.returns-then-len-most_steps-clause-cut
+returns-then-len-most_steps-clause-cut c = λ _.
+    let self = c.args.self.now in
+    tangled c.args.image.now self.notes.cells.items self.marks.items self.others self.steps.items c.requires.walked c.requires.taken (omega (arith, c.if-len-most_steps.true, c.len.ensures, c.most_steps.ensures))
 
 pub returns-clause-kept : goal.returns-clause-kept
 returns-clause-kept c =
@@ -29,4 +35,4 @@ returns-clause-listed c = λ _.
 pub returns-then-contains-clause-listed : goal.returns-then-contains-clause-listed
 returns-then-contains-clause-listed c = λ _.
     let self = c.args.self.now in
-    taken_step self.others self.steps.items c.key_of-key.result c.args.block c.args.role c.requires.taken (sym c.contains.ensures ∙ c.if-contains.true) c.key_of-key.ensures.block c.key_of-key.ensures.role
+    taken_step self.marks.items self.others self.steps.items c.key_of-key.result c.args.block c.args.role c.requires.taken (sym c.contains.ensures ∙ c.if-contains.true) c.key_of-key.ensures.block c.key_of-key.ensures.role

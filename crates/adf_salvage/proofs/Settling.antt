@@ -1,0 +1,115 @@
+-- Files without a header are added to the entries.
+use Rattle.std.proofs.Common.{◌≡◌, ◌≢◌, ℕ, zero, suc, ◌+◌, ◌<◌, ◌≤◌, ◌⊎◌, inl, inr, All, AllPairs, List, [], ◌∷◌, ◌++◌, length, map, slice_index, slice_index_or, get_or, Contains, Option, IsSome, is_some, refl, sym, ap, ◌∙◌, subst, arith}
+use Rattle.std.proofs.Math.ListN.{set}
+use Rattle.std.proofs.lemmas.List.{get_or_default, get_or-map, map-set, set-get_or}
+use Rattle.std.proofs.lemmas.List.Elements.{All-set, Contains-append_cases, Contains-append_left}
+use Rattle.std.proofs.lemmas.List.Quantifiers.{all_pairs_push}
+use Rattle.adf_salvage.specs.declared.gathered.Gathered.{Gathered}
+use Rattle.adf_salvage.specs.declared.salvaged.Salvaged.{Salvaged}
+use Rattle.adf_salvage.specs.declared.salvaged.State.TheVariants.{Lost}
+use Rattle.adf_salvage.specs.Lost.{IsLost}
+use Rattle.adf_salvage.specs.Salvaged.{AreSalvaged, IsListed, IsLoose, broken_length, broken_total, headers_of}
+use Rattle.adf_salvage.specs.steps.Gathering.{AreAllHeaders, AreGathered, place_at}
+use Rattle.adf_salvage.specs.steps.Giving.{IsGiving}
+use Rattle.adf_salvage.specs.steps.Settling.{ArePlaced, AreSettled}
+use Rattle.adf_salvage.proofs.Growing.{all_more, broken_more, headers_more}
+use Rattle.adf_salvage.proofs.Saving.{all_salvaged}
+
+-- no file without a header was added yet
+pub settles_none : (out image : List ℕ) (gathered : Gathered) → AreGathered out image gathered → AreAllHeaders out image gathered.places.items
+    → ((block : ℕ) → IsLost out image block → IsSome (place_at gathered.places.items block)) → AreSettled out image 0 gathered
+settles_none out image gathered g met lost = record {
+  salvaged = all_salvaged out image gathered g met lost;
+  placed = λ block there.
+      let headers : List ℕ = headers_of gathered.entries.items in
+      let is : slice_index headers there.0 ≡ block = get_or_default headers there.0 0 block there.1 ∙ there.2 in
+      inl (subst (λ (b : ℕ). IsSome (place_at gathered.places.items b)) is (ap is_some (g.placed there.0 there.1)));
+  giving = g.giving;
+  bounded = g.bounded;
+}
+
+-- the entries of the list with these headers, other ones in their places, and more behind them
+salvages_more : (out image : List ℕ) (old new : List Salvaged) → AreSalvaged out image old → All (IsListed out image) new → AllPairs (λ a b. a ≢ b) (headers_of new)
+    → ((block : ℕ) → Contains (headers_of old) block → Contains (headers_of new) block) → AreSalvaged out image new
+salvages_more out image old new s listed once kept = record {
+  told = listed;
+  once = once;
+  sound = λ block is. kept block (s.sound block is);
+  doubtful = λ block is. kept block (s.doubtful block is);
+  lost = λ block is. kept block (s.lost block is);
+}
+
+at_last : (b header : ℕ) → Contains (header ∷ []) b → b < header + 1
+at_last b header (zero, l, e) = omega (arith, e)
+at_last b header (suc k, l, e) = absurd (omega (arith, l))
+
+-- another entry with the header of one in its place
+headers_set : (xs : List Salvaged) (n : ℕ) (e : Salvaged) → n < length xs → (get_or xs n e).header ≡ e.header → headers_of (set xs n e) ≡ headers_of xs
+headers_set xs n e l same =
+    let header : Salvaged → ℕ = λ entry. entry.header in
+    let there : e.header ≡ get_or (headers_of xs) n e.header = sym same ∙ sym (get_or-map header xs n e e.header l) in
+    map-set header xs n e ∙ ap (set (headers_of xs) n) there ∙ set-get_or (headers_of xs) n e.header
+
+broken_set : (xs : List Salvaged) (n : ℕ) (e : Salvaged) → n < length xs
+    → broken_total (set xs n e) + broken_length (get_or xs n e).state ≡ broken_total xs + broken_length e.state
+unfolding broken_total
+broken_set [] n e l = absurd (omega (arith, l))
+broken_set (x ∷ xs) zero e l = omega arith
+broken_set (x ∷ xs) (suc n) e l = omega (arith, broken_set xs n e (omega (arith, l)))
+
+module _ (out image : List ℕ) (next : ℕ) (old new : Gathered) (s : AreSettled out image next old) (places : new.places.items ≡ old.places.items) (giving : IsGiving image new.giving) where
+  -- blocks were given, but no bytes
+  pub settles_given : new.entries.items ≡ old.entries.items → new.giving.left ≡ old.giving.left → AreSettled out image next new
+  settles_given same left = record {
+    salvaged = subst (AreSalvaged out image) (sym same) s.salvaged;
+    placed = λ block there. subst (λ (ps : List (Option ℕ)). IsSome (place_at ps block) ⊎ (block < next)) (sym places) (s.placed block (subst (λ (es : List Salvaged). Contains (headers_of es) block) same there));
+    giving = giving;
+    bounded = omega (arith, s.bounded, ap broken_total same, left);
+  }
+
+  -- one more file without a header
+  pub settles_more : (e : Salvaged) (header : ℕ) → next ≤ header → (IsSome (place_at old.places.items header) → ⊥) → e.header ≡ header → IsLoose out image header e.state
+      → new.entries.items ≡ old.entries.items ++ e ∷ [] → broken_length e.state + new.giving.left ≡ old.giving.left → AreSettled out image (header + 1) new
+  settles_more e header after free is loose grown left =
+      let more_headers : headers_of new.entries.items ≡ headers_of old.entries.items ++ header ∷ [] =
+      ap headers_of grown ∙ headers_more old.entries.items e ∙ ap (λ (b : ℕ). headers_of old.entries.items ++ b ∷ []) is in
+      let listed : IsListed out image e = inr (subst (λ (b : ℕ). IsLoose out image b e.state) (sym is) loose) in
+      let other : (b : ℕ) → Contains (headers_of old.entries.items) b → b ≢ header = λ b there same. elim (s.placed b there) [
+        | inl some ↦ free (subst (λ (k : ℕ). IsSome (place_at old.places.items k)) same some)
+        | inr below ↦ absurd (omega (arith, below, after, same))
+      ] in
+      record {
+        salvaged = salvages_more out image old.entries.items new.entries.items s.salvaged
+            (subst (All (IsListed out image)) (sym grown) (all_more (IsListed out image) old.entries.items e s.salvaged.told listed))
+            (subst (AllPairs (λ a b. a ≢ b)) (sym more_headers) (all_pairs_push (λ (a : ℕ) (b : ℕ). a ≢ b) (headers_of old.entries.items) header s.salvaged.once
+            (λ k d l. other (get_or (headers_of old.entries.items) k d) (k, l, get_or_default (headers_of old.entries.items) k _ d l))))
+            (λ b there. subst (λ (xs : List ℕ). Contains xs b) (sym more_headers) (Contains-append_left (headers_of old.entries.items) (header ∷ []) b there));
+        placed = λ b there. subst (λ (ps : List (Option ℕ)). IsSome (place_at ps b) ⊎ (b < header + 1)) (sym places)
+            (elim (Contains-append_cases (headers_of old.entries.items) (header ∷ []) b (subst (λ (xs : List ℕ). Contains xs b) more_headers there)) [
+              | inl before ↦ (elim (s.placed b before) [
+                | inl some ↦ inl some
+                | inr below ↦ inr (omega (arith, below, after))
+              ])
+              | inr last ↦ inr (at_last b header last)
+            ]);
+        giving = giving;
+        bounded = omega (arith, s.bounded, ap broken_total grown, broken_more old.entries.items e, left);
+      }
+
+  -- a lost entry became a file without a header
+  pub settles_lost : (place : ℕ) (was e d : Salvaged) → place < length old.entries.items → was ≡ get_or old.entries.items place d → e.header ≡ was.header → was.state ≡ Lost
+      → IsLoose out image was.header e.state → new.entries.items ≡ set old.entries.items place e → broken_length e.state + new.giving.left ≡ old.giving.left → AreSettled out image next new
+  settles_lost place was e d inside at same lost loose replaced left =
+      let there : get_or old.entries.items place e ≡ was = get_or_default old.entries.items place e d inside ∙ sym at in
+      let still : headers_of new.entries.items ≡ headers_of old.entries.items =
+      ap headers_of replaced ∙ headers_set old.entries.items place e inside (ap (λ (entry : Salvaged). entry.header) there ∙ sym same) in
+      let empty : broken_length (get_or old.entries.items place e).state ≡ 0 = ap (λ (entry : Salvaged). broken_length entry.state) there ∙ ap broken_length lost in
+      let listed : IsListed out image e = inr (subst (λ (b : ℕ). IsLoose out image b e.state) (sym same) loose) in
+      record {
+        salvaged = salvages_more out image old.entries.items new.entries.items s.salvaged
+            (subst (All (IsListed out image)) (sym replaced) (All-set (IsListed out image) old.entries.items place e listed s.salvaged.told))
+            (subst (AllPairs (λ a b. a ≢ b)) (sym still) s.salvaged.once) (λ b there. subst (λ (xs : List ℕ). Contains xs b) (sym still) there);
+        placed = λ b there. subst (λ (ps : List (Option ℕ)). IsSome (place_at ps b) ⊎ (b < next)) (sym places) (s.placed b (subst (λ (xs : List ℕ). Contains xs b) still there));
+        giving = giving;
+        bounded = omega (arith, s.bounded, ap broken_total replaced, broken_set old.entries.items place e inside, empty, left);
+      }

@@ -1,0 +1,11 @@
+use Rattle.std.proofs.Common.{◌≡◌, IfSome}
+use Rattle.adf_salvage.specs.Loose.{IsLooseData}
+use Rattle.adf_salvage.specs.steps.Giving.{IsGiving}
+use Rattle.adf_salvage.proofs.loose.give.Given as goal
+
+abbrev pub invariant-loop-part : goal.invariant-loop-part
+invariant-loop-part l = record {
+  giving : IsGiving l.image l.giving;
+  left : l.giving.left ≡ l.initial.giving.left;
+  named : IfSome l.last (λ part. IsLooseData l.image l.header part.block);
+}

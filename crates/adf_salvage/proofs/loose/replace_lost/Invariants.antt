@@ -1,0 +1,9 @@
+use Rattle.std.proofs.Common.{◌≡◌, length}
+use Rattle.adf_salvage.specs.steps.Settling.{AreSettled}
+use Rattle.adf_salvage.proofs.loose.replace_lost.Given as goal
+
+abbrev pub invariant-loop-place : goal.invariant-loop-place
+invariant-loop-place l = record {
+  settled : AreSettled l.known.left_out l.image 0 l.gathered;
+  count : length l.gathered.entries.items ≡ length l.initial.gathered.entries.items;
+}

@@ -1,0 +1,14 @@
+-- OFS data blocks without a header that is told.
+use Rattle.std.specs.Prelude.{◌≡◌, ℕ, List}
+use Rattle.adf_block.specs.Image.{block_count, block_sum, IsInside}
+use Rattle.adf_block.specs.Fields.{format_of, own_key, primary_type}
+use Rattle.adf_block.specs.declared.layout.Format.TheVariants.{Ofs}
+use Rattle.adf_block.specs.declared.layout.TheConstants.{DATA_TYPE}
+
+-- the block is an OFS data block by its type, with a right checksum, and names this header
+pub record IsLooseData (image : List ℕ) (header block : ℕ) : Type 0 where
+  pub inside : IsInside (block_count image) block
+  pub kind : format_of image ≡ Ofs
+  pub primary : primary_type image block ≡ DATA_TYPE
+  pub sum : block_sum image block ≡ 0
+  pub of_header : own_key image block ≡ header

@@ -1,0 +1,315 @@
+//! Files whose header is gone, from the OFS data blocks that name it.
+ghost use Rattle.std.specs.Prelude.{◌≡◌, ◌<◌, ◌≤◌, ◌+◌, ℕ, IfOk, IfSome, IsTrue, MatchBool, MatchOption, OnOk, length, true};
+ghost use Rattle.adf_block.specs.Image.{block_count};
+ghost use Rattle.adf_salvage.specs.Deleted.{IsTrustedBitmap};
+ghost use Rattle.adf_salvage.specs.Doubtful.{IsHeader};
+ghost use Rattle.adf_salvage.specs.Loose.{IsLooseData};
+ghost use Rattle.adf_salvage.specs.Salvaged.{IsLoose, broken_length};
+ghost use Rattle.adf_salvage.specs.steps.Giving.{IsGiving};
+ghost use Rattle.adf_salvage.specs.steps.Heading.{AreKnown};
+ghost use Rattle.adf_salvage.specs.steps.Settling.{AreSettled};
+
+use crate::gathered::Gathered;
+use crate::giving::{Giving, Piece, Remains};
+use crate::known::Known;
+use crate::salvaged::{HeaderState, State};
+use crate::state::damaged;
+use adf_block::layout::{
+    BOOT_BLOCKS, DATA_TYPE, HELD, NEXT_DATA, OFS_ROOM, OWN_KEY, PRIMARY_TYPE, SEQUENCE,
+};
+use adf_block::{Format, Image};
+use ados_map::is_free;
+use std::alloc::{AllocError, Global};
+
+/// An OFS data block of a file whose header is not told.
+#[derive(Clone, Copy, PartialEq, Eq, PartialOrd, Ord)]
+struct Part {
+    /// The block number of the header.
+    header: u32,
+    /// Which of the file's data blocks it is, from 1.
+    number: u32,
+    block: u32,
+}
+
+/// The OFS data blocks with right checksums whose headers are not told, by header, number and block.
+#[derive(Drop)]
+struct Parts {
+    items: Vec<Part>,
+    /// Whether the bitmap can be trusted.
+    trusted: bool,
+}
+
+/// Adds a file for each header that is not told and that OFS data blocks with right checksums name: in place of the lost
+/// entry with that block, if there is one, and else as a recovered one. There is none if a bitmap that can be trusted marks
+/// all of these blocks free. Of data blocks with one number the lowest is taken.
+pub(crate) fn add_loose(
+    alloc: Global,
+    image: &Image,
+    known: &Known,
+    trusted: bool,
+    gathered: &mut Gathered,
+) -> Result<(), AllocError>
+    requires known { AreKnown image.now known.now }
+    requires trust { trusted ≡ true → IsTrustedBitmap image.now }
+    requires settled { AreSettled known.now.left_out image.now 0 gathered.old }
+    ensures { OnOk result ((next : ℕ) × AreSettled known.now.left_out image.now next gathered.new) }
+{
+    let parts = Parts::of(alloc, image, known, trusted)?;
+    replace_lost(image, known, &parts, gathered)?;
+    add_found(alloc, image, known, &parts, gathered)
+}
+
+impl Parts {
+    fn of(alloc: Global, image: &Image, known: &Known, trusted: bool) -> Result<Parts, AllocError>
+        requires { AreKnown image.now known.now }
+        ensures { IfOk result (λ parts. parts.trusted ≡ trusted) }
+    {
+        let mut items = Vec::new(alloc);
+        for block in BOOT_BLOCKS..image.blocks() {
+            let (header, number) = (image.long(block, OWN_KEY), image.long(block, SEQUENCE));
+            if number > 0 && is_loose(image, header, block) && !is_told(image, known, header) {
+                items.push(Part {
+                    header,
+                    number,
+                    block,
+                })?;
+            }
+        }
+        items.sort_unstable();
+        Ok(Parts { items, trusted })
+    }
+
+    /// Those that name a header; none if they are all deleted.
+    fn naming(&self, image: &Image, header: u32) -> &[Part]
+        requires { self.now.trusted ≡ true → IsTrustedBitmap image.now }
+    {
+        let first = self.items.partition_point(|part| part.header < header);
+        let end = self.items.partition_point(|part| part.header <= header);
+        if first >= end || self.are_deleted(image, first, end) {
+            return &[];
+        }
+        &self.items[first..end]
+    }
+
+    /// Whether a bitmap that can be trusted marks all of these free.
+    fn are_deleted(&self, image: &Image, first: usize, end: usize) -> bool
+        requires trust { self.now.trusted ≡ true → IsTrustedBitmap image.now }
+        requires inside { end ≤ length self.now.items.items }
+    {
+        for at in first..end {
+            if !self.trusted || !is_marked_free(image, self.items[at].block) {
+                return false;
+            }
+        }
+        true
+    }
+}
+
+/// Whether a block is an OFS data block with a right checksum that names this header.
+fn is_loose(image: &Image, header: u32, block: u32) -> bool
+    ensures { IsTrue result → IsLooseData image.now header block }
+{
+    image.format() == Format::Ofs
+        && block >= BOOT_BLOCKS
+        && block < image.blocks()
+        && image.long(block, PRIMARY_TYPE) == DATA_TYPE
+        && image.long(block, OWN_KEY) == header
+        && image.sum(block) == 0
+}
+
+/// Whether a number is that of a header that is told.
+fn is_told(image: &Image, known: &Known, header: u32) -> bool
+    requires { AreKnown image.now known.now }
+    ensures { MatchBool result (IsHeader known.now.left_out image.now header) (¬ IsHeader known.now.left_out image.now header) }
+{
+    header < image.blocks() && known.headers[header as usize]
+}
+
+/// Whether a trusted bitmap marks a block free.
+#[tactic(auto, using(crate::proofs::Trusting::trusted_pages))]
+fn is_marked_free(image: &Image, block: u32) -> bool
+    requires { IsTrustedBitmap image.now }
+{
+    block >= BOOT_BLOCKS && block < image.blocks() && is_free(image, block)
+}
+
+/// Gives the lost entries the data blocks that name them.
+fn replace_lost(
+    image: &Image,
+    known: &Known,
+    parts: &Parts,
+    gathered: &mut Gathered,
+) -> Result<(), AllocError>
+    requires known { AreKnown image.now known.now }
+    requires trust { parts.now.trusted ≡ true → IsTrustedBitmap image.now }
+    requires settled { AreSettled known.now.left_out image.now 0 gathered.old }
+    ensures { OnOk result (AreSettled known.now.left_out image.now 0 gathered.new) }
+{
+    for place in 0..gathered.entries.len() {
+        replace(image, known, parts, place, gathered)?;
+    }
+    Ok(())
+}
+
+/// Gives the entry at a position the data blocks that name it, if it is lost.
+fn replace(
+    image: &Image,
+    known: &Known,
+    parts: &Parts,
+    place: usize,
+    gathered: &mut Gathered,
+) -> Result<(), AllocError>
+    requires known { AreKnown image.now known.now }
+    requires trust { parts.now.trusted ≡ true → IsTrustedBitmap image.now }
+    requires place { place < length gathered.old.entries.items }
+    requires settled { AreSettled known.now.left_out image.now 0 gathered.old }
+    ensures settled { OnOk result (AreSettled known.now.left_out image.now 0 gathered.new) }
+    ensures count { length gathered.new.entries.items ≡ length gathered.old.entries.items }
+{
+    let State::Lost = gathered.entries[place].state else {
+        return Ok(());
+    };
+    let header = gathered.entries[place].header;
+    let state = loose_state(image, known, parts, header, place, &mut gathered.giving)?;
+    if let Some(state) = state {
+        gathered.entries[place].state = state;
+    }
+    Ok(())
+}
+
+/// Adds the files of the headers that have no entry.
+fn add_found(
+    alloc: Global,
+    image: &Image,
+    known: &Known,
+    parts: &Parts,
+    gathered: &mut Gathered,
+) -> Result<(), AllocError>
+    requires known { AreKnown image.now known.now }
+    requires trust { parts.now.trusted ≡ true → IsTrustedBitmap image.now }
+    requires settled { AreSettled known.now.left_out image.now 0 gathered.old }
+    ensures { OnOk result ((next : ℕ) × AreSettled known.now.left_out image.now next gathered.new) }
+{
+    let mut next = 0_u64;
+    for part in &parts.items {
+        if u64::from(part.header) < next {
+            continue;
+        }
+        add_file(alloc, image, known, parts, part.header, gathered)?;
+        next = u64::from(part.header) + 1;
+    }
+    Ok(())
+}
+
+/// Adds the file of a header, if it has no entry and something is left of it.
+fn add_file(
+    alloc: Global,
+    image: &Image,
+    known: &Known,
+    parts: &Parts,
+    header: u32,
+    gathered: &mut Gathered,
+) -> Result<(), AllocError>
+    requires known { AreKnown image.now known.now }
+    requires trust { parts.now.trusted ≡ true → IsTrustedBitmap image.now }
+    requires giving { IsGiving image.now gathered.old.giving }
+    ensures { OnOk result ((next : ℕ) → next ≤ header → AreSettled known.now.left_out image.now next gathered.old
+        → AreSettled known.now.left_out image.now (header + 1) gathered.new) }
+{
+    if gathered.is_there(header) {
+        return Ok(());
+    }
+    let place = gathered.entries.len();
+    let state = loose_state(image, known, parts, header, place, &mut gathered.giving)?;
+    match state {
+        Some(state) => gathered.add_loose(alloc, header, state),
+        None => Ok(()),
+    }
+}
+
+/// The state of a file without a header, whose entry has this position and is given its data blocks. `None` if the header is
+/// told, or if no block is left for it.
+fn loose_state(
+    image: &Image,
+    known: &Known,
+    parts: &Parts,
+    header: u32,
+    place: usize,
+    giving: &mut Giving,
+) -> Result<Option<State>, AllocError>
+    requires known { AreKnown image.now known.now }
+    requires trust { parts.now.trusted ≡ true → IsTrustedBitmap image.now }
+    requires giving { IsGiving image.now giving.old }
+    ensures state { IfOk result (λ state. IfSome state (IsLoose known.now.left_out image.now header)) }
+    ensures giving { OnOk result (IsGiving image.now giving.new) }
+    ensures left { IfOk result (λ state. MatchOption state (giving.new.left ≡ giving.old.left) (λ state. broken_length state + giving.new.left ≡ giving.old.left)) }
+{
+    if is_told(image, known, header) {
+        return Ok(None);
+    }
+    let Some(remains) = give(image, header, place, parts.naming(image, header), giving)? else {
+        return Ok(None);
+    };
+    let state = damaged(remains, giving.left, HeaderState::Gone);
+    giving.left -= state.broken_length();
+    Ok(Some(state))
+}
+
+/// Gives a file without a header, whose entry has this position, these data blocks, and of those with one number the first. The
+/// result is `None` if no block is left for it.
+fn give(
+    image: &Image,
+    header: u32,
+    place: usize,
+    parts: &[Part],
+    giving: &mut Giving,
+) -> Result<Option<Remains>, AllocError>
+    requires giving { IsGiving image.now giving.old }
+    ensures named { IfOk result (λ remains. IfSome remains (λ some. (block : ℕ) × IsLooseData image.now header block)) }
+    ensures giving { OnOk result (IsGiving image.now giving.new) }
+    ensures left { giving.new.left ≡ giving.old.left }
+{
+    let mut there = 0_u32;
+    let mut last = None;
+    for part in parts {
+        if !is_again(last, part)
+            && is_loose(image, header, part.block)
+            && giving.is_open(part.block)
+        {
+            giving.note(Piece {
+                place,
+                at: part.number.saturating_sub(1),
+                block: part.block,
+            })?;
+            there = there.saturating_add(1);
+            last = Some(*part);
+        }
+    }
+    match last {
+        Some(last) => Ok(Some(remains_of(image, last, there))),
+        None => Ok(None),
+    }
+}
+
+/// Whether a data block has the number of the last one.
+fn is_again(last: Option<Part>, part: &Part) -> bool {
+    match last {
+        Some(last) => last.number == part.number,
+        None => false,
+    }
+}
+
+/// What is left of a file without a header, by its last data block and the number of those that are there. If the last one
+/// names another, one more is missing.
+fn remains_of(image: &Image, last: Part, there: u32) -> Remains
+    requires { last.block < block_count image.now }
+{
+    let room = OFS_ROOM as usize;
+    let before = last.number.saturating_sub(1) as usize * room;
+    let held = image.long(last.block, HELD).min(OFS_ROOM) as usize;
+    let more = u32::from(image.long(last.block, NEXT_DATA) != 0);
+    Remains {
+        missing: last.number.saturating_sub(there).saturating_add(more),
+        end: (before + held).min(image.blocks() as usize * room),
+    }
+}
