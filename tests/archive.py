@@ -233,7 +233,7 @@ def other_files(room: Room) -> None:
     few, many = (f"are too {it} for a volume, which has 16 to 101,602 blocks of 512 bytes" for it in ("few", "many"))
     fits = "the root at block 880 fits 1,760 blocks; the file has"
     check("an image without its last byte", good[:-1], "NotWholeBlocks 0", f"901,119 bytes {whole}", f"{fits} 1,759 and 511 bytes")
-    check("an image and 100 bytes", good + bytes(100), "NotWholeBlocks 0", f"901,220 bytes {whole}", f"{fits} 1,760 and 100 bytes")
+    check("an image and 100 bytes", good + bytes(100), "NotWholeBlocks 0", f"901,220 bytes {whole}", f"{fits} 1,760 and 100 bytes: try --blocks 1760")
     check("an image up to its root", good[: 881 * BLOCK + 1], "NotWholeBlocks 0", f"451,073 bytes {whole}", f"{fits} 881 and 1 byte")
     check("an image without a byte of its root", good[: 881 * BLOCK - 1], "NotWholeBlocks 0", f"451,071 bytes {whole}")
     check("zeros of no whole blocks", bytes(1_234), "NotWholeBlocks 0", f"1,234 bytes {whole}", "each of its bytes is 00: nothing was written or read")
@@ -264,7 +264,7 @@ def other_files(room: Room) -> None:
     begins = "block 0: not an AmigaDOS disk: its boot block begins with 00 00 00 00 (a game's own format, perhaps)"
     check("only 00 but for the last byte", bytes(len(good) - 1) + b"x", "NotADosDisk 0", begins)
     roots: List[Tuple[str, bytes, int, List[str]]] = [
-        ("two cylinders more", good + bytes(44 * BLOCK), 902, [f"{fits} 1,804"]),
+        ("two cylinders more", good + bytes(44 * BLOCK), 902, [f"{fits} 1,804: try --blocks 1760"]),
         ("fewer blocks", good[: 1_000 * BLOCK], 500, [f"{fits} 1,000"]),
         ("so few that the root is missing", good[: 800 * BLOCK], 400, []),
     ]

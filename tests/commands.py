@@ -245,7 +245,7 @@ def wrong_words(tried: Commands) -> None:
         wrong("blank without a file", "blank Work", "FILE", "Usage: adf_serve blank"),
         wrong("a wrong word goes before a refused name", "blank --blocks 15 a/b none/x.adf", "'15'", "16"),
         wrong("a number without its prefix", "serve --turns 0x10 a b", "'0x10' for '--turns <N>'"),
-        wrong("an option of another command", "serve a b --blocks 16", "'--blocks'"),
+        wrong("an option of another command", "serve a b --hd", "'--hd'"),
         wrong("blank with a wrong option", "blank --loud Work a", "'--loud'", "Usage"),
         wrong("blank --hd --blocks", "blank --hd --blocks 1760 Work a", "'--hd'", "'--blocks"),
         wrong("serve without an image", "serve", "IMAGE", "SCRIPT", "Usage"),
@@ -1580,6 +1580,153 @@ def sorted_lists(tried: Commands) -> None:
     )
 
 
+# ---- The first blocks of a file as its image ----
+
+# What stands behind the image: 44 blocks, as of a floppy of 82 cylinders, and bytes that are no whole block.
+BEHIND = bytes(range(256)) * 88 + b"the rest"
+# Commands that read an image. `{}` is the image file, with the option before it.
+READING = [
+    *("info {}", "show {}", "show --json {}", "map {}", "map --json {}", "where {} 0 1 2 880 881 882 1759", "where --json {} 880"),
+    *("where --path d/f {}", "check {}", "check --all {}", "check --json {}", "check --filler {}", "list {}", "list --long {} d"),
+    *("print {} d/f", "print {} d", "boot --show {}", "undelete --list {}", "extract --damaged --list {}", "where {} 1760", "list {} none"),
+]
+# Commands that change an image, each the one before.
+CHANGING = [
+    *("mkdir {} e", "add --to e --date 1990-01-01 {} one", "rename {} e/one two", "protect {} two +s", "comment {} two text", "delete {} d/f"),
+    *("relabel {} Other", "date {} two 1990-01-01", "boot --install {}", "boot --clear {}", "validate {}"),
+]
+
+
+def front_files(tried: Commands) -> bytes:
+    """The files for these parts: the image alone, and with bytes behind it. Returns the image."""
+    tried.write("one", b"1")
+    for words in (f"blank --ffs {AT} Front front.adf", f"mkdir {AT} front.adf d", f"add {AT} --as f --to d front.adf one", f"delete {AT} front.adf d/f"):
+        tried.rows(row(words, words))
+    tried.rows(row("a file in the front", f"add {AT} --as f --to d front.adf one"))
+    front = tried.content("front.adf")
+    tried.write("dump.adf", front + BEHIND)
+    return front
+
+
+def told_of_front(ran: Ran) -> Ran:
+    """A run over dump.adf as one over front.adf would be told of."""
+    return Ran(ran.status, *(it.replace(b"dump.adf", b"front.adf") for it in (ran.output, ran.texts)))
+
+
+def first_blocks(tried: Commands) -> None:
+    """With `--blocks 1760` each command says of dump.adf what it says of front.adf, which are its first 1,760 blocks."""
+    front = front_files(tried)
+    for it in READING:
+        plain, ran = tried.run(*it.format("front.adf").split()), told_of_front(tried.run(*it.format("--blocks 1760 dump.adf").split()))
+        tried.report.same(f"--blocks: {it}", ran, plain)
+    image = Image(front)
+    image.put(880, 0, 3)
+    tried.write("front.adf", bytes(image.data))
+    tried.write("dump.adf", bytes(image.data) + BEHIND)
+    for it in READING:
+        plain, ran = tried.run(*it.format("front.adf").split()), told_of_front(tried.run(*it.format("--blocks 1760 dump.adf").split()))
+        tried.report.same(f"--blocks of a refused image: {it}", ran, plain)
+    tried.write("front.adf", front)
+    tried.write("dump.adf", front + BEHIND)
+    for words in ("extract --meta --to {}", "extract --bundle {}", "undelete --to {}", "extract --damaged --to {}"):
+        for name in ("front", "dump"):
+            shutil.rmtree(f"{name}.out", ignore_errors=True)
+            option = ["--blocks", "1760"] if name == "dump" else []
+            tried.run(*words.format(f"{name}.out").split(), *option, f"{name}.adf")
+        ours, theirs = ({it.relative_to(top): it.read_bytes() for it in Path(top).rglob("*") if it.is_file()} for top in ("dump.out", "front.out"))
+        tried.report.expect(f"--blocks: {words}", ours == theirs and bool(ours or "undelete" in words), (list(ours), list(theirs)))
+    tried.rows(row("boot --save of the first blocks", "boot --save saved.bin --blocks 1760 dump.adf"))
+    tried.report.same("the saved boot block", tried.content("saved.bin"), front[:1024])
+    tried.stays("what is read stays", "dump.adf", front + BEHIND)
+
+
+def first_blocks_of_several(tried: Commands) -> None:
+    """`check --blocks` takes the first blocks of each image. One that is shorter is not checked."""
+    front = tried.content("front.adf")
+    os.mkdir("fronts")
+    tried.write("fronts/a.adf", front + BEHIND)
+    tried.write("fronts/b.adf", front)
+    tried.write("fronts/c.adf", front[:-BLOCK])
+    why = ("cannot read 'fronts/c.adf': it has fewer than 1760 blocks", "3 images: 2 ok, 0 refused, 1 unreadable")
+    tried.rows(
+        row("check --blocks of a directory", "check --blocks 1760 fronts", 2, "fronts/a.adf\tok\nfronts/b.adf\tok\n", *why),
+        row("check --blocks of two files", "check --blocks 1760 fronts/a.adf fronts/b.adf", 0, "fronts/a.adf\tok\nfronts/b.adf\tok\n", "2 images: 2 ok"),
+    )
+
+
+def changed_first_blocks(tried: Commands) -> None:
+    """A command that changes the first blocks writes back what is behind them, also to the file of `--out`."""
+    front = tried.content("front.adf")
+    tried.write("dump.adf", front + BEHIND)
+    for it in CHANGING:
+        name, _, rest = it.partition(" ")
+        at = "" if "--date" in rest else AT
+        ran = tried.run(*f"{name} {at} {rest.format('front.adf')}".split())
+        tried.report.same(f"--blocks: {it}", told_of_front(tried.run(*f"{name} {at} {rest.format('--blocks 1760 dump.adf')}".split())), ran)
+        tried.report.expect(f"the image is changed: {it}", ran.status == 0, ran)
+        tried.stays(f"what is behind stays: {it}", "dump.adf", tried.content("front.adf") + BEHIND)
+    front = tried.content("front.adf")
+    tried.write("makes-d", b'mkdir 0 "new"\n')
+    tried.rows(
+        row("--out with what is behind", f"mkdir --out out.adf {AT} --blocks 1760 dump.adf new"),
+        row("the same image alone", f"mkdir --out alone.adf {AT} front.adf new"),
+        row("a refused change", f"mkdir {AT} --blocks 1760 dump.adf d", 3, "refused 203 d\n", "'d'"),
+        row("a refused change to a file", f"mkdir --out none.adf {AT} --blocks 1760 dump.adf d", 3, "refused 203 d\n", "'d'"),
+    )
+    tried.done("serve", "--out", "served.adf", *AT.split(), "--blocks", "1760", "dump.adf", "makes-d")
+    tried.stays("the file of --out", "out.adf", tried.content("alone.adf") + BEHIND)
+    tried.stays("the file of serve --out", "served.adf", tried.content("alone.adf") + BEHIND)
+    tried.stays("the file that is read", "dump.adf", front + BEHIND)
+    tried.absent("nothing is written after a refusal", "none.adf")
+    tried.rows(
+        row("a bundle", "extract --bundle front.bundle front.adf"),
+        row("an empty volume", f"blank --ffs {AT} Empty empty.adf"),
+    )
+    tried.write("empties.adf", tried.content("empty.adf") + BEHIND)
+    tried.rows(
+        row("add --bundle", "add --bundle front.bundle empty.adf"),
+        row("add --bundle with what is behind", "add --bundle front.bundle --blocks 1760 empties.adf"),
+    )
+    tried.stays("what is behind a bundle's volume stays", "empties.adf", tried.content("empty.adf") + BEHIND)
+
+
+def wrong_first_blocks(tried: Commands) -> None:
+    """`--blocks` that is no number, no size of a volume, or more than the file has: nothing is changed."""
+    before = tried.content("dump.adf")
+    for command in ("info {} dump.adf", "check {} dump.adf", "list {} dump.adf", "mkdir {} dump.adf x", "extract --damaged --list {} dump.adf"):
+        for number in ("", "x", "15", "101603", "+1760", "-1", "0x6e0", "1760.0", "99999999999999999999"):
+            words = command.format(f"--blocks={number}")
+            tried.rows(wrong(words, words, f"'{number}' for '--blocks <N>'", "16 to 101602"))
+        tried.rows(wrong(f"twice: {command}", command.format("--blocks 1760 --blocks 1760"), "--blocks", "Usage"))
+    short = "cannot read 'dump.adf': it has fewer than 1805 blocks"
+    for command in ("info {}", "show {}", "map {}", "where {} 1", "check {}", "list {}", "print {} x", "extract {}", "undelete {}", "boot --show {}",
+                    "extract --bundle x {}", "mkdir {} x", "add {} one", "boot --clear {}", "validate {}", "serve --out none.adf {} one"):
+        words = command.format("--blocks 1805 dump.adf")
+        tried.rows(lacking(words, words, short))
+    tried.stays("a wrong --blocks changes nothing", "dump.adf", before)
+    tried.absent("and writes nothing", "none.adf")
+    Path("long.adf").write_bytes(tried.content("front.adf"))
+    os.truncate("long.adf", 101602 * BLOCK)
+    tried.rows(row("a file of 101,602 blocks", "check --blocks 1760 long.adf", 0, "ok\n"))
+    os.truncate("long.adf", 101603 * BLOCK)
+    tried.rows(row("a file of 101,603 blocks", "check --blocks 1760 long.adf", 3, "refused TooManyBlocks 0\n", "are too many for a volume"))
+    os.remove("long.adf")
+
+
+def missing_blocks(tried: Commands) -> None:
+    """`extract --damaged --blocks` takes what is missing of a file as zeros, and says so."""
+    front = tried.content("front.adf")
+    for count in (0, 1, BLOCK, 880 * BLOCK, 881 * BLOCK + 100, 1000 * BLOCK, 1760 * BLOCK - 1):
+        tried.write("short.adf", front[:count])
+        tried.write("full.adf", front[:count] + bytes(1760 * BLOCK - count))
+        full, ran = (tried.run("extract", "--damaged", "--list", *words) for words in (["full.adf"], ["--blocks", "1760", "short.adf"]))
+        said = f"adf_serve: 'short.adf' has {count:,} of the 901,120 bytes of its 1760 blocks: zeros are taken for the others\n".encode()
+        tried.report.same(f"--damaged --blocks of {count} bytes", ran, Ran(full.status, full.output, said + full.texts))
+        tried.stays("a short file stays", "short.adf", front[:count])
+    plain, ran = (tried.run("extract", "--damaged", "--list", *words, "front.adf") for words in (list[str](), ["--blocks", "1760"]))
+    tried.report.same("a whole file has no such line", ran, plain)
+
+
 # ---- Standard output that cannot be written ----
 
 
@@ -1615,6 +1762,7 @@ PARTS: List[Callable[[Commands], None]] = [
     *(held_images, missing_files, denied_files, first_faults),
     *(accepted_images, forms_of_lists, refused_images, stale_image, refused_output),
     *(shown_volumes, refused_shows, bold_letters, sorted_lists),
+    *(first_blocks, first_blocks_of_several, changed_first_blocks, wrong_first_blocks, missing_blocks),
 ]
 
 

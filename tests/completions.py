@@ -46,9 +46,9 @@ ROWS = [
     Row("adf_serve", "pr", ["print", "protect"]),
     Row("adf_serve", "--", ["--help"]),
     # Options and their values.
-    Row("adf_serve show", "--", ["--help", "--json"]),
+    Row("adf_serve show", "--", ["--blocks", "--help", "--json"]),
     Row("adf_serve add", "--fo", ["--force"]),
-    Row("adf_serve protect work.adf libs", "--", ["--help", "--out", "--over", "--date", "--days", "--minutes", "--ticks"]),
+    Row("adf_serve protect work.adf libs", "--", ["--help", "--out", "--over", "--blocks", "--date", "--days", "--minutes", "--ticks"]),
     Row("adf_serve list --sort", "s", ["size"]),
     Row("adf_serve mkdir --date", "", []),
     # Files and directories of the host.

@@ -17,7 +17,7 @@ from command_table import Argument, Command, commands
 
 PAGE = Path(__file__).resolve().parent.parent / "docs/adf_serve.1"
 TIME = ("date", "days", "minutes", "ticks")
-CHANGE = ("out", "over", *TIME)
+CHANGE = ("out", "over", "blocks", *TIME)
 
 
 def of_time(command: Command, option: Argument) -> bool:

@@ -56,6 +56,8 @@ PARTS = [
 # A pattern of texts, and what to do.
 ADVICE: List[Tuple[str, str]] = [
     (r"^doubtful: |is \{why\}$", "Compare it with another copy; the files that are `whole` are as they were"),
+    (r"zeros are taken", "Look for a whole copy: what is missing here cannot be saved"),
+    (r"has fewer than", "Give `--blocks` the number of blocks that the volume has; `extract --damaged` takes a shorter file"),
     (r"belong to nothing", "Keep the image: these blocks may hold what is left of a file"),
     (r"unpacked first", "Unpack it with a program for this format"),
     (r"IPF file", "Convert it to an ADF file with a program for this format"),
@@ -73,6 +75,7 @@ ADVICE: List[Tuple[str, str]] = [
     (r"--force writes|bitmap block|but nothing names it", "Save what can be trusted with `extract --damaged` before `--force`"),
     (r"^(the header of a directory|an extension block|a data block of)", "Save it with `extract --damaged` before `--force`"),
     (r"ok, \{\} refused|^(OFS|FFS|DOS|no AmigaDOS)|^\{\} bytes$", "Nothing: it counts and describes"),
+    (r"--blocks takes|try --blocks", "Give `--blocks` the number of blocks that fits the root"),
     (r"the root at block|^and \{rest\} bytes$", "Look whether the file is cut short"),
     (r"UTF-8", "Rename the file, or give it another name with `add --as`"),
     (r"stands? for no byte|past U\+00FF|no character of an Amiga", "Leave out letters past U+00FF"),
@@ -139,7 +142,7 @@ STATUSES: List[Tuple[str, str]] = [
     (r"can be trusted|cannot be trusted|nothing that was deleted", "3"),
     (r"its volume is|is not written|--force writes|bitmap block|nothing names it|faults than can be|does not mend|still has a fault", "3"),
     (r"^(the header of a directory|an extension block|a data block of)", "3"),
-    (r"it looks like|^\{\} bytes$|nothing was written or read|the root at block|^and \{rest\} bytes$|^(OFS|FFS|no AmigaDOS)", "3"),
+    (r"it looks like|^\{\} bytes$|nothing was written or read|the root at block|try --blocks|^and \{rest\} bytes$|^(OFS|FFS|no AmigaDOS)", "3"),
     (r"blocks are needed|one name on|needs a file|into itself|characters|allows in no|no character of", "3"),
 ]
 ADVICE_OF_FAULTS = "`check --all` names each fault, and `extract --damaged` takes out what is sound"

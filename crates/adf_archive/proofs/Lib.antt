@@ -5,6 +5,7 @@ pub mod Counting
 pub mod Ends
 pub mod Gathered
 pub mod Listed
+pub mod Repeating
 pub mod Shown
 pub mod Sizes
 pub mod Suspecting

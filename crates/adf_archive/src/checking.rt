@@ -15,6 +15,7 @@ use crate::report::{AcceptedImage, Contents, ImageReport, RefusedImage, WhyNot};
 use crate::suspects::{Suspect, suspects_of};
 use adf_block::Image;
 use adf_io::LoadFault;
+use adf_words::ImageFile;
 use ados_check::accepted_kind;
 use ados_model::{FaultKind, VolumeFault};
 use ados_volume::{Rejected, Volume, check};
@@ -38,7 +39,7 @@ pub struct Detail {
 pub fn report_file<R: ReadImages>(
     rt: &R,
     alloc: Global,
-    path: &str,
+    file: ImageFile<'_>,
     is_hosts: bool,
     detail: Detail,
 ) -> ImageReport
@@ -47,10 +48,10 @@ pub fn report_file<R: ReadImages>(
     if !is_hosts {
         return not_checked(WhyNot::Name);
     }
-    if let Some(report) = report_sketch(rt, alloc, path, detail) {
+    if let Some(report) = report_sketch(rt, alloc, file, detail) {
         return report;
     }
-    match rt.read_image(alloc, path) {
+    match rt.read_image(alloc, file) {
         Ok(image) => report_image(alloc, image, detail),
         Err(fault) => unread(fault),
     }
@@ -67,7 +68,7 @@ fn not_checked(why: WhyNot) -> ImageReport
 fn report_sketch<R: ReadImages>(
     rt: &R,
     alloc: Global,
-    path: &str,
+    file: ImageFile<'_>,
     detail: Detail,
 ) -> Option<ImageReport>
     ensures { IfSome result (IsReportOfSome detail) }
@@ -75,7 +76,7 @@ fn report_sketch<R: ReadImages>(
     if detail.contents || detail.filler {
         return None;
     }
-    let sketch = rt.read_sketch(alloc, path)?;
+    let sketch = rt.read_sketch(alloc, file)?;
     let kind = accepted_kind(alloc, &sketch)?;
     Some(ImageReport::Accepted(AcceptedImage {
         kind,

@@ -1,6 +1,6 @@
 //! What programs write where they have no bytes of the disk.
-ghost use Rattle.std.specs.Prelude.{◌≡◌, ◌<◌, ◌↔◌, IsTrue, length};
-ghost use Rattle.adf_archive.specs.Fillers.{IsFiller, Repeats, RepeatsFrom, filler_text};
+ghost use Rattle.std.specs.Prelude.{◌≡◌, ◌<◌, ◌↔◌, IsTrue, MatchBool, length};
+ghost use Rattle.adf_archive.specs.Fillers.{BeginsFrom, HasPeriod, IsFiller, Repeats, RepeatsFrom, filler_text};
 
 /// A filler, by what writes it. docs/COMMANDS.md has the same list.
 #[derive(Clone, Copy)]
@@ -47,10 +47,33 @@ fn repeats_from(text: &[u8], start: usize, bytes: &[u8]) -> bool
     requires { start < length text.now }
     ensures { IsTrue result ↔ RepeatsFrom text.now bytes.now start }
 {
-    for place in 0..bytes.len() {
+    if !begins_from(text, start, bytes) {
+        return false;
+    }
+    has_period(bytes, text.len())
+}
+
+/// Whether the first bytes, as many as the text has, are the text from this byte of it on.
+fn begins_from(text: &[u8], start: usize, bytes: &[u8]) -> bool
+    requires { start < length text.now }
+    ensures { MatchBool result (BeginsFrom text.now bytes.now start) (¬ BeginsFrom text.now bytes.now start) }
+{
+    for place in 0..bytes.len().min(text.len()) {
         if bytes[place] != text[(start + place) % text.len()] {
             return false;
         }
     }
     true
+}
+
+/// Whether each byte is the one that many bytes before it. No jump depends on a byte, so that the processor compares many at a
+/// time.
+fn has_period(bytes: &[u8], period: usize) -> bool
+    ensures { MatchBool result (HasPeriod bytes.now period) (¬ HasPeriod bytes.now period) }
+{
+    let mut same = true;
+    for place in 0..bytes.len().saturating_sub(period) {
+        same = same & (bytes[place + period] == bytes[place]);
+    }
+    same
 }

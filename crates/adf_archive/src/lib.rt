@@ -35,6 +35,7 @@ pub use laws::jobs_tell_alike;
 pub use likeness::{Likeness, likeness_of};
 pub use lines::push_lines;
 pub use objects::push_object;
+pub use person::Manner;
 pub use reading::ReadImages;
 pub use refused::explain_refused;
 pub use report::{AcceptedImage, Contents, ImageReport, RefusedImage, ShownFault, WhyNot};

@@ -5,10 +5,11 @@ use crate::reading::ReadImages;
 use crate::report::{ImageReport, RefusedImage, WhyNot};
 use adf_block::layout::{BLOCK_BYTES, MOST_BLOCKS};
 use adf_block::{Image, SizeFault};
-use adf_host::why_unreadable;
+use adf_host::why_no_image;
 use adf_io::read_bounded;
 use adf_record::Grouped;
 use adf_text::print_line;
+use adf_words::ImageFile;
 use ados_model::FaultKind;
 use std::alloc::Global;
 use std::fmt::{Display, Formatter};
@@ -24,11 +25,13 @@ const MOST_BYTES: usize = MOST_BLOCKS as usize * BLOCK_BYTES as usize;
 
 /// How a person is told of images.
 #[derive(Clone, Copy)]
-pub(crate) struct Manner {
+pub struct Manner {
     /// Each line begins with the path.
-    pub(crate) paths: bool,
+    pub paths: bool,
     /// What explains the faults is told too; otherwise only which images were not checked.
-    pub(crate) texts: bool,
+    pub texts: bool,
+    /// The number of blocks at the start of a file that are its image; by default all of it is.
+    pub blocks: Option<u32>,
 }
 
 /// Prints what a search for images found beside them.
@@ -63,7 +66,7 @@ fn tell_report<R: Files + ReadImages, F: Write>(
     faults: &mut F,
 ) {
     match report {
-        ImageReport::NotChecked(why) => tell_unread(rt, path, *why, faults),
+        ImageReport::NotChecked(why) => tell_unread(rt, path, *why, manner, faults),
         ImageReport::WrongSize(fault) if manner.texts => {
             tell_size(rt, alloc, path, *fault, manner, faults);
         }
@@ -75,10 +78,16 @@ fn tell_report<R: Files + ReadImages, F: Write>(
 }
 
 /// Prints why an image was not checked.
-fn tell_unread<R: Files, F: Write>(rt: &R, path: &str, why: WhyNot, faults: &mut F) {
+fn tell_unread<R: Files, F: Write>(
+    rt: &R,
+    path: &str,
+    why: WhyNot,
+    manner: Manner,
+    faults: &mut F,
+) {
     match why {
         WhyNot::Read => {
-            let reason = why_unreadable(rt, path);
+            let reason = why_no_image(rt, path, manner.blocks);
             print_line(
                 faults,
                 format_args!("adf_serve: cannot read '{path}': {reason}"),
@@ -128,26 +137,37 @@ impl Display for WrongLength {
 #[derive(Clone, Copy)]
 struct OtherSize {
     root: u32,
-    /// The bytes of the file.
+    /// The bytes of the file, or of its first blocks that are the image.
     length: u64,
+    is_front: bool,
 }
 
 impl Display for OtherSize {
     fn fmt<W: fmt::Write>(&self, f: &mut Formatter<W>) -> fmt::Result {
-        let root = u64::from(self.root);
         let block = u64::from(BLOCK_BYTES);
-        write!(
-            f,
-            "the root at block {} fits {} blocks; the file has {}",
-            Grouped(root),
-            Grouped(2 * root),
-            Grouped(self.length / block)
-        )?;
-        match self.length % block {
-            0 => Ok(()),
-            1 => f.write_str(" and 1 byte"),
-            rest => write!(f, " and {rest} bytes"),
+        let needed = 2 * u64::from(self.root);
+        let (root, fits) = (Grouped(u64::from(self.root)), Grouped(needed));
+        let blocks = Grouped(self.length / block);
+        if self.is_front {
+            write!(
+                f,
+                "the root at block {root} fits {fits} blocks; --blocks takes {blocks}"
+            )?;
+        } else {
+            write!(
+                f,
+                "the root at block {root} fits {fits} blocks; the file has {blocks}"
+            )?;
         }
+        match self.length % block {
+            0 => {}
+            1 => f.write_str(" and 1 byte")?,
+            rest => write!(f, " and {rest} bytes")?,
+        }
+        if self.length / block < needed {
+            return Ok(());
+        }
+        write!(f, ": try --blocks {needed}")
     }
 }
 
@@ -189,7 +209,13 @@ fn front_of<R: Files>(rt: &R, alloc: Global, path: &str, length: u64) -> Vec<u8>
 fn tell_front<F: Write>(path: &str, front: Vec<u8>, length: u64, manner: Manner, faults: &mut F) {
     tell_bytes(path, &front, length, manner, faults);
     if let Some(root) = root_in(front) {
-        tell(path, manner, OtherSize { root, length }, faults);
+        let is_front = false;
+        let size = OtherSize {
+            root,
+            length,
+            is_front,
+        };
+        tell(path, manner, size, faults);
     }
 }
 
@@ -245,7 +271,8 @@ pub(crate) fn tell_other<R: Files + ReadImages, F: Write>(
     if !may_be_other(told) || regular_length(rt, path).is_none() {
         return;
     }
-    if let Ok(image) = rt.read_image(alloc, path) {
+    let blocks = manner.blocks;
+    if let Ok(image) = rt.read_image(alloc, ImageFile { path, blocks }) {
         tell_looks(path, &image, manner, faults);
     }
 }
@@ -268,7 +295,13 @@ fn tell_looks<F: Write>(path: &str, image: &Image, manner: Manner, faults: &mut 
     let length = bytes.len() as u64;
     tell_bytes(path, bytes, length, manner, faults);
     if let Some(root) = other_root(image) {
-        tell(path, manner, OtherSize { root, length }, faults);
+        let is_front = manner.blocks.is_some();
+        let size = OtherSize {
+            root,
+            length,
+            is_front,
+        };
+        tell(path, manner, size, faults);
     }
 }
 

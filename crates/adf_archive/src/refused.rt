@@ -7,15 +7,19 @@ use crate::words::kind_word;
 use adf_block::BootKind;
 use adf_record::size_words;
 use adf_text::print_line;
+use adf_words::ImageFile;
 use std::alloc::Global;
 use std::io::Write;
 use std::rt::Files;
 
-/// A person is told of one image alone.
-const ALONE: Manner = Manner {
-    paths: false,
-    texts: true,
-};
+/// How a person is told of one image alone, which is all of its file or some of its first blocks.
+fn alone(blocks: Option<u32>) -> Manner {
+    Manner {
+        paths: false,
+        texts: true,
+        blocks,
+    }
+}
 
 /// What is reported of the image: its first fault, with the text that explains it.
 const FIRST_FAULT: Detail = Detail {
@@ -39,23 +43,25 @@ const EACH_FAULT: Detail = Detail {
 pub fn explain_refused<R: Files + ReadImages, F: Write>(
     rt: &R,
     alloc: Global,
-    path: &str,
+    file: ImageFile<'_>,
     kind: &str,
     block: u32,
     faults: &mut F,
 ) {
-    if regular_length(rt, path).is_none() {
+    if regular_length(rt, file.path).is_none() {
         return;
     }
-    match report_file(rt, alloc, path, true, FIRST_FAULT) {
+    match report_file(rt, alloc, file, true, FIRST_FAULT) {
         ImageReport::Refused(told) => {
             tell_size_of(alloc, &told, faults);
             if !tell_fault(&told, kind, block, faults) {
-                tell_later_fault(rt, alloc, path, kind, block, faults);
+                tell_later_fault(rt, alloc, file, kind, block, faults);
             }
-            tell_other(rt, alloc, path, &told, ALONE, faults);
+            tell_other(rt, alloc, file.path, &told, alone(file.blocks), faults);
         }
-        ImageReport::WrongSize(fault) => tell_size(rt, alloc, path, fault, ALONE, faults),
+        ImageReport::WrongSize(fault) => {
+            tell_size(rt, alloc, file.path, fault, alone(file.blocks), faults);
+        }
         _ => {}
     }
 }
@@ -64,12 +70,12 @@ pub fn explain_refused<R: Files + ReadImages, F: Write>(
 fn tell_later_fault<R: ReadImages, F: Write>(
     rt: &R,
     alloc: Global,
-    path: &str,
+    file: ImageFile<'_>,
     kind: &str,
     block: u32,
     faults: &mut F,
 ) {
-    if let ImageReport::Refused(told) = report_file(rt, alloc, path, true, EACH_FAULT) {
+    if let ImageReport::Refused(told) = report_file(rt, alloc, file, true, EACH_FAULT) {
         tell_fault(&told, kind, block, faults);
     }
 }

@@ -16,7 +16,7 @@ use crate::report::ImageReport;
 use crate::telling::{Form, Tally, end_over, tell_reports};
 use crate::totals::Totals;
 use adf_text::print_line;
-use adf_words::CheckJob;
+use adf_words::{CheckJob, ImageFile};
 use std::alloc::Global;
 use std::fs::File;
 use std::io::Write;
@@ -61,13 +61,16 @@ where
             report_file(
                 rt,
                 alloc,
-                paths[place].as_str(),
+                ImageFile {
+                    path: paths[place].as_str(),
+                    blocks: job.blocks,
+                },
                 found.is_hosts(place),
                 detail,
             )
         },
         form,
-        detail.texts,
+        manner_of(job, form, detail),
         terminal,
         writer,
         faults,
@@ -99,6 +102,15 @@ fn detail_of(job: &CheckJob<'_>, form: Form) -> Detail
     }
 }
 
+/// How a person is told of the images.
+fn manner_of(job: &CheckJob<'_>, form: Form, detail: Detail) -> Manner {
+    Manner {
+        paths: form.paths,
+        texts: detail.texts,
+        blocks: job.blocks,
+    }
+}
+
 /// The number of images checked in parallel; by default the number of processors.
 fn jobs_for<R: Threads>(rt: &R, given: Option<u32>) -> usize {
     match given {
@@ -119,7 +131,7 @@ pub fn check_each<R, C, W, F>(
     jobs: usize,
     report: &C,
     form: Form,
-    texts: bool,
+    manner: Manner,
     terminal: bool,
     writer: &mut W,
     faults: &mut F,
@@ -134,10 +146,6 @@ where
     ensures fault { IfErr result (λ _. LeavesOff C.Fn report.now form (map string_bytes paths.now) (W.contents writer.old) (W.contents writer.new)) }
     ensures broken { IfErr result IsBroken }
 {
-    let manner = Manner {
-        paths: form.paths,
-        texts,
-    };
     let mut tally = Tally::new();
     let mut totals = Totals::none();
     let mut done = 0;

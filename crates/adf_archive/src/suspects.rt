@@ -1,10 +1,12 @@
 //! Data blocks of files that hold nothing but a filler.
-ghost use Rattle.std.specs.Prelude.{◌≡◌, ◌<◌, ◌↔◌, IfOk, IsTrue, MatchOption};
+ghost use Rattle.std.specs.Prelude.{◌≡◌, ◌<◌, ◌↔◌, ℕ, All, IfOk, IsTrue, MatchOption};
 ghost use Rattle.adf_block.specs.Image.{block_count};
+ghost use Rattle.ados_model.specs.Keys.{HasKey};
 ghost use Rattle.ados_model.specs.Stands.{Stands};
 ghost use Rattle.ados_model.specs.Tree.{Tree};
 ghost use Rattle.ados_volume.specs.Owners.{Owns};
-ghost use Rattle.adf_archive.specs.Suspects.{AreSuspects, HoldsFiller, IsNoSuspect, IsSuspectAt, data_bytes};
+ghost use Rattle.adf_archive.specs.Paths.{IsPathOf};
+ghost use Rattle.adf_archive.specs.Suspects.{AreSuspects, HoldsFiller, IsNoSuspect, IsSuspectAt, TellsSuspect, data_bytes};
 
 use crate::filler::is_filler;
 use crate::path::path_of;
@@ -33,27 +35,29 @@ pub(crate) fn suspects_of(alloc: Global, volume: &Volume) -> Result<Vec<Suspect>
     let owners = owners(alloc, volume)?;
     let mut found = Vec::new(alloc);
     for block in 0..volume.image().blocks() {
-        if let Some(suspect) = suspect_at(alloc, volume, block, owners[block as usize])? {
+        if let Some(suspect) = suspect_at(alloc, volume, block, owners[block as usize], &found)? {
             found.push(suspect)?;
         }
     }
     Ok(found)
 }
 
-/// The block with this owner, if it is a data block that holds nothing but a filler.
+/// The block with this owner, if it is a data block that holds nothing but a filler. Others were found before it.
 fn suspect_at(
     alloc: Global,
     volume: &Volume,
     block: u32,
     owner: Owner,
+    found: &[Suspect],
 ) -> Result<Option<Suspect>, AllocError>
     requires block { block < block_count volume.now.image }
     requires owner { (t : Tree) → Stands volume.now.image t → Owns volume.now.image t block owner }
+    requires found { (t : Tree) → Stands volume.now.image t → All (TellsSuspect volume.now.image t) found.now }
     ensures { IfOk result (λ found. (t : Tree) → Stands volume.now.image t → MatchOption found (IsNoSuspect volume.now.image block owner) (IsSuspectAt volume.now.image t block owner)) }
 {
     match owner {
         Owner::Data(file, place) if holds_filler(volume.image(), block) => {
-            let path = path_of(alloc, volume, file)?;
+            let path = path_in(alloc, volume, file, found)?;
             Ok(Some(Suspect {
                 block,
                 file,
@@ -62,6 +66,34 @@ fn suspect_at(
             }))
         }
         _ => Ok(None),
+    }
+}
+
+/// The path of a file. The blocks of a file are mostly found one after the other, so that the last one has its path.
+fn path_in(
+    alloc: Global,
+    volume: &Volume,
+    file: u32,
+    found: &[Suspect],
+) -> Result<Option<Vec<u8>>, AllocError>
+    requires key { HasKey volume.now.image file }
+    requires found { (t : Tree) → Stands volume.now.image t → All (TellsSuspect volume.now.image t) found.now }
+    ensures { IfOk result (λ path. (t : Tree) → Stands volume.now.image t → IsPathOf t file path) }
+{
+    let count = found.len();
+    if count > 0 && found[count - 1].file == file {
+        return same_path(alloc, &found[count - 1]);
+    }
+    path_of(alloc, volume, file)
+}
+
+/// A copy of the path of a block's file.
+fn same_path(alloc: Global, suspect: &Suspect) -> Result<Option<Vec<u8>>, AllocError>
+    ensures { IfOk result (λ path. (t : Tree) → IsPathOf t suspect.now.file suspect.now.path → IsPathOf t suspect.now.file path) }
+{
+    match &suspect.path {
+        Some(path) => Ok(Some(Vec::from_slice(alloc, path)?)),
+        None => Ok(None),
     }
 }
 

@@ -97,5 +97,5 @@ fn write_new<'a, R: Files<File = File> + Clock>(
     ensures { IfErr result IsNoRefusal }
 {
     let held = hold_out(rt, file)?;
-    write_image(rt, alloc, volume.image(), file, held.as_ref())
+    write_image(rt, alloc, volume.image(), &[], file, held.as_ref())
 }

@@ -66,7 +66,7 @@ fn tell_owners<'a, W: Write>(
     let blocks = volume.image().blocks();
     let text = match where_text(alloc, volume, &job.blocks, job.json) {
         Ok(text) => text,
-        Err(fault) => return Err(no_block(alloc, fault, job.image, blocks)),
+        Err(fault) => return Err(no_block(alloc, fault, job.image.path, blocks)),
     };
     tell(writer, &text)
 }
@@ -87,7 +87,12 @@ fn placed_text<'a, F: Write>(
         Ok(placed) => placed,
         Err(WhereFault::Memory) => return Err(CommandFault::Memory),
         Err(WhereFault::NoBlock(word)) => {
-            let fault = no_block(alloc, WhereFault::NoBlock(word), job.image, image.blocks());
+            let fault = no_block(
+                alloc,
+                WhereFault::NoBlock(word),
+                job.image.path,
+                image.blocks(),
+            );
             print_line(faults, format_args!("adf_serve: {fault}"));
             return Err(CommandFault::Refused(refusal));
         }

@@ -8,7 +8,7 @@ use adf_block::Image;
 use adf_boot::{boot_bytes, boot_image, install_standard};
 use adf_host::{refuse_length, why_unreadable};
 use adf_io::read_bounded;
-use adf_words::{BootBlock, Rewrite};
+use adf_words::{BootBlock, ImageFile, Rewrite};
 use host_trees::{WriteFault, WriteWhy};
 use std::alloc::Global;
 use std::fs::{self, File, OpenFile};
@@ -101,7 +101,7 @@ fn read_code<'a, R: Files>(
 pub(crate) fn save_boot<'a, R: Files<File = File>>(
     rt: &R,
     alloc: Global,
-    image: &'a str,
+    image: ImageFile<'a>,
     file: &'a str,
 ) -> Result<(), CommandFault<'a>> {
     let image = open_volume(rt, alloc, image)?.into_image();

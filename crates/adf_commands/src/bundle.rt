@@ -4,7 +4,7 @@ use crate::fault::CommandFault;
 use crate::images::{Work, accept, open_volume};
 use adf_export::extract_bundle;
 use adf_import::add_bundle;
-use adf_words::Rewrite;
+use adf_words::{ImageFile, Rewrite};
 use std::alloc::Global;
 use std::fs::File;
 use std::rt::{Clock, Files};
@@ -13,7 +13,7 @@ use std::rt::{Clock, Files};
 pub(crate) fn take_bundle<'a, R: Files<File = File>>(
     rt: &R,
     alloc: Global,
-    image: &'a str,
+    image: ImageFile<'a>,
     to: &'a str,
 ) -> Result<(), CommandFault<'a>> {
     let mut volume = open_volume(rt, alloc, image)?;
@@ -30,7 +30,7 @@ pub(crate) fn put_bundle<'a, R: Files<File = File> + Clock>(
     target: Rewrite<'a>,
     from: &'a str,
 ) -> Result<(), CommandFault<'a>> {
-    let file = target.image;
+    let file = target.image.path;
     let (work, image) = Work::begin(rt, alloc, target)?;
     let old = accept(alloc, image)?;
     let volume = match add_bundle(rt, alloc, &old, from) {

@@ -8,10 +8,10 @@ use crate::refusal::Refusal;
 use adf_block::Image;
 use adf_host::{
     HeldFile, HoldFault, ReadReason, hold, hold_target, read_image_file, replace_file,
-    why_unreadable,
+    why_no_image, why_unreadable,
 };
-use adf_io::LoadFault;
-use adf_words::Rewrite;
+use adf_io::{LoadFault, Loaded};
+use adf_words::{ImageFile, Rewrite};
 use ados_volume::{Volume, check};
 use std::alloc::Global;
 use std::fs::{self, File};
@@ -21,25 +21,43 @@ use std::rt::{Clock, Files};
 pub(crate) fn read_image<'a, R: Files>(
     rt: &R,
     alloc: Global,
-    file: &'a str,
+    file: ImageFile<'a>,
 ) -> Result<Image, CommandFault<'a>>
     ensures { IfErr result IsNoImage }
 {
-    match read_image_file(rt, alloc, file) {
-        Ok(image) => Ok(image),
-        Err(LoadFault::Read) => Err(CommandFault::Read(file, why_unreadable(rt, file))),
-        Err(fault) => Err(image_fault(fault, file)),
+    match read_loaded(rt, alloc, file) {
+        Ok(loaded) => Ok(loaded.image),
+        Err(fault) => Err(fault),
     }
 }
 
-/// Why a file has no image. That it cannot be read has no reason here.
-fn image_fault<'a>(fault: LoadFault, file: &'a str) -> CommandFault<'a>
+/// The image of a file, and what is behind it.
+pub(crate) fn read_loaded<'a, R: Files>(
+    rt: &R,
+    alloc: Global,
+    file: ImageFile<'a>,
+) -> Result<Loaded, CommandFault<'a>>
+    ensures { IfErr result IsNoImage }
+{
+    match read_image_file(rt, alloc, file.path, file.blocks) {
+        Ok(loaded) => Ok(loaded),
+        Err(fault) => Err(unread(rt, fault, file)),
+    }
+}
+
+/// Why no image was read from a file.
+pub(crate) fn unread<'a, R: Files>(
+    rt: &R,
+    fault: LoadFault,
+    file: ImageFile<'a>,
+) -> CommandFault<'a>
     ensures { IsNoImage result }
 {
+    let ImageFile { path, blocks } = file;
     match fault {
-        LoadFault::Read => CommandFault::Read(file, ReadReason::Read),
+        LoadFault::Read => CommandFault::Read(path, why_no_image(rt, path, blocks)),
         LoadFault::Memory => CommandFault::Memory,
-        LoadFault::TurnLimit => CommandFault::Endless(file),
+        LoadFault::TurnLimit => CommandFault::Endless(path),
         LoadFault::Size(refused) => CommandFault::Refused(Refusal::of_size(refused.fault)),
     }
 }
@@ -48,7 +66,7 @@ fn image_fault<'a>(fault: LoadFault, file: &'a str) -> CommandFault<'a>
 pub(crate) fn open_volume<'a, R: Files>(
     rt: &R,
     alloc: Global,
-    file: &'a str,
+    file: ImageFile<'a>,
 ) -> Result<Volume, CommandFault<'a>> {
     let image = read_image(rt, alloc, file)?;
     accept(alloc, image)
@@ -64,17 +82,18 @@ pub(crate) fn accept<'a>(alloc: Global, image: Image) -> Result<Volume, CommandF
     }
 }
 
-/// Writes an image whole in place of a file. The file is locked if possible.
+/// Writes an image, and then what is behind it, whole in place of a file. The file is locked if possible.
 pub(crate) fn write_image<'a, R: Files<File = File>>(
     rt: &R,
     alloc: Global,
     image: &Image,
+    behind: &[u8],
     file: &'a str,
     held: Option<&HeldFile>,
 ) -> Result<(), CommandFault<'a>>
     ensures { IfErr result IsNoRefusal }
 {
-    match replace_file(rt, alloc, file, held, image) {
+    match replace_file(rt, alloc, file, held, image, behind) {
         Ok(()) => Ok(()),
         Err(fault) => Err(CommandFault::Write(file, fault)),
     }
@@ -82,8 +101,9 @@ pub(crate) fn write_image<'a, R: Files<File = File>>(
 
 /// An image file that a command changes. It is locked, and so is the file to write, until this is dropped.
 pub(crate) struct Work<'a> {
-    image: &'a str,
     held: HeldFile,
+    /// What is behind the image in its file.
+    behind: Vec<u8>,
     out: &'a str,
     held_out: Option<HeldFile>,
 }
@@ -92,8 +112,8 @@ pub(crate) struct Work<'a> {
 impl Drop for Work<'_> {
     fn drop(self) {
         let Work {
-            image: _,
             held: _held,
+            behind: _behind,
             out: _,
             held_out: _held_out,
         } = self;
@@ -101,8 +121,8 @@ impl Drop for Work<'_> {
 }
 
 impl<'a> Work<'a> {
-    /// Starts to change an image file: locks it, and reads the image once. The new image goes to `out`, or else to the file
-    /// itself.
+    /// Starts to change an image file: locks it, and reads it once. The new image goes to `out`, or else to the file itself, and
+    /// what is behind the image goes with it.
     pub(crate) fn begin<R: Files<File = File> + Clock>(
         rt: &R,
         alloc: Global,
@@ -110,21 +130,26 @@ impl<'a> Work<'a> {
     ) -> Result<(Work<'a>, Image), CommandFault<'a>>
         ensures { IfErr result IsNoImage }
     {
-        let mut work = Work::lock(rt, target)?;
-        match work.held.read_image(alloc) {
-            Ok(image) => Ok((work, image)),
-            Err(fault) => Err(image_fault(fault, work.image)),
+        let file = target.image;
+        let mut work = Work::lock(rt, alloc, target)?;
+        match work.held.read_image(alloc, file.blocks) {
+            Ok(Loaded { image, behind }) => {
+                work.behind = behind;
+                Ok((work, image))
+            }
+            Err(fault) => Err(unread(rt, fault, file)),
         }
     }
 
     /// Locks an image file to change, and the file for the new image: `out`, or else the file itself.
     fn lock<R: Files<File = File> + Clock>(
         rt: &R,
+        alloc: Global,
         target: Rewrite<'a>,
     ) -> Result<Work<'a>, CommandFault<'a>>
         ensures { IfErr result IsNoImage }
     {
-        let image = target.image;
+        let image = target.image.path;
         let held = match hold(rt, image) {
             Ok(held) => held,
             Err(HoldFault::Open) => {
@@ -144,8 +169,8 @@ impl<'a> Work<'a> {
             refuse_precious(rt, out, held_out.as_mut())?;
         }
         Ok(Work {
-            image,
             held,
+            behind: Vec::new(alloc),
             out,
             held_out,
         })
@@ -160,7 +185,14 @@ impl<'a> Work<'a> {
     ) -> Result<(), CommandFault<'a>>
         ensures { IfErr result IsNoRefusal }
     {
-        write_image(rt, alloc, image, self.out, self.held_out.as_ref())
+        write_image(
+            rt,
+            alloc,
+            image,
+            &self.behind,
+            self.out,
+            self.held_out.as_ref(),
+        )
     }
 }
 

@@ -18,7 +18,7 @@ use crate::serving::serve;
 use crate::validate::validate_file;
 use adf_archive::ReadImages;
 use adf_import::StandardInput;
-use adf_words::ImageJob;
+use adf_words::{ImageFile, ImageJob};
 use std::alloc::Global;
 use std::fs::File;
 use std::io::Write;
@@ -57,7 +57,7 @@ where
 }
 
 /// The image file that a job reads, if it is one.
-fn image_of<'a>(job: &ImageJob<'a>) -> Option<&'a str> {
+fn image_of<'a>(job: &ImageJob<'a>) -> Option<ImageFile<'a>> {
     match job {
         ImageJob::Blank { .. } | ImageJob::Check(_) => None,
         ImageJob::Info { file } => Some(*file),
@@ -85,12 +85,12 @@ fn image_of<'a>(job: &ImageJob<'a>) -> Option<&'a str> {
 fn explain<R: Files + ReadImages, F: Write>(
     rt: &R,
     alloc: Global,
-    image: Option<&str>,
+    image: Option<ImageFile<'_>>,
     fault: &CommandFault<'_>,
     faults: &mut F,
 ) {
-    if let (CommandFault::Refused(refusal), Some(path)) = (fault, image) {
-        refusal.explain(rt, alloc, path, faults);
+    if let (CommandFault::Refused(refusal), Some(file)) = (fault, image) {
+        refusal.explain(rt, alloc, file, faults);
     }
 }
 

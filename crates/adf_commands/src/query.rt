@@ -9,7 +9,7 @@ use crate::images::read_image;
 use crate::info::tell_info;
 use crate::look::{Look, tell_look};
 use crate::moving::{tell_bytes, tell_list};
-use adf_words::{ListJob, UndeleteJob};
+use adf_words::{ImageFile, ListJob, UndeleteJob};
 use std::alloc::Global;
 use std::fs::File;
 use std::io::Write;
@@ -36,7 +36,7 @@ pub(crate) enum Query<'a, 'b> {
 pub(crate) fn print_query<'a, R: Files<File = File>, W: Write>(
     rt: &R,
     alloc: Global,
-    file: &'a str,
+    file: ImageFile<'a>,
     query: Query<'a, '_>,
     styled: bool,
     writer: &mut W,

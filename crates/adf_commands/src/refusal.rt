@@ -9,7 +9,7 @@ use adf_archive::{ReadImages, explain_refused, kind_word, size_word};
 use adf_block::SizeFault;
 use adf_import::NameWhy;
 use adf_record::Grouped;
-use adf_words::Refused;
+use adf_words::{ImageFile, Refused};
 use ados_volume::{FaultKind, VolumeFault};
 use std::alloc::{AllocError, Global};
 use std::fmt;
@@ -65,10 +65,10 @@ impl Refusal {
         &self,
         rt: &R,
         alloc: Global,
-        path: &str,
+        file: ImageFile<'_>,
         faults: &mut F,
     ) {
-        explain_refused(rt, alloc, path, self.kind, self.block, faults);
+        explain_refused(rt, alloc, file, self.kind, self.block, faults);
     }
 }
 

@@ -1,15 +1,18 @@
 //! The command `extract --damaged`.
 ghost use Rattle.std.specs.Prelude.{ℕ, List, IfErr, IfOk};
 ghost use Rattle.adf_export.specs.Rescue.{IsRescue};
+ghost use Rattle.adf_commands.specs.Faults.{IsNoImage};
 ghost use Rattle.adf_commands.specs.Rescues.{DoesRescue, IsRescueEnd};
 
 use crate::fault::CommandFault;
-use crate::images::read_image;
+use crate::images::{read_image, unread};
 use adf_block::Image;
 use adf_export::{Doubt, OutFault, PrintFault, Rescue, extract_damaged};
-use adf_io::write_output;
+use adf_host::read_filled_file;
+use adf_io::{Filled, write_output};
+use adf_record::Grouped;
 use adf_text::print_line;
-use adf_words::SalvageJob;
+use adf_words::{ImageFile, SalvageJob};
 use std::alloc::Global;
 use std::fs::File;
 use std::io::Write;
@@ -29,9 +32,52 @@ where
     F: Write,
     ensures { DoesRescue job.now (W.contents writer.old) (W.contents writer.new) result }
 {
-    let image = read_image(rt, alloc, job.image)?;
+    let image = read_filled(rt, alloc, job.image, faults)?;
     let rescue = rescue_of(rt, alloc, image, job)?;
     tell_rescue(alloc, &rescue, job, writer, faults)
+}
+
+/// The image of a file. If its first blocks are the image and some are missing, these are zeros, and a line on `faults` says so.
+fn read_filled<'a, R: Files, F: Write>(
+    rt: &R,
+    alloc: Global,
+    file: ImageFile<'a>,
+    faults: &mut F,
+) -> Result<Image, CommandFault<'a>>
+    ensures { IfErr result IsNoImage }
+{
+    let ImageFile { path, blocks } = file;
+    let Some(blocks) = blocks else {
+        return read_image(rt, alloc, file);
+    };
+    match read_filled_file(rt, alloc, path, blocks) {
+        Ok(filled) => {
+            tell_missing(path, blocks, &filled, faults);
+            Ok(filled.image)
+        }
+        Err(fault) => {
+            let blocks = None;
+            Err(unread(rt, fault, ImageFile { path, blocks }))
+        }
+    }
+}
+
+/// Prints how many bytes of the blocks of an image its file has, if some are missing.
+fn tell_missing<F: Write>(path: &str, blocks: u32, filled: &Filled, faults: &mut F) {
+    if filled.missing == 0 {
+        return;
+    }
+    let bytes = filled.image.as_bytes().len();
+    let (all, found) = (
+        Grouped(bytes as u64),
+        Grouped(bytes.saturating_sub(filled.missing) as u64),
+    );
+    print_line(
+        faults,
+        format_args!(
+            "adf_serve: '{path}' has {found} of the {all} bytes of its {blocks} blocks: zeros are taken for the others"
+        ),
+    );
 }
 
 /// Reports on a rescue, and prints on `faults` why entries are doubtful, which files are cut short, and which used blocks belong to

@@ -4,10 +4,10 @@ ghost use Rattle.std.specs.Prelude.{◌≡◌, length, IfOk};
 use crate::changing::given_or_now;
 use crate::fault::CommandFault;
 use crate::faulty_line::{last_number, tell_faulty_line};
-use crate::images::{open_volume, write_image};
+use crate::images::{accept, read_loaded, write_image};
 use adf_block::Image;
 use adf_host::{HeldFile, HoldFault, hold_target, why_unreadable};
-use adf_io::{read_bounded, write_output};
+use adf_io::{Loaded, read_bounded, write_output};
 use adf_script::{LONGEST_SCRIPT, read_script};
 use adf_words::ServeJob;
 use ados_run::{ClientEnding, OpenGate, serve_volume};
@@ -28,10 +28,11 @@ struct Scripts {
     copies: Vec<Vec<u8>>,
 }
 
-/// The image after all packets, and the output of each client and how it ended, in order.
+/// The image after all packets, what is behind it in its file, and the output of each client and how it ended, in order.
 #[derive(Drop)]
 struct Served {
     image: Image,
+    behind: Vec<u8>,
     texts: Vec<ClientText>,
 }
 
@@ -75,13 +76,15 @@ where
     F: Write,
 {
     let moment = given_or_now(rt, job.moment)?;
-    let volume = open_volume(rt, alloc, job.image)?;
+    let Loaded { image, behind } = read_loaded(rt, alloc, job.image)?;
+    let volume = accept(alloc, image)?;
     let Scripts { scripts, copies } = read_scripts(rt, alloc, job.scripts.as_slice())?;
     match serve_volume(rt, alloc, volume, scripts, moment, job.turns) {
         Ok(served) => {
             tell_faulty(alloc, job, &copies, &served.texts, faults);
             Ok(Served {
                 image: served.handler.into_volume().into_image(),
+                behind,
                 texts: served.texts,
             })
         }
@@ -145,25 +148,32 @@ fn finish<'a, R: Files<File = File>, W: Write>(
     writer: &mut W,
 ) -> Result<(), CommandFault<'a>> {
     let is_told = tell_all(&served.texts, writer);
-    write_out(rt, alloc, &served.image, out)?;
+    write_out(rt, alloc, served, out)?;
     if !is_told {
         return Err(CommandFault::Output);
     }
     judge(&served.texts)
 }
 
-/// Writes an image in place of a file, if requested, unless another command has locked it.
+/// Writes the image and what is behind it in place of a file, if requested, unless another command has locked it.
 fn write_out<'a, R: Files<File = File>>(
     rt: &R,
     alloc: Global,
-    image: &Image,
+    served: &Served,
     out: Option<OutFile<'a>>,
 ) -> Result<(), CommandFault<'a>> {
     let Some((file, held)) = out else {
         return Ok(());
     };
     match held {
-        Ok(held) => write_image(rt, alloc, image, file, held.as_ref()),
+        Ok(held) => write_image(
+            rt,
+            alloc,
+            &served.image,
+            &served.behind,
+            file,
+            held.as_ref(),
+        ),
         Err(fault) => Err(CommandFault::Held(file, fault)),
     }
 }

@@ -4,8 +4,7 @@ ghost use Rattle.std.specs.Prelude.{◌≡◌, ◌≢◌, IfErr};
 use crate::busy::is_locked;
 use crate::directory::FileNumber;
 use crate::image_file::read_open;
-use adf_block::Image;
-use adf_io::LoadFault;
+use adf_io::{LoadFault, Loaded};
 use std::alloc::Global;
 use std::fs::{File, Metadata, TryLockError};
 use std::io::{Error, ErrorKind, Read, Seek, SeekFrom};
@@ -115,9 +114,10 @@ pub(crate) fn is_same(one: &Metadata, other: &Metadata) -> bool {
 }
 
 impl HeldFile {
-    /// Reads the image of the file. To be called once. A regular file of a wrong length is refused by its length.
-    pub fn read_image(&mut self, alloc: Global) -> Result<Image, LoadFault> {
-        read_open(alloc, &mut self.file)
+    /// Reads the image of the file: its first `blocks` blocks, or without a number all of it. To be called once. A regular file of
+    /// a wrong length is refused by its length.
+    pub fn read_image(&mut self, alloc: Global, blocks: Option<u32>) -> Result<Loaded, LoadFault> {
+        read_open(alloc, &mut self.file, blocks)
     }
 
     /// Whether a regular file may be replaced by an image: it is empty, or begins as an image does. It is read from its start,

@@ -1,12 +1,12 @@
-//! Image files: read whole, by `load_image`.
-ghost use Rattle.std.specs.Prelude.{IfOk, MatchOption};
+//! Image files: read whole. The image is all of the file, or its first blocks.
+ghost use Rattle.std.specs.Prelude.{IfOk, IfSome, MatchOption};
 ghost use Rattle.adf_host.specs.Images.{IsImageLength};
-ghost use Rattle.adf_io.specs.Load.{ReadsAll};
+ghost use Rattle.adf_io.specs.Loaded.{ReadsFilled, ReadsLoaded};
 ghost use Rattle.adf_block.specs.Size.{IsSizeFault};
 
 use adf_block::layout::{BLOCK_BYTES, FEWEST_BLOCKS, MOST_BLOCKS};
-use adf_block::{Image, SizeFault, SizeRefused};
-use adf_io::{LoadFault, load_image, load_image_with_room};
+use adf_block::{SizeFault, SizeRefused};
+use adf_io::{Filled, LoadFault, Loaded, load_filled, load_front};
 use ados_check::whole_pages;
 use std::alloc::Global;
 use std::fs;
@@ -31,33 +31,87 @@ pub fn size_fault(length: u64) -> Option<SizeFault>
     None
 }
 
+/// The most bytes that an image has.
+const MOST_BYTES: u64 = BLOCK_BYTES as u64 * MOST_BLOCKS as u64;
+
 /// The minimum number of bytes that are read into huge pages.
 const LARGE: usize = 524_288;
 
-/// Reads the image of an open file. A regular file of a wrong length is refused by its length, and not read.
-pub(crate) fn read_open<F: Read + OpenFile>(alloc: Global, file: &mut F) -> Result<Image, LoadFault>
-    ensures { IfOk result (ReadsAll (F.remaining file.old) (F.remaining file.new)) }
+/// Reads the image of an open file: its first `blocks` blocks, or without a number all of it. A regular file of a wrong length
+/// is refused by its length, and not read.
+pub(crate) fn read_open<F: Read + OpenFile>(
+    alloc: Global,
+    file: &mut F,
+    blocks: Option<u32>,
+) -> Result<Loaded, LoadFault>
+    ensures { IfOk result (ReadsLoaded blocks (F.remaining file.old) (F.remaining file.new)) }
 {
-    match file.metadata() {
-        Ok(found) if found.is_file() => match size_fault(found.len()) {
-            None => {
-                // With room for one more byte the end is reached before the memory is full.
-                let room = whole_pages((found.len() as usize).saturating_add(1), LARGE);
-                load_image_with_room(alloc, file, room)
-            }
-            Some(fault) => Err(LoadFault::Size(SizeRefused {
-                fault,
-                bytes: Vec::new(alloc),
-            })),
-        },
-        _ => load_image(alloc, file),
+    let room = room_for(alloc, file, blocks.is_none())?;
+    load_front(alloc, file, room, blocks)
+}
+
+/// The room for the bytes of an open file; 0 if they are not known. All of it is the image, or only some of its first blocks.
+fn room_for<F: OpenFile>(alloc: Global, file: &F, is_whole: bool) -> Result<usize, LoadFault> {
+    let length = match file.metadata() {
+        Ok(found) if found.is_file() => found.len(),
+        _ => return Ok(0),
+    };
+    match length_fault(length, is_whole) {
+        // With room for one more byte the end is reached before the memory is full.
+        None => Ok(whole_pages((length as usize).saturating_add(1), LARGE)),
+        Some(fault) => Err(LoadFault::Size(SizeRefused {
+            fault,
+            bytes: Vec::new(alloc),
+        })),
     }
 }
 
-/// Reads the image of a file, even if a command has locked the file.
-pub fn read_image_file<R: Files>(rt: &R, alloc: Global, path: &str) -> Result<Image, LoadFault> {
+/// What is wrong with the length of a file of which all is the image, or some of its first blocks. Such a file has any length
+/// up to that of the largest image.
+fn length_fault(length: u64, is_whole: bool) -> Option<SizeFault>
+    ensures { IfSome result (IsSizeFault length) }
+{
+    if is_whole || length > MOST_BYTES {
+        size_fault(length)
+    } else {
+        None
+    }
+}
+
+/// Reads the image of a file, even if a command has locked the file: its first `blocks` blocks, or without a number all of it.
+pub fn read_image_file<R: Files>(
+    rt: &R,
+    alloc: Global,
+    path: &str,
+    blocks: Option<u32>,
+) -> Result<Loaded, LoadFault> {
     match fs::open(rt, path) {
-        Ok(mut file) => read_open(alloc, &mut file),
+        Ok(mut file) => read_open(alloc, &mut file, blocks),
         Err(_) => Err(LoadFault::Read),
     }
+}
+
+/// Reads an image of this number of blocks from a file that may be longer or shorter. What is missing is taken as zeros.
+pub fn read_filled_file<R: Files>(
+    rt: &R,
+    alloc: Global,
+    path: &str,
+    blocks: u32,
+) -> Result<Filled, LoadFault> {
+    match fs::open(rt, path) {
+        Ok(mut file) => read_filled(alloc, &mut file, blocks),
+        Err(_) => Err(LoadFault::Read),
+    }
+}
+
+/// Reads an image of this number of blocks from an open file. What is missing is taken as zeros.
+fn read_filled<F: Read + OpenFile>(
+    alloc: Global,
+    file: &mut F,
+    blocks: u32,
+) -> Result<Filled, LoadFault>
+    ensures { IfOk result (ReadsFilled blocks (F.remaining file.old) (F.remaining file.new)) }
+{
+    let room = room_for(alloc, file, false)?;
+    load_filled(alloc, file, room, blocks)
 }

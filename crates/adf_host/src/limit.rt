@@ -6,14 +6,36 @@ use std::fs;
 use std::io::{Error, ErrorKind};
 use std::rt::Files;
 
-/// Fails if a file of this length would exceed the process's limit on the length of files (`ulimit -f`).
-///
-/// To be called before the file is made: a write past the limit ends the process by a signal. Where the host does not
-/// say what the limit is, there is none.
+/// The process's limit on the length of files (`ulimit -f`).
+#[derive(Clone, Copy)]
+pub struct LengthLimit {
+    most: u64,
+}
+
+impl LengthLimit {
+    /// The limit as it is now. Where the host does not say what the limit is, there is none. The host takes as long to say it
+    /// as to make a small file, so one who writes many files asks once.
+    pub fn of<R: Files>(rt: &R) -> LengthLimit {
+        LengthLimit {
+            most: file_limit(rt).unwrap_or(u64::MAX),
+        }
+    }
+
+    /// Fails if a file of this length would exceed the limit.
+    ///
+    /// To be called before the file is made: a write past the limit ends the process by a signal.
+    pub fn refuse(&self, length: u64) -> Result<(), Error>
+        ensures { length ≡ 0 → IsOk result }
+    {
+        within(length, self.most)
+    }
+}
+
+/// Fails if a file of this length would exceed the process's limit on the length of files, as [`LengthLimit::refuse`] does.
 pub fn refuse_length<R: Files>(rt: &R, length: u64) -> Result<(), Error>
     ensures { length ≡ 0 → IsOk result }
 {
-    within(length, file_limit(rt).unwrap_or(u64::MAX))
+    LengthLimit::of(rt).refuse(length)
 }
 
 /// Fails for a length over a limit.

@@ -68,7 +68,7 @@ impl From<AllocError> for ReplaceFault {
 /// The mode bits that a new file takes over from the file that it replaces: the rights to read, write and run it.
 const ACCESS_BITS: u32 = 0o777;
 
-/// Writes an image as the file at a path, by `store_image`: to a temporary file beside it, which is flushed to the disk
+/// Writes an image, and then what is behind it, as the file at a path: to a temporary file beside it, which is flushed to the disk
 /// and then renamed over it. The rights to read, write and run an existing file stay, and so do its owner and its group
 /// if the process may set them. A link stays, and the file that it leads to is replaced.
 ///
@@ -85,11 +85,12 @@ pub fn replace_file<R: Files>(
     path: &str,
     held: Option<&HeldFile>,
     image: &Image,
+    behind: &[u8],
 ) -> Result<(), ReplaceFault>
 where
     R::File: OwnedFile,
 {
-    let bytes = NewBytes::Image(image);
+    let bytes = NewBytes::Image(image, behind);
     match fs::metadata(rt, path) {
         Ok(found) if !may_be(held, &found) => Err(ReplaceFault::Moved),
         Ok(found) if !found.is_file() => write_straight(rt, path, &found, bytes),

@@ -1,4 +1,5 @@
 //! Why a file of the host cannot be read.
+use adf_block::layout::BLOCK_BYTES;
 use std::fs;
 use std::io::{Error, ErrorKind};
 use std::rt::Files;
@@ -21,6 +22,12 @@ pub enum ReadReason {
     /// It can be opened, so a read failed.
     #[error("a read failed")]
     Read,
+    /// It ends before this number of blocks.
+    #[error("it has fewer than {0} blocks")]
+    Short(u32),
+    /// It can be read only once, so it is not known which of these it was.
+    #[error("a read failed, or it has fewer than {0} blocks")]
+    ReadOrShort(u32),
 }
 
 impl From<Error> for ReadReason {
@@ -58,5 +65,25 @@ pub fn why_unreadable<R: Files>(rt: &R, path: &str) -> ReadReason {
             Err(error) => ReadReason::from(error),
         },
         Err(error) => ReadReason::from(error),
+    }
+}
+
+/// Why no image was read from the file at a path: of its first `blocks` blocks, or without a number of all of it. To be called
+/// after a failed read, as [`why_unreadable`].
+pub fn why_no_image<R: Files>(rt: &R, path: &str, blocks: Option<u32>) -> ReadReason {
+    match (why_unreadable(rt, path), blocks) {
+        (ReadReason::Read, Some(blocks)) => why_no_blocks(rt, path, blocks),
+        (reason, _) => reason,
+    }
+}
+
+/// Why not so many blocks of a file were read, which can be opened.
+fn why_no_blocks<R: Files>(rt: &R, path: &str, blocks: u32) -> ReadReason {
+    match fs::metadata(rt, path) {
+        Ok(found) if !found.is_file() => ReadReason::ReadOrShort(blocks),
+        Ok(found) if found.len() / u64::from(BLOCK_BYTES) < u64::from(blocks) => {
+            ReadReason::Short(blocks)
+        }
+        _ => ReadReason::Read,
     }
 }

@@ -54,15 +54,19 @@ reads_whole most a b input bytes counted none same =
     counted.front ∙ take_all most counted.seen (omega (arith, counted.counted, none, ap length counted.front, length-take most counted.seen)) in
     (subst (Consumes a b) (sym (same ∙ all)) counted.consumed, counted.end)
 
--- the bytes have a wrong size, and none came after them
-pub refused_whole : (a b : Option (List ℕ)) (input : Input) (refused : SizeRefused) → ReadsCounted 52020224 a b input → input.more ≡ 0 → refused.bytes.items ≡ input.front.items
-    → IsSizeFault (length input.front.items) refused.fault → IsRefusedSize a b refused
-refused_whole a b input refused counted none same faulty = record {
-  seen = counted.seen;
-  consumed = counted.consumed;
-  end = counted.end;
-  front = same ∙ counted.front;
-  faulty = subst (λ n. IsSizeFault n refused.fault) (omega (arith, counted.counted, none)) faulty;
+-- no more bytes are kept than the bound says
+pub kept_within : (most : ℕ) (a b : Option (List ℕ)) (input : Input) → ReadsCounted most a b input → length input.front.items ≤ most
+kept_within most a b input counted = omega (arith, ap length counted.front, length-take most counted.seen)
+
+-- all bytes of the reader have a wrong size
+pub refused_all : (a b : Option (List ℕ)) (bytes : List ℕ) (refused : SizeRefused) → ReadsAll a b bytes → length bytes ≤ 52020224 → refused.bytes.items ≡ bytes
+    → IsSizeFault (length bytes) refused.fault → IsRefusedSize a b refused
+refused_all a b bytes refused all within same faulty = record {
+  seen = bytes;
+  consumed = all.0;
+  end = all.1;
+  front = same ∙ sym (take_all 52020224 bytes within);
+  faulty = faulty;
 }
 
 -- more bytes came after them than the largest image has

@@ -9,7 +9,9 @@ mod part;
 mod store;
 
 pub use input::{Input, InputFault, read_bounded, read_counted, read_input};
-pub use load::{LoadFault, load_image, load_image_with_room};
+pub use load::{
+    Filled, LoadFault, Loaded, load_filled, load_front, load_image, load_image_with_room,
+};
 pub use output::{StoreFault, write_output};
 pub use part::read_some;
 pub use store::store_image;

@@ -1,7 +1,8 @@
 //! Images from readers.
-ghost use Rattle.std.specs.Prelude.{◌≡◌, ◌+◌, ◌<◌, IfOk, IfErr};
+ghost use Rattle.std.specs.Prelude.{◌≡◌, ◌+◌, ◌<◌, ◌≤◌, ℕ, IfOk, IfErr, List, Option, Some, length};
 ghost use Rattle.adf_block.specs.Size.{IsSizeFault};
 ghost use Rattle.adf_io.specs.Load.{IsRefusal, ReadsAll};
+ghost use Rattle.adf_io.specs.Loaded.{IsFilled, IsLoaded, ReadsFilled, ReadsLoaded};
 
 use crate::input::{InputFault, read_counted};
 use adf_block::layout::{BLOCK_BYTES, MOST_BLOCKS};
@@ -74,6 +75,71 @@ pub fn load_image_with_room<R: Read>(
     ensures ok { IfOk result (ReadsAll (R.remaining reader.old) (R.remaining reader.new)) }
     ensures err { IfErr result (IsRefusal (R.remaining reader.old) (R.remaining reader.new)) }
 {
+    let file = load_bytes(alloc, reader, room)?;
+    match Image::from_bytes(file) {
+        Ok(image) => Ok(image),
+        Err(refused) => Err(LoadFault::Size(refused)),
+    }
+}
+
+/// The image at the start of a file, and the bytes behind it.
+#[derive(Drop)]
+pub struct Loaded {
+    pub image: Image,
+    pub behind: Vec<u8>,
+}
+
+/// An image of which the file may lack the last bytes.
+#[derive(Drop)]
+pub struct Filled {
+    pub image: Image,
+    /// The number of bytes that are missing, which are zeros in the image.
+    pub missing: usize,
+}
+
+/// Reads an image from the first `blocks` blocks of an input, and what is behind them; without a number all of the input is the
+/// image. The input may have as many bytes as the largest image. Too few blocks are a failed read.
+pub fn load_front<R: Read>(
+    alloc: Global,
+    reader: &mut R,
+    room: usize,
+    blocks: Option<u32>,
+) -> Result<Loaded, LoadFault>
+    ensures ok { IfOk result (ReadsLoaded blocks (R.remaining reader.old) (R.remaining reader.new)) }
+    ensures err { IfErr result (IsRefusal (R.remaining reader.old) (R.remaining reader.new)) }
+{
+    let Some(blocks) = blocks else {
+        let image = load_image_with_room(alloc, reader, room)?;
+        return Ok(Loaded {
+            image,
+            behind: Vec::new(alloc),
+        });
+    };
+    let file = load_bytes(alloc, reader, room)?;
+    split_file(alloc, file, blocks)
+}
+
+/// Reads an image of this number of blocks. The input may be longer or shorter, but not longer than the largest image: what is
+/// missing is taken as zeros.
+pub fn load_filled<R: Read>(
+    alloc: Global,
+    reader: &mut R,
+    room: usize,
+    blocks: u32,
+) -> Result<Filled, LoadFault>
+    ensures ok { IfOk result (ReadsFilled blocks (R.remaining reader.old) (R.remaining reader.new)) }
+    ensures err { IfErr result (IsRefusal (R.remaining reader.old) (R.remaining reader.new)) }
+{
+    let file = load_bytes(alloc, reader, room)?;
+    fill_file(file, blocks)
+}
+
+/// All bytes of an input, at most as many as the largest image has.
+fn load_bytes<R: Read>(alloc: Global, reader: &mut R, room: usize) -> Result<Vec<u8>, LoadFault>
+    ensures ok { IfOk result (λ file. ReadsAll (R.remaining reader.old) (R.remaining reader.new) file.items) }
+    ensures within { IfOk result (λ file. length file.items ≤ 52020224) }
+    ensures err { IfErr result (IsRefusal (R.remaining reader.old) (R.remaining reader.new)) }
+{
     let input = read_counted(alloc, reader, room, MOST_BYTES)?;
     if input.more > 0 {
         return Err(LoadFault::Size(SizeRefused {
@@ -81,8 +147,42 @@ pub fn load_image_with_room<R: Read>(
             bytes: input.front,
         }));
     }
-    match Image::from_bytes(input.front) {
-        Ok(image) => Ok(image),
-        Err(refused) => Err(LoadFault::Size(refused)),
+    Ok(input.front)
+}
+
+/// The image in the first blocks of a file, and what is behind it.
+fn split_file(alloc: Global, file: Vec<u8>, blocks: u32) -> Result<Loaded, LoadFault>
+    ensures ok { IfOk result (IsLoaded (Some blocks) file.items) }
+    ensures err { (old new : Option (List ℕ)) → IfErr result (IsRefusal old new) }
+{
+    let mut front = file;
+    let bytes = blocks as usize * BLOCK_BYTES as usize;
+    let Some(rest) = front.get(bytes..) else {
+        return Err(LoadFault::Read);
+    };
+    let Ok(behind) = Vec::from_slice(alloc, rest) else {
+        return Err(LoadFault::Memory);
+    };
+    front.truncate(bytes);
+    match Image::from_bytes(front) {
+        Ok(image) => Ok(Loaded { image, behind }),
+        Err(_) => Err(LoadFault::Read),
+    }
+}
+
+/// The image in the first blocks of a file, with zeros where the file ends before them.
+fn fill_file(file: Vec<u8>, blocks: u32) -> Result<Filled, LoadFault>
+    ensures ok { IfOk result (IsFilled blocks file.items) }
+    ensures err { (old new : Option (List ℕ)) → IfErr result (IsRefusal old new) }
+{
+    let mut front = file;
+    let bytes = blocks as usize * BLOCK_BYTES as usize;
+    let missing = bytes.saturating_sub(front.len());
+    if front.resize(bytes, 0).is_err() {
+        return Err(LoadFault::Memory);
+    }
+    match Image::from_bytes(front) {
+        Ok(image) => Ok(Filled { image, missing }),
+        Err(_) => Err(LoadFault::Read),
     }
 }

@@ -13,16 +13,16 @@ pub(crate) fn tell_job<R: Files<File = File>, F: Write>(
     faults: &mut F,
 ) {
     match job {
-        ImageJob::Info { file } => tell_held(rt, file, faults),
-        ImageJob::Show { image, .. } => tell_held(rt, image, faults),
-        ImageJob::Map { image, .. } => tell_held(rt, image, faults),
-        ImageJob::List(job) => tell_held(rt, job.image, faults),
-        ImageJob::Print { image, .. } => tell_held(rt, image, faults),
-        ImageJob::Extract(job) => tell_held(rt, job.image, faults),
-        ImageJob::Salvage(job) => tell_held(rt, job.image, faults),
-        ImageJob::ExtractBundle { image, .. } => tell_held(rt, image, faults),
-        ImageJob::SaveBoot { image, .. } => tell_held(rt, image, faults),
-        ImageJob::ShowBoot { image } => tell_held(rt, image, faults),
+        ImageJob::Info { file } => tell_held(rt, file.path, faults),
+        ImageJob::Show { image, .. } => tell_held(rt, image.path, faults),
+        ImageJob::Map { image, .. } => tell_held(rt, image.path, faults),
+        ImageJob::List(job) => tell_held(rt, job.image.path, faults),
+        ImageJob::Print { image, .. } => tell_held(rt, image.path, faults),
+        ImageJob::Extract(job) => tell_held(rt, job.image.path, faults),
+        ImageJob::Salvage(job) => tell_held(rt, job.image.path, faults),
+        ImageJob::ExtractBundle { image, .. } => tell_held(rt, image.path, faults),
+        ImageJob::SaveBoot { image, .. } => tell_held(rt, image.path, faults),
+        ImageJob::ShowBoot { image } => tell_held(rt, image.path, faults),
         _ => {}
     }
 }

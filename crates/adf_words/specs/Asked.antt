@@ -1,15 +1,17 @@
 -- The changes, and the jobs for a boot block, that arguments ask for.
-use Rattle.std.specs.Prelude.{◌≡◌, ◌≢◌, ◌∷◌, ℕ, Bool, List, [], Some, None, IsSome, All, option_map, codes, map}
+use Rattle.std.specs.Prelude.{◌≡◌, ◌≢◌, ◌<◌, ◌^◌, ◌∷◌, ℕ, Bool, List, [], Option, Some, None, IsSome, All, option_map, codes, decimal, map}
 use Rattle.std.specs.Borrow.{Bor}
 use Rattle.std.specs.Option.{option_map_or}
 use Rattle.clap.specs.Matches.{first_value, matched_of, one_text, raw_values}
 use Rattle.clap.specs.declared.parser.matches.Found.{Found}
+use Rattle.adf_block.specs.Whole.{IsSize}
 use Rattle.adf_text.specs.ProtectWords.{protect_word}
 use Rattle.adf_words.specs.Blocks.{IsOnFloppy, block_text}
 use Rattle.adf_words.specs.Lists.{IsFlag}
 use Rattle.adf_words.specs.When.{IsWhen}
 use Rattle.adf_words.specs.declared.boot.BootBlock.{BootBlock}
 use Rattle.adf_words.specs.declared.boot.BootBlock.TheVariants.{Empty, Standard, File}
+use Rattle.adf_words.specs.declared.image_file.ImageFile.{ImageFile}
 use Rattle.adf_words.specs.declared.job.ImageJob.{ImageJob}
 use Rattle.adf_words.specs.declared.job.ImageJob.TheVariants.{Boot, Extract, ExtractBundle, Map, Salvage, SaveBoot, Show, ShowBoot, Undelete, Validate, Where, WherePath}
 use Rattle.adf_words.specs.declared.change.Change.{Change}
@@ -37,22 +39,33 @@ IsGiven found id = (one_text found id ≢ None) × (one_text found id ≢ Some (
 abbrev pub IsLeftOut : Found → List ℕ → Type 0
 IsLeftOut found id = one_text found id ≢ Some (codes "true")
 
+-- without the option the whole file is the image; with it, as many of its first blocks as the option says in decimal digits
+abbrev pub AreFirstBlocks : Found → Option ℕ → Type 0
+AreFirstBlocks found None = first_value found (codes "blocks") ≡ None
+AreFirstBlocks found (Some blocks) =
+    IsSize blocks × (first_value found (codes "blocks") ≢ None) × ((n : ℕ) → n < 2 ^ 64 → first_value found (codes "blocks") ≡ Some (decimal n) → blocks ≡ n)
+
+-- the path of the image file is this argument, and its first blocks are the image, if the option says how many
+pub record IsFileOf (found : Found) (file : ImageFile) : Type 0 where
+  pub path : first_value found (codes "IMAGE") ≡ Some file.path.now
+  pub blocks : AreFirstBlocks found file.blocks
+
 -- the image to change and the file for the changed one are these arguments
 pub record IsTargetOf (found : Found) (target : Rewrite) : Type 0 where
-  pub image : first_value found (codes "IMAGE") ≡ Some target.image.now
+  pub image : IsFileOf found target.image
   pub out : first_value found (codes "out") ≡ option_map (λ word. word.now) target.out
   pub over : (given : Bool) → IsFlag found (codes "over") given → target.over ≡ given
 
 -- `show`: the image is this argument, and the form as the option says
 abbrev pub IsShowOf : Found → ImageJob → Type 0
 IsShowOf found (Show image json) =
-    (first_value found (codes "IMAGE") ≡ Some image.now) × ((given : Bool) → IsFlag found (codes "json") given → json ≡ given)
+    IsFileOf found image × ((given : Bool) → IsFlag found (codes "json") given → json ≡ given)
 IsShowOf found _ = ⊥
 
 -- `map`: the image is this argument, and the form as the option says
 abbrev pub IsMapOf : Found → ImageJob → Type 0
 IsMapOf found (Map image json) =
-    (first_value found (codes "IMAGE") ≡ Some image.now) × ((given : Bool) → IsFlag found (codes "json") given → json ≡ given)
+    IsFileOf found image × ((given : Bool) → IsFlag found (codes "json") given → json ≡ given)
 IsMapOf found _ = ⊥
 
 -- the values of an argument that can have many
@@ -62,9 +75,9 @@ all_values found id = option_map_or raw_values (matched_of found id) []
 -- `where`: with `--path` the path is this argument, else the blocks are those that the arguments name, and the form is as the
 -- option says; the image is this argument
 abbrev pub IsWhereOf : Found → ImageJob → Type 0
-IsWhereOf found (WherePath image path) = (first_value found (codes "IMAGE") ≡ Some image.now) × (first_value found (codes "path") ≡ Some path.now)
+IsWhereOf found (WherePath image path) = IsFileOf found image × (first_value found (codes "path") ≡ Some path.now)
 IsWhereOf found (Where job) =
-    (first_value found (codes "IMAGE") ≡ Some job.image.now) × (first_value found (codes "path") ≡ None)
+    IsFileOf found job.image × (first_value found (codes "path") ≡ None)
     × (map block_text job.blocks.items ≡ all_values found (codes "BLOCK")) × All IsOnFloppy job.blocks.items
     × ((given : Bool) → IsFlag found (codes "json") given → job.json ≡ given)
 IsWhereOf found _ = ⊥
@@ -76,13 +89,13 @@ IsInto found to = to ≡ option_map_or (λ word. word) (first_value found (codes
 -- `extract`: with `--bundle` everything goes to this new directory, else with `--damaged` it is a rescue, else the paths are taken out;
 -- the image, the paths and the directory are these arguments, and each option is as given
 abbrev pub IsExtractOf : Found → ImageJob → Type 0
-IsExtractOf found (ExtractBundle image to) = (first_value found (codes "IMAGE") ≡ Some image.now) × (first_value found (codes "bundle") ≡ Some to.now)
+IsExtractOf found (ExtractBundle image to) = IsFileOf found image × (first_value found (codes "bundle") ≡ Some to.now)
 IsExtractOf found (Salvage job) =
-    (first_value found (codes "IMAGE") ≡ Some job.image.now) × (first_value found (codes "bundle") ≡ None) × IsGiven found (codes "damaged") × IsInto found job.to.now
+    IsFileOf found job.image × (first_value found (codes "bundle") ≡ None) × IsGiven found (codes "damaged") × IsInto found job.to.now
     × ((given : Bool) → IsFlag found (codes "list") given → job.list ≡ given) × ((given : Bool) → IsFlag found (codes "json") given → job.json ≡ given)
     × ((given : Bool) → IsFlag found (codes "meta") given → job.meta ≡ given)
 IsExtractOf found (Extract job) =
-    (first_value found (codes "IMAGE") ≡ Some job.image.now) × (first_value found (codes "bundle") ≡ None) × IsLeftOut found (codes "damaged") × IsInto found job.to.now
+    IsFileOf found job.image × (first_value found (codes "bundle") ≡ None) × IsLeftOut found (codes "damaged") × IsInto found job.to.now
     × (map (λ word. word.now) job.paths.items ≡ all_values found (codes "PATH"))
     × ((given : Bool) → IsFlag found (codes "meta") given → job.meta ≡ given) × ((given : Bool) → IsFlag found (codes "force") given → job.force ≡ given)
 IsExtractOf found _ = ⊥
@@ -90,7 +103,7 @@ IsExtractOf found _ = ⊥
 -- `undelete`: the image, the paths and the directory are these arguments, the current directory without one, and each option is as given
 abbrev pub IsUndeleteOf : Found → ImageJob → Type 0
 IsUndeleteOf found (Undelete job) =
-    (first_value found (codes "IMAGE") ≡ Some job.image.now) × (map (λ word. word.now) job.paths.items ≡ all_values found (codes "PATH"))
+    IsFileOf found job.image × (map (λ word. word.now) job.paths.items ≡ all_values found (codes "PATH"))
     × IsInto found job.to.now × ((given : Bool) → IsFlag found (codes "list") given → job.list ≡ given)
     × ((given : Bool) → IsFlag found (codes "meta") given → job.meta ≡ given) × ((given : Bool) → IsFlag found (codes "force") given → job.force ≡ given)
 IsUndeleteOf found _ = ⊥
@@ -108,9 +121,9 @@ IsBlockOf found Empty = IsLeftOut found (codes "install") × (first_value found 
 
 -- `boot`: with `--show` the block is shown, else with `--save` written to this file, else installed; the image is this argument
 abbrev pub IsBootOf : Found → ImageJob → Type 0
-IsBootOf found (ShowBoot image) = IsGiven found (codes "show") × (first_value found (codes "IMAGE") ≡ Some image.now)
+IsBootOf found (ShowBoot image) = IsGiven found (codes "show") × IsFileOf found image
 IsBootOf found (SaveBoot image file) =
-    IsLeftOut found (codes "show") × (first_value found (codes "IMAGE") ≡ Some image.now) × (first_value found (codes "save") ≡ Some file.now)
+    IsLeftOut found (codes "show") × IsFileOf found image × (first_value found (codes "save") ≡ Some file.now)
 IsBootOf found (Boot target block) =
     IsLeftOut found (codes "show") × (first_value found (codes "save") ≡ None) × IsTargetOf found target × IsBlockOf found block
 IsBootOf found _ = ⊥

@@ -1,11 +1,12 @@
 //! The arguments of a command, as `clap` parsed them.
 ghost use Rattle.std.specs.Prelude.{◌≡◌, Bool, IfOk, IsFalse, IsTrue, Some, codes, map, option_map};
 ghost use Rattle.clap.specs.Matches.{first_value, found_of};
-ghost use Rattle.adf_words.specs.Asked.{IsGiven, IsLeftOut, IsTargetOf, all_values};
+ghost use Rattle.adf_words.specs.Asked.{IsFileOf, IsGiven, IsLeftOut, IsTargetOf, all_values};
 ghost use Rattle.adf_words.specs.Lists.{IsFlag};
 
 use crate::change::Rewrite;
 use crate::fault::WordsFault;
+use crate::image_file::ImageFile;
 use crate::letters::letters_of;
 use clap::ArgMatches;
 use std::alloc::Global;
@@ -44,12 +45,22 @@ impl<'a> Arguments<'a, '_> {
         }
     }
 
+    /// The image file that a command reads, with the option for its first blocks.
+    pub(crate) fn image(&self) -> Result<ImageFile<'a>, WordsFault>
+        ensures { IfOk result (IsFileOf (found_of self.now.words.now)) }
+    {
+        Ok(ImageFile {
+            path: self.word("IMAGE")?,
+            blocks: self.first_blocks()?,
+        })
+    }
+
     /// The image that a command changes, and where the changed one goes.
     pub(crate) fn target(&self) -> Result<Rewrite<'a>, WordsFault>
         ensures { IfOk result (IsTargetOf (found_of self.now.words.now)) }
     {
         Ok(Rewrite {
-            image: self.word("IMAGE")?,
+            image: self.image()?,
             out: self.given("out"),
             over: self.flag("over"),
         })

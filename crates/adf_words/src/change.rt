@@ -1,11 +1,12 @@
 //! The jobs of commands that change an image, as values.
 
+use crate::image_file::ImageFile;
 use ados_name::Date3;
 
 /// The image file that a command changes, and the file for the changed image.
 #[derive(Clone, Copy)]
 pub struct Rewrite<'a> {
-    pub image: &'a str,
+    pub image: ImageFile<'a>,
     /// The file for the changed image, in place of the image's own.
     pub out: Option<&'a str>,
     /// Whether `out` is also written if it is a file that is no image.

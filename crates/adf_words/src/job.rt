@@ -3,6 +3,7 @@ ghost use Rattle.std.specs.Prelude.{◌<◌, length};
 
 use crate::boot::BootBlock;
 use crate::change::{ChangeJob, Rewrite};
+use crate::image_file::ImageFile;
 use crate::query::{CheckJob, ExtractJob, ListJob, SalvageJob, UndeleteJob, WhereJob};
 use adf_block::Format;
 use ados_name::Date3;
@@ -27,15 +28,15 @@ pub enum ImageJob<'a> {
     /// the name has the bytes of the argument.
     Blank { format: Format, blocks: u32, moment: Option<Date3>, name: &'a str, letters: bool, file: &'a str },
     /// `info`: describes the disk, and says whether it is bootable.
-    Info { file: &'a str },
+    Info { file: ImageFile<'a> },
     /// `show`: describes the volume for people, or with `json` as a JSON object.
-    Show { image: &'a str, json: bool },
+    Show { image: ImageFile<'a>, json: bool },
     /// `map`: prints a letter for each block, or with `json` a JSON object.
-    Map { image: &'a str, json: bool },
+    Map { image: ImageFile<'a>, json: bool },
     /// `where`: says who owns blocks.
     Where(WhereJob<'a>),
     /// `where --path`: prints the blocks of an entry.
-    WherePath { image: &'a str, path: &'a str },
+    WherePath { image: ImageFile<'a>, path: &'a str },
     /// `check`: checks images.
     Check(CheckJob<'a>),
     /// `list`: lists directories and files.
@@ -47,9 +48,9 @@ pub enum ImageJob<'a> {
     /// `undelete`: lists deleted entries, and writes them to files and directories of the host.
     Undelete(UndeleteJob<'a>),
     /// `extract --bundle`: writes everything in an image to a new directory of the host.
-    ExtractBundle { image: &'a str, to: &'a str },
+    ExtractBundle { image: ImageFile<'a>, to: &'a str },
     /// `print`: prints the bytes of a file.
-    Print { image: &'a str, path: &'a str },
+    Print { image: ImageFile<'a>, path: &'a str },
     /// A command that changes the volume.
     Change(ChangeJob<'a>),
     /// `add --bundle`: makes the volume that a directory of the host describes.
@@ -59,9 +60,9 @@ pub enum ImageJob<'a> {
     /// `boot`: installs a boot block, or removes it.
     Boot { target: Rewrite<'a>, block: BootBlock<'a> },
     /// `boot --save`: writes the boot block to a new file of the host.
-    SaveBoot { image: &'a str, file: &'a str },
+    SaveBoot { image: ImageFile<'a>, file: &'a str },
     /// `boot --show`: says what the boot block is, and prints its bytes.
-    ShowBoot { image: &'a str },
+    ShowBoot { image: ImageFile<'a> },
     /// `serve`: runs scripts over an image.
     Serve(ServeJob<'a>),
 }
@@ -69,7 +70,7 @@ pub enum ImageJob<'a> {
 /// The arguments of `serve`.
 #[derive(Drop)]
 pub struct ServeJob<'a> {
-    pub image: &'a str,
+    pub image: ImageFile<'a>,
     /// The scripts of clients 1, 2 and so on.
     pub scripts: Vec<&'a str>,
     /// The file for the resulting image.

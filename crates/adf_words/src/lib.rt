@@ -11,6 +11,7 @@ mod dates;
 mod fault;
 mod floppy;
 mod given;
+mod image_file;
 mod job;
 mod letters;
 mod numbers;
@@ -26,6 +27,7 @@ pub use change::{Change, ChangeJob, Rewrite, Source};
 pub use fault::WordsFault;
 pub use floppy::{DOUBLE_TRACK, HEADS, HIGH_DENSITY, HIGH_TRACK};
 pub use given::{given_words, word_of};
+pub use image_file::ImageFile;
 pub use job::{ImageJob, Job, ServeJob};
 pub use query::{
     CheckJob, ExtractJob, ListForm, ListJob, ListOrder, SalvageJob, UndeleteJob, WhereJob,

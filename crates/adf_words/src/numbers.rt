@@ -1,12 +1,13 @@
 //! Options with numbers.
-ghost use Rattle.std.specs.Prelude.{◌≤◌, IfOk, IfSome, codes};
+ghost use Rattle.std.specs.Prelude.{◌≡◌, ◌<◌, ◌≤◌, ◌^◌, ℕ, IfOk, IfSome, Some, codes, decimal};
 ghost use Rattle.clap.specs.Matches.{first_value, found_of};
+ghost use Rattle.adf_words.specs.Asked.{AreFirstBlocks};
 ghost use Rattle.adf_words.specs.When.{IsWhen};
 
 use crate::arguments::Arguments;
 use crate::dates::moment_word;
 use crate::fault::WordsFault;
-use crate::table::{JOBS, NumberRange, TIME_STAMP};
+use crate::table::{BLOCKS, JOBS, NumberRange, TIME_STAMP};
 use ados_name::Date3;
 use std::alloc::Global;
 
@@ -52,6 +53,16 @@ impl Arguments<'_, '_> {
         Ok(None)
     }
 
+    /// The number of blocks at the start of a file that are its image; `None` for all of the file.
+    pub(crate) fn first_blocks(&self) -> Result<Option<u32>, WordsFault>
+        ensures { IfOk result (AreFirstBlocks (found_of self.now.words.now)) }
+    {
+        match self.given("blocks") {
+            Some(_) => Ok(Some(self.number("blocks", &BLOCKS)? as u32)),
+            None => Ok(None),
+        }
+    }
+
     /// The number of images to check in parallel, at least 1; `None` if it is missing.
     pub(crate) fn jobs(&self) -> Result<Option<u32>, WordsFault>
         ensures { IfOk result (λ count. IfSome count (λ n. 1 ≤ n)) }
@@ -65,7 +76,8 @@ impl Arguments<'_, '_> {
     /// The value of an option with a number; 0 if it is missing. Only digits are allowed: a parse alone would accept a
     /// `+` before them.
     pub(crate) fn number(&self, id: &str, range: &NumberRange) -> Result<u64, WordsFault>
-        ensures { IfOk result (λ number. (range.now.least ≤ number) × (number ≤ range.now.most)) }
+        ensures range { IfOk result (λ number. (range.now.least ≤ number) × (number ≤ range.now.most)) }
+        ensures written { IfOk result (λ number. (n : ℕ) → n < 2 ^ 64 → first_value (found_of self.now.words.now) id.now ≡ Some (decimal n) → number ≡ n) }
     {
         let text = self.given(id).unwrap_or("0");
         match text.parse::<u64>() {

@@ -2,12 +2,15 @@
 ghost use Rattle.std.specs.Prelude.{◌<◌, length};
 
 use crate::block_word::BlockWord;
+use crate::image_file::ImageFile;
 
 /// The arguments of `check`.
 #[derive(Drop)]
 pub struct CheckJob<'a> {
     /// Image files, and directories with image files in them.
     pub files: Vec<&'a str>,
+    /// The number of blocks at the start of each file that are its image; by default all of the file is.
+    pub blocks: Option<u32>,
     /// Whether every fault of an image is reported; otherwise the first one.
     pub all: bool,
     /// Whether the report on each image is a JSON object.
@@ -22,7 +25,7 @@ pub struct CheckJob<'a> {
 /// The arguments of `where` without `--path`.
 #[derive(Drop)]
 pub struct WhereJob<'a> {
-    pub image: &'a str,
+    pub image: ImageFile<'a>,
     /// The blocks to tell of.
     pub blocks: Vec<BlockWord>,
     /// Whether the output is a JSON array.
@@ -32,7 +35,7 @@ pub struct WhereJob<'a> {
 /// The arguments of `list`.
 #[derive(Drop)]
 pub struct ListJob<'a> {
-    pub image: &'a str,
+    pub image: ImageFile<'a>,
     /// The directory or file to list; by default the root.
     pub path: Option<&'a str>,
     pub form: ListForm,
@@ -71,7 +74,7 @@ pub enum ListForm {
 /// The arguments of `extract`.
 #[derive(Drop)]
 pub struct ExtractJob<'a> {
-    pub image: &'a str,
+    pub image: ImageFile<'a>,
     /// The entries, each with everything below it; by default all entries of the root.
     pub paths: Vec<&'a str>,
     /// The host directory to write to.
@@ -85,7 +88,7 @@ pub struct ExtractJob<'a> {
 /// The arguments of `undelete`.
 #[derive(Drop)]
 pub struct UndeleteJob<'a> {
-    pub image: &'a str,
+    pub image: ImageFile<'a>,
     /// The deleted entries, each with everything that was below it; by default all of them.
     pub paths: Vec<&'a str>,
     /// Whether the entries are only listed: nothing is written to the host.
@@ -101,7 +104,7 @@ pub struct UndeleteJob<'a> {
 /// The arguments of `extract --damaged`.
 #[derive(Drop)]
 pub struct SalvageJob<'a> {
-    pub image: &'a str,
+    pub image: ImageFile<'a>,
     /// Whether entries are only reported: nothing is written to the host.
     pub list: bool,
     /// Whether the report is a JSON object.

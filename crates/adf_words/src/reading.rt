@@ -7,6 +7,7 @@ use crate::changing::{add_job, change_job, validate_job};
 use crate::commands::program;
 use crate::fault::WordsFault;
 use crate::floppy::{DOUBLE_DENSITY, HIGH_DENSITY};
+use crate::image_file::ImageFile;
 use crate::job::{ImageJob, Job, ServeJob};
 use crate::letters::letters_of;
 use crate::table::{BLOCKS, TURNS};
@@ -122,13 +123,16 @@ fn format_of(arguments: &Arguments<'_, '_>) -> Format {
 /// The job of `info`.
 fn info_job<'a>(arguments: &Arguments<'a, '_>) -> Result<ImageJob<'a>, WordsFault> {
     Ok(ImageJob::Info {
-        file: arguments.word("FILE")?,
+        file: ImageFile {
+            path: arguments.word("FILE")?,
+            blocks: arguments.first_blocks()?,
+        },
     })
 }
 
 /// The job of `serve`.
 fn serve_job<'a>(arguments: &Arguments<'a, '_>) -> Result<ImageJob<'a>, WordsFault> {
-    let image = arguments.word("IMAGE")?;
+    let image = arguments.image()?;
     let turns = arguments.number("turns", &TURNS)?;
     let moment = arguments.moment()?;
     let scripts = arguments.words("SCRIPT")?;

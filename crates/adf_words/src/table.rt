@@ -116,6 +116,10 @@ const TICKS_OR_ZERO: ArgumentRow = ArgumentRow { name: "ticks", kind: NUMBER_OR_
 #[rattlefmt::skip]
 const IMAGE: ArgumentRow = ArgumentRow { name: "IMAGE", kind: Kind::One, help: "The image" };
 
+/// The first blocks of a file that are its image.
+#[rattlefmt::skip]
+const FRONT: ArgumentRow = ArgumentRow { name: "blocks", kind: NUMBER, help: "Takes the first N blocks of the file as the image, from 16 to 101,602. What is behind them is left as it is" };
+
 #[rattlefmt::skip]
 const FORCE: ArgumentRow = ArgumentRow { name: "force", kind: FLAG, help: "Replaces files that already exist" };
 
@@ -131,13 +135,14 @@ const PROTECT_EXAMPLES: &str = "Examples:\n  adf_serve protect work.adf c/dir rw
 
 /// The arguments of each command that changes an image.
 #[rattlefmt::skip]
-pub(crate) const CHANGING: [ArgumentRow; 7] = [
+pub(crate) const CHANGING: [ArgumentRow; 8] = [
     ArgumentRow { name: "out", kind: Kind::Option { value: "FILE", default: None }, help: "Writes the changed image to this file, and leaves IMAGE as it is" },
     ArgumentRow { name: "over", kind: FLAG, help: "Lets `--out` write over a file that is not an image" },
     ArgumentRow { name: "date", kind: WHEN, help: "The time stamp of the change, as `YYYY-MM-DD` or `YYYY-MM-DD HH:MM[:SS[.CC]]`, in place of the numbers. `now` is the clock (UTC)" },
     ArgumentRow { name: "days", kind: NUMBER, help: "The time stamp of the change: days since 1 January 1978. The clock (UTC) is used if no part of the time stamp is given" },
     ArgumentRow { name: "minutes", kind: NUMBER, help: "The time stamp of the change: minutes past midnight" },
     ArgumentRow { name: "ticks", kind: NUMBER, help: "The time stamp of the change: fiftieths of a second past the minute" },
+    FRONT,
     IMAGE,
 ];
 
@@ -167,7 +172,7 @@ pub(crate) const COMMANDS: [CommandRow; 21] = [
         about: "Prints the answer of DISK_INFO for an image, and whether the image is bootable",
         examples: "Example:\n  adf_serve info work.adf",
         changes: false,
-        arguments: &[ArgumentRow { name: "FILE", kind: Kind::One, help: "The image" }],
+        arguments: &[FRONT, ArgumentRow { name: "FILE", kind: Kind::One, help: "The image" }],
     },
     CommandRow {
         name: "show",
@@ -176,6 +181,7 @@ pub(crate) const COMMANDS: [CommandRow; 21] = [
         changes: false,
         arguments: &[
             ArgumentRow { name: "json", kind: FLAG, help: "Prints a JSON object" },
+            FRONT,
             IMAGE,
         ],
     },
@@ -186,6 +192,7 @@ pub(crate) const COMMANDS: [CommandRow; 21] = [
         changes: false,
         arguments: &[
             ArgumentRow { name: "json", kind: FLAG, help: "Prints a JSON object" },
+            FRONT,
             IMAGE,
         ],
     },
@@ -197,6 +204,7 @@ pub(crate) const COMMANDS: [CommandRow; 21] = [
         arguments: &[
             ArgumentRow { name: "json", kind: FLAG, help: "Prints a JSON array with an object for each block" },
             ArgumentRow { name: "path", kind: Kind::Instead { value: "PATH", excludes: &["json", "BLOCK"] }, help: "Prints all blocks of this file or directory, as ranges" },
+            FRONT,
             IMAGE,
             ArgumentRow { name: "BLOCK", kind: Kind::Any, help: "The number of a block, or its cylinder, head and sector as `c40.h0.s10`, each from 0. A track has 11 sectors, and 22 on a disk of 3,520 blocks" },
         ],
@@ -211,6 +219,7 @@ pub(crate) const COMMANDS: [CommandRow; 21] = [
             ArgumentRow { name: "all", kind: FLAG, help: "Prints every fault of an image, and not only one" },
             ArgumentRow { name: "json", kind: FLAG, help: "Prints a JSON object for each image" },
             ArgumentRow { name: "filler", kind: FLAG, help: "Also prints each data block of a file that holds nothing but the filler of a program, as that of Greaseweazle for a sector that it could not read" },
+            ArgumentRow { name: "blocks", kind: NUMBER, help: "Takes the first N blocks of each file as its image, from 16 to 101,602" },
             ArgumentRow { name: "FILE", kind: Kind::OneOrMore, help: "An image; or a directory, whose files that end in `.adf` or `.hdf` are checked, and those in all directories below it" },
         ],
     },
@@ -224,6 +233,7 @@ pub(crate) const COMMANDS: [CommandRow; 21] = [
             ArgumentRow { name: "long", kind: Kind::Flag { excludes: &["json"] }, help: "Prints names as UTF-8, all eight protection bits as `hsparwed`, and comments" },
             ArgumentRow { name: "json", kind: FLAG, help: "Prints a JSON object for each file and directory" },
             ArgumentRow { name: "sort", kind: Kind::Option { value: "KEY", default: None }, help: "Sorts each directory by `name`, by `size` with the largest first, by `date` with the latest first, or as on the `disk`. Without it `--long` sorts by name, and all else is as on the disk" },
+            FRONT,
             IMAGE,
             ArgumentRow { name: "PATH", kind: Kind::Optional, help: "A directory, of which all entries are listed, or a file" },
         ],
@@ -234,6 +244,7 @@ pub(crate) const COMMANDS: [CommandRow; 21] = [
         examples: "Example:\n  adf_serve print work.adf s/startup-sequence",
         changes: false,
         arguments: &[
+            FRONT,
             IMAGE,
             ArgumentRow { name: "PATH", kind: Kind::One, help: "The file, from the root" },
         ],
@@ -251,6 +262,7 @@ pub(crate) const COMMANDS: [CommandRow; 21] = [
             ArgumentRow { name: "damaged", kind: Kind::Flag { excludes: &["force", "PATH"] }, help: "Writes all that can be trusted of an image that may be refused, and prints a line for each file and directory" },
             ArgumentRow { name: "list", kind: Kind::With { option: "damaged", excludes: &["to", "meta", "force", "bundle", "PATH"] }, help: "With `--damaged`: only prints the lines, and writes nothing" },
             ArgumentRow { name: "json", kind: Kind::With { option: "damaged", excludes: &["bundle"] }, help: "With `--damaged`: prints a JSON object in place of the lines" },
+            FRONT,
             IMAGE,
             ArgumentRow { name: "PATH", kind: Kind::Any, help: "A file, or a directory with everything in it. Without PATH everything in the image is written" },
         ],
@@ -265,6 +277,7 @@ pub(crate) const COMMANDS: [CommandRow; 21] = [
             ArgumentRow { name: "to", kind: Kind::Option { value: "DIR", default: Some(".") }, help: "The directory to write to. It is made if it does not exist" },
             ArgumentRow { name: "meta", kind: FLAG, help: "Writes the protection bits, the date and the comment of each entry `x` to a file `x.uaem`" },
             ArgumentRow { name: "force", kind: FLAG, help: "Also writes files of which blocks are used again or damaged, and replaces files that already exist" },
+            FRONT,
             IMAGE,
             ArgumentRow { name: "PATH", kind: Kind::Any, help: "A deleted file or directory, or a directory in which something was deleted, from the root. Without PATH everything that was deleted is taken" },
         ],
@@ -382,6 +395,7 @@ pub(crate) const COMMANDS: [CommandRow; 21] = [
             DAYS_OR_ZERO,
             MINUTES_OR_ZERO,
             TICKS_OR_ZERO,
+            FRONT,
             IMAGE,
             ArgumentRow { name: "SCRIPT", kind: Kind::OneOrMore, help: "A script. Each script is one client" },
         ],

@@ -16,13 +16,14 @@ use std::alloc::Global;
 
 /// The job of `check`.
 pub(crate) fn check_job<'a>(arguments: &Arguments<'a, '_>) -> Result<ImageJob<'a>, WordsFault> {
-    let jobs = arguments.jobs()?;
+    let (jobs, blocks) = (arguments.jobs()?, arguments.first_blocks()?);
     let files = arguments.words("FILE")?;
     if files.is_empty() {
         return Err(arguments.missing("FILE"));
     }
     Ok(ImageJob::Check(CheckJob {
         files,
+        blocks,
         all: arguments.flag("all"),
         json: arguments.flag("json"),
         filler: arguments.flag("filler"),
@@ -38,7 +39,7 @@ pub(crate) fn list_job<'a>(arguments: &Arguments<'a, '_>) -> Result<ImageJob<'a>
     };
     let form = list_form(arguments);
     Ok(ImageJob::List(ListJob {
-        image: arguments.word("IMAGE")?,
+        image: arguments.image()?,
         path,
         form,
         order: list_order(arguments, form)?,
@@ -86,7 +87,7 @@ pub(crate) fn show_job<'a>(arguments: &Arguments<'a, '_>) -> Result<ImageJob<'a>
     ensures { IfOk result (IsShowOf (found_of arguments.now.words.now)) }
 {
     Ok(ImageJob::Show {
-        image: arguments.word("IMAGE")?,
+        image: arguments.image()?,
         json: arguments.flag("json"),
     })
 }
@@ -96,7 +97,7 @@ pub(crate) fn map_job<'a>(arguments: &Arguments<'a, '_>) -> Result<ImageJob<'a>,
     ensures { IfOk result (IsMapOf (found_of arguments.now.words.now)) }
 {
     Ok(ImageJob::Map {
-        image: arguments.word("IMAGE")?,
+        image: arguments.image()?,
         json: arguments.flag("json"),
     })
 }
@@ -105,7 +106,7 @@ pub(crate) fn map_job<'a>(arguments: &Arguments<'a, '_>) -> Result<ImageJob<'a>,
 pub(crate) fn where_job<'a>(arguments: &Arguments<'a, '_>) -> Result<ImageJob<'a>, WordsFault>
     ensures { IfOk result (IsWhereOf (found_of arguments.now.words.now)) }
 {
-    let image = arguments.word("IMAGE")?;
+    let image = arguments.image()?;
     if let Some(path) = arguments.given("path") {
         let path = letters_of(arguments.alloc, path)?;
         return Ok(ImageJob::WherePath { image, path });
@@ -144,7 +145,7 @@ fn form_of(long: bool, json: bool, letters: bool) -> ListForm
 /// The job of `print`.
 pub(crate) fn print_job<'a>(arguments: &Arguments<'a, '_>) -> Result<ImageJob<'a>, WordsFault> {
     Ok(ImageJob::Print {
-        image: arguments.word("IMAGE")?,
+        image: arguments.image()?,
         path: arguments.letters("PATH")?,
     })
 }
@@ -153,7 +154,7 @@ pub(crate) fn print_job<'a>(arguments: &Arguments<'a, '_>) -> Result<ImageJob<'a
 pub(crate) fn extract_job<'a>(arguments: &Arguments<'a, '_>) -> Result<ImageJob<'a>, WordsFault>
     ensures { IfOk result (IsExtractOf (found_of arguments.now.words.now)) }
 {
-    let image = arguments.word("IMAGE")?;
+    let image = arguments.image()?;
     if let Some(to) = arguments.given("bundle") {
         return Ok(ImageJob::ExtractBundle { image, to });
     }
@@ -182,7 +183,7 @@ pub(crate) fn undelete_job<'a>(arguments: &Arguments<'a, '_>) -> Result<ImageJob
     ensures { IfOk result (IsUndeleteOf (found_of arguments.now.words.now)) }
 {
     Ok(ImageJob::Undelete(UndeleteJob {
-        image: arguments.word("IMAGE")?,
+        image: arguments.image()?,
         paths: arguments.paths()?,
         list: arguments.flag("list"),
         to: arguments.given("to").unwrap_or("."),

@@ -7,7 +7,7 @@ use crate::items::{Contents, HostItem, above, fault, is_directory, refuse_items,
 use crate::order::depth_first;
 use crate::standing::{Standing, may_stand, standing_at};
 use crate::way::Way;
-use adf_host::{HeldDirectory, OwnedFile, refuse_length, replace_found};
+use adf_host::{HeldDirectory, LengthLimit, OwnedFile, replace_found};
 use std::alloc::Global;
 use std::fs;
 use std::fs::{File, FileTimes, OpenFile};
@@ -40,7 +40,13 @@ where
     R::File: OwnedFile,
     ensures { IfErr result (λ fault. fault.written ≤ length items.now) }
 {
-    let writer = Writer { rt, alloc, force };
+    let limit = LengthLimit::of(rt);
+    let writer = Writer {
+        rt,
+        alloc,
+        force,
+        limit,
+    };
     let order = match depth_first(alloc, items) {
         Ok(order) => order,
         Err(error) => return Err(ItemFault::from(error).told(alloc, directory, items, 0)),
@@ -63,6 +69,7 @@ struct Writer<'a, R> {
     alloc: Global,
     /// Regular files are replaced.
     force: bool,
+    limit: LengthLimit,
 }
 
 impl<R: Files> Writer<'_, R>
@@ -235,7 +242,7 @@ where
 
     /// Writes a new file, or replaces a regular one. A new file that cannot be written whole is removed.
     fn write_file(&self, path: &str, bytes: &[u8], time: SystemTime) -> Result<(), WriteWhy> {
-        refuse_length(self.rt, bytes.len() as u64)?;
+        self.limit.refuse(bytes.len() as u64)?;
         match File::create_new(self.rt, path) {
             Ok(file) => {
                 let done = fill_new(file, bytes, time);

@@ -6,8 +6,8 @@ use Rattle.ados_volume.specs.declared.owner.Owner.{Owner}
 use Rattle.adf_archive.specs.Suspects.{HoldsFiller}
 use Rattle.adf_archive.proofs.suspects.suspect_at.Goals as goal
 
-pub path_of-requires : goal.path_of-requires
-path_of-requires c = λ t s.
+pub path_in-requires-clause-key : goal.path_in-requires-clause-key
+path_in-requires-clause-key c = λ t s.
     let owned = subst (λ (o : Owner). Owns c.args.volume.now.image t c.args.block o) c.in-Data.is (c.requires.owner t s) in
     let n = content_in (t.nodes c.in-Data.file) (File owned.0.0) owned.0.1 in
     rw n.1 refl

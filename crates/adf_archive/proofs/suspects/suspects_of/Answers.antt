@@ -1,10 +1,11 @@
-use Rattle.std.proofs.Common.{◌≡◌, ◌+◌, ◌<◌, Vec, Global, vec_len, Some, slice_get, sym, ap, ◌∙◌, subst, arith}
+use Rattle.std.proofs.Common.{◌≡◌, ◌+◌, ◌<◌, All, Vec, Global, vec_len, Some, slice_get, sym, ap, ◌∙◌, subst, arith}
 use Rattle.std.proofs.lemmas.Option.{slice_get_read}
 use Rattle.adf_block.specs.Image.{block_count}
 use Rattle.ados_model.proofs.Standing.{count_same}
 use Rattle.ados_volume.specs.Owners.{Owns}
 use Rattle.ados_volume.specs.declared.owner.Owner.{Owner}
 use Rattle.adf_archive.specs.declared.suspects.Suspect.{Suspect}
+use Rattle.adf_archive.specs.Suspects.{TellsSuspect}
 use Rattle.adf_archive.proofs.Suspecting.{AreSuspectsBelow, inside, suspects_all, suspects_more, suspects_same}
 use Rattle.adf_archive.proofs.suspects.suspects_of.Goals as goal
 use Rattle.adf_archive.proofs.suspects.suspects_of.Goals.{in-Some+in_ok-push, in_default}
@@ -29,6 +30,10 @@ suspect_at-requires-clause-owner c = λ t s.
     let n : c.loop-block.block < vec_len c.in_ok-owners.owners =
     omega (arith, c.loop-block-test.true, c.in_ok-owners.owners.ok.0, owned.count, count_same c.args.volume.now.image t s, c.blocks-block-end.ensures.count, ap block_count c.image.ensures.same) in
     owned.owned c.loop-block.block c.index.result.now (slice_get_read c.in_ok-owners.owners.items _ c.loop-block.block c.index.result.now c.in_ok-owners.owners.ok.0 n c.index.ensures)
+
+pub suspect_at-requires-clause-found : goal.suspect_at-requires-clause-found
+suspect_at-requires-clause-found c = λ t s.
+    subst (All (TellsSuspect c.args.volume.now.image t)) (sym c.deref.ensures.value) (c.loop-block.invariant t s).told
 
 pub loop-block-preserved : goal.loop-block-preserved
 loop-block-preserved c = λ t s.

@@ -1,0 +1,25 @@
+use Rattle.std.proofs.Common.{◌≡◌, ℕ, ◌-◌, ◌<◌, length, Result, Ok, Err, IfOk, sym, ap, ◌∙◌, subst, arith}
+use Rattle.std.proofs.Math.ListN.{get_or}
+use Rattle.std.proofs.lemmas.List.{get_or_default}
+use Rattle.adf_archive.specs.declared.suspects.Suspect.{Suspect}
+use Rattle.adf_archive.specs.Paths.{IsPathOf}
+use Rattle.adf_archive.specs.Suspects.{TellsSuspect}
+use Rattle.adf_archive.proofs.suspects.path_in.Goals as goal
+
+mapped : {X Y : Type 0} (P Q : X → Type 0) → ((x : X) → P x → Q x) → (r : Result X Y) → IfOk r P → IfOk r Q
+mapped P Q f (Ok x) h = f x h
+mapped P Q f (Err e) h = h
+
+pub returns-then-found-count : goal.returns-then-found-count
+returns-then-found-count c =
+    let found = c.args.found.now in
+    let first = c.index-found-count.result in
+    let last = c.index-found-count-then-found-count.result in
+    let within : length found - 1 < length found = omega (arith, c.if-count-gt0.true) in
+    let same : last ≡ get_or found (length found - 1) first = c.index-found-count-then-found-count.is ∙ get_or_default found (length found - 1) last first within in
+    let file : last.file ≡ c.args.file = ap (λ (x : Suspect). x.file) same ∙ c.if-found-count.true in
+    mapped _ _
+    (λ path keeps t s.
+    let told = subst (TellsSuspect c.args.volume.now.image t) (sym c.index-found-count-then-found-count.is) (c.requires.found t s (length found - 1) last within) in
+    subst (λ (key : ℕ). IsPathOf t key path) file (keeps t told.path))
+    c.same_path.result c.same_path.ensures
