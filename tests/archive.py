@@ -1238,7 +1238,7 @@ class Damages:
     def swept(self) -> Iterator[Struck]:
         """Each long of the root, the bitmap block, each header, the extension block and a data block is changed, to one of three values by
         turns: a wrong checksum does not tell them apart. In OFS, where each block names its file, the checksum is also set right, with
-        each of the three."""
+        another one of the three."""
         image = Volume(self.good)
         root = image.blocks // 2
         page = image.long(root, 79)
@@ -1248,7 +1248,8 @@ class Damages:
             for at in range(128):
                 values = (0, image.long(block, at) + 1, ALL_ONES)
                 is_left = self.is_ffs or at == 5 or block in of_data and at > 5
-                for value, is_settled in [(values[(block + at) % 3], False), *((it, True) for it in ([] if is_left else values))]:
+                turn = (block + at) % 3
+                for value, is_settled in [(values[turn], False), *([] if is_left else [(values[turn - 1], True)])]:
                     other = Volume(self.good)
                     other.put(block, at, value)
                     if is_settled:

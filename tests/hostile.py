@@ -4,8 +4,8 @@ resources. It also tests limits on the length of files, and commands that are ki
 
     tests/hostile.py [PROGRAM [PART..]]
 
-PART is a part of a task's name; without one all tasks run. The environment variable SECONDS=N lengthens each race to N seconds; the default is 10, or 4 for the one of which `strace` tries
-the same. With TIMES=1 the test prints how long each task took.
+PART is a part of a task's name; without one all tasks run. The environment variable SECONDS=N lengthens each race to N seconds; the
+default is 4, or 2 for the one of which `strace` tries the same. With TIMES=1 the test prints how long each task took.
 
 A task is some of the checks, in a process and a directory of its own. As many run side by side as there are processors. The races
 come first, half as many at a time. The bounds on time are on the processor time of the program, so that they hold beside other work.
@@ -18,7 +18,7 @@ and modes are kept.
 Endless streams, and files as long as a disk, take the place of images and scripts. With little memory the program must end
 soon.
 
-Directories are swapped for links to one that must stay empty: while the program is stopped, and at any time for ten seconds. An
+Directories are swapped for links to one that must stay empty: while the program is stopped, and at any time for some seconds. An
 image with more levels of directories than are open at a time is taken out, and `/proc` is taken away.
 
 The made images consist of headers only: of files that claim too many blocks, of directories in chains and cycles, and of one name
@@ -109,7 +109,7 @@ from harness import (
 # A user other than root, and two groups, by numbers that need no name.
 OTHER, GROUP, SECOND = 65_534, 65_534, 65_533
 # How long races last, in seconds: those that are left to chance alone, and those that strace decides too.
-RACE, BOUND = (float(os.environ.get("SECONDS") or it) for it in (10, 4))
+RACE, BOUND = (float(os.environ.get("SECONDS") or it) for it in (4, 2))
 # How often it is looked whether a program has stopped, and how often it is told to go on, in seconds.
 LOOK, AGAIN = 0.002, 0.2
 # The files in a directory that is swapped, and the least number of swaps in a race before the command ended.

@@ -75,7 +75,7 @@ ADVICE: List[Tuple[str, str]] = [
     (r"--force writes|bitmap block|but nothing names it", "Save what can be trusted with `extract --damaged` before `--force`"),
     (r"^(the header of a directory|an extension block|a data block of)", "Save it with `extract --damaged` before `--force`"),
     (r"ok, \{\} refused|^(OFS|FFS|DOS|no AmigaDOS)|^\{\} bytes$", "Nothing: it counts and describes"),
-    (r"--blocks takes|try --blocks", "Give `--blocks` the number of blocks that fits the root"),
+    (r"try --blocks", "Give `--blocks` the number of blocks that fits the root"),
     (r"the root at block|^and \{rest\} bytes$", "Look whether the file is cut short"),
     (r"UTF-8", "Rename the file, or give it another name with `add --as`"),
     (r"stands? for no byte|past U\+00FF|no character of an Amiga", "Leave out letters past U+00FF"),

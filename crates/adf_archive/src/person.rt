@@ -3,8 +3,8 @@ use crate::finding::Remark;
 use crate::likeness::{filling, likeness_of, other_root, root_in};
 use crate::reading::ReadImages;
 use crate::report::{ImageReport, RefusedImage, WhyNot};
-use adf_block::layout::{BLOCK_BYTES, MOST_BLOCKS};
-use adf_block::{Image, SizeFault};
+use adf_block::layout::BLOCK_BYTES;
+use adf_block::{Image, MOST_BYTES, SizeFault};
 use adf_host::why_no_image;
 use adf_io::read_bounded;
 use adf_record::Grouped;
@@ -20,8 +20,8 @@ use std::{fmt, fs};
 /// The bytes at the start of a file that tell its kind.
 const KIND_BYTES: usize = 4;
 
-/// The most bytes that an image has.
-const MOST_BYTES: usize = MOST_BLOCKS as usize * BLOCK_BYTES as usize;
+/// Bytes in a block.
+const BLOCK: u64 = BLOCK_BYTES as u64;
 
 /// How a person is told of images.
 #[derive(Clone, Copy)]
@@ -137,37 +137,42 @@ impl Display for WrongLength {
 #[derive(Clone, Copy)]
 struct OtherSize {
     root: u32,
-    /// The bytes of the file, or of its first blocks that are the image.
+    /// What has the bytes: the file, or the option that takes its first blocks as the image.
+    holder: &'static str,
+    /// The bytes.
     length: u64,
-    is_front: bool,
 }
 
 impl Display for OtherSize {
     fn fmt<W: fmt::Write>(&self, f: &mut Formatter<W>) -> fmt::Result {
-        let block = u64::from(BLOCK_BYTES);
         let needed = 2 * u64::from(self.root);
-        let (root, fits) = (Grouped(u64::from(self.root)), Grouped(needed));
-        let blocks = Grouped(self.length / block);
-        if self.is_front {
-            write!(
-                f,
-                "the root at block {root} fits {fits} blocks; --blocks takes {blocks}"
-            )?;
-        } else {
-            write!(
-                f,
-                "the root at block {root} fits {fits} blocks; the file has {blocks}"
-            )?;
-        }
-        match self.length % block {
-            0 => {}
-            1 => f.write_str(" and 1 byte")?,
-            rest => write!(f, " and {rest} bytes")?,
-        }
-        if self.length / block < needed {
+        let blocks = self.length / BLOCK;
+        let (holder, rest) = (self.holder, PartOfBlock(self.length % BLOCK));
+        write!(
+            f,
+            "the root at block {} fits {} blocks; {holder} {}{rest}",
+            Grouped(u64::from(self.root)),
+            Grouped(needed),
+            Grouped(blocks)
+        )?;
+        if blocks < needed {
             return Ok(());
         }
         write!(f, ": try --blocks {needed}")
+    }
+}
+
+/// The text for the bytes behind the last whole block; empty if there are none.
+#[derive(Clone, Copy)]
+struct PartOfBlock(u64);
+
+impl Display for PartOfBlock {
+    fn fmt<W: fmt::Write>(&self, f: &mut Formatter<W>) -> fmt::Result {
+        match self.0 {
+            0 => Ok(()),
+            1 => f.write_str(" and 1 byte"),
+            rest => write!(f, " and {rest} bytes"),
+        }
     }
 }
 
@@ -209,11 +214,11 @@ fn front_of<R: Files>(rt: &R, alloc: Global, path: &str, length: u64) -> Vec<u8>
 fn tell_front<F: Write>(path: &str, front: Vec<u8>, length: u64, manner: Manner, faults: &mut F) {
     tell_bytes(path, &front, length, manner, faults);
     if let Some(root) = root_in(front) {
-        let is_front = false;
+        let holder = "the file has";
         let size = OtherSize {
             root,
+            holder,
             length,
-            is_front,
         };
         tell(path, manner, size, faults);
     }
@@ -295,11 +300,14 @@ fn tell_looks<F: Write>(path: &str, image: &Image, manner: Manner, faults: &mut 
     let length = bytes.len() as u64;
     tell_bytes(path, bytes, length, manner, faults);
     if let Some(root) = other_root(image) {
-        let is_front = manner.blocks.is_some();
+        let holder = match manner.blocks {
+            Some(_) => "--blocks takes",
+            None => "the file has",
+        };
         let size = OtherSize {
             root,
+            holder,
             length,
-            is_front,
         };
         tell(path, manner, size, faults);
     }

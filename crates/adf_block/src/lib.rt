@@ -11,4 +11,4 @@ mod writing;
 pub use boot::BootKind;
 pub use floppy::Image;
 pub use layout::Format;
-pub use volume_size::{SizeFault, SizeRefused, page_count, size_ok};
+pub use volume_size::{MOST_BYTES, SizeFault, SizeRefused, page_count, size_ok};

@@ -4,7 +4,10 @@ ghost use Rattle.std.specs.Prelude.{◌≡◌, ◌↔◌, IsTrue};
 ghost use Rattle.adf_block.specs.Image.{page_count};
 ghost use Rattle.adf_block.specs.Whole.{IsSize};
 
-use crate::layout::{BOOT_BLOCKS, FEWEST_BLOCKS, MOST_BLOCKS, PAGE_BITS};
+use crate::layout::{BLOCK_BYTES, BOOT_BLOCKS, FEWEST_BLOCKS, MOST_BLOCKS, PAGE_BITS};
+
+/// The most bytes of an image.
+pub const MOST_BYTES: usize = MOST_BLOCKS as usize * BLOCK_BYTES as usize;
 
 /// Whether a volume may have this many blocks: 16 to 101,602. Both limits are this project's own. A root has to fit,
 /// and the 25 bitmap pointers of a root have to cover all blocks.

@@ -5,7 +5,7 @@ ghost use Rattle.adf_io.specs.Loaded.{ReadsFilled, ReadsLoaded};
 ghost use Rattle.adf_block.specs.Size.{IsSizeFault};
 
 use adf_block::layout::{BLOCK_BYTES, FEWEST_BLOCKS, MOST_BLOCKS};
-use adf_block::{SizeFault, SizeRefused};
+use adf_block::{MOST_BYTES, SizeFault, SizeRefused};
 use adf_io::{Filled, LoadFault, Loaded, load_filled, load_front};
 use ados_check::whole_pages;
 use std::alloc::Global;
@@ -30,9 +30,6 @@ pub fn size_fault(length: u64) -> Option<SizeFault>
     }
     None
 }
-
-/// The most bytes that an image has.
-const MOST_BYTES: u64 = BLOCK_BYTES as u64 * MOST_BLOCKS as u64;
 
 /// The minimum number of bytes that are read into huge pages.
 const LARGE: usize = 524_288;
@@ -71,7 +68,7 @@ fn room_for<F: OpenFile>(alloc: Global, file: &F, is_whole: bool) -> Result<usiz
 fn length_fault(length: u64, is_whole: bool) -> Option<SizeFault>
     ensures { IfSome result (IsSizeFault length) }
 {
-    if is_whole || length > MOST_BYTES {
+    if is_whole || length > MOST_BYTES as u64 {
         size_fault(length)
     } else {
         None

@@ -5,8 +5,8 @@ ghost use Rattle.adf_io.specs.Load.{IsRefusal, ReadsAll};
 ghost use Rattle.adf_io.specs.Loaded.{IsFilled, IsLoaded, ReadsFilled, ReadsLoaded};
 
 use crate::input::{InputFault, read_counted};
-use adf_block::layout::{BLOCK_BYTES, MOST_BLOCKS};
-use adf_block::{Image, SizeFault, SizeRefused};
+use adf_block::layout::BLOCK_BYTES;
+use adf_block::{Image, MOST_BYTES, SizeFault, SizeRefused};
 use std::alloc::Global;
 use std::io::Read;
 
@@ -41,9 +41,6 @@ impl From<InputFault> for LoadFault {
 
 /// Bytes in a block.
 const BLOCK: u64 = BLOCK_BYTES as u64;
-
-/// Bytes in the largest image.
-const MOST_BYTES: usize = BLOCK_BYTES as usize * MOST_BLOCKS as usize;
 
 /// The fault of an input that has `more` bytes more than the largest image.
 fn excess_fault(more: u64) -> SizeFault
