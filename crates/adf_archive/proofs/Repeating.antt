@@ -2,7 +2,8 @@
 use Rattle.std.proofs.Common.{◌≡◌, ℕ, zero, suc, ◌+◌, ◌-◌, ◌*◌, ◌/◌, ◌%◌, ◌<◌, ◌≤◌, inl, inr, List, length, slice_index, sym, ap, ◌∙◌, subst, arith, add-mul, one-mul, div-add-mod'}
 use Rattle.std.proofs.lemmas.Bool.{cases_lt}
 use Rattle.std.proofs.lemmas.Nat.{mod-mul-add, mod_below}
-use Rattle.adf_archive.specs.Fillers.{BeginsFrom, HasPeriod, RepeatsFrom}
+use Rattle.adf_archive.specs.Fillers.{RepeatsFrom}
+use Rattle.adf_archive.specs.steps.Periods.{BeginsFrom, HasPeriod}
 
 -- a whole turn leaves the remainder
 turn : (k n : ℕ) → 0 < n → (k + n) % n ≡ k % n

@@ -12,14 +12,6 @@ filler_text PcFormat = 246 ∷ []
 abbrev pub RepeatsFrom : List ℕ → List ℕ → ℕ → Type 0
 RepeatsFrom text bytes start = (i : ℕ) → i < length bytes → slice_index bytes i ≡ slice_index text ((start + i) % length text)
 
--- the first bytes, as many as the text has, are the text from byte `start` of it on
-abbrev pub BeginsFrom : List ℕ → List ℕ → ℕ → Type 0
-BeginsFrom text bytes start = (i : ℕ) → i < length bytes → i < length text → slice_index bytes i ≡ slice_index text ((start + i) % length text)
-
--- each byte is the one that many bytes before it
-abbrev pub HasPeriod : List ℕ → ℕ → Type 0
-HasPeriod bytes period = (i : ℕ) → i + period < length bytes → slice_index bytes (i + period) ≡ slice_index bytes i
-
 -- the bytes are this text, again and again, from some byte of it on
 abbrev pub Repeats : List ℕ → List ℕ → Type 0
 Repeats text bytes = (start : ℕ) × (start < length text) × RepeatsFrom text bytes start

@@ -12,3 +12,4 @@ pub mod Each
 pub mod Status
 pub mod Archive
 pub mod Laws
+pub mod steps

@@ -11,6 +11,7 @@ use Rattle.ados_faults.specs.Listed.{AreAllFaults, AreMarks, Marks}
 use Rattle.ados_faults.specs.Values.{AreValues, NoneShows}
 use Rattle.adf_record.specs.Counts.{AreCounts}
 use Rattle.adf_archive.specs.declared.checking.Detail.{Detail}
+use Rattle.adf_archive.specs.declared.faults.TheConstants.{MOST_FAULTS}
 use Rattle.adf_archive.specs.declared.report.AcceptedImage.{AcceptedImage}
 use Rattle.adf_archive.specs.declared.report.Contents.{Contents}
 use Rattle.adf_archive.specs.declared.report.ImageReport.{ImageReport}
@@ -72,9 +73,9 @@ abbrev pub IsExplained : ImageReport → Type 0
 IsExplained (Refused told) = HaveTexts true told.faults.items
 IsExplained report = ⊤
 
--- of a disk of another kind that alone is reported; of any other each fault that it shows, unless there may be more
+-- of a disk of another kind that alone is reported; of any other each fault that it shows, or the first 1,000 and `more`
 abbrev pub IsComplete : List ℕ → ImageReport → Type 0
-IsComplete image (Refused told) = AreAllFaults image told.more (map (λ shown. shown.fault) told.faults.items)
+IsComplete image (Refused told) = AreAllFaults image MOST_FAULTS told.more (map (λ shown. shown.fault) told.faults.items)
 IsComplete image report = ⊤
 
 -- the suspect blocks of an accepted image are reported exactly if that is wanted

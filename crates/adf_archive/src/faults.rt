@@ -13,7 +13,7 @@ use ados_model::{FaultKind, VolumeFault};
 use std::alloc::{AllocError, Global};
 
 /// The most faults reported for an image.
-const MOST_FAULTS: usize = 1_000;
+pub const MOST_FAULTS: usize = 1_000;
 
 /// Faults of an image, and whether it may have more.
 #[derive(Drop)]
@@ -34,7 +34,7 @@ pub(crate) fn told_faults(
     ensures shown { IfOk result (λ told. All (λ shown. Shows image.now shown.fault.kind shown.fault.block) told.faults.items) }
     ensures values { IfOk result (λ told. HaveValues image.now told.faults.items) }
     ensures texts { IfOk result (λ told. HaveTexts (explains detail) told.faults.items) }
-    ensures each { IfOk result (λ told. detail.all ≡ true → AreAllFaults image.now told.more (map (λ shown. shown.fault) told.faults.items)) }
+    ensures each { IfOk result (λ told. detail.all ≡ true → AreAllFaults image.now 1000 told.more (map (λ shown. shown.fault) told.faults.items)) }
 {
     if detail.all {
         return all_told(alloc, image, detail);
@@ -49,7 +49,7 @@ fn all_told(alloc: Global, image: &Image, detail: Detail) -> Result<ToldFaults, 
     ensures shown { IfOk result (λ told. All (λ shown. Shows image.now shown.fault.kind shown.fault.block) told.faults.items) }
     ensures values { IfOk result (λ told. HaveValues image.now told.faults.items) }
     ensures texts { IfOk result (λ told. HaveTexts (explains detail) told.faults.items) }
-    ensures each { IfOk result (λ told. AreAllFaults image.now told.more (map (λ shown. shown.fault) told.faults.items)) }
+    ensures each { IfOk result (λ told. AreAllFaults image.now 1000 told.more (map (λ shown. shown.fault) told.faults.items)) }
 {
     let found = all_faults(alloc, image, MOST_FAULTS)?;
     let faults = shown_faults(alloc, image, &found.marks, &found.faults, detail)?;

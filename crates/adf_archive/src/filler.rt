@@ -1,6 +1,7 @@
 //! What programs write where they have no bytes of the disk.
 ghost use Rattle.std.specs.Prelude.{◌≡◌, ◌<◌, ◌↔◌, IsTrue, MatchBool, length};
-ghost use Rattle.adf_archive.specs.Fillers.{BeginsFrom, HasPeriod, IsFiller, Repeats, RepeatsFrom, filler_text};
+ghost use Rattle.adf_archive.specs.Fillers.{IsFiller, Repeats, RepeatsFrom, filler_text};
+ghost use Rattle.adf_archive.specs.steps.Periods.{BeginsFrom, HasPeriod};
 
 /// A filler, by what writes it. docs/COMMANDS.md has the same list.
 #[derive(Clone, Copy)]

@@ -88,11 +88,12 @@ ShowsOtherKind image = (kind : FaultKind) × IsOtherKind image kind
 abbrev pub ListsKindAlone : List ℕ → Bool → List VolumeFault → Type 0
 ListsKindAlone image more faults = (kind : FaultKind) → IsOtherKind image kind → (faults ≡ fault_of kind 0 ∷ []) × (more ≡ false)
 
--- the faults of a disk as they are told: of a disk of another kind that alone; of any other each fault that it shows,
--- unless there may be more
-pub record AreAllFaults (image : List ℕ) (more : Bool) (faults : List VolumeFault) : Type 0 where
+-- the faults of a disk as they are told, at most so many: of a disk of another kind that alone; of any other each fault
+-- that it shows, unless there may be more, and the first ones and exactly whether there are more, unless it is tangled
+pub record AreAllFaults (image : List ℕ) (most : ℕ) (more : Bool) (faults : List VolumeFault) : Type 0 where
   pub alone : ListsKindAlone image more faults
   pub each : ¬ ShowsOtherKind image → ListsEach image more faults
+  pub first : ¬ ShowsOtherKind image → ¬ IsTangled image → AreFirstFaults image most more faults
 
 -- for each block of an image its mark, if it has one
 abbrev pub Marks : Type 0

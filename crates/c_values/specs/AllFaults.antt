@@ -18,13 +18,13 @@ abbrev pub told_fault : VolumeFault → JipFault
 told_fault fault = record { kind = pos (fault_number fault.kind); block = fault.block }
 
 -- the bytes are an image, and these are its faults in order, none exactly if it shows none; an image without faults has
--- no more of them. Of a disk of another kind that alone is told; of any other each fault that it shows, unless there may
--- be more
+-- no more of them. Of a disk of another kind that alone is told; of any other each fault that it shows, or the first
+-- ones and that there are more
 pub record TellsFaults (bytes : List ℕ) (told : List JipFault) (more : Bool) : Type 0 where
   pub image : IsImage bytes
   pub faults : List VolumeFault
   pub lists : ListsFaults bytes MOST_FAULTS faults
-  pub all : AreAllFaults bytes more faults
+  pub all : AreAllFaults bytes MOST_FAULTS more faults
   pub told_are : told ≡ map told_fault faults
   pub none : (faults ≡ []) ↔ ShowsNoFault bytes
   pub whole : ShowsNoFault bytes → more ≡ false

@@ -59,7 +59,7 @@ pub record TellsFindings (bytes : List ℕ) (told : List JipFinding) (more : Boo
   pub image : IsImage bytes
   pub faults : List VolumeFault
   pub lists : ListsFaults bytes MOST_FAULTS faults
-  pub all : AreAllFaults bytes more faults
+  pub all : AreAllFaults bytes MOST_FAULTS more faults
   pub marks : Marks
   pub marked : ShowsNoFault bytes ⊎ AreMarks bytes marks
   pub told_are : AreFindings bytes marks faults told

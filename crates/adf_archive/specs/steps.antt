@@ -1,0 +1,2 @@
+-- Definitions for steps: bytes that repeat a text.
+pub mod Periods
