@@ -1286,10 +1286,10 @@ class Damages:
         root, long = image.blocks // 2, image.header("long")
         for block in [root, image.long(root, 79), *self.entries(), image.long(long, 126), *image.pointers(long)[:2]]:
             for at in range(128):
-                for bit in ((13 * block + at) % 32, (7 * block + 5 * at + 16) % 32):
-                    other = Volume(self.good)
-                    other.put(block, at, image.long(block, at) ^ 1 << bit)
-                    yield self.flawed((block, at, bit), bytes(other.data), block)
+                bit = (13 * block + 7 * at) % 32
+                other = Volume(self.good)
+                other.put(block, at, image.long(block, at) ^ 1 << bit)
+                yield self.flawed((block, at, bit), bytes(other.data), block)
 
     def zeroed(self) -> Iterator[Flawed]:
         """Each block behind the boot blocks becomes zeros."""
@@ -1312,7 +1312,7 @@ def damages(room: Room) -> None:
         tried.all_true(f"salvage {said}: {DAMAGED} volumes with a few changed bytes behind the boot blocks", tried.changed(2 * BLOCK, DAMAGED), untrue)
         tried.all_true(f"serve {said}: {DAMAGED // 5} volumes with a few changed bytes", tried.changed(0, DAMAGED // 5), mistaken)
         tried.all_true(f"salvage {said}: each long that is another", tried.swept(), untrue)
-        tried.all_true(f"salvage {said}: two bits in each long, one at a time", tried.flipped(), silent)
+        tried.all_true(f"salvage {said}: a bit in each long", tried.flipped(), silent)
         tried.all_true(f"salvage {said}: each block of zeros", tried.zeroed(), silent)
 
 
