@@ -114,14 +114,10 @@ class Round:
         return {last_name(it) for found in self.edits.values() for it in found}
 
     @property
-    def asked(self) -> list[list[str]]:
-        """What the prover is asked for: the changed functions, or if a name fits several, their types and modules; and for an edit that
-        changes more than bodies the modules of its files."""
-        functions = sorted({it for found in self.edits.values() for it in found})
-        if functions:
-            return [functions, sorted({it.rpartition("::")[0] for it in functions})]
-        modules = sorted(module_of(it) for it in self.texts if it.startswith("src/"))
-        return [modules] if modules else []
+    def asked(self) -> set[str]:
+        """What the prover is asked for: the changed functions, or for an edit that changes more than bodies the modules of its files."""
+        functions = {it for found in self.edits.values() for it in found}
+        return functions or {module_of(it) for it in self.texts if it.startswith("src/")}
 
     def take(self, edit: Path) -> bool:
         """Adds an edit that changes functions with other names than those before, and that fits beside these."""
