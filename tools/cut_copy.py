@@ -41,6 +41,27 @@ def copy_crates(names: list[str], to: Path) -> None:
         shutil.copy2(TOP / "tools" / tool, to / "tools")
 
 
+def link(file: str, to: str) -> None:
+    """Makes a link to a file, or a copy on another file system."""
+    try:
+        os.link(file, to)
+    except OSError:
+        shutil.copy2(file, to)
+
+
+def take_libraries(names: set[str], copy: Path) -> bool:
+    """Puts the libraries of these crates that `rt ci` built here into a copy of the crates. Returns whether they are those of the
+    sources there."""
+    for name in names:
+        made = TOP / "crates" / name / "out/rlib"
+        if not made.is_dir():
+            return False
+        shutil.copytree(made, copy / "crates" / name / "out/rlib", copy_function=link)
+    subprocess.run([str(copy / "tools/gate_libraries")], check=True)
+    ran = subprocess.run([str(copy / "tools/gate_libraries"), "current"], check=True, stdout=subprocess.PIPE, text=True)
+    return names <= {*ran.stdout.split()}
+
+
 def all_proved(names: set[str], said: Path, during: Path) -> bool:
     """Waits until these crates are proved. Returns false if `rt ci`, or what started this script, ends before."""
     parent, goes_on = os.getppid(), True
