@@ -1,4 +1,5 @@
-"""Edits: wrong bodies of functions, which the prover must refuse. An edit is a file with lines 'file:', 'old:' and 'new:'."""
+"""Edits: wrong bodies of functions, which the prover must refuse. An edit is a file with lines 'file:', 'old:' and 'new:'. A line
+'refused:' names the function that the prover must refuse, if that is a caller of the changed one."""
 from __future__ import annotations
 
 import re
@@ -90,6 +91,11 @@ def functions_of(edit: Path) -> set[str]:
     return found
 
 
+def refused_of(edit: Path) -> set[str]:
+    """Returns the functions one of which the prover must refuse: those that the edit names, or else those that it changes."""
+    return {*re.findall(r"(?m)^refused: (\S+)$", edit.read_text())} or functions_of(edit)
+
+
 def module_of(file: str) -> str:
     """Returns the path of the module of a file of src/."""
     return file.removeprefix("src/").removesuffix(".rt").replace("/", "::")
@@ -102,34 +108,34 @@ def last_name(path: str) -> str:
 
 @dataclass
 class Round:
-    """Edits of one crate that are made together, each with the functions that it changes; and the texts of the changed files. An edit
+    """Edits of one crate that are made together, each with the functions one of which must be refused; the names of these and of the
+    changed functions, without their modules, by which the prover's lines are told apart; and the texts of the changed files. An edit
     that changes more than bodies is alone."""
 
     edits: dict[Path, set[str]] = field(default_factory=dict)
+    names: set[str] = field(default_factory=set)
     texts: dict[str, str] = field(default_factory=dict)
 
     @property
-    def names(self) -> set[str]:
-        """The names of the changed functions, without their modules, by which the prover's lines are told apart."""
-        return {last_name(it) for found in self.edits.values() for it in found}
-
-    @property
     def asked(self) -> set[str]:
-        """What the prover is asked for: the changed functions, or for an edit that changes more than bodies the modules of its files."""
+        """What the prover is asked for: these functions, or if there are none the modules of the changed files."""
         functions = {it for found in self.edits.values() for it in found}
         return functions or {module_of(it) for it in self.texts if it.startswith("src/")}
 
     def take(self, edit: Path) -> bool:
         """Adds an edit that changes functions with other names than those before, and that fits beside these."""
-        texts, functions = dict(self.texts), functions_of(edit)
-        if self.edits and (not functions or not self.names or self.names & {*map(last_name, functions)}):
+        texts, changed, refused = dict(self.texts), functions_of(edit), refused_of(edit)
+        names = {*map(last_name, changed | refused)}
+        if self.edits and (not changed or not self.names or self.names & names):
             return False
         for file, old, new in replacements(edit):
             text = texts.get(file) or (crate_of(edit) / file).read_text()
             if text.count(old) != 1:
                 return False
             texts[file] = text.replace(old, new)
-        self.edits[edit], self.texts = functions, texts
+        self.edits[edit], self.texts = refused, texts
+        # (nothing fits beside one that changes more than bodies)
+        self.names |= names if changed else set()
         return True
 
 
