@@ -25,9 +25,11 @@ pub mod NameLemmas
 pub mod MarkLemmas
 pub mod ReachMoves
 pub mod Moves
+pub mod Ruling
 pub mod Shown
 pub mod Reached
 pub mod Headers
+pub mod Pointers
 pub mod Pointed
 pub mod SoundFile
 pub mod Linked

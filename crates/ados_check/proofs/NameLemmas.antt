@@ -1,17 +1,18 @@
 -- The text of a block's name, and why a text is not a name.
-use Rattle.std.proofs.Common.{◌≡◌, ℕ, ◌+◌, ◌-◌, ◌*◌, ◌<◌, ◌≤◌, ◌⊎◌, inl, inr, ◌==◌, ◌||◌, Bool, true, List, length, take, drop, Some, Contains, sym, ap, ap₂, ◌∙◌, subst, arith}
+use Rattle.std.proofs.Common.{◌≡◌, ℕ, ◌+◌, ◌-◌, ◌*◌, ◌<◌, ◌≤◌, ◌⊎◌, inl, inr, ◌==◌, ◌||◌, Bool, true, List, length, take, drop, Some, Contains, refl, sym, ap, ap₂, ◌∙◌, subst, arith}
 use Rattle.std.specs.List.{list_any}
 use Rattle.std.proofs.lemmas.Bool.{cases_Bool, eqb-true}
 use Rattle.std.proofs.lemmas.List.{length-take, length-drop, drop-drop, drop-take, take-take}
+use Rattle.std.proofs.lemmas.List.Elements.{All-contains}
 use Rattle.std.proofs.lemmas.List.Folds.{Any-from_list_any}
 use Rattle.adf_block.specs.Image.{byte_at, bytes_at, block_count}
 use Rattle.adf_block.specs.Whole.{text_at}
 use Rattle.adf_block.specs.declared.layout.TheConstants.{NAME_BYTE}
 use Rattle.ados_name.specs.declared.NameFault.{NameFault}
-use Rattle.ados_name.specs.Name.{IsName, is_separator}
+use Rattle.ados_name.specs.Name.{IsName, IsNameByte, is_separator}
 use Rattle.ados_name.specs.Fault.{first_fault}
-use Rattle.ados_model.specs.Faults.{HasName, HasBadName}
-use Rattle.ados_model.specs.Faults.HasBadName.{empty, slash, colon}
+use Rattle.ados_model.specs.Faults.{HasName, HasBadName, HasShortName}
+use Rattle.ados_model.specs.Faults.HasBadName.{empty, long_name, slash, colon}
 use Rattle.ados_check.specs.Marks.{HasValidName}
 
 -- the bytes after the length byte, read from a whole block
@@ -25,7 +26,7 @@ text_is image block len bytes e counted short =
     ∙ take-take len 79 (drop (512 * block + (432 + 1)) image) (omega arith)
     ∙ ap (λ (n : ℕ). take n (drop (512 * block + (432 + 1)) image)) counted
 
-length_text : (image : List ℕ) (block : ℕ) → block < block_count image → byte_at image block 432 ≤ 30 → length (text_at image block NAME_BYTE) ≡ byte_at image block 432
+pub length_text : (image : List ℕ) (block : ℕ) → block < block_count image → byte_at image block 432 ≤ 30 → length (text_at image block NAME_BYTE) ≡ byte_at image block 432
 unfolding bytes_at
 length_text image block inside short =
     omega (arith, length-take (byte_at image block 432) (drop (512 * block + (432 + 1)) image), length-drop (512 * block + (432 + 1)) image)
@@ -73,3 +74,11 @@ bad_name image block text fault inside short e named h =
         | inr found ↦ colon named (subst (λ (xs : List ℕ). Contains xs 58) e found)
       ]
     ]
+
+-- a name with nothing wrong
+module _ (image : List ℕ) (block : ℕ) (inside : block < block_count image) (short : HasShortName image block) (name : IsName (text_at image block NAME_BYTE)) where
+  pub no_bad_name : HasBadName image block → ⊥
+  no_bad_name (empty h e) = let n = valid_name image block inside short name in omega (arith, name.not_empty, n.text.counted, e)
+  no_bad_name (long_name h l) = omega (arith, short, l)
+  no_bad_name (slash h m) = (All-contains IsNameByte (text_at image block NAME_BYTE) 47 name.plain m).no_slash refl
+  no_bad_name (colon h m) = (All-contains IsNameByte (text_at image block NAME_BYTE) 58 name.plain m).no_colon refl

@@ -7,6 +7,7 @@ pub mod Kept
 pub mod Keeping
 pub mod Pieces
 pub mod PlacesTold
+pub mod Rules
 pub mod Entries
 pub mod Answer
 pub mod BitmapTold

@@ -15,10 +15,13 @@ mod source;
 mod laws;
 mod mark;
 
+// The rules of a block by itself.
+mod naming;
+mod rules;
+
 // The walk from the root.
 mod file_system;
 mod looks;
-mod naming;
 mod places;
 mod reaching;
 
@@ -44,6 +47,10 @@ pub use mark::Mark;
 pub use places::place_role;
 pub use reaching::reach;
 pub use room::whole_pages;
+pub use rules::{
+    FIELD_RULES, FieldRule, POINTER_RULES, first_pointer, has_bad_field, has_bad_sum, has_bad_type,
+    has_entry_type, has_link_type, has_no_type,
+};
 pub use sketch::Sketch;
 pub use sketched::accepted_kind;
 pub use sound::check_sound;

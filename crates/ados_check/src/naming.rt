@@ -1,30 +1,76 @@
-//! The name of a root or entry.
-ghost use Rattle.std.specs.Prelude.{◌≡◌, ◌<◌, MatchResult};
+//! The name of a root or entry, valid or not.
+ghost use Rattle.std.specs.Prelude.{◌≡◌, ◌↔◌, ◌<◌, ◌≤◌, IsTrue, length};
 ghost use Rattle.adf_block.specs.Image.{block_count};
 ghost use Rattle.adf_block.specs.Whole.{text_at};
-ghost use Rattle.ados_model.specs.Faults.{HasName, Shows};
-ghost use Rattle.ados_check.specs.Marks.{HasValidName};
+ghost use Rattle.ados_name.specs.Name.{hash};
+ghost use Rattle.ados_model.specs.Faults.{HasBadName, HasName, HasShortName};
 ghost use Rattle.ados_check.specs.PlacesTold.{TellsAll};
+ghost use Rattle.ados_check.specs.Rules.{IsOfOtherSlot};
 
 use crate::source::Source;
-use adf_block::layout::NAME_BYTE;
-use ados_model::FaultKind;
-use ados_name::Name;
+use adf_block::layout::{NAME_BYTE, TABLE_LONGS};
+use ados_name::{Name, upper};
 
-/// The name of a root or entry, or `BadName`.
-pub(crate) fn name_of(source: &Source<'_>, block: u32) -> Result<Name, FaultKind>
+/// Whether the name is not valid.
+pub(crate) fn has_bad_name(source: &Source<'_>, block: u32) -> bool
     requires inside { block < block_count source.now.bytes }
     requires named { HasName source.now.bytes block }
     requires told { TellsAll source.now block }
-    ensures { MatchResult result (λ name. HasValidName source.now.bytes block × (name ≡ text_at source.now.bytes block NAME_BYTE)) (λ kind. Shows source.now.bytes kind block) }
+    ensures { IsTrue result ↔ HasBadName source.now.bytes block }
+{
+    if !has_short_name(source, block) {
+        return true;
+    }
+    match Name::new(short_text(source, block)) {
+        Ok(_) => false,
+        Err(_) => true,
+    }
+}
+
+/// Whether the length of the name is at most 30.
+pub fn has_short_name(source: &Source<'_>, block: u32) -> bool
+    requires inside { block < block_count source.now.bytes }
+    requires told { TellsAll source.now block }
+    ensures { IsTrue result ↔ HasShortName source.now.bytes block }
+{
+    usize::from(source.byte(block, NAME_BYTE)) <= Name::MAX_LEN
+}
+
+/// The bytes of a name of at most 30 bytes.
+fn short_text<'b>(source: &'b Source<'_>, block: u32) -> &'b [u8]
+    requires inside { block < block_count source.now.bytes }
+    requires told { TellsAll source.now block }
+    requires short { HasShortName source.now.bytes block }
+    ensures text { result.now ≡ text_at source.now.bytes block NAME_BYTE }
+    ensures short { HasShortName source.now.bytes block }
+    ensures few { length result.now ≤ 30 }
 {
     let length = usize::from(source.byte(block, NAME_BYTE));
-    if length > Name::MAX_LEN {
-        return Err(FaultKind::BadName);
-    }
     let start = NAME_BYTE as usize + 1;
-    match Name::new(&source.block(block)[start..start + length]) {
-        Ok(name) => Ok(name),
-        Err(_) => Err(FaultKind::BadName),
+    &source.block(block)[start..start + length]
+}
+
+/// Whether the entry is in the hash chain of another slot than its name's.
+pub(crate) fn is_of_other_slot(source: &Source<'_>, block: u32, chain: u32) -> bool
+    requires inside { block < block_count source.now.bytes }
+    requires told { TellsAll source.now block }
+    ensures { IsTrue result ↔ IsOfOtherSlot source.now.bytes block chain }
+{
+    if !has_short_name(source, block) {
+        return false;
     }
+    hash_of(short_text(source, block)) % TABLE_LONGS != chain
+}
+
+/// The hash of a name, valid or not.
+#[tactic(auto, unfolding(ados_name::specs::Name::hash))]
+fn hash_of(text: &[u8]) -> u32
+    requires { length text.now ≤ 30 }
+    ensures { result ≡ hash text.now }
+{
+    let mut hash = text.len() as u32;
+    for byte in text {
+        hash = (13 * hash + upper(*byte) as u32) % 2048;
+    }
+    hash
 }

@@ -4,7 +4,6 @@ pub mod Insides
 pub mod Doubles
 pub mod Closing
 pub mod Linking
-pub mod Pointers
 pub mod Sameness
 pub mod Freed
 pub mod Above
@@ -13,6 +12,5 @@ pub mod OtherKinds
 pub mod Told
 pub mod Looking
 pub mod Each
-pub mod RightNames
 pub mod SameBlocks
 pub mod FileNotes

@@ -6,11 +6,10 @@ ghost use Rattle.ados_model.specs.Faults.{InImage};
 ghost use Rattle.ados_faults.specs.Values.{HasFields, balance, checksum_long, extensions_to, full_count, is_extension, next_data, only_at, place_in_file, pointed_by, right_at, right_count, right_key, right_link, right_parent, right_sequence, right_type};
 
 use crate::bits::is_inside;
-use crate::looks::first_pointer;
 use crate::marked::mark_at;
 use adf_block::Image;
 use adf_block::layout::*;
-use ados_check::Mark;
+use ados_check::{Mark, Source, first_pointer};
 use ados_model::{FaultKind, Role, VolumeFault};
 
 /// The one right value of long `i` of a fault's block, in the role of its mark.
@@ -115,7 +114,7 @@ fn right_link(image: &Image, mark: Mark, block: u32, i: u32) -> Option<u32>
             if image.byte(0, KIND_BYTE) != 0 || image.long(block, SECONDARY_TYPE) != FILE_TYPE {
                 return None;
             }
-            only_at(NEXT_DATA, first_pointer(image, block), i)
+            only_at(NEXT_DATA, first_pointer(&Source::whole(image), block), i)
         }
         Role::Data(_) => only_at(NEXT_DATA, next_data(image, mark).unwrap_or(0), i),
         Role::Root | Role::Page | Role::Extension(_) => None,

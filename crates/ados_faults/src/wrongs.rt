@@ -10,7 +10,7 @@ ghost use Rattle.ados_faults.specs.Values.{HasLink, HasRightCount, HasSeparator,
 use crate::bits::is_inside;
 use adf_block::Image;
 use adf_block::layout::*;
-use ados_check::{Source, place_role};
+use ados_check::{Source, has_entry_type, has_link_type, has_no_type, place_role};
 use ados_model::{FaultKind, Role, VolumeFault};
 
 /// Whether long `i` of a fault's block in a role has none of several right values.
@@ -37,29 +37,9 @@ fn has_wrong_type(image: &Image, role: Role, block: u32, i: u32) -> bool
     ensures { IsTrue result ↔ HasWrongType image.now role block i }
 {
     match role {
-        Role::Entry(_, _) => {
-            i == SECONDARY_TYPE && !has_entry_type(image, block) && !has_link_type(image, block)
-        }
+        Role::Entry(_, _) => { i == SECONDARY_TYPE && has_no_type(&Source::whole(image), block) }
         Role::Root | Role::Page | Role::Data(_) | Role::Extension(_) => false,
     }
-}
-
-/// Whether the header is that of a directory or a file.
-fn has_entry_type(image: &Image, block: u32) -> bool
-    requires { block < block_count image.now }
-    ensures { IsTrue result ↔ HasEntryType image.now block }
-{
-    let kind = image.long(block, SECONDARY_TYPE);
-    kind == DIRECTORY_TYPE || kind == FILE_TYPE
-}
-
-/// Whether the header is that of a link.
-fn has_link_type(image: &Image, block: u32) -> bool
-    requires { block < block_count image.now }
-    ensures { IsTrue result ↔ HasLinkType image.now block }
-{
-    let kind = image.long(block, SECONDARY_TYPE);
-    kind == SOFT_LINK_TYPE || kind == DIRECTORY_LINK_TYPE || kind == FILE_LINK_TYPE
 }
 
 /// Whether the long is the secondary type of an entry, and that of a link.
@@ -68,7 +48,7 @@ fn has_link(image: &Image, role: Role, block: u32, i: u32) -> bool
     ensures { IsTrue result ↔ HasLink image.now role block i }
 {
     match role {
-        Role::Entry(_, _) => i == SECONDARY_TYPE && has_link_type(image, block),
+        Role::Entry(_, _) => i == SECONDARY_TYPE && has_link_type(&Source::whole(image), block),
         Role::Root | Role::Page | Role::Data(_) | Role::Extension(_) => false,
     }
 }
@@ -163,7 +143,7 @@ fn has_wrong_comment(image: &Image, role: Role, block: u32, i: u32) -> bool
     match role {
         Role::Entry(_, _) => {
             i == COMMENT_BYTE / 4
-                && has_entry_type(image, block)
+                && has_entry_type(&Source::whole(image), block)
                 && image.byte(block, COMMENT_BYTE) > 79
         }
         Role::Root | Role::Page | Role::Data(_) | Role::Extension(_) => false,

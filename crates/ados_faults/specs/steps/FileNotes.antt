@@ -1,25 +1,14 @@
 -- What the header, extension and data blocks of files show, noted.
 use Rattle.std.specs.Prelude.{◌≡◌, ◌≢◌, ℕ, ◌+◌, ◌<◌, List, Bool, true, false, length, slice_get, slice_index, slice_index_or, sum_by, All, Some}
-use Rattle.adf_block.specs.Image.{long}
-use Rattle.adf_block.specs.Fields.{file_size, held_count, pointer_count, sequence_number}
-use Rattle.adf_block.specs.declared.layout.TheConstants.{NEXT_DATA, OFS_ROOM, TABLE_LONGS}
+use Rattle.adf_block.specs.Fields.{file_size, held_count, sequence_number}
+use Rattle.adf_block.specs.declared.layout.TheConstants.{OFS_ROOM}
 use Rattle.ados_model.specs.declared.fault.FaultKind.TheVariants.{BadCount, BadPointer, BadSequence}
 use Rattle.ados_model.specs.declared.role.Role.TheVariants.{Entry}
-use Rattle.ados_model.specs.Faults.{AreDataBlocks, HasFileType, InImage, IsContinued, IsOfs, LinksOn, count_of_size, pointers_of}
+use Rattle.ados_model.specs.Faults.{AreDataBlocks, HasFileType, InImage, IsOfs, LinksOn, count_of_size}
 use Rattle.ados_faults.specs.declared.walk.Step.{Step}
 use Rattle.ados_faults.specs.steps.Chain.{HoldsTooLittle}
 use Rattle.ados_faults.specs.steps.Noted.{IsNoted, cell_of}
 use Rattle.ados_faults.specs.steps.Walked.{step_of}
-
--- a number of pointers that is more than 72, or less in a block that another one follows, is noted
-pub record IsCountNoted (image : List ℕ) (cells : List Bool) (block : ℕ) : Type 0 where
-  pub over : TABLE_LONGS < pointer_count image block → IsNoted cells (cell_of BadCount block)
-  pub not_full : pointer_count image block < TABLE_LONGS → IsContinued image block → IsNoted cells (cell_of BadCount block)
-
--- a wrong number of pointers in a file's header is noted, and in OFS a wrong link to its first data block
-pub record IsHeaderNoted (image : List ℕ) (cells : List Bool) (block : ℕ) : Type 0 where
-  pub counts : IsCountNoted image cells block
-  pub first : IsOfs image → long image block NEXT_DATA ≢ slice_index (pointers_of image block) 0 → IsNoted cells (cell_of BadPointer block)
 
 -- what the data block at position i of a file shows there is noted
 pub record IsPlaceNoted (image : List ℕ) (cells : List Bool) (blocks : List ℕ) (i block : ℕ) : Type 0 where

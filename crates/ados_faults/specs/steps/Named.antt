@@ -8,18 +8,10 @@ use Rattle.ados_model.specs.declared.fault.FaultKind.TheVariants.{DuplicateName}
 use Rattle.ados_faults.specs.declared.walk.Step.{Step}
 use Rattle.ados_faults.specs.steps.Noted.{IsNoted, cell_of}
 use Rattle.ados_faults.specs.steps.Walked.{IsListed, step_of}
-use Rattle.adf_block.specs.Whole.{text_at}
-use Rattle.adf_block.specs.declared.layout.TheConstants.{NAME_BYTE}
-use Rattle.ados_name.specs.Name.{slot}
 use Rattle.ados_model.specs.declared.role.Role.TheVariants.{Entry}
 use Rattle.ados_model.specs.Faults.{HasShortName, InImage, Reached}
 use Rattle.ados_check.specs.Entries.{upper_name}
 use Rattle.ados_faults.specs.declared.names.EntryName.{EntryName}
-
--- the name is short enough, and has another slot than this chain
-pub record IsOfOtherSlot (image : List ℕ) (block chain : ℕ) : Type 0 where
-  pub short : HasShortName image block
-  pub wrong : slot (text_at image block NAME_BYTE) ≢ chain
 
 -- the block is an entry of the directory, with this name
 pub record IsEntryName (image : List ℕ) (entry : EntryName) (block : ℕ) : Type 0 where

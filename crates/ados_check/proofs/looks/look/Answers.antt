@@ -1,9 +1,20 @@
-use Rattle.std.proofs.Common.{subst}
-use Rattle.ados_model.specs.declared.role.Role.{Role}
-use Rattle.ados_model.specs.Faults.{Reached}
-use Rattle.ados_check.proofs.ReachLemmas.{reached_root}
+use Rattle.std.proofs.Common.{arith, get_or, refl, subst, sym}
+use Rattle.ados_model.specs.declared.fault.FaultKind.{FaultKind}
+use Rattle.ados_model.specs.Faults.{Shows}
+use Rattle.ados_check.specs.declared.rules.FieldRule.TheVariants.{NoLink}
+use Rattle.ados_check.specs.declared.rules.TheConstants.{FIELD_RULES}
+use Rattle.ados_check.proofs.Ruling.{field_shows, sound, type_shows}
 use Rattle.ados_check.proofs.looks.look.Goals as goal
 
-pub look_root-requires-clause-root : goal.look_root-requires-clause-root
-look_root-requires-clause-root c =
-    reached_root c.args.source.now.bytes c.args.block (subst (λ (r : Role). Reached c.args.source.now.bytes c.args.block r) c.in-Root.is c.requires.reached)
+pub returns-then-has_bad_type : goal.returns-then-has_bad_type
+returns-then-has_bad_type c = type_shows c.args.source.now.bytes c.args.block c.args.role c.requires.reached (c.if-has_bad_type.ensures.0 refl)
+
+pub returns-then-has_bad_field : goal.returns-then-has_bad_field
+returns-then-has_bad_field c =
+    subst (λ (kind : FaultKind). Shows c.args.source.now.bytes kind c.args.block) (sym c.kind.ensures)
+    (field_shows c.args.source.now.bytes c.args.block c.args.role (get_or FIELD_RULES c.loop-rule.rule-index NoLink) c.requires.reached (c.if-has_bad_field.ensures.0 refl))
+
+pub returns : goal.returns
+returns c =
+    sound c.args.source.now.bytes c.args.block c.blocks-2.ensures.image c.requires.inside c.args.role c.requires.reached (λ b. let t = c.if-has_bad_sum.ensures.1 b in cc t) (λ b. let t = c.if-has_bad_type.ensures.1 b in cc t)
+    (λ k e l. c.loop-rule.invariant k e (omega (arith, l, c.loop-rule-test.false)))

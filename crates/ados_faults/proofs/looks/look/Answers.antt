@@ -1,9 +1,28 @@
-use Rattle.std.proofs.Common.{subst}
-use Rattle.ados_model.specs.declared.role.Role.{Role}
-use Rattle.ados_model.specs.Faults.{Reached}
-use Rattle.ados_check.proofs.ReachLemmas.{reached_root}
+use Rattle.std.proofs.Common.{sym, subst}
+use Rattle.std.proofs.lemmas.List.Elements.{All-weaker}
+use Rattle.ados_check.specs.Rules.{HasBadSumAs, HasBadTypeAs}
+use Rattle.ados_check.specs.Source.{SourceView}
+use Rattle.ados_check.specs.declared.rules.TheConstants.{FIELD_RULES}
+use Rattle.ados_check.proofs.Ruling.{type_shows}
+use Rattle.ados_faults.specs.steps.Looks.{IsFieldNoted}
+use Rattle.ados_faults.proofs.Cells.{noted_on}
+use Rattle.ados_faults.proofs.Looking.{fields_noted}
 use Rattle.ados_faults.proofs.looks.look.Goals as goal
 
-pub look_root-requires-clause-root : goal.look_root-requires-clause-root
-look_root-requires-clause-root c =
-    reached_root c.args.image.now c.args.block (subst (λ (r : Role). Reached c.args.image.now c.args.block r) c.in-Root.is c.requires.reached)
+pub note_if-requires-2-clause-shown : goal.note_if-requires-2-clause-shown
+note_if-requires-2-clause-shown c = λ w.
+    type_shows c.args.image.now c.args.block c.args.role c.requires.reached
+    (subst (λ (s : SourceView). HasBadTypeAs s.bytes c.args.block c.args.role) c.whole-source.ensures (c.has_bad_type-types.ensures.0 w))
+
+pub returns-clause-whole : goal.returns-clause-whole
+returns-clause-whole c =
+    let s4 = c.look_at_fields-2.ensures.stays in
+    let s3 = noted_on c.look_at_fields.ensures.stays s4 in
+    let s2 = noted_on c.note_if-2.ensures.stays s3 in
+    let early = IsFieldNoted c.args.image.now c.look_at_fields.new.notes.cells.items c.args.block c.args.role in
+    let last = IsFieldNoted c.args.image.now c.look_at_fields-2.new.notes.cells.items c.args.block c.args.role in
+    record {
+      sum = λ h. s2.stay _ (c.note_if.ensures.set (c.has_bad_sum-sum.ensures.1 (subst (λ (s : SourceView). HasBadSumAs s.bytes c.args.block c.args.role) (sym c.whole-source.ensures) h)));
+      types = λ h. s3.stay _ (c.note_if-2.ensures.set (c.has_bad_type-types.ensures.1 (subst (λ (s : SourceView). HasBadTypeAs s.bytes c.args.block c.args.role) (sym c.whole-source.ensures) h)));
+      fields = fields_noted c.args.image.now c.look_at_fields-2.new.notes.cells.items c.args.block c.args.role (All-weaker early last (λ rule is bad. s4.stay _ (is bad)) FIELD_RULES c.look_at_fields.ensures.fields) c.look_at_fields-2.ensures.fields;
+    }

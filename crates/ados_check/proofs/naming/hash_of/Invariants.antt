@@ -1,6 +1,6 @@
 use Rattle.std.proofs.Common.{◌≡◌, ◌<◌, ◌+◌, ◌*◌, ◌%◌, length, take, fold}
 use Rattle.ados_name.specs.Name.{upper}
-use Rattle.ados_faults.proofs.name_bytes.hash_of.Given as goal
+use Rattle.ados_check.proofs.naming.hash_of.Given as goal
 
 abbrev pub invariant-loop-byte : goal.invariant-loop-byte
 invariant-loop-byte l = record {
