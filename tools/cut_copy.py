@@ -56,7 +56,9 @@ def take_libraries(names: set[str], copy: Path) -> bool:
         made = TOP / "crates" / name / "out/rlib"
         if not made.is_dir():
             return False
-        shutil.copytree(made, copy / "crates" / name / "out/rlib", copy_function=link)
+        to = copy / "crates" / name / "out/rlib"
+        shutil.rmtree(to, ignore_errors=True)
+        shutil.copytree(made, to, copy_function=link)
     subprocess.run([str(copy / "tools/gate_libraries")], check=True)
     ran = subprocess.run([str(copy / "tools/gate_libraries"), "current"], check=True, stdout=subprocess.PIPE, text=True)
     return names <= {*ran.stdout.split()}
