@@ -9,7 +9,8 @@ use Rattle.adf_block.specs.Whole.{free_bit_count}
 use Rattle.ados_model.specs.Tree.{block_cost, extension_count}
 use Rattle.ados_model.specs.File.{data_blocks, extension_blocks, contents}
 use Rattle.ados_data.specs.Changing.{WritableFile}
-use Rattle.ados_data.specs.Others.{Gains, LeavesOthers}
+use Rattle.ados_data.specs.Others.{LeavesOthers}
+use Rattle.ados_data.specs.Growth.{GrowsFile}
 use Rattle.ados_change.proofs.Relaid.{ComesFrom, GoesTo, IsRewritten}
 use Rattle.ados_change.proofs.Taken.{taken_is_got}
 use Rattle.ados_data.proofs.Grown.{front_at, front_length}
@@ -56,32 +57,28 @@ more_to : (new xs ys : List ℕ) → take (length xs) ys ≡ xs → (i : ℕ) �
 more_to new xs ys e i l =
     inl (omega (arith, l, ap length e, length-take (length xs) ys), front_at xs ys e i l)
 
-pub of_gains : (old new : List ℕ) (file : ℕ) → WritableFile old file → WritableFile new file → format_of new ≡ format_of old → LeavesOthers old file new
-    → Gains old file (data_blocks old file) (extension_blocks old file) new (data_blocks new file) (extension_blocks new file)
-    → take (length (data_blocks old file)) (data_blocks new file) ≡ data_blocks old file → take (length (extension_blocks old file)) (extension_blocks new file) ≡ extension_blocks old file
-    → free_bit_count new + block_cost (format_of old) (length (contents new file)) ≡ free_bit_count old + block_cost (format_of old) (length (contents old file))
-    → IsRewritten old file (data_blocks old file) (extension_blocks old file) new (data_blocks new file) (extension_blocks new file) (contents new file)
-of_gains old new file was writable format leaves gains blocks lists balance = record {
-  writable = writable;
-  format = format;
-  leaves = leaves;
-  data_from = λ i l. more_from old (data_blocks old file) (data_blocks new file) blocks i (gains.data_blocks_of i l);
+pub of_gains : {old new : List ℕ} {file size : ℕ} → WritableFile old file → GrowsFile old file size new → IsRewritten old file (data_blocks old file) (extension_blocks old file) new (data_blocks new file) (extension_blocks new file) (contents new file)
+of_gains {old} {new} {file} was g = record {
+  writable = g.writable;
+  format = g.format;
+  leaves = g.leaves;
+  data_from = λ i l. more_from old (data_blocks old file) (data_blocks new file) g.blocks i (g.gains.data_blocks_of i l);
   extensions_from = extension_from;
-  data_to = more_to new (data_blocks old file) (data_blocks new file) blocks;
-  extensions_to = more_to new (extension_blocks old file) (extension_blocks new file) lists;
-  taken = taken_is_got old new file (data_blocks old file) (extension_blocks old file) (data_blocks new file) (extension_blocks new file) (contents new file) writable gains
-      (ap (λ (n : ℕ). n / 512) leaves.same_length)
-      (front_length (data_blocks old file) (data_blocks new file) blocks) (front_length (extension_blocks old file) (extension_blocks new file) lists)
+  data_to = more_to new (data_blocks old file) (data_blocks new file) g.blocks;
+  extensions_to = more_to new (extension_blocks old file) (extension_blocks new file) g.extensions;
+  taken = taken_is_got old new file (data_blocks old file) (extension_blocks old file) (data_blocks new file) (extension_blocks new file) (contents new file) g.writable g.gains
+      (ap (λ (n : ℕ). n / 512) g.leaves.same_length)
+      (front_length (data_blocks old file) (data_blocks new file) g.blocks) (front_length (extension_blocks old file) (extension_blocks new file) g.extensions)
       data_new extensions_new costs
       (let inside = was.lawful.places.headers_inside 0 (omega arith) in omega (arith, inside.0, inside.1));
 }
   where
     extension_from : (q : ℕ) → q < length (extension_blocks new file) → ComesFrom old (extension_blocks old file) (extension_blocks new file) q
     extension_from q l =
-        more_from old (extension_blocks old file) (extension_blocks new file) lists q (elim (gains.headers (suc q) (omega arith)) [ inl same ↦ inl (omega (arith, same.0), same.1) | inr free ↦ inr free ])
+        more_from old (extension_blocks old file) (extension_blocks new file) g.extensions q (elim (g.gains.headers (suc q) (omega arith)) [ inl same ↦ inl (omega (arith, same.0), same.1) | inr free ↦ inr free ])
 
     data_new : (i : ℕ) → length (data_blocks old file) ≤ i → i < length (data_blocks new file) → has_free_bit old (slice_index (data_blocks new file) i) ≡ true
-    data_new i l m = elim (gains.data_blocks_of i m) [ inl same ↦ absurd (omega (arith, l, same.0)) | inr free ↦ free.1 ]
+    data_new i l m = elim (g.gains.data_blocks_of i m) [ inl same ↦ absurd (omega (arith, l, same.0)) | inr free ↦ free.1 ]
 
     extensions_new : (q : ℕ) → length (extension_blocks old file) ≤ q → q < length (extension_blocks new file) → has_free_bit old (slice_index (extension_blocks new file) q) ≡ true
     extensions_new q l m = elim (extension_from q m) [ inl same ↦ absurd (omega (arith, l, same.0)) | inr free ↦ free.1 ]
@@ -91,6 +88,6 @@ of_gains old new file was writable format leaves gains blocks lists balance = re
 
     costs : free_bit_count new + (length (data_blocks new file) + length (extension_blocks new file)) ≡ free_bit_count old + (length (data_blocks old file) + length (extension_blocks old file))
     costs =
-        let after : block_cost (format_of old) (length (contents new file)) ≡ length (data_blocks new file) + length (extension_blocks new file) = ap (λ (f : Format). block_cost f (length (contents new file))) (sym format) ∙ cost_of new writable in
+        let after : block_cost (format_of old) (length (contents new file)) ≡ length (data_blocks new file) + length (extension_blocks new file) = ap (λ (f : Format). block_cost f (length (contents new file))) (sym g.format) ∙ cost_of new g.writable in
         let before = cost_of old was in
-        ap (λ (n : ℕ). free_bit_count new + n) (sym after) ∙ balance ∙ ap (λ (n : ℕ). free_bit_count old + n) before
+        ap (λ (n : ℕ). free_bit_count new + n) (sym after) ∙ ap (λ (n : ℕ). free_bit_count new + block_cost (format_of old) n) g.sized ∙ g.free ∙ ap (λ (n : ℕ). free_bit_count old + n) before

@@ -1,5 +1,5 @@
 -- One more data block: first with room for its pointer, then attached, then with the new size.
-use Rattle.std.proofs.Common.{◌≡◌, ◌≢◌, ℕ, suc, ◌+◌, ◌-◌, ◌*◌, ◌/◌, ◌%◌, ◌<◌, ◌≤◌, ◌⊎◌, inl, inr, List, [], ◌∷◌, ◌++◌, length, replicate, take, slice_index, refl, sym, ap, ◌∙◌, subst, arith}
+use Rattle.std.proofs.Common.{◌≡◌, ◌≢◌, ℕ, suc, ◌+◌, ◌-◌, ◌*◌, ◌/◌, ◌%◌, ◌<◌, ◌≤◌, ◌⊎◌, inl, inr, List, [], ◌∷◌, ◌++◌, length, replicate, take, slice_index, refl, sym, ap, ap₂, ◌∙◌, subst, arith}
 use Rattle.std.proofs.lemmas.Bool.{cases_lt, cases_eq}
 use Rattle.std.proofs.lemmas.List.{length_push}
 use Rattle.adf_block.specs.declared.layout.Format.{Format}
@@ -7,7 +7,7 @@ use Rattle.adf_block.specs.declared.layout.Format.TheVariants.{Ofs}
 use Rattle.adf_block.specs.Image.{byte_at, block_count, IsInside}
 use Rattle.adf_block.specs.Whole.{IsSize, free_bit_count}
 use Rattle.adf_block.specs.Fields.{format_of}
-use Rattle.ados_model.specs.Tree.{data_count, extension_count, data_size, data_start}
+use Rattle.ados_model.specs.Tree.{block_cost, data_count, extension_count, data_size, data_start}
 use Rattle.ados_model.specs.File.{file_byte, data_blocks, extension_blocks, contents}
 use Rattle.ados_data.specs.Changing.{IsInUse, IsWritable}
 use Rattle.ados_data.specs.steps.Blocks.{IsNewBlock, IsExtended, IsLengthened, IsResized}
@@ -15,13 +15,15 @@ use Rattle.std.proofs.lemmas.List.{length-append, length-replicate, get_or-repli
 use Rattle.ados_data.specs.declared.grow.End.{End}
 use Rattle.ados_data.specs.Changing.{WritableFile}
 use Rattle.ados_data.specs.steps.FileEnd.{IsEnd}
-use Rattle.ados_data.proofs.Sizes.{one_more_block, below_count, at_count, in_block, behind_start}
+use Rattle.ados_data.proofs.Sizes.{one_more_block, one_more_cost, below_count, at_count, in_block, behind_start}
 use Rattle.ados_data.proofs.Spelled.{data_blocks_are, extension_blocks_are, contents_are}
 use Rattle.ados_data.proofs.Lists.{head_pushed_before, head_pushed_last, pushed_before, pushed_last}
 use Rattle.std.proofs.lemmas.List.{take_all, take_at}
 use Rattle.ados_data.specs.steps.Blocks.{HasPointerRoom}
-use Rattle.ados_data.proofs.Standing.{Standing, standing_of, writable_of, writable_file, stands_beside_new, new_inside, new_in_use, header_beside_new, data_beside_new, untouched_new, same_blocks}
-use Rattle.ados_data.specs.Others.{Leaves, LeavesOthers, Gains}
+use Rattle.ados_data.proofs.Standing.{Standing, standing_of, writable_of, stands_beside_new, new_inside, new_in_use, header_beside_new, data_beside_new, untouched_new, same_blocks}
+use Rattle.ados_data.specs.Others.{Leaves, Gains}
+use Rattle.ados_data.specs.Growth.{GrowsFile}
+use Rattle.ados_data.proofs.Composing.{grows_to}
 use Rattle.ados_data.proofs.Leaving.{leaves_same, leaves_both, leaves_taken, leaves_extended, leaves_longer, leaves_resized, beside_gains, gains_same, gains_both, gains_taken, gains_kept}
 use Rattle.ados_data.proofs.Growing.{extended_marks, longer_marks, stands_extended, stands_longer, extended_byte, extended_count, longer_count, longer_byte, longer_new_byte}
 use Rattle.ados_data.proofs.Resizing.{stands_resized, resized_byte, resized_count, resized_marks}
@@ -317,16 +319,9 @@ module _ (i0 : List ℕ) (format : Format) (file : ℕ) (end : End) (w : Writabl
 
 -- the whole contract of the call
 pub record IsAppended (old : List ℕ) (format : Format) (file : ℕ) (end : End) (size : ℕ) (holder b : ℕ) (new : List ℕ) : Type 0 where
-  pub writable : WritableFile new file
-  pub same_format : format_of new ≡ format
+  pub grown : GrowsFile old file size new
   pub end_is : IsEnd new file (record { count = end.count + 1; holder = holder; last = b })
   pub bytes : contents new file ≡ contents old file ++ replicate (size - length (contents old file)) 0
-  pub free : free_bit_count new + 1 + (end.count / 72 - (end.count - 1) / 72) ≡ free_bit_count old
-  pub leaves : LeavesOthers old file new
-  pub gains : Gains old file (data_blocks old file) (extension_blocks old file) new (data_blocks new file) (extension_blocks new file)
-  pub blocks : take (length (data_blocks old file)) (data_blocks new file) ≡ data_blocks old file
-  pub extensions : take (length (extension_blocks old file)) (extension_blocks new file) ≡ extension_blocks old file
-  pub keeps : KeepsUnnamed old file (data_blocks old file) (extension_blocks old file) new (data_blocks new file) (extension_blocks new file)
 
 module _ (i0 : List ℕ) (format : Format) (file : ℕ) (end : End) (w : WritableFile i0 file) (ok : IsSize (block_count i0)) (f : format ≡ format_of i0) (e : IsEnd i0 file end)
     (size : ℕ) (i1 i2 i3 i4 : List ℕ) (holder b : ℕ) (h : HasPointerRoom i0 file end.holder end.count holder i1) (n : IsNewBlock i1 b i2) (x : IsLengthened i2 format file holder end.last end.count b i3) (y : IsResized i3 format file holder b (end.count + 1) size i4)
@@ -344,21 +339,11 @@ module _ (i0 : List ℕ) (format : Format) (file : ℕ) (end : End) (w : Writabl
   pub appended_call : IsAppended i0 format file end size holder b i4
   appended_call =
       let written = writable_new i0 format file end w ok f e size holder b i4 result full over within in
-      let bl = data_blocks_are i4 file (data_blocks i0 file ++ b ∷ []) result.extensions (contents i0 file ++ replicate (size - length (contents i0 file)) 0) written.lawful in
-      let ex = extension_blocks_are i4 file (data_blocks i0 file ++ b ∷ []) result.extensions (contents i0 file ++ replicate (size - length (contents i0 file)) 0) written.lawful in
       record {
-        writable = writable_file i4 file (data_blocks i0 file ++ b ∷ []) result.extensions (contents i0 file ++ replicate (size - length (contents i0 file)) 0) written;
-        same_format = result.stands.format_is;
+        grown = grows_to i0 i4 file size (data_blocks i0 file ++ b ∷ []) result.extensions (contents i0 file ++ replicate (size - length (contents i0 file)) 0) written
+            (size_is i0 format file end w ok f e size holder b i4 result full over within) (omega (arith, full, over)) (result.stands.format_is ∙ f)
+            (omega (arith, result.count, e.counted, one_more_cost format end.count size over within, ap (λ (t : Format). block_cost t size) f, ap₂ block_cost f (sym full)))
+            result.leaves result.gains (take_at (data_blocks i0 file) (b ∷ []) (length (data_blocks i0 file)) refl) result.front result.keeps;
         end_is = end_is i0 format file end w ok f e size holder b i4 result full over within;
         bytes = contents_are i4 file (data_blocks i0 file ++ b ∷ []) result.extensions (contents i0 file ++ replicate (size - length (contents i0 file)) 0) written.lawful;
-        free = omega (arith, result.count, e.counted);
-        leaves = result.leaves;
-        gains =
-            subst (λ (xs : List ℕ). Gains i0 file (data_blocks i0 file) (extension_blocks i0 file) i4 xs (extension_blocks i4 file)) (sym bl)
-            (subst (λ (xs : List ℕ). Gains i0 file (data_blocks i0 file) (extension_blocks i0 file) i4 (data_blocks i0 file ++ b ∷ []) xs) (sym ex) result.gains);
-        blocks = ap (take (length (data_blocks i0 file))) bl ∙ take_at (data_blocks i0 file) (b ∷ []) (length (data_blocks i0 file)) refl;
-        extensions = ap (take (length (extension_blocks i0 file))) ex ∙ result.front;
-        keeps =
-            subst (λ (xs : List ℕ). KeepsUnnamed i0 file (data_blocks i0 file) (extension_blocks i0 file) i4 xs (extension_blocks i4 file)) (sym bl)
-            (subst (λ (xs : List ℕ). KeepsUnnamed i0 file (data_blocks i0 file) (extension_blocks i0 file) i4 (data_blocks i0 file ++ b ∷ []) xs) (sym ex) result.keeps);
       }

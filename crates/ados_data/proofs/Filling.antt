@@ -1,6 +1,7 @@
 -- A file with some of its data bytes overwritten.
-use Rattle.std.proofs.Common.{◌≡◌, ◌≢◌, ℕ, ◌+◌, ◌-◌, ◌/◌, ◌%◌, ◌<◌, ◌≤◌, ◌⊎◌, inl, inr, List, ◌∷◌, length, slice_index, sym, ap, ap₂, ◌∙◌, subst, arith}
+use Rattle.std.proofs.Common.{◌≡◌, ◌≢◌, ℕ, ◌+◌, ◌-◌, ◌/◌, ◌%◌, ◌<◌, ◌≤◌, ◌⊎◌, inl, inr, List, ◌∷◌, length, slice_index, refl, sym, ap, ap₂, ◌∙◌, subst, arith}
 use Rattle.std.proofs.lemmas.Bool.{cases_lt, cases_eq}
+use Rattle.std.proofs.lemmas.List.{take_all}
 use Rattle.adf_block.specs.declared.layout.TheConstants.{FILE_SIZE}
 use Rattle.adf_block.specs.declared.layout.Format.{Format}
 use Rattle.adf_block.specs.declared.layout.Format.TheVariants.{Ofs}
@@ -9,20 +10,22 @@ use Rattle.adf_block.specs.Whole.{IsSize, free_bit_count}
 use Rattle.adf_block.specs.Fields.{format_of}
 use Rattle.adf_block.specs.Frame.{SameBut}
 use Rattle.adf_block.proofs.Frames.{same_long, same_sum, same_count}
-use Rattle.ados_model.specs.Tree.{data_count, data_size, data_start}
+use Rattle.ados_model.specs.Tree.{block_cost, data_count, data_size, data_start}
 use Rattle.ados_model.specs.File.{AreApart, data_blocks, extension_blocks, contents, file_byte}
 use Rattle.ados_data.specs.Changing.{IsInUse}
 use Rattle.ados_data.proofs.GrowthSteps.{KeepsData, untouched_holder, untouched_data, skeleton_kept}
-use Rattle.ados_data.proofs.Standing.{marks_stay, Standing, standing_of, writable_of, writable_file, format_kept, map_stays, use_stays, count_stays}
+use Rattle.ados_data.proofs.Standing.{marks_stay, Standing, standing_of, writable_of, format_kept, map_stays, use_stays, count_stays}
 use Rattle.ados_map.specs.Pages.{HasBit}
-use Rattle.ados_data.specs.Others.{Leaves, LeavesOthers}
-use Rattle.ados_data.proofs.Leaving.{leaves_owned}
+use Rattle.ados_data.specs.Others.{Leaves}
+use Rattle.ados_data.specs.Growth.{GrowsFile}
+use Rattle.ados_data.proofs.Composing.{grows_to}
+use Rattle.ados_data.proofs.Leaving.{gains_kept, gains_same, leaves_owned}
 use Rattle.ados_data.specs.steps.Edits.{AtData}
 use Rattle.ados_model.specs.Edits.{overlaid}
 use Rattle.ados_data.specs.Changing.{WritableFile}
 use Rattle.ados_data.proofs.Sizes.{same_block, in_front, behind_part, in_block, behind_start, in_count}
 use Rattle.ados_data.proofs.Overlaid.{overlaid_before, overlaid_within, overlaid_behind, length-overlaid}
-use Rattle.ados_data.proofs.Spelled.{data_blocks_are, extension_blocks_are, contents_are}
+use Rattle.ados_data.proofs.Spelled.{extension_blocks_are, contents_are}
 use Rattle.ados_data.specs.Unnamed.{data_end, KeepsUnnamed}
 use Rattle.ados_data.proofs.Within.{put_end, keeps_put}
 
@@ -105,15 +108,9 @@ module _ (old new : List ℕ) (format : Format) (file : ℕ) (blocks extensions 
 
 -- the effect of one part on a file
 pub record IsPut (old : List ℕ) (file : ℕ) (at : ℕ) (ys : List ℕ) (new : List ℕ) : Type 0 where
-  pub writable : WritableFile new file
-  pub same_format : format_of new ≡ format_of old
-  pub blocks : data_blocks new file ≡ data_blocks old file
+  pub grown : GrowsFile old file (length (contents old file)) new
   pub extensions : extension_blocks new file ≡ extension_blocks old file
   pub bytes : contents new file ≡ overlaid (contents old file) at ys
-  pub count : free_bit_count new ≡ free_bit_count old
-  pub leaves : LeavesOthers old file new
-  pub marks : (c : ℕ) → HasBit old c → has_free_bit new c ≡ has_free_bit old c
-  pub keeps : KeepsUnnamed old file (data_blocks old file) (extension_blocks old file) new (data_blocks new file) (extension_blocks new file)
 
 module _ (old new : List ℕ) (format : Format) (file : ℕ) (w : WritableFile old file) (ok : IsSize (block_count old)) (f : format ≡ format_of old) (at : ℕ) (ys : List ℕ) (block : ℕ)
     (fits : at % data_size format + length ys ≤ data_size format) (within : at + length ys ≤ length (contents old file)) (some : at < length (contents old file)) (here : block ≡ slice_index (data_blocks old file) (at / data_size format))
@@ -181,18 +178,12 @@ module _ (old new : List ℕ) (format : Format) (file : ℕ) (w : WritableFile o
   is_put =
       let written = writable_of new format file (data_blocks old file) (extension_blocks old file) written_bytes
       (subst (Standing new format file (data_blocks old file) (extension_blocks old file)) (sym length-bytes) stands) (fits_format ∙ ap (data_count format) (sym length-bytes)) w.lawful.extensions_fit held in
-      let bl = data_blocks_are new file (data_blocks old file) (extension_blocks old file) written_bytes written.lawful in
-      let ex = extension_blocks_are new file (data_blocks old file) (extension_blocks old file) written_bytes written.lawful in
       record {
-        writable = writable_file new file (data_blocks old file) (extension_blocks old file) written_bytes written;
-        same_format = stands.format_is ∙ f;
-        blocks = bl;
-        extensions = ex;
-        keeps =
-            subst (λ (xs : List ℕ). KeepsUnnamed old file (data_blocks old file) (extension_blocks old file) new xs (extension_blocks new file)) (sym bl)
-            (subst (λ (xs : List ℕ). KeepsUnnamed old file (data_blocks old file) (extension_blocks old file) new (data_blocks old file) xs) (sym ex) kept);
+        grown = grows_to old new file (length (contents old file)) (data_blocks old file) (extension_blocks old file) written_bytes written length-bytes (omega arith) (stands.format_is ∙ f)
+            (ap (λ (n : ℕ). n + block_cost (format_of old) (length (contents old file))) (put_count old new format file (data_blocks old file) (extension_blocks old file) (length (contents old file)) (at / data_size format) (data_start format + at % data_size format) (data_start format + at % data_size format + length ys) s place fields put_sum put_rest))
+            (leaves_put old new format file (data_blocks old file) (extension_blocks old file) (length (contents old file)) (at / data_size format) (data_start format + at % data_size format) (data_start format + at % data_size format + length ys) s place fields put_sum put_rest)
+            (gains_kept old old new file (data_blocks old file) (extension_blocks old file) (data_blocks old file) (extension_blocks old file) refl (put_marks old new format file (data_blocks old file) (extension_blocks old file) (length (contents old file)) (at / data_size format) (data_start format + at % data_size format) (data_start format + at % data_size format + length ys) s place fields put_sum put_rest) (gains_same old file (data_blocks old file) (extension_blocks old file)))
+            (take_all (length (data_blocks old file)) (data_blocks old file) (omega arith)) (take_all (length (extension_blocks old file)) (extension_blocks old file) (omega arith)) kept;
+        extensions = extension_blocks_are new file (data_blocks old file) (extension_blocks old file) written_bytes written.lawful;
         bytes = contents_are new file (data_blocks old file) (extension_blocks old file) written_bytes written.lawful;
-        count = put_count old new format file (data_blocks old file) (extension_blocks old file) (length (contents old file)) (at / data_size format) (data_start format + at % data_size format) (data_start format + at % data_size format + length ys) s place fields put_sum put_rest;
-        leaves = leaves_put old new format file (data_blocks old file) (extension_blocks old file) (length (contents old file)) (at / data_size format) (data_start format + at % data_size format) (data_start format + at % data_size format + length ys) s place fields put_sum put_rest;
-        marks = put_marks old new format file (data_blocks old file) (extension_blocks old file) (length (contents old file)) (at / data_size format) (data_start format + at % data_size format) (data_start format + at % data_size format + length ys) s place fields put_sum put_rest;
       }

@@ -8,10 +8,10 @@ use Rattle.adf_block.specs.Image.{byte_at, bytes_at, long, block_count}
 use Rattle.adf_block.specs.Whole.{IsSize, free_bit_count}
 use Rattle.adf_block.specs.Fields.{format_of}
 use Rattle.adf_block.proofs.Blocks.{byte-bytes_at}
-use Rattle.ados_model.specs.Tree.{data_count, data_size, data_start}
+use Rattle.ados_model.specs.Tree.{block_cost, data_count, data_size, data_start, extension_count}
 use Rattle.ados_model.specs.File.{file_byte, data_blocks, extension_blocks, contents}
 use Rattle.ados_data.specs.steps.Blocks.{IsResized}
-use Rattle.ados_data.proofs.Standing.{Standing, standing_of, writable_of, writable_file}
+use Rattle.ados_data.proofs.Standing.{Standing, standing_of, writable_of}
 use Rattle.std.proofs.lemmas.List.{take_all, length-append, get_or_append_left, get_or-append_right}
 use Rattle.std.proofs.Math.Nat.{mod-lt}
 use Rattle.ados_data.specs.declared.grow.End.{End}
@@ -20,25 +20,18 @@ use Rattle.ados_data.specs.steps.FileEnd.{IsEnd, IsLonger}
 use Rattle.ados_data.proofs.Sizes.{few_bytes, whole_block, in_block, behind_start, filled_size, filled_place, in_count, more_blocks}
 use Rattle.ados_data.proofs.LongerBytes.{longer_filled}
 use Rattle.ados_data.proofs.Reading.{length-bytes_at}
-use Rattle.ados_data.specs.Others.{LeavesOthers, Gains}
+use Rattle.ados_data.specs.Growth.{GrowsFile}
+use Rattle.ados_data.proofs.Composing.{grows_to}
 use Rattle.ados_data.proofs.Leaving.{leaves_resized, gains_same, gains_kept}
 use Rattle.ados_data.proofs.Resizing.{stands_resized, resized_byte, resized_count, resized_marks}
 use Rattle.ados_data.proofs.Spelled.{data_blocks_are, extension_blocks_are, contents_are}
-use Rattle.ados_data.specs.Unnamed.{KeepsUnnamed}
 use Rattle.ados_data.proofs.Within.{keeps_resized}
 
 -- the file got the bytes after its end in its last data block, and has the same end
 pub record IsFilled (old : List ℕ) (format : Format) (file : ℕ) (end : End) (size : ℕ) (new : List ℕ) : Type 0 where
-  pub writable : WritableFile new file
-  pub same_format : format_of new ≡ format_of old
+  pub grown : GrowsFile old file size new
   pub end_is : IsEnd new file end
   pub bytes : IsLonger format (contents old file) size (contents new file)
-  pub count : free_bit_count new ≡ free_bit_count old
-  pub leaves : LeavesOthers old file new
-  pub gains : Gains old file (data_blocks old file) (extension_blocks old file) new (data_blocks new file) (extension_blocks new file)
-  pub blocks : data_blocks new file ≡ data_blocks old file
-  pub extensions : extension_blocks new file ≡ extension_blocks old file
-  pub keeps : KeepsUnnamed old file (data_blocks old file) (extension_blocks old file) new (data_blocks new file) (extension_blocks new file)
 
 module _ (i0 i1 : List ℕ) (format : Format) (file : ℕ) (end : End) (part : ℕ) (w : WritableFile i0 file) (ok : IsSize (block_count i0)) (f : format ≡ format_of i0) (e : IsEnd i0 file end)
     (started : length (contents i0 file) % data_size format ≢ 0) (fits : length (contents i0 file) % data_size format + part ≤ data_size format)
@@ -130,26 +123,19 @@ module _ (i0 i1 : List ℕ) (format : Format) (file : ℕ) (end : End) (part : �
       let bl = data_blocks_are i1 file blocks extensions filled written.lawful in
       let ex = extension_blocks_are i1 file blocks extensions filled written.lawful in
       let is = contents_are i1 file blocks extensions filled written.lawful in
+      let costs : block_cost format (old + part) ≡ block_cost format old = ap (λ (n : ℕ). n + extension_count n) (sizes.2 ∙ count_is) in
       record {
-        writable = writable_file i1 file blocks extensions filled written;
-        same_format = s1.format_is ∙ f;
+        grown = grows_to i0 i1 file (old + part) blocks extensions filled written length-filled (omega arith) (s1.format_is ∙ f)
+            (subst (λ (t : Format). free_bit_count i1 + block_cost t (old + part) ≡ free_bit_count i0 + block_cost t old) f (ap₂ (λ (a b : ℕ). a + b) (resized_count i0 i1 format file blocks extensions old (length blocks) (length extensions) (old + part) s0 y' (omega arith) (omega arith)) costs))
+            (leaves_resized i0 i1 format file blocks extensions old (length blocks) (length extensions) (old + part) s0 y' (omega arith) (omega arith))
+            (gains_kept i0 i0 i1 file blocks extensions blocks extensions refl (resized_marks i0 i1 format file blocks extensions old (length blocks) (length extensions) (old + part) s0 y' (omega arith) (omega arith)) (gains_same i0 file blocks extensions))
+            (take_all (length blocks) blocks (omega arith)) (take_all (length extensions) extensions (omega arith)) (keeps_resized i0 i1 format file blocks extensions old (old + part) s0 sizes.0 y');
         end_is = record {
           counted = e.counted ∙ sym (ap length bl);
           holder_is = e.holder_is ∙ sym (ap (λ (xs : List ℕ). slice_index (file ∷ xs) (length xs)) ex);
           last_is = e.last_is ∙ sym (ap (λ (xs : List ℕ). slice_index xs (length xs - 1)) bl);
         };
         bytes = longer_filled format (contents i0 file) behind (contents i1 file) (old + part) is (ap length is ∙ length-filled) within;
-        count = resized_count i0 i1 format file blocks extensions old (length blocks) (length extensions) (old + part) s0 y' (omega arith) (omega arith);
-        leaves = leaves_resized i0 i1 format file blocks extensions old (length blocks) (length extensions) (old + part) s0 y' (omega arith) (omega arith);
-        gains =
-            subst (λ (xs : List ℕ). Gains i0 file blocks extensions i1 xs (extension_blocks i1 file)) (sym bl)
-            (subst (λ (xs : List ℕ). Gains i0 file blocks extensions i1 blocks xs) (sym ex)
-            (gains_kept i0 i0 i1 file blocks extensions blocks extensions refl (resized_marks i0 i1 format file blocks extensions old (length blocks) (length extensions) (old + part) s0 y' (omega arith) (omega arith)) (gains_same i0 file blocks extensions)));
-        blocks = bl;
-        extensions = ex;
-        keeps =
-            subst (λ (xs : List ℕ). KeepsUnnamed i0 file blocks extensions i1 xs (extension_blocks i1 file)) (sym bl)
-            (subst (λ (xs : List ℕ). KeepsUnnamed i0 file blocks extensions i1 blocks xs) (sym ex) (keeps_resized i0 i1 format file blocks extensions old (old + part) s0 sizes.0 y'));
       }
 
 -- the same with the numbers of a call

@@ -1,14 +1,14 @@
 -- The bytes of a file made longer.
-use Rattle.std.proofs.Common.{◌≡◌, ℕ, ◌+◌, ◌-◌, ◌*◌, ◌<◌, ◌≤◌, ◌++◌, inl, inr, List, length, min, replicate, take, slice_index, refl, sym, ap, ◌∙◌, arith}
+use Rattle.std.proofs.Common.{◌≡◌, ℕ, ◌+◌, ◌-◌, ◌*◌, ◌%◌, ◌<◌, ◌≤◌, ◌++◌, inl, inr, List, length, min, replicate, take, slice_index, refl, sym, ap, ◌∙◌, arith}
 use Rattle.std.proofs.lemmas.Bool.{cases_lt}
-use Rattle.std.proofs.lemmas.List.{ext_get_or, get_or_append_left, get_or-append_right, get_or-take, get_or-replicate, length-append, length-replicate, take-append-le, take_all}
+use Rattle.std.proofs.lemmas.List.{ext_get_or, get_or_append_left, get_or-append_right, get_or-take, get_or-replicate, length-append, length-replicate, length-take, take-append-le, take_all}
 use Rattle.adf_block.specs.declared.layout.Format.{Format}
 use Rattle.ados_model.specs.Tree.{data_count, data_size}
 use Rattle.ados_model.specs.Edits.{overlaid}
 use Rattle.ados_data.specs.steps.FileEnd.{IsLonger}
-use Rattle.ados_data.proofs.Overlaid.{overlaid_before, overlaid_within, overlaid_behind, length-overlaid}
+use Rattle.ados_data.proofs.Overlaid.{overlaid_before, overlaid_within, overlaid_behind, length-overlaid, zeros_over}
+use Rattle.ados_data.proofs.Sizes.{rest_covered}
 
--- no more bytes
 -- more bytes within the last block
 pub longer_filled : (format : Format) (xs ys zs : List ℕ) (size : ℕ) → zs ≡ xs ++ ys → length zs ≡ size → size ≤ data_size format * data_count format (length xs) → IsLonger format xs size zs
 longer_filled format xs ys zs size e n within = record {
@@ -60,3 +60,11 @@ overlaid_longer format xs zs size pos ys h more start within over =
             ∙ sym (overlaid_behind (xs ++ replicate n 0) pos ys other_enough k b)
       ]
     ])
+
+-- zeros written over all that was added in the last block
+pub zeroed_longer : (format : Format) (xs zs : List ℕ) (size part : ℕ) → IsLonger format xs size zs → length xs ≤ size → part ≡ min (data_size format - length xs % data_size format) (size - length xs) → overlaid zs (length xs) (take part (replicate 512 0)) ≡ xs ++ replicate (size - length xs) 0
+zeroed_longer format xs zs size part h more part_is =
+    let rest = rest_covered format (length xs) size part more part_is in
+    let count : length {A = ℕ} (take part (replicate 512 0)) ≡ part = length-take part (replicate 512 0) ∙ omega (arith, rest.0, length-replicate {A = ℕ} 512 0) in
+    overlaid_longer format xs zs size (length xs) (take part (replicate 512 0)) h more (omega arith) (omega (arith, count, part_is, more)) (λ l. omega (arith, count, rest.1))
+    ∙ zeros_over xs (size - length xs) part (take part (replicate 512 0)) (omega (arith, part_is)) rest.0 refl

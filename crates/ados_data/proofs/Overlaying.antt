@@ -17,44 +17,40 @@ use Rattle.ados_model.specs.Edits.{overlaid}
 use Rattle.ados_data.specs.Changing.{WritableFile}
 use Rattle.ados_data.proofs.Sizes.{few_bytes, part_bounds}
 use Rattle.ados_data.proofs.Places.{data_is, header_is, byte_within, holder_of, readable}
-use Rattle.ados_data.proofs.Overlaid.{length-overlaid, overlaid_more}
+use Rattle.ados_data.proofs.Overlaid.{overlaid_more}
 use Rattle.ados_data.proofs.Walking.{holder_inside, block_is, block_inside, on_to_next, on_in_same}
 use Rattle.ados_data.proofs.Filling.{IsPut, is_put}
-use Rattle.ados_data.specs.Others.{LeavesOthers}
-use Rattle.ados_data.specs.Unnamed.{KeepsUnnamed}
-use Rattle.ados_data.proofs.Composing.{keeps_calls, whole_front}
+use Rattle.ados_data.specs.Growth.{GrowsFile}
+use Rattle.ados_data.proofs.Composing.{grows_over}
 
 -- a file's size is below 2^32
 pub size_below : (image : List ℕ) (file : ℕ) → LawfulFile image file → IsImage image → length (contents image file) < 2 ^ 32
 size_below image file s i = omega (arith, s.holds.size, long-below image file FILE_SIZE i)
 
-module _ (init i0 : List ℕ) (format : Format) (file pos : ℕ) (all : List ℕ) (done part room holder : ℕ) (w : WritableFile i0 file) (ok : IsSize (block_count i0)) (f : format_of i0 ≡ format) (room_is : room ≡ data_size format)
+module _ (init i0 : List ℕ) (format : Format) (file pos : ℕ) (all : List ℕ) (done part room holder : ℕ) (g : GrowsFile init file (length (contents init file)) i0) (ok : IsSize (block_count i0)) (f : format ≡ format_of init) (room_is : room ≡ data_size format)
     (fits : pos + length all ≤ length (contents init file)) (test : done < length all) (written : contents i0 file ≡ overlaid (contents init file) pos (take done all)) (part_is : part ≡ min (room - (pos + done) % room) (length all - done))
     (holder_is : holder ≡ pointer_block i0 file ((pos + done) / room / 72)) where
-  taken : length (take done all) ≡ done
-  taken = omega (arith, length-take done all, test)
-
-  same_size : length (contents i0 file) ≡ length (contents init file)
-  same_size = ap length written ∙ length-overlaid (contents init file) pos (take done all) (omega (arith, fits)) (omega (arith, fits, taken, test))
-
   pub at_within : pos + done < length (contents i0 file)
-  at_within = omega (arith, same_size, fits, test)
+  at_within = omega (arith, g.sized, fits, test)
+
+  format_here : format ≡ format_of i0
+  format_here = f ∙ sym g.format
 
   room_here : room ≡ data_size (format_of i0)
-  room_here = room_is ∙ ap data_size (sym f)
+  room_here = room_is ∙ ap data_size format_here
 
   pub bounds : (0 < part) × ((pos + done) % room + part ≤ room) × (done + part ≤ length all)
   bounds = part_bounds room (pos + done) done (length all) part (omega (arith, room_is, few_bytes format)) test part_is
 
   pub part_within : pos + done + part ≤ length (contents i0 file)
-  part_within = omega (arith, bounds, same_size, fits)
+  part_within = omega (arith, bounds, g.sized, fits)
 
   pub holder_is_inside : holder < block_count i0
-  holder_is_inside = holder_inside i0 file (readable i0 file w.lawful) room room_here (pos + done) holder at_within holder_is
+  holder_is_inside = holder_inside i0 file (readable i0 file g.writable.lawful) room room_here (pos + done) holder at_within holder_is
 
   module _ (block : ℕ) (b : block ≡ long i0 holder (FIRST_POINTER - (pos + done) / room % 72)) where
     pub block_is_inside : block < block_count i0
-    block_is_inside = block_inside i0 file (readable i0 file w.lawful) room room_here (pos + done) holder block at_within holder_is b
+    block_is_inside = block_inside i0 file (readable i0 file g.writable.lawful) room room_here (pos + done) holder block at_within holder_is b
 
     place : (pos + done) / room ≡ (pos + done) / data_size format
     place = ap (λ (n : ℕ). (pos + done) / n) room_is
@@ -63,7 +59,7 @@ module _ (init i0 : List ℕ) (format : Format) (file pos : ℕ) (all : List ℕ
     here =
         let there : (pos + done) / room ≡ (pos + done) / data_size (format_of i0) = ap (λ (n : ℕ). (pos + done) / n) room_here in
         let within : (pos + done) / room < length (data_blocks i0 file) = omega (arith, there, byte_within i0 file (pos + done) at_within) in
-        block_is i0 file (readable i0 file w.lawful) room room_here (pos + done) holder block holder_is b
+        block_is i0 file (readable i0 file g.writable.lawful) room room_here (pos + done) holder block holder_is b
         ∙ data_is i0 file ((pos + done) / room) within
         ∙ ap (slice_index (data_blocks i0 file)) place
 
@@ -77,7 +73,7 @@ module _ (init i0 : List ℕ) (format : Format) (file pos : ℕ) (all : List ℕ
 
       pub turn : IsPut i0 file (pos + done) ys i1
       turn =
-          is_put i0 i1 format file w ok (sym f) (pos + done) ys block (omega (arith, bounds, rest, room_is, count_ys)) (omega (arith, part_within, count_ys)) at_within here
+          is_put i0 i1 format file g.writable ok format_here (pos + done) ys block (omega (arith, bounds, rest, room_is, count_ys)) (omega (arith, part_within, count_ys)) at_within here
           (λ k l. ap (λ (n : ℕ). byte_at i1 block (data_start format + n + k)) (sym rest) ∙ put k l) summed
           (subst (λ (n : ℕ). SameBut (AtData format block (data_start format + n) (data_start format + n + length ys)) i0 i1) rest h)
 
@@ -88,23 +84,15 @@ module _ (init i0 : List ℕ) (format : Format) (file pos : ℕ) (all : List ℕ
           ∙ ap (λ (xs : List ℕ). overlaid (overlaid (contents init file) pos (take done all)) (pos + done) xs) ys_is
           ∙ overlaid_more (contents init file) pos all done part fits bounds.2
 
-      new_size : length (contents i1 file) ≡ length (contents i0 file)
-      new_size = ap length turn.bytes ∙ length-overlaid (contents i0 file) (pos + done) ys (omega (arith, at_within)) (omega (arith, part_within, count_ys))
-
-      -- what is unchanged so far, and by this step
-      pub keeps_on : LawfulFile init file → LeavesOthers init file i0 → format_of i0 ≡ format_of init → data_blocks i0 file ≡ data_blocks init file → extension_blocks i0 file ≡ extension_blocks init file → KeepsUnnamed init file (data_blocks init file) (extension_blocks init file) i0 (data_blocks i0 file) (extension_blocks i0 file) →
-          KeepsUnnamed init file (data_blocks init file) (extension_blocks init file) i1 (data_blocks i1 file) (extension_blocks i1 file)
-      keeps_on u l e bl ex k =
-          keeps_calls init i0 i1 file
-          (record { before = u; after = w.lawful; leaves = l; same_format = e; size = omega (arith, same_size); blocks = whole_front (data_blocks init file) (data_blocks i0 file) bl; extensions = whole_front (extension_blocks init file) (extension_blocks i0 file) ex })
-          (record { before = w.lawful; after = turn.writable.lawful; leaves = turn.leaves; same_format = turn.same_format; size = omega (arith, new_size); blocks = whole_front (data_blocks i0 file) (data_blocks i1 file) turn.blocks; extensions = whole_front (extension_blocks i0 file) (extension_blocks i1 file) turn.extensions })
-          k turn.keeps
+      -- the growth so far, which is none, and this step
+      pub grown_on : WritableFile init file → GrowsFile init file (length (contents init file)) i1
+      grown_on u = grows_over u g turn.grown
 
       pub size_kept : IsSize (block_count i1)
       size_kept = subst IsSize (sym (same_count (AtData format block (data_start format + (pos + done) % room) (data_start format + (pos + done) % room + length ys)) i0 i1 h)) ok
 
       room_new : room ≡ data_size (format_of i1)
-      room_new = room_here ∙ ap data_size (sym turn.same_format)
+      room_new = room_here ∙ ap data_size (sym turn.grown.format)
 
       -- the current pointer block is the same in the new image
       holder_new : holder ≡ pointer_block i1 file ((pos + done) / room / 72)
@@ -123,7 +111,7 @@ module _ (init i0 : List ℕ) (format : Format) (file pos : ℕ) (all : List ℕ
 
       pub holder_next : (next : ℕ) → (pos + done + part) % (72 * room) ≡ 0 → next ≡ long i1 holder NEXT_EXTENSION → next ≡ pointer_block i1 file ((pos + (done + part)) / room / 72)
       holder_next next z n =
-          on_to_next i1 file (readable i1 file turn.writable.lawful) room room_new (pos + done) part holder next bounds.0 bounds.1 z holder_new n ∙ ap (λ (k : ℕ). pointer_block i1 file (k / room / 72)) next_place
+          on_to_next i1 file (readable i1 file turn.grown.writable.lawful) room room_new (pos + done) part holder next bounds.0 bounds.1 z holder_new n ∙ ap (λ (k : ℕ). pointer_block i1 file (k / room / 72)) next_place
 
       pub holder_same : (pos + done + part) % (72 * room) ≢ 0 → holder ≡ pointer_block i1 file ((pos + (done + part)) / room / 72)
-      holder_same z = on_in_same i1 file (readable i1 file turn.writable.lawful) room room_new (pos + done) part holder bounds.1 z holder_new ∙ ap (λ (k : ℕ). pointer_block i1 file (k / room / 72)) next_place
+      holder_same z = on_in_same i1 file (readable i1 file turn.grown.writable.lawful) room room_new (pos + done) part holder bounds.1 z holder_new ∙ ap (λ (k : ℕ). pointer_block i1 file (k / room / 72)) next_place

@@ -23,8 +23,8 @@ last_place image file format size count last f held counted is =
     is ∙ ap extension_count fits ∙ sym (extensions_counted image file)
 
 -- a place stays valid if the list only grows at its end
-pub among_more : (file : ℕ) (old new : List ℕ) (place : Place) → take (length old) new ≡ old → IsAmong file old place → IsAmong file new place
-among_more file old new place e p = record {
+pub among_more : {file : ℕ} {old new : List ℕ} {place : Place} → take (length old) new ≡ old → IsAmong file old place → IsAmong file new place
+among_more {file} {old} {new} {place} e p = record {
   within = omega (arith, p.within, ap length e, length-take (length old) new);
   block_is = p.block_is ∙ ap (λ (xs : List ℕ). slice_index (file ∷ xs) place.index) (sym e) ∙ head_taken file new (length old) place.index p.within;
 }

@@ -111,3 +111,8 @@ ofs_count Ffs d size e t = cc
 pub more_blocks : (format : Format) (d size : ℕ) → data_size format * d < size → d < data_count format size
 more_blocks Ofs d size l = omega arith
 more_blocks Ffs d size l = omega arith
+
+-- the rest of the last data block, or of a larger size
+pub rest_covered : (format : Format) (old size part : ℕ) → old ≤ size → part ≡ min (data_size format - old % data_size format) (size - old) → (part ≤ 512) × (min size (data_size format * data_count format old) ≤ old + part)
+rest_covered Ofs old size part l e = (omega arith, omega arith)
+rest_covered Ffs old size part l e = (omega arith, omega arith)

@@ -7,5 +7,6 @@ pub mod Place
 pub mod Changing
 pub mod Others
 pub mod Unnamed
+pub mod Growth
 pub mod Cut
 pub mod steps

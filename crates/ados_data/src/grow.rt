@@ -1,17 +1,16 @@
 //! A file made longer.
 
-ghost use Rattle.std.specs.Prelude.{◌≡◌, ◌<◌, ◌≤◌, ◌+◌, ◌-◌, ◌*◌, ◌/◌, ◌++◌, length, replicate, take};
+ghost use Rattle.std.specs.Prelude.{◌≡◌, ◌<◌, ◌≤◌, ◌+◌, ◌-◌, ◌*◌, ◌/◌, ◌++◌, length, replicate};
 ghost use Rattle.adf_block.specs.declared.layout.TheConstants.{TABLE_LONGS};
+ghost use Rattle.adf_block.specs.Fields.{format_of};
 ghost use Rattle.adf_block.specs.Whole.{free_bit_count};
 ghost use Rattle.ados_map.specs.Pages.{NoneFreeBelow};
 ghost use Rattle.ados_model.specs.Tree.{data_size};
-ghost use Rattle.ados_model.specs.File.{LawfulFile, contents, data_blocks, extension_blocks};
-ghost use Rattle.adf_block.specs.Fields.{format_of};
-ghost use Rattle.ados_data.specs.Changing.{HasFree, PaysFor, WritableFile};
+ghost use Rattle.ados_model.specs.File.{LawfulFile, contents};
+ghost use Rattle.ados_data.specs.Changing.{HasFree, WritableFile};
+ghost use Rattle.ados_data.specs.Growth.{GrowsFile};
 ghost use Rattle.ados_data.specs.Place.{IsPlace};
 ghost use Rattle.ados_data.specs.steps.FileEnd.{IsEnd, IsLonger};
-ghost use Rattle.ados_data.specs.Others.{FileGains, LeavesOthers};
-ghost use Rattle.ados_data.specs.Unnamed.{FileKeepsUnnamed};
 
 use crate::attach::attach_data;
 use crate::blocks::{new_block, pointer_room};
@@ -61,19 +60,11 @@ fn fill_last(image: &mut Image, format: Format, file: u32, end: End, size: u32) 
     requires format { format ≡ format_of image.old }
     requires end { IsEnd image.old file end }
     requires size { length (contents image.old file) ≤ size }
-    ensures writable { WritableFile image.new file }
-    ensures format { format_of image.new ≡ format }
-    ensures end { IsEnd image.new file end }
+    ensures grown { GrowsFile image.old file result image.new }
     ensures reached { result ≤ size }
-    ensures over { length (contents image.old file) ≤ result }
     ensures full { result < size → result ≡ data_size format * end.count }
+    ensures end { IsEnd image.new file end }
     ensures bytes { IsLonger format (contents image.old file) result (contents image.new file) }
-    ensures free { free_bit_count image.new ≡ free_bit_count image.old }
-    ensures leaves { LeavesOthers image.old file image.new }
-    ensures gains { FileGains image.old file image.new }
-    ensures blocks { data_blocks image.new file ≡ data_blocks image.old file }
-    ensures extensions { extension_blocks image.new file ≡ extension_blocks image.old file }
-    ensures keeps { FileKeepsUnnamed image.old file image.new }
 {
     prove!(image.blocks() <= MOST_BLOCKS);
     let room = data_size(format);
@@ -101,17 +92,10 @@ fn append(image: &mut Image, format: Format, file: u32, end: End, size: u32, fro
     requires over { data_size format * end.count < size }
     requires within { size ≤ data_size format * (end.count + 1) }
     requires free { end.count / TABLE_LONGS - (end.count - 1) / TABLE_LONGS < free_bit_count image.old }
-    ensures writable { WritableFile image.new file }
-    ensures format { format_of image.new ≡ format }
+    ensures grown { GrowsFile image.old file size image.new }
     ensures end { IsEnd image.new file result }
     ensures count { result.count ≡ end.count + 1 }
     ensures bytes { contents image.new file ≡ contents image.old file ++ replicate (size - length (contents image.old file)) 0 }
-    ensures free { free_bit_count image.new + 1 + (end.count / TABLE_LONGS - (end.count - 1) / TABLE_LONGS) ≡ free_bit_count image.old }
-    ensures leaves { LeavesOthers image.old file image.new }
-    ensures gains { FileGains image.old file image.new }
-    ensures blocks { take (length (data_blocks image.old file)) (data_blocks image.new file) ≡ data_blocks image.old file }
-    ensures extensions { take (length (extension_blocks image.old file)) (extension_blocks image.new file) ≡ extension_blocks image.old file }
-    ensures keeps { FileKeepsUnnamed image.old file image.new }
 {
     prove!(image.blocks() <= MOST_BLOCKS);
     let holder = pointer_room(image, file, end.holder, end.count, from);
@@ -137,16 +121,9 @@ pub fn lengthen(image: &mut Image, file: u32, near: Place, size: u32, from: u32)
     requires below { NoneFreeBelow image.old from }
     requires longer { length (contents image.old file) ≤ size }
     requires free { HasFree image.old file size }
-    ensures writable { WritableFile image.new file }
-    ensures format { format_of image.new ≡ format_of image.old }
+    ensures grown { GrowsFile image.old file size image.new }
     ensures bytes { IsLonger (format_of image.old) (contents image.old file) size (contents image.new file) }
     ensures below { NoneFreeBelow image.new result }
-    ensures free { PaysFor image.old file size image.new }
-    ensures leaves { LeavesOthers image.old file image.new }
-    ensures gains { FileGains image.old file image.new }
-    ensures blocks { take (length (data_blocks image.old file)) (data_blocks image.new file) ≡ data_blocks image.old file }
-    ensures extensions { take (length (extension_blocks image.old file)) (extension_blocks image.new file) ≡ extension_blocks image.old file }
-    ensures keeps { FileKeepsUnnamed image.old file image.new }
 {
     prove!(image.blocks() <= MOST_BLOCKS);
     if image.long(file, FILE_SIZE) == size {

@@ -1,16 +1,11 @@
 //! Writes to a file.
 
-ghost use Rattle.std.specs.Prelude.{◌≡◌, ℕ, ◌<◌, ◌≤◌, ◌+◌, ◌-◌, ◌*◌, ◌++◌, length, max, min, replicate, take};
-ghost use Rattle.adf_block.specs.Image.{has_free_bit};
-ghost use Rattle.adf_block.specs.Fields.{format_of};
-ghost use Rattle.adf_block.specs.Whole.{free_bit_count};
-ghost use Rattle.ados_map.specs.Pages.{HasBit, NoneFreeBelow};
-ghost use Rattle.ados_model.specs.Tree.{data_count, data_size};
-ghost use Rattle.ados_data.specs.Others.{FileGains, LeavesOthers};
-ghost use Rattle.ados_data.specs.Unnamed.{FileKeepsUnnamed};
-ghost use Rattle.ados_model.specs.File.{contents, data_blocks, extension_blocks};
+ghost use Rattle.std.specs.Prelude.{◌≡◌, ◌≤◌, ◌+◌, ◌-◌, ◌++◌, length, max, replicate};
+ghost use Rattle.ados_map.specs.Pages.{NoneFreeBelow};
+ghost use Rattle.ados_model.specs.File.{contents};
 ghost use Rattle.ados_model.specs.Edits.{overlaid};
-ghost use Rattle.ados_data.specs.Changing.{HasFree, PaysFor, SummedFile, WritableFile};
+ghost use Rattle.ados_data.specs.Changing.{HasFree, WritableFile};
+ghost use Rattle.ados_data.specs.Growth.{GrowsFile};
 ghost use Rattle.ados_data.specs.Place.{IsPlace};
 
 use crate::cost::data_size;
@@ -31,15 +26,8 @@ fn overlay(image: &mut Image, file: u32, near: Place, pos: u64, bytes: &[u8])
     requires writable { WritableFile image.old file }
     requires near { IsPlace image.old file near }
     requires within { pos + length bytes.now ≤ length (contents image.old file) }
-    ensures writable { WritableFile image.new file }
-    ensures format { format_of image.new ≡ format_of image.old }
+    ensures grown { GrowsFile image.old file (length (contents image.old file)) image.new }
     ensures bytes { contents image.new file ≡ overlaid (contents image.old file) pos bytes.now }
-    ensures blocks { data_blocks image.new file ≡ data_blocks image.old file }
-    ensures extensions { extension_blocks image.new file ≡ extension_blocks image.old file }
-    ensures free { free_bit_count image.new ≡ free_bit_count image.old }
-    ensures leaves { LeavesOthers image.old file image.new }
-    ensures marks { (c : ℕ) → HasBit image.old c → has_free_bit image.new c ≡ has_free_bit image.old c }
-    ensures keeps { FileKeepsUnnamed image.old file image.new }
 {
     prove!(image.blocks() <= MOST_BLOCKS);
     if bytes.is_empty() {
@@ -62,41 +50,6 @@ fn overlay(image: &mut Image, file: u32, near: Place, pos: u64, bytes: &[u8])
     }
 }
 
-/// Makes a file longer, to `size` bytes, and overwrites its bytes from byte `pos`. The written bytes cover everything
-/// added in the last data block. Added bytes after them are 0. The result is a bound as in `write_near`.
-fn write_longer(
-    image: &mut Image,
-    file: u32,
-    near: Place,
-    size: u32,
-    pos: u64,
-    bytes: &[u8],
-    from: u32,
-) -> u32
-    requires writable { WritableFile image.old file }
-    requires near { IsPlace image.old file near }
-    requires below { NoneFreeBelow image.old from }
-    requires longer { length (contents image.old file) ≤ size }
-    requires start { pos ≤ length (contents image.old file) }
-    requires within { pos + length bytes.now ≤ size }
-    requires over { length (contents image.old file) < size → min size (data_size (format_of image.old) * data_count (format_of image.old) (length (contents image.old file))) ≤ pos + length bytes.now }
-    requires free { HasFree image.old file size }
-    ensures writable { WritableFile image.new file }
-    ensures format { format_of image.new ≡ format_of image.old }
-    ensures bytes { contents image.new file ≡ overlaid (contents image.old file ++ replicate (size - length (contents image.old file)) 0) pos bytes.now }
-    ensures below { NoneFreeBelow image.new result }
-    ensures free { PaysFor image.old file size image.new }
-    ensures leaves { LeavesOthers image.old file image.new }
-    ensures gains { FileGains image.old file image.new }
-    ensures blocks { take (length (data_blocks image.old file)) (data_blocks image.new file) ≡ data_blocks image.old file }
-    ensures extensions { take (length (extension_blocks image.old file)) (extension_blocks image.new file) ≡ extension_blocks image.old file }
-    ensures keeps { FileKeepsUnnamed image.old file image.new }
-{
-    let bound = lengthen(image, file, near, size, from);
-    overlay(image, file, near, pos, bytes);
-    bound
-}
-
 /// Writes bytes to a file from byte `pos`, at most its size. The file grows if they reach past its end.
 ///
 /// Each new block is the lowest free one. As in `extend`, bytes that need no change are unchanged.
@@ -104,16 +57,8 @@ pub fn write_at(image: &mut Image, file: u32, pos: u64, bytes: &[u8])
     requires writable { WritableFile image.old file }
     requires start { pos ≤ length (contents image.old file) }
     requires free { HasFree image.old file (max (length (contents image.old file)) (pos + length bytes.now)) }
-    ensures writable { WritableFile image.new file }
-    ensures format { format_of image.new ≡ format_of image.old }
+    ensures grown { GrowsFile image.old file (max (length (contents image.old file)) (pos + length bytes.now)) image.new }
     ensures bytes { contents image.new file ≡ overlaid (contents image.old file) pos bytes.now }
-    ensures free { PaysFor image.old file (max (length (contents image.old file)) (pos + length bytes.now)) image.new }
-    ensures leaves { LeavesOthers image.old file image.new }
-    ensures gains { FileGains image.old file image.new }
-    ensures blocks { take (length (data_blocks image.old file)) (data_blocks image.new file) ≡ data_blocks image.old file }
-    ensures extensions { take (length (extension_blocks image.old file)) (extension_blocks image.new file) ≡ extension_blocks image.old file }
-    ensures keeps { FileKeepsUnnamed image.old file image.new }
-    ensures sums { SummedFile image.old file → SummedFile image.new file }
 {
     write_near(image, file, Place::header(file), pos, bytes, BOOT_BLOCKS);
 }
@@ -133,21 +78,15 @@ pub fn write_near(
     requires below { NoneFreeBelow image.old from }
     requires start { pos ≤ length (contents image.old file) }
     requires free { HasFree image.old file (max (length (contents image.old file)) (pos + length bytes.now)) }
-    ensures writable { WritableFile image.new file }
-    ensures format { format_of image.new ≡ format_of image.old }
+    ensures grown { GrowsFile image.old file (max (length (contents image.old file)) (pos + length bytes.now)) image.new }
     ensures bytes { contents image.new file ≡ overlaid (contents image.old file) pos bytes.now }
     ensures below { NoneFreeBelow image.new result }
-    ensures free { PaysFor image.old file (max (length (contents image.old file)) (pos + length bytes.now)) image.new }
-    ensures leaves { LeavesOthers image.old file image.new }
-    ensures gains { FileGains image.old file image.new }
-    ensures blocks { take (length (data_blocks image.old file)) (data_blocks image.new file) ≡ data_blocks image.old file }
-    ensures extensions { take (length (extension_blocks image.old file)) (extension_blocks image.new file) ≡ extension_blocks image.old file }
-    ensures keeps { FileKeepsUnnamed image.old file image.new }
-    ensures sums { SummedFile image.old file → SummedFile image.new file }
 {
     prove!(image.blocks() <= MOST_BLOCKS);
     let size = (image.long(file, FILE_SIZE) as u64).max(pos + bytes.len() as u64);
-    write_longer(image, file, near, size as u32, pos, bytes, from)
+    let bound = lengthen(image, file, near, size as u32, from);
+    overlay(image, file, near, pos, bytes);
+    bound
 }
 
 /// Makes a file longer, to `size` bytes. The added bytes are 0, and each new block is the lowest free one.
@@ -158,16 +97,8 @@ pub fn extend(image: &mut Image, file: u32, size: u32)
     requires writable { WritableFile image.old file }
     requires longer { length (contents image.old file) ≤ size }
     requires free { HasFree image.old file size }
-    ensures writable { WritableFile image.new file }
-    ensures format { format_of image.new ≡ format_of image.old }
+    ensures grown { GrowsFile image.old file size image.new }
     ensures bytes { contents image.new file ≡ contents image.old file ++ replicate (size - length (contents image.old file)) 0 }
-    ensures free { PaysFor image.old file size image.new }
-    ensures leaves { LeavesOthers image.old file image.new }
-    ensures gains { FileGains image.old file image.new }
-    ensures blocks { take (length (data_blocks image.old file)) (data_blocks image.new file) ≡ data_blocks image.old file }
-    ensures extensions { take (length (extension_blocks image.old file)) (extension_blocks image.new file) ≡ extension_blocks image.old file }
-    ensures keeps { FileKeepsUnnamed image.old file image.new }
-    ensures sums { SummedFile image.old file → SummedFile image.new file }
 {
     extend_near(image, file, Place::header(file), size, BOOT_BLOCKS);
 }
@@ -180,22 +111,16 @@ pub fn extend_near(image: &mut Image, file: u32, near: Place, size: u32, from: u
     requires below { NoneFreeBelow image.old from }
     requires longer { length (contents image.old file) ≤ size }
     requires free { HasFree image.old file size }
-    ensures writable { WritableFile image.new file }
-    ensures format { format_of image.new ≡ format_of image.old }
+    ensures grown { GrowsFile image.old file size image.new }
     ensures bytes { contents image.new file ≡ contents image.old file ++ replicate (size - length (contents image.old file)) 0 }
     ensures below { NoneFreeBelow image.new result }
-    ensures free { PaysFor image.old file size image.new }
-    ensures leaves { LeavesOthers image.old file image.new }
-    ensures gains { FileGains image.old file image.new }
-    ensures blocks { take (length (data_blocks image.old file)) (data_blocks image.new file) ≡ data_blocks image.old file }
-    ensures extensions { take (length (extension_blocks image.old file)) (extension_blocks image.new file) ≡ extension_blocks image.old file }
-    ensures keeps { FileKeepsUnnamed image.old file image.new }
-    ensures sums { SummedFile image.old file → SummedFile image.new file }
 {
     prove!(image.blocks() <= MOST_BLOCKS);
     let room = data_size(image.format());
     let old = image.long(file, FILE_SIZE);
     let part = (room - old as usize % room).min((size - old) as usize);
     let zeros = [0; ROOM];
-    write_longer(image, file, near, size, old as u64, &zeros[..part], from)
+    let bound = lengthen(image, file, near, size, from);
+    overlay(image, file, near, old as u64, &zeros[..part]);
+    bound
 }

@@ -1,8 +1,5 @@
-use Rattle.std.proofs.Common.{◌≡◌, ◌≢◌, ℕ, ◌+◌, ◌-◌, ◌++◌, List, length, replicate, ap, ◌∙◌, subst, refl, arith}
-use Rattle.std.proofs.lemmas.List.{length-append, length-replicate}
-use Rattle.adf_block.specs.Whole.{free_bit_count}
-use Rattle.ados_model.specs.Tree.{block_cost, bytes_of}
-use Rattle.adf_block.specs.Fields.{format_of}
+use Rattle.std.proofs.Common.{◌≡◌, ◌≢◌, ℕ, ◌-◌, ◌++◌, List, length, replicate, ap, ◌∙◌, subst, refl, arith}
+use Rattle.ados_model.specs.Tree.{bytes_of}
 use Rattle.ados_model.specs.File.{data_blocks, extension_blocks, contents}
 use Rattle.ados_model.specs.Stands.{Stands}
 use Rattle.ados_model.specs.Change.{rewritten}
@@ -37,34 +34,17 @@ pub extend_near-requires-clause-free : goal.extend_near-requires-clause-free
 extend_near-requires-clause-free c =
     same_room c.args.moment c.args.image.now c.stamp.new.image c.args.file c.requires.tree c.requires.file c.stamp.ensures c.args.size c.if-not-has_room.ensures
 
--- the file has the new size
-grown_length : (c : goal.After-extend_near) → length (contents c.extend_near.new.image c.args.file) ≡ c.args.size
-grown_length c =
-    let same = ap length (same_contents c.args.moment c.args.image.now c.stamp.new.image c.args.file c.requires.tree c.requires.file c.stamp.ensures) in
-    let size = size_in c.args.image.now c.requires.tree.0 c.requires.tree.1 c.args.file c.requires.file in
-    ap length c.extend_near.ensures.bytes ∙ omega (
-      arith,
-      length-append (contents c.stamp.new.image c.args.file) (replicate (c.args.size - length (contents c.stamp.new.image c.args.file)) 0),
-      length-replicate {A = ℕ} (c.args.size - length (contents c.stamp.new.image c.args.file)) 0,
-      same,
-      size,
-      c.requires.longer c.requires.tree.0 c.requires.tree.1,
-    )
-
 -- the file is rewritten, with as many more blocks as it needs
 grown_long : (c : goal.After-extend_near) → IsRewritten c.stamp.new.image c.args.file (data_blocks c.stamp.new.image c.args.file) (extension_blocks c.stamp.new.image c.args.file) c.extend_near.new.image (data_blocks c.extend_near.new.image c.args.file) (extension_blocks c.extend_near.new.image c.args.file) (contents c.extend_near.new.image c.args.file)
 grown_long c =
-    let e = c.extend_near.ensures in
-    let balance = ap (λ (n : ℕ). free_bit_count c.extend_near.new.image + block_cost (format_of c.stamp.new.image) n) (grown_length c) ∙ e.free in
-    of_gains c.stamp.new.image c.extend_near.new.image c.args.file
-    (mid_writable c.args.moment c.args.image.now c.stamp.new.image c.args.file c.requires.tree c.requires.file c.stamp.ensures) e.writable e.format e.leaves e.gains e.blocks e.extensions balance
+    of_gains (mid_writable c.args.moment c.args.image.now c.stamp.new.image c.args.file c.requires.tree c.requires.file c.stamp.ensures) c.extend_near.ensures.grown
 
--- so its bytes are other than before
+-- its bytes are other than before
 not_as_long : (c : goal.After-extend_near) → contents c.extend_near.new.image c.args.file ≢ contents c.stamp.new.image c.args.file
 not_as_long c same =
     let before = ap length (same_contents c.args.moment c.args.image.now c.stamp.new.image c.args.file c.requires.tree c.requires.file c.stamp.ensures) in
     let size = size_in c.args.image.now c.requires.tree.0 c.requires.tree.1 c.args.file c.requires.file in
-    omega (arith, grown_length c, ap length same, before, size, c.requires.longer c.requires.tree.0 c.requires.tree.1)
+    omega (arith, c.extend_near.ensures.grown.sized, ap length same, before, size, c.requires.longer c.requires.tree.0 c.requires.tree.1)
 
 pub returns-clause-done : goal.returns-clause-done
 returns-clause-done c = λ t s.
@@ -78,5 +58,5 @@ returns-clause-done c = λ t s.
 
 pub returns-clause-keeps : goal.returns-clause-keeps
 returns-clause-keeps c =
-    keeps_rest c.args.moment c.args.image.now c.stamp.new.image c.args.file c.requires.tree c.requires.file c.stamp.ensures c.extend_near.new.image (grown_long c) c.extend_near.ensures.keeps
-    (λ same. absurd (not_as_long c same)) c.extend_near.ensures.gains.lowest c.extend_near.ensures.gains.data_rises c.extend_near.ensures.gains.extensions_rise
+    keeps_rest c.args.moment c.args.image.now c.stamp.new.image c.args.file c.requires.tree c.requires.file c.stamp.ensures c.extend_near.new.image (grown_long c) c.extend_near.ensures.grown.keeps
+    (λ same. absurd (not_as_long c same)) c.extend_near.ensures.grown.gains.lowest c.extend_near.ensures.grown.gains.data_rises c.extend_near.ensures.grown.gains.extensions_rise

@@ -1,10 +1,7 @@
-use Rattle.std.proofs.Common.{◌≡◌, ◌≢◌, ℕ, ◌+◌, ◌≤◌, ◌++◌, max, List, [], ◌∷◌, length, take, drop, ap, ◌∙◌, sym, subst, refl, arith, eqb-true}
+use Rattle.std.proofs.Common.{◌≡◌, ◌≢◌, ℕ, ◌+◌, ◌≤◌, max, List, [], ◌∷◌, length, ap, ◌∙◌, sym, subst, refl, arith, eqb-true}
 use Rattle.std.proofs.lemmas.Bool.{eqb-false, ltb-true}
-use Rattle.std.proofs.lemmas.List.{length-append, length-take, length-drop}
 use Rattle.ados_name.specs.declared.stamp.Date3.{Date3}
-use Rattle.adf_block.specs.Whole.{free_bit_count}
 use Rattle.ados_model.specs.Tree.{block_cost, Tree, bytes_of, size_of}
-use Rattle.adf_block.specs.Fields.{format_of}
 use Rattle.ados_model.specs.File.{data_blocks, extension_blocks, contents}
 use Rattle.ados_model.specs.Change.{rewritten, written}
 use Rattle.ados_model.specs.Edits.{overlaid}
@@ -71,29 +68,10 @@ write_near-bound-requires-clause-free c =
     subst (HasFree c.stamp.new.image c.args.file) size
     (same_room c.args.moment c.args.image.now c.stamp.new.image c.args.file c.requires.tree c.requires.file c.stamp.ensures c.max-size.result c.if-not-has_room.ensures)
 
--- the length of a list with another written over it
-length-overlaid : (xs : List ℕ) (pos : ℕ) (ys : List ℕ) → pos ≤ length xs → length (overlaid xs pos ys) ≡ max (length xs) (pos + length ys)
-length-overlaid xs pos ys l =
-    omega (
-      arith,
-      l,
-      length-append (take pos xs ++ ys) (drop (pos + length ys) xs),
-      length-append (take pos xs) ys,
-      length-take pos xs,
-      length-drop (pos + length ys) xs,
-    )
-
 -- the file is rewritten, with as many more blocks as it needs
 written_over : (c : goal.Else-prove-2) → IsRewritten c.stamp.new.image c.args.file (data_blocks c.stamp.new.image c.args.file) (extension_blocks c.stamp.new.image c.args.file) c.write_near-bound.new.image (data_blocks c.write_near-bound.new.image c.args.file) (extension_blocks c.write_near-bound.new.image c.args.file) (contents c.write_near-bound.new.image c.args.file)
 written_over c =
-    let e = c.write_near-bound.ensures in
-    let same = ap length (same_contents c.args.moment c.args.image.now c.stamp.new.image c.args.file c.requires.tree c.requires.file c.stamp.ensures) in
-    let size = size_in c.args.image.now c.requires.tree.0 c.requires.tree.1 c.args.file c.requires.file in
-    let within : c.args.pos ≤ length (contents c.stamp.new.image c.args.file) = omega (arith, same, size, c.requires.start c.requires.tree.0 c.requires.tree.1) in
-    let lengths = ap length e.bytes ∙ length-overlaid (contents c.stamp.new.image c.args.file) c.args.pos c.args.bytes.now within in
-    let balance = ap (λ (n : ℕ). free_bit_count c.write_near-bound.new.image + block_cost (format_of c.stamp.new.image) n) lengths ∙ e.free in
-    of_gains c.stamp.new.image c.write_near-bound.new.image c.args.file
-    (mid_writable c.args.moment c.args.image.now c.stamp.new.image c.args.file c.requires.tree c.requires.file c.stamp.ensures) e.writable e.format e.leaves e.gains e.blocks e.extensions balance
+    of_gains (mid_writable c.args.moment c.args.image.now c.stamp.new.image c.args.file c.requires.tree c.requires.file c.stamp.ensures) c.write_near-bound.ensures.grown
 
 pub returns-clause-done : goal.returns-clause-done
 returns-clause-done c = λ t s.
@@ -110,5 +88,5 @@ returns-clause-done c = λ t s.
 
 pub returns-clause-keeps : goal.returns-clause-keeps
 returns-clause-keeps c =
-    keeps_rest c.args.moment c.args.image.now c.stamp.new.image c.args.file c.requires.tree c.requires.file c.stamp.ensures c.write_near-bound.new.image (written_over c) c.write_near-bound.ensures.keeps
-    (λ same. (c.blocks-2.ensures.image, c.blocks-3.ensures.image)) c.write_near-bound.ensures.gains.lowest c.write_near-bound.ensures.gains.data_rises c.write_near-bound.ensures.gains.extensions_rise
+    keeps_rest c.args.moment c.args.image.now c.stamp.new.image c.args.file c.requires.tree c.requires.file c.stamp.ensures c.write_near-bound.new.image (written_over c) c.write_near-bound.ensures.grown.keeps
+    (λ same. (c.blocks-2.ensures.image, c.blocks-3.ensures.image)) c.write_near-bound.ensures.grown.gains.lowest c.write_near-bound.ensures.grown.gains.data_rises c.write_near-bound.ensures.grown.gains.extensions_rise

@@ -32,32 +32,11 @@ resize-requires-clause-file c = omega (arith, ap (λ (n : ℕ). n / 512) c.attac
 pub resize-requires-clause-apart : goal.resize-requires-clause-apart
 resize-requires-clause-apart c = λ l. new_apart c.args.image.now c.pointer_room-holder.new.image c.new_block-last.new.image c.args.format c.args.file (data_blocks c.args.image.now c.args.file) (extension_blocks c.args.image.now c.args.file) (length (contents c.args.image.now c.args.file)) c.pointer_room-holder.result c.new_block-last.result (room_of c.args.image.now c.args.format c.args.file c.args.end c.requires.writable (omega (arith, c.blocks-2.ensures.count, c.blocks-2.ensures.size), omega (arith, c.blocks-2.ensures.count, c.blocks-2.ensures.size)) c.requires.format c.requires.end c.pointer_room-holder.result c.pointer_room-holder.new.image c.pointer_room-holder.ensures) c.new_block-last.ensures
 
-pub returns-clause-writable : goal.returns-clause-writable
-returns-clause-writable c = (appended_call c.args.image.now c.args.format c.args.file c.args.end c.requires.writable (omega (arith, c.blocks-2.ensures.count, c.blocks-2.ensures.size), omega (arith, c.blocks-2.ensures.count, c.blocks-2.ensures.size)) c.requires.format c.requires.end c.args.size c.pointer_room-holder.new.image c.new_block-last.new.image c.attach_data.new.image c.resize.new.image c.pointer_room-holder.result c.new_block-last.result c.pointer_room-holder.ensures c.new_block-last.ensures c.attach_data.ensures c.resize.ensures c.requires.full c.requires.over c.requires.within).writable
-
-pub returns-clause-format : goal.returns-clause-format
-returns-clause-format c = (appended_call c.args.image.now c.args.format c.args.file c.args.end c.requires.writable (omega (arith, c.blocks-2.ensures.count, c.blocks-2.ensures.size), omega (arith, c.blocks-2.ensures.count, c.blocks-2.ensures.size)) c.requires.format c.requires.end c.args.size c.pointer_room-holder.new.image c.new_block-last.new.image c.attach_data.new.image c.resize.new.image c.pointer_room-holder.result c.new_block-last.result c.pointer_room-holder.ensures c.new_block-last.ensures c.attach_data.ensures c.resize.ensures c.requires.full c.requires.over c.requires.within).same_format
+pub returns-clause-grown : goal.returns-clause-grown
+returns-clause-grown c = (appended_call c.args.image.now c.args.format c.args.file c.args.end c.requires.writable (omega (arith, c.blocks-2.ensures.count, c.blocks-2.ensures.size), omega (arith, c.blocks-2.ensures.count, c.blocks-2.ensures.size)) c.requires.format c.requires.end c.args.size c.pointer_room-holder.new.image c.new_block-last.new.image c.attach_data.new.image c.resize.new.image c.pointer_room-holder.result c.new_block-last.result c.pointer_room-holder.ensures c.new_block-last.ensures c.attach_data.ensures c.resize.ensures c.requires.full c.requires.over c.requires.within).grown
 
 pub returns-clause-end : goal.returns-clause-end
 returns-clause-end c = (appended_call c.args.image.now c.args.format c.args.file c.args.end c.requires.writable (omega (arith, c.blocks-2.ensures.count, c.blocks-2.ensures.size), omega (arith, c.blocks-2.ensures.count, c.blocks-2.ensures.size)) c.requires.format c.requires.end c.args.size c.pointer_room-holder.new.image c.new_block-last.new.image c.attach_data.new.image c.resize.new.image c.pointer_room-holder.result c.new_block-last.result c.pointer_room-holder.ensures c.new_block-last.ensures c.attach_data.ensures c.resize.ensures c.requires.full c.requires.over c.requires.within).end_is
 
 pub returns-clause-bytes : goal.returns-clause-bytes
 returns-clause-bytes c = (appended_call c.args.image.now c.args.format c.args.file c.args.end c.requires.writable (omega (arith, c.blocks-2.ensures.count, c.blocks-2.ensures.size), omega (arith, c.blocks-2.ensures.count, c.blocks-2.ensures.size)) c.requires.format c.requires.end c.args.size c.pointer_room-holder.new.image c.new_block-last.new.image c.attach_data.new.image c.resize.new.image c.pointer_room-holder.result c.new_block-last.result c.pointer_room-holder.ensures c.new_block-last.ensures c.attach_data.ensures c.resize.ensures c.requires.full c.requires.over c.requires.within).bytes
-
-pub returns-clause-free : goal.returns-clause-free
-returns-clause-free c = (appended_call c.args.image.now c.args.format c.args.file c.args.end c.requires.writable (omega (arith, c.blocks-2.ensures.count, c.blocks-2.ensures.size), omega (arith, c.blocks-2.ensures.count, c.blocks-2.ensures.size)) c.requires.format c.requires.end c.args.size c.pointer_room-holder.new.image c.new_block-last.new.image c.attach_data.new.image c.resize.new.image c.pointer_room-holder.result c.new_block-last.result c.pointer_room-holder.ensures c.new_block-last.ensures c.attach_data.ensures c.resize.ensures c.requires.full c.requires.over c.requires.within).free
-
-pub returns-clause-leaves : goal.returns-clause-leaves
-returns-clause-leaves c = (appended_call c.args.image.now c.args.format c.args.file c.args.end c.requires.writable (omega (arith, c.blocks-2.ensures.count, c.blocks-2.ensures.size), omega (arith, c.blocks-2.ensures.count, c.blocks-2.ensures.size)) c.requires.format c.requires.end c.args.size c.pointer_room-holder.new.image c.new_block-last.new.image c.attach_data.new.image c.resize.new.image c.pointer_room-holder.result c.new_block-last.result c.pointer_room-holder.ensures c.new_block-last.ensures c.attach_data.ensures c.resize.ensures c.requires.full c.requires.over c.requires.within).leaves
-
-pub returns-clause-gains : goal.returns-clause-gains
-returns-clause-gains c = (appended_call c.args.image.now c.args.format c.args.file c.args.end c.requires.writable (omega (arith, c.blocks-2.ensures.count, c.blocks-2.ensures.size), omega (arith, c.blocks-2.ensures.count, c.blocks-2.ensures.size)) c.requires.format c.requires.end c.args.size c.pointer_room-holder.new.image c.new_block-last.new.image c.attach_data.new.image c.resize.new.image c.pointer_room-holder.result c.new_block-last.result c.pointer_room-holder.ensures c.new_block-last.ensures c.attach_data.ensures c.resize.ensures c.requires.full c.requires.over c.requires.within).gains
-
-pub returns-clause-blocks : goal.returns-clause-blocks
-returns-clause-blocks c = (appended_call c.args.image.now c.args.format c.args.file c.args.end c.requires.writable (omega (arith, c.blocks-2.ensures.count, c.blocks-2.ensures.size), omega (arith, c.blocks-2.ensures.count, c.blocks-2.ensures.size)) c.requires.format c.requires.end c.args.size c.pointer_room-holder.new.image c.new_block-last.new.image c.attach_data.new.image c.resize.new.image c.pointer_room-holder.result c.new_block-last.result c.pointer_room-holder.ensures c.new_block-last.ensures c.attach_data.ensures c.resize.ensures c.requires.full c.requires.over c.requires.within).blocks
-
-pub returns-clause-extensions : goal.returns-clause-extensions
-returns-clause-extensions c = (appended_call c.args.image.now c.args.format c.args.file c.args.end c.requires.writable (omega (arith, c.blocks-2.ensures.count, c.blocks-2.ensures.size), omega (arith, c.blocks-2.ensures.count, c.blocks-2.ensures.size)) c.requires.format c.requires.end c.args.size c.pointer_room-holder.new.image c.new_block-last.new.image c.attach_data.new.image c.resize.new.image c.pointer_room-holder.result c.new_block-last.result c.pointer_room-holder.ensures c.new_block-last.ensures c.attach_data.ensures c.resize.ensures c.requires.full c.requires.over c.requires.within).extensions
-
-pub returns-clause-keeps : goal.returns-clause-keeps
-returns-clause-keeps c = (appended_call c.args.image.now c.args.format c.args.file c.args.end c.requires.writable (omega (arith, c.blocks-2.ensures.count, c.blocks-2.ensures.size), omega (arith, c.blocks-2.ensures.count, c.blocks-2.ensures.size)) c.requires.format c.requires.end c.args.size c.pointer_room-holder.new.image c.new_block-last.new.image c.attach_data.new.image c.resize.new.image c.pointer_room-holder.result c.new_block-last.result c.pointer_room-holder.ensures c.new_block-last.ensures c.attach_data.ensures c.resize.ensures c.requires.full c.requires.over c.requires.within).keeps

@@ -1,21 +1,31 @@
-use Rattle.std.proofs.Common.{◌≡◌, ◌-◌, ◌++◌, ℕ, length, replicate, take, ap, ◌∙◌, refl, arith}
+use Rattle.std.proofs.Common.{◌≡◌, ◌-◌, ◌%◌, ℕ, length, min, replicate, take, ap, ap₂, ◌∙◌, arith}
+use Rattle.adf_block.specs.Fields.{format_of}
+use Rattle.ados_model.specs.Tree.{data_size}
 use Rattle.ados_model.specs.File.{contents}
 use Rattle.ados_model.specs.Edits.{overlaid}
-use Rattle.ados_data.proofs.Overlaid.{zeros_over}
-use Rattle.ados_data.proofs.Sizes.{few_bytes}
-use Rattle.ados_data.proofs.Summed.{summed_after}
+use Rattle.ados_data.proofs.Composing.{grows_over, below_grown}
+use Rattle.ados_data.proofs.LongerBytes.{zeroed_longer}
+use Rattle.ados_data.proofs.Placed.{among_more}
 use Rattle.ados_data.proofs.write.extend_near.Goals as goal
 
 pub long-old-requires-clause-block : goal.long-old-requires-clause-block
 long-old-requires-clause-block c = omega (arith, c.requires.writable.lawful.places.headers_inside 0 (omega arith))
 
+pub overlay-requires-clause-near : goal.overlay-requires-clause-near
+overlay-requires-clause-near c = among_more c.lengthen-bound.ensures.grown.extensions c.requires.near
+
+pub returns-clause-grown : goal.returns-clause-grown
+returns-clause-grown c = grows_over c.requires.writable c.lengthen-bound.ensures.grown c.overlay.ensures.grown
+
 pub returns-clause-bytes : goal.returns-clause-bytes
 returns-clause-bytes c =
     let xs = contents c.args.image.now c.args.file in
+    let zs = contents c.lengthen-bound.new.image c.args.file in
     let old : c.long-old.result ≡ length xs = c.long-old.ensures ∙ c.requires.writable.lawful.holds.size in
-    c.write_longer.ensures.bytes
-    ∙ ap (λ (n : ℕ). overlaid (xs ++ replicate (c.args.size - length xs) 0) n (take c.min-part.result (replicate 512 0))) old
-    ∙ zeros_over xs (c.args.size - length xs) c.min-part.result (take c.min-part.result (replicate 512 0)) (omega (arith, c.min-part.ensures, old)) (omega (arith, c.min-part.ensures, c.data_size-room.ensures, few_bytes c.format.result)) refl
+    let room : c.data_size-room.result ≡ data_size (format_of c.args.image.now) = c.data_size-room.ensures ∙ ap data_size c.format.ensures in
+    c.overlay.ensures.bytes
+    ∙ ap (λ (n : ℕ). overlaid zs n (take c.min-part.result (replicate 512 0))) old
+    ∙ zeroed_longer (format_of c.args.image.now) xs zs c.args.size c.min-part.result c.lengthen-bound.ensures.bytes c.requires.longer (c.min-part.ensures ∙ ap₂ (λ (r n : ℕ). min (r - n % r) (c.args.size - n)) room old)
 
-pub returns-clause-sums : goal.returns-clause-sums
-returns-clause-sums c = summed_after c.args.image.now c.write_longer.new.image c.args.file c.write_longer.ensures.writable c.write_longer.ensures.leaves
+pub returns-clause-below : goal.returns-clause-below
+returns-clause-below c = below_grown c.lengthen-bound.result c.overlay.ensures.grown c.lengthen-bound.ensures.below
