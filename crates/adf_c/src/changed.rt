@@ -4,7 +4,7 @@ ghost use Rattle.std.specs.Prelude.{◌≡◌, ◌<◌, length, IfOk};
 ghost use Rattle.adf_block.specs.Image.{block_count};
 ghost use Rattle.adf_c.specs.Changed.{ChangedComes, ChangedEnds, TakingComes, changed_blocks as changed_of, differs as differs_in};
 
-use crate::handle::JipHandle;
+use crate::handle::{Holder, JipHandle};
 use adf_block::Image;
 use adf_block::layout::BLOCK_BYTES;
 use c_values::Refusal;

@@ -5,7 +5,7 @@ ghost use Rattle.std.specs.Option.{MatchOption};
 ghost use Rattle.c_values.specs.Ends.{Comes};
 ghost use Rattle.adf_c.specs.Calls.{CopiesBytes, CopyComes, CopyEnds, RefusesBytes};
 
-use crate::handle::JipHandle;
+use crate::handle::{Holder, JipHandle};
 use c_values::{Refusal, status};
 use std::alloc::Global;
 

@@ -18,7 +18,6 @@ pub mod open;
 pub mod packet;
 pub mod read_only;
 pub mod salvage;
-pub mod salvage_handle;
 pub mod serve;
 pub mod texts;
 
@@ -26,6 +25,5 @@ pub use c_values::{
     JipAnswer, JipDate, JipDisk, JipEntry, JipFault, JipFinding, JipOwner, JipSalvaged, Refusal,
 };
 pub use desk::Desk;
-pub use handle::JipHandle;
+pub use handle::{JipHandle, JipSalvage};
 pub use packet::JipPacket;
-pub use salvage_handle::JipSalvage;

@@ -5,7 +5,7 @@ ghost use Rattle.c_values.specs.Owners.{MapsOwners};
 ghost use Rattle.c_values.specs.declared.refusal.Refusal.TheVariants.{NoMemory};
 ghost use Rattle.adf_c.specs.Map.{MapEnds, MapsHeld, RefusesMap};
 
-use crate::handle::JipHandle;
+use crate::handle::{Holder, JipHandle};
 use ados_volume::Volume;
 use c_values::{JipOwner, Refusal, copy_to, owners_of};
 use std::alloc::Global;

@@ -6,7 +6,7 @@ ghost use Rattle.adf_c.specs.Calls.{BlankComes, BlankEnds, OpenComes, OpenEnds, 
 ghost use Rattle.c_values.specs.Dates.{date_of};
 
 use crate::desk::Desk;
-use crate::handle::JipHandle;
+use crate::handle::{Holder, JipHandle};
 use adf_block::{Format, Image, size_ok};
 use ados_handler::Handler;
 use ados_model::FaultKind;

@@ -5,7 +5,7 @@ ghost use Rattle.std.specs.Option.{MatchOption};
 ghost use Rattle.c_values.specs.Buffers.{Refuses, TextEnds};
 ghost use Rattle.adf_c.specs.Salvaging.{AtPlace, EntryEnds, HasFileBytes, HasOwnName, InSaved, IsNoPlace, IsPast, IsToldAs, RefusesPlace, SalvageComes, SalvageEnds};
 
-use crate::salvage_handle::JipSalvage;
+use crate::handle::{Holder, JipSalvage};
 use adf_block::Image;
 use adf_salvage::{Salvage, salvage as salvaged};
 use c_values::{JipSalvaged, Refusal, put, status};

@@ -7,7 +7,7 @@ ghost use Rattle.adf_c.specs.Spelling.{carried};
 ghost use Rattle.c_values.specs.Telling.{fills as fills_buffer, handed_back};
 
 use crate::desk::Desk;
-use crate::handle::JipHandle;
+use crate::handle::{Holder, JipHandle};
 use crate::packet::JipPacket;
 use ados_model::{Action, Body, Buffer, Packet};
 use ados_name::{Date3, PathText};

@@ -1,22 +1,9 @@
--- The contents of a handle are the same for every thread, because a desk can be sent to any.
-use mir.Raw.{raw}
-use base.Shift.{Keyless}
-use denote.Memory.{lone}
-use denote.RawPtr.{Ptr}
-use denote.Param.Send.{IsSend, owning_send, sendable}
-use Rattle.std.specs.declared.alloc.Global.{Global}
-use Rattle.std.specs.declared.option.Option.{Option}
-use Rattle.std.specs.declared.option.Option.TheVariants.{None, Some}
-use Rattle.std.proofs.Crossing.{frees}
-use Rattle.std_alloc.proofs.SendSync.{lies}
-use Rattle.adf_c.specs.Holding.{holds}
-use Rattle.adf_c.specs.contracts.desk.Desk as desk
-use Rattle.adf_c.specs.contracts.handle.JipHandle.{the_row, the_type}
+-- A handle may go to another thread, because a desk may.
+use denote.Param.Send.{IsSend}
+use Rattle.adf_c.proofs.HandleValues.{crosses}
+use Rattle.adf_c.proofs.Handles.{handle}
+use Rattle.adf_c.specs.contracts.handle.JipHandle.{the_row}
 use Rattle.adf_c.proofs.desk.Desk.TheSendSync.{the_send}
 
-holds_keyless : (a : Global) (p : Ptr) (held : Option desk.the_row.Denot) → Keyless (holds desk.the_row a p held)
-holds_keyless a p None = λ e. tt
-holds_keyless a p (Some x) = (lies desk.the_row the_send p x, frees.frees a (raw (lone desk.the_row.mir)) p)
-
 pub send : IsSend the_row
-send = owning_send the_type (search sendable depth 20) (λ h. holds_keyless h.alloc h.at h.held) (λ k h w. tt)
+send = crosses handle the_send

@@ -1,0 +1,9 @@
+-- `closed` makes a salvage of null and the allocator.
+use Rattle.adf_c.proofs.HandleWalks.{closes}
+use Rattle.adf_c.proofs.Handles.{salvage}
+use Rattle.adf_c.specs.contracts.handle.JipSalvageHolder.closed.Key.{name}
+use Rattle.adf_c.proofs.handle.JipSalvageHolder.closed.Statement.{statement}
+use Rattle.adf_c.proofs.handle.JipSalvageHolder.closed.Code as code
+
+pub closed_spec : {M : Type 1} → statement M
+closed_spec 𝓤 𝓛 𝓜 𝓡 wired = closes salvage 𝓛 𝓜 𝓡 name (code.unfolded 𝓤 𝓛.H 𝓜 𝓡 wired)
