@@ -1,16 +1,14 @@
 -- The headers, one by one.
-use Rattle.std.proofs.Common.{◌≡◌, ◌≢◌, ℕ, ◌+◌, ◌<◌, ◌≤◌, ◌⊎◌, inl, inr, Bool, true, false, MatchBool, All, AllPairs, List, [], ◌∷◌, ◌++◌, length, slice_index, get_or, get_or-set_same, get_or-set_other, length-set, Contains, refl, sym, ap, ◌∙◌, subst, append_assoc, arith}
+use Rattle.std.proofs.Common.{◌≡◌, ◌≢◌, ℕ, ◌+◌, ◌<◌, ◌≤◌, inl, inr, Bool, true, false, MatchBool, All, AllPairs, List, [], ◌∷◌, ◌++◌, length, slice_index, get_or, get_or-set_same, get_or-set_other, length-set, Contains, refl, sym, ap, ◌∙◌, subst, append_assoc, arith}
 use Rattle.std.proofs.Math.ListN.{set}
 use Rattle.std.proofs.lemmas.Bool.{cases_eq, cases_order}
 use Rattle.std.proofs.lemmas.List.{get_or_append_left, get_or_default, length-append}
 use Rattle.std.proofs.lemmas.List.Elements.{Contains-append_left, Contains-append_right}
 use Rattle.std.proofs.lemmas.List.Quantifiers.{all_pairs_push}
-use Rattle.adf_block.specs.Image.{block_count, long}
-use Rattle.adf_block.specs.Fields.{parent_key}
-use Rattle.adf_block.specs.declared.layout.TheConstants.{FIRST_SLOT, TABLE_LONGS}
+use Rattle.adf_block.specs.Image.{block_count}
 use Rattle.ados_check.proofs.Counting.{AreDifferent, different_few}
 use Rattle.adf_salvage.specs.declared.headers.Found.{Found}
-use Rattle.adf_salvage.specs.Doubtful.{IsHeader, IsNamedHeader, IsRoot, IsSlot, IsToldHeader, MayBeHeader, NamesEntries}
+use Rattle.adf_salvage.specs.Doubtful.{IsHeader, IsNamedHeader, IsRoot, IsToldHeader, NamesEntries}
 use Rattle.adf_salvage.specs.Doubtful.NamesEntries.{of_root, of_sound, of_named}
 use Rattle.adf_salvage.specs.steps.Giving.{mark_at}
 use Rattle.adf_salvage.specs.steps.Heading.{AreFound, AreHeaders, AreSought, FindsMore, IsFound, IsSought}
@@ -58,11 +56,11 @@ finds_one out image old new block inside free noted grown header f =
     }
 
 module _ (out image : List ℕ) (old new : Found) (more : FindsMore out image old new) where
-  pub long_sought : (dir block at : ℕ) → IsSought out image old.marks.items dir block at → IsSought out image new.marks.items dir block at
-  long_sought dir block at sought looks parent = more.kept (long image block at) (sought looks parent)
+  pub long_sought : (block at : ℕ) → IsSought out image old.marks.items block at → IsSought out image new.marks.items block at
+  long_sought block at sought named place is looks = more.kept named (sought named place is looks)
 
   pub sought_kept : (block : ℕ) → AreSought out image old.marks.items block → AreSought out image new.marks.items block
-  sought_kept block sought dir at place looks parent = more.kept (long image block at) (sought dir at place looks parent)
+  sought_kept block sought at = long_sought block at (sought at)
 
 -- the blocks at places of the list that were followed
 pub sought_before : (out image : List ℕ) (old new : Found) (n : ℕ) → FindsMore out image old new → n ≤ length old.blocks.items
@@ -71,11 +69,6 @@ sought_before out image old new n more there all k l =
     let same : slice_index old.blocks.items k ≡ slice_index new.blocks.items k =
     sym (ap (λ (xs : List ℕ). slice_index xs k) more.grown ∙ get_or_append_left old.blocks.items more.more 0 k (omega (arith, l, there))) in
     subst (AreSought out image new.marks.items) same (sought_kept out image old new more (slice_index old.blocks.items k) (all k l))
-
--- all slots, by their numbers
-pub slots_sought : (out image : List ℕ) (marks : List Bool) (block : ℕ) → ((slot : ℕ) → slot < TABLE_LONGS → IsSought out image marks block block (FIRST_SLOT + slot))
-    → (at : ℕ) → IsSlot image block at → IsSought out image marks block block at
-slots_sought out image marks block all at (table, (slot, below, is)) = subst (IsSought out image marks block block) (sym is) (all slot below)
 
 -- the list has at most as many blocks as the image
 pub few_found : (out image : List ℕ) (found : Found) → AreFound out image found → length found.blocks.items ≤ block_count image
@@ -91,27 +84,16 @@ few_found out image found f = different_few (block_count image) found.blocks.ite
       | inr (inr more) ↦ absurd (f.once j i 0 more l (sym e))
     ]
 
--- where the root and all marked blocks were followed, each block that can name entries is the root or marked
+-- where the root and all marked blocks were followed, each block that can name entries was followed
 module _ (out image : List ℕ) (marks : List Bool) (sound : (block : ℕ) → IsToldHeader out image block → IsFound marks block)
     (root : (block : ℕ) → IsRoot image block → AreSought out image marks block) (others : (block : ℕ) → IsFound marks block → AreSought out image marks block) where
-  names_found : {block : ℕ} → NamesEntries out image block → IsRoot image block ⊎ IsFound marks block
-  names_found (of_root r) = inl r
-  names_found (of_sound s) = inr (sound _ s)
-  names_found (of_named {block} {holder} {at} h place named looks) =
-      let sought : AreSought out image marks holder = elim (names_found h) [
-        | inl r ↦ root holder r
-        | inr m ↦ others holder m
-      ] in
-      inr (subst (IsFound marks) named (sought (parent_key image block) at place (subst (MayBeHeader out image) (sym named) looks) (ap (parent_key image) named)))
+  names_sought : {block : ℕ} → NamesEntries out image block → AreSought out image marks block
+  names_sought (of_root r) = root _ r
+  names_sought (of_sound s) = others _ (sound _ s)
+  names_sought (of_named {block} {holder} {at} h place named looks) = others block (names_sought h at block place named looks)
 
   pub named_found : (block : ℕ) → IsNamedHeader out image block → IsFound marks block
-  named_found block d =
-      let n = d.named in
-      let sought : AreSought out image marks n.holder = elim (names_found n.accepted) [
-        | inl r ↦ root n.holder r
-        | inr m ↦ others n.holder m
-      ] in
-      subst (IsFound marks) n.named (sought (parent_key image block) n.at n.place (subst (MayBeHeader out image) (sym n.named) d.header) (ap (parent_key image) n.named))
+  named_found block d = let n = d.named in names_sought n.accepted n.at block n.place n.named d.header
 
 -- then the marks are right
 pub are_headers : (out image : List ℕ) (found : Found) → AreFound out image found → ((block : ℕ) → IsToldHeader out image block → IsFound found.marks.items block)

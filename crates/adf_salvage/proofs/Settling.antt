@@ -1,5 +1,5 @@
 -- Files without a header are added to the entries.
-use Rattle.std.proofs.Common.{◌≡◌, ◌≢◌, ℕ, zero, suc, ◌+◌, ◌<◌, ◌≤◌, ◌⊎◌, inl, inr, All, AllPairs, List, [], ◌∷◌, ◌++◌, length, map, slice_index, slice_index_or, get_or, Contains, Option, IsSome, is_some, refl, sym, ap, ◌∙◌, subst, arith}
+use Rattle.std.proofs.Common.{◌≡◌, ◌≢◌, ℕ, zero, suc, ◌+◌, ◌<◌, ◌≤◌, ◌⊎◌, inl, inr, All, AllPairs, List, [], ◌∷◌, ◌++◌, length, slice_index, get_or, Contains, Option, IsSome, is_some, sym, ap, ◌∙◌, subst, arith}
 use Rattle.std.proofs.Math.ListN.{set}
 use Rattle.std.proofs.lemmas.List.{get_or_default, get_or-map, map-set, set-get_or}
 use Rattle.std.proofs.lemmas.List.Elements.{All-set, Contains-append_cases, Contains-append_left}
@@ -11,7 +11,7 @@ use Rattle.adf_salvage.specs.Lost.{IsLost}
 use Rattle.adf_salvage.specs.Salvaged.{AreSalvaged, IsListed, IsLoose, broken_length, broken_total, headers_of}
 use Rattle.adf_salvage.specs.steps.Gathering.{AreAllHeaders, AreGathered, place_at}
 use Rattle.adf_salvage.specs.steps.Giving.{IsGiving}
-use Rattle.adf_salvage.specs.steps.Settling.{ArePlaced, AreSettled}
+use Rattle.adf_salvage.specs.steps.Settling.{AreSettled}
 use Rattle.adf_salvage.proofs.Growing.{all_more, broken_more, headers_more}
 use Rattle.adf_salvage.proofs.Saving.{all_salvaged}
 

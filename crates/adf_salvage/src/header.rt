@@ -1,17 +1,17 @@
 //! Headers, by themselves.
-ghost use Rattle.std.specs.Prelude.{◌≡◌, ◌<◌, ◌↔◌, IfOk, IsTrue, MatchOption};
+ghost use Rattle.std.specs.Prelude.{◌≡◌, ◌<◌, ◌↔◌, ℕ, Some, IfOk, IsTrue, MatchOption};
 ghost use Rattle.adf_block.specs.Image.{block_count};
 ghost use Rattle.adf_block.specs.Whole.{text_at};
 ghost use Rattle.ados_name.specs.Name.{IsName};
 ghost use Rattle.ados_check.specs.Marks.{HasEntryType};
 ghost use Rattle.ados_model.specs.Faults.{HasDirectoryType, HasFileType};
-ghost use Rattle.adf_salvage.specs.Doubtful.{HasTable, IsRoot, LooksLikeHeader};
+ghost use Rattle.adf_salvage.specs.Doubtful.{HasTable, IsPlaceIn, IsRoot, LooksLikeHeader};
 ghost use Rattle.adf_salvage.specs.Sound.{IsSoundHeader};
 
 use adf_block::Image;
 use adf_block::layout::{
-    BOOT_BLOCKS, COMMENT_BYTE, DIRECTORY_TYPE, FILE_TYPE, HEADER_TYPE, NAME_BYTE, OWN_KEY,
-    PRIMARY_TYPE, ROOT_TYPE, SECONDARY_TYPE,
+    BOOT_BLOCKS, COMMENT_BYTE, DIRECTORY_TYPE, FILE_TYPE, FIRST_SLOT, HEADER_TYPE, NAME_BYTE,
+    NEXT_IN_CHAIN, OWN_KEY, PARENT, PRIMARY_TYPE, ROOT_TYPE, SECONDARY_TYPE, TABLE_LONGS,
 };
 use ados_name::{Comment, Name};
 use itoa::Buffer;
@@ -49,8 +49,23 @@ pub(crate) fn is_root(image: &Image, block: u32) -> bool
         && image.long(block, SECONDARY_TYPE) == ROOT_TYPE
 }
 
+/// The directory for whose entries a long of a block is a place: for a slot of a hash table the block itself, for the
+/// next-entry long of an entry its parent. `None` for any other long.
+pub(crate) fn dir_of_place(image: &Image, block: u32, at: u32) -> Option<u32>
+    requires { block < block_count image.now }
+    ensures { (dir : ℕ) → IsPlaceIn image.now dir block at ↔ (result ≡ Some dir) }
+{
+    if at == NEXT_IN_CHAIN {
+        return is_entry(image, block).then_some(image.long(block, PARENT));
+    }
+    if at < FIRST_SLOT || at >= FIRST_SLOT + TABLE_LONGS {
+        return None;
+    }
+    has_table(image, block).then_some(block)
+}
+
 /// Whether a block has the type of a root or of a directory, which have a hash table.
-pub(crate) fn has_table(image: &Image, block: u32) -> bool
+fn has_table(image: &Image, block: u32) -> bool
     requires { block < block_count image.now }
     ensures { IsTrue result ↔ HasTable image.now block }
 {

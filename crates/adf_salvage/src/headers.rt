@@ -2,14 +2,13 @@
 //! or another header names.
 ghost use Rattle.std.specs.Prelude.{◌<◌, ◌↔◌, ℕ, List, length, IfOk, IsTrue, OnOk};
 ghost use Rattle.adf_block.specs.Image.{block_count};
-ghost use Rattle.adf_block.specs.Fields.{parent_key};
-ghost use Rattle.adf_salvage.specs.Doubtful.{IsHeader, IsNext, IsPlaceIn, IsRoot, IsSlot, IsToldHeader, MayBeHeader, NamesEntries};
+ghost use Rattle.adf_salvage.specs.Doubtful.{IsHeader, IsRoot, IsToldHeader, MayBeHeader, NamesEntries};
 ghost use Rattle.adf_salvage.specs.steps.Heading.{AreFound, AreHeaders, AreSought, FindsMore, IsFound, IsSought};
 
-use crate::header::{has_table, is_entry, is_root, is_sound_header, looks_like_header};
+use crate::header::{dir_of_place, is_root, is_sound_header, looks_like_header};
 use crate::left_out::LeftOut;
 use adf_block::Image;
-use adf_block::layout::{FIRST_SLOT, NEXT_IN_CHAIN, PARENT, TABLE_LONGS};
+use adf_block::layout::{BLOCK_LONGS, PARENT};
 use std::alloc::{AllocError, Global};
 
 /// The headers found so far.
@@ -111,68 +110,29 @@ impl Found {
         ensures more { OnOk result (FindsMore left_out.now image.now self.old self.new) }
         ensures sought { OnOk result (AreSought left_out.now image.now self.new.marks.items block) }
     {
-        self.follow_slots(image, left_out, block)?;
-        self.follow_next(image, left_out, block)
-    }
-
-    /// Notes those that the slots of a block name, if it has a hash table.
-    fn follow_slots(
-        &mut self,
-        image: &Image,
-        left_out: &LeftOut,
-        block: u32,
-    ) -> Result<(), AllocError>
-        requires inside { block < block_count image.now }
-        requires accepted { NamesEntries left_out.now image.now block }
-        requires found { AreFound left_out.now image.now self.old }
-        ensures more { OnOk result (FindsMore left_out.now image.now self.old self.new) }
-        ensures sought { OnOk result ((at : ℕ) → IsSlot image.now block at → IsSought left_out.now image.now self.new.marks.items block block at) }
-    {
-        if !has_table(image, block) {
-            return Ok(());
-        }
-        for slot in 0..TABLE_LONGS {
-            self.follow_long(image, left_out, block, FIRST_SLOT + slot, block)?;
+        for at in 0..BLOCK_LONGS {
+            self.follow_long(image, left_out, block, at)?;
         }
         Ok(())
     }
 
-    /// Notes the one that follows a block in its hash chain.
-    fn follow_next(
-        &mut self,
-        image: &Image,
-        left_out: &LeftOut,
-        block: u32,
-    ) -> Result<(), AllocError>
-        requires inside { block < block_count image.now }
-        requires accepted { NamesEntries left_out.now image.now block }
-        requires found { AreFound left_out.now image.now self.old }
-        ensures more { OnOk result (FindsMore left_out.now image.now self.old self.new) }
-        ensures sought { OnOk result ((at : ℕ) → IsNext image.now block at → IsSought left_out.now image.now self.new.marks.items (parent_key image.now block) block at) }
-    {
-        if !is_entry(image, block) {
-            return Ok(());
-        }
-        let dir = image.long(block, PARENT);
-        self.follow_long(image, left_out, block, NEXT_IN_CHAIN, dir)
-    }
-
-    /// Notes the block that a place of a directory names, if it looks like a header of that directory.
+    /// Notes the block that a long of a block names as an entry, if it looks like a header of the same directory.
     fn follow_long(
         &mut self,
         image: &Image,
         left_out: &LeftOut,
         block: u32,
         at: u32,
-        dir: u32,
     ) -> Result<(), AllocError>
         requires inside { (block < block_count image.now) × (at < 128) }
         requires accepted { NamesEntries left_out.now image.now block }
-        requires place { IsPlaceIn image.now dir block at }
         requires found { AreFound left_out.now image.now self.old }
         ensures more { OnOk result (FindsMore left_out.now image.now self.old self.new) }
-        ensures sought { OnOk result (IsSought left_out.now image.now self.new.marks.items dir block at) }
+        ensures sought { OnOk result (IsSought left_out.now image.now self.new.marks.items block at) }
     {
+        let Some(dir) = dir_of_place(image, block, at) else {
+            return Ok(());
+        };
         let named = image.long(block, at);
         if !may_be_header(image, left_out, named) || image.long(named, PARENT) != dir {
             return Ok(());

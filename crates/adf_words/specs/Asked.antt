@@ -1,10 +1,10 @@
 -- The changes, and the jobs for a boot block, that arguments ask for.
-use Rattle.std.specs.Prelude.{◌≡◌, ◌≢◌, ◌<◌, ◌^◌, ◌∷◌, ℕ, Bool, List, [], Option, Some, None, IsSome, All, option_map, codes, decimal, map}
+use Rattle.std.specs.Prelude.{◌≡◌, ◌≢◌, ◌<◌, ◌≤◌, ◌^◌, ◌∷◌, ℕ, Bool, List, [], Option, Some, None, IsSome, All, option_map, codes, decimal, map}
 use Rattle.std.specs.Borrow.{Bor}
 use Rattle.std.specs.Option.{option_map_or}
 use Rattle.clap.specs.Matches.{first_value, matched_of, one_text, raw_values}
 use Rattle.clap.specs.declared.parser.matches.Found.{Found}
-use Rattle.adf_block.specs.Whole.{IsSize}
+use Rattle.adf_block.specs.declared.layout.TheConstants.{FEWEST_BLOCKS, MOST_BLOCKS}
 use Rattle.adf_text.specs.ProtectWords.{protect_word}
 use Rattle.adf_words.specs.Blocks.{IsOnFloppy, block_text}
 use Rattle.adf_words.specs.Lists.{IsFlag}
@@ -39,11 +39,15 @@ IsGiven found id = (one_text found id ≢ None) × (one_text found id ≢ Some (
 abbrev pub IsLeftOut : Found → List ℕ → Type 0
 IsLeftOut found id = one_text found id ≢ Some (codes "true")
 
--- without the option the whole file is the image; with it, as many of its first blocks as the option says in decimal digits
+-- the number of an option in this range, as it says in decimal digits; none without the option
+abbrev pub IsNumberOf : Found → List ℕ → ℕ → ℕ → Option ℕ → Type 0
+IsNumberOf found id least most None = first_value found id ≡ None
+IsNumberOf found id least most (Some number) =
+    (least ≤ number) × (number ≤ most) × (first_value found id ≢ None) × ((n : ℕ) → n < 2 ^ 64 → first_value found id ≡ Some (decimal n) → number ≡ n)
+
+-- without the option the whole file is the image; with it, as many of its first blocks as the option says
 abbrev pub AreFirstBlocks : Found → Option ℕ → Type 0
-AreFirstBlocks found None = first_value found (codes "blocks") ≡ None
-AreFirstBlocks found (Some blocks) =
-    IsSize blocks × (first_value found (codes "blocks") ≢ None) × ((n : ℕ) → n < 2 ^ 64 → first_value found (codes "blocks") ≡ Some (decimal n) → blocks ≡ n)
+AreFirstBlocks found = IsNumberOf found (codes "blocks") FEWEST_BLOCKS MOST_BLOCKS
 
 -- the path of the image file is this argument, and its first blocks are the image, if the option says how many
 pub record IsFileOf (found : Found) (file : ImageFile) : Type 0 where

@@ -1,9 +1,9 @@
 -- Arguments that name blocks.
 use Rattle.std.specs.Prelude.{◌≡◌, ◌≢◌, ℕ, ◌<◌, ◌^◌, List, ◌++◌, Any, codes, decimal, ⊤}
+use Rattle.adf_words.specs.Given.{TellsOf}
 use Rattle.adf_words.specs.declared.block_word.BlockWord.{BlockWord}
 use Rattle.adf_words.specs.declared.block_word.BlockWord.TheVariants.{Number, Sector}
 use Rattle.adf_words.specs.declared.fault.WordsFault.{WordsFault}
-use Rattle.adf_words.specs.declared.fault.WordsFault.TheVariants.{Usage, Memory}
 use Rattle.adf_words.specs.declared.floppy.TheConstants.{HEADS, HIGH_TRACK}
 
 -- the argument for a block: its number, or `c` and its cylinder, `.h` and its head, `.s` and its sector
@@ -32,10 +32,8 @@ NamesNone word = (block : BlockWord) → HasLongs block → IsOnFloppy block →
 
 -- a wrong command line is reported only if the argument names no block
 abbrev pub TellsNoBlock : List ℕ → WordsFault → Type 0
-TellsNoBlock word (Usage told) = NamesNone word
-TellsNoBlock word Memory = ⊤
+TellsNoBlock word = TellsOf (NamesNone word)
 
 -- a wrong command line is reported only if one of the arguments names no block
 abbrev pub TellsNoBlocks : List (List ℕ) → WordsFault → Type 0
-TellsNoBlocks words (Usage told) = Any NamesNone words
-TellsNoBlocks words Memory = ⊤
+TellsNoBlocks words = TellsOf (Any NamesNone words)

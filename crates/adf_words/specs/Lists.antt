@@ -1,14 +1,14 @@
 -- The form and the order of a list that arguments ask for.
-use Rattle.std.specs.Prelude.{◌≡◌, ◌≢◌, ⊤, Bool, true, false, if◌then◌else◌, List, ℕ, Some, codes}
+use Rattle.std.specs.Prelude.{◌≡◌, ◌≢◌, Bool, true, false, if◌then◌else◌, List, ℕ, Some, codes}
 use Rattle.std.specs.Option.{MatchOption}
 use Rattle.clap.specs.Matches.{first_value, one_text}
 use Rattle.clap.specs.declared.parser.matches.Found.{Found}
+use Rattle.adf_words.specs.Given.{TellsOf}
 use Rattle.adf_words.specs.declared.query.ListForm.{ListForm}
 use Rattle.adf_words.specs.declared.query.ListForm.TheVariants.{Bytes, Letters, Long, Bold, Json}
 use Rattle.adf_words.specs.declared.query.ListOrder.{ListOrder}
 use Rattle.adf_words.specs.declared.query.ListOrder.TheVariants.{Disk, Name, Size, Date}
 use Rattle.adf_words.specs.declared.fault.WordsFault.{WordsFault}
-use Rattle.adf_words.specs.declared.fault.WordsFault.TheVariants.{Usage, Memory}
 
 -- whether an option without a value is given
 abbrev pub IsFlag : Found → List ℕ → Bool → Type 0
@@ -49,5 +49,4 @@ IsOrderOf found form order = MatchOption (first_value found (codes "sort")) (ord
 
 -- a wrong command line is reported only if the argument names no order
 abbrev pub TellsNoOrder : List ℕ → WordsFault → Type 0
-TellsNoOrder text (Usage told) = (order : ListOrder) → text ≢ order_word order
-TellsNoOrder text Memory = ⊤
+TellsNoOrder text = TellsOf ((order : ListOrder) → text ≢ order_word order)

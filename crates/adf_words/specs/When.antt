@@ -1,9 +1,9 @@
 -- Arguments that are dates or moments.
-use Rattle.std.specs.Prelude.{◌≡◌, ◌≢◌, ℕ, List, Option, Some, None, codes, ⊤}
+use Rattle.std.specs.Prelude.{◌≡◌, ◌≢◌, ℕ, List, Option, Some, None, codes}
 use Rattle.ados_name.specs.declared.stamp.Date3.{Date3}
 use Rattle.adf_text.specs.Written.{HasNoWritten, IsWritten}
+use Rattle.adf_words.specs.Given.{TellsOf}
 use Rattle.adf_words.specs.declared.fault.WordsFault.{WordsFault}
-use Rattle.adf_words.specs.declared.fault.WordsFault.TheVariants.{Usage, Memory}
 
 -- the moment of an argument: a written date, or none for `now`
 abbrev pub IsWhen : List ℕ → Option Date3 → Type 0
@@ -12,5 +12,4 @@ IsWhen text None = text ≡ codes "now"
 
 -- a wrong command line is reported only if the argument is neither a written date nor `now`
 abbrev pub TellsNoWhen : List ℕ → WordsFault → Type 0
-TellsNoWhen text (Usage told) = HasNoWritten text × (text ≢ codes "now")
-TellsNoWhen text Memory = ⊤
+TellsNoWhen text = TellsOf (HasNoWritten text × (text ≢ codes "now"))

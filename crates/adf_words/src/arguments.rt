@@ -1,5 +1,5 @@
 //! The arguments of a command, as `clap` parsed them.
-ghost use Rattle.std.specs.Prelude.{◌≡◌, Bool, IfOk, IsFalse, IsTrue, Some, codes, map, option_map};
+ghost use Rattle.std.specs.Prelude.{◌≡◌, ◌<◌, Bool, IfOk, IsFalse, IsTrue, Some, codes, length, map, option_map};
 ghost use Rattle.clap.specs.Matches.{first_value, found_of};
 ghost use Rattle.adf_words.specs.Asked.{IsFileOf, IsGiven, IsLeftOut, IsTargetOf, all_values};
 ghost use Rattle.adf_words.specs.Lists.{IsFlag};
@@ -18,7 +18,7 @@ pub(crate) struct Arguments<'a, 'b> {
     pub(crate) words: &'b ArgMatches<'a>,
 }
 
-impl<'a> Arguments<'a, '_> {
+impl<'a, 'b> Arguments<'a, 'b> {
     /// Whether an option without a value is given.
     pub(crate) fn flag(&self, id: &str) -> bool
         ensures value { (given : Bool) → IsFlag (found_of self.now.words.now) id.now given → result ≡ given }
@@ -68,16 +68,26 @@ impl<'a> Arguments<'a, '_> {
 
     /// The fault of a missing argument.
     pub(crate) fn missing(&self, id: &str) -> WordsFault {
-        WordsFault::usage(format!(in self.alloc;
-            "error: <{id}> is missing\n\nFor more information, try '--help'.\n"
-        ))
+        WordsFault::wrong(self.alloc, format_args!("error: <{id}> is missing"))
     }
 
     /// The values of an argument that can have many.
-    pub(crate) fn words(&self, id: &str) -> Result<Vec<&'a str>, WordsFault>
-        ensures { IfOk result (λ words. map (λ word. word.now) words.items ≡ all_values (found_of self.now.words.now) id.now) }
+    pub(crate) fn words(&self, id: &str) -> &'b [&'a str]
+        ensures { map (λ word. word.now) result.now ≡ all_values (found_of self.now.words.now) id.now }
     {
-        Ok(Vec::from_slice(self.alloc, self.words.get_strs(id).unwrap_or(&[]))?)
+        self.words.get_strs(id).unwrap_or(&[])
+    }
+
+    /// The values of an argument that has at least one.
+    pub(crate) fn some_words(&self, id: &str) -> Result<&'b [&'a str], WordsFault>
+        ensures words { IfOk result (λ words. map (λ word. word.now) words.now ≡ all_values (found_of self.now.words.now) id.now) }
+        ensures some { IfOk result (λ words. 0 < length words.now) }
+    {
+        let words = self.words(id);
+        if words.is_empty() {
+            return Err(self.missing(id));
+        }
+        Ok(words)
     }
 
     /// A required argument whose letters are bytes.
@@ -91,9 +101,10 @@ impl<'a> Arguments<'a, '_> {
     pub(crate) fn paths(&self) -> Result<Vec<&'a str>, WordsFault>
         ensures { IfOk result (λ words. map (λ word. word.now) words.items ≡ all_values (found_of self.now.words.now) (codes "PATH")) }
     {
-        for path in self.words.get_strs("PATH").unwrap_or(&[]) {
+        let paths = self.words("PATH");
+        for path in paths {
             letters_of(self.alloc, *path)?;
         }
-        self.words("PATH")
+        Ok(Vec::from_slice(self.alloc, paths)?)
     }
 }

@@ -64,9 +64,12 @@ fn block_of(alloc: Global, word: &str) -> Result<BlockWord, WordsFault>
 {
     match named_block(alloc, word)? {
         Some(block) => Ok(block),
-        None => Err(WordsFault::Usage(format!(in alloc;
-            "error: invalid value '{word}' for '[BLOCK]...': the number of a block is expected, or its cylinder, head and sector as c40.h0.s10, with head 0 or 1 and a sector from 0 to 21\n\nFor more information, try '--help'.\n"
-        )?)),
+        None => Err(WordsFault::wrong(
+            alloc,
+            format_args!(
+                "error: invalid value '{word}' for '[BLOCK]...': the number of a block is expected, or its cylinder, head and sector as c40.h0.s10, with head 0 or 1 and a sector from 0 to 21"
+            ),
+        )),
     }
 }
 

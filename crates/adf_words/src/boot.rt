@@ -22,7 +22,7 @@ pub enum BootBlock<'a> {
 pub(crate) fn boot_job<'a>(arguments: &Arguments<'a, '_>) -> Result<ImageJob<'a>, WordsFault>
     ensures { IfOk result (IsBootOf (found_of arguments.now.words.now)) }
 {
-    arguments.given_moment()?;
+    arguments.moment()?;
     let target = arguments.target()?;
     let image = target.image;
     if arguments.flag("show") {

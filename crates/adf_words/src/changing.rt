@@ -11,52 +11,45 @@ use crate::job::ImageJob;
 use crate::letters::{letters_of, protection_word};
 use std::alloc::Global;
 
-/// The job of a command that changes a volume; `None` for any other command.
+/// The job of a command that changes a volume.
 pub(crate) fn change_job<'a>(
     name: &str,
     arguments: &Arguments<'a, '_>,
-) -> Result<Option<ImageJob<'a>>, WordsFault> {
+) -> Result<ImageJob<'a>, WordsFault> {
     let target = arguments.target()?;
-    let Some(change) = change_of(name, arguments)? else {
-        return Ok(None);
-    };
-    Ok(Some(ImageJob::Change(ChangeJob {
+    let change = change_of(name, arguments)?;
+    Ok(ImageJob::Change(ChangeJob {
         target,
-        moment: arguments.given_moment()?,
+        moment: arguments.moment()?,
         change,
-    })))
+    }))
 }
 
 /// The job of `add`: a change of the volume, or with `--bundle` a volume that a directory of the host describes. A
 /// bundle has its own dates, so a time stamp is checked and dropped.
-pub(crate) fn add_job<'a>(
-    arguments: &Arguments<'a, '_>,
-) -> Result<Option<ImageJob<'a>>, WordsFault> {
+pub(crate) fn add_job<'a>(arguments: &Arguments<'a, '_>) -> Result<ImageJob<'a>, WordsFault> {
     let Some(from) = arguments.given("bundle") else {
         return change_job("add", arguments);
     };
-    arguments.given_moment()?;
+    arguments.moment()?;
     let target = arguments.target()?;
-    Ok(Some(ImageJob::AddBundle { target, from }))
+    Ok(ImageJob::AddBundle { target, from })
 }
 
 /// The job of `validate`. Nothing there has a time stamp, so its value is checked and dropped.
 pub(crate) fn validate_job<'a>(arguments: &Arguments<'a, '_>) -> Result<ImageJob<'a>, WordsFault>
     ensures { IfOk result (IsValidateOf (found_of arguments.now.words.now)) }
 {
-    arguments.given_moment()?;
+    arguments.moment()?;
     Ok(ImageJob::Validate {
         target: arguments.target()?,
         force: arguments.flag("force"),
     })
 }
 
-/// The change of a command; `None` for a command without one.
-fn change_of<'a>(
-    name: &str,
-    arguments: &Arguments<'a, '_>,
-) -> Result<Option<Change<'a>>, WordsFault> {
-    let change = match name {
+/// The change of a command. A name that no command has makes the command line wrong; `clap` gives none.
+fn change_of<'a>(name: &str, arguments: &Arguments<'a, '_>) -> Result<Change<'a>, WordsFault> {
+    match name {
         "add" => add(arguments),
         "mkdir" => make_directories(arguments),
         "delete" => delete(arguments),
@@ -65,21 +58,20 @@ fn change_of<'a>(
         "date" => date(arguments),
         "comment" => comment(arguments),
         "relabel" => relabel(arguments),
-        _ => return Ok(None),
-    };
-    Ok(Some(change?))
+        _ => Err(WordsFault::wrong(
+            arguments.alloc,
+            format_args!("error: unrecognized subcommand '{name}'"),
+        )),
+    }
 }
 
 /// The change of `add`: of files and directories under their own names, or of one file under another.
 fn add<'a>(arguments: &Arguments<'a, '_>) -> Result<Change<'a>, WordsFault> {
     let to = letters_of(arguments.alloc, arguments.given("to").unwrap_or(""))?;
-    let files = arguments.words("FILE")?;
-    if files.is_empty() {
-        return Err(arguments.missing("FILE"));
-    }
+    let files = arguments.some_words("FILE")?;
     let force = arguments.flag("force");
     match arguments.given("as") {
-        Some(name) => add_as(arguments.alloc, files.as_slice(), name, to, force),
+        Some(name) => add_as(arguments.alloc, files, name, to, force),
         None => add_files(arguments.alloc, files, to, force),
     }
 }
@@ -87,19 +79,23 @@ fn add<'a>(arguments: &Arguments<'a, '_>) -> Result<Change<'a>, WordsFault> {
 /// The change of `add` without `--as`. Standard input has no name of its own, so it makes the command line wrong.
 fn add_files<'a>(
     alloc: Global,
-    files: Vec<&'a str>,
+    files: &[&'a str],
     to: &'a str,
     force: bool,
 ) -> Result<Change<'a>, WordsFault>
-    ensures { IfOk result (IsAddOf files.entry.items to.now force) }
+    ensures { IfOk result (IsAddOf files.now to.now force) }
 {
-    for file in files.iter() {
+    for file in files {
         if *file == "-" {
-            return Err(WordsFault::usage(format!(in alloc;
-                "error: FILE '-' is standard input, which has no name: '--as <NAME>' gives it one\n\nFor more information, try '--help'.\n"
-            )));
+            return Err(WordsFault::wrong(
+                alloc,
+                format_args!(
+                    "error: FILE '-' is standard input, which has no name: '--as <NAME>' gives it one"
+                ),
+            ));
         }
     }
+    let files = Vec::from_slice(alloc, files)?;
     Ok(Change::Add { files, to, force })
 }
 
@@ -114,10 +110,13 @@ fn add_as<'a>(
     ensures { IfOk result (IsAddAs files.now name.now to.now force) }
 {
     let [file] = files else {
-        return Err(WordsFault::usage(format!(in alloc;
-            "error: '--as <NAME>' takes one FILE, and there are {}\n\nFor more information, try '--help'.\n",
-            files.len()
-        )));
+        return Err(WordsFault::wrong(
+            alloc,
+            format_args!(
+                "error: '--as <NAME>' takes one FILE, and there are {}",
+                files.len()
+            ),
+        ));
     };
     let source = source_of(*file);
     Ok(Change::AddAs {

@@ -21,8 +21,11 @@ pub(crate) fn moment_word(
     }
     match written_date(alloc, word.as_bytes())? {
         Some(date) => Ok(Some(date)),
-        None => Err(WordsFault::Usage(format!(in alloc;
-            "error: invalid value '{word}' for '{name}': now, or a date from 1978-01-01 on, is expected, as YYYY-MM-DD or 'YYYY-MM-DD HH:MM:SS.CC', where .CC, :SS and the time may be left out, and CC is even\n\nFor more information, try '--help'.\n"
-        )?)),
+        None => Err(WordsFault::wrong(
+            alloc,
+            format_args!(
+                "error: invalid value '{word}' for '{name}': now, or a date from 1978-01-01 on, is expected, as YYYY-MM-DD or 'YYYY-MM-DD HH:MM:SS.CC', where .CC, :SS and the time may be left out, and CC is even"
+            ),
+        )),
     }
 }

@@ -1,5 +1,6 @@
 //! Why a command line has no job.
-use std::alloc::AllocError;
+use std::alloc::{AllocError, Global};
+use std::fmt::Display;
 
 /// Why a command line has no job.
 #[derive(Drop)]
@@ -17,6 +18,11 @@ impl WordsFault {
             Ok(text) => WordsFault::Usage(text),
             Err(_) => WordsFault::Memory,
         }
+    }
+
+    /// A wrong command line. The text says what is wrong with it, and then where there is help.
+    pub(crate) fn wrong<T: Display + Drop>(alloc: Global, what: T) -> WordsFault {
+        WordsFault::usage(format!(in alloc; "{what}\n\nFor more information, try '--help'.\n"))
     }
 }
 

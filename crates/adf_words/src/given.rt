@@ -4,7 +4,7 @@ ghost use Rattle.std.specs.String.{string_bytes};
 ghost use Rattle.adf_words.specs.Given.{TellsForeign};
 
 use crate::fault::WordsFault;
-use std::alloc::{AllocError, Global};
+use std::alloc::Global;
 use std::env::FillError;
 use std::rt::Env;
 
@@ -17,15 +17,29 @@ const USUAL: usize = 1_024;
 /// The arguments after the program's name. If one is not UTF-8, the command line is wrong, and the text says which one
 /// it is.
 pub fn given_words<E: Env>(rt: &E, alloc: Global) -> Result<Vec<String>, WordsFault> {
-    let mut words = Vec::new(alloc);
     let mut buffer = vec![in alloc; 0u8; USUAL]?;
+    let mut words = Vec::new(alloc);
+    match add_words(rt, alloc, &mut buffer, &mut words) {
+        Ok(()) => Ok(words),
+        Err(fault) => Err(fault),
+    }
+}
+
+/// Appends the arguments after the program's name.
+fn add_words<E: Env>(
+    rt: &E,
+    alloc: Global,
+    buffer: &mut Vec<u8>,
+    words: &mut Vec<String>,
+) -> Result<(), WordsFault> {
     for place in 1..usize::MAX {
-        match given_word(rt, alloc, place, &mut buffer)? {
-            Some(word) => words.push(word).map_err(AllocError::from)?,
-            None => return Ok(words),
+        words.reserve(1)?;
+        match given_word(rt, alloc, place, buffer)? {
+            Some(word) => words.push_reserved(word),
+            None => return Ok(()),
         }
     }
-    Ok(words)
+    Ok(())
 }
 
 /// The argument at a position; `None` after the last. The buffer grows if the argument does not fit.
@@ -41,9 +55,10 @@ fn given_word<E: Env>(
     match rt.arg(place, buffer) {
         Ok(length) => Ok(Some(word_of(alloc, place, &buffer[..length])?)),
         Err(FillError::NotPresent) => Ok(None),
-        Err(FillError::TooLong) => Err(WordsFault::usage(format!(in alloc;
-            "error: argument {place} is too long\n\nFor more information, try '--help'.\n"
-        ))),
+        Err(FillError::TooLong) => Err(WordsFault::wrong(
+            alloc,
+            format_args!("error: argument {place} is too long"),
+        )),
     }
 }
 
@@ -56,10 +71,13 @@ pub fn word_of(alloc: Global, place: usize, bytes: &[u8]) -> Result<String, Word
         Ok(word) => Ok(String::from_str(alloc, word)?),
         Err(_) => {
             let shown = String::from_utf8_lossy(alloc, bytes)?;
-            Err(WordsFault::Usage(format!(in alloc;
-                "error: argument {place}, '{}', is not UTF-8\n\nFor more information, try '--help'.\n",
-                shown.as_str()
-            )?))
+            Err(WordsFault::wrong(
+                alloc,
+                format_args!(
+                    "error: argument {place}, '{}', is not UTF-8",
+                    shown.as_str()
+                ),
+            ))
         }
     }
 }

@@ -17,9 +17,12 @@ pub(crate) fn letters_of<'a>(alloc: Global, word: &'a str) -> Result<&'a str, Wo
     match letter_bytes(alloc, word) {
         Ok(_) => Ok(word),
         Err(LettersFault::Memory) => Err(WordsFault::Memory),
-        Err(LettersFault::NoByte { letter, .. }) => Err(WordsFault::usage(format!(in alloc;
-            "error: the letter '{letter}' of '{word}' stands for no byte: names, paths and comments have letters up to U+00FF\n\nFor more information, try '--help'.\n"
-        ))),
+        Err(LettersFault::NoByte { letter, .. }) => Err(WordsFault::wrong(
+            alloc,
+            format_args!(
+                "error: the letter '{letter}' of '{word}' stands for no byte: names, paths and comments have letters up to U+00FF"
+            ),
+        )),
     }
 }
 
@@ -31,8 +34,11 @@ pub(crate) fn protection_word<'a>(alloc: Global, word: &'a str) -> Result<&'a st
 {
     match protect_word(word.as_bytes()) {
         Some(_) => Ok(word),
-        None => Err(WordsFault::Usage(format!(in alloc;
-            "error: invalid value '{word}' for '<LETTERS>': expected letters of hsparwed, as rwed, ----rwed, +s or -w\n\nFor more information, try '--help'.\n"
-        )?)),
+        None => Err(WordsFault::wrong(
+            alloc,
+            format_args!(
+                "error: invalid value '{word}' for '<LETTERS>': expected letters of hsparwed, as rwed, ----rwed, +s or -w"
+            ),
+        )),
     }
 }

@@ -10,12 +10,11 @@ use crate::floppy::{DOUBLE_DENSITY, HIGH_DENSITY};
 use crate::image_file::ImageFile;
 use crate::job::{ImageJob, Job, ServeJob};
 use crate::letters::letters_of;
-use crate::table::{BLOCKS, TURNS};
 use crate::taking::{
     check_job, extract_job, list_job, map_job, print_job, show_job, undelete_job, where_job,
 };
 use adf_block::Format;
-use clap::Command;
+use clap::ArgMatches;
 use std::alloc::Global;
 
 /// The job of these arguments, which follow the program's name.
@@ -26,43 +25,36 @@ pub fn read_words<'a>(alloc: Global, words: &'a [String]) -> Result<Job<'a>, Wor
     let Some(first) = words.first() else {
         return Ok(Job::Script);
     };
-    let mut command = program(alloc, first.as_str())?;
-    Ok(Job::OnImage(asked_job(alloc, &mut command, words)?))
-}
-
-/// The job of these arguments. Without a command, the help is printed.
-fn asked_job<'a>(
-    alloc: Global,
-    program: &mut Command<'a>,
-    words: &'a [String],
-) -> Result<ImageJob<'a>, WordsFault> {
-    match named_job(alloc, program, words)? {
-        Some(job) => Ok(job),
-        None => Err(WordsFault::usage(program.render_help())),
+    match asked_job(alloc, first.as_str(), words) {
+        Ok(job) => Ok(Job::OnImage(job)),
+        Err(fault) => Err(fault),
     }
 }
 
-/// The job of the command in these arguments, if there is one.
-fn named_job<'a>(
+/// The job of these arguments, of which this is the first. Without a command, the help is printed.
+fn asked_job<'a>(
     alloc: Global,
-    program: &mut Command<'a>,
+    first: &str,
     words: &'a [String],
-) -> Result<Option<ImageJob<'a>>, WordsFault> {
-    match program.try_get_matches_from_mut(words) {
-        Ok(matches) => match matches.subcommand() {
-            Some((name, words)) => job_of(name, &Arguments { alloc, words }),
-            None => Ok(None),
-        },
+) -> Result<ImageJob<'a>, WordsFault> {
+    let Ok(program) = program(alloc, first) else {
+        return Err(WordsFault::Memory);
+    };
+    match program.try_get_matches_from(words) {
+        Ok(matches) => named_job(alloc, &matches),
         Err(error) => Err(WordsFault::usage(error.to_string(alloc))),
     }
 }
 
+/// The job of the command in these arguments. `clap` finds one: without it, its answer is the help.
+fn named_job<'a>(alloc: Global, matches: &ArgMatches<'a>) -> Result<ImageJob<'a>, WordsFault> {
+    let (name, words) = matches.subcommand().unwrap_or(("", matches));
+    job_of(name, &Arguments { alloc, words })
+}
+
 /// The job of a command with its arguments.
-fn job_of<'a>(
-    name: &str,
-    arguments: &Arguments<'a, '_>,
-) -> Result<Option<ImageJob<'a>>, WordsFault> {
-    let job = match name {
+fn job_of<'a>(name: &str, arguments: &Arguments<'a, '_>) -> Result<ImageJob<'a>, WordsFault> {
+    match name {
         "blank" => blank_job(arguments),
         "info" => info_job(arguments),
         "show" => show_job(arguments),
@@ -76,10 +68,9 @@ fn job_of<'a>(
         "validate" => validate_job(arguments),
         "boot" => boot_job(arguments),
         "serve" => serve_job(arguments),
-        "add" => return add_job(arguments),
-        _ => return change_job(name, arguments),
-    };
-    Ok(Some(job?))
+        "add" => add_job(arguments),
+        _ => change_job(name, arguments),
+    }
 }
 
 /// The job of `blank`.
@@ -101,14 +92,13 @@ fn blank_job<'a>(arguments: &Arguments<'a, '_>) -> Result<ImageJob<'a>, WordsFau
 
 /// The number of blocks of a blank image.
 fn blocks_of(arguments: &Arguments<'_, '_>) -> Result<u32, WordsFault> {
-    if arguments.given("blocks").is_some() {
-        return Ok(arguments.number("blocks", &BLOCKS)? as u32);
-    }
-    Ok(if arguments.flag("hd") {
+    let blocks = arguments.first_blocks()?;
+    let usual = if arguments.flag("hd") {
         HIGH_DENSITY
     } else {
         DOUBLE_DENSITY
-    })
+    };
+    Ok(blocks.unwrap_or(usual))
 }
 
 /// The format of a blank image.
@@ -133,15 +123,12 @@ fn info_job<'a>(arguments: &Arguments<'a, '_>) -> Result<ImageJob<'a>, WordsFaul
 /// The job of `serve`.
 fn serve_job<'a>(arguments: &Arguments<'a, '_>) -> Result<ImageJob<'a>, WordsFault> {
     let image = arguments.image()?;
-    let turns = arguments.number("turns", &TURNS)?;
+    let turns = arguments.turns()?;
     let moment = arguments.moment()?;
-    let scripts = arguments.words("SCRIPT")?;
-    if scripts.is_empty() {
-        return Err(arguments.missing("SCRIPT"));
-    }
+    let scripts = arguments.some_words("SCRIPT")?;
     Ok(ImageJob::Serve(ServeJob {
         image,
-        scripts,
+        scripts: Vec::from_slice(arguments.alloc, scripts)?,
         out: arguments.given("out"),
         turns,
         moment,

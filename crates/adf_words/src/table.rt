@@ -1,5 +1,6 @@
 //! The commands and their arguments, with the texts of the help.
 use adf_block::layout::{FEWEST_BLOCKS, MOST_BLOCKS};
+use clap::ArgAction;
 
 /// A command.
 #[derive(Clone, Copy)]
@@ -56,29 +57,39 @@ pub(crate) enum Kind {
     Any,
 }
 
+impl Kind {
+    /// What a use of the argument does.
+    pub(crate) fn action(self) -> ArgAction {
+        match self {
+            Kind::Flag { .. } | Kind::With { .. } => ArgAction::SetTrue,
+            Kind::OneOrMore | Kind::Any => ArgAction::Append,
+            _ => ArgAction::Set,
+        }
+    }
+
+    /// Whether a command line without the argument is wrong.
+    pub(crate) fn is_required(self) -> bool {
+        matches!(self, Kind::One | Kind::Dashed | Kind::OneOrMore)
+    }
+}
+
 /// The range of numbers for an option, both ends included.
 #[derive(Clone, Copy)]
 pub(crate) struct NumberRange {
-    pub(crate) least: u64,
-    pub(crate) most: u64,
+    pub(crate) least: u32,
+    pub(crate) most: u32,
 }
 
 /// The range of `blocks`.
 pub(crate) const BLOCKS: NumberRange = NumberRange {
-    least: FEWEST_BLOCKS as u64,
-    most: MOST_BLOCKS as u64,
+    least: FEWEST_BLOCKS,
+    most: MOST_BLOCKS,
 };
 
 /// The range of `jobs`.
 pub(crate) const JOBS: NumberRange = NumberRange {
     least: 1,
     most: 4_294_967_295,
-};
-
-/// The range of `turns`.
-pub(crate) const TURNS: NumberRange = NumberRange {
-    least: 0,
-    most: 18_446_744_073_709_551_615,
 };
 
 /// The range of `days`, `minutes` and `ticks`.
@@ -135,7 +146,7 @@ const PROTECT_EXAMPLES: &str = "Examples:\n  adf_serve protect work.adf c/dir rw
 
 /// The arguments of each command that changes an image.
 #[rattlefmt::skip]
-pub(crate) const CHANGING: [ArgumentRow; 8] = [
+pub(crate) const CHANGING: &[ArgumentRow] = &[
     ArgumentRow { name: "out", kind: Kind::Option { value: "FILE", default: None }, help: "Writes the changed image to this file, and leaves IMAGE as it is" },
     ArgumentRow { name: "over", kind: FLAG, help: "Lets `--out` write over a file that is not an image" },
     ArgumentRow { name: "date", kind: WHEN, help: "The time stamp of the change, as `YYYY-MM-DD` or `YYYY-MM-DD HH:MM[:SS[.CC]]`, in place of the numbers. `now` is the clock (UTC)" },

@@ -12,17 +12,16 @@ use crate::letters::letters_of;
 use crate::query::{
     CheckJob, ExtractJob, ListForm, ListJob, ListOrder, SalvageJob, UndeleteJob, WhereJob,
 };
+use crate::table::JOBS;
 use std::alloc::Global;
 
 /// The job of `check`.
 pub(crate) fn check_job<'a>(arguments: &Arguments<'a, '_>) -> Result<ImageJob<'a>, WordsFault> {
-    let (jobs, blocks) = (arguments.jobs()?, arguments.first_blocks()?);
-    let files = arguments.words("FILE")?;
-    if files.is_empty() {
-        return Err(arguments.missing("FILE"));
-    }
+    let jobs = arguments.number("jobs", &JOBS)?;
+    let blocks = arguments.first_blocks()?;
+    let files = arguments.some_words("FILE")?;
     Ok(ImageJob::Check(CheckJob {
-        files,
+        files: Vec::from_slice(arguments.alloc, files)?,
         blocks,
         all: arguments.flag("all"),
         json: arguments.flag("json"),
@@ -76,9 +75,12 @@ fn order_of(alloc: Global, word: &str) -> Result<ListOrder, WordsFault>
         "name" => Ok(ListOrder::Name),
         "size" => Ok(ListOrder::Size),
         "date" => Ok(ListOrder::Date),
-        _ => Err(WordsFault::Usage(format!(in alloc;
-            "error: invalid value '{word}' for '--sort <KEY>': name, size, date or disk is expected\n\nFor more information, try '--help'.\n"
-        )?)),
+        _ => Err(WordsFault::wrong(
+            alloc,
+            format_args!(
+                "error: invalid value '{word}' for '--sort <KEY>': name, size, date or disk is expected"
+            ),
+        )),
     }
 }
 
@@ -111,13 +113,10 @@ pub(crate) fn where_job<'a>(arguments: &Arguments<'a, '_>) -> Result<ImageJob<'a
         let path = letters_of(arguments.alloc, path)?;
         return Ok(ImageJob::WherePath { image, path });
     }
-    let words = arguments.words("BLOCK")?;
-    if words.is_empty() {
-        return Err(arguments.missing("BLOCK"));
-    }
+    let words = arguments.some_words("BLOCK")?;
     Ok(ImageJob::Where(WhereJob {
         image,
-        blocks: asked_blocks(arguments.alloc, &words)?,
+        blocks: asked_blocks(arguments.alloc, words)?,
         json: arguments.flag("json"),
     }))
 }

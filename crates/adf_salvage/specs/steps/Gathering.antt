@@ -1,8 +1,8 @@
 -- The entries of a damaged image while they are gathered.
-use Rattle.std.specs.Prelude.{◌≡◌, ℕ, ◌+◌, ◌*◌, ◌<◌, ◌≤◌, ◌⊎◌, List, length, All, Contains, slice_index, slice_index_or, Option, Some, None, IsSome}
+use Rattle.std.specs.Prelude.{◌≡◌, ℕ, ◌+◌, ◌*◌, ◌<◌, ◌≤◌, List, length, All, Contains, slice_index, slice_index_or, Option, Some, None, IsSome}
 use Rattle.adf_block.specs.Image.{block_count, long, IsInside}
 use Rattle.adf_salvage.specs.declared.gathered.Gathered.{Gathered}
-use Rattle.adf_salvage.specs.Doubtful.{IsHeader, IsNext, IsSlot, NamesEntries}
+use Rattle.adf_salvage.specs.Doubtful.{IsHeader, IsPlaceIn, NamesEntries}
 use Rattle.adf_salvage.specs.Salvaged.{IsTold, broken_total, headers_of}
 use Rattle.adf_salvage.specs.steps.Giving.{IsGiving}
 
@@ -14,14 +14,15 @@ place_at places block = slice_index_or places block None
 abbrev pub AreAllHeaders : List ℕ → List ℕ → List (Option ℕ) → Type 0
 AreAllHeaders out image places = (block : ℕ) → IsHeader out image block → IsSome (place_at places block)
 
--- if the long names a block, the block was found, or it is left out
+-- a block that the long names as an entry was found, or it is left out
 abbrev pub IsFollowed : List ℕ → List ℕ → List (Option ℕ) → ℕ → ℕ → Type 0
 IsFollowed out image places block at =
-    IsInside (block_count image) (long image block at) → ¬ Contains out (long image block at) → IsSome (place_at places (long image block at))
+    (dir named : ℕ) → IsPlaceIn image dir block at → long image block at ≡ named → IsInside (block_count image) named → ¬ Contains out named
+    → IsSome (place_at places named)
 
 -- each block that this one names as an entry was found, or it is left out
 abbrev pub AreFollowed : List ℕ → List ℕ → List (Option ℕ) → ℕ → Type 0
-AreFollowed out image places block = NamesEntries out image block → (at : ℕ) → IsSlot image block at ⊎ IsNext image block at → IsFollowed out image places block at
+AreFollowed out image places block = NamesEntries out image block → (at : ℕ) → IsFollowed out image places block at
 
 -- a header that was not found before
 abbrev pub IsNew : List ℕ → List ℕ → List (Option ℕ) → ℕ → Type 0

@@ -27,14 +27,14 @@ pub record FindsMore (out image : List ℕ) (old new : Found) : Type 0 where
   pub more : List ℕ
   pub grown : new.blocks.items ≡ old.blocks.items ++ more
 
--- if the long names a block that looks like a header of the directory and is not left out, the block is marked
-abbrev pub IsSought : List ℕ → List ℕ → List Bool → ℕ → ℕ → ℕ → Type 0
-IsSought out image marks dir block at =
-    MayBeHeader out image (long image block at) → parent_key image (long image block at) ≡ dir → IsFound marks (long image block at)
+-- a block that the long names as an entry of its parent is marked, if it looks like a header and is not left out
+abbrev pub IsSought : List ℕ → List ℕ → List Bool → ℕ → ℕ → Type 0
+IsSought out image marks block at =
+    (named : ℕ) → IsPlaceIn image (parent_key image named) block at → long image block at ≡ named → MayBeHeader out image named → IsFound marks named
 
 -- each header that this block names as an entry is marked
 abbrev pub AreSought : List ℕ → List ℕ → List Bool → ℕ → Type 0
-AreSought out image marks block = (dir at : ℕ) → IsPlaceIn image dir block at → IsSought out image marks dir block at
+AreSought out image marks block = (at : ℕ) → IsSought out image marks block at
 
 -- for each block, whether it is a header that is told
 pub record AreHeaders (out image : List ℕ) (headers : List Bool) : Type 0 where

@@ -1,6 +1,5 @@
 -- Files without a header while they are added to the entries.
 use Rattle.std.specs.Prelude.{◌≡◌, ℕ, ◌+◌, ◌*◌, ◌<◌, ◌≤◌, ◌⊎◌, List, length, Contains, Option, IsSome, ⊤}
-use Rattle.adf_block.specs.Image.{block_count}
 use Rattle.adf_salvage.specs.declared.gathered.Gathered.{Gathered}
 use Rattle.adf_salvage.specs.declared.salvaged.HeaderState.{HeaderState}
 use Rattle.adf_salvage.specs.declared.salvaged.State.{State}

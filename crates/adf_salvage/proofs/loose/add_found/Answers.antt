@@ -1,4 +1,4 @@
-use Rattle.std.proofs.Common.{ℕ, ◌+◌, ◌≤◌, sym, subst, arith}
+use Rattle.std.proofs.Common.{ℕ, ◌+◌, sym, subst, arith}
 use Rattle.adf_salvage.specs.steps.Settling.{AreSettled}
 use Rattle.adf_salvage.proofs.loose.add_found.Goals as goal
 

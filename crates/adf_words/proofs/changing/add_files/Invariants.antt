@@ -3,4 +3,4 @@ use Rattle.adf_words.proofs.changing.add_files.Given as goal
 
 -- the arguments before this one are files
 abbrev pub invariant-loop-file : goal.invariant-loop-file
-invariant-loop-file l = All (λ word. word.now ≢ codes "-") (take l.file-index l.file-items)
+invariant-loop-file l = All (λ word. word.now ≢ codes "-") (take l.file-index l.files)

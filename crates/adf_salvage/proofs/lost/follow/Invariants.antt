@@ -1,0 +1,10 @@
+use Rattle.std.proofs.Common.{ℕ, ◌<◌}
+use Rattle.adf_salvage.specs.steps.Gathering.{AreAllHeaders, GathersMore, IsFollowed}
+use Rattle.adf_salvage.proofs.lost.follow.Given as goal
+
+abbrev pub invariant-loop-at : goal.invariant-loop-at
+invariant-loop-at l = record {
+  more : GathersMore l.known.left_out l.image l.initial.gathered l.gathered;
+  headers : AreAllHeaders l.known.left_out l.image l.gathered.places.items;
+  followed : (at : ℕ) → at < l.at → IsFollowed l.known.left_out l.image l.gathered.places.items l.block at;
+}
