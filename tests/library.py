@@ -55,6 +55,8 @@ STATE_DIRECTORY = 1|c_values/specs/Salvaged.antt|told_state Directory = 1
 STATE_WHOLE = 2|c_values/specs/Salvaged.antt|told_state Whole = 2
 STATE_BROKEN = 3|c_values/specs/Salvaged.antt|told_state (Broken missing cut size) = 3
 STATE_LOST = 4|c_values/specs/Salvaged.antt|told_state Lost = 4
+STATE_DOUBTFUL = 5|c_values/specs/Salvaged.antt|told_state (Doubtful header size) = 5
+STATE_DOUBTFUL_DIRECTORY = 6|c_values/specs/Salvaged.antt|told_state DoubtfulDirectory = 6
 NAME_BYTES = 30|ados_name/specs/Name.antt|pub short : length name ≤ 30
 COMMENT_BYTES = 79|ados_name/specs/Name.antt|pub short : length comment ≤ 79
 PATH_BYTES = 255|ados_name/specs/Path.antt|pub short : length path ≤ 255
