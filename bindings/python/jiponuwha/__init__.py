@@ -35,7 +35,7 @@ from ._names import Note, date_of_text, date_text, entry_name, host_name, protec
 from ._numbers import DOUBLE_DENSITY, HIGH_DENSITY, EntryType, Error, FaultKind, Format, Role, State
 from ._path import Path
 from ._salvage import Salvaged, salvage
-from ._values import Date, Entry, Fault, Info, Owner
+from ._values import Date, Entry, Fault, Faults, Info, Owner
 from ._volume import Volume, check, create, open
 
 __version__ = version()
@@ -52,6 +52,7 @@ __all__ = [
     "Error",
     "Fault",
     "FaultKind",
+    "Faults",
     "File",
     "Format",
     "Info",

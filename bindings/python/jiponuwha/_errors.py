@@ -7,7 +7,7 @@ from typing import Any
 
 from ._library import error_text
 from ._numbers import Error
-from ._values import Fault
+from ._values import Fault, Faults
 
 # The errno nearest to each error of AmigaDOS.
 _ERRNOS = {
@@ -84,16 +84,17 @@ class Protected(DosError, PermissionError):
 
 
 class NotAnImage(DosError):
-    """The bytes are not a valid image (225). `faults` has the reasons: at most 1,000 faults, by block and then by kind."""
+    """The bytes are not a valid image (225). `faults` has the reasons."""
 
-    faults: tuple[Fault, ...]
+    faults: Faults
 
     def __init__(self, faults: Sequence[Fault], path: object = None) -> None:
         super().__init__(Error.NOT_A_DOS_DISK, path)
-        self.faults = tuple(faults)
+        self.faults = faults if isinstance(faults, Faults) else Faults(faults)
 
     def __str__(self) -> str:
-        return "; ".join([super().__str__(), *(f"block {it.block}: {it.text}" for it in self.faults)])
+        shown = [f"block {it.block}: {it.text}" for it in self.faults]
+        return "; ".join([super().__str__(), *shown, *(["more"] if self.faults.more else [])])
 
     def __reduce__(self) -> tuple[Any, ...]:
         return type(self), (self.faults, self.filename)

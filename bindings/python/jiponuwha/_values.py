@@ -143,6 +143,12 @@ class Fault(NamedTuple):
         return fault_text(self.kind)
 
 
+class Faults(tuple[Fault, ...]):
+    """The faults of an image, by block and then by kind, at most 1,000. `more` says whether there may be others."""
+
+    more: bool = False
+
+
 def fault_of(given: CFault) -> Fault:
     return Fault(FaultKind(given.kind), given.block)
 

@@ -31,7 +31,7 @@ from ._numbers import (
     Status,
 )
 from ._path import AnyBytes, AnyPath, Path, name_bytes, path_bytes, path_text
-from ._values import Date, Entry, Fault, Info, Owner, entry_of, fault_of, finding_of, info_of, letters, owner_of
+from ._values import Date, Entry, Fault, Faults, Info, Owner, entry_of, fault_of, finding_of, info_of, letters, owner_of
 
 HostPath = Union[str, "os.PathLike[str]"]
 Clock = Callable[[], Date]
@@ -446,14 +446,16 @@ def image_bytes(source: HostPath | AnyBytes) -> bytes:
         return file.read(MOST_BLOCKS * BLOCK_BYTES + 1)
 
 
-def _all_faults(source: HostPath | AnyBytes, fault: Fault) -> list[Fault]:
+def _all_faults(source: HostPath | AnyBytes, fault: Fault) -> Faults:
     """Returns the faults of an image that shows this one. That of a size is alone."""
     if fault.kind >= FaultKind.NOT_WHOLE_BLOCKS:
-        return [fault]
+        return Faults([fault])
     image = image_bytes(source)
     room, count, more = (CFinding * MOST_FAULTS)(), ctypes.c_size_t(), ctypes.c_int32()
     settle(library.jip_check_values(image, len(image), room, len(room), count, more), None)
-    return [finding_of(it) for it in room[: count.value]] or [fault]
+    faults = Faults(finding_of(it) for it in room[: count.value])
+    faults.more = bool(more.value)
+    return faults or Faults([fault])
 
 
 def _opened(source: HostPath | AnyBytes, handle: CHandle, read_only: bool) -> None:
@@ -503,13 +505,13 @@ def create(
     return Volume(handle, path, clock)
 
 
-def check(source: HostPath | AnyBytes) -> tuple[Fault, ...]:
-    """Returns the faults of an image, by block and then by kind; none if it is valid. It returns at most 1,000. Of an image that is
-    no DOS disk, or one of an unsupported kind, it returns only that."""
+def check(source: HostPath | AnyBytes) -> Faults:
+    """Returns the faults of an image, at most 1,000; none if it is valid. Of an image that is no DOS disk, or one of an unsupported
+    kind, it returns only that."""
     handle = CHandle()
     try:
         _opened(source, handle, read_only=True)
     except NotAnImage as refused:
         return refused.faults
     library.jip_close(handle)
-    return ()
+    return Faults()

@@ -42,6 +42,23 @@ class Faults(unittest.TestCase):
         self.assertEqual(pickle.loads(pickle.dumps(raised.exception)).faults, wanted)
         self.assertIn("block 881: ", str(raised.exception))
 
+    def test_more_than_a_thousand(self) -> None:
+        with jip.create("Work", blocks=4_000) as floppy:
+            for count in range(1_001):
+                floppy[f"f{count}"] = b""
+            headers = [entry.key for _, entry in floppy.walk()]
+            image = bytearray(floppy.image())
+            floppy.close(discard=True)
+        for header in headers[1:]:
+            image[512 * header + 23] ^= 1
+        self.assertEqual((len(jip.check(image)), jip.check(image).more), (1_000, False))
+        image[512 * headers[0] + 23] ^= 1
+        with self.assertRaises(jip.NotAnImage) as raised:
+            jip.open(image)
+        found = pickle.loads(pickle.dumps(raised.exception)).faults
+        self.assertEqual((len(found), found.more), (1_000, True))
+        self.assertTrue(str(raised.exception).endswith("; more"))
+
     def test_sizes(self) -> None:
         self.assertEqual(jip.check(self.image[:-1]), (jip.Fault(jip.FaultKind.NOT_WHOLE_BLOCKS, 0),))
         self.assertEqual(jip.check(b""), (jip.Fault(jip.FaultKind.TOO_FEW_BLOCKS, 0),))
