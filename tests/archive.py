@@ -791,6 +791,8 @@ def many_faults(room: Room) -> None:
     lines = ran.output.splitlines()
     found = (ran.status, len(lines), lines[-1], {line.split()[1] for line in lines[:-1]})
     room.report.same("a thousand faults and more", found, (3, 1001, b"more", {b"BadSum"}))
+    told = json.loads(room.run("check", "--all", "--json", "thousand.hdf").output)
+    room.report.same("the object of these", (list(told), len(told["faults"]), told["more"]), ([*FIELDS, "more"], 1000, True))
     ran = room.run("check", "--all", "thousand.hdf", "good.adf")
     room.report.same("that of several", ran.output.splitlines()[1000:], [b"thousand.hdf\tmore", b"good.adf\tok"])
     room.succeeds("every fault of an image that shows none", "check", "--all", "filled.adf", output=b"ok\n")

@@ -98,16 +98,18 @@ abbrev pub asked_tokens : Option (Vec Suspect Global) → List Token
 asked_tokens (Some suspects) = suspects_tokens suspects.items
 asked_tokens None = []
 
--- the member with the suspect blocks of a report; only that of an accepted image has them
-abbrev pub searched_tokens : ImageReport → List Token
-searched_tokens (Accepted told) = asked_tokens told.suspects
-searched_tokens report = []
+-- the members after the faults: of an accepted image the suspect blocks, if they were requested; of a refused one that there are
+-- more faults, if there are
+abbrev pub further_tokens : ImageReport → List Token
+further_tokens (Accepted told) = asked_tokens told.suspects
+further_tokens (Refused told) = if told.more then key (codes "more") ∷ boolean true ∷ [] else []
+further_tokens report = []
 
 -- the object for the image at a path
 abbrev pub object_tokens : List ℕ → ImageReport → List Token
 object_tokens path report =
     begin_object ∷ key (codes "path") ∷ string path ∷ members_tokens (members_of report)
-    ++ key (codes "faults") ∷ begin_array ∷ faults_tokens report ++ end_array ∷ (searched_tokens report ++ end_object ∷ [])
+    ++ key (codes "faults") ∷ begin_array ∷ faults_tokens report ++ end_array ∷ (further_tokens report ++ end_object ∷ [])
 
 -- the image was read and checked
 abbrev pub is_checked : ImageReport → Bool

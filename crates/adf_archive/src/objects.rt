@@ -3,7 +3,7 @@ ghost use Rattle.std.specs.Prelude.{◌≡◌, ◌++◌, ◌∷◌, [], IfOk, On
 ghost use Rattle.std.specs.String.{string_bytes};
 ghost use Rattle.json.specs.Token.{key};
 ghost use Rattle.adf_record.specs.Members.{string_token};
-ghost use Rattle.adf_archive.specs.Objects.{contents_tokens, fault_tokens, faults_tokens, found_in, is_checked, kind_text, known_tokens, members_of, members_tokens, object_line, object_tokens, path_text, searched_tokens, shown_tokens, suspect_tokens, suspects_tokens, wanted_in};
+ghost use Rattle.adf_archive.specs.Objects.{contents_tokens, fault_tokens, faults_tokens, found_in, is_checked, kind_text, known_tokens, members_of, members_tokens, object_line, object_tokens, path_text, further_tokens, shown_tokens, suspect_tokens, suspects_tokens, wanted_in};
 
 use crate::report::{Contents, ImageReport, ShownFault};
 use crate::suspects::Suspect;
@@ -97,7 +97,7 @@ fn put_object(
     writer.begin_array()?;
     put_faults(writer, report)?;
     writer.end_array()?;
-    put_suspects_of(alloc, writer, report)?;
+    put_further(alloc, writer, report)?;
     writer.end_object()
 }
 
@@ -225,20 +225,22 @@ fn put_fault(
     writer.end_object()
 }
 
-/// Writes the member with the suspect blocks of a report, if they were requested of an image that is accepted.
-fn put_suspects_of(
+/// Writes the members after the faults: the suspect blocks, if they were requested of an image that is accepted, or that there
+/// are more faults.
+fn put_further(
     alloc: Global,
     writer: &mut Writer,
     report: &ImageReport,
 ) -> Result<(), AllocError>
     ensures before { writer.new.before ≡ writer.old.before }
-    ensures tokens { OnOk result (writer.new.tokens ≡ writer.old.tokens ++ searched_tokens report.now) }
+    ensures tokens { OnOk result (writer.new.tokens ≡ writer.old.tokens ++ further_tokens report.now) }
 {
     match report {
         ImageReport::Accepted(told) => match &told.suspects {
             Some(suspects) => put_member(alloc, writer, suspects),
             None => Ok(()),
         },
+        ImageReport::Refused(told) if told.more => put_flag(writer, "more", true),
         _ => Ok(()),
     }
 }
