@@ -1,4 +1,4 @@
--- Lemmas about the listing of a directory, the lines of its entries, entries that become files of the host, owned blocks, and the faults of a block.
+-- Lemmas about the listing of a directory, the lines of its entries, entries that become files of the host, owned blocks, the faults of a block, and a loop over a `zip`.
 pub mod Levels
 pub mod Lists
 pub mod Sorting
@@ -22,3 +22,4 @@ pub mod FaultsThere
 mod Telling
 mod TellingObjects
 mod Asking
+mod Zipped

@@ -1,6 +1,8 @@
 //! Blocks of an image that may be refused, with the places that name them and with their faults.
-ghost use Rattle.std.specs.Prelude.{◌≡◌, ◌==◌, IfOk, filter};
+ghost use Rattle.std.specs.Prelude.{◌≡◌, ◌==◌, AllPairs, IfOk, filter};
 ghost use Rattle.std.specs.List.{AllZip};
+ghost use Rattle.ados_faults.specs.Listed.{StandsBefore};
+ghost use Rattle.ados_mend.specs.Places.{AreAllPlaces};
 ghost use Rattle.ados_mend.specs.steps.Reaching.{AreCells};
 ghost use Rattle.adf_export.specs.Faulty.{AreFound, IsFaultyBlock};
 
@@ -31,9 +33,10 @@ pub(crate) fn faulty_blocks(
     requires found { AreFound image.now found.now }
     ensures { IfOk result (λ told. AllZip (IsFaultyBlock image.now found.now.more) blocks.now told.items) }
 {
+    let lists = places_of(alloc, image, cells, blocks)?;
     let mut told = Vec::new(alloc);
-    for block in blocks {
-        let faulty = faulty_block(alloc, image, cells, found, *block)?;
+    for (block, places) in blocks.iter().zip(lists) {
+        let faulty = faulty_block(alloc, image, found, *block, places)?;
         told.push(faulty)?;
     }
     Ok(told)
@@ -43,15 +46,14 @@ pub(crate) fn faulty_blocks(
 fn faulty_block(
     alloc: Global,
     image: &Image,
-    cells: &[bool],
     found: &AllFaults,
     block: u32,
+    places: Vec<Place>,
 ) -> Result<FaultyBlock, AllocError>
-    requires cells { AreCells image.now cells.now }
     requires found { AreFound image.now found.now }
+    requires places { AreAllPlaces image.now block places.items }
     ensures { IfOk result (IsFaultyBlock image.now found.now.more block) }
 {
-    let places = places_of(alloc, image, cells, block)?;
     let faults = faults_at(alloc, &found.faults, block)?;
     Ok(FaultyBlock {
         block,
@@ -61,17 +63,16 @@ fn faulty_block(
     })
 }
 
-/// The faults of a block.
+/// The faults of a block, among faults in order.
 fn faults_at(
     alloc: Global,
     faults: &[VolumeFault],
     block: u32,
 ) -> Result<Vec<VolumeFault>, AllocError>
+    requires { AllPairs StandsBefore faults.now }
     ensures { IfOk result (λ found. found.items ≡ filter (λ fault. fault.block == block) faults.now) }
 {
-    faults
-        .iter()
-        .copied()
-        .filter(|fault| fault.block == block)
-        .collect(alloc)
+    let first = faults.partition_point(|fault| fault.block < block);
+    let end = faults.partition_point(|fault| fault.block <= block);
+    Vec::from_slice(alloc, &faults[first..end])
 }

@@ -1,4 +1,4 @@
--- The bitmap blocks of an image, what stays when only the bitmap changes, the image with a new bitmap; the marks of the account; and the places that name a block.
+-- The bitmap blocks of an image, what stays when only the bitmap changes, the image with a new bitmap; the marks of the account; and the places that name blocks.
 pub mod PageFaults
 pub mod PageRoles
 pub mod Carry
@@ -16,3 +16,4 @@ pub mod AllKinds
 pub mod Remaining
 pub mod Reaching
 pub mod Placing
+pub mod PlaceLists

@@ -1,5 +1,7 @@
--- The places that name a block, whatever faults the image shows.
-use Rattle.std.specs.Prelude.{◌≡◌, ℕ, ◌+◌, ◌*◌, ◌<◌, ◌==◌, if◌then◌else◌, List, All, AllPairs, Contains}
+-- The places that name blocks, whatever faults the image shows.
+use Rattle.std.specs.Prelude.{◌≡◌, ℕ, ◌+◌, ◌*◌, ◌<◌, ◌==◌, if◌then◌else◌, List, All, AllPairs, Contains, Vec}
+use Rattle.std.specs.Global.{Global}
+use Rattle.std.specs.List.{AllZip}
 use Rattle.adf_block.specs.declared.layout.TheConstants.{BLOCK_LONGS, NEXT_IN_CHAIN}
 use Rattle.adf_block.specs.Image.{long}
 use Rattle.ados_model.specs.declared.role.Role.{Role}
@@ -51,3 +53,7 @@ pub record AreAllPlaces (image : List ℕ) (block : ℕ) (places : List Place) :
   pub in_order : AllPairs (λ a b. position a < position b) places
   pub named : All (NamesBlock image block) places
   pub all : (place : Place) → NamesBlock image block place → Contains places place
+
+-- for each block, these are all places that name it
+abbrev pub AreAllPlacesOfEach : List ℕ → List ℕ → Vec (Vec Place Global) Global → Type 0
+AreAllPlacesOfEach image blocks lists = AllZip (λ block (places : Vec Place Global). AreAllPlaces image block places.items) blocks lists.items

@@ -1,11 +1,13 @@
-//! The places that name a block, whatever faults an image shows.
-ghost use Rattle.std.specs.Prelude.{◌≡◌, ◌+◌, ◌*◌, ◌<◌, false, IfOk, MatchBool, OnOk};
+//! The places that name blocks, whatever faults an image shows.
+ghost use Rattle.std.specs.Prelude.{◌≡◌, ◌+◌, ◌*◌, ◌<◌, false, [], length, slice_index, All, Contains, IfOk, MatchBool, MatchOption, OnOk};
+ghost use Rattle.std.specs.List.{AllZip};
+ghost use Rattle.std.specs.List.Sorted.{IsStrictlyIncreasing};
 ghost use Rattle.adf_block.specs.Image.{block_count, long};
 ghost use Rattle.adf_block.specs.Whole.{IsImage};
 ghost use Rattle.adf_block.specs.declared.layout.TheConstants.{BLOCK_LONGS};
 ghost use Rattle.ados_mend.specs.declared.naming.Place.{Place};
-ghost use Rattle.ados_mend.specs.Places.{AreAllPlaces, Gives, IsPlaceOfReached, naming_of};
-ghost use Rattle.ados_mend.specs.steps.Placing.{ArePlacesBelow, IsGivenIn};
+ghost use Rattle.ados_mend.specs.Places.{AreAllPlacesOfEach, Gives, IsPlaceOfReached, naming_of};
+ghost use Rattle.ados_mend.specs.steps.Placing.{AreListsBelow, ArePlacesBelow, IsGivenIn, IsListOf};
 ghost use Rattle.ados_mend.specs.steps.Reaching.{AreCells, form};
 
 use crate::naming::{NAMINGS, Naming, Place, naming_at};
@@ -16,49 +18,124 @@ use ados_check::{Source, place_role};
 use ados_model::Role;
 use std::alloc::{AllocError, Global};
 
-/// All places of reached blocks that name a block, by the blocks that have them and then by their longs. The cells are
-/// those of [`reached_cells`](crate::reached_cells).
+/// For each of these blocks, in any order, all places of reached blocks that name it, by the blocks that have them and then by
+/// their longs. The cells are those of [`reached_cells`](crate::reached_cells).
 ///
-/// Time and memory grow linearly with the size of the image.
+/// The image is gone through once for all blocks. Time grows with its size times the logarithm of the number of blocks, and
+/// with the number of places; memory grows linearly with the blocks and the places.
 pub fn places_of(
     alloc: Global,
     image: &Image,
     cells: &[bool],
-    block: u32,
-) -> Result<Vec<Place>, AllocError>
+    blocks: &[u32],
+) -> Result<Vec<Vec<Place>>, AllocError>
     requires { AreCells image.now cells.now }
-    ensures { IfOk result (λ places. AreAllPlaces image.now block places.items) }
+    ensures { IfOk result (AreAllPlacesOfEach image.now blocks.now) }
 {
-    let mut places = Vec::new(alloc);
+    let asked = in_order(alloc, blocks)?;
+    let mut lists = no_places(alloc, &asked)?;
     for holder in 0..image.blocks() {
-        put_places(image, cells, block, holder, &mut places)?;
+        put_places(image, cells, holder, &asked, &mut lists)?;
     }
-    Ok(places)
+    lists_of(alloc, blocks, &asked, &lists)
 }
 
-/// Appends the places of a holder that name a block.
+/// These blocks in order, each once.
+fn in_order(alloc: Global, blocks: &[u32]) -> Result<Vec<u32>, AllocError>
+    ensures increasing { IfOk result (λ asked. IsStrictlyIncreasing asked.items) }
+    ensures all { IfOk result (λ asked. All (Contains asked.items) blocks.now) }
+{
+    let mut asked = Vec::from_slice(alloc, blocks)?;
+    asked.sort_unstable();
+    asked.dedup();
+    Ok(asked)
+}
+
+/// No place for each of the blocks that are asked for.
+fn no_places(alloc: Global, asked: &[u32]) -> Result<Vec<Vec<Place>>, AllocError>
+    ensures size { IfOk result (λ lists. length lists.items ≡ length asked.now) }
+    ensures none { IfOk result (λ lists. All (λ places. places.items ≡ []) lists.items) }
+{
+    let mut lists = Vec::new(alloc);
+    for _block in asked {
+        lists.push(Vec::new(alloc))?;
+    }
+    Ok(lists)
+}
+
+/// The lists of these blocks, from those of the blocks that are asked for.
+fn lists_of(
+    alloc: Global,
+    blocks: &[u32],
+    asked: &[u32],
+    lists: &[Vec<Place>],
+) -> Result<Vec<Vec<Place>>, AllocError>
+    requires increasing { IsStrictlyIncreasing asked.now }
+    requires all { All (Contains asked.now) blocks.now }
+    requires size { length lists.now ≡ length asked.now }
+    ensures { IfOk result (λ them. AllZip (IsListOf asked.now lists.now) blocks.now them.items) }
+{
+    let mut them = Vec::new(alloc);
+    for block in blocks {
+        let at = place_in(asked, *block).unwrap();
+        them.push(Vec::from_slice(alloc, &lists[at])?)?;
+    }
+    Ok(them)
+}
+
+/// Where a block stands among those that are asked for.
+fn place_in(asked: &[u32], block: u32) -> Option<usize>
+    requires { IsStrictlyIncreasing asked.now }
+    ensures { MatchOption result (¬ Contains asked.now block) (λ at. (at < length asked.now) × (slice_index asked.now at ≡ block)) }
+{
+    asked.binary_search(&block).ok()
+}
+
+/// Appends the places of a holder to the lists of the blocks that they name.
 fn put_places(
     image: &Image,
     cells: &[bool],
-    block: u32,
     holder: u32,
-    places: &mut Vec<Place>,
+    asked: &[u32],
+    lists: &mut [Vec<Place>],
 ) -> Result<(), AllocError>
     requires whole { IsImage image.now }
     requires cells { AreCells image.now cells.now }
     requires inside { holder < block_count image.now }
-    requires below { ArePlacesBelow image.now block (640 * holder) places.old.items }
-    ensures { OnOk result (ArePlacesBelow image.now block (640 * (holder + 1)) places.new.items) }
+    requires asked { IsStrictlyIncreasing asked.now }
+    requires below { AreListsBelow image.now asked.now (640 * holder) lists.old }
+    ensures { OnOk result (AreListsBelow image.now asked.now (640 * (holder + 1)) lists.new) }
 {
     if !may_name(image, cells, holder) {
         return Ok(());
     }
     for i in 0..BLOCK_LONGS {
-        if image.long(holder, i) == block {
-            put_namings(image, cells, holder, i, places)?;
-        }
+        put_long(image, cells, holder, i, asked, lists)?;
     }
     Ok(())
+}
+
+/// Appends a long of a holder, as the places that it is, to the list of the block that it names, if that is asked for.
+fn put_long(
+    image: &Image,
+    cells: &[bool],
+    holder: u32,
+    i: u32,
+    asked: &[u32],
+    lists: &mut [Vec<Place>],
+) -> Result<(), AllocError>
+    requires whole { IsImage image.now }
+    requires cells { AreCells image.now cells.now }
+    requires inside { holder < block_count image.now }
+    requires long { i < BLOCK_LONGS }
+    requires asked { IsStrictlyIncreasing asked.now }
+    requires below { AreListsBelow image.now asked.now (640 * holder + 5 * i) lists.old }
+    ensures { OnOk result (AreListsBelow image.now asked.now (640 * holder + 5 * (i + 1)) lists.new) }
+{
+    let Some(at) = place_in(asked, image.long(holder, i)) else {
+        return Ok(());
+    };
+    put_namings(image, cells, holder, i, &mut lists[at])
 }
 
 /// Whether a block is reached in a role in which it can name others. Bitmap blocks and data blocks cannot.

@@ -1,5 +1,6 @@
--- The places that name a block, while they are found.
-use Rattle.std.specs.Prelude.{◌≡◌, ℕ, ◌<◌, List, All, AllPairs, Contains}
+-- The places that name blocks, while they are found.
+use Rattle.std.specs.Prelude.{◌≡◌, ℕ, ◌<◌, List, length, slice_index, slice_index_or, All, AllPairs, Contains, Vec}
+use Rattle.std.specs.Global.{Global}
 use Rattle.ados_model.specs.declared.role.Role.{Role}
 use Rattle.ados_model.specs.Faults.{Reached}
 use Rattle.ados_mend.specs.declared.naming.Place.{Place}
@@ -19,3 +20,17 @@ pub record ArePlacesBelow (image : List ℕ) (block n : ℕ) (places : List Plac
   pub below : All (λ place. position place < n) places
   pub named : All (NamesBlock image block) places
   pub all : (place : Place) → position place < n → NamesBlock image block place → Contains places place
+
+-- for each of the blocks that are asked for, the list of those places
+pub record AreListsBelow (image asked : List ℕ) (n : ℕ) (lists : List (Vec Place Global)) : Type 0 where
+  pub size : length lists ≡ length asked
+  pub each : (k : ℕ) (places : Vec Place Global) → k < length asked → places ≡ slice_index_or lists k places → ArePlacesBelow image (slice_index asked k) n places.items
+
+-- this is the list of a block, among those of the blocks that are asked for
+pub record IsListOf (asked : List ℕ) (lists : List (Vec Place Global)) (block : ℕ) (places : Vec Place Global) : Type 0 where
+  pub at : ℕ
+  pub inside : at < length asked
+  pub is_block : slice_index asked at ≡ block
+  pub list : Vec Place Global
+  pub is_list : list ≡ slice_index_or lists at list
+  pub same : places.items ≡ list.items

@@ -12,6 +12,6 @@ returns c =
     record {
       block_is = refl;
       root = ap (λ (root : ℕ). block == root) c.root.ensures;
-      places = c.in_ok-places.ensures;
+      places = c.requires.places;
       faults = faults_there c.args.image.now block c.args.found.now c.in_ok-faults.faults.items c.requires.found kept;
     }

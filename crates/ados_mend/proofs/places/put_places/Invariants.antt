@@ -1,6 +1,6 @@
 use Rattle.std.proofs.Common.{◌+◌, ◌*◌}
-use Rattle.ados_mend.specs.steps.Placing.{ArePlacesBelow}
+use Rattle.ados_mend.specs.steps.Placing.{AreListsBelow}
 use Rattle.ados_mend.proofs.places.put_places.Given as goal
 
 abbrev pub invariant-loop-i : goal.invariant-loop-i
-invariant-loop-i l = ArePlacesBelow l.image l.block (640 * l.holder + 5 * l.i) l.places.items
+invariant-loop-i l = AreListsBelow l.image l.asked (640 * l.holder + 5 * l.i) l.lists

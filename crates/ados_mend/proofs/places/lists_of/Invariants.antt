@@ -1,0 +1,8 @@
+use Rattle.std.proofs.Common.{take}
+use Rattle.std.specs.List.{AllZip}
+use Rattle.ados_mend.specs.steps.Placing.{IsListOf}
+use Rattle.ados_mend.proofs.places.lists_of.Given as goal
+
+-- the lists of the blocks before this one
+abbrev pub invariant-loop-block : goal.invariant-loop-block
+invariant-loop-block l = AllZip (IsListOf l.asked l.lists) (take l.block-index l.blocks) l.them.items
