@@ -227,11 +227,7 @@ fn put_fault(
 
 /// Writes the members after the faults: the suspect blocks, if they were requested of an image that is accepted, or that there
 /// are more faults.
-fn put_further(
-    alloc: Global,
-    writer: &mut Writer,
-    report: &ImageReport,
-) -> Result<(), AllocError>
+fn put_further(alloc: Global, writer: &mut Writer, report: &ImageReport) -> Result<(), AllocError>
     ensures before { writer.new.before ≡ writer.old.before }
     ensures tokens { OnOk result (writer.new.tokens ≡ writer.old.tokens ++ further_tokens report.now) }
 {
