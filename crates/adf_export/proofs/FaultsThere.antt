@@ -48,13 +48,13 @@ module _ {X : Type 0} (p : X → Bool) where
   filter_between : (xs : List X) (i j : ℕ) → i ≤ j → j ≤ length xs → AllWithin fails xs 0 i → AllWithin passes xs i j → AllWithin fails xs j (length xs) → filter p xs ≡ between i j xs
   filter_between xs i j le within before there after =
       let none : filter p (take i xs) ≡ [] = filter_none (take i xs) (λ k d l.
-          let low : k < i = omega (arith, l, length-take i xs) in
-          subst fails (sym (get_or-take i xs k d low)) (before k d (omega arith) low)) in
+      let low : k < i = omega (arith, l, length-take i xs) in
+      subst fails (sym (get_or-take i xs k d low)) (before k d (omega arith) low)) in
       let all : filter p (between i j xs) ≡ between i j xs = filter_all (between i j xs) (λ k d l.
-          let low : i + k < j = omega (arith, l, length-between xs i j within) in
-          subst passes (sym (get_or-between xs i j k d low)) (there (i + k) d (omega arith) low)) in
+      let low : i + k < j = omega (arith, l, length-between xs i j within) in
+      subst passes (sym (get_or-between xs i j k d low)) (there (i + k) d (omega arith) low)) in
       let behind : filter p (drop j xs) ≡ [] = filter_none (drop j xs) (λ k d l.
-          subst fails (sym (get_or-drop j xs k d)) (after (j + k) d (omega arith) (omega (arith, l, length-drop j xs)))) in
+      subst fails (sym (get_or-drop j xs k d)) (after (j + k) d (omega arith) (omega (arith, l, length-drop j xs)))) in
       ap (λ (l : List X). filter p l) (split_between xs i j le) ∙ filter-append p (take i xs) (between i j xs ++ drop j xs)
       ∙ ap₂ (λ (a b : List X). a ++ b) none (filter-append p (between i j xs) (drop j xs) ∙ ap₂ (λ (a b : List X). a ++ b) all behind ∙ append-nil (between i j xs))
 

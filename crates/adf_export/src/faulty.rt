@@ -74,5 +74,6 @@ fn faults_at(
 {
     let first = faults.partition_point(|fault| fault.block < block);
     let end = faults.partition_point(|fault| fault.block <= block);
+    prove!(first <= end);
     Vec::from_slice(alloc, &faults[first..end])
 }

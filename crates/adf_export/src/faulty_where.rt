@@ -18,7 +18,8 @@ use std::alloc::{AllocError, Global};
 /// Which places name the blocks that these arguments name, and what their faults are, in any image: lines for each block, or
 /// with `json` an array of objects on a line of its own.
 ///
-/// Time and memory for each block grow linearly with the size of the image.
+/// The image is gone through once for all blocks. Time grows almost linearly with the size of the image, the number of blocks
+/// and the length of the text.
 pub fn faulty_where_text(
     alloc: Global,
     image: &Image,

@@ -1,8 +1,12 @@
-use Rattle.std.proofs.Common.{ℕ, List, refl, ap, ◌∙◌}
+use Rattle.std.proofs.Common.{ℕ, List, AllPairs, refl, sym, ap, ◌∙◌, subst}
 use Rattle.std.specs.Prelude.{◌==◌, filter}
+use Rattle.ados_faults.specs.Listed.{StandsBefore}
 use Rattle.ados_model.specs.declared.fault.VolumeFault.{VolumeFault}
 use Rattle.adf_export.proofs.FaultsThere.{faults_there}
 use Rattle.adf_export.proofs.faulty.faulty_block.Goals as goal
+
+pub faults_at-requires : goal.faults_at-requires
+faults_at-requires c = subst (λ (faults : List VolumeFault). AllPairs StandsBefore faults) (sym c.deref.ensures.value) c.requires.found.lists.in_order
 
 pub returns : goal.returns
 returns c =
