@@ -10,7 +10,8 @@ use Rattle.ados_model.specs.Faults.{AreDataBlocks, InImage}
 use Rattle.ados_faults.specs.declared.walk.Step.{Step}
 use Rattle.ados_faults.specs.steps.FileNotes.{AreAllFilesNoted, AreBlocksNoted, AreFilesNoted, ArePlacesNoted, AreStepsChecked, IsChecked, IsFileNoted, IsPlaceNoted, IsStepChecked}
 use Rattle.ados_faults.specs.steps.Noted.{AreStillNoted, cell_of}
-use Rattle.ados_faults.specs.steps.Walked.{step_of}
+use Rattle.ados_faults.specs.steps.Roles.{AreCovered, step_of}
+use Rattle.ados_faults.proofs.Covering.{entry_listed}
 use Rattle.ados_faults.proofs.SameBlocks.{same_blocks}
 
 module _ (image : List ℕ) (cells later : List Bool) (on : AreStillNoted cells later) where
@@ -85,8 +86,11 @@ steps_more image files later steps n step at before on this = record { checked =
           subst (IsStepChecked image later) (same_Some step other h) this
     ]
 
-pub all_files : (image : List ℕ) (cells files : List Bool) (steps : List Step) (n : ℕ) → AreFilesNoted image cells files → AreStepsChecked image files steps n → length steps ≤ n → AreAllFilesNoted image cells steps
-all_files image cells files steps n f c all = record {
-  noted = λ k block dir s e h.
-      f.noted block ((c.checked k (step_of block (Entry dir s)) (omega (arith, slice_get_within steps k (step_of block (Entry dir s)) e, all)) e).checked dir s refl h);
+pub all_files : (image : List ℕ) (cells files : List Bool) (steps : List Step) (n : ℕ) → AreFilesNoted image cells files → AreStepsChecked image files steps n → length steps ≤ n → AreCovered image steps
+    → AreAllFilesNoted image cells
+all_files image cells files steps n f c all covered = record {
+  noted = λ file h.
+      let at = entry_listed steps file h.dir h.slot_of_chain (covered.covered file (Entry h.dir h.slot_of_chain) h.reached) in
+      let step = step_of file (Entry at.0 at.1) in
+      f.noted file ((c.checked at.2.0 step (omega (arith, slice_get_within steps at.2.0 step at.2.1, all)) at.2.1).checked at.0 at.1 refl h.secondary);
 }

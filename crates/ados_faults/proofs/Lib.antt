@@ -2,7 +2,9 @@
 pub mod Cells
 pub mod Insides
 pub mod Doubles
+pub mod Covering
 pub mod Closing
+pub mod Enumerated
 pub mod Linking
 pub mod Sameness
 pub mod Freed

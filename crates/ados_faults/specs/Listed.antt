@@ -1,5 +1,5 @@
 -- Faults of an image, in order, and the marks of its blocks.
-use Rattle.std.specs.Prelude.{◌≡◌, ◌≢◌, ℕ, ◌*◌, ◌<◌, ◌≤◌, ◌⊎◌, ◌↔◌, Bool, true, false, List, [], ◌∷◌, length, All, AllPairs, Contains, Option, Some}
+use Rattle.std.specs.Prelude.{◌≡◌, ℕ, ◌<◌, ◌≤◌, ◌⊎◌, ◌↔◌, Bool, true, false, List, [], ◌∷◌, length, All, AllPairs, Contains, Option, Some}
 use Rattle.adf_block.specs.Image.{block_count, long}
 use Rattle.ados_check.specs.Marks.{mark_at}
 use Rattle.ados_check.specs.declared.mark.Mark.{Mark}
@@ -8,7 +8,6 @@ use Rattle.ados_model.specs.declared.fault.FaultKind.TheVariants.{NotADosDisk, U
 use Rattle.ados_model.specs.declared.fault.VolumeFault.{VolumeFault}
 use Rattle.ados_model.specs.declared.role.Role.{Role}
 use Rattle.ados_model.specs.declared.role.Role.TheVariants.{Root}
-use Rattle.ados_faults.specs.declared.walk.Step.{Step}
 use Rattle.ados_model.specs.Faults.{IsPlace, LeadsInside, Reached, Shows, root_of}
 
 -- the number of a kind
@@ -45,7 +44,7 @@ pub record ListsFaults (image : List ℕ) (most : ℕ) (faults : List VolumeFaul
 abbrev pub fault_of : FaultKind → ℕ → VolumeFault
 fault_of kind block = record { kind = kind; block = block }
 
--- each fault that the image shows is in the list, unless there may be more
+-- each fault that the image shows is in the list, unless there are more
 abbrev pub ListsEach : List ℕ → Bool → List VolumeFault → Type 0
 ListsEach image more faults = more ≡ false → (kind : FaultKind) (block : ℕ) → Shows image kind block → Contains faults (fault_of kind block)
 
@@ -55,13 +54,6 @@ pub record ShowsMoreThan (image : List ℕ) (most : ℕ) : Type 0 where
   pub shown : All (λ fault. Shows image fault.kind fault.block) faults
   pub in_order : AllPairs StandsBefore faults
   pub many : most < length faults
-
--- the blocks of the image are reached in at least four times as many roles as the image has blocks
-pub record IsTangled (image : List ℕ) : Type 0 where
-  pub steps : List Step
-  pub reached : All (λ step. Reached image step.block step.role) steps
-  pub once : AllPairs (λ a b. a ≢ b) steps
-  pub many : 4 * block_count image ≤ length steps
 
 -- each fault that the image shows is in the list, or stands behind all of the list
 abbrev pub AreTheFirst : List ℕ → List VolumeFault → Type 0
@@ -89,11 +81,11 @@ abbrev pub ListsKindAlone : List ℕ → Bool → List VolumeFault → Type 0
 ListsKindAlone image more faults = (kind : FaultKind) → IsOtherKind image kind → (faults ≡ fault_of kind 0 ∷ []) × (more ≡ false)
 
 -- the faults of a disk as they are told, at most so many: of a disk of another kind that alone; of any other each fault
--- that it shows, unless there may be more, and the first ones and exactly whether there are more, unless it is tangled
+-- that it shows, unless there are more, and the first ones and exactly whether there are more
 pub record AreAllFaults (image : List ℕ) (most : ℕ) (more : Bool) (faults : List VolumeFault) : Type 0 where
   pub alone : ListsKindAlone image more faults
   pub each : ¬ ShowsOtherKind image → ListsEach image more faults
-  pub first : ¬ ShowsOtherKind image → ¬ IsTangled image → AreFirstFaults image most more faults
+  pub first : ¬ ShowsOtherKind image → AreFirstFaults image most more faults
 
 -- for each block of an image its mark, if it has one
 abbrev pub Marks : Type 0

@@ -1,5 +1,5 @@
 //! The header and extension blocks of a file, and the data blocks in their pointers.
-ghost use Rattle.std.specs.Prelude.{◌≡◌, ◌≢◌, ◌<◌, ◌≤◌, ◌+◌, ◌++◌, ◌∷◌, [], All, flat_map, false, true, IfOk, IfSome, None, length, slice_index};
+ghost use Rattle.std.specs.Prelude.{◌≡◌, ◌<◌, ◌+◌, ◌++◌, ◌∷◌, [], All, flat_map, false, true, IfOk, length, slice_index};
 ghost use Rattle.adf_block.specs.Image.{block_count};
 ghost use Rattle.ados_model.specs.Faults.{AreDataBlocks, InImage, IsFile, LinkedOnce, pointers_of};
 ghost use Rattle.ados_faults.specs.steps.Chain.{HasMet, IsChain};
@@ -17,26 +17,24 @@ struct Headers {
     met: BTreeSet<u32>,
 }
 
-/// The header of a file and the blocks along its links, each once; `None` if these are more than `most`.
+/// The header of a file and the blocks along its links, each once.
 pub(crate) fn headers_of(
     alloc: Global,
     image: &Image,
     file: u32,
-    most: usize,
-) -> Result<Option<Vec<u32>>, AllocError>
+) -> Result<Vec<u32>, AllocError>
     requires { InImage image.now file }
-    ensures linked { IfOk result (λ found. IfSome found (λ headers. LinkedOnce image.now NEXT_EXTENSION file headers.items)) }
-    ensures inside { IfOk result (λ found. IfSome found (λ headers. All (InImage image.now) headers.items)) }
-    ensures all { IfOk result (λ found. block_count image.now ≤ most → found ≢ None) }
+    ensures linked { IfOk result (λ headers. LinkedOnce image.now NEXT_EXTENSION file headers.items) }
+    ensures inside { IfOk result (λ headers. All (InImage image.now) headers.items) }
 {
     let mut headers = Headers::start(alloc, image, file)?;
-    for passed in 0..most {
+    for passed in 0..image.blocks() {
         let more = headers.go_on(image)?;
         if !more {
-            return Ok(Some(headers.blocks));
+            return Ok(headers.blocks);
         }
     }
-    Ok(None)
+    Ok(headers.blocks)
 }
 
 impl Headers {

@@ -9,7 +9,9 @@
 
 // The list of faults.
 mod bits;
+mod blocks;
 mod chain;
+mod entries;
 mod file_blocks;
 mod files;
 mod first;
@@ -19,6 +21,7 @@ mod looks;
 mod name_bytes;
 mod names;
 mod notes;
+mod roles;
 mod walk;
 
 // What shows them, and their texts.

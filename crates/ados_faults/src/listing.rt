@@ -3,7 +3,7 @@ ghost use Rattle.std.specs.Prelude.{◌≡◌, ◌<◌, ◌≤◌, ◌↔◌, �
 ghost use Rattle.adf_block.specs.Whole.{IsImage};
 ghost use Rattle.ados_model.specs.Accepted.{ShowsNoFault};
 ghost use Rattle.ados_model.specs.Faults.{Shows};
-ghost use Rattle.ados_faults.specs.Listed.{AreFirstFaults, AreMarks, IsOtherKind, IsTangled, ListsEach, ListsFaults, ListsKindAlone, ShowsOtherKind};
+ghost use Rattle.ados_faults.specs.Listed.{AreFirstFaults, AreMarks, IsOtherKind, ListsEach, ListsFaults, ListsKindAlone, ShowsOtherKind};
 
 use crate::files::look_at_files;
 use crate::first::first_fault;
@@ -20,8 +20,7 @@ use std::alloc::{AllocError, Global};
 pub struct AllFaults {
     /// By block, then by kind, each once. Never `NoMemory`.
     pub faults: Vec<VolumeFault>,
-    /// Whether the image may show faults that are not in the list. It does, unless its blocks are reached in too many
-    /// roles.
+    /// Whether the image shows more faults than those in the list.
     pub more: bool,
     /// A cell for each block, with the place that named it first and the role by that place. It is empty if the image
     /// shows no fault.
@@ -34,15 +33,14 @@ pub struct AllFaults {
 /// this file system. Of any other each fault that it shows is in the list, unless `more` is true. The list is empty
 /// exactly if the image is accepted.
 ///
-/// `more` is true if there are more than `most`, and the list has the first ones. It may also be true if the walk had to
-/// end early: blocks are reached in at least four times as many roles as the image has blocks.
+/// `more` is true exactly if the image shows more than `most`, and then the list has the first ones.
 pub fn all_faults(alloc: Global, image: &Image, most: usize) -> Result<AllFaults, AllocError>
     ensures lists { IfOk result (λ found. ListsFaults image.now most found.faults.items) }
     ensures none { IfOk result (λ found. 1 ≤ most → (found.faults.items ≡ []) ↔ ShowsNoFault image.now) }
     ensures whole { IfOk result (λ found. ShowsNoFault image.now → found.more ≡ false) }
     ensures alone { IfOk result (λ found. 1 ≤ most → ListsKindAlone image.now found.more found.faults.items) }
     ensures each { IfOk result (λ found. ¬ ShowsOtherKind image.now → ListsEach image.now found.more found.faults.items) }
-    ensures first { IfOk result (λ found. ¬ ShowsOtherKind image.now → ¬ IsTangled image.now → AreFirstFaults image.now most found.more found.faults.items) }
+    ensures first { IfOk result (λ found. ¬ ShowsOtherKind image.now → AreFirstFaults image.now most found.more found.faults.items) }
     ensures marked { IfOk result (λ found. ShowsNoFault image.now ⊎ AreMarks image.now found.marks.items) }
 {
     match other_kind(image) {
@@ -55,8 +53,7 @@ pub fn all_faults(alloc: Global, image: &Image, most: usize) -> Result<AllFaults
 ///
 /// The list is empty exactly if the image is accepted. A walk that goes on after each fault finds the others, also below
 /// a boot block of another kind. Each fault that the image shows is in the list, unless `more` is true. Then there are more
-/// than `most`, and the list has the first ones; or the walk had to end early, because blocks are reached in at least
-/// four times as many roles as the image has blocks.
+/// than `most`, and the list has the first ones.
 pub fn faults_of_any_disk(
     alloc: Global,
     image: &Image,
@@ -66,7 +63,7 @@ pub fn faults_of_any_disk(
     ensures none { IfOk result (λ found. 1 ≤ most → (found.faults.items ≡ []) ↔ ShowsNoFault image.now) }
     ensures whole { IfOk result (λ found. ShowsNoFault image.now → found.more ≡ false) }
     ensures each { IfOk result (λ found. ListsEach image.now found.more found.faults.items) }
-    ensures first { IfOk result (λ found. ¬ IsTangled image.now → AreFirstFaults image.now most found.more found.faults.items) }
+    ensures first { IfOk result (λ found. AreFirstFaults image.now most found.more found.faults.items) }
     ensures marked { IfOk result (λ found. ShowsNoFault image.now ⊎ AreMarks image.now found.marks.items) }
 {
     prove!(image.blocks() >= 16);
@@ -131,19 +128,19 @@ fn faults_with(
     ensures some { IfOk result (λ found. 1 ≤ most → 0 < length found.faults.items) }
     ensures refused { IfOk result (λ _. ¬ ShowsNoFault image.now) }
     ensures each { IfOk result (λ found. ListsEach image.now found.more found.faults.items) }
-    ensures first { IfOk result (λ found. ¬ IsTangled image.now → AreFirstFaults image.now most found.more found.faults.items) }
+    ensures first { IfOk result (λ found. AreFirstFaults image.now most found.more found.faults.items) }
     ensures marked { IfOk result (λ found. AreMarks image.now found.marks.items) }
 {
     let mut walk = walked(alloc, image)?;
     look_at_all(image, &walk.steps, &mut walk.notes);
     note_duplicates(alloc, image, &walk.steps, &mut walk.notes)?;
-    look_at_files(alloc, image, &walk.steps, walk.is_cut, &mut walk.notes)?;
+    look_at_files(alloc, image, &walk.steps, &mut walk.notes)?;
     look_at_disk(image, &mut walk.notes);
     walk.notes.note(image, first.kind, first.block);
     let listed = walk.notes.listed(alloc, image, most)?;
     Ok(AllFaults {
         faults: listed.faults,
-        more: listed.more || walk.is_cut,
+        more: listed.more,
         marks: walk.marks,
     })
 }

@@ -4,11 +4,10 @@ use Rattle.adf_block.specs.Fields.{file_size, held_count, sequence_number}
 use Rattle.adf_block.specs.declared.layout.TheConstants.{OFS_ROOM}
 use Rattle.ados_model.specs.declared.fault.FaultKind.TheVariants.{BadCount, BadPointer, BadSequence}
 use Rattle.ados_model.specs.declared.role.Role.TheVariants.{Entry}
-use Rattle.ados_model.specs.Faults.{AreDataBlocks, HasFileType, InImage, IsOfs, LinksOn, count_of_size}
+use Rattle.ados_model.specs.Faults.{AreDataBlocks, HasFileType, InImage, IsFile, IsOfs, LinksOn, count_of_size}
 use Rattle.ados_faults.specs.declared.walk.Step.{Step}
 use Rattle.ados_faults.specs.steps.Chain.{HoldsTooLittle}
 use Rattle.ados_faults.specs.steps.Noted.{IsNoted, cell_of}
-use Rattle.ados_faults.specs.steps.Walked.{step_of}
 
 -- what the data block at position i of a file shows there is noted
 pub record IsPlaceNoted (image : List ℕ) (cells : List Bool) (blocks : List ℕ) (i block : ℕ) : Type 0 where
@@ -53,5 +52,5 @@ pub record AreStepsChecked (image : List ℕ) (files : List Bool) (steps : List 
   pub checked : (k : ℕ) (step : Step) → k < n → slice_get steps k ≡ Some step → IsStepChecked image files step
 
 -- what each file shows is noted
-pub record AreAllFilesNoted (image : List ℕ) (cells : List Bool) (steps : List Step) : Type 0 where
-  pub noted : (k block dir s : ℕ) → slice_get steps k ≡ Some (step_of block (Entry dir s)) → HasFileType image block → IsFileNoted image cells block
+pub record AreAllFilesNoted (image : List ℕ) (cells : List Bool) : Type 0 where
+  pub noted : (file : ℕ) → IsFile image file → IsFileNoted image cells file

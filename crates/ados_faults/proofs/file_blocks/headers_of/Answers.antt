@@ -10,7 +10,8 @@ returns-then-not-more-clause-linked c =
     subst (λ (f : ℕ). LinkedOnce c.args.image.now NEXT_EXTENSION f c.go_on.new.self.blocks.items) (c.in_ok-more.ensures.head ∙ c.loop-passed.invariant.head)
     (c.in_ok-more.ensures.whole c.if-not-more.true)
 
-pub returns-clause-all : goal.returns-clause-all
-returns-clause-all c = λ enough.
+-- there are no more blocks than the image has
+pub returns-clause-linked : goal.returns-clause-linked
+returns-clause-linked c =
     let few : length c.loop-passed.headers.blocks.items ≤ block_count c.args.image.now = chain_few c.args.image.now NEXT_EXTENSION c.loop-passed.headers.blocks.items c.loop-passed.invariant.chain in
-    absurd (omega (arith, few, enough, c.loop-passed.invariant.counted, c.loop-passed-test.false))
+    absurd (omega (arith, few, c.blocks-passed-end.ensures.count, c.loop-passed.invariant.counted, c.loop-passed-test.false))

@@ -2,8 +2,5 @@ use Rattle.ados_faults.proofs.FileNotes.{file_noted}
 use Rattle.ados_faults.proofs.files.look_at_file.Goals as goal
 
 pub returns-clause-whole : goal.returns-clause-whole
-returns-clause-whole c = λ _.
+returns-clause-whole c =
     file_noted c.args.image.now c.look_at_blocks.new.notes.cells.items c.args.file c.in_ok-blocks.blocks.items c.deref-2.result.now c.in_ok-blocks.ensures c.deref-2.ensures.value c.look_at_blocks.ensures.whole
-
-pub returns-in_default-clause-whole : goal.returns-in_default-clause-whole
-returns-in_default-clause-whole c = λ enough. absurd (c.in_ok-headers.ensures.all enough c.in_default.is)

@@ -11,5 +11,5 @@ pub returns-in_default-clause-each : goal.returns-in_default-clause-each
 returns-in_default-clause-each c = λ whole kind block shown. absurd (MatchOption-at_none _ _ c.in_default.is c.in_ok-first.ensures kind block shown)
 
 pub returns-in_default-clause-first : goal.returns-in_default-clause-first
-returns-in_default-clause-first c = λ _.
+returns-in_default-clause-first c =
     subst (AreFirstFaults c.args.image.now c.args.most false) (sym c.new.ensures.items) (no_faults c.args.image.now c.args.most (MatchOption-at_none _ _ c.in_default.is c.in_ok-first.ensures))

@@ -1,0 +1,61 @@
+//! Lists of blocks, each once, that are quick to empty.
+ghost use Rattle.std.specs.Prelude.{◌≡◌, ◌∷◌, ◌++◌, [], Contains, IfOk, false, true};
+ghost use Rattle.ados_model.specs.Faults.{InImage};
+ghost use Rattle.ados_faults.specs.steps.Blocks.{AreMet};
+
+use adf_block::Image;
+use std::alloc::{AllocError, Global};
+
+/// Blocks in the order in which they were added, each once.
+#[derive(Drop)]
+pub(crate) struct Blocks {
+    pub(crate) list: Vec<u32>,
+    /// Whether each block of the image is in the list.
+    has: Vec<bool>,
+}
+
+impl Blocks {
+    /// No blocks.
+    pub(crate) fn none(alloc: Global, image: &Image) -> Result<Blocks, AllocError>
+        ensures met { IfOk result (λ blocks. AreMet image.now blocks.has.items blocks.list.items) }
+    {
+        let has = Vec::from_elem(alloc, false, image.blocks() as usize)?;
+        Ok(Blocks {
+            list: Vec::new(alloc),
+            has,
+        })
+    }
+
+    /// Removes all blocks.
+    pub(crate) fn clear(&mut self, image: &Image)
+        requires { AreMet image.now self.old.has.items self.old.list.items }
+        ensures met { AreMet image.now self.new.has.items self.new.list.items }
+        ensures none { self.new.list.items ≡ [] }
+    {
+        let _image = image;
+        for i in 0..self.list.len() {
+            let block = self.list[i];
+            self.has[block as usize] = false;
+        }
+        self.list.clear();
+    }
+
+    /// Adds a block. The result is false if it was there.
+    pub(crate) fn add(&mut self, image: &Image, block: u32) -> Result<bool, AllocError>
+        requires met { AreMet image.now self.old.has.items self.old.list.items }
+        requires inside { InImage image.now block }
+        ensures met { IfOk result (λ _. AreMet image.now self.new.has.items self.new.list.items) }
+        ensures new { IfOk result (λ is_new. is_new ≡ true → self.new.list.items ≡ self.old.list.items ++ block ∷ []) }
+        ensures fresh { IfOk result (λ is_new. is_new ≡ true → ¬ Contains self.old.list.items block) }
+        ensures same { IfOk result (λ is_new. is_new ≡ false → self.new.list.items ≡ self.old.list.items) }
+        ensures there { IfOk result (λ is_new. is_new ≡ false → Contains self.old.list.items block) }
+    {
+        let _image = image;
+        if self.has[block as usize] {
+            return Ok(false);
+        }
+        self.list.push(block)?;
+        self.has[block as usize] = true;
+        Ok(true)
+    }
+}
