@@ -1,6 +1,7 @@
 -- Each fault that an image shows is noted: at a step, at a file, or on the walk.
-use Rattle.std.proofs.Common.{◌≡◌, ◌≢◌, ℕ, List, Bool, length, Some, inl, inr, refl, sym, subst}
-use Rattle.std.proofs.lemmas.Option.{slice_get_within}
+use Rattle.std.proofs.Common.{◌≡◌, ◌≢◌, ℕ, ◌+◌, ◌<◌, List, Bool, length, get_or, Some, None, inl, inr, refl, sym, ◌∙◌, subst, arith}
+use Rattle.std.specs.List.{slice_get}
+use Rattle.std.proofs.lemmas.Option.{none-some, slice_get-get_or, slice_get_within, unwrap_or-slice_get}
 use Rattle.adf_block.specs.Whole.{IsImage, text_at}
 use Rattle.adf_block.specs.Image.{block_sum}
 use Rattle.adf_block.specs.Fields.{own_key, parent_key}
@@ -125,17 +126,20 @@ module _ (image : List ℕ) (im : IsImage image) (walked looked last : List Bool
   file_of file h = files.noted file h
 
   -- what the block shows as data block i of a file
-  place_of : (file i block : ℕ) (blocks : List ℕ) → Faults.IsOfs image → Faults.IsDataAt image file blocks i block → IsPlaceNoted image filed blocks i block
+  place_of : (file i block : ℕ) (blocks : List ℕ) → Faults.IsOfs image → Faults.IsDataAt image file blocks i block → IsPlaceNoted image filed block i (slice_get blocks (i + 1))
   place_of file i block blocks ofs at =
-      subst (IsPlaceNoted image filed blocks i) at.here
-      ((((file_of file at.of_file.is_file).noted blocks at.of_file).places ofs).placed i at.within (subst (Faults.InImage image) (sym at.here) at.inside))
+      subst (λ (b : ℕ). IsPlaceNoted image filed b i (slice_get blocks (i + 1))) at.here
+      ((((file_of file at.of_file.is_file).noted blocks at.of_file).places ofs).placed i (omega arith) at.within (subst (Faults.InImage image) (sym at.here) at.inside))
+
+  followed : (blocks : List ℕ) (i : ℕ) → i < length blocks → slice_get blocks i ≢ None
+  followed blocks i l e = none-some (get_or blocks i 0) (sym e ∙ slice_get-get_or blocks i 0 l)
 
   pointer_noted : (block : ℕ) → Faults.HasBadPointer image block → IsNoted last (cell_of BadPointer block)
   pointer_noted block (Faults.HasBadPointer.outside {i = i} {role = r} {next = n} h place out) = after_walk.stay (cell_of BadPointer block) (outside.noted block i r n h place out)
   pointer_noted block (Faults.HasBadPointer.first_data ofs h wrong) =
       (let look = entry_look block h.dir h.slot_of_chain h.reached in field_noted block (Entry look.0 look.1) FirstData look.2 (h.secondary, (ofs, wrong)))
   pointer_noted block (Faults.HasBadPointer.further_data {file = f} {i = i} {blocks = b} ofs at wrong) =
-      after_files.stay (cell_of BadPointer block) ((place_of f i block b ofs at).link wrong)
+      after_files.stay (cell_of BadPointer block) ((place_of f i block b ofs at).link (λ e. wrong (e ∙ unwrap_or-slice_get b (i + 1) 0)))
 
   pointers_noted : (block : ℕ) → Faults.HasPointers image block → HasOtherCount image block → IsNoted last (cell_of BadCount block)
   pointers_noted block (Faults.HasPointers.file_pointers h) n = let look = entry_look block h.dir h.slot_of_chain h.reached in field_noted block (Entry look.0 look.1) PointerCount look.2 (h.secondary, n)
@@ -147,7 +151,7 @@ module _ (image : List ℕ) (im : IsImage image) (walked looked last : List Bool
   count_noted block (Faults.HasBadCount.no_pointer h e) = let look = extension_look block h.0 h.1 in field_noted block (Extension look.0) PointerCount look.1 (inl e)
   count_noted block (Faults.HasBadCount.wrong_size {blocks = b} d n) = after_files.stay (cell_of BadCount block) (((file_of block d.is_file).noted b d).count n)
   count_noted block (Faults.HasBadCount.held_not_full ofs h n) =
-      after_files.stay (cell_of BadCount block) ((place_of h.file h.i block h.blocks ofs h.at).short (inr (n, h.followed)))
+      after_files.stay (cell_of BadCount block) ((place_of h.file h.i block h.blocks ofs h.at).short (inr (n, followed h.blocks (h.i + 1) h.followed)))
   count_noted block (Faults.HasBadCount.held_none {file = f} {i = i} {blocks = b} ofs at e) = after_files.stay (cell_of BadCount block) ((place_of f i block b ofs at).short (inl e))
   count_noted block (Faults.HasBadCount.held_over {file = f} {i = i} {blocks = b} ofs at l) = after_files.stay (cell_of BadCount block) ((place_of f i block b ofs at).over l)
   count_noted block (Faults.HasBadCount.wrong_sum ofs h) =

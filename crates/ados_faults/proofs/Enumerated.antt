@@ -53,17 +53,20 @@ met_more image has blocks next m inside = record {
 -- the cells of the first blocks in the list are cleared
 pub record AreLeft (image : List ℕ) (has : List Bool) (blocks : List ℕ) (n : ℕ) : Type 0 where
   pub size : length has ≡ block_count image
+  pub inside : All (InImage image) blocks
   pub behind : (block : ℕ) → get_or has block false ≡ true → (k : ℕ) × (n ≤ k) × (k < length blocks) × (slice_index blocks k ≡ block)
 
 pub left_all : (image : List ℕ) (has : List Bool) (blocks : List ℕ) → AreMet image has blocks → AreLeft image has blocks 0
 left_all image has blocks m = record {
   size = m.size;
+  inside = m.inside;
   behind = λ block e. let c = m.listed block e in (c.0, omega arith, c.1, get_or_default blocks c.0 0 block c.1 ∙ c.2);
 }
 
 pub left_less : (image : List ℕ) (has : List Bool) (blocks : List ℕ) (n block : ℕ) → block ≡ slice_index blocks n → AreLeft image has blocks n → block < length has → AreLeft image (set has block false) blocks (n + 1)
 left_less image has blocks n block is l within = record {
   size = length-set has block false ∙ l.size;
+  inside = l.inside;
   behind = λ other e. elim (cases_eq other block) [
     | inl here ↦ absurd (false≢true (sym (get_or-set_same has block false false within) ∙ ap (λ (i : ℕ). get_or (set has block false) i false) (sym here) ∙ e))
     | inr apart ↦
@@ -74,6 +77,10 @@ left_less image has blocks n block is l within = record {
   where
     further : (k : ℕ) → n ≤ k → n ≢ k → n + 1 ≤ k
     further k le ne = omega (arith, le, ne)
+
+-- the block of the next cell is inside the image
+pub left_within : (image : List ℕ) (has : List Bool) (blocks : List ℕ) (n block : ℕ) → block ≡ get_or blocks n block → n < length blocks → AreLeft image has blocks n → block < length has
+left_within image has blocks n block is l m = let inside = subst (InImage image) (sym is) (m.inside n block l) in omega (arith, inside.1, m.size)
 
 pub left_none : (image : List ℕ) (has : List Bool) (blocks : List ℕ) (n : ℕ) → AreLeft image has blocks n → length blocks ≤ n → AreMet image has []
 left_none image has blocks n l all = record {

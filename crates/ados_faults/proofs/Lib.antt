@@ -16,3 +16,4 @@ pub mod Looking
 pub mod Each
 pub mod SameBlocks
 pub mod FileNotes
+pub mod ByHeaders

@@ -1,5 +1,6 @@
 //! Lists of blocks, each once, that are quick to empty.
-ghost use Rattle.std.specs.Prelude.{◌≡◌, ◌∷◌, ◌++◌, [], Contains, IfOk, false, true};
+ghost use Rattle.std.specs.Prelude.{◌≡◌, ◌∷◌, ◌++◌, [], Contains, IfOk, false, replicate, true};
+ghost use Rattle.adf_block.specs.Image.{block_count};
 ghost use Rattle.ados_model.specs.Faults.{InImage};
 ghost use Rattle.ados_faults.specs.steps.Blocks.{AreMet};
 
@@ -17,9 +18,9 @@ pub(crate) struct Blocks {
 impl Blocks {
     /// No blocks.
     pub(crate) fn none(alloc: Global, image: &Image) -> Result<Blocks, AllocError>
-        ensures met { IfOk result (λ blocks. AreMet image.now blocks.has.items blocks.list.items) }
+        ensures { IfOk result (λ blocks. AreMet image.now blocks.has.items blocks.list.items) }
     {
-        let has = Vec::from_elem(alloc, false, image.blocks() as usize)?;
+        let has = no_cells(alloc, image)?;
         Ok(Blocks {
             list: Vec::new(alloc),
             has,
@@ -58,4 +59,11 @@ impl Blocks {
         self.has[block as usize] = true;
         Ok(true)
     }
+}
+
+/// One cell for each block of the image, none of them set.
+pub(crate) fn no_cells(alloc: Global, image: &Image) -> Result<Vec<bool>, AllocError>
+    ensures { IfOk result (λ cells. cells.items ≡ replicate (block_count image.now) false) }
+{
+    Vec::from_elem(alloc, false, image.blocks() as usize)
 }

@@ -21,6 +21,7 @@ mod looks;
 mod name_bytes;
 mod names;
 mod notes;
+mod pieces;
 mod roles;
 mod walk;
 

@@ -1,5 +1,5 @@
 //! The names of the entries: each once in its directory.
-ghost use Rattle.std.specs.Prelude.{◌≡◌, ◌≢◌, ◌↔◌, ◌<◌, ℕ, All, IfOk, IsTrue, MatchOption, Some, false, length, replicate};
+ghost use Rattle.std.specs.Prelude.{◌≡◌, ◌≢◌, ◌↔◌, ◌<◌, ℕ, All, IfOk, IsTrue, MatchOption, None, Some, false, length, replicate};
 ghost use Rattle.adf_block.specs.Image.{block_count};
 ghost use Rattle.adf_block.specs.Whole.{IsImage};
 ghost use Rattle.ados_check.specs.Entries.{upper_name};
@@ -12,7 +12,7 @@ ghost use Rattle.ados_faults.specs.steps.Noted.{AreNoted, AreStillNoted, IsNoted
 ghost use Rattle.ados_faults.specs.steps.Roles.{AreCovered};
 ghost use Rattle.ados_faults.specs.steps.Walked.{IsStep};
 
-use crate::blocks::Blocks;
+use crate::blocks::{Blocks, no_cells};
 use crate::entries::list_entries;
 use crate::name_bytes::{has_short_name, upper_name};
 use crate::notes::Notes;
@@ -74,9 +74,9 @@ impl Names {
         ensures met { IfOk result (λ names. AreNamesMet image.now names.met.items) }
         ensures entries { IfOk result (λ names. AreMet image.now names.entries.has.items names.entries.list.items) }
     {
-        let passed = Vec::from_elem(alloc, false, image.blocks() as usize)?;
+        let passed = no_cells(alloc, image)?;
         let first = first_names(alloc, image)?;
-        let met = Vec::from_elem(alloc, None, image.blocks() as usize)?;
+        let met = none_met(alloc, image)?;
         let entries = Blocks::none(alloc, image)?;
         Ok(Names {
             passed,
@@ -121,6 +121,13 @@ impl Names {
         self.passed[dir as usize] = true;
         Ok(())
     }
+}
+
+/// No entry for any name.
+fn none_met(alloc: Global, image: &Image) -> Result<Vec<Option<Named>>, AllocError>
+    ensures { IfOk result (λ met. met.items ≡ replicate (block_count image.now) None) }
+{
+    Vec::from_elem(alloc, None, image.blocks() as usize)
 }
 
 /// Whether a step is a directory.

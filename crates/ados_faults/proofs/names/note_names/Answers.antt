@@ -1,5 +1,15 @@
+use Rattle.std.proofs.Common.{get_or, arith}
+use Rattle.ados_faults.proofs.Cells.{noted_on}
 use Rattle.ados_faults.proofs.Sameness.{first_met_more, first_met_none, has_name_of, kept_names, names_noted}
 use Rattle.ados_faults.proofs.names.note_names.Goals as goal
+
+pub loop-entry-init : goal.loop-entry-init
+loop-entry-init c = record {
+  noted = c.requires.noted;
+  stays = record { stay = λ cell e. e };
+  named = c.requires.met;
+  met = first_met_none c.args.notes.now.cells.items c.args.met.now c.args.first.now c.args.dir c.args.entries.now;
+}
 
 pub loop-entry-preserved : goal.loop-entry-preserved
 loop-entry-preserved c = ?
