@@ -1,12 +1,13 @@
 -- The data blocks of a file, by the blocks whose pointers name them.
 use Rattle.std.proofs.Common.{◌≡◌, ◌≢◌, ℕ, zero, suc, ◌+◌, ◌-◌, ◌*◌, ◌^◌, ◌<◌, ◌≤◌, min, ◌⊎◌, ◌||◌, ◌==◌, inl, inr, Bool, true, false, List, [], ◌∷◌, ◌++◌, length, take, drop, flat_map, slice_index, get_or, replicate, set, Option, Some, None, nat_le, nat_lt, refl, sym, ap, ap₂, ◌∙◌, subst, arith, length-set, get_or-set_same, get_or-set_other}
 use Rattle.std.specs.List.{All, slice_get, sum_by}
-use Rattle.std.specs.Option.{unwrap_or}
-use Rattle.std.proofs.lemmas.Bool.{cases_Bool, cases_eq, cases_lt, eqb-true, false≢true, le-ltb, lt-leb, lt-ltb, or_cases, or_parts}
+use Rattle.std.specs.Option.{is_some}
+use Rattle.std.proofs.lemmas.Bool.{cases_Bool, cases_eq, cases_lt, eqb-false, eqb-true, false≢true, le-ltb, lt-leb, lt-ltb, or_cases, or_parts}
 use Rattle.std.proofs.lemmas.Grind.{flat_map-append}
-use Rattle.std.proofs.lemmas.List.{append-nil, drop_more, get_or_append_left, get_or-append-add, get_or_default, get_or-replicate, take_more, length-append, length-drop, length-replicate, length-take, length_push, take-append-drop, take_all}
-use Rattle.std.proofs.lemmas.List.Sums.{sum_by-append, sum_by_push}
-use Rattle.std.proofs.lemmas.Option.{none-some, same_Some, slice_get-get_or, slice_get_past, slice_get_within}
+use Rattle.std.proofs.lemmas.List.{append-nil, drop_more, get_or_append_left, get_or-append-add, get_or_default, get_or_push, get_or-replicate, take_more, length-append, length-drop, length-replicate, length-take, length_push, take-append-drop, take_all}
+use Rattle.std.proofs.lemmas.List.Elements.{All-append}
+use Rattle.std.proofs.lemmas.List.Sums.{sum_by-append}
+use Rattle.std.proofs.lemmas.Option.{get_or_from_slice_get, none-some, same_Some, slice_get-get_or, slice_get_past, slice_get_within}
 use Rattle.adf_block.specs.Image.{block_count, long}
 use Rattle.adf_block.specs.Fields.{held_count, pointer, pointer_count, sequence_number}
 use Rattle.adf_block.specs.declared.layout.TheConstants.{NEXT_DATA, NEXT_EXTENSION, OFS_ROOM}
@@ -17,7 +18,7 @@ use Rattle.ados_check.proofs.Pointers.{pointers_are}
 use Rattle.ados_faults.specs.declared.pieces.Piece.{Piece}
 use Rattle.ados_faults.specs.declared.pieces.Seen.{Seen}
 use Rattle.ados_faults.specs.steps.Chain.{AreHeaders, HoldsTooLittle, IsPiece, first_in, next_in}
-use Rattle.ados_faults.specs.steps.FileNotes.{AreAllSeen, ArePlacesNoted, IsHeaderSeen, IsOneNoted, IsPieceNoted, IsPlaceNoted, is_known}
+use Rattle.ados_faults.specs.steps.FileNotes.{AreAllSeen, ArePlacesNoted, IsHeaderSeen, IsHeld, IsOneNoted, IsPieceNoted, IsPlaceNoted, is_known}
 use Rattle.ados_faults.specs.steps.Noted.{AreStillNoted, IsNoted, cell_of}
 use Rattle.ados_faults.proofs.FileNotes.{placed_on}
 
@@ -47,12 +48,14 @@ module _ (image : List ℕ) (headers : List ℕ) (k : ℕ) (l : k < length heade
       ∙ flat_map-append (pointers_of image) (take k headers) (drop k headers)
       ∙ ap (λ (xs : List ℕ). flat_map (pointers_of image) (take k headers) ++ flat_map (pointers_of image) xs) (drop_more headers k 0 l)
 
+  pub flat_next : flat_map (pointers_of image) (take (k + 1) headers) ≡ flat_map (pointers_of image) (take k headers) ++ pointers_of image (slice_index headers k)
+  flat_next =
+      ap (flat_map (pointers_of image)) (take_more headers k 0 l)
+      ∙ flat_map-append (pointers_of image) (take k headers) (slice_index headers k ∷ [])
+      ∙ ap (λ (xs : List ℕ). flat_map (pointers_of image) (take k headers) ++ xs) (append-nil (pointers_of image (slice_index headers k)))
+
   pub length_before : length (flat_map (pointers_of image) (take (k + 1) headers)) ≡ length (flat_map (pointers_of image) (take k headers)) + length (pointers_of image (slice_index headers k))
-  length_before =
-      ap (λ (xs : List ℕ). length (flat_map (pointers_of image) xs)) (take_more headers k 0 l)
-      ∙ ap length (flat_map-append (pointers_of image) (take k headers) (slice_index headers k ∷ []))
-      ∙ length-append (flat_map (pointers_of image) (take k headers)) (pointers_of image (slice_index headers k) ++ [])
-      ∙ ap (λ (xs : List ℕ). length (flat_map (pointers_of image) (take k headers)) + length xs) (append-nil (pointers_of image (slice_index headers k)))
+  length_before = ap length flat_next ∙ length-append (flat_map (pointers_of image) (take k headers)) (pointers_of image (slice_index headers k))
 
   pub within_all : length (flat_map (pointers_of image) (take k headers)) + length (pointers_of image (slice_index headers k)) ≤ length (flat_map (pointers_of image) headers)
   within_all =
@@ -70,12 +73,49 @@ module _ (image : List ℕ) (headers : List ℕ) (k : ℕ) (l : k < length heade
       ∙ get_or-append-add (flat_map (pointers_of image) (take k headers)) (pointers_of image (slice_index headers k) ++ flat_map (pointers_of image) (drop (k + 1) headers)) i 0
       ∙ get_or_append_left (pointers_of image (slice_index headers k)) (flat_map (pointers_of image) (drop (k + 1) headers)) 0 i m
 
+-- ---- the bytes that data blocks hold together
+
+pub held_nil : (image : List ℕ) → IsHeld image [] (Some 0)
+held_nil image = (λ k d l. absurd (omega (arith, l)), refl)
+
+held_append : (image : List ℕ) (xs ys : List ℕ) (a b : ℕ) → IsHeld image xs (Some a) → IsHeld image ys (Some b) → IsHeld image (xs ++ ys) (Some (min (a + b) (2 ^ 64 - 1)))
+held_append image xs ys a b x y = (
+  All-append (InImage image) xs ys x.0 y.0,
+  omega (arith, x.1, y.1, sum_by-append (held_count image) xs ys),
+)
+
+-- of one more header
+pub held_next : (image : List ℕ) (headers : List ℕ) (k a b : ℕ) → k < length headers → IsHeld image (flat_map (pointers_of image) (take k headers)) (Some a) → IsHeld image (pointers_of image (slice_index headers k)) (Some b)
+    → IsHeld image (flat_map (pointers_of image) (take (k + 1) headers)) (Some (min (a + b) (2 ^ 64 - 1)))
+held_next image headers k a b l x y =
+    subst (λ (xs : List ℕ). IsHeld image xs (Some (min (a + b) (2 ^ 64 - 1)))) (sym (flat_next image headers k l))
+    (held_append image (flat_map (pointers_of image) (take k headers)) (pointers_of image (slice_index headers k)) a b x y)
+
+-- a block outside the image is outside for all of them
+pub held_out : (image : List ℕ) (headers : List ℕ) (k : ℕ) → k < length headers → ¬ All (InImage image) (pointers_of image (slice_index headers k)) → ¬ All (InImage image) (flat_map (pointers_of image) headers)
+held_out image headers k l out all = out (λ i d m.
+    let at = length (flat_map (pointers_of image) (take k headers)) + i in
+    let within : at < length (flat_map (pointers_of image) headers) = omega (arith, m, within_all image headers k l) in
+    subst (InImage image) (pointer_there image headers k l i m ∙ get_or_default (pointers_of image (slice_index headers k)) i 0 d m) (all at 0 within))
+
+pub held_more : (image : List ℕ) (held : List (Option ℕ)) (n : ℕ) (new : Option ℕ) → length held ≡ n → ((k : ℕ) (sum : Option ℕ) → slice_get held k ≡ Some sum → IsHeld image (pointers_of image k) sum)
+    → IsHeld image (pointers_of image n) new → (k : ℕ) (sum : Option ℕ) → slice_get (held ++ new ∷ []) k ≡ Some sum → IsHeld image (pointers_of image k) sum
+held_more image held n new size each this k sum e =
+    let within = slice_get_within (held ++ new ∷ []) k sum e in
+    let is : get_or (held ++ new ∷ []) k sum ≡ sum = get_or_from_slice_get (held ++ new ∷ []) k sum sum e in
+    elim (cases_lt k (length held)) [
+      | inl l ↦ each k sum (slice_get-get_or held k sum l ∙ ap (λ (x : Option ℕ). Some x) (sym (get_or_append_left held (new ∷ []) sum k l) ∙ is))
+      | inr past ↦
+          let here : length held ≡ k = omega (arith, past, within, length_push held new) in
+          subst (λ (b : ℕ). IsHeld image (pointers_of image b) sum) (sym size ∙ here) (subst (IsHeld image (pointers_of image n)) (sym (get_or_push held new sum k here) ∙ is) this)
+    ]
+
 -- ---- the places of a piece
 
-next_of_inner : (image : List ℕ) (piece : Piece) (i : ℕ) → i + 1 < piece.count → next_in image piece i ≡ Some (slice_index (pointers_of image piece.header) (i + 1))
+pub next_of_inner : (image : List ℕ) (piece : Piece) (i : ℕ) → i + 1 < piece.count → next_in image piece i ≡ Some (slice_index (pointers_of image piece.header) (i + 1))
 next_of_inner image piece i l = rw (lt-ltb (i + 1) piece.count l) refl
 
-next_of_last : (image : List ℕ) (piece : Piece) (i : ℕ) → piece.count ≤ i + 1 → next_in image piece i ≡ piece.behind
+pub next_of_last : (image : List ℕ) (piece : Piece) (i : ℕ) → piece.count ≤ i + 1 → next_in image piece i ≡ piece.behind
 next_of_last image piece i l = rw (le-ltb (i + 1) piece.count l) refl
 
 -- the next data block of the file
@@ -131,7 +171,7 @@ places_back image cells later piece p on old this = record { placed = go }
     ]
 
 -- the piece of one header
-pub piece_of : (image : List ℕ) (headers : List ℕ) (k : ℕ) (piece : Piece) → (a : AreHeaders image headers) → k < length headers → piece.header ≡ slice_index headers k → InImage image piece.header
+unfoldable pub piece_of : (image : List ℕ) (headers : List ℕ) (k : ℕ) (piece : Piece) → (a : AreHeaders image headers) → k < length headers → piece.header ≡ slice_index headers k → InImage image piece.header
     → piece.count ≡ length (pointers_of image piece.header) → piece.count ≤ 72 → piece.position ≡ length (flat_map (pointers_of image) (take k headers)) → piece.position + piece.count < 2 ^ 62
     → slice_get (flat_map (pointers_of image) headers) (piece.position + piece.count) ≡ piece.behind → IsPiece image piece
 piece_of image headers k piece a l is inside count few position low behind = record {
@@ -263,3 +303,26 @@ none_seen image cells seen none = record {
         slice_get-get_or (replicate (block_count image) None) header None (omega (arith, l, length-replicate {A = Option Seen} (block_count image) None))
         ∙ ap (λ (x : Option Seen). Some x) (get_or-replicate (block_count image) header None None l) in
         none-some s (same_Some None (Some s) (sym at ∙ e))
+
+-- where a look at the last one is enough
+pub known_piece : (image : List ℕ) (cells later : List Bool) (piece : Piece) (seen : List (Option Seen)) (o : Option Seen) → AreStillNoted cells later → IsPiece image piece → 0 < piece.count → AreAllSeen image cells seen
+    → slice_get seen piece.header ≡ Some o → is_known o piece.position ≡ true → IsOneNoted image later piece (piece.count - 1) → IsPieceNoted image later piece
+known_piece image cells later piece seen None on p some a at known last = absurd (false≢true known)
+known_piece image cells later piece seen (Some s) on p some a at known last = seen_before image cells later piece s on p some (a.each piece.header s at) known last
+
+-- where all were checked
+pub seen_now : (image : List ℕ) (cells later : List Bool) (piece : Piece) (seen : List (Option Seen)) (o : Option Seen) (settled : Bool) → AreStillNoted cells later → IsPiece image piece → AreAllSeen image cells seen
+    → slice_get seen piece.header ≡ Some o → is_known o piece.position ≡ false → settled ≡ is_some o → IsPieceNoted image later piece
+    → IsHeaderSeen image later piece.header (record { position = piece.position; is_settled = settled })
+seen_now image cells later piece seen None settled on p a at known is n =
+    subst (λ (b : Bool). IsHeaderSeen image later piece.header (record { position = piece.position; is_settled = b })) (sym is) (seen_once image later piece p n)
+seen_now image cells later piece seen (Some s) settled on p a at known is n =
+    let apart = eqb-false s.position piece.position (or_parts s.is_settled (s.position == piece.position) known).1 in
+    subst (λ (b : Bool). IsHeaderSeen image later piece.header (record { position = piece.position; is_settled = b })) (sym is)
+    (seen_again image cells later piece s on p n (a.each piece.header s at) apart)
+
+pub first_pointer : (image : List ℕ) (piece : Piece) → IsPiece image piece → 0 < piece.count → first_in image piece ≡ Some (pointer image piece.header 0)
+first_pointer image piece p some = rw (lt-ltb 0 piece.count some) (ap (λ (x : ℕ). Some x) (pointer_at image piece.header 0 (omega (arith, some, p.count))))
+
+pub none_first : (image : List ℕ) (piece : Piece) → piece.count ≡ 0 → first_in image piece ≡ piece.behind
+none_first image piece none = rw (le-ltb 0 piece.count (omega (arith, none))) refl

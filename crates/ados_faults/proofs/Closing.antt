@@ -269,18 +269,18 @@ module _ (image : List ℕ) (walk : Walk) (n : ℕ) (w : IsWalked image walk.not
       subst (λ (b : ℕ). AreCoveredBy walk.steps.items b (Entry x t)) (sym is) (met_of block i (Entry x t) (Entry x t) at (place x t) inside).covered in
       entry_covered walk.steps.items target d s
       (carried walk.steps.items block target Directory Directory (λ role m at e.
-          let r = directory_role role m e in
-          (there m r.0 (subst (λ (x : Role). IsListed walk.steps.items (step_of block x)) r.1 at)).covered Directory m refl) d (c.covered Directory d refl))
+      let r = directory_role role m e in
+      (there m r.0 (subst (λ (x : Role). IsListed walk.steps.items (step_of block x)) r.1 at)).covered Directory m refl) d (c.covered Directory d refl))
       (carried walk.steps.items block target Slot Slot (λ role m at e.
-          let r = slot_role role m e in
-          (there r.0 m (subst (λ (x : Role). IsListed walk.steps.items (step_of block x)) r.1 at)).covered Slot m refl) s (c.covered Slot s refl))
+      let r = slot_role role m e in
+      (there r.0 m (subst (λ (x : Role). IsListed walk.steps.items (step_of block x)) r.1 at)).covered Slot m refl) s (c.covered Slot s refl))
 
   met_by_extension : (block i : ℕ) (part : Part) (next : ℕ → Role) → LeadsInside image block i → ((f : ℕ) → IsPlace image block (Extension f) i (next f)) → ((f : ℕ) → number_of part (next f) ≡ Some f) → (f : ℕ)
       → AreCoveredBy walk.steps.items block (Extension f) → IsCovered walk.steps.items (long image block i) part f
   met_by_extension block i part next inside place is f c =
       carried walk.steps.items block (long image block i) ExtensionFile part (λ role m at e.
-          let at_it = subst (λ (x : Role). IsListed walk.steps.items (step_of block x)) (extension_role role m e) at in
-          (met_of block i (Extension m) (next m) at_it (place m) inside).covered.covered part m (is m)) f (c.covered ExtensionFile f refl)
+      let at_it = subst (λ (x : Role). IsListed walk.steps.items (step_of block x)) (extension_role role m e) at in
+      (met_of block i (Extension m) (next m) at_it (place m) inside).covered.covered part m (is m)) f (c.covered ExtensionFile f refl)
 
   next_covered : {block i : ℕ} {role next : Role} → IsStanding image walk block role → IsPlace image block role i next → LeadsInside image block i → AreCoveredBy walk.steps.items (long image block i) next
   next_covered {block = b} {i = i} s (root_page l) inside = (met_of b i Root Page (s.first refl) (root_page l) inside).covered

@@ -1,7 +1,7 @@
 -- The numbers in the roles of a block that a walk takes, and the roles that its steps cover.
 use Rattle.std.proofs.Common.{◌≡◌, ◌≢◌, ℕ, ◌+◌, ◌*◌, ◌<◌, ◌≤◌, ◌⊎◌, ◌==◌, inl, inr, Bool, true, false, not, List, [], ◌∷◌, length, get_or, replicate, Option, Some, None, set, refl, sym, ap, ◌∙◌, subst, arith, length-set, get_or-set_same, get_or-set_other}
 use Rattle.std.proofs.lemmas.Bool.{cases_eq, cases_lt, eqb-true, eqb-false, false≢true, not-true, not-false}
-use Rattle.std.proofs.lemmas.List.{get_or_past, length-replicate, get_or-replicate}
+use Rattle.std.proofs.lemmas.List.{get_or_default, get_or_past, length-replicate, get_or-replicate}
 use Rattle.std.proofs.lemmas.Option.{none-some, same_Some}
 use Rattle.ados_model.specs.declared.role.Role.{Role}
 use Rattle.ados_model.specs.declared.role.Role.TheVariants.{Root, Page, Entry, Data, Extension}
@@ -70,6 +70,9 @@ backed_set cells steps block part n within new back has = record { backed = go }
       | inr apart ↦
           subst (IsBacked steps b p) (sym (get_or-set_other cells (5 * block + part_rank part) (5 * b + part_rank p) (with_number n (taken_at cells block part)) Nothing apart)) (back.backed b p)
     ]
+
+pub taken_read : (cells : List Taken) (block : ℕ) (part : Part) (r : ℕ) (x : Taken) → r ≡ part_rank part → 5 * block + r < length cells → x ≡ get_or cells (5 * block + r) x → taken_at cells block part ≡ x
+taken_read cells block part r x is l e = ap (λ (n : ℕ). get_or cells (5 * block + n) Nothing) (sym is) ∙ get_or_default cells (5 * block + r) Nothing x l ∙ sym e
 
 pub covered_old : (cells : List Taken) (steps : List Step) (block : ℕ) (part : Part) (n : ℕ) → lacks n (taken_at cells block part) ≡ false → AreBacked cells steps → IsCovered steps block part n
 covered_old cells steps block part n old back = old_number steps block part n (taken_at cells block part) old (back.backed block part)

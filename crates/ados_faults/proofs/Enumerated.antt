@@ -50,6 +50,9 @@ met_more image has blocks next m inside = record {
     here : get_or (set has next true) next false ≡ true
     here = get_or-set_same has next true false (omega (arith, inside.1, m.size))
 
+pub cell_read : (has : List Bool) (block : ℕ) (x : Bool) → block < length has → x ≡ get_or has block x → get_or has block false ≡ x
+cell_read has block x l e = get_or_default has block false x l ∙ sym e
+
 -- the cells of the first blocks in the list are cleared
 pub record AreLeft (image : List ℕ) (has : List Bool) (blocks : List ℕ) (n : ℕ) : Type 0 where
   pub size : length has ≡ block_count image
@@ -110,6 +113,11 @@ module _ (image : List ℕ) (block : ℕ) (blocks later : List ℕ) (grown : IsG
     | inl same ↦ ap (λ (xs : List ℕ). slice_index xs k) same
     | inr more ↦ ap (λ (xs : List ℕ). slice_index xs k) more.1 ∙ get_or_append_left blocks (block ∷ []) 0 k l
   ]
+
+-- into an empty list
+pub only_one : (image : List ℕ) (block : ℕ) (blocks later : List ℕ) → blocks ≡ [] → IsGrown image block blocks later → Contains later block → later ≡ block ∷ []
+only_one image block blocks later none (inl same) there = absurd (omega (arith, there.1, ap length same, ap length none))
+only_one image block blocks later none (inr more) there = more.1 ∙ ap (λ (xs : List ℕ). xs ++ block ∷ []) none
 
 -- ---- the entries of a directory
 

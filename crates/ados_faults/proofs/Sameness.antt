@@ -313,7 +313,7 @@ directories_more image cells later passed dir on d this = record {
   noted = λ other h. elim (cases_eq other dir) [
     | inl here ↦ subst (AreNamesNoted image later) (sym here) this
     | inr apart ↦ (let old = d.noted other (sym (get_or-set_other passed dir other true false apart) ∙ h) in
-      record { noted = λ block b s t r q short long same two. on.stay (cell_of DuplicateName block) (old.noted block b s t r q short long same two) })
+        record { noted = λ block b s t r q short long same two. on.stay (cell_of DuplicateName block) (old.noted block b s t r q short long same two) })
   ];
 }
 

@@ -2,7 +2,7 @@
 ghost use Rattle.std.specs.Prelude.{◌≡◌, ◌∷◌, ◌++◌, [], Contains, IfOk, false, replicate, true};
 ghost use Rattle.adf_block.specs.Image.{block_count};
 ghost use Rattle.ados_model.specs.Faults.{InImage};
-ghost use Rattle.ados_faults.specs.steps.Blocks.{AreMet};
+ghost use Rattle.ados_faults.specs.steps.Blocks.{AreMet, IsGrown};
 
 use adf_block::Image;
 use std::alloc::{AllocError, Global};
@@ -46,10 +46,11 @@ impl Blocks {
         requires met { AreMet image.now self.old.has.items self.old.list.items }
         requires inside { InImage image.now block }
         ensures met { IfOk result (λ _. AreMet image.now self.new.has.items self.new.list.items) }
+        ensures grown { IfOk result (λ _. IsGrown image.now block self.old.list.items self.new.list.items) }
+        ensures there { IfOk result (λ _. Contains self.new.list.items block) }
+        ensures same { IfOk result (λ is_new. is_new ≡ false → self.new.list.items ≡ self.old.list.items) }
         ensures new { IfOk result (λ is_new. is_new ≡ true → self.new.list.items ≡ self.old.list.items ++ block ∷ []) }
         ensures fresh { IfOk result (λ is_new. is_new ≡ true → ¬ Contains self.old.list.items block) }
-        ensures same { IfOk result (λ is_new. is_new ≡ false → self.new.list.items ≡ self.old.list.items) }
-        ensures there { IfOk result (λ is_new. is_new ≡ false → Contains self.old.list.items block) }
     {
         let _image = image;
         if self.has[block as usize] {

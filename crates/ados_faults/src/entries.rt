@@ -11,11 +11,7 @@ use adf_block::layout::{FIRST_SLOT, NEXT_IN_CHAIN, TABLE_LONGS};
 use std::alloc::AllocError;
 
 /// Lists the entries of a directory, each once.
-pub(crate) fn list_entries(
-    image: &Image,
-    dir: u32,
-    entries: &mut Blocks,
-) -> Result<(), AllocError>
+pub(crate) fn list_entries(image: &Image, dir: u32, entries: &mut Blocks) -> Result<(), AllocError>
     requires inside { InImage image.now dir }
     requires holder { HoldsEntries image.now dir }
     requires met { AreMet image.now entries.old.has.items entries.old.list.items }

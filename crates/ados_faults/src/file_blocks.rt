@@ -14,11 +14,7 @@ use adf_block::layout::{FIRST_POINTER, HELD, NEXT_EXTENSION, POINTER_COUNT, TABL
 use std::alloc::{AllocError, Global};
 
 /// Lists the header of a file and the blocks along its links, each once.
-pub(crate) fn list_headers(
-    image: &Image,
-    file: u32,
-    headers: &mut Blocks,
-) -> Result<(), AllocError>
+pub(crate) fn list_headers(image: &Image, file: u32, headers: &mut Blocks) -> Result<(), AllocError>
     requires inside { InImage image.now file }
     requires met { AreMet image.now headers.old.has.items headers.old.list.items }
     ensures met { IfOk result (λ _. AreMet image.now headers.new.has.items headers.new.list.items) }
@@ -62,7 +58,10 @@ pub(crate) fn pointers_in(image: &Image, header: u32) -> u32
     ensures few { result ≤ 72 }
 {
     let count = image.long(header, POINTER_COUNT);
-    if count > TABLE_LONGS { 0 } else { count }
+    if count > TABLE_LONGS {
+        return 0;
+    }
+    count
 }
 
 /// The number of data blocks in the pointers of these blocks.

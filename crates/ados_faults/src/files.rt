@@ -110,7 +110,14 @@ impl Files {
             return Ok(());
         }
         list_headers(image, file, &mut self.headers)?;
-        look_at_file(image, file, &self.headers.list, &self.held, &mut self.seen, notes);
+        look_at_file(
+            image,
+            file,
+            &self.headers.list,
+            &self.held,
+            &mut self.seen,
+            notes,
+        );
         self.checked[file as usize] = true;
         Ok(())
     }
@@ -145,7 +152,7 @@ fn look_at_file(
     ensures whole { IsFileNoted image.now notes.new.cells.items file }
 {
     let count = count_pointers(image, headers);
-    let wrong = count != u64::from(blocks_of_size(image, file));
+    let wrong = has_other_count(image, file, count);
     notes.note_if(image, FaultKind::BadCount, file, wrong);
     if image.byte(0, KIND_BYTE) != 0 {
         return;
@@ -166,6 +173,14 @@ fn holds_other_size(image: &Image, file: u32, headers: &[u32], held: &[Option<u6
         Some(sum) => sum != u64::from(image.long(file, FILE_SIZE)),
         None => false,
     }
+}
+
+/// Whether a file with so many data blocks needs another number of them for its size.
+fn has_other_count(image: &Image, file: u32, count: u64) -> bool
+    requires { InImage image.now file }
+    ensures { IsTrue result ↔ (count ≢ data_count (format_of image.now) (file_size image.now file)) }
+{
+    count != u64::from(blocks_of_size(image, file))
 }
 
 /// The number of data blocks that the size of a file needs.

@@ -117,7 +117,14 @@ impl Names {
             return Ok(());
         }
         list_entries(image, dir, &mut self.entries)?;
-        note_names(image, dir, &self.entries.list, &self.first, &mut self.met, notes);
+        note_names(
+            image,
+            dir,
+            &self.entries.list,
+            &self.first,
+            &mut self.met,
+            notes,
+        );
         self.passed[dir as usize] = true;
         Ok(())
     }

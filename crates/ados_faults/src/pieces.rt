@@ -183,9 +183,9 @@ fn next_of(image: &Image, piece: Piece, i: u32) -> Option<u32>
     requires within { i < piece.count }
     ensures { result ≡ next_in image.now piece i }
 {
-    if i + 1 < piece.count {
-        Some(image.long(piece.header, FIRST_POINTER - (i + 1)))
-    } else {
-        piece.behind
+    let next = i + 1;
+    if next == piece.count {
+        return piece.behind;
     }
+    Some(image.long(piece.header, FIRST_POINTER - next))
 }

@@ -1,4 +1,5 @@
 use Rattle.std.proofs.Common.{◌≡◌, ◌-◌, ◌<◌, inl, inr, ℕ, List, length, slice_index, true, false, refl, sym, ap, ◌∙◌, subst, arith}
+use Rattle.std.specs.List.{Contains}
 use Rattle.std.proofs.lemmas.Bool.{cases_Bool, false≢true}
 use Rattle.std.proofs.lemmas.List.{get_or_default, length_push}
 use Rattle.adf_block.specs.Image.{long}
@@ -25,7 +26,7 @@ returns-clause-whole c = λ no.
     let last = c.index-last.ensures ∙ get_or_default blocks (c.len.result - 1) c.index-last.result.now 0 within ∙ ap (slice_index blocks) place in
     let link : last_link c.args.image.now NEXT_EXTENSION blocks ≡ c.long-next.result = sym (c.long-next.ensures ∙ ap (λ (b : ℕ). long c.args.image.now b NEXT_EXTENSION) last) in
     let done = c.in_ok-more.ensures in
-    let old : LinkedOnce c.args.image.now NEXT_EXTENSION (slice_index blocks 0) blocks = chain_whole c.args.image.now NEXT_EXTENSION blocks c.requires.chain c.long-next.result link (λ inside. done.there no) in
+    let old : LinkedOnce c.args.image.now NEXT_EXTENSION (slice_index blocks 0) blocks = chain_whole c.args.image.now NEXT_EXTENSION blocks c.requires.chain c.long-next.result link (λ inside. subst (λ (xs : List ℕ). Contains xs c.long-next.result) (done.same no) done.there) in
     subst (λ (xs : List ℕ). LinkedOnce c.args.image.now NEXT_EXTENSION (slice_index xs 0) xs) (sym (done.same no)) old
 
 pub returns-clause-chain : goal.returns-clause-chain

@@ -4,11 +4,19 @@ use Rattle.adf_block.specs.Image.{block_count}
 use Rattle.adf_block.specs.declared.layout.TheConstants.{NEXT_EXTENSION}
 use Rattle.ados_model.specs.Faults.{LinkedOnce}
 use Rattle.ados_faults.specs.steps.Chain.{IsChain}
+use Rattle.ados_faults.proofs.Enumerated.{only_one}
 use Rattle.ados_faults.proofs.Linking.{chain_few, chain_start}
 use Rattle.ados_faults.proofs.file_blocks.list_headers.Goals as goal
 
 pub loop-passed-init : goal.loop-passed-init
-loop-passed-init c = ?
+loop-passed-init c =
+    let only = only_one c.args.image.now c.args.file c.clear.new.self.list.items c.add.new.self.list.items c.clear.ensures.none c.in_ok-add.ensures.grown c.in_ok-add.ensures.there in
+    record {
+      chain = subst (IsChain c.args.image.now NEXT_EXTENSION) (sym only) (chain_start c.args.image.now NEXT_EXTENSION c.args.file c.requires.inside);
+      met = c.in_ok-add.ensures.met;
+      head = ap (λ (xs : List ℕ). slice_index xs 0) only;
+      counted = ap length only;
+    }
 
 pub returns-then-not-more-clause-linked : goal.returns-then-not-more-clause-linked
 returns-then-not-more-clause-linked c =
