@@ -18,7 +18,7 @@ use Rattle.ados_check.proofs.Pointers.{pointers_are}
 use Rattle.ados_faults.specs.declared.pieces.Piece.{Piece}
 use Rattle.ados_faults.specs.declared.pieces.Seen.{Seen}
 use Rattle.ados_faults.specs.steps.Chain.{AreHeaders, HoldsTooLittle, IsPiece, first_in, next_in}
-use Rattle.ados_faults.specs.steps.FileNotes.{AreAllSeen, ArePlacesNoted, IsHeaderSeen, IsHeld, IsOneNoted, IsPieceNoted, IsPlaceNoted, is_known}
+use Rattle.ados_faults.specs.steps.FileNotes.{AreAllSeen, AreHeld, ArePlacesNoted, IsHeaderSeen, IsHeld, IsOneNoted, IsPieceNoted, IsPlaceNoted, is_known}
 use Rattle.ados_faults.specs.steps.Noted.{AreStillNoted, IsNoted, cell_of}
 use Rattle.ados_faults.proofs.FileNotes.{placed_on}
 
@@ -37,6 +37,16 @@ pointer_at image block i l = elim (cases_lt 72 (pointer_count image block)) [
   | inr few ↦
       ap (λ (xs : List ℕ). slice_index xs i) (pointers_are image block few) ∙ first_pointers-at image block (pointer_count image block) i (omega (arith, l, pointers_few image block few))
 ]
+
+pointers_at_most : (image : List ℕ) (block : ℕ) → length (pointers_of image block) ≤ 72
+pointers_at_most image block = elim (cases_lt 72 (pointer_count image block)) [
+  | inl many ↦ omega (arith, pointers_none image block many)
+  | inr few ↦ omega (arith, few, pointers_few image block few)
+]
+
+pub flat_few : (image : List ℕ) (headers : List ℕ) → length (flat_map (pointers_of image) headers) ≤ 72 * length headers
+flat_few image [] = omega arith
+flat_few image (x ∷ xs) = omega (arith, length-append (pointers_of image x) (flat_map (pointers_of image) xs), pointers_at_most image x, flat_few image xs)
 
 -- ---- one block among the headers
 
@@ -97,6 +107,14 @@ held_out image headers k l out all = out (λ i d m.
     let at = length (flat_map (pointers_of image) (take k headers)) + i in
     let within : at < length (flat_map (pointers_of image) headers) = omega (arith, m, within_all image headers k l) in
     subst (InImage image) (pointer_there image headers k l i m ∙ get_or_default (pointers_of image (slice_index headers k)) i 0 d m) (all at 0 within))
+
+-- what is known of a header
+pub held_at : (image : List ℕ) (held : List (Option ℕ)) (header : ℕ) → AreHeld image held → header < block_count image → IsHeld image (pointers_of image header) (get_or held header None)
+held_at image held header h l = h.each header (get_or held header None) (slice_get-get_or held header None (omega (arith, l, h.size)))
+
+pub none_held : (image : List ℕ) (blocks : List ℕ) (o : Option ℕ) → IsHeld image blocks o → ((x : ℕ) → o ≡ Some x → ⊥) → ¬ All (InImage image) blocks
+none_held image blocks None h lacking = h
+none_held image blocks (Some x) h lacking = absurd (lacking x refl)
 
 pub held_more : (image : List ℕ) (held : List (Option ℕ)) (n : ℕ) (new : Option ℕ) → length held ≡ n → ((k : ℕ) (sum : Option ℕ) → slice_get held k ≡ Some sum → IsHeld image (pointers_of image k) sum)
     → IsHeld image (pointers_of image n) new → (k : ℕ) (sum : Option ℕ) → slice_get (held ++ new ∷ []) k ≡ Some sum → IsHeld image (pointers_of image k) sum
@@ -196,7 +214,7 @@ module _ (image : List ℕ) (cells later : List Bool) (on : AreStillNoted cells 
   pub header_on : (header : ℕ) (seen : Seen) → IsHeaderSeen image cells header seen → IsHeaderSeen image later header seen
   header_on header seen h = record {
     placed = λ i l inside. placed_on image cells later on (slice_index (pointers_of image header) i) (seen.position + i) (Some (slice_index (pointers_of image header) (i + 1))) (h.placed i l inside);
-    settled = λ yes i l inside. on.stay (cell_of BadSequence (slice_index (pointers_of image header) i)) (h.settled yes i l inside);
+    settled = λ both i l inside. on.stay (cell_of BadSequence (slice_index (pointers_of image header) i)) (h.settled both i l inside);
   }
 
   pub all_seen_on : (seen : List (Option Seen)) → AreAllSeen image cells seen → AreAllSeen image later seen
@@ -248,7 +266,7 @@ pub seen_again : (image : List ℕ) (cells later : List Bool) (piece : Piece) (s
     → seen.position ≢ piece.position → IsHeaderSeen image later piece.header (record { position = piece.position; is_settled = true })
 seen_again image cells later piece seen on p n old apart = record {
   placed = λ i l inside. (seen_once image later piece p n).placed i l inside;
-  settled = λ yes i l inside.
+  settled = λ both i l inside.
       let m : i < piece.count = omega (arith, l, p.count) in
       let block = slice_index (pointers_of image piece.header) i in
       elim (cases_eq (sequence_number image block) (piece.position + i + 1)) [
@@ -280,7 +298,7 @@ seen_before image cells later piece seen on p some old known last = record { pla
           let was = old.placed i m inside in
           subst (IsPlaceNoted image later block (piece.position + i)) (sym (next_of_inner image piece i more)) (record {
             sequence = λ ne. on.stay (cell_of BadSequence block) (elim (or_cases seen.is_settled (seen.position == piece.position) known) [
-              | inl yes ↦ old.settled yes i m inside
+              | inl both ↦ old.settled both i m inside
               | inr same ↦ was.sequence (at_position i (eqb-true seen.position piece.position same) ne)
             ]);
             short = λ h. on.stay (cell_of BadCount block) (was.short h);

@@ -103,6 +103,9 @@ none_of_root DataFile n h = none-some n h
 none_of_root ExtensionFile n h = none-some n h
 
 module _ (steps : List Step) (block : ℕ) where
+  pub root_covered : AreCoveredBy steps block Root
+  root_covered = record { covered = λ part n h. absurd (none_of_root part n h) }
+
   pub page_covered : IsCovered steps block Bitmap 0 → AreCoveredBy steps block Page
   page_covered c = record { covered = go }
     where

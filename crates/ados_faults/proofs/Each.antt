@@ -69,11 +69,11 @@ module _ (image : List ℕ) (im : IsImage image) (walked looked last : List Bool
   sum_in block role look summed wrong = after_looks.stay (cell_of BadSum block) (look.wrongs.sum (summed, wrong))
 
   sum_noted : (block : ℕ) (role : Role) → Reached image block role → HasSum image role → block_sum image block ≢ 0 → IsNoted last (cell_of BadSum block)
-  sum_noted block Root h summed wrong = sum_in block Root (root_look block (root_only h refl)) tt wrong
-  sum_noted block Page h summed wrong = sum_in block Page (look_at block Page (page_listed steps block (all.covered block Page h))) tt wrong
-  sum_noted block (Entry d s) h summed wrong = let look = entry_look block d s h in sum_in block (Entry look.0 look.1) look.2 tt wrong
+  sum_noted block Root h summed wrong = sum_in block Root (root_look block (root_only h refl)) summed wrong
+  sum_noted block Page h summed wrong = sum_in block Page (look_at block Page (page_listed steps block (all.covered block Page h))) summed wrong
+  sum_noted block (Entry d s) h summed wrong = let look = entry_look block d s h in sum_in block (Entry look.0 look.1) look.2 summed wrong
   sum_noted block (Data f) h summed wrong = let look = data_look block f h in sum_in block (Data look.0) look.1 summed wrong
-  sum_noted block (Extension f) h summed wrong = let look = extension_look block f h in sum_in block (Extension look.0) look.1 tt wrong
+  sum_noted block (Extension f) h summed wrong = let look = extension_look block f h in sum_in block (Extension look.0) look.1 summed wrong
 
   types_noted : (block : ℕ) (role : Role) → IsLookedAt image looked (step_of block role) → HasBadTypeAs image block role → IsNoted last (cell_of BadType block)
   types_noted block role look wrong = after_looks.stay (cell_of BadType block) (look.wrongs.types wrong)

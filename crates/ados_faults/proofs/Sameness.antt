@@ -1,7 +1,7 @@
 -- Entries of one directory whose names are equal in upper case have the same name, and are noted.
 use Rattle.std.proofs.Common.{◌≡◌, ◌≢◌, ℕ, ◌-◌, ◌<◌, ◌≤◌, inl, inr, Bool, true, false, cond, List, [], ◌∷◌, ◌++◌, length, take, drop, map, replicate, get_or, slice_index, set, Option, Some, None, refl, sym, ap, ap₂, ◌∙◌, subst, arith, ◌+◌, length-set, get_or-set_same, get_or-set_other}
 use Rattle.std.specs.List.{slice_get}
-use Rattle.std.specs.Option.{option_and_then}
+use Rattle.std.specs.Option.{IfSome, option_and_then}
 use Rattle.std.specs.Ordering.{nat_cmp}
 use Rattle.std.specs.FinMap.{nat_cmp-IsAntisymmetric, slice_cmp-IsAntisymmetric}
 use Rattle.std.specs.BTreeMap.{BTreeMap, get, is_at}
@@ -78,7 +78,7 @@ same_name : (x y : List ℕ) → is_at (name_cmp x) y ≡ true → x ≡ y
 same_name x y e = slice_cmp-IsAntisymmetric nat_cmp-IsAntisymmetric x y (is_equal (name_cmp x y) e)
 
 pub none_known : (image : List ℕ) (known : BTreeMap (List ℕ) ℕ) → known.entries ≡ [] → AreKnown image known
-none_known image known empty = record { known = λ name block e. absurd (none-some block (sym (ap (lookup (is_at (name_cmp name))) empty) ∙ e)) }
+none_known image known empty = record { leads = λ name block e. absurd (none-some block (sym (ap (lookup (is_at (name_cmp name))) empty) ∙ e)) }
 
 module _ (known later : BTreeMap (List ℕ) ℕ) (name : List ℕ) (block : ℕ) (absent : get name_cmp known name ≡ None)
     (updates : (q : List ℕ) → get name_cmp later q ≡ cond (is_at (name_cmp name) q) (Some block) (get name_cmp known q)) where
@@ -92,14 +92,14 @@ module _ (known later : BTreeMap (List ℕ) ℕ) (name : List ℕ) (block : ℕ)
       ]
 
   pub known_more : (image : List ℕ) → AreKnown image known → block < block_count image → upper_name image block ≡ name → AreKnown image later
-  known_more image k inside is = record { known = go }
+  known_more image k inside is = record { leads = go }
     where
       go : (q : List ℕ) (b : ℕ) → get name_cmp later q ≡ Some b → (b < block_count image) × (upper_name image b ≡ q)
       go q b e = elim (cases_Bool (is_at (name_cmp name) q)) [
         | inl a ↦
             let h : Some block ≡ Some b = ap (λ (t : Bool). cond t (Some block) (get name_cmp known q)) (sym a) ∙ sym (updates q) ∙ e in
             subst (λ (n : ℕ). (n < block_count image) × (upper_name image n ≡ q)) (same_Some block b h) (inside, is ∙ same_name name q a)
-        | inr a ↦ k.known q b (ap (λ (t : Bool). cond t (Some block) (get name_cmp known q)) (sym a) ∙ sym (updates q) ∙ e)
+        | inr a ↦ k.leads q b (ap (λ (t : Bool). cond t (Some block) (get name_cmp known q)) (sym a) ∙ sym (updates q) ∙ e)
       ]
 
 pub known_on : {known later last : BTreeMap (List ℕ) ℕ} → AreStillKnown known later → AreStillKnown later last → AreStillKnown known last
@@ -135,11 +135,26 @@ first_more image known later first n new size stay f this = record { each = go }
 
 -- ---- names of the same entries
 
-pub has_name_of : (image : List ℕ) (first : List (Option ℕ)) (block name : ℕ) → AreFirstNames image first → slice_get first block ≡ Some (Some name) → HasNameOf image block name
+has_name_of : (image : List ℕ) (first : List (Option ℕ)) (block name : ℕ) → AreFirstNames image first → slice_get first block ≡ Some (Some name) → HasNameOf image block name
 has_name_of image first block name f e =
     let is : HasShortName image block × (get name_cmp f.known (upper_name image block) ≡ Some name) = f.each block (Some name) e in
-    let known = f.are_known.known (upper_name image block) name is.1 in
+    let known = f.are_known.leads (upper_name image block) name is.1 in
     record { short = is.0; within = known.0; same = sym known.1 }
+
+pub if_named : (image : List ℕ) (first : List (Option ℕ)) (block : ℕ) (o : Option ℕ) → AreFirstNames image first → slice_get first block ≡ Some o → IfSome o (HasNameOf image block)
+if_named image first block None f e = tt
+if_named image first block (Some name) f e = has_name_of image first block name f e
+
+pub of_some : (P : ℕ → Type 0) (o : Option ℕ) (name : ℕ) → IfSome o P → o ≡ Some name → P name
+of_some P None name h e = absurd (none-some name e)
+of_some P (Some x) name h e = subst P (same_Some x name e) h
+
+pub none_met_of : (P : ℕ → Type 0) (o : Option ℕ) → ((x : ℕ) → o ≡ Some x → ⊥) → IfSome o P
+none_met_of P None lacking = tt
+none_met_of P (Some x) lacking = absurd (lacking x refl)
+
+pub some_met_of : (P : ℕ → Type 0) (o : Option ℕ) (x : ℕ) → o ≡ Some x → P x → IfSome o P
+some_met_of P o x e p = subst (λ (q : Option ℕ). IfSome q P) (sym e) p
 
 -- a block with a short name leads to some block
 first_of_short : (image : List ℕ) (first : List (Option ℕ)) (block : ℕ) → AreFirstNames image first → block < block_count image → HasShortName image block → (name : ℕ) × (slice_get first block ≡ Some (Some name))
@@ -162,8 +177,8 @@ same_first image first block other name last f e o same =
 named_at : (met : List (Option Named)) (name : ℕ) (o : Option Named) → slice_get met name ≡ Some o → named_in met name ≡ o
 named_at met name o e = ap (option_and_then (λ (named : Option Named). named)) e
 
-pub named_read : (met : List (Option Named)) (name : ℕ) (o : Option Named) → name < length met → o ≡ get_or met name o → named_in met name ≡ o
-named_read met name o l e = named_at met name o (slice_get-get_or met name o l ∙ ap (λ (x : Option Named). Some x) (sym e))
+pub named_is : (met : List (Option Named)) (name : ℕ) → name < length met → named_in met name ≡ get_or met name None
+named_is met name l = named_at met name (get_or met name None) (slice_get-get_or met name None l)
 
 none_past : (met : List (Option Named)) (name : ℕ) → length met ≤ name → named_in met name ≡ None
 none_past met name l = ap (option_and_then (λ (named : Option Named). named)) (slice_get_past met name l)
@@ -251,16 +266,16 @@ met_on cells later met further dir block name on kept m = record {
 }
 
 pub first_met_none : (cells : List Bool) (met : List (Option Named)) (first : List (Option ℕ)) (dir : ℕ) (blocks : List ℕ) → AreFirstMet cells met first dir blocks 0
-first_met_none cells met first dir blocks = record { met = λ k block name l. absurd (omega (arith, l)) }
+first_met_none cells met first dir blocks = record { each = λ k block name l. absurd (omega (arith, l)) }
 
 pub first_met_more : (cells later : List Bool) (met further : List (Option Named)) (first : List (Option ℕ)) (dir : ℕ) (blocks : List ℕ) (n block : ℕ) → slice_get blocks n ≡ Some block → AreStillNoted cells later
     → AreNamesKept dir met further → AreFirstMet cells met first dir blocks n → ((name : ℕ) → slice_get first block ≡ Some (Some name) → IsNameMet later further dir block name)
     → AreFirstMet later further first dir blocks (n + 1)
-first_met_more cells later met further first dir blocks n block at on kept f this = record { met = go }
+first_met_more cells later met further first dir blocks n block at on kept f this = record { each = go }
   where
     go : (k b name : ℕ) → k < n + 1 → slice_get blocks k ≡ Some b → slice_get first b ≡ Some (Some name) → IsNameMet later further dir b name
     go k b name l e is = elim (cases_lt k n) [
-      | inl less ↦ met_on cells later met further dir b name on kept (f.met k b name less e is)
+      | inl less ↦ met_on cells later met further dir b name on kept (f.each k b name less e is)
       | inr past ↦
           let here : k ≡ n = omega (arith, l, past) in
           let same : block ≡ b = same_Some block b (sym at ∙ ap (slice_get blocks) (sym here) ∙ e) in
@@ -275,7 +290,7 @@ names_noted image cells met first dir blocks n im entries f m all = record { not
     met_of : (block s name : ℕ) → Reached image block (Entry dir s) → slice_get first block ≡ Some (Some name) → IsNameMet cells met dir block name
     met_of block s name h e =
         let c = entries.each block s h in
-        m.met c.0 block name (omega (arith, c.1, all)) (slice_get-get_or blocks c.0 block c.1 ∙ ap (λ (x : ℕ). Some x) c.2) e
+        m.each c.0 block name (omega (arith, c.1, all)) (slice_get-get_or blocks c.0 block c.1 ∙ ap (λ (x : ℕ). Some x) c.2) e
 
     go : (block other s t : ℕ) → Reached image block (Entry dir s) → Reached image other (Entry dir t) → HasShortName image block → HasShortName image other → upper_name image block ≡ upper_name image other
         → block ≢ other → IsNoted cells (cell_of DuplicateName block)
@@ -319,15 +334,15 @@ directories_more image cells later passed dir on d this = record {
 
 -- the first steps were passed, as many as a number says
 pub record AreStepsPassed (image : List ℕ) (passed : List Bool) (steps : List Step) (n : ℕ) : Type 0 where
-  pub passed : (k : ℕ) (step : Step) → k < n → slice_get steps k ≡ Some step → HoldsEntriesAs image step.block step.role → IsChecked passed step.block
+  pub was : (k : ℕ) (step : Step) → k < n → slice_get steps k ≡ Some step → HoldsEntriesAs image step.block step.role → IsChecked passed step.block
 
 pub passed_more : (image : List ℕ) (passed later : List Bool) (steps : List Step) (n : ℕ) (step : Step) → slice_get steps n ≡ Some step → AreStepsPassed image passed steps n → AreStillNoted passed later
     → (HoldsEntriesAs image step.block step.role → IsChecked later step.block) → AreStepsPassed image later steps (n + 1)
-passed_more image passed later steps n step at before on this = record { passed = go }
+passed_more image passed later steps n step at before on this = record { was = go }
   where
     go : (k : ℕ) (other : Step) → k < n + 1 → slice_get steps k ≡ Some other → HoldsEntriesAs image other.block other.role → IsChecked later other.block
     go k other l e holds = elim (cases_lt k n) [
-      | inl less ↦ on.stay other.block (before.passed k other less e holds)
+      | inl less ↦ on.stay other.block (before.was k other less e holds)
       | inr past ↦
           let here : k ≡ n = omega (arith, l, past) in
           let same : step ≡ other = same_Some step other (sym at ∙ ap (slice_get steps) (sym here) ∙ e) in
@@ -341,7 +356,7 @@ all_duplicates image cells passed steps n d p all covered = record {
 }
   where
     step_passed : (dir : ℕ) (role : Role) → IsListed steps (step_of dir role) → HoldsEntriesAs image dir role → IsChecked passed dir
-    step_passed dir role at holds = p.passed at.0 (step_of dir role) (omega (arith, slice_get_within steps at.0 (step_of dir role) at.1, all)) at.1 holds
+    step_passed dir role at holds = p.was at.0 (step_of dir role) (omega (arith, slice_get_within steps at.0 (step_of dir role) at.1, all)) at.1 holds
 
     was : (dir : ℕ) → HoldsEntries image dir → IsChecked passed dir
     was dir (inl root) = subst (IsChecked passed) (sym root) (step_passed (root_of image) Root covered.root tt)

@@ -1,10 +1,10 @@
 //! Every fault that an image shows, where the check of a volume stops at the first; and a fault as text: where the
 //! block is, what was found there and what is expected.
 //!
-//! The walk visits pairs of a block and a role, each once, from the root, and goes on after a fault. It visits each
-//! reached block in the role in which it was named first, and in other roles until it has visited `PAIRS` times as many
-//! pairs as the image has blocks. It follows as many header and extension blocks. So time and memory are about linear in
-//! the size of the image, even if its blocks name each other arbitrarily.
+//! The walk visits blocks in roles, from the root, and goes on after a fault. It takes so few roles of each block that
+//! its time is linear in the size of the image, and these show whatever the block shows in any role. Then the entries of
+//! each directory and the header and extension blocks of each file are gone through once. So memory is linear too; time
+//! grows with the directories and files that share blocks, and the blocks that they share.
 #![tactic(auto)]
 
 // The list of faults.

@@ -1,5 +1,5 @@
 //! The names of the entries: each once in its directory.
-ghost use Rattle.std.specs.Prelude.{◌≡◌, ◌≢◌, ◌↔◌, ◌<◌, ℕ, All, IfOk, IsTrue, MatchOption, None, Some, false, length, replicate};
+ghost use Rattle.std.specs.Prelude.{◌≡◌, ◌≢◌, ◌↔◌, ◌<◌, ℕ, All, IfOk, IfSome, IsTrue, MatchOption, None, Some, false, length, replicate};
 ghost use Rattle.adf_block.specs.Image.{block_count};
 ghost use Rattle.adf_block.specs.Whole.{IsImage};
 ghost use Rattle.ados_check.specs.Entries.{upper_name};
@@ -208,10 +208,34 @@ fn note_names(
     ensures whole { AreNamesNoted image.now notes.new.cells.items dir }
 {
     for entry in entries {
-        if let Some(name) = first[*entry as usize] {
-            note_name(image, dir, *entry, name, met, notes);
-        }
+        note_entry(image, dir, *entry, first[*entry as usize], met, notes);
     }
+}
+
+/// Handles the name of an entry, if it has a short one.
+fn note_entry(
+    image: &Image,
+    dir: u32,
+    block: u32,
+    name: Option<u32>,
+    met: &mut [Option<Named>],
+    notes: &mut Notes,
+)
+    requires noted { AreNoted image.now notes.old.cells.items }
+    requires image { IsImage image.now }
+    requires entry { IsEntryIn image.now dir block }
+    requires name { IfSome name (HasNameOf image.now block) }
+    requires met { AreNamesMet image.now met.old }
+    ensures noted { AreNoted image.now notes.new.cells.items }
+    ensures stays { AreStillNoted notes.old.cells.items notes.new.cells.items }
+    ensures met { AreNamesMet image.now met.new }
+    ensures kept { AreNamesKept dir met.old met.new }
+    ensures here { IfSome name (IsNameMet notes.new.cells.items met.new dir block) }
+{
+    let Some(name) = name else {
+        return;
+    };
+    note_name(image, dir, block, name, met, notes);
 }
 
 /// Notes an entry and the one with its name that was met first in this directory, or keeps it as that.

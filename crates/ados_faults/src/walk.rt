@@ -59,7 +59,7 @@ pub(crate) fn walked(alloc: Global, image: &Image) -> Result<Walk, AllocError>
 impl Walk {
     /// Only the root.
     fn start(alloc: Global, image: &Image) -> Result<Walk, AllocError>
-        ensures walked { IfOk result (λ walk. IsWalked image.now walk.notes.cells.items walk.marks.items walk.roles.cells.items walk.steps.items) }
+        ensures { IfOk result (λ walk. IsWalked image.now walk.notes.cells.items walk.marks.items walk.roles.cells.items walk.steps.items) }
     {
         let root = image.root();
         let notes = Notes::none(alloc, image)?;

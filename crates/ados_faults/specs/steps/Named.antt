@@ -29,7 +29,7 @@ name_cmp x y = slice_cmp nat_cmp x y
 
 -- each name in the map is that of the block that it leads to
 pub record AreKnown (image : List ℕ) (known : BTreeMap (List ℕ) ℕ) : Type 0 where
-  pub known : (name : List ℕ) (block : ℕ) → get name_cmp known name ≡ Some block → (block < block_count image) × (upper_name image block ≡ name)
+  pub leads : (name : List ℕ) (block : ℕ) → get name_cmp known name ≡ Some block → (block < block_count image) × (upper_name image block ≡ name)
 
 -- each name leads to the same block as before
 pub record AreStillKnown (known later : BTreeMap (List ℕ) ℕ) : Type 0 where
@@ -79,7 +79,7 @@ pub record IsNameMet (cells : List Bool) (met : List (Option Named)) (dir block 
 
 -- so it is of the first blocks in a list
 pub record AreFirstMet (cells : List Bool) (met : List (Option Named)) (first : List (Option ℕ)) (dir : ℕ) (blocks : List ℕ) (n : ℕ) : Type 0 where
-  pub met : (k block name : ℕ) → k < n → slice_get blocks k ≡ Some block → slice_get first block ≡ Some (Some name) → IsNameMet cells met dir block name
+  pub each : (k block name : ℕ) → k < n → slice_get blocks k ≡ Some block → slice_get first block ≡ Some (Some name) → IsNameMet cells met dir block name
 
 -- each entry of the directory with the name of another one there is noted
 pub record AreNamesNoted (image : List ℕ) (cells : List Bool) (dir : ℕ) : Type 0 where

@@ -19,15 +19,15 @@ returns-then-not-is_inside-clause-whole c = λ _.
     chain_whole c.args.image.now NEXT_EXTENSION blocks c.requires.chain c.long-next.result link (λ inside. absurd (false≢true (sym c.if-not-is_inside.true ∙ c.is_inside.ensures.1 inside)))
 
 pub returns-clause-whole : goal.returns-clause-whole
-returns-clause-whole c = λ no.
+returns-clause-whole c = λ kept.
     let blocks = c.args.headers.now.list.items in
     let place : c.len.result - 1 ≡ length blocks - 1 = omega (arith, c.len.ensures, c.args.headers.now.list.ok.0) in
     let within : c.len.result - 1 < length blocks = omega (arith, c.requires.chain.not_empty, place) in
     let last = c.index-last.ensures ∙ get_or_default blocks (c.len.result - 1) c.index-last.result.now 0 within ∙ ap (slice_index blocks) place in
     let link : last_link c.args.image.now NEXT_EXTENSION blocks ≡ c.long-next.result = sym (c.long-next.ensures ∙ ap (λ (b : ℕ). long c.args.image.now b NEXT_EXTENSION) last) in
     let done = c.in_ok-more.ensures in
-    let old : LinkedOnce c.args.image.now NEXT_EXTENSION (slice_index blocks 0) blocks = chain_whole c.args.image.now NEXT_EXTENSION blocks c.requires.chain c.long-next.result link (λ inside. subst (λ (xs : List ℕ). Contains xs c.long-next.result) (done.same no) done.there) in
-    subst (λ (xs : List ℕ). LinkedOnce c.args.image.now NEXT_EXTENSION (slice_index xs 0) xs) (sym (done.same no)) old
+    let old : LinkedOnce c.args.image.now NEXT_EXTENSION (slice_index blocks 0) blocks = chain_whole c.args.image.now NEXT_EXTENSION blocks c.requires.chain c.long-next.result link (λ inside. subst (λ (xs : List ℕ). Contains xs c.long-next.result) (done.same kept) done.there) in
+    subst (λ (xs : List ℕ). LinkedOnce c.args.image.now NEXT_EXTENSION (slice_index xs 0) xs) (sym (done.same kept)) old
 
 pub returns-clause-chain : goal.returns-clause-chain
 returns-clause-chain c =
@@ -38,19 +38,19 @@ returns-clause-chain c =
     let link : last_link c.args.image.now NEXT_EXTENSION blocks ≡ c.long-next.result = sym (c.long-next.ensures ∙ ap (λ (b : ℕ). long c.args.image.now b NEXT_EXTENSION) last) in
     let done = c.in_ok-more.ensures in
     elim (cases_Bool c.in_ok-more.more) [
-      | inl yes ↦
-          subst (IsChain c.args.image.now NEXT_EXTENSION) (sym (done.new yes))
-          (chain_more c.args.image.now NEXT_EXTENSION blocks c.requires.chain c.long-next.result link (c.if-not-is_inside.ensures.0 refl) (done.fresh yes))
-      | inr no ↦ subst (IsChain c.args.image.now NEXT_EXTENSION) (sym (done.same no)) c.requires.chain
+      | inl added ↦
+          subst (IsChain c.args.image.now NEXT_EXTENSION) (sym (done.new added))
+          (chain_more c.args.image.now NEXT_EXTENSION blocks c.requires.chain c.long-next.result link (c.if-not-is_inside.ensures.0 refl) (done.fresh added))
+      | inr kept ↦ subst (IsChain c.args.image.now NEXT_EXTENSION) (sym (done.same kept)) c.requires.chain
     ]
 
 pub returns-clause-head : goal.returns-clause-head
 returns-clause-head c =
     let done = c.in_ok-more.ensures in
     elim (cases_Bool c.in_ok-more.more) [
-      | inl yes ↦ ap (λ (xs : List ℕ). slice_index xs 0) (done.new yes) ∙ head_kept c.args.headers.now.list.items c.long-next.result c.requires.chain.not_empty
-      | inr no ↦ ap (λ (xs : List ℕ). slice_index xs 0) (done.same no)
+      | inl added ↦ ap (λ (xs : List ℕ). slice_index xs 0) (done.new added) ∙ head_kept c.args.headers.now.list.items c.long-next.result c.requires.chain.not_empty
+      | inr kept ↦ ap (λ (xs : List ℕ). slice_index xs 0) (done.same kept)
     ]
 
 pub returns-clause-longer : goal.returns-clause-longer
-returns-clause-longer c = λ yes. ap length (c.in_ok-more.ensures.new yes) ∙ length_push c.args.headers.now.list.items c.long-next.result
+returns-clause-longer c = λ added. ap length (c.in_ok-more.ensures.new added) ∙ length_push c.args.headers.now.list.items c.long-next.result

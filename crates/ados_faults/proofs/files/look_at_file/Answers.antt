@@ -32,8 +32,8 @@ returns-then-byte-ne0-clause-seen c = all_seen_on c.args.image.now c.args.notes.
 pub returns-then-byte-ne0-clause-whole : goal.returns-then-byte-ne0-clause-whole
 returns-then-byte-ne0-clause-whole c =
     let blocks = flat_map (pointers_of c.args.image.now) c.args.headers.now in
-    let data : AreDataBlocks c.args.image.now c.args.file blocks = record { is_file = c.requires.file; headers = c.args.headers.now; linked = c.requires.linked; pointed = refl } in
-    file_noted c.args.image.now c.note_if.new.self.cells.items c.args.file blocks blocks data refl (record {
+    let of_file : AreDataBlocks c.args.image.now c.args.file blocks = record { is_file = c.requires.file; headers = c.args.headers.now; linked = c.requires.linked; pointed = refl } in
+    file_noted c.args.image.now c.note_if.new.self.cells.items c.args.file blocks blocks of_file refl (record {
       count = λ n. c.note_if.ensures.set (c.has_other_count-wrong.ensures.1 (λ e. n (sym c.count_pointers-count.ensures ∙ e)));
       places = λ ofs. absurd (c.if-byte-ne0.true (c.byte.ensures ∙ ofs));
       sum = λ ofs h. absurd (c.if-byte-ne0.true (c.byte.ensures ∙ ofs));
@@ -45,8 +45,8 @@ returns-clause-seen c = all_seen_on c.args.image.now c.look_along.new.notes.cell
 pub returns-clause-whole : goal.returns-clause-whole
 returns-clause-whole c =
     let blocks = flat_map (pointers_of c.args.image.now) c.args.headers.now in
-    let data : AreDataBlocks c.args.image.now c.args.file blocks = record { is_file = c.requires.file; headers = c.args.headers.now; linked = c.requires.linked; pointed = refl } in
-    file_noted c.args.image.now c.note_if-2.new.self.cells.items c.args.file blocks blocks data refl (record {
+    let of_file : AreDataBlocks c.args.image.now c.args.file blocks = record { is_file = c.requires.file; headers = c.args.headers.now; linked = c.requires.linked; pointed = refl } in
+    file_noted c.args.image.now c.note_if-2.new.self.cells.items c.args.file blocks blocks of_file refl (record {
       count = λ n. c.note_if-2.ensures.stays.stay _ (c.look_along.ensures.stays.stay _ (c.note_if.ensures.set (c.has_other_count-wrong.ensures.1 (λ e. n (sym c.count_pointers-count.ensures ∙ e)))));
       places = λ ofs. places_on c.args.image.now c.look_along.new.notes.cells.items c.note_if-2.new.self.cells.items c.note_if-2.ensures.stays blocks 0 c.look_along.ensures.places;
       sum = λ ofs h. c.note_if-2.ensures.set (c.holds_other_size-other.ensures.1 h);

@@ -16,8 +16,8 @@ loop-block-preserved c =
     record {
       known = done.known;
       size = ap length c.in_ok-push.ensures.items ∙ length_push c.loop-block.first.items c.in_ok-same.same ∙ ap (λ (n : ℕ). n + 1) c.loop-block.invariant.size;
-      each = subst (AreFirstSoFar c.args.image.now c.first_with_name-same.new.known) (sym c.in_ok-push.ensures.items)
-          (first_more c.args.image.now c.loop-block.known c.first_with_name-same.new.known c.loop-block.first.items c.loop-block.block c.in_ok-same.same c.loop-block.invariant.size done.kept c.loop-block.invariant.each
+      each = subst (AreFirstSoFar c.args.image.now c.first_with_name.new.known) (sym c.in_ok-push.ensures.items)
+          (first_more c.args.image.now c.loop-block.known c.first_with_name.new.known c.loop-block.first.items c.loop-block.block c.in_ok-same.same c.loop-block.invariant.size done.kept c.loop-block.invariant.each
           done.first);
     }
 
@@ -25,6 +25,6 @@ pub returns : goal.returns
 returns c = record {
   known = c.loop-block.known;
   are_known = c.loop-block.invariant.known;
-  size = ?;
+  size = omega (arith, c.loop-block.invariant.size, c.loop-block-test.false, c.loop-block.auto.block-end, c.blocks-block-end.ensures.count);
   each = c.loop-block.invariant.each.each;
 }

@@ -14,7 +14,7 @@ loop-step-init c = record {
   first = c.in_ok-names.ensures.first;
   met = c.in_ok-names.ensures.met;
   entries = c.in_ok-names.ensures.entries;
-  steps = record { passed = λ k step l e. absurd (omega (arith, l)) };
+  steps = record { was = λ k step l e. absurd (omega (arith, l)) };
 }
 
 pub loop-step-preserved : goal.loop-step-preserved
