@@ -48,8 +48,19 @@ pushed_there steps step = (
 pub listed_on : (steps : List Step) (step other : Step) → IsListed steps other → IsListed (steps ++ step ∷ []) other
 listed_on steps step other at = (at.0, pushed_stays steps step at.0 (slice_get_within steps at.0 other at.1) ∙ at.1)
 
-all_steps : (image : List ℕ) (steps : List Step) (step : Step) → All (IsStep image) steps → IsStep image step → All (IsStep image) (steps ++ step ∷ [])
+pub all_steps : (image : List ℕ) (steps : List Step) (step : Step) → All (IsStep image) steps → IsStep image step → All (IsStep image) (steps ++ step ∷ [])
 all_steps image steps step old new = All-push (IsStep image) steps step old new
+
+pub pushed_cases : (steps : List Step) (new : Step) (k : ℕ) (step : Step) → slice_get (steps ++ new ∷ []) k ≡ Some step → (slice_get steps k ≡ Some step) ⊎ (new ≡ step)
+unfolding pushed_there
+pushed_cases steps new k step e = elim (cases_lt k (length steps)) [
+  | inl l ↦ inl (sym (pushed_stays steps new k l) ∙ e)
+  | inr past ↦
+      let within = slice_get_within (steps ++ new ∷ []) k step e in
+      let here : k ≡ length steps = omega (arith, past, within, length_push steps new) in
+      let there : slice_get (steps ++ new ∷ []) (length steps) ≡ Some new = (pushed_there steps new).1 in
+      inr (same_Some new step (sym there ∙ ap (slice_get (steps ++ new ∷ [])) (sym here) ∙ e))
+]
 
 -- ---- one more step, one more mark
 

@@ -5,6 +5,7 @@ pub mod Doubles
 pub mod Covering
 pub mod Closing
 pub mod Enumerated
+pub mod Pairing
 pub mod Linking
 pub mod Sameness
 pub mod Freed

@@ -1,5 +1,5 @@
 -- Faults of an image, in order, and the marks of its blocks.
-use Rattle.std.specs.Prelude.{◌≡◌, ℕ, ◌<◌, ◌≤◌, ◌⊎◌, ◌↔◌, Bool, true, false, List, [], ◌∷◌, length, All, AllPairs, Contains, Option, Some}
+use Rattle.std.specs.Prelude.{◌≡◌, ◌≢◌, ℕ, ◌*◌, ◌<◌, ◌≤◌, ◌⊎◌, ◌↔◌, Bool, true, false, List, [], ◌∷◌, length, All, AllPairs, Contains, Option, Some}
 use Rattle.adf_block.specs.Image.{block_count, long}
 use Rattle.ados_check.specs.Marks.{mark_at}
 use Rattle.ados_check.specs.declared.mark.Mark.{Mark}
@@ -8,6 +8,7 @@ use Rattle.ados_model.specs.declared.fault.FaultKind.TheVariants.{NotADosDisk, U
 use Rattle.ados_model.specs.declared.fault.VolumeFault.{VolumeFault}
 use Rattle.ados_model.specs.declared.role.Role.{Role}
 use Rattle.ados_model.specs.declared.role.Role.TheVariants.{Root}
+use Rattle.ados_faults.specs.declared.walk.Step.{Step}
 use Rattle.ados_model.specs.Faults.{IsPlace, LeadsInside, Reached, Shows, root_of}
 
 -- the number of a kind
@@ -55,6 +56,13 @@ pub record ShowsMoreThan (image : List ℕ) (most : ℕ) : Type 0 where
   pub in_order : AllPairs StandsBefore faults
   pub many : most < length faults
 
+-- the blocks of the image are reached in at least four times as many roles as the image has blocks
+pub record IsTangled (image : List ℕ) : Type 0 where
+  pub steps : List Step
+  pub reached : All (λ step. Reached image step.block step.role) steps
+  pub once : AllPairs (λ a b. a ≢ b) steps
+  pub many : 4 * block_count image ≤ length steps
+
 -- each fault that the image shows is in the list, or stands behind all of the list
 abbrev pub AreTheFirst : List ℕ → List VolumeFault → Type 0
 AreTheFirst image faults =
@@ -66,6 +74,10 @@ pub record AreFirstFaults (image : List ℕ) (most : ℕ) (more : Bool) (faults 
   pub first : AreTheFirst image faults
   pub full : more ≡ true → length faults ≡ most
   pub exact : (more ≡ true) ↔ ShowsMoreThan image most
+
+-- there are more exactly if the image shows more than so many faults
+abbrev pub TellsMore : List ℕ → ℕ → Bool → Type 0
+TellsMore image most more = (more ≡ true) ↔ ShowsMoreThan image most
 
 -- the image shows by a fault of this kind that it is no DOS disk, or one of an unsupported kind
 pub record IsOtherKind (image : List ℕ) (kind : FaultKind) : Type 0 where
@@ -81,11 +93,12 @@ abbrev pub ListsKindAlone : List ℕ → Bool → List VolumeFault → Type 0
 ListsKindAlone image more faults = (kind : FaultKind) → IsOtherKind image kind → (faults ≡ fault_of kind 0 ∷ []) × (more ≡ false)
 
 -- the faults of a disk as they are told, at most so many: of a disk of another kind that alone; of any other each fault
--- that it shows, unless there are more, and the first ones and exactly whether there are more
+-- that it shows, unless there are more, and exactly whether there are; and the first ones, unless it is tangled
 pub record AreAllFaults (image : List ℕ) (most : ℕ) (more : Bool) (faults : List VolumeFault) : Type 0 where
   pub alone : ListsKindAlone image more faults
   pub each : ¬ ShowsOtherKind image → ListsEach image more faults
-  pub first : ¬ ShowsOtherKind image → AreFirstFaults image most more faults
+  pub exact : ¬ ShowsOtherKind image → TellsMore image most more
+  pub first : ¬ ShowsOtherKind image → ¬ IsTangled image → AreFirstFaults image most more faults
 
 -- for each block of an image its mark, if it has one
 abbrev pub Marks : Type 0

@@ -2,6 +2,7 @@
 pub mod Noted
 pub mod Roles
 pub mod Walked
+pub mod Pairs
 pub mod Blocks
 pub mod Chain
 pub mod Named

@@ -23,6 +23,7 @@ mod names;
 mod notes;
 mod pieces;
 mod roles;
+mod tangled;
 mod walk;
 
 // What shows them, and their texts.
