@@ -3,8 +3,8 @@
 //!
 //! The walk visits blocks in roles, from the root, and goes on after a fault. It takes so few roles of each block that
 //! its time is linear in the size of the image, and these show whatever the block shows in any role. Then the entries of
-//! each directory and the header and extension blocks of each file are gone through once. So memory is linear too; time
-//! grows with the directories and files that share blocks, and the blocks that they share.
+//! each directory and the header and extension blocks of each file are gone through once; but not of a tangled image with
+//! more faults than are asked for, so that time is bounded by these and the size of the image. Memory is linear.
 #![tactic(auto)]
 
 // The list of faults.
