@@ -404,11 +404,12 @@ def without_room(tried: Mount) -> Optional[str]:
     before = tried.content(image)
     with tried.mounted(image):
         ran = run(["cp", "part", "mount/file"])
-        # (when the kernel lets go of the file, the mount tries once more to save it, beside the image)
-        ends = time.monotonic() + LONGEST_START
-        while os.listdir("small") != ["floppy.adf"] and time.monotonic() < ends:
+        # (when the kernel lets go of the file, the mount tries once more to save it, so the file beside the image may come again)
+        ends, is_alone = time.monotonic() + LONGEST_START, False
+        while not is_alone and time.monotonic() < ends:
             time.sleep(0.02)
-        stays = tried.content(image) == before and os.listdir("small") == ["floppy.adf"]
+            is_alone = os.listdir("small") == ["floppy.adf"]
+        stays = is_alone and tried.content(image) == before
         done(["mount", "-o", "remount,size=4m", "small"])
         done(["sync", "mount/file"])
         is_saved = same_bytes("part", "mount/file") and " file\n" in tried.listing(image)
