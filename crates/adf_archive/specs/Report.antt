@@ -73,8 +73,8 @@ abbrev pub IsExplained : ImageReport → Type 0
 IsExplained (Refused told) = HaveTexts true told.faults.items
 IsExplained report = ⊤
 
--- of a disk of another kind that alone is reported. Of any other each fault that it shows is reported, or else `more`. Unless
--- it is tangled, the first 1,000 are reported, and `more` exactly if it shows more
+-- of a disk of another kind that alone is reported. Of any other each fault that it shows is reported, or 1,000 of them and
+-- `more`, exactly if it shows more; these are the first ones, unless it is tangled
 abbrev pub IsComplete : List ℕ → ImageReport → Type 0
 IsComplete image (Refused told) = AreAllFaults image MOST_FAULTS told.more (map (λ shown. shown.fault) told.faults.items)
 IsComplete image report = ⊤

@@ -1,5 +1,5 @@
 -- A block found for the second time.
-use Rattle.std.proofs.Common.{◌≡◌, ◌≢◌, ℕ, ◌<◌, ◌⊎◌, inl, inr, Bool, List, [], ◌∷◌, length, replicate, Option, Some, None, set, sym, ap, ◌∙◌, subst, arith, length-set}
+use Rattle.std.proofs.Common.{◌≡◌, ◌≢◌, ℕ, ◌*◌, ◌<◌, ◌⊎◌, inl, inr, Bool, List, [], ◌∷◌, length, replicate, Option, Some, None, set, sym, ap, ◌∙◌, subst, arith, length-set}
 use Rattle.std.specs.List.{All, slice_get}
 use Rattle.std.proofs.lemmas.Bool.{cases_order}
 use Rattle.std.proofs.lemmas.List.{length-replicate}
@@ -12,12 +12,15 @@ use Rattle.ados_model.specs.Faults.Reached.{start}
 use Rattle.ados_model.specs.Faults.IsUsedTwice.{two_holders, two_longs, root_named}
 use Rattle.ados_check.specs.declared.mark.Mark.{Mark}
 use Rattle.ados_check.specs.Marks.{mark_at}
-use Rattle.ados_check.proofs.MarkLemmas.{IsMarkedMore, all_unmarked, marked_more, none_marked}
-use Rattle.ados_check.specs.steps.Reaching.{unmarked}
+use Rattle.ados_check.proofs.MarkLemmas.{IsMarkedMore, marked_more, none_marked}
+use Rattle.ados_faults.specs.declared.roles.Taken.{Taken}
+use Rattle.ados_faults.specs.declared.roles.Taken.TheVariants.{Nothing}
 use Rattle.ados_faults.specs.declared.walk.Step.{Step}
 use Rattle.ados_faults.specs.Listed.{IsNamedAs, root_mark}
 use Rattle.ados_faults.specs.steps.Noted.{AreNoted}
-use Rattle.ados_faults.specs.steps.Walked.{IsMet, IsStep, IsWalked, root_step, step_of}
+use Rattle.ados_faults.specs.steps.Roles.{AreBacked, root_step}
+use Rattle.ados_faults.specs.steps.Walked.{IsMet, IsStep, IsWalked}
+use Rattle.ados_faults.proofs.Covering.{none_backed}
 use Rattle.ados_faults.proofs.Insides.{root_inside}
 
 place_names : (image : List ℕ) (block : ℕ) (mark : Mark) → IsNamedAs image block mark → PlaceNames image mark.holder mark.long block
@@ -40,9 +43,10 @@ used_twice image block first mark inside (inr met) named other =
     ]
 
 -- only the root, at first
-pub started : (image : List ℕ) → IsImage image → (cells : List Bool) (marks : List (Option Mark)) (root : ℕ) (steps : List Step) → AreNoted image cells
-    → marks ≡ replicate (block_count image) None → root ≡ root_of image → steps ≡ root_step root ∷ [] → IsWalked image cells (set marks root (Some root_mark)) steps
-started image im cells marks root steps noted none is only = record {
+pub started : (image : List ℕ) → IsImage image → (cells : List Bool) (marks : List (Option Mark)) (roles : List Taken) (root : ℕ) (steps : List Step) → AreNoted image cells
+    → marks ≡ replicate (block_count image) None → roles ≡ replicate (5 * block_count image) Nothing → root ≡ root_of image → steps ≡ root_step root ∷ []
+    → IsWalked image cells (set marks root (Some root_mark)) roles steps
+started image im cells marks roles root steps noted none untaken is only = record {
   whole = im;
   noted = noted;
   size = length-set marks root (Some root_mark) ∙ ap length none ∙ length-replicate {A = Option Mark} (block_count image) None;
@@ -52,19 +56,21 @@ started image im cells marks root steps noted none is only = record {
     | inr (inl l) ↦ absurd (unset block mark (λ z. omega (arith, z, l)) e)
     | inr (inr l) ↦ absurd (unset block mark (λ z. omega (arith, z, l)) e)
   ];
+  marked = λ block mark e. elim (cases_order block root) [
+    | inl here ↦
+        let h : Some root_mark ≡ Some mark = sym more.is ∙ ap (mark_at (set marks root (Some root_mark))) (sym here) ∙ e in
+        let same : root_mark ≡ mark = cc h in
+        subst (λ (m : Mark). Reached image block m.role) same (subst (λ (b : ℕ). Reached image b Root) (sym (here ∙ is)) start)
+    | inr (inl l) ↦ absurd (unset block mark (λ z. omega (arith, z, l)) e)
+    | inr (inr l) ↦ absurd (unset block mark (λ z. omega (arith, z, l)) e)
+  ];
   reached = subst (All (IsStep image)) (sym only) (All-push (IsStep image) [] (root_step root) (λ k d l. absurd (omega (arith, l))) (record {
     inside = subst (InImage image) (sym is) (root_inside image im);
     reached = subst (λ (b : ℕ). Reached image b Root) (sym is) start;
   }));
-  listed = λ block mark e. elim (cases_order block root) [
-    | inl here ↦
-        let h : Some root_mark ≡ Some mark = sym more.is ∙ ap (mark_at (set marks root (Some root_mark))) (sym here) ∙ e in
-        let same : root_mark ≡ mark = cc h in
-        (0, ap (λ (xs : List Step). slice_get xs 0) only ∙ ap (λ (b : ℕ). Some (step_of b Root)) (sym here) ∙ ap (λ (m : Mark). Some (step_of block m.role)) same)
-    | inr (inl l) ↦ absurd (unset block mark (λ z. omega (arith, z, l)) e)
-    | inr (inr l) ↦ absurd (unset block mark (λ z. omega (arith, z, l)) e)
-  ];
-  few = omega (arith, ap length only, more.fewer, ap unmarked none, all_unmarked (block_count image), im.whole, im.size.0);
+  first = (0, ap (λ (xs : List Step). slice_get xs 0) only ∙ ap (λ (b : ℕ). Some (root_step b)) is);
+  role_size = ap length untaken ∙ length-replicate {A = Taken} (5 * block_count image) Nothing;
+  backed = subst (λ (xs : List Taken). AreBacked xs steps) (sym untaken) (none_backed (5 * block_count image) steps);
 }
   where
     within : root < length marks

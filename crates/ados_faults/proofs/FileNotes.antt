@@ -1,35 +1,53 @@
 -- What files show stays noted, and is noted file by file.
-use Rattle.std.proofs.Common.{◌≡◌, ℕ, ◌+◌, ◌<◌, ◌≤◌, inl, inr, List, Bool, true, false, length, set, get_or, get_or-set_other, get_or-set_same, refl, sym, ap, ◌∙◌, subst, arith}
+use Rattle.std.proofs.Common.{◌≡◌, ◌≢◌, ℕ, ◌+◌, ◌<◌, ◌≤◌, inl, inr, List, Bool, true, false, Option, Some, None, length, replicate, set, slice_index, get_or, get_or-set_other, get_or-set_same, refl, sym, ap, ◌∙◌, subst, arith}
 use Rattle.std.specs.List.{slice_get}
-use Rattle.std.proofs.Common.{Some}
-use Rattle.std.proofs.lemmas.Bool.{cases_eq, cases_lt}
-use Rattle.std.proofs.lemmas.Option.{same_Some, slice_get_within}
+use Rattle.std.specs.Option.{unwrap_or}
+use Rattle.std.proofs.lemmas.Bool.{cases_eq, cases_lt, false≢true}
+use Rattle.std.proofs.lemmas.List.{get_or_past, get_or-replicate, length-replicate}
+use Rattle.adf_block.specs.Image.{block_count}
+use Rattle.std.proofs.lemmas.Option.{same_Some, slice_get_past, slice_get_within, unwrap_or-slice_get}
 use Rattle.ados_model.specs.declared.fault.FaultKind.TheVariants.{BadCount, BadPointer, BadSequence}
 use Rattle.ados_model.specs.declared.role.Role.TheVariants.{Entry}
-use Rattle.ados_model.specs.Faults.{AreDataBlocks, InImage}
+use Rattle.ados_model.specs.Faults.{AreDataBlocks, InImage, IsDataAt}
+use Rattle.ados_faults.specs.declared.chain.Place.{Place}
+use Rattle.ados_faults.specs.steps.Chain.{IsPlaced}
 use Rattle.ados_faults.specs.declared.walk.Step.{Step}
 use Rattle.ados_faults.specs.steps.FileNotes.{AreAllFilesNoted, AreBlocksNoted, AreFilesNoted, ArePlacesNoted, AreStepsChecked, IsChecked, IsFileNoted, IsPlaceNoted, IsStepChecked}
 use Rattle.ados_faults.specs.steps.Noted.{AreStillNoted, cell_of}
-use Rattle.ados_faults.specs.steps.Walked.{step_of}
+use Rattle.ados_faults.specs.steps.Roles.{AreCovered, step_of}
+use Rattle.ados_faults.proofs.Covering.{entry_listed}
 use Rattle.ados_faults.proofs.SameBlocks.{same_blocks}
 
+-- the data block at its place
+pub data_at : (image : List ℕ) (place : Place) (p : IsPlaced image place) → InImage image place.block → IsDataAt image p.file p.blocks place.position place.block
+data_at image place p inside = record { of_file = p.of_file; within = p.within; here = p.here; inside = inside }
+
+pub next_within : (image : List ℕ) (place : Place) (p : IsPlaced image place) → place.next ≢ None → place.position + 1 < length p.blocks
+next_within image place p some = elim (cases_lt (place.position + 1) (length p.blocks)) [
+  | inl l ↦ l
+  | inr past ↦ absurd (some (sym p.next ∙ slice_get_past p.blocks (place.position + 1) past))
+]
+
+pub next_index : (image : List ℕ) (place : Place) (p : IsPlaced image place) → unwrap_or place.next 0 ≡ slice_index p.blocks (place.position + 1)
+next_index image place p = ap (λ (o : Option ℕ). unwrap_or o 0) (sym p.next) ∙ unwrap_or-slice_get p.blocks (place.position + 1) 0
+
 module _ (image : List ℕ) (cells later : List Bool) (on : AreStillNoted cells later) where
-  pub placed_on : (blocks : List ℕ) (i block : ℕ) → IsPlaceNoted image cells blocks i block → IsPlaceNoted image later blocks i block
-  placed_on blocks i block p = record {
+  pub placed_on : (block position : ℕ) (next : Option ℕ) → IsPlaceNoted image cells block position next → IsPlaceNoted image later block position next
+  placed_on block position next p = record {
     sequence = λ h. on.stay (cell_of BadSequence block) (p.sequence h);
     short = λ h. on.stay (cell_of BadCount block) (p.short h);
     over = λ h. on.stay (cell_of BadCount block) (p.over h);
     link = λ h. on.stay (cell_of BadPointer block) (p.link h);
   }
 
-  pub places_on : (blocks : List ℕ) (n : ℕ) → ArePlacesNoted image cells blocks n → ArePlacesNoted image later blocks n
-  places_on blocks n p = record { placed = λ i l inside. placed_on blocks i (get_or blocks i 0) (p.placed i l inside) }
+  pub places_on : (blocks : List ℕ) (from : ℕ) → ArePlacesNoted image cells blocks from → ArePlacesNoted image later blocks from
+  places_on blocks from p = record { placed = λ i low l inside. placed_on (get_or blocks i 0) i (slice_get blocks (i + 1)) (p.placed i low l inside) }
 
   pub file_on : (file : ℕ) → IsFileNoted image cells file → IsFileNoted image later file
   file_on file f = record {
     noted = λ blocks d. let b = f.noted blocks d in record {
       count = λ h. on.stay (cell_of BadCount file) (b.count h);
-      places = λ ofs. places_on blocks (length blocks) (b.places ofs);
+      places = λ ofs. places_on blocks 0 (b.places ofs);
       sum = λ ofs h. on.stay (cell_of BadCount file) (b.sum ofs h);
     };
   }
@@ -42,19 +60,6 @@ module _ (image : List ℕ) (cells later : List Bool) (on : AreStillNoted cells 
       | inr apart ↦ file_on other (f.noted other (sym (get_or-set_other files file other true false apart) ∙ h))
     ];
   }
-
--- one more place
-pub places_more : (image : List ℕ) (cells later : List Bool) (blocks : List ℕ) (n : ℕ) → AreStillNoted cells later → ArePlacesNoted image cells blocks n
-    → (InImage image (get_or blocks n 0) → IsPlaceNoted image later blocks n (get_or blocks n 0)) → ArePlacesNoted image later blocks (n + 1)
-places_more image cells later blocks n on p this = record { placed = go }
-  where
-    go : (i : ℕ) → i < n + 1 → InImage image (get_or blocks i 0) → IsPlaceNoted image later blocks i (get_or blocks i 0)
-    go i l inside = elim (cases_lt i n) [
-      | inl less ↦ placed_on image cells later on blocks i (get_or blocks i 0) (p.placed i less inside)
-      | inr past ↦
-          let here : n ≡ i = omega (arith, l, past) in
-          subst (λ (k : ℕ). InImage image (get_or blocks k 0) → IsPlaceNoted image later blocks k (get_or blocks k 0)) here this inside
-    ]
 
 -- by any list of its data blocks
 pub file_noted : (image : List ℕ) (cells : List Bool) (file : ℕ) (blocks given : List ℕ) → AreDataBlocks image file blocks → given ≡ blocks → AreBlocksNoted image cells file given → IsFileNoted image cells file
@@ -85,8 +90,24 @@ steps_more image files later steps n step at before on this = record { checked =
           subst (IsStepChecked image later) (same_Some step other h) this
     ]
 
-pub all_files : (image : List ℕ) (cells files : List Bool) (steps : List Step) (n : ℕ) → AreFilesNoted image cells files → AreStepsChecked image files steps n → length steps ≤ n → AreAllFilesNoted image cells steps
-all_files image cells files steps n f c all = record {
-  noted = λ k block dir s e h.
-      f.noted block ((c.checked k (step_of block (Entry dir s)) (omega (arith, slice_get_within steps k (step_of block (Entry dir s)) e, all)) e).checked dir s refl h);
+pub all_files : (image : List ℕ) (cells files : List Bool) (steps : List Step) (n : ℕ) → AreFilesNoted image cells files → AreStepsChecked image files steps n → length steps ≤ n → AreCovered image steps
+    → AreAllFilesNoted image cells
+all_files image cells files steps n f c all covered = record {
+  noted = λ file h.
+      let at = entry_listed steps file h.dir h.slot_of_chain (covered.covered file (Entry h.dir h.slot_of_chain) h.reached) in
+      let step = step_of file (Entry at.0 at.1) in
+      f.noted file ((c.checked at.2.0 step (omega (arith, slice_get_within steps at.2.0 step at.2.1, all)) at.2.1).checked at.0 at.1 refl h.secondary);
 }
+
+-- no file was checked
+pub no_files : (image : List ℕ) (cells files : List Bool) → files ≡ replicate (block_count image) false → (length files ≡ block_count image) × AreFilesNoted image cells files
+no_files image cells files none = (
+  ap length none ∙ length-replicate {A = Bool} (block_count image) false,
+  record { noted = λ file h. absurd (false≢true (sym (unset file) ∙ ap (λ (bs : List Bool). get_or bs file false) (sym none) ∙ h)) },
+)
+  where
+    unset : (i : ℕ) → get_or (replicate (block_count image) false) i false ≡ false
+    unset i = elim (cases_lt i (block_count image)) [
+      | inl l ↦ get_or-replicate (block_count image) i false false l
+      | inr past ↦ get_or_past (replicate (block_count image) false) i false (omega (arith, past, length-replicate {A = Bool} (block_count image) false))
+    ]

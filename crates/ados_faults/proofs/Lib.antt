@@ -2,7 +2,10 @@
 pub mod Cells
 pub mod Insides
 pub mod Doubles
+pub mod Covering
 pub mod Closing
+pub mod Enumerated
+pub mod Pairing
 pub mod Linking
 pub mod Sameness
 pub mod Freed
@@ -14,3 +17,4 @@ pub mod Looking
 pub mod Each
 pub mod SameBlocks
 pub mod FileNotes
+pub mod ByHeaders

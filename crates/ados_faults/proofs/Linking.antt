@@ -1,19 +1,14 @@
--- The blocks along links, one more at a time, and the set of visited ones.
-use Rattle.std.proofs.Common.{◌≡◌, ◌≢◌, ℕ, ◌+◌, ◌-◌, ◌<◌, ◌≤◌, ◌⊎◌, inl, inr, Bool, true, false, cond, List, [], ◌∷◌, ◌++◌, length, slice_index, refl, sym, ap, ◌∙◌, subst, arith}
-use Rattle.std.specs.List.{Contains, list_any}
-use Rattle.std.specs.Ordering.{nat_cmp}
-use Rattle.std.specs.FinMap.{nat_cmp-IsAntisymmetric}
-use Rattle.std.specs.BTreeMap.{is_at}
-use Rattle.std.specs.BTreeSet.{BTreeSet, contains}
-use Rattle.std.proofs.lemmas.Bool.{cases_lt, cases_Bool, false≢true}
+-- The blocks along links, one more at a time.
+use Rattle.std.proofs.Common.{◌≡◌, ◌≢◌, ℕ, ◌+◌, ◌-◌, ◌<◌, ◌≤◌, ◌⊎◌, inl, inr, List, [], ◌∷◌, ◌++◌, length, slice_index, refl, sym, ap, ◌∙◌, subst, arith}
+use Rattle.std.specs.List.{Contains}
+use Rattle.std.proofs.lemmas.Bool.{cases_lt}
 use Rattle.std.proofs.lemmas.List.{get_or_default, length_push, get_or_push, get_or_append_left}
-use Rattle.std.proofs.lemmas.List.Elements.{All-push, Contains-push, Contains-push_cases, Contains-append_left}
+use Rattle.std.proofs.lemmas.List.Elements.{All-push}
 use Rattle.std.proofs.lemmas.List.Quantifiers.{all_pairs_push}
 use Rattle.adf_block.specs.Image.{block_count, long}
 use Rattle.ados_model.specs.Faults.{InImage, LinkedOnce, LeadOn, FurtherAreInside, last_link}
-use Rattle.ados_faults.specs.steps.Chain.{HasMet, IsChain}
+use Rattle.ados_faults.specs.steps.Chain.{IsChain}
 use Rattle.ados_model.proofs.KeyLists.{length-once}
-use Rattle.ados_check.proofs.Entered.{is_equal}
 
 -- only the first block
 pub chain_start : (image : List ℕ) (link first : ℕ) → InImage image first → IsChain image link (first ∷ [])
@@ -74,43 +69,6 @@ module _ (image : List ℕ) (link : ℕ) (blocks : List ℕ) (c : IsChain image 
         | inl m ↦ subst (InImage image) (sym (before (i + 1) m)) (c.further i m)
         | inr m ↦ subst (InImage image) (sym (last (i + 1) (omega (arith, l, m, grown)))) inside
       ]
-
--- ---- the set
-
-same_block : (block other : ℕ) → is_at (nat_cmp block) other ≡ true → block ≡ other
-same_block block other e = nat_cmp-IsAntisymmetric block other (is_equal (nat_cmp block other) e)
-
--- one more block in both
-pub met_more : (met more : BTreeSet ℕ) (blocks : List ℕ) (next : ℕ) → HasMet met blocks
-    → ((q : ℕ) → contains nat_cmp more q ≡ cond (is_at (nat_cmp next) q) true (contains nat_cmp met q))
-    → contains nat_cmp more next ≡ true → HasMet more (blocks ++ next ∷ [])
-met_more met more blocks next h updates there = record {
-  listed = listed;
-  held = λ block c. elim (Contains-push_cases blocks next block c) [
-    | inl old ↦ updates block ∙ kept (is_at (nat_cmp next) block) (contains nat_cmp met block) (h.held block old)
-    | inr here ↦ ap (contains nat_cmp more) (sym here) ∙ there
-  ];
-}
-  where
-    kept : (b old : Bool) → old ≡ true → cond b true old ≡ true
-    kept true old e = refl
-    kept false old e = e
-
-    listed : (block : ℕ) → contains nat_cmp more block ≡ true → Contains (blocks ++ next ∷ []) block
-    listed block e = go (cases_Bool (is_at (nat_cmp next) block))
-      where
-        go : (is_at (nat_cmp next) block ≡ true) ⊎ (is_at (nat_cmp next) block ≡ false) → Contains (blocks ++ next ∷ []) block
-        go (inl a) = subst (Contains (blocks ++ next ∷ [])) (same_block next block a) (Contains-push blocks next)
-        go (inr a) =
-            let old : contains nat_cmp met block ≡ true = ap (λ (b : Bool). cond b true (contains nat_cmp met block)) (sym a) ∙ sym (updates block) ∙ e in
-            Contains-append_left blocks (next ∷ []) block (h.listed block old)
-
--- both are empty
-pub met_none : (met : BTreeSet ℕ) → met.keys ≡ [] → HasMet met []
-met_none met none = record {
-  listed = λ block e. absurd (false≢true (sym (ap (λ (ks : List ℕ). list_any (is_at (nat_cmp block)) ks) none) ∙ e));
-  held = λ block c. absurd (omega (arith, c.1));
-}
 
 pub head_kept : (blocks : List ℕ) (next : ℕ) → 0 < length blocks → slice_index (blocks ++ next ∷ []) 0 ≡ slice_index blocks 0
 head_kept blocks next l = get_or_append_left blocks (next ∷ []) 0 0 l

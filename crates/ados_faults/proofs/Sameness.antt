@@ -1,31 +1,36 @@
--- Entries of one directory whose names are equal in upper case have the same name.
-use Rattle.std.proofs.Common.{◌≡◌, ◌≢◌, ℕ, ◌-◌, ◌<◌, ◌≤◌, inl, inr, Bool, true, cond, List, [], ◌∷◌, ◌++◌, length, take, drop, map, replicate, slice_index, Some, None, refl, sym, ap, ap₂, ◌∙◌, subst, arith, ◌+◌}
+-- Entries of one directory whose names are equal in upper case have the same name, and are noted.
+use Rattle.std.proofs.Common.{◌≡◌, ◌≢◌, ℕ, ◌-◌, ◌<◌, ◌≤◌, inl, inr, Bool, true, false, cond, List, [], ◌∷◌, ◌++◌, length, take, drop, map, replicate, get_or, slice_index, set, Option, Some, None, refl, sym, ap, ap₂, ◌∙◌, subst, arith, ◌+◌, length-set, get_or-set_same, get_or-set_other}
 use Rattle.std.specs.List.{slice_get}
-use Rattle.std.specs.declared.cmp.Ordering.{Ordering}
-use Rattle.std.specs.declared.cmp.Ordering.TheVariants.{Less, Equal, Greater}
-use Rattle.std.specs.Ordering.{nat_cmp, ordering_then}
-use Rattle.std.specs.Cmp.Lexicographic.{slice_cmp}
+use Rattle.std.specs.Option.{IfSome, option_and_then}
+use Rattle.std.specs.Ordering.{nat_cmp}
 use Rattle.std.specs.FinMap.{nat_cmp-IsAntisymmetric, slice_cmp-IsAntisymmetric}
 use Rattle.std.specs.BTreeMap.{BTreeMap, get, is_at}
 use Rattle.std.specs.Map.{lookup}
-use Rattle.std.proofs.lemmas.Bool.{cases_Bool, cases_eq, cases_lt}
-use Rattle.std.proofs.lemmas.Option.{none-some, same_Some, slice_get_within}
-use Rattle.std.proofs.lemmas.List.{length-map, take_at}
+use Rattle.std.proofs.lemmas.Bool.{cases_Bool, cases_eq, cases_lt, false≢true}
+use Rattle.std.proofs.lemmas.Option.{get_or_from_slice_get, none-some, same_Some, slice_get-get_or, slice_get_past, slice_get_within}
+use Rattle.std.proofs.lemmas.List.{get_or_append_left, get_or_past, get_or_push, get_or-replicate, length-map, length-replicate, length_push, take_at}
 use Rattle.adf_block.specs.Whole.{IsImage, text_at}
 use Rattle.adf_block.specs.Image.{block_count, byte_at}
 use Rattle.adf_block.specs.declared.layout.TheConstants.{NAME_BYTE}
 use Rattle.ados_name.specs.Name.{Same, upper}
-use Rattle.ados_model.specs.declared.role.Role.TheVariants.{Entry}
+use Rattle.ados_model.specs.declared.role.Role.{Role}
+use Rattle.ados_model.specs.declared.role.Role.TheVariants.{Root, Page, Entry, Data, Extension}
 use Rattle.ados_model.specs.declared.fault.FaultKind.TheVariants.{DuplicateName}
-use Rattle.ados_model.specs.Faults.{HasDuplicateName, HasShortName}
+use Rattle.ados_model.specs.Faults.{HasDuplicateName, HasShortName, Reached, root_of}
 use Rattle.ados_check.proofs.Entered.{is_equal}
 use Rattle.ados_check.proofs.Texts.{length-bytes_at}
 use Rattle.ados_check.specs.Entries.{upper_name}
-use Rattle.ados_faults.specs.declared.names.EntryName.{EntryName}
+use Rattle.ados_faults.specs.declared.names.Named.{Named}
 use Rattle.ados_faults.specs.declared.walk.Step.{Step}
-use Rattle.ados_faults.specs.steps.Named.{AreDuplicatesNoted, AreFirst, AreNamesKept, AreStepsNamed, IsEntryName, IsNameMet, IsStepNamed, name_cmp, name_of}
+use Rattle.ados_faults.specs.steps.Blocks.{AreEntriesOf, HoldsEntries, IsEntryIn}
+use Rattle.ados_faults.specs.steps.FileNotes.{IsChecked}
+use Rattle.ados_faults.specs.steps.Named.{AreDirectoriesNoted, AreDuplicatesNoted, AreFirstMet, AreFirstNames, AreKnown, AreNamesKept, AreNamesMet, AreNamesNoted, AreStillKnown, HasNameOf, HoldsEntriesAs, IsFirstName, IsNameMet, name_cmp, named_in, named_of}
 use Rattle.ados_faults.specs.steps.Noted.{AreStillNoted, IsNoted, cell_of}
-use Rattle.ados_faults.specs.steps.Walked.{IsListed, step_of}
+use Rattle.ados_faults.specs.steps.Roles.{AreCovered, IsListed, step_of}
+use Rattle.ados_faults.proofs.Closing.{root_only}
+use Rattle.ados_faults.proofs.Covering.{entry_listed}
+use Rattle.ados_faults.proofs.Enumerated.{dir_of}
+use Rattle.ados_faults.proofs.Insides.{reached_inside}
 
 pub length_text : (image : List ℕ) (block : ℕ) → IsImage image → block < block_count image → byte_at image block NAME_BYTE ≤ 30 → length (text_at image block NAME_BYTE) ≡ byte_at image block NAME_BYTE
 length_text image block im l short = length-bytes_at image block (NAME_BYTE + 1) (byte_at image block NAME_BYTE) im l (omega (arith, short))
@@ -51,97 +56,317 @@ names_equal image block other im l m short other_short e =
     sym (length_text image block im l short) ∙ sym (length-map (text_at image block NAME_BYTE) upper) ∙ ap length e ∙ length-map (text_at image other NAME_BYTE) upper ∙ length_text image other im m other_short in
     ap₂ (λ (n : ℕ) (text : List ℕ). n ∷ (text ++ replicate (30 - n) 0)) sizes e
 
-pub duplicate : (image : List ℕ) (entry : EntryName) (block other : ℕ) → IsImage image → IsEntryName image entry block → IsEntryName image entry other → block ≢ other → HasDuplicateName image block
-duplicate image entry block other im e o two = record {
+pub duplicate : (image : List ℕ) (dir block other : ℕ) → IsImage image → IsEntryIn image dir block → IsEntryIn image dir other → HasShortName image block → HasShortName image other
+    → upper_name image block ≡ upper_name image other → block ≢ other → HasDuplicateName image block
+duplicate image dir block other im e o short other_short same two = record {
   other = other;
-  dir = entry.dir;
-  slot_of_chain = e.slot_of_chain;
-  other_slot = o.slot_of_chain;
-  reached = e.reached;
-  other_reached = o.reached;
+  dir = dir;
+  slot_of_chain = e.0;
+  other_slot = o.0;
+  reached = e.1;
+  other_reached = o.1;
   two = two;
-  short = e.short;
-  other_short = o.short;
-  same = names_same image block other im e.inside.1 o.inside.1 e.short o.short (sym e.spelt ∙ o.spelt);
+  short = short;
+  other_short = other_short;
+  same = names_same image block other im (reached_inside image im e.1).1 (reached_inside image im o.1).1 short other_short same;
 }
 
 -- ---- the map from names to their first blocks
 
-equal_parts : (x y : EntryName) (o : Ordering) → nat_cmp x.dir y.dir ≡ o → ordering_then o (slice_cmp nat_cmp x.name y.name) ≡ Equal → (x.dir ≡ y.dir) × (x.name ≡ y.name)
-equal_parts x y Less e h = absurd (cc h)
-equal_parts x y Equal e h = (nat_cmp-IsAntisymmetric x.dir y.dir e, slice_cmp-IsAntisymmetric nat_cmp-IsAntisymmetric x.name y.name h)
-equal_parts x y Greater e h = absurd (cc h)
-
-abbrev named_by : ℕ → List ℕ → EntryName
-named_by dir name = record { dir = dir; name = name }
-
 -- names that are equal in this order are equal
-same_name : (x y : EntryName) → is_at (name_cmp x) y ≡ true → x ≡ y
-same_name x y e = let parts = equal_parts x y (nat_cmp x.dir y.dir) refl (is_equal (name_cmp x y) e) in ap₂ named_by parts.0 parts.1
+same_name : (x y : List ℕ) → is_at (name_cmp x) y ≡ true → x ≡ y
+same_name x y e = slice_cmp-IsAntisymmetric nat_cmp-IsAntisymmetric x y (is_equal (name_cmp x y) e)
 
-pub none_first : (image : List ℕ) (first : BTreeMap EntryName ℕ) → first.entries ≡ [] → AreFirst image first
-none_first image first empty = record { named = λ entry block e. absurd (none-some block (sym (ap (lookup (is_at (name_cmp entry))) empty) ∙ e)) }
+pub none_known : (image : List ℕ) (known : BTreeMap (List ℕ) ℕ) → known.entries ≡ [] → AreKnown image known
+none_known image known empty = record { leads = λ name block e. absurd (none-some block (sym (ap (lookup (is_at (name_cmp name))) empty) ∙ e)) }
 
-module _ (first later : BTreeMap EntryName ℕ) (entry : EntryName) (block : ℕ) (absent : get name_cmp first entry ≡ None)
-    (updates : (q : EntryName) → get name_cmp later q ≡ cond (is_at (name_cmp entry) q) (Some block) (get name_cmp first q)) where
-  pub first_kept : AreNamesKept first later
-  first_kept = record { kept = go }
+module _ (known later : BTreeMap (List ℕ) ℕ) (name : List ℕ) (block : ℕ) (absent : get name_cmp known name ≡ None)
+    (updates : (q : List ℕ) → get name_cmp later q ≡ cond (is_at (name_cmp name) q) (Some block) (get name_cmp known q)) where
+  pub known_stay : AreStillKnown known later
+  known_stay = record { stay = go }
     where
-      go : (q : EntryName) (b : ℕ) → get name_cmp first q ≡ Some b → get name_cmp later q ≡ Some b
-      go q b e = elim (cases_Bool (is_at (name_cmp entry) q)) [
-        | inl a ↦ absurd (none-some b (sym absent ∙ ap (get name_cmp first) (same_name entry q a) ∙ e))
-        | inr a ↦ updates q ∙ ap (λ (t : Bool). cond t (Some block) (get name_cmp first q)) a ∙ e
+      go : (q : List ℕ) (b : ℕ) → get name_cmp known q ≡ Some b → get name_cmp later q ≡ Some b
+      go q b e = elim (cases_Bool (is_at (name_cmp name) q)) [
+        | inl a ↦ absurd (none-some b (sym absent ∙ ap (get name_cmp known) (same_name name q a) ∙ e))
+        | inr a ↦ updates q ∙ ap (λ (t : Bool). cond t (Some block) (get name_cmp known q)) a ∙ e
       ]
 
-  pub first_more : (image : List ℕ) → AreFirst image first → IsEntryName image entry block → AreFirst image later
-  first_more image f this = record { named = go }
+  pub known_more : (image : List ℕ) → AreKnown image known → block < block_count image → upper_name image block ≡ name → AreKnown image later
+  known_more image k inside is = record { leads = go }
     where
-      go : (q : EntryName) (b : ℕ) → get name_cmp later q ≡ Some b → IsEntryName image q b
-      go q b e = elim (cases_Bool (is_at (name_cmp entry) q)) [
+      go : (q : List ℕ) (b : ℕ) → get name_cmp later q ≡ Some b → (b < block_count image) × (upper_name image b ≡ q)
+      go q b e = elim (cases_Bool (is_at (name_cmp name) q)) [
         | inl a ↦
-            let h : Some block ≡ Some b = ap (λ (t : Bool). cond t (Some block) (get name_cmp first q)) (sym a) ∙ sym (updates q) ∙ e in
-            subst (λ (n : ℕ). IsEntryName image q n) (same_Some block b h) (subst (λ (n : EntryName). IsEntryName image n block) (same_name entry q a) this)
-        | inr a ↦ f.named q b (ap (λ (t : Bool). cond t (Some block) (get name_cmp first q)) (sym a) ∙ sym (updates q) ∙ e)
+            let h : Some block ≡ Some b = ap (λ (t : Bool). cond t (Some block) (get name_cmp known q)) (sym a) ∙ sym (updates q) ∙ e in
+            subst (λ (n : ℕ). (n < block_count image) × (upper_name image n ≡ q)) (same_Some block b h) (inside, is ∙ same_name name q a)
+        | inr a ↦ k.leads q b (ap (λ (t : Bool). cond t (Some block) (get name_cmp known q)) (sym a) ∙ sym (updates q) ∙ e)
       ]
 
--- ---- the steps whose names were met
+pub known_on : {known later last : BTreeMap (List ℕ) ℕ} → AreStillKnown known later → AreStillKnown later last → AreStillKnown known last
+known_on a b = record { stay = λ name block e. b.stay name block (a.stay name block e) }
 
-pub name_on : (cells later : List Bool) (first further : BTreeMap EntryName ℕ) (entry : EntryName) (block : ℕ) → AreStillNoted cells later → AreNamesKept first further → IsNameMet cells first entry block
-    → IsNameMet later further entry block
-name_on cells later first further entry block on kept m = record {
+first_on : (image : List ℕ) (known later : BTreeMap (List ℕ) ℕ) (block : ℕ) (name : Option ℕ) → AreStillKnown known later → IsFirstName image known block name → IsFirstName image later block name
+first_on image known later block None stay long = long
+first_on image known later block (Some name) stay first = (first.0, stay.stay (upper_name image block) name first.1)
+
+-- what the first blocks lead to, as many as a number says
+pub record AreFirstSoFar (image : List ℕ) (known : BTreeMap (List ℕ) ℕ) (first : List (Option ℕ)) : Type 0 where
+  pub each : (block : ℕ) (name : Option ℕ) → slice_get first block ≡ Some name → IsFirstName image known block name
+
+pub first_none : (image : List ℕ) (known : BTreeMap (List ℕ) ℕ) → AreFirstSoFar image known []
+first_none image known = record { each = λ block name e. absurd (omega (arith, slice_get_within [] block name e)) }
+
+pub first_more : (image : List ℕ) (known later : BTreeMap (List ℕ) ℕ) (first : List (Option ℕ)) (n : ℕ) (new : Option ℕ) → length first ≡ n → AreStillKnown known later → AreFirstSoFar image known first
+    → IsFirstName image later n new → AreFirstSoFar image later (first ++ new ∷ [])
+first_more image known later first n new size stay f this = record { each = go }
+  where
+    go : (block : ℕ) (name : Option ℕ) → slice_get (first ++ new ∷ []) block ≡ Some name → IsFirstName image later block name
+    go block name e =
+        let within = slice_get_within (first ++ new ∷ []) block name e in
+        let is : get_or (first ++ new ∷ []) block name ≡ name = get_or_from_slice_get (first ++ new ∷ []) block name name e in
+        elim (cases_lt block (length first)) [
+          | inl l ↦
+              first_on image known later block name stay
+              (f.each block name (slice_get-get_or first block name l ∙ ap (λ (x : Option ℕ). Some x) (sym (get_or_append_left first (new ∷ []) name block l) ∙ is)))
+          | inr past ↦
+              let here : length first ≡ block = omega (arith, past, within, length_push first new) in
+              subst (λ (b : ℕ). IsFirstName image later b name) (sym size ∙ here) (subst (IsFirstName image later n) (sym (get_or_push first new name block here) ∙ is) this)
+        ]
+
+-- ---- names of the same entries
+
+has_name_of : (image : List ℕ) (first : List (Option ℕ)) (block name : ℕ) → AreFirstNames image first → slice_get first block ≡ Some (Some name) → HasNameOf image block name
+has_name_of image first block name f e =
+    let is : HasShortName image block × (get name_cmp f.known (upper_name image block) ≡ Some name) = f.each block (Some name) e in
+    let known = f.are_known.leads (upper_name image block) name is.1 in
+    record { short = is.0; within = known.0; same = sym known.1 }
+
+pub if_named : (image : List ℕ) (first : List (Option ℕ)) (block : ℕ) (o : Option ℕ) → AreFirstNames image first → slice_get first block ≡ Some o → IfSome o (HasNameOf image block)
+if_named image first block None f e = tt
+if_named image first block (Some name) f e = has_name_of image first block name f e
+
+pub of_some : (P : ℕ → Type 0) (o : Option ℕ) (name : ℕ) → IfSome o P → o ≡ Some name → P name
+of_some P None name h e = absurd (none-some name e)
+of_some P (Some x) name h e = subst P (same_Some x name e) h
+
+pub none_met_of : (P : ℕ → Type 0) (o : Option ℕ) → ((x : ℕ) → o ≡ Some x → ⊥) → IfSome o P
+none_met_of P None lacking = tt
+none_met_of P (Some x) lacking = absurd (lacking x refl)
+
+pub some_met_of : (P : ℕ → Type 0) (o : Option ℕ) (x : ℕ) → o ≡ Some x → P x → IfSome o P
+some_met_of P o x e p = subst (λ (q : Option ℕ). IfSome q P) (sym e) p
+
+-- a block with a short name leads to some block
+first_of_short : (image : List ℕ) (first : List (Option ℕ)) (block : ℕ) → AreFirstNames image first → block < block_count image → HasShortName image block → (name : ℕ) × (slice_get first block ≡ Some (Some name))
+first_of_short image first block f within short = go (get_or first block None) (slice_get-get_or first block None (omega (arith, within, f.size)))
+  where
+    go : (o : Option ℕ) → slice_get first block ≡ Some o → (name : ℕ) × (slice_get first block ≡ Some (Some name))
+    go None e = let long : ¬ HasShortName image block = f.each block None e in absurd (long short)
+    go (Some name) e = (name, e)
+
+-- two blocks with one name lead to the same block
+same_first : (image : List ℕ) (first : List (Option ℕ)) (block other name last : ℕ) → AreFirstNames image first → slice_get first block ≡ Some (Some name) → slice_get first other ≡ Some (Some last)
+    → upper_name image block ≡ upper_name image other → name ≡ last
+same_first image first block other name last f e o same =
+    let is : HasShortName image block × (get name_cmp f.known (upper_name image block) ≡ Some name) = f.each block (Some name) e in
+    let was : HasShortName image other × (get name_cmp f.known (upper_name image other) ≡ Some last) = f.each other (Some last) o in
+    same_Some name last (sym is.1 ∙ ap (get name_cmp f.known) same ∙ was.1)
+
+-- ---- what was met in a directory
+
+named_at : (met : List (Option Named)) (name : ℕ) (o : Option Named) → slice_get met name ≡ Some o → named_in met name ≡ o
+named_at met name o e = ap (option_and_then (λ (named : Option Named). named)) e
+
+pub named_is : (met : List (Option Named)) (name : ℕ) → name < length met → named_in met name ≡ get_or met name None
+named_is met name l = named_at met name (get_or met name None) (slice_get-get_or met name None l)
+
+none_past : (met : List (Option Named)) (name : ℕ) → length met ≤ name → named_in met name ≡ None
+none_past met name l = ap (option_and_then (λ (named : Option Named). named)) (slice_get_past met name l)
+
+set_here : (met : List (Option Named)) (name : ℕ) (new : Named) → name < length met → named_in (set met name (Some new)) name ≡ Some new
+set_here met name new l =
+    named_at (set met name (Some new)) name (Some new)
+    (slice_get-get_or (set met name (Some new)) name (Some new) (omega (arith, l, length-set met name (Some new))) ∙ ap (λ (x : Option Named). Some x) (get_or-set_same met name (Some new) (Some new) l))
+
+set_other : (met : List (Option Named)) (name other : ℕ) (new : Named) → other ≢ name → named_in (set met name (Some new)) other ≡ named_in met other
+set_other met name other new apart = elim (cases_lt other (length met)) [
+  | inl l ↦
+      named_at (set met name (Some new)) other (get_or met other None)
+      (slice_get-get_or (set met name (Some new)) other None (omega (arith, l, length-set met name (Some new))) ∙ ap (λ (x : Option Named). Some x) (get_or-set_other met name other (Some new) None apart))
+      ∙ sym (named_at met other (get_or met other None) (slice_get-get_or met other None l))
+  | inr past ↦ none_past (set met name (Some new)) other (omega (arith, past, length-set met name (Some new))) ∙ sym (none_past met other past)
+]
+
+pub names_none : (image : List ℕ) (met : List (Option Named)) → met ≡ replicate (block_count image) None → AreNamesMet image met
+names_none image met none = record {
+  size = ap length none ∙ length-replicate {A = Option Named} (block_count image) None;
+  entry = λ name named e. absurd (nothing name named e);
+  named = λ name named e. absurd (nothing name named e);
+}
+  where
+    empty : (name : ℕ) → named_in (replicate (block_count image) None) name ≡ None
+    empty name = elim (cases_lt name (block_count image)) [
+      | inl l ↦
+          named_at (replicate (block_count image) None) name None
+          (slice_get-get_or (replicate (block_count image) None) name None (omega (arith, l, length-replicate {A = Option Named} (block_count image) None))
+          ∙ ap (λ (x : Option Named). Some x) (get_or-replicate (block_count image) name None None l))
+      | inr past ↦ none_past (replicate (block_count image) None) name (omega (arith, past, length-replicate {A = Option Named} (block_count image) None))
+    ]
+
+    nothing : (name : ℕ) (named : Named) → named_in met name ≡ Some named → ⊥
+    nothing name named e = none-some named (sym (empty name) ∙ ap (λ (xs : List (Option Named)). named_in xs name) (sym none) ∙ e)
+
+-- the first entry with a name in a directory
+module _ (image : List ℕ) (met : List (Option Named)) (dir block name : ℕ) (m : AreNamesMet image met) (h : HasNameOf image block name) where
+  within : name < length met
+  within = omega (arith, h.within, m.size)
+
+  pub names_more : IsEntryIn image dir block → AreNamesMet image (set met name (Some (named_of dir block)))
+  names_more entry = record {
+    size = length-set met name (Some (named_of dir block)) ∙ m.size;
+    entry = λ other named e. elim (cases_eq other name) [
+      | inl here ↦ subst (λ (n : Named). IsEntryIn image n.dir n.block) (is_new other named here e) entry
+      | inr apart ↦ m.entry other named (sym (set_other met name other (named_of dir block) apart) ∙ e)
+    ];
+    named = λ other named e. elim (cases_eq other name) [
+      | inl here ↦ subst (HasNameOf image named.block) (sym here) (subst (λ (n : Named). HasNameOf image n.block name) (is_new other named here e) h)
+      | inr apart ↦ m.named other named (sym (set_other met name other (named_of dir block) apart) ∙ e)
+    ];
+  }
+    where
+      is_new : (other : ℕ) (named : Named) → other ≡ name → named_in (set met name (Some (named_of dir block))) other ≡ Some named → named_of dir block ≡ named
+      is_new other named here e =
+          same_Some (named_of dir block) named (sym (set_here met name (named_of dir block) within) ∙ ap (named_in (set met name (Some (named_of dir block)))) (sym here) ∙ e)
+
+  pub names_kept : ((other : ℕ) → named_in met name ≡ Some (named_of dir other) → ⊥) → AreNamesKept dir met (set met name (Some (named_of dir block)))
+  names_kept absent = record {
+    stay = λ other b e. elim (cases_eq other name) [
+      | inl here ↦ absurd (absent b (ap (named_in met) (sym here) ∙ e))
+      | inr apart ↦ set_other met name other (named_of dir block) apart ∙ e
+    ];
+  }
+
+  pub name_met : (cells : List Bool) → IsNameMet cells (set met name (Some (named_of dir block))) dir block name
+  name_met cells = record {
+    other = block;
+    found = set_here met name (named_of dir block) within;
+    here = λ n. absurd (n refl);
+    there = λ n. absurd (n refl);
+  }
+
+pub kept_names : (dir : ℕ) (met : List (Option Named)) → AreNamesKept dir met met
+kept_names dir met = record { stay = λ name block e. e }
+
+met_on : (cells later : List Bool) (met further : List (Option Named)) (dir block name : ℕ) → AreStillNoted cells later → AreNamesKept dir met further → IsNameMet cells met dir block name → IsNameMet later further dir block name
+met_on cells later met further dir block name on kept m = record {
   other = m.other;
-  found = kept.kept entry m.other m.found;
+  found = kept.stay name m.other m.found;
   here = λ n. on.stay (cell_of DuplicateName block) (m.here n);
   there = λ n. on.stay (cell_of DuplicateName m.other) (m.there n);
 }
 
-pub names_more : (image : List ℕ) (cells later : List Bool) (first further : BTreeMap EntryName ℕ) (steps : List Step) (n : ℕ) (step : Step) → slice_get steps n ≡ Some step
-    → AreStepsNamed image cells first steps n → AreStillNoted cells later → AreNamesKept first further → IsStepNamed image later further step → AreStepsNamed image later further steps (n + 1)
-names_more image cells later first further steps n step at before on kept this = record { named = go }
+pub first_met_none : (cells : List Bool) (met : List (Option Named)) (first : List (Option ℕ)) (dir : ℕ) (blocks : List ℕ) → AreFirstMet cells met first dir blocks 0
+first_met_none cells met first dir blocks = record { each = λ k block name l. absurd (omega (arith, l)) }
+
+pub first_met_more : (cells later : List Bool) (met further : List (Option Named)) (first : List (Option ℕ)) (dir : ℕ) (blocks : List ℕ) (n block : ℕ) → slice_get blocks n ≡ Some block → AreStillNoted cells later
+    → AreNamesKept dir met further → AreFirstMet cells met first dir blocks n → ((name : ℕ) → slice_get first block ≡ Some (Some name) → IsNameMet later further dir block name)
+    → AreFirstMet later further first dir blocks (n + 1)
+first_met_more cells later met further first dir blocks n block at on kept f this = record { each = go }
   where
-    go : (k : ℕ) (other : Step) → k < n + 1 → slice_get steps k ≡ Some other → IsStepNamed image later further other
-    go k other l e = elim (cases_lt k n) [
-      | inl less ↦ record { met = λ dir s role short. name_on cells later first further (name_of image dir other.block) other.block on kept ((before.named k other less e).met dir s role short) }
+    go : (k b name : ℕ) → k < n + 1 → slice_get blocks k ≡ Some b → slice_get first b ≡ Some (Some name) → IsNameMet later further dir b name
+    go k b name l e is = elim (cases_lt k n) [
+      | inl less ↦ met_on cells later met further dir b name on kept (f.each k b name less e is)
       | inr past ↦
           let here : k ≡ n = omega (arith, l, past) in
-          let h : Some step ≡ Some other = sym at ∙ ap (slice_get steps) (sym here) ∙ e in
-          subst (IsStepNamed image later further) (same_Some step other h) this
+          let same : block ≡ b = same_Some block b (sym at ∙ ap (slice_get blocks) (sym here) ∙ e) in
+          subst (λ (x : ℕ). IsNameMet later further dir x name) same (this name (ap (slice_get first) same ∙ is))
     ]
 
--- of two blocks with one name, one is not the first with it
-pub duplicates_noted : (image : List ℕ) (cells : List Bool) (first : BTreeMap EntryName ℕ) (steps : List Step) (n : ℕ) → AreStepsNamed image cells first steps n → length steps ≤ n → AreDuplicatesNoted image cells steps
-duplicates_noted image cells first steps n h all = record { noted = go }
+-- of two entries with one name, one is not the first that was met
+pub names_noted : (image : List ℕ) (cells : List Bool) (met : List (Option Named)) (first : List (Option ℕ)) (dir : ℕ) (blocks : List ℕ) (n : ℕ) → IsImage image → AreEntriesOf image dir blocks → AreFirstNames image first
+    → AreFirstMet cells met first dir blocks n → length blocks ≤ n → AreNamesNoted image cells dir
+names_noted image cells met first dir blocks n im entries f m all = record { noted = go }
   where
-    met_of : (block dir s : ℕ) → IsListed steps (step_of block (Entry dir s)) → HasShortName image block → IsNameMet cells first (name_of image dir block) block
-    met_of block dir s at short = (h.named at.0 (step_of block (Entry dir s)) (omega (arith, slice_get_within steps at.0 (step_of block (Entry dir s)) at.1, all)) at.1).met dir s refl short
+    met_of : (block s name : ℕ) → Reached image block (Entry dir s) → slice_get first block ≡ Some (Some name) → IsNameMet cells met dir block name
+    met_of block s name h e =
+        let c = entries.each block s h in
+        m.each c.0 block name (omega (arith, c.1, all)) (slice_get-get_or blocks c.0 block c.1 ∙ ap (λ (x : ℕ). Some x) c.2) e
 
-    go : (block other dir s t : ℕ) → IsListed steps (step_of block (Entry dir s)) → IsListed steps (step_of other (Entry dir t)) → HasShortName image block → HasShortName image other
-        → upper_name image block ≡ upper_name image other → block ≢ other → IsNoted cells (cell_of DuplicateName block)
-    go block other dir s t at there short other_short e two =
-        let m = met_of block dir s at short in
-        let o = met_of other dir t there other_short in
-        let same : m.other ≡ o.other = same_Some m.other o.other (sym m.found ∙ ap (λ (name : List ℕ). get name_cmp first (named_by dir name)) e ∙ o.found) in
-        elim (cases_eq block m.other) [
-          | inr apart ↦ m.here apart
-          | inl here ↦ subst (λ (b : ℕ). IsNoted cells (cell_of DuplicateName b)) (sym (here ∙ same)) (o.there (λ z. two (here ∙ same ∙ sym z)))
+    go : (block other s t : ℕ) → Reached image block (Entry dir s) → Reached image other (Entry dir t) → HasShortName image block → HasShortName image other → upper_name image block ≡ upper_name image other
+        → block ≢ other → IsNoted cells (cell_of DuplicateName block)
+    go block other s t h o short other_short same two =
+        let name = first_of_short image first block f (reached_inside image im h).1 short in
+        let last = first_of_short image first other f (reached_inside image im o).1 other_short in
+        let one : name.0 ≡ last.0 = same_first image first block other name.0 last.0 f name.1 last.1 same in
+        let a = met_of block s name.0 h name.1 in
+        let b = met_of other t last.0 o last.1 in
+        let both : named_of dir a.other ≡ named_of dir b.other = same_Some (named_of dir a.other) (named_of dir b.other) (sym a.found ∙ ap (named_in met) one ∙ b.found) in
+        let is : a.other ≡ b.other = ap (λ (x : Named). x.block) both in
+        elim (cases_eq block a.other) [
+          | inr apart ↦ a.here apart
+          | inl here ↦ subst (λ (x : ℕ). IsNoted cells (cell_of DuplicateName x)) (sym (here ∙ is)) (b.there (λ z. two (here ∙ is ∙ sym z)))
         ]
+
+-- ---- the directories that were gone through
+
+pub directories_none : (image : List ℕ) (cells passed : List Bool) → passed ≡ replicate (block_count image) false → AreDirectoriesNoted image cells passed
+directories_none image cells passed none = record {
+  size = ap length none ∙ length-replicate {A = Bool} (block_count image) false;
+  noted = λ dir h. absurd (false≢true (sym (unset dir) ∙ ap (λ (bs : List Bool). get_or bs dir false) (sym none) ∙ h));
+}
+  where
+    unset : (i : ℕ) → get_or (replicate (block_count image) false) i false ≡ false
+    unset i = elim (cases_lt i (block_count image)) [
+      | inl l ↦ get_or-replicate (block_count image) i false false l
+      | inr past ↦ get_or_past (replicate (block_count image) false) i false (omega (arith, past, length-replicate {A = Bool} (block_count image) false))
+    ]
+
+pub directories_more : (image : List ℕ) (cells later passed : List Bool) (dir : ℕ) → AreStillNoted cells later → AreDirectoriesNoted image cells passed → AreNamesNoted image later dir
+    → AreDirectoriesNoted image later (set passed dir true)
+directories_more image cells later passed dir on d this = record {
+  size = length-set passed dir true ∙ d.size;
+  noted = λ other h. elim (cases_eq other dir) [
+    | inl here ↦ subst (AreNamesNoted image later) (sym here) this
+    | inr apart ↦ (let old = d.noted other (sym (get_or-set_other passed dir other true false apart) ∙ h) in
+        record { noted = λ block b s t r q short long same two. on.stay (cell_of DuplicateName block) (old.noted block b s t r q short long same two) })
+  ];
+}
+
+-- the first steps were passed, as many as a number says
+pub record AreStepsPassed (image : List ℕ) (passed : List Bool) (steps : List Step) (n : ℕ) : Type 0 where
+  pub was : (k : ℕ) (step : Step) → k < n → slice_get steps k ≡ Some step → HoldsEntriesAs image step.block step.role → IsChecked passed step.block
+
+pub passed_more : (image : List ℕ) (passed later : List Bool) (steps : List Step) (n : ℕ) (step : Step) → slice_get steps n ≡ Some step → AreStepsPassed image passed steps n → AreStillNoted passed later
+    → (HoldsEntriesAs image step.block step.role → IsChecked later step.block) → AreStepsPassed image later steps (n + 1)
+passed_more image passed later steps n step at before on this = record { was = go }
+  where
+    go : (k : ℕ) (other : Step) → k < n + 1 → slice_get steps k ≡ Some other → HoldsEntriesAs image other.block other.role → IsChecked later other.block
+    go k other l e holds = elim (cases_lt k n) [
+      | inl less ↦ on.stay other.block (before.was k other less e holds)
+      | inr past ↦
+          let here : k ≡ n = omega (arith, l, past) in
+          let same : step ≡ other = same_Some step other (sym at ∙ ap (slice_get steps) (sym here) ∙ e) in
+          subst (λ (s : Step). HoldsEntriesAs image s.block s.role → IsChecked later s.block) same this holds
+    ]
+
+pub all_duplicates : (image : List ℕ) (cells passed : List Bool) (steps : List Step) (n : ℕ) → AreDirectoriesNoted image cells passed → AreStepsPassed image passed steps n → length steps ≤ n → AreCovered image steps
+    → AreDuplicatesNoted image cells
+all_duplicates image cells passed steps n d p all covered = record {
+  noted = λ dir. record { noted = λ block other s t h o short long same two. (d.noted dir (was dir (dir_of image dir h s refl))).noted block other s t h o short long same two };
+}
+  where
+    step_passed : (dir : ℕ) (role : Role) → IsListed steps (step_of dir role) → HoldsEntriesAs image dir role → IsChecked passed dir
+    step_passed dir role at holds = p.was at.0 (step_of dir role) (omega (arith, slice_get_within steps at.0 (step_of dir role) at.1, all)) at.1 holds
+
+    was : (dir : ℕ) → HoldsEntries image dir → IsChecked passed dir
+    was dir (inl root) = subst (IsChecked passed) (sym root) (step_passed (root_of image) Root covered.root tt)
+    was dir (inr e) =
+        let at = entry_listed steps dir e.dir e.slot_of_chain (covered.covered dir (Entry e.dir e.slot_of_chain) e.reached) in
+        step_passed dir (Entry at.0 at.1) at.2 e.secondary
+
+pub holder_of : (image : List ℕ) (block : ℕ) (role : Role) → Reached image block role → HoldsEntriesAs image block role → HoldsEntries image block
+holder_of image block Root h holds = inl (root_only h refl)
+holder_of image block Page h holds = absurd holds
+holder_of image block (Entry d s) h holds = inr (record { dir = d; slot_of_chain = s; reached = h; secondary = holds })
+holder_of image block (Data f) h holds = absurd holds
+holder_of image block (Extension f) h holds = absurd holds

@@ -45,7 +45,7 @@ pub record ListsFaults (image : List ℕ) (most : ℕ) (faults : List VolumeFaul
 abbrev pub fault_of : FaultKind → ℕ → VolumeFault
 fault_of kind block = record { kind = kind; block = block }
 
--- each fault that the image shows is in the list, unless there may be more
+-- each fault that the image shows is in the list, unless there are more
 abbrev pub ListsEach : List ℕ → Bool → List VolumeFault → Type 0
 ListsEach image more faults = more ≡ false → (kind : FaultKind) (block : ℕ) → Shows image kind block → Contains faults (fault_of kind block)
 
@@ -75,6 +75,10 @@ pub record AreFirstFaults (image : List ℕ) (most : ℕ) (more : Bool) (faults 
   pub full : more ≡ true → length faults ≡ most
   pub exact : (more ≡ true) ↔ ShowsMoreThan image most
 
+-- there are more exactly if the image shows more than so many faults
+abbrev pub TellsMore : List ℕ → ℕ → Bool → Type 0
+TellsMore image most more = (more ≡ true) ↔ ShowsMoreThan image most
+
 -- the image shows by a fault of this kind that it is no DOS disk, or one of an unsupported kind
 pub record IsOtherKind (image : List ℕ) (kind : FaultKind) : Type 0 where
   pub of_boot : (kind ≡ NotADosDisk) ⊎ (kind ≡ UnsupportedKind)
@@ -89,10 +93,11 @@ abbrev pub ListsKindAlone : List ℕ → Bool → List VolumeFault → Type 0
 ListsKindAlone image more faults = (kind : FaultKind) → IsOtherKind image kind → (faults ≡ fault_of kind 0 ∷ []) × (more ≡ false)
 
 -- the faults of a disk as they are told, at most so many: of a disk of another kind that alone; of any other each fault
--- that it shows, unless there may be more, and the first ones and exactly whether there are more, unless it is tangled
+-- that it shows, unless there are more, and exactly whether there are; and the first ones, unless it is tangled
 pub record AreAllFaults (image : List ℕ) (most : ℕ) (more : Bool) (faults : List VolumeFault) : Type 0 where
   pub alone : ListsKindAlone image more faults
   pub each : ¬ ShowsOtherKind image → ListsEach image more faults
+  pub exact : ¬ ShowsOtherKind image → TellsMore image most more
   pub first : ¬ ShowsOtherKind image → ¬ IsTangled image → AreFirstFaults image most more faults
 
 -- for each block of an image its mark, if it has one

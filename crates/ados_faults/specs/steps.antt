@@ -1,6 +1,9 @@
 -- The walk past faults, step by step.
 pub mod Noted
+pub mod Roles
 pub mod Walked
+pub mod Pairs
+pub mod Blocks
 pub mod Chain
 pub mod Named
 pub mod Looked

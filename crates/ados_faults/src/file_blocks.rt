@@ -1,135 +1,125 @@
 //! The header and extension blocks of a file, and the data blocks in their pointers.
-ghost use Rattle.std.specs.Prelude.{◌≡◌, ◌≢◌, ◌<◌, ◌≤◌, ◌+◌, ◌++◌, ◌∷◌, [], All, flat_map, false, true, IfOk, IfSome, None, length, slice_index};
+ghost use Rattle.std.specs.Prelude.{◌≡◌, ◌<◌, ◌≤◌, ◌+◌, ◌*◌, All, MatchOption, false, flat_map, length, slice_index, sum_by, true, IfOk};
+ghost use Rattle.adf_block.specs.Fields.{held_count};
 ghost use Rattle.adf_block.specs.Image.{block_count};
-ghost use Rattle.ados_model.specs.Faults.{AreDataBlocks, InImage, IsFile, LinkedOnce, pointers_of};
-ghost use Rattle.ados_faults.specs.steps.Chain.{HasMet, IsChain};
+ghost use Rattle.ados_model.specs.Faults.{InImage, LinkedOnce, pointers_of};
+ghost use Rattle.ados_faults.specs.steps.Blocks.{AreMet};
+ghost use Rattle.ados_faults.specs.steps.Chain.{IsChain};
+ghost use Rattle.ados_faults.specs.steps.FileNotes.{AreHeld, IsHeld};
 
 use crate::bits::is_inside;
+use crate::blocks::Blocks;
 use adf_block::Image;
-use adf_block::layout::{FIRST_POINTER, NEXT_EXTENSION, POINTER_COUNT, TABLE_LONGS};
+use adf_block::layout::{FIRST_POINTER, HELD, NEXT_EXTENSION, POINTER_COUNT, TABLE_LONGS};
 use std::alloc::{AllocError, Global};
-use std::collections::BTreeSet;
 
-/// Header and extension blocks, in order and as a set.
-#[derive(Drop)]
-struct Headers {
-    blocks: Vec<u32>,
-    met: BTreeSet<u32>,
-}
-
-/// The header of a file and the blocks along its links, each once; `None` if these are more than `most`.
-pub(crate) fn headers_of(
-    alloc: Global,
-    image: &Image,
-    file: u32,
-    most: usize,
-) -> Result<Option<Vec<u32>>, AllocError>
-    requires { InImage image.now file }
-    ensures linked { IfOk result (λ found. IfSome found (λ headers. LinkedOnce image.now NEXT_EXTENSION file headers.items)) }
-    ensures inside { IfOk result (λ found. IfSome found (λ headers. All (InImage image.now) headers.items)) }
-    ensures all { IfOk result (λ found. block_count image.now ≤ most → found ≢ None) }
+/// Lists the header of a file and the blocks along its links, each once.
+pub(crate) fn list_headers(image: &Image, file: u32, headers: &mut Blocks) -> Result<(), AllocError>
+    requires inside { InImage image.now file }
+    requires met { AreMet image.now headers.old.has.items headers.old.list.items }
+    ensures met { IfOk result (λ _. AreMet image.now headers.new.has.items headers.new.list.items) }
+    ensures linked { IfOk result (λ _. LinkedOnce image.now NEXT_EXTENSION file headers.new.list.items) }
+    ensures few { IfOk result (λ _. length headers.new.list.items ≤ block_count image.now) }
 {
-    let mut headers = Headers::start(alloc, image, file)?;
-    for passed in 0..most {
-        let more = headers.go_on(image)?;
+    headers.clear(image);
+    headers.add(image, file)?;
+    for passed in 0..image.blocks() {
+        let more = go_on(image, headers)?;
         if !more {
-            return Ok(Some(headers.blocks));
+            return Ok(());
         }
     }
-    Ok(None)
+    Ok(())
 }
 
-impl Headers {
-    /// Only the header.
-    fn start(alloc: Global, image: &Image, file: u32) -> Result<Headers, AllocError>
-        requires { InImage image.now file }
-        ensures chain { IfOk result (λ headers. IsChain image.now NEXT_EXTENSION headers.blocks.items) }
-        ensures head { IfOk result (λ headers. slice_index headers.blocks.items 0 ≡ file) }
-        ensures one { IfOk result (λ headers. length headers.blocks.items ≡ 1) }
-        ensures met { IfOk result (λ headers. HasMet headers.met headers.blocks.items) }
-    {
-        let _image = image;
-        let blocks = Vec::new(alloc);
-        let met = BTreeSet::new(alloc);
-        let mut headers = Headers { blocks, met };
-        headers.add(file)?;
-        Ok(headers)
-    }
-
-    /// Adds a block to both.
-    fn add(&mut self, block: u32) -> Result<(), AllocError>
-        requires { HasMet self.old.met self.old.blocks.items }
-        ensures blocks { IfOk result (λ _. self.new.blocks.items ≡ self.old.blocks.items ++ block ∷ []) }
-        ensures met { IfOk result (λ _. HasMet self.new.met self.new.blocks.items) }
-    {
-        self.met.insert(block)?;
-        self.blocks.push(block)?;
-        Ok(())
-    }
-
-    /// Follows the link of the last block, unless it leads outside the image or back.
-    fn go_on(&mut self, image: &Image) -> Result<bool, AllocError>
-        requires chain { IsChain image.now NEXT_EXTENSION self.old.blocks.items }
-        requires met { HasMet self.old.met self.old.blocks.items }
-        ensures chain { IfOk result (λ _. IsChain image.now NEXT_EXTENSION self.new.blocks.items) }
-        ensures met { IfOk result (λ _. HasMet self.new.met self.new.blocks.items) }
-        ensures head { IfOk result (λ _. slice_index self.new.blocks.items 0 ≡ slice_index self.old.blocks.items 0) }
-        ensures longer { IfOk result (λ more. more ≡ true → length self.new.blocks.items ≡ length self.old.blocks.items + 1) }
-        ensures whole { IfOk result (λ more. more ≡ false → LinkedOnce image.now NEXT_EXTENSION (slice_index self.new.blocks.items 0) self.new.blocks.items) }
-    {
-        let last = self.blocks[self.blocks.len() - 1];
-        let next = image.long(last, NEXT_EXTENSION);
-        if !is_inside(image, next) {
-            return Ok(false);
-        }
-        if self.met.contains(&next) {
-            return Ok(false);
-        }
-        self.add(next)?;
-        Ok(true)
-    }
-}
-
-/// The data blocks of a file with these header and extension blocks.
-pub(crate) fn data_blocks(
-    alloc: Global,
-    image: &Image,
-    file: u32,
-    headers: &[u32],
-) -> Result<Vec<u32>, AllocError>
-    requires file { IsFile image.now file }
-    requires linked { LinkedOnce image.now NEXT_EXTENSION file headers.now }
-    requires inside { All (InImage image.now) headers.now }
-    ensures { IfOk result (λ blocks. AreDataBlocks image.now file blocks.items) }
+/// Follows the link of the last block, unless it leads outside the image or back. The result is false then.
+fn go_on(image: &Image, headers: &mut Blocks) -> Result<bool, AllocError>
+    requires chain { IsChain image.now NEXT_EXTENSION headers.old.list.items }
+    requires met { AreMet image.now headers.old.has.items headers.old.list.items }
+    ensures chain { IfOk result (λ _. IsChain image.now NEXT_EXTENSION headers.new.list.items) }
+    ensures met { IfOk result (λ _. AreMet image.now headers.new.has.items headers.new.list.items) }
+    ensures head { IfOk result (λ _. slice_index headers.new.list.items 0 ≡ slice_index headers.old.list.items 0) }
+    ensures longer { IfOk result (λ more. more ≡ true → length headers.new.list.items ≡ length headers.old.list.items + 1) }
+    ensures whole { IfOk result (λ more. more ≡ false → LinkedOnce image.now NEXT_EXTENSION (slice_index headers.new.list.items 0) headers.new.list.items) }
 {
-    let _file = file;
-    let blocks = pointed_blocks(alloc, image, headers)?;
-    Ok(blocks)
-}
-
-/// The blocks in the pointers of these blocks, in order.
-fn pointed_blocks(alloc: Global, image: &Image, headers: &[u32]) -> Result<Vec<u32>, AllocError>
-    requires { All (InImage image.now) headers.now }
-    ensures { IfOk result (λ blocks. blocks.items ≡ flat_map (pointers_of image.now) headers.now) }
-{
-    let mut blocks = Vec::new(alloc);
-    for header in headers {
-        add_pointers(image, *header, &mut blocks)?;
+    let last = headers.list[headers.list.len() - 1];
+    let next = image.long(last, NEXT_EXTENSION);
+    if !is_inside(image, next) {
+        return Ok(false);
     }
-    Ok(blocks)
+    let more = headers.add(image, next)?;
+    Ok(more)
 }
 
-/// Adds the blocks in the pointers of a block; none if its count is more than 72.
-fn add_pointers(image: &Image, header: u32, blocks: &mut Vec<u32>) -> Result<(), AllocError>
+/// The number of data blocks in the pointers of a block; none if its count is more than 72.
+pub(crate) fn pointers_in(image: &Image, header: u32) -> u32
     requires { header < block_count image.now }
-    ensures { IfOk result (λ _. blocks.new.items ≡ blocks.old.items ++ pointers_of image.now header) }
+    ensures count { result ≡ length (pointers_of image.now header) }
+    ensures few { result ≤ 72 }
 {
     let count = image.long(header, POINTER_COUNT);
     if count > TABLE_LONGS {
-        return Ok(());
+        return 0;
     }
-    for i in 0..count {
-        blocks.push(image.long(header, FIRST_POINTER - i))?;
+    count
+}
+
+/// The number of data blocks in the pointers of these blocks.
+pub(crate) fn count_pointers(image: &Image, headers: &[u32]) -> u64
+    requires inside { All (InImage image.now) headers.now }
+    requires few { length headers.now ≤ block_count image.now }
+    ensures { result ≡ length (flat_map (pointers_of image.now) headers.now) }
+{
+    prove!(image.blocks() >= 16);
+    let mut count = 0_u64;
+    for header in headers {
+        count += u64::from(pointers_in(image, *header));
     }
-    Ok(())
+    count
+}
+
+/// For each block the number of bytes that the data blocks in its pointers hold together, unless one of them is outside
+/// the image.
+pub(crate) fn held_by_each(alloc: Global, image: &Image) -> Result<Vec<Option<u64>>, AllocError>
+    ensures { IfOk result (λ held. AreHeld image.now held.items) }
+{
+    let mut held = Vec::new(alloc);
+    for header in 0..image.blocks() {
+        held.push(held_by(image, header))?;
+    }
+    Ok(held)
+}
+
+/// The number of bytes that the data blocks in the pointers of a block hold together, unless one is outside the image.
+fn held_by(image: &Image, header: u32) -> Option<u64>
+    requires { header < block_count image.now }
+    ensures { IsHeld image.now (pointers_of image.now header) result }
+{
+    let mut sum = 0_u64;
+    for i in 0..pointers_in(image, header) {
+        let block = image.long(header, FIRST_POINTER - i);
+        if !is_inside(image, block) {
+            return None;
+        }
+        sum = sum.saturating_add(u64::from(image.long(block, HELD)));
+    }
+    Some(sum)
+}
+
+/// The number of bytes that the data blocks in the pointers of these blocks hold together, unless one is outside the
+/// image.
+pub(crate) fn held_together(image: &Image, headers: &[u32], held: &[Option<u64>]) -> Option<u64>
+    requires inside { All (InImage image.now) headers.now }
+    requires held { AreHeld image.now held.now }
+    ensures { IsHeld image.now (flat_map (pointers_of image.now) headers.now) result }
+{
+    let _image = image;
+    let mut sum = 0_u64;
+    for header in headers {
+        let Some(more) = held[*header as usize] else {
+            return None;
+        };
+        sum = sum.saturating_add(more);
+    }
+    Some(sum)
 }

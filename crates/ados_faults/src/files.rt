@@ -1,80 +1,103 @@
 //! The files, checked against their sizes.
-ghost use Rattle.std.specs.Prelude.{◌≡◌, ◌≢◌, ◌↔◌, ◌<◌, ◌≤◌, All, IfOk, IsTrue, false, length};
+ghost use Rattle.std.specs.Prelude.{◌≡◌, ◌≢◌, ◌↔◌, ◌<◌, ◌≤◌, All, IfOk, IsTrue, flat_map, false, length, replicate, None};
 ghost use Rattle.adf_block.specs.Image.{block_count};
 ghost use Rattle.adf_block.specs.Fields.{file_size, format_of};
+ghost use Rattle.adf_block.specs.declared.layout.TheConstants.{NEXT_EXTENSION};
 ghost use Rattle.ados_model.specs.Tree.{data_count};
-ghost use Rattle.ados_model.specs.Faults.{AreDataBlocks, InImage, IsFile};
-ghost use Rattle.ados_faults.specs.steps.FileNotes.{AreAllFilesNoted, AreBlocksNoted, AreFilesNoted, IsFileNoted, IsStepChecked};
+ghost use Rattle.ados_model.specs.Faults.{InImage, IsFile, IsOfs, LinkedOnce, pointers_of};
+ghost use Rattle.ados_faults.specs.steps.Blocks.{AreMet};
+ghost use Rattle.ados_faults.specs.steps.FileNotes.{AreAllFilesNoted, AreAllSeen, AreBlocksNoted, AreFilesNoted, AreHeld, HoldOtherSize, IsFileNoted, IsStepChecked};
 ghost use Rattle.ados_faults.specs.steps.Noted.{AreNoted, AreStillNoted};
+ghost use Rattle.ados_faults.specs.steps.Roles.{AreCovered};
 ghost use Rattle.ados_faults.specs.steps.Walked.{IsStep};
 
-use crate::chain::look_along;
-use crate::file_blocks::{data_blocks, headers_of};
+use crate::blocks::{Blocks, no_cells};
+use crate::file_blocks::{count_pointers, held_by_each, held_together, list_headers};
 use crate::notes::Notes;
-use crate::walk::{Step, most_steps};
+use crate::pieces::{Seen, look_along};
+use crate::walk::Step;
 use adf_block::Image;
 use adf_block::layout::{FFS_ROOM, FILE_SIZE, FILE_TYPE, KIND_BYTE, OFS_ROOM, SECONDARY_TYPE};
 use ados_model::{FaultKind, Role};
 use std::alloc::{AllocError, Global};
 
-/// The files that were checked.
+/// The files that were checked, and their header and extension blocks.
 #[derive(Drop)]
-struct Looked {
-    files: Vec<bool>,
-    /// Whether only some header and extension blocks may be visited.
-    is_bounded: bool,
-    /// The number of header and extension blocks that may still be visited, if only some may be.
-    left: usize,
+struct Files {
+    /// For each block whether it is a file that was checked.
+    checked: Vec<bool>,
+    /// The header and extension blocks of the last file.
+    headers: Blocks,
+    /// For each block the number of bytes that the data blocks in its pointers hold, if all are inside the image.
+    held: Vec<Option<u64>>,
+    /// For each block of an OFS file where the data blocks in its pointers were checked.
+    seen: Vec<Option<Seen>>,
 }
 
 /// Checks the blocks of each file, once.
-///
-/// If the walk was cut, files are left out once so many header and extension blocks were visited as the walk may have
-/// steps. Else each such block of each file is a step, so that there are no more of them.
 pub(crate) fn look_at_files(
     alloc: Global,
     image: &Image,
     steps: &[Step],
-    is_cut: bool,
     notes: &mut Notes,
 ) -> Result<(), AllocError>
     requires noted { AreNoted image.now notes.old.cells.items }
     requires steps { All (IsStep image.now) steps.now }
+    requires covered { AreCovered image.now steps.now }
     ensures noted { IfOk result (λ _. AreNoted image.now notes.new.cells.items) }
     ensures stays { IfOk result (λ _. AreStillNoted notes.old.cells.items notes.new.cells.items) }
-    ensures whole { IfOk result (λ _. is_cut ≡ false → AreAllFilesNoted image.now notes.new.cells.items steps.now) }
+    ensures whole { IfOk result (λ _. AreAllFilesNoted image.now notes.new.cells.items) }
 {
-    let mut looked = Looked {
-        files: Vec::from_elem(alloc, false, image.blocks() as usize)?,
-        is_bounded: is_cut,
-        left: most_steps(image) as usize,
-    };
+    let mut files = Files::none(alloc, image)?;
     for step in steps {
-        looked.look_at(alloc, image, *step, notes)?;
+        files.look_at_step(image, *step, notes)?;
     }
     Ok(())
 }
 
-impl Looked {
-    /// Checks the blocks of a file that was not checked yet.
-    fn look_at(
+impl Files {
+    /// No file was checked.
+    fn none(alloc: Global, image: &Image) -> Result<Files, AllocError>
+        ensures checked { IfOk result (λ files. files.checked.items ≡ replicate (block_count image.now) false) }
+        ensures met { IfOk result (λ files. AreMet image.now files.headers.has.items files.headers.list.items) }
+        ensures held { IfOk result (λ files. AreHeld image.now files.held.items) }
+        ensures seen { IfOk result (λ files. files.seen.items ≡ replicate (block_count image.now) None) }
+    {
+        let checked = no_cells(alloc, image)?;
+        let headers = Blocks::none(alloc, image)?;
+        let held = held_by_each(alloc, image)?;
+        let seen = none_seen(alloc, image)?;
+        Ok(Files {
+            checked,
+            headers,
+            held,
+            seen,
+        })
+    }
+
+    /// Checks the blocks of a step, if it is a file that was not checked yet.
+    fn look_at_step(
         &mut self,
-        alloc: Global,
         image: &Image,
         step: Step,
         notes: &mut Notes,
     ) -> Result<(), AllocError>
         requires noted { AreNoted image.now notes.old.cells.items }
         requires step { IsStep image.now step }
-        requires cells { length self.old.files.items ≡ block_count image.now }
-        requires whole { self.old.is_bounded ≡ false → AreFilesNoted image.now notes.old.cells.items self.old.files.items }
+        requires cells { length self.old.checked.items ≡ block_count image.now }
+        requires whole { AreFilesNoted image.now notes.old.cells.items self.old.checked.items }
+        requires met { AreMet image.now self.old.headers.has.items self.old.headers.list.items }
+        requires held { AreHeld image.now self.old.held.items }
+        requires seen { AreAllSeen image.now notes.old.cells.items self.old.seen.items }
         ensures noted { IfOk result (λ _. AreNoted image.now notes.new.cells.items) }
         ensures stays { IfOk result (λ _. AreStillNoted notes.old.cells.items notes.new.cells.items) }
-        ensures whole { IfOk result (λ _. self.old.is_bounded ≡ false → AreFilesNoted image.now notes.new.cells.items self.new.files.items) }
-        ensures bounded { IfOk result (λ _. self.new.is_bounded ≡ self.old.is_bounded) }
-        ensures checked { IfOk result (λ _. IsStepChecked image.now self.new.files.items step) }
-        ensures files { IfOk result (λ _. AreStillNoted self.old.files.items self.new.files.items) }
-        ensures cells { length self.new.files.items ≡ length self.old.files.items }
+        ensures cells { IfOk result (λ _. length self.new.checked.items ≡ block_count image.now) }
+        ensures whole { IfOk result (λ _. AreFilesNoted image.now notes.new.cells.items self.new.checked.items) }
+        ensures met { IfOk result (λ _. AreMet image.now self.new.headers.has.items self.new.headers.list.items) }
+        ensures held { IfOk result (λ _. AreHeld image.now self.new.held.items) }
+        ensures seen { IfOk result (λ _. AreAllSeen image.now notes.new.cells.items self.new.seen.items) }
+        ensures checked { IfOk result (λ _. IsStepChecked image.now self.new.checked.items step) }
+        ensures files { IfOk result (λ _. AreStillNoted self.old.checked.items self.new.checked.items) }
     {
         let Role::Entry(_, _) = step.role else {
             return Ok(());
@@ -83,74 +106,81 @@ impl Looked {
         if image.long(file, SECONDARY_TYPE) != FILE_TYPE {
             return Ok(());
         }
-        if self.files[file as usize] {
+        if self.checked[file as usize] {
             return Ok(());
         }
-        self.files[file as usize] = true;
-        let most = self.most(image);
-        self.left = look_at_file(alloc, image, file, most, notes)?;
+        list_headers(image, file, &mut self.headers)?;
+        look_at_file(
+            image,
+            file,
+            &self.headers.list,
+            &self.held,
+            &mut self.seen,
+            notes,
+        );
+        self.checked[file as usize] = true;
         Ok(())
     }
-
-    /// The most header and extension blocks that a file may have so that it is not left out.
-    fn most(&self, image: &Image) -> usize
-        ensures { self.now.is_bounded ≡ false → result ≡ block_count image.now }
-    {
-        if self.is_bounded {
-            self.left
-        } else {
-            image.blocks() as usize
-        }
-    }
 }
 
-/// Checks the blocks of a file, unless it has more header and extension blocks than may be visited. It returns how many
-/// are left.
+/// No block was seen.
+fn none_seen(alloc: Global, image: &Image) -> Result<Vec<Option<Seen>>, AllocError>
+    ensures { IfOk result (λ seen. seen.items ≡ replicate (block_count image.now) None) }
+{
+    Vec::from_elem(alloc, None, image.blocks() as usize)
+}
+
+/// Checks the blocks of a file with these header and extension blocks.
 fn look_at_file(
-    alloc: Global,
     image: &Image,
     file: u32,
-    most: usize,
+    headers: &[u32],
+    held: &[Option<u64>],
+    seen: &mut [Option<Seen>],
     notes: &mut Notes,
-) -> Result<usize, AllocError>
+)
     requires noted { AreNoted image.now notes.old.cells.items }
-    requires inside { InImage image.now file }
     requires file { IsFile image.now file }
-    ensures noted { IfOk result (λ _. AreNoted image.now notes.new.cells.items) }
-    ensures stays { IfOk result (λ _. AreStillNoted notes.old.cells.items notes.new.cells.items) }
-    ensures whole { IfOk result (λ _. block_count image.now ≤ most → IsFileNoted image.now notes.new.cells.items file) }
-{
-    let Some(headers) = headers_of(alloc, image, file, most)? else {
-        return Ok(0);
-    };
-    let blocks = data_blocks(alloc, image, file, &headers)?;
-    look_at_blocks(image, file, &blocks, notes);
-    Ok(most.saturating_sub(headers.len()))
-}
-
-/// Checks the data blocks of a file.
-fn look_at_blocks(image: &Image, file: u32, blocks: &[u32], notes: &mut Notes)
-    requires noted { AreNoted image.now notes.old.cells.items }
-    requires inside { InImage image.now file }
-    requires data { AreDataBlocks image.now file blocks.now }
+    requires linked { LinkedOnce image.now NEXT_EXTENSION file headers.now }
+    requires inside { All (InImage image.now) headers.now }
+    requires few { length headers.now ≤ block_count image.now }
+    requires held { AreHeld image.now held.now }
+    requires seen { AreAllSeen image.now notes.old.cells.items seen.old }
     ensures noted { AreNoted image.now notes.new.cells.items }
     ensures stays { AreStillNoted notes.old.cells.items notes.new.cells.items }
-    ensures whole { AreBlocksNoted image.now notes.new.cells.items file blocks.now }
+    ensures seen { AreAllSeen image.now notes.new.cells.items seen.new }
+    ensures whole { IsFileNoted image.now notes.new.cells.items file }
 {
-    let wrong = has_other_count(image, file, blocks);
+    let count = count_pointers(image, headers);
+    let wrong = has_other_count(image, file, count);
     notes.note_if(image, FaultKind::BadCount, file, wrong);
     if image.byte(0, KIND_BYTE) != 0 {
         return;
     }
-    look_along(image, file, blocks, notes);
+    look_along(image, headers, count, seen, notes);
+    let other = holds_other_size(image, file, headers, held);
+    notes.note_if(image, FaultKind::BadCount, file, other);
 }
 
-/// Whether a file has another number of data blocks than its size needs.
-fn has_other_count(image: &Image, file: u32, blocks: &[u32]) -> bool
-    requires { InImage image.now file }
-    ensures { IsTrue result ↔ (length blocks.now ≢ data_count (format_of image.now) (file_size image.now file)) }
+/// Whether all data blocks are inside the image but hold another number of bytes than the file's size.
+fn holds_other_size(image: &Image, file: u32, headers: &[u32], held: &[Option<u64>]) -> bool
+    requires file { InImage image.now file }
+    requires inside { All (InImage image.now) headers.now }
+    requires held { AreHeld image.now held.now }
+    ensures { IsTrue result ↔ HoldOtherSize image.now file (flat_map (pointers_of image.now) headers.now) }
 {
-    blocks.len() != blocks_of_size(image, file) as usize
+    match held_together(image, headers, held) {
+        Some(sum) => sum != u64::from(image.long(file, FILE_SIZE)),
+        None => false,
+    }
+}
+
+/// Whether a file with so many data blocks needs another number of them for its size.
+fn has_other_count(image: &Image, file: u32, count: u64) -> bool
+    requires { InImage image.now file }
+    ensures { IsTrue result ↔ (count ≢ data_count (format_of image.now) (file_size image.now file)) }
+{
+    count != u64::from(blocks_of_size(image, file))
 }
 
 /// The number of data blocks that the size of a file needs.

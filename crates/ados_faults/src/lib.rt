@@ -1,15 +1,17 @@
 //! Every fault that an image shows, where the check of a volume stops at the first; and a fault as text: where the
 //! block is, what was found there and what is expected.
 //!
-//! The walk visits pairs of a block and a role, each once, from the root, and goes on after a fault. It visits each
-//! reached block in the role in which it was named first, and in other roles until it has visited `PAIRS` times as many
-//! pairs as the image has blocks. It follows as many header and extension blocks. So time and memory are about linear in
-//! the size of the image, even if its blocks name each other arbitrarily.
+//! The walk visits blocks in roles, from the root, and goes on after a fault. It takes so few roles of each block that
+//! its time is linear in the size of the image, and these show whatever the block shows in any role. Then the entries of
+//! each directory and the header and extension blocks of each file are gone through once; but not of a tangled image with
+//! more faults than are asked for, so that time is bounded by these and the size of the image. Memory is linear.
 #![tactic(auto)]
 
 // The list of faults.
 mod bits;
+mod blocks;
 mod chain;
+mod entries;
 mod file_blocks;
 mod files;
 mod first;
@@ -19,6 +21,9 @@ mod looks;
 mod name_bytes;
 mod names;
 mod notes;
+mod pieces;
+mod roles;
+mod tangled;
 mod walk;
 
 // What shows them, and their texts.

@@ -18,8 +18,8 @@ abbrev pub told_fault : VolumeFault → JipFault
 told_fault fault = record { kind = pos (fault_number fault.kind); block = fault.block }
 
 -- the bytes are an image, and these are its faults in order, none exactly if it shows none; an image without faults has
--- no more of them. Of a disk of another kind that alone is listed. Of any other each fault that it shows is listed, or else
--- there may be more. Unless it is tangled, the first ones are listed, and there are more exactly if it shows more
+-- no more of them. Of a disk of another kind that alone is listed. Of any other each fault that it shows is listed, or
+-- there are more, exactly if it shows more; then the first ones are listed, unless it is tangled
 pub record TellsFaults (bytes : List ℕ) (told : List JipFault) (more : Bool) : Type 0 where
   pub image : IsImage bytes
   pub faults : List VolumeFault

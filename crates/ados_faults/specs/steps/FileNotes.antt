@@ -1,42 +1,80 @@
 -- What the header, extension and data blocks of files show, noted.
-use Rattle.std.specs.Prelude.{◌≡◌, ◌≢◌, ℕ, ◌+◌, ◌<◌, List, Bool, true, false, length, slice_get, slice_index, slice_index_or, sum_by, All, Some}
+use Rattle.std.specs.Prelude.{◌≡◌, ◌≢◌, ℕ, ◌+◌, ◌-◌, ◌^◌, ◌<◌, ◌≤◌, ◌==◌, ◌||◌, List, Bool, true, false, Option, Some, None, MatchOption, unwrap_or, length, min, slice_get, slice_index, slice_index_or, sum_by, All}
+use Rattle.adf_block.specs.Image.{block_count, long}
 use Rattle.adf_block.specs.Fields.{file_size, held_count, sequence_number}
-use Rattle.adf_block.specs.declared.layout.TheConstants.{OFS_ROOM}
+use Rattle.adf_block.specs.declared.layout.TheConstants.{NEXT_DATA, OFS_ROOM}
 use Rattle.ados_model.specs.declared.fault.FaultKind.TheVariants.{BadCount, BadPointer, BadSequence}
 use Rattle.ados_model.specs.declared.role.Role.TheVariants.{Entry}
-use Rattle.ados_model.specs.Faults.{AreDataBlocks, HasFileType, InImage, IsOfs, LinksOn, count_of_size}
+use Rattle.ados_model.specs.Faults.{AreDataBlocks, HasFileType, InImage, IsFile, IsOfs, count_of_size, pointers_of}
+use Rattle.ados_faults.specs.declared.pieces.Piece.{Piece}
+use Rattle.ados_faults.specs.declared.pieces.Seen.{Seen}
 use Rattle.ados_faults.specs.declared.walk.Step.{Step}
-use Rattle.ados_faults.specs.steps.Chain.{HoldsTooLittle}
+use Rattle.ados_faults.specs.steps.Chain.{HoldsTooLittle, next_in}
 use Rattle.ados_faults.specs.steps.Noted.{IsNoted, cell_of}
-use Rattle.ados_faults.specs.steps.Walked.{step_of}
 
--- what the data block at position i of a file shows there is noted
-pub record IsPlaceNoted (image : List ℕ) (cells : List Bool) (blocks : List ℕ) (i block : ℕ) : Type 0 where
-  pub sequence : sequence_number image block ≢ i + 1 → IsNoted cells (cell_of BadSequence block)
-  pub short : HoldsTooLittle image blocks i block → IsNoted cells (cell_of BadCount block)
+-- what the data block shows at this position of a file is noted; behind it stands the next one, if there is one
+pub record IsPlaceNoted (image : List ℕ) (cells : List Bool) (block position : ℕ) (next : Option ℕ) : Type 0 where
+  pub sequence : sequence_number image block ≢ position + 1 → IsNoted cells (cell_of BadSequence block)
+  pub short : HoldsTooLittle image block next → IsNoted cells (cell_of BadCount block)
   pub over : OFS_ROOM < held_count image block → IsNoted cells (cell_of BadCount block)
-  pub link : ¬ LinksOn image block blocks i → IsNoted cells (cell_of BadPointer block)
+  pub link : long image block NEXT_DATA ≢ unwrap_or next 0 → IsNoted cells (cell_of BadPointer block)
 
--- so it is for the first of these data blocks, as far as they are inside the image
-pub record ArePlacesNoted (image : List ℕ) (cells : List Bool) (blocks : List ℕ) (n : ℕ) : Type 0 where
-  pub placed : (i : ℕ) → i < n → InImage image (slice_index blocks i) → IsPlaceNoted image cells blocks i (slice_index blocks i)
+-- so it is for each of these data blocks from a position on, as far as they are inside the image
+pub record ArePlacesNoted (image : List ℕ) (cells : List Bool) (blocks : List ℕ) (from : ℕ) : Type 0 where
+  pub placed : (i : ℕ) → from ≤ i → i < length blocks → InImage image (slice_index blocks i) → IsPlaceNoted image cells (slice_index blocks i) i (slice_get blocks (i + 1))
+
+-- so it is for one data block of a piece
+abbrev pub IsOneNoted : List ℕ → List Bool → Piece → ℕ → Type 0
+IsOneNoted image cells piece i =
+    InImage image (slice_index (pointers_of image piece.header) i) → IsPlaceNoted image cells (slice_index (pointers_of image piece.header) i) (piece.position + i) (next_in image piece i)
+
+-- so it is for each data block of a piece
+pub record IsPieceNoted (image : List ℕ) (cells : List Bool) (piece : Piece) : Type 0 where
+  pub placed : (i : ℕ) → i < piece.count → IsOneNoted image cells piece i
+
+-- what all but the last of the data blocks in the pointers of a block show at one position is noted, and what they show
+-- at each position, if they were checked at two
+pub record IsHeaderSeen (image : List ℕ) (cells : List Bool) (header : ℕ) (seen : Seen) : Type 0 where
+  pub placed : (i : ℕ) → i + 1 < length (pointers_of image header) → InImage image (slice_index (pointers_of image header) i)
+      → IsPlaceNoted image cells (slice_index (pointers_of image header) i) (seen.position + i) (Some (slice_index (pointers_of image header) (i + 1)))
+  pub settled : seen.is_settled ≡ true → (i : ℕ) → i + 1 < length (pointers_of image header) → InImage image (slice_index (pointers_of image header) i)
+      → IsNoted cells (cell_of BadSequence (slice_index (pointers_of image header) i))
+
+-- so it is for each block that was seen
+pub record AreAllSeen (image : List ℕ) (cells : List Bool) (seen : List (Option Seen)) : Type 0 where
+  pub size : length seen ≡ block_count image
+  pub each : (header : ℕ) (s : Seen) → slice_get seen header ≡ Some (Some s) → IsHeaderSeen image cells header s
+
+-- all but the last need no look at this position
+abbrev pub is_known : Option Seen → ℕ → Bool
+is_known None position = false
+is_known (Some seen) position = seen.is_settled || (seen.position == position)
 
 -- the blocks are inside the image, and hold another number of bytes than the size of the file
 abbrev pub HoldOtherSize : List ℕ → ℕ → List ℕ → Type 0
 HoldOtherSize image file blocks = All (InImage image) blocks × (sum_by (held_count image) blocks ≢ file_size image file)
 
+-- the number of bytes that the blocks hold together, at most 2 ^ 64 - 1, unless one is outside the image
+abbrev pub IsHeld : List ℕ → List ℕ → Option ℕ → Type 0
+IsHeld image blocks held = MatchOption held (¬ All (InImage image) blocks) (λ sum. All (InImage image) blocks × (sum ≡ min (sum_by (held_count image) blocks) (2 ^ 64 - 1)))
+
+-- so it is for the data blocks in the pointers of each block
+pub record AreHeld (image : List ℕ) (held : List (Option ℕ)) : Type 0 where
+  pub size : length held ≡ block_count image
+  pub each : (header : ℕ) (sum : Option ℕ) → slice_get held header ≡ Some sum → IsHeld image (pointers_of image header) sum
+
 -- what these data blocks of a file show is noted: a wrong number of them, and in OFS a wrong field, and a wrong number of
 -- bytes
 pub record AreBlocksNoted (image : List ℕ) (cells : List Bool) (file : ℕ) (blocks : List ℕ) : Type 0 where
   pub count : length blocks ≢ count_of_size image file → IsNoted cells (cell_of BadCount file)
-  pub places : IsOfs image → ArePlacesNoted image cells blocks (length blocks)
+  pub places : IsOfs image → ArePlacesNoted image cells blocks 0
   pub sum : IsOfs image → HoldOtherSize image file blocks → IsNoted cells (cell_of BadCount file)
 
 -- what the data blocks of the file show is noted
 pub record IsFileNoted (image : List ℕ) (cells : List Bool) (file : ℕ) : Type 0 where
   pub noted : (blocks : List ℕ) → AreDataBlocks image file blocks → AreBlocksNoted image cells file blocks
 
--- the file was checked
+-- the block was checked
 abbrev pub IsChecked : List Bool → ℕ → Type 0
 IsChecked files file = slice_index_or files file false ≡ true
 
@@ -53,5 +91,5 @@ pub record AreStepsChecked (image : List ℕ) (files : List Bool) (steps : List 
   pub checked : (k : ℕ) (step : Step) → k < n → slice_get steps k ≡ Some step → IsStepChecked image files step
 
 -- what each file shows is noted
-pub record AreAllFilesNoted (image : List ℕ) (cells : List Bool) (steps : List Step) : Type 0 where
-  pub noted : (k block dir s : ℕ) → slice_get steps k ≡ Some (step_of block (Entry dir s)) → HasFileType image block → IsFileNoted image cells block
+pub record AreAllFilesNoted (image : List ℕ) (cells : List Bool) : Type 0 where
+  pub noted : (file : ℕ) → IsFile image file → IsFileNoted image cells file

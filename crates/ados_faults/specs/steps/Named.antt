@@ -1,58 +1,96 @@
--- Facts about the names of entries.
-use Rattle.std.specs.Prelude.{◌≡◌, ◌≢◌, ℕ, ◌<◌, List, Bool, Some, slice_get}
+-- The names of entries, and the entries that share one.
+use Rattle.std.specs.Prelude.{◌≡◌, ◌≢◌, ℕ, ◌<◌, List, Bool, Option, Some, None, MatchOption, ⊤, option_and_then, length, slice_get}
 use Rattle.std.specs.declared.cmp.Ordering.{Ordering}
-use Rattle.std.specs.Ordering.{nat_cmp, ordering_then}
+use Rattle.std.specs.Ordering.{nat_cmp}
 use Rattle.std.specs.Cmp.Lexicographic.{slice_cmp}
 use Rattle.std.specs.BTreeMap.{BTreeMap, get}
+use Rattle.adf_block.specs.Image.{block_count}
 use Rattle.ados_model.specs.declared.fault.FaultKind.TheVariants.{DuplicateName}
-use Rattle.ados_faults.specs.declared.walk.Step.{Step}
-use Rattle.ados_faults.specs.steps.Noted.{IsNoted, cell_of}
-use Rattle.ados_faults.specs.steps.Walked.{IsListed, step_of}
-use Rattle.ados_model.specs.declared.role.Role.TheVariants.{Entry}
-use Rattle.ados_model.specs.Faults.{HasShortName, InImage, Reached}
+use Rattle.ados_model.specs.declared.role.Role.{Role}
+use Rattle.ados_model.specs.declared.role.Role.TheVariants.{Root, Page, Entry, Data, Extension}
+use Rattle.ados_model.specs.Faults.{HasDirectoryType, HasShortName, Reached}
 use Rattle.ados_check.specs.Entries.{upper_name}
-use Rattle.ados_faults.specs.declared.names.EntryName.{EntryName}
+use Rattle.ados_faults.specs.declared.names.Named.{Named}
+use Rattle.ados_faults.specs.steps.Blocks.{IsEntryIn}
+use Rattle.ados_faults.specs.steps.FileNotes.{IsChecked}
+use Rattle.ados_faults.specs.steps.Noted.{IsNoted, cell_of}
 
--- the block is an entry of the directory, with this name
-pub record IsEntryName (image : List ℕ) (entry : EntryName) (block : ℕ) : Type 0 where
-  pub inside : InImage image block
-  pub slot_of_chain : ℕ
-  pub reached : Reached image block (Entry entry.dir slot_of_chain)
-  pub short : HasShortName image block
-  pub spelt : entry.name ≡ upper_name image block
+-- the block has entries in this role
+abbrev pub HoldsEntriesAs : List ℕ → ℕ → Role → Type 0
+HoldsEntriesAs image block Root = ⊤
+HoldsEntriesAs image block Page = ⊥
+HoldsEntriesAs image block (Entry dir s) = HasDirectoryType image block
+HoldsEntriesAs image block (Data file) = ⊥
+HoldsEntriesAs image block (Extension file) = ⊥
 
--- the name of an entry of the directory
-abbrev pub name_of : List ℕ → ℕ → ℕ → EntryName
-name_of image dir block = record { dir = dir; name = upper_name image block }
-
--- the order of names: by directory, then by bytes
-abbrev pub name_cmp : EntryName → EntryName → Ordering
-name_cmp x y = ordering_then (nat_cmp x.dir y.dir) (slice_cmp nat_cmp x.name y.name)
+-- the order of names, by their bytes
+abbrev pub name_cmp : List ℕ → List ℕ → Ordering
+name_cmp x y = slice_cmp nat_cmp x y
 
 -- each name in the map is that of the block that it leads to
-pub record AreFirst (image : List ℕ) (first : BTreeMap EntryName ℕ) : Type 0 where
-  pub named : (entry : EntryName) (block : ℕ) → get name_cmp first entry ≡ Some block → IsEntryName image entry block
+pub record AreKnown (image : List ℕ) (known : BTreeMap (List ℕ) ℕ) : Type 0 where
+  pub leads : (name : List ℕ) (block : ℕ) → get name_cmp known name ≡ Some block → (block < block_count image) × (upper_name image block ≡ name)
 
 -- each name leads to the same block as before
-pub record AreNamesKept (first later : BTreeMap EntryName ℕ) : Type 0 where
-  pub kept : (entry : EntryName) (block : ℕ) → get name_cmp first entry ≡ Some block → get name_cmp later entry ≡ Some block
+pub record AreStillKnown (known later : BTreeMap (List ℕ) ℕ) : Type 0 where
+  pub stay : (name : List ℕ) (block : ℕ) → get name_cmp known name ≡ Some block → get name_cmp later name ≡ Some block
 
--- the name leads to a block. If that is another block than this one, both are noted
-pub record IsNameMet (cells : List Bool) (first : BTreeMap EntryName ℕ) (entry : EntryName) (block : ℕ) : Type 0 where
+-- the block that the name of a block leads to, if that is short
+abbrev pub IsFirstName : List ℕ → BTreeMap (List ℕ) ℕ → ℕ → Option ℕ → Type 0
+IsFirstName image known block first = MatchOption first (¬ HasShortName image block) (λ name. HasShortName image block × (get name_cmp known (upper_name image block) ≡ Some name))
+
+-- for each block what its name leads to in one map
+pub record AreFirstNames (image : List ℕ) (first : List (Option ℕ)) : Type 0 where
+  pub known : BTreeMap (List ℕ) ℕ
+  pub are_known : AreKnown image known
+  pub size : length first ≡ block_count image
+  pub each : (block : ℕ) (name : Option ℕ) → slice_get first block ≡ Some name → IsFirstName image known block name
+
+-- the block has the same name as another one
+pub record HasNameOf (image : List ℕ) (block other : ℕ) : Type 0 where
+  pub short : HasShortName image block
+  pub within : other < block_count image
+  pub same : upper_name image block ≡ upper_name image other
+
+-- the entry that was met with a name, if one was
+abbrev pub named_in : List (Option Named) → ℕ → Option Named
+named_in met name = option_and_then (λ named. named) (slice_get met name)
+
+-- each entry that was met with a name has it
+pub record AreNamesMet (image : List ℕ) (met : List (Option Named)) : Type 0 where
+  pub size : length met ≡ block_count image
+  pub entry : (name : ℕ) (named : Named) → named_in met name ≡ Some named → IsEntryIn image named.dir named.block
+  pub named : (name : ℕ) (named : Named) → named_in met name ≡ Some named → HasNameOf image named.block name
+
+-- an entry of the directory
+abbrev pub named_of : ℕ → ℕ → Named
+named_of dir block = record { dir = dir; block = block }
+
+-- the entries that were met in the directory stay
+pub record AreNamesKept (dir : ℕ) (met later : List (Option Named)) : Type 0 where
+  pub stay : (name block : ℕ) → named_in met name ≡ Some (named_of dir block) → named_in later name ≡ Some (named_of dir block)
+
+-- an entry with the name was met in the directory. If that is another block than this one, both are noted
+pub record IsNameMet (cells : List Bool) (met : List (Option Named)) (dir block name : ℕ) : Type 0 where
   pub other : ℕ
-  pub found : get name_cmp first entry ≡ Some other
+  pub found : named_in met name ≡ Some (named_of dir other)
   pub here : block ≢ other → IsNoted cells (cell_of DuplicateName block)
   pub there : block ≢ other → IsNoted cells (cell_of DuplicateName other)
 
--- the name of the step was met, if it is an entry with a short name
-pub record IsStepNamed (image : List ℕ) (cells : List Bool) (first : BTreeMap EntryName ℕ) (step : Step) : Type 0 where
-  pub met : (dir s : ℕ) → step.role ≡ Entry dir s → HasShortName image step.block → IsNameMet cells first (name_of image dir step.block) step.block
+-- so it is of the first blocks in a list
+pub record AreFirstMet (cells : List Bool) (met : List (Option Named)) (first : List (Option ℕ)) (dir : ℕ) (blocks : List ℕ) (n : ℕ) : Type 0 where
+  pub each : (k block name : ℕ) → k < n → slice_get blocks k ≡ Some block → slice_get first block ≡ Some (Some name) → IsNameMet cells met dir block name
 
--- the names of the first steps were met, as many as a number says
-pub record AreStepsNamed (image : List ℕ) (cells : List Bool) (first : BTreeMap EntryName ℕ) (steps : List Step) (n : ℕ) : Type 0 where
-  pub named : (k : ℕ) (step : Step) → k < n → slice_get steps k ≡ Some step → IsStepNamed image cells first step
-
--- each of these steps that is an entry with the name of another one in its directory is noted
-pub record AreDuplicatesNoted (image : List ℕ) (cells : List Bool) (steps : List Step) : Type 0 where
-  pub noted : (block other dir s t : ℕ) → IsListed steps (step_of block (Entry dir s)) → IsListed steps (step_of other (Entry dir t)) → HasShortName image block → HasShortName image other
+-- each entry of the directory with the name of another one there is noted
+pub record AreNamesNoted (image : List ℕ) (cells : List Bool) (dir : ℕ) : Type 0 where
+  pub noted : (block other s t : ℕ) → Reached image block (Entry dir s) → Reached image other (Entry dir t) → HasShortName image block → HasShortName image other
       → upper_name image block ≡ upper_name image other → block ≢ other → IsNoted cells (cell_of DuplicateName block)
+
+-- so it is of each directory that was gone through
+pub record AreDirectoriesNoted (image : List ℕ) (cells passed : List Bool) : Type 0 where
+  pub size : length passed ≡ block_count image
+  pub noted : (dir : ℕ) → IsChecked passed dir → AreNamesNoted image cells dir
+
+-- so it is of each directory
+pub record AreDuplicatesNoted (image : List ℕ) (cells : List Bool) : Type 0 where
+  pub noted : (dir : ℕ) → AreNamesNoted image cells dir

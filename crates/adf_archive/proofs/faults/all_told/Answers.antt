@@ -24,4 +24,4 @@ pub returns-clause-each : goal.returns-clause-each
 returns-clause-each c =
     subst (λ (faults : List VolumeFault). AreAllFaults c.args.image.now 1000 c.in_ok-found.found.more faults)
     (sym (c.in_ok-faults.ensures.faults ∙ c.deref-2.ensures.value))
-    (record { alone = c.in_ok-found.ensures.alone (omega arith); each = c.in_ok-found.ensures.each; first = c.in_ok-found.ensures.first })
+    (record { alone = c.in_ok-found.ensures.alone (omega arith); each = c.in_ok-found.ensures.each; exact = c.in_ok-found.ensures.exact; first = c.in_ok-found.ensures.first })

@@ -1,6 +1,7 @@
-use Rattle.std.proofs.Common.{◌≡◌, false, length}
+use Rattle.std.proofs.Common.{◌≡◌, length}
 use Rattle.adf_block.specs.Image.{block_count}
-use Rattle.ados_faults.specs.steps.FileNotes.{AreFilesNoted, AreStepsChecked}
+use Rattle.ados_faults.specs.steps.Blocks.{AreMet}
+use Rattle.ados_faults.specs.steps.FileNotes.{AreAllSeen, AreFilesNoted, AreHeld, AreStepsChecked}
 use Rattle.ados_faults.specs.steps.Noted.{AreNoted, AreStillNoted}
 use Rattle.ados_faults.proofs.files.look_at_files.Given as goal
 
@@ -8,8 +9,10 @@ abbrev pub invariant-loop-step : goal.invariant-loop-step
 invariant-loop-step l = record {
   noted : AreNoted l.image l.notes.cells.items;
   stays : AreStillNoted l.fn.notes.cells.items l.notes.cells.items;
-  cells : length l.looked.files.items ≡ block_count l.image;
-  bounded : l.looked.is_bounded ≡ l.is_cut;
-  whole : l.is_cut ≡ false → AreFilesNoted l.image l.notes.cells.items l.looked.files.items;
-  checked : AreStepsChecked l.image l.looked.files.items l.steps l.step-index;
+  cells : length l.files.checked.items ≡ block_count l.image;
+  whole : AreFilesNoted l.image l.notes.cells.items l.files.checked.items;
+  met : AreMet l.image l.files.headers.has.items l.files.headers.list.items;
+  held : AreHeld l.image l.files.held.items;
+  seen : AreAllSeen l.image l.notes.cells.items l.files.seen.items;
+  checked : AreStepsChecked l.image l.files.checked.items l.steps l.step-index;
 }

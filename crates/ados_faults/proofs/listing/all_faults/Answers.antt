@@ -1,6 +1,7 @@
+use Rattle.std.proofs.Common.{◌≡◌, refl, true}
 use Rattle.std.proofs.lemmas.Result.{IfOk-weaker}
 use Rattle.ados_faults.specs.declared.listing.AllFaults.{AllFaults}
-use Rattle.ados_faults.specs.Listed.{AreFirstFaults, IsTangled, ListsFaults, ShowsOtherKind}
+use Rattle.ados_faults.specs.Listed.{AreFirstFaults, IsTangled, ListsFaults, ShowsOtherKind, TellsMore}
 use Rattle.ados_faults.proofs.listing.all_faults.Goals as goal
 
 pub returns-in-Some-clause-first : goal.returns-in-Some-clause-first
@@ -8,3 +9,14 @@ returns-in-Some-clause-first c =
     IfOk-weaker c.kind_alone.result (λ (found : AllFaults). ListsFaults c.args.image.now c.args.most found.faults.items)
     (λ (found : AllFaults). ¬ ShowsOtherKind c.args.image.now → ¬ IsTangled c.args.image.now → AreFirstFaults c.args.image.now c.args.most found.more found.faults.items)
     (λ found lists other plain. absurd (other (c.in-Some.kind, c.in-Some.ensures))) c.kind_alone.ensures.lists
+
+pub returns-in-Some-clause-exact : goal.returns-in-Some-clause-exact
+returns-in-Some-clause-exact c =
+    IfOk-weaker c.kind_alone.result (λ (found : AllFaults). ListsFaults c.args.image.now c.args.most found.faults.items)
+    (λ (found : AllFaults). ¬ ShowsOtherKind c.args.image.now → TellsMore c.args.image.now c.args.most found.more)
+    (λ found lists other. absurd (other (c.in-Some.kind, c.in-Some.ensures))) c.kind_alone.ensures.lists
+
+pub returns-in-None-clause-exact : goal.returns-in-None-clause-exact
+returns-in-None-clause-exact c =
+    IfOk-weaker c.faults_of.result (λ (found : AllFaults). true ≡ true → TellsMore c.args.image.now c.args.most found.more)
+    (λ (found : AllFaults). ¬ ShowsOtherKind c.args.image.now → TellsMore c.args.image.now c.args.most found.more) (λ found exact other. exact refl) c.faults_of.ensures.exact

@@ -7,7 +7,7 @@ returns c = record {
   image = c.blocks-2.ensures.image;
   faults = c.in_ok-found.found.faults.items;
   lists = c.in_ok-found.ensures.lists;
-  all = record { alone = c.in_ok-found.ensures.alone (omega arith); each = c.in_ok-found.ensures.each; first = c.in_ok-found.ensures.first };
+  all = record { alone = c.in_ok-found.ensures.alone (omega arith); each = c.in_ok-found.ensures.each; exact = c.in_ok-found.ensures.exact; first = c.in_ok-found.ensures.first };
   told_are = c.in_ok-faults.ensures ∙ ap (map told_fault) c.deref.ensures.value;
   none = c.in_ok-found.ensures.none (omega arith);
   whole = c.in_ok-found.ensures.whole;

@@ -5,8 +5,6 @@ use Rattle.ados_faults.proofs.walk.Walk.go_through.Goals as goal
 pub loop-i-init : goal.loop-i-init
 loop-i-init c = record {
   walked = c.requires.walked;
-  taken = c.requires.taken;
-  cut = c.requires.cut;
   kept = kept_same c.args.self.now;
   below = passed_below c.args.image.now c.args.self.now c.args.step c.requires.walked.whole;
 }
@@ -16,8 +14,6 @@ loop-i-preserved c =
     let done = c.in_ok-visit.ensures in
     record {
       walked = done.walked;
-      taken = done.taken;
-      cut = done.cut;
       kept = kept_on c.loop-i.invariant.kept done.kept;
       below = below_more _ _ (λ k l. passed_on c.args.image.now c.loop-i.self c.visit.new.self c.args.step k done.kept (c.loop-i.invariant.below k l)) done.passed;
     }

@@ -1,13 +1,10 @@
-use Rattle.std.proofs.Common.{◌≡◌, ℕ, ◌<◌, true}
-use Rattle.ados_faults.specs.Listed.{IsTangled}
-use Rattle.ados_faults.specs.steps.Walked.{AreKept, AreTaken, IsPassed, IsWalked}
+use Rattle.std.proofs.Common.{ℕ, ◌<◌}
+use Rattle.ados_faults.specs.steps.Walked.{AreKept, IsPassed, IsWalked}
 use Rattle.ados_faults.proofs.walk.Walk.go_through.Given as goal
 
 abbrev pub invariant-loop-i : goal.invariant-loop-i
 invariant-loop-i l = record {
-  walked : IsWalked l.image l.self.notes.cells.items l.self.marks.items l.self.steps.items;
-  taken : AreTaken l.self.marks.items l.self.others l.self.steps.items;
-  cut : l.self.is_cut ≡ true → IsTangled l.image;
+  walked : IsWalked l.image l.self.notes.cells.items l.self.marks.items l.self.roles.cells.items l.self.steps.items;
   kept : AreKept l.fn.self l.self;
   below : (k : ℕ) → k < l.i → IsPassed l.image l.self l.step k;
 }

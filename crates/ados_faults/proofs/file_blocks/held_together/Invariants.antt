@@ -1,0 +1,7 @@
+use Rattle.std.proofs.Common.{Some, take, flat_map}
+use Rattle.ados_model.specs.Faults.{pointers_of}
+use Rattle.ados_faults.specs.steps.FileNotes.{IsHeld}
+use Rattle.ados_faults.proofs.file_blocks.held_together.Given as goal
+
+abbrev pub invariant-loop-header : goal.invariant-loop-header
+invariant-loop-header l = IsHeld l.image (flat_map (pointers_of l.image) (take l.header-index l.headers)) (Some l.sum)

@@ -1,0 +1,13 @@
+use Rattle.std.proofs.Common.{◌≡◌, ◌+◌, length, slice_index}
+use Rattle.adf_block.specs.declared.layout.TheConstants.{NEXT_EXTENSION}
+use Rattle.ados_faults.specs.steps.Blocks.{AreMet}
+use Rattle.ados_faults.specs.steps.Chain.{IsChain}
+use Rattle.ados_faults.proofs.file_blocks.list_headers.Given as goal
+
+abbrev pub invariant-loop-passed : goal.invariant-loop-passed
+invariant-loop-passed l = record {
+  chain : IsChain l.image NEXT_EXTENSION l.headers.list.items;
+  met : AreMet l.image l.headers.has.items l.headers.list.items;
+  head : slice_index l.headers.list.items 0 ≡ l.file;
+  counted : length l.headers.list.items ≡ l.passed + 1;
+}

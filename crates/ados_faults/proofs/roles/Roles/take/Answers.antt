@@ -1,0 +1,41 @@
+use Rattle.std.proofs.Common.{refl, sym, subst}
+use Rattle.ados_model.specs.declared.role.Role.{Role}
+use Rattle.ados_model.specs.declared.role.Role.TheVariants.{Page, Entry, Data, Extension}
+use Rattle.ados_faults.specs.declared.roles.Part.TheVariants.{Bitmap, DataFile, ExtensionFile}
+use Rattle.ados_faults.specs.steps.Roles.{AreCoveredBy, IsListed, step_of}
+use Rattle.ados_faults.proofs.Covering.{data_covered, extension_covered, number_here, page_covered, root_covered}
+use Rattle.ados_faults.proofs.roles.Roles.take.Goals as goal
+
+pub returns-in-Root-clause-covered : goal.returns-in-Root-clause-covered
+returns-in-Root-clause-covered c = λ e steps back. subst (AreCoveredBy steps c.args.block) (sym c.in-Root.is) (root_covered steps c.args.block)
+
+pub returns-in-Page-clause-covered : goal.returns-in-Page-clause-covered
+returns-in-Page-clause-covered c = λ e steps back. subst (AreCoveredBy steps c.args.block) (sym c.in-Page.is) (page_covered steps c.args.block (c.take_number.ensures.covered e steps back))
+
+pub returns-in-Page-clause-backed : goal.returns-in-Page-clause-backed
+returns-in-Page-clause-backed c = λ steps back at.
+    c.take_number.ensures.backed steps back (number_here steps c.args.block Page Bitmap 0 (subst (λ (r : Role). IsListed steps (step_of c.args.block r)) c.in-Page.is at) refl)
+
+pub returns-in-Entry-clause-covered : goal.returns-in-Entry-clause-covered
+returns-in-Entry-clause-covered c = λ e steps back. subst (AreCoveredBy steps c.args.block) (sym c.in-Entry.is) (c.take_entry.ensures.covered e steps back)
+
+pub returns-in-Entry-clause-backed : goal.returns-in-Entry-clause-backed
+returns-in-Entry-clause-backed c = λ steps back at. c.take_entry.ensures.backed steps back (subst (λ (r : Role). IsListed steps (step_of c.args.block r)) c.in-Entry.is at)
+
+pub returns-in-Data-clause-covered : goal.returns-in-Data-clause-covered
+returns-in-Data-clause-covered c = λ e steps back.
+    subst (AreCoveredBy steps c.args.block) (sym c.in-Data.is) (data_covered steps c.args.block c.in-Data.file (c.take_number-in-Data.ensures.covered e steps back))
+
+pub returns-in-Data-clause-backed : goal.returns-in-Data-clause-backed
+returns-in-Data-clause-backed c = λ steps back at.
+    c.take_number-in-Data.ensures.backed steps back
+    (number_here steps c.args.block (Data c.in-Data.file) DataFile c.in-Data.file (subst (λ (r : Role). IsListed steps (step_of c.args.block r)) c.in-Data.is at) refl)
+
+pub returns-in-Extension-clause-covered : goal.returns-in-Extension-clause-covered
+returns-in-Extension-clause-covered c = λ e steps back.
+    subst (AreCoveredBy steps c.args.block) (sym c.in-Extension.is) (extension_covered steps c.args.block c.in-Extension.file (c.take_number-in-Extension.ensures.covered e steps back))
+
+pub returns-in-Extension-clause-backed : goal.returns-in-Extension-clause-backed
+returns-in-Extension-clause-backed c = λ steps back at.
+    c.take_number-in-Extension.ensures.backed steps back
+    (number_here steps c.args.block (Extension c.in-Extension.file) ExtensionFile c.in-Extension.file (subst (λ (r : Role). IsListed steps (step_of c.args.block r)) c.in-Extension.is at) refl)

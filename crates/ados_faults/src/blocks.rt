@@ -1,0 +1,70 @@
+//! Lists of blocks, each once, that are quick to empty.
+ghost use Rattle.std.specs.Prelude.{◌≡◌, ◌∷◌, ◌++◌, [], Contains, IfOk, false, replicate, true};
+ghost use Rattle.adf_block.specs.Image.{block_count};
+ghost use Rattle.ados_model.specs.Faults.{InImage};
+ghost use Rattle.ados_faults.specs.steps.Blocks.{AreMet, IsGrown};
+
+use adf_block::Image;
+use std::alloc::{AllocError, Global};
+
+/// Blocks in the order in which they were added, each once.
+#[derive(Drop)]
+pub(crate) struct Blocks {
+    pub(crate) list: Vec<u32>,
+    /// Whether each block of the image is in the list.
+    has: Vec<bool>,
+}
+
+impl Blocks {
+    /// No blocks.
+    pub(crate) fn none(alloc: Global, image: &Image) -> Result<Blocks, AllocError>
+        ensures { IfOk result (λ blocks. AreMet image.now blocks.has.items blocks.list.items) }
+    {
+        let has = no_cells(alloc, image)?;
+        Ok(Blocks {
+            list: Vec::new(alloc),
+            has,
+        })
+    }
+
+    /// Removes all blocks.
+    pub(crate) fn clear(&mut self, image: &Image)
+        requires { AreMet image.now self.old.has.items self.old.list.items }
+        ensures met { AreMet image.now self.new.has.items self.new.list.items }
+        ensures none { self.new.list.items ≡ [] }
+    {
+        let _image = image;
+        for i in 0..self.list.len() {
+            let block = self.list[i];
+            self.has[block as usize] = false;
+        }
+        self.list.clear();
+    }
+
+    /// Adds a block. The result is false if it was there.
+    pub(crate) fn add(&mut self, image: &Image, block: u32) -> Result<bool, AllocError>
+        requires met { AreMet image.now self.old.has.items self.old.list.items }
+        requires inside { InImage image.now block }
+        ensures met { IfOk result (λ _. AreMet image.now self.new.has.items self.new.list.items) }
+        ensures grown { IfOk result (λ _. IsGrown image.now block self.old.list.items self.new.list.items) }
+        ensures there { IfOk result (λ _. Contains self.new.list.items block) }
+        ensures same { IfOk result (λ is_new. is_new ≡ false → self.new.list.items ≡ self.old.list.items) }
+        ensures new { IfOk result (λ is_new. is_new ≡ true → self.new.list.items ≡ self.old.list.items ++ block ∷ []) }
+        ensures fresh { IfOk result (λ is_new. is_new ≡ true → ¬ Contains self.old.list.items block) }
+    {
+        let _image = image;
+        if self.has[block as usize] {
+            return Ok(false);
+        }
+        self.list.push(block)?;
+        self.has[block as usize] = true;
+        Ok(true)
+    }
+}
+
+/// One cell for each block of the image, none of them set.
+pub(crate) fn no_cells(alloc: Global, image: &Image) -> Result<Vec<bool>, AllocError>
+    ensures { IfOk result (λ cells. cells.items ≡ replicate (block_count image.now) false) }
+{
+    Vec::from_elem(alloc, false, image.blocks() as usize)
+}

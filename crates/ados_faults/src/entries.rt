@@ -1,0 +1,85 @@
+//! The entries of a directory.
+ghost use Rattle.std.specs.Prelude.{◌≡◌, All, Contains, IfOk};
+ghost use Rattle.adf_block.specs.Image.{long};
+ghost use Rattle.ados_model.specs.Faults.{InImage};
+ghost use Rattle.ados_faults.specs.steps.Blocks.{AreEntriesOf, AreMet, AreSlotsMet, HoldsEntries, IsEntryIn, IsGrown};
+
+use crate::bits::is_inside;
+use crate::blocks::Blocks;
+use adf_block::Image;
+use adf_block::layout::{FIRST_SLOT, NEXT_IN_CHAIN, TABLE_LONGS};
+use std::alloc::AllocError;
+
+/// Lists the entries of a directory, each once.
+pub(crate) fn list_entries(image: &Image, dir: u32, entries: &mut Blocks) -> Result<(), AllocError>
+    requires inside { InImage image.now dir }
+    requires holder { HoldsEntries image.now dir }
+    requires met { AreMet image.now entries.old.has.items entries.old.list.items }
+    ensures met { IfOk result (λ _. AreMet image.now entries.new.has.items entries.new.list.items) }
+    ensures all { IfOk result (λ _. AreEntriesOf image.now dir entries.new.list.items) }
+{
+    entries.clear(image);
+    meet_slots(image, dir, entries)?;
+    meet_chains(image, dir, entries)?;
+    Ok(())
+}
+
+/// Adds the first entry of each chain of a directory.
+fn meet_slots(image: &Image, dir: u32, entries: &mut Blocks) -> Result<(), AllocError>
+    requires inside { InImage image.now dir }
+    requires holder { HoldsEntries image.now dir }
+    requires met { AreMet image.now entries.old.has.items entries.old.list.items }
+    requires entries { All (IsEntryIn image.now dir) entries.old.list.items }
+    ensures met { IfOk result (λ _. AreMet image.now entries.new.has.items entries.new.list.items) }
+    ensures entries { IfOk result (λ _. All (IsEntryIn image.now dir) entries.new.list.items) }
+    ensures slots { IfOk result (λ _. AreSlotsMet image.now dir entries.new.list.items 72) }
+{
+    for i in 0..TABLE_LONGS {
+        let first = image.long(dir, FIRST_SLOT + i);
+        meet(image, first, entries)?;
+    }
+    Ok(())
+}
+
+/// Adds the entries behind those in the list.
+fn meet_chains(image: &Image, dir: u32, entries: &mut Blocks) -> Result<(), AllocError>
+    requires holder { HoldsEntries image.now dir }
+    requires met { AreMet image.now entries.old.has.items entries.old.list.items }
+    requires entries { All (IsEntryIn image.now dir) entries.old.list.items }
+    requires slots { AreSlotsMet image.now dir entries.old.list.items 72 }
+    ensures met { IfOk result (λ _. AreMet image.now entries.new.has.items entries.new.list.items) }
+    ensures all { IfOk result (λ _. AreEntriesOf image.now dir entries.new.list.items) }
+{
+    let _dir = dir;
+    for i in 0..usize::MAX {
+        if entries.list.len() <= i {
+            return Ok(());
+        }
+        let entry = entries.list[i];
+        let next = next_entry(image, entry);
+        meet(image, next, entries)?;
+    }
+    Ok(())
+}
+
+/// The block that an entry names as the next one in its chain.
+fn next_entry(image: &Image, entry: u32) -> u32
+    requires { InImage image.now entry }
+    ensures { result ≡ long image.now entry NEXT_IN_CHAIN }
+{
+    image.long(entry, NEXT_IN_CHAIN)
+}
+
+/// Adds a block, if it is inside the image.
+fn meet(image: &Image, block: u32, entries: &mut Blocks) -> Result<(), AllocError>
+    requires { AreMet image.now entries.old.has.items entries.old.list.items }
+    ensures met { IfOk result (λ _. AreMet image.now entries.new.has.items entries.new.list.items) }
+    ensures grown { IfOk result (λ _. IsGrown image.now block entries.old.list.items entries.new.list.items) }
+    ensures there { IfOk result (λ _. InImage image.now block → Contains entries.new.list.items block) }
+{
+    if !is_inside(image, block) {
+        return Ok(());
+    }
+    entries.add(image, block)?;
+    Ok(())
+}
