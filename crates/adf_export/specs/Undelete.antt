@@ -5,7 +5,6 @@ use Rattle.std.specs.Option.{option_map_or}
 use Rattle.std.specs.Str.{bytes_eq, chars}
 use Rattle.ados_name.specs.Name.{Step, steps, upper}
 use Rattle.ados_name.specs.Name.Step.{ToParent, ToChild}
-use Rattle.ados_model.specs.Accepted.{ShowsNoFault}
 use Rattle.adf_text.specs.Letters.{letters}
 use Rattle.adf_text.specs.Plain.{plain}
 use Rattle.adf_salvage.specs.Deleted.{IsTrustedBitmap}
@@ -23,7 +22,7 @@ use Rattle.adf_export.specs.declared.plan.Source.{Source}
 use Rattle.adf_export.specs.declared.plan.Source.TheVariants as sources
 use Rattle.adf_export.specs.declared.undeleting.Undeletion.{Undeletion}
 use Rattle.adf_export.specs.declared.undelete_fault.UndeleteFault.{UndeleteFault}
-use Rattle.adf_export.specs.declared.undelete_fault.UndeleteFault.TheVariants.{NoTrustedBitmap, ManyFaults, NothingDeleted, Host, Memory}
+use Rattle.adf_export.specs.declared.undelete_fault.UndeleteFault.TheVariants.{NoTrustedBitmap, NothingDeleted, Host, Memory}
 
 -- an entry below the root: its path, a slash before each name, if that is not too long; and whether an argument chooses it
 pub record Place : Type 0 where
@@ -185,11 +184,10 @@ pub record IsUndeleteText (image : List ℕ) (keys : List (List ℕ)) (text : Li
   pub are_chosen : chosen ≡ chosen_of found.places.items (places_of keys found.salvage.entries) found.deleted.items
   pub lines : text ≡ deleted_lines found.places.items (places_of keys found.salvage.entries) chosen
 
--- why nothing is told: the bitmap is not trusted, the image shows too many faults, or a path argument chooses nothing;
+-- why nothing is told: the bitmap is not trusted, or a path argument chooses nothing;
 -- host files cannot be written, or memory ran out
 abbrev pub IsUndeleteFault : List ℕ → UndeleteFault → Type 0
 IsUndeleteFault image NoTrustedBitmap = ¬ IsTrustedBitmap image
-IsUndeleteFault image ManyFaults = ¬ ShowsNoFault image
 IsUndeleteFault image (NothingDeleted word) = ⊤
 IsUndeleteFault image (Host fault) = ⊤
 IsUndeleteFault image Memory = ⊤

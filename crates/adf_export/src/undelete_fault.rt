@@ -12,9 +12,6 @@ pub enum UndeleteFault {
     /// The bitmap cannot be trusted, so it is not known what was deleted.
     #[error("the bitmap cannot be trusted, so nothing says what was deleted")]
     NoTrustedBitmap,
-    /// The blocks of the image name each other too often for its faults to be listed.
-    #[error("the image has too many faults for a bitmap that can be trusted")]
-    ManyFaults,
     /// An argument that chooses no deleted entry.
     #[error("nothing that was deleted is at '{0}' or below it")]
     NothingDeleted(String),

@@ -65,7 +65,6 @@ fn found_entries(alloc: Global, image: Image) -> Result<Undeleted, UndeleteFault
     match undelete(alloc, image)? {
         UndeletedEntries::Found(found) => Ok(found),
         UndeletedEntries::NoTrustedBitmap => Err(UndeleteFault::NoTrustedBitmap),
-        UndeletedEntries::ManyFaults => Err(UndeleteFault::ManyFaults),
     }
 }
 

@@ -7,7 +7,7 @@ use Rattle.std.proofs.lemmas.List.{get_or-map, get_or_default, length-map, map_m
 use Rattle.ados_model.specs.Accepted.{Accepts, ShowsNoFault}
 use Rattle.adf_salvage.specs.declared.deleted.Deleted.{Deleted}
 use Rattle.adf_salvage.specs.Deleted.{IsDeleted, IsTrustedBitmap, ListsDeleted, TellsTrust}
-use Rattle.adf_salvage.specs.Salvaged.{AreDeleted, AreLeftOut}
+use Rattle.adf_salvage.specs.Salvaged.{AreDeleted}
 use Rattle.adf_salvage.specs.steps.Giving.{mark_at}
 use Rattle.adf_salvage.specs.steps.Leaving.{AreMarked}
 use Rattle.adf_salvage.proofs.Growing.{none_told}
@@ -82,16 +82,13 @@ pub invalid_deleted : (image new headers : List ℕ) (validated : Bool) → vali
 invalid_deleted image new headers true e is accepts = none_deleted image headers is (λ t. accepts.1.was_not_valid t.valid)
 invalid_deleted image new headers false e is accepts = absurd (cc e)
 
-pub valid_deleted : (image new headers : List ℕ) (validated : Bool) → validated ≡ false → AreLeftOut new headers → Accepts image validated new → AreDeleted image headers
-valid_deleted image new headers true e left_out accepts = absurd (cc e)
-valid_deleted image new headers false e left_out accepts = subst (λ (xs : List ℕ). AreDeleted xs headers) accepts.2 (elim left_out [
-  | inl deleted ↦ deleted
-  | inr (none, shows) ↦ absurd (shows (subst ShowsNoFault (sym accepts.2) accepts.0))
-])
+pub valid_deleted : (image new headers : List ℕ) (validated : Bool) → validated ≡ false → AreDeleted new headers → Accepts image validated new → AreDeleted image headers
+valid_deleted image new headers true e deleted accepts = absurd (cc e)
+valid_deleted image new headers false e deleted accepts = subst (λ (xs : List ℕ). AreDeleted xs headers) accepts.2 deleted
 
 -- whether their bitmaps are trusted
 pub invalid_trust : (image new : List ℕ) (validated : Bool) → validated ≡ true → Accepts image validated new → TellsTrust image false
-invalid_trust image new true e accepts = inl (λ t. accepts.1.was_not_valid t.valid)
+invalid_trust image new true e accepts = λ t. accepts.1.was_not_valid t.valid
 invalid_trust image new false e accepts = absurd (cc e)
 
 pub valid_trust : (image new : List ℕ) (validated trusted : Bool) → validated ≡ false → TellsTrust new trusted → Accepts image validated new → TellsTrust image trusted

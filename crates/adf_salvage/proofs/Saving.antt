@@ -4,7 +4,7 @@ use Rattle.std.proofs.lemmas.List.{get_or_default}
 use Rattle.adf_salvage.specs.declared.gathered.Gathered.{Gathered}
 use Rattle.adf_salvage.specs.Deleted.{TellsTrust}
 use Rattle.adf_salvage.specs.Lost.{IsLost}
-use Rattle.adf_salvage.specs.Salvaged.{AreApart, AreLeftOut, AreSalvaged, Saved, SavesSound, broken_total, headers_of}
+use Rattle.adf_salvage.specs.Salvaged.{AreApart, AreDeleted, AreSalvaged, Saved, SavesSound, broken_total, headers_of}
 use Rattle.adf_salvage.specs.steps.Gathering.{AreAllHeaders, AreGathered, place_at}
 use Rattle.adf_salvage.specs.steps.Settling.{AreSettled}
 
@@ -25,11 +25,11 @@ module _ (out image : List ℕ) (gathered : Gathered) (g : AreGathered out image
     lost = λ block lost. g.met block (lost_met block lost);
   }
 
-pub saves_sound : (out image : List ℕ) (next : ℕ) (gathered : Gathered) (saved : Saved) (trusted : Bool) → AreSettled out image next gathered → TellsTrust image trusted → saved.trusted ≡ trusted → AreLeftOut image out → saved.deleted ≡ out
+pub saves_sound : (out image : List ℕ) (next : ℕ) (gathered : Gathered) (saved : Saved) (trusted : Bool) → AreSettled out image next gathered → TellsTrust image trusted → saved.trusted ≡ trusted → AreDeleted image out → saved.deleted ≡ out
     → saved.image ≡ image → saved.entries ≡ gathered.entries.items → saved.given ≡ gathered.giving.pieces.items → SavesSound saved
-saves_sound out image next gathered saved trusted s trust tells left_out leaves same are given = record {
+saves_sound out image next gathered saved trusted s trust tells deleted leaves same are given = record {
   trust = subst (λ (xs : List ℕ). TellsTrust xs saved.trusted) (sym same) (subst (TellsTrust image) (sym tells) trust);
-  left_out = subst (λ (xs : List ℕ). AreLeftOut xs saved.deleted) (sym same) (subst (AreLeftOut image) (sym leaves) left_out);
+  deleted = subst (λ (xs : List ℕ). AreDeleted xs saved.deleted) (sym same) (subst (AreDeleted image) (sym leaves) deleted);
   salvaged = subst (λ (xs : List ℕ). AreSalvaged saved.deleted xs saved.entries) (sym same)
       (subst (λ (xs : List ℕ). AreSalvaged xs image saved.entries) (sym leaves) (subst (AreSalvaged out image) (sym are) s.salvaged));
   apart = subst AreApart (sym given) s.giving.once;

@@ -5,7 +5,7 @@ use Rattle.adf_block.specs.Image.{long}
 use Rattle.adf_block.specs.Whole.{IsImage}
 use Rattle.ados_check.specs.declared.mark.Mark.{Mark}
 use Rattle.ados_check.specs.Marks.{mark_at}
-use Rattle.ados_faults.specs.Listed.{AreMarks, fault_of, root_mark}
+use Rattle.ados_faults.specs.Listed.{AreMarks, ListsDoubts, fault_of, root_mark}
 use Rattle.ados_faults.proofs.Insides.{reached_inside}
 use Rattle.ados_map.specs.Pages.{LawfulPages, page_block, pages_of}
 use Rattle.ados_model.specs.declared.fault.FaultKind.{FaultKind}
@@ -18,7 +18,7 @@ use Rattle.ados_model.specs.Faults.IsUsedTwice.{root_named}
 use Rattle.ados_model.specs.Faults.Reached.{named, start}
 use Rattle.ados_model.specs.Rebuilt.{HasValidBitmap}
 use Rattle.adf_salvage.specs.Deleted.{AreTrustedPages, IsTrustedBitmap}
-use Rattle.adf_salvage.specs.steps.Deleting.{AreFaults, AreOfReached, IsDoubt}
+use Rattle.adf_salvage.specs.steps.Deleting.{AreOfReached, IsDoubt}
 
 module _ (image : List ℕ) (pages : AreTrustedPages image) where
   used_once : (p q : ℕ) → p < pages_of image → q < pages_of image → page_block image p ≡ page_block image q → p ≡ q
@@ -44,26 +44,24 @@ trusted_pages image t = record {
       t.root BlockUsedTwice (subst (Shows image BlockUsedTwice) e (root_named e named));
 }
 
-module _ (image : List ℕ) (faults : List VolumeFault) (f : AreFaults image faults) where
-  -- a fault that is shown is one of them
-  met : (P : VolumeFault → Type 0) → All P faults → (kind : FaultKind) (block : ℕ) → Shows image kind block → P (fault_of kind block)
-  met P all kind block shown =
-      let there = f.each kind block shown in
-      subst P there.2 (all there.0 _ there.1)
+module _ (image : List ℕ) (faults : List VolumeFault) (shown : All (λ fault. Shows image fault.kind fault.block) faults) (doubts : ListsDoubts image faults) where
+  -- what holds of each of them holds of one that is there
+  met : (P : VolumeFault → Type 0) → All P faults → (kind : FaultKind) (block : ℕ) → Contains faults (fault_of kind block) → P (fault_of kind block)
+  met P all kind block there = subst P there.2 (all there.0 _ there.1)
 
   -- no doubt is left
   pub trusted_by : IsImage image → HasValidBitmap image → AreTrustedPages image → All (λ fault. ¬ IsDoubt image fault) faults → IsTrustedBitmap image
   trusted_by im valid pages none = record {
-    root = λ kind shown. met (λ fault. ¬ IsDoubt image fault) none kind (root_of image) shown (inr refl);
+    root = λ kind bad. let other = doubts.root kind bad in met (λ fault. ¬ IsDoubt image fault) none other.0 (root_of image) other.1 (inr refl);
     valid = valid;
     pages = pages;
     in_use = λ block role reached free.
         let bit : IsReachedAndFree image block = record { valid = valid; role = role; reached = reached; page = bit_inside image pages block (reached_inside image im reached); free = free } in
-        met (λ fault. ¬ IsDoubt image fault) none MarkedFree block bit (inl refl);
+        met (λ fault. ¬ IsDoubt image fault) none MarkedFree block (doubts.free block bit) (inl refl);
   }
 
   shown_at : (fault : VolumeFault) → Contains faults fault → Shows image fault.kind fault.block
-  shown_at fault (k, l, e) = subst (λ (g : VolumeFault). Shows image g.kind g.block) e (f.shown k fault l)
+  shown_at fault (k, l, e) = subst (λ (g : VolumeFault). Shows image g.kind g.block) e (shown k fault l)
 
   pub doubted_by : (fault : VolumeFault) → Contains faults fault → IsDoubt image fault → ¬ IsTrustedBitmap image
   doubted_by fault there doubt t = elim doubt [

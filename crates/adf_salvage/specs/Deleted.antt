@@ -6,7 +6,6 @@ use Rattle.ados_map.specs.Pages.{page_block, pages_of}
 use Rattle.ados_model.specs.declared.fault.FaultKind.{FaultKind}
 use Rattle.ados_model.specs.declared.role.Role.{Role}
 use Rattle.ados_model.specs.declared.role.Role.TheVariants as roles
-use Rattle.ados_model.specs.Accepted.{ShowsNoFault}
 use Rattle.ados_model.specs.Faults.{HasDirectoryType, HasFileType, InImage, Reached, Shows, root_of}
 use Rattle.ados_model.specs.Rebuilt.{HasValidBitmap}
 use Rattle.adf_salvage.specs.declared.deleted.Deleted.{Deleted}
@@ -34,10 +33,9 @@ pub record IsTrustedBitmap (image : List ℕ) : Type 0 where
   pub pages : AreTrustedPages image
   pub in_use : (block : ℕ) (role : Role) → Reached image block role → ¬ HasFreeBit image block
 
--- whether the bitmap is trusted: it can be; or it cannot, or the image, which is refused, shows too much to tell
+-- whether the bitmap can be trusted
 abbrev pub TellsTrust : List ℕ → Bool → Type 0
-TellsTrust image true = IsTrustedBitmap image
-TellsTrust image false = (¬ IsTrustedBitmap image) ⊎ (¬ ShowsNoFault image)
+TellsTrust image trusted = MatchBool trusted (IsTrustedBitmap image) (¬ IsTrustedBitmap image)
 
 -- a deleted entry: a sound header that nothing names from the root, and that a trusted bitmap marks free
 pub record IsDeleted (image : List ℕ) (block : ℕ) : Type 0 where
@@ -104,8 +102,7 @@ pub record ListsDeleted (image : List ℕ) (entries : List Deleted) : Type 0 whe
   pub in_order : AllPairs (λ a b. a.header < b.header) entries
   pub all : (block : ℕ) → IsDeleted image block → Contains (map (λ entry. entry.header) entries) block
 
--- all deleted entries, by a bitmap that is trusted; or that it is not; or that the image, which is refused, shows too much
+-- all deleted entries, by a bitmap that is trusted; or that it is not
 abbrev pub TellsDeleted : List ℕ → DeletedEntries → Type 0
 TellsDeleted image (answers.Found entries) = IsTrustedBitmap image × ListsDeleted image entries.items
 TellsDeleted image answers.NoTrustedBitmap = ¬ IsTrustedBitmap image
-TellsDeleted image answers.ManyFaults = ¬ ShowsNoFault image

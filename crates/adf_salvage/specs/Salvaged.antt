@@ -9,7 +9,7 @@ use Rattle.adf_block.specs.declared.layout.TheConstants.{COMMENT_BYTE, DATE, NAM
 use Rattle.adf_block.specs.Whole.{text_at}
 use Rattle.ados_name.specs.Name.{IsName}
 use Rattle.ados_model.specs.File.{contents}
-use Rattle.ados_model.specs.Accepted.{Accepts, ShowsNoFault}
+use Rattle.ados_model.specs.Accepted.{Accepts}
 use Rattle.ados_model.specs.Stands.{date_at, Stands}
 use Rattle.ados_model.specs.Faults.{HasDirectoryType, HasFileType}
 use Rattle.ados_model.specs.Tree.{Content, Node, Tree, entries, root}
@@ -114,10 +114,6 @@ pub record AreDeleted (image headers : List ℕ) : Type 0 where
   pub in_order : AllPairs (λ a b. a < b) headers
   pub all : (block : ℕ) → IsDeleted image block → Contains headers block
 
--- the headers are those of the deleted entries; or none, since the image, which is refused, shows too much
-abbrev pub AreLeftOut : List ℕ → List ℕ → Type 0
-AreLeftOut image headers = AreDeleted image headers ⊎ ((headers ≡ []) × ¬ ShowsNoFault image)
-
 -- a directory, or a whole file that has these bytes in the image
 abbrev pub HoldsAll : List ℕ → ℕ → Content → State → Type 0
 HoldsAll image header (Directory keys) states.Directory = ⊤
@@ -178,7 +174,7 @@ pub record IsReadAs (image read : List ℕ) : Type 0 where
 -- that are not whole have together at most four times the bytes of the image
 pub record SavesSound (saved : Saved) : Type 0 where
   pub trust : TellsTrust saved.image saved.trusted
-  pub left_out : AreLeftOut saved.image saved.deleted
+  pub deleted : AreDeleted saved.image saved.deleted
   pub salvaged : AreSalvaged saved.deleted saved.image saved.entries
   pub apart : AreApart saved.given
   pub bounded : broken_total saved.entries ≤ 4 * length saved.image

@@ -1,6 +1,5 @@
 -- The deleted entries of an image with the directories that they were in.
 use Rattle.std.specs.Prelude.{◌≡◌, ℕ, ◌<◌, List, [], length, slice_index, slice_index_or, All, Contains, Option, Some, None, IsSome}
-use Rattle.ados_model.specs.Accepted.{ShowsNoFault}
 use Rattle.adf_salvage.specs.declared.undeleted.Undeleted.{Undeleted}
 use Rattle.adf_salvage.specs.declared.undeleted.UndeletedEntries.{UndeletedEntries}
 use Rattle.adf_salvage.specs.declared.undeleted.UndeletedEntries.TheVariants as answers
@@ -20,8 +19,7 @@ pub record IsUndeleted (image : List ℕ) (found : Undeleted) : Type 0 where
   pub places : ArePlaces (headers_of found.salvage.entries) found.places.items
   pub there : (block : ℕ) → IsDeleted image block → IsSome (slice_index_or found.places.items block None)
 
--- the deleted entries, by a bitmap that is trusted; or that it is not; or that the image, which is refused, shows too much
+-- the deleted entries, by a bitmap that is trusted; or that it is not
 abbrev pub TellsUndeleted : List ℕ → UndeletedEntries → Type 0
 TellsUndeleted image (answers.Found found) = IsTrustedBitmap image × IsUndeleted image found
 TellsUndeleted image answers.NoTrustedBitmap = ¬ IsTrustedBitmap image
-TellsUndeleted image answers.ManyFaults = ¬ ShowsNoFault image

@@ -55,8 +55,6 @@ pub enum DeletedEntries {
     Found(Vec<Deleted>),
     /// The bitmap cannot be trusted.
     NoTrustedBitmap,
-    /// The blocks of the image name each other too often for the faults to be listed that the trust needs.
-    ManyFaults,
 }
 
 /// The deleted entries of an image, which may be accepted or refused by the check.
@@ -71,7 +69,6 @@ pub fn deleted_entries(alloc: Global, image: &Image) -> Result<DeletedEntries, A
             Ok(DeletedEntries::Found(found))
         }
         Trust::NotTrusted => Ok(DeletedEntries::NoTrustedBitmap),
-        Trust::ManyFaults => Ok(DeletedEntries::ManyFaults),
     }
 }
 

@@ -3,7 +3,7 @@ ghost use Rattle.std.specs.Prelude.{◌≡◌, ◌<◌, ℕ, List, [], map, true
 ghost use Rattle.adf_block.specs.Image.{block_count};
 ghost use Rattle.ados_model.specs.Accepted.{Accepts};
 ghost use Rattle.adf_salvage.specs.Deleted.{IsTrustedBitmap, TellsTrust};
-ghost use Rattle.adf_salvage.specs.Salvaged.{AreDeleted, AreLeftOut};
+ghost use Rattle.adf_salvage.specs.Salvaged.{AreDeleted};
 
 use crate::deleted::{Deleted, DeletedEntries, deleted_entries};
 use adf_block::Image;
@@ -32,9 +32,9 @@ impl Model for LeftOut {
     ghost invariant = { λ l. AreMarked l.marks.items l.headers.items };
 }
 
-/// The headers of the deleted entries of an image, as far as its bitmap says which they are; and whether it is trusted.
+/// The headers of the deleted entries of an image, and whether its bitmap is trusted.
 pub(crate) fn left_out_of(alloc: Global, image: &Image) -> Result<(LeftOut, bool), AllocError>
-    ensures left_out { IfOk result (λ left. AreLeftOut image.now left.0) }
+    ensures deleted { IfOk result (λ left. AreDeleted image.now left.0) }
     ensures trust { IfOk result (λ left. TellsTrust image.now left.1) }
 {
     match deleted_entries(alloc, image)? {
@@ -43,7 +43,6 @@ pub(crate) fn left_out_of(alloc: Global, image: &Image) -> Result<(LeftOut, bool
             Ok((left_out, true))
         }
         DeletedEntries::NoTrustedBitmap => Ok((LeftOut::none(alloc), false)),
-        DeletedEntries::ManyFaults => Ok((LeftOut::none(alloc), false)),
     }
 }
 

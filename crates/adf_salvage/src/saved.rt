@@ -83,8 +83,7 @@ impl Salvage {
         &self.image
     }
 
-    /// Whether the bitmap of the image, as it was given, can be trusted. It is not if the image has more faults than can be
-    /// listed, and then there are no deleted entries.
+    /// Whether the bitmap of the image, as it was given, can be trusted. If not, there are no deleted entries.
     pub fn is_bitmap_trusted(&self) -> bool
         ensures { result ≡ self.now.trusted }
     {

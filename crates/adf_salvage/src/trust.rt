@@ -1,17 +1,17 @@
 //! Whether the bitmap of an image can be trusted, and which entries it says are deleted.
 ghost use Rattle.std.specs.Prelude.{◌≡◌, ◌≢◌, ◌<◌, ◌⊎◌, ◌↔◌, ℕ, [], All, Contains, IfOk, IsTrue, MatchBool, MatchOption};
 ghost use Rattle.adf_block.specs.Whole.{IsImage};
-ghost use Rattle.ados_faults.specs.Listed.{AreMarks};
+ghost use Rattle.ados_faults.specs.Listed.{ListsDoubts};
 ghost use Rattle.ados_map.specs.Pages.{page_block, pages_of};
-ghost use Rattle.ados_model.specs.Faults.{InImage};
+ghost use Rattle.ados_model.specs.Faults.{InImage, Shows};
 ghost use Rattle.adf_salvage.specs.Deleted.{AreTrustedPages, IsDeleted, IsTrustedBitmap, IsTrustedPage};
-ghost use Rattle.adf_salvage.specs.steps.Deleting.{AreFaults, AreOfReached, IsDoubt, IsTrust, is_used};
+ghost use Rattle.adf_salvage.specs.steps.Deleting.{IsDoubt, IsTrust, is_used};
 
 use crate::header::is_sound_header;
 use adf_block::layout::{BITMAP_FLAG, BITMAP_VALID, BOOT_BLOCKS, FIRST_PAGE, MOST_BLOCKS};
 use adf_block::{Image, page_count};
-use ados_check::{Mark, Source, reach};
-use ados_faults::{AllFaults, faults_of_any_disk};
+use ados_check::Mark;
+use ados_faults::faults_of_any_disk;
 use ados_map::is_free;
 use ados_model::{FaultKind, VolumeFault};
 use std::alloc::{AllocError, Global};
@@ -22,42 +22,23 @@ pub(crate) enum Trust {
     /// It can. For each block, the first place that names it, if one does.
     Trusted(Vec<Option<Mark>>),
     NotTrusted,
-    /// The faults of the image cannot all be listed.
-    ManyFaults,
 }
 
 /// Whether the bitmap of an image can be trusted.
 pub(crate) fn trust_of(alloc: Global, image: &Image) -> Result<Trust, AllocError>
     ensures { IfOk result (IsTrust image.now) }
 {
-    let found = faults_of_any_disk(alloc, image, usize::MAX)?;
-    if found.more {
-        return Ok(Trust::ManyFaults);
-    }
+    let found = faults_of_any_disk(alloc, image)?;
     if !is_trusted(image, &found.faults) {
         return Ok(Trust::NotTrusted);
     }
-    let marks = marks_of(alloc, image, found)?;
-    Ok(Trust::Trusted(marks))
-}
-
-/// The marks of the reached blocks of an image, with all its faults.
-fn marks_of(alloc: Global, image: &Image, found: AllFaults) -> Result<Vec<Option<Mark>>, AllocError>
-    requires { (found.faults.items ≡ []) ⊎ AreMarks image.now found.marks.items }
-    ensures { IfOk result (λ marks. AreOfReached image.now marks.items) }
-{
-    if !found.faults.is_empty() {
-        return Ok(found.marks);
-    }
-    match reach(alloc, &Source::whole(image)) {
-        Ok(marks) => Ok(marks),
-        Err(_) => Err(AllocError),
-    }
+    Ok(Trust::Trusted(found.marks))
 }
 
 /// Whether the bitmap of an image with these faults can be trusted.
 fn is_trusted(image: &Image, faults: &[VolumeFault]) -> bool
-    requires { AreFaults image.now faults.now }
+    requires shown { All (λ fault. Shows image.now fault.kind fault.block) faults.now }
+    requires doubts { ListsDoubts image.now faults.now }
     ensures { MatchBool result (IsTrustedBitmap image.now) (¬ IsTrustedBitmap image.now) }
 {
     prove!(image.blocks() >= 16);

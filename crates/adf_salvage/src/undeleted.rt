@@ -37,8 +37,6 @@ pub enum UndeletedEntries {
     Found(Undeleted),
     /// The bitmap cannot be trusted.
     NoTrustedBitmap,
-    /// The blocks of the image name each other too often for the faults to be listed that the trust needs.
-    ManyFaults,
 }
 
 /// The deleted entries of an image with their directories.
@@ -53,7 +51,6 @@ pub fn undelete(alloc: Global, image: Image) -> Result<UndeletedEntries, AllocEr
             Ok(UndeletedEntries::Found(found))
         }
         DeletedEntries::NoTrustedBitmap => Ok(UndeletedEntries::NoTrustedBitmap),
-        DeletedEntries::ManyFaults => Ok(UndeletedEntries::ManyFaults),
     }
 }
 

@@ -14,7 +14,9 @@ pub mod Disk
 pub mod OtherKinds
 pub mod Told
 pub mod Looking
+pub mod AtSteps
 pub mod Each
 pub mod SameBlocks
 pub mod FileNotes
 pub mod ByHeaders
+pub mod Rooted

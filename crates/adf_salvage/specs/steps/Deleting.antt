@@ -8,7 +8,6 @@ use Rattle.ados_faults.specs.Listed.{fault_of}
 use Rattle.ados_model.specs.declared.fault.FaultKind.{FaultKind}
 use Rattle.ados_model.specs.declared.fault.FaultKind.TheVariants.{MarkedFree}
 use Rattle.ados_model.specs.declared.fault.VolumeFault.{VolumeFault}
-use Rattle.ados_model.specs.Accepted.{ShowsNoFault}
 use Rattle.ados_model.specs.Faults.{InImage, Reached, Shows, root_of}
 use Rattle.adf_salvage.specs.declared.claims.Claim.{Claim}
 use Rattle.adf_salvage.specs.declared.claims.Claim.TheVariants.{Several}
@@ -31,16 +30,10 @@ pub record AreAllClaims (image : List ℕ) (claims : List Claim) : Type 0 where
 abbrev pub IsDoubt : List ℕ → VolumeFault → Type 0
 IsDoubt image fault = (fault.kind ≡ MarkedFree) ⊎ (fault.block ≡ root_of image)
 
--- the faults are those that the image shows
-pub record AreFaults (image : List ℕ) (faults : List VolumeFault) : Type 0 where
-  pub shown : All (λ fault. Shows image fault.kind fault.block) faults
-  pub each : (kind : FaultKind) (block : ℕ) → Shows image kind block → Contains faults (fault_of kind block)
-
--- whether the bitmap is trusted, with marks of reached blocks if it is; or that the image, which is refused, shows too much
+-- whether the bitmap is trusted, with marks of reached blocks if it is
 abbrev pub IsTrust : List ℕ → Trust → Type 0
 IsTrust image (trusts.Trusted marks) = IsTrustedBitmap image × AreOfReached image marks.items
 IsTrust image trusts.NotTrusted = ¬ IsTrustedBitmap image
-IsTrust image trusts.ManyFaults = ¬ ShowsNoFault image
 
 -- whether the block is one of the volume that is marked used
 abbrev pub is_used : List ℕ → ℕ → Bool

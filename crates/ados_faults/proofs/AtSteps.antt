@@ -1,0 +1,189 @@
+-- Each fault that an image shows is noted at a step of the walk, or shows only further.
+use Rattle.std.proofs.Common.{◌≡◌, ◌≢◌, ℕ, ◌+◌, ◌<◌, ◌⊎◌, List, Bool, length, get_or, Some, None, inl, inr, refl, sym, ◌∙◌, subst, arith}
+use Rattle.std.specs.List.{slice_get}
+use Rattle.std.proofs.lemmas.Option.{none-some, slice_get-get_or, slice_get_within, unwrap_or-slice_get}
+use Rattle.adf_block.specs.Whole.{IsImage, text_at}
+use Rattle.adf_block.specs.Image.{block_sum}
+use Rattle.adf_block.specs.Fields.{held_count, own_key, parent_key}
+use Rattle.adf_block.specs.declared.layout.TheConstants.{NAME_BYTE, OFS_ROOM}
+use Rattle.ados_name.specs.Name.{slot}
+use Rattle.ados_model.specs.declared.fault.FaultKind.{FaultKind}
+use Rattle.ados_model.specs.declared.fault.FaultKind.TheVariants.{NotADosDisk, UnsupportedKind, BadSum, BadType, BadOwnKey, BadParent, BadPointer, BlockUsedTwice, WrongChain, BadName, DuplicateName, BadComment, BadCount, BadSequence, LinkEntry, MarkedFree, NoMemory}
+use Rattle.ados_model.specs.declared.role.Role.{Role}
+use Rattle.ados_model.specs.declared.role.Role.TheVariants.{Root, Page, Entry, Data, Extension}
+use Rattle.ados_model.specs.Faults
+use Rattle.ados_model.specs.Faults.{HasName, HasSum, Reached, Shows, root_of}
+use Rattle.ados_check.specs.Rules.{HasBadField, HasBadTypeAs, HasOtherCount, kind_of}
+use Rattle.ados_check.specs.declared.rules.FieldRule.{FieldRule}
+use Rattle.ados_check.specs.declared.rules.FieldRule.TheVariants.{NoLink, OwnKey, Parent, Name, Chain, Comment, PointerCount, FirstData}
+use Rattle.ados_faults.specs.declared.walk.Step.{Step}
+use Rattle.ados_faults.specs.steps.FileNotes.{AreAllFilesNoted, IsFileNoted, IsPlaceNoted}
+use Rattle.ados_faults.specs.steps.Named.{AreDuplicatesNoted}
+use Rattle.ados_faults.specs.steps.Looks.{AreLookedAt, IsLookedAt}
+use Rattle.ados_faults.specs.steps.Noted.{AreStillNoted, IsNoted, cell_of}
+use Rattle.ados_faults.specs.declared.roles.Part.{Part}
+use Rattle.ados_faults.specs.declared.roles.Part.TheVariants.{Directory, Slot, DataFile, ExtensionFile}
+use Rattle.ados_faults.specs.steps.Roles.{AreCovered, IsListed, number_of, step_of}
+use Rattle.ados_faults.specs.steps.Walked.{AreOutsideNoted, AreTwiceNoted, IsMarkedFree}
+use Rattle.ados_faults.proofs.Covering.{data_listed, data_role, directory_role, entry_listed, extension_listed, extension_role, other_number, page_listed, slot_role}
+use Rattle.ados_faults.proofs.Closing.{root_only}
+use Rattle.ados_faults.proofs.Insides.{reached_inside}
+use Rattle.ados_faults.proofs.Sameness.{names_equal}
+
+has_name : (image : List ℕ) (block : ℕ) → Faults.HasBadName image block → HasName image block
+has_name image block (Faults.HasBadName.empty h e) = h
+has_name image block (Faults.HasBadName.long_name h e) = h
+has_name image block (Faults.HasBadName.slash h e) = h
+has_name image block (Faults.HasBadName.colon h e) = h
+
+-- what the walk noted, and what the looks at its steps noted, is still noted
+pub record AreStepsNoted (image : List ℕ) (cells : List Bool) : Type 0 where
+  pub walked : List Bool
+  pub looked : List Bool
+  pub steps : List Step
+  pub covered : AreCovered image steps
+  pub twice : AreTwiceNoted image walked
+  pub outside : AreOutsideNoted image walked
+  pub after_walk : AreStillNoted walked cells
+  pub looks : AreLookedAt image looked steps (length steps)
+  pub after_looks : AreStillNoted looked cells
+
+-- a fault that shows only in the boot block, in the names of a directory, or in all blocks of a file
+pub data ShowsFurther (image : List ℕ) : FaultKind → ℕ → Type 0 where
+  not_dos : {block : ℕ} → Shows image NotADosDisk block → ShowsFurther image NotADosDisk block
+  unsupported : {block : ℕ} → Shows image UnsupportedKind block → ShowsFurther image UnsupportedKind block
+  name : {block : ℕ} → Faults.HasDuplicateName image block → ShowsFurther image DuplicateName block
+  link : {file i block : ℕ} {blocks : List ℕ} → Faults.IsOfs image → Faults.IsDataAt image file blocks i block → ¬ Faults.LinksOn image block blocks i → ShowsFurther image BadPointer block
+  size : {block : ℕ} {blocks : List ℕ} → Faults.AreDataBlocks image block blocks → length blocks ≢ Faults.count_of_size image block → ShowsFurther image BadCount block
+  short : {block : ℕ} → Faults.IsOfs image → Faults.IsInnerData image block → held_count image block ≢ OFS_ROOM → ShowsFurther image BadCount block
+  none : {file i block : ℕ} {blocks : List ℕ} → Faults.IsOfs image → Faults.IsDataAt image file blocks i block → held_count image block ≡ 0 → ShowsFurther image BadCount block
+  over : {file i block : ℕ} {blocks : List ℕ} → Faults.IsOfs image → Faults.IsDataAt image file blocks i block → OFS_ROOM < held_count image block → ShowsFurther image BadCount block
+  sum : {block : ℕ} → Faults.IsOfs image → Faults.HoldsOtherSize image block → ShowsFurther image BadCount block
+  sequence : {block : ℕ} → Faults.HasBadSequence image block → ShowsFurther image BadSequence block
+
+module _ (image : List ℕ) (last : List Bool) (w : AreStepsNoted image last) where
+  look_at : (block : ℕ) (role : Role) → IsListed w.steps (step_of block role) → IsLookedAt image w.looked (step_of block role)
+  look_at block role at = w.looks.looked at.0 (step_of block role) (slice_get_within w.steps at.0 (step_of block role) at.1) at.1
+
+  -- the block was w.looked at in a role of this kind
+  root_look : (block : ℕ) → block ≡ root_of image → IsLookedAt image w.looked (step_of block Root)
+  root_look block e = subst (λ (b : ℕ). IsLookedAt image w.looked (step_of b Root)) (sym e) (look_at (root_of image) Root w.covered.root)
+
+  entry_look : (block dir s : ℕ) → Reached image block (Entry dir s) → (d : ℕ) × (t : ℕ) × IsLookedAt image w.looked (step_of block (Entry d t))
+  entry_look block dir s h = let at = entry_listed w.steps block dir s (w.covered.covered block (Entry dir s) h) in (at.0, at.1, look_at block (Entry at.0 at.1) at.2)
+
+  data_look : (block file : ℕ) → Reached image block (Data file) → (f : ℕ) × IsLookedAt image w.looked (step_of block (Data f))
+  data_look block file h = let at = data_listed w.steps block file (w.covered.covered block (Data file) h) in (at.0, look_at block (Data at.0) at.1)
+
+  extension_look : (block file : ℕ) → Reached image block (Extension file) → (f : ℕ) × IsLookedAt image w.looked (step_of block (Extension f))
+  extension_look block file h = let at = extension_listed w.steps block file (w.covered.covered block (Extension file) h) in (at.0, look_at block (Extension at.0) at.1)
+
+  -- the block was w.looked at in a role with another number than a field has
+  other_look : (block : ℕ) (role : Role) (part : Part) (n field : ℕ) → Reached image block role → number_of part role ≡ Some n → field ≢ n
+      → (m : ℕ) × (r : Role) × (number_of part r ≡ Some m) × (field ≢ m) × IsLookedAt image w.looked (step_of block r)
+  other_look block role part n field h is apart =
+      let o = other_number w.steps block part n field apart ((w.covered.covered block role h).covered part n is) in
+      (o.0, o.1.0.role, o.1.0.number, o.1.1, look_at block o.1.0.role o.1.0.listed)
+
+  sum_in : (block : ℕ) (role : Role) → IsLookedAt image w.looked (step_of block role) → HasSum image role → block_sum image block ≢ 0 → IsNoted last (cell_of BadSum block)
+  sum_in block role look summed wrong = w.after_looks.stay (cell_of BadSum block) (look.wrongs.sum (summed, wrong))
+
+  sum_noted : (block : ℕ) (role : Role) → Reached image block role → HasSum image role → block_sum image block ≢ 0 → IsNoted last (cell_of BadSum block)
+  sum_noted block Root h summed wrong = sum_in block Root (root_look block (root_only h refl)) summed wrong
+  sum_noted block Page h summed wrong = sum_in block Page (look_at block Page (page_listed w.steps block (w.covered.covered block Page h))) summed wrong
+  sum_noted block (Entry d s) h summed wrong = let look = entry_look block d s h in sum_in block (Entry look.0 look.1) look.2 summed wrong
+  sum_noted block (Data f) h summed wrong = let look = data_look block f h in sum_in block (Data look.0) look.1 summed wrong
+  sum_noted block (Extension f) h summed wrong = let look = extension_look block f h in sum_in block (Extension look.0) look.1 summed wrong
+
+  types_noted : (block : ℕ) (role : Role) → IsLookedAt image w.looked (step_of block role) → HasBadTypeAs image block role → IsNoted last (cell_of BadType block)
+  types_noted block role look wrong = w.after_looks.stay (cell_of BadType block) (look.wrongs.types wrong)
+
+  type_noted : (block : ℕ) → Faults.HasBadType image block → IsNoted last (cell_of BadType block)
+  type_noted block (Faults.HasBadType.root_primary e n) = types_noted block Root (root_look block e) (inl n)
+  type_noted block (Faults.HasBadType.root_table e n) = types_noted block Root (root_look block e) (inr (inl n))
+  type_noted block (Faults.HasBadType.root_secondary e n) = types_noted block Root (root_look block e) (inr (inr n))
+  type_noted block (Faults.HasBadType.entry_primary h n) = let look = entry_look block h.0 h.1 h.2 in types_noted block (Entry look.0 look.1) look.2 (inl n)
+  type_noted block (Faults.HasBadType.entry_secondary h d f k) = let look = entry_look block h.0 h.1 h.2 in types_noted block (Entry look.0 look.1) look.2 (inr (d, f, k))
+  type_noted block (Faults.HasBadType.extension_primary h n) = let look = extension_look block h.0 h.1 in types_noted block (Extension look.0) look.1 (inl n)
+  type_noted block (Faults.HasBadType.extension_secondary h n) = let look = extension_look block h.0 h.1 in types_noted block (Extension look.0) look.1 (inr n)
+  type_noted block (Faults.HasBadType.data_primary o h n) = let look = data_look block h.0 h.1 in types_noted block (Data look.0) look.1 (o, n)
+
+  field_noted : (block : ℕ) (role : Role) (rule : FieldRule) → IsLookedAt image w.looked (step_of block role) → HasBadField image block role rule → IsNoted last (cell_of (kind_of rule) block)
+  field_noted block role rule look wrong = w.after_looks.stay (cell_of (kind_of rule) block) (look.wrongs.fields rule wrong)
+
+  key_noted : (block : ℕ) → Faults.HasBadOwnKey image block → IsNoted last (cell_of BadOwnKey block)
+  key_noted block (Faults.HasBadOwnKey.entry_key h n) = let look = entry_look block h.0 h.1 h.2 in field_noted block (Entry look.0 look.1) OwnKey look.2 n
+  key_noted block (Faults.HasBadOwnKey.extension_key h n) = let look = extension_look block h.0 h.1 in field_noted block (Extension look.0) OwnKey look.1 n
+
+  parent_noted : (block : ℕ) → Faults.HasBadParent image block → IsNoted last (cell_of BadParent block)
+  parent_noted block (Faults.HasBadParent.root_parent e n) = field_noted block Root Parent (root_look block e) n
+  parent_noted block (Faults.HasBadParent.entry_parent {dir = d} {s = s} h n) =
+      let o = other_look block (Entry d s) Directory d (parent_key image block) h refl n in
+      let r = directory_role o.1 o.0 o.2 in
+      field_noted block (Entry o.0 r.0) Parent (subst (λ (x : Role). IsLookedAt image w.looked (step_of block x)) r.1 o.4) o.3
+  parent_noted block (Faults.HasBadParent.extension_file {file = f} h n) =
+      let o = other_look block (Extension f) ExtensionFile f (parent_key image block) h refl n in
+      field_noted block (Extension o.0) Parent (subst (λ (x : Role). IsLookedAt image w.looked (step_of block x)) (extension_role o.1 o.0 o.2) o.4) o.3
+  parent_noted block (Faults.HasBadParent.data_file {file = f} ofs h n) =
+      let o = other_look block (Data f) DataFile f (own_key image block) h refl n in
+      field_noted block (Data o.0) Parent (subst (λ (x : Role). IsLookedAt image w.looked (step_of block x)) (data_role o.1 o.0 o.2) o.4) (ofs, o.3)
+
+  chain_noted : (block : ℕ) → Faults.IsInWrongChain image block → IsNoted last (cell_of WrongChain block)
+  chain_noted block h =
+      let o = other_look block (Entry h.dir h.slot_of_chain) Slot h.slot_of_chain (slot (text_at image block NAME_BYTE)) h.reached refl h.wrong in
+      let r = slot_role o.1 o.0 o.2 in
+      field_noted block (Entry r.0 o.0) Chain (subst (λ (x : Role). IsLookedAt image w.looked (step_of block x)) r.1 o.4) (record { short = h.short; wrong = o.3 })
+
+  bad_name_noted : (block : ℕ) → HasName image block → Faults.HasBadName image block → IsNoted last (cell_of BadName block)
+  bad_name_noted block (HasName.root_name e) bad = field_noted block Root Name (root_look block e) bad
+  bad_name_noted block (HasName.entry_name h) bad = let look = entry_look block h.0 h.1 h.2 in field_noted block (Entry look.0 look.1) Name look.2 bad
+
+  comment_noted : (block : ℕ) → Faults.HasBadComment image block → IsNoted last (cell_of BadComment block)
+  comment_noted block (Faults.HasBadComment.directory_comment h k) = let look = entry_look block h.dir h.slot_of_chain h.reached in field_noted block (Entry look.0 look.1) Comment look.2 (inl h.secondary, k)
+  comment_noted block (Faults.HasBadComment.file_comment h k) = let look = entry_look block h.dir h.slot_of_chain h.reached in field_noted block (Entry look.0 look.1) Comment look.2 (inr h.secondary, k)
+
+  pointers_noted : (block : ℕ) → Faults.HasPointers image block → HasOtherCount image block → IsNoted last (cell_of BadCount block)
+  pointers_noted block (Faults.HasPointers.file_pointers h) n = let look = entry_look block h.dir h.slot_of_chain h.reached in field_noted block (Entry look.0 look.1) PointerCount look.2 (h.secondary, n)
+  pointers_noted block (Faults.HasPointers.extension_pointers h) n = let look = extension_look block h.0 h.1 in field_noted block (Extension look.0) PointerCount look.1 (inr n)
+
+  free_noted : (block : ℕ) (role : Role) → Reached image block role → IsMarkedFree image block → IsNoted last (cell_of MarkedFree block)
+  free_noted block Root h free = w.after_looks.stay (cell_of MarkedFree block) ((root_look block (root_only h refl)).free free)
+  free_noted block Page h free = w.after_looks.stay (cell_of MarkedFree block) ((look_at block Page (page_listed w.steps block (w.covered.covered block Page h))).free free)
+  free_noted block (Entry d s) h free = w.after_looks.stay (cell_of MarkedFree block) ((entry_look block d s h).2.free free)
+  free_noted block (Data f) h free = w.after_looks.stay (cell_of MarkedFree block) ((data_look block f h).1.free free)
+  free_noted block (Extension f) h free = w.after_looks.stay (cell_of MarkedFree block) ((extension_look block f h).1.free free)
+
+  pointer_noted : (block : ℕ) → Faults.HasBadPointer image block → IsNoted last (cell_of BadPointer block) ⊎ ShowsFurther image BadPointer block
+  pointer_noted block (Faults.HasBadPointer.outside {i = i} {role = r} {next = n} h place out) = inl (w.after_walk.stay (cell_of BadPointer block) (w.outside.noted block i r n h place out))
+  pointer_noted block (Faults.HasBadPointer.first_data ofs h wrong) =
+      inl (let look = entry_look block h.dir h.slot_of_chain h.reached in field_noted block (Entry look.0 look.1) FirstData look.2 (h.secondary, (ofs, wrong)))
+  pointer_noted block (Faults.HasBadPointer.further_data ofs at wrong) = inr (ShowsFurther.link ofs at wrong)
+
+  count_noted : (block : ℕ) → Faults.HasBadCount image block → IsNoted last (cell_of BadCount block) ⊎ ShowsFurther image BadCount block
+  count_noted block (Faults.HasBadCount.over h l) = inl (pointers_noted block h (inl l))
+  count_noted block (Faults.HasBadCount.not_full h l n) = inl (pointers_noted block h (inr (l, n)))
+  count_noted block (Faults.HasBadCount.no_pointer h e) = inl (let look = extension_look block h.0 h.1 in field_noted block (Extension look.0) PointerCount look.1 (inl e))
+  count_noted block (Faults.HasBadCount.wrong_size d n) = inr (ShowsFurther.size d n)
+  count_noted block (Faults.HasBadCount.held_not_full ofs h n) = inr (ShowsFurther.short ofs h n)
+  count_noted block (Faults.HasBadCount.held_none ofs at e) = inr (ShowsFurther.none ofs at e)
+  count_noted block (Faults.HasBadCount.held_over ofs at l) = inr (ShowsFurther.over ofs at l)
+  count_noted block (Faults.HasBadCount.wrong_sum ofs h) = inr (ShowsFurther.sum ofs h)
+
+  pub noted_or_further : (kind : FaultKind) (block : ℕ) → Shows image kind block → IsNoted last (cell_of kind block) ⊎ ShowsFurther image kind block
+  noted_or_further NotADosDisk block h = inr (ShowsFurther.not_dos h)
+  noted_or_further UnsupportedKind block h = inr (ShowsFurther.unsupported h)
+  noted_or_further BadSum block h = inl (sum_noted block h.role h.reached h.summed h.wrong)
+  noted_or_further BadType block h = inl (type_noted block h)
+  noted_or_further BadOwnKey block h = inl (key_noted block h)
+  noted_or_further BadParent block h = inl (parent_noted block h)
+  noted_or_further BadPointer block h = pointer_noted block h
+  noted_or_further BlockUsedTwice block h = inl (w.after_walk.stay (cell_of BlockUsedTwice block) (w.twice.noted block h))
+  noted_or_further WrongChain block h = inl (chain_noted block h)
+  noted_or_further BadName block h = inl (bad_name_noted block (has_name image block h) h)
+  noted_or_further DuplicateName block h = inr (ShowsFurther.name h)
+  noted_or_further BadComment block h = inl (comment_noted block h)
+  noted_or_further BadCount block h = count_noted block h
+  noted_or_further BadSequence block h = inr (ShowsFurther.sequence h)
+  noted_or_further LinkEntry block h = inl (let look = entry_look block h.0.0 h.0.1 h.0.2 in field_noted block (Entry look.0 look.1) NoLink look.2 h.1)
+  noted_or_further MarkedFree block h = inl (free_noted block h.role h.reached (record { valid = h.valid; page = h.page; free = h.free }))
+  noted_or_further NoMemory block h = absurd h
