@@ -1,8 +1,7 @@
 -- Each fault that an image shows is noted at a step of the walk, or shows only further.
-use Rattle.std.proofs.Common.{◌≡◌, ◌≢◌, ℕ, ◌+◌, ◌<◌, ◌⊎◌, List, Bool, length, get_or, Some, None, inl, inr, refl, sym, ◌∙◌, subst, arith}
-use Rattle.std.specs.List.{slice_get}
-use Rattle.std.proofs.lemmas.Option.{none-some, slice_get-get_or, slice_get_within, unwrap_or-slice_get}
-use Rattle.adf_block.specs.Whole.{IsImage, text_at}
+use Rattle.std.proofs.Common.{◌≡◌, ◌≢◌, ℕ, ◌<◌, ◌⊎◌, List, Bool, length, Some, inl, inr, refl, sym, subst}
+use Rattle.std.proofs.lemmas.Option.{slice_get_within}
+use Rattle.adf_block.specs.Whole.{text_at}
 use Rattle.adf_block.specs.Image.{block_sum}
 use Rattle.adf_block.specs.Fields.{held_count, own_key, parent_key}
 use Rattle.adf_block.specs.declared.layout.TheConstants.{NAME_BYTE, OFS_ROOM}
@@ -17,8 +16,6 @@ use Rattle.ados_check.specs.Rules.{HasBadField, HasBadTypeAs, HasOtherCount, kin
 use Rattle.ados_check.specs.declared.rules.FieldRule.{FieldRule}
 use Rattle.ados_check.specs.declared.rules.FieldRule.TheVariants.{NoLink, OwnKey, Parent, Name, Chain, Comment, PointerCount, FirstData}
 use Rattle.ados_faults.specs.declared.walk.Step.{Step}
-use Rattle.ados_faults.specs.steps.FileNotes.{AreAllFilesNoted, IsFileNoted, IsPlaceNoted}
-use Rattle.ados_faults.specs.steps.Named.{AreDuplicatesNoted}
 use Rattle.ados_faults.specs.steps.Looks.{AreLookedAt, IsLookedAt}
 use Rattle.ados_faults.specs.steps.Noted.{AreStillNoted, IsNoted, cell_of}
 use Rattle.ados_faults.specs.declared.roles.Part.{Part}
@@ -27,8 +24,6 @@ use Rattle.ados_faults.specs.steps.Roles.{AreCovered, IsListed, number_of, step_
 use Rattle.ados_faults.specs.steps.Walked.{AreOutsideNoted, AreTwiceNoted, IsMarkedFree}
 use Rattle.ados_faults.proofs.Covering.{data_listed, data_role, directory_role, entry_listed, extension_listed, extension_role, other_number, page_listed, slot_role}
 use Rattle.ados_faults.proofs.Closing.{root_only}
-use Rattle.ados_faults.proofs.Insides.{reached_inside}
-use Rattle.ados_faults.proofs.Sameness.{names_equal}
 
 has_name : (image : List ℕ) (block : ℕ) → Faults.HasBadName image block → HasName image block
 has_name image block (Faults.HasBadName.empty h e) = h
@@ -146,7 +141,7 @@ module _ (image : List ℕ) (last : List Bool) (w : AreStepsNoted image last) wh
   pointers_noted block (Faults.HasPointers.file_pointers h) n = let look = entry_look block h.dir h.slot_of_chain h.reached in field_noted block (Entry look.0 look.1) PointerCount look.2 (h.secondary, n)
   pointers_noted block (Faults.HasPointers.extension_pointers h) n = let look = extension_look block h.0 h.1 in field_noted block (Extension look.0) PointerCount look.1 (inr n)
 
-  free_noted : (block : ℕ) (role : Role) → Reached image block role → IsMarkedFree image block → IsNoted last (cell_of MarkedFree block)
+  pub free_noted : (block : ℕ) (role : Role) → Reached image block role → IsMarkedFree image block → IsNoted last (cell_of MarkedFree block)
   free_noted block Root h free = w.after_looks.stay (cell_of MarkedFree block) ((root_look block (root_only h refl)).free free)
   free_noted block Page h free = w.after_looks.stay (cell_of MarkedFree block) ((look_at block Page (page_listed w.steps block (w.covered.covered block Page h))).free free)
   free_noted block (Entry d s) h free = w.after_looks.stay (cell_of MarkedFree block) ((entry_look block d s h).2.free free)

@@ -102,9 +102,16 @@ before_by_cell fault other l = elim (cases_lt fault.block other.block) [
       inr (blocks, omega (arith, l, blocks)))
 ]
 
+-- a set cell is one of the cells
+pub set_within : (cells : List Bool) (cell : ℕ) → IsNoted cells cell → cell < length cells
+set_within [] cell e = absurd (false≢true e)
+set_within (x ∷ xs) zero e = omega arith
+set_within (x ∷ xs) (suc cell) e = let l = set_within xs cell e in omega (arith, l)
+
 pub none_listed : (image : List ℕ) (cells : List Bool) (most : ℕ) → AreListed image cells most 0 []
 none_listed image cells most = record {
   lists = record { shown = λ k d l. absurd (omega (arith, l)); in_order = λ i j d l m. absurd (omega (arith, m)); few = omega arith };
+  count = omega arith;
   cells_below = λ k d l. absurd (omega (arith, l));
   some = λ cell l e. absurd (omega (arith, l));
   each = λ kind block l e. absurd (omega (arith, l));
@@ -115,6 +122,7 @@ module _ (image : List ℕ) (cells : List Bool) (most below : ℕ) (faults : Lis
   pub listed_past : get_or cells below false ≡ false → AreListed image cells most (below + 1) faults
   listed_past unset = record {
     lists = a.lists;
+    count = let few = a.count in omega (arith, few);
     cells_below = λ k d l. let b = a.cells_below k d l in omega (arith, b);
     some = λ cell l e. elim (cases_lt cell below) [
       | inl before ↦ a.some cell before e
@@ -139,6 +147,7 @@ module _ (image : List ℕ) (cells : List Bool) (most below : ℕ) (faults : Lis
     listed_full full = record {
       lists = a.lists;
       full = full;
+      room = let few = a.count in omega (arith, full, few, set_within cells below is_set);
       first = λ kind block e. elim (cases_lt (cell_of kind block) below) [
         | inl before ↦ inl (a.each kind block before e)
         | inr not_before ↦ inr (λ k d l. before_by_cell (get_or faults k d) (fault_of kind block) (let b = a.cells_below k d l in omega (arith, b, not_before)))
@@ -154,6 +163,7 @@ module _ (image : List ℕ) (cells : List Bool) (most below : ℕ) (faults : Lis
       in_order = pushed_order fault here is_set;
       few = omega (arith, grown, room);
     };
+    count = let few = a.count in omega (arith, grown, few);
     cells_below = All-push (λ (f : VolumeFault). cell_at f < below + 1) faults fault (λ k d l. let b = a.cells_below k d l in omega (arith, b)) (omega (arith, here));
     some = λ cell l e. omega (arith, grown);
     each = λ kind block l e. elim (cases_lt (cell_of kind block) below) [
@@ -169,12 +179,6 @@ module _ (image : List ℕ) (cells : List Bool) (most below : ℕ) (faults : Lis
 
       grown : length (faults ++ fault ∷ []) ≡ length faults + 1
       grown = length_push faults fault
-
--- a set cell is one of the cells
-pub set_within : (cells : List Bool) (cell : ℕ) → IsNoted cells cell → cell < length cells
-set_within [] cell e = absurd (false≢true e)
-set_within (x ∷ xs) zero e = omega arith
-set_within (x ∷ xs) (suc cell) e = let l = set_within xs cell e in omega (arith, l)
 
 -- the faults of all cells
 pub all_listed : (image : List ℕ) (cells : List Bool) (most below : ℕ) (faults : List VolumeFault) → AreListed image cells most below faults → length cells ≤ below → ListsNoted cells faults
@@ -241,6 +245,10 @@ first_faults image cells most more faults noted full whole few sorted = record {
     none_left m last =
         not_longer m.faults faults m.in_order sorted (fault_of NoMemory 0)
         (λ k l. let f = get_or m.faults k (fault_of NoMemory 0) in whole last f.kind f.block (noted f.kind f.block (m.shown k (fault_of NoMemory 0) l))) most few m.many
+
+-- more than so many are more than fewer
+pub more_than_fewer : (image : List ℕ) (most enough : ℕ) → most ≤ enough → ShowsMoreThan image enough → ShowsMoreThan image most
+more_than_fewer image most enough within m = record { faults = m.faults; shown = m.shown; in_order = m.in_order; many = let l = m.many in omega (arith, within, l) }
 
 pub no_faults : (image : List ℕ) (most : ℕ) → ShowsNoFault image → AreFirstFaults image most false []
 no_faults image most none = record {

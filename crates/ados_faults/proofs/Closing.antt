@@ -1,6 +1,6 @@
 -- Marks and steps of a walk; that each block a marked one names is marked in the end, and that the steps cover each
 -- role in which a block is reached.
-use Rattle.std.proofs.Common.{◌≡◌, ◌≢◌, ℕ, ◌+◌, ◌-◌, ◌*◌, ◌<◌, ◌≤◌, ◌⊎◌, inl, inr, Bool, List, [], ◌∷◌, ◌++◌, length, get_or, Option, Some, None, set, refl, sym, ap, ◌∙◌, subst, arith}
+use Rattle.std.proofs.Common.{◌≡◌, ◌≢◌, ℕ, ◌+◌, ◌-◌, ◌<◌, ◌≤◌, ◌⊎◌, inl, inr, Bool, List, [], ◌∷◌, ◌++◌, length, Some, None, set, refl, sym, ap, ◌∙◌, subst, arith}
 use Rattle.std.specs.List.{All, slice_get}
 use Rattle.std.proofs.lemmas.Bool.{cases_eq, cases_lt}
 use Rattle.std.proofs.lemmas.List.{length_push, get_or_push, get_or_append_left}
@@ -8,7 +8,7 @@ use Rattle.std.proofs.lemmas.List.Elements.{All-push}
 use Rattle.std.proofs.lemmas.Option.{same_Some, slice_get-get_or, slice_get_within}
 use Rattle.adf_block.specs.Whole.{IsImage}
 use Rattle.adf_block.specs.Image.{block_count, long, page_count}
-use Rattle.adf_block.specs.declared.layout.TheConstants.{FIRST_SLOT, FIRST_PAGE, FIRST_POINTER, NEXT_IN_CHAIN, NEXT_EXTENSION}
+use Rattle.adf_block.specs.declared.layout.TheConstants.{FIRST_POINTER, NEXT_IN_CHAIN, NEXT_EXTENSION}
 use Rattle.ados_model.specs.declared.role.Role.{Role}
 use Rattle.ados_model.specs.declared.role.Role.TheVariants.{Root, Page, Entry, Data, Extension}
 use Rattle.ados_model.specs.declared.fault.FaultKind.TheVariants.{BadPointer, BlockUsedTwice}
@@ -21,7 +21,7 @@ use Rattle.ados_check.specs.Marks.{mark_at}
 use Rattle.ados_check.proofs.MarkLemmas.{IsMarkedMore, marked_more}
 use Rattle.ados_check.proofs.PlaceLemmas.{place_within}
 use Rattle.ados_faults.specs.declared.roles.Part.{Part}
-use Rattle.ados_faults.specs.declared.roles.Part.TheVariants.{Bitmap, Directory, Slot, DataFile, ExtensionFile}
+use Rattle.ados_faults.specs.declared.roles.Part.TheVariants.{Directory, Slot, DataFile, ExtensionFile}
 use Rattle.ados_faults.specs.declared.roles.Taken.{Taken}
 use Rattle.ados_faults.specs.declared.walk.Step.{Step}
 use Rattle.ados_faults.specs.declared.walk.Walk.{Walk}
@@ -29,7 +29,7 @@ use Rattle.ados_faults.specs.Listed.{AreClosed, IsMarked, IsNamedAs, Marks, root
 use Rattle.ados_faults.specs.steps.Noted.{IsNoted, cell_of}
 use Rattle.ados_faults.specs.steps.Roles.{AreBacked, AreCovered, AreCoveredBy, IsCovered, IsListed, number_of, root_step, step_of}
 use Rattle.ados_faults.specs.steps.Walked.{AreKept, AreOutsideNoted, AreTwiceNoted, AreVisited, IsMarkedBy, IsMetBy, IsPassed, IsStep, IsVisited, IsWalked}
-use Rattle.ados_faults.proofs.Covering.{backed_on, carried, covered_here, covered_on, data_covered, data_listed, directory_role, entry_covered, entry_listed, extension_covered, extension_listed, extension_role, none_of_root, slot_role}
+use Rattle.ados_faults.proofs.Covering.{backed_on, carried, covered_on, data_covered, directory_role, entry_covered, entry_listed, extension_covered, extension_listed, extension_role, none_of_root, slot_role}
 use Rattle.ados_faults.proofs.Insides.{root_inside}
 
 -- ---- one more step in a list

@@ -1,5 +1,5 @@
 -- The numbers in the roles of a block that a walk takes, and the roles that its steps cover.
-use Rattle.std.proofs.Common.{◌≡◌, ◌≢◌, ℕ, ◌+◌, ◌*◌, ◌<◌, ◌≤◌, ◌⊎◌, ◌==◌, inl, inr, Bool, true, false, not, List, [], ◌∷◌, length, get_or, replicate, Option, Some, None, set, refl, sym, ap, ◌∙◌, subst, arith, length-set, get_or-set_same, get_or-set_other}
+use Rattle.std.proofs.Common.{◌≡◌, ◌≢◌, ℕ, ◌+◌, ◌*◌, ◌<◌, ◌==◌, inl, inr, true, false, List, [], ◌∷◌, length, get_or, replicate, Some, set, refl, sym, ap, ◌∙◌, subst, arith, get_or-set_same, get_or-set_other}
 use Rattle.std.proofs.lemmas.Bool.{cases_eq, cases_lt, eqb-true, eqb-false, false≢true, not-true, not-false}
 use Rattle.std.proofs.lemmas.List.{get_or_default, get_or_past, length-replicate, get_or-replicate}
 use Rattle.std.proofs.lemmas.Option.{none-some, same_Some}

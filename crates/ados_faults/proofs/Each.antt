@@ -1,33 +1,16 @@
 -- Each fault that an image shows is noted: at a step, in a directory, or at a file.
-use Rattle.std.proofs.Common.{◌≡◌, ◌≢◌, ℕ, ◌+◌, ◌<◌, List, Bool, length, get_or, Some, None, inl, inr, refl, sym, ◌∙◌, subst, arith}
+use Rattle.std.proofs.Common.{◌≢◌, ℕ, ◌+◌, ◌<◌, List, Bool, length, get_or, None, inl, inr, sym, ◌∙◌, subst, arith}
 use Rattle.std.specs.List.{slice_get}
-use Rattle.std.proofs.lemmas.Option.{none-some, slice_get-get_or, slice_get_within, unwrap_or-slice_get}
-use Rattle.adf_block.specs.Whole.{IsImage, text_at}
-use Rattle.adf_block.specs.Image.{block_sum}
-use Rattle.adf_block.specs.Fields.{own_key, parent_key}
-use Rattle.adf_block.specs.declared.layout.TheConstants.{NAME_BYTE}
-use Rattle.ados_name.specs.Name.{slot}
+use Rattle.std.proofs.lemmas.Option.{none-some, slice_get-get_or, unwrap_or-slice_get}
+use Rattle.adf_block.specs.Whole.{IsImage}
 use Rattle.ados_model.specs.declared.fault.FaultKind.{FaultKind}
-use Rattle.ados_model.specs.declared.fault.FaultKind.TheVariants.{NotADosDisk, UnsupportedKind, BadSum, BadType, BadOwnKey, BadParent, BadPointer, BlockUsedTwice, WrongChain, BadName, DuplicateName, BadComment, BadCount, BadSequence, LinkEntry, MarkedFree, NoMemory}
-use Rattle.ados_model.specs.declared.role.Role.{Role}
-use Rattle.ados_model.specs.declared.role.Role.TheVariants.{Root, Page, Entry, Data, Extension}
+use Rattle.ados_model.specs.declared.fault.FaultKind.TheVariants.{NotADosDisk, UnsupportedKind, BadPointer, DuplicateName, BadCount, BadSequence}
 use Rattle.ados_model.specs.Faults
 use Rattle.ados_model.specs.Faults.{HasName, HasSum, Reached, Shows, root_of}
-use Rattle.ados_check.specs.Rules.{HasBadField, HasBadTypeAs, HasOtherCount, kind_of}
-use Rattle.ados_check.specs.declared.rules.FieldRule.{FieldRule}
-use Rattle.ados_check.specs.declared.rules.FieldRule.TheVariants.{NoLink, OwnKey, Parent, Name, Chain, Comment, PointerCount, FirstData}
-use Rattle.ados_faults.specs.declared.walk.Step.{Step}
 use Rattle.ados_faults.specs.steps.FileNotes.{AreAllFilesNoted, IsFileNoted, IsPlaceNoted}
 use Rattle.ados_faults.specs.steps.Named.{AreDuplicatesNoted}
-use Rattle.ados_faults.specs.steps.Looks.{AreLookedAt, IsLookedAt}
 use Rattle.ados_faults.specs.steps.Noted.{AreStillNoted, IsNoted, cell_of}
-use Rattle.ados_faults.specs.declared.roles.Part.{Part}
-use Rattle.ados_faults.specs.declared.roles.Part.TheVariants.{Directory, Slot, DataFile, ExtensionFile}
-use Rattle.ados_faults.specs.steps.Roles.{AreCovered, IsListed, number_of, step_of}
-use Rattle.ados_faults.specs.steps.Walked.{AreOutsideNoted, AreTwiceNoted, IsMarkedFree}
 use Rattle.ados_faults.proofs.AtSteps.{AreStepsNoted, ShowsFurther, noted_or_further}
-use Rattle.ados_faults.proofs.Covering.{data_listed, data_role, directory_role, entry_listed, extension_listed, extension_role, other_number, page_listed, slot_role}
-use Rattle.ados_faults.proofs.Closing.{root_only}
 use Rattle.ados_faults.proofs.Insides.{reached_inside}
 use Rattle.ados_faults.proofs.Sameness.{names_equal}
 

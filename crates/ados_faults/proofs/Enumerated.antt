@@ -1,14 +1,14 @@
 -- Lists of blocks with a cell for each block, and the entries of a directory in such a list.
-use Rattle.std.proofs.Common.{◌≡◌, ◌≢◌, ℕ, ◌+◌, ◌<◌, ◌≤◌, ◌⊎◌, inl, inr, Bool, true, false, List, [], ◌∷◌, ◌++◌, length, get_or, slice_index, replicate, set, refl, sym, ap, ◌∙◌, subst, arith, length-set, get_or-set_same, get_or-set_other}
+use Rattle.std.proofs.Common.{◌≡◌, ◌≢◌, ℕ, ◌+◌, ◌<◌, ◌≤◌, inl, inr, Bool, true, false, List, [], ◌∷◌, ◌++◌, length, get_or, slice_index, replicate, set, refl, sym, ap, ◌∙◌, subst, arith, length-set, get_or-set_same, get_or-set_other}
 use Rattle.std.specs.List.{All, Contains}
 use Rattle.std.proofs.lemmas.Bool.{cases_eq, cases_lt, false≢true}
-use Rattle.std.proofs.lemmas.List.{get_or_append_left, get_or_default, get_or_past, get_or-replicate, length-replicate, length_push}
+use Rattle.std.proofs.lemmas.List.{get_or_append_left, get_or_default, get_or_past, get_or-replicate, length-replicate}
 use Rattle.std.proofs.lemmas.List.Elements.{All-push, Contains-append_left, Contains-push, Contains-push_cases}
 use Rattle.adf_block.specs.Image.{block_count, long}
 use Rattle.adf_block.specs.declared.layout.TheConstants.{FIRST_SLOT, NEXT_IN_CHAIN, TABLE_LONGS}
 use Rattle.ados_model.specs.declared.role.Role.{Role}
-use Rattle.ados_model.specs.declared.role.Role.TheVariants.{Root, Page, Entry, Data, Extension}
-use Rattle.ados_model.specs.Faults.{InImage, IsDirectory, IsPlace, LeadsInside, Reached, root_of}
+use Rattle.ados_model.specs.declared.role.Role.TheVariants.{Root, Entry}
+use Rattle.ados_model.specs.Faults.{InImage, IsPlace, LeadsInside, Reached}
 use Rattle.ados_model.specs.Faults.IsPlace.{root_page, root_slot, directory_slot, next_entry, header_pointer, first_extension, extension_pointer, further_extension}
 use Rattle.ados_model.specs.Faults.Reached.{start, named}
 use Rattle.ados_faults.specs.steps.Blocks.{AreEntriesOf, AreMet, AreNextMet, AreSlotsMet, HoldsEntries, IsEntryIn, IsGrown}

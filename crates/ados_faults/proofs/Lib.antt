@@ -20,3 +20,4 @@ pub mod SameBlocks
 pub mod FileNotes
 pub mod ByHeaders
 pub mod Rooted
+pub mod Searching

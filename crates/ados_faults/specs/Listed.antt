@@ -63,6 +63,19 @@ pub record IsTangled (image : List ℕ) : Type 0 where
   pub once : AllPairs (λ a b. a ≢ b) steps
   pub many : 4 * block_count image ≤ length steps
 
+-- a fault of the root is in the list if the image shows one, and so is each reached block that is marked free
+pub record ListsDoubts (image : List ℕ) (faults : List VolumeFault) : Type 0 where
+  pub root : (kind : FaultKind) → Shows image kind (root_of image) → (other : FaultKind) × Contains faults (fault_of other (root_of image))
+  pub free : (block : ℕ) → Shows image MarkedFree block → Contains faults (fault_of MarkedFree block)
+
+-- a fault that is neither a block marked free nor a wrong checksum
+abbrev pub IsOther : VolumeFault → Type 0
+IsOther fault = (fault.kind ≢ MarkedFree) × (fault.kind ≢ BadSum)
+
+-- the list has such a fault
+abbrev pub ListsOther : List VolumeFault → Type 0
+ListsOther faults = (fault : VolumeFault) × Contains faults fault × IsOther fault
+
 -- each fault that the image shows is in the list, or stands behind all of the list
 abbrev pub AreTheFirst : List ℕ → List VolumeFault → Type 0
 AreTheFirst image faults =

@@ -9,3 +9,4 @@ pub mod Named
 pub mod Looked
 pub mod FileNotes
 pub mod Looks
+pub mod Searched

@@ -14,7 +14,6 @@ mod chain;
 mod entries;
 mod file_blocks;
 mod files;
-mod first;
 mod kinds;
 mod listing;
 mod looks;
@@ -23,6 +22,7 @@ mod names;
 mod notes;
 mod pieces;
 mod roles;
+mod search;
 mod tangled;
 mod walk;
 

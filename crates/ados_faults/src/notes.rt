@@ -1,9 +1,9 @@
 //! The faults found so far: a cell for each kind of fault of each block.
-ghost use Rattle.std.specs.Prelude.{◌≡◌, ◌<◌, ◌≤◌, ◌+◌, ◌*◌, false, length, slice_index_or, true, IfOk, IsTrue};
+ghost use Rattle.std.specs.Prelude.{◌≡◌, ◌↔◌, ◌<◌, ◌≤◌, ◌+◌, ◌*◌, false, length, slice_index_or, true, IfOk, IsTrue};
 ghost use Rattle.adf_block.specs.Image.{block_count};
 ghost use Rattle.ados_model.specs.Faults.{Shows};
-ghost use Rattle.ados_faults.specs.Listed.{ListsFaults};
-ghost use Rattle.ados_faults.specs.steps.Noted.{AreListed, AreNoted, AreStillNoted, HasNote, IsFull, IsNoted, ListsNoted, cell_of};
+ghost use Rattle.ados_faults.specs.Listed.{IsOther, ListsFaults};
+ghost use Rattle.ados_faults.specs.steps.Noted.{AreListed, AreNoted, AreStillNoted, HasNote, IsFull, IsNoted, ListsNoted, NotesOther, cell_of};
 
 use crate::kinds::{KINDS, kind_at, rank_of};
 use adf_block::Image;
@@ -59,6 +59,29 @@ impl Notes {
         let _image = image;
         let cell = KINDS * block as usize + rank_of(kind);
         self.cells[cell] = true;
+    }
+
+    /// Whether a fault is noted that is neither a block marked free nor a wrong checksum.
+    pub(crate) fn has_other(&self, image: &Image) -> bool
+        requires { AreNoted image.now self.now.cells.items }
+        ensures { IsTrue result → NotesOther self.now.cells.items }
+    {
+        for cell in 0..self.cells.len() {
+            if self.is_set(cell) && is_other(fault_at(image, cell)) {
+                return true;
+            }
+        }
+        false
+    }
+
+    /// All faults.
+    pub(crate) fn all(&self, alloc: Global, image: &Image) -> Result<Vec<VolumeFault>, AllocError>
+        requires { AreNoted image.now self.now.cells.items }
+        ensures lists { IfOk result (λ faults. ListsFaults image.now (17 * block_count image.now) faults.items) }
+        ensures each { IfOk result (λ faults. ListsNoted self.now.cells.items faults.items) }
+    {
+        let listed = self.listed(alloc, image, self.cells.len())?;
+        Ok(listed.faults)
     }
 
     /// The first `most` of the faults.
@@ -136,6 +159,16 @@ impl Notes {
         ensures { result ≡ slice_index_or self.now.cells.items cell false }
     {
         self.cells[cell]
+    }
+}
+
+/// Whether a fault is neither a block marked free nor a wrong checksum.
+fn is_other(fault: VolumeFault) -> bool
+    ensures { IsTrue result ↔ IsOther fault }
+{
+    match fault.kind {
+        FaultKind::MarkedFree | FaultKind::BadSum => false,
+        _ => true,
     }
 }
 

@@ -1,7 +1,7 @@
 -- Lists of blocks, each once.
 use Rattle.std.specs.Prelude.{◌≡◌, ℕ, ◌+◌, ◌<◌, ◌⊎◌, List, [], ◌∷◌, ◌++◌, Bool, true, false, length, slice_index, slice_index_or, All, Contains}
 use Rattle.adf_block.specs.Image.{block_count, long}
-use Rattle.adf_block.specs.declared.layout.TheConstants.{FIRST_SLOT, NEXT_IN_CHAIN, TABLE_LONGS}
+use Rattle.adf_block.specs.declared.layout.TheConstants.{FIRST_SLOT, NEXT_IN_CHAIN}
 use Rattle.ados_model.specs.declared.role.Role.TheVariants.{Entry}
 use Rattle.ados_model.specs.Faults.{InImage, IsDirectory, LeadsInside, Reached, root_of}
 

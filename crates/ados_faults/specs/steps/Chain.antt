@@ -1,5 +1,5 @@
 -- The progress along the links of a file's header and extension blocks; and data blocks at their places.
-use Rattle.std.specs.Prelude.{◌≡◌, ◌≢◌, ℕ, ◌+◌, ◌*◌, ◌^◌, ◌<◌, ◌≤◌, ◌⊎◌, List, Option, Some, None, length, slice_get, slice_index, nat_lt, if◌then◌else◌, All}
+use Rattle.std.specs.Prelude.{◌≡◌, ◌≢◌, ℕ, ◌+◌, ◌^◌, ◌<◌, ◌≤◌, ◌⊎◌, List, Option, Some, None, length, slice_get, slice_index, nat_lt, if◌then◌else◌, All}
 use Rattle.adf_block.specs.Fields.{held_count}
 use Rattle.adf_block.specs.declared.layout.TheConstants.{NEXT_EXTENSION, OFS_ROOM}
 use Rattle.ados_model.specs.Faults.{AreDataBlocks, AreDistinct, FurtherAreInside, InImage, IsFile, LeadOn, LinkedOnce, pointers_of}

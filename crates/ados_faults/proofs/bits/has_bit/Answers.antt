@@ -1,5 +1,3 @@
-use Rattle.ados_faults.proofs.Each.{each_noted}
-use Rattle.ados_faults.proofs.Rooted.{root_noted}
 use Rattle.std.proofs.Common.{◌≡◌, ◌*◌, ◌-◌, ◌%◌, ◌^◌, ◌<◌, ℕ, not, eqb, arith, ap, ap₂, sym, ◌∙◌}
 use Rattle.std.specs.Prelude.{bit_and}
 use Rattle.std.proofs.lemmas.Nat.{pow_below}

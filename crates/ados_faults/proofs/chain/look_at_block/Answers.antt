@@ -1,7 +1,4 @@
-use Rattle.std.proofs.Common.{◌≡◌, ◌+◌, ◌<◌, ◌≤◌, length, inl, inr, sym, ◌∙◌}
-use Rattle.std.proofs.lemmas.Bool.{cases_lt}
-use Rattle.std.proofs.lemmas.Option.{slice_get_past, unwrap_or-slice_get}
-use Rattle.ados_model.specs.Faults.{IsDataAt}
+use Rattle.std.proofs.Common.{inl, inr, sym, ◌∙◌}
 use Rattle.ados_model.specs.Faults.HasBadCount.{held_none, held_not_full, held_over}
 use Rattle.ados_model.specs.Faults.HasBadPointer.{further_data}
 use Rattle.ados_faults.proofs.Cells.{noted_on}

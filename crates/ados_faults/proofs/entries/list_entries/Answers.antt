@@ -1,4 +1,4 @@
-use Rattle.std.proofs.Common.{List, ℕ, sym, subst, arith}
+use Rattle.std.proofs.Common.{sym, subst, arith}
 use Rattle.std.specs.List.{All}
 use Rattle.ados_faults.specs.steps.Blocks.{IsEntryIn}
 use Rattle.ados_faults.proofs.entries.list_entries.Goals as goal

@@ -1,4 +1,4 @@
-use Rattle.std.proofs.Common.{◌≡◌, ◌<◌, List, ℕ, length, flat_map, sym, ap, arith, ◌∙◌}
+use Rattle.std.proofs.Common.{List, ℕ, length, flat_map, ap, arith, ◌∙◌}
 use Rattle.std.proofs.lemmas.List.{take_all}
 use Rattle.ados_model.specs.Faults.{pointers_of}
 use Rattle.ados_faults.proofs.ByHeaders.{length_before}

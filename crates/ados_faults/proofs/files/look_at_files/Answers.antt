@@ -1,6 +1,5 @@
-use Rattle.std.proofs.Common.{get_or, length, ap, arith, ◌∙◌}
+use Rattle.std.proofs.Common.{get_or, arith}
 use Rattle.std.proofs.lemmas.Option.{slice_get-get_or}
-use Rattle.std.proofs.lemmas.List.{length-replicate}
 use Rattle.ados_model.specs.declared.role.Role.TheVariants.{Root}
 use Rattle.ados_faults.specs.steps.Roles.{step_of}
 use Rattle.ados_faults.proofs.ByHeaders.{none_seen}

@@ -1,4 +1,3 @@
-use Rattle.std.proofs.Common.{◌≡◌, refl, true}
 use Rattle.std.proofs.lemmas.Result.{IfOk-weaker}
 use Rattle.ados_faults.specs.declared.listing.AllFaults.{AllFaults}
 use Rattle.ados_faults.specs.Listed.{AreFirstFaults, IsTangled, ListsFaults, ShowsOtherKind, TellsMore}
@@ -15,8 +14,3 @@ returns-in-Some-clause-exact c =
     IfOk-weaker c.kind_alone.result (λ (found : AllFaults). ListsFaults c.args.image.now c.args.most found.faults.items)
     (λ (found : AllFaults). ¬ ShowsOtherKind c.args.image.now → TellsMore c.args.image.now c.args.most found.more)
     (λ found lists other. absurd (other (c.in-Some.kind, c.in-Some.ensures))) c.kind_alone.ensures.lists
-
-pub returns-in-None-clause-exact : goal.returns-in-None-clause-exact
-returns-in-None-clause-exact c =
-    IfOk-weaker c.faults_of.result (λ (found : AllFaults). true ≡ true → TellsMore c.args.image.now c.args.most found.more)
-    (λ (found : AllFaults). ¬ ShowsOtherKind c.args.image.now → TellsMore c.args.image.now c.args.most found.more) (λ found exact other. exact refl) c.faults_of.ensures.exact

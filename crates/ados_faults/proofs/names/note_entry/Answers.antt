@@ -1,5 +1,3 @@
-use Rattle.std.proofs.Common.{ℕ, List, Option, None, Some, sym, subst}
-use Rattle.std.specs.Option.{IfSome}
 use Rattle.ados_faults.specs.steps.Named.{HasNameOf, IsNameMet}
 use Rattle.ados_faults.proofs.Sameness.{kept_names, none_met_of, of_some, some_met_of}
 use Rattle.ados_faults.proofs.names.note_entry.Goals as goal

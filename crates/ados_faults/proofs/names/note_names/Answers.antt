@@ -1,4 +1,4 @@
-use Rattle.std.proofs.Common.{◌≡◌, ◌<◌, ℕ, Option, None, Some, length, get_or, sym, ap, arith, ◌∙◌}
+use Rattle.std.proofs.Common.{◌≡◌, None, Some, get_or, sym, arith, ◌∙◌}
 use Rattle.std.specs.List.{slice_get}
 use Rattle.std.proofs.lemmas.Option.{same_Some, slice_get-get_or}
 use Rattle.ados_faults.specs.steps.Named.{IsNameMet}

@@ -1,6 +1,5 @@
-use Rattle.std.proofs.Common.{◌≡◌, ◌+◌, ◌<◌, ℕ, slice_index, sym, ap, arith, ◌∙◌}
+use Rattle.std.proofs.Common.{◌+◌, ℕ, slice_index, sym, ap, arith, ◌∙◌}
 use Rattle.std.specs.List.{slice_get}
-use Rattle.ados_model.specs.Faults.{pointers_of}
 use Rattle.ados_faults.proofs.ByHeaders.{next_there, pointer_at}
 use Rattle.ados_faults.proofs.pieces.place_in.Goals as goal
 

@@ -1,4 +1,4 @@
-use Rattle.std.proofs.Common.{◌≡◌, ◌<◌, ◌≤◌, length, Some, refl, arith}
+use Rattle.std.proofs.Common.{◌≡◌, ◌<◌, length, Some, refl, arith}
 use Rattle.std.specs.List.{slice_get}
 use Rattle.std.proofs.lemmas.Option.{slice_get_read}
 use Rattle.ados_faults.proofs.Closing.{all_covered, closed, outside_noted, twice_noted, visited_more}

@@ -1,4 +1,4 @@
-use Rattle.std.proofs.Common.{◌≡◌, ◌<◌, length, refl, sym, subst, arith, ◌∙◌}
+use Rattle.std.proofs.Common.{refl, sym, arith, ◌∙◌}
 use Rattle.std.proofs.lemmas.Bool.{false≢true}
 use Rattle.ados_faults.proofs.FileNotes.{checked_here, checked_on}
 use Rattle.ados_faults.proofs.Sameness.{directories_more, holder_of}

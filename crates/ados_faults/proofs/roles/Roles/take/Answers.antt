@@ -1,6 +1,6 @@
 use Rattle.std.proofs.Common.{refl, sym, subst}
 use Rattle.ados_model.specs.declared.role.Role.{Role}
-use Rattle.ados_model.specs.declared.role.Role.TheVariants.{Page, Entry, Data, Extension}
+use Rattle.ados_model.specs.declared.role.Role.TheVariants.{Page, Data, Extension}
 use Rattle.ados_faults.specs.declared.roles.Part.TheVariants.{Bitmap, DataFile, ExtensionFile}
 use Rattle.ados_faults.specs.steps.Roles.{AreCoveredBy, IsListed, step_of}
 use Rattle.ados_faults.proofs.Covering.{data_covered, extension_covered, number_here, page_covered, root_covered}

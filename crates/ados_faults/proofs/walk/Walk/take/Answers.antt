@@ -1,4 +1,4 @@
-use Rattle.std.proofs.Common.{refl, arith, List, [], ◌∷◌, ◌++◌, sym, subst, ◌∙◌}
+use Rattle.std.proofs.Common.{refl, arith, List, [], ◌∷◌, ◌++◌, sym, subst}
 use Rattle.ados_faults.specs.declared.roles.Taken.{Taken}
 use Rattle.ados_faults.specs.declared.walk.Step.{Step}
 use Rattle.ados_faults.specs.steps.Roles.{AreCoveredBy, step_of}

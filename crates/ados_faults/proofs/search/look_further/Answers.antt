@@ -1,4 +1,4 @@
-use Rattle.ados_faults.proofs.listing.look_further.Goals as goal
+use Rattle.ados_faults.proofs.search.look_further.Goals as goal
 
 pub returns-clause-names : goal.returns-clause-names
 returns-clause-names c = λ _. record {

@@ -1,0 +1,47 @@
+use Rattle.std.proofs.Common.{List, length, subst}
+use Rattle.ados_faults.specs.declared.walk.Step.{Step}
+use Rattle.ados_faults.specs.steps.Looks.{AreLookedAt}
+use Rattle.ados_faults.specs.steps.Noted.{AreStillNoted}
+use Rattle.ados_faults.proofs.AtSteps.{AreStepsNoted, free_noted}
+use Rattle.ados_faults.proofs.Cells.{noted_on}
+use Rattle.ados_faults.proofs.Each.{each_noted}
+use Rattle.ados_faults.proofs.Rooted.{root_noted}
+use Rattle.ados_faults.proofs.search.search.Goals as goal
+
+pub returns-clause-searched : goal.returns-clause-searched
+returns-clause-searched c =
+    let image = c.args.image.now in
+    let last = c.look_at_disk.new.notes.cells.items in
+    let after_further : AreStillNoted c.look_further.new.notes.cells.items last = c.look_at_disk.ensures.stays in
+    let after_looks = noted_on c.in_ok-look_further.ensures.stays after_further in
+    let steps : AreStepsNoted image last = record {
+      walked = c.in_ok-walk.walk.notes.cells.items;
+      looked = c.look_at_all.new.notes.cells.items;
+      steps = c.in_ok-walk.walk.steps.items;
+      covered = c.in_ok-walk.ensures.covered;
+      twice = c.in_ok-walk.ensures.twice;
+      outside = c.in_ok-walk.ensures.outside;
+      after_walk = noted_on c.look_at_all.ensures.stays after_looks;
+      looks = subst (λ (xs : List Step). AreLookedAt image c.look_at_all.new.notes.cells.items xs (length xs)) c.deref.ensures.value c.look_at_all.ensures.looked;
+      after_looks = after_looks;
+    } in
+    record {
+      noted = c.look_at_disk.ensures.noted;
+      each = λ uncut kind block. each_noted image c.in_ok-walk.ensures.walked.whole last (record {
+        filed = c.look_further.new.notes.cells.items;
+        files = c.in_ok-look_further.ensures.files uncut;
+        after_files = after_further;
+        named = c.look_further.new.notes.cells.items;
+        names = c.in_ok-look_further.ensures.names uncut;
+        after_names = after_further;
+        not_dos = c.look_at_disk.ensures.not_dos;
+        unsupported = c.look_at_disk.ensures.unsupported;
+      }) steps kind block;
+      root = root_noted image c.in_ok-walk.ensures.walked.whole last steps;
+      free = λ block h. free_noted image last steps block h.role h.reached (record { valid = h.valid; page = h.page; free = h.free });
+      cut = λ cut. record {
+        tangled = c.in_ok-is_cut.ensures.tangled cut;
+        more = c.in_ok-is_cut.ensures.more cut;
+        other = let o = c.in_ok-is_cut.ensures.other cut in (o.0, after_looks.stay _ o.1, o.2);
+      };
+    }
