@@ -9,7 +9,7 @@ use crate::claims::{Claim, claims};
 use crate::intact::no_users;
 use crate::left_out::LeftOut;
 use crate::recovery::recovery_of;
-use crate::trust::{Trust, is_deleted, trust_of};
+use crate::trust::{is_deleted, trusted_marks};
 use adf_block::Image;
 use adf_block::layout::BOOT_BLOCKS;
 use ados_check::Mark;
@@ -63,13 +63,11 @@ pub enum DeletedEntries {
 pub fn deleted_entries(alloc: Global, image: &Image) -> Result<DeletedEntries, AllocError>
     ensures { IfOk result (TellsDeleted image.now) }
 {
-    match trust_of(alloc, image)? {
-        Trust::Trusted(marks) => {
-            let found = all_deleted(alloc, image, &marks)?;
-            Ok(DeletedEntries::Found(found))
-        }
-        Trust::NotTrusted => Ok(DeletedEntries::NoTrustedBitmap),
-    }
+    let Some(marks) = trusted_marks(alloc, image)? else {
+        return Ok(DeletedEntries::NoTrustedBitmap);
+    };
+    let found = all_deleted(alloc, image, &marks)?;
+    Ok(DeletedEntries::Found(found))
 }
 
 /// All deleted entries of an image with a trusted bitmap.

@@ -5,7 +5,7 @@ ghost use Rattle.ados_faults.specs.Listed.{ListsDoubts};
 ghost use Rattle.ados_map.specs.Pages.{page_block, pages_of};
 ghost use Rattle.ados_model.specs.Faults.{InImage, Shows};
 ghost use Rattle.adf_salvage.specs.Deleted.{AreTrustedPages, IsDeleted, IsTrustedBitmap, IsTrustedPage};
-ghost use Rattle.adf_salvage.specs.steps.Deleting.{IsDoubt, IsTrust, is_used};
+ghost use Rattle.adf_salvage.specs.steps.Deleting.{AreOfReached, IsDoubt, is_used};
 
 use crate::header::is_sound_header;
 use adf_block::layout::{BITMAP_FLAG, BITMAP_VALID, BOOT_BLOCKS, FIRST_PAGE, MOST_BLOCKS};
@@ -16,23 +16,18 @@ use ados_map::is_free;
 use ados_model::{FaultKind, VolumeFault};
 use std::alloc::{AllocError, Global};
 
-/// Whether the bitmap of an image can be trusted.
-#[derive(Drop)]
-pub(crate) enum Trust {
-    /// It can. For each block, the first place that names it, if one does.
-    Trusted(Vec<Option<Mark>>),
-    NotTrusted,
-}
-
-/// Whether the bitmap of an image can be trusted.
-pub(crate) fn trust_of(alloc: Global, image: &Image) -> Result<Trust, AllocError>
-    ensures { IfOk result (IsTrust image.now) }
+/// For each block the first place that names it, if one does; or `None` if the bitmap of the image cannot be trusted.
+pub(crate) fn trusted_marks(
+    alloc: Global,
+    image: &Image,
+) -> Result<Option<Vec<Option<Mark>>>, AllocError>
+    ensures { IfOk result (λ found. MatchOption found (¬ IsTrustedBitmap image.now) (λ marks. IsTrustedBitmap image.now × AreOfReached image.now marks.items)) }
 {
     let found = faults_of_any_disk(alloc, image)?;
     if !is_trusted(image, &found.faults) {
-        return Ok(Trust::NotTrusted);
+        return Ok(None);
     }
-    Ok(Trust::Trusted(found.marks))
+    Ok(Some(found.marks))
 }
 
 /// Whether the bitmap of an image with these faults can be trusted.

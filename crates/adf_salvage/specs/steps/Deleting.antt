@@ -12,8 +12,6 @@ use Rattle.ados_model.specs.Faults.{InImage, Reached, Shows, root_of}
 use Rattle.adf_salvage.specs.declared.claims.Claim.{Claim}
 use Rattle.adf_salvage.specs.declared.claims.Claim.TheVariants.{Several}
 use Rattle.adf_salvage.specs.declared.deleted.Deleted.{Deleted}
-use Rattle.adf_salvage.specs.declared.trust.Trust.{Trust}
-use Rattle.adf_salvage.specs.declared.trust.Trust.TheVariants as trusts
 use Rattle.adf_salvage.specs.Deleted.{IsDeleted, IsToldDeleted, IsTrustedBitmap}
 use Rattle.adf_salvage.specs.steps.Claims.{AreClaims}
 
@@ -29,11 +27,6 @@ pub record AreAllClaims (image : List ℕ) (claims : List Claim) : Type 0 where
 -- a fault for which a bitmap is not trusted: one at the root, or a reached block that is marked free
 abbrev pub IsDoubt : List ℕ → VolumeFault → Type 0
 IsDoubt image fault = (fault.kind ≡ MarkedFree) ⊎ (fault.block ≡ root_of image)
-
--- whether the bitmap is trusted, with marks of reached blocks if it is
-abbrev pub IsTrust : List ℕ → Trust → Type 0
-IsTrust image (trusts.Trusted marks) = IsTrustedBitmap image × AreOfReached image marks.items
-IsTrust image trusts.NotTrusted = ¬ IsTrustedBitmap image
 
 -- whether the block is one of the volume that is marked used
 abbrev pub is_used : List ℕ → ℕ → Bool
