@@ -35,7 +35,7 @@ pub fn faulty_where_text(
         Err(fault) => return Err(fault),
     };
     let cells = reached_cells(alloc, image)?;
-    let found = faults_of_any_disk(alloc, image, usize::MAX)?;
+    let found = faults_of_any_disk(alloc, image)?;
     let told = faulty_blocks(alloc, image, &cells, &found, &blocks)?;
     let text = faulty_text(alloc, count, found.more, &told, json)?;
     Ok(text)

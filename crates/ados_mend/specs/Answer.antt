@@ -5,7 +5,7 @@ use Rattle.ados_model.specs.Faults.{Shows}
 use Rattle.ados_model.specs.Rebuilt.{IsOfBitmap}
 use Rattle.ados_model.specs.declared.fault.VolumeFault.{VolumeFault}
 use Rattle.ados_mend.specs.declared.answer.NotValidated.{NotValidated}
-use Rattle.ados_mend.specs.declared.answer.NotValidated.TheVariants.{Asks, ManyFaults, Memory, OtherFault, StillFaulty}
+use Rattle.ados_mend.specs.declared.answer.NotValidated.TheVariants.{Asks, Memory, OtherFault, StillFaulty}
 use Rattle.ados_mend.specs.declared.answer.Validated.{Validated}
 use Rattle.ados_mend.specs.Mendable.{IsMendable, ShowsOnlyMendable}
 use Rattle.ados_mend.specs.Validated.{IsValidated, free_only_in}
@@ -27,7 +27,6 @@ abbrev pub IsReason : List ℕ → Bool → NotValidated → Type 0
 IsReason old force (OtherFault fault) = Shows old fault.kind fault.block × ¬ IsMendable old fault.kind fault.block
 IsReason old force (StillFaulty fault) = ShowsOnlyMendable old × StillShows old fault
 IsReason old force (Asks caution) = (force ≡ false) × ((new : List ℕ) × IsValidated old new × IsCaution old new caution)
-IsReason old force ManyFaults = ⊤
 IsReason old force Memory = ⊤
 
 abbrev pub Validates : List ℕ → Bool → Result Validated NotValidated → Type 0

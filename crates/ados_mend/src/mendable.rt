@@ -14,16 +14,13 @@ use std::alloc::Global;
 pub(crate) fn refuse_other_faults(alloc: Global, image: &Image) -> Result<(), NotValidated>
     ensures { (force : Bool) → MatchResult result (λ _. ShowsOnlyMendable image.now) (IsReason image.now force) }
 {
-    let Ok(found) = faults_of_any_disk(alloc, image, usize::MAX) else {
+    let Ok(found) = faults_of_any_disk(alloc, image) else {
         return Err(NotValidated::Memory);
     };
-    if let Some(fault) = first_other(image, &found.faults) {
-        return Err(NotValidated::OtherFault(fault));
+    match first_other(image, &found.faults) {
+        Some(fault) => Err(NotValidated::OtherFault(fault)),
+        None => Ok(()),
     }
-    if found.more {
-        return Err(NotValidated::ManyFaults);
-    }
-    Ok(())
 }
 
 /// The first of these faults that a new bitmap does not mend.
