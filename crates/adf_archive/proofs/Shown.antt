@@ -21,11 +21,6 @@ shown_all image shown faults same all = λ i d l.
     (ap (λ (xs : List VolumeFault). get_or xs i d.fault) (sym same) ∙ get_or-map (λ (each : ShownFault). each.fault) shown i d d.fault l)
     (all i d.fault (subst (λ (n : ℕ). i < n) (many shown faults same) l))
 
--- the marks of an image that shows a fault
-pub marks_of : (image : List ℕ) (marks : Marks) → ¬ ShowsNoFault image → ShowsNoFault image ⊎ AreMarks image marks → AreMarks image marks
-marks_of image marks refused (inl none) = absurd (refused none)
-marks_of image marks refused (inr are) = are
-
 -- the faults have values, by the marks of the image or, without texts, by none
 pub have_values : (image : List ℕ) (marks : Marks) (detail : Detail) (faults : List ShownFault)
     → AreMarks image marks ⊎ ((marks ≡ []) × (explains detail ≡ false)) → HaveTexts (explains detail) faults → All (HasValues image marks) faults

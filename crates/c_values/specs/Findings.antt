@@ -61,7 +61,7 @@ pub record TellsFindings (bytes : List ℕ) (told : List JipFinding) (more : Boo
   pub lists : ListsFaults bytes MOST_FAULTS faults
   pub all : AreAllFaults bytes MOST_FAULTS more faults
   pub marks : Marks
-  pub marked : ShowsNoFault bytes ⊎ AreMarks bytes marks
+  pub marked : AreMarks bytes marks
   pub told_are : AreFindings bytes marks faults told
   pub none : (faults ≡ []) ↔ ShowsNoFault bytes
   pub whole : ShowsNoFault bytes → more ≡ false

@@ -2,7 +2,7 @@ use Rattle.std.proofs.Common.{List, All, ◌∙◌, inl, arith, sym, subst}
 use Rattle.ados_faults.specs.Listed.{AreAllFaults, Marks}
 use Rattle.ados_model.specs.declared.fault.VolumeFault.{VolumeFault}
 use Rattle.adf_archive.specs.Report.{HasValues}
-use Rattle.adf_archive.proofs.Shown.{have_values, many, marks_of, not_empty, shown_all}
+use Rattle.adf_archive.proofs.Shown.{have_values, many, not_empty, shown_all}
 use Rattle.adf_archive.proofs.faults.all_told.Goals as goal
 
 pub returns-clause-some : goal.returns-clause-some
@@ -17,7 +17,7 @@ returns-clause-shown c =
 pub returns-clause-values : goal.returns-clause-values
 returns-clause-values c =
     have_values c.args.image.now c.in_ok-found.found.marks.items c.args.detail c.in_ok-faults.faults.items
-    (inl (marks_of c.args.image.now c.in_ok-found.found.marks.items c.requires c.in_ok-found.ensures.marked)) c.in_ok-faults.ensures.texts
+    (inl c.in_ok-found.ensures.marked) c.in_ok-faults.ensures.texts
     (subst (λ (marks : Marks). All (HasValues c.args.image.now marks) c.in_ok-faults.faults.items) c.deref.ensures.value c.in_ok-faults.ensures.values)
 
 pub returns-clause-each : goal.returns-clause-each
