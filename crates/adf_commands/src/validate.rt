@@ -27,7 +27,7 @@ pub(crate) fn validate_file<'a, R: Files<File = File> + Clock, W: Write>(
     ensures { TellsSome IsCountText IsCountText (W.contents writer.old) (W.contents writer.new) result }
 {
     let (work, image) = Work::begin(rt, alloc, target)?;
-    write_anew(rt, alloc, work, &image, force, writer)
+    write_anew(rt, alloc, work, image, force, writer)
 }
 
 /// Writes an image with a new bitmap, and prints how many bits changed.
@@ -35,11 +35,11 @@ fn write_anew<'a, R: Files<File = File>, W: Write>(
     rt: &R,
     alloc: Global,
     work: Work<'a>,
-    image: &Image,
+    image: Image,
     force: bool,
     writer: &mut W,
 ) -> Result<(), CommandFault<'a>>
-    ensures { TellsOf IsCountText IsCountText image.now (W.contents writer.old) (W.contents writer.new) result }
+    ensures { TellsOf IsCountText IsCountText image (W.contents writer.old) (W.contents writer.new) result }
 {
     let validated = anew(alloc, image, force)?;
     let line = validated.line(alloc)?;
@@ -48,8 +48,8 @@ fn write_anew<'a, R: Files<File = File>, W: Write>(
 }
 
 /// The image with a new bitmap.
-fn anew<'a>(alloc: Global, image: &Image, force: bool) -> Result<Validated, CommandFault<'a>>
-    ensures { MatchResult result (IsNew image.now force) (IsRefusedAs image.now) }
+fn anew<'a>(alloc: Global, image: Image, force: bool) -> Result<Validated, CommandFault<'a>>
+    ensures { MatchResult result (IsNew image force) (IsRefusedAs image) }
 {
     match validate(alloc, image, force) {
         Ok(validated) => Ok(validated),

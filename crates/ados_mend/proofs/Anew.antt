@@ -1,9 +1,9 @@
 -- The mended image is the old one with a new bitmap.
-use Rattle.std.proofs.Common.{◌≡◌, ℕ, ◌+◌, ◌-◌, ◌/◌, ◌<◌, Bool, true, false, List, ap, ◌∙◌, arith}
+use Rattle.std.proofs.Common.{◌≡◌, ℕ, ◌+◌, ◌-◌, ◌/◌, ◌<◌, ◌≤◌, Bool, true, false, List, ap, ◌∙◌, arith}
 use Rattle.std.proofs.lemmas.List.{get_or_default}
 use Rattle.adf_block.specs.Frame.{SameBut}
 use Rattle.adf_block.specs.Image.{block_count, block_sum, long, root_key}
-use Rattle.adf_block.specs.Whole.{HasFreeBit, IsImage}
+use Rattle.adf_block.specs.Whole.{HasFreeBit}
 use Rattle.adf_block.proofs.Frames.{same_trans, same_weaken}
 use Rattle.ados_map.specs.Pages.{LawfulPages}
 use Rattle.ados_model.specs.declared.fault.FaultKind.TheVariants.{MarkedFree}
@@ -24,29 +24,29 @@ use Rattle.ados_mend.proofs.PageFaults.{mendable_pages}
 use Rattle.ados_mend.proofs.Stay.{same_tree}
 use Rattle.ados_mend.proofs.Widened.{count, of_new, of_old, turned}
 
-module _ (old settled new : List ℕ) (im : IsImage old) (only : ShowsOnlyMendable old) (prep : IsSettled old settled) where
+module _ (old settled new : List ℕ) (small : block_count old ≤ 101602) (only : ShowsOnlyMendable old) (prep : IsSettled old settled) where
   pages : LawfulPages old
   pages = mendable_pages old only
 
   module _ (rebuilt : Rebuilt settled new) (u : Tree) (s : Stands new u) (none : HasNoLost u) where
     rest_settled : SameBut (IsOfBitmap old) settled new
-    rest_settled = same_weaken (IsOfBitmap settled) (IsOfBitmap old) settled new (of_old old settled im pages prep.rest) rebuilt.rest
+    rest_settled = same_weaken (IsOfBitmap settled) (IsOfBitmap old) settled new (of_old old settled small pages prep.rest) rebuilt.rest
 
     rest : SameBut (IsOfBitmap old) old new
     rest = same_trans (IsOfBitmap old) old settled new prep.rest rest_settled
 
     -- the same from the new image
     to_old : SameBut (IsOfBitmap new) new old
-    to_old = same_weaken (IsOfBitmap old) (IsOfBitmap new) new old (of_new old new im pages rest) (turned (IsOfBitmap old) old new rest)
+    to_old = same_weaken (IsOfBitmap old) (IsOfBitmap new) new old (of_new old new small pages rest) (turned (IsOfBitmap old) old new rest)
 
     to_settled : SameBut (IsOfBitmap new) new settled
-    to_settled = same_weaken (IsOfBitmap old) (IsOfBitmap new) new settled (of_new old new im pages rest) (turned (IsOfBitmap old) settled new rest_settled)
+    to_settled = same_weaken (IsOfBitmap old) (IsOfBitmap new) new settled (of_new old new small pages rest) (turned (IsOfBitmap old) settled new rest_settled)
 
     settled_count : block_count settled ≡ block_count old
-    settled_count = count old settled im pages prep.rest
+    settled_count = count old settled small pages prep.rest
 
     new_count : block_count new ≡ block_count old
-    new_count = count old new im pages rest
+    new_count = count old new small pages rest
 
     in_settled : (block : ℕ) → InImage old block → InImage settled block
     in_settled block h = (h.0, omega (arith, h.1, settled_count))

@@ -5,6 +5,9 @@ pub mod Carry
 pub mod Stay
 pub mod Widened
 pub mod Anew
+pub mod FreedHeaders
+pub mod NoCaution
+pub mod KeptLongs
 pub mod Counted
 pub mod Passed
 pub mod SettlingPages

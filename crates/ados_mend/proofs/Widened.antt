@@ -1,12 +1,12 @@
 -- Two images that differ only in the bitmap of one have the same bitmap blocks.
-use Rattle.std.proofs.Common.{◌≡◌, ℕ, ◌+◌, ◌/◌, ◌<◌, inl, inr, List, refl, sym, ap, ◌∙◌, arith}
+use Rattle.std.proofs.Common.{◌≡◌, ℕ, ◌+◌, ◌/◌, ◌<◌, ◌≤◌, inl, inr, List, refl, sym, ap, ◌∙◌, arith}
 use Rattle.adf_block.specs.Frame.{SameBut}
 use Rattle.adf_block.specs.Image.{block_count, long, root_key}
-use Rattle.adf_block.specs.Whole.{IsImage}
 use Rattle.adf_block.proofs.Frames.{same_count, same_long}
 use Rattle.ados_map.specs.Pages.{LawfulPages, page_block, pages_of}
 use Rattle.ados_model.specs.Faults.{root_of}
 use Rattle.ados_model.specs.Rebuilt.{IsOfBitmap}
+use Rattle.ados_model.proofs.Standing.{count_same}
 use Rattle.ados_mend.specs.steps.Settled.{ValidatedHasPages}
 use Rattle.ados_mend.proofs.PageFaults.{mendable_pages}
 use Rattle.ados_mend.proofs.PageRoles.{page_of_reached, reached_of_page}
@@ -18,7 +18,7 @@ turned changed old new h = record {
   same_byte = λ b i l un. sym (h.same_byte b i l un);
 }
 
-module _ (old new : List ℕ) (im : IsImage old) (pages : LawfulPages old) (same : SameBut (IsOfBitmap old) old new) where
+module _ (old new : List ℕ) (small : block_count old ≤ 101602) (pages : LawfulPages old) (same : SameBut (IsOfBitmap old) old new) where
   pub count : block_count new ≡ block_count old
   count = same_count (IsOfBitmap old) old new same
 
@@ -26,7 +26,7 @@ module _ (old new : List ℕ) (im : IsImage old) (pages : LawfulPages old) (same
   root_same = ap root_key count
 
   few : (p : ℕ) → p < pages_of old → p < 25
-  few p l = omega (arith, l, im.whole, im.size.1)
+  few p l = omega (arith, l, small)
 
   pointer_kept : (p k : ℕ) → p < pages_of old → k / 4 ≡ 79 + p → ¬ IsOfBitmap old (root_of old) k
   pointer_kept p k l e (inl h) = let at = page_of_reached h refl in pages.beside_root at.0 at.1 at.2
@@ -66,6 +66,8 @@ module _ (old new : List ℕ) (im : IsImage old) (pages : LawfulPages old) (same
   of_new b i (inr h) = inr (h.0 ∙ sym root_same, h.1)
 
 pub validated_has_pages : ValidatedHasPages
-validated_has_pages old new im v =
+validated_has_pages old new v =
     let pages = mendable_pages old v.mendable in
-    (pages_new old new im pages v.rest, count old new im pages v.rest)
+    let stands = v.tree.1 in
+    let small : block_count old ≤ 101602 = omega (arith, count_same new v.tree.0 stands, stands.proper.size.1, same_count (IsOfBitmap old) old new v.rest) in
+    (pages_new old new small pages v.rest, count old new small pages v.rest, page_same old new small pages v.rest)

@@ -10,6 +10,7 @@ mod caution;
 // What the image shows, and the image that the check mends.
 mod laws;
 mod mendable;
+mod old_bitmap;
 mod settled;
 
 // What changes, and what may be lost.

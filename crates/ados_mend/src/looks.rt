@@ -1,23 +1,23 @@
-//! What a block looks like by its types.
+//! What a bitmap block looks like by its types.
 ghost use Rattle.std.specs.Prelude.{◌<◌, ◌↔◌, IsTrue, MatchOption};
-ghost use Rattle.adf_block.specs.Image.{block_count};
+ghost use Rattle.ados_map.specs.Pages.{page_block, pages_of};
 ghost use Rattle.ados_mend.specs.Cautions.{HasLook, IsHeaderType};
 ghost use Rattle.ados_mend.specs.declared.caution.Look.{Look};
 
 use crate::caution::Look;
-use adf_block::Image;
+use crate::old_bitmap::OldBitmap;
 use adf_block::layout::{
     DATA_TYPE, DIRECTORY_TYPE, FILE_TYPE, HEADER_TYPE, LIST_TYPE, PRIMARY_TYPE, ROOT_TYPE,
     SECONDARY_TYPE,
 };
 
-/// What a block looks like, or none.
-pub(crate) fn look_of(image: &Image, block: u32) -> Option<Look>
-    requires { block < block_count image.now }
-    ensures { MatchOption result ((look : Look) → ¬ HasLook image.now block look) (HasLook image.now block) }
+/// What bitmap block `p` looked like, or none.
+pub(crate) fn look_of(old: &OldBitmap, p: u32) -> Option<Look>
+    requires { p < pages_of old.now }
+    ensures { MatchOption result ((look : Look) → ¬ HasLook old.now (page_block old.now p) look) (HasLook old.now (page_block old.now p)) }
 {
-    let primary = image.long(block, PRIMARY_TYPE);
-    let secondary = image.long(block, SECONDARY_TYPE);
+    let primary = old.long(p, PRIMARY_TYPE);
+    let secondary = old.long(p, SECONDARY_TYPE);
     if primary == HEADER_TYPE && is_header_type(secondary) {
         Some(Look::Header)
     } else if primary == LIST_TYPE && secondary == FILE_TYPE {

@@ -1,5 +1,5 @@
 //! The image that the check mends, and the mended one.
-ghost use Rattle.std.specs.Prelude.{◌≡◌, IfOk, MatchResult, Bool};
+ghost use Rattle.std.specs.Prelude.{MatchResult, Bool};
 ghost use Rattle.adf_block.specs.Frame.{SameBut};
 ghost use Rattle.ados_map.specs.Changes.{InPages};
 ghost use Rattle.ados_map.specs.Pages.{LawfulPages};
@@ -14,39 +14,25 @@ use adf_block::layout::{BITMAP_FLAG, CHECKSUM, FIRST_PAGE, MOST_BLOCKS, PAGE_CHE
 use adf_block::{Image, page_count};
 use ados_check::check_image;
 use ados_model::FaultKind;
-use std::alloc::{AllocError, Global};
+use std::alloc::Global;
 
 /// The value of the root's flag for a bitmap that is not valid.
 const NOT_VALID: u32 = 0;
 
-/// The copy of an image with a new bitmap.
-pub(crate) fn mended(alloc: Global, image: &Image) -> Result<Image, NotValidated>
-    requires { ShowsOnlyMendable image.now }
-    ensures { (force : Bool) → MatchResult result (IsValidated image.now) (IsReason image.now force) }
+/// The image with a new bitmap.
+pub(crate) fn mended(alloc: Global, image: Image) -> Result<Image, NotValidated>
+    requires { ShowsOnlyMendable image }
+    ensures { (force : Bool) → MatchResult result (IsValidated image) (IsReason image force) }
 {
-    prove!(image.blocks() >= 16);
+    prove!(image.blocks() <= MOST_BLOCKS);
     lawful_pages();
-    let Ok(mut settled) = copy(alloc, image) else {
-        return Err(NotValidated::Memory);
-    };
+    let mut settled = image;
     settle(&mut settled);
     match check_image(alloc, settled) {
         Ok(accepted) => Ok(accepted.image),
         Err(rejected) if rejected.fault.kind == FaultKind::NoMemory => Err(NotValidated::Memory),
         Err(rejected) => Err(NotValidated::StillFaulty(rejected.fault)),
     }
-}
-
-/// A copy of an image.
-fn copy(alloc: Global, image: &Image) -> Result<Image, AllocError>
-    ensures { IfOk result (λ copy. copy ≡ image.now) }
-{
-    prove!(image.blocks() >= 16);
-    let bytes = Vec::from_slice(alloc, image.as_bytes())?;
-    let Ok(copy) = Image::from_bytes(bytes) else {
-        unreachable!()
-    };
-    Ok(copy)
 }
 
 /// Makes the checksums of the bitmap blocks right, and marks the bitmap as not valid.

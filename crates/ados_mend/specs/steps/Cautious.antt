@@ -1,5 +1,5 @@
 -- What may be lost, by the bits of the two images.
-use Rattle.std.specs.Prelude.{◌≢◌, ℕ, ◌<◌, ◌≤◌, List}
+use Rattle.std.specs.Prelude.{◌≢◌, ◌↔◌, ℕ, ◌<◌, ◌≤◌, List}
 use Rattle.adf_block.specs.Image.{block_sum}
 use Rattle.adf_block.specs.Whole.{HasFreeBit}
 use Rattle.adf_salvage.specs.Sound.{IsSoundHeader}
@@ -8,6 +8,7 @@ use Rattle.ados_model.specs.Faults.{InImage}
 use Rattle.ados_mend.specs.declared.caution.Look.{Look}
 use Rattle.ados_mend.specs.declared.caution.TheConstants.{MOST_CHANGED_BITS}
 use Rattle.ados_mend.specs.Cautions.{HasLook, changed_bits}
+use Rattle.ados_mend.specs.Validated.{IsValidated}
 
 -- the bitmap block looks like no other block, and has a right checksum or changes in few bits
 pub record IsSafePage (old new : List ℕ) (page : ℕ) : Type 0 where
@@ -20,3 +21,7 @@ AreSafePages old new = (p : ℕ) → p < pages_of old → IsSafePage old new (pa
 -- no block that is marked used in the old image and free in the new one is a sound header
 abbrev pub HasNoLostHeader : List ℕ → List ℕ → Type 0
 HasNoLostHeader old new = (block : ℕ) → InImage old block → HasFreeBit new block → ¬ HasFreeBit old block → ¬ IsSoundHeader old block
+
+-- a block that the new image marks free is a sound header in both images or in none
+abbrev pub FreedHeadersStay : Type 0
+FreedHeadersStay = (old new : List ℕ) → IsValidated old new → (block : ℕ) → InImage old block → HasFreeBit new block → (IsSoundHeader new block ↔ IsSoundHeader old block)

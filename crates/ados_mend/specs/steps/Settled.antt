@@ -1,9 +1,8 @@
 -- The image that the check mends, and the bitmap blocks of the images.
-use Rattle.std.specs.Prelude.{◌≡◌, ℕ, List}
+use Rattle.std.specs.Prelude.{◌≡◌, ℕ, ◌<◌, List}
 use Rattle.adf_block.specs.Frame.{SameBut}
 use Rattle.adf_block.specs.Image.{block_count}
-use Rattle.adf_block.specs.Whole.{IsImage}
-use Rattle.ados_map.specs.Pages.{LawfulPages}
+use Rattle.ados_map.specs.Pages.{LawfulPages, page_block, pages_of}
 use Rattle.ados_model.specs.Rebuilt.{HasValidBitmap, IsOfBitmap}
 use Rattle.ados_mend.specs.Mendable.{ShowsOnlyMendable}
 use Rattle.ados_mend.specs.Validated.{IsValidated}
@@ -17,6 +16,10 @@ pub record IsSettled (old settled : List ℕ) : Type 0 where
 abbrev pub MendableHasPages : Type 0
 MendableHasPages = (image : List ℕ) → ShowsOnlyMendable image → LawfulPages image
 
--- so has the new image, which is as large
+-- the bitmap blocks of the new image are those of the old one
+abbrev pub HasSamePages : List ℕ → List ℕ → Type 0
+HasSamePages old new = (p : ℕ) → p < pages_of old → page_block new p ≡ page_block old p
+
+-- so has the new image, which is as large; they are the same blocks
 abbrev pub ValidatedHasPages : Type 0
-ValidatedHasPages = (old new : List ℕ) → IsImage old → IsValidated old new → LawfulPages new × (block_count new ≡ block_count old)
+ValidatedHasPages = (old new : List ℕ) → IsValidated old new → LawfulPages new × (block_count new ≡ block_count old) × HasSamePages old new

@@ -1,10 +1,6 @@
-use Rattle.std.proofs.Common.{ℕ, List, subst}
-use Rattle.ados_mend.specs.steps.Settled.{IsSettled}
+use Rattle.std.proofs.Common.{arith}
 use Rattle.ados_mend.proofs.Anew.{anew}
 use Rattle.ados_mend.proofs.settled.mended.Goals as goal
 
-pub returns-in-Ok-check_image : goal.returns-in-Ok-check_image
-returns-in-Ok-check_image c =
-    let settled = subst (λ (old : List ℕ). IsSettled old c.settle.new.image) c.in-Ok.ensures c.settle.ensures in
-    λ force. anew c.args.image.now c.settle.new.image c.in-Ok-check_image.accepted.image c.blocks-2.ensures.image c.requires settled
-    c.in-Ok-check_image.accepted.was_validated c.in-Ok-check_image.ensures.answer
+pub returns-in-Ok : goal.returns-in-Ok
+returns-in-Ok c = λ force. anew c.args.image c.settle.new.image c.in-Ok.accepted.image (omega arith) c.requires c.settle.ensures c.in-Ok.accepted.was_validated c.in-Ok.ensures.answer
