@@ -1,10 +1,11 @@
 -- A reached block that is marked free is a fault of the bitmap.
-use Rattle.std.proofs.Common.{◌≡◌, ℕ, zero, suc, ◌-◌, ◌/◌, ◌<◌, List, [], ◌∷◌, get_or, true, false, Option, Some, None, is_some, refl, sym, ap, ◌∙◌, arith}
+use Rattle.std.proofs.Common.{◌≡◌, ℕ, zero, suc, ◌<◌, List, [], ◌∷◌, get_or, true, false, Option, Some, None, is_some, refl, sym, ap, ◌∙◌, arith}
 use Rattle.std.proofs.lemmas.Bool.{false≢true}
 use Rattle.adf_block.specs.Whole.{IsImage, HasFreeBit}
-use Rattle.ados_map.specs.Pages.{LawfulPages, pages_of}
+use Rattle.ados_map.specs.Pages.{LawfulPages, page_block, page_of, pages_of}
 use Rattle.ados_model.specs.Faults.{InImage, IsReachedAndFree}
 use Rattle.ados_model.specs.Rebuilt.{HasValidBitmap}
+use Rattle.ados_check.specs.BitmapTold.{IsFree}
 use Rattle.ados_check.specs.declared.mark.Mark.{Mark}
 use Rattle.ados_check.specs.Marks.{mark_at, IsChecked}
 use Rattle.ados_check.proofs.Roles.{marked_inside}
@@ -31,14 +32,21 @@ module _ (image : List ℕ) (marks : List (Option Mark)) (im : IsImage image) (c
   pub none_below : (block : ℕ) → block < 2 → (mark : Mark) → mark_at marks block ≡ Some mark → ¬ HasFreeBit image block
   none_below block l mark e free = let at = inside block mark e in absurd (omega (arith, l, at.0))
 
-  pub marked_free : HasValidBitmap image → LawfulPages image → (block : ℕ) (mark : Mark) → mark_at marks block ≡ Some mark → HasFreeBit image block → IsReachedAndFree image block
-  marked_free valid pages block mark e free =
+  -- the bitmap block with the bit of a marked block is inside the image
+  page_inside : LawfulPages image → (block : ℕ) (mark : Mark) → mark_at marks block ≡ Some mark → InImage image (page_block image (page_of block))
+  page_inside pages block mark e =
       let at = inside block mark e in
-      let page : (block - 2) / 4064 < pages_of image = omega (arith, at.0, at.1) in
-      record {
-        valid = valid;
-        role = mark.role;
-        reached = c.reached.reached block mark e;
-        page = pages.inside ((block - 2) / 4064) page;
-        free = free;
-      }
+      let page : page_of block < pages_of image = omega (arith, at.0, at.1) in
+      pages.inside (page_of block) page
+
+  pub free_in : LawfulPages image → (block : ℕ) (mark : Mark) → mark_at marks block ≡ Some mark → HasFreeBit image block → IsFree image block
+  free_in pages block mark e free = record { page = page_inside pages block mark e; free = free }
+
+  pub marked_free : HasValidBitmap image → LawfulPages image → (block : ℕ) (mark : Mark) → mark_at marks block ≡ Some mark → HasFreeBit image block → IsReachedAndFree image block
+  marked_free valid pages block mark e free = record {
+    valid = valid;
+    role = mark.role;
+    reached = c.reached.reached block mark e;
+    page = page_inside pages block mark e;
+    free = free;
+  }

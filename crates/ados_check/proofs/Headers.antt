@@ -1,14 +1,21 @@
 -- The header and the extension blocks of a file whose blocks are reached.
-use Rattle.std.proofs.Common.{◌≡◌, ◌≢◌, ℕ, zero, suc, ◌<◌, ◌≤◌, ◌==◌, IsTrue, ◌⊎◌, inl, inr, List, length, map, slice_index, refl, sym, ap, ◌∙◌, arith}
+use Rattle.std.proofs.Common.{◌≡◌, ◌≢◌, ℕ, zero, suc, ◌<◌, ◌≤◌, ◌⊎◌, inl, inr, List, length, map, slice_index, refl, sym, ap, ◌∙◌, subst, arith}
 use Rattle.std.specs.List.{range_with_len}
 use Rattle.std.proofs.lemmas.Bool.{cases_lt, cases_order}
 use Rattle.std.proofs.lemmas.List.FromFn.{length-map-range_with_len, get_or-map-range_with_len}
-use Rattle.adf_block.specs.Image.{block_count}
+use Rattle.adf_block.specs.Image.{block_count, long}
+use Rattle.adf_block.specs.Fields.{pointer_count, primary_type}
+use Rattle.adf_block.specs.declared.layout.TheConstants.{HEADER_TYPE, NEXT_DATA}
 use Rattle.ados_model.specs.File.{pointer_block}
-use Rattle.ados_model.specs.Faults.{HasPointers, IsExtension}
-use Rattle.ados_model.specs.Faults.HasPointers.{file_pointers, extension_pointers}
+use Rattle.ados_model.specs.declared.role.Role.{Role}
+use Rattle.ados_model.specs.declared.role.Role.TheVariants.{Root, Page, Entry, Data, Extension}
+use Rattle.ados_model.specs.Faults.{HasFileType, IsOfs, Reached, pointers_of}
+use Rattle.ados_check.specs.Rules.{HasBadField, HasBadTypeAs}
+use Rattle.ados_check.specs.declared.rules.FieldRule.TheVariants.{PointerCount, FirstData}
+use Rattle.ados_check.specs.steps.Files.{HasCount, HasPointersAs, IsReachedEntry, IsReachedFile}
+use Rattle.ados_check.specs.steps.Files.HasPointersAs.{header, extension}
 use Rattle.ados_check.proofs.Counting.{AreDifferent, different_few}
-use Rattle.ados_check.specs.steps.Files.{IsReachedFile}
+use Rattle.ados_check.proofs.Ruling.{stable}
 
 module _ (image : List ℕ) (file : ℕ) (r : IsReachedFile image file) where
   pub header_inside : (q : ℕ) → q ≤ r.extensions → pointer_block image file q < block_count image
@@ -27,10 +34,6 @@ module _ (image : List ℕ) (file : ℕ) (r : IsReachedFile image file) where
       go before (inr m) =
           let last : q ≡ r.extensions = omega arith in
           absurd (h q (omega arith) (ap (λ (k : ℕ). pointer_block image file (suc k)) last ∙ r.ends))
-
-  pub has_pointers : (q : ℕ) → q ≤ r.extensions → HasPointers image (pointer_block image file q)
-  has_pointers zero l = file_pointers r.is_file
-  has_pointers (suc q) l = extension_pointers (file, r.reached q (omega arith))
 
   headers : List ℕ
   headers = map (pointer_block image file) (range_with_len 0 (suc r.extensions))
@@ -63,7 +66,66 @@ module _ (image : List ℕ) (file : ℕ) (r : IsReachedFile image file) where
       let few = different_few (block_count image) headers below different in
       omega (arith, few, length-headers)
 
-  -- the first pointer block is the header, each other an extension block
-  pub first_or_extension : (q : ℕ) → q ≤ r.extensions → IsTrue (q == 0) ⊎ IsExtension image (pointer_block image file q)
-  first_or_extension zero l = inl refl
-  first_or_extension (suc q) l = inr (file, r.reached q (omega arith))
+-- ---- the header as an entry, and the extension blocks
+
+-- the count that a block with pointers has if it does not break the rule
+pub right_count : (image : List ℕ) (block : ℕ) (role : Role) → HasPointersAs image block role → ¬ HasBadField image block role PointerCount → HasCount image block role (pointer_count image block)
+right_count image block Root held right = elim held [ ]
+right_count image block Page held right = elim held [ ]
+right_count image block (Data file) held right = elim held [ ]
+right_count image block (Entry dir s) (header h f) right =
+    let over : ¬ (72 < pointer_count image block) = λ l. right (f, inl l) in
+    record {
+      counted = refl;
+      few = omega (arith, over);
+      full = λ more. let less : ¬ (pointer_count image block < 72) = λ l. right (f, inr (l, more)) in omega (arith, over, less);
+      some = λ file e. absurd (cc e);
+    }
+right_count image block (Extension file) (extension h) right =
+    let over : ¬ (72 < pointer_count image block) = λ l. right (inr (inl l)) in
+    let none : pointer_count image block ≢ 0 = λ z. right (inl z) in
+    record {
+      counted = refl;
+      few = omega (arith, over);
+      full = λ more. let less : ¬ (pointer_count image block < 72) = λ l. right (inr (inr (l, more))) in omega (arith, over, less);
+      some = λ file e. omega (arith, none);
+    }
+
+module _ (image : List ℕ) (block : ℕ) where
+  pub reached_as : (role : Role) → HasPointersAs image block role → Reached image block role
+  reached_as Root held = elim held [ ]
+  reached_as Page held = elim held [ ]
+  reached_as (Data file) held = elim held [ ]
+  reached_as (Entry dir s) (header h f) = h
+  reached_as (Extension file) (extension h) = h
+
+  pub entry_as : (role : Role) → IsReachedEntry image block role → HasFileType image block → HasPointersAs image block role
+  entry_as role e f = subst (HasPointersAs image block) (sym e.is) (header (subst (Reached image block) e.is e.reached) f)
+
+  pub right_entry : (role : Role) → IsReachedEntry image block role → primary_type image block ≡ HEADER_TYPE → HasFileType image block → ¬ HasBadTypeAs image block role
+  right_entry role e primary f bad = elim (subst (HasBadTypeAs image block) e.is bad) [
+    | inl n ↦ n primary
+    | inr none ↦ none.1 f
+  ]
+
+  -- in OFS the header of a file that does not break the rule links to its first data block
+  pub first_link : (role : Role) → IsReachedEntry image block role → HasFileType image block → IsOfs image → ¬ HasBadField image block role FirstData → long image block NEXT_DATA ≡ slice_index (pointers_of image block) 0
+  first_link role e f ofs right = stable _ _ (λ n. right (subst (λ (x : Role). HasBadField image block x FirstData) (sym e.is) (f, (ofs, n))))
+
+module _ (image : List ℕ) (file : ℕ) (r : IsReachedFile image file) (entry : Role) (e : IsReachedEntry image file entry) where
+  -- pointer block q in its role: that of the entry, then of an extension block
+  pub pointers_as : (q block : ℕ) (role : Role) → q ≤ r.extensions → block ≡ pointer_block image file q → (q ≡ 0 → role ≡ entry) → (0 < q → role ≡ Extension file) → HasPointersAs image block role
+  pointers_as zero block role l is first further = subst (λ (b : ℕ). HasPointersAs image b role) (sym is) (subst (HasPointersAs image file) (sym (first refl)) (entry_as image file entry e r.is_file.secondary))
+  pointers_as (suc q) block role l is first further =
+      subst (λ (b : ℕ). HasPointersAs image b role) (sym is)
+      (subst (HasPointersAs image (pointer_block image file (suc q))) (sym (further (omega arith))) (extension (r.reached q (omega arith))))
+
+  pub types_right : (q block : ℕ) (role : Role) → q ≤ r.extensions → block ≡ pointer_block image file q → (q ≡ 0 → role ≡ entry) → (0 < q → role ≡ Extension file) → ¬ HasBadTypeAs image block role
+  types_right zero block role l is first further bad =
+      right_entry image file entry e r.primary r.is_file.secondary (subst (HasBadTypeAs image file) (first refl) (subst (λ (b : ℕ). HasBadTypeAs image b role) is bad))
+  types_right (suc q) block role l is first further bad =
+      let fields = r.fields q (omega arith) in
+      elim (subst (HasBadTypeAs image (pointer_block image file (suc q))) (further (omega arith)) (subst (λ (b : ℕ). HasBadTypeAs image b role) is bad)) [
+        | inl n ↦ n fields.primary
+        | inr n ↦ n fields.secondary
+      ]

@@ -26,6 +26,7 @@ pub mod MarkLemmas
 pub mod ReachMoves
 pub mod Moves
 pub mod Ruling
+pub mod DataRuling
 pub mod Shown
 pub mod Reached
 pub mod Headers

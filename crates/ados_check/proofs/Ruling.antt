@@ -25,7 +25,7 @@ use Rattle.ados_check.proofs.NameLemmas.{length_text, valid_name}
 use Rattle.ados_check.proofs.ReachLemmas.{reached_root}
 use Rattle.ados_check.proofs.Texts.{bytes_at-small}
 
-stable : (a b : ℕ) → ¬ (a ≢ b) → a ≡ b
+pub stable : (a b : ℕ) → ¬ (a ≢ b) → a ≡ b
 stable a b h = elim (cases_Bool (a == b)) [
   | inl same ↦ eqb-true a b same
   | inr other ↦ absurd (h (λ e. let same = eq-eqb a b e in cc (same, other)))

@@ -1,12 +1,18 @@
 -- Facts about the marked entries.
-use Rattle.std.specs.Prelude.{◌≡◌, ℕ, ◌-◌, List, ◌∷◌, ◌++◌, map, replicate, Option}
+use Rattle.std.specs.Prelude.{◌≡◌, ℕ, ◌-◌, List, ◌∷◌, ◌++◌, map, replicate, Option, Some}
 use Rattle.adf_block.specs.Image.{byte_at}
 use Rattle.adf_block.specs.Fields.{secondary_type}
 use Rattle.adf_block.specs.declared.layout.TheConstants.{FILE_TYPE, NAME_BYTE}
 use Rattle.adf_block.specs.Whole.{text_at}
 use Rattle.ados_name.specs.Name.{upper}
+use Rattle.ados_model.specs.declared.role.Role.{Role}
+use Rattle.ados_model.specs.declared.role.Role.TheVariants.{Entry}
 use Rattle.ados_check.specs.declared.mark.Mark.{Mark}
-use Rattle.ados_check.specs.Marks.{IsMarkedEntry, IsSoundFile}
+use Rattle.ados_check.specs.Marks.{mark_at, IsMarkedEntry, IsSoundFile}
+
+-- the block is marked as an entry, in this role
+abbrev pub IsMarkedIn : List (Option Mark) → ℕ → Role → Type 0
+IsMarkedIn marks block role = (mark : Mark) × (dir : ℕ) × (s : ℕ) × (mark_at marks block ≡ Some mark) × (mark.role ≡ Entry dir s) × (mark.role ≡ role)
 
 -- if the block is a marked file, its counts and size match its blocks
 abbrev pub IsSoundIfFile : List ℕ → List (Option Mark) → ℕ → Type 0

@@ -1,13 +1,13 @@
 //! The bitmap of an image with known reached blocks.
-ghost use Rattle.std.specs.Prelude.{◌≡◌, ◌↔◌, ◌<◌, IsTrue, map, is_some, IfOk, IfErr, MatchOption};
+ghost use Rattle.std.specs.Prelude.{◌≡◌, ◌↔◌, IsTrue, map, is_some, IfOk, IfErr, MatchOption};
 ghost use Rattle.adf_block.specs.Whole.{IsImage};
-ghost use Rattle.adf_block.specs.Image.{IsInside, block_count, has_free_bit};
+ghost use Rattle.adf_block.specs.Image.{has_free_bit};
 ghost use Rattle.ados_model.specs.Rebuilt.{HasValidBitmap};
-ghost use Rattle.ados_model.specs.Faults.{IsReachedAndFree};
-ghost use Rattle.ados_map.specs.Pages.{LawfulPages};
+ghost use Rattle.ados_model.specs.Faults.{InImage, IsReachedAndFree};
+ghost use Rattle.ados_map.specs.Pages.{page_block, page_of};
 ghost use Rattle.ados_check.specs.Laws.{AreInUse, IsMended};
 ghost use Rattle.ados_check.specs.Marks.{IsChecked};
-ghost use Rattle.ados_check.specs.BitmapTold.{TellsBitmap};
+ghost use Rattle.ados_check.specs.BitmapTold.{IsFree, TellsBitmap};
 
 use crate::laws::checked_has_pages;
 use crate::mark::Mark;
@@ -21,7 +21,7 @@ use ados_map::rebuild;
 use std::alloc::{AllocError, Global};
 
 /// Whether the root's flag says that the bitmap is valid.
-pub(crate) fn has_valid_bitmap(source: &Source<'_>) -> bool
+pub fn has_valid_bitmap(source: &Source<'_>) -> bool
     requires { TellsBitmap source.now }
     ensures { IsTrue result ↔ HasValidBitmap source.now.bytes }
 {
@@ -46,16 +46,41 @@ pub(crate) fn reached_and_free(source: &Source<'_>, marks: &[Option<Mark>]) -> O
     None
 }
 
-/// Whether a block is marked free.
-fn is_free(source: &Source<'_>, block: u32) -> bool
-    requires pages { LawfulPages source.now.bytes }
-    requires inside { IsInside (block_count source.now.bytes) block }
+/// Whether the bitmap block with the bit of a block is inside the image, and marks the block free.
+pub fn is_free(source: &Source<'_>, block: u32) -> bool
+    requires inside { InImage source.now.bytes block }
     requires told { TellsBitmap source.now }
-    ensures { result ≡ has_free_bit source.now.bytes block }
+    ensures { IsTrue result ↔ IsFree source.now.bytes block }
+{
+    let page = page_with(source, block);
+    if page < BOOT_BLOCKS || source.blocks() <= page {
+        return false;
+    }
+    has_bit(source, page, block)
+}
+
+/// The bitmap block with the bit of a block.
+fn page_with(source: &Source<'_>, block: u32) -> u32
+    requires inside { InImage source.now.bytes block }
+    requires told { TellsBitmap source.now }
+    ensures { result ≡ page_block source.now.bytes (page_of block) }
 {
     prove!(source.blocks() <= MOST_BLOCKS);
+    source.long(
+        source.root(),
+        FIRST_PAGE + (block - BOOT_BLOCKS) / PAGE_BITS,
+    )
+}
+
+/// Whether the bit of a block is set in its bitmap block.
+fn has_bit(source: &Source<'_>, page: u32, block: u32) -> bool
+    requires inside { InImage source.now.bytes block }
+    requires told { TellsBitmap source.now }
+    requires page { page ≡ page_block source.now.bytes (page_of block) }
+    requires within { InImage source.now.bytes page }
+    ensures { result ≡ has_free_bit source.now.bytes block }
+{
     let bit = block - BOOT_BLOCKS;
-    let page = source.long(source.root(), FIRST_PAGE + bit / PAGE_BITS);
     let bits = source.long(page, FIRST_MAP_LONG + bit % PAGE_BITS / LONG_BITS);
     bits & (1 << (bit % LONG_BITS)) != 0
 }

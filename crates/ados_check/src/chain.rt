@@ -1,86 +1,100 @@
-//! The data blocks of an OFS file: their links and sequence numbers.
-ghost use Rattle.std.specs.Prelude.{◌≡◌, ◌<◌, ℕ, MatchResult};
-ghost use Rattle.adf_block.specs.Image.{block_count};
-ghost use Rattle.adf_block.specs.Fields.{file_size, format_of};
-ghost use Rattle.ados_model.specs.Tree.{data_count};
-ghost use Rattle.ados_model.specs.declared.fault.FaultKind.TheVariants.{BadPointer};
-ghost use Rattle.ados_model.specs.Faults.{IsOfs, Shows};
-ghost use Rattle.ados_check.specs.Source.{Tells, header_longs};
-ghost use Rattle.ados_check.specs.steps.Files.{HasCounts, HasPlace, IsDataOf, IsLinked, IsReachedFile};
+//! The data blocks of an OFS file: their links, sequence numbers and bytes.
+ghost use Rattle.std.specs.Prelude.{◌≡◌, ◌≢◌, ◌<◌, ◌≤◌, ◌+◌, ◌%◌, ℕ, MatchOption, MatchResult};
+ghost use Rattle.adf_block.specs.Image.{block_count, long};
+ghost use Rattle.adf_block.specs.Fields.{pointer};
+ghost use Rattle.adf_block.specs.declared.layout.TheConstants.{NEXT_EXTENSION, TABLE_LONGS};
+ghost use Rattle.ados_model.specs.Faults.{InImage, IsOfs, Shows, count_of_size};
+ghost use Rattle.ados_check.specs.DataRules.{IsPlaced, TellsHeader};
+ghost use Rattle.ados_check.specs.Source.{Tells};
+ghost use Rattle.ados_check.specs.steps.Files.{HasCounts, IsLinked, IsReachedEntry, IsReachedFile, KeepsRules};
 
 use crate::counts::bad_count;
+use crate::data_rules::{DATA_RULES, Place, breaks_rule};
+use crate::looks::check_field;
+use crate::rules::{FieldRule, first_pointer};
+use crate::sizes::has_other_size;
 use crate::source::Source;
-use adf_block::layout::{
-    FILE_SIZE, FIRST_POINTER, HELD, NEXT_DATA, NEXT_EXTENSION, OFS_ROOM, SEQUENCE, TABLE_LONGS,
-};
-use ados_model::{FaultKind, VolumeFault};
+use adf_block::layout::{FIRST_POINTER, HELD, NEXT_EXTENSION, TABLE_LONGS};
+use ados_model::{Role, VolumeFault};
 
-/// Checks the data blocks of a file along its pointers. Each has to link to the next, have its sequence number, and be
-/// full unless it is the last. Together they have to hold as many bytes as the file's size.
-pub(crate) fn check_chain(source: &Source<'_>, file: u32, count: u32) -> Result<(), VolumeFault>
+/// Checks the data blocks of a file along its pointers, each at its place. The header has to link to the first one, and
+/// together they have to hold as many bytes as the file's size.
+pub(crate) fn check_chain(
+    source: &Source<'_>,
+    file: u32,
+    entry: Role,
+    count: u32,
+) -> Result<(), VolumeFault>
     requires ofs { IsOfs source.now.bytes }
     requires reached { IsReachedFile source.now.bytes file }
+    requires entry { IsReachedEntry source.now.bytes file entry }
     requires counts { HasCounts source.now.bytes file count }
-    requires size { count ≡ data_count (format_of source.now.bytes) (file_size source.now.bytes file) }
+    requires size { count ≡ count_of_size source.now.bytes file }
     ensures { MatchResult result (λ _. IsLinked source.now.bytes file) (λ fault. Shows source.now.bytes fault.kind fault.block) }
 {
+    check_field(source, file, entry, FieldRule::FirstData)?;
     let mut holder = file;
-    let mut before = file;
+    let mut block = first_pointer(source, file);
     let mut sum = 0_u64;
-    for place in 0..count {
-        let block = source.long(holder, FIRST_POINTER - place % TABLE_LONGS);
-        if source.long(before, NEXT_DATA) != block {
-            return Err(bad_link(before));
-        }
-        sum += u64::from(held_in(source, block, place, count)?);
-        before = block;
-        if place % TABLE_LONGS == TABLE_LONGS - 1 {
-            holder = source.long(holder, NEXT_EXTENSION);
-        }
+    for position in 0..count {
+        holder = holder_behind(source, holder, position);
+        let next = pointer_at(source, holder, position + 1, count);
+        let place = Place {
+            block,
+            position: u64::from(position),
+            next,
+        };
+        check_place(source, place)?;
+        sum += u64::from(source.long(block, HELD));
+        block = next.unwrap_or(0);
     }
-    if source.long(before, NEXT_DATA) != 0 {
-        return Err(bad_link(before));
-    }
-    if sum != u64::from(source.long(file, FILE_SIZE)) {
+    if has_other_size(source, file, sum) {
         return Err(bad_count(file));
     }
     Ok(())
 }
 
-/// The number of data bytes in the data block at position `place` of `count`, if its fields are right.
-fn held_in(source: &Source<'_>, block: u32, place: u32, count: u32) -> Result<u32, VolumeFault>
-    requires inside { block < block_count source.now.bytes }
-    requires ofs { IsOfs source.now.bytes }
-    requires of_file { IsDataOf source.now.bytes block place count }
-    requires told { (i : ℕ) → i < header_longs → Tells source.now block i }
-    ensures { MatchResult result (HasPlace source.now.bytes block place count) (λ fault. Shows source.now.bytes fault.kind fault.block) }
+/// The header or extension block behind a position, from the one at this position.
+fn holder_behind(source: &Source<'_>, holder: u32, position: u32) -> u32
+    requires inside { holder < block_count source.now.bytes }
+    requires told { Tells source.now holder NEXT_EXTENSION }
+    ensures next { position % TABLE_LONGS ≡ 71 → result ≡ long source.now.bytes holder NEXT_EXTENSION }
+    ensures same { position % TABLE_LONGS ≢ 71 → result ≡ holder }
 {
-    if source.long(block, SEQUENCE) != place + 1 {
-        return Err(VolumeFault {
-            kind: FaultKind::BadSequence,
-            block,
-        });
+    if position % TABLE_LONGS == TABLE_LONGS - 1 {
+        source.long(holder, NEXT_EXTENSION)
+    } else {
+        holder
     }
-    let held = source.long(block, HELD);
-    if held == 0 {
-        return Err(bad_count(block));
-    }
-    if held > OFS_ROOM {
-        return Err(bad_count(block));
-    }
-    if held < OFS_ROOM && place + 1 < count {
-        return Err(bad_count(block));
-    }
-    Ok(held)
 }
 
-/// The fault of a wrong link to a data block.
-fn bad_link(block: u32) -> VolumeFault
-    ensures kind { result.kind ≡ BadPointer }
-    ensures block { result.block ≡ block }
+/// The data block at a position, if the file has more data blocks than that.
+fn pointer_at(source: &Source<'_>, holder: u32, position: u32, count: u32) -> Option<u32>
+    requires inside { position < count → holder < block_count source.now.bytes }
+    requires told { position < count → (i : ℕ) → Tells source.now holder i }
+    ensures { MatchOption result (count ≤ position) (λ block. (position < count) × (block ≡ pointer source.now.bytes holder (position % TABLE_LONGS))) }
 {
-    VolumeFault {
-        kind: FaultKind::BadPointer,
-        block,
+    if position >= count {
+        return None;
     }
+    Some(source.long(holder, FIRST_POINTER - position % TABLE_LONGS))
+}
+
+/// Checks a data block at its place.
+fn check_place(source: &Source<'_>, place: Place) -> Result<(), VolumeFault>
+    requires ofs { IsOfs source.now.bytes }
+    requires inside { InImage source.now.bytes place.block }
+    requires at { IsPlaced source.now.bytes place }
+    requires told { TellsHeader source.now place.block }
+    ensures { MatchResult result (λ _. KeepsRules source.now.bytes place) (λ fault. Shows source.now.bytes fault.kind fault.block) }
+{
+    for rule in DATA_RULES.iter() {
+        if breaks_rule(source, place, *rule) {
+            return Err(VolumeFault {
+                kind: rule.kind(),
+                block: place.block,
+            });
+        }
+    }
+    Ok(())
 }

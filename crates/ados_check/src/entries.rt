@@ -4,7 +4,7 @@ ghost use Rattle.adf_block.specs.Whole.{IsImage};
 ghost use Rattle.adf_block.specs.Image.{block_count};
 ghost use Rattle.ados_model.specs.Faults.{Shows};
 ghost use Rattle.ados_check.specs.Marks.{AreReached, IsMarkedEntry};
-ghost use Rattle.ados_check.specs.Entries.{AreSoundFiles, IsSoundIfFile};
+ghost use Rattle.ados_check.specs.Entries.{AreSoundFiles, IsMarkedIn, IsSoundIfFile};
 
 use crate::file::check_file;
 use crate::mark::Mark;
@@ -31,13 +31,25 @@ fn check_marked(source: &Source<'_>, marks: &[Option<Mark>], block: u32) -> Resu
     requires inside { block < block_count source.now.bytes }
     ensures { MatchResult result (λ _. IsSoundIfFile source.now.bytes marks.now block) (λ fault. Shows source.now.bytes fault.kind fault.block) }
 {
-    let Some(_dir) = directory_of(marks, block) else {
+    let Some(entry) = entry_role(marks, block) else {
         return Ok(());
     };
     if source.long(block, SECONDARY_TYPE) == FILE_TYPE {
-        check_file(source, block)?;
+        check_file(source, block, entry)?;
     }
     Ok(())
+}
+
+/// The role of a block that is marked as an entry, or `None`.
+fn entry_role(marks: &[Option<Mark>], block: u32) -> Option<Role>
+    requires { block < length marks.now }
+    ensures { MatchOption result ((dir : ℕ) → ¬ IsMarkedEntry marks.now block dir) (IsMarkedIn marks.now block) }
+{
+    let mark = marks[block as usize]?;
+    match mark.role {
+        Role::Entry(_, _) => Some(mark.role),
+        _ => None,
+    }
 }
 
 /// The directory of a block that is marked as an entry, or `None`.

@@ -15,9 +15,11 @@ mod source;
 mod laws;
 mod mark;
 
-// The rules of a block by itself.
+// The rules of a block by itself, of a data block at its place, and of a file's size.
+mod data_rules;
 mod naming;
 mod rules;
+mod sizes;
 
 // The walk from the root.
 mod file_system;
@@ -40,10 +42,13 @@ mod check;
 mod sketched;
 
 pub use accept::Rejected;
+pub use bitmap::{has_valid_bitmap, is_free};
 pub use check::check_image;
+pub use data_rules::{DATA_RULES, DataRule, Place, breaks_rule};
 pub use file_system::check_kind;
 pub use laws::{checked_has_pages, checked_is_accepted};
 pub use mark::Mark;
+pub use naming::{has_short_name, upper_name};
 pub use places::place_role;
 pub use reaching::reach;
 pub use room::whole_pages;
@@ -51,6 +56,7 @@ pub use rules::{
     FIELD_RULES, FieldRule, POINTER_RULES, first_pointer, has_bad_field, has_bad_sum, has_bad_type,
     has_entry_type, has_link_type, has_no_type,
 };
+pub use sizes::{has_other_size, needs_other_count};
 pub use sketch::Sketch;
 pub use sketched::accepted_kind;
 pub use sound::check_sound;

@@ -10,9 +10,13 @@ use Rattle.std.proofs.lemmas.List.Sums.{sum_by-append}
 use Rattle.std.proofs.lemmas.Option.{get_or_from_slice_get, none-some, same_Some, slice_get-get_or, slice_get_within}
 use Rattle.adf_block.specs.Image.{block_count}
 use Rattle.adf_block.specs.Fields.{held_count, pointer, pointer_count, sequence_number}
+use Rattle.adf_block.specs.declared.layout.TheConstants.{NEXT_EXTENSION}
 use Rattle.ados_model.specs.declared.fault.FaultKind.TheVariants.{BadCount, BadPointer, BadSequence}
 use Rattle.ados_model.specs.Faults.{InImage, pointers_of}
 use Rattle.ados_model.proofs.FileBlocks.{first_pointers-at, length-first_pointers}
+use Rattle.ados_check.specs.DataRules.{BreaksRule, kind_of_data}
+use Rattle.ados_check.specs.declared.data_rules.DataRule.{DataRule}
+use Rattle.ados_check.specs.declared.data_rules.DataRule.TheVariants.{Sequence, TooFew, TooMany, Link}
 use Rattle.ados_check.proofs.Pointers.{pointers_are}
 use Rattle.ados_faults.specs.declared.pieces.Piece.{Piece}
 use Rattle.ados_faults.specs.declared.pieces.Seen.{Seen}
@@ -269,13 +273,24 @@ seen_again image cells later piece seen on p n old apart = record {
       let m : i < piece.count = omega (arith, l, p.count) in
       let block = slice_index (pointers_of image piece.header) i in
       elim (cases_eq (sequence_number image block) (piece.position + i + 1)) [
-        | inr ne ↦ (n.placed i m inside).sequence ne
-        | inl is ↦ on.stay (cell_of BadSequence block) ((old.placed i l inside).sequence (λ e. apart (other i (sym e ∙ is))))
+        | inr ne ↦ (n.placed i m inside).each Sequence ne
+        | inl is ↦ on.stay (cell_of BadSequence block) ((old.placed i l inside).each Sequence (λ e. apart (other i (sym e ∙ is))))
       ];
 }
   where
     other : (i : ℕ) → seen.position + i + 1 ≡ piece.position + i + 1 → seen.position ≡ piece.position
     other i e = omega (arith, e)
+
+-- only the sequence number depends on the position
+placed_again : (image : List ℕ) (cells later : List Bool) (block old position : ℕ) (next : Option ℕ) → AreStillNoted cells later → IsPlaceNoted image cells block old next
+    → (sequence_number image block ≢ position + 1 → IsNoted later (cell_of BadSequence block)) → IsPlaceNoted image later block position next
+placed_again image cells later block old position next on was sequence = record { each = go }
+  where
+    go : (rule : DataRule) → BreaksRule image (record { block = block; position = position; next = next }) rule → IsNoted later (cell_of (kind_of_data rule) block)
+    go Sequence h = sequence h
+    go TooFew h = on.stay (cell_of BadCount block) (was.each TooFew h)
+    go TooMany h = on.stay (cell_of BadCount block) (was.each TooMany h)
+    go Link h = on.stay (cell_of BadPointer block) (was.each Link h)
 
 -- at a position where only the last one needed a look
 pub seen_before : (image : List ℕ) (cells later : List Bool) (piece : Piece) (seen : Seen) → AreStillNoted cells later → IsPiece image piece → 0 < piece.count → IsHeaderSeen image cells piece.header seen
@@ -295,15 +310,12 @@ seen_before image cells later piece seen on p some old known last = record { pla
           let m : i + 1 < length (pointers_of image piece.header) = omega (arith, more, p.count) in
           let block = slice_index (pointers_of image piece.header) i in
           let was = old.placed i m inside in
-          subst (IsPlaceNoted image later block (piece.position + i)) (sym (next_of_inner image piece i more)) (record {
-            sequence = λ ne. on.stay (cell_of BadSequence block) (elim (or_cases seen.is_settled (seen.position == piece.position) known) [
-              | inl both ↦ old.settled both i m inside
-              | inr same ↦ was.sequence (at_position i (eqb-true seen.position piece.position same) ne)
-            ]);
-            short = λ h. on.stay (cell_of BadCount block) (was.short h);
-            over = λ h. on.stay (cell_of BadCount block) (was.over h);
-            link = λ h. on.stay (cell_of BadPointer block) (was.link h);
-          })
+          subst (IsPlaceNoted image later block (piece.position + i)) (sym (next_of_inner image piece i more))
+          (placed_again image cells later block (seen.position + i) (piece.position + i) (Some (slice_index (pointers_of image piece.header) (i + 1))) on was
+          (λ ne. on.stay (cell_of BadSequence block) (elim (or_cases seen.is_settled (seen.position == piece.position) known) [
+            | inl both ↦ old.settled both i m inside
+            | inr same ↦ was.each Sequence (at_position i (eqb-true seen.position piece.position same) ne)
+          ])))
     ]
 
 -- no block was seen

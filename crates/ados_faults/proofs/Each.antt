@@ -7,6 +7,7 @@ use Rattle.ados_model.specs.declared.fault.FaultKind.{FaultKind}
 use Rattle.ados_model.specs.declared.fault.FaultKind.TheVariants.{NotADosDisk, UnsupportedKind, BadPointer, DuplicateName, BadCount, BadSequence}
 use Rattle.ados_model.specs.Faults
 use Rattle.ados_model.specs.Faults.{HasName, HasSum, Reached, Shows, root_of}
+use Rattle.ados_check.specs.declared.data_rules.DataRule.TheVariants.{Sequence, TooFew, TooMany, Link}
 use Rattle.ados_faults.specs.steps.FileNotes.{AreAllFilesNoted, IsFileNoted, IsPlaceNoted}
 use Rattle.ados_faults.specs.steps.Named.{AreDuplicatesNoted}
 use Rattle.ados_faults.specs.steps.Noted.{AreStillNoted, IsNoted, cell_of}
@@ -39,7 +40,7 @@ module _ (image : List ℕ) (im : IsImage image) (last : List Bool) (f : AreFurt
   followed blocks i l e = none-some (get_or blocks i 0) (sym e ∙ slice_get-get_or blocks i 0 l)
 
   sequence_noted : (block : ℕ) → Faults.HasBadSequence image block → IsNoted last (cell_of BadSequence block)
-  sequence_noted block h = f.after_files.stay (cell_of BadSequence block) ((place_of h.file h.i block h.blocks h.ofs h.at).sequence h.wrong)
+  sequence_noted block h = f.after_files.stay (cell_of BadSequence block) ((place_of h.file h.i block h.blocks h.ofs h.at).each Sequence h.wrong)
 
   name_noted : (block : ℕ) → Faults.HasDuplicateName image block → IsNoted last (cell_of DuplicateName block)
   name_noted block h =
@@ -51,12 +52,12 @@ module _ (image : List ℕ) (im : IsImage image) (last : List Bool) (f : AreFurt
   further_noted kind block (ShowsFurther.unsupported h) = subst (λ (b : ℕ). IsNoted last (cell_of UnsupportedKind b)) (sym h.2) (f.unsupported (subst (λ (b : ℕ). Shows image UnsupportedKind b) h.2 h))
   further_noted kind block (ShowsFurther.name h) = name_noted block h
   further_noted kind block (ShowsFurther.link {file = g} {i = i} {blocks = b} ofs at wrong) =
-      f.after_files.stay (cell_of BadPointer block) ((place_of g i block b ofs at).link (λ e. wrong (e ∙ unwrap_or-slice_get b (i + 1) 0)))
+      f.after_files.stay (cell_of BadPointer block) ((place_of g i block b ofs at).each Link (λ e. wrong (e ∙ unwrap_or-slice_get b (i + 1) 0)))
   further_noted kind block (ShowsFurther.size {blocks = b} d n) = f.after_files.stay (cell_of BadCount block) (((file_of block d.is_file).noted b d).count n)
   further_noted kind block (ShowsFurther.short ofs h n) =
-      f.after_files.stay (cell_of BadCount block) ((place_of h.file h.i block h.blocks ofs h.at).short (inr (n, followed h.blocks (h.i + 1) h.followed)))
-  further_noted kind block (ShowsFurther.none {file = g} {i = i} {blocks = b} ofs at e) = f.after_files.stay (cell_of BadCount block) ((place_of g i block b ofs at).short (inl e))
-  further_noted kind block (ShowsFurther.over {file = g} {i = i} {blocks = b} ofs at l) = f.after_files.stay (cell_of BadCount block) ((place_of g i block b ofs at).over l)
+      f.after_files.stay (cell_of BadCount block) ((place_of h.file h.i block h.blocks ofs h.at).each TooFew (inr (n, followed h.blocks (h.i + 1) h.followed)))
+  further_noted kind block (ShowsFurther.none {file = g} {i = i} {blocks = b} ofs at e) = f.after_files.stay (cell_of BadCount block) ((place_of g i block b ofs at).each TooFew (inl e))
+  further_noted kind block (ShowsFurther.over {file = g} {i = i} {blocks = b} ofs at l) = f.after_files.stay (cell_of BadCount block) ((place_of g i block b ofs at).each TooMany l)
   further_noted kind block (ShowsFurther.sum ofs h) =
       f.after_files.stay (cell_of BadCount block) (((file_of block h.of_file.is_file).noted h.blocks h.of_file).sum ofs (h.inside, h.wrong))
   further_noted kind block (ShowsFurther.sequence h) = sequence_noted block h

@@ -1,16 +1,14 @@
 -- What files show stays noted, and is noted file by file.
 use Rattle.std.proofs.Common.{◌≡◌, ◌≢◌, ℕ, ◌+◌, ◌<◌, ◌≤◌, inl, inr, List, Bool, true, false, Option, Some, None, length, replicate, set, slice_index, get_or, get_or-set_other, get_or-set_same, refl, sym, ap, ◌∙◌, subst, arith}
 use Rattle.std.specs.List.{slice_get}
-use Rattle.std.specs.Option.{unwrap_or}
 use Rattle.std.proofs.lemmas.Bool.{cases_eq, cases_lt, false≢true}
 use Rattle.std.proofs.lemmas.List.{get_or_past, get_or-replicate, length-replicate}
 use Rattle.adf_block.specs.Image.{block_count}
-use Rattle.std.proofs.lemmas.Option.{same_Some, slice_get_past, slice_get_within, unwrap_or-slice_get}
-use Rattle.ados_model.specs.declared.fault.FaultKind.TheVariants.{BadCount, BadPointer, BadSequence}
+use Rattle.std.proofs.lemmas.Option.{same_Some, slice_get_within}
+use Rattle.ados_check.specs.DataRules.{kind_of_data}
+use Rattle.ados_model.specs.declared.fault.FaultKind.TheVariants.{BadCount}
 use Rattle.ados_model.specs.declared.role.Role.TheVariants.{Entry}
-use Rattle.ados_model.specs.Faults.{AreDataBlocks, InImage, IsDataAt}
-use Rattle.ados_faults.specs.declared.chain.Place.{Place}
-use Rattle.ados_faults.specs.steps.Chain.{IsPlaced}
+use Rattle.ados_model.specs.Faults.{AreDataBlocks}
 use Rattle.ados_faults.specs.declared.walk.Step.{Step}
 use Rattle.ados_faults.specs.steps.FileNotes.{AreAllFilesNoted, AreBlocksNoted, AreFilesNoted, ArePlacesNoted, AreStepsChecked, IsChecked, IsFileNoted, IsPlaceNoted, IsStepChecked}
 use Rattle.ados_faults.specs.steps.Noted.{AreStillNoted, cell_of}
@@ -18,27 +16,9 @@ use Rattle.ados_faults.specs.steps.Roles.{AreCovered, step_of}
 use Rattle.ados_faults.proofs.Covering.{entry_listed}
 use Rattle.ados_faults.proofs.SameBlocks.{same_blocks}
 
--- the data block at its place
-pub data_at : (image : List ℕ) (place : Place) (p : IsPlaced image place) → InImage image place.block → IsDataAt image p.file p.blocks place.position place.block
-data_at image place p inside = record { of_file = p.of_file; within = p.within; here = p.here; inside = inside }
-
-pub next_within : (image : List ℕ) (place : Place) (p : IsPlaced image place) → place.next ≢ None → place.position + 1 < length p.blocks
-next_within image place p some = elim (cases_lt (place.position + 1) (length p.blocks)) [
-  | inl l ↦ l
-  | inr past ↦ absurd (some (sym p.next ∙ slice_get_past p.blocks (place.position + 1) past))
-]
-
-pub next_index : (image : List ℕ) (place : Place) (p : IsPlaced image place) → unwrap_or place.next 0 ≡ slice_index p.blocks (place.position + 1)
-next_index image place p = ap (λ (o : Option ℕ). unwrap_or o 0) (sym p.next) ∙ unwrap_or-slice_get p.blocks (place.position + 1) 0
-
 module _ (image : List ℕ) (cells later : List Bool) (on : AreStillNoted cells later) where
   pub placed_on : (block position : ℕ) (next : Option ℕ) → IsPlaceNoted image cells block position next → IsPlaceNoted image later block position next
-  placed_on block position next p = record {
-    sequence = λ h. on.stay (cell_of BadSequence block) (p.sequence h);
-    short = λ h. on.stay (cell_of BadCount block) (p.short h);
-    over = λ h. on.stay (cell_of BadCount block) (p.over h);
-    link = λ h. on.stay (cell_of BadPointer block) (p.link h);
-  }
+  placed_on block position next p = record { each = λ rule h. on.stay (cell_of (kind_of_data rule) block) (p.each rule h) }
 
   pub places_on : (blocks : List ℕ) (from : ℕ) → ArePlacesNoted image cells blocks from → ArePlacesNoted image later blocks from
   places_on blocks from p = record { placed = λ i low l inside. placed_on (get_or blocks i 0) i (slice_get blocks (i + 1)) (p.placed i low l inside) }

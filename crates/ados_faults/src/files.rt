@@ -1,9 +1,7 @@
 //! The files, checked against their sizes.
-ghost use Rattle.std.specs.Prelude.{◌≡◌, ◌≢◌, ◌↔◌, ◌<◌, ◌≤◌, All, IfOk, IsTrue, flat_map, false, length, replicate, None};
+ghost use Rattle.std.specs.Prelude.{◌≡◌, ◌↔◌, ◌≤◌, All, IfOk, IsTrue, flat_map, false, length, replicate, None};
 ghost use Rattle.adf_block.specs.Image.{block_count};
-ghost use Rattle.adf_block.specs.Fields.{file_size, format_of};
 ghost use Rattle.adf_block.specs.declared.layout.TheConstants.{NEXT_EXTENSION};
-ghost use Rattle.ados_model.specs.Tree.{data_count};
 ghost use Rattle.ados_model.specs.Faults.{InImage, IsFile, IsOfs, LinkedOnce, pointers_of};
 ghost use Rattle.ados_faults.specs.steps.Blocks.{AreMet};
 ghost use Rattle.ados_faults.specs.steps.FileNotes.{AreAllFilesNoted, AreAllSeen, AreBlocksNoted, AreFilesNoted, AreHeld, HoldOtherSize, IsFileNoted, IsStepChecked};
@@ -17,7 +15,8 @@ use crate::notes::Notes;
 use crate::pieces::{Seen, look_along};
 use crate::walk::Step;
 use adf_block::Image;
-use adf_block::layout::{FFS_ROOM, FILE_SIZE, FILE_TYPE, KIND_BYTE, OFS_ROOM, SECONDARY_TYPE};
+use adf_block::layout::{FILE_TYPE, KIND_BYTE, SECONDARY_TYPE};
+use ados_check::{Source, has_other_size, needs_other_count};
 use ados_model::{FaultKind, Role};
 use std::alloc::{AllocError, Global};
 
@@ -151,8 +150,9 @@ fn look_at_file(
     ensures seen { AreAllSeen image.now notes.new.cells.items seen.new }
     ensures whole { IsFileNoted image.now notes.new.cells.items file }
 {
+    let source = Source::whole(image);
     let count = count_pointers(image, headers);
-    let wrong = has_other_count(image, file, count);
+    let wrong = needs_other_count(&source, file, count);
     notes.note_if(image, FaultKind::BadCount, file, wrong);
     if image.byte(0, KIND_BYTE) != 0 {
         return;
@@ -170,29 +170,7 @@ fn holds_other_size(image: &Image, file: u32, headers: &[u32], held: &[Option<u6
     ensures { IsTrue result ↔ HoldOtherSize image.now file (flat_map (pointers_of image.now) headers.now) }
 {
     match held_together(image, headers, held) {
-        Some(sum) => sum != u64::from(image.long(file, FILE_SIZE)),
+        Some(sum) => has_other_size(&Source::whole(image), file, sum),
         None => false,
     }
-}
-
-/// Whether a file with so many data blocks needs another number of them for its size.
-fn has_other_count(image: &Image, file: u32, count: u64) -> bool
-    requires { InImage image.now file }
-    ensures { IsTrue result ↔ (count ≢ data_count (format_of image.now) (file_size image.now file)) }
-{
-    count != u64::from(blocks_of_size(image, file))
-}
-
-/// The number of data blocks that the size of a file needs.
-fn blocks_of_size(image: &Image, file: u32) -> u32
-    requires { file < block_count image.now }
-    ensures { result ≡ data_count (format_of image.now) (file_size image.now file) }
-{
-    prove!(image.blocks() >= 16);
-    let room = if image.byte(0, KIND_BYTE) == 0 {
-        OFS_ROOM
-    } else {
-        FFS_ROOM
-    };
-    image.long(file, FILE_SIZE).div_ceil(room)
 }

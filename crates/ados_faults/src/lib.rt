@@ -17,7 +17,6 @@ mod files;
 mod kinds;
 mod listing;
 mod looks;
-mod name_bytes;
 mod names;
 mod notes;
 mod pieces;

@@ -14,11 +14,11 @@ ghost use Rattle.ados_faults.specs.steps.Walked.{IsStep};
 
 use crate::blocks::{Blocks, no_cells};
 use crate::entries::list_entries;
-use crate::name_bytes::{has_short_name, upper_name};
 use crate::notes::Notes;
 use crate::walk::Step;
 use adf_block::Image;
 use adf_block::layout::{DIRECTORY_TYPE, SECONDARY_TYPE};
+use ados_check::{Source, has_short_name, upper_name};
 use ados_model::{FaultKind, Role};
 use std::alloc::{AllocError, Global};
 use std::collections::BTreeMap;
@@ -176,10 +176,11 @@ fn first_with_name(
     ensures kept { IfOk result (λ _. AreStillKnown known.old known.new) }
     ensures first { IfOk result (λ first. IsFirstName image.now known.new block first) }
 {
-    if !has_short_name(image, block) {
+    let source = Source::whole(image);
+    if !has_short_name(&source, block) {
         return Ok(None);
     }
-    let name = upper_name(image, block);
+    let name = upper_name(&source, block);
     if let Some(other) = known.get(&name) {
         return Ok(Some(*other));
     }

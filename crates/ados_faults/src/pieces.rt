@@ -6,15 +6,17 @@
 ghost use Rattle.std.specs.Prelude.{◌≡◌, ◌<◌, ◌≤◌, ◌+◌, All, flat_map, length, slice_index};
 ghost use Rattle.adf_block.specs.Image.{block_count};
 ghost use Rattle.ados_model.specs.Faults.{InImage, IsOfs, pointers_of};
-ghost use Rattle.ados_faults.specs.steps.Chain.{AreHeaders, IsPiece, IsPlaced, first_in, next_in};
+ghost use Rattle.ados_check.specs.DataRules.{IsPlaced};
+ghost use Rattle.ados_faults.specs.steps.Chain.{AreHeaders, IsPiece, first_in, next_in};
 ghost use Rattle.ados_faults.specs.steps.FileNotes.{AreAllSeen, ArePlacesNoted, IsOneNoted, IsPieceNoted, is_known};
 ghost use Rattle.ados_faults.specs.steps.Noted.{AreNoted, AreStillNoted};
 
-use crate::chain::{Place, look_at_place};
+use crate::chain::look_at_place;
 use crate::file_blocks::pointers_in;
 use crate::notes::Notes;
 use adf_block::Image;
 use adf_block::layout::FIRST_POINTER;
+use ados_check::Place;
 
 /// The data blocks in the pointers of a block, at their places in a file.
 #[derive(Clone, Copy)]

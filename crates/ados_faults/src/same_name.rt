@@ -1,9 +1,8 @@
 //! Another entry with the name of an entry.
 use crate::marked::{has_block, role_at};
-use crate::name_bytes::{has_short_name, upper_name};
 use adf_block::Image;
 use adf_block::layout::BOOT_BLOCKS;
-use ados_check::Mark;
+use ados_check::{Mark, Source, has_short_name, upper_name};
 use ados_model::Role;
 
 /// The first other entry of the same directory with the name of this one, by the roles of the marks.
@@ -32,8 +31,9 @@ fn directory_of(marks: &[Option<Mark>], block: u32) -> Option<u32> {
 /// The name of a block in the form for comparison, if it has at most 30 bytes.
 fn name_at(image: &Image, block: u32) -> Option<[u8; 31]> {
     prove!(image.blocks() >= 16);
-    if !has_block(image, block) || !has_short_name(image, block) {
+    let source = Source::whole(image);
+    if !has_block(image, block) || !has_short_name(&source, block) {
         return None;
     }
-    Some(upper_name(image, block))
+    Some(upper_name(&source, block))
 }

@@ -1,9 +1,7 @@
--- The progress along the links of a file's header and extension blocks; and data blocks at their places.
-use Rattle.std.specs.Prelude.{◌≡◌, ◌≢◌, ℕ, ◌+◌, ◌^◌, ◌<◌, ◌≤◌, ◌⊎◌, List, Option, Some, None, length, slice_get, slice_index, nat_lt, if◌then◌else◌, All}
-use Rattle.adf_block.specs.Fields.{held_count}
-use Rattle.adf_block.specs.declared.layout.TheConstants.{NEXT_EXTENSION, OFS_ROOM}
+-- The progress along the links of a file's header and extension blocks; and the data blocks in their pointers.
+use Rattle.std.specs.Prelude.{◌≡◌, ℕ, ◌+◌, ◌^◌, ◌<◌, ◌≤◌, List, Option, Some, length, slice_get, slice_index, nat_lt, if◌then◌else◌, All}
+use Rattle.adf_block.specs.declared.layout.TheConstants.{NEXT_EXTENSION}
 use Rattle.ados_model.specs.Faults.{AreDataBlocks, AreDistinct, FurtherAreInside, InImage, IsFile, LeadOn, LinkedOnce, pointers_of}
-use Rattle.ados_faults.specs.declared.chain.Place.{Place}
 use Rattle.ados_faults.specs.declared.pieces.Piece.{Piece}
 
 -- the first blocks along the links, each once
@@ -19,20 +17,6 @@ pub record AreHeaders (image : List ℕ) (headers : List ℕ) : Type 0 where
   pub file : ℕ
   pub is_file : IsFile image file
   pub linked : LinkedOnce image NEXT_EXTENSION file headers
-
--- the data block stands at its place in a file
-pub record IsPlaced (image : List ℕ) (place : Place) : Type 0 where
-  pub file : ℕ
-  pub blocks : List ℕ
-  pub of_file : AreDataBlocks image file blocks
-  pub within : place.position < length blocks
-  pub here : slice_index blocks place.position ≡ place.block
-  pub next : slice_get blocks (place.position + 1) ≡ place.next
-  pub few : place.position < 2 ^ 63
-
--- the data block is empty, or is not full although others follow
-abbrev pub HoldsTooLittle : List ℕ → ℕ → Option ℕ → Type 0
-HoldsTooLittle image block next = (held_count image block ≡ 0) ⊎ ((held_count image block ≢ OFS_ROOM) × (next ≢ None))
 
 -- the data blocks in the pointers of a block stand at their places in a file
 pub record IsPiece (image : List ℕ) (piece : Piece) : Type 0 where

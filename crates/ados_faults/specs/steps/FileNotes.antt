@@ -1,23 +1,27 @@
 -- What the header, extension and data blocks of files show, noted.
-use Rattle.std.specs.Prelude.{◌≡◌, ◌≢◌, ℕ, ◌+◌, ◌-◌, ◌^◌, ◌<◌, ◌≤◌, ◌==◌, ◌||◌, List, Bool, true, false, Option, Some, None, MatchOption, unwrap_or, length, min, slice_get, slice_index, slice_index_or, sum_by, All}
-use Rattle.adf_block.specs.Image.{block_count, long}
-use Rattle.adf_block.specs.Fields.{file_size, held_count, sequence_number}
-use Rattle.adf_block.specs.declared.layout.TheConstants.{NEXT_DATA, OFS_ROOM}
-use Rattle.ados_model.specs.declared.fault.FaultKind.TheVariants.{BadCount, BadPointer, BadSequence}
+use Rattle.std.specs.Prelude.{◌≡◌, ◌≢◌, ℕ, ◌+◌, ◌-◌, ◌^◌, ◌<◌, ◌≤◌, ◌==◌, ◌||◌, List, Bool, true, false, Option, Some, None, MatchOption, length, min, slice_get, slice_index, slice_index_or, sum_by, All}
+use Rattle.adf_block.specs.Image.{block_count}
+use Rattle.adf_block.specs.Fields.{file_size, held_count}
+use Rattle.ados_check.specs.DataRules.{BreaksRule, kind_of_data}
+use Rattle.ados_check.specs.declared.data_rules.DataRule.{DataRule}
+use Rattle.ados_check.specs.declared.data_rules.Place.{Place}
+use Rattle.ados_model.specs.declared.fault.FaultKind.TheVariants.{BadCount, BadSequence}
 use Rattle.ados_model.specs.declared.role.Role.TheVariants.{Entry}
 use Rattle.ados_model.specs.Faults.{AreDataBlocks, HasFileType, InImage, IsFile, IsOfs, count_of_size, pointers_of}
 use Rattle.ados_faults.specs.declared.pieces.Piece.{Piece}
 use Rattle.ados_faults.specs.declared.pieces.Seen.{Seen}
 use Rattle.ados_faults.specs.declared.walk.Step.{Step}
-use Rattle.ados_faults.specs.steps.Chain.{HoldsTooLittle, next_in}
+use Rattle.ados_faults.specs.steps.Chain.{next_in}
 use Rattle.ados_faults.specs.steps.Noted.{IsNoted, cell_of}
 
--- what the data block shows at this position of a file is noted; behind it stands the next one, if there is one
+-- if the data block breaks the rule at its place, that is noted
+abbrev pub IsRuleNoted : List ℕ → List Bool → Place → DataRule → Type 0
+IsRuleNoted image cells place rule = BreaksRule image place rule → IsNoted cells (cell_of (kind_of_data rule) place.block)
+
+-- each rule that the data block breaks at this position of a file is noted; behind it stands the next one, if there is
+-- one
 pub record IsPlaceNoted (image : List ℕ) (cells : List Bool) (block position : ℕ) (next : Option ℕ) : Type 0 where
-  pub sequence : sequence_number image block ≢ position + 1 → IsNoted cells (cell_of BadSequence block)
-  pub short : HoldsTooLittle image block next → IsNoted cells (cell_of BadCount block)
-  pub over : OFS_ROOM < held_count image block → IsNoted cells (cell_of BadCount block)
-  pub link : long image block NEXT_DATA ≢ unwrap_or next 0 → IsNoted cells (cell_of BadPointer block)
+  pub each : (rule : DataRule) → IsRuleNoted image cells (record { block = block; position = position; next = next }) rule
 
 -- so it is for each of these data blocks from a position on, as far as they are inside the image
 pub record ArePlacesNoted (image : List ℕ) (cells : List Bool) (blocks : List ℕ) (from : ℕ) : Type 0 where

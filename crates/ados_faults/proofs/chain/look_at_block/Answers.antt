@@ -1,41 +1,44 @@
-use Rattle.std.proofs.Common.{inl, inr, sym, ◌∙◌}
-use Rattle.ados_model.specs.Faults.HasBadCount.{held_none, held_not_full, held_over}
-use Rattle.ados_model.specs.Faults.HasBadPointer.{further_data}
+use Rattle.std.proofs.Common.{get_or, sym, subst, arith}
+use Rattle.std.proofs.lemmas.List.{take_all}
+use Rattle.std.proofs.lemmas.List.Elements.{All-more, All-weaker}
+use Rattle.std.specs.List.{All}
+use Rattle.std.specs.Prelude.{List}
+use Rattle.ados_check.specs.DataRules.{BreaksRule}
+use Rattle.ados_check.specs.Source.{SourceView}
+use Rattle.ados_check.specs.declared.data_rules.DataRule.{DataRule}
+use Rattle.ados_check.specs.declared.data_rules.DataRule.TheVariants.{Sequence}
+use Rattle.ados_check.specs.declared.data_rules.TheConstants.{DATA_RULES}
+use Rattle.ados_check.proofs.DataRuling.{data_shows, each_rule}
+use Rattle.ados_model.specs.declared.fault.FaultKind.{FaultKind}
+use Rattle.ados_model.specs.Faults.{Shows}
+use Rattle.ados_faults.specs.steps.FileNotes.{IsRuleNoted}
+use Rattle.ados_faults.specs.steps.Noted.{IsNoted, cell_of}
 use Rattle.ados_faults.proofs.Cells.{noted_on}
-use Rattle.ados_faults.proofs.FileNotes.{data_at, next_index, next_within}
 use Rattle.ados_faults.proofs.chain.look_at_block.Goals as goal
 
 pub note_if-requires-clause-shown : goal.note_if-requires-clause-shown
 note_if-requires-clause-shown c = λ w.
-    let at = c.requires.at in
-    record { file = at.file; i = c.args.place.position; blocks = at.blocks; ofs = c.requires.ofs; at = data_at c.args.image.now c.args.place at c.requires.inside; wrong = c.has_other_place-other.ensures.0 w }
+    let rule = get_or DATA_RULES c.loop-rule.rule-index Sequence in
+    let bad = subst (λ (s : SourceView). BreaksRule s.bytes c.args.place rule) c.whole-source.ensures (c.breaks_rule-broken.ensures.0 w) in
+    subst (λ (kind : FaultKind). Shows c.args.image.now kind c.args.place.block) (sym c.kind.ensures) (data_shows c.args.image.now c.args.place c.requires.at c.requires.ofs c.requires.inside rule bad)
 
-pub note_if-requires-2-clause-shown : goal.note_if-requires-2-clause-shown
-note_if-requires-2-clause-shown c = λ w.
-    let at = c.requires.at in
-    let here = data_at c.args.image.now c.args.place at c.requires.inside in
-    elim (c.is_short-short.ensures.0 w) [
-      | inl none ↦ held_none c.requires.ofs here none
-      | inr other ↦
-          held_not_full c.requires.ofs (record { file = at.file; i = c.args.place.position; blocks = at.blocks; at = here; followed = next_within c.args.image.now c.args.place at other.1 }) other.0
-    ]
-
-pub note_if-requires-3-clause-shown : goal.note_if-requires-3-clause-shown
-note_if-requires-3-clause-shown c = λ w. held_over c.requires.ofs (data_at c.args.image.now c.args.place c.requires.at c.requires.inside) (c.holds_too_much-over.ensures.0 w)
-
-pub note_if-requires-4-clause-shown : goal.note_if-requires-4-clause-shown
-note_if-requires-4-clause-shown c = λ w.
-    further_data c.requires.ofs (data_at c.args.image.now c.args.place c.requires.at c.requires.inside)
-    (λ e. c.leads_elsewhere-link.ensures.0 w (e ∙ sym (next_index c.args.image.now c.args.place c.requires.at)))
+pub loop-rule-preserved : goal.loop-rule-preserved
+loop-rule-preserved c =
+    let rule = get_or DATA_RULES c.loop-rule.rule-index Sequence in
+    let old = IsRuleNoted c.args.image.now c.loop-rule.notes.cells.items c.args.place in
+    let new = IsRuleNoted c.args.image.now c.note_if.new.self.cells.items c.args.place in
+    record {
+      noted = c.note_if.ensures.noted;
+      stays = noted_on c.loop-rule.invariant.stays c.note_if.ensures.stays;
+      rules = All-more new DATA_RULES c.loop-rule.rule-index Sequence c.loop-rule-test.true
+          (All-weaker old new (λ other is bad. c.note_if.ensures.stays.stay _ (is bad)) _ c.loop-rule.invariant.rules)
+          (λ bad.
+          let w = c.breaks_rule-broken.ensures.1 (subst (λ (s : SourceView). BreaksRule s.bytes c.args.place rule) (sym c.whole-source.ensures) bad) in
+          subst (λ (kind : FaultKind). IsNoted c.note_if.new.self.cells.items (cell_of kind c.args.place.block)) c.kind.ensures (c.note_if.ensures.set w));
+    }
 
 pub returns-clause-placed : goal.returns-clause-placed
-returns-clause-placed c =
-    let s4 = c.note_if-4.ensures.stays in
-    let s3 = noted_on c.note_if-3.ensures.stays s4 in
-    let s2 = noted_on c.note_if-2.ensures.stays s3 in
-    record {
-      sequence = λ h. s2.stay _ (c.note_if.ensures.set (c.has_other_place-other.ensures.1 h));
-      short = λ h. s3.stay _ (c.note_if-2.ensures.set (c.is_short-short.ensures.1 h));
-      over = λ h. s4.stay _ (c.note_if-3.ensures.set (c.holds_too_much-over.ensures.1 h));
-      link = λ h. c.note_if-4.ensures.set (c.leads_elsewhere-link.ensures.1 h);
-    }
+returns-clause-placed c = record {
+  each = each_rule (IsRuleNoted c.args.image.now c.loop-rule.notes.cells.items c.args.place)
+      (subst (All (IsRuleNoted c.args.image.now c.loop-rule.notes.cells.items c.args.place)) (take_all c.loop-rule.rule-index DATA_RULES (omega (arith, c.loop-rule-test.false))) c.loop-rule.invariant.rules);
+}

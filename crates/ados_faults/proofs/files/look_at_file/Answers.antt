@@ -1,6 +1,7 @@
-use Rattle.std.proofs.Common.{refl, sym, ◌∙◌}
+use Rattle.std.proofs.Common.{◌≢◌, refl, sym, ◌∙◌, subst}
 use Rattle.std.specs.List.{flat_map}
-use Rattle.ados_model.specs.Faults.{AreDataBlocks, pointers_of}
+use Rattle.ados_check.specs.Source.{SourceView}
+use Rattle.ados_model.specs.Faults.{AreDataBlocks, count_of_size, pointers_of}
 use Rattle.ados_model.specs.Faults.HasBadCount.{wrong_size, wrong_sum}
 use Rattle.ados_faults.proofs.ByHeaders.{all_seen_on}
 use Rattle.ados_faults.proofs.FileNotes.{file_noted, places_on}
@@ -8,7 +9,7 @@ use Rattle.ados_faults.proofs.files.look_at_file.Goals as goal
 
 pub note_if-requires-clause-shown : goal.note_if-requires-clause-shown
 note_if-requires-clause-shown c = λ w.
-    wrong_size (record { is_file = c.requires.file; headers = c.args.headers.now; linked = c.requires.linked; pointed = refl }) (λ e. c.has_other_count-wrong.ensures.0 w (c.count_pointers-count.ensures ∙ e))
+    wrong_size (record { is_file = c.requires.file; headers = c.args.headers.now; linked = c.requires.linked; pointed = refl }) (λ e. subst (λ (s : SourceView). c.count_pointers-count.result ≢ count_of_size s.bytes c.args.file) c.whole-source.ensures (c.needs_other_count-wrong.ensures.0 w) (c.count_pointers-count.ensures ∙ e))
 
 pub look_along-requires-clause-headers : goal.look_along-requires-clause-headers
 look_along-requires-clause-headers c = record { file = c.args.file; is_file = c.requires.file; linked = c.requires.linked }
@@ -34,7 +35,7 @@ returns-then-byte-ne0-clause-whole c =
     let blocks = flat_map (pointers_of c.args.image.now) c.args.headers.now in
     let of_file : AreDataBlocks c.args.image.now c.args.file blocks = record { is_file = c.requires.file; headers = c.args.headers.now; linked = c.requires.linked; pointed = refl } in
     file_noted c.args.image.now c.note_if.new.self.cells.items c.args.file blocks blocks of_file refl (record {
-      count = λ n. c.note_if.ensures.set (c.has_other_count-wrong.ensures.1 (λ e. n (sym c.count_pointers-count.ensures ∙ e)));
+      count = λ n. c.note_if.ensures.set (c.needs_other_count-wrong.ensures.1 (subst (λ (s : SourceView). c.count_pointers-count.result ≢ count_of_size s.bytes c.args.file) (sym c.whole-source.ensures) (λ e. n (sym c.count_pointers-count.ensures ∙ e))));
       places = λ ofs. absurd (c.if-byte-ne0.true (c.byte.ensures ∙ ofs));
       sum = λ ofs h. absurd (c.if-byte-ne0.true (c.byte.ensures ∙ ofs));
     })
@@ -47,7 +48,7 @@ returns-clause-whole c =
     let blocks = flat_map (pointers_of c.args.image.now) c.args.headers.now in
     let of_file : AreDataBlocks c.args.image.now c.args.file blocks = record { is_file = c.requires.file; headers = c.args.headers.now; linked = c.requires.linked; pointed = refl } in
     file_noted c.args.image.now c.note_if-2.new.self.cells.items c.args.file blocks blocks of_file refl (record {
-      count = λ n. c.note_if-2.ensures.stays.stay _ (c.look_along.ensures.stays.stay _ (c.note_if.ensures.set (c.has_other_count-wrong.ensures.1 (λ e. n (sym c.count_pointers-count.ensures ∙ e)))));
+      count = λ n. c.note_if-2.ensures.stays.stay _ (c.look_along.ensures.stays.stay _ (c.note_if.ensures.set (c.needs_other_count-wrong.ensures.1 (subst (λ (s : SourceView). c.count_pointers-count.result ≢ count_of_size s.bytes c.args.file) (sym c.whole-source.ensures) (λ e. n (sym c.count_pointers-count.ensures ∙ e))))));
       places = λ ofs. places_on c.args.image.now c.look_along.new.notes.cells.items c.note_if-2.new.self.cells.items c.note_if-2.ensures.stays blocks 0 c.look_along.ensures.places;
       sum = λ ofs h. c.note_if-2.ensures.set (c.holds_other_size-other.ensures.1 h);
     })

@@ -2,7 +2,7 @@ use Rattle.std.proofs.Common.{◌≡◌, ◌<◌, ◌+◌, ℕ, zero, suc, ◌�
 use Rattle.adf_block.specs.Image.{byte_at}
 use Rattle.ados_name.specs.Name.{upper}
 use Rattle.ados_check.proofs.UpperNames.{name_is}
-use Rattle.ados_faults.proofs.name_bytes.upper_name.Goals as goal
+use Rattle.ados_check.proofs.naming.upper_name.Goals as goal
 
 zeros : (n k : ℕ) → slice_index (replicate n 0) k ≡ 0
 zeros zero k = refl
@@ -29,14 +29,14 @@ loop-i-preserved c =
       first = get_or-set_other c.loop-i.name (c.loop-i.i + 1) 0 c.upper.result 0 (omega arith) ∙ c.loop-i.invariant.first;
       text = below_more _ _
           (λ k l. get_or-set_other c.loop-i.name (c.loop-i.i + 1) (k + 1) c.upper.result 0 (omega (arith, l)) ∙ c.loop-i.invariant.text k l)
-          (get_or-set_same c.loop-i.name (c.loop-i.i + 1) c.upper.result 0 small ∙ c.upper.ensures ∙ ap upper (c.byte.ensures ∙ ap (byte_at c.args.image.now c.args.block) (omega arith)));
+          (get_or-set_same c.loop-i.name (c.loop-i.i + 1) c.upper.result 0 small ∙ c.upper.ensures ∙ ap upper (c.byte.ensures ∙ ap (byte_at c.args.source.now.bytes c.args.block) (omega arith)));
       rest = λ k l. get_or-set_other c.loop-i.name (c.loop-i.i + 1) k c.upper.result 0 (omega (arith, l)) ∙ c.loop-i.invariant.rest k (omega (arith, l));
     }
 
 pub returns : goal.returns
 returns c =
-    let whole : c.loop-i.i ≡ byte_at c.args.image.now c.args.block 432 = omega (arith, c.loop-i-test.false, c.loop-i.auto.i-end, c.from-i-end.ensures, c.byte-len.ensures) in
-    name_is c.args.image.now c.args.block c.loop-i.name c.requires.image c.requires.inside c.requires.short c.loop-i.invariant.size
+    let whole : c.loop-i.i ≡ byte_at c.args.source.now.bytes c.args.block 432 = omega (arith, c.loop-i-test.false, c.loop-i.auto.i-end, c.from-i-end.ensures, c.byte-len.ensures) in
+    name_is c.args.source.now.bytes c.args.block c.loop-i.name c.requires.image c.requires.inside c.requires.short c.loop-i.invariant.size
     (c.loop-i.invariant.first ∙ c.byte-len.ensures)
-    (subst (λ (n : ℕ). (k : ℕ) → k < n → slice_index c.loop-i.name (k + 1) ≡ upper (byte_at c.args.image.now c.args.block (433 + k))) whole c.loop-i.invariant.text)
+    (subst (λ (n : ℕ). (k : ℕ) → k < n → slice_index c.loop-i.name (k + 1) ≡ upper (byte_at c.args.source.now.bytes c.args.block (433 + k))) whole c.loop-i.invariant.text)
     (subst (λ (n : ℕ). (k : ℕ) → n < k → slice_index c.loop-i.name k ≡ 0) whole c.loop-i.invariant.rest)

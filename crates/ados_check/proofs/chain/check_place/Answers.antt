@@ -1,0 +1,16 @@
+use Rattle.std.proofs.Common.{arith, get_or, refl, subst, sym}
+use Rattle.ados_model.specs.declared.fault.FaultKind.{FaultKind}
+use Rattle.ados_model.specs.Faults.{Shows}
+use Rattle.ados_check.specs.DataRules.{BreaksRule}
+use Rattle.ados_check.specs.declared.data_rules.DataRule.TheVariants.{Sequence}
+use Rattle.ados_check.specs.declared.data_rules.TheConstants.{DATA_RULES}
+use Rattle.ados_check.proofs.DataRuling.{data_shows, each_rule}
+use Rattle.ados_check.proofs.chain.check_place.Goals as goal
+
+pub returns-then-breaks_rule : goal.returns-then-breaks_rule
+returns-then-breaks_rule c =
+    subst (λ (kind : FaultKind). Shows c.args.source.now.bytes kind c.args.place.block) (sym c.kind.ensures)
+    (data_shows c.args.source.now.bytes c.args.place c.requires.at c.requires.ofs c.requires.inside (get_or DATA_RULES c.loop-rule.rule-index Sequence) (c.if-breaks_rule.ensures.0 refl))
+
+pub returns : goal.returns
+returns c = each_rule (λ rule. ¬ BreaksRule c.args.source.now.bytes c.args.place rule) (λ k d l. c.loop-rule.invariant k d (omega (arith, l, c.loop-rule-test.false)))
