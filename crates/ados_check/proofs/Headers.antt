@@ -99,10 +99,10 @@ module _ (image : List ℕ) (block : ℕ) where
   reached_as (Entry dir s) (header h f) = h
   reached_as (Extension file) (extension h) = h
 
-  pub entry_as : (role : Role) → IsReachedEntry image block role → HasFileType image block → HasPointersAs image block role
+  entry_as : (role : Role) → IsReachedEntry image block role → HasFileType image block → HasPointersAs image block role
   entry_as role e f = subst (HasPointersAs image block) (sym e.is) (header (subst (Reached image block) e.is e.reached) f)
 
-  pub right_entry : (role : Role) → IsReachedEntry image block role → primary_type image block ≡ HEADER_TYPE → HasFileType image block → ¬ HasBadTypeAs image block role
+  right_entry : (role : Role) → IsReachedEntry image block role → primary_type image block ≡ HEADER_TYPE → HasFileType image block → ¬ HasBadTypeAs image block role
   right_entry role e primary f bad = elim (subst (HasBadTypeAs image block) e.is bad) [
     | inl n ↦ n primary
     | inr none ↦ none.1 f

@@ -54,7 +54,7 @@ pub(crate) fn check_chain(
     Ok(())
 }
 
-/// The header or extension block behind a position, from the one at this position.
+/// The header or extension block with the pointer behind this position, from the one with the pointer at it.
 fn holder_behind(source: &Source<'_>, holder: u32, position: u32) -> u32
     requires inside { holder < block_count source.now.bytes }
     requires told { Tells source.now holder NEXT_EXTENSION }

@@ -46,8 +46,7 @@ impl DataRule {
     {
         match self {
             DataRule::Sequence => FaultKind::BadSequence,
-            DataRule::TooFew => FaultKind::BadCount,
-            DataRule::TooMany => FaultKind::BadCount,
+            DataRule::TooFew | DataRule::TooMany => FaultKind::BadCount,
             DataRule::Link => FaultKind::BadPointer,
         }
     }

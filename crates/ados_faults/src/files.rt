@@ -169,6 +169,7 @@ fn holds_other_size(image: &Image, file: u32, headers: &[u32], held: &[Option<u6
     requires held { AreHeld image.now held.now }
     ensures { IsTrue result ↔ HoldOtherSize image.now file (flat_map (pointers_of image.now) headers.now) }
 {
+    prove!(image.blocks() >= 16);
     match held_together(image, headers, held) {
         Some(sum) => has_other_size(&Source::whole(image), file, sum),
         None => false,
