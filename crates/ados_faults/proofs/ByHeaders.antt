@@ -10,7 +10,6 @@ use Rattle.std.proofs.lemmas.List.Sums.{sum_by-append}
 use Rattle.std.proofs.lemmas.Option.{get_or_from_slice_get, none-some, same_Some, slice_get-get_or, slice_get_within}
 use Rattle.adf_block.specs.Image.{block_count}
 use Rattle.adf_block.specs.Fields.{held_count, pointer, pointer_count, sequence_number}
-use Rattle.adf_block.specs.declared.layout.TheConstants.{NEXT_EXTENSION}
 use Rattle.ados_model.specs.declared.fault.FaultKind.TheVariants.{BadCount, BadPointer, BadSequence}
 use Rattle.ados_model.specs.Faults.{InImage, pointers_of}
 use Rattle.ados_model.proofs.FileBlocks.{first_pointers-at, length-first_pointers}

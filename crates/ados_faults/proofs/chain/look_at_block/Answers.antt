@@ -2,10 +2,8 @@ use Rattle.std.proofs.Common.{get_or, sym, subst, arith}
 use Rattle.std.proofs.lemmas.List.{take_all}
 use Rattle.std.proofs.lemmas.List.Elements.{All-more, All-weaker}
 use Rattle.std.specs.List.{All}
-use Rattle.std.specs.Prelude.{List}
 use Rattle.ados_check.specs.DataRules.{BreaksRule}
 use Rattle.ados_check.specs.Source.{SourceView}
-use Rattle.ados_check.specs.declared.data_rules.DataRule.{DataRule}
 use Rattle.ados_check.specs.declared.data_rules.DataRule.TheVariants.{Sequence}
 use Rattle.ados_check.specs.declared.data_rules.TheConstants.{DATA_RULES}
 use Rattle.ados_check.proofs.DataRuling.{data_shows, each_rule}
