@@ -45,8 +45,6 @@ pub use accept::Rejected;
 pub use bitmap::{has_valid_bitmap, is_free};
 pub use check::check_image;
 pub use data_rules::{DATA_RULES, DataRule, Place, breaks_rule};
-pub use file_system::check_kind;
-pub use laws::{checked_has_pages, checked_is_accepted};
 pub use mark::Mark;
 pub use naming::{has_short_name, upper_name};
 pub use places::place_role;
@@ -59,5 +57,4 @@ pub use rules::{
 pub use sizes::{has_other_size, needs_other_count};
 pub use sketch::Sketch;
 pub use sketched::accepted_kind;
-pub use sound::check_sound;
 pub use source::Source;

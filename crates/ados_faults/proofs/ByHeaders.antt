@@ -21,7 +21,7 @@ use Rattle.ados_faults.specs.declared.pieces.Piece.{Piece}
 use Rattle.ados_faults.specs.declared.pieces.Seen.{Seen}
 use Rattle.ados_faults.specs.steps.Chain.{AreHeaders, IsPiece, first_in, next_in}
 use Rattle.ados_faults.specs.steps.FileNotes.{AreAllSeen, AreHeld, ArePlacesNoted, IsHeaderSeen, IsHeld, IsOneNoted, IsPieceNoted, IsPlaceNoted, is_known}
-use Rattle.ados_faults.specs.steps.Noted.{AreStillNoted, cell_of}
+use Rattle.ados_faults.specs.steps.Noted.{AreStillNoted, cell_of, IsNoted}
 use Rattle.ados_faults.proofs.FileNotes.{placed_on}
 
 -- ---- the pointers of one block
