@@ -201,7 +201,6 @@ impl Plan {
         meta: bool,
     ) -> Result<(), AllocError> {
         let name = name_of(alloc, entry)?;
-        let note = name.note(alloc)?;
         let source = match entry.state {
             State::Lost => {
                 self.planned.push(Planned::Lost { above, name })?;
@@ -210,9 +209,10 @@ impl Plan {
             State::Directory | State::DoubtfulDirectory => Source::Directory,
             State::Whole | State::Doubtful { .. } | State::Broken { .. } => Source::File(place),
         };
+        let note = name_of_note(alloc, &name, meta)?;
         let item = self.push(above, name, source, entry.date)?;
         self.planned.push(Planned::Item(item))?;
-        if meta {
+        if let Some(note) = note {
             self.push(above, note, Source::Note(place), entry.date)?;
         }
         Ok(())
@@ -262,6 +262,19 @@ fn note_of(alloc: Global, entry: &Salvaged) -> Result<Vec<u8>, AllocError> {
         comment: entry.comment,
     };
     line_of(alloc, &noted)
+}
+
+/// With `meta`, the name of the note that belongs to the file or directory with this name.
+pub(crate) fn name_of_note(
+    alloc: Global,
+    name: &HostName,
+    meta: bool,
+) -> Result<Option<HostName>, AllocError> {
+    if meta {
+        Ok(Some(name.note(alloc)?))
+    } else {
+        Ok(None)
+    }
 }
 
 /// The host name of `lost+found`.

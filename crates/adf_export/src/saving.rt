@@ -3,7 +3,7 @@ ghost use Rattle.std.specs.Prelude.{◌≡◌, ◌++◌, ◌∷◌, ◌<◌, [],
 ghost use Rattle.adf_export.specs.Undelete.{file_in, file_saved, files_saved};
 
 use crate::chosen::Chosen;
-use crate::plan::{Source, name_of};
+use crate::plan::{Source, name_of, name_of_note};
 use adf_salvage::{Recovery, Salvaged};
 use ados_name::Date3;
 use host_trees::{HostItem, HostName};
@@ -134,9 +134,9 @@ impl Saving {
     {
         let item = self.items.len();
         let name = name_of(alloc, entry)?;
-        let note = name.note(alloc)?;
+        let note = name_of_note(alloc, &name, self.meta)?;
         self.push_item(above, name, source, entry.date)?;
-        if self.meta {
+        if let Some(note) = note {
             self.push_item(above, note, Source::Note(position), entry.date)?;
         }
         if let Some(place) = self.places.get_mut(position) {

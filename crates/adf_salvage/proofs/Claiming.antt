@@ -125,6 +125,14 @@ module _ (out image : List ℕ) (claims : List Claim) (h : AreClaims out image (
       go block Several m told =
           absurd (told.2 (w.alone told.0 block told.3 m told.4 ∙ sym (w.alone told.1 block told.5 m told.6)))
 
+-- a file that alone claims its header claims its blocks
+pub alone_claims : (out image : List ℕ) (claims : List Claim) (file : ℕ) → AreClaims out image (block_count image) claims → file < block_count image → claim_at claims file ≡ One file → IsClaimant out image file
+alone_claims out image claims file h l alone = (subst (IsClaim out image (block_count image) file) alone (h file l)).1
+
+-- and a whole file alone claims its header
+pub claimed_whole : (out image : List ℕ) (claims : List Claim) (file : ℕ) → AreClaims out image (block_count image) claims → IsWhole out image file → claim_at claims file ≡ One file
+claimed_whole out image claims file h w = whole_noted out image claims h file w.claimant w 0 0 (omega arith)
+
 -- one more file is decided
 pub whole_more : (out image : List ℕ) (n : ℕ) (old : List Bool) (answer : Bool) → AreWhole out image n old → n < length old → MatchBool answer (IsWhole out image n) (¬ IsWhole out image n) → AreWhole out image (n + 1) (set old n answer)
 whole_more out image n old answer h inside now = record {

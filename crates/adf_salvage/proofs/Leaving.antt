@@ -1,17 +1,17 @@
 -- Headers that are left out, one by one.
-use Rattle.std.proofs.Common.{◌≡◌, ℕ, zero, suc, ◌+◌, ◌<◌, inl, inr, Bool, true, false, MatchBool, All, AllPairs, List, [], ◌∷◌, ◌++◌, length, map, get_or, Contains, get_or-set_same, get_or-set_other, length-set, take, sym, ap, ◌∙◌, subst, arith}
+use Rattle.std.proofs.Common.{◌≡◌, ℕ, zero, suc, ◌+◌, ◌<◌, inl, inr, Bool, true, false, MatchBool, All, List, [], ◌∷◌, ◌++◌, length, get_or, Contains, get_or-set_same, get_or-set_other, length-set, take, sym, ap, ◌∙◌, subst, arith}
 use Rattle.std.proofs.Math.ListN.{set}
-use Rattle.std.proofs.lemmas.Bool.{cases_eq}
+use Rattle.std.proofs.lemmas.Bool.{cases_eq, cases_lt}
 use Rattle.std.proofs.lemmas.List.Elements.{Contains-append_cases, Contains-append_left, Contains-append_right}
-use Rattle.std.proofs.lemmas.List.{get_or-map, get_or_default, length-map, map_more}
+use Rattle.std.proofs.lemmas.List.Quantifiers.{all_pairs_push}
+use Rattle.std.proofs.lemmas.List.{take_more}
 use Rattle.ados_model.specs.Accepted.{Accepts, ShowsNoFault}
-use Rattle.adf_salvage.specs.declared.deleted.Deleted.{Deleted}
-use Rattle.adf_salvage.specs.Deleted.{IsDeleted, IsTrustedBitmap, ListsDeleted, TellsTrust}
+use Rattle.adf_salvage.specs.Deleted.{IsDeleted, IsTrustedBitmap, TellsTrust}
 use Rattle.adf_salvage.specs.Salvaged.{AreDeleted}
+use Rattle.adf_salvage.specs.steps.Deleting.{AreDeletedBelow}
 use Rattle.adf_salvage.specs.steps.Giving.{mark_at}
 use Rattle.adf_salvage.specs.steps.Leaving.{AreMarked}
-use Rattle.adf_salvage.proofs.Growing.{none_told}
-use Rattle.adf_salvage.proofs.ListingDeleted.{met_by}
+use Rattle.adf_salvage.proofs.Growing.{all_more, none_told}
 
 -- no block is one of none
 pub none_contained : (block : ℕ) → ¬ Contains [] block
@@ -41,33 +41,38 @@ marked_more marks headers block inside h b = elim (cases_eq b block) [
       | inr last ↦ e (only last)
     ]
 
--- the header of one more entry
-pub left_out_more : (marks : List Bool) (headers pushed : List ℕ) (xs : List Deleted) (i n : ℕ) (d : Deleted) → length marks ≡ n → headers ≡ map (λ (entry : Deleted). entry.header) (take i xs) → AreMarked marks headers
-    → All (λ (entry : Deleted). entry.header < n) xs → i < length xs → pushed ≡ headers ++ (get_or xs i d).header ∷ []
-    → (length (set marks (get_or xs i d).header true) ≡ n) × (pushed ≡ map (λ (entry : Deleted). entry.header) (take (i + 1) xs)) × AreMarked (set marks (get_or xs i d).header true) pushed
-left_out_more marks headers pushed xs i n d size listed marked inside l is = (
-  length-set marks (get_or xs i d).header true ∙ size,
-  is ∙ ap (λ (hs : List ℕ). hs ++ (get_or xs i d).header ∷ []) listed ∙ sym (map_more (λ (entry : Deleted). entry.header) xs i d l),
-  subst (AreMarked (set marks (get_or xs i d).header true)) (sym is) (marked_more marks headers (get_or xs i d).header (omega (arith, size, inside i d l)) marked),
+-- the next of these headers
+pub marked_next : (marks : List Bool) (headers : List ℕ) (i n d : ℕ) → length marks ≡ n → All (λ header. header < n) headers → AreMarked marks (take i headers) → i < length headers
+    → (length (set marks (get_or headers i d) true) ≡ n) × AreMarked (set marks (get_or headers i d) true) (take (i + 1) headers)
+marked_next marks headers i n d size inside marked l = (
+  length-set marks (get_or headers i d) true ∙ size,
+  subst (AreMarked (set marks (get_or headers i d) true)) (sym (take_more headers i d l)) (marked_more marks (take i headers) (get_or headers i d) (omega (arith, size, inside i d l)) marked),
 )
 
--- the headers of the deleted entries, as they are listed
-ordered_headers : (xs : List Deleted) → AllPairs (λ a b. a.header < b.header) xs → AllPairs (λ a b. a < b) (map (λ (entry : Deleted). entry.header) xs)
-ordered_headers [] h i j d l m = absurd (omega (arith, m))
-ordered_headers (x ∷ xs) h i j d l m =
-    let there : j < length (x ∷ xs) = omega (arith, m, length-map (x ∷ xs) (λ (entry : Deleted). entry.header)) in
-    let first : get_or (map (λ (entry : Deleted). entry.header) (x ∷ xs)) i d ≡ (get_or (x ∷ xs) i x).header = get_or-map (λ (entry : Deleted). entry.header) (x ∷ xs) i x d (omega (arith, l, there)) in
-    let second : get_or (map (λ (entry : Deleted). entry.header) (x ∷ xs)) j d ≡ (get_or (x ∷ xs) j x).header = get_or-map (λ (entry : Deleted). entry.header) (x ∷ xs) j x d there in
-    omega (arith, first, second, h i j x l there)
+module _ (image : List ℕ) (n : ℕ) (xs : List ℕ) (h : AreDeletedBelow image n xs) where
+  -- the next block is no deleted entry
+  pub deleted_same : ¬ IsDeleted image n → AreDeletedBelow image (n + 1) xs
+  deleted_same none = record {
+    deleted = h.deleted;
+    in_order = h.in_order;
+    below = λ k d l. omega (arith, h.below k d l);
+    all = λ block l d. elim (cases_lt block n) [
+      | inl before ↦ h.all block before d
+      | inr behind ↦ (let here : block ≡ n = omega (arith, l, behind) in absurd (none (subst (IsDeleted image) here d)))
+    ];
+  }
 
-pub deleted_listed : (image headers : List ℕ) (xs : List Deleted) → ListsDeleted image xs → headers ≡ map (λ (entry : Deleted). entry.header) xs → AreDeleted image headers
-deleted_listed image headers xs h is = subst (AreDeleted image) (sym is) (record {
-  deleted = λ k d l.
-      met_by (IsDeleted image) xs (λ j e m. (h.told j e m).0) (get_or (map (λ (entry : Deleted). entry.header) xs) k d)
-      (k, l, get_or_default (map (λ (entry : Deleted). entry.header) xs) k (get_or (map (λ (entry : Deleted). entry.header) xs) k d) d l);
-  in_order = ordered_headers xs h.in_order;
-  all = h.all;
-})
+  -- the next block is one
+  pub deleted_more : (ys : List ℕ) → ys ≡ xs ++ n ∷ [] → IsDeleted image n → AreDeletedBelow image (n + 1) ys
+  deleted_more ys more now = subst (AreDeletedBelow image (n + 1)) (sym more) (record {
+    deleted = all_more (IsDeleted image) xs n h.deleted now;
+    in_order = all_pairs_push (λ (a : ℕ) (b : ℕ). a < b) xs n h.in_order (λ k d l. omega (arith, h.below k d l));
+    below = all_more (λ (header : ℕ). header < n + 1) xs n (λ k d l. omega (arith, h.below k d l)) (omega arith);
+    all = λ block l d. elim (cases_lt block n) [
+      | inl before ↦ Contains-append_left xs (n ∷ []) block (h.all block before d)
+      | inr behind ↦ (let here : n ≡ block = omega (arith, l, behind) in Contains-append_right xs (n ∷ []) block (0, omega arith, here))
+    ];
+  })
 
 -- without a trusted bitmap nothing is deleted
 pub none_deleted : (image headers : List ℕ) → headers ≡ [] → ¬ IsTrustedBitmap image → AreDeleted image headers

@@ -1,5 +1,5 @@
 -- Whether a bitmap can be trusted, by the faults of the image.
-use Rattle.std.proofs.Common.{◌≡◌, ℕ, ◌+◌, ◌-◌, ◌/◌, ◌<◌, inl, inr, Bool, true, false, not, MatchBool, List, All, Contains, Option, Some, None, MatchOption, is_some, refl, sym, ◌∙◌, subst, arith}
+use Rattle.std.proofs.Common.{◌≡◌, ℕ, ◌+◌, ◌-◌, ◌/◌, ◌<◌, inl, inr, Bool, true, false, not, MatchBool, List, [], All, Contains, Option, Some, None, MatchOption, is_some, refl, sym, ◌∙◌, subst, arith}
 use Rattle.std.proofs.lemmas.Bool.{cases_order}
 use Rattle.adf_block.specs.Image.{long}
 use Rattle.adf_block.specs.Whole.{IsImage}
@@ -16,6 +16,7 @@ use Rattle.ados_model.specs.Faults.{InImage, IsReachedAndFree, PlaceNames, Reach
 use Rattle.ados_model.specs.Faults.IsPlace.{root_page}
 use Rattle.ados_model.specs.Faults.IsUsedTwice.{root_named}
 use Rattle.ados_model.specs.Faults.Reached.{named, start}
+use Rattle.ados_model.specs.Accepted.{ShowsNoFault}
 use Rattle.ados_model.specs.Rebuilt.{HasValidBitmap}
 use Rattle.adf_salvage.specs.Deleted.{AreTrustedPages, IsTrustedBitmap}
 use Rattle.adf_salvage.specs.steps.Deleting.{AreOfReached, IsDoubt}
@@ -78,6 +79,10 @@ module _ (image : List ℕ) (faults : List VolumeFault) (shown : All (λ fault. 
   trust_decided im valid pages (Some fault) false e d = doubted_by fault d.0 d.1
   trust_decided im valid pages None true e d = trusted_by im valid pages d
   trust_decided im valid pages None false e d = absurd (cc e)
+
+-- an image without faults shows nothing that a list would lack
+pub no_doubts : (image : List ℕ) → ShowsNoFault image → ListsDoubts image []
+no_doubts image none = record { root = λ kind shown. absurd (none kind (root_of image) shown); free = λ block shown. absurd (none MarkedFree block shown) }
 
 -- a marked block inside the image is reached: it is the root, or the place in its mark names it
 pub marks_reach : (image : List ℕ) (marks : List (Option Mark)) → AreMarks image marks → AreOfReached image marks

@@ -9,8 +9,6 @@ use Rattle.ados_model.specs.declared.role.Role.TheVariants as roles
 use Rattle.ados_model.specs.Faults.{HasDirectoryType, HasFileType, InImage, Reached, Shows, root_of}
 use Rattle.ados_model.specs.Rebuilt.{HasValidBitmap}
 use Rattle.adf_salvage.specs.declared.deleted.Deleted.{Deleted}
-use Rattle.adf_salvage.specs.declared.deleted.DeletedEntries.{DeletedEntries}
-use Rattle.adf_salvage.specs.declared.deleted.DeletedEntries.TheVariants as answers
 use Rattle.adf_salvage.specs.declared.deleted.Recovery.{Recovery}
 use Rattle.adf_salvage.specs.declared.deleted.Recovery.TheVariants as recoveries
 use Rattle.adf_salvage.specs.Sound.{IsIntact, IsSoundHeader, IsWhole, Names, own_blocks}
@@ -101,8 +99,3 @@ pub record ListsDeleted (image : List ℕ) (entries : List Deleted) : Type 0 whe
   pub told : All (IsToldDeleted image) entries
   pub in_order : AllPairs (λ a b. a.header < b.header) entries
   pub all : (block : ℕ) → IsDeleted image block → Contains (map (λ entry. entry.header) entries) block
-
--- all deleted entries, by a bitmap that is trusted; or that it is not
-abbrev pub TellsDeleted : List ℕ → DeletedEntries → Type 0
-TellsDeleted image (answers.Found entries) = IsTrustedBitmap image × ListsDeleted image entries.items
-TellsDeleted image answers.NoTrustedBitmap = ¬ IsTrustedBitmap image

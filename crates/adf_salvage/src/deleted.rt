@@ -1,15 +1,14 @@
 //! The deleted entries of an image, and how much of each can be had back.
 ghost use Rattle.std.specs.Prelude.{◌≡◌, ◌+◌, IfOk, OnOk, MatchOption};
 ghost use Rattle.ados_model.specs.Faults.{InImage};
-ghost use Rattle.adf_salvage.specs.Deleted.{IsDeleted, IsToldDeleted, IsTrustedBitmap, ListsDeleted, TellsDeleted};
+ghost use Rattle.adf_salvage.specs.Deleted.{IsDeleted, IsToldDeleted, IsTrustedBitmap, ListsDeleted};
 ghost use Rattle.adf_salvage.specs.steps.Deleting.{AreAllClaims, AreOfReached};
 ghost use Rattle.adf_salvage.specs.steps.Parts.{AreUsersBelow};
 
-use crate::claims::{Claim, claims};
+use crate::claims::Claim;
 use crate::intact::no_users;
-use crate::left_out::LeftOut;
 use crate::recovery::recovery_of;
-use crate::trust::{is_deleted, trusted_marks};
+use crate::trust::is_deleted;
 use adf_block::Image;
 use adf_block::layout::BOOT_BLOCKS;
 use ados_check::Mark;
@@ -48,44 +47,25 @@ pub struct Deleted {
     pub recovery: Recovery,
 }
 
-/// The deleted entries of an image, if its bitmap says which they are.
-#[derive(Drop)]
-pub enum DeletedEntries {
-    /// All of them, by block.
-    Found(Vec<Deleted>),
-    /// The bitmap cannot be trusted.
-    NoTrustedBitmap,
-}
-
-/// The deleted entries of an image, which may be accepted or refused by the check.
+/// All deleted entries of an image with a trusted bitmap.
 ///
 /// Time and memory grow about linearly with the size of the image.
-pub fn deleted_entries(alloc: Global, image: &Image) -> Result<DeletedEntries, AllocError>
-    ensures { IfOk result (TellsDeleted image.now) }
-{
-    let Some(marks) = trusted_marks(alloc, image)? else {
-        return Ok(DeletedEntries::NoTrustedBitmap);
-    };
-    let found = all_deleted(alloc, image, &marks)?;
-    Ok(DeletedEntries::Found(found))
-}
-
-/// All deleted entries of an image with a trusted bitmap.
-fn all_deleted(
+pub(crate) fn all_deleted(
     alloc: Global,
     image: &Image,
+    claims: &[Claim],
     marks: &[Option<Mark>],
 ) -> Result<Vec<Deleted>, AllocError>
     requires trusted { IsTrustedBitmap image.now }
+    requires claims { AreAllClaims image.now claims.now }
     requires marks { AreOfReached image.now marks.now }
     ensures { IfOk result (λ found. ListsDeleted image.now found.items) }
 {
     prove!(image.blocks() >= 16);
-    let claims = claims(alloc, image, &LeftOut::none(alloc))?;
     let mut users = no_users(alloc, image)?;
     let mut found = Vec::new(alloc);
     for header in BOOT_BLOCKS..image.blocks() {
-        if let Some(entry) = deleted_at(alloc, image, header, &claims, marks, &mut users)? {
+        if let Some(entry) = deleted_at(alloc, image, header, claims, marks, &mut users)? {
             found.push(entry)?;
         }
     }

@@ -8,6 +8,7 @@ use crate::data::push_data;
 use crate::header::{is_file, is_sound_header};
 use crate::holders::{data_needed, holders};
 use adf_block::Image;
+use adf_block::layout::{FIRST_POINTER, TABLE_LONGS};
 use std::alloc::{AllocError, Global};
 
 /// The blocks of a file, if it is sound: its header, its extension blocks and its data blocks. `users` has for each block the
@@ -40,6 +41,31 @@ pub(crate) fn own_blocks(
     }
     if !are_once(file, &blocks, users) {
         return Ok(None);
+    }
+    Ok(Some(blocks))
+}
+
+/// All blocks of a file, as its pointers name them: its header, its extension blocks and its data blocks, whatever is in these
+/// now. `None` if the size is too large, or if an extension block is none of this file.
+pub(crate) fn named_blocks(
+    alloc: Global,
+    image: &Image,
+    file: u32,
+) -> Result<Option<Vec<u32>>, AllocError>
+    requires { file < block_count image.now }
+    ensures { IfOk result (λ found. MatchOption found (¬ IsIntact image.now file) (λ blocks. blocks.items ≡ own_blocks image.now file)) }
+{
+    let needed = data_needed(image, file);
+    if needed > image.blocks() {
+        return Ok(None);
+    }
+    let Some(mut blocks) = holders(alloc, image, file, needed)? else {
+        return Ok(None);
+    };
+    for i in 0..needed {
+        let holder = blocks[(i / TABLE_LONGS) as usize];
+        let block = image.long(holder, FIRST_POINTER - i % TABLE_LONGS);
+        blocks.push(block)?;
     }
     Ok(Some(blocks))
 }

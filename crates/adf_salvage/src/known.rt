@@ -1,9 +1,11 @@
 //! What is known of the blocks of an image before its entries are gathered.
-ghost use Rattle.std.specs.Prelude.{◌≡◌, ◌<◌, ◌↔◌, IfOk, IsTrue};
+ghost use Rattle.std.specs.Prelude.{◌≡◌, ◌<◌, ◌↔◌, length, IfOk, IsTrue};
 ghost use Rattle.adf_block.specs.Image.{block_count};
 ghost use Rattle.adf_salvage.specs.Doubtful.{NamesEntries};
+ghost use Rattle.adf_salvage.specs.steps.Claims.{AreClaims};
 ghost use Rattle.adf_salvage.specs.steps.Heading.{AreKnown};
 
+use crate::claims::Claim;
 use crate::header::is_root;
 use crate::headers::headers;
 use crate::left_out::LeftOut;
@@ -22,13 +24,20 @@ pub(crate) struct Known {
     pub(crate) whole: Vec<bool>,
 }
 
-/// What is known of the blocks of an image, where some headers are left out.
-pub(crate) fn known_of(alloc: Global, image: &Image, left_out: LeftOut) -> Result<Known, AllocError>
+/// What is known of the blocks of an image with these claims, where some headers are left out.
+pub(crate) fn known_of(
+    alloc: Global,
+    image: &Image,
+    left_out: LeftOut,
+    claims: &[Claim],
+) -> Result<Known, AllocError>
+    requires count { length claims.now ≡ block_count image.now }
+    requires claims { AreClaims left_out image.now (block_count image.now) claims.now }
     ensures known { IfOk result (AreKnown image.now) }
     ensures left_out { IfOk result (λ known. known.left_out ≡ left_out) }
 {
     let headers = headers(alloc, image, &left_out)?;
-    let whole = whole_files(alloc, image, &left_out)?;
+    let whole = whole_files(alloc, image, claims)?;
     Ok(Known {
         left_out,
         headers,

@@ -1,12 +1,13 @@
 //! The headers that are left out of a salvage.
-ghost use Rattle.std.specs.Prelude.{◌≡◌, ◌<◌, ℕ, List, [], map, true, All, Contains, IfOk, MatchBool};
+ghost use Rattle.std.specs.Prelude.{◌≡◌, ◌<◌, ℕ, List, [], true, All, Contains, IfOk, MatchBool};
 ghost use Rattle.adf_block.specs.Image.{block_count};
 ghost use Rattle.ados_model.specs.Accepted.{Accepts};
 ghost use Rattle.adf_salvage.specs.Deleted.{IsTrustedBitmap, TellsTrust};
 ghost use Rattle.adf_salvage.specs.Salvaged.{AreDeleted};
 
-use crate::deleted::{Deleted, DeletedEntries, deleted_entries};
+use crate::trust::{is_deleted, is_trusted, trusted_marks};
 use adf_block::Image;
+use adf_block::layout::BOOT_BLOCKS;
 use ados_volume::Volume;
 use std::alloc::{AllocError, Global};
 use std::marker::Model;
@@ -37,16 +38,16 @@ pub(crate) fn left_out_of(alloc: Global, image: &Image) -> Result<(LeftOut, bool
     ensures deleted { IfOk result (λ left. AreDeleted image.now left.0) }
     ensures trust { IfOk result (λ left. TellsTrust image.now left.1) }
 {
-    match deleted_entries(alloc, image)? {
-        DeletedEntries::Found(deleted) => {
-            let left_out = LeftOut::of(alloc, image, &deleted)?;
-            Ok((left_out, true))
-        }
-        DeletedEntries::NoTrustedBitmap => Ok((LeftOut::none(alloc), false)),
+    if trusted_marks(alloc, image)?.is_none() {
+        return Ok((LeftOut::none(alloc), false));
     }
+    let headers = deleted_headers(alloc, image)?;
+    let left_out = LeftOut::of(alloc, image, headers)?;
+    Ok((left_out, true))
 }
 
 /// The headers of the deleted entries of an accepted image, and whether its bitmap is trusted. One that was not valid is not.
+/// No fault has to be looked for again.
 pub(crate) fn deleted_in(alloc: Global, volume: &Volume) -> Result<(Vec<u32>, bool), AllocError>
     ensures deleted { IfOk result (λ left. (image : List ℕ) → Accepts image volume.now.was_validated volume.now.image → AreDeleted image left.0.items) }
     ensures trust { IfOk result (λ left. (image : List ℕ) → Accepts image volume.now.was_validated volume.now.image → TellsTrust image left.1) }
@@ -55,8 +56,26 @@ pub(crate) fn deleted_in(alloc: Global, volume: &Volume) -> Result<(Vec<u32>, bo
     if volume.was_validated() {
         return Ok((Vec::new(alloc), false));
     }
-    let (left_out, trusted) = left_out_of(alloc, volume.image())?;
-    Ok((left_out.into_headers(), trusted))
+    if !is_trusted(volume.image(), &[]) {
+        return Ok((Vec::new(alloc), false));
+    }
+    let headers = deleted_headers(alloc, volume.image())?;
+    Ok((headers, true))
+}
+
+/// The headers of the deleted entries of an image with a trusted bitmap.
+fn deleted_headers(alloc: Global, image: &Image) -> Result<Vec<u32>, AllocError>
+    requires { IsTrustedBitmap image.now }
+    ensures { IfOk result (λ headers. AreDeleted image.now headers.items) }
+{
+    prove!(image.blocks() >= 16);
+    let mut headers = Vec::new(alloc);
+    for block in BOOT_BLOCKS..image.blocks() {
+        if is_deleted(image, block) {
+            headers.push(block)?;
+        }
+    }
+    Ok(headers)
 }
 
 impl LeftOut {
@@ -70,16 +89,14 @@ impl LeftOut {
         }
     }
 
-    /// The headers of these entries.
-    fn of(alloc: Global, image: &Image, deleted: &[Deleted]) -> Result<LeftOut, AllocError>
-        requires { All (λ entry. entry.header < block_count image.now) deleted.now }
-        ensures { IfOk result (λ headers. headers ≡ map (λ entry. entry.header) deleted.now) }
+    /// These headers.
+    fn of(alloc: Global, image: &Image, headers: Vec<u32>) -> Result<LeftOut, AllocError>
+        requires { All (λ header. header < block_count image.now) headers.items }
+        ensures { IfOk result (λ left_out. left_out ≡ headers.items) }
     {
-        let mut headers = Vec::with_capacity(alloc, deleted.len())?;
         let mut marks = vec![in alloc; false; image.blocks() as usize]?;
-        for entry in deleted {
-            headers.push(entry.header)?;
-            marks[entry.header as usize] = true;
+        for header in &headers {
+            marks[*header as usize] = true;
         }
         Ok(LeftOut { headers, marks })
     }

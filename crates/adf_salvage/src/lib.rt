@@ -32,7 +32,7 @@ mod undeleted;
 mod unreached;
 mod whole;
 
-pub use deleted::{Deleted, DeletedEntries, Recovery, deleted_entries};
+pub use deleted::{Deleted, Recovery};
 pub use giving::Piece;
 pub use header::is_sound_header;
 pub use holders::looks_like_extension;

@@ -11,11 +11,10 @@ ghost use Rattle.adf_salvage.specs.steps.Parts.{AreUsersBelow};
 use crate::claims::Claim;
 use crate::deleted::Recovery;
 use crate::header::is_file;
-use crate::holders::{data_needed, holders};
-use crate::intact::own_blocks;
+use crate::intact::{named_blocks, own_blocks};
 use crate::trust::is_used;
 use adf_block::Image;
-use adf_block::layout::{BOOT_BLOCKS, FIRST_POINTER, TABLE_LONGS};
+use adf_block::layout::BOOT_BLOCKS;
 use ados_check::Mark;
 use ados_model::Role;
 use std::alloc::{AllocError, Global};
@@ -37,7 +36,7 @@ pub(crate) fn recovery_of(
     ensures users { OnOk result (AreUsersBelow image.now (header + 1) users.new.items) }
     ensures recovery { IfOk result (HasRecovery image.now header) }
 {
-    if let Some(blocks) = own_blocks(alloc, image, header, users)? {
+    if let Some(blocks) = sound_blocks(alloc, image, header, claims, users)? {
         return Ok(recovery_of_intact(image, header, claims, marks, &blocks));
     }
     if !is_file(image, header) {
@@ -50,6 +49,27 @@ pub(crate) fn recovery_of(
         Some(recovery) => Ok(recovery),
         None => Ok(Recovery::NotIntact),
     }
+}
+
+/// The blocks of a file, if it is sound. If only this file claims its header, they need no second look.
+fn sound_blocks(
+    alloc: Global,
+    image: &Image,
+    file: u32,
+    claims: &[Claim],
+    users: &mut Vec<u32>,
+) -> Result<Option<Vec<u32>>, AllocError>
+    requires file { file < block_count image.now }
+    requires claims { AreAllClaims image.now claims.now }
+    requires users { AreUsersBelow image.now file users.old.items }
+    ensures users { OnOk result (AreUsersBelow image.now (file + 1) users.new.items) }
+    ensures own { IfOk result (λ found. MatchOption found (¬ IsIntact image.now file)
+        (λ blocks. IsIntact image.now file × (blocks.items ≡ own_blocks image.now file))) }
+{
+    if claims[file as usize] != Claim::One(file) {
+        return own_blocks(alloc, image, file, users);
+    }
+    named_blocks(alloc, image, file)
 }
 
 /// How much of a sound file with these blocks can be had back.
@@ -78,27 +98,6 @@ fn recovery_of_intact(
         };
     }
     Recovery::Free { all: blocks.len() }
-}
-
-/// All blocks of a file, as its pointers name them: its header, its extension blocks and its data blocks, whatever is in these
-/// now. `None` if the size is too large, or if an extension block is none of this file.
-fn named_blocks(alloc: Global, image: &Image, file: u32) -> Result<Option<Vec<u32>>, AllocError>
-    requires { file < block_count image.now }
-    ensures { IfOk result (λ found. MatchOption found (¬ IsIntact image.now file) (λ blocks. blocks.items ≡ own_blocks image.now file)) }
-{
-    let needed = data_needed(image, file);
-    if needed > image.blocks() {
-        return Ok(None);
-    }
-    let Some(mut blocks) = holders(alloc, image, file, needed)? else {
-        return Ok(None);
-    };
-    for i in 0..needed {
-        let holder = blocks[(i / TABLE_LONGS) as usize];
-        let block = image.long(holder, FIRST_POINTER - i % TABLE_LONGS);
-        blocks.push(block)?;
-    }
-    Ok(Some(blocks))
 }
 
 /// How many of these blocks of a file are used, and by which entry; `None` if none is.

@@ -1,5 +1,5 @@
 //! Whether the bitmap of an image can be trusted, and which entries it says are deleted.
-ghost use Rattle.std.specs.Prelude.{◌≡◌, ◌≢◌, ◌<◌, ◌⊎◌, ◌↔◌, ℕ, [], All, Contains, IfOk, IsTrue, MatchBool, MatchOption};
+ghost use Rattle.std.specs.Prelude.{◌≡◌, ◌≢◌, ◌<◌, ◌↔◌, ℕ, All, Contains, IfOk, IsTrue, MatchBool, MatchOption};
 ghost use Rattle.adf_block.specs.Whole.{IsImage};
 ghost use Rattle.ados_faults.specs.Listed.{ListsDoubts};
 ghost use Rattle.ados_map.specs.Pages.{page_block, pages_of};
@@ -31,7 +31,7 @@ pub(crate) fn trusted_marks(
 }
 
 /// Whether the bitmap of an image with these faults can be trusted.
-fn is_trusted(image: &Image, faults: &[VolumeFault]) -> bool
+pub(crate) fn is_trusted(image: &Image, faults: &[VolumeFault]) -> bool
     requires shown { All (λ fault. Shows image.now fault.kind fault.block) faults.now }
     requires doubts { ListsDoubts image.now faults.now }
     ensures { MatchBool result (IsTrustedBitmap image.now) (¬ IsTrustedBitmap image.now) }

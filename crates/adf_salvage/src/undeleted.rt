@@ -1,21 +1,25 @@
 //! The deleted entries of an image, with the directories that they were in.
 ghost use Rattle.std.specs.Prelude.{◌≡◌, [], length, IfOk, IsSome, OnOk};
 ghost use Rattle.adf_block.specs.Image.{block_count};
-ghost use Rattle.adf_salvage.specs.Deleted.{IsTrustedBitmap, ListsDeleted};
+ghost use Rattle.adf_salvage.specs.Deleted.{IsTrustedBitmap};
 ghost use Rattle.adf_salvage.specs.Undeleted.{IsUndeleted, TellsUndeleted};
 ghost use Rattle.adf_salvage.specs.Sound.{IsSoundHeader};
+ghost use Rattle.adf_salvage.specs.steps.Deleting.{AreOfReached};
 ghost use Rattle.adf_salvage.specs.steps.Gathering.{AreGathered, GathersMore, place_at};
 ghost use Rattle.adf_salvage.specs.steps.Heading.{AreKnown};
 ghost use Rattle.adf_salvage.specs.steps.Undeleting.{AreHeaders, HasEach};
 
-use crate::deleted::{Deleted, DeletedEntries, Recovery, deleted_entries};
+use crate::claims::claims;
+use crate::deleted::{Deleted, Recovery, all_deleted};
 use crate::gathered::Gathered;
 use crate::giving::Giving;
 use crate::known::{Known, known_of};
 use crate::left_out::LeftOut;
 use crate::saved::Salvage;
+use crate::trust::trusted_marks;
 use crate::unreached::add_with_parents;
 use adf_block::Image;
+use ados_check::Mark;
 use std::alloc::{AllocError, Global};
 
 /// The deleted entries of an image, and all directories above them as far as these are sound.
@@ -45,26 +49,27 @@ pub enum UndeletedEntries {
 pub fn undelete(alloc: Global, image: Image) -> Result<UndeletedEntries, AllocError>
     ensures { IfOk result (TellsUndeleted image) }
 {
-    match deleted_entries(alloc, &image)? {
-        DeletedEntries::Found(deleted) => {
-            let found = with_directories(alloc, image, deleted)?;
-            Ok(UndeletedEntries::Found(found))
-        }
-        DeletedEntries::NoTrustedBitmap => Ok(UndeletedEntries::NoTrustedBitmap),
-    }
+    let Some(marks) = trusted_marks(alloc, &image)? else {
+        return Ok(UndeletedEntries::NoTrustedBitmap);
+    };
+    let found = with_directories(alloc, image, &marks)?;
+    Ok(UndeletedEntries::Found(found))
 }
 
-/// Deleted entries with the directories above them.
+/// The deleted entries of an image with a trusted bitmap, and the directories above them.
 fn with_directories(
     alloc: Global,
     image: Image,
-    deleted: Vec<Deleted>,
+    marks: &[Option<Mark>],
 ) -> Result<Undeleted, AllocError>
     requires trusted { IsTrustedBitmap image }
-    requires deleted { ListsDeleted image deleted.items }
+    requires marks { AreOfReached image marks.now }
     ensures { IfOk result (IsUndeleted image) }
 {
-    let known = known_of(alloc, &image, LeftOut::none(alloc))?;
+    let none = LeftOut::none(alloc);
+    let claims = claims(alloc, &image, &none)?;
+    let deleted = all_deleted(alloc, &image, &claims, marks)?;
+    let known = known_of(alloc, &image, none, &claims)?;
     let gathered = gathered_deleted(alloc, &image, &known, &deleted)?;
     let Gathered {
         entries,

@@ -28,6 +28,10 @@ IsClaim out image n block Several = (one : ℕ) × (other : ℕ) × (one ≢ oth
 abbrev pub AreClaims : List ℕ → List ℕ → ℕ → List Claim → Type 0
 AreClaims out image n claims = (block : ℕ) → block < block_count image → IsClaim out image n block (claim_at claims block)
 
+-- the claims are right for the sound files of the image, where some headers are left out
+abbrev pub AreSomeClaims : List ℕ → List Claim → Type 0
+AreSomeClaims image claims = (out : List ℕ) × AreClaims out image (block_count image) claims
+
 -- for each block below n, whether it is the header of a whole file; there is a mark for each block of the image
 pub record AreWhole (out image : List ℕ) (n : ℕ) (whole : List Bool) : Type 0 where
   pub size : length whole ≡ block_count image

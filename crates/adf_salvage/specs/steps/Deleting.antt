@@ -43,3 +43,10 @@ pub record AreListedBelow (image : List ℕ) (n : ℕ) (entries : List Deleted) 
   pub in_order : AllPairs (λ a b. a.header < b.header) entries
   pub below : All (λ entry. entry.header < n) entries
   pub all : (block : ℕ) → block < n → IsDeleted image block → Contains (map (λ entry. entry.header) entries) block
+
+-- the headers are those of the deleted entries below block n, each once, by block
+pub record AreDeletedBelow (image : List ℕ) (n : ℕ) (headers : List ℕ) : Type 0 where
+  pub deleted : All (IsDeleted image) headers
+  pub in_order : AllPairs (λ a b. a < b) headers
+  pub below : All (λ header. header < n) headers
+  pub all : (block : ℕ) → block < n → IsDeleted image block → Contains headers block

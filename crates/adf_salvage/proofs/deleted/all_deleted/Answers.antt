@@ -1,25 +1,16 @@
-use Rattle.std.proofs.Common.{ℕ, List, Vec, Global, ◌+◌, sym, ap, ◌∙◌, subst}
+use Rattle.std.proofs.Common.{Vec, Global, ◌+◌, sym, ap, ◌∙◌, subst}
 use Rattle.adf_salvage.specs.declared.deleted.Deleted.{Deleted}
-use Rattle.adf_block.specs.Image.{block_count}
-use Rattle.adf_salvage.specs.steps.Claims.{AreClaims}
-use Rattle.adf_salvage.specs.steps.Deleting.{AreAllClaims, AreListedBelow}
+use Rattle.adf_salvage.specs.steps.Deleting.{AreListedBelow}
 use Rattle.adf_salvage.proofs.ListingDeleted.{listed_more, listed_same}
 use Rattle.adf_salvage.proofs.deleted.all_deleted.Goals as goal
 use Rattle.adf_salvage.proofs.deleted.all_deleted.Goals.{in-Some+in_ok-push, in_default}
 
-pub deleted_at-requires-clause-claims : goal.deleted_at-requires-clause-claims
-deleted_at-requires-clause-claims c =
-    subst (AreAllClaims c.args.image.now) (sym c.deref.ensures.value) (record {
-      size = c.in_ok-claims.ensures.count;
-      right = subst (λ (out : List ℕ). AreClaims out c.args.image.now (block_count c.args.image.now) c.in_ok-claims.claims.items) c.none.ensures c.in_ok-claims.ensures.claims;
-    })
-
 pub loop-header-preserved : goal.loop-header-preserved
 loop-header-preserved c = record {
-  listed = elim c.match-branch-4.branch [
+  listed = elim c.match-branch-3.branch [
     | in-Some+in_ok-push w ↦
         (let told = rw w.in-Some.is at c.in_ok-entry.ensures.told in
-        listed_more c.args.image.now c.loop-header.header c.loop-header.found.items c.loop-header.invariant.listed c.match-branch-4.found.items w.in-Some.entry
+        listed_more c.args.image.now c.loop-header.header c.loop-header.found.items c.loop-header.invariant.listed c.match-branch-3.found.items w.in-Some.entry
         (ap (λ (v : Vec Deleted Global). v.items) w.found-is ∙ w.in_ok-push.ensures.items) told.0 told.1)
     | in_default w ↦
         subst (λ (v : Vec Deleted Global). AreListedBelow c.args.image.now (c.loop-header.header + 1) v.items) (sym w.found-is)

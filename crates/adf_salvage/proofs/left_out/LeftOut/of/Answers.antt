@@ -1,10 +1,20 @@
+use Rattle.std.proofs.Common.{◌≡◌, ℕ, List, ◌+◌, length, get_or, true, take, sym, ap, subst, arith}
+use Rattle.std.proofs.Math.ListN.{set}
+use Rattle.std.proofs.lemmas.List.{take_all}
 use Rattle.adf_block.specs.Image.{block_count}
-use Rattle.adf_salvage.proofs.Leaving.{left_out_more}
+use Rattle.adf_salvage.specs.steps.Leaving.{AreMarked}
+use Rattle.adf_salvage.proofs.Leaving.{marked_next}
 use Rattle.adf_salvage.proofs.left_out.LeftOut.of.Goals as goal
 
-pub loop-entry-preserved : goal.loop-entry-preserved
-loop-entry-preserved c =
-    let old = c.loop-entry.invariant in
-    let all = left_out_more c.loop-entry.marks.items c.loop-entry.headers.items c.push.new.self.items c.args.deleted.now c.loop-entry.entry-index (block_count c.args.image.now) _ old.size old.listed old.marked c.requires c.loop-entry-test.true
-    c.in_ok-push.ensures.items in
-    record { size = all.0; listed = all.1; marked = all.2 }
+pub loop-header-preserved : goal.loop-header-preserved
+loop-header-preserved c =
+    let old = c.loop-header.invariant in
+    let same = c.deref-header-items.ensures.value in
+    let next = marked_next c.loop-header.marks.items c.args.headers.items c.loop-header.header-index (block_count c.args.image.now) 0 old.size c.requires old.marked (omega (arith, c.loop-header-test.true, ap length same)) in
+    let both = subst (λ (xs : List ℕ). (length (set c.loop-header.marks.items (get_or xs c.loop-header.header-index 0) true) ≡ block_count c.args.image.now) × AreMarked (set c.loop-header.marks.items (get_or xs c.loop-header.header-index 0) true) (take (c.loop-header.header-index + 1) c.args.headers.items)) (sym same) next in
+    record { size = both.0; marked = both.1 }
+
+pub invariant_of-result : goal.invariant_of-result
+invariant_of-result c =
+    let all = subst (λ (xs : List ℕ). take c.loop-header.header-index xs ≡ xs) c.deref-header-items.ensures.value (take_all c.loop-header.header-index c.deref-header-items.result.now c.loop-header-test.false) in
+    subst (AreMarked c.loop-header.marks.items) all c.loop-header.invariant.marked
