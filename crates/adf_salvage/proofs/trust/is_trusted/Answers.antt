@@ -1,3 +1,5 @@
+use Rattle.std.proofs.Common.{sym, ap, ◌∙◌}
+use Rattle.adf_block.specs.Image.{long}
 use Rattle.adf_salvage.proofs.Trusting.{trust_decided}
 use Rattle.adf_salvage.proofs.trust.is_trusted.Goals as goal
 
