@@ -107,7 +107,8 @@ pub fn has_bad_type(source: &Source<'_>, block: u32, role: Role) -> bool
     }
 }
 
-/// Whether a field of a block breaks a rule in this role.
+/// Whether a field of a block breaks a rule in this role. It is asked of each block with each rule, so it is inlined.
+#[inline(always)]
 pub fn has_bad_field(source: &Source<'_>, block: u32, role: Role, rule: FieldRule) -> bool
     requires inside { block < block_count source.now.bytes }
     requires reached { Reached source.now.bytes block role }
