@@ -47,7 +47,7 @@ pub use check::check_image;
 pub use data_rules::{DATA_RULES, DataRule, Place, breaks_rule};
 pub use mark::Mark;
 pub use naming::{has_short_name, upper_name};
-pub use places::place_role;
+pub use places::{has_places, place_role};
 pub use reaching::reach;
 pub use room::whole_pages;
 pub use rules::{

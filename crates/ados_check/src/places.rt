@@ -16,7 +16,7 @@ use adf_block::page_count;
 use ados_model::Role;
 
 /// Whether a block in this role can name others. Bitmap blocks and data blocks cannot.
-pub(crate) fn has_places(role: Role) -> bool
+pub fn has_places(role: Role) -> bool
     ensures { result ≡ false → (image : List ℕ) → (block i : ℕ) → (next : Role) → ¬ IsPlace image block role i next }
 {
     !matches!(role, Role::Page | Role::Data(_))

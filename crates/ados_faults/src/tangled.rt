@@ -12,7 +12,7 @@ use crate::bits::is_inside;
 use crate::walk::Step;
 use adf_block::Image;
 use adf_block::layout::{FIRST_SLOT, SECONDARY_TYPE};
-use ados_check::{Source, place_role};
+use ados_check::{Source, has_places, place_role};
 use ados_model::Role;
 use std::alloc::{AllocError, Global};
 use std::collections::BTreeSet;
@@ -90,6 +90,9 @@ impl Pairs {
         requires step { IsStep image.now step }
         ensures { IfOk result (λ _. ArePairs image.now self.new.steps.items self.new.known) }
     {
+        if !has_places(step.role) {
+            return Ok(());
+        }
         for i in FIRST_SLOT..SECONDARY_TYPE {
             self.visit(image, step, i)?;
         }

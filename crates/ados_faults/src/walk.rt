@@ -15,7 +15,7 @@ use crate::notes::Notes;
 use crate::roles::Roles;
 use adf_block::Image;
 use adf_block::layout::{FIRST_SLOT, SECONDARY_TYPE};
-use ados_check::{Mark, Source, place_role};
+use ados_check::{Mark, Source, has_places, place_role};
 use ados_model::{FaultKind, Role};
 use std::alloc::{AllocError, Global};
 
@@ -87,6 +87,9 @@ impl Walk {
         ensures kept { IfOk result (λ _. AreKept self.old self.new) }
         ensures visited { IfOk result (λ _. IsVisited image.now self.new step) }
     {
+        if !has_places(step.role) {
+            return Ok(());
+        }
         for i in FIRST_SLOT..SECONDARY_TYPE {
             self.visit(image, step, i)?;
         }

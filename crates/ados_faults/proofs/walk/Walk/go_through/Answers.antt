@@ -2,6 +2,14 @@ use Rattle.std.proofs.Common.{arith, below_more}
 use Rattle.ados_faults.proofs.Closing.{kept_on, kept_same, passed_below, passed_on, visited_by}
 use Rattle.ados_faults.proofs.walk.Walk.go_through.Goals as goal
 
+pub returns-then-not-has_places-clause-kept : goal.returns-then-not-has_places-clause-kept
+returns-then-not-has_places-clause-kept c = kept_same c.args.self.now
+
+pub returns-then-not-has_places-clause-visited : goal.returns-then-not-has_places-clause-visited
+returns-then-not-has_places-clause-visited c =
+    let none = c.has_places.ensures c.if-not-has_places.true c.args.image.now c.args.step.block in
+    record { passed = λ i. record { met = λ next place inside. absurd (none i next place); outside = λ next place out. absurd (none i next place) } }
+
 pub loop-i-init : goal.loop-i-init
 loop-i-init c = record {
   walked = c.requires.walked;
