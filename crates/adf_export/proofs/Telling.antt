@@ -9,12 +9,13 @@ use Rattle.adf_salvage.specs.Salvaged.{Saved}
 use Rattle.adf_salvage.specs.declared.salvaged.Salvaged.{Salvaged}
 use Rattle.adf_export.specs.Rescue.{AreLines, AreReportLines, IsRescueLine, deleted_count_line, rescue_line, unaccounted_count_line}
 use Rattle.adf_export.specs.Rescue.AreLines.{none, one}
+use Rattle.adf_export.specs.steps.Going.{Passes}
 
--- a report on the first entries is written
-pub record IsBegun (Are : List Salvaged → List ℕ → Type 0) (entries : List Salvaged) (place : ℕ) (old new : Option (List ℕ)) : Type 0 where
+-- a report on the first entries is written, but for its end, which waits
+pub record IsBegun (Are : List Salvaged → List ℕ → Type 0) (entries : List Salvaged) (place : ℕ) (old new : Option (List ℕ)) (waiting : List ℕ) : Type 0 where
   pub text : List ℕ
-  pub written : Appends old new text
   pub told : Are (take place entries) text
+  pub passed : Passes old new text waiting
 
 -- the report on these entries goes on to one on one more
 abbrev pub GoesOn : (List Salvaged → List ℕ → Type 0) → Type 0
@@ -38,59 +39,72 @@ module _ (Are : List Salvaged → List ℕ → Type 0) (on : GoesOn Are) where
   begun_part entries old new text told (written, appended, (rest, split)) =
       let c = completed [] entries text told in (text ++ c.0, c.1, (written, appended, (rest ++ c.0, ap (λ (l : List ℕ). l ++ c.0) split ∙ append_assoc written rest c.0)))
 
-  module _ (entries : List Salvaged) (place : ℕ) (old mid : Option (List ℕ)) (so_far : IsBegun Are entries place old mid) where
-    -- what was written is a prefix of a report on all
-    pub told_front : WritesFrontOf old mid (Are entries)
-    told_front =
-        let c = completed (take place entries) (drop place entries) so_far.text so_far.told in (
+  module _ (entries : List Salvaged) (place : ℕ) (old mid : Option (List ℕ)) (waiting : List ℕ) (so_far : IsBegun Are entries place old mid waiting) where
+    -- a prefix of what waits is written
+    pub told_part : (new : Option (List ℕ)) → WritesFront mid new waiting → WritesFrontOf old new (Are entries)
+    told_part new (more, appended, (rest, split)) =
+        let c = completed (take place entries) (drop place entries) so_far.text so_far.told in
+        let written = so_far.passed.0 in (
           so_far.text ++ c.0,
           subst (λ (es : List Salvaged). Are es (so_far.text ++ c.0)) (take-append-drop place entries) c.1,
-          (so_far.text, so_far.written, (c.0, refl)),
+          (
+            written ++ more,
+            Appends-trans old mid new written more so_far.passed.1 appended,
+            (
+              rest ++ c.0,
+              ap (λ (l : List ℕ). l ++ c.0) so_far.passed.2
+                  ∙ append_assoc written waiting c.0
+                  ∙ ap (λ (l : List ℕ). written ++ (l ++ c.0)) split
+                  ∙ ap (λ (l : List ℕ). written ++ l) (append_assoc more rest c.0)
+                  ∙ sym (append_assoc written more (rest ++ c.0)),
+            ),
+          ),
         )
 
-    module _ (entry : Salvaged) (part : List ℕ) (new : Option (List ℕ)) (inside : place < length entries) (at : get_or entries place entry ≡ entry)
-        (is : Are (take place entries ++ entry ∷ []) (so_far.text ++ part)) where
-      next : take (place + 1) entries ≡ take place entries ++ entry ∷ []
-      next = take_more entries place entry inside ∙ ap (λ (e : Salvaged). take place entries ++ e ∷ []) at
+    -- what was written is a prefix of a report on all
+    pub told_front : WritesFrontOf old mid (Are entries)
+    told_front = told_part mid ([], Appends-nil mid, (waiting, refl))
 
-      told : Are (take (place + 1) entries) (so_far.text ++ part)
-      told = subst (λ (es : List Salvaged). Are es (so_far.text ++ part)) (sym next) is
+    -- what waits is written, or a part of it
+    pub told_passed : (new : Option (List ℕ)) (rest : List ℕ) → Passes mid new waiting rest → IsBegun Are entries place old new rest
+    told_passed new rest (more, appended, split) = record {
+      text = so_far.text;
+      told = so_far.told;
+      passed = (
+        so_far.passed.0 ++ more,
+        Appends-trans old mid new so_far.passed.0 more so_far.passed.1 appended,
+        so_far.passed.2 ∙ ap (λ (l : List ℕ). so_far.passed.0 ++ l) split ∙ sym (append_assoc so_far.passed.0 more rest),
+      );
+    }
 
-      -- one more part is written
-      pub told_more : Appends mid new part → IsBegun Are entries (place + 1) old new
-      told_more more = record {
-        text = so_far.text ++ part;
-        written = Appends-trans old mid new so_far.text part so_far.written more;
-        told = told;
-      }
-
-      -- a prefix of one more part is written
-      pub told_part : WritesFront mid new part → WritesFrontOf old new (Are entries)
-      told_part (written, appended, (rest, split)) =
-          let c = completed (take (place + 1) entries) (drop (place + 1) entries) (so_far.text ++ part) told in (
-            (so_far.text ++ part) ++ c.0,
-            subst (λ (es : List Salvaged). Are es ((so_far.text ++ part) ++ c.0)) (take-append-drop (place + 1) entries) c.1,
-            (
-              so_far.text ++ written,
-              Appends-trans old mid new so_far.text written so_far.written appended,
-              (
-                rest ++ c.0,
-                append_assoc so_far.text part c.0
-                    ∙ ap (λ (l : List ℕ). so_far.text ++ (l ++ c.0)) split
-                    ∙ ap (λ (l : List ℕ). so_far.text ++ l) (append_assoc written rest c.0)
-                    ∙ sym (append_assoc so_far.text written (rest ++ c.0)),
-              ),
-            ),
-          )
+    -- one more part waits
+    pub told_more : (entry : Salvaged) (part longer : List ℕ) → place < length entries → get_or entries place entry ≡ entry → Are (take place entries ++ entry ∷ []) (so_far.text ++ part)
+        → longer ≡ waiting ++ part → IsBegun Are entries (place + 1) old mid longer
+    told_more entry part longer inside at is more =
+        let next : take (place + 1) entries ≡ take place entries ++ entry ∷ [] = take_more entries place entry inside ∙ ap (λ (e : Salvaged). take place entries ++ e ∷ []) at in
+        record {
+          text = so_far.text ++ part;
+          told = subst (λ (es : List Salvaged). Are es (so_far.text ++ part)) (sym next) is;
+          passed = (
+            so_far.passed.0,
+            so_far.passed.1,
+            ap (λ (l : List ℕ). l ++ part) so_far.passed.2 ∙ append_assoc so_far.passed.0 waiting part ∙ ap (λ (l : List ℕ). so_far.passed.0 ++ l) (sym more),
+          );
+        }
 
 -- no entry is told yet
-pub begun_with : (Are : List Salvaged → List ℕ → Type 0) (entries : List Salvaged) (text : List ℕ) (old new : Option (List ℕ)) → Appends old new text → Are [] text → IsBegun Are entries 0 old new
-begun_with Are entries text old new appended told = record { text = text; written = appended; told = told }
+pub begun_with : (Are : List Salvaged → List ℕ → Type 0) (entries : List Salvaged) (text waiting : List ℕ) (old new : Option (List ℕ)) → Appends old new text → Are [] text → waiting ≡ [] → IsBegun Are entries 0 old new waiting
+begun_with Are entries text waiting old new appended told empty =
+    record { text = text; told = told; passed = (text, appended, sym (append-nil text) ∙ ap (λ (l : List ℕ). text ++ l) (sym empty)) }
 
--- all entries are told
-pub told_all : (Are : List Salvaged → List ℕ → Type 0) (entries : List Salvaged) (place : ℕ) (old new : Option (List ℕ)) → IsBegun Are entries place old new → length entries ≤ place → Writes old new (Are entries)
-told_all Are entries place old new so_far all =
-    (so_far.text, so_far.written, subst (λ (es : List Salvaged). Are es so_far.text) (take_all place entries all) so_far.told)
+-- all entries are told, once what waits is written
+pub told_all : (Are : List Salvaged → List ℕ → Type 0) (entries : List Salvaged) (place : ℕ) (old mid new : Option (List ℕ)) (waiting : List ℕ) → IsBegun Are entries place old mid waiting → length entries ≤ place
+    → Appends mid new waiting → Writes old new (Are entries)
+told_all Are entries place old mid new waiting so_far all appended = (
+  so_far.text,
+  subst (Appends old new) (sym so_far.passed.2) (Appends-trans old mid new so_far.passed.0 waiting so_far.passed.1 appended),
+  subst (λ (es : List Salvaged). Are es so_far.text) (take_all place entries all) so_far.told,
+)
 
 -- the entries are those of a salvage
 module _ (Are : List Salvaged → List ℕ → Type 0) (saved : Saved) (entries : List Salvaged) (old new : Option (List ℕ)) (are : entries ≡ saved.entries) where

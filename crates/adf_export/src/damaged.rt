@@ -11,7 +11,7 @@ ghost use Rattle.adf_export.specs.steps.Reporting.{ArePrinted, IsNextObject};
 
 use crate::count_line::count_line;
 use crate::fault::OutFault;
-use crate::output::write_text;
+use crate::output::{write_text, write_when_long};
 use crate::plan::Plan;
 use crate::print_fault::PrintFault;
 use crate::ranges::ranges_text;
@@ -215,13 +215,15 @@ impl Rescue {
     {
         write_front(writer)?;
         let entries = self.salvage.entries();
+        let mut text = Vec::new(alloc);
         let mut after = false;
         for (place, entry) in entries.iter().enumerate() {
             let object = self.object_at(alloc, place, entry, after)?;
-            write_text(&object, writer)?;
+            text.extend_from_slice(&object)?;
+            write_when_long(&mut text, writer)?;
             after = is_after(after, entry);
         }
-        Ok(())
+        write_text(text.as_slice(), writer)
     }
 
     /// The object of the entry at a position, if it is told, behind a comma after another one.
@@ -257,11 +259,13 @@ impl Rescue {
         ensures front { OnErr result (WritesFrontOf (W.contents writer.old) (W.contents writer.new) (AreLines self.now.salvage.entries)) }
     {
         let entries = self.salvage.entries();
+        let mut text = Vec::new(alloc);
         for (place, entry) in entries.iter().enumerate() {
             let line = self.line_at(alloc, place, entry.found, entry.state)?;
-            write_text(line.as_bytes(), writer)?;
+            text.extend_from_slice(line.as_bytes())?;
+            write_when_long(&mut text, writer)?;
         }
-        Ok(())
+        write_text(text.as_slice(), writer)
     }
 
     /// The line of the entry at a position: `found` if it was recovered, `whole`, `doubtful`, `lost` or the number of missing

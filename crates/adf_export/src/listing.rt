@@ -15,15 +15,12 @@ use crate::head::head_text;
 use crate::keys::{describe, is_directory};
 use crate::lines::push_entry;
 use crate::order::ordered_keys;
-use crate::output::write_text;
+use crate::output::{write_waiting, write_when_long};
 use crate::print_fault::PrintFault;
 use adf_words::{ListForm, ListOrder};
 use ados_volume::Volume;
 use std::alloc::{AllocError, Global};
 use std::io::Write;
-
-/// The number of bytes of text after which it is written.
-const ENOUGH: usize = 65_536;
 
 /// A directory being listed: the keys of its entries, the number of those that were listed, and the length of its path.
 #[derive(Drop)]
@@ -150,10 +147,7 @@ impl Listing {
         ensures ok { OnOk result (Passes (W.contents writer.old) (W.contents writer.new) self.old.text.items self.new.text.items) }
         ensures front { OnErr result (WritesFront (W.contents writer.old) (W.contents writer.new) self.old.text.items) }
     {
-        if self.text.len() < ENOUGH {
-            return Ok(());
-        }
-        self.write(writer)
+        write_when_long(&mut self.text, writer)
     }
 
     /// Writes the text that is not written yet.
@@ -164,8 +158,6 @@ impl Listing {
         ensures all { OnOk result (self.new.text.items ≡ []) }
         ensures front { OnErr result (WritesFront (W.contents writer.old) (W.contents writer.new) self.old.text.items) }
     {
-        write_text(self.text.as_slice(), writer)?;
-        self.text.clear();
-        Ok(())
+        write_waiting(&mut self.text, writer)
     }
 }

@@ -7,6 +7,6 @@ use Rattle.adf_export.proofs.damaged.Rescue.tell_objects.Given as goal
 -- the entries before this one have their objects
 abbrev pub invariant-loop-place : goal.invariant-loop-place
 invariant-loop-place g l = record {
-  begun : IsBegun ArePrinted l.entries l.place (g.W.Write.contents l.fn.writer) (g.W.Write.contents l.writer);
+  begun : IsBegun ArePrinted l.entries l.place (g.W.Write.contents l.fn.writer) (g.W.Write.contents l.writer) l.text.items;
   after : l.after ≡ are_told (take l.place l.entries);
 }
