@@ -222,11 +222,6 @@ module _ (image : List ℕ) (cells later : List Bool) (on : AreStillNoted cells 
   pub all_seen_on : (seen : List (Option Seen)) → AreAllSeen image cells seen → AreAllSeen image later seen
   all_seen_on seen a = record { size = a.size; each = λ header s e. header_on header s (a.each header s e) }
 
-  pub piece_on : (piece : Piece) → IsPieceNoted image cells piece → IsPieceNoted image later piece
-  piece_on piece n = record {
-    placed = λ i l inside. placed_on image cells later on (slice_index (pointers_of image piece.header) i) (piece.position + i) (next_in image piece i) (n.placed i l inside);
-  }
-
   pub one_on : (piece : Piece) (i : ℕ) → IsOneNoted image cells piece i → IsOneNoted image later piece i
   one_on piece i n inside = placed_on image cells later on (slice_index (pointers_of image piece.header) i) (piece.position + i) (next_in image piece i) (n inside)
 

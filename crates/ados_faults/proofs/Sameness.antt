@@ -101,9 +101,6 @@ module _ (known later : BTreeMap (List ℕ) ℕ) (name : List ℕ) (block : ℕ)
         | inr a ↦ k.leads q b (ap (λ (t : Bool). cond t (Some block) (get name_cmp known q)) (sym a) ∙ sym (updates q) ∙ e)
       ]
 
-pub known_on : {known later last : BTreeMap (List ℕ) ℕ} → AreStillKnown known later → AreStillKnown later last → AreStillKnown known last
-known_on a b = record { stay = λ name block e. b.stay name block (a.stay name block e) }
-
 first_on : (image : List ℕ) (known later : BTreeMap (List ℕ) ℕ) (block : ℕ) (name : Option ℕ) → AreStillKnown known later → IsFirstName image known block name → IsFirstName image later block name
 first_on image known later block None stay long = long
 first_on image known later block (Some name) stay first = (first.0, stay.stay (upper_name image block) name first.1)

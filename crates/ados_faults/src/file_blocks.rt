@@ -2,7 +2,7 @@
 ghost use Rattle.std.specs.Prelude.{◌≡◌, ◌<◌, ◌≤◌, ◌+◌, ◌*◌, All, MatchOption, false, flat_map, length, slice_index, sum_by, true, IfOk};
 ghost use Rattle.adf_block.specs.Fields.{held_count};
 ghost use Rattle.adf_block.specs.Image.{block_count};
-ghost use Rattle.ados_model.specs.Faults.{InImage, LinkedOnce, pointers_of};
+ghost use Rattle.ados_model.specs.Faults.{InImage, IsOfs, LinkedOnce, pointers_of};
 ghost use Rattle.ados_faults.specs.steps.Blocks.{AreMet};
 ghost use Rattle.ados_faults.specs.steps.Chain.{IsChain};
 ghost use Rattle.ados_faults.specs.steps.FileNotes.{AreHeld, IsHeld};
@@ -10,7 +10,9 @@ ghost use Rattle.ados_faults.specs.steps.FileNotes.{AreHeld, IsHeld};
 use crate::bits::is_inside;
 use crate::blocks::Blocks;
 use adf_block::Image;
-use adf_block::layout::{FIRST_POINTER, HELD, NEXT_EXTENSION, POINTER_COUNT, TABLE_LONGS};
+use adf_block::layout::{
+    FIRST_POINTER, HELD, KIND_BYTE, NEXT_EXTENSION, POINTER_COUNT, TABLE_LONGS,
+};
 use std::alloc::{AllocError, Global};
 
 /// Lists the header of a file and the blocks along its links, each once.
@@ -78,9 +80,21 @@ pub(crate) fn count_pointers(image: &Image, headers: &[u32]) -> u64
     count
 }
 
+/// In OFS what [`held_by_each`] returns, and nothing in FFS.
+pub(crate) fn held_in_ofs(alloc: Global, image: &Image) -> Result<Vec<Option<u64>>, AllocError>
+    ensures { IfOk result (λ held. IsOfs image.now → AreHeld image.now held.items) }
+{
+    prove!(image.blocks() >= 16);
+    if image.byte(0, KIND_BYTE) != 0 {
+        return Ok(Vec::new(alloc));
+    }
+    let held = held_by_each(alloc, image)?;
+    Ok(held)
+}
+
 /// For each block the number of bytes that the data blocks in its pointers hold together, unless one of them is outside
 /// the image.
-pub(crate) fn held_by_each(alloc: Global, image: &Image) -> Result<Vec<Option<u64>>, AllocError>
+fn held_by_each(alloc: Global, image: &Image) -> Result<Vec<Option<u64>>, AllocError>
     ensures { IfOk result (λ held. AreHeld image.now held.items) }
 {
     let mut held = Vec::new(alloc);

@@ -10,7 +10,7 @@ ghost use Rattle.ados_faults.specs.steps.Roles.{AreCovered};
 ghost use Rattle.ados_faults.specs.steps.Walked.{IsStep};
 
 use crate::blocks::{Blocks, no_cells};
-use crate::file_blocks::{count_pointers, held_by_each, held_together, list_headers};
+use crate::file_blocks::{count_pointers, held_in_ofs, held_together, list_headers};
 use crate::notes::Notes;
 use crate::pieces::{Seen, look_along};
 use crate::walk::Step;
@@ -27,7 +27,7 @@ struct Files {
     checked: Vec<bool>,
     /// The header and extension blocks of the last file.
     headers: Blocks,
-    /// For each block the number of bytes that the data blocks in its pointers hold, if all are inside the image.
+    /// In OFS for each block the number of bytes that the data blocks in its pointers hold, if all are inside the image.
     held: Vec<Option<u64>>,
     /// For each block of an OFS file where the data blocks in its pointers were checked.
     seen: Vec<Option<Seen>>,
@@ -59,12 +59,12 @@ impl Files {
     fn none(alloc: Global, image: &Image) -> Result<Files, AllocError>
         ensures checked { IfOk result (λ files. files.checked.items ≡ replicate (block_count image.now) false) }
         ensures met { IfOk result (λ files. AreMet image.now files.headers.has.items files.headers.list.items) }
-        ensures held { IfOk result (λ files. AreHeld image.now files.held.items) }
+        ensures held { IfOk result (λ files. IsOfs image.now → AreHeld image.now files.held.items) }
         ensures seen { IfOk result (λ files. files.seen.items ≡ replicate (block_count image.now) None) }
     {
         let checked = no_cells(alloc, image)?;
         let headers = Blocks::none(alloc, image)?;
-        let held = held_by_each(alloc, image)?;
+        let held = held_in_ofs(alloc, image)?;
         let seen = none_seen(alloc, image)?;
         Ok(Files {
             checked,
@@ -86,14 +86,14 @@ impl Files {
         requires cells { length self.old.checked.items ≡ block_count image.now }
         requires whole { AreFilesNoted image.now notes.old.cells.items self.old.checked.items }
         requires met { AreMet image.now self.old.headers.has.items self.old.headers.list.items }
-        requires held { AreHeld image.now self.old.held.items }
+        requires held { IsOfs image.now → AreHeld image.now self.old.held.items }
         requires seen { AreAllSeen image.now notes.old.cells.items self.old.seen.items }
         ensures noted { IfOk result (λ _. AreNoted image.now notes.new.cells.items) }
         ensures stays { IfOk result (λ _. AreStillNoted notes.old.cells.items notes.new.cells.items) }
         ensures cells { IfOk result (λ _. length self.new.checked.items ≡ block_count image.now) }
         ensures whole { IfOk result (λ _. AreFilesNoted image.now notes.new.cells.items self.new.checked.items) }
         ensures met { IfOk result (λ _. AreMet image.now self.new.headers.has.items self.new.headers.list.items) }
-        ensures held { IfOk result (λ _. AreHeld image.now self.new.held.items) }
+        ensures held { IfOk result (λ _. IsOfs image.now → AreHeld image.now self.new.held.items) }
         ensures seen { IfOk result (λ _. AreAllSeen image.now notes.new.cells.items self.new.seen.items) }
         ensures checked { IfOk result (λ _. IsStepChecked image.now self.new.checked.items step) }
         ensures files { IfOk result (λ _. AreStillNoted self.old.checked.items self.new.checked.items) }
@@ -143,7 +143,7 @@ fn look_at_file(
     requires linked { LinkedOnce image.now NEXT_EXTENSION file headers.now }
     requires inside { All (InImage image.now) headers.now }
     requires few { length headers.now ≤ block_count image.now }
-    requires held { AreHeld image.now held.now }
+    requires held { IsOfs image.now → AreHeld image.now held.now }
     requires seen { AreAllSeen image.now notes.old.cells.items seen.old }
     ensures noted { AreNoted image.now notes.new.cells.items }
     ensures stays { AreStillNoted notes.old.cells.items notes.new.cells.items }

@@ -1,9 +1,9 @@
 //! The faults that a block shows in a role, as far as that needs no other block.
-ghost use Rattle.std.specs.Prelude.{◌≡◌, All, length};
+ghost use Rattle.std.specs.Prelude.{◌≡◌, ◌↔◌, All, IsTrue, length};
 ghost use Rattle.ados_model.specs.Faults.{InImage, Reached, Shows};
 ghost use Rattle.ados_model.specs.declared.fault.FaultKind.TheVariants.{NotADosDisk, UnsupportedKind};
 ghost use Rattle.ados_faults.specs.steps.Noted.{AreNoted, AreStillNoted, IsNoted, cell_of};
-ghost use Rattle.ados_faults.specs.steps.Looks.{AreLookedAt, AreWrongsNoted, IsFieldNoted};
+ghost use Rattle.ados_faults.specs.steps.Looks.{AreLookedAt, AreWrongsNoted, IsBare, IsFieldNoted};
 ghost use Rattle.ados_faults.specs.steps.Walked.{IsStep};
 
 use crate::bits::is_marked_free;
@@ -11,7 +11,7 @@ use crate::notes::Notes;
 use crate::values::shows_disk;
 use crate::walk::Step;
 use adf_block::Image;
-use adf_block::layout::KIND;
+use adf_block::layout::{KIND, KIND_BYTE};
 use ados_check::{
     FIELD_RULES, FieldRule, POINTER_RULES, Source, has_bad_field, has_bad_sum, has_bad_type,
 };
@@ -56,6 +56,9 @@ fn look(image: &Image, block: u32, role: Role, notes: &mut Notes)
     ensures stays { AreStillNoted notes.old.cells.items notes.new.cells.items }
     ensures whole { AreWrongsNoted image.now notes.new.cells.items block role }
 {
+    if is_bare(image, role) {
+        return;
+    }
     let source = Source::whole(image);
     let sum = has_bad_sum(&source, block, role);
     notes.note_if(image, FaultKind::BadSum, block, sum);
@@ -63,6 +66,17 @@ fn look(image: &Image, block: u32, role: Role, notes: &mut Notes)
     notes.note_if(image, FaultKind::BadType, block, types);
     look_at_fields(image, block, role, &FIELD_RULES, notes);
     look_at_fields(image, block, role, &POINTER_RULES, notes);
+}
+
+/// Whether blocks in this role have no checksum and no fields: the data blocks of FFS files.
+fn is_bare(image: &Image, role: Role) -> bool
+    ensures { IsTrue result ↔ IsBare image.now role }
+{
+    prove!(image.blocks() >= 16);
+    match role {
+        Role::Data(_) => image.byte(0, KIND_BYTE) != 0,
+        Role::Root | Role::Page | Role::Entry(_, _) | Role::Extension(_) => false,
+    }
 }
 
 /// Checks the fields of a block in a role by these rules.

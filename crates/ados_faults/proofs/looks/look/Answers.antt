@@ -6,13 +6,16 @@ use Rattle.ados_check.specs.declared.rules.TheConstants.{FIELD_RULES}
 use Rattle.ados_check.proofs.Ruling.{type_shows}
 use Rattle.ados_faults.specs.steps.Looks.{IsFieldNoted}
 use Rattle.ados_faults.proofs.Cells.{noted_on}
-use Rattle.ados_faults.proofs.Looking.{fields_noted}
+use Rattle.ados_faults.proofs.Looking.{bare_noted, fields_noted}
 use Rattle.ados_faults.proofs.looks.look.Goals as goal
 
 pub note_if-requires-2-clause-shown : goal.note_if-requires-2-clause-shown
 note_if-requires-2-clause-shown c = λ w.
     type_shows c.args.image.now c.args.block c.args.role c.requires.reached
     (subst (λ (s : SourceView). HasBadTypeAs s.bytes c.args.block c.args.role) c.whole-source.ensures (c.has_bad_type-types.ensures.0 w))
+
+pub returns-then-is_bare-clause-whole : goal.returns-then-is_bare-clause-whole
+returns-then-is_bare-clause-whole c = bare_noted c.args.image.now c.args.notes.now.cells.items c.args.block c.args.role (c.is_bare.ensures.0 c.if-is_bare.true)
 
 pub returns-clause-whole : goal.returns-clause-whole
 returns-clause-whole c =
