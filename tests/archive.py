@@ -27,7 +27,8 @@ sys.dont_write_bytecode = True
 from all_faults_model import lines_of
 from disk_model import account_of, rest_of, rest_text, rest_told
 from drawn_volume import Drawer, drawn, read
-from harness import BLOCK, DIRECTORY, FILE, HEADER, Image, Ran, Room, slot_of, try_all
+from harmful import hang, join, places_in, put_entry
+from harness import BLOCK, DIRECTORY, FILE, HEADER, SLOTS, Image, Ran, Room, slot_of, try_all
 
 ROUNDS = int(os.environ.get("ROUNDS", "1000"))
 DAMAGED = int(os.environ.get("DAMAGED", "400"))
@@ -798,6 +799,29 @@ def many_faults(room: Room) -> None:
     room.succeeds("every fault of an image that shows none", "check", "--all", "filled.adf", output=b"ok\n")
 
 
+def tangled_disks(room: Room) -> None:
+    """Directories whose slots all lead into one chain, so that its entries are reached in very many roles. With few faults all of
+    them are listed, and with more than 1,000 the last line is `more`."""
+    room.done("blank", "--ffs", "Tangled", "blank.adf")
+    for directories, slots, entries in ((60, SLOTS, 20), (1_100, 8, 10)):
+        image = Image(room.content("blank.adf"))
+        places = places_in(image)
+        chain, shared = places[:directories], places[directories : directories + entries]
+        for block in chain:
+            put_entry(image, block, DIRECTORY, b"d%d" % block, image.root)
+            image.put_all(block, 6, [shared[0]] * slots)
+        for block in shared:
+            put_entry(image, block, FILE, b"f%d" % block, chain[0])
+        join(image, chain)
+        join(image, shared)
+        image.settle(chain[-1])
+        hang(image, image.root, chain[0])
+        room.write("tangled.adf", bytes(image.data))
+        ran = room.run("check", "--all", "tangled.adf")
+        told = [b" ".join(line.split()[1:3]).decode() if line != b"more" else "more" for line in ran.output.splitlines()]
+        room.report.same(f"all faults of {directories} directories of one chain", (ran.status, told), (3, faults_by_model(room, "tangled.adf")))
+
+
 def other_kinds(room: Room) -> None:
     """Of a disk of another kind only that is listed, whatever the rest of the image is. With its first long back every fault is
     listed."""
@@ -1417,7 +1441,7 @@ def deleted_entries(room: Room) -> None:
 
 def main(words: List[str]) -> int:
     random.seed(3)
-    parts = (named_images, directories, strange_names, other_files, filler_blocks, long_paths_of_fillers, largest_filled, drawn_fillers, parallel, accepted_objects, refused_objects, shown_values, texts_told, bounded, many_faults, other_kinds, model, longs_told, salvage, rows, deleted_entries, damages)
+    parts = (named_images, directories, strange_names, other_files, filler_blocks, long_paths_of_fillers, largest_filled, drawn_fillers, parallel, accepted_objects, refused_objects, shown_values, texts_told, bounded, many_faults, tangled_disks, other_kinds, model, longs_told, salvage, rows, deleted_entries, damages)
     return try_all(words, Room, *parts)
 
 
