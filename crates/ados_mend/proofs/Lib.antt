@@ -11,6 +11,7 @@ pub mod KeptLongs
 pub mod Counted
 pub mod Passed
 pub mod SettlingPages
+pub mod Renewed
 mod Numbered
 pub mod Marking
 pub mod Walking

@@ -6,8 +6,8 @@ use Rattle.adf_block.proofs.Frames.{other_long, same_count, same_long, same_tran
 use Rattle.ados_map.specs.Changes.{InPages}
 use Rattle.ados_map.specs.Pages.{LawfulPages, page_block, pages_of}
 use Rattle.ados_model.specs.Faults.{root_of}
-use Rattle.ados_model.specs.Rebuilt.{IsOfBitmap}
-use Rattle.ados_mend.specs.steps.Settled.{IsSettled}
+use Rattle.ados_model.specs.Rebuilt.{HasValidBitmap, IsOfBitmap}
+use Rattle.ados_mend.specs.steps.Settled.{IsRootMark, IsSettled}
 use Rattle.ados_mend.proofs.PageRoles.{reached_of_page}
 
 module _ (old mid : List ℕ) (pages : LawfulPages old) (same : SameBut (InPages old) old mid) where
@@ -26,21 +26,25 @@ module _ (old mid : List ℕ) (pages : LawfulPages old) (same : SameBut (InPages
       same_trans (InPages old) old mid new same
       (same_weaken _ (InPages old) mid new (λ b i at. (p, l, at.0 ∙ e ∙ named_page p few)) h)
 
-  pub settled_root : (flagged new : List ℕ) (root : ℕ) → root ≡ root_of mid → OnlyLong root 78 mid flagged → long flagged root 78 ≡ 0 → OnlyLong root 5 flagged new → IsSettled old new
-  settled_root flagged new root at first flag second = record {
+  pub settled_by : (new : List ℕ) → SameBut (IsRootMark mid) mid new → ¬ HasValidBitmap new → IsSettled old new
+  settled_by new rest not_valid = record {
     rest =
         same_trans (IsOfBitmap old) old mid new (same_weaken (InPages old) (IsOfBitmap old) old mid (λ b i h. inl (reached_of_page old pages b (h.0, h.1, sym h.2))) same)
-        (same_trans (IsOfBitmap old) mid flagged new
-        (same_weaken _ (IsOfBitmap old) mid flagged (λ b i h. inr (h.0 ∙ root_is, inr h.1)) first)
-        (same_weaken _ (IsOfBitmap old) flagged new (λ b i h. inr (h.0 ∙ root_is, inl h.1)) second));
-    not_valid = λ valid.
-        let count_first = same_count _ mid flagged first in
-        let count_second = same_count _ flagged new second in
-        let new_root : root_of new ≡ root = ap root_key (count_second ∙ count_first) ∙ sym at in
-        let kept : long new root 78 ≡ long flagged root 78 = other_long root 5 flagged new second root 78 (omega arith) (inr (λ z. omega (arith, z))) in
-        let there : long new root 78 ≡ long new (root_of new) 78 = ap (λ (b : ℕ). long new b 78) (sym new_root) in
-        omega (arith, valid, there, kept, flag);
+        (same_weaken (IsRootMark mid) (IsOfBitmap old) mid new (λ b i h. inr (h.0 ∙ ap root_key mid_count, h.1)) rest);
+    not_valid = not_valid;
   }
-    where
-      root_is : root ≡ root_of old
-      root_is = at ∙ ap root_key mid_count
+
+-- the root's flag, and then its checksum
+module _ (old flagged new : List ℕ) (root : ℕ) (at : root ≡ root_of old) (first : OnlyLong root 78 old flagged) (second : OnlyLong root 5 flagged new) where
+  pub root_rest : SameBut (IsRootMark old) old new
+  root_rest =
+      same_trans (IsRootMark old) old flagged new
+      (same_weaken _ (IsRootMark old) old flagged (λ b i h. (h.0 ∙ at, inr h.1)) first)
+      (same_weaken _ (IsRootMark old) flagged new (λ b i h. (h.0 ∙ at, inl h.1)) second)
+
+  pub root_not_valid : long flagged root 78 ≡ 0 → ¬ HasValidBitmap new
+  root_not_valid flag valid =
+      let new_root : root_of new ≡ root = ap root_key (same_count (IsRootMark old) old new root_rest) ∙ sym at in
+      let kept : long new root 78 ≡ long flagged root 78 = other_long root 5 flagged new second root 78 (omega arith) (inr (λ z. omega (arith, z))) in
+      let there : long new root 78 ≡ long new (root_of new) 78 = ap (λ (b : ℕ). long new b 78) (sym new_root) in
+      omega (arith, valid, there, kept, flag)

@@ -8,6 +8,7 @@ mod answer;
 mod caution;
 
 // What the image shows, and the image that the check mends.
+mod checked;
 mod laws;
 mod mendable;
 mod old_bitmap;

@@ -1,11 +1,17 @@
 -- The image that the check mends, and the bitmap blocks of the images.
-use Rattle.std.specs.Prelude.{◌≡◌, ℕ, ◌<◌, List}
+use Rattle.std.specs.Prelude.{◌≡◌, ◌⊎◌, ℕ, ◌/◌, ◌<◌, List}
+use Rattle.adf_block.specs.declared.layout.TheConstants.{BITMAP_FLAG, CHECKSUM}
 use Rattle.adf_block.specs.Frame.{SameBut}
 use Rattle.adf_block.specs.Image.{block_count}
 use Rattle.ados_map.specs.Pages.{LawfulPages, page_block, pages_of}
+use Rattle.ados_model.specs.Faults.{root_of}
 use Rattle.ados_model.specs.Rebuilt.{HasValidBitmap, IsOfBitmap}
 use Rattle.ados_mend.specs.Mendable.{ShowsOnlyMendable}
 use Rattle.ados_mend.specs.Validated.{IsValidated}
+
+-- byte i of a block is in the root's checksum or bitmap flag
+abbrev pub IsRootMark : List ℕ → ℕ → ℕ → Type 0
+IsRootMark image block i = (block ≡ root_of image) × ((i / 4 ≡ CHECKSUM) ⊎ (i / 4 ≡ BITMAP_FLAG))
 
 -- only the bitmap changed, and it is not valid
 pub record IsSettled (old settled : List ℕ) : Type 0 where

@@ -2,13 +2,13 @@ use Rattle.std.proofs.Common.{List, ℕ, sym, subst}
 use Rattle.ados_mend.specs.Validated.{IsValidated}
 use Rattle.ados_mend.proofs.PageFaults.{mendable_pages}
 use Rattle.ados_mend.proofs.Passed.{passed}
-use Rattle.ados_mend.proofs.validating.validate.Goals as goal
+use Rattle.ados_mend.proofs.validating.validate_checked.Goals as goal
 
-pub returns-in_err-refuse_other_faults : goal.returns-in_err-refuse_other_faults
-returns-in_err-refuse_other_faults c = passed c.args.image c.args.force c.from_residual.result c.in_err-refuse_other_faults.field-0.0 c.from_residual.ensures (c.in_err-refuse_other_faults.ensures c.args.force)
+pub returns-in_err-refuse_faults_beside : goal.returns-in_err-refuse_faults_beside
+returns-in_err-refuse_faults_beside c = passed c.args.image c.args.force c.from_residual.result c.in_err-refuse_faults_beside.field-0.0 c.from_residual.ensures (c.in_err-refuse_faults_beside.ensures c.args.force)
 
 pub of-requires : goal.of-requires
-of-requires c = mendable_pages c.args.image (c.in_ok-refuse_other_faults.ensures c.args.force)
+of-requires c = mendable_pages c.args.image (c.in_ok-refuse_faults_beside.ensures c.args.force)
 
 pub returns-in_err-new : goal.returns-in_err-new
 returns-in_err-new c = passed c.args.image c.args.force c.from_residual-in_err-new.result c.in_err-new.field-0.0 c.from_residual-in_err-new.ensures (c.in_err-new.ensures c.args.force)
