@@ -30,7 +30,7 @@ pub fn has_valid_bitmap(source: &Source<'_>) -> bool
 }
 
 /// The first reached block that the bitmap marks free.
-pub(crate) fn reached_and_free(source: &Source<'_>, marks: &[Option<Mark>]) -> Option<u32>
+pub fn reached_and_free(source: &Source<'_>, marks: &[Option<Mark>]) -> Option<u32>
     requires checked { IsChecked source.now.bytes marks.now }
     requires valid { HasValidBitmap source.now.bytes }
     requires told { TellsBitmap source.now }
@@ -94,7 +94,7 @@ fn reached_blocks(alloc: Global, marks: &[Option<Mark>]) -> Result<Vec<bool>, Al
 
 /// Rebuilds the bitmap so that exactly the reached blocks are in use, and sets the root's flag. All memory is
 /// allocated before the first change.
-pub(crate) fn mend(
+pub fn mend(
     alloc: Global,
     image: &mut Image,
     marks: &[Option<Mark>],

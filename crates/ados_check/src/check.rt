@@ -33,7 +33,7 @@ pub fn check_image(alloc: Global, image: Image) -> Result<Accepted, Rejected>
 }
 
 /// The marks of all reached blocks, if only the bitmap may still have a fault.
-fn checked_marks(alloc: Global, image: &Image) -> Result<Vec<Option<Mark>>, VolumeFault>
+pub fn checked_marks(alloc: Global, image: &Image) -> Result<Vec<Option<Mark>>, VolumeFault>
     ensures { MatchResult result (λ marks. IsChecked image.now marks.items) (λ fault. IsRefusal image.now fault) }
 {
     check_kind(image)?;

@@ -4,7 +4,6 @@ use Rattle.adf_block.specs.Frame.{SameBut}
 use Rattle.adf_block.specs.Image.{block_count, block_sum}
 use Rattle.adf_block.specs.Whole.{IsImage}
 use Rattle.adf_block.proofs.Frames.{same_sum, same_weaken}
-use Rattle.ados_map.specs.Pages.{LawfulPages}
 use Rattle.ados_model.specs.declared.role.Role.TheVariants.{Page}
 use Rattle.ados_model.specs.Faults.{Reached, root_of}
 use Rattle.ados_model.specs.Rebuilt.{HasValidBitmap, IsOfBitmap}
@@ -31,11 +30,8 @@ module _ (old mid : List ℕ) (marks : List (Option Mark)) (im : IsImage old) (c
       let p = page_of_reached h refl in
       same_sum (IsRootMark old) old mid rest page (λ k l z. (lawful_pages old marks checked).beside_root p.0 p.1 (p.2 ∙ z.0)) ∙ was
 
-  checked_mid : IsChecked mid marks
+  pub checked_mid : IsChecked mid marks
   checked_mid = is_checked old mid marks im checked of_bitmap sum page_sums
-
-  pub pages_mid : LawfulPages mid
-  pages_mid = lawful_pages mid marks checked_mid
 
   pub renewed : (new : List ℕ) → ShowsOnlyMendable old → IsImage mid → IsImage new → ¬ HasValidBitmap mid → IsMended mid marks new → IsValidated old new
   renewed new only im_mid im_new not_valid mended =

@@ -1,19 +1,15 @@
 //! The faults that a new bitmap mends, and others.
 ghost use Rattle.std.specs.Prelude.{◌≡◌, ◌<◌, ◌↔◌, IsTrue, MatchOption, MatchResult, All, Bool, true, Contains};
-ghost use Rattle.adf_block.specs.Whole.{IsImage};
-ghost use Rattle.ados_check.specs.Laws.{AreInUse};
 ghost use Rattle.ados_check.specs.Marks.{IsChecked};
 ghost use Rattle.ados_model.specs.Accepted.{ShowsNoFault};
-ghost use Rattle.ados_model.specs.Rebuilt.{HasValidBitmap};
 ghost use Rattle.ados_mend.specs.Answer.{IsReason};
 ghost use Rattle.ados_mend.specs.Mendable.{IsMendable, IsPage, ShowsOnlyMendable};
 
 use crate::answer::NotValidated;
-use adf_block::layout::{BITMAP_FLAG, BITMAP_VALID, BOOT_BLOCKS, FIRST_PAGE, MOST_BLOCKS};
+use adf_block::layout::{FIRST_PAGE, MOST_BLOCKS};
 use adf_block::{Image, page_count};
-use ados_check::{Mark, checked_has_pages};
+use ados_check::{Mark, Source, has_valid_bitmap, reached_and_free};
 use ados_faults::faults_of_any_disk;
-use ados_map::is_free;
 use ados_model::{FaultKind, VolumeFault};
 use std::alloc::Global;
 
@@ -50,33 +46,13 @@ fn has_sound_bitmap(image: &Image, marks: &[Option<Mark>]) -> bool
     requires { IsChecked image.now marks.now }
     ensures { result ≡ true → ShowsNoFault image.now }
 {
-    if !has_valid_bitmap(image) {
+    let blocks = image.blocks();
+    prove!(blocks <= MOST_BLOCKS);
+    let source = Source::whole(image);
+    if !has_valid_bitmap(&source) {
         return true;
     }
-    are_in_use(image, marks)
-}
-
-/// Whether the root's flag says that the bitmap is valid.
-fn has_valid_bitmap(image: &Image) -> bool
-    ensures valid { IsTrue result ↔ HasValidBitmap image.now }
-    ensures image { IsImage image.now }
-{
-    prove!(image.blocks() >= 16);
-    image.long(image.root(), BITMAP_FLAG) == BITMAP_VALID
-}
-
-/// Whether the bitmap marks no marked block free.
-fn are_in_use(image: &Image, marks: &[Option<Mark>]) -> bool
-    requires { IsChecked image.now marks.now }
-    ensures { result ≡ true → AreInUse image.now marks.now }
-{
-    checked_has_pages();
-    for block in BOOT_BLOCKS..image.blocks() {
-        if marks[block as usize].is_some() && is_free(image, block) {
-            return false;
-        }
-    }
-    true
+    reached_and_free(&source, marks).is_none()
 }
 
 /// The first of these faults that a new bitmap does not mend.

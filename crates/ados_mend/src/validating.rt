@@ -5,14 +5,14 @@ ghost use Rattle.ados_mend.specs.Validated.{IsValidated};
 
 use crate::answer::{NotValidated, Validated};
 use crate::cautions::first_caution;
-use crate::checked::{checked_marks, rebuilt};
+use crate::checked::rebuilt;
 use crate::counting::changed_marks;
 use crate::laws::lawful_pages;
 use crate::mendable::{refuse_faults_beside, refuse_other_faults};
 use crate::old_bitmap::OldBitmap;
 use crate::settled::mended;
 use adf_block::Image;
-use ados_check::Mark;
+use ados_check::{Mark, checked_marks};
 use std::alloc::Global;
 
 /// The image with a new bitmap, which marks exactly the blocks used that something names. It is written in place: an error
