@@ -8,7 +8,7 @@ of N), with the start of the program: in the Old File System, and in the Fast Fi
 of the slowest, with its name. Then come two ratios, each the larger of the formats and images:
 
     growth      the time for each block of the largest image, to that of the next smaller one: 1 if the time grows as the blocks
-    to `check`  the time in the largest image, to the check of a sound and full image of that size and format; over 4 it is bold
+    to `check`  the time in the largest image, to the `check` of the same image; over 4 it is bold
 
 The groups:
 
@@ -21,7 +21,8 @@ The groups:
                 upper case it is the same image with a sound root: all its headers count as deleted
 
 A cell says so if the command printed over 100 MB, or took over 60 seconds, or a peer over 3. The last table compares `check --all` with
-`check` of the same refused image; for floppies a ratio over 2 is bold. `unadf` runs on the same images if it is installed, and `cat`
+`check` of the same refused image; for floppies a ratio over 2 is bold. Below it is what the host's kernel alone takes of some rows, by
+bench/floor.c, and how many times the `check` of the row that is. `unadf` runs on the same images if it is installed, and `cat`
 too. With `--adflib` ADFlib in process lists deleted entries (bench/adflib_peer.c over Debian's source, which is fetched). `--images`
 keeps the hostile images in a directory, and takes those that it has. `--nice` sets the priority of the measured runs. It needs cc and
 rustc. All files are in a file system in memory, if there is one.
@@ -227,6 +228,8 @@ GROUPS: Dict[str, Tuple[str, Images]] = {
     "cut": ("A directory with a cut hash chain", lambda it: iter([("", lambda: cut_chain(it))])),
     "hostile": ("Hostile images", hostile_images),
 }
+# What bench/floor.c does of a row: the row's group, its image, and its command.
+FLOORS = {"write": ("sound", "full", "validate"), "extract": ("sound", "full", "extract --damaged"), "undelete": ("deleted", "", "undelete")}
 
 
 # ---- runs
@@ -279,13 +282,24 @@ class Measuring:
             took = least(PEERS[command], self.runs, LONGEST_PEER, self.nice)
             self.keep((group, name, command, disk.ofs, disk.blocks), took)
 
+    def full(self, ofs: bool, blocks: int) -> None:
+        Path("image.adf").write_bytes(Disk(self.program, ofs, blocks, None, "").full().data)
+
     def base_again(self, blocks: int) -> List[float]:
         """The check of a full image of each format once more: what the machine changed meanwhile."""
         found = []
         for ofs in (True, False):
-            Path("image.adf").write_bytes(Disk(self.program, ofs, blocks, None, "").full().data)
+            self.full(ofs, blocks)
             found.append(least([self.program, "check", "image.adf"], self.runs, LONGEST, self.nice).milliseconds)
         return found
+
+    def floor(self, kind: str, blocks: int) -> str:
+        """What the kernel alone takes of a row, in the largest image."""
+        group, name, command = FLOORS[kind]
+        self.full(True, blocks)
+        took = least(["./floor", kind, "image.adf"], self.runs, LONGEST, self.nice).milliseconds
+        checks = [self.took.get((group, name, "check", ofs, blocks), Took(float("nan"))).milliseconds for ofs in (True, False)]
+        return f"`{command}` {number(took)} ({', '.join(f'{took / it:.2f}' for it in checks)})"
 
     def keep(self, key: Key, took: Took) -> None:
         self.took[key] = took
@@ -309,10 +323,6 @@ class Tables:
             names = self.names.setdefault(group, [])
             names += [name] if name not in names else []
         self.over: List[str] = []
-
-    def base(self, ofs: bool) -> float:
-        """The check of a sound and full image of the largest size."""
-        return self.took.get(("sound", "full", "check", ofs, self.sizes[-1]), Took(float("nan"))).milliseconds
 
     def named(self, group: str, text: str, name: str) -> str:
         return f"{text} {name}" if len(self.names[group]) > 1 else text
@@ -350,7 +360,8 @@ class Tables:
 
     def to_check(self, group: str, command: str) -> str:
         def of(name: str, ofs: bool) -> float:
-            return self.took[group, name, command, ofs, self.sizes[-1]].milliseconds / self.base(ofs)
+            times = [self.took[group, name, it, ofs, self.sizes[-1]].milliseconds for it in (command, "check")]
+            return times[0] / times[1]
 
         return self.ratio(group, command, of, None if command in PEERS else MOST)
 
@@ -393,6 +404,7 @@ def prepare(room: str, peers: Sequence[str]) -> None:
     """Builds what the benchmark runs besides the program."""
     compile_measured(room)
     done(["rustc", "--edition", "2021", "-O", "-o", f"{room}/full_image", str(HERE / "full_image.rs")])
+    done([os.environ.get("CC") or "cc", "-O2", "-o", f"{room}/floor", str(HERE / "floor.c")])
     if "ADFlib: deleted entries" in peers:
         build_peer(room)
     os.chdir(room)
@@ -440,6 +452,8 @@ def main(words: List[str]) -> int:
             tables.group(group, GROUPS[group][0], [*commands_of(group), *peers])
         tables.of_all()
         print(f"\nOver {MOST:.0f}: {'; '.join(tables.over) or 'none'}.")
+        floors = [measuring.floor(kind, max(given.blocks)) for kind in FLOORS]
+        print(f"\nThe kernel alone, of {max(given.blocks):,} blocks, with OFS, FFS to `check`: {'; '.join(floors)}.")
         again = measuring.base_again(max(given.blocks))
         print(f"\n`check` of the full images of {max(given.blocks):,} blocks once more, at the end: {', '.join(map(number, again))}.")
     finally:

@@ -2,7 +2,6 @@
 pub mod Chunks
 pub mod Climbing
 pub mod Counting
-pub mod Ends
 pub mod Gathered
 pub mod Listed
 pub mod Repeating

@@ -2,7 +2,6 @@
 use Rattle.std.proofs.Common.{◌≡◌, ℕ, ◌<◌, ◌⊎◌, inl, inr, Bool, false, List, [], ◌∷◌, length, get_or, map, All, sym, ap, ◌∙◌, subst, refl, arith}
 use Rattle.std.proofs.lemmas.List.{get_or-map, length-map}
 use Rattle.ados_faults.specs.Listed.{AreMarks, Marks}
-use Rattle.ados_model.specs.Accepted.{ShowsNoFault}
 use Rattle.ados_model.specs.Faults.{Shows}
 use Rattle.ados_model.specs.declared.fault.VolumeFault.{VolumeFault}
 use Rattle.adf_archive.specs.Report.{HasValues, HaveTexts, HaveValues, explains}

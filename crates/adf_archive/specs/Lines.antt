@@ -1,7 +1,7 @@
 -- The output for images.
-use Rattle.std.specs.Prelude.{ℕ, suc, false, if◌then◌else◌, List, [], ◌∷◌, ◌++◌, get_or, flat_map, decimal, codes, Option, Some, None, Vec}
+use Rattle.std.specs.Prelude.{ℕ, suc, false, if◌then◌else◌, List, [], ◌∷◌, ◌++◌, get_or, flat_map, decimal, codes, Option, Some, None, option_map, Vec}
 use Rattle.std.specs.Global.{Global}
-use Rattle.adf_text.specs.Letters.{letters}
+use Rattle.std.specs.String.{string_bytes}
 use Rattle.adf_text.specs.Plain.{plain}
 use Rattle.adf_archive.specs.declared.report.AcceptedImage.{AcceptedImage}
 use Rattle.adf_archive.specs.declared.report.ImageReport.{ImageReport}
@@ -25,14 +25,14 @@ refused_words word block = codes "refused " ++ word ++ 32 ∷ decimal block
 abbrev pub accepted_words : AcceptedImage → List ℕ
 accepted_words told = if told.validated then codes "ok validated" else codes "ok"
 
--- a path in letters, with control characters as escapes; without a path, the block of the file's header
-abbrev pub path_or_header : Option (Vec ℕ Global) → ℕ → List ℕ
-path_or_header (Some path) file = plain false (letters path.items)
+-- a path, with control characters as escapes; without a path, the block of the file's header
+abbrev pub path_or_header : Option (List ℕ) → ℕ → List ℕ
+path_or_header (Some path) file = plain false path
 path_or_header None file = codes "the file at block " ++ decimal file
 
 -- the file of a suspect block
 abbrev pub file_words : Suspect → List ℕ
-file_words suspect = path_or_header suspect.path suspect.file
+file_words suspect = path_or_header (option_map string_bytes suspect.path) suspect.file
 
 -- `suspect block BLOCK, data PLACE of `
 abbrev pub place_words : ℕ → ℕ → List ℕ

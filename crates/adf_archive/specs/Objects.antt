@@ -79,15 +79,11 @@ faults_tokens (Refused told) = flat_map shown_tokens told.faults.items
 faults_tokens (WrongSize fault) = fault_tokens (size_word fault) 0 None None None
 faults_tokens (NotChecked why) = []
 
--- the path of a suspect block's file in letters
-abbrev pub path_text : Suspect → Option (List ℕ)
-path_text suspect = option_map (λ path. letters path.items) suspect.path
-
 -- the object of a suspect block
 abbrev pub suspect_tokens : Suspect → List Token
 suspect_tokens suspect =
     begin_object ∷ key (codes "block") ∷ number (decimal suspect.block) ∷ key (codes "header") ∷ number (decimal suspect.file)
-    ∷ key (codes "data") ∷ number (decimal suspect.place) ∷ key (codes "path") ∷ string_token (path_text suspect) ∷ end_object ∷ []
+    ∷ key (codes "data") ∷ number (decimal suspect.place) ∷ key (codes "path") ∷ string_token (option_map string_bytes suspect.path) ∷ end_object ∷ []
 
 -- the member with the suspect blocks
 abbrev pub suspects_tokens : List Suspect → List Token

@@ -1,6 +1,6 @@
 -- The path of a directory or file.
-use Rattle.std.specs.Prelude.{◌≡◌, ℕ, ◌<◌, ◌≤◌, List, [], ◌∷◌, ◌++◌, length, Option, Some, MatchOption, Vec}
-use Rattle.std.specs.Global.{Global}
+use Rattle.std.specs.Prelude.{◌≡◌, ℕ, ◌<◌, ◌≤◌, List, [], ◌∷◌, ◌++◌, length, Option, Some, MatchOption}
+use Rattle.adf_text.specs.Letters.{letters}
 use Rattle.ados_model.specs.Tree.{Tree, name_of, parent_of, root}
 use Rattle.adf_archive.specs.declared.path.TheConstants.{MOST_PATH_BYTES}
 
@@ -17,8 +17,8 @@ pub record HasPath (t : Tree) (key : ℕ) (path : List ℕ) : Type 0 where
   pub before : HasFront t dir front
   pub is : path ≡ front ++ name_of t key
 
--- this is the path, if that is not too long
-abbrev pub IsPathOf : Tree → ℕ → Option (Vec ℕ Global) → Type 0
+-- this is the path in letters, if it is not too long
+abbrev pub IsPathOf : Tree → ℕ → Option (List ℕ) → Type 0
 IsPathOf t key told =
     MatchOption told ((path : List ℕ) → HasPath t key path → MOST_PATH_BYTES < length path)
-    (λ path. HasPath t key path.items × (length path.items ≤ MOST_PATH_BYTES))
+    (λ text. (path : List ℕ) × HasPath t key path × (length path ≤ MOST_PATH_BYTES) × (text ≡ letters path))

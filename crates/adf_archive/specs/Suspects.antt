@@ -1,5 +1,6 @@
 -- Data blocks of files that hold nothing but a filler.
-use Rattle.std.specs.Prelude.{◌≡◌, ℕ, ◌<◌, List, map, All, AllPairs, Contains}
+use Rattle.std.specs.Prelude.{◌≡◌, ℕ, ◌<◌, List, map, All, AllPairs, Contains, option_map}
+use Rattle.std.specs.String.{string_bytes}
 use Rattle.adf_block.specs.Fields.{format_of}
 use Rattle.adf_block.specs.Image.{bytes_at}
 use Rattle.ados_model.specs.Tree.{Tree, data_size, data_start}
@@ -30,7 +31,7 @@ pub record IsSuspect (image : List ℕ) (t : Tree) (block file place : ℕ) : Ty
 -- this is such a block, with the path of its file
 pub record TellsSuspect (image : List ℕ) (t : Tree) (suspect : Suspect) : Type 0 where
   pub is : IsSuspect image t suspect.block suspect.file suspect.place
-  pub path : IsPathOf t suspect.file suspect.path
+  pub path : IsPathOf t suspect.file (option_map string_bytes suspect.path)
 
 -- this is the block with this owner
 pub record IsSuspectAt (image : List ℕ) (t : Tree) (block : ℕ) (owner : Owner) (suspect : Suspect) : Type 0 where

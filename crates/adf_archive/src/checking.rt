@@ -1,23 +1,19 @@
 //! The check of one image, as a report.
-ghost use Rattle.std.specs.Prelude.{◌≡◌, ℕ, List, IfOk, IfSome, is_some};
-ghost use Rattle.ados_model.specs.Tree.{Tree};
-ghost use Rattle.ados_model.specs.Stands.{Stands};
+ghost use Rattle.std.specs.Prelude.{ℕ, List, IfOk, IfSome};
 ghost use Rattle.ados_model.specs.Accepted.{Accepts};
-ghost use Rattle.ados_model.specs.Faults.{Shows};
-ghost use Rattle.adf_archive.specs.Report.{IsReportFor, IsReportOfSome, Tells};
-ghost use Rattle.adf_archive.specs.Suspects.{AreSuspects};
+ghost use Rattle.adf_archive.specs.Report.{IsReportFor, IsReportOfSome};
 ghost use Rattle.adf_archive.specs.declared.checking.Detail.{Detail};
 
 use crate::contents::contents_of;
-use crate::faults::told_faults;
+use crate::faults::refused;
 use crate::reading::ReadImages;
-use crate::report::{AcceptedImage, Contents, ImageReport, RefusedImage, WhyNot};
-use crate::suspects::{Suspect, suspects_of};
+use crate::report::{AcceptedImage, ImageReport, WhyNot};
+use crate::suspects::suspects_of;
 use adf_block::Image;
 use adf_io::LoadFault;
 use adf_words::ImageFile;
 use ados_check::accepted_kind;
-use ados_model::{FaultKind, VolumeFault};
+use ados_model::FaultKind;
 use ados_volume::{Rejected, Volume, check};
 use std::alloc::{AllocError, Global};
 
@@ -46,7 +42,7 @@ pub fn report_file<R: ReadImages>(
     ensures { IsReportOfSome detail result }
 {
     if !is_hosts {
-        return not_checked(WhyNot::Name);
+        return ImageReport::NotChecked(WhyNot::Name);
     }
     if let Some(report) = report_sketch(rt, alloc, file, detail) {
         return report;
@@ -55,13 +51,6 @@ pub fn report_file<R: ReadImages>(
         Ok(image) => report_image(alloc, image, detail),
         Err(fault) => unread(fault),
     }
-}
-
-/// The report on a file that was not checked.
-fn not_checked(why: WhyNot) -> ImageReport
-    ensures { (detail : Detail) → IsReportOfSome detail result }
-{
-    ImageReport::NotChecked(why)
 }
 
 /// The report on an image that is accepted as it is, if a sketch shows this and has all that is reported.
@@ -128,8 +117,16 @@ fn try_report(alloc: Global, image: Image, detail: Detail) -> Result<ImageReport
 fn accepted(alloc: Global, volume: &Volume, detail: Detail) -> Result<ImageReport, AllocError>
     ensures { IfOk result (λ report. (old : List ℕ) → Accepts old volume.now.was_validated volume.now.image → IsReportFor detail old report) }
 {
-    let contents = wanted_contents(alloc, volume, detail)?;
-    let suspects = wanted_suspects(alloc, volume, detail)?;
+    let contents = if detail.contents {
+        Some(contents_of(alloc, volume)?)
+    } else {
+        None
+    };
+    let suspects = if detail.filler {
+        Some(suspects_of(alloc, volume)?)
+    } else {
+        None
+    };
     let image = volume.image();
     Ok(ImageReport::Accepted(AcceptedImage {
         kind: image.boot_kind(),
@@ -137,53 +134,5 @@ fn accepted(alloc: Global, volume: &Volume, detail: Detail) -> Result<ImageRepor
         validated: volume.was_validated(),
         contents,
         suspects,
-    }))
-}
-
-/// The contents of a volume, if requested.
-fn wanted_contents(
-    alloc: Global,
-    volume: &Volume,
-    detail: Detail,
-) -> Result<Option<Contents>, AllocError>
-    ensures { IfOk result (λ contents. IfSome contents (λ known. (t : Tree) → Stands volume.now.image t → Tells t known)) }
-{
-    if !detail.contents {
-        return Ok(None);
-    }
-    Ok(Some(contents_of(alloc, volume)?))
-}
-
-/// The data blocks of files that hold nothing but a filler, if requested.
-fn wanted_suspects(
-    alloc: Global,
-    volume: &Volume,
-    detail: Detail,
-) -> Result<Option<Vec<Suspect>>, AllocError>
-    ensures are { IfOk result (λ suspects. IfSome suspects (λ found. (t : Tree) → Stands volume.now.image t → AreSuspects volume.now.image t found.items)) }
-    ensures asked { IfOk result (λ suspects. is_some suspects ≡ detail.filler) }
-{
-    if !detail.filler {
-        return Ok(None);
-    }
-    Ok(Some(suspects_of(alloc, volume)?))
-}
-
-/// The report on a refused image.
-fn refused(
-    alloc: Global,
-    image: &Image,
-    fault: VolumeFault,
-    detail: Detail,
-) -> Result<ImageReport, AllocError>
-    requires { Shows image.now fault.kind fault.block }
-    ensures { IfOk result (IsReportFor detail image.now) }
-{
-    let told = told_faults(alloc, image, fault, detail)?;
-    Ok(ImageReport::Refused(RefusedImage {
-        kind: image.boot_kind(),
-        blocks: image.blocks(),
-        faults: told.faults,
-        more: told.more,
     }))
 }

@@ -1,12 +1,11 @@
 //! The faults of a refused image.
-ghost use Rattle.std.specs.Prelude.{◌≡◌, ◌<◌, ◌⊎◌, [], All, IfOk, false, is_some, length, map, true};
-ghost use Rattle.ados_model.specs.Accepted.{ShowsNoFault};
+ghost use Rattle.std.specs.Prelude.{◌≡◌, ◌<◌, ◌⊎◌, [], All, IfOk, false, length, map, true};
 ghost use Rattle.ados_model.specs.Faults.{Shows};
 ghost use Rattle.ados_faults.specs.Listed.{AreAllFaults, AreMarks};
-ghost use Rattle.adf_archive.specs.Report.{HasValues, HaveTexts, HaveValues, explains};
+ghost use Rattle.adf_archive.specs.Report.{HasValues, HaveTexts, IsReportFor, explains};
 
 use crate::checking::Detail;
-use crate::report::ShownFault;
+use crate::report::{ImageReport, RefusedImage, ShownFault};
 use adf_block::Image;
 use ados_faults::{Mark, all_faults, explain, place_of, second_places, values_of};
 use ados_model::{FaultKind, VolumeFault};
@@ -15,84 +14,54 @@ use std::alloc::{AllocError, Global};
 /// The most faults reported for an image.
 pub const MOST_FAULTS: usize = 1_000;
 
-/// Faults of an image, and whether it may have more.
-#[derive(Drop)]
-pub struct ToldFaults {
-    pub faults: Vec<ShownFault>,
-    pub more: bool,
-}
-
-/// The reported faults of an image, one of which is known: only that one, or all in order.
-pub(crate) fn told_faults(
+/// The report on a refused image, one of whose faults is known: only that one, or all in order.
+pub(crate) fn refused(
     alloc: Global,
     image: &Image,
     fault: VolumeFault,
     detail: Detail,
-) -> Result<ToldFaults, AllocError>
+) -> Result<ImageReport, AllocError>
     requires { Shows image.now fault.kind fault.block }
-    ensures some { IfOk result (λ told. 0 < length told.faults.items) }
-    ensures shown { IfOk result (λ told. All (λ shown. Shows image.now shown.fault.kind shown.fault.block) told.faults.items) }
-    ensures values { IfOk result (λ told. HaveValues image.now told.faults.items) }
-    ensures texts { IfOk result (λ told. HaveTexts (explains detail) told.faults.items) }
-    ensures each { IfOk result (λ told. detail.all ≡ true → AreAllFaults image.now 1000 told.more (map (λ shown. shown.fault) told.faults.items)) }
+    ensures { IfOk result (IsReportFor detail image.now) }
 {
-    if detail.all {
-        return all_told(alloc, image, detail);
+    if !detail.all && !explains(detail) {
+        return told(alloc, image, &[], &[fault], false, detail);
     }
-    one_told(alloc, image, fault, detail)
-}
-
-/// All faults, as reported.
-fn all_told(alloc: Global, image: &Image, detail: Detail) -> Result<ToldFaults, AllocError>
-    requires { ¬ ShowsNoFault image.now }
-    ensures some { IfOk result (λ told. 0 < length told.faults.items) }
-    ensures shown { IfOk result (λ told. All (λ shown. Shows image.now shown.fault.kind shown.fault.block) told.faults.items) }
-    ensures values { IfOk result (λ told. HaveValues image.now told.faults.items) }
-    ensures texts { IfOk result (λ told. HaveTexts (explains detail) told.faults.items) }
-    ensures each { IfOk result (λ told. AreAllFaults image.now 1000 told.more (map (λ shown. shown.fault) told.faults.items)) }
-{
     let found = all_faults(alloc, image, MOST_FAULTS)?;
-    let faults = shown_faults(alloc, image, &found.marks, &found.faults, detail)?;
-    Ok(ToldFaults {
-        faults,
-        more: found.more,
-    })
-}
-
-/// One fault, as reported.
-fn one_told(
-    alloc: Global,
-    image: &Image,
-    fault: VolumeFault,
-    detail: Detail,
-) -> Result<ToldFaults, AllocError>
-    requires { Shows image.now fault.kind fault.block }
-    ensures some { IfOk result (λ told. 0 < length told.faults.items) }
-    ensures shown { IfOk result (λ told. All (λ shown. Shows image.now shown.fault.kind shown.fault.block) told.faults.items) }
-    ensures values { IfOk result (λ told. HaveValues image.now told.faults.items) }
-    ensures texts { IfOk result (λ told. HaveTexts (explains detail) told.faults.items) }
-{
-    let marks = wanted_marks(alloc, image, detail)?;
-    let faults = shown_faults(alloc, image, &marks, &[fault], detail)?;
-    Ok(ToldFaults {
-        faults,
-        more: false,
-    })
-}
-
-/// The place that named each block first, if paths or texts are requested.
-fn wanted_marks(
-    alloc: Global,
-    image: &Image,
-    detail: Detail,
-) -> Result<Vec<Option<Mark>>, AllocError>
-    requires { ¬ ShowsNoFault image.now }
-    ensures { IfOk result (λ marks. AreMarks image.now marks.items ⊎ ((marks.items ≡ []) × (explains detail ≡ false))) }
-{
-    if !explains(detail) {
-        return Ok(Vec::new(alloc));
+    if detail.all {
+        return told(
+            alloc,
+            image,
+            &found.marks,
+            &found.faults,
+            found.more,
+            detail,
+        );
     }
-    Ok(all_faults(alloc, image, MOST_FAULTS)?.marks)
+    told(alloc, image, &found.marks, &[fault], false, detail)
+}
+
+/// The report with these faults.
+fn told(
+    alloc: Global,
+    image: &Image,
+    marks: &[Option<Mark>],
+    faults: &[VolumeFault],
+    more: bool,
+    detail: Detail,
+) -> Result<ImageReport, AllocError>
+    requires some { 0 < length faults.now }
+    requires shown { All (λ fault. Shows image.now fault.kind fault.block) faults.now }
+    requires marks { AreMarks image.now marks.now ⊎ ((marks.now ≡ []) × (explains detail ≡ false)) }
+    requires each { detail.all ≡ true → AreAllFaults image.now 1000 more faults.now }
+    ensures { IfOk result (IsReportFor detail image.now) }
+{
+    Ok(ImageReport::Refused(RefusedImage {
+        kind: image.boot_kind(),
+        blocks: image.blocks(),
+        faults: shown_faults(alloc, image, marks, faults, detail)?,
+        more,
+    }))
 }
 
 /// These faults as reported, in order.
@@ -110,8 +79,16 @@ fn shown_faults(
     let seconds = wanted_seconds(alloc, image, marks, faults, detail)?;
     let mut shown = Vec::new(alloc);
     for fault in faults {
-        let path = wanted_path(alloc, image, marks, fault, detail)?;
-        let text = wanted_text(alloc, image, marks, &seconds, fault, detail)?;
+        let path = if detail.contents {
+            place_of(alloc, image, marks, fault.block)?
+        } else {
+            None
+        };
+        let text = if explains(detail) {
+            Some(explain(alloc, image, marks, &seconds, fault)?)
+        } else {
+            None
+        };
         shown.push(ShownFault {
             fault: *fault,
             path,
@@ -130,34 +107,14 @@ fn wanted_seconds(
     faults: &[VolumeFault],
     detail: Detail,
 ) -> Result<Vec<Option<Mark>>, AllocError> {
-    if !explains(detail) || !are_of_two_places(faults) {
-        return Ok(Vec::new(alloc));
+    let of_two = faults.iter().any(|fault| matches!(
+        fault.kind,
+        FaultKind::BlockUsedTwice | FaultKind::BadParent
+    ));
+    if explains(detail) && of_two {
+        return second_places(alloc, image, marks);
     }
-    second_places(alloc, image, marks)
-}
-
-/// Whether the text of one of these faults may name two places.
-fn are_of_two_places(faults: &[VolumeFault]) -> bool {
-    for fault in faults {
-        if matches!(fault.kind, FaultKind::BlockUsedTwice | FaultKind::BadParent) {
-            return true;
-        }
-    }
-    false
-}
-
-/// The path of the directory or file that a fault belongs to, if requested and known.
-fn wanted_path(
-    alloc: Global,
-    image: &Image,
-    marks: &[Option<Mark>],
-    fault: &VolumeFault,
-    detail: Detail,
-) -> Result<Option<String>, AllocError> {
-    if !detail.contents {
-        return Ok(None);
-    }
-    place_of(alloc, image, marks, fault.block)
+    Ok(Vec::new(alloc))
 }
 
 /// Whether the faults are explained by texts.
@@ -165,21 +122,4 @@ fn explains(detail: Detail) -> bool
     ensures { result ≡ explains detail }
 {
     detail.contents || detail.texts
-}
-
-/// The text that explains a fault, if requested.
-fn wanted_text(
-    alloc: Global,
-    image: &Image,
-    marks: &[Option<Mark>],
-    seconds: &[Option<Mark>],
-    fault: &VolumeFault,
-    detail: Detail,
-) -> Result<Option<String>, AllocError>
-    ensures { IfOk result (λ text. is_some text ≡ explains detail) }
-{
-    if !explains(detail) {
-        return Ok(None);
-    }
-    Ok(Some(explain(alloc, image, marks, seconds, fault)?))
 }

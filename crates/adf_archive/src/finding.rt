@@ -1,6 +1,6 @@
 //! The image files that the arguments of a command name.
 ghost use Rattle.std.specs.Prelude.{◌≡◌, ◌↔◌, ◌≤◌, ◌+◌, false, IfOk, OnOk, IsTrue, length, vec_len};
-ghost use Rattle.adf_archive.specs.Endings.{GrowsByOne, HasImageEnding};
+ghost use Rattle.adf_archive.specs.Endings.{EndsIn, GrowsByOne, HasImageEnding};
 
 use crate::names::{TextName, names_in, text_name};
 use adf_host::read_names;
@@ -198,22 +198,22 @@ fn look_of(path: &str) -> Look {
     Look::Neither
 }
 
-/// Whether a name ends in these four bytes, in any case.
-fn has_ending(name: &str, ending: &[u8]) -> bool {
-    let bytes = name.as_bytes();
-    bytes.len() >= 4 && bytes[bytes.len() - 4..].eq_ignore_ascii_case(ending)
-}
-
 /// Whether a name ends in `.adf` or `.hdf`, in any case.
 pub fn has_image_ending(name: &str) -> bool
     ensures { IsTrue result ↔ HasImageEnding name.now }
 {
-    let bytes = name.as_bytes();
-    if bytes.len() < 4 {
+    has_ending(name, b".adf") || has_ending(name, b".hdf")
+}
+
+/// Whether a name has this ending, in any case.
+fn has_ending(name: &str, ending: &[u8]) -> bool
+    ensures { IsTrue result ↔ EndsIn name.now ending.now }
+{
+    let (bytes, size) = (name.as_bytes(), ending.len());
+    if bytes.len() < size {
         return false;
     }
-    let ending = &bytes[bytes.len() - 4..];
-    ending.eq_ignore_ascii_case(b".adf") || ending.eq_ignore_ascii_case(b".hdf")
+    bytes[bytes.len() - size..].eq_ignore_ascii_case(ending)
 }
 
 /// Pushes the entries of a directory on the stack, the first name on top. A directory that cannot be read to its end

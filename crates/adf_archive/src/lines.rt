@@ -1,11 +1,11 @@
 //! The lines of a report on an image.
 ghost use Rattle.std.specs.Prelude.{◌≡◌, ◌++◌, OnOk, flat_map};
-ghost use Rattle.adf_archive.specs.Lines.{accepted_lines, accepted_words, fault_lines, file_words, lines_of, place_words, refused_words, line_behind, shown_line, suspect_line};
+ghost use Rattle.adf_archive.specs.Lines.{accepted_lines, accepted_words, fault_lines, file_words, lines_of, place_words, refused_words, line_behind, suspect_line};
 
-use crate::report::{AcceptedImage, ImageReport, RefusedImage, ShownFault};
+use crate::report::{AcceptedImage, ImageReport, RefusedImage};
 use crate::suspects::Suspect;
 use crate::words::{kind_word, size_word};
-use adf_text::{letter_text, push_plain};
+use adf_text::push_plain;
 use std::alloc::{AllocError, Global};
 
 /// Appends the lines of a report, each after this prefix: `ok` or `ok validated`, and a line for each suspect block;
@@ -93,16 +93,13 @@ fn push_place(alloc: Global, text: &mut Vec<u8>, block: u32, place: u32) -> Resu
     Ok(())
 }
 
-/// Appends the path of a suspect block's file in letters, with escapes for control characters; if the path is too long,
+/// Appends the path of a suspect block's file, with escapes for control characters; if the path is too long,
 /// the block of the file's header.
 fn push_file(alloc: Global, text: &mut Vec<u8>, suspect: &Suspect) -> Result<(), AllocError>
     ensures { OnOk result (text.new.items ≡ text.old.items ++ file_words suspect.now) }
 {
     match &suspect.path {
-        Some(path) => {
-            let letters = letter_text(alloc, path)?;
-            push_plain(text, letters.as_str())
-        }
+        Some(path) => push_plain(text, path.as_str()),
         None => {
             let file = suspect.file;
             let words = format!(in alloc; "the file at block {file}")?;
@@ -120,30 +117,12 @@ fn push_faults(
 ) -> Result<(), AllocError>
     ensures { OnOk result (text.new.items ≡ text.old.items ++ fault_lines front.now told.now) }
 {
-    push_shown(alloc, text, front, &told.faults)?;
+    for shown in told.faults.iter() {
+        let kind = kind_word(shown.fault.kind);
+        push_refusal(alloc, text, front, kind, shown.fault.block)?;
+    }
     if told.more {
         push_line(text, front, b"more")?;
-    }
-    Ok(())
-}
-
-/// Appends a line for each of these faults.
-fn push_shown(
-    alloc: Global,
-    text: &mut Vec<u8>,
-    front: &[u8],
-    faults: &[ShownFault],
-) -> Result<(), AllocError>
-    ensures { OnOk result (text.new.items ≡ text.old.items ++ flat_map (shown_line front.now) faults.now) }
-{
-    for shown in faults {
-        push_refusal(
-            alloc,
-            text,
-            front,
-            kind_word(shown.fault.kind),
-            shown.fault.block,
-        )?;
     }
     Ok(())
 }

@@ -3,7 +3,7 @@ ghost use Rattle.std.specs.Prelude.{◌≡◌, ◌++◌, ◌∷◌, [], IfOk, On
 ghost use Rattle.std.specs.String.{string_bytes};
 ghost use Rattle.json.specs.Token.{key};
 ghost use Rattle.adf_record.specs.Members.{string_token};
-ghost use Rattle.adf_archive.specs.Objects.{contents_tokens, fault_tokens, faults_tokens, found_in, is_checked, kind_text, known_tokens, members_of, members_tokens, object_line, object_tokens, path_text, further_tokens, shown_tokens, suspect_tokens, suspects_tokens, wanted_in};
+ghost use Rattle.adf_archive.specs.Objects.{contents_tokens, fault_tokens, faults_tokens, found_in, kind_text, known_tokens, members_of, members_tokens, object_line, object_tokens, further_tokens, shown_tokens, suspect_tokens, suspects_tokens, wanted_in};
 
 use crate::report::{Contents, ImageReport, ShownFault};
 use crate::suspects::Suspect;
@@ -24,7 +24,7 @@ pub fn push_object(
 ) -> Result<(), AllocError>
     ensures { OnOk result (text.new.items ≡ text.old.items ++ object_line path.now report.now) }
 {
-    if !is_checked(report) {
+    if matches!(report, ImageReport::NotChecked(_)) {
         return Ok(());
     }
     let mut writer = Writer::new(Vec::new(alloc));
@@ -32,13 +32,6 @@ pub fn push_object(
     text.extend_from_slice(writer.into_inner().as_slice())?;
     text.push(b'\n')?;
     Ok(())
-}
-
-/// Whether an image was read and checked.
-fn is_checked(report: &ImageReport) -> bool
-    ensures { result ≡ is_checked report.now }
-{
-    !matches!(report, ImageReport::NotChecked(_))
 }
 
 /// The members of an object before its faults.
@@ -97,7 +90,7 @@ fn put_object(
     writer.begin_array()?;
     put_faults(writer, report)?;
     writer.end_array()?;
-    put_further(alloc, writer, report)?;
+    put_further(writer, report)?;
     writer.end_object()
 }
 
@@ -227,13 +220,13 @@ fn put_fault(
 
 /// Writes the members after the faults: the suspect blocks, if they were requested of an image that is accepted, or that there
 /// are more faults.
-fn put_further(alloc: Global, writer: &mut Writer, report: &ImageReport) -> Result<(), AllocError>
+fn put_further(writer: &mut Writer, report: &ImageReport) -> Result<(), AllocError>
     ensures before { writer.new.before ≡ writer.old.before }
     ensures tokens { OnOk result (writer.new.tokens ≡ writer.old.tokens ++ further_tokens report.now) }
 {
     match report {
         ImageReport::Accepted(told) => match &told.suspects {
-            Some(suspects) => put_member(alloc, writer, suspects),
+            Some(suspects) => put_member(writer, suspects),
             None => Ok(()),
         },
         ImageReport::Refused(told) if told.more => put_flag(writer, "more", true),
@@ -242,49 +235,38 @@ fn put_further(alloc: Global, writer: &mut Writer, report: &ImageReport) -> Resu
 }
 
 /// Writes the member with these suspect blocks.
-fn put_member(alloc: Global, writer: &mut Writer, suspects: &[Suspect]) -> Result<(), AllocError>
+fn put_member(writer: &mut Writer, suspects: &[Suspect]) -> Result<(), AllocError>
     ensures before { writer.new.before ≡ writer.old.before }
     ensures tokens { OnOk result (writer.new.tokens ≡ writer.old.tokens ++ suspects_tokens suspects.now) }
 {
     writer.key("suspects")?;
     writer.begin_array()?;
-    put_each(alloc, writer, suspects)?;
+    put_each(writer, suspects)?;
     writer.end_array()
 }
 
 /// Writes the objects of suspect blocks.
-fn put_each(alloc: Global, writer: &mut Writer, suspects: &[Suspect]) -> Result<(), AllocError>
+fn put_each(writer: &mut Writer, suspects: &[Suspect]) -> Result<(), AllocError>
     ensures before { writer.new.before ≡ writer.old.before }
     ensures tokens { OnOk result (writer.new.tokens ≡ writer.old.tokens ++ flat_map suspect_tokens suspects.now) }
 {
     for suspect in suspects {
-        put_suspect(alloc, writer, suspect)?;
+        put_suspect(writer, suspect)?;
     }
     Ok(())
 }
 
 /// Writes the object of a suspect block.
-fn put_suspect(alloc: Global, writer: &mut Writer, suspect: &Suspect) -> Result<(), AllocError>
+fn put_suspect(writer: &mut Writer, suspect: &Suspect) -> Result<(), AllocError>
     ensures before { writer.new.before ≡ writer.old.before }
     ensures tokens { OnOk result (writer.new.tokens ≡ writer.old.tokens ++ suspect_tokens suspect.now) }
 {
-    let path = path_text(alloc, suspect)?;
     writer.begin_object()?;
     put_number(writer, "block", Some(u64::from(suspect.block)))?;
     put_number(writer, "header", Some(u64::from(suspect.file)))?;
     put_number(writer, "data", Some(u64::from(suspect.place)))?;
-    put_text(writer, "path", path.as_deref())?;
+    put_text(writer, "path", suspect.path.as_deref())?;
     writer.end_object()
-}
-
-/// The path of a suspect block's file in letters.
-fn path_text(alloc: Global, suspect: &Suspect) -> Result<Option<String>, AllocError>
-    ensures { IfOk result (λ text. option_map string_bytes text ≡ path_text suspect.now) }
-{
-    match &suspect.path {
-        Some(path) => Ok(Some(letter_text(alloc, path)?)),
-        None => Ok(None),
-    }
 }
 
 /// The value of the long that shows a fault.

@@ -1,31 +1,33 @@
 //! The path of a directory or file, if it is not too long.
-ghost use Rattle.std.specs.Prelude.{◌≡◌, ◌<◌, ◌++◌, ◌∷◌, IfOk, length};
+ghost use Rattle.std.specs.Prelude.{◌≡◌, ◌<◌, ◌++◌, ◌∷◌, IfOk, length, option_map};
+ghost use Rattle.std.specs.String.{string_bytes};
 ghost use Rattle.ados_model.specs.Keys.{HasKey};
 ghost use Rattle.ados_model.specs.Stands.{Stands};
 ghost use Rattle.ados_model.specs.Tree.{Tree, name_of};
 ghost use Rattle.adf_archive.specs.Paths.{IsPathOf};
 
+use adf_text::letter_text;
 use ados_volume::Volume;
 use std::alloc::{AllocError, Global};
 
 /// The most bytes of a path that is told, in the letters of the image. A packet has no longer one.
 pub const MOST_PATH_BYTES: usize = 255;
 
-/// The path of a directory or file from the root, with slashes; `None` for the root, and for a path of more than 255
+/// The path of a directory or file from the root in letters, with slashes; `None` for the root, and for a path of more than 255
 /// bytes. So it takes no more time if the directories of a volume are deep.
 pub(crate) fn path_of(
     alloc: Global,
     volume: &Volume,
     key: u32,
-) -> Result<Option<Vec<u8>>, AllocError>
+) -> Result<Option<String>, AllocError>
     requires { HasKey volume.now.image key }
-    ensures { IfOk result (λ found. (t : Tree) → Stands volume.now.image t → IsPathOf t key found) }
+    ensures { IfOk result (λ found. (t : Tree) → Stands volume.now.image t → IsPathOf t key (option_map string_bytes found)) }
 {
     let mut path = name_of(alloc, volume, key)?;
     let mut top = key;
     while path.len() <= MOST_PATH_BYTES {
         match volume.parent(top) {
-            Some(above) if above == volume.root() => return Ok(Some(path)),
+            Some(above) if above == volume.root() => return Ok(Some(letter_text(alloc, &path)?)),
             Some(above) => {
                 path = path_below(alloc, volume, above, &path)?;
                 top = above;

@@ -32,9 +32,7 @@ const FIRST_FAULT: Detail = Detail {
 /// Each fault, with its text.
 const EACH_FAULT: Detail = Detail {
     all: true,
-    contents: false,
-    filler: false,
-    texts: true,
+    ..FIRST_FAULT
 };
 
 /// Prints why the image of a file is refused with this word and this block: its format and its size, the text that explains the
@@ -55,7 +53,10 @@ pub fn explain_refused<R: Files + ReadImages, F: Write>(
         ImageReport::Refused(told) => {
             tell_size_of(alloc, &told, faults);
             if !tell_fault(&told, kind, block, faults) {
-                tell_later_fault(rt, alloc, file, kind, block, faults);
+                // It is not the first fault of the image.
+                if let ImageReport::Refused(all) = report_file(rt, alloc, file, true, EACH_FAULT) {
+                    tell_fault(&all, kind, block, faults);
+                }
             }
             tell_other(rt, alloc, file.path, &told, alone(file.blocks), faults);
         }
@@ -63,20 +64,6 @@ pub fn explain_refused<R: Files + ReadImages, F: Write>(
             tell_size(rt, alloc, file.path, fault, alone(file.blocks), faults);
         }
         _ => {}
-    }
-}
-
-/// Prints the text of a fault that is not the first one of the image.
-fn tell_later_fault<R: ReadImages, F: Write>(
-    rt: &R,
-    alloc: Global,
-    file: ImageFile<'_>,
-    kind: &str,
-    block: u32,
-    faults: &mut F,
-) {
-    if let ImageReport::Refused(told) = report_file(rt, alloc, file, true, EACH_FAULT) {
-        tell_fault(&told, kind, block, faults);
     }
 }
 

@@ -1,5 +1,6 @@
 //! Data blocks of files that hold nothing but a filler.
-ghost use Rattle.std.specs.Prelude.{◌≡◌, ◌<◌, ◌↔◌, ℕ, All, IfOk, IsTrue, MatchOption};
+ghost use Rattle.std.specs.Prelude.{◌≡◌, ◌<◌, ◌↔◌, ℕ, All, IfOk, IsTrue, MatchOption, option_map};
+ghost use Rattle.std.specs.String.{string_bytes};
 ghost use Rattle.adf_block.specs.Image.{block_count};
 ghost use Rattle.ados_model.specs.Keys.{HasKey};
 ghost use Rattle.ados_model.specs.Stands.{Stands};
@@ -23,8 +24,8 @@ pub struct Suspect {
     pub file: u32,
     /// The position of the block among the data blocks of the file, from 0.
     pub place: u32,
-    /// The path of the file, if it has at most 255 bytes.
-    pub path: Option<Vec<u8>>,
+    /// The path of the file in letters, if it has at most 255 bytes.
+    pub path: Option<String>,
 }
 
 /// The data blocks of files that hold nothing but a filler, in the order of their blocks. Time and memory are linear in the
@@ -33,7 +34,8 @@ pub(crate) fn suspects_of(alloc: Global, volume: &Volume) -> Result<Vec<Suspect>
     ensures { IfOk result (λ found. (t : Tree) → Stands volume.now.image t → AreSuspects volume.now.image t found.items) }
 {
     let owners = owners(alloc, volume)?;
-    let mut found = Vec::new(alloc);
+    // A list that grows would take twice the memory while it is copied.
+    let mut found = Vec::with_capacity(alloc, owners.len())?;
     for block in 0..volume.image().blocks() {
         if let Some(suspect) = suspect_at(alloc, volume, block, owners[block as usize], &found)? {
             found.push(suspect)?;
@@ -75,10 +77,10 @@ fn path_in(
     volume: &Volume,
     file: u32,
     found: &[Suspect],
-) -> Result<Option<Vec<u8>>, AllocError>
+) -> Result<Option<String>, AllocError>
     requires key { HasKey volume.now.image file }
     requires found { (t : Tree) → Stands volume.now.image t → All (TellsSuspect volume.now.image t) found.now }
-    ensures { IfOk result (λ path. (t : Tree) → Stands volume.now.image t → IsPathOf t file path) }
+    ensures { IfOk result (λ path. (t : Tree) → Stands volume.now.image t → IsPathOf t file (option_map string_bytes path)) }
 {
     let count = found.len();
     if count > 0 && found[count - 1].file == file {
@@ -88,11 +90,11 @@ fn path_in(
 }
 
 /// A copy of the path of a block's file.
-fn same_path(alloc: Global, suspect: &Suspect) -> Result<Option<Vec<u8>>, AllocError>
-    ensures { IfOk result (λ path. (t : Tree) → IsPathOf t suspect.now.file suspect.now.path → IsPathOf t suspect.now.file path) }
+fn same_path(alloc: Global, suspect: &Suspect) -> Result<Option<String>, AllocError>
+    ensures { IfOk result (λ path. option_map string_bytes path ≡ option_map string_bytes suspect.now.path) }
 {
     match &suspect.path {
-        Some(path) => Ok(Some(Vec::from_slice(alloc, path)?)),
+        Some(path) => Ok(Some(String::from_str(alloc, path.as_str())?)),
         None => Ok(None),
     }
 }

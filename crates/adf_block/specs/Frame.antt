@@ -1,5 +1,5 @@
 -- What a change of an image leaves untouched.
-use Rattle.std.specs.Prelude.{◌≡◌, ℕ, ◌/◌, ◌<◌, ◌≤◌, List, length}
+use Rattle.std.specs.Prelude.{◌≡◌, ◌⊎◌, ℕ, ◌/◌, ◌<◌, ◌≤◌, List, length}
 use Rattle.adf_block.specs.Image.{byte_at}
 use Rattle.adf_block.specs.declared.layout.TheConstants.{BLOCK_BYTES}
 
@@ -12,6 +12,10 @@ pub record SameBut (changed : ℕ → ℕ → Type 0) (old new : List ℕ) : Typ
 -- the bytes of long i of block b
 abbrev pub AtLong : ℕ → ℕ → ℕ → ℕ → Type 0
 AtLong b i c k = (c ≡ b) × (k / 4 ≡ i)
+
+-- the bytes of longs i and j of block b
+abbrev pub AtTwoLongs : ℕ → ℕ → ℕ → ℕ → ℕ → Type 0
+AtTwoLongs b i j c k = (c ≡ b) × ((k / 4 ≡ i) ⊎ (k / 4 ≡ j))
 
 -- bytes low to high - 1 of block b
 abbrev pub Within : ℕ → ℕ → ℕ → ℕ → ℕ → Type 0

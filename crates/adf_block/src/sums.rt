@@ -3,7 +3,7 @@
 ghost use Rattle.std.specs.Prelude.{◌≡◌, ◌≢◌, ◌<◌, ◌⊎◌, ℕ};
 ghost use Rattle.adf_block.specs.Whole.{IsImage};
 ghost use Rattle.adf_block.specs.Image.{block_count, block_sum, long};
-ghost use Rattle.adf_block.specs.Frame.{OnlyLong};
+ghost use Rattle.adf_block.specs.Frame.{AtTwoLongs, OnlyLong, SameBut};
 
 use crate::floppy::Image;
 use crate::layout::BLOCK_LONGS;
@@ -33,5 +33,24 @@ impl Image {
     {
         let others = self.sum(b).wrapping_sub(self.long(b, field));
         self.set_long(b, field, others.wrapping_neg());
+    }
+
+    /// Sets long `i` of block `b`, and changes the checksum in long `field` by the opposite amount: the sum of the
+    /// longs stays the same.
+    pub fn set_summed(&mut self, b: u32, i: u32, v: u32, field: u32)
+        requires block { b < block_count self.old }
+        requires place { i < BLOCK_LONGS }
+        requires sum_place { field < BLOCK_LONGS }
+        requires apart { i ≢ field }
+        ensures long { long self.new b i ≡ v }
+        ensures sum { block_sum self.new b ≡ block_sum self.old b }
+        ensures others { (c j : ℕ) → j < BLOCK_LONGS → (c ≢ b) ⊎ ((j ≢ i) × (j ≢ field)) → long self.new c j ≡ long self.old c j }
+        ensures rest { SameBut (AtTwoLongs b i field) self.old self.new }
+        ensures image { IsImage self.new }
+    {
+        let old = self.long(b, i);
+        let sum = self.long(b, field).wrapping_add(old).wrapping_sub(v);
+        self.set_long(b, i, v);
+        self.set_long(b, field, sum);
     }
 }

@@ -1,7 +1,6 @@
 //! All faults of an image for C.
 
-ghost use Rattle.c_values.specs.AllFaults.{CheckEnds};
-ghost use Rattle.c_values.specs.Findings.{FindingsEnd};
+ghost use Rattle.c_values.specs.Findings.{CheckEnds, FindingsEnd};
 
 use c_values::{JipFault, JipFinding, check_image, find_values};
 use std::alloc::Global;

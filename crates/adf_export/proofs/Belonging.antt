@@ -1,12 +1,15 @@
 -- Blocks with their owners: the entry that a block belongs to, and the bytes that are in it.
-use Rattle.std.proofs.Common.{◌≡◌, ℕ, ◌+◌, ◌*◌, ◌-◌, min, List, [], ◌∷◌, ◌++◌, map, Option, Some, IsSome, is_some, flat_map, refl, sym, ap, ap₂, ◌∙◌, subst}
+use Rattle.std.proofs.Common.{◌≡◌, ℕ, ◌+◌, ◌*◌, ◌-◌, min, Bool, true, false, List, [], ◌∷◌, ◌++◌, map, codes, Option, Some, IsSome, is_some, flat_map, refl, sym, ap, ap₂, ◌∙◌, subst}
 use Rattle.ados_model.specs.Tree.{Content, Tree, content_at, data_size, size_of}
 use Rattle.ados_model.proofs.Nodes.{content_in}
 use Rattle.ados_volume.specs.declared.owner.Owner.{Owner}
 use Rattle.ados_volume.specs.declared.owner.Owner.TheVariants.{Boot, Root, Page, Directory, File, Data, Extension, Lost, Free}
 use Rattle.ados_volume.specs.Owners.{Owns}
 use Rattle.adf_export.specs.declared.owned.Span.{Span}
-use Rattle.adf_export.specs.Where.{entry_of, span_of}
+use Rattle.json.specs.Token.{Token, begin_array, end_array}
+use Rattle.json.specs.Print.{print}
+use Rattle.adf_export.specs.declared.owned.OwnedBlock.{OwnedBlock}
+use Rattle.adf_export.specs.Where.{entry_of, seen, span_of, told_as, told_tokens, where_line, where_of}
 
 -- a key with a content is that of a node
 node_at : (t : Tree) (block entry : ℕ) (c : Content) → content_at t block ≡ Some c → block ≡ entry → IsSome (t.nodes entry)
@@ -39,6 +42,12 @@ data_span t owner file k number room size last is of_number of_room of_size of_l
     ∙ sym (ap (span_of t) is)
 
 -- what the elements of a list give, seen in another way
-pub flat_seen : {X Y Z : Type 0} (f : Y → List Z) (g : X → Y) (xs : List X) → flat_map (λ x. f (g x)) xs ≡ flat_map f (map g xs)
+flat_seen : {X Y Z : Type 0} (f : Y → List Z) (g : X → Y) (xs : List X) → flat_map (λ x. f (g x)) xs ≡ flat_map f (map g xs)
 flat_seen f g [] = refl
 flat_seen {Z = Z} f g (x ∷ xs) = ap (λ (l : List Z). f (g x) ++ l) (flat_seen f g xs)
+
+-- what is told of blocks with their owners in memory
+pub told_seen : (json : Bool) (blocks : ℕ) (owned : List OwnedBlock)
+    → told_as json (λ (one : OwnedBlock). told_tokens blocks (seen one)) (λ (one : OwnedBlock). where_line blocks (seen one)) owned ≡ where_of json blocks (map seen owned)
+told_seen true blocks owned = ap (λ (tokens : List Token). print (begin_array ∷ tokens ++ end_array ∷ []) ++ codes "\n") (flat_seen (told_tokens blocks) seen owned)
+told_seen false blocks owned = flat_seen (where_line blocks) seen owned

@@ -10,7 +10,8 @@ use Rattle.adf_words.specs.declared.query.ListOrder.{ListOrder}
 use Rattle.adf_export.specs.Ordered.{ordered}
 use Rattle.adf_export.specs.steps.Levels.{with_below}
 use Rattle.adf_export.proofs.Sorting.{ordered_has, ordered_once}
-use Rattle.adf_export.proofs.Lists.{Once-joined, in_joined, length-joined}
+use Rattle.ados_faults.proofs.Rooted.{in_joined}
+use Rattle.adf_export.proofs.Lists.{Once-joined, length-joined}
 use Rattle.ados_volume.proofs.Loops.{no_parent}
 
 -- a chain of one or more parents leads from the key to the directory
@@ -74,7 +75,7 @@ module _ (t : Tree) (order : ListOrder) (proper : Proper t) where
   below_one dir j k x l p q other (deeper {above = a} r b) (deeper {above = d} s c) =
       let same : d ≡ a = cc (r, s) in below_one dir j k a l p q other b (subst (IsBelow t k) same c)
 
-  parent_of_entry : (dir key : ℕ) → Contains (ordered t order dir) key → parent_of t key ≡ Some dir
+  pub parent_of_entry : (dir key : ℕ) → Contains (ordered t order dir) key → parent_of t key ≡ Some dir
   parent_of_entry dir key m = (proper.listed dir key).0 (ordered_has t order dir key m)
 
   keys_are_below : (n dir key : ℕ) → Contains (keys_below t order n dir) key → IsBelow t dir key

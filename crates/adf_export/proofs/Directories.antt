@@ -1,8 +1,8 @@
 -- An object described as a directory is a directory.
-use Rattle.std.proofs.Common.{◌≡◌, ℕ, pos, List, [], Option, Some, None, IsSome, option_map, refl, ap, ◌∙◌}
+use Rattle.std.proofs.Common.{◌≡◌, ℕ, pos, List, [], Option, Some, None, option_map, refl, ap, ◌∙◌}
 use Rattle.ados_model.specs.Tree.{Content, Node, Tree, content_at, entries, entries_in, parent_of}
 use Rattle.ados_model.specs.Tree.Content.{Directory, File}
-use Rattle.ados_model.proofs.Nodes.{content_in, parent_in}
+use Rattle.ados_model.proofs.Nodes.{parent_in}
 use Rattle.ados_model.specs.Objects.{entry_type}
 
 type-directory : (parent : Option ℕ) (content : Content) → entry_type parent content ≡ pos 2 → (keys : List ℕ) × (content ≡ Directory keys)
@@ -15,13 +15,6 @@ pub told_directory : (t : Tree) (key : ℕ) (node : Node) → t.nodes key ≡ So
 told_directory t key node e h =
     let d = type-directory node.parent node.content h in
     (d.0, rw e (ap Some d.1))
-
--- a directory is a node
-pub node_of : (t : Tree) (dir : ℕ) → (keys : List ℕ) × (content_at t dir ≡ Some (Directory keys)) → (node : Node) × (t.nodes dir ≡ Some node)
-node_of t dir h = let n = content_in (t.nodes dir) (Directory h.0) h.1 in (n.0, n.1)
-
-pub node_there : (t : Tree) (dir : ℕ) → (keys : List ℕ) × (content_at t dir ≡ Some (Directory keys)) → IsSome (t.nodes dir)
-node_there t dir h = let n = node_of t dir h in rw n.1 refl
 
 -- a node described as no directory, other than the root, has no entries
 pub told_file : (t : Tree) (key dir : ℕ) (node : Node) → t.nodes key ≡ Some node → node.parent ≡ Some dir → ¬ (entry_type node.parent node.content ≡ pos 2) → entries t key ≡ []

@@ -10,11 +10,10 @@ use Rattle.std.proofs.lemmas.List.Elements.{All-filter, All-head, All-tail, filt
 use Rattle.std.proofs.lemmas.List.Kept.{AllPairs-filter}
 use Rattle.ados_faults.specs.Listed.{StandsBefore, fault_of}
 use Rattle.ados_faults.specs.declared.listing.AllFaults.{AllFaults}
-use Rattle.ados_model.specs.declared.fault.FaultKind.{FaultKind}
 use Rattle.ados_model.specs.declared.fault.FaultKind.TheVariants.{DuplicateName}
 use Rattle.ados_model.specs.declared.fault.VolumeFault.{VolumeFault}
 use Rattle.ados_model.specs.Faults.{Shows}
-use Rattle.adf_export.specs.Faulty.{AreFaultsAt, AreFound, IsFaultAt}
+use Rattle.adf_export.specs.Faulty.{AreFaultsAt, AreFound}
 
 -- an element that passes a test stays in a list
 module _ {X : Type 0} (p : X → Bool) (x : X) (passes : p x ≡ true) where

@@ -1,19 +1,21 @@
 -- What is left of the open directories, and what is left after one step.
-use Rattle.std.proofs.Common.{◌≡◌, ℕ, zero, suc, ◌+◌, ◌-◌, ◌*◌, ◌<◌, List, [], ◌∷◌, ◌++◌, length, take, Contains, Some, length-append, append_assoc, append-nil, refl, sym, ap, ap₂, ◌∙◌, subst, arith}
+use Rattle.std.proofs.Common.{◌≡◌, ℕ, zero, suc, ◌+◌, ◌-◌, ◌*◌, ◌<◌, inl, inr, Bool, true, false, List, [], ◌∷◌, ◌++◌, length, take, Contains, Some, length-append, append_assoc, append-nil, refl, sym, ap, ap₂, ◌∙◌, subst, arith}
 use Rattle.std.specs.List.{flat_map}
 use Rattle.std.proofs.lemmas.List.{same_from_push, length_push, take_at}
-use Rattle.ados_model.proofs.KeyLists.{Contains-here, Contains-later}
-use Rattle.ados_model.specs.Tree.{Node, Tree, Proper, LeadsToRoot, name_of, parent_of}
+use Rattle.ados_model.proofs.KeyLists.{Contains-cases, Contains-here, Contains-later, Contains-nil}
+use Rattle.ados_model.specs.Tree.{Node, Tree, Proper, LeadsToRoot, content_at, name_of, parent_of}
 use Rattle.ados_model.specs.Tree.LeadsToRoot.{by_parent}
 use Rattle.adf_export.specs.declared.listing.Level.{Level}
 use Rattle.ados_volume.specs.Located.{Located}
-use Rattle.adf_export.specs.Listing.{below, front, listing}
+use Rattle.adf_export.specs.Listing.{below, listed}
+use Rattle.ados_model.specs.Change.{is_file}
 use Rattle.adf_words.specs.declared.query.ListOrder.{ListOrder}
 use Rattle.adf_export.specs.Ordered.{ordered}
-use Rattle.adf_export.specs.steps.Levels.{IsOpen, IsLeft, IsSoFar, entry_at, to_list, with_below, work}
+use Rattle.adf_export.specs.steps.Levels.{IsOpen, IsLeft, IsSoFar, entry_at, first_keys, first_path, to_list, with_below, work}
 use Rattle.adf_export.specs.steps.Levels.IsLeft.{none, more}
-use Rattle.adf_export.proofs.Below.{listing_short}
-use Rattle.adf_export.proofs.Sorting.{ordered_has}
+use Rattle.adf_export.proofs.Below.{listing_short, parent_of_entry}
+use Rattle.adf_export.proofs.Files.{file_above, keys_if, listed_if, no_entries_in, path_if}
+use Rattle.adf_export.proofs.Sorting.{ordered_none}
 
 -- the last open directory, and what is left of those before it
 record IsLast (t : Tree) (order : ListOrder) (lower : List Level) (level : Level) (path : List ℕ) (left : List Located) (depth : ℕ) : Type 0 where
@@ -102,33 +104,77 @@ pub record Takes (level after_level : Level) (key : ℕ) (keys : List ℕ) : Typ
   pub place : after_level.path ≡ level.path
 
 module _ (t : Tree) (order : ListOrder) (proper : Proper t) where
-  -- the entries of a directory are in it
-  inside_of : (dir k : ℕ) → Contains (ordered t order dir) k → parent_of t k ≡ Some dir
-  inside_of dir k m = (proper.listed dir k).0 (ordered_has t order dir k m)
+  -- the first entries of a list are open, and all of them are left
+  abbrev Begins : (top : ℕ) (levels : List Level) (path : List ℕ) → Type 0
+  Begins top levels path = IsSoFar t order top levels path [] (listed t order top) × (work levels (listed t order top) < 2 * t.blocks)
 
-  -- the directory is open, and all of it is left
-  pub starts : (top : ℕ) (node : Node) (level : Level) (levels : List Level) (path : List ℕ) → t.nodes top ≡ Some node → levels ≡ level ∷ [] → path ≡ front t t.blocks top
-      → to_list level ≡ ordered t order top → level.path ≡ length path
-      → IsSoFar t order top levels path [] (listing t order top) × (work levels (listing t order top) < 2 * t.blocks)
-  starts top node level levels path is e at keys place =
-      let short = listing_short t order proper top node is in
-      let depth = t.blocks - 1 in
-      let deep : t.blocks ≡ suc depth = omega (arith, short) in
-      let all = open_directory [] level path [] depth top keys place (inside_of top) (proper.rooted top node is) (subst (IsLeft t order [] path []) deep none) in
-      let whole : below t order (suc depth) path top ++ [] ≡ listing t order top =
-      append-nil (below t order (suc depth) path top)
-      ∙ ap (λ (n : ℕ). below t order n path top) (sym deep)
-      ∙ ap (λ (p : List ℕ). below t order t.blocks p top) at in (
-        record {
-          depth = depth;
-          few = short;
-          split = refl;
-          is_left = subst (λ (ls : List Level). IsLeft t order ls path (listing t order top) depth) (sym e)
-              (subst (λ (ls : List Located). IsLeft t order (level ∷ []) path ls depth) whole all);
-          high = omega (arith, ap length e);
-        },
-        omega (arith, short, ap length e),
-      )
+  module _ (top : ℕ) (node : Node) (level : Level) (levels : List Level) (path : List ℕ) (is : t.nodes top ≡ Some node) (e : levels ≡ level ∷ []) (at : path ≡ first_path t top)
+      (keys : to_list level ≡ first_keys t order top) (place : level.path ≡ length path) where
+    of_directory : is_file t top ≡ false → Begins top levels path
+    of_directory directory =
+        let short = listing_short t order proper top node is in
+        let depth = t.blocks - 1 in
+        let deep : t.blocks ≡ suc depth = omega (arith, short) in
+        let opened = open_directory [] level path [] depth top (keys ∙ keys_if t top false directory order) place (parent_of_entry t order proper top) (proper.rooted top node is) (subst (IsLeft t order [] path []) deep none) in
+        let all = listed_if t top false directory order in
+        let whole : below t order (suc depth) path top ++ [] ≡ listed t order top =
+        append-nil (below t order (suc depth) path top)
+        ∙ ap (λ (n : ℕ). below t order n path top) (sym deep)
+        ∙ ap (λ (p : List ℕ). below t order t.blocks p top) (at ∙ path_if t top false directory)
+        ∙ sym all in (
+          record {
+            depth = depth;
+            few = omega (arith, short, ap length all);
+            split = refl;
+            is_left = subst (λ (ls : List Level). IsLeft t order ls path (listed t order top) depth) (sym e)
+                (subst (λ (ls : List Located). IsLeft t order (level ∷ []) path ls depth) whole opened);
+            high = omega (arith, ap length e);
+          },
+          omega (arith, short, ap length e, ap length all),
+        )
+
+    of_file : is_file t top ≡ true → Begins top levels path
+    of_file file =
+        let depth = t.blocks - 1 in
+        let deep : t.blocks ≡ suc depth = omega (arith, proper.size.0) in
+        let above = file_above t proper top file (proper.rooted top node is) in
+        let own = keys ∙ keys_if t top true file order in
+        let all = listed_if t top true file order in
+        let nothing = below_file t order depth (path ++ name_of t top ++ 47 ∷ []) top (ordered_none t order top (no_entries_in (content_at t top) file)) in
+        let whole : listed t order top ≡ flat_map (with_below t order depth path) (to_list level) ++ [] =
+        all
+        ∙ ap (λ (p : List ℕ). entry_at (p ++ name_of t top) top ∷ []) (sym (at ∙ path_if t top true file))
+        ∙ sym (ap (λ (ls : List Located). (entry_at (path ++ name_of t top) top ∷ (ls ++ [])) ++ []) nothing)
+        ∙ sym (ap (λ (ks : List ℕ). flat_map (with_below t order depth path) ks ++ []) own) in (
+          record {
+            depth = depth;
+            few = omega (arith, ap length all, proper.size.0);
+            split = refl;
+            is_left = more e
+                (record {
+                  before = path;
+                  tail = [];
+                  begins = sym (append-nil path);
+                  place = place;
+                  dir = above.0;
+                  inside = λ k m. only above.0 k above.1 (subst (λ (ks : List ℕ). Contains ks k) own m);
+                  rooted = above.2;
+                })
+                (subst (IsLeft t order [] path []) deep none) whole;
+            high = omega (arith, ap length e);
+          },
+          omega (arith, ap length e, ap length all, proper.size.0),
+        )
+      where
+        only : (dir k : ℕ) → parent_of t top ≡ Some dir → Contains (top ∷ []) k → parent_of t k ≡ Some dir
+        only dir k up m = elim (Contains-cases top [] k m) [ inl same ↦ subst (λ (i : ℕ). parent_of t i ≡ Some dir) same up | inr later ↦ absurd (Contains-nil k later) ]
+
+    pub starts : Begins top levels path
+    starts = by (is_file t top) refl
+      where
+        by : (b : Bool) → is_file t top ≡ b → Begins top levels path
+        by true file = of_file file
+        by false directory = of_directory directory
 
   -- the current directory has no entries left
   pub ends : (top : ℕ) (levels lower : List Level) (level : Level) (path : List ℕ) (first left : List Located) → levels ≡ lower ++ level ∷ []
@@ -242,7 +288,7 @@ module _ (t : Tree) (order : ListOrder) (proper : Proper t) where
           few = so.few;
           split = so.split ∙ ap (λ (ls : List Located). first ++ ls) split ∙ sym (append_assoc first (entry_at own key ∷ []) rest);
           is_left = subst (λ (ls : List Level). IsLeft t order ls longer rest depth) (sym new_is)
-              (open_directory open_levels child longer x.after depth key own_keys place (inside_of key) x.rooted lower_left);
+              (open_directory open_levels child longer x.after depth key own_keys place (parent_of_entry t order proper key) x.rooted lower_left);
           high = omega (arith, so.high, ap length e, ap length new_is, length_push lower level, length_push lower after_level, length_push open_levels child, length-append first (entry_at own key ∷ []));
         };
         less = omega (arith, ap length split, ap length e, ap length new_is, length_push lower level, length_push lower after_level, length_push open_levels child);

@@ -23,7 +23,3 @@ module _ (image : List ℕ) where
   pub pushed_are : (new rest : List Level) (level : Level) → new ≡ rest ++ level ∷ [] → HaveKeys image rest → HasKeys image level → HaveKeys image new
   unfolding Listed
   pushed_are new rest level e h p = All-same Listed new (rest ++ level ∷ []) e (All-push Listed rest level h p)
-
-  pub same_are : (new old : List Level) → new ≡ old → HaveKeys image old → HaveKeys image new
-  unfolding Listed
-  same_are new old e h = All-same Listed new old e h

@@ -4,6 +4,7 @@ pub mod Lists
 pub mod Sorting
 pub mod Ranking
 pub mod Below
+pub mod Files
 pub mod Left
 pub mod Directories
 pub mod InOrder
@@ -12,7 +13,6 @@ pub mod Fronting
 pub mod Padding
 pub mod ListingSteps
 pub mod Written
-pub mod Files
 pub mod Under
 pub mod Entries
 pub mod Going
@@ -23,3 +23,4 @@ mod Telling
 mod TellingObjects
 mod Asking
 mod Zipped
+mod Pieces

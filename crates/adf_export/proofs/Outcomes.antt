@@ -1,20 +1,10 @@
 -- Facts about a success or an error, whatever it is.
-use Rattle.std.proofs.Common.{Result, Ok, Err, OnOk, OnErr, IfOk}
+use Rattle.std.proofs.Common.{Result, Ok, Err, OnErr, IfOk}
 
 -- what always holds also holds after an error
 pub at_any_err : {T E Q : Type 0} (r : Result T E) → Q → OnErr r Q
 at_any_err (Ok x) q = tt
 at_any_err (Err e) q = q
-
--- a consequence of a fact about an error
-pub on_err_weaker : {T E P Q : Type 0} (r : Result T E) → (P → Q) → OnErr r P → OnErr r Q
-on_err_weaker (Ok x) f p = tt
-on_err_weaker (Err e) f p = f p
-
--- a consequence of two facts about a success
-pub on_ok_both : {T E P Q R : Type 0} (r : Result T E) → (P → Q → R) → OnOk r P → OnOk r Q → OnOk r R
-on_ok_both (Ok x) f p q = f p q
-on_ok_both (Err e) f p q = tt
 
 -- a consequence of two facts about the value of a success
 pub if_ok_both : {A E : Type 0} (r : Result A E) (P Q R : A → Type 0) → ((a : A) → P a → Q a → R a) → IfOk r P → IfOk r Q → IfOk r R

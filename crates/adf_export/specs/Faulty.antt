@@ -1,9 +1,8 @@
 -- What is told of blocks of a refused image: the places that name them, and their faults.
-use Rattle.std.specs.Prelude.{◌≡◌, ℕ, ◌+◌, ◌-◌, ◌==◌, nat_lt, Bool, true, false, if◌then◌else◌, List, [], ◌∷◌, ◌++◌, length, All, AllPairs, Contains, flat_map, map, codes, decimal, Option, Some, None}
+use Rattle.std.specs.Prelude.{◌≡◌, ℕ, ◌-◌, ◌==◌, nat_lt, Bool, false, if◌then◌else◌, List, [], ◌∷◌, ◌++◌, length, All, AllPairs, Contains, flat_map, codes, decimal, Option, Some, None}
 use Rattle.std.specs.Option.{option_map_or}
 use Rattle.std.specs.List.{AllZip}
-use Rattle.json.specs.Token.{Token, begin_array, begin_object, boolean, end_array, end_object, key, number, string}
-use Rattle.json.specs.Print.{print}
+use Rattle.json.specs.Token.{Token, begin_object, boolean, end_object, key, number, string}
 use Rattle.adf_block.specs.Image.{block_count}
 use Rattle.adf_block.specs.declared.layout.TheConstants.{BOOT_BLOCKS, FIRST_PAGE, FIRST_POINTER}
 use Rattle.ados_faults.specs.Listed.{ListsEach, ListsFaults, StandsBefore, fault_of}
@@ -18,7 +17,7 @@ use Rattle.ados_mend.specs.Places.{AreAllPlaces}
 use Rattle.adf_archive.specs.Words.{kind_word}
 use Rattle.adf_words.specs.declared.block_word.BlockWord.{BlockWord}
 use Rattle.adf_export.specs.declared.faulty.FaultyBlock.{FaultyBlock}
-use Rattle.adf_export.specs.Where.{AreNamed, place_text, place_tokens}
+use Rattle.adf_export.specs.Where.{AreNamed, array_of, place_text, place_tokens, told_as}
 
 -- these are faults that an image shows, in order, and all of them unless there may be more
 pub record AreFound (image : List ℕ) (found : AllFaults) : Type 0 where
@@ -40,6 +39,7 @@ pub record AreFaultsAt (image : List ℕ) (block : ℕ) (more : Bool) (faults : 
 -- a block of the image with all places that name it, and with its faults
 pub record IsFaultyBlock (image : List ℕ) (more : Bool) (block : ℕ) (told : FaultyBlock) : Type 0 where
   pub block_is : told.block ≡ block
+  pub more_is : told.more ≡ more
   pub root : told.is_root ≡ (block == root_of image)
   pub places : AreAllPlaces image block told.places.items
   pub faults : AreFaultsAt image block more told.faults.items
@@ -85,8 +85,8 @@ abbrev pub more_line : Bool → ℕ → List ℕ
 more_line more block = if more then decimal block ++ codes "  more\n" else []
 
 -- the lines of a block
-abbrev pub block_lines : ℕ → Bool → FaultyBlock → List ℕ
-block_lines blocks more told = first_line blocks told ++ (place_lines blocks told ++ (flat_map fault_line told.faults.items ++ more_line more told.block))
+abbrev pub block_lines : ℕ → FaultyBlock → List ℕ
+block_lines blocks told = first_line blocks told ++ (place_lines blocks told ++ (flat_map fault_line told.faults.items ++ more_line told.more told.block))
 
 -- what a place makes of the block that it names, as one word
 abbrev pub naming_word : Naming → List ℕ
@@ -102,25 +102,25 @@ place_object place =
     begin_object ∷ key (codes "block") ∷ number (decimal place.holder) ∷ key (codes "long") ∷ number (decimal place.long)
     ∷ key (codes "role") ∷ string (naming_word place.naming) ∷ end_object ∷ []
 
+-- a fault, as one word
+abbrev pub fault_word : VolumeFault → List Token
+fault_word fault = string (kind_word fault.kind) ∷ []
+
 -- the members for the places and for the faults of a block
 abbrev pub places_tokens : List Place → List Token
-places_tokens places = key (codes "places") ∷ begin_array ∷ flat_map place_object places ++ end_array ∷ []
+places_tokens places = key (codes "places") ∷ array_of place_object places
 
 abbrev pub faults_tokens : List VolumeFault → List Token
-faults_tokens faults = key (codes "faults") ∷ begin_array ∷ flat_map (λ fault. string (kind_word fault.kind) ∷ []) faults ++ end_array ∷ []
+faults_tokens faults = key (codes "faults") ∷ array_of fault_word faults
 
 -- the object of a block
-abbrev pub faulty_tokens : ℕ → Bool → FaultyBlock → List Token
-faulty_tokens blocks more told =
-    begin_object ∷ place_tokens blocks told.block ++ (places_tokens told.places.items ++ (faults_tokens told.faults.items ++ key (codes "more") ∷ boolean more ∷ end_object ∷ []))
+abbrev pub faulty_tokens : ℕ → FaultyBlock → List Token
+faulty_tokens blocks told =
+    begin_object ∷ place_tokens blocks told.block ++ (places_tokens told.places.items ++ (faults_tokens told.faults.items ++ key (codes "more") ∷ boolean told.more ∷ end_object ∷ []))
 
--- the array of the objects of blocks
-abbrev pub faulty_array : ℕ → Bool → List FaultyBlock → List Token
-faulty_array blocks more told = begin_array ∷ flat_map (faulty_tokens blocks more) told ++ end_array ∷ []
-
--- what is told of blocks in one of the forms: an array on a line of its own, or lines for each block
-abbrev pub faulty_of : Bool → ℕ → Bool → List FaultyBlock → List ℕ
-faulty_of json blocks more told = if json then print (faulty_array blocks more told) ++ codes "\n" else flat_map (block_lines blocks more) told
+-- what is told of blocks in one of the forms
+abbrev pub faulty_of : Bool → ℕ → List FaultyBlock → List ℕ
+faulty_of json blocks told = told_as json (faulty_tokens blocks) (block_lines blocks) told
 
 -- the text tells of the blocks that these arguments name in the image
 pub record IsFaultyWhere (json : Bool) (image : List ℕ) (words : List BlockWord) (text : List ℕ) : Type 0 where
@@ -129,4 +129,4 @@ pub record IsFaultyWhere (json : Bool) (image : List ℕ) (words : List BlockWor
   pub more : Bool
   pub told : List FaultyBlock
   pub are_told : AllZip (IsFaultyBlock image more) blocks told
-  pub text_is : text ≡ faulty_of json (block_count image) more told
+  pub text_is : text ≡ faulty_of json (block_count image) told

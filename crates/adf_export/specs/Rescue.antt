@@ -8,8 +8,8 @@ use Rattle.adf_salvage.specs.declared.salvaged.State.TheVariants.{Directory, Dou
 use Rattle.adf_salvage.specs.Saved.{HasBytes, IsAt}
 use Rattle.ados_mend.specs.Account.{AreUnaccounted}
 use Rattle.adf_export.specs.RescueObject.{IsReportObject}
-use Rattle.adf_export.specs.declared.plan.Source.{Source}
-use Rattle.adf_export.specs.declared.plan.Source.TheVariants.{File}
+use Rattle.adf_export.specs.declared.sourced.Source.{Source}
+use Rattle.adf_export.specs.declared.sourced.Source.TheVariants.{File}
 use Rattle.adf_export.specs.declared.damaged.Doubt.{Doubt}
 use Rattle.adf_export.specs.declared.damaged.Doubt.TheVariants.{Header, Blocks, Gone, Cut}
 use Rattle.adf_export.specs.declared.damaged.Rescue.{Rescue}

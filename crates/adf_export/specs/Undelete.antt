@@ -18,8 +18,8 @@ use Rattle.adf_salvage.specs.declared.undeleted.Undeleted.{Undeleted}
 use Rattle.adf_export.specs.declared.chosen.Chosen.{Chosen}
 use Rattle.adf_export.specs.declared.placing.Placed.{Placed}
 use Rattle.adf_export.specs.declared.placing.TheConstants.{MOST_PATH_BYTES}
-use Rattle.adf_export.specs.declared.plan.Source.{Source}
-use Rattle.adf_export.specs.declared.plan.Source.TheVariants as sources
+use Rattle.adf_export.specs.declared.sourced.Source.{Source}
+use Rattle.adf_export.specs.declared.sourced.Source.TheVariants as sources
 use Rattle.adf_export.specs.declared.undeleting.Undeletion.{Undeletion}
 use Rattle.adf_export.specs.declared.undelete_fault.UndeleteFault.{UndeleteFault}
 use Rattle.adf_export.specs.declared.undelete_fault.UndeleteFault.TheVariants.{NoTrustedBitmap, NothingDeleted, Host, Memory}
@@ -173,7 +173,7 @@ pub record IsUndeletion (image : List ℕ) (keys : List (List ℕ)) (force : Boo
   pub found : IsUndeleted image done.found
   pub chosen : done.chosen.items ≡ chosen_of done.found.places.items (places_of keys done.found.salvage.entries) done.found.deleted.items
   pub text : done.text.items ≡ deleted_lines done.found.places.items (places_of keys done.found.salvage.entries) done.chosen.items
-  pub files : flat_map file_in done.plan.sources.items ≡ files_saved force done.chosen.items
+  pub files : flat_map file_in done.plan.out.sources.items ≡ files_saved force done.chosen.items
 
 -- the lines about the deleted entries of an image that arguments with these paths choose
 pub record IsUndeleteText (image : List ℕ) (keys : List (List ℕ)) (text : List ℕ) : Type 0 where

@@ -172,13 +172,16 @@ owner_tokens told =
 abbrev pub told_tokens : ℕ → Told → List Token
 told_tokens blocks told = begin_object ∷ place_tokens blocks told.block ++ owner_tokens told ++ end_object ∷ []
 
--- the array of the objects of blocks
-abbrev pub where_tokens : ℕ → List Told → List Token
-where_tokens blocks told = begin_array ∷ flat_map (told_tokens blocks) told ++ end_array ∷ []
+-- an array of these elements
+abbrev pub array_of : {A : Type 0} → (A → List Token) → List A → List Token
+array_of tokens elements = begin_array ∷ flat_map tokens elements ++ end_array ∷ []
 
--- what is told of blocks in one of the forms: an array on a line of its own, or a line for each block
+-- what is told of blocks in one of the forms: an array on a line of its own, or the lines of each block
+abbrev pub told_as : {A : Type 0} → Bool → (A → List Token) → (A → List ℕ) → List A → List ℕ
+told_as json tokens lines told = if json then print (array_of tokens told) ++ codes "\n" else flat_map lines told
+
 abbrev pub where_of : Bool → ℕ → List Told → List ℕ
-where_of json blocks told = if json then print (where_tokens blocks told) ++ codes "\n" else flat_map (where_line blocks) told
+where_of json blocks told = told_as json (told_tokens blocks) (where_line blocks) told
 
 -- the text tells of the blocks that these arguments name in the volume with this image and this tree
 pub record IsWhere (json : Bool) (image : List ℕ) (t : Tree) (words : List BlockWord) (text : List ℕ) : Type 0 where

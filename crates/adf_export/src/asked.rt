@@ -52,7 +52,9 @@ fn keys_of(alloc: Global, words: &[&str]) -> Result<BTreeSet<String>, UndeleteFa
     let mut keys = BTreeSet::new(alloc);
     for word in words {
         let key = key_of(alloc, word)?;
-        keys.insert(key)?;
+        let Ok(_) = keys.insert(key) else {
+            return Err(UndeleteFault::Memory);
+        };
     }
     Ok(keys)
 }

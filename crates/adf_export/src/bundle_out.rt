@@ -9,7 +9,7 @@ use adf_host::OwnedFile;
 use adf_record::{Bundle, BundleFault, bundle_of, bundle_text};
 use ados_volume::Volume;
 use host_trees::{WriteFault, write_tree};
-use std::alloc::{AllocError, AllocFailed, Global};
+use std::alloc::{AllocError, Global};
 use std::fs;
 use std::io::{Error, ErrorKind};
 use std::rt::Files;
@@ -31,12 +31,6 @@ pub enum BundleOutFault {
     Description(BundleFault),
     #[error("there is not enough memory")]
     Memory,
-}
-
-impl<T: Drop> From<AllocFailed<T>> for BundleOutFault {
-    fn from(_error: AllocFailed<T>) -> BundleOutFault {
-        BundleOutFault::Memory
-    }
 }
 
 impl From<AllocError> for BundleOutFault {

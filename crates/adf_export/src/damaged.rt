@@ -1,13 +1,12 @@
 //! What can be trusted in a damaged image, as files and directories of the host.
-ghost use Rattle.std.specs.Prelude.{◌≡◌, ◌++◌, IfErr, IfOk, OnErr, OnOk, codes, false, length, true, ◌||◌};
+ghost use Rattle.std.specs.Prelude.{◌≡◌, IfErr, IfOk, OnErr, false, length, ◌||◌};
 ghost use Rattle.std.specs.String.{string_bytes};
-ghost use Rattle.json.specs.Print.{print};
 ghost use Rattle.adf_script.specs.Streams.{Writes};
 ghost use Rattle.adf_io.specs.Prefix.{WritesFrontOf};
-ghost use Rattle.adf_export.specs.Rescue.{AreLines, AreRescued, AreSomeRescued, IsRescue, IsRescueFault, IsRescueLine, IsTold, deleted_count_line, doubt_of, rescue_line, unaccounted_count_line};
-ghost use Rattle.adf_export.specs.RescueObject.{is_told, rest_tokens};
+ghost use Rattle.adf_export.specs.Rescue.{AreRescued, AreSomeRescued, IsRescue, IsRescueFault, doubt_of, rescue_line};
+ghost use Rattle.adf_export.specs.RescueObject.{is_told};
 ghost use Rattle.adf_export.specs.Where.{ranges};
-ghost use Rattle.adf_export.specs.steps.Reporting.{ArePrinted, IsNextObject};
+ghost use Rattle.adf_export.specs.steps.Reporting.{IsPart, rest_of};
 
 use crate::count_line::count_line;
 use crate::fault::OutFault;
@@ -15,13 +14,12 @@ use crate::output::{write_text, write_when_long};
 use crate::plan::Plan;
 use crate::print_fault::PrintFault;
 use crate::ranges::ranges_text;
-use crate::rescue_object::{entry_object, is_told, rest_text, write_front};
+use crate::rescue_object::{entry_object, front_text, is_told, rest_object};
 use adf_block::Image;
 use adf_host::OwnedFile;
 use adf_salvage::{HeaderState, Salvage, Salvaged, State, salvage};
 use adf_words::SalvageJob;
 use ados_mend::unaccounted_blocks;
-use host_trees::write_tree;
 use std::alloc::{AllocError, Global};
 use std::io::Write;
 use std::rt::Files;
@@ -55,9 +53,10 @@ where
     if job.list {
         return Ok(rescue);
     }
-    match rescue.write(rt, alloc, job.to) {
+    let (out, salvage) = (&rescue.plan.out, &rescue.salvage);
+    match out.write(rt, alloc, salvage, job.to, false) {
         Ok(()) => Ok(rescue),
-        Err(fault) => Err(fault),
+        Err(fault) => Err(OutFault::Host(fault)),
     }
 }
 
@@ -105,20 +104,6 @@ fn doubt_of(state: State) -> Option<Doubt>
 }
 
 impl Rescue {
-    /// Writes the files and directories of the host below this one.
-    fn write<R: Files>(&self, rt: &R, alloc: Global, to: &str) -> Result<(), OutFault>
-    where
-        R::File: OwnedFile,
-        ensures { IfErr result (IsRescueFault false) }
-    {
-        let items = self.plan.items.as_slice();
-        let mut contents = self.plan.contents(&self.salvage);
-        match write_tree(rt, alloc, to, items, &mut contents, false) {
-            Ok(()) => Ok(()),
-            Err(fault) => Err(OutFault::Host(fault)),
-        }
-    }
-
     /// The number of entries.
     pub fn len(&self) -> usize {
         self.salvage.entries().len()
@@ -150,7 +135,8 @@ impl Rescue {
     /// an object that says the same, with the numbers of these blocks. The result is whether the image was accepted: then every
     /// file is whole.
     ///
-    /// If the writer fails or memory runs out, it has written a prefix of that text.
+    /// It writes entry by entry, since the report may be much longer than the image. If the writer fails or memory runs out, it has
+    /// written a prefix of that text.
     pub fn tell<W: Write>(
         &self,
         alloc: Global,
@@ -160,130 +146,57 @@ impl Rescue {
         ensures ok { IfOk result (λ accepted. Writes (W.contents writer.old) (W.contents writer.new) (AreRescued json self.now.salvage self.now.unaccounted.items accepted)) }
         ensures front { OnErr result (WritesFrontOf (W.contents writer.old) (W.contents writer.new) (AreSomeRescued json self.now.salvage self.now.unaccounted.items)) }
     {
-        self.tell_form(alloc, json, writer)?;
-        Ok(self.salvage.is_accepted())
-    }
-
-    /// Writes the report as lines, or with `json` as an object.
-    fn tell_form<W: Write>(
-        &self,
-        alloc: Global,
-        json: bool,
-        writer: &mut W,
-    ) -> Result<(), PrintFault>
-        ensures ok { OnOk result (Writes (W.contents writer.old) (W.contents writer.new) (IsTold json self.now.salvage self.now.unaccounted.items)) }
-        ensures front { OnErr result (WritesFrontOf (W.contents writer.old) (W.contents writer.new) (IsTold json self.now.salvage self.now.unaccounted.items)) }
-    {
-        if json {
-            return self.tell_object(alloc, writer);
-        }
-        self.tell_lines(alloc, writer)
-    }
-
-    /// Writes the report as lines.
-    fn tell_lines<W: Write>(&self, alloc: Global, writer: &mut W) -> Result<(), PrintFault>
-        ensures ok { OnOk result (Writes (W.contents writer.old) (W.contents writer.new) (IsTold false self.now.salvage self.now.unaccounted.items)) }
-        ensures front { OnErr result (WritesFrontOf (W.contents writer.old) (W.contents writer.new) (IsTold false self.now.salvage self.now.unaccounted.items)) }
-    {
-        self.tell_entries(alloc, writer)?;
-        let last = self.count_lines(alloc)?;
-        write_text(last.as_bytes(), writer)
-    }
-
-    /// Writes the report as an object, entry by entry: it may be much longer than the image.
-    fn tell_object<W: Write>(&self, alloc: Global, writer: &mut W) -> Result<(), PrintFault>
-        ensures ok { OnOk result (Writes (W.contents writer.old) (W.contents writer.new) (IsTold true self.now.salvage self.now.unaccounted.items)) }
-        ensures front { OnErr result (WritesFrontOf (W.contents writer.old) (W.contents writer.new) (IsTold true self.now.salvage self.now.unaccounted.items)) }
-    {
-        self.tell_objects(alloc, writer)?;
-        let last = self.rest_line(alloc)?;
-        write_text(&last, writer)
-    }
-
-    /// What is behind the objects of the entries, and a line feed.
-    fn rest_line(&self, alloc: Global) -> Result<Vec<u8>, AllocError>
-        ensures { IfOk result (λ text. text.items ≡ print (rest_tokens (length self.now.salvage.deleted) self.now.unaccounted.items) ++ codes "\n") }
-    {
-        let deleted = self.salvage.deleted().len() as u64;
-        rest_text(alloc, deleted, &self.unaccounted)
-    }
-
-    /// Writes the begin of the object and the objects of the entries.
-    fn tell_objects<W: Write>(&self, alloc: Global, writer: &mut W) -> Result<(), PrintFault>
-        ensures ok { OnOk result (Writes (W.contents writer.old) (W.contents writer.new) (ArePrinted self.now.salvage.entries)) }
-        ensures front { OnErr result (WritesFrontOf (W.contents writer.old) (W.contents writer.new) (ArePrinted self.now.salvage.entries)) }
-    {
-        write_front(writer)?;
         let entries = self.salvage.entries();
-        let mut text = Vec::new(alloc);
+        let mut text = front_text(alloc, json)?;
         let mut after = false;
         for (place, entry) in entries.iter().enumerate() {
-            let object = self.object_at(alloc, place, entry, after)?;
-            text.extend_from_slice(&object)?;
+            let part = self.part_at(alloc, json, place, entry, after)?;
+            text.extend_from_slice(&part)?;
             write_when_long(&mut text, writer)?;
             after = is_after(after, entry);
         }
-        write_text(text.as_slice(), writer)
+        let rest = self.rest_text(alloc, json)?;
+        text.extend_from_slice(&rest)?;
+        write_text(text.as_slice(), writer)?;
+        Ok(self.salvage.is_accepted())
     }
 
-    /// The object of the entry at a position, if it is told, behind a comma after another one.
-    fn object_at(
+    /// What is told of the entry at a position, if it is told: its line, or with `json` its object, behind a comma after another one.
+    fn part_at(
         &self,
         alloc: Global,
+        json: bool,
         place: usize,
         entry: &Salvaged,
         after: bool,
     ) -> Result<Vec<u8>, AllocError>
-        ensures { IfOk result (λ text. IsNextObject after entry.now.found entry.now.state text.items) }
+        ensures { IfOk result (λ part. IsPart json after entry.now.found entry.now.state part.items) }
     {
-        if !is_told(entry.state, entry.found) {
+        let (found, state) = (entry.found, entry.state);
+        if !is_told(state, found) {
             return Ok(Vec::new(alloc));
         }
         let path = self.plan.path_of(alloc, place)?;
-        entry_object(alloc, entry.found, entry.state, path.as_str(), after)
+        if json {
+            return entry_object(alloc, found, state, path.as_str(), after);
+        }
+        let line = line_of_path(alloc, found, state, path.as_str())?;
+        Ok(line.into_bytes())
     }
 
-    /// The line with the number of deleted entries, and that with the number of used blocks that belong to nothing.
-    fn count_lines(&self, alloc: Global) -> Result<String, AllocError>
-        ensures { IfOk result (λ lines. string_bytes lines ≡ deleted_count_line (length self.now.salvage.deleted) ++ unaccounted_count_line (length self.now.unaccounted.items)) }
+    /// What is behind the entries: the line with the number of deleted entries, and that with the number of used blocks that belong
+    /// to nothing; or with `json` the rest of the object.
+    fn rest_text(&self, alloc: Global, json: bool) -> Result<Vec<u8>, AllocError>
+        ensures { IfOk result (λ text. text.items ≡ rest_of json (length self.now.salvage.deleted) self.now.unaccounted.items) }
     {
+        if json {
+            let deleted = self.salvage.deleted().len() as u64;
+            return rest_object(alloc, deleted, &self.unaccounted);
+        }
         let mut lines = count_line(alloc, "deleted", self.salvage.deleted().len())?;
         let unaccounted = count_line(alloc, "unaccounted", self.unaccounted.len())?;
         lines.push_str(unaccounted.as_str())?;
-        Ok(lines)
-    }
-
-    /// Writes the lines of the entries.
-    fn tell_entries<W: Write>(&self, alloc: Global, writer: &mut W) -> Result<(), PrintFault>
-        ensures ok { OnOk result (Writes (W.contents writer.old) (W.contents writer.new) (AreLines self.now.salvage.entries)) }
-        ensures front { OnErr result (WritesFrontOf (W.contents writer.old) (W.contents writer.new) (AreLines self.now.salvage.entries)) }
-    {
-        let entries = self.salvage.entries();
-        let mut text = Vec::new(alloc);
-        for (place, entry) in entries.iter().enumerate() {
-            let line = self.line_at(alloc, place, entry.found, entry.state)?;
-            text.extend_from_slice(line.as_bytes())?;
-            write_when_long(&mut text, writer)?;
-        }
-        write_text(text.as_slice(), writer)
-    }
-
-    /// The line of the entry at a position: `found` if it was recovered, `whole`, `doubtful`, `lost` or the number of missing
-    /// blocks, and its path. A sound directory that was not recovered has none.
-    fn line_at(
-        &self,
-        alloc: Global,
-        place: usize,
-        found: bool,
-        state: State,
-    ) -> Result<String, AllocError>
-        ensures { IfOk result (λ line. IsRescueLine found state (string_bytes line)) }
-    {
-        if state == State::Directory && !found {
-            return Ok(String::new(alloc));
-        }
-        let path = self.plan.path_of(alloc, place)?;
-        line_of_path(alloc, found, state, path.as_str())
+        Ok(lines.into_bytes())
     }
 }
 

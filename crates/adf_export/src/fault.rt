@@ -2,7 +2,7 @@
 
 use adf_words::Refused;
 use host_trees::WriteFault;
-use std::alloc::{AllocError, AllocFailed};
+use std::alloc::AllocError;
 use thiserror::Error;
 
 /// Why output from a volume failed.
@@ -29,17 +29,6 @@ impl From<AllocError> for OutFault {
     ghost from_gives = { λ _ fault. fault ≡ Memory };
 
     fn from(_error: AllocError) -> OutFault {
-        OutFault::Memory
-    }
-}
-
-impl<T: Drop> From<AllocFailed<T>> for OutFault {
-    ghost use Rattle.std.specs.Prelude.{◌≡◌};
-    ghost use Rattle.adf_export.specs.declared.fault.OutFault.TheVariants.{Memory};
-
-    ghost from_gives = { λ _ fault. fault ≡ Memory };
-
-    fn from(_error: AllocFailed<T>) -> OutFault {
         OutFault::Memory
     }
 }

@@ -19,6 +19,8 @@ pub(crate) struct FaultyBlock {
     pub(crate) is_root: bool,
     pub(crate) places: Vec<Place>,
     pub(crate) faults: Vec<VolumeFault>,
+    /// Whether it may have more faults.
+    pub(crate) more: bool,
 }
 
 /// These blocks with the places that name them and with their faults. The cells are those of the reached blocks.
@@ -35,8 +37,8 @@ pub(crate) fn faulty_blocks(
 {
     let lists = places_of(alloc, image, cells, blocks)?;
     let mut told = Vec::new(alloc);
-    for (block, places) in blocks.iter().zip(lists) {
-        let faulty = faulty_block(alloc, image, found, *block, places)?;
+    for (place, block) in blocks.iter().enumerate() {
+        let faulty = faulty_block(alloc, image, found, *block, &lists[place])?;
         told.push(faulty)?;
     }
     Ok(told)
@@ -48,18 +50,19 @@ fn faulty_block(
     image: &Image,
     found: &AllFaults,
     block: u32,
-    places: Vec<Place>,
+    places: &[Place],
 ) -> Result<FaultyBlock, AllocError>
     requires found { AreFound image.now found.now }
-    requires places { AreAllPlaces image.now block places.items }
+    requires places { AreAllPlaces image.now block places.now }
     ensures { IfOk result (IsFaultyBlock image.now found.now.more block) }
 {
     let faults = faults_at(alloc, &found.faults, block)?;
     Ok(FaultyBlock {
         block,
         is_root: block == image.root(),
-        places,
+        places: Vec::from_slice(alloc, places)?,
         faults,
+        more: found.more,
     })
 }
 

@@ -1,9 +1,10 @@
 //! The lines of blocks of a refused image.
 ghost use Rattle.std.specs.Prelude.{◌≡◌, ◌++◌, IfOk, OnOk, flat_map, option_map};
 ghost use Rattle.std.specs.String.{string_bytes};
-ghost use Rattle.adf_export.specs.Faulty.{block_line, block_lines, fault_line, first_line, first_words, more_line, place_lines, place_words};
+ghost use Rattle.adf_export.specs.Faulty.{block_line, fault_line, first_line, first_words, more_line, place_lines, place_words};
 
 use crate::faulty::FaultyBlock;
+use crate::forms::Tell;
 use crate::where_lines::place_text;
 use adf_archive::kind_word;
 use adf_block::layout::{BOOT_BLOCKS, FIRST_PAGE, FIRST_POINTER};
@@ -11,36 +12,18 @@ use ados_mend::{Naming, Place};
 use ados_model::VolumeFault;
 use std::alloc::{AllocError, Global};
 
-/// The lines of each block of a disk with so many blocks. With `more` they may show more faults.
-pub(crate) fn faulty_lines(
-    alloc: Global,
-    blocks: u32,
-    more: bool,
-    told: &[FaultyBlock],
-) -> Result<Vec<u8>, AllocError>
-    ensures { IfOk result (λ text. text.items ≡ flat_map (block_lines blocks more) told.now) }
-{
-    let mut text = Vec::new(alloc);
-    for faulty in told {
-        push_block(alloc, &mut text, blocks, more, faulty)?;
-    }
-    Ok(text)
-}
+impl Tell for FaultyBlock {
+    ghost use Rattle.adf_export.specs.Faulty.{block_lines};
 
-/// Appends the lines of a block.
-fn push_block(
-    alloc: Global,
-    text: &mut Vec<u8>,
-    blocks: u32,
-    more: bool,
-    told: &FaultyBlock,
-) -> Result<(), AllocError>
-    ensures { OnOk result (text.new.items ≡ text.old.items ++ block_lines blocks more told.now) }
-{
-    push_first(alloc, text, blocks, told)?;
-    push_places(alloc, text, blocks, told)?;
-    push_faults(alloc, text, &told.faults)?;
-    push_more(alloc, text, more, told.block)
+    ghost lines_of = { block_lines };
+
+    /// Appends the lines of a block.
+    fn push_lines(&self, alloc: Global, text: &mut Vec<u8>, blocks: u32) -> Result<(), AllocError> {
+        push_first(alloc, text, blocks, self)?;
+        push_places(alloc, text, blocks, self)?;
+        push_faults(alloc, text, &self.faults)?;
+        push_more(alloc, text, self.more, self.block)
+    }
 }
 
 /// Appends a line of a block.

@@ -1,19 +1,18 @@
 //! The places that name blocks of a refused image, and the faults of these blocks.
-ghost use Rattle.std.specs.Prelude.{◌≡◌, IfErr, IfOk};
+ghost use Rattle.std.specs.Prelude.{IfErr, IfOk};
 ghost use Rattle.adf_block.specs.Image.{block_count};
-ghost use Rattle.adf_export.specs.Faulty.{IsFaultyWhere, faulty_of};
+ghost use Rattle.adf_export.specs.Faulty.{IsFaultyWhere};
 ghost use Rattle.adf_export.specs.Where.{IsWhereFault};
 
-use crate::faulty::{FaultyBlock, faulty_blocks};
-use crate::faulty_lines::faulty_lines;
-use crate::faulty_objects::faulty_array;
+use crate::faulty::faulty_blocks;
+use crate::forms::told_text;
 use crate::places::named_blocks;
 use crate::where_fault::WhereFault;
 use adf_block::Image;
 use adf_words::BlockWord;
 use ados_faults::faults_of_any_disk;
 use ados_mend::reached_cells;
-use std::alloc::{AllocError, Global};
+use std::alloc::Global;
 
 /// Which places name the blocks that these arguments name, and what their faults are, in any image: lines for each block, or
 /// with `json` an array of objects on a line of its own.
@@ -37,23 +36,6 @@ pub fn faulty_where_text(
     let cells = reached_cells(alloc, image)?;
     let found = faults_of_any_disk(alloc, image)?;
     let told = faulty_blocks(alloc, image, &cells, &found, &blocks)?;
-    let text = faulty_text(alloc, count, found.more, &told, json)?;
+    let text = told_text(alloc, count, &told, json)?;
     Ok(text)
-}
-
-/// What is told of blocks of a disk with so many blocks, in one of the forms. With `more` they may show more faults.
-fn faulty_text(
-    alloc: Global,
-    blocks: u32,
-    more: bool,
-    told: &[FaultyBlock],
-    json: bool,
-) -> Result<Vec<u8>, AllocError>
-    ensures { IfOk result (λ text. text.items ≡ faulty_of json blocks more told.now) }
-{
-    if json {
-        faulty_array(alloc, blocks, more, told)
-    } else {
-        faulty_lines(alloc, blocks, more, told)
-    }
 }

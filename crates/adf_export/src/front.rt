@@ -20,7 +20,7 @@ pub fn path_of(alloc: Global, volume: &Volume, key: u32) -> Result<Vec<u8>, Allo
 }
 
 /// The path before the name of an object; for the root it is empty.
-fn front_above(alloc: Global, volume: &Volume, key: u32) -> Result<Vec<u8>, AllocError>
+pub(crate) fn front_above(alloc: Global, volume: &Volume, key: u32) -> Result<Vec<u8>, AllocError>
     requires { HasKey volume.now.image key }
     ensures { IfOk result (λ text. (t : Tree) → Stands volume.now.image t → text.items ≡ front_above t key) }
 {

@@ -1,21 +1,21 @@
-//! The listing of everything below a directory of a volume.
-ghost use Rattle.std.specs.Prelude.{◌≡◌, ◌+◌, ◌<◌, ◌∷◌, ℕ, [], List, IfNone, IfOk, IfSome, OnErr, OnOk, OnSome, drop, length, slice_index};
-ghost use Rattle.ados_model.specs.Keys.{HasDirectory};
+//! The list of a file, or of everything below a directory.
+ghost use Rattle.std.specs.Prelude.{◌≡◌, ◌+◌, ◌<◌, ◌∷◌, ℕ, [], All, List, IfNone, IfOk, IfSome, OnErr, OnOk, OnSome, drop, length, slice_index};
+ghost use Rattle.ados_model.specs.Keys.{HasKey};
 ghost use Rattle.ados_model.specs.Stands.{Stands};
 ghost use Rattle.ados_model.specs.Tree.{Tree};
 ghost use Rattle.adf_script.specs.Streams.{Writes};
-ghost use Rattle.adf_io.specs.Prefix.{WritesFront, WritesFrontOf};
+ghost use Rattle.adf_io.specs.Prefix.{WritesFrontOf};
 ghost use Rattle.ados_volume.specs.Located.{Located};
-ghost use Rattle.adf_export.specs.Listing.{BeginsListing, IsListing, listing};
-ghost use Rattle.adf_export.specs.steps.Levels.{HaveKeys, IsSoFar, to_list};
-ghost use Rattle.adf_export.specs.steps.Going.{GoesOn, Passes, Starts};
+ghost use Rattle.adf_export.specs.Listing.{BeginsList, IsList};
+ghost use Rattle.adf_export.specs.steps.Levels.{HaveKeys, IsSoFar, first_keys, first_path, to_list};
+ghost use Rattle.adf_export.specs.steps.Going.{GoesOn, Starts};
 
-use crate::front::front_of;
+use crate::front::{front_above, front_of};
 use crate::head::head_text;
 use crate::keys::{describe, is_directory};
 use crate::lines::push_entry;
 use crate::order::ordered_keys;
-use crate::output::{write_waiting, write_when_long};
+use crate::output::{write_text, write_when_long};
 use crate::print_fault::PrintFault;
 use adf_words::{ListForm, ListOrder};
 use ados_volume::Volume;
@@ -52,47 +52,78 @@ fn next_key(level: &Level) -> Option<u32>
     Some(level.keys[level.next])
 }
 
-/// Writes the list of a directory: each entry below it. If the writer fails or memory runs out, it has written a prefix
-/// of that text.
-pub(crate) fn write_directory<W: Write>(
+/// Writes the list of a file or directory: the file itself, or each entry below the directory. The entries of each
+/// directory are in the order. A path starts at the root, and a directory comes directly before its contents. A line for
+/// the volume comes first, except before JSON objects.
+///
+/// If the writer fails or memory runs out, it has written a prefix of that text.
+pub fn write_list<W: Write>(
     alloc: Global,
     volume: &Volume,
-    dir: u32,
+    key: u32,
     form: ListForm,
     order: ListOrder,
     writer: &mut W,
 ) -> Result<(), PrintFault>
-    requires { HasDirectory volume.now.image dir }
-    ensures ok { OnOk result ((t : Tree) → Stands volume.now.image t → Writes (W.contents writer.old) (W.contents writer.new) (IsListing t (listing t order dir) form)) }
+    requires { HasKey volume.now.image key }
+    ensures ok { OnOk result ((t : Tree) → Stands volume.now.image t → Writes (W.contents writer.old) (W.contents writer.new) (IsList t order key form)) }
     ensures front { OnErr result ((t : Tree) → Stands volume.now.image t
-        → WritesFrontOf (W.contents writer.old) (W.contents writer.new) (BeginsListing t (listing t order dir) form)) }
+        → WritesFrontOf (W.contents writer.old) (W.contents writer.new) (BeginsList t order key form)) }
 {
-    let mut listing = Listing::start(alloc, volume, dir, form, order)?;
+    let mut listing = Listing::start(alloc, volume, key, form, order)?;
     for _ in 0..2 * volume.image().blocks() as u64 {
         if !listing.go_on(alloc, volume, form, order)? {
             break;
         }
-        listing.write_when_long(writer)?;
+        write_when_long(&mut listing.text, writer)?;
     }
-    listing.write(writer)
+    write_text(listing.text.as_slice(), writer)
+}
+
+/// The path before the names of the first entries in a list.
+fn first_path(alloc: Global, volume: &Volume, key: u32) -> Result<Vec<u8>, AllocError>
+    requires { HasKey volume.now.image key }
+    ensures { IfOk result (λ path. (t : Tree) → Stands volume.now.image t → path.items ≡ first_path t key) }
+{
+    if volume.is_file(key) {
+        return front_above(alloc, volume, key);
+    }
+    front_of(alloc, volume, key)
+}
+
+/// The keys of the first entries in a list: a file itself, or the entries of a directory.
+fn first_keys(
+    alloc: Global,
+    volume: &Volume,
+    key: u32,
+    order: ListOrder,
+) -> Result<Vec<u32>, AllocError>
+    requires { HasKey volume.now.image key }
+    ensures keys { IfOk result (λ keys. All (HasKey volume.now.image) keys.items) }
+    ensures first { IfOk result (λ keys. (t : Tree) → Stands volume.now.image t → keys.items ≡ first_keys t order key) }
+{
+    if volume.is_file(key) {
+        return vec![in alloc; key; 1];
+    }
+    ordered_keys(alloc, volume, key, order)
 }
 
 impl Listing {
-    /// The text before the first entry of a directory.
+    /// The text before the first entry in the list of a file or directory.
     fn start(
         alloc: Global,
         volume: &Volume,
-        dir: u32,
+        key: u32,
         form: ListForm,
         order: ListOrder,
     ) -> Result<Listing, AllocError>
-        requires { HasDirectory volume.now.image dir }
+        requires { HasKey volume.now.image key }
         ensures keys { IfOk result (λ made. HaveKeys volume.now.image made.levels.items) }
-        ensures starts { IfOk result (λ made. (t : Tree) → Stands volume.now.image t → Starts t order dir form made) }
+        ensures starts { IfOk result (λ made. (t : Tree) → Stands volume.now.image t → Starts t order key form made) }
     {
         let text = head_text(alloc, volume, form)?;
-        let path = front_of(alloc, volume, dir)?;
-        let keys = ordered_keys(alloc, volume, dir, order)?;
+        let path = first_path(alloc, volume, key)?;
+        let keys = first_keys(alloc, volume, key, order)?;
         let mut levels = Vec::new(alloc);
         levels.push(Level {
             keys,
@@ -138,26 +169,5 @@ impl Listing {
             })?;
         }
         Ok(true)
-    }
-
-    /// Writes the text if it is long enough.
-    fn write_when_long<W: Write>(&mut self, writer: &mut W) -> Result<(), PrintFault>
-        ensures levels { self.new.levels.items ≡ self.old.levels.items }
-        ensures path { self.new.path.items ≡ self.old.path.items }
-        ensures ok { OnOk result (Passes (W.contents writer.old) (W.contents writer.new) self.old.text.items self.new.text.items) }
-        ensures front { OnErr result (WritesFront (W.contents writer.old) (W.contents writer.new) self.old.text.items) }
-    {
-        write_when_long(&mut self.text, writer)
-    }
-
-    /// Writes the text that is not written yet.
-    fn write<W: Write>(&mut self, writer: &mut W) -> Result<(), PrintFault>
-        ensures levels { self.new.levels.items ≡ self.old.levels.items }
-        ensures path { self.new.path.items ≡ self.old.path.items }
-        ensures ok { OnOk result (Passes (W.contents writer.old) (W.contents writer.new) self.old.text.items self.new.text.items) }
-        ensures all { OnOk result (self.new.text.items ≡ []) }
-        ensures front { OnErr result (WritesFront (W.contents writer.old) (W.contents writer.new) self.old.text.items) }
-    {
-        write_waiting(&mut self.text, writer)
     }
 }

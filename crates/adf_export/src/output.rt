@@ -1,5 +1,5 @@
 //! Output of a text, or of a prefix if the writer fails.
-ghost use Rattle.std.specs.Prelude.{◌≡◌, ◌≢◌, [], OnOk, OnErr};
+ghost use Rattle.std.specs.Prelude.{◌≢◌, OnOk, OnErr};
 ghost use Rattle.std.specs.Io.KnownBytes.{Appends};
 ghost use Rattle.adf_io.specs.Prefix.{WritesFront};
 ghost use Rattle.adf_export.specs.steps.Going.{Passes};
@@ -22,15 +22,6 @@ pub(crate) fn write_when_long<W: Write>(
     if text.len() < ENOUGH {
         return Ok(());
     }
-    write_waiting(text, writer)
-}
-
-/// Writes the text that is not written yet, and begins a new one.
-pub(crate) fn write_waiting<W: Write>(text: &mut Vec<u8>, writer: &mut W) -> Result<(), PrintFault>
-    ensures ok { OnOk result (Passes (W.contents writer.old) (W.contents writer.new) text.old.items text.new.items) }
-    ensures all { OnOk result (text.new.items ≡ []) }
-    ensures front { OnErr result (WritesFront (W.contents writer.old) (W.contents writer.new) text.old.items) }
-{
     write_text(text.as_slice(), writer)?;
     text.clear();
     Ok(())

@@ -34,7 +34,9 @@ pub(crate) fn named_blocks(
         let Some(block) = named_block(blocks, *word) else {
             return Err(WhereFault::NoBlock(*word));
         };
-        found.push(block)?;
+        let Ok(()) = found.push(block) else {
+            return Err(WhereFault::Memory);
+        };
     }
     Ok(found)
 }

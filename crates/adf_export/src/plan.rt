@@ -1,24 +1,12 @@
 //! The host files and directories for what can be trusted in a damaged image.
-ghost use Rattle.std.specs.Prelude.{◌≢◌, ◌≤◌, All, IfOk, IfSome, IsTrue, length, slice_get};
-ghost use Rattle.adf_export.specs.Rescue.{HasSource};
+ghost use Rattle.std.specs.Prelude.{◌≢◌, ◌≤◌, All, IfSome, IsTrue, length};
 
-use crate::bytes::line_of;
+use crate::sourced::{Source, SourcedItems, way_up};
 use adf_salvage::{Salvage, Salvaged, State};
-use adf_text::Uaem;
 use ados_name::{Date3, Name};
-use host_trees::{Contents, HostItem, HostName, ItemKind};
+use host_trees::HostName;
 use std::alloc::{AllocError, Global};
 use std::str::from_utf8;
-
-/// Where the bytes of an item are.
-#[derive(Clone, Copy)]
-pub(crate) enum Source {
-    Directory,
-    /// The file of an entry, by its position.
-    File(usize),
-    /// The note of an entry, by its position.
-    Note(usize),
-}
 
 /// What is planned for an entry.
 #[derive(Drop)]
@@ -35,8 +23,7 @@ enum Planned {
 /// The items for entries. Each is written into the item of its directory.
 #[derive(Drop)]
 pub(crate) struct Plan {
-    pub(crate) items: Vec<HostItem>,
-    sources: Vec<Source>,
+    pub(crate) out: SourcedItems,
     /// For each entry, what is planned for it.
     planned: Vec<Planned>,
     /// The item of `lost+found`, if there is one.
@@ -46,35 +33,12 @@ pub(crate) struct Plan {
     asides: Vec<Option<usize>>,
 }
 
-/// The bytes of items, by their sources.
-#[derive(Drop)]
-pub(crate) struct Rescued<'a> {
-    pub(crate) salvage: &'a Salvage,
-    pub(crate) sources: &'a [Source],
-}
-
-impl Source {
-    /// The kind of an item with these bytes.
-    pub(crate) fn kind(self) -> ItemKind {
-        match self {
-            Source::Directory => ItemKind::Directory,
-            Source::File(_) | Source::Note(_) => ItemKind::File,
-        }
-    }
-}
-
 impl Plan {
     /// The items for the entries of a salvage. With `meta`, a note is beside each.
     pub(crate) fn of(alloc: Global, salvage: &Salvage, meta: bool) -> Result<Plan, AllocError> {
         let entries = salvage.entries();
-        let room = if meta {
-            entries.len().saturating_mul(2)
-        } else {
-            entries.len()
-        };
         let mut plan = Plan {
-            items: Vec::with_capacity(alloc, room)?,
-            sources: Vec::with_capacity(alloc, room)?,
+            out: SourcedItems::new(alloc),
             planned: Vec::with_capacity(alloc, entries.len())?,
             lost: None,
             asides: vec![in alloc; None; entries.len()]?,
@@ -84,14 +48,6 @@ impl Plan {
             plan.add(alloc, place, entry, above, meta)?;
         }
         Ok(plan)
-    }
-
-    /// The bytes of the items.
-    pub(crate) fn contents<'a>(&'a self, salvage: &'a Salvage) -> Rescued<'a> {
-        Rescued {
-            salvage,
-            sources: self.sources.as_slice(),
-        }
     }
 
     /// The host path of an entry, by its position.
@@ -105,8 +61,8 @@ impl Plan {
             }
             None => None,
         };
-        for _step in 0..self.items.len() {
-            let Some(item) = next.and_then(|at| self.items.get(at)) else {
+        for _step in 0..self.out.items.len() {
+            let Some(item) = next.and_then(|at| self.out.items.get(at)) else {
                 break;
             };
             names.push(item.name.as_str())?;
@@ -150,7 +106,7 @@ impl Plan {
             return Ok(item);
         }
         let name = lost_name(alloc)?;
-        let item = self.push(None, name, Source::Directory, date)?;
+        let item = self.out.push(None, name, Source::Directory, date)?;
         self.lost = Some(item);
         Ok(item)
     }
@@ -163,28 +119,17 @@ impl Plan {
         dir: usize,
         date: Date3,
     ) -> Result<usize, AllocError> {
-        let mut way = Vec::new(alloc);
-        let mut next = Some(dir);
-        for _step in 0..entries.len() {
-            let Some(place) = next else {
-                break;
-            };
-            if self.asides.get(place).copied().flatten().is_some() {
-                break;
-            }
-            way.push(place)?;
-            next = entries.get(place).and_then(|entry| entry.above);
-        }
-        let mut item = match next.and_then(|place| self.asides.get(place).copied().flatten()) {
+        let (mut way, top) = way_up(alloc, entries, &self.asides, Some(dir))?;
+        let mut item = match top {
             Some(item) => item,
             None => self.lost_and_found(alloc, date)?,
         };
         while let Some(place) = way.pop() {
             if let Some(entry) = entries.get(place) {
                 let name = name_of(alloc, entry)?;
-                item = self.push(Some(item), name, Source::Directory, date)?;
-                if place < self.asides.len() {
-                    self.asides[place] = Some(item);
+                item = self.out.push(Some(item), name, Source::Directory, date)?;
+                if let Some(aside) = self.asides.get_mut(place) {
+                    *aside = Some(item);
                 }
             }
         }
@@ -200,80 +145,19 @@ impl Plan {
         above: Option<usize>,
         meta: bool,
     ) -> Result<(), AllocError> {
-        let name = name_of(alloc, entry)?;
         let source = match entry.state {
             State::Lost => {
+                let name = name_of(alloc, entry)?;
                 self.planned.push(Planned::Lost { above, name })?;
                 return Ok(());
             }
             State::Directory | State::DoubtfulDirectory => Source::Directory,
             State::Whole | State::Doubtful { .. } | State::Broken { .. } => Source::File(place),
         };
-        let note = name_of_note(alloc, &name, meta)?;
-        let item = self.push(above, name, source, entry.date)?;
+        let noted = if meta { Some(place) } else { None };
+        let item = self.out.push_entry(alloc, entry, above, source, noted)?;
         self.planned.push(Planned::Item(item))?;
-        if let Some(note) = note {
-            self.push(above, note, Source::Note(place), entry.date)?;
-        }
         Ok(())
-    }
-
-    /// Adds an item, and returns its position.
-    fn push(
-        &mut self,
-        above: Option<usize>,
-        name: HostName,
-        source: Source,
-        date: Date3,
-    ) -> Result<usize, AllocError> {
-        let place = self.items.len();
-        let kind = source.kind();
-        self.items.push(HostItem {
-            above,
-            name,
-            kind,
-            date,
-        })?;
-        self.sources.push(source)?;
-        Ok(place)
-    }
-}
-
-impl Contents for Rescued<'_> {
-    fn bytes_of(&mut self, alloc: Global, place: usize) -> Result<Vec<u8>, AllocError>
-        ensures { IfOk result (λ bytes. IfSome (slice_get self.old.sources.now place) (λ source. HasSource self.old.salvage.now source bytes.items)) }
-    {
-        let entries = self.salvage.entries();
-        match self.sources.get(place).copied() {
-            Some(Source::File(place)) if place < entries.len() => {
-                self.salvage.bytes_of(alloc, place)
-            }
-            Some(Source::Note(place)) if place < entries.len() => note_of(alloc, &entries[place]),
-            _ => Ok(Vec::new(alloc)),
-        }
-    }
-}
-
-/// The line of an entry's note.
-fn note_of(alloc: Global, entry: &Salvaged) -> Result<Vec<u8>, AllocError> {
-    let noted = Uaem {
-        protect: entry.protection,
-        date: entry.date,
-        comment: entry.comment,
-    };
-    line_of(alloc, &noted)
-}
-
-/// With `meta`, the name of the note that belongs to the file or directory with this name.
-pub(crate) fn name_of_note(
-    alloc: Global,
-    name: &HostName,
-    meta: bool,
-) -> Result<Option<HostName>, AllocError> {
-    if meta {
-        Ok(Some(name.note(alloc)?))
-    } else {
-        Ok(None)
     }
 }
 

@@ -1,27 +1,24 @@
 //! The parts of the JSON object that reports on a damaged image.
-ghost use Rattle.std.specs.Prelude.{◌≡◌, ◌++◌, ◌∷◌, [], IfOk, OnErr, OnOk, codes, decimal, flat_map, if◌then◌else◌};
-ghost use Rattle.std.specs.Io.KnownBytes.{Appends};
+ghost use Rattle.std.specs.Prelude.{◌≡◌, ◌++◌, ◌∷◌, [], IfOk, OnOk, codes, decimal, flat_map, if◌then◌else◌};
 ghost use Rattle.std.specs.String.{string_bytes};
 ghost use Rattle.json.specs.Print.{print, print_from};
 ghost use Rattle.json.specs.Token.{number};
-ghost use Rattle.adf_io.specs.Prefix.{WritesFront};
 ghost use Rattle.adf_export.specs.RescueObject.{entry_tokens, is_told, path_end, rest_tokens, state_word};
-ghost use Rattle.adf_export.specs.steps.Reporting.{front_tokens};
+ghost use Rattle.adf_export.specs.steps.Reporting.{front_of};
 
-use crate::output::write_text;
-use crate::print_fault::PrintFault;
 use adf_record::{put_flag, put_number, put_text};
 use adf_salvage::State;
 use json::Writer;
 use std::alloc::{AllocError, Global};
-use std::io::Write;
 
-/// Writes what is before the objects of the entries.
-pub(crate) fn write_front<W: Write>(writer: &mut W) -> Result<(), PrintFault>
-    ensures ok { OnOk result (Appends (W.contents writer.old) (W.contents writer.new) (print (front_tokens []))) }
-    ensures front { OnErr result (WritesFront (W.contents writer.old) (W.contents writer.new) (print (front_tokens []))) }
+/// What is before the entries of a report: with `json` the begin of the object.
+pub(crate) fn front_text(alloc: Global, json: bool) -> Result<Vec<u8>, AllocError>
+    ensures { IfOk result (λ text. text.items ≡ front_of json) }
 {
-    write_text(b"{\"entries\":[", writer)
+    if json {
+        return Vec::from_slice(alloc, b"{\"entries\":[");
+    }
+    Ok(Vec::new(alloc))
 }
 
 /// The object of an entry at a host path, behind a comma after another one.
@@ -74,7 +71,7 @@ fn put_entry(writer: &mut Writer, found: bool, state: State, path: &str) -> Resu
 }
 
 /// What is behind the objects of the entries, for so many deleted entries and these blocks, and a line feed.
-pub(crate) fn rest_text(
+pub(crate) fn rest_object(
     alloc: Global,
     deleted: u64,
     unaccounted: &[u32],

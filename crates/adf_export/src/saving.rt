@@ -3,17 +3,14 @@ ghost use Rattle.std.specs.Prelude.{◌≡◌, ◌++◌, ◌∷◌, ◌<◌, [],
 ghost use Rattle.adf_export.specs.Undelete.{file_in, file_saved, files_saved};
 
 use crate::chosen::Chosen;
-use crate::plan::{Source, name_of, name_of_note};
+use crate::sourced::{Source, SourcedItems, way_up};
 use adf_salvage::{Recovery, Salvaged};
-use ados_name::Date3;
-use host_trees::{HostItem, HostName};
 use std::alloc::{AllocError, Global};
 
 /// The items for entries, each in the item of its directory.
 #[derive(Drop)]
 pub(crate) struct Saving {
-    pub(crate) items: Vec<HostItem>,
-    pub(crate) sources: Vec<Source>,
+    pub(crate) out: SourcedItems,
     /// For each entry, its item, if it has one.
     places: Vec<Option<usize>>,
     /// Whether a note is beside each entry.
@@ -30,11 +27,10 @@ impl Saving {
         meta: bool,
     ) -> Result<Saving, AllocError>
         requires { All (λ one. one.position < length entries.now) chosen.now }
-        ensures { IfOk result (λ saving. flat_map file_in saving.sources.items ≡ files_saved force chosen.now) }
+        ensures { IfOk result (λ saving. flat_map file_in saving.out.sources.items ≡ files_saved force chosen.now) }
     {
         let mut saving = Saving {
-            items: Vec::new(alloc),
-            sources: Vec::new(alloc),
+            out: SourcedItems::new(alloc),
             places: vec![in alloc; None; entries.len()]?,
             meta,
         };
@@ -53,7 +49,7 @@ impl Saving {
         force: bool,
     ) -> Result<(), AllocError>
         requires { chosen.position < length entries.now }
-        ensures { OnOk result (flat_map file_in self.new.sources.items ≡ flat_map file_in self.old.sources.items ++ file_saved force chosen) }
+        ensures { OnOk result (flat_map file_in self.new.out.sources.items ≡ flat_map file_in self.old.out.sources.items ++ file_saved force chosen) }
     {
         if chosen.is_file_saved(force) {
             return self.add_file(alloc, entries, chosen.position);
@@ -72,7 +68,7 @@ impl Saving {
         position: usize,
     ) -> Result<(), AllocError>
         requires { position < length entries.now }
-        ensures { OnOk result (flat_map file_in self.new.sources.items ≡ flat_map file_in self.old.sources.items ++ position ∷ []) }
+        ensures { OnOk result (flat_map file_in self.new.out.sources.items ≡ flat_map file_in self.old.out.sources.items ++ position ∷ []) }
     {
         let entry = &entries[position];
         let above = self.directory(alloc, entries, entry.above)?;
@@ -87,9 +83,9 @@ impl Saving {
         entries: &[Salvaged],
         dir: Option<usize>,
     ) -> Result<Option<usize>, AllocError>
-        ensures { OnOk result (flat_map file_in self.new.sources.items ≡ flat_map file_in self.old.sources.items) }
+        ensures { OnOk result (flat_map file_in self.new.out.sources.items ≡ flat_map file_in self.old.out.sources.items) }
     {
-        let (mut way, top) = self.way_up(alloc, entries, dir)?;
+        let (mut way, top) = way_up(alloc, entries, &self.places, dir)?;
         let mut item = top;
         while let Some(position) = way.pop() {
             if let Some(entry) = entries.get(position) {
@@ -97,28 +93,6 @@ impl Saving {
             }
         }
         Ok(item)
-    }
-
-    /// The positions of a directory and of those above it that have no item, and the item of the first one that has one.
-    fn way_up(
-        &self,
-        alloc: Global,
-        entries: &[Salvaged],
-        dir: Option<usize>,
-    ) -> Result<(Vec<usize>, Option<usize>), AllocError> {
-        let mut way = Vec::new(alloc);
-        let mut next = dir;
-        for _step in 0..entries.len() {
-            let Some(position) = next else {
-                return Ok((way, None));
-            };
-            if let Some(item) = self.places.get(position).copied().flatten() {
-                return Ok((way, Some(item)));
-            }
-            way.push(position)?;
-            next = entries.get(position).and_then(|entry| entry.above);
-        }
-        Ok((way, None))
     }
 
     /// Adds the item of the entry at a position, and with `meta` that of its note. The result is its item.
@@ -130,40 +104,13 @@ impl Saving {
         source: Source,
         position: usize,
     ) -> Result<usize, AllocError>
-        ensures { OnOk result (flat_map file_in self.new.sources.items ≡ flat_map file_in self.old.sources.items ++ file_in source) }
+        ensures { OnOk result (flat_map file_in self.new.out.sources.items ≡ flat_map file_in self.old.out.sources.items ++ file_in source) }
     {
-        let item = self.items.len();
-        let name = name_of(alloc, entry)?;
-        let note = name_of_note(alloc, &name, self.meta)?;
-        self.push_item(above, name, source, entry.date)?;
-        if let Some(note) = note {
-            self.push_item(above, note, Source::Note(position), entry.date)?;
-        }
+        let noted = if self.meta { Some(position) } else { None };
+        let item = self.out.push_entry(alloc, entry, above, source, noted)?;
         if let Some(place) = self.places.get_mut(position) {
             *place = Some(item);
         }
         Ok(item)
-    }
-
-    /// Adds an item with these bytes.
-    fn push_item(
-        &mut self,
-        above: Option<usize>,
-        name: HostName,
-        source: Source,
-        date: Date3,
-    ) -> Result<(), AllocError>
-        ensures sources { OnOk result (self.new.sources.items ≡ self.old.sources.items ++ source ∷ []) }
-        ensures meta { self.new.meta ≡ self.old.meta }
-    {
-        let kind = source.kind();
-        self.items.push(HostItem {
-            above,
-            name,
-            kind,
-            date,
-        })?;
-        self.sources.push(source)?;
-        Ok(())
     }
 }

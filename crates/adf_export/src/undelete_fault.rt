@@ -3,7 +3,7 @@ ghost use Rattle.std.specs.Prelude.{ℕ, List};
 ghost use Rattle.adf_export.specs.Undelete.{IsUndeleteFault};
 
 use host_trees::WriteFault;
-use std::alloc::{AllocError, AllocFailed, Global};
+use std::alloc::{AllocError, Global};
 use thiserror::Error;
 
 /// Why deleted entries are neither told nor written.
@@ -40,17 +40,6 @@ impl From<AllocError> for UndeleteFault {
     ghost from_gives = { λ _ fault. fault ≡ Memory };
 
     fn from(_error: AllocError) -> UndeleteFault {
-        UndeleteFault::Memory
-    }
-}
-
-impl<T: Drop> From<AllocFailed<T>> for UndeleteFault {
-    ghost use Rattle.std.specs.Prelude.{◌≡◌};
-    ghost use Rattle.adf_export.specs.declared.undelete_fault.UndeleteFault.TheVariants.{Memory};
-
-    ghost from_gives = { λ _ fault. fault ≡ Memory };
-
-    fn from(_error: AllocFailed<T>) -> UndeleteFault {
         UndeleteFault::Memory
     }
 }

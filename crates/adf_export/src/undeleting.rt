@@ -9,14 +9,12 @@ use crate::chosen::{Chosen, chosen_entries};
 use crate::deleted_lines::Labels;
 use crate::idle::refuse_idle;
 use crate::placing::placed_entries;
-use crate::plan::Rescued;
 use crate::saving::Saving;
 use crate::undelete_fault::UndeleteFault;
 use adf_block::Image;
 use adf_host::OwnedFile;
 use adf_salvage::{Undeleted, UndeletedEntries, undelete};
 use adf_words::UndeleteJob;
-use host_trees::write_tree;
 use std::alloc::Global;
 use std::rt::Files;
 
@@ -52,10 +50,14 @@ where
 {
     let found = found_entries(alloc, image)?;
     let undeletion = undeletion_of(alloc, found, job)?;
-    if !job.list {
-        undeletion.write(rt, alloc, job)?;
+    if job.list {
+        return Ok(undeletion);
     }
-    Ok(undeletion)
+    let (out, salvage) = (&undeletion.plan.out, &undeletion.found.salvage);
+    match out.write(rt, alloc, salvage, job.to, job.force) {
+        Ok(()) => Ok(undeletion),
+        Err(fault) => Err(UndeleteFault::Host(fault)),
+    }
 }
 
 /// The deleted entries of an image.
@@ -96,34 +98,4 @@ fn undeletion_of(
         plan,
         text,
     })
-}
-
-impl Undeletion {
-    /// Writes the files and directories of the host.
-    fn write<R: Files>(
-        &self,
-        rt: &R,
-        alloc: Global,
-        job: &UndeleteJob<'_>,
-    ) -> Result<(), UndeleteFault>
-    where
-        R::File: OwnedFile,
-        ensures { IfErr result (λ fault. (image : List ℕ) → IsUndeleteFault image fault) }
-    {
-        let mut contents = Rescued {
-            salvage: &self.found.salvage,
-            sources: &self.plan.sources,
-        };
-        match write_tree(
-            rt,
-            alloc,
-            job.to,
-            &self.plan.items,
-            &mut contents,
-            job.force,
-        ) {
-            Ok(()) => Ok(()),
-            Err(fault) => Err(UndeleteFault::Host(fault)),
-        }
-    }
 }

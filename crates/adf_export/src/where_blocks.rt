@@ -1,18 +1,17 @@
 //! Who owns the blocks that arguments name.
-ghost use Rattle.std.specs.Prelude.{◌≡◌, IfErr, IfOk, map};
+ghost use Rattle.std.specs.Prelude.{IfErr, IfOk};
 ghost use Rattle.adf_block.specs.Image.{block_count};
 ghost use Rattle.ados_model.specs.Stands.{Stands};
 ghost use Rattle.ados_model.specs.Tree.{Tree};
-ghost use Rattle.adf_export.specs.Where.{IsWhere, IsWhereFault, seen, where_of};
+ghost use Rattle.adf_export.specs.Where.{IsWhere, IsWhereFault};
 
-use crate::owned::{OwnedBlock, owned_blocks};
+use crate::forms::told_text;
+use crate::owned::owned_blocks;
 use crate::places::named_blocks;
 use crate::where_fault::WhereFault;
-use crate::where_lines::where_lines;
-use crate::where_objects::where_array;
 use adf_words::BlockWord;
 use ados_volume::{Volume, owners};
-use std::alloc::{AllocError, Global};
+use std::alloc::Global;
 
 /// Who owns the blocks that these arguments name: a line for each block, or with `json` an array of objects on a line of
 /// its own.
@@ -34,20 +33,4 @@ pub fn where_text(
     let told = owned_blocks(alloc, volume, &owners, &blocks)?;
     let text = told_text(alloc, count, &told, json)?;
     Ok(text)
-}
-
-/// What is told of blocks of a disk with so many blocks, in one of the forms.
-fn told_text(
-    alloc: Global,
-    blocks: u32,
-    told: &[OwnedBlock],
-    json: bool,
-) -> Result<Vec<u8>, AllocError>
-    ensures { IfOk result (λ text. text.items ≡ where_of json blocks (map seen told.now)) }
-{
-    if json {
-        where_array(alloc, blocks, told)
-    } else {
-        where_lines(alloc, blocks, told)
-    }
 }

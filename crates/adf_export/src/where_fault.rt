@@ -1,6 +1,6 @@
 //! Why nothing is told of blocks.
 use adf_words::BlockWord;
-use std::alloc::{AllocError, AllocFailed};
+use std::alloc::AllocError;
 
 /// Why nothing is told of blocks.
 #[derive(Clone, Copy)]
@@ -18,17 +18,6 @@ impl From<AllocError> for WhereFault {
     ghost from_gives = { λ _ fault. fault ≡ Memory };
 
     fn from(_error: AllocError) -> WhereFault {
-        WhereFault::Memory
-    }
-}
-
-impl<T: Drop> From<AllocFailed<T>> for WhereFault {
-    ghost use Rattle.std.specs.Prelude.{◌≡◌};
-    ghost use Rattle.adf_export.specs.declared.where_fault.WhereFault.TheVariants.{Memory};
-
-    ghost from_gives = { λ _ fault. fault ≡ Memory };
-
-    fn from(_error: AllocFailed<T>) -> WhereFault {
         WhereFault::Memory
     }
 }

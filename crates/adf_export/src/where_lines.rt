@@ -1,47 +1,32 @@
 //! The lines of blocks with their owners.
-ghost use Rattle.std.specs.Prelude.{◌≡◌, ◌++◌, IfOk, OnOk, flat_map, option_map};
+ghost use Rattle.std.specs.Prelude.{◌≡◌, ◌++◌, IfOk, OnOk, option_map};
 ghost use Rattle.std.specs.String.{string_bytes};
-ghost use Rattle.adf_export.specs.Where.{owner_text, path_text, place_text, seen, slash, span_text, where_line};
+ghost use Rattle.adf_export.specs.Where.{owner_text, path_text, place_text, slash, span_text};
 
+use crate::forms::Tell;
 use crate::owned::{OwnedBlock, Span};
 use crate::places::{cylinder_of, head_of, sector_of};
 use adf_text::push_plain;
 use ados_volume::Owner;
 use std::alloc::{AllocError, Global};
 
-/// A line for each block of a disk with so many blocks.
-pub(crate) fn where_lines(
-    alloc: Global,
-    blocks: u32,
-    told: &[OwnedBlock],
-) -> Result<Vec<u8>, AllocError>
-    ensures { IfOk result (λ text. text.items ≡ flat_map (λ owned. where_line blocks (seen owned)) told.now) }
-{
-    let mut text = Vec::new(alloc);
-    for owned in told {
-        push_line(alloc, &mut text, blocks, owned)?;
-    }
-    Ok(text)
-}
+impl Tell for OwnedBlock {
+    ghost use Rattle.adf_export.specs.Where.{seen, where_line};
 
-/// Appends the line of a block.
-fn push_line(
-    alloc: Global,
-    text: &mut Vec<u8>,
-    blocks: u32,
-    owned: &OwnedBlock,
-) -> Result<(), AllocError>
-    ensures { OnOk result (text.new.items ≡ text.old.items ++ where_line blocks (seen owned.now)) }
-{
-    let place = place_text(alloc, blocks, owned.block)?;
-    let owner = owner_text(alloc, owned.owner)?;
-    text.extend_from_slice(place.as_bytes())?;
-    text.extend_from_slice(owner.as_bytes())?;
-    push_path(text, &owned.path)?;
-    text.extend_from_slice(slash(owned.owner).as_bytes())?;
-    push_span(alloc, text, owned.span)?;
-    text.push(b'\n')?;
-    Ok(())
+    ghost lines_of = { λ blocks owned. where_line blocks (seen owned) };
+
+    /// Appends the line of a block.
+    fn push_lines(&self, alloc: Global, text: &mut Vec<u8>, blocks: u32) -> Result<(), AllocError> {
+        let place = place_text(alloc, blocks, self.block)?;
+        let owner = owner_text(alloc, self.owner)?;
+        text.extend_from_slice(place.as_bytes())?;
+        text.extend_from_slice(owner.as_bytes())?;
+        push_path(text, &self.path)?;
+        text.extend_from_slice(slash(self.owner).as_bytes())?;
+        push_span(alloc, text, self.span)?;
+        text.push(b'\n')?;
+        Ok(())
+    }
 }
 
 /// The line of a block up to its owner.

@@ -1,63 +1,30 @@
 //! The JSON objects of blocks with their owners.
-ghost use Rattle.std.specs.Prelude.{◌≡◌, ◌++◌, ◌∷◌, [], IfOk, OnOk, codes, flat_map, map, option_map};
+ghost use Rattle.std.specs.Prelude.{◌≡◌, ◌++◌, ◌∷◌, [], OnOk, codes, option_map};
 ghost use Rattle.std.specs.String.{string_bytes};
-ghost use Rattle.json.specs.Print.{print};
 ghost use Rattle.json.specs.Token.{key};
 ghost use Rattle.adf_record.specs.Members.{string_token};
-ghost use Rattle.adf_export.specs.Where.{owner_tokens, owner_word, place_tokens, position_of, seen, told_tokens, where_tokens};
+ghost use Rattle.adf_export.specs.Where.{owner_tokens, owner_word, place_tokens, position_of, seen};
 
+use crate::forms::Put;
 use crate::owned::{OwnedBlock, Span};
 use crate::places::{cylinder_of, head_of, sector_of};
 use adf_record::{put_number, put_text};
 use ados_volume::Owner;
 use json::Writer;
-use std::alloc::{AllocError, Global};
+use std::alloc::AllocError;
 
-/// The array of the blocks of a disk with so many blocks, on a line of its own.
-pub(crate) fn where_array(
-    alloc: Global,
-    blocks: u32,
-    told: &[OwnedBlock],
-) -> Result<Vec<u8>, AllocError>
-    ensures { IfOk result (λ text. text.items ≡ print (where_tokens blocks (map seen told.now)) ++ codes "\n") }
-{
-    let mut writer = Writer::new(Vec::new(alloc));
-    put_array(&mut writer, blocks, told)?;
-    let mut text = writer.into_inner();
-    text.push(b'\n')?;
-    Ok(text)
-}
+impl Put for OwnedBlock {
+    ghost use Rattle.adf_export.specs.Where.{seen, told_tokens};
 
-/// Writes the array.
-fn put_array(writer: &mut Writer, blocks: u32, told: &[OwnedBlock]) -> Result<(), AllocError>
-    ensures before { writer.new.before ≡ writer.old.before }
-    ensures tokens { OnOk result (writer.new.tokens ≡ writer.old.tokens ++ where_tokens blocks (map seen told.now)) }
-{
-    writer.begin_array()?;
-    put_objects(writer, blocks, told)?;
-    writer.end_array()
-}
+    ghost tokens_of = { λ blocks owned. told_tokens blocks (seen owned) };
 
-/// Writes the object of each block.
-fn put_objects(writer: &mut Writer, blocks: u32, told: &[OwnedBlock]) -> Result<(), AllocError>
-    ensures before { writer.new.before ≡ writer.old.before }
-    ensures tokens { OnOk result (writer.new.tokens ≡ writer.old.tokens ++ flat_map (λ owned. told_tokens blocks (seen owned)) told.now) }
-{
-    for owned in told {
-        put_object(writer, blocks, owned)?;
+    /// Writes the object of a block.
+    fn put(&self, writer: &mut Writer, blocks: u32) -> Result<(), AllocError> {
+        writer.begin_object()?;
+        put_place(writer, blocks, self.block)?;
+        put_owner(writer, self)?;
+        writer.end_object()
     }
-    Ok(())
-}
-
-/// Writes the object of a block.
-fn put_object(writer: &mut Writer, blocks: u32, owned: &OwnedBlock) -> Result<(), AllocError>
-    ensures before { writer.new.before ≡ writer.old.before }
-    ensures tokens { OnOk result (writer.new.tokens ≡ writer.old.tokens ++ told_tokens blocks (seen owned.now)) }
-{
-    writer.begin_object()?;
-    put_place(writer, blocks, owned.block)?;
-    put_owner(writer, owned)?;
-    writer.end_object()
 }
 
 /// Writes the number of a block and its place on the disk.

@@ -75,7 +75,9 @@ fn locate_words(alloc: Global, volume: &mut Volume, words: &[&str]) -> Result<Ve
             Ok(key) => key,
             Err(fault) => return Err(fault),
         };
-        keys.push(key)?;
+        let Ok(()) = keys.push(key) else {
+            return Err(OutFault::Memory);
+        };
     }
     Ok(keys)
 }

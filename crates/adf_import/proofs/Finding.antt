@@ -1,10 +1,12 @@
 -- Targets that are found, and changes of them.
-use Rattle.std.proofs.Common.{◌≡◌, Option, Result, Ok, Err, sym, ◌∙◌, subst}
+use Rattle.std.proofs.Common.{◌≡◌, ℕ, List, Option, Result, Ok, Err, sym, ◌∙◌, subst}
 use Rattle.std.specs.Prelude.{MatchResult}
+use Rattle.ados_model.specs.declared.dos_error.DosError.{DosError}
 use Rattle.ados_model.specs.Tree.{Tree}
 use Rattle.ados_model.specs.Stands.{Stands}
 use Rattle.ados_volume.specs.Shown.{Shown}
 use Rattle.adf_import.specs.Changes.{Changes}
+use Rattle.adf_import.specs.Paths.{ChangesAt, object_at}
 
 -- a target that is found
 pub at_found : {K E : Type 0} (P : K → Type 0) (Q : E → Type 0) (r : Result K E) (found : K) → r ≡ Ok found → P found → MatchResult r P Q
@@ -20,3 +22,9 @@ same_changes refusal other change again old new (Err error) refuses makes h = (h
 -- a read of a volume before a change
 pub changed_from : {A E : Type 0} (refusal : Tree → Option E) (change : A → Tree → Tree) (old looked new : Shown) (r : Result A E) → looked ≡ old → Changes refusal change looked new r → Changes refusal change old new r
 changed_from refusal change old looked new r same h = subst (λ (v : Shown). Changes refusal change v new r) same h
+
+-- the object at a path is changed
+pub object_changed : (Changed : ℕ → Shown → Shown → Result Unit DosError → Type 0) (path : List ℕ) (key : ℕ) (old looked new : Shown) (r : Result Unit DosError)
+    → ((t : Tree) → Stands old.image t → Ok key ≡ object_at path t) → looked ≡ old → Changed key looked new r → ChangesAt (object_at path) Changed old new r
+object_changed Changed path key old looked new r is same h = λ t s.
+    at_found (λ (k : ℕ). Changed k old new r) _ (object_at path t) key (sym (is t s)) (subst (λ (v : Shown). Changed key v new r) same h)

@@ -4,8 +4,6 @@ pub mod KeysBelow
 pub mod Gathering
 pub mod Pruning
 pub mod Denying
-pub mod Rows
-pub mod Moving
 pub mod Filling
 pub mod Rooms
 pub mod Finding

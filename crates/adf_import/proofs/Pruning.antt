@@ -16,10 +16,10 @@ use Rattle.ados_change.specs.Conditions.{CanRemove, IsUnder}
 use Rattle.ados_change.specs.Conditions.IsUnder.{itself, by_parent as under_parent}
 use Rattle.ados_change.proofs.Changed.{nodes_here, nodes_other, relisted, listed_parents}
 use Rattle.ados_model.specs.Objects.{is_under}
-use Rattle.ados_handler.proofs.Under.{under_is_told}
 use Rattle.ados_volume.proofs.Loops.{no_loop}
 use Rattle.ados_volume.proofs.Distinct.{Contains-one}
 use Rattle.ados_volume.proofs.AllBelow.{StandsUnder}
+use Rattle.ados_volume.proofs.Under.{under_is_told}
 use Rattle.adf_import.specs.Pruned.{AreKeysBelow, pruned}
 use Rattle.adf_import.proofs.KeysBelow.{among, held_key, not_top, own_before}
 

@@ -1,24 +1,24 @@
 -- A file or directory put under a name: in place of the entry with the name, or new.
-use Rattle.std.proofs.Common.{◌≡◌, ℕ, Bool, false, true, not, if◌then◌else◌, List, [], ◌∷◌, Option, Some, None, option_map, Result, Ok, Err, refl, sym, ap, ◌∙◌, subst, is_some}
+use Rattle.std.proofs.Common.{◌≡◌, ℕ, Bool, false, true, not, if◌then◌else◌, List, [], ◌∷◌, Option, Some, None, Result, Ok, Err, refl, sym, ap, ◌∙◌, subst, is_some}
 use Rattle.std.specs.Prelude.{◌&&◌, OnOk, IfOk}
 use Rattle.std.specs.Option.{option_map_or}
+use Rattle.std.proofs.lemmas.Bool.{true≢false}
 use Rattle.ados_name.specs.declared.stamp.Date3.{Date3}
 use Rattle.ados_name.specs.Name.{denies_delete, denies_write}
 use Rattle.ados_model.specs.declared.dos_error.DosError.TheVariants.{DeleteProtected, DiskFull, ObjectExists, ObjectWrongType, WriteProtected}
-use Rattle.ados_model.specs.Tree.{Node, Tree, free}
+use Rattle.ados_model.specs.Tree.{Content, Tree, content_at, free}
 use Rattle.ados_model.specs.Parts.{IsUnused}
 use Rattle.ados_model.specs.Tree.Content.{Directory, File}
 use Rattle.ados_model.specs.Stands.{Stands}
 use Rattle.ados_model.specs.Keys.{HasDirectory, HasEntryKey, HasKey, HasTree}
-use Rattle.ados_model.specs.Change.{made, child_of, is_file}
+use Rattle.ados_model.specs.Change.{made, child_of, holds_file, is_file}
 use Rattle.ados_change.specs.Conditions.{IsDirectoryKey}
 use Rattle.ados_volume.specs.Shown.{Shown}
 use Rattle.ados_model.specs.Objects.{protection_of}
 use Rattle.ados_model.specs.Reads.{lacks}
 use Rattle.ados_model.specs.Refusals.{first_refusal, refuse}
-use Rattle.ados_handler.proofs.Placed.{passed}
-use Rattle.ados_handler.proofs.Rewriting.{file_node}
-use Rattle.ados_handler.proofs.Walked.{child_is_key}
+use Rattle.ados_volume.proofs.Walking.{child_is_key}
+use Rattle.ados_volume.proofs.Refusing.{passed}
 use Rattle.adf_import.specs.declared.new_file.NewFile.{NewFile}
 use Rattle.adf_import.specs.declared.new_file.NotPut.{NotPut}
 use Rattle.adf_import.specs.declared.new_file.NotPut.TheVariants.{NoRoom, Refused}
@@ -103,14 +103,20 @@ add_keeps_from refusal moment dir name file old looked new r same has directory 
     add_keeps refusal moment dir name file old new r has directory (subst (λ (v : Shown). Changes refusal (λ key t. added moment dir key name file t) v new r) same h)
     (subst (λ (v : Shown). IfOk r (λ key. (t : Tree) → Stands v.image t → IsUnused t key)) same unused)
 
+-- the bytes of a file
+file_content : (o : Option Content) → holds_file o ≡ true → (bytes : List ℕ) × (o ≡ Some (File bytes))
+file_content None h = absurd (true≢false (sym h))
+file_content (Some (Directory keys)) h = absurd (true≢false (sym h))
+file_content (Some (File bytes)) h = (bytes, refl)
+
 -- a replaced file keeps them too
 pub replace_keeps : (moment : Date3) (key size : ℕ) (force : Bool) (file : NewFile) (old new : List ℕ) → HasTree old
     → ((t : Tree) → Stands old t → (replace_refusal key size force t ≡ None) × Stands new (filled moment key file t)) → KeepsKeys old new
 replace_keeps moment key size force file old new has h =
     keeps_keys old new (filled moment key file) has (λ t s. (h t s).1)
     (λ t s.
-    let f = file_node t key (replaced_is_file t key size force (h t s).0) in
-    keeps_filled t moment key file f.bytes (ap (option_map (λ (node : Node). node.content)) f.at ∙ ap Some f.content))
+    let f = file_content (content_at t key) (replaced_is_file t key size force (h t s).0) in
+    keeps_filled t moment key file f.0 f.1)
 
 -- a new directory keeps them, and is a directory itself
 module _ (moment : Date3) (dir key : ℕ) (name : List ℕ) (old new : List ℕ) (has : HasTree old) (directory : HasDirectory old dir)

@@ -1,12 +1,13 @@
 -- Arguments that are done in turn, and where they end.
 use Rattle.std.proofs.Common.{◌≡◌, Bor, ℕ, ◌+◌, ◌<◌, Result, Ok, Err, List, [], ◌∷◌, ◌++◌, length, get_or, map, take, drop, Contains, refl, sym, ap, ◌∙◌, subst, arith}
-use Rattle.std.specs.Prelude.{⊤, OnOk}
+use Rattle.std.specs.Prelude.{OnOk}
 use Rattle.std.specs.Str.{chars}
 use Rattle.std.proofs.lemmas.List.{drop_more, get_or-map, length-map, map-append, take-append-drop, take_more}
 use Rattle.std.proofs.lemmas.List.Elements.{Contains-get_or}
 use Rattle.ados_model.specs.declared.dos_error.DosError.{DosError}
 use Rattle.ados_model.specs.Keys.{HasTree}
 use Rattle.ados_volume.specs.Shown.{Shown}
+use Rattle.adf_words.specs.declared.refused.Refused.{Refused as Told}
 use Rattle.adf_import.specs.declared.fault.InFault.{InFault}
 use Rattle.adf_import.specs.declared.fault.InFault.TheVariants.{Bits, Host, HostName, Letter, Memory, NoRoom, Note, Read, Refused, Source, Twins}
 use Rattle.adf_import.specs.Commands.{without_answer}
@@ -66,20 +67,25 @@ module _ (Does : List ℕ → Shown → Shown → Result Unit DosError → Type 
   ends_here (Source why) first h = absurd h
   ends_here Memory first h = tt
 
+-- a refusal is an error with its argument, or memory ran out
+pub told_apart : (P : InFault → Type 0) (error : DosError) (word : List ℕ) (fault : InFault) → IsRefusal error word fault → ((told : Told) → IsRefusal error word (Refused told) → P (Refused told)) → P Memory → P fault
+told_apart P error word (Refused told) is refused memory = refused told is
+told_apart P error word (NoRoom path needed free) is refused memory = absurd is
+told_apart P error word (Letter text) is refused memory = absurd is
+told_apart P error word (Bits text) is refused memory = absurd is
+told_apart P error word (Host fault) is refused memory = absurd is
+told_apart P error word (Read path reason) is refused memory = absurd is
+told_apart P error word (HostName path name why) is refused memory = absurd is
+told_apart P error word (Twins path other) is refused memory = absurd is
+told_apart P error word (Note path fault) is refused memory = absurd is
+told_apart P error word (Source why) is refused memory = absurd is
+told_apart P error word Memory is refused memory = memory
+
 -- an argument is refused
 pub refused_at : (Does : Shown → Shown → Result Unit DosError → Type 0) (word : List ℕ) (old new : Shown) (error : DosError) (fault : InFault)
     → IsRefusal error word fault → Does old new (Err error) → EndsAt Does word old new (Err fault)
-refused_at Does word old new error (Refused told) is h = (subst (λ (e : DosError). Does old new (Err e)) (sym is.0) h, is.1)
-refused_at Does word old new error (NoRoom path needed free) is h = absurd is
-refused_at Does word old new error (Letter text) is h = absurd is
-refused_at Does word old new error (Bits text) is h = absurd is
-refused_at Does word old new error (Host fault) is h = absurd is
-refused_at Does word old new error (Read path reason) is h = absurd is
-refused_at Does word old new error (HostName path name why) is h = absurd is
-refused_at Does word old new error (Twins path other) is h = absurd is
-refused_at Does word old new error (Note path fault) is h = absurd is
-refused_at Does word old new error (Source why) is h = absurd is
-refused_at Does word old new error Memory is h = tt
+refused_at Does word old new error fault is h =
+    told_apart (λ (f : InFault). EndsAt Does word old new (Err f)) error word fault is (λ told is. (subst (λ (e : DosError). Does old new (Err e)) (sym is.0) h, is.1)) tt
 
 -- one of the arguments has a letter past U+00FF
 pub foreign_in : (words : List (List ℕ)) (word : List ℕ) (fault : InFault) → Contains words word → IsLetterFault word fault → IsLetterFaultIn words fault
@@ -110,18 +116,13 @@ not_read words Ends volume (Note path fault) ends is = absurd is
 not_read words Ends volume (Source why) ends is = absurd is
 not_read words Ends volume Memory ends is = ends
 
--- a fault of letters
-abbrev pub IsOfLetters : InFault → Type 0
-IsOfLetters (Letter text) = ⊤
-IsOfLetters _ = ⊥
-
 -- after the arguments are read, it ends like this
 pub was_read : (words : List (List ℕ)) (Ends : Shown → Shown → Result Unit InFault → Type 0) (old new : Shown) (r : Result Unit InFault)
-    → ((fault : InFault) → IsOfLetters fault → Ends old new (Err fault) → ⊥) → Ends old new r → ReadsFirst words Ends old new r
+    → ((text : _) → Ends old new (Err (Letter text)) → ⊥) → Ends old new r → ReadsFirst words Ends old new r
 was_read words Ends old new (Ok a) without h = h
 was_read words Ends old new (Err (Refused told)) without h = h
 was_read words Ends old new (Err (NoRoom path needed free)) without h = h
-was_read words Ends old new (Err (Letter text)) without h = absurd (without (Letter text) tt h)
+was_read words Ends old new (Err (Letter text)) without h = absurd (without text h)
 was_read words Ends old new (Err (Bits text)) without h = h
 was_read words Ends old new (Err (Host fault)) without h = h
 was_read words Ends old new (Err (Read path reason)) without h = h
@@ -131,37 +132,10 @@ was_read words Ends old new (Err (Note path fault)) without h = h
 was_read words Ends old new (Err (Source why)) without h = h
 was_read words Ends old new (Err Memory) without h = h
 
--- the ends that are not about letters
-pub turn_no_letters : (Does : List ℕ → Shown → Shown → Result Unit DosError → Type 0) (words : List (List ℕ)) (old new : Shown) (fault : InFault) → IsOfLetters fault → EndsInTurn Does words old new (Err fault) → ⊥
-turn_no_letters Does words old new (Letter text) is h = h
-turn_no_letters Does words old new (Refused told) is h = absurd is
-turn_no_letters Does words old new (NoRoom path needed free) is h = absurd is
-turn_no_letters Does words old new (Bits text) is h = absurd is
-turn_no_letters Does words old new (Host fault) is h = absurd is
-turn_no_letters Does words old new (Read path reason) is h = absurd is
-turn_no_letters Does words old new (HostName path name why) is h = absurd is
-turn_no_letters Does words old new (Twins path other) is h = absurd is
-turn_no_letters Does words old new (Note path fault) is h = absurd is
-turn_no_letters Does words old new (Source why) is h = absurd is
-turn_no_letters Does words old new Memory is h = absurd is
-
-pub at_no_letters : (Does : Shown → Shown → Result Unit DosError → Type 0) (word : List ℕ) (old new : Shown) (fault : InFault) → IsOfLetters fault → EndsAt Does word old new (Err fault) → ⊥
-at_no_letters Does word old new (Letter text) is h = h
-at_no_letters Does word old new (Refused told) is h = absurd is
-at_no_letters Does word old new (NoRoom path needed free) is h = absurd is
-at_no_letters Does word old new (Bits text) is h = absurd is
-at_no_letters Does word old new (Host fault) is h = absurd is
-at_no_letters Does word old new (Read path reason) is h = absurd is
-at_no_letters Does word old new (HostName path name why) is h = absurd is
-at_no_letters Does word old new (Twins path other) is h = absurd is
-at_no_letters Does word old new (Note path fault) is h = absurd is
-at_no_letters Does word old new (Source why) is h = absurd is
-at_no_letters Does word old new Memory is h = absurd is
-
--- an argument that is read and then refused
-pub refused_read : (words : List (List ℕ)) (Does : Shown → Shown → Result Unit DosError → Type 0) (word : List ℕ) (old new : Shown) (error : DosError) (fault : InFault)
-    → IsRefusal error word fault → Does old new (Err error) → ReadsFirst words (EndsAt Does word) old new (Err fault)
-refused_read words Does word old new error fault is h = was_read words (EndsAt Does word) old new (Err fault) (at_no_letters Does word old new) (refused_at Does word old new error fault is h)
+-- the change of one argument is none of them
+pub read_at : (words : List (List ℕ)) (Does : Shown → Shown → Result Unit DosError → Type 0) (word : List ℕ) (old new : Shown) (r : Result Unit InFault)
+    → EndsAt Does word old new r → ReadsFirst words (EndsAt Does word) old new r
+read_at words Does word old new r h = was_read words (EndsAt Does word) old new r (λ text h. h) h
 
 -- arguments, one by one
 pub first_word : (a b : List ℕ) → Contains (a ∷ b ∷ []) a

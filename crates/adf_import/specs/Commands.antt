@@ -28,6 +28,8 @@ use Rattle.adf_import.specs.declared.each.Each.{Each}
 use Rattle.adf_import.specs.declared.each.Each.TheVariants as each
 use Rattle.adf_import.specs.declared.fault.InFault.{InFault}
 use Rattle.adf_import.specs.declared.fault.InFault.TheVariants.{Bits, Memory, Refused}
+use Rattle.adf_import.specs.declared.paths.EntryChange.{EntryChange}
+use Rattle.adf_import.specs.declared.paths.EntryChange.TheVariants as entry
 use Rattle.adf_import.specs.declared.paths.MoveFault.{MoveFault}
 use Rattle.adf_import.specs.declared.paths.MoveFault.TheVariants.{New, Old}
 
@@ -72,11 +74,6 @@ Deletes moment true force path old new result = ChangesAt (object_at path) (λ k
 Deletes moment false force path old new result =
     ChangesAt (object_at path) (λ key. Changes (delete_refusal key force) (λ _ t. removed moment key t)) old new result
 
--- the effect of a command at each of its paths
-abbrev pub Does : Date3 → Each → List ℕ → Shown → Shown → Result Unit DosError → Type 0
-Does moment (each.Make parents) = MakesWith moment parents
-Does moment (each.Delete all force) = Deletes moment all force
-
 -- the entry at one path moves to another
 abbrev pub Moves : Date3 → List ℕ → List ℕ → Shown → Shown → Result Unit MoveFault → Type 0
 Moves moment from to old new result =
@@ -120,6 +117,19 @@ Comments moment path text old new result = ChangesAt (object_at path) (λ key. C
 -- the volume is renamed
 abbrev pub Relabels : Date3 → List ℕ → Shown → Shown → Result Unit DosError → Type 0
 Relabels moment name old new result = Changes (relabel_refusal name) (λ _ t. disk_renamed moment name t) old new result
+
+-- the change of the entry at a path
+abbrev pub ChangesEntry : Date3 → EntryChange → List ℕ → Shown → Shown → Result Unit DosError → Type 0
+ChangesEntry moment (entry.Delete all force) path = Deletes moment all force path
+ChangesEntry moment (entry.Protect word) path = Protects moment path (word.form, word.letters.now)
+ChangesEntry moment (entry.Date date) path = Dates moment path date
+ChangesEntry moment (entry.Comment text) path = Comments moment path text.now
+
+-- the effect of a command at each of its paths
+abbrev pub Does : Date3 → Each → List ℕ → Shown → Shown → Result Unit DosError → Type 0
+Does moment (each.Make parents) = MakesWith moment parents
+Does moment (each.Entry change) = ChangesEntry moment change
+Does moment each.Relabel = Relabels moment
 
 -- a file has this name in a directory, in place of the one that was there or new; nothing refuses it
 abbrev pub PutsIn : Date3 → ℕ → List ℕ → Bool → Shown → Shown → Type 0

@@ -1,13 +1,15 @@
 -- The refusals of each change, in order.
-use Rattle.std.specs.Prelude.{ℕ, ◌+◌, ◌-◌, nat_lt, Bool, not, ◌&&◌, ◌==◌, if◌then◌else◌, List, [], ◌∷◌, Option, None, Some, is_some}
-use Rattle.ados_model.specs.Tree.{block_cost, Tree, entries, free, root, size_of}
+use Rattle.std.specs.Prelude.{ℕ, ◌+◌, ◌-◌, nat_lt, Bool, false, not, ◌&&◌, ◌==◌, if◌then◌else◌, List, [], ◌∷◌, Option, None, Some, is_some}
+use Rattle.ados_model.specs.Tree.{block_cost, Tree, free, root, size_of}
 use Rattle.ados_name.specs.Name.{denies_delete, denies_write}
 use Rattle.ados_model.specs.declared.dos_error.DosError.{DosError}
-use Rattle.ados_model.specs.declared.dos_error.DosError.TheVariants.{DeleteProtected, DirectoryNotEmpty, DiskFull, ObjectExists, ObjectInUse, ObjectWrongType, WriteProtected}
+use Rattle.ados_model.specs.declared.dos_error.DosError.TheVariants.{DeleteProtected, DiskFull, ObjectExists, ObjectWrongType, WriteProtected}
 use Rattle.ados_model.specs.Change.{child_of, is_file}
-use Rattle.ados_model.specs.Objects.{is_under, protection_of}
+use Rattle.ados_model.specs.Objects.{protection_of}
 use Rattle.ados_model.specs.Reads.{lacks}
-use Rattle.ados_model.specs.Refusals.{first_refusal, is_empty, is_some_and, refuse}
+use Rattle.ados_model.specs.Refusals.{first_refusal, refuse}
+use Rattle.ados_volume.specs.Refusals as volume
+use Rattle.ados_volume.specs.Refusals.{remove_refusal}
 use Rattle.adf_import.specs.declared.new_file.NotPut.{NotPut}
 use Rattle.adf_import.specs.declared.new_file.NotPut.TheVariants.{NoRoom, Refused}
 
@@ -21,23 +23,11 @@ make_refusal dir name t = first_refusal (refuse ObjectExists (is_some (child_of 
 
 -- an entry is deleted; with `force` a protected one too
 abbrev pub delete_refusal : ℕ → Bool → Tree → Option DosError
-delete_refusal key force t =
-    first_refusal (
-    refuse ObjectWrongType (key == root t)
-    ∷ refuse DirectoryNotEmpty (not (is_empty (entries t key)))
-    ∷ refuse DeleteProtected (not force && denies_delete (protection_of t key))
-    ∷ []
-    )
+delete_refusal key force t = remove_refusal t key false force
 
 -- an entry moves into a directory under a name
 abbrev pub move_refusal : ℕ → ℕ → List ℕ → Tree → Option DosError
-move_refusal key dir name t =
-    first_refusal (
-    refuse ObjectWrongType (key == root t)
-    ∷ refuse ObjectExists (is_some_and (λ other. not (other == key)) (child_of t dir name))
-    ∷ refuse ObjectInUse (is_under t key dir)
-    ∷ []
-    )
+move_refusal key dir name t = volume.move_refusal t key dir name false
 
 -- the error, if there is one; else too few free blocks, if so
 abbrev pub or_no_room : Option DosError → ℕ → ℕ → Option NotPut

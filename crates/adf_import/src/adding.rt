@@ -121,10 +121,8 @@ fn put_entry<R: Files>(
         noted: noted_of(rt, alloc, entry)?,
     };
     let HostKind::File { length } = entry.kind else {
-        return match put_directory(alloc, volume, &item, how, progress) {
-            Ok(_) => Ok(()),
-            Err(fault) => Err(fault),
-        };
+        put_directory(alloc, volume, &item, how, progress)?;
+        return Ok(());
     };
     let bytes = read_host(rt, alloc, item.path, most_bytes(volume))?;
     let content = Content {

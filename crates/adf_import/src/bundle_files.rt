@@ -51,10 +51,10 @@ fn read_entry<R: Files>(
     let path = host_path(alloc, directory, &bundle.entries, entry)?;
     match entry.size {
         Some(size) => read_file(rt, alloc, path.as_str(), size, room),
-        None => match refuse_no_directory(rt, alloc, path.as_str()) {
-            Ok(()) => Ok(Vec::new(alloc)),
-            Err(fault) => Err(fault),
-        },
+        None => {
+            refuse_no_directory(rt, alloc, path.as_str())?;
+            Ok(Vec::new(alloc))
+        }
     }
 }
 

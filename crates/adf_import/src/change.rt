@@ -3,11 +3,12 @@
 ghost use Rattle.adf_import.specs.Commands.{ChangesVolume, IsInside, without_answer};
 
 use crate::adding::add;
-use crate::each::{Each, change_each};
+use crate::each::{Each, change_each, change_one};
 use crate::fault::InFault;
 use crate::item::How;
 use crate::one_file::{StandardInput, Target, add_as};
-use crate::single::{rename, set_bits, set_comment, set_date, set_name};
+use crate::paths::EntryChange;
+use crate::single::{rename, set_bits, set_comment};
 use adf_words::Change;
 use ados_name::Date3;
 use ados_volume::Volume;
@@ -49,15 +50,13 @@ pub fn change_volume<R: Files + StandardInput>(
                 force: *force,
                 moment,
             };
-            match add_as(rt, alloc, volume, *source, target, how) {
-                Ok(()) => Ok(Vec::new(alloc)),
-                Err(fault) => Err(fault),
-            }
+            add_as(rt, alloc, volume, *source, target, how)?;
+            Ok(Vec::new(alloc))
         }
-        other => match change_entries(alloc, volume, other, moment) {
-            Ok(()) => Ok(Vec::new(alloc)),
-            Err(fault) => Err(fault),
-        },
+        other => {
+            change_entries(alloc, volume, other, moment)?;
+            Ok(Vec::new(alloc))
+        }
     }
 }
 
@@ -78,18 +77,20 @@ fn change_entries(
             change_each(alloc, volume, paths.as_slice(), each, moment)
         }
         Change::Delete { paths, all, force } => {
-            let each = Each::Delete {
+            let change = EntryChange::Delete {
                 all: *all,
                 force: *force,
             };
+            let each = Each::Entry(change);
             change_each(alloc, volume, paths.as_slice(), each, moment)
         }
         Change::Rename { old, new } => rename(alloc, volume, *old, *new, moment),
         Change::Protect { path, letters } => set_bits(alloc, volume, *path, *letters, moment),
         Change::Date { path, date } => {
-            set_date(alloc, volume, *path, date.unwrap_or(moment), moment)
+            let each = Each::Entry(EntryChange::Date(date.unwrap_or(moment)));
+            change_one(alloc, volume, *path, each, moment)
         }
         Change::Comment { path, text } => set_comment(alloc, volume, *path, *text, moment),
-        Change::Relabel { name } => set_name(alloc, volume, *name, moment),
+        Change::Relabel { name } => change_one(alloc, volume, *name, Each::Relabel, moment),
     }
 }

@@ -1,13 +1,13 @@
 //! Paths that are changed one after the other.
 
-ghost use Rattle.std.specs.Prelude.{All, map};
+ghost use Rattle.std.specs.Prelude.{◌∷◌, [], All, map};
 ghost use Rattle.std.specs.Str.{chars};
 ghost use Rattle.adf_import.specs.Commands.{Does};
 ghost use Rattle.adf_import.specs.Turns.{EndsAt, EndsInTurn, ReadsFirst};
 ghost use Rattle.adf_import.specs.Words.{IsSpelled};
 
 use crate::fault::InFault;
-use crate::paths::{delete_all_at, delete_at};
+use crate::paths::{EntryChange, change_at, relabel_as};
 use crate::ways::{make_one, make_way};
 use crate::words::{Word, words_of};
 use ados_model::DosError;
@@ -17,11 +17,13 @@ use std::alloc::Global;
 
 /// The change at each path.
 #[derive(Clone, Copy)]
-pub(crate) enum Each {
+pub(crate) enum Each<'a> {
     /// Make a directory; with `parents` each missing one on the way too.
     Make { parents: bool },
-    /// Delete the entry; with `all` everything below it too, with `force` protected entries too.
-    Delete { all: bool, force: bool },
+    /// Change the entry.
+    Entry(EntryChange<'a>),
+    /// Rename the volume: the path is its name.
+    Relabel,
 }
 
 /// Changes the volume at each of these paths in turn, up to the first refusal.
@@ -29,15 +31,12 @@ pub(crate) fn change_each(
     alloc: Global,
     volume: &mut Volume,
     paths: &[&str],
-    each: Each,
+    each: Each<'_>,
     moment: Date3,
 ) -> Result<(), InFault>
-    ensures { let words = map (λ word. word.now) paths.now in ReadsFirst words (EndsInTurn (Does moment each) words) volume.old volume.new result }
+    ensures { let words = map (λ word. word.now) paths.now in ReadsFirst words (EndsInTurn (Does moment each.entry) words) volume.old volume.new result }
 {
-    let words = match words_of(alloc, paths) {
-        Ok(words) => words,
-        Err(fault) => return Err(fault),
-    };
+    let words = words_of(alloc, paths)?;
     change_words(alloc, volume, words.as_slice(), each, moment)
 }
 
@@ -45,11 +44,11 @@ fn change_words(
     alloc: Global,
     volume: &mut Volume,
     words: &[Word<'_>],
-    each: Each,
+    each: Each<'_>,
     moment: Date3,
 ) -> Result<(), InFault>
     requires { All IsSpelled words.now }
-    ensures { EndsInTurn (Does moment each) (map (λ word. word.text.now) words.now) volume.old volume.new result }
+    ensures { EndsInTurn (Does moment each.entry) (map (λ word. word.text.now) words.now) volume.old volume.new result }
 {
     for word in words {
         match change_word(alloc, volume, word, each, moment) {
@@ -61,32 +60,46 @@ fn change_words(
     Ok(())
 }
 
+/// Changes the volume at one path.
+pub(crate) fn change_one(
+    alloc: Global,
+    volume: &mut Volume,
+    path: &str,
+    each: Each<'_>,
+    moment: Date3,
+) -> Result<(), InFault>
+    ensures { ReadsFirst (path.now ∷ []) (EndsAt (Does moment each.entry (chars path.now)) path.now) volume.old volume.new result }
+{
+    let word = Word::new(alloc, path)?;
+    change_word(alloc, volume, &word, each, moment)
+}
+
 /// Changes the volume at the path of an argument.
-fn change_word(
+pub(crate) fn change_word(
     alloc: Global,
     volume: &mut Volume,
     word: &Word<'_>,
-    each: Each,
+    each: Each<'_>,
     moment: Date3,
 ) -> Result<(), InFault>
     requires { IsSpelled word.now }
-    ensures { EndsAt (Does moment each (chars word.now.text.now)) word.now.text.now volume.old volume.new result }
+    ensures { EndsAt (Does moment each.entry (chars word.now.text.now)) word.now.text.now volume.old volume.new result }
 {
-    match change_at(alloc, volume, word.bytes(), each, moment) {
+    match change_path(alloc, volume, word.bytes(), each, moment) {
         Ok(()) => Ok(()),
         Err(error) => Err(word.refused(alloc, error)),
     }
 }
 
 /// Changes the volume at a path.
-fn change_at(
+fn change_path(
     alloc: Global,
     volume: &mut Volume,
     path: &[u8],
-    each: Each,
+    each: Each<'_>,
     moment: Date3,
 ) -> Result<(), DosError>
-    ensures { Does moment each path.now volume.old volume.new result }
+    ensures { Does moment each.entry path.now volume.old volume.new result }
 {
     match each {
         Each::Make { parents } => {
@@ -95,11 +108,7 @@ fn change_at(
             }
             make_one(volume, path, moment)
         }
-        Each::Delete { all, force } => {
-            if all {
-                return delete_all_at(alloc, volume, path, force, moment);
-            }
-            delete_at(volume, path, force, moment)
-        }
+        Each::Entry(change) => change_at(alloc, volume, path, change, moment),
+        Each::Relabel => relabel_as(volume, path, moment),
     }
 }

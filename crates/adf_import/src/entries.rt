@@ -1,23 +1,19 @@
 //! Changes of a directory's entries.
 
-ghost use Rattle.std.specs.Prelude.{◌≡◌, ◌==◌, ◌&&◌, not, [], IfOk};
-ghost use Rattle.ados_model.specs.Tree.{Tree, entries};
+ghost use Rattle.std.specs.Prelude.{◌≡◌, [], IfOk};
+ghost use Rattle.ados_model.specs.Tree.{Tree};
 ghost use Rattle.ados_model.specs.Parts.{IsUnused};
 ghost use Rattle.ados_model.specs.Tree.Content.{Directory};
 ghost use Rattle.ados_model.specs.Stands.{Stands};
-ghost use Rattle.ados_model.specs.Change.{made, removed, renamed, child_of};
+ghost use Rattle.ados_model.specs.Change.{made, removed, renamed};
 ghost use Rattle.ados_model.specs.Keys.{HasDirectory, HasKey};
 ghost use Rattle.ados_change.specs.NewBlocks.{KeepsRest};
-ghost use Rattle.ados_name.specs.Name.{denies_delete};
-ghost use Rattle.ados_model.specs.Objects.{is_under, protection_of};
-ghost use Rattle.ados_model.specs.Refusals.{is_empty, is_some_and};
 ghost use Rattle.adf_import.specs.Changes.{Changes};
 ghost use Rattle.adf_import.specs.Refusals.{delete_refusal, make_refusal, move_refusal};
 
-use crate::fields::protection_in;
 use ados_model::DosError;
 use ados_name::{Date3, Name};
-use ados_volume::{Next, NodeKind, Volume, free_blocks};
+use ados_volume::{NodeKind, Volume, free_blocks, move_refusal, remove_refusal};
 
 /// Makes an empty directory and returns its key. The dates of the new directory, of the one above it and of the disk
 /// become `moment`.
@@ -39,8 +35,7 @@ pub fn make_directory(
     if volume.child(dir, &name).is_some() {
         return Err(DosError::ObjectExists);
     }
-    let free = free_blocks(volume);
-    if free < 1 {
+    if free_blocks(volume) < 1 {
         return Err(DosError::DiskFull);
     }
     let Ok(key) = volume.create(dir, name, NodeKind::Directory, moment) else {
@@ -60,14 +55,8 @@ pub fn delete(volume: &mut Volume, key: u32, force: bool, moment: Date3) -> Resu
     ensures keeps { KeepsRest volume.old.image volume.new.image }
     ensures validated { volume.new.was_validated ≡ volume.old.was_validated }
 {
-    if key == volume.root() {
-        return Err(DosError::ObjectWrongType);
-    }
-    if has_entries(volume, key) {
-        return Err(DosError::DirectoryNotEmpty);
-    }
-    if is_denied(volume, key, force) {
-        return Err(DosError::DeleteProtected);
+    if let Some(error) = remove_refusal(volume, key, false, force) {
+        return Err(error);
     }
     volume.remove(key, moment);
     Ok(())
@@ -90,63 +79,9 @@ pub fn move_entry(
     ensures keeps { KeepsRest volume.old.image volume.new.image }
     ensures validated { volume.new.was_validated ≡ volume.old.was_validated }
 {
-    if key == volume.root() {
-        return Err(DosError::ObjectWrongType);
-    }
-    if is_taken(volume, dir, &name, key) {
-        return Err(DosError::ObjectExists);
-    }
-    if is_under(volume, key, dir) {
-        return Err(DosError::ObjectInUse);
+    if let Some(error) = move_refusal(volume, key, dir, &name, false) {
+        return Err(error);
     }
     volume.rename(key, dir, name, moment);
     Ok(())
-}
-
-/// Whether another entry of a directory has the name.
-fn is_taken(volume: &mut Volume, dir: u32, name: &Name, key: u32) -> bool
-    requires { HasDirectory volume.old.image dir }
-    ensures taken { (t : Tree) → Stands volume.old.image t → result ≡ is_some_and (λ other. not (other == key)) (child_of t dir name.now) }
-    ensures same { volume.new ≡ volume.old }
-{
-    match volume.child(dir, name) {
-        Some(other) => other != key,
-        None => false,
-    }
-}
-
-/// Whether the object is a directory with entries.
-fn has_entries(volume: &Volume, key: u32) -> bool
-    requires { HasKey volume.now.image key }
-    ensures { (t : Tree) → Stands volume.now.image t → result ≡ not (is_empty (entries t key)) }
-{
-    !volume.is_file(key) && volume.next(key, key) != Next::End
-}
-
-/// Whether a protection bit denies deletion, without `force`.
-pub(crate) fn is_denied(volume: &Volume, key: u32, force: bool) -> bool
-    requires { HasKey volume.now.image key }
-    ensures { (t : Tree) → Stands volume.now.image t → result ≡ not force && denies_delete (protection_of t key) }
-{
-    let denied = protection_in(volume, key).denies_delete();
-    !force && denied
-}
-
-/// Whether an object is the other one, or is below it. The search ends, because no object has more directories above
-/// it than the volume has blocks.
-fn is_under(volume: &Volume, above: u32, key: u32) -> bool
-    requires { HasKey volume.now.image key }
-    ensures { (t : Tree) → Stands volume.now.image t → result ≡ is_under t above key }
-{
-    let mut key = key;
-    for _step in 0..volume.image().blocks() {
-        if key == above {
-            return true;
-        }
-        match volume.parent(key) {
-            Some(next) => key = next,
-            None => return false,
-        }
-    }
-    key == above
 }

@@ -6,7 +6,6 @@ ghost use Rattle.ados_model.specs.Keys.{HasKey};
 ghost use Rattle.ados_change.specs.NewBlocks.{KeepsRest};
 ghost use Rattle.ados_model.specs.Stands.{Stands};
 ghost use Rattle.ados_model.specs.Tree.{Tree};
-ghost use Rattle.ados_model.specs.Objects.{protection_of};
 ghost use Rattle.adf_import.specs.Changes.{Changes, protected};
 ghost use Rattle.adf_import.specs.Refusals.{root_refusal};
 
@@ -27,18 +26,10 @@ pub fn protect(volume: &mut Volume, key: u32, bits: Protect, moment: Date3) -> R
     if key == volume.root() {
         return Err(DosError::ObjectWrongType);
     }
-    let old = protection_in(volume, key);
+    let old = volume.protection(key);
     let new = 256 * (old.0 / 256) + bits.0 % 256;
     volume.set_protect(key, Protect(new), moment);
     Ok(())
-}
-
-/// The protection bits of an object.
-pub(crate) fn protection_in(volume: &Volume, key: u32) -> Protect
-    requires { HasKey volume.now.image key }
-    ensures { (t : Tree) → Stands volume.now.image t → result.0 ≡ protection_of t key }
-{
-    volume.examine(key).protection
 }
 
 /// Sets the comment of an entry. The disk date becomes `moment`.

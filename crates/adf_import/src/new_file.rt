@@ -14,12 +14,10 @@ ghost use Rattle.adf_import.specs.Refusals.{add_refusal, more_blocks, replace_re
 ghost use Rattle.adf_import.specs.steps.CutBack.{cut_back};
 ghost use Rattle.adf_import.specs.declared.new_file.NotPut.TheVariants.{NoRoom};
 
-use crate::entries::is_denied;
-use crate::fields::protection_in;
 use crate::room::{more_blocks, new_file_blocks};
 use ados_model::DosError;
 use ados_name::{Comment, Date3, Name, Protect};
-use ados_volume::{NodeKind, Volume, free_blocks};
+use ados_volume::{NodeKind, Volume, free_blocks, is_denied};
 
 /// The contents and metadata of a file: its bytes, all 32 protection bits, its comment and its own date.
 #[derive(Clone, Copy)]
@@ -110,7 +108,7 @@ fn is_write_denied(volume: &Volume, key: u32, force: bool) -> bool
     requires { HasKey volume.now.image key }
     ensures { (t : Tree) → Stands volume.now.image t → result ≡ not force && denies_write (protection_of t key) }
 {
-    let denied = protection_in(volume, key).denies_write();
+    let denied = volume.protection(key).denies_write();
     !force && denied
 }
 

@@ -68,14 +68,8 @@ pub(crate) fn add_as<R: Files + StandardInput>(
 ) -> Result<(), InFault>
     ensures { OnOk result (PutsAs how.moment (chars target.entry.to.now) (chars target.entry.name.now) how.force volume.old volume.new) }
 {
-    let place = match place_of(alloc, volume, target) {
-        Ok(place) => place,
-        Err(fault) => return Err(fault),
-    };
-    let given = match read_source(rt, alloc, source, most_bytes(volume), how.moment) {
-        Ok(given) => given,
-        Err(fault) => return Err(fault),
-    };
+    let place = place_of(alloc, volume, target)?;
+    let given = read_source(rt, alloc, source, most_bytes(volume), how.moment)?;
     put_given(alloc, volume, &place, &given, target.name, how)
 }
 
@@ -95,14 +89,8 @@ fn place_of(alloc: Global, volume: &mut Volume, target: Target<'_>) -> Result<Pl
     ensures directory { IfOk result (λ place. HasDirectory volume.old.image place.dir) }
     ensures same { volume.new ≡ volume.old }
 {
-    let to = match Word::new(alloc, target.to) {
-        Ok(to) => to,
-        Err(fault) => return Err(fault),
-    };
-    let name = match name_of(alloc, target.name) {
-        Ok(name) => name,
-        Err(fault) => return Err(fault),
-    };
+    let to = Word::new(alloc, target.to)?;
+    let name = name_of(alloc, target.name)?;
     match directory_at(volume, to.bytes()) {
         Ok(dir) => Ok(Place { dir, name }),
         Err(error) => Err(to.refused(alloc, error)),
@@ -115,10 +103,7 @@ fn place_of(alloc: Global, volume: &mut Volume, target: Target<'_>) -> Result<Pl
 fn name_of(alloc: Global, text: &str) -> Result<Name, InFault>
     ensures { IfOk result (λ name. name ≡ chars text.now) }
 {
-    let word = match Word::new(alloc, text) {
-        Ok(word) => word,
-        Err(fault) => return Err(fault),
-    };
+    let word = Word::new(alloc, text)?;
     match Name::new(word.bytes()) {
         Ok(name) => Ok(name),
         Err(_) => Err(word.refused(alloc, DosError::InvalidComponentName)),

@@ -4,14 +4,14 @@ ghost use Rattle.std.specs.Prelude.{◌≡◌, IfOk, Result, false, true};
 ghost use Rattle.ados_model.specs.Tree.{Tree};
 ghost use Rattle.ados_model.specs.Stands.{Stands};
 ghost use Rattle.ados_model.specs.Change.{renamed};
+ghost use Rattle.ados_model.specs.Edits.{with_comment};
 ghost use Rattle.ados_model.specs.Keys.{HasDirectory, HasKey};
-ghost use Rattle.ados_model.specs.Parts.{IsUnused};
 ghost use Rattle.adf_import.specs.Changes.{Changes};
-ghost use Rattle.adf_import.specs.Commands.{Comments, Dates, Deletes, MakesAt, Moves, Protects, Relabels};
-ghost use Rattle.adf_import.specs.Paths.{directory_at, entry_move_refusal, move_fault, object_at};
+ghost use Rattle.adf_import.specs.Commands.{ChangesEntry, Moves, Relabels};
+ghost use Rattle.adf_import.specs.Paths.{comment_refusal, directory_at, entry_move_refusal, move_fault, object_at};
 
-use crate::entries::{delete, make_directory, move_entry};
-use crate::fields::{comment, protect, protection_in, redate, relabel};
+use crate::entries::{delete, move_entry};
+use crate::fields::{comment, protect, redate, relabel};
 use crate::prune::delete_all;
 use adf_text::ProtectWord;
 use ados_model::DosError;
@@ -19,46 +19,57 @@ use ados_name::{Comment, Date3, Name};
 use ados_volume::{Volume, locate, place};
 use std::alloc::Global;
 
-/// Makes a directory and returns its key.
-///
-/// Errors: those of a place (204, 205, 210, 212), 203 and 221.
-pub(crate) fn make_at(volume: &mut Volume, path: &[u8], moment: Date3) -> Result<u32, DosError>
-    ensures done { MakesAt moment path.now volume.old volume.new result }
-    ensures unused { IfOk result (λ key. (t : Tree) → Stands volume.old.image t → IsUnused t key) }
-{
-    let (dir, name) = place(volume, path)?;
-    make_directory(volume, dir, name, moment)
+/// The change of an entry.
+#[derive(Clone, Copy)]
+pub(crate) enum EntryChange<'a> {
+    /// Delete it; with `all` everything below it too, with `force` protected entries too.
+    Delete { all: bool, force: bool },
+    /// Set its low eight protection bits.
+    Protect(ProtectWord<'a>),
+    Date(Date3),
+    Comment(&'a [u8]),
 }
 
-/// Deletes a file or an empty directory.
+/// Changes the entry at a path.
 ///
-/// Errors: those of a walk (204, 205, 212), 212, 216 and 222.
-pub(crate) fn delete_at(
-    volume: &mut Volume,
-    path: &[u8],
-    force: bool,
-    moment: Date3,
-) -> Result<(), DosError>
-    ensures { Deletes moment false force path.now volume.old volume.new result }
-{
-    let key = object_at(volume, path)?;
-    delete(volume, key, force, moment)
-}
-
-/// Deletes an entry with everything below it.
-///
-/// Errors: those of a walk (204, 205, 212), 212, 222 and 103.
-pub(crate) fn delete_all_at(
+/// Errors: those of a walk (204, 205, 212), 220 for more than 79 bytes of a comment, and those of the change.
+pub(crate) fn change_at(
     alloc: Global,
     volume: &mut Volume,
     path: &[u8],
-    force: bool,
+    change: EntryChange<'_>,
     moment: Date3,
 ) -> Result<(), DosError>
-    ensures { Deletes moment true force path.now volume.old volume.new result }
+    ensures { ChangesEntry moment change.entry path.now volume.old volume.new result }
 {
     let key = object_at(volume, path)?;
-    delete_all(alloc, volume, key, force, moment)
+    match change {
+        EntryChange::Delete { all, force } => {
+            if all {
+                return delete_all(alloc, volume, key, force, moment);
+            }
+            delete(volume, key, force, moment)
+        }
+        EntryChange::Protect(word) => {
+            let bits = word.after(volume.protection(key));
+            protect(volume, key, bits, moment)
+        }
+        EntryChange::Date(date) => redate(volume, key, date, moment),
+        EntryChange::Comment(text) => comment_by(volume, key, text, moment),
+    }
+}
+
+/// Sets the comment of an entry to a text.
+///
+/// Errors: 220 for more than 79 bytes, and 212 for the root.
+fn comment_by(volume: &mut Volume, key: u32, text: &[u8], moment: Date3) -> Result<(), DosError>
+    requires { HasKey volume.old.image key }
+    ensures { Changes (comment_refusal key text.now) (λ _ t. with_comment moment key text.now t) volume.old volume.new result }
+{
+    let Ok(text) = Comment::new(text) else {
+        return Err(DosError::CommentTooBig);
+    };
+    comment(volume, key, &text, moment)
 }
 
 /// Why an entry is not moved, and whether this is about its old or its new path.
@@ -115,55 +126,6 @@ fn move_fault(error: DosError) -> MoveFault
         DosError::ObjectExists => MoveFault::New(error),
         _ => MoveFault::Old(error),
     }
-}
-
-/// Sets the low eight protection bits of an entry by a word.
-///
-/// Errors: those of a walk (204, 205, 212), and 212 for the root.
-pub(crate) fn protect_at(
-    volume: &mut Volume,
-    path: &[u8],
-    word: &ProtectWord<'_>,
-    moment: Date3,
-) -> Result<(), DosError>
-    ensures { Protects moment path.now (word.now.form, word.now.letters.now) volume.old volume.new result }
-{
-    let key = object_at(volume, path)?;
-    let bits = word.after(protection_in(volume, key));
-    protect(volume, key, bits, moment)
-}
-
-/// Sets the date of an entry.
-///
-/// Errors: those of a walk (204, 205, 212), and 212 for the root.
-pub(crate) fn date_at(
-    volume: &mut Volume,
-    path: &[u8],
-    date: Date3,
-    moment: Date3,
-) -> Result<(), DosError>
-    ensures { Dates moment path.now date volume.old volume.new result }
-{
-    let key = object_at(volume, path)?;
-    redate(volume, key, date, moment)
-}
-
-/// Sets the comment of an entry.
-///
-/// Errors: those of a walk (204, 205, 212), 220 for more than 79 bytes, and 212 for the root.
-pub(crate) fn comment_at(
-    volume: &mut Volume,
-    path: &[u8],
-    text: &[u8],
-    moment: Date3,
-) -> Result<(), DosError>
-    ensures { Comments moment path.now text.now volume.old volume.new result }
-{
-    let key = object_at(volume, path)?;
-    let Ok(text) = Comment::new(text) else {
-        return Err(DosError::CommentTooBig);
-    };
-    comment(volume, key, &text, moment)
 }
 
 /// Renames the volume.

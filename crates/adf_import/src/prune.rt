@@ -1,17 +1,15 @@
 //! Deletion of an entry with everything below it.
 
-ghost use Rattle.std.specs.Prelude.{◌≡◌, ◌++◌, false, IfOk, IsTrue, OnOk};
-ghost use Rattle.std.specs.Bool.{IsFalse};
+ghost use Rattle.std.specs.Prelude.{◌≡◌, ◌++◌, false, IfOk, OnOk};
 ghost use Rattle.ados_model.specs.Tree.{Tree, entries};
 ghost use Rattle.ados_model.specs.Stands.{Stands};
 ghost use Rattle.ados_model.specs.Keys.{HasEntryKey, HasKey};
 ghost use Rattle.adf_import.specs.InTurn.{KeepsInTurn};
-ghost use Rattle.adf_import.specs.Pruned.{AreKeysBelow, IsDenied, IsDeniedEntry, Prunes, pruned};
+ghost use Rattle.adf_import.specs.Pruned.{AreKeysBelow, IsDeniedEntry, Prunes, pruned};
 
-use crate::entries::is_denied;
 use ados_model::DosError;
 use ados_name::Date3;
-use ados_volume::{Next, Volume};
+use ados_volume::{Next, Volume, is_denied};
 use std::alloc::{AllocError, Global};
 
 /// Deletes an entry with everything below it, and nothing else. With `force` protected entries too. The date of its
@@ -38,7 +36,7 @@ pub fn delete_all(
         Ok(below) => below,
         Err(_) => return Err(DosError::NoFreeStore),
     };
-    if is_any_denied(volume, key, below.as_slice(), force) {
+    if first_denied(volume, key, below.as_slice(), force).is_some() {
         return Err(DosError::DeleteProtected);
     }
     remove_all(volume, key, below, moment);
@@ -87,16 +85,6 @@ pub fn denied_entry(alloc: Global, volume: &Volume, key: u32) -> Result<Option<u
 {
     let below = keys_below(alloc, volume, key)?;
     Ok(first_denied(volume, key, below.as_slice(), false))
-}
-
-/// Whether a protection bit of the entry, or of one below it, denies deletion, without `force`.
-fn is_any_denied(volume: &Volume, key: u32, below: &[u32], force: bool) -> bool
-    requires key { HasKey volume.now.image key }
-    requires below { (t : Tree) → Stands volume.now.image t → AreKeysBelow t key below.now }
-    ensures denied { IsTrue result → (t : Tree) → Stands volume.now.image t → IsDenied t key force }
-    ensures allowed { IsFalse result → (t : Tree) → Stands volume.now.image t → ¬ IsDenied t key force }
-{
-    first_denied(volume, key, below, force).is_some()
 }
 
 /// The first of the entries below one, or else the entry itself, whose protection bit denies deletion, without `force`.

@@ -1,12 +1,13 @@
-//! Changes by one or two arguments.
+//! Changes by two arguments.
 
 ghost use Rattle.std.specs.Prelude.{◌∷◌, []};
 ghost use Rattle.std.specs.Str.{chars};
-ghost use Rattle.adf_import.specs.Commands.{Comments, Dates, EndsMove, EndsProtect, IsMoveRefusal, Relabels};
+ghost use Rattle.adf_import.specs.Commands.{Comments, EndsMove, EndsProtect, IsMoveRefusal};
 ghost use Rattle.adf_import.specs.Turns.{EndsAt, ReadsFirst};
 
+use crate::each::{Each, change_word};
 use crate::fault::InFault;
-use crate::paths::{MoveFault, comment_at, date_at, move_at, protect_at, relabel_as};
+use crate::paths::{EntryChange, MoveFault, move_at};
 use crate::words::Word;
 use ados_name::Date3;
 use ados_volume::Volume;
@@ -22,14 +23,8 @@ pub(crate) fn rename(
 ) -> Result<(), InFault>
     ensures { ReadsFirst (old.now ∷ new.now ∷ []) (EndsMove moment old.now new.now) volume.old volume.new result }
 {
-    let from = match Word::new(alloc, old) {
-        Ok(from) => from,
-        Err(fault) => return Err(fault),
-    };
-    let to = match Word::new(alloc, new) {
-        Ok(to) => to,
-        Err(fault) => return Err(fault),
-    };
+    let from = Word::new(alloc, old)?;
+    let to = Word::new(alloc, new)?;
     match move_at(volume, from.bytes(), to.bytes(), moment) {
         Ok(()) => Ok(()),
         Err(fault) => Err(refused_move(alloc, &from, &to, fault)),
@@ -68,30 +63,8 @@ pub(crate) fn set_bits(
         Ok(bits) => bits,
         Err(fault) => return Err(fault),
     };
-    match protect_at(volume, word.bytes(), &bits, moment) {
-        Ok(()) => Ok(()),
-        Err(error) => Err(word.refused(alloc, error)),
-    }
-}
-
-/// Sets the date of the entry at a path.
-pub(crate) fn set_date(
-    alloc: Global,
-    volume: &mut Volume,
-    path: &str,
-    date: Date3,
-    moment: Date3,
-) -> Result<(), InFault>
-    ensures { ReadsFirst (path.now ∷ []) (EndsAt (Dates moment (chars path.now) date) path.now) volume.old volume.new result }
-{
-    let word = match Word::new(alloc, path) {
-        Ok(word) => word,
-        Err(fault) => return Err(fault),
-    };
-    match date_at(volume, word.bytes(), date, moment) {
-        Ok(()) => Ok(()),
-        Err(error) => Err(word.refused(alloc, error)),
-    }
+    let each = Each::Entry(EntryChange::Protect(bits));
+    change_word(alloc, volume, &word, each, moment)
 }
 
 /// Sets the comment of the entry at a path.
@@ -104,35 +77,8 @@ pub(crate) fn set_comment(
 ) -> Result<(), InFault>
     ensures { ReadsFirst (path.now ∷ text.now ∷ []) (EndsAt (Comments moment (chars path.now) (chars text.now)) path.now) volume.old volume.new result }
 {
-    let word = match Word::new(alloc, path) {
-        Ok(word) => word,
-        Err(fault) => return Err(fault),
-    };
-    let comment = match Word::new(alloc, text) {
-        Ok(comment) => comment,
-        Err(fault) => return Err(fault),
-    };
-    match comment_at(volume, word.bytes(), comment.bytes(), moment) {
-        Ok(()) => Ok(()),
-        Err(error) => Err(word.refused(alloc, error)),
-    }
-}
-
-/// Renames the volume.
-pub(crate) fn set_name(
-    alloc: Global,
-    volume: &mut Volume,
-    name: &str,
-    moment: Date3,
-) -> Result<(), InFault>
-    ensures { ReadsFirst (name.now ∷ []) (EndsAt (Relabels moment (chars name.now)) name.now) volume.old volume.new result }
-{
-    let word = match Word::new(alloc, name) {
-        Ok(word) => word,
-        Err(fault) => return Err(fault),
-    };
-    match relabel_as(volume, word.bytes(), moment) {
-        Ok(()) => Ok(()),
-        Err(error) => Err(word.refused(alloc, error)),
-    }
+    let word = Word::new(alloc, path)?;
+    let comment = Word::new(alloc, text)?;
+    let each = Each::Entry(EntryChange::Comment(comment.bytes()));
+    change_word(alloc, volume, &word, each, moment)
 }

@@ -6,10 +6,11 @@ ghost use Rattle.adf_import.specs.Commands.{Makes, MakesFront, MakesLast, MakesM
 ghost use Rattle.adf_import.specs.Turns.{EndsOneByOne};
 ghost use Rattle.adf_import.specs.Ways.{ends_front, fronts};
 
-use crate::paths::{directory_at, make_at, object_at};
+use crate::entries::make_directory;
+use crate::paths::{directory_at, object_at};
 use ados_model::DosError;
 use ados_name::Date3;
-use ados_volume::Volume;
+use ados_volume::{Volume, place};
 
 /// Makes a directory.
 ///
@@ -17,7 +18,8 @@ use ados_volume::Volume;
 pub(crate) fn make_one(volume: &mut Volume, path: &[u8], moment: Date3) -> Result<(), DosError>
     ensures { Makes moment path.now volume.old volume.new result }
 {
-    match make_at(volume, path, moment) {
+    let (dir, name) = place(volume, path)?;
+    match make_directory(volume, dir, name, moment) {
         Ok(_) => Ok(()),
         Err(error) => Err(error),
     }
@@ -29,10 +31,8 @@ pub(crate) fn make_one(volume: &mut Volume, path: &[u8], moment: Date3) -> Resul
 pub(crate) fn make_way(volume: &mut Volume, path: &[u8], moment: Date3) -> Result<(), DosError>
     ensures { MakesWay moment path.now volume.old volume.new result }
 {
-    match make_fronts(volume, path, moment) {
-        Ok(()) => make_last(volume, path, moment),
-        Err(error) => Err(error),
-    }
+    make_fronts(volume, path, moment)?;
+    make_last(volume, path, moment)
 }
 
 /// Makes each missing directory on the way to a path.

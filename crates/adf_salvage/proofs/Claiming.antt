@@ -1,7 +1,7 @@
 -- The claims of the blocks, in terms of the sound files.
-use Rattle.std.proofs.Common.{◌≡◌, ◌≢◌, ne_eqb, ℕ, zero, suc, ◌+◌, ◌<◌, ◌==◌, inl, inr, Bool, true, false, MatchBool, All, List, [], ◌∷◌, ◌++◌, length, take, drop, get_or, get_or-set_same, get_or-set_other, length-set, Contains, refl, sym, ap, ◌∙◌, subst, arith}
+use Rattle.std.proofs.Common.{◌≡◌, ◌≢◌, ne_eqb, ℕ, zero, suc, ◌+◌, ◌<◌, ◌==◌, inl, inr, Bool, true, false, MatchBool, All, List, [], ◌∷◌, ◌++◌, length, take, drop, get_or, Contains, refl, sym, ap, ◌∙◌, subst, arith}
 use Rattle.std.proofs.lemmas.Bool.{cases_lt, cases_eq, eq-eqb}
-use Rattle.std.proofs.Math.ListN.{drop_of_length-le, set}
+use Rattle.std.proofs.Math.ListN.{drop_of_length-le}
 use Rattle.std.proofs.Math.Seq.{take-length}
 use Rattle.std.proofs.lemmas.List.{append-nil, get_or_default}
 use Rattle.std.proofs.lemmas.List.Elements.{Contains-append_cases, Contains-append_left, Contains-append_right}
@@ -9,8 +9,7 @@ use Rattle.adf_block.specs.Image.{block_count}
 use Rattle.adf_salvage.specs.declared.claims.Claim.{Claim}
 use Rattle.adf_salvage.specs.declared.claims.Claim.TheVariants.{Free, One, Several}
 use Rattle.adf_salvage.specs.Sound.{IsClaimant, IsIntact, IsWhole, Names, own_blocks}
-use Rattle.adf_salvage.specs.steps.Claims.{AreClaims, AreWhole, IsClaim, IsNoted, claim_at, with_claim}
-use Rattle.adf_salvage.specs.steps.Giving.{mark_at}
+use Rattle.adf_salvage.specs.steps.Claims.{AreClaims, IsClaim, IsNoted, claim_at, with_claim}
 use Rattle.adf_salvage.proofs.SoundParts.{lawful_holders, lawful_data_blocks}
 use Rattle.adf_salvage.proofs.OwnBlocks.{own_inside}
 
@@ -132,19 +131,6 @@ alone_claims out image claims file h l alone = (subst (IsClaim out image (block_
 -- and a whole file alone claims its header
 pub claimed_whole : (out image : List ℕ) (claims : List Claim) (file : ℕ) → AreClaims out image (block_count image) claims → IsWhole out image file → claim_at claims file ≡ One file
 claimed_whole out image claims file h w = whole_noted out image claims h file w.claimant w 0 0 (omega arith)
-
--- one more file is decided
-pub whole_more : (out image : List ℕ) (n : ℕ) (old : List Bool) (answer : Bool) → AreWhole out image n old → n < length old → MatchBool answer (IsWhole out image n) (¬ IsWhole out image n) → AreWhole out image (n + 1) (set old n answer)
-whole_more out image n old answer h inside now = record {
-  size = length-set old n answer ∙ h.size;
-  decided = λ block l. elim (cases_eq block n) [
-    | inl e ↦
-        subst (λ (b : ℕ). MatchBool (mark_at (set old n answer) b) (IsWhole out image b) (¬ IsWhole out image b)) (sym e)
-        (subst (λ (mark : Bool). MatchBool mark (IsWhole out image n) (¬ IsWhole out image n)) (sym (get_or-set_same old n answer false inside)) now)
-    | inr e ↦
-        subst (λ (mark : Bool). MatchBool mark (IsWhole out image block) (¬ IsWhole out image block)) (sym (get_or-set_other old n block answer false e)) (h.decided block (omega (arith, l, e)))
-  ];
-}
 
 -- the blocks of a sound file are indices of a list with an element for each block
 pub all_within : (image : List ℕ) (file : ℕ) → IsIntact image file → (xs : List ℕ) (n : ℕ) → xs ≡ own_blocks image file → n ≡ block_count image → All (λ (block : ℕ). block < n) xs

@@ -136,9 +136,3 @@ module _ (out image : List ℕ) (old new : Found) (more : FindsMore out image ol
 
   pub next_within : k + 1 ≤ length new.blocks.items
   next_within = omega (arith, there, ap length more.grown, length-append old.blocks.items more.more)
-
--- whether a block is a header, as it is read
-pub header_read : (out image : List ℕ) (headers : List Bool) (block : ℕ) (mark read : Bool) → AreHeaders out image headers → block < block_count image → mark ≡ get_or headers block mark → mark ≡ read
-    → MatchBool read (IsHeader out image block) (¬ IsHeader out image block)
-header_read out image headers block mark read h inside is found =
-    subst (λ (b : Bool). MatchBool b (IsHeader out image block) (¬ IsHeader out image block)) (mark_read headers block mark (omega (arith, inside, h.size)) is ∙ found) (h.decided block inside)

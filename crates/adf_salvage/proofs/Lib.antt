@@ -4,6 +4,7 @@ pub mod OwnBlocks
 pub mod Leaving
 pub mod Claiming
 pub mod Growing
+pub mod InOrder
 pub mod Naming
 pub mod Heading
 pub mod Following

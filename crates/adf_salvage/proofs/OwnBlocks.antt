@@ -24,9 +24,6 @@ decided A B false f g = g refl
 pub users_kept : (image : List ℕ) (n : ℕ) (users : List ℕ) → AreUsersBelow image n users → AreUsersBelow image (n + 1) users
 users_kept image n users h = record { size = h.size; below = λ k d l. omega (arith, h.below k d l) }
 
-pub users_more : (image : List ℕ) (n : ℕ) (old new : List ℕ) → AreUsersBelow image n old → length new ≡ length old → All (λ user. user ≤ n) new → AreUsersBelow image (n + 1) new
-users_more image n old new h same below = record { size = same ∙ h.size; below = λ k d l. omega (arith, below k d l) }
-
 module _ (image : List ℕ) (file : ℕ) where
   -- all pointer blocks were gathered
   pub all_holders : (xs : List ℕ) (n : ℕ) → n ≡ suc (extensions_needed image file) → length xs ≡ n → ((p : ℕ) → p < n → slice_index xs p ≡ pointer_block image file p)
@@ -113,6 +110,12 @@ module _ (image : List ℕ) (file : ℕ) where
   pub named_block : (xs : List ℕ) (i holder block : ℕ) → xs ≡ (file ∷ extension_blocks image file) ++ map (data_block image file) (range_with_len 0 i) → i < data_needed image file → holder ≡ get_or xs (i / 72) holder
       → block ≡ long image holder (77 - i % 72) → block ≡ data_block image file i
   named_block xs i holder block e l is read = read ∙ ap (λ (b : ℕ). long image b (77 - i % 72)) (holder_read xs i holder e l is)
+
+  -- the data blocks come last among all blocks
+  pub own_at : (xs : List ℕ) (n i : ℕ) → xs ≡ own_blocks image file → n ≡ data_needed image file → i < data_needed image file → slice_index xs (length xs - n + i) ≡ data_block image file i
+  own_at xs n i e count l =
+      let at : length xs - n + i ≡ suc (extensions_needed image file) + i = omega (arith, ap length e, count, length-own image file) in
+      ap (λ (ys : List ℕ). slice_index ys (length xs - n + i)) e ∙ ap (slice_index (own_blocks image file)) at ∙ own-data image file i ∙ data-at image file i l
 
   pub own_inside : HasHolders image file → HasData image file → (k : ℕ) → k < length (own_blocks image file) → IsInside (block_count image) (slice_index (own_blocks image file) k)
   own_inside h d k l = elim (cases_lt k (suc (extensions_needed image file))) [

@@ -10,8 +10,8 @@ use Rattle.adf_salvage.specs.declared.claims.Claim.{Claim}
 use Rattle.adf_salvage.specs.declared.claims.Claim.TheVariants.{Free, One, Several}
 use Rattle.adf_salvage.specs.Deleted.{AreAllFree, HasCount, IsShared, IsUsed}
 use Rattle.adf_salvage.specs.Sound.{IsClaimant, IsIntact, IsWhole, Names, own_blocks}
-use Rattle.adf_salvage.specs.steps.Claims.{IsClaim, claim_at}
-use Rattle.adf_salvage.specs.steps.Deleting.{AreAllClaims, is_several}
+use Rattle.adf_salvage.specs.steps.Claims.{AreAllClaims, IsClaim, claim_at}
+use Rattle.adf_salvage.specs.steps.Deleting.{is_several}
 use Rattle.adf_salvage.proofs.Claiming.{own_within}
 use Rattle.adf_salvage.proofs.Leaving.{none_contained}
 use Rattle.adf_salvage.proofs.OwnBlocks.{own_inside}
@@ -42,7 +42,7 @@ module _ (image : List ℕ) (file : ℕ) (i : IsIntact image file) where
       let none = subst (All (λ block. ¬ IsUsed image block)) e unused in
       free_by image (get_or (own_blocks image file) k d) inside (none k d l) (has_free_bit image (get_or (own_blocks image file) k d)) refl
 
-  module _ (claims : List Claim) (h : AreAllClaims image claims) where
+  module _ (claims : List Claim) (h : AreAllClaims [] image claims) where
     -- the claim of a block of the file says whether another sound file names it
     shared_by : (block : ℕ) → Names image file block → (c : Claim) → IsClaim [] image (block_count image) block c → MatchBool (is_several c) (IsShared image file block) (¬ IsShared image file block)
     shared_by block m Free told = absurd (told file i.header.inside.1 (claimant_of image file i) m)

@@ -58,15 +58,6 @@ broken_set (x ∷ xs) zero e l = omega arith
 broken_set (x ∷ xs) (suc n) e l = omega (arith, broken_set xs n e (omega (arith, l)))
 
 module _ (out image : List ℕ) (next : ℕ) (old new : Gathered) (s : AreSettled out image next old) (places : new.places.items ≡ old.places.items) (giving : IsGiving image new.giving) where
-  -- blocks were given, but no bytes
-  pub settles_given : new.entries.items ≡ old.entries.items → new.giving.left ≡ old.giving.left → AreSettled out image next new
-  settles_given same left = record {
-    salvaged = subst (AreSalvaged out image) (sym same) s.salvaged;
-    placed = λ block there. subst (λ (ps : List (Option ℕ)). IsSome (place_at ps block) ⊎ (block < next)) (sym places) (s.placed block (subst (λ (es : List Salvaged). Contains (headers_of es) block) same there));
-    giving = giving;
-    bounded = omega (arith, s.bounded, ap broken_total same, left);
-  }
-
   -- one more file without a header
   pub settles_more : (e : Salvaged) (header : ℕ) → next ≤ header → (IsSome (place_at old.places.items header) → ⊥) → e.header ≡ header → IsLoose out image header e.state
       → new.entries.items ≡ old.entries.items ++ e ∷ [] → broken_length e.state + new.giving.left ≡ old.giving.left → AreSettled out image (header + 1) new

@@ -1,5 +1,5 @@
 -- Whether a bitmap can be trusted, by the faults of the image.
-use Rattle.std.proofs.Common.{◌≡◌, ℕ, ◌+◌, ◌-◌, ◌/◌, ◌<◌, inl, inr, Bool, true, false, not, MatchBool, List, [], All, Contains, Option, Some, None, MatchOption, is_some, refl, sym, ◌∙◌, subst, arith}
+use Rattle.std.proofs.Common.{◌≡◌, ℕ, ◌+◌, ◌-◌, ◌/◌, ◌<◌, inl, inr, Bool, true, false, MatchBool, List, [], get_or, All, Contains, Option, Some, refl, sym, ◌∙◌, subst, arith}
 use Rattle.std.proofs.lemmas.Bool.{cases_order}
 use Rattle.adf_block.specs.Image.{long}
 use Rattle.adf_block.specs.Whole.{IsImage}
@@ -61,24 +61,19 @@ module _ (image : List ℕ) (faults : List VolumeFault) (shown : All (λ fault. 
         met (λ fault. ¬ IsDoubt image fault) none MarkedFree block (doubts.free block bit) (inl refl);
   }
 
-  shown_at : (fault : VolumeFault) → Contains faults fault → Shows image fault.kind fault.block
-  shown_at fault (k, l, e) = subst (λ (g : VolumeFault). Shows image g.kind g.block) e (shown k fault l)
-
-  pub doubted_by : (fault : VolumeFault) → Contains faults fault → IsDoubt image fault → ¬ IsTrustedBitmap image
-  doubted_by fault there doubt t = elim doubt [
+  -- and a trusted bitmap leaves none
+  trusted_none : IsTrustedBitmap image → All (λ fault. ¬ IsDoubt image fault) faults
+  trusted_none t k d l doubt = elim doubt [
     | inl e ↦
-        let free : IsReachedAndFree image fault.block = subst (λ (kind : FaultKind). Shows image kind fault.block) e (shown_at fault there) in
-        t.in_use fault.block free.role free.reached free.free
-    | inr e ↦ t.root fault.kind (subst (Shows image fault.kind) e (shown_at fault there))
+        let free : IsReachedAndFree image (get_or faults k d).block = subst (λ (kind : FaultKind). Shows image kind (get_or faults k d).block) e (shown k d l) in
+        t.in_use (get_or faults k d).block free.role free.reached free.free
+    | inr e ↦ t.root (get_or faults k d).kind (subst (Shows image (get_or faults k d).kind) e (shown k d l))
   ]
 
-  -- the first doubt decides, if there is one
-  pub trust_decided : IsImage image → HasValidBitmap image → AreTrustedPages image → (first : Option VolumeFault) (none : Bool) → is_some first ≡ not none
-      → MatchOption first (All (λ fault. ¬ IsDoubt image fault) faults) (λ fault. Contains faults fault × IsDoubt image fault) → MatchBool none (IsTrustedBitmap image) (¬ IsTrustedBitmap image)
-  trust_decided im valid pages (Some fault) true e d = absurd (cc e)
-  trust_decided im valid pages (Some fault) false e d = doubted_by fault d.0 d.1
-  trust_decided im valid pages None true e d = trusted_by im valid pages d
-  trust_decided im valid pages None false e d = absurd (cc e)
+  -- so the doubts decide
+  pub trust_decided : IsImage image → HasValidBitmap image → AreTrustedPages image → (none : Bool) → MatchBool none (All (λ fault. ¬ IsDoubt image fault) faults) (¬ All (λ fault. ¬ IsDoubt image fault) faults) → MatchBool none (IsTrustedBitmap image) (¬ IsTrustedBitmap image)
+  trust_decided im valid pages true all = trusted_by im valid pages all
+  trust_decided im valid pages false some = λ t. some (trusted_none t)
 
 -- an image without faults shows nothing that a list would lack
 pub no_doubts : (image : List ℕ) → ShowsNoFault image → ListsDoubts image []

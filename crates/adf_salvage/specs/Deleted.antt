@@ -1,5 +1,5 @@
 -- Deleted entries: what is left of an entry that was removed, and how much of a deleted file can be had back.
-use Rattle.std.specs.Prelude.{◌≡◌, ◌≢◌, ◌⊎◌, ℕ, ◌<◌, Bool, true, false, MatchBool, IfSome, List, [], length, map, count_by, All, AllPairs, Contains, Option, Some, None}
+use Rattle.std.specs.Prelude.{◌≡◌, ◌≢◌, ℕ, ◌<◌, Bool, MatchBool, IfSome, List, [], length, map, count_by, All, AllPairs, Contains, Option, Some, None}
 use Rattle.adf_block.specs.Image.{block_sum}
 use Rattle.adf_block.specs.Whole.{HasFreeBit}
 use Rattle.ados_map.specs.Pages.{page_block, pages_of}

@@ -2,7 +2,7 @@
 ghost use Rattle.std.specs.Prelude.{◌≡◌, ◌+◌, ◌<◌, ℕ, length, All, IfOk, OnOk, MatchBool, MatchOption};
 ghost use Rattle.adf_block.specs.Image.{block_count};
 ghost use Rattle.adf_salvage.specs.Sound.{IsClaimant, own_blocks};
-ghost use Rattle.adf_salvage.specs.steps.Claims.{AreClaims, IsNoted, claim_at, with_claim};
+ghost use Rattle.adf_salvage.specs.steps.Claims.{AreAllClaims, IsNoted, claim_at, with_claim};
 ghost use Rattle.adf_salvage.specs.steps.Parts.{AreUsersBelow};
 ghost use Rattle.adf_salvage.specs.declared.claims.Claim.TheVariants.{One as one};
 
@@ -41,8 +41,7 @@ pub(crate) fn claims(
     image: &Image,
     left_out: &LeftOut,
 ) -> Result<Vec<Claim>, AllocError>
-    ensures count { IfOk result (λ claims. length claims.items ≡ block_count image.now) }
-    ensures claims { IfOk result (λ claims. AreClaims left_out.now image.now (block_count image.now) claims.items) }
+    ensures { IfOk result (λ claims. AreAllClaims left_out.now image.now claims.items) }
 {
     let mut claims = vec![in alloc; Claim::Free; image.blocks() as usize]?;
     let mut users = no_users(alloc, image)?;
@@ -92,10 +91,7 @@ pub(crate) fn are_alone(claims: &[Claim], file: u32, blocks: &[u32]) -> bool
     requires { All (λ block. block < length claims.now) blocks.now }
     ensures { MatchBool result (All (λ block. claim_at claims.now block ≡ one file) blocks.now) (¬ All (λ block. claim_at claims.now block ≡ one file) blocks.now) }
 {
-    for block in blocks {
-        if claims[*block as usize] != Claim::One(file) {
-            return false;
-        }
-    }
-    true
+    blocks
+        .iter()
+        .all(|block| claims[*block as usize] == Claim::One(file))
 }

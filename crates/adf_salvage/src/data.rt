@@ -1,44 +1,36 @@
 //! The data blocks of a file.
-ghost use Rattle.std.specs.Prelude.{◌≡◌, ◌<◌, ◌-◌, ◌*◌, ◌++◌, ◌∷◌, ◌↔◌, min, IfOk, IsTrue, MatchBool};
+ghost use Rattle.std.specs.Prelude.{◌≡◌, ◌<◌, ◌-◌, ◌*◌, ◌↔◌, min, IsTrue, MatchBool};
 ghost use Rattle.adf_block.specs.Image.{block_count, long};
 ghost use Rattle.adf_block.specs.Fields.{file_size, format_of};
 ghost use Rattle.adf_block.specs.declared.layout.Format.TheVariants.{Ofs};
 ghost use Rattle.ados_model.specs.Stands.{HasOfsData};
-ghost use Rattle.ados_model.specs.File.{data_blocks, extension_blocks};
+ghost use Rattle.adf_salvage.specs.Sound.{own_blocks};
 ghost use Rattle.adf_salvage.specs.steps.Giving.{IsOwnData};
-ghost use Rattle.adf_salvage.specs.steps.Parts.{HasData, HasHolders, IsDataBlock, data_needed};
+ghost use Rattle.adf_salvage.specs.steps.Parts.{HasData, HasHolders, IsDataBlock};
 
+use crate::holders::data_needed;
 use adf_block::layout::{
-    BOOT_BLOCKS, DATA_TYPE, FILE_SIZE, FIRST_POINTER, HELD, NEXT_DATA, OFS_ROOM, OWN_KEY,
-    PRIMARY_TYPE, SEQUENCE, TABLE_LONGS,
+    BOOT_BLOCKS, DATA_TYPE, FILE_SIZE, HELD, NEXT_DATA, OFS_ROOM, OWN_KEY, PRIMARY_TYPE, SEQUENCE,
 };
 use adf_block::{Format, Image};
-use std::alloc::AllocError;
 
-/// Adds the data blocks of a file after its pointer blocks, if each has the right fields for its position.
-pub(crate) fn push_data(
-    image: &Image,
-    file: u32,
-    needed: u32,
-    blocks: &mut Vec<u32>,
-) -> Result<bool, AllocError>
-    requires needed { needed ≡ data_needed image.now file }
+/// Whether the data blocks of a file have the right fields for their positions. `blocks` are all blocks that its pointers name.
+pub(crate) fn has_data(image: &Image, file: u32, blocks: &[u32]) -> bool
     requires holders { HasHolders image.now file }
-    requires blocks { blocks.old.items ≡ file ∷ extension_blocks image.now file }
-    ensures { IfOk result (λ right. MatchBool right
-        (HasData image.now file × (blocks.new.items ≡ blocks.old.items ++ data_blocks image.now file)) (¬ HasData image.now file)) }
+    requires blocks { blocks.now ≡ own_blocks image.now file }
+    ensures { MatchBool result (HasData image.now file) (¬ HasData image.now file) }
 {
+    let needed = data_needed(image, file);
+    let first = blocks.len() - needed as usize;
     let mut before = file;
     for i in 0..needed {
-        let holder = blocks[(i / TABLE_LONGS) as usize];
-        let block = image.long(holder, FIRST_POINTER - i % TABLE_LONGS);
+        let block = blocks[first + i as usize];
         if !is_data(image, file, i, before, block) {
-            return Ok(false);
+            return false;
         }
-        blocks.push(block)?;
         before = block;
     }
-    Ok(is_last(image, before))
+    is_last(image, before)
 }
 
 /// Whether no data block follows. Only OFS has links between data blocks.

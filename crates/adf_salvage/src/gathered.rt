@@ -49,21 +49,17 @@ impl Gathered {
 
     /// Whether a block is a header that is told and was not found before.
     pub(crate) fn is_new(&self, image: &Image, known: &Known, block: u32) -> bool
-        requires size { length self.now.places.items ≡ block_count image.now }
         requires known { AreKnown image.now known.now }
         ensures { IsTrue result ↔ IsNew known.now.left_out image.now self.now.places.items block }
     {
-        block < image.blocks()
-            && self.places[block as usize].is_none()
-            && known.headers[block as usize]
+        !self.has(block) && known.is_header(image, block)
     }
 
     /// Whether a block has an entry.
     pub(crate) fn has(&self, block: u32) -> bool
-        requires { block < length self.now.places.items }
         ensures { IsTrue result ↔ IsSome (place_at self.now.places.items block) }
     {
-        self.places[block as usize].is_some()
+        (block as usize) < self.places.len() && self.places[block as usize].is_some()
     }
 
     /// The position of the entry of a directory, if its header was found.
@@ -103,7 +99,7 @@ impl Gathered {
             unreachable!()
         };
         let place = self.entries.len();
-        let state = state_of(image, known, block, place, &mut self.giving)?;
+        let state = state_of(alloc, image, known, block, place, &mut self.giving)?;
         let endings = self.names.take(alloc, standing, name.bytes(), block)?;
         let entry = told_of(image, block, standing, endings, state);
         self.entries.push(entry)?;
@@ -125,10 +121,9 @@ impl Gathered {
     /// Where an entry is that a slot of the root or of a directory names.
     fn standing_in(&self, dir: u32) -> Standing {
         let above = self.directory(dir);
-        let found = match above {
-            Some(place) => self.entries.get(place).is_some_and(|entry| entry.found),
-            None => false,
-        };
+        let found = above
+            .and_then(|place| self.entries.get(place))
+            .is_some_and(|entry| entry.found);
         Standing { above, found }
     }
 
@@ -173,13 +168,6 @@ impl Gathered {
 }
 
 impl Gathered {
-    /// Whether a header has an entry that was gathered.
-    pub(crate) fn is_there(&self, header: u32) -> bool
-        ensures { IsTrue result ↔ IsSome (place_at self.now.places.items header) }
-    {
-        (header as usize) < self.places.len() && self.places[header as usize].is_some()
-    }
-
     /// Adds the entry of a file without a header, as a recovered one. Its header needs no place.
     pub(crate) fn add_loose(
         &mut self,

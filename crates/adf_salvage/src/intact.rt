@@ -2,9 +2,9 @@
 ghost use Rattle.std.specs.Prelude.{◌≡◌, ◌+◌, ◌<◌, ◌≤◌, length, IfOk, OnOk, MatchBool, MatchOption, All};
 ghost use Rattle.adf_block.specs.Image.{block_count};
 ghost use Rattle.adf_salvage.specs.Sound.{IsIntact, own_blocks};
-ghost use Rattle.adf_salvage.specs.steps.Parts.{AreOnce, AreUsersBelow};
+ghost use Rattle.adf_salvage.specs.steps.Parts.{AreOnce, AreUsersBelow, HasHolders};
 
-use crate::data::push_data;
+use crate::data::has_data;
 use crate::header::{is_file, is_sound_header};
 use crate::holders::{data_needed, holders};
 use adf_block::Image;
@@ -29,14 +29,10 @@ pub(crate) fn own_blocks(
     if !is_sound_header(image, file) || !is_file(image, file) {
         return Ok(None);
     }
-    let needed = data_needed(image, file);
-    if needed > image.blocks() {
-        return Ok(None);
-    }
-    let Some(mut blocks) = holders(alloc, image, file, needed)? else {
+    let Some(blocks) = named_blocks(alloc, image, file)? else {
         return Ok(None);
     };
-    if !push_data(image, file, needed, &mut blocks)? {
+    if !has_data(image, file, &blocks) {
         return Ok(None);
     }
     if !are_once(file, &blocks, users) {
@@ -53,7 +49,7 @@ pub(crate) fn named_blocks(
     file: u32,
 ) -> Result<Option<Vec<u32>>, AllocError>
     requires { file < block_count image.now }
-    ensures { IfOk result (λ found. MatchOption found (¬ IsIntact image.now file) (λ blocks. blocks.items ≡ own_blocks image.now file)) }
+    ensures { IfOk result (λ found. MatchOption found (¬ IsIntact image.now file) (λ blocks. HasHolders image.now file × (blocks.items ≡ own_blocks image.now file))) }
 {
     let needed = data_needed(image, file);
     if needed > image.blocks() {

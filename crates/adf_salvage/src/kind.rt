@@ -34,13 +34,12 @@ pub(crate) fn with_kind(image: Image) -> Image
 
 /// Whether a block is an OFS data block with a right checksum that names the sound header of a file.
 fn has_ofs_data(image: &Image) -> bool {
-    for block in 0..image.blocks() {
-        if image.long(block, PRIMARY_TYPE) == DATA_TYPE && image.sum(block) == 0 {
-            let file = image.long(block, OWN_KEY);
-            if file < image.blocks() && is_sound_header(image, file) && is_file(image, file) {
-                return true;
-            }
-        }
-    }
-    false
+    (0..image.blocks()).any(|block| {
+        let file = image.long(block, OWN_KEY);
+        image.long(block, PRIMARY_TYPE) == DATA_TYPE
+            && image.sum(block) == 0
+            && file < image.blocks()
+            && is_sound_header(image, file)
+            && is_file(image, file)
+    })
 }

@@ -5,7 +5,7 @@ ghost use Rattle.ados_model.specs.Accepted.{Accepts};
 ghost use Rattle.adf_salvage.specs.Deleted.{IsTrustedBitmap, TellsTrust};
 ghost use Rattle.adf_salvage.specs.Salvaged.{AreDeleted};
 
-use crate::trust::{is_deleted, is_trusted, trusted_marks};
+use crate::trust::{is_deleted, is_trusted, marks_of_faulty};
 use adf_block::Image;
 use adf_block::layout::BOOT_BLOCKS;
 use ados_volume::Volume;
@@ -38,7 +38,7 @@ pub(crate) fn left_out_of(alloc: Global, image: &Image) -> Result<(LeftOut, bool
     ensures deleted { IfOk result (λ left. AreDeleted image.now left.0) }
     ensures trust { IfOk result (λ left. TellsTrust image.now left.1) }
 {
-    if trusted_marks(alloc, image)?.is_none() {
+    if marks_of_faulty(alloc, image)?.is_none() {
         return Ok((LeftOut::none(alloc), false));
     }
     let headers = deleted_headers(alloc, image)?;
@@ -64,7 +64,7 @@ pub(crate) fn deleted_in(alloc: Global, volume: &Volume) -> Result<(Vec<u32>, bo
 }
 
 /// The headers of the deleted entries of an image with a trusted bitmap.
-fn deleted_headers(alloc: Global, image: &Image) -> Result<Vec<u32>, AllocError>
+pub(crate) fn deleted_headers(alloc: Global, image: &Image) -> Result<Vec<u32>, AllocError>
     requires { IsTrustedBitmap image.now }
     ensures { IfOk result (λ headers. AreDeleted image.now headers.items) }
 {

@@ -67,7 +67,7 @@ impl Parts {
         let mut items = Vec::new(alloc);
         for block in BOOT_BLOCKS..image.blocks() {
             let (header, number) = (image.long(block, OWN_KEY), image.long(block, SEQUENCE));
-            if number > 0 && is_loose(image, header, block) && !is_told(image, known, header) {
+            if number > 0 && is_loose(image, header, block) && !known.is_header(image, header) {
                 items.push(Part {
                     header,
                     number,
@@ -85,23 +85,14 @@ impl Parts {
     {
         let first = self.items.partition_point(|part| part.header < header);
         let end = self.items.partition_point(|part| part.header <= header);
-        if first >= end || self.are_deleted(image, first, end) {
+        if first >= end {
             return &[];
         }
-        &self.items[first..end]
-    }
-
-    /// Whether a bitmap that can be trusted marks all of these free.
-    fn are_deleted(&self, image: &Image, first: usize, end: usize) -> bool
-        requires trust { self.now.trusted ≡ true → IsTrustedBitmap image.now }
-        requires inside { end ≤ length self.now.items.items }
-    {
-        for at in first..end {
-            if !self.trusted || !is_marked_free(image, self.items[at].block) {
-                return false;
-            }
+        let parts = &self.items[first..end];
+        if self.trusted && parts.iter().all(|part| is_marked_free(image, part.block)) {
+            return &[];
         }
-        true
+        parts
     }
 }
 
@@ -115,14 +106,6 @@ fn is_loose(image: &Image, header: u32, block: u32) -> bool
         && image.long(block, PRIMARY_TYPE) == DATA_TYPE
         && image.long(block, OWN_KEY) == header
         && image.sum(block) == 0
-}
-
-/// Whether a number is that of a header that is told.
-fn is_told(image: &Image, known: &Known, header: u32) -> bool
-    requires { AreKnown image.now known.now }
-    ensures { MatchBool result (IsHeader known.now.left_out image.now header) (¬ IsHeader known.now.left_out image.now header) }
-{
-    header < image.blocks() && known.headers[header as usize]
 }
 
 /// Whether a trusted bitmap marks a block free.
@@ -216,7 +199,7 @@ fn add_file(
     ensures { OnOk result ((next : ℕ) → next ≤ header → AreSettled known.now.left_out image.now next gathered.old
         → AreSettled known.now.left_out image.now (header + 1) gathered.new) }
 {
-    if gathered.is_there(header) {
+    if gathered.has(header) {
         return Ok(());
     }
     let place = gathered.entries.len();
@@ -244,7 +227,7 @@ fn loose_state(
     ensures giving { OnOk result (IsGiving image.now giving.new) }
     ensures left { IfOk result (λ state. MatchOption state (giving.new.left ≡ giving.old.left) (λ state. broken_length state + giving.new.left ≡ giving.old.left)) }
 {
-    if is_told(image, known, header) {
+    if known.is_header(image, header) {
         return Ok(None);
     }
     let Some(remains) = give(image, header, place, parts.naming(image, header), giving)? else {
@@ -270,9 +253,9 @@ fn give(
     ensures left { giving.new.left ≡ giving.old.left }
 {
     let mut there = 0_u32;
-    let mut last = None;
+    let mut last: Option<Part> = None;
     for part in parts {
-        if !is_again(last, part)
+        if !last.is_some_and(|last| last.number == part.number)
             && is_loose(image, header, part.block)
             && giving.is_open(part.block)
         {
@@ -288,14 +271,6 @@ fn give(
     match last {
         Some(last) => Ok(Some(remains_of(image, last, there))),
         None => Ok(None),
-    }
-}
-
-/// Whether a data block has the number of the last one.
-fn is_again(last: Option<Part>, part: &Part) -> bool {
-    match last {
-        Some(last) => last.number == part.number,
-        None => false,
     }
 }
 

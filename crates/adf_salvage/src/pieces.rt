@@ -1,5 +1,5 @@
 //! The bytes of a broken file.
-ghost use Rattle.std.specs.Prelude.{◌≡◌, ◌<◌, ◌≤◌, ℕ, length, All, IfOk};
+ghost use Rattle.std.specs.Prelude.{◌≡◌, ◌<◌, ℕ, length, All, IfOk};
 ghost use Rattle.adf_block.specs.Image.{block_count};
 ghost use Rattle.adf_salvage.specs.Saved.{IsPieced};
 ghost use Rattle.adf_salvage.specs.steps.Keeping.{IsPutAt};
@@ -22,7 +22,8 @@ pub(crate) fn pieced(
 {
     let room = BLOCK - data_start(image);
     let mut bytes = vec![in alloc; 0_u8; count]?;
-    for at in first_piece(pieces, place)..pieces.len() {
+    // The pieces are in the order of the files.
+    for at in pieces.partition_point(|piece| piece.place < place)..pieces.len() {
         let piece = pieces[at];
         if piece.place != place {
             break;
@@ -30,23 +31,6 @@ pub(crate) fn pieced(
         put(image, piece.block, &mut bytes, piece.at as usize * room);
     }
     Ok(bytes)
-}
-
-/// Where the pieces of a file begin, which are in the order of the files.
-fn first_piece(pieces: &[Piece], place: usize) -> usize
-    ensures { result ≤ length pieces.now }
-{
-    let mut low = 0;
-    let mut high = pieces.len();
-    while low < high {
-        let middle = low + (high - low) / 2;
-        if pieces[middle].place < place {
-            low = middle + 1;
-        } else {
-            high = middle;
-        }
-    }
-    low
 }
 
 /// Puts the data of a block at a place, as far as there is room.

@@ -1,11 +1,11 @@
 //! How much of a deleted entry can be had back.
-ghost use Rattle.std.specs.Prelude.{◌≡◌, ◌+◌, ◌<◌, ℕ, All, IfOk, IfSome, MatchOption, OnOk, count_by, length};
+ghost use Rattle.std.specs.Prelude.{[], ◌≡◌, ◌+◌, ◌<◌, ℕ, All, IfOk, IfSome, MatchOption, OnOk, count_by, length};
 ghost use Rattle.adf_block.specs.Image.{block_count};
 ghost use Rattle.ados_model.specs.Faults.{HasFileType};
 ghost use Rattle.adf_salvage.specs.Deleted.{HasRecovery, IsTrustedBitmap, IsUsed, IsUser, UsesOne, entry_in};
 ghost use Rattle.adf_salvage.specs.Sound.{IsIntact, IsSoundHeader, own_blocks};
-ghost use Rattle.adf_salvage.specs.steps.Claims.{claim_at};
-ghost use Rattle.adf_salvage.specs.steps.Deleting.{AreAllClaims, AreOfReached, is_several, is_used};
+ghost use Rattle.adf_salvage.specs.steps.Claims.{AreAllClaims, claim_at};
+ghost use Rattle.adf_salvage.specs.steps.Deleting.{AreOfReached, is_several, is_used};
 ghost use Rattle.adf_salvage.specs.steps.Parts.{AreUsersBelow};
 
 use crate::claims::Claim;
@@ -30,7 +30,7 @@ pub(crate) fn recovery_of(
 ) -> Result<Recovery, AllocError>
     requires trusted { IsTrustedBitmap image.now }
     requires header { IsSoundHeader image.now header }
-    requires claims { AreAllClaims image.now claims.now }
+    requires claims { AreAllClaims [] image.now claims.now }
     requires marks { AreOfReached image.now marks.now }
     requires users { AreUsersBelow image.now header users.old.items }
     ensures users { OnOk result (AreUsersBelow image.now (header + 1) users.new.items) }
@@ -60,7 +60,7 @@ fn sound_blocks(
     users: &mut Vec<u32>,
 ) -> Result<Option<Vec<u32>>, AllocError>
     requires file { file < block_count image.now }
-    requires claims { AreAllClaims image.now claims.now }
+    requires claims { AreAllClaims [] image.now claims.now }
     requires users { AreUsersBelow image.now file users.old.items }
     ensures users { OnOk result (AreUsersBelow image.now (file + 1) users.new.items) }
     ensures own { IfOk result (λ found. MatchOption found (¬ IsIntact image.now file)
@@ -83,7 +83,7 @@ fn recovery_of_intact(
     requires trusted { IsTrustedBitmap image.now }
     requires intact { IsIntact image.now file }
     requires own { blocks.now ≡ own_blocks image.now file }
-    requires claims { AreAllClaims image.now claims.now }
+    requires claims { AreAllClaims [] image.now claims.now }
     requires marks { AreOfReached image.now marks.now }
     ensures { HasRecovery image.now file result }
 {
@@ -124,13 +124,10 @@ fn count_used(image: &Image, blocks: &[u32]) -> usize
     requires { IsTrustedBitmap image.now }
     ensures { result ≡ count_by (is_used image.now) blocks.now }
 {
-    let mut count = 0;
-    for block in blocks {
-        if is_used(image, *block) {
-            count += 1;
-        }
-    }
-    count
+    blocks
+        .iter()
+        .filter(|block| is_used(image, **block))
+        .count()
 }
 
 /// The number of these blocks that several sound files name.
@@ -138,13 +135,10 @@ fn count_several(claims: &[Claim], blocks: &[u32]) -> usize
     requires { All (λ block. block < length claims.now) blocks.now }
     ensures { result ≡ count_by (λ block. is_several (claim_at claims.now block)) blocks.now }
 {
-    let mut count = 0;
-    for block in blocks {
-        if is_several(claims[*block as usize]) {
-            count += 1;
-        }
-    }
-    count
+    blocks
+        .iter()
+        .filter(|block| is_several(claims[**block as usize]))
+        .count()
 }
 
 /// Whether several sound files name a block with this claim.
@@ -159,12 +153,9 @@ fn first_user(image: &Image, marks: &[Option<Mark>], blocks: &[u32]) -> Option<u
     requires { AreOfReached image.now marks.now }
     ensures { IfSome result (UsesOne image.now blocks.now) }
 {
-    for block in blocks {
-        if let Some(entry) = user_of(image, marks, *block) {
-            return Some(entry);
-        }
-    }
-    None
+    blocks
+        .iter()
+        .find_map(|block| user_of(image, marks, *block))
 }
 
 /// The reached entry that a block belongs to.

@@ -5,7 +5,6 @@ ghost use Rattle.ados_model.specs.Tree.{Tree};
 ghost use Rattle.adf_salvage.specs.Salvaged.{AreOfTree, SavesSound, Salvages};
 
 use crate::chains::add_reached;
-use crate::claims::claims;
 use crate::gathered::Gathered;
 use crate::giving::Giving;
 use crate::kind::with_kind;
@@ -52,8 +51,7 @@ fn told_headers(alloc: Global, image: Image) -> Result<Salvage, AllocError>
     ensures saves { IfOk result SavesSound }
 {
     let (left_out, trusted) = left_out_of(alloc, &image)?;
-    let claims = claims(alloc, &image, &left_out)?;
-    let known = known_of(alloc, &image, left_out, &claims)?;
+    let known = known_of(alloc, &image, left_out)?;
     let mut gathered = Gathered::new(alloc, &image)?;
     add_reached(alloc, &image, &known, &mut gathered)?;
     add_unreached(alloc, &image, &known, &mut gathered)?;

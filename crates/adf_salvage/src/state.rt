@@ -1,8 +1,7 @@
 //! The state of a file.
-ghost use Rattle.std.specs.Prelude.{◌≡◌, ◌+◌, ◌≤◌, IfOk, OnOk, if◌then◌else◌};
+ghost use Rattle.std.specs.Prelude.{◌≡◌, ◌+◌, ◌≤◌, IfOk, OnOk};
 ghost use Rattle.adf_salvage.specs.Salvaged.{HasState, broken_length};
 ghost use Rattle.adf_salvage.specs.steps.Settling.{IsDamaged};
-ghost use Rattle.adf_salvage.specs.declared.salvaged.State.TheVariants.{Directory, DoubtfulDirectory};
 ghost use Rattle.adf_salvage.specs.Doubtful.{IsHeader};
 ghost use Rattle.adf_salvage.specs.steps.Giving.{IsGiving};
 ghost use Rattle.adf_salvage.specs.steps.Heading.{AreKnown};
@@ -11,12 +10,14 @@ use crate::giving::{Giving, Remains};
 use crate::header::{is_file, is_sound_header};
 use crate::known::Known;
 use crate::salvaged::{HeaderState, State};
+use crate::whole::is_whole;
 use adf_block::Image;
-use std::alloc::AllocError;
+use std::alloc::{AllocError, Global};
 
 /// The state of a header whose entry has this position. A file that is not whole is given its blocks, and as many bytes as
 /// are left for it. If no block is missing, and it has all these bytes, it is doubtful.
 pub(crate) fn state_of(
+    alloc: Global,
     image: &Image,
     known: &Known,
     block: u32,
@@ -32,9 +33,13 @@ pub(crate) fn state_of(
 {
     let sound = is_sound_header(image, block);
     if !is_file(image, block) {
-        return Ok(directory(sound));
+        return Ok(if sound {
+            State::Directory
+        } else {
+            State::DoubtfulDirectory
+        });
     }
-    if known.whole[block as usize] {
+    if is_whole(alloc, image, known, block)? {
         return Ok(State::Whole);
     }
     let remains = giving.give(image, block, place)?;
@@ -62,16 +67,5 @@ pub(crate) fn damaged(remains: Remains, left: usize, header: HeaderState) -> Sta
         missing: remains.missing,
         cut,
         length,
-    }
-}
-
-/// The state of a directory, whose header is sound or doubtful.
-fn directory(sound: bool) -> State
-    ensures { result ≡ (if sound then Directory else DoubtfulDirectory) }
-{
-    if sound {
-        State::Directory
-    } else {
-        State::DoubtfulDirectory
     }
 }

@@ -1,5 +1,5 @@
 //! Whether the bitmap of an image can be trusted, and which entries it says are deleted.
-ghost use Rattle.std.specs.Prelude.{◌≡◌, ◌≢◌, ◌<◌, ◌↔◌, ℕ, All, Contains, IfOk, IsTrue, MatchBool, MatchOption};
+ghost use Rattle.std.specs.Prelude.{◌≡◌, ◌≢◌, ◌<◌, ◌↔◌, ℕ, false, All, Contains, IfOk, IsTrue, MatchBool, MatchOption};
 ghost use Rattle.adf_block.specs.Whole.{IsImage};
 ghost use Rattle.ados_faults.specs.Listed.{ListsDoubts};
 ghost use Rattle.ados_map.specs.Pages.{page_block, pages_of};
@@ -10,14 +10,31 @@ ghost use Rattle.adf_salvage.specs.steps.Deleting.{AreOfReached, IsDoubt, is_use
 use crate::header::is_sound_header;
 use adf_block::layout::{BITMAP_FLAG, BITMAP_VALID, BOOT_BLOCKS, FIRST_PAGE, MOST_BLOCKS};
 use adf_block::{Image, page_count};
-use ados_check::Mark;
+use ados_check::{Mark, faultless_marks};
 use ados_faults::faults_of_any_disk;
 use ados_map::is_free;
 use ados_model::{FaultKind, VolumeFault};
 use std::alloc::{AllocError, Global};
 
-/// For each block the first place that names it, if one does; or `None` if the bitmap of the image cannot be trusted.
+/// For each block the first place that names it, if one does; or `None` if the bitmap of the image cannot be trusted. An
+/// image that the check accepts is not searched for faults.
 pub(crate) fn trusted_marks(
+    alloc: Global,
+    image: &Image,
+) -> Result<Option<Vec<Option<Mark>>>, AllocError>
+    ensures { IfOk result (λ found. MatchOption found (¬ IsTrustedBitmap image.now) (λ marks. IsTrustedBitmap image.now × AreOfReached image.now marks.items)) }
+{
+    let Some(marks) = faultless_marks(alloc, image) else {
+        return marks_of_faulty(alloc, image);
+    };
+    if !is_trusted(image, &[]) {
+        return Ok(None);
+    }
+    Ok(Some(marks))
+}
+
+/// The same for an image that may show faults.
+pub(crate) fn marks_of_faulty(
     alloc: Global,
     image: &Image,
 ) -> Result<Option<Vec<Option<Mark>>>, AllocError>
@@ -43,22 +60,16 @@ pub(crate) fn is_trusted(image: &Image, faults: &[VolumeFault]) -> bool
     if !are_trusted_pages(image) {
         return false;
     }
-    first_doubt(image, faults).is_none()
+    are_no_doubts(image, faults)
 }
 
-/// The first of these faults for which the bitmap is not trusted.
-fn first_doubt(image: &Image, faults: &[VolumeFault]) -> Option<VolumeFault>
-    ensures doubt { MatchOption result (All (λ fault. ¬ IsDoubt image.now fault) faults.now)
-        (λ fault. Contains faults.now fault × IsDoubt image.now fault) }
+/// Whether none of these faults is one for which the bitmap is not trusted.
+fn are_no_doubts(image: &Image, faults: &[VolumeFault]) -> bool
+    ensures doubt { MatchBool result (All (λ fault. ¬ IsDoubt image.now fault) faults.now) (¬ All (λ fault. ¬ IsDoubt image.now fault) faults.now) }
     ensures image { IsImage image.now }
 {
     prove!(image.blocks() >= 16);
-    for fault in faults {
-        if is_doubt(image, *fault) {
-            return Some(*fault);
-        }
-    }
-    None
+    faults.iter().all(|fault| !is_doubt(image, *fault))
 }
 
 /// Whether a fault is one for which the bitmap is not trusted.

@@ -1,20 +1,19 @@
 //! The deleted entries of an image, with the directories that they were in.
 ghost use Rattle.std.specs.Prelude.{◌≡◌, [], length, IfOk, IsSome, OnOk};
 ghost use Rattle.adf_block.specs.Image.{block_count};
-ghost use Rattle.adf_salvage.specs.Deleted.{IsTrustedBitmap};
-ghost use Rattle.adf_salvage.specs.Undeleted.{IsUndeleted, TellsUndeleted};
+ghost use Rattle.adf_salvage.specs.Deleted.{IsTrustedBitmap, ListsDeleted};
+ghost use Rattle.adf_salvage.specs.Undeleted.{TellsUndeleted};
 ghost use Rattle.adf_salvage.specs.Sound.{IsSoundHeader};
 ghost use Rattle.adf_salvage.specs.steps.Deleting.{AreOfReached};
 ghost use Rattle.adf_salvage.specs.steps.Gathering.{AreGathered, GathersMore, place_at};
 ghost use Rattle.adf_salvage.specs.steps.Heading.{AreKnown};
 ghost use Rattle.adf_salvage.specs.steps.Undeleting.{AreHeaders, HasEach};
 
-use crate::claims::claims;
 use crate::deleted::{Deleted, Recovery, all_deleted};
 use crate::gathered::Gathered;
 use crate::giving::Giving;
 use crate::known::{Known, known_of};
-use crate::left_out::LeftOut;
+use crate::left_out::{LeftOut, deleted_headers};
 use crate::saved::Salvage;
 use crate::trust::trusted_marks;
 use crate::unreached::add_with_parents;
@@ -52,25 +51,7 @@ pub fn undelete(alloc: Global, image: Image) -> Result<UndeletedEntries, AllocEr
     let Some(marks) = trusted_marks(alloc, &image)? else {
         return Ok(UndeletedEntries::NoTrustedBitmap);
     };
-    let found = with_directories(alloc, image, &marks)?;
-    Ok(UndeletedEntries::Found(found))
-}
-
-/// The deleted entries of an image with a trusted bitmap, and the directories above them.
-fn with_directories(
-    alloc: Global,
-    image: Image,
-    marks: &[Option<Mark>],
-) -> Result<Undeleted, AllocError>
-    requires trusted { IsTrustedBitmap image }
-    requires marks { AreOfReached image marks.now }
-    ensures { IfOk result (IsUndeleted image) }
-{
-    let none = LeftOut::none(alloc);
-    let claims = claims(alloc, &image, &none)?;
-    let deleted = all_deleted(alloc, &image, &claims, marks)?;
-    let known = known_of(alloc, &image, none, &claims)?;
-    let gathered = gathered_deleted(alloc, &image, &known, &deleted)?;
+    let (deleted, gathered) = deleted_and_gathered(alloc, &image, &marks)?;
     let Gathered {
         entries,
         places,
@@ -79,11 +60,34 @@ fn with_directories(
     } = gathered;
     let Giving { pieces, .. } = giving;
     let salvage = Salvage::of(false, image, true, entries, Vec::new(alloc), pieces);
-    Ok(Undeleted {
+    Ok(UndeletedEntries::Found(Undeleted {
         salvage,
         deleted,
         places,
-    })
+    }))
+}
+
+/// The deleted entries, and those with the directories above them.
+fn deleted_and_gathered(
+    alloc: Global,
+    image: &Image,
+    marks: &[Option<Mark>],
+) -> Result<(Vec<Deleted>, Gathered), AllocError>
+    requires trusted { IsTrustedBitmap image.now }
+    requires marks { AreOfReached image.now marks.now }
+    ensures deleted { IfOk result (λ found. ListsDeleted image.now found.0.items) }
+    ensures gathered { IfOk result (λ found. AreGathered [] image.now found.1) }
+    ensures each { IfOk result (λ found. HasEach found.1.places.items found.0.items) }
+{
+    let headers = deleted_headers(alloc, image)?;
+    if headers.is_empty() {
+        let gathered = Gathered::new(alloc, image)?;
+        return Ok((Vec::new(alloc), gathered));
+    }
+    let known = known_of(alloc, image, LeftOut::none(alloc))?;
+    let deleted = all_deleted(alloc, image, &headers, &known.claims, marks)?;
+    let gathered = gathered_deleted(alloc, image, &known, &deleted)?;
+    Ok((deleted, gathered))
 }
 
 /// The deleted entries, each after the directories above it. The entries that have blocks of deleted files now come first, so

@@ -1,5 +1,5 @@
 -- A change of fields in blocks of keys leaves all bytes outside fields and the bitmap untouched.
-use Rattle.std.proofs.Common.{◌≡◌, ◌≢◌, ℕ, ◌+◌, ◌-◌, ◌/◌, ◌%◌, ◌^◌, ◌<◌, ◌≤◌, ◌⊎◌, inl, inr, ◌==◌, not, bit_and, List, length, slice_index, Some, IsSome, refl, sym, ap, ◌∙◌, arith}
+use Rattle.std.proofs.Common.{◌≡◌, ◌≢◌, ℕ, ◌+◌, ◌-◌, ◌/◌, ◌<◌, ◌≤◌, ◌⊎◌, inl, inr, List, Some, IsSome, refl, sym, ap, ◌∙◌, arith}
 use Rattle.std.proofs.lemmas.Bool.{cases_eq}
 use Rattle.adf_block.specs.Image.{block_count, root_key, page_count, byte_at, bytes_at, long, has_free_bit, HasText}
 use Rattle.adf_block.specs.Fields.{secondary_type, format_of}
@@ -7,7 +7,8 @@ use Rattle.adf_block.specs.declared.layout.TheConstants.{COMMENT_BYTE, NAME_BYTE
 use Rattle.adf_block.specs.Frame.{SameBut}
 use Rattle.adf_block.proofs.Frames.{same_long, same_count}
 use Rattle.adf_block.proofs.Blocks.{boot_same}
-use Rattle.ados_map.specs.Pages.{page_block, pages_of}
+use Rattle.ados_map.specs.Pages.{HasBit, page_block, pages_of}
+use Rattle.ados_map.proofs.MarkLemmas.{bit_of_inside, mark_kept}
 use Rattle.ados_name.specs.Name.{IsName, IsComment}
 use Rattle.ados_model.specs.Tree.{Content, Node, Tree, root}
 use Rattle.ados_model.specs.Tree.Content.{Directory, File}
@@ -21,8 +22,9 @@ use Rattle.ados_model.specs.Keys.{HasFileKey}
 use Rattle.ados_change.specs.Untold.{KeepsData, KeepsUntold, data_at}
 use Rattle.ados_change.proofs.FilesStay.{data_blocks_stay, data_serves, extension_blocks_stay, file_of_key, files_stay}
 use Rattle.ados_change.proofs.Keeping.{header_stays, none_taken}
-use Rattle.ados_model.proofs.Standing.{StandsAt, count_same, reached_stands, same_place, serves_at, duty_of, root_at, slice_get-index}
+use Rattle.ados_model.proofs.Standing.{StandsAt, count_same, reached_stands, same_place, serves_at, duty_of, root_at}
 use Rattle.ados_change.proofs.Retold.{Telling}
+use Rattle.ados_change.proofs.Writable.{page_serves}
 
 -- byte i of a key's block is in a field of its role
 pub data IsKeyField (image : List ℕ) (t : Tree) (b i : ℕ) : Type 0 where
@@ -90,36 +92,25 @@ module _ (old new : List ℕ) (t : Tree) (s : Stands old t) where
         same_long changed old new h (root t) (79 + p) (omega (arith, few))
         (λ k e w. elim (told (root t) k w) [ inl f ↦ omega (arith, e, f) | inr f ↦ let behind = f.3 refl in omega (arith, e, few, behind) ])
 
-    page_stays : (p k : ℕ) → p < length s.layout.pages → k < 512 → ¬ changed (slice_index s.layout.pages p) k
-    page_stays p k l m w =
-        let duty = s.fits.one_duty (slice_index s.layout.pages p) (Duty.Page p) Duty.Key (slice_get-index s.layout.pages p l) (is_key (slice_index s.layout.pages p) k (fields (slice_index s.layout.pages p) k m w)) in
-        cc duty
-
-    -- each bit is unchanged, past the volume's end too
-    pub marks_stay : (b : ℕ) → (b - 2) / 4064 < page_count (block_count old) → has_free_bit new b ≡ has_free_bit old b
-    unfolding has_free_bit
-    marks_stay b l =
-        let within : (b - 2) / 4064 < length s.layout.pages = omega (arith, l, s.fits.pages, ap page_count (count_same old t s)) in
-        let root_new : root_key (block_count new) ≡ root t = ap root_key (count ∙ count_same old t s) in
-        let root_old : root_key (block_count old) ≡ root t = ap root_key (count_same old t s) in
-        let page_old : long old (root t) (79 + (b - 2) / 4064) ≡ slice_index s.layout.pages ((b - 2) / 4064) = s.root_fields.pages ((b - 2) / 4064) within in
-        let at_new : long new (root_key (block_count new)) (79 + (b - 2) / 4064) ≡ slice_index s.layout.pages ((b - 2) / 4064) = ap (λ (q : ℕ). long new q (79 + (b - 2) / 4064)) root_new ∙ page_long ((b - 2) / 4064) l ∙ page_old in
-        let at_old : long old (root_key (block_count old)) (79 + (b - 2) / 4064) ≡ slice_index s.layout.pages ((b - 2) / 4064) = ap (λ (q : ℕ). long old q (79 + (b - 2) / 4064)) root_old ∙ page_old in
-        let here : long new (slice_index s.layout.pages ((b - 2) / 4064)) (1 + (b - 2) % 4064 / 32) ≡ long old (slice_index s.layout.pages ((b - 2) / 4064)) (1 + (b - 2) % 4064 / 32) =
-        same_long changed old new h (slice_index s.layout.pages ((b - 2) / 4064)) (1 + (b - 2) % 4064 / 32) (omega arith) (λ k e w. page_stays ((b - 2) / 4064) k within (omega (arith, e)) w) in
-        let value = ap (λ (x : ℕ). long new x (1 + (b - 2) % 4064 / 32)) at_new ∙ here ∙ ap (λ (x : ℕ). long old x (1 + (b - 2) % 4064 / 32)) (sym at_old) in
-        ap (λ (x : ℕ). not (bit_and x (2 ^ ((b - 2) % 32)) == 0)) value
-
-    -- no block is allocated, and no free block is written
-    takes_none : TakesNone old new
-    takes_none b inside free = marks_stay b (omega (arith, inside.0, inside.1)) ∙ free
-
-    -- ---- what no tree determines
-
     page_names_stay : (p : ℕ) → p < pages_of old → page_block new p ≡ page_block old p
     page_names_stay p l =
         let root_old : root_key (block_count old) ≡ root t = ap root_key (count_same old t s) in
         ap (λ (q : ℕ). long new q (79 + p)) (ap root_key count ∙ root_old) ∙ page_long p l ∙ ap (λ (q : ℕ). long old q (79 + p)) (sym root_old)
+
+    page_stays : (p k : ℕ) → p < pages_of old → k < 512 → ¬ changed (page_block old p) k
+    page_stays p k l m w =
+        let duty = s.fits.one_duty (page_block old p) (Duty.Page p) Duty.Key (page_serves old t s p l) (is_key (page_block old p) k (fields (page_block old p) k m w)) in
+        cc duty
+
+    -- each bit is unchanged, past the volume's end too
+    pub marks_stay : (b : ℕ) → HasBit old b → has_free_bit new b ≡ has_free_bit old b
+    marks_stay = mark_kept changed old new h page_names_stay page_stays
+
+    -- no block is allocated, and no free block is written
+    takes_none : TakesNone old new
+    takes_none b inside free = marks_stay b (bit_of_inside old b inside) ∙ free
+
+    -- ---- what no tree determines
 
     link_stays : (b : ℕ) → long new b 126 ≡ long old b 126
     link_stays b = same_long changed old new h b 126 (omega arith) (λ k e w. elim (told b k w) [ inl f ↦ omega (arith, e, f) | inr f ↦ omega (arith, e, f.1) ])
@@ -147,7 +138,7 @@ module _ (old new : List ℕ) (t : Tree) (s : Stands old t) where
 
     untold_stays : KeepsUntold old new
     untold_stays =
-        files_stay old new (record { pages = page_names_stay; bits = λ k has past. marks_stay k (omega (arith, has.0, has.1)) })
+        files_stay old new (record { pages = page_names_stay; bits = λ k has past. marks_stay k has })
         (λ file was is. data_stays file was)
 
     pub keeps_fields : KeepsRest old new
@@ -155,7 +146,7 @@ module _ (old new : List ℕ) (t : Tree) (s : Stands old t) where
       kept = kept_fields;
       lowest = none_taken old new takes_none;
       freed = λ b inside free i l. h.same_byte b i l (λ w.
-          s.marked_free b (inside.0, omega (arith, inside.1, count_same old t s)) (sym (marks_stay b (omega (arith, inside.0, inside.1))) ∙ free) (Duty.Key, is_key b i (fields b i l w)));
+          s.marked_free b (inside.0, omega (arith, inside.1, count_same old t s)) (sym (marks_stay b (bit_of_inside old b inside)) ∙ free) (Duty.Key, is_key b i (fields b i l w)));
       untold = untold_stays;
     }
 

@@ -1,5 +1,5 @@
 -- An image with the time stamp of a change written into it: everything else is unchanged.
-use Rattle.std.proofs.Common.{◌≡◌, ◌≢◌, ℕ, ◌+◌, ◌-◌, ◌/◌, ◌%◌, ◌^◌, ◌<◌, ◌≤◌, inl, inr, ◌==◌, not, bit_and, Bool, cond, List, Some, None, refl, sym, ap, ◌∙◌, subst, arith}
+use Rattle.std.proofs.Common.{◌≡◌, ◌≢◌, ℕ, ◌+◌, ◌-◌, ◌/◌, ◌<◌, ◌≤◌, inl, inr, Bool, cond, List, Some, None, refl, sym, ap, ◌∙◌, subst, arith}
 use Rattle.adf_block.specs.Image.{block_count, root_key, page_count, IsInside, byte_at, long, has_free_bit, total}
 use Rattle.adf_block.specs.Fields.{secondary_type, format_of}
 use Rattle.adf_block.specs.Whole.{free_bit_count}
@@ -7,7 +7,8 @@ use Rattle.adf_block.specs.declared.layout.TheConstants.{FILE_TYPE}
 use Rattle.adf_block.specs.Frame.{SameBut}
 use Rattle.adf_block.proofs.Frames.{same_long, same_count}
 use Rattle.adf_block.proofs.Totals.{total-same}
-use Rattle.ados_map.specs.Pages.{page_block, pages_of}
+use Rattle.ados_map.specs.Pages.{HasBit, page_block, pages_of}
+use Rattle.ados_map.proofs.MarkLemmas.{bit_of_inside, mark_kept}
 use Rattle.ados_model.specs.Tree.{Node, Tree, root}
 use Rattle.ados_model.specs.Tree.Content.{File}
 use Rattle.ados_model.specs.Stands.{Duty, HasDuty, Stands, type_of}
@@ -190,17 +191,11 @@ module _ (old new : List ℕ) (t : Tree) (s : Stands old t) (file : ℕ) (node :
       ap (λ (r : ℕ). long new r (79 + p)) root_new ∙ page_long p l ∙ ap (λ (r : ℕ). long old r (79 + p)) (sym (root_is old t s))
 
   -- each bit, past the volume's end too
-  bit_same : (b : ℕ) → (b - 2) / 4064 < pages_of old → has_free_bit new b ≡ has_free_bit old b
-  unfolding has_free_bit
-  bit_same b within =
-      let page : page_block new ((b - 2) / 4064) ≡ page_block old ((b - 2) / 4064) = page_same ((b - 2) / 4064) within in
-      let serves = page_serves old t s ((b - 2) / 4064) within in
-      let value = ap (λ (x : ℕ). long new x (1 + (b - 2) % 4064 / 32)) page
-      ∙ same_long (AtStamps (root t) file) old new h (page_block old ((b - 2) / 4064)) (1 + (b - 2) % 4064 / 32) (omega arith) (λ k e. block_stays (page_block old ((b - 2) / 4064)) (Duty.Page ((b - 2) / 4064)) serves (λ z. cc z) k) in
-      ap (λ (x : ℕ). not (bit_and x (2 ^ ((b - 2) % 32)) == 0)) value
+  bit_same : (b : ℕ) → HasBit old b → has_free_bit new b ≡ has_free_bit old b
+  bit_same = mark_kept (AtStamps (root t) file) old new h page_same (λ p k l m. block_stays (page_block old p) (Duty.Page p) (page_serves old t s p l) (λ z. cc z) k)
 
   pub marks_same : (b : ℕ) → IsInside (block_count old) b → has_free_bit new b ≡ has_free_bit old b
-  marks_same b i = bit_same b (omega (arith, i.0, i.1))
+  marks_same b i = bit_same b (bit_of_inside old b i)
 
   pub count_marked : free_bit_count new ≡ free_bit_count old
   count_marked =
@@ -232,7 +227,7 @@ module _ (old new : List ℕ) (t : Tree) (s : Stands old t) (file : ℕ) (node :
       let links : (b : ℕ) → long new b 126 ≡ long old b 126 = λ b. plain_long b 126 (omega arith) (back (omega arith)) in
       let pointers : (b i : ℕ) → i < 72 → long new b (77 - i) ≡ long old b (77 - i) = λ b i l. plain_long b (77 - i) (omega (arith, l)) (table (omega (arith, l)) (omega arith)) in
       let size : (f : ℕ) → long new f 81 ≡ long old f 81 = λ f. plain_long f 81 (omega arith) (texts (omega arith) (omega arith)) in
-      files_stay old new (record { pages = page_same; bits = λ k has past. bit_same k (omega (arith, has.0, has.1)) })
+      files_stay old new (record { pages = page_same; bits = λ k has past. bit_same k has })
       (λ f was is. record {
         blocks = data_blocks_stay old new links pointers format_same f (size f);
         extensions = extension_blocks_stay old new links pointers format_same f (size f);

@@ -12,9 +12,9 @@ ghost use Rattle.ados_model.specs.Change.{stamped};
 ghost use Rattle.ados_change.specs.Places.{Summed};
 ghost use Rattle.ados_change.specs.FieldTold.{commented, dated, named, protected};
 
-use crate::settled::{settle_date, settle_long, settle_text};
+use crate::settled::{settle_date, settle_text};
 use adf_block::Image;
-use adf_block::layout::{COMMENT_BYTE, DATE, DISK_DATE, NAME_BYTE, PROTECTION};
+use adf_block::layout::{CHECKSUM, COMMENT_BYTE, DATE, DISK_DATE, NAME_BYTE, PROTECTION};
 use ados_name::{Comment, Date3, Name, Protect};
 
 /// Sets the protection bits of a directory or file.
@@ -25,7 +25,7 @@ pub fn put_protection(image: &mut Image, key: u32, bits: Protect)
     ensures kept { Kept image.old image.new }
     ensures rest { SameBut (Summed key (long_byte PROTECTION) (long_byte (PROTECTION + 1))) image.old image.new }
 {
-    settle_long(image, key, PROTECTION, bits.bits());
+    image.set_summed(key, PROTECTION, bits.bits(), CHECKSUM);
 }
 
 /// Sets the comment of a directory or file. Bytes of a longer old comment after the new one are unchanged (this

@@ -1,7 +1,7 @@
 //! Fields written into a block whose checksum is long 5. A right checksum stays right.
 
-ghost use Rattle.std.specs.Prelude.{◌≡◌, ◌≢◌, ◌<◌, ◌≤◌, ◌+◌, ◌*◌, ◌⊎◌, ℕ, length};
-ghost use Rattle.adf_block.specs.Image.{long_byte, block_count, block_sum, long, HasText};
+ghost use Rattle.std.specs.Prelude.{◌≡◌, ◌<◌, ◌≤◌, ◌+◌, ◌*◌, length};
+ghost use Rattle.adf_block.specs.Image.{long_byte, block_count, block_sum, HasText};
 ghost use Rattle.adf_block.specs.declared.layout.TheConstants.{BLOCK_BYTES, BLOCK_LONGS};
 ghost use Rattle.adf_block.specs.Frame.{SameBut};
 ghost use Rattle.ados_model.specs.Stands.{date_at};
@@ -11,22 +11,6 @@ use crate::edit::put_text;
 use adf_block::Image;
 use adf_block::layout::CHECKSUM;
 use ados_name::Date3;
-
-/// Sets long `i` of block `b`, and changes the checksum by the opposite amount.
-pub fn settle_long(image: &mut Image, b: u32, i: u32, v: u32)
-    requires inside { b < block_count image.old }
-    requires place { i < BLOCK_LONGS }
-    requires not_sum { i ≢ CHECKSUM }
-    ensures long { long image.new b i ≡ v }
-    ensures sum { block_sum image.old b ≡ 0 → block_sum image.new b ≡ 0 }
-    ensures others { (c j : ℕ) → j < BLOCK_LONGS → (c ≢ b) ⊎ ((j ≢ i) × (j ≢ CHECKSUM)) → long image.new c j ≡ long image.old c j }
-    ensures rest { SameBut (Summed b (4 * i) (4 * i + 4)) image.old image.new }
-{
-    let moved = image.long(b, i).wrapping_sub(v);
-    let sum = image.long(b, CHECKSUM).wrapping_add(moved);
-    image.set_long(b, i, v);
-    image.set_long(b, CHECKSUM, sum);
-}
 
 /// Writes a text into block `b`: its length at byte `at`, then its bytes. Bytes after the text are unchanged.
 pub fn settle_text(image: &mut Image, b: u32, at: usize, text: &[u8])
@@ -51,7 +35,7 @@ pub fn settle_date(image: &mut Image, b: u32, i: u32, date: Date3)
     ensures sum { block_sum image.old b ≡ 0 → block_sum image.new b ≡ 0 }
     ensures rest { SameBut (Summed b (4 * i) (4 * i + 12)) image.old image.new }
 {
-    settle_long(image, b, i, date.days);
-    settle_long(image, b, i + 1, date.minutes);
-    settle_long(image, b, i + 2, date.ticks);
+    image.set_summed(b, i, date.days, CHECKSUM);
+    image.set_summed(b, i + 1, date.minutes, CHECKSUM);
+    image.set_summed(b, i + 2, date.ticks, CHECKSUM);
 }

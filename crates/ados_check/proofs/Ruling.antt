@@ -32,9 +32,6 @@ stable a b h = elim (cases_Bool (a == b)) [
 ]
 
 module _ (image : List ℕ) (block : ℕ) where
-  pub sum_shows : (role : Role) → Reached image block role → HasBadSumAs image block role → Faults.HasBadSum image block
-  sum_shows role h b = record { role = role; reached = h; summed = b.0; wrong = b.1 }
-
   pub type_shows : (role : Role) → Reached image block role → HasBadTypeAs image block role → Faults.HasBadType image block
   type_shows Root h (inl n) = root_primary (reached_root image block h) n
   type_shows Root h (inr (inl n)) = root_table (reached_root image block h) n

@@ -2,6 +2,7 @@
 ghost use Rattle.std.specs.Prelude.{◌≡◌, ◌↔◌, IsTrue, map, is_some, IfOk, IfErr, MatchOption};
 ghost use Rattle.adf_block.specs.Whole.{IsImage};
 ghost use Rattle.adf_block.specs.Image.{has_free_bit};
+ghost use Rattle.ados_model.specs.Accepted.{ShowsNoFault};
 ghost use Rattle.ados_model.specs.Rebuilt.{HasValidBitmap};
 ghost use Rattle.ados_model.specs.Faults.{InImage, IsReachedAndFree};
 ghost use Rattle.ados_map.specs.Pages.{page_block, page_of};
@@ -9,7 +10,7 @@ ghost use Rattle.ados_check.specs.Laws.{AreInUse, IsMended};
 ghost use Rattle.ados_check.specs.Marks.{IsChecked};
 ghost use Rattle.ados_check.specs.BitmapTold.{IsFree, TellsBitmap};
 
-use crate::laws::checked_has_pages;
+use crate::laws::{checked_has_pages, checked_is_accepted};
 use crate::mark::Mark;
 use crate::source::Source;
 use adf_block::Image;
@@ -27,6 +28,20 @@ pub fn has_valid_bitmap(source: &Source<'_>) -> bool
 {
     prove!(source.blocks() >= 16);
     source.long(source.root(), BITMAP_FLAG) == BITMAP_VALID
+}
+
+/// Whether a checked image shows no fault: its bitmap is not valid, or marks no reached block free.
+pub(crate) fn has_sound_bitmap(source: &Source<'_>, marks: &[Option<Mark>]) -> bool
+    requires checked { IsChecked source.now.bytes marks.now }
+    requires told { TellsBitmap source.now }
+    ensures { IsTrue result → ShowsNoFault source.now.bytes }
+{
+    prove!(source.blocks() >= 16);
+    checked_is_accepted();
+    if !has_valid_bitmap(source) {
+        return true;
+    }
+    reached_and_free(source, marks).is_none()
 }
 
 /// The first reached block that the bitmap marks free.
@@ -94,11 +109,7 @@ fn reached_blocks(alloc: Global, marks: &[Option<Mark>]) -> Result<Vec<bool>, Al
 
 /// Rebuilds the bitmap so that exactly the reached blocks are in use, and sets the root's flag. All memory is
 /// allocated before the first change.
-pub(crate) fn mend(
-    alloc: Global,
-    image: &mut Image,
-    marks: &[Option<Mark>],
-) -> Result<(), AllocError>
+pub fn mend(alloc: Global, image: &mut Image, marks: &[Option<Mark>]) -> Result<(), AllocError>
     requires { IsChecked image.old marks.now }
     ensures mended { IfOk result (λ _. IsMended image.old marks.now image.new) }
     ensures refused { IfErr result (λ _. image.new ≡ image.old) }

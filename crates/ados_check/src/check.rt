@@ -1,14 +1,15 @@
 //! The whole check.
-ghost use Rattle.std.specs.Prelude.{◌≡◌, IfOk, MatchResult};
+ghost use Rattle.std.specs.Prelude.{◌≡◌, IfOk, IfSome, MatchResult};
 ghost use Rattle.adf_block.specs.Image.{bytes_at};
 ghost use Rattle.adf_block.specs.Fields.{format_of};
 ghost use Rattle.ados_model.specs.Tree.{Tree};
 ghost use Rattle.ados_model.specs.Stands.{Stands, kind_bytes};
-ghost use Rattle.ados_model.specs.Accepted.{IsRefusal};
+ghost use Rattle.ados_model.specs.Accepted.{IsRefusal, ShowsNoFault};
 ghost use Rattle.ados_check.specs.Marks.{IsChecked};
 ghost use Rattle.ados_check.specs.Answer.{AcceptsOrHandsBack};
 
 use crate::accept::{Accepted, Rejected, accept_checked};
+use crate::bitmap::has_sound_bitmap;
 use crate::file_system::check_kind;
 use crate::mark::Mark;
 use crate::reaching::reach;
@@ -29,6 +30,18 @@ pub fn check_image(alloc: Global, image: Image) -> Result<Accepted, Rejected>
     match checked_marks(alloc, &image) {
         Ok(marks) => accept_checked(alloc, image, &marks),
         Err(fault) => Err(Rejected { image, fault }),
+    }
+}
+
+/// The first place that names each block, of an image that shows no fault. Its bitmap may be one that is not valid.
+///
+/// `None` decides nothing: the image may show a fault, or there was no memory.
+pub fn faultless_marks(alloc: Global, image: &Image) -> Option<Vec<Option<Mark>>>
+    ensures { IfSome result (λ marks. IsChecked image.now marks.items × ShowsNoFault image.now) }
+{
+    match checked_marks(alloc, image) {
+        Ok(marks) if has_sound_bitmap(&Source::whole(image), &marks) => Some(marks),
+        _ => None,
     }
 }
 

@@ -42,8 +42,8 @@ mod check;
 mod sketched;
 
 pub use accept::Rejected;
-pub use bitmap::{has_valid_bitmap, is_free};
-pub use check::check_image;
+pub use bitmap::{has_valid_bitmap, is_free, mend};
+pub use check::{check_image, faultless_marks};
 pub use data_rules::{DATA_RULES, DataRule, Place, breaks_rule};
 pub use mark::Mark;
 pub use naming::{has_short_name, upper_name};

@@ -12,7 +12,6 @@ pub mod Placed
 pub mod GrowthSteps
 pub mod Beside
 pub mod Bounds
-pub mod Putting
 pub mod Marks
 pub mod Standing
 pub mod Growing

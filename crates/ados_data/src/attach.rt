@@ -6,8 +6,10 @@ ghost use Rattle.adf_block.specs.Image.{block_count, block_sum, byte_at, long};
 ghost use Rattle.adf_block.specs.Frame.{SameBut};
 ghost use Rattle.ados_data.specs.steps.Blocks.{AtLink, IsExtended, IsLengthened};
 
-use crate::edit::{make_data, make_extension, set_field, set_fields};
-use adf_block::layout::{FIRST_POINTER, NEXT_DATA, NEXT_EXTENSION, POINTER_COUNT, TABLE_LONGS};
+use crate::edit::{make_data, make_extension, set_fields};
+use adf_block::layout::{
+    CHECKSUM, FIRST_POINTER, NEXT_DATA, NEXT_EXTENSION, POINTER_COUNT, TABLE_LONGS,
+};
 use adf_block::{Format, Image};
 
 /// Makes the empty block `e` an extension block of a file. It follows `holder`, the last pointer block.
@@ -19,7 +21,7 @@ pub fn attach_extension(image: &mut Image, file: u32, holder: u32, e: u32)
     ensures { IsExtended image.old file holder e image.new }
 {
     make_extension(image, e, file);
-    set_field(image, holder, NEXT_EXTENSION, e);
+    image.set_summed(holder, NEXT_EXTENSION, e, CHECKSUM);
 }
 
 /// Makes the empty block `b` data block `count` of a file. `last` is the data block before it. The new pointer goes
@@ -58,7 +60,7 @@ pub fn attach_data(
     } else {
         image.long(file, NEXT_DATA)
     };
-    set_field(image, file, NEXT_DATA, first);
+    image.set_summed(file, NEXT_DATA, first, CHECKSUM);
 }
 
 /// Sets the link from `last` to the data block `b`. FFS has no such link.
@@ -69,6 +71,6 @@ fn link_data(image: &mut Image, format: Format, last: u32, count: u32, b: u32)
     ensures rest { SameBut (AtLink format count last) image.old image.new }
 {
     if format == Format::Ofs && count > 0 {
-        set_field(image, last, NEXT_DATA, b);
+        image.set_summed(last, NEXT_DATA, b, CHECKSUM);
     }
 }

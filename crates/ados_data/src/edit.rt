@@ -1,34 +1,18 @@
 //! Edits of fields in one block. The checksum follows each edit: a right one stays right.
 
-ghost use Rattle.std.specs.Prelude.{◌≡◌, ◌≢◌, ℕ, ◌<◌, ◌⊎◌};
+ghost use Rattle.std.specs.Prelude.{◌≡◌, ◌≢◌, ◌<◌};
 ghost use Rattle.adf_block.specs.Image.{block_count, block_sum, long};
 ghost use Rattle.adf_block.specs.Fields.{primary_type, own_key, sequence_number, held_count};
 ghost use Rattle.adf_block.specs.Frame.{SameBut};
 ghost use Rattle.adf_block.specs.declared.layout.TheConstants.{BLOCK_LONGS, NEXT_DATA};
 ghost use Rattle.ados_model.specs.Stands.{HasExtension};
-ghost use Rattle.ados_data.specs.steps.Edits.{AtField, AtFields, AtExtensionFields, AtDataFields};
+ghost use Rattle.ados_data.specs.steps.Edits.{AtFields, AtExtensionFields, AtDataFields};
 
 use adf_block::layout::{
     CHECKSUM, DATA_TYPE, FILE_TYPE, LIST_TYPE, OWN_KEY, PARENT, PRIMARY_TYPE, SECONDARY_TYPE,
     SEQUENCE,
 };
 use adf_block::{Format, Image};
-
-/// Sets long `i` of block `b`.
-pub fn set_field(image: &mut Image, b: u32, i: u32, v: u32)
-    requires block { b < block_count image.old }
-    requires place { i < BLOCK_LONGS }
-    requires not_sum { i ≢ CHECKSUM }
-    ensures set { long image.new b i ≡ v }
-    ensures sum { block_sum image.old b ≡ 0 → block_sum image.new b ≡ 0 }
-    ensures others { (c j : ℕ) → j < BLOCK_LONGS → (c ≢ b) ⊎ ((j ≢ i) × (j ≢ CHECKSUM)) → long image.new c j ≡ long image.old c j }
-    ensures rest { SameBut (AtField b i) image.old image.new }
-{
-    let old = image.long(b, i);
-    let sum = image.long(b, CHECKSUM).wrapping_add(old).wrapping_sub(v);
-    image.set_long(b, i, v);
-    image.set_long(b, CHECKSUM, sum);
-}
 
 /// Sets longs `i` and `j` of block `b`.
 pub fn set_fields(image: &mut Image, b: u32, i: u32, v: u32, j: u32, w: u32)
@@ -43,8 +27,8 @@ pub fn set_fields(image: &mut Image, b: u32, i: u32, v: u32, j: u32, w: u32)
     ensures sum { block_sum image.old b ≡ 0 → block_sum image.new b ≡ 0 }
     ensures rest { SameBut (AtFields b i j) image.old image.new }
 {
-    set_field(image, b, i, v);
-    set_field(image, b, j, w);
+    image.set_summed(b, i, v, CHECKSUM);
+    image.set_summed(b, j, w, CHECKSUM);
 }
 
 /// Makes the empty block `b` an extension block of a file, without pointers.
@@ -75,6 +59,6 @@ pub fn make_data(image: &mut Image, format: Format, b: u32, file: u32, sequence:
 {
     if format == Format::Ofs {
         set_fields(image, b, PRIMARY_TYPE, DATA_TYPE, OWN_KEY, file);
-        set_field(image, b, SEQUENCE, sequence);
+        image.set_summed(b, SEQUENCE, sequence, CHECKSUM);
     }
 }

@@ -15,6 +15,7 @@ use Rattle.ados_model.specs.Faults.{HasName, HasSum, Reached, Shows, root_of}
 use Rattle.ados_check.specs.Rules.{HasBadField, HasBadTypeAs, HasOtherCount, kind_of}
 use Rattle.ados_check.specs.declared.rules.FieldRule.{FieldRule}
 use Rattle.ados_check.specs.declared.rules.FieldRule.TheVariants.{NoLink, OwnKey, Parent, Name, Chain, Comment, PointerCount, FirstData}
+use Rattle.ados_faults.specs.Listed.{IsOtherKind}
 use Rattle.ados_faults.specs.declared.walk.Step.{Step}
 use Rattle.ados_faults.specs.steps.Looks.{AreLookedAt, IsLookedAt}
 use Rattle.ados_faults.specs.steps.Noted.{AreStillNoted, IsNoted, cell_of}
@@ -45,8 +46,7 @@ pub record AreStepsNoted (image : List ℕ) (cells : List Bool) : Type 0 where
 
 -- a fault that shows only in the boot block, in the names of a directory, or in all blocks of a file
 pub data ShowsFurther (image : List ℕ) : FaultKind → ℕ → Type 0 where
-  not_dos : {block : ℕ} → Shows image NotADosDisk block → ShowsFurther image NotADosDisk block
-  unsupported : {block : ℕ} → Shows image UnsupportedKind block → ShowsFurther image UnsupportedKind block
+  disk : {kind : FaultKind} {block : ℕ} → IsOtherKind image kind → block ≡ 0 → ShowsFurther image kind block
   name : {block : ℕ} → Faults.HasDuplicateName image block → ShowsFurther image DuplicateName block
   link : {file i block : ℕ} {blocks : List ℕ} → Faults.IsOfs image → Faults.IsDataAt image file blocks i block → ¬ Faults.LinksOn image block blocks i → ShowsFurther image BadPointer block
   size : {block : ℕ} {blocks : List ℕ} → Faults.AreDataBlocks image block blocks → length blocks ≢ Faults.count_of_size image block → ShowsFurther image BadCount block
@@ -165,8 +165,8 @@ module _ (image : List ℕ) (last : List Bool) (w : AreStepsNoted image last) wh
   count_noted block (Faults.HasBadCount.wrong_sum ofs h) = inr (ShowsFurther.sum ofs h)
 
   pub noted_or_further : (kind : FaultKind) (block : ℕ) → Shows image kind block → IsNoted last (cell_of kind block) ⊎ ShowsFurther image kind block
-  noted_or_further NotADosDisk block h = inr (ShowsFurther.not_dos h)
-  noted_or_further UnsupportedKind block h = inr (ShowsFurther.unsupported h)
+  noted_or_further NotADosDisk block h = inr (ShowsFurther.disk (record { of_boot = inl refl; shown = (h.0, refl) }) h.1)
+  noted_or_further UnsupportedKind block h = inr (ShowsFurther.disk (record { of_boot = inr refl; shown = (h.0, h.1, refl) }) h.2)
   noted_or_further BadSum block h = inl (sum_noted block h.role h.reached h.summed h.wrong)
   noted_or_further BadType block h = inl (type_noted block h)
   noted_or_further BadOwnKey block h = inl (key_noted block h)

@@ -4,7 +4,7 @@ use Rattle.std.specs.List.{All, slice_get}
 use Rattle.std.specs.Option.{is_some}
 use Rattle.std.proofs.lemmas.Bool.{cases_eq, cases_lt, eqb-false, eqb-true, false≢true, le-ltb, lt-leb, lt-ltb, or_cases, or_parts}
 use Rattle.std.proofs.lemmas.Grind.{flat_map-append}
-use Rattle.std.proofs.lemmas.List.{append-nil, drop_more, get_or_append_left, get_or-append-add, get_or_default, get_or_push, get_or-replicate, take_more, length-append, length-replicate, length_push, take-append-drop}
+use Rattle.std.proofs.lemmas.List.{append-nil, drop_more, get_or_append_left, get_or-append-add, get_or_default, get_or_push, take_more, length-append, length-replicate, length_push, take-append-drop}
 use Rattle.std.proofs.lemmas.List.Elements.{All-append}
 use Rattle.std.proofs.lemmas.List.Sums.{sum_by-append}
 use Rattle.std.proofs.lemmas.Option.{get_or_from_slice_get, none-some, same_Some, slice_get-get_or, slice_get_within}
@@ -23,6 +23,7 @@ use Rattle.ados_faults.specs.steps.Chain.{AreHeaders, IsPiece, first_in, next_in
 use Rattle.ados_faults.specs.steps.FileNotes.{AreAllSeen, AreHeld, ArePlacesNoted, IsHeaderSeen, IsHeld, IsOneNoted, IsPieceNoted, IsPlaceNoted, is_known}
 use Rattle.ados_faults.specs.steps.Noted.{AreStillNoted, cell_of, IsNoted}
 use Rattle.ados_faults.proofs.FileNotes.{placed_on}
+use Rattle.ados_faults.proofs.Firsts.{same_there}
 
 -- ---- the pointers of one block
 
@@ -316,16 +317,8 @@ seen_before image cells later piece seen on p some old known last = record { pla
 pub none_seen : (image : List ℕ) (cells : List Bool) (seen : List (Option Seen)) → seen ≡ replicate (block_count image) None → AreAllSeen image cells seen
 none_seen image cells seen none = record {
   size = ap length none ∙ length-replicate {A = Option Seen} (block_count image) None;
-  each = λ header s e. absurd (nothing header s (ap (λ (xs : List (Option Seen)). slice_get xs header) (sym none) ∙ e));
+  each = λ header s e. absurd (none-some s (same_there (block_count image) header None (Some s) (ap (λ (xs : List (Option Seen)). slice_get xs header) (sym none) ∙ e)));
 }
-  where
-    nothing : (header : ℕ) (s : Seen) → slice_get (replicate (block_count image) None) header ≡ Some (Some s) → ⊥
-    nothing header s e =
-        let l : header < block_count image = omega (arith, slice_get_within (replicate (block_count image) None) header (Some s) e, length-replicate {A = Option Seen} (block_count image) None) in
-        let at : slice_get (replicate (block_count image) None) header ≡ Some None =
-        slice_get-get_or (replicate (block_count image) None) header None (omega (arith, l, length-replicate {A = Option Seen} (block_count image) None))
-        ∙ ap (λ (x : Option Seen). Some x) (get_or-replicate (block_count image) header None None l) in
-        none-some s (same_Some None (Some s) (sym at ∙ e))
 
 -- where a look at the last one is enough
 pub known_piece : (image : List ℕ) (cells later : List Bool) (piece : Piece) (seen : List (Option Seen)) (o : Option Seen) → AreStillNoted cells later → IsPiece image piece → 0 < piece.count → AreAllSeen image cells seen

@@ -9,7 +9,6 @@ use Rattle.adf_block.specs.Image.{block_count}
 use Rattle.ados_model.specs.declared.fault.FaultKind.{FaultKind}
 use Rattle.ados_model.specs.declared.fault.FaultKind.TheVariants.{NotADosDisk, UnsupportedKind, BadSum, BadType, BadOwnKey, BadParent, BadPointer, BlockUsedTwice, WrongChain, BadName, DuplicateName, BadComment, BadCount, BadSequence, LinkEntry, MarkedFree, NoMemory}
 use Rattle.ados_model.specs.declared.fault.VolumeFault.{VolumeFault}
-use Rattle.ados_model.specs.Accepted.{ShowsNoFault}
 use Rattle.ados_model.specs.Faults.{Shows}
 use Rattle.ados_faults.specs.Listed.{AreFirstFaults, ShowsMoreThan, fault_of, rank, StandsBefore}
 use Rattle.ados_faults.specs.steps.Noted.{AreListed, AreNoted, AreStillNoted, IsFull, IsNoted, ListsNoted, cell_at, cell_of}
@@ -118,22 +117,6 @@ none_listed image cells most = record {
 }
 
 module _ (image : List ℕ) (cells : List Bool) (most below : ℕ) (faults : List VolumeFault) (n : AreNoted image cells) (a : AreListed image cells most below faults) where
-  -- a cell that is not set
-  pub listed_past : get_or cells below false ≡ false → AreListed image cells most (below + 1) faults
-  listed_past unset = record {
-    lists = a.lists;
-    count = let few = a.count in omega (arith, few);
-    cells_below = λ k d l. let b = a.cells_below k d l in omega (arith, b);
-    some = λ cell l e. elim (cases_lt cell below) [
-      | inl before ↦ a.some cell before e
-      | inr not_before ↦ (let here : below ≡ cell = omega (arith, l, not_before) in absurd (false≢true (sym unset ∙ ap (λ (c : ℕ). get_or cells c false) here ∙ e)))
-    ];
-    each = λ kind block l e. elim (cases_lt (cell_of kind block) below) [
-      | inl before ↦ a.each kind block before e
-      | inr not_before ↦ (let here : below ≡ cell_of kind block = omega (arith, l, not_before) in absurd (false≢true (sym unset ∙ ap (λ (c : ℕ). get_or cells c false) here ∙ e)))
-    ];
-  }
-
   -- the fault of a set cell, behind the list
   module _ (fault : VolumeFault) (here : cell_at fault ≡ below) (is_set : get_or cells below false ≡ true) where
     pushed_shown : All (λ (f : VolumeFault). Shows image f.kind f.block) (faults ++ fault ∷ [])
@@ -245,17 +228,3 @@ first_faults image cells most more faults noted full whole few sorted = record {
     none_left m last =
         not_longer m.faults faults m.in_order sorted (fault_of NoMemory 0)
         (λ k l. let f = get_or m.faults k (fault_of NoMemory 0) in whole last f.kind f.block (noted f.kind f.block (m.shown k (fault_of NoMemory 0) l))) most few m.many
-
--- more than so many are more than fewer
-pub more_than_fewer : (image : List ℕ) (most enough : ℕ) → most ≤ enough → ShowsMoreThan image enough → ShowsMoreThan image most
-more_than_fewer image most enough within m = record { faults = m.faults; shown = m.shown; in_order = m.in_order; many = let l = m.many in omega (arith, within, l) }
-
-pub no_faults : (image : List ℕ) (most : ℕ) → ShowsNoFault image → AreFirstFaults image most false []
-no_faults image most none = record {
-  first = λ kind block h. absurd (none kind block h);
-  full = λ e. absurd (false≢true e);
-  exact = (
-    λ e. absurd (false≢true e),
-    λ m. let f = get_or m.faults 0 (fault_of NoMemory 0) in absurd (none f.kind f.block (m.shown 0 (fault_of NoMemory 0) (let l = m.many in omega (arith, l)))),
-  );
-}

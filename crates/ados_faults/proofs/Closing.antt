@@ -30,6 +30,7 @@ use Rattle.ados_faults.specs.steps.Noted.{IsNoted, cell_of}
 use Rattle.ados_faults.specs.steps.Roles.{AreBacked, AreCovered, AreCoveredBy, IsCovered, IsListed, number_of, root_step, step_of}
 use Rattle.ados_faults.specs.steps.Walked.{AreKept, AreOutsideNoted, AreTwiceNoted, AreVisited, IsMarkedBy, IsMetBy, IsPassed, IsStep, IsVisited, IsWalked}
 use Rattle.ados_faults.proofs.Covering.{backed_on, carried, covered_on, data_covered, directory_role, entry_covered, entry_listed, extension_covered, extension_listed, extension_role, none_of_root, slot_role}
+use Rattle.ados_faults.proofs.Firsts.{one_more}
 use Rattle.ados_faults.proofs.Insides.{root_inside}
 
 -- ---- one more step in a list
@@ -197,20 +198,11 @@ module _ (image : List ℕ) (walk : Walk) (step : Step) (whole : IsImage image) 
 
 pub visited_more : (image : List ℕ) (walk later : Walk) (n : ℕ) (step : Step) → slice_get walk.steps.items n ≡ Some step → AreVisited image walk n → AreKept walk later → IsVisited image later step
     → AreVisited image later (n + 1)
-visited_more image walk later n step at before kept this = record { visited = go }
-  where
-    go : (k : ℕ) (other : Step) → k < n + 1 → slice_get later.steps.items k ≡ Some other → IsVisited image later other
-    go k other l e =
-        let within : n < length walk.steps.items = slice_get_within walk.steps.items n step at in
-        let was : slice_get walk.steps.items k ≡ Some other = sym (kept.steps_stay k (omega (arith, l, within))) ∙ e in
-        elim (cases_lt k n) [
-          | inl less ↦ record { passed = λ i. passed_on image walk later other i kept ((before.visited k other less was).passed i) }
-          | inr past ↦
-              let here : k ≡ n = omega (arith, l, past) in
-              let h : Some step ≡ Some other = sym at ∙ ap (slice_get walk.steps.items) (sym here) ∙ was in
-              let same : step ≡ other = same_Some step other h in
-              subst (IsVisited image later) same this
-        ]
+visited_more image walk later n step at before kept this = record {
+  visited = λ k other l e.
+      one_more walk.steps.items (IsVisited image walk) (IsVisited image later) n step at (λ s v. record { passed = λ i. passed_on image walk later s i kept (v.passed i) }) this before.visited k other l
+      (sym (kept.steps_stay k (omega (arith, l, slice_get_within walk.steps.items n step at))) ∙ e);
+}
 
 -- a place of a step in a role of the same kind
 pub record IsLikePlace (image : List ℕ) (steps : List Step) (block i : ℕ) : Type 0 where

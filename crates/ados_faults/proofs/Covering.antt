@@ -1,7 +1,7 @@
 -- The numbers in the roles of a block that a walk takes, and the roles that its steps cover.
 use Rattle.std.proofs.Common.{◌≡◌, ◌≢◌, ℕ, ◌+◌, ◌*◌, ◌<◌, ◌==◌, inl, inr, true, false, List, [], ◌∷◌, length, get_or, replicate, Some, set, refl, sym, ap, ◌∙◌, subst, arith, get_or-set_same, get_or-set_other}
-use Rattle.std.proofs.lemmas.Bool.{cases_eq, cases_lt, eqb-true, eqb-false, false≢true, not-true, not-false}
-use Rattle.std.proofs.lemmas.List.{get_or_default, get_or_past, length-replicate, get_or-replicate}
+use Rattle.std.proofs.lemmas.Bool.{cases_eq, eqb-true, eqb-false, false≢true, not-true, not-false}
+use Rattle.std.proofs.lemmas.List.{get_or_default}
 use Rattle.std.proofs.lemmas.Option.{none-some, same_Some}
 use Rattle.ados_model.specs.declared.role.Role.{Role}
 use Rattle.ados_model.specs.declared.role.Role.TheVariants.{Root, Page, Entry, Data, Extension}
@@ -11,6 +11,7 @@ use Rattle.ados_faults.specs.declared.roles.Taken.{Taken}
 use Rattle.ados_faults.specs.declared.roles.Taken.TheVariants.{Nothing, One, Two}
 use Rattle.ados_faults.specs.declared.walk.Step.{Step}
 use Rattle.ados_faults.specs.steps.Roles.{AreBacked, AreCoveredBy, HasNumber, HasTwo, IsBacked, IsCovered, IsListed, lacks, number_of, part_rank, step_of, taken_at, with_number}
+use Rattle.ados_faults.proofs.Firsts.{each_same}
 
 -- ---- the cells of the parts
 
@@ -78,13 +79,7 @@ pub covered_old : (cells : List Taken) (steps : List Step) (block : ℕ) (part :
 covered_old cells steps block part n old back = old_number steps block part n (taken_at cells block part) old (back.backed block part)
 
 pub none_backed : (n : ℕ) (steps : List Step) → AreBacked (replicate n Nothing) steps
-none_backed n steps = record { backed = λ block part. subst (IsBacked steps block part) (sym (nothing (5 * block + part_rank part))) tt }
-  where
-    nothing : (i : ℕ) → get_or (replicate n Nothing) i Nothing ≡ Nothing
-    nothing i = elim (cases_lt i n) [
-      | inl l ↦ get_or-replicate n i Nothing Nothing l
-      | inr past ↦ get_or_past (replicate n Nothing) i Nothing (omega (arith, past, length-replicate n Nothing))
-    ]
+none_backed n steps = record { backed = λ block part. subst (IsBacked steps block part) (sym (each_same n (5 * block + part_rank part) Nothing)) tt }
 
 -- ---- the numbers of each kind of role
 

@@ -4,10 +4,11 @@ use Rattle.std.specs.List.{slice_get}
 use Rattle.std.proofs.lemmas.Option.{none-some, slice_get-get_or, unwrap_or-slice_get}
 use Rattle.adf_block.specs.Whole.{IsImage}
 use Rattle.ados_model.specs.declared.fault.FaultKind.{FaultKind}
-use Rattle.ados_model.specs.declared.fault.FaultKind.TheVariants.{NotADosDisk, UnsupportedKind, BadPointer, DuplicateName, BadCount, BadSequence}
+use Rattle.ados_model.specs.declared.fault.FaultKind.TheVariants.{BadPointer, DuplicateName, BadCount, BadSequence}
 use Rattle.ados_model.specs.Faults
 use Rattle.ados_model.specs.Faults.{HasName, HasSum, Reached, Shows, root_of}
 use Rattle.ados_check.specs.declared.data_rules.DataRule.TheVariants.{Sequence, TooFew, TooMany, Link}
+use Rattle.ados_faults.specs.Listed.{IsOtherKind}
 use Rattle.ados_faults.specs.steps.FileNotes.{AreAllFilesNoted, IsFileNoted, IsPlaceNoted}
 use Rattle.ados_faults.specs.steps.Named.{AreDuplicatesNoted}
 use Rattle.ados_faults.specs.steps.Noted.{AreStillNoted, IsNoted, cell_of}
@@ -23,8 +24,7 @@ pub record AreFurtherNoted (image : List ℕ) (cells : List Bool) : Type 0 where
   pub named : List Bool
   pub names : AreDuplicatesNoted image named
   pub after_names : AreStillNoted named cells
-  pub not_dos : Shows image NotADosDisk 0 → IsNoted cells (cell_of NotADosDisk 0)
-  pub unsupported : Shows image UnsupportedKind 0 → IsNoted cells (cell_of UnsupportedKind 0)
+  pub disk : (kind : FaultKind) → IsOtherKind image kind → IsNoted cells (cell_of kind 0)
 
 module _ (image : List ℕ) (im : IsImage image) (last : List Bool) (f : AreFurtherNoted image last) where
   file_of : (file : ℕ) → Faults.IsFile image file → IsFileNoted image f.filed file
@@ -48,8 +48,7 @@ module _ (image : List ℕ) (im : IsImage image) (last : List Bool) (f : AreFurt
       f.after_names.stay (cell_of DuplicateName block) ((f.names.noted h.dir).noted block h.other h.slot_of_chain h.other_slot h.reached h.other_reached h.short h.other_short same h.two)
 
   further_noted : (kind : FaultKind) (block : ℕ) → ShowsFurther image kind block → IsNoted last (cell_of kind block)
-  further_noted kind block (ShowsFurther.not_dos h) = subst (λ (b : ℕ). IsNoted last (cell_of NotADosDisk b)) (sym h.1) (f.not_dos (subst (λ (b : ℕ). Shows image NotADosDisk b) h.1 h))
-  further_noted kind block (ShowsFurther.unsupported h) = subst (λ (b : ℕ). IsNoted last (cell_of UnsupportedKind b)) (sym h.2) (f.unsupported (subst (λ (b : ℕ). Shows image UnsupportedKind b) h.2 h))
+  further_noted kind block (ShowsFurther.disk other here) = subst (λ (b : ℕ). IsNoted last (cell_of kind b)) (sym here) (f.disk kind other)
   further_noted kind block (ShowsFurther.name h) = name_noted block h
   further_noted kind block (ShowsFurther.link {file = g} {i = i} {blocks = b} ofs at wrong) =
       f.after_files.stay (cell_of BadPointer block) ((place_of g i block b ofs at).each Link (λ e. wrong (e ∙ unwrap_or-slice_get b (i + 1) 0)))

@@ -1,18 +1,23 @@
--- Lists of blocks with a cell for each block, and the entries of a directory in such a list.
+-- Lists of blocks with a cell for each block: those of a type, and the entries of a directory.
 use Rattle.std.proofs.Common.{◌≡◌, ◌≢◌, ℕ, ◌+◌, ◌<◌, ◌≤◌, inl, inr, Bool, true, false, List, [], ◌∷◌, ◌++◌, length, get_or, slice_index, replicate, set, refl, sym, ap, ◌∙◌, subst, arith, length-set, get_or-set_same, get_or-set_other}
 use Rattle.std.specs.List.{All, Contains}
 use Rattle.std.proofs.lemmas.Bool.{cases_eq, cases_lt, false≢true}
-use Rattle.std.proofs.lemmas.List.{get_or_append_left, get_or_default, get_or_past, get_or-replicate, length-replicate}
+use Rattle.std.proofs.lemmas.Option.{slice_get_within}
+use Rattle.std.proofs.lemmas.List.{get_or_append_left, get_or_default, length-replicate}
 use Rattle.std.proofs.lemmas.List.Elements.{All-push, Contains-append_left, Contains-push, Contains-push_cases}
 use Rattle.adf_block.specs.Image.{block_count, long}
 use Rattle.adf_block.specs.declared.layout.TheConstants.{FIRST_SLOT, NEXT_IN_CHAIN, TABLE_LONGS}
 use Rattle.ados_model.specs.declared.role.Role.{Role}
 use Rattle.ados_model.specs.declared.role.Role.TheVariants.{Root, Entry}
-use Rattle.ados_model.specs.Faults.{InImage, IsPlace, LeadsInside, Reached}
+use Rattle.ados_model.specs.Faults.{InImage, IsPlace, LeadsInside, Reached, root_of}
 use Rattle.ados_model.specs.Faults.IsPlace.{root_page, root_slot, directory_slot, next_entry, header_pointer, first_extension, extension_pointer, further_extension}
 use Rattle.ados_model.specs.Faults.Reached.{start, named}
-use Rattle.ados_faults.specs.steps.Blocks.{AreEntriesOf, AreMet, AreNextMet, AreSlotsMet, HoldsEntries, IsEntryIn, IsGrown}
+use Rattle.ados_faults.specs.steps.Blocks.{AreEntriesOf, AreMet, AreNextMet, AreSlotsMet, AreTypesMet, HasTypeAs, HoldsEntries, IsEntryIn, IsGrown, IsOfType}
+use Rattle.ados_faults.specs.declared.walk.Step.{Step}
+use Rattle.ados_faults.specs.steps.Roles.{AreCovered, IsListed, step_of}
 use Rattle.ados_faults.proofs.Closing.{root_only}
+use Rattle.ados_faults.proofs.Covering.{entry_listed}
+use Rattle.ados_faults.proofs.Firsts.{each_same}
 
 -- ---- a list of blocks
 
@@ -20,15 +25,9 @@ pub met_none : (image : List ℕ) (has : List Bool) → has ≡ replicate (block
 met_none image has none = record {
   size = ap length none ∙ length-replicate {A = Bool} (block_count image) false;
   inside = λ k d l. absurd (omega (arith, l));
-  listed = λ block e. absurd (false≢true (sym (unset block) ∙ ap (λ (bs : List Bool). get_or bs block false) (sym none) ∙ e));
+  listed = λ block e. absurd (false≢true (sym (each_same (block_count image) block false) ∙ ap (λ (bs : List Bool). get_or bs block false) (sym none) ∙ e));
   held = λ block c. absurd (omega (arith, c.1));
 }
-  where
-    unset : (i : ℕ) → get_or (replicate (block_count image) false) i false ≡ false
-    unset i = elim (cases_lt i (block_count image)) [
-      | inl l ↦ get_or-replicate (block_count image) i false false l
-      | inr past ↦ get_or_past (replicate (block_count image) false) i false (omega (arith, past, length-replicate {A = Bool} (block_count image) false))
-    ]
 
 pub met_more : (image : List ℕ) (has : List Bool) (blocks : List ℕ) (next : ℕ) → AreMet image has blocks → InImage image next → AreMet image (set has next true) (blocks ++ next ∷ [])
 met_more image has blocks next m inside = record {
@@ -118,6 +117,18 @@ module _ (image : List ℕ) (block : ℕ) (blocks later : List ℕ) (grown : IsG
 pub only_one : (image : List ℕ) (block : ℕ) (blocks later : List ℕ) → blocks ≡ [] → IsGrown image block blocks later → Contains later block → later ≡ block ∷ []
 only_one image block blocks later none (inl same) there = absurd (omega (arith, there.1, ap length same, ap length none))
 only_one image block blocks later none (inr more) there = more.1 ∙ ap (λ (xs : List ℕ). xs ++ block ∷ []) none
+
+-- ---- the blocks of a type
+
+-- each block of a type is in the list
+pub all_of_type : (image : List ℕ) (kind : ℕ) (steps : List Step) (blocks : List ℕ) (n : ℕ) → AreTypesMet image kind steps blocks n → length steps ≤ n → AreCovered image steps → (block : ℕ) → IsOfType image kind block → Contains blocks block
+all_of_type image kind steps blocks n m all covered block typed = elim typed [
+  | inl root ↦ subst (Contains blocks) (sym root.0) (there (root_of image) Root covered.root root.1)
+  | inr entry ↦ (let at = entry_listed steps block entry.0 entry.1 (covered.covered block (Entry entry.0 entry.1) entry.2) in there block (Entry at.0 at.1) at.2 entry.3)
+]
+  where
+    there : (b : ℕ) (r : Role) → IsListed steps (step_of b r) → HasTypeAs image kind b r → Contains blocks b
+    there b r at t = m.met at.0 (step_of b r) (omega (arith, slice_get_within steps at.0 (step_of b r) at.1, all)) at.1 t
 
 -- ---- the entries of a directory
 

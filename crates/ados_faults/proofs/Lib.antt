@@ -1,5 +1,6 @@
 -- Lemmas about cells, places and files past their faults.
 pub mod Cells
+pub mod Firsts
 pub mod Insides
 pub mod Doubles
 pub mod Covering
@@ -8,11 +9,8 @@ pub mod Enumerated
 pub mod Pairing
 pub mod Linking
 pub mod Sameness
-pub mod Freed
 pub mod Above
-pub mod Disk
 pub mod OtherKinds
-pub mod Told
 pub mod Looking
 pub mod AtSteps
 pub mod Each

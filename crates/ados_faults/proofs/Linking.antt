@@ -1,5 +1,5 @@
 -- The blocks along links, one more at a time.
-use Rattle.std.proofs.Common.{◌≡◌, ◌≢◌, ℕ, ◌+◌, ◌-◌, ◌<◌, ◌≤◌, inl, inr, List, [], ◌∷◌, ◌++◌, length, slice_index, refl, sym, ap, ◌∙◌, subst, arith}
+use Rattle.std.proofs.Common.{◌≡◌, ◌≢◌, ℕ, ◌+◌, ◌-◌, ◌<◌, ◌≤◌, inl, inr, List, [], ◌∷◌, ◌++◌, length, get_or, slice_index, refl, sym, ap, ◌∙◌, subst, arith}
 use Rattle.std.specs.List.{Contains}
 use Rattle.std.proofs.lemmas.Bool.{cases_lt}
 use Rattle.std.proofs.lemmas.List.{get_or_default, length_push, get_or_push, get_or_append_left}
@@ -72,3 +72,9 @@ module _ (image : List ℕ) (link : ℕ) (blocks : List ℕ) (c : IsChain image 
 
 pub head_kept : (blocks : List ℕ) (next : ℕ) → 0 < length blocks → slice_index (blocks ++ next ∷ []) 0 ≡ slice_index blocks 0
 head_kept blocks next l = get_or_append_left blocks (next ∷ []) 0 0 l
+
+-- the link of the last block, as it is read
+pub last_next : (image : List ℕ) (link : ℕ) (blocks : List ℕ) (n last next : ℕ) → 0 < length blocks → n ≡ length blocks → last ≡ get_or blocks (n - 1) last → next ≡ long image last link → last_link image link blocks ≡ next
+last_next image link blocks n last next some all at is =
+    let place : n - 1 ≡ length blocks - 1 = omega (arith, all) in
+    sym (is ∙ ap (λ (b : ℕ). long image b link) (at ∙ get_or_default blocks (n - 1) last 0 (omega (arith, some, place)) ∙ ap (slice_index blocks) place))

@@ -1,8 +1,6 @@
 -- The rules that a block breaks in each role, noted one by one.
-use Rattle.std.proofs.Common.{◌≡◌, ℕ, ◌+◌, ◌<◌, inl, inr, List, All, Bool, Some, sym, ap, ◌∙◌, subst, arith}
+use Rattle.std.proofs.Common.{◌≡◌, ℕ, ◌+◌, List, All, Bool, Some, arith}
 use Rattle.std.specs.List.{slice_get}
-use Rattle.std.proofs.lemmas.Bool.{cases_lt}
-use Rattle.std.proofs.lemmas.Option.{same_Some}
 use Rattle.ados_check.specs.Rules.{kind_of}
 use Rattle.ados_check.specs.declared.rules.FieldRule.{FieldRule}
 use Rattle.ados_check.specs.declared.rules.FieldRule.TheVariants.{NoLink, OwnKey, Parent, Name, Chain, Comment, PointerCount, FirstData}
@@ -13,6 +11,7 @@ use Rattle.ados_model.specs.declared.role.Role.TheVariants.{Root, Page, Entry, D
 use Rattle.ados_faults.specs.declared.walk.Step.{Step}
 use Rattle.ados_faults.specs.steps.Looks.{AreLookedAt, AreWrongsNoted, IsBare, IsFieldNoted, IsLookedAt}
 use Rattle.ados_faults.specs.steps.Noted.{AreStillNoted, cell_of}
+use Rattle.ados_faults.proofs.Firsts.{one_more}
 
 -- each rule is in one of the two lists
 module _ (image : List ℕ) (cells : List Bool) (block : ℕ) (role : Role) where
@@ -63,13 +62,4 @@ looked_none image cells steps = record { looked = λ k step l e. absurd (omega (
 
 pub looked_more : (image : List ℕ) (cells later : List Bool) (steps : List Step) (n : ℕ) (step : Step) → slice_get steps n ≡ Some step → AreLookedAt image cells steps n → AreStillNoted cells later → IsLookedAt image later step
     → AreLookedAt image later steps (n + 1)
-looked_more image cells later steps n step at before on this = record { looked = go }
-  where
-    go : (k : ℕ) (other : Step) → k < n + 1 → slice_get steps k ≡ Some other → IsLookedAt image later other
-    go k other l e = elim (cases_lt k n) [
-      | inl less ↦ looked_on image cells later other on (before.looked k other less e)
-      | inr past ↦
-          let here : k ≡ n = omega (arith, l, past) in
-          let h : Some step ≡ Some other = sym at ∙ ap (slice_get steps) (sym here) ∙ e in
-          subst (IsLookedAt image later) (same_Some step other h) this
-    ]
+looked_more image cells later steps n step at before on this = record { looked = one_more steps (IsLookedAt image cells) (IsLookedAt image later) n step at (λ other. looked_on image cells later other on) this before.looked }

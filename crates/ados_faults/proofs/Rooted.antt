@@ -90,8 +90,7 @@ module _ (image : List ℕ) (im : IsImage image) (last : List Bool) (w : AreStep
   of_file block e f = used_twice block (Entry f.dir f.slot_of_chain) e (λ z. cc z) f.reached
 
   further_twice : (kind : FaultKind) (block : ℕ) → block ≡ root_of image → ShowsFurther image kind block → IsNoted last (cell_of BlockUsedTwice block)
-  further_twice kind block e (ShowsFurther.not_dos h) = absurd (let inside = root_inside image im in omega (arith, inside.0, e, h.1))
-  further_twice kind block e (ShowsFurther.unsupported h) = absurd (let inside = root_inside image im in omega (arith, inside.0, e, h.2))
+  further_twice kind block e (ShowsFurther.disk other here) = absurd (let inside = root_inside image im in omega (arith, inside.0, e, here))
   further_twice kind block e (ShowsFurther.name h) = used_twice block (Entry h.dir h.slot_of_chain) e (λ z. cc z) h.reached
   further_twice kind block e (ShowsFurther.link {file = f} {i = i} {blocks = b} ofs at wrong) = of_data f i block b e at
   further_twice kind block e (ShowsFurther.size d n) = of_file block e d.is_file

@@ -1,34 +1,29 @@
 -- Entries of one directory whose names are equal in upper case have the same name, and are noted.
-use Rattle.std.proofs.Common.{◌≡◌, ◌≢◌, ℕ, ◌-◌, ◌<◌, ◌≤◌, inl, inr, Bool, true, false, cond, List, [], ◌∷◌, ◌++◌, length, take, drop, map, replicate, get_or, slice_index, set, Option, Some, None, refl, sym, ap, ap₂, ◌∙◌, subst, arith, ◌+◌, length-set, get_or-set_same, get_or-set_other}
+use Rattle.std.proofs.Common.{◌≡◌, ◌≢◌, ℕ, ◌-◌, ◌<◌, ◌≤◌, inl, inr, Bool, true, cond, List, [], ◌∷◌, ◌++◌, length, take, drop, map, replicate, get_or, slice_index, set, Option, Some, None, refl, sym, ap, ap₂, ◌∙◌, subst, arith, ◌+◌, length-set, get_or-set_same, get_or-set_other}
 use Rattle.std.specs.List.{slice_get}
-use Rattle.std.specs.Option.{IfSome, option_and_then}
+use Rattle.std.specs.Option.{option_and_then}
 use Rattle.std.specs.FinMap.{nat_cmp-IsAntisymmetric, slice_cmp-IsAntisymmetric}
 use Rattle.std.specs.BTreeMap.{BTreeMap, get, is_at}
 use Rattle.std.specs.Map.{lookup}
-use Rattle.std.proofs.lemmas.Bool.{cases_Bool, cases_eq, cases_lt, false≢true}
+use Rattle.std.proofs.lemmas.Bool.{cases_Bool, cases_eq, cases_lt}
 use Rattle.std.proofs.lemmas.Option.{get_or_from_slice_get, none-some, same_Some, slice_get-get_or, slice_get_past, slice_get_within}
-use Rattle.std.proofs.lemmas.List.{get_or_append_left, get_or_past, get_or_push, get_or-replicate, length-map, length-replicate, length_push, take_at}
+use Rattle.std.proofs.lemmas.List.{get_or_append_left, get_or_push, length-map, length-replicate, length_push, take_at}
 use Rattle.adf_block.specs.Whole.{IsImage, text_at}
 use Rattle.adf_block.specs.Image.{block_count, byte_at}
-use Rattle.adf_block.specs.declared.layout.TheConstants.{NAME_BYTE}
+use Rattle.adf_block.specs.declared.layout.TheConstants.{DIRECTORY_TYPE, NAME_BYTE}
 use Rattle.ados_name.specs.Name.{Same, upper}
-use Rattle.ados_model.specs.declared.role.Role.{Role}
-use Rattle.ados_model.specs.declared.role.Role.TheVariants.{Root, Page, Entry, Data, Extension}
+use Rattle.ados_model.specs.declared.role.Role.TheVariants.{Entry}
 use Rattle.ados_model.specs.declared.fault.FaultKind.TheVariants.{DuplicateName}
-use Rattle.ados_model.specs.Faults.{HasDuplicateName, HasShortName, Reached, root_of}
+use Rattle.ados_model.specs.Faults.{HasDuplicateName, HasShortName, Reached}
 use Rattle.ados_check.proofs.Entered.{is_equal}
 use Rattle.ados_check.proofs.Texts.{length-bytes_at}
 use Rattle.ados_check.specs.Entries.{upper_name}
 use Rattle.ados_faults.specs.declared.names.Named.{Named}
-use Rattle.ados_faults.specs.declared.walk.Step.{Step}
-use Rattle.ados_faults.specs.steps.Blocks.{AreEntriesOf, HoldsEntries, IsEntryIn}
-use Rattle.ados_faults.specs.steps.FileNotes.{IsChecked}
-use Rattle.ados_faults.specs.steps.Named.{AreDirectoriesNoted, AreDuplicatesNoted, AreFirstMet, AreFirstNames, AreKnown, AreNamesKept, AreNamesMet, AreNamesNoted, AreStillKnown, HasNameOf, HoldsEntriesAs, IsFirstName, IsNameMet, name_cmp, named_in, named_of}
+use Rattle.ados_faults.specs.steps.Blocks.{AreEntriesOf, HoldsEntries, IsEntryIn, IsOfType}
+use Rattle.ados_faults.specs.steps.Named.{AreDuplicatesNoted, AreFirstMet, AreFirstNames, AreKnown, AreNamesKept, AreNamesMet, AreNamesNoted, AreStillKnown, HasNameOf, IsFirstName, IsNameMet, name_cmp, named_in, named_of}
 use Rattle.ados_faults.specs.steps.Noted.{AreStillNoted, IsNoted, cell_of}
-use Rattle.ados_faults.specs.steps.Roles.{AreCovered, IsListed, step_of}
-use Rattle.ados_faults.proofs.Closing.{root_only}
-use Rattle.ados_faults.proofs.Covering.{entry_listed}
 use Rattle.ados_faults.proofs.Enumerated.{dir_of}
+use Rattle.ados_faults.proofs.Firsts.{one_more, same_there}
 use Rattle.ados_faults.proofs.Insides.{reached_inside}
 
 pub length_text : (image : List ℕ) (block : ℕ) → IsImage image → block < block_count image → byte_at image block NAME_BYTE ≤ 30 → length (text_at image block NAME_BYTE) ≡ byte_at image block NAME_BYTE
@@ -131,26 +126,11 @@ first_more image known later first n new size stay f this = record { each = go }
 
 -- ---- names of the same entries
 
-has_name_of : (image : List ℕ) (first : List (Option ℕ)) (block name : ℕ) → AreFirstNames image first → slice_get first block ≡ Some (Some name) → HasNameOf image block name
+pub has_name_of : (image : List ℕ) (first : List (Option ℕ)) (block name : ℕ) → AreFirstNames image first → slice_get first block ≡ Some (Some name) → HasNameOf image block name
 has_name_of image first block name f e =
     let is : HasShortName image block × (get name_cmp f.known (upper_name image block) ≡ Some name) = f.each block (Some name) e in
     let known = f.are_known.leads (upper_name image block) name is.1 in
     record { short = is.0; within = known.0; same = sym known.1 }
-
-pub if_named : (image : List ℕ) (first : List (Option ℕ)) (block : ℕ) (o : Option ℕ) → AreFirstNames image first → slice_get first block ≡ Some o → IfSome o (HasNameOf image block)
-if_named image first block None f e = tt
-if_named image first block (Some name) f e = has_name_of image first block name f e
-
-pub of_some : (P : ℕ → Type 0) (o : Option ℕ) (name : ℕ) → IfSome o P → o ≡ Some name → P name
-of_some P None name h e = absurd (none-some name e)
-of_some P (Some x) name h e = subst P (same_Some x name e) h
-
-pub none_met_of : (P : ℕ → Type 0) (o : Option ℕ) → ((x : ℕ) → o ≡ Some x → ⊥) → IfSome o P
-none_met_of P None lacking = tt
-none_met_of P (Some x) lacking = absurd (lacking x refl)
-
-pub some_met_of : (P : ℕ → Type 0) (o : Option ℕ) (x : ℕ) → o ≡ Some x → P x → IfSome o P
-some_met_of P o x e p = subst (λ (q : Option ℕ). IfSome q P) (sym e) p
 
 -- a block with a short name leads to some block
 first_of_short : (image : List ℕ) (first : List (Option ℕ)) (block : ℕ) → AreFirstNames image first → block < block_count image → HasShortName image block → (name : ℕ) × (slice_get first block ≡ Some (Some name))
@@ -200,17 +180,12 @@ names_none image met none = record {
   named = λ name named e. absurd (nothing name named e);
 }
   where
-    empty : (name : ℕ) → named_in (replicate (block_count image) None) name ≡ None
-    empty name = elim (cases_lt name (block_count image)) [
-      | inl l ↦
-          named_at (replicate (block_count image) None) name None
-          (slice_get-get_or (replicate (block_count image) None) name None (omega (arith, l, length-replicate {A = Option Named} (block_count image) None))
-          ∙ ap (λ (x : Option Named). Some x) (get_or-replicate (block_count image) name None None l))
-      | inr past ↦ none_past (replicate (block_count image) None) name (omega (arith, past, length-replicate {A = Option Named} (block_count image) None))
-    ]
+    none_in : (name : ℕ) (named : Named) (o : Option (Option Named)) → slice_get (replicate (block_count image) None) name ≡ o → option_and_then (λ x. x) o ≡ Some named → ⊥
+    none_in name named None is e = none-some named e
+    none_in name named (Some x) is e = none-some named (same_there (block_count image) name None x is ∙ e)
 
     nothing : (name : ℕ) (named : Named) → named_in met name ≡ Some named → ⊥
-    nothing name named e = none-some named (sym (empty name) ∙ ap (λ (xs : List (Option Named)). named_in xs name) (sym none) ∙ e)
+    nothing name named e = none_in name named (slice_get (replicate (block_count image) None) name) refl (ap (λ (xs : List (Option Named)). named_in xs name) (sym none) ∙ e)
 
 -- the first entry with a name in a directory
 module _ (image : List ℕ) (met : List (Option Named)) (dir block name : ℕ) (m : AreNamesMet image met) (h : HasNameOf image block name) where
@@ -234,10 +209,14 @@ module _ (image : List ℕ) (met : List (Option Named)) (dir block name : ℕ) (
       is_new other named here e =
           same_Some (named_of dir block) named (sym (set_here met name (named_of dir block) within) ∙ ap (named_in (set met name (Some (named_of dir block)))) (sym here) ∙ e)
 
-  pub names_kept : ((other : ℕ) → named_in met name ≡ Some (named_of dir other) → ⊥) → AreNamesKept dir met (set met name (Some (named_of dir block)))
+  -- what was met with the name
+  pub met_here : (named : Named) → get_or met name None ≡ Some named → named.dir ≡ dir → named_in met name ≡ Some (named_of dir named.block)
+  met_here named is e = named_is met name within ∙ is ∙ ap (λ (d : ℕ). Some (named_of d named.block)) e
+
+  pub names_kept : ((other : ℕ) → get_or met name None ≡ Some (named_of dir other) → ⊥) → AreNamesKept dir met (set met name (Some (named_of dir block)))
   names_kept absent = record {
     stay = λ other b e. elim (cases_eq other name) [
-      | inl here ↦ absurd (absent b (ap (named_in met) (sym here) ∙ e))
+      | inl here ↦ absurd (absent b (sym (named_is met name within) ∙ ap (named_in met) (sym here) ∙ e))
       | inr apart ↦ set_other met name other (named_of dir block) apart ∙ e
     ];
   }
@@ -249,9 +228,6 @@ module _ (image : List ℕ) (met : List (Option Named)) (dir block name : ℕ) (
     here = λ n. absurd (n refl);
     there = λ n. absurd (n refl);
   }
-
-pub kept_names : (dir : ℕ) (met : List (Option Named)) → AreNamesKept dir met met
-kept_names dir met = record { stay = λ name block e. e }
 
 met_on : (cells later : List Bool) (met further : List (Option Named)) (dir block name : ℕ) → AreStillNoted cells later → AreNamesKept dir met further → IsNameMet cells met dir block name → IsNameMet later further dir block name
 met_on cells later met further dir block name on kept m = record {
@@ -267,16 +243,13 @@ first_met_none cells met first dir blocks = record { each = λ k block name l. a
 pub first_met_more : (cells later : List Bool) (met further : List (Option Named)) (first : List (Option ℕ)) (dir : ℕ) (blocks : List ℕ) (n block : ℕ) → slice_get blocks n ≡ Some block → AreStillNoted cells later
     → AreNamesKept dir met further → AreFirstMet cells met first dir blocks n → ((name : ℕ) → slice_get first block ≡ Some (Some name) → IsNameMet later further dir block name)
     → AreFirstMet later further first dir blocks (n + 1)
-first_met_more cells later met further first dir blocks n block at on kept f this = record { each = go }
+first_met_more cells later met further first dir blocks n block at on kept f this = record {
+  each = λ k b name l e.
+      one_more blocks (Met cells met) (Met later further) n block at (λ x old last is. met_on cells later met further dir x last on kept (old last is)) this (λ j x m q last. f.each j x last m q) k b l e name;
+}
   where
-    go : (k b name : ℕ) → k < n + 1 → slice_get blocks k ≡ Some b → slice_get first b ≡ Some (Some name) → IsNameMet later further dir b name
-    go k b name l e is = elim (cases_lt k n) [
-      | inl less ↦ met_on cells later met further dir b name on kept (f.each k b name less e is)
-      | inr past ↦
-          let here : k ≡ n = omega (arith, l, past) in
-          let same : block ≡ b = same_Some block b (sym at ∙ ap (slice_get blocks) (sym here) ∙ e) in
-          subst (λ (x : ℕ). IsNameMet later further dir x name) same (this name (ap (slice_get first) same ∙ is))
-    ]
+    Met : List Bool → List (Option Named) → ℕ → Type 0
+    Met notes names x = (last : ℕ) → slice_get first x ≡ Some (Some last) → IsNameMet notes names dir x last
 
 -- of two entries with one name, one is not the first that was met
 pub names_noted : (image : List ℕ) (cells : List Bool) (met : List (Option Named)) (first : List (Option ℕ)) (dir : ℕ) (blocks : List ℕ) (n : ℕ) → IsImage image → AreEntriesOf image dir blocks → AreFirstNames image first
@@ -303,66 +276,21 @@ names_noted image cells met first dir blocks n im entries f m all = record { not
           | inl here ↦ subst (λ (x : ℕ). IsNoted cells (cell_of DuplicateName x)) (sym (here ∙ is)) (b.there (λ z. two (here ∙ is ∙ sym z)))
         ]
 
--- ---- the directories that were gone through
+-- ---- all directories
 
-pub directories_none : (image : List ℕ) (cells passed : List Bool) → passed ≡ replicate (block_count image) false → AreDirectoriesNoted image cells passed
-directories_none image cells passed none = record {
-  size = ap length none ∙ length-replicate {A = Bool} (block_count image) false;
-  noted = λ dir h. absurd (false≢true (sym (unset dir) ∙ ap (λ (bs : List Bool). get_or bs dir false) (sym none) ∙ h));
+pub duplicates_on : (image : List ℕ) (cells later : List Bool) (dir : ℕ) → AreStillNoted cells later → AreNamesNoted image cells dir → AreNamesNoted image later dir
+duplicates_on image cells later dir on n = record { noted = λ block b s t r q short long same two. on.stay (cell_of DuplicateName block) (n.noted block b s t r q short long same two) }
+
+pub holder_of : (image : List ℕ) (dir : ℕ) → IsOfType image DIRECTORY_TYPE dir → HoldsEntries image dir
+holder_of image dir (inl root) = inl root.0
+holder_of image dir (inr e) = inr (record { dir = e.0; slot_of_chain = e.1; reached = e.2; secondary = e.3 })
+
+-- what has no entries has none with one name
+pub all_duplicates : (image : List ℕ) (cells : List Bool) → ((dir : ℕ) → IsOfType image DIRECTORY_TYPE dir → AreNamesNoted image cells dir) → AreDuplicatesNoted image cells
+all_duplicates image cells each = record {
+  noted = λ dir. record { noted = λ block other s t h o short long same two. (each dir (typed dir (dir_of image dir h s refl))).noted block other s t h o short long same two };
 }
   where
-    unset : (i : ℕ) → get_or (replicate (block_count image) false) i false ≡ false
-    unset i = elim (cases_lt i (block_count image)) [
-      | inl l ↦ get_or-replicate (block_count image) i false false l
-      | inr past ↦ get_or_past (replicate (block_count image) false) i false (omega (arith, past, length-replicate {A = Bool} (block_count image) false))
-    ]
-
-pub directories_more : (image : List ℕ) (cells later passed : List Bool) (dir : ℕ) → AreStillNoted cells later → AreDirectoriesNoted image cells passed → AreNamesNoted image later dir
-    → AreDirectoriesNoted image later (set passed dir true)
-directories_more image cells later passed dir on d this = record {
-  size = length-set passed dir true ∙ d.size;
-  noted = λ other h. elim (cases_eq other dir) [
-    | inl here ↦ subst (AreNamesNoted image later) (sym here) this
-    | inr apart ↦ (let old = d.noted other (sym (get_or-set_other passed dir other true false apart) ∙ h) in
-        record { noted = λ block b s t r q short long same two. on.stay (cell_of DuplicateName block) (old.noted block b s t r q short long same two) })
-  ];
-}
-
--- the first steps were passed, as many as a number says
-pub record AreStepsPassed (image : List ℕ) (passed : List Bool) (steps : List Step) (n : ℕ) : Type 0 where
-  pub was : (k : ℕ) (step : Step) → k < n → slice_get steps k ≡ Some step → HoldsEntriesAs image step.block step.role → IsChecked passed step.block
-
-pub passed_more : (image : List ℕ) (passed later : List Bool) (steps : List Step) (n : ℕ) (step : Step) → slice_get steps n ≡ Some step → AreStepsPassed image passed steps n → AreStillNoted passed later
-    → (HoldsEntriesAs image step.block step.role → IsChecked later step.block) → AreStepsPassed image later steps (n + 1)
-passed_more image passed later steps n step at before on this = record { was = go }
-  where
-    go : (k : ℕ) (other : Step) → k < n + 1 → slice_get steps k ≡ Some other → HoldsEntriesAs image other.block other.role → IsChecked later other.block
-    go k other l e holds = elim (cases_lt k n) [
-      | inl less ↦ on.stay other.block (before.was k other less e holds)
-      | inr past ↦
-          let here : k ≡ n = omega (arith, l, past) in
-          let same : step ≡ other = same_Some step other (sym at ∙ ap (slice_get steps) (sym here) ∙ e) in
-          subst (λ (s : Step). HoldsEntriesAs image s.block s.role → IsChecked later s.block) same this holds
-    ]
-
-pub all_duplicates : (image : List ℕ) (cells passed : List Bool) (steps : List Step) (n : ℕ) → AreDirectoriesNoted image cells passed → AreStepsPassed image passed steps n → length steps ≤ n → AreCovered image steps
-    → AreDuplicatesNoted image cells
-all_duplicates image cells passed steps n d p all covered = record {
-  noted = λ dir. record { noted = λ block other s t h o short long same two. (d.noted dir (was dir (dir_of image dir h s refl))).noted block other s t h o short long same two };
-}
-  where
-    step_passed : (dir : ℕ) (role : Role) → IsListed steps (step_of dir role) → HoldsEntriesAs image dir role → IsChecked passed dir
-    step_passed dir role at holds = p.was at.0 (step_of dir role) (omega (arith, slice_get_within steps at.0 (step_of dir role) at.1, all)) at.1 holds
-
-    was : (dir : ℕ) → HoldsEntries image dir → IsChecked passed dir
-    was dir (inl root) = subst (IsChecked passed) (sym root) (step_passed (root_of image) Root covered.root tt)
-    was dir (inr e) =
-        let at = entry_listed steps dir e.dir e.slot_of_chain (covered.covered dir (Entry e.dir e.slot_of_chain) e.reached) in
-        step_passed dir (Entry at.0 at.1) at.2 e.secondary
-
-pub holder_of : (image : List ℕ) (block : ℕ) (role : Role) → Reached image block role → HoldsEntriesAs image block role → HoldsEntries image block
-holder_of image block Root h holds = inl (root_only h refl)
-holder_of image block Page h holds = absurd holds
-holder_of image block (Entry d s) h holds = inr (record { dir = d; slot_of_chain = s; reached = h; secondary = holds })
-holder_of image block (Data f) h holds = absurd holds
-holder_of image block (Extension f) h holds = absurd holds
+    typed : (dir : ℕ) → HoldsEntries image dir → IsOfType image DIRECTORY_TYPE dir
+    typed dir (inl root) = inl (root, refl)
+    typed dir (inr e) = inr (e.dir, e.slot_of_chain, e.reached, e.secondary)

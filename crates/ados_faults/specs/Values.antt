@@ -8,13 +8,14 @@ use Rattle.adf_block.specs.Image.{block_count, block_sum, byte_at, long}
 use Rattle.adf_block.specs.Fields.{held_count, pointer, pointer_count, secondary_type}
 use Rattle.adf_block.specs.declared.layout.TheConstants.{BLOCK_LONGS, BOOT_BLOCKS, KIND, KIND_BYTE, PAGE_CHECKSUM, CHECKSUM, PRIMARY_TYPE, HEADER_TYPE, DATA_TYPE, LIST_TYPE, ROOT_TYPE, FILE_TYPE, TABLE_SIZE, TABLE_LONGS, SECONDARY_TYPE, OWN_KEY, PARENT, NEXT_DATA, NEXT_EXTENSION, FIRST_POINTER, NAME_BYTE, COMMENT_BYTE, POINTER_COUNT, HELD, OFS_ROOM, FILE_SIZE, SEQUENCE}
 use Rattle.ados_check.specs.Marks.{HasEntryType, mark_at}
+use Rattle.ados_check.specs.Rules.{HasNoType, HasOtherCount}
 use Rattle.ados_check.specs.declared.mark.Mark.{Mark}
-use Rattle.ados_model.specs.Faults.{HasFileType, HasLinkType, InImage, IsContinued, IsOfs, IsPlace, LeadsInside, Shows, pointers_of}
+use Rattle.ados_model.specs.Faults.{HasFileType, HasLinkType, InImage, IsOfs, IsPlace, LeadsInside, pointers_of}
 use Rattle.ados_model.specs.declared.fault.FaultKind.{FaultKind}
-use Rattle.ados_model.specs.declared.fault.FaultKind.TheVariants.{NotADosDisk, UnsupportedKind, BadSum, BadType, BadOwnKey, BadParent, BadPointer, BadName, BadComment, BadCount, BadSequence, LinkEntry}
+use Rattle.ados_model.specs.declared.fault.FaultKind.TheVariants.{BadSum, BadType, BadOwnKey, BadParent, BadPointer, BadName, BadComment, BadCount, BadSequence, LinkEntry}
 use Rattle.ados_model.specs.declared.role.Role.{Role}
 use Rattle.ados_model.specs.declared.role.Role.TheVariants.{Root, Page, Entry, Data, Extension}
-use Rattle.ados_faults.specs.Listed.{Marks}
+use Rattle.ados_faults.specs.Listed.{IsOtherKind, Marks}
 use Rattle.ados_faults.specs.declared.values.FaultValues.{FaultValues}
 
 -- the block has fields in the role of its mark: in FFS a data block has none. The holder of a data block is in the
@@ -27,36 +28,9 @@ HasFields image mark _ = ⊤
 abbrev pub only_at : ℕ → ℕ → ℕ → Option ℕ
 only_at place right i = if i == place then Some right else None
 
--- the long of a checksum
-abbrev pub checksum_long : Role → ℕ
-checksum_long Page = PAGE_CHECKSUM
-checksum_long _ = CHECKSUM
-
 -- the value with which the longs of the block sum to 0
 abbrev pub balance : List ℕ → ℕ → ℕ → ℕ
 balance image block i = (long image block i + (2 ^ 32 - block_sum image block)) % 2 ^ 32
-
--- the right types, and the right size of a root's table
-abbrev pub right_type : Role → ℕ → Option ℕ
-right_type Root i = option_or (only_at PRIMARY_TYPE HEADER_TYPE i) (option_or (only_at TABLE_SIZE TABLE_LONGS i) (only_at SECONDARY_TYPE ROOT_TYPE i))
-right_type (Entry dir s) i = only_at PRIMARY_TYPE HEADER_TYPE i
-right_type (Extension file) i = option_or (only_at PRIMARY_TYPE LIST_TYPE i) (only_at SECONDARY_TYPE FILE_TYPE i)
-right_type (Data file) i = only_at PRIMARY_TYPE DATA_TYPE i
-right_type Page i = None
-
--- the right own number
-abbrev pub right_key : Role → ℕ → ℕ → Option ℕ
-right_key (Entry dir s) block i = only_at OWN_KEY block i
-right_key (Extension file) block i = only_at OWN_KEY block i
-right_key _ block i = None
-
--- the right parent; the right file header of an extension block or a data block
-abbrev pub right_parent : Role → ℕ → Option ℕ
-right_parent Root i = only_at PARENT 0 i
-right_parent (Entry dir s) i = only_at PARENT dir i
-right_parent (Extension file) i = only_at PARENT file i
-right_parent (Data file) i = only_at OWN_KEY file i
-right_parent Page i = None
 
 -- whether the block is in the image, and pointer k of it is in use
 abbrev pub has_pointer : List ℕ → ℕ → ℕ → Bool
@@ -72,25 +46,9 @@ pointed_by image block k = if has_pointer image block k then Some (pointer image
 abbrev pub next_data : List ℕ → Mark → Option ℕ
 next_data image mark = option_or (pointed_by image mark.holder (FIRST_POINTER - mark.long + 1)) (pointed_by image (long image mark.holder NEXT_EXTENSION) 0)
 
--- in OFS: the right link of a file header to its first data block, and of a data block to the next one; 0 if there is
--- none
-abbrev pub right_link : List ℕ → Mark → Role → ℕ → ℕ → Option ℕ
-right_link image mark (Entry dir s) block i =
-    if byte_at image 0 KIND_BYTE == 0 && secondary_type image block == FILE_TYPE then only_at NEXT_DATA (slice_index (pointers_of image block) 0) i else None
-right_link image mark (Data file) block i = only_at NEXT_DATA (unwrap_or (next_data image mark) 0) i
-right_link image mark _ block i = None
-
 -- the right number of pointers of a block that an extension block follows
 abbrev pub full_count : List ℕ → ℕ → ℕ → Option ℕ
 full_count image block i = if long image block NEXT_EXTENSION == 0 then None else only_at POINTER_COUNT TABLE_LONGS i
-
--- the right number of pointers, or of bytes in a data block that another one follows
-abbrev pub right_count : List ℕ → Mark → Role → ℕ → ℕ → Option ℕ
-right_count image mark (Entry dir s) block i =
-    if secondary_type image block == FILE_TYPE then full_count image block i else None
-right_count image mark (Extension file) block i = full_count image block i
-right_count image mark (Data file) block i = if is_some (next_data image mark) then only_at HELD OFS_ROOM i else None
-right_count image mark _ block i = None
 
 -- whether it is the role of an extension block
 abbrev pub is_extension : Role → Bool
@@ -109,101 +67,72 @@ abbrev pub place_in_file : List ℕ → Marks → Mark → Option ℕ
 place_in_file image marks mark =
     option_map (λ k. TABLE_LONGS * k + (FIRST_POINTER - mark.long) + 1) (extensions_to marks (block_count image) mark.holder)
 
--- the right number of a data block
-abbrev pub right_sequence : List ℕ → Marks → Mark → Role → ℕ → Option ℕ
-right_sequence image marks mark (Data file) i = if i == SEQUENCE then place_in_file image marks mark else None
-right_sequence image marks mark _ i = None
-
--- the one right value of long i of the block in the role of its mark, if the rule of the kind allows only one
-abbrev pub right_at : List ℕ → Marks → Mark → FaultKind → ℕ → ℕ → Option ℕ
-right_at image marks mark BadSum block i = only_at (checksum_long mark.role) (balance image block i) i
-right_at image marks mark BadType block i = right_type mark.role i
-right_at image marks mark BadOwnKey block i = right_key mark.role block i
-right_at image marks mark BadParent block i = right_parent mark.role i
-right_at image marks mark BadPointer block i = right_link image mark mark.role block i
-right_at image marks mark BadCount block i = right_count image mark mark.role block i
-right_at image marks mark BadSequence block i = right_sequence image marks mark mark.role i
-right_at image marks mark _ block i = None
-
--- the secondary type of an entry is none of a directory, a file or a link
-abbrev pub HasWrongType : List ℕ → Role → ℕ → ℕ → Type 0
-HasWrongType image (Entry dir s) block i = (i ≡ SECONDARY_TYPE) × ¬ HasEntryType image block × ¬ HasLinkType image block
-HasWrongType image _ block i = ⊥
+-- the one right value of long i of the block in the role of its mark, if the rule of the kind allows only one. In OFS a
+-- file header links its first data block, and a data block the next one, or 0 if there is none
+abbrev pub right_at : List ℕ → Marks → Mark → FaultKind → Role → ℕ → ℕ → Option ℕ
+right_at image marks mark BadSum Page block i = only_at PAGE_CHECKSUM (balance image block i) i
+right_at image marks mark BadSum role block i = only_at CHECKSUM (balance image block i) i
+right_at image marks mark BadType Root block i = option_or (only_at PRIMARY_TYPE HEADER_TYPE i) (option_or (only_at TABLE_SIZE TABLE_LONGS i) (only_at SECONDARY_TYPE ROOT_TYPE i))
+right_at image marks mark BadType (Entry dir s) block i = only_at PRIMARY_TYPE HEADER_TYPE i
+right_at image marks mark BadType (Extension file) block i = option_or (only_at PRIMARY_TYPE LIST_TYPE i) (only_at SECONDARY_TYPE FILE_TYPE i)
+right_at image marks mark BadType (Data file) block i = only_at PRIMARY_TYPE DATA_TYPE i
+right_at image marks mark BadOwnKey (Entry dir s) block i = only_at OWN_KEY block i
+right_at image marks mark BadOwnKey (Extension file) block i = only_at OWN_KEY block i
+right_at image marks mark BadParent Root block i = only_at PARENT 0 i
+right_at image marks mark BadParent (Entry dir s) block i = only_at PARENT dir i
+right_at image marks mark BadParent (Extension file) block i = only_at PARENT file i
+right_at image marks mark BadParent (Data file) block i = only_at OWN_KEY file i
+right_at image marks mark BadPointer (Entry dir s) block i =
+    if byte_at image 0 KIND_BYTE == 0 && secondary_type image block == FILE_TYPE then only_at NEXT_DATA (slice_index (pointers_of image block) 0) i else None
+right_at image marks mark BadPointer (Data file) block i = only_at NEXT_DATA (unwrap_or (next_data image mark) 0) i
+right_at image marks mark BadCount (Entry dir s) block i = if secondary_type image block == FILE_TYPE then full_count image block i else None
+right_at image marks mark BadCount (Extension file) block i = full_count image block i
+right_at image marks mark BadCount (Data file) block i = if is_some (next_data image mark) then only_at HELD OFS_ROOM i else None
+right_at image marks mark BadSequence (Data file) block i = if i == SEQUENCE then place_in_file image marks mark else None
+right_at image marks mark _ role block i = None
 
 -- the long is a place, and names no block of the image
 abbrev pub LeadsOut : List ℕ → Role → ℕ → ℕ → Type 0
 LeadsOut image role block i = ((next : Role) × IsPlace image block role i next) × ¬ LeadsInside image block i
-
--- the length of a name is 0 or more than 30
-abbrev pub HasWrongLength : List ℕ → ℕ → Type 0
-HasWrongLength image block = (byte_at image block NAME_BYTE ≡ 0) ⊎ (30 < byte_at image block NAME_BYTE)
 
 -- byte p of the block is a slash or a colon in its name
 abbrev pub IsSeparatorAt : List ℕ → ℕ → ℕ → Type 0
 IsSeparatorAt image block p =
     (NAME_BYTE < p) × (p ≤ NAME_BYTE + byte_at image block NAME_BYTE) × ((byte_at image block p ≡ 47) ⊎ (byte_at image block p ≡ 58))
 
--- one of the four bytes of the long is a slash or a colon in the block's name
-abbrev pub HasSeparator : List ℕ → ℕ → ℕ → Type 0
-HasSeparator image block i = (k : ℕ) × (k < 4) × IsSeparatorAt image block (4 * i + k)
-
--- the long has a wrong length of the name, or a slash or a colon of it
+-- the long has a wrong length of the name, 0 or more than 30, or one of its four bytes is a slash or a colon of it
 abbrev pub HasWrongName : List ℕ → ℕ → ℕ → Type 0
-HasWrongName image block i = ((i ≡ NAME_BYTE / 4) × HasWrongLength image block) ⊎ HasSeparator image block i
-
--- a root or an entry has a name
-abbrev pub HasWrongNameIn : List ℕ → Role → ℕ → ℕ → Type 0
-HasWrongNameIn image Root block i = HasWrongName image block i
-HasWrongNameIn image (Entry dir s) block i = HasWrongName image block i
-HasWrongNameIn image _ block i = ⊥
-
--- the length of the comment of a directory or file is more than 79
-abbrev pub HasWrongComment : List ℕ → Role → ℕ → ℕ → Type 0
-HasWrongComment image (Entry dir s) block i = (i ≡ COMMENT_BYTE / 4) × HasEntryType image block × (79 < byte_at image block COMMENT_BYTE)
-HasWrongComment image _ block i = ⊥
-
--- the number of pointers is at most 72, and is 72 if an extension block follows
-abbrev pub HasRightCount : List ℕ → ℕ → Type 0
-HasRightCount image block = (pointer_count image block ≤ TABLE_LONGS) × (IsContinued image block → pointer_count image block ≡ TABLE_LONGS)
+HasWrongName image block i =
+    ((i ≡ NAME_BYTE / 4) × ((byte_at image block NAME_BYTE ≡ 0) ⊎ (30 < byte_at image block NAME_BYTE))) ⊎ ((k : ℕ) × (k < 4) × IsSeparatorAt image block (4 * i + k))
 
 -- more than 72 pointers in a file's header. The size of the file shows the fault if their number is right: whether the
 -- data blocks hold so many bytes is not asked here
 abbrev pub HasWrongSize : List ℕ → ℕ → ℕ → Type 0
-HasWrongSize image block i = ((i ≡ POINTER_COUNT) × (TABLE_LONGS < pointer_count image block)) ⊎ ((i ≡ FILE_SIZE) × HasRightCount image block)
+HasWrongSize image block i = ((i ≡ POINTER_COUNT) × (TABLE_LONGS < pointer_count image block)) ⊎ ((i ≡ FILE_SIZE) × ¬ HasOtherCount image block)
 
--- a number of pointers or of bytes that is out of its range, or the size of a file
-abbrev pub HasWrongCount : List ℕ → Role → ℕ → ℕ → Type 0
-HasWrongCount image (Entry dir s) block i = HasFileType image block × HasWrongSize image block i
-HasWrongCount image (Extension file) block i =
-    (i ≡ POINTER_COUNT) × ((pointer_count image block ≡ 0) ⊎ (TABLE_LONGS < pointer_count image block))
-HasWrongCount image (Data file) block i = (i ≡ HELD) × ((held_count image block ≡ 0) ⊎ (OFS_ROOM < held_count image block))
-HasWrongCount image _ block i = ⊥
-
--- the secondary type of an entry is that of a link
-abbrev pub HasLink : List ℕ → Role → ℕ → ℕ → Type 0
-HasLink image (Entry dir s) block i = (i ≡ SECONDARY_TYPE) × HasLinkType image block
-HasLink image _ block i = ⊥
-
--- long i of the block in this role is wrong by the rule of the kind, which allows several values or none
+-- long i of the block in this role is wrong by the rule of the kind, which allows several values or none. A root or an
+-- entry has a name
 abbrev pub IsWrongAt : List ℕ → FaultKind → Role → ℕ → ℕ → Type 0
-IsWrongAt image BadType role block i = HasWrongType image role block i
+IsWrongAt image BadType (Entry dir s) block i = (i ≡ SECONDARY_TYPE) × HasNoType image block
 IsWrongAt image BadPointer role block i = LeadsOut image role block i
-IsWrongAt image BadName role block i = HasWrongNameIn image role block i
-IsWrongAt image BadComment role block i = HasWrongComment image role block i
-IsWrongAt image BadCount role block i = HasWrongCount image role block i
-IsWrongAt image LinkEntry role block i = HasLink image role block i
+IsWrongAt image BadName Root block i = HasWrongName image block i
+IsWrongAt image BadName (Entry dir s) block i = HasWrongName image block i
+IsWrongAt image BadComment (Entry dir s) block i = (i ≡ COMMENT_BYTE / 4) × HasEntryType image block × (79 < byte_at image block COMMENT_BYTE)
+IsWrongAt image BadCount (Entry dir s) block i = HasFileType image block × HasWrongSize image block i
+IsWrongAt image BadCount (Extension file) block i =
+    (i ≡ POINTER_COUNT) × ((pointer_count image block ≡ 0) ⊎ (TABLE_LONGS < pointer_count image block))
+IsWrongAt image BadCount (Data file) block i = (i ≡ HELD) × ((held_count image block ≡ 0) ⊎ (OFS_ROOM < held_count image block))
+IsWrongAt image LinkEntry (Entry dir s) block i = (i ≡ SECONDARY_TYPE) × HasLinkType image block
 IsWrongAt image _ role block i = ⊥
 
--- the first long of the disk, if it has another kind than OFS and FFS
+-- the first long of the disk, if it is no DOS disk, or one of an unsupported kind
 abbrev pub ShowsDisk : List ℕ → FaultKind → ℕ → ℕ → Type 0
-ShowsDisk image NotADosDisk block i = Shows image NotADosDisk block × (i ≡ KIND)
-ShowsDisk image UnsupportedKind block i = Shows image UnsupportedKind block × (i ≡ KIND)
-ShowsDisk image _ block i = ⊥
+ShowsDisk image kind block i = IsOtherKind image kind × (block ≡ 0) × (i ≡ KIND)
 
 -- long i of the block does not hold its one right value, or none of several
 abbrev pub ShowsField : List ℕ → Marks → Mark → FaultKind → ℕ → ℕ → Type 0
 ShowsField image marks mark kind block i =
-    HasFields image mark mark.role × MatchOption (right_at image marks mark kind block i) (IsWrongAt image kind mark.role block i) (λ right. long image block i ≢ right)
+    HasFields image mark mark.role × MatchOption (right_at image marks mark kind mark.role block i) (IsWrongAt image kind mark.role block i) (λ right. long image block i ≢ right)
 
 -- long i of the block shows the fault, in the role of the block's mark
 abbrev pub ShowsAt : List ℕ → Marks → FaultKind → ℕ → ℕ → Type 0
@@ -212,7 +141,7 @@ ShowsAt image marks kind block i =
 
 -- the one right value in place of long i, if only one is right
 abbrev pub wanted_at : List ℕ → Marks → FaultKind → ℕ → ℕ → Option ℕ
-wanted_at image marks kind block i = option_and_then (λ mark. right_at image marks mark kind block i) (mark_at marks block)
+wanted_at image marks kind block i = option_and_then (λ mark. right_at image marks mark kind mark.role block i) (mark_at marks block)
 
 -- the lowest long of the block that shows the fault, its value, and the value that is wanted there
 pub record AreValues (image : List ℕ) (marks : Marks) (kind : FaultKind) (block : ℕ) (values : FaultValues) : Type 0 where

@@ -18,9 +18,10 @@ pub(crate) struct Blocks {
 impl Blocks {
     /// No blocks.
     pub(crate) fn none(alloc: Global, image: &Image) -> Result<Blocks, AllocError>
-        ensures { IfOk result (λ blocks. AreMet image.now blocks.has.items blocks.list.items) }
+        ensures met { IfOk result (λ blocks. AreMet image.now blocks.has.items blocks.list.items) }
+        ensures none { IfOk result (λ blocks. blocks.list.items ≡ []) }
     {
-        let has = no_cells(alloc, image)?;
+        let has = Vec::from_elem(alloc, false, image.blocks() as usize)?;
         Ok(Blocks {
             list: Vec::new(alloc),
             has,
@@ -60,11 +61,4 @@ impl Blocks {
         self.has[block as usize] = true;
         Ok(true)
     }
-}
-
-/// One cell for each block of the image, none of them set.
-pub(crate) fn no_cells(alloc: Global, image: &Image) -> Result<Vec<bool>, AllocError>
-    ensures { IfOk result (λ cells. cells.items ≡ replicate (block_count image.now) false) }
-{
-    Vec::from_elem(alloc, false, image.blocks() as usize)
 }

@@ -1,6 +1,5 @@
 //! The entries of a directory.
 ghost use Rattle.std.specs.Prelude.{◌≡◌, All, Contains, IfOk};
-ghost use Rattle.adf_block.specs.Image.{long};
 ghost use Rattle.ados_model.specs.Faults.{InImage};
 ghost use Rattle.ados_faults.specs.steps.Blocks.{AreEntriesOf, AreMet, AreSlotsMet, HoldsEntries, IsEntryIn, IsGrown};
 
@@ -56,18 +55,10 @@ fn meet_chains(image: &Image, dir: u32, entries: &mut Blocks) -> Result<(), Allo
             return Ok(());
         }
         let entry = entries.list[i];
-        let next = next_entry(image, entry);
+        let next = image.long(entry, NEXT_IN_CHAIN);
         meet(image, next, entries)?;
     }
     Ok(())
-}
-
-/// The block that an entry names as the next one in its chain.
-fn next_entry(image: &Image, entry: u32) -> u32
-    requires { InImage image.now entry }
-    ensures { result ≡ long image.now entry NEXT_IN_CHAIN }
-{
-    image.long(entry, NEXT_IN_CHAIN)
 }
 
 /// Adds a block, if it is inside the image.

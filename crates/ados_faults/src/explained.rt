@@ -3,7 +3,6 @@ ghost use Rattle.std.specs.Prelude.{IfOk};
 ghost use Rattle.std.specs.String.{string_bytes};
 ghost use Rattle.ados_faults.specs.Explained.{TellsOfBlock};
 
-use crate::marked::has_block;
 use crate::path::{place_of, volume_name};
 use crate::texts::BadBlock;
 use crate::values::values_of;
@@ -25,7 +24,7 @@ pub fn explain(
     ensures { IfOk result (λ text. TellsOfBlock fault.now.block (string_bytes text)) }
 {
     let block = fault.block;
-    if !has_block(image, block) {
+    if block >= image.blocks() {
         return format!(in alloc; "block {block}: the image has no such block");
     }
     let bad = BadBlock {

@@ -80,24 +80,16 @@ pub(crate) fn count_pointers(image: &Image, headers: &[u32]) -> u64
     count
 }
 
-/// In OFS what [`held_by_each`] returns, and nothing in FFS.
+/// In OFS for each block the number of bytes that the data blocks in its pointers hold together, unless one of them is
+/// outside the image; nothing in FFS.
 pub(crate) fn held_in_ofs(alloc: Global, image: &Image) -> Result<Vec<Option<u64>>, AllocError>
     ensures { IfOk result (λ held. IsOfs image.now → AreHeld image.now held.items) }
 {
     prove!(image.blocks() >= 16);
-    if image.byte(0, KIND_BYTE) != 0 {
-        return Ok(Vec::new(alloc));
-    }
-    let held = held_by_each(alloc, image)?;
-    Ok(held)
-}
-
-/// For each block the number of bytes that the data blocks in its pointers hold together, unless one of them is outside
-/// the image.
-fn held_by_each(alloc: Global, image: &Image) -> Result<Vec<Option<u64>>, AllocError>
-    ensures { IfOk result (λ held. AreHeld image.now held.items) }
-{
     let mut held = Vec::new(alloc);
+    if image.byte(0, KIND_BYTE) != 0 {
+        return Ok(held);
+    }
     for header in 0..image.blocks() {
         held.push(held_by(image, header))?;
     }

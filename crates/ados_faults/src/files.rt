@@ -4,34 +4,22 @@ ghost use Rattle.adf_block.specs.Image.{block_count};
 ghost use Rattle.adf_block.specs.declared.layout.TheConstants.{NEXT_EXTENSION};
 ghost use Rattle.ados_model.specs.Faults.{InImage, IsFile, IsOfs, LinkedOnce, pointers_of};
 ghost use Rattle.ados_faults.specs.steps.Blocks.{AreMet};
-ghost use Rattle.ados_faults.specs.steps.FileNotes.{AreAllFilesNoted, AreAllSeen, AreBlocksNoted, AreFilesNoted, AreHeld, HoldOtherSize, IsFileNoted, IsStepChecked};
+ghost use Rattle.ados_faults.specs.steps.FileNotes.{AreAllFilesNoted, AreAllSeen, AreBlocksNoted, AreHeld, HoldOtherSize, IsFileNoted};
 ghost use Rattle.ados_faults.specs.steps.Noted.{AreNoted, AreStillNoted};
 ghost use Rattle.ados_faults.specs.steps.Roles.{AreCovered};
 ghost use Rattle.ados_faults.specs.steps.Walked.{IsStep};
 
-use crate::blocks::{Blocks, no_cells};
+use crate::blocks::Blocks;
 use crate::file_blocks::{count_pointers, held_in_ofs, held_together, list_headers};
 use crate::notes::Notes;
 use crate::pieces::{Seen, look_along};
+use crate::typed::blocks_of_type;
 use crate::walk::Step;
 use adf_block::Image;
-use adf_block::layout::{FILE_TYPE, KIND_BYTE, SECONDARY_TYPE};
+use adf_block::layout::{FILE_TYPE, KIND_BYTE};
 use ados_check::{Source, has_other_size, needs_other_count};
-use ados_model::{FaultKind, Role};
+use ados_model::FaultKind;
 use std::alloc::{AllocError, Global};
-
-/// The files that were checked, and their header and extension blocks.
-#[derive(Drop)]
-struct Files {
-    /// For each block whether it is a file that was checked.
-    checked: Vec<bool>,
-    /// The header and extension blocks of the last file.
-    headers: Blocks,
-    /// In OFS for each block the number of bytes that the data blocks in its pointers hold, if all are inside the image.
-    held: Vec<Option<u64>>,
-    /// For each block of an OFS file where the data blocks in its pointers were checked.
-    seen: Vec<Option<Seen>>,
-}
 
 /// Checks the blocks of each file, once.
 pub(crate) fn look_at_files(
@@ -47,86 +35,18 @@ pub(crate) fn look_at_files(
     ensures stays { IfOk result (λ _. AreStillNoted notes.old.cells.items notes.new.cells.items) }
     ensures whole { IfOk result (λ _. AreAllFilesNoted image.now notes.new.cells.items) }
 {
-    let mut files = Files::none(alloc, image)?;
-    for step in steps {
-        files.look_at_step(image, *step, notes)?;
+    let files = blocks_of_type(alloc, image, steps, FILE_TYPE)?;
+    // The header and extension blocks of the last file.
+    let mut headers = Blocks::none(alloc, image)?;
+    // In OFS for each block the number of bytes that the data blocks in its pointers hold, if all are inside the image.
+    let held = held_in_ofs(alloc, image)?;
+    // For each block of an OFS file where the data blocks in its pointers were checked.
+    let mut seen = Vec::from_elem(alloc, None, image.blocks() as usize)?;
+    for file in &files {
+        list_headers(image, *file, &mut headers)?;
+        look_at_file(image, *file, &headers.list, &held, &mut seen, notes);
     }
     Ok(())
-}
-
-impl Files {
-    /// No file was checked.
-    fn none(alloc: Global, image: &Image) -> Result<Files, AllocError>
-        ensures checked { IfOk result (λ files. files.checked.items ≡ replicate (block_count image.now) false) }
-        ensures met { IfOk result (λ files. AreMet image.now files.headers.has.items files.headers.list.items) }
-        ensures held { IfOk result (λ files. IsOfs image.now → AreHeld image.now files.held.items) }
-        ensures seen { IfOk result (λ files. files.seen.items ≡ replicate (block_count image.now) None) }
-    {
-        let checked = no_cells(alloc, image)?;
-        let headers = Blocks::none(alloc, image)?;
-        let held = held_in_ofs(alloc, image)?;
-        let seen = none_seen(alloc, image)?;
-        Ok(Files {
-            checked,
-            headers,
-            held,
-            seen,
-        })
-    }
-
-    /// Checks the blocks of a step, if it is a file that was not checked yet.
-    fn look_at_step(
-        &mut self,
-        image: &Image,
-        step: Step,
-        notes: &mut Notes,
-    ) -> Result<(), AllocError>
-        requires noted { AreNoted image.now notes.old.cells.items }
-        requires step { IsStep image.now step }
-        requires cells { length self.old.checked.items ≡ block_count image.now }
-        requires whole { AreFilesNoted image.now notes.old.cells.items self.old.checked.items }
-        requires met { AreMet image.now self.old.headers.has.items self.old.headers.list.items }
-        requires held { IsOfs image.now → AreHeld image.now self.old.held.items }
-        requires seen { AreAllSeen image.now notes.old.cells.items self.old.seen.items }
-        ensures noted { IfOk result (λ _. AreNoted image.now notes.new.cells.items) }
-        ensures stays { IfOk result (λ _. AreStillNoted notes.old.cells.items notes.new.cells.items) }
-        ensures cells { IfOk result (λ _. length self.new.checked.items ≡ block_count image.now) }
-        ensures whole { IfOk result (λ _. AreFilesNoted image.now notes.new.cells.items self.new.checked.items) }
-        ensures met { IfOk result (λ _. AreMet image.now self.new.headers.has.items self.new.headers.list.items) }
-        ensures held { IfOk result (λ _. IsOfs image.now → AreHeld image.now self.new.held.items) }
-        ensures seen { IfOk result (λ _. AreAllSeen image.now notes.new.cells.items self.new.seen.items) }
-        ensures checked { IfOk result (λ _. IsStepChecked image.now self.new.checked.items step) }
-        ensures files { IfOk result (λ _. AreStillNoted self.old.checked.items self.new.checked.items) }
-    {
-        let Role::Entry(_, _) = step.role else {
-            return Ok(());
-        };
-        let file = step.block;
-        if image.long(file, SECONDARY_TYPE) != FILE_TYPE {
-            return Ok(());
-        }
-        if self.checked[file as usize] {
-            return Ok(());
-        }
-        list_headers(image, file, &mut self.headers)?;
-        look_at_file(
-            image,
-            file,
-            &self.headers.list,
-            &self.held,
-            &mut self.seen,
-            notes,
-        );
-        self.checked[file as usize] = true;
-        Ok(())
-    }
-}
-
-/// No block was seen.
-fn none_seen(alloc: Global, image: &Image) -> Result<Vec<Option<Seen>>, AllocError>
-    ensures { IfOk result (λ seen. seen.items ≡ replicate (block_count image.now) None) }
-{
-    Vec::from_elem(alloc, None, image.blocks() as usize)
 }
 
 /// Checks the blocks of a file with these header and extension blocks.

@@ -1,7 +1,8 @@
-//! Numbers for the kinds of faults.
-ghost use Rattle.std.specs.Prelude.{◌≡◌, ◌<◌};
-ghost use Rattle.ados_faults.specs.Listed.{rank};
+//! Numbers for the kinds of faults, and the one that a disk of another kind shows.
+ghost use Rattle.std.specs.Prelude.{◌≡◌, ◌<◌, MatchOption};
+ghost use Rattle.ados_faults.specs.Listed.{IsOtherKind, ShowsOtherKind, rank};
 
+use adf_block::{BootKind, Image};
 use ados_model::FaultKind;
 
 /// The number of kinds.
@@ -56,5 +57,17 @@ pub(crate) fn kind_at(place: usize) -> FaultKind
         14 => FaultKind::LinkEntry,
         15 => FaultKind::MarkedFree,
         _ => FaultKind::NoMemory,
+    }
+}
+
+/// The fault of an image that is no DOS disk, or one of an unsupported kind.
+pub(crate) fn other_kind(image: &Image) -> Option<FaultKind>
+    ensures { MatchOption result (¬ ShowsOtherKind image.now) (IsOtherKind image.now) }
+{
+    prove!(image.blocks() >= 16);
+    match image.boot_kind() {
+        BootKind::Ofs | BootKind::Ffs => None,
+        BootKind::OtherDos(_) => Some(FaultKind::UnsupportedKind),
+        BootKind::NotDos => Some(FaultKind::NotADosDisk),
     }
 }

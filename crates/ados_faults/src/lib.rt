@@ -10,7 +10,6 @@
 // The list of faults.
 mod bits;
 mod blocks;
-mod chain;
 mod entries;
 mod file_blocks;
 mod files;
@@ -23,6 +22,7 @@ mod pieces;
 mod roles;
 mod search;
 mod tangled;
+mod typed;
 mod walk;
 
 // What shows them, and their texts.
@@ -34,7 +34,6 @@ mod rights;
 mod same_name;
 mod texts;
 mod values;
-mod wrongs;
 
 pub use ados_check::Mark;
 pub use explained::explain;

@@ -1,12 +1,13 @@
 //! All faults of an image, in order.
-ghost use Rattle.std.specs.Prelude.{◌≡◌, ◌<◌, ◌≤◌, ◌*◌, ◌↔◌, [], IfOk, MatchOption, false, length, true};
+ghost use Rattle.std.specs.Prelude.{◌≡◌, ◌<◌, ◌≤◌, ◌*◌, ◌↔◌, [], IfOk, false, length, true};
 ghost use Rattle.adf_block.specs.Image.{block_count};
 ghost use Rattle.ados_model.specs.Accepted.{ShowsNoFault};
 ghost use Rattle.ados_faults.specs.Listed.{AreFirstFaults, AreMarks, IsOtherKind, IsTangled, ListsDoubts, ListsEach, ListsFaults, ListsKindAlone, ListsOther, ShowsOtherKind, TellsMore};
 
+use crate::kinds::other_kind;
 use crate::search::search;
 use crate::walk::walked;
-use adf_block::{BootKind, Image};
+use adf_block::Image;
 use ados_check::Mark;
 use ados_model::{FaultKind, VolumeFault};
 use std::alloc::{AllocError, Global};
@@ -92,18 +93,6 @@ fn first_faults(alloc: Global, image: &Image, most: usize) -> Result<AllFaults, 
         more: listed.more || found.is_cut,
         marks: found.marks,
     })
-}
-
-/// The fault of an image that is no DOS disk, or one of an unsupported kind.
-fn other_kind(image: &Image) -> Option<FaultKind>
-    ensures { MatchOption result (¬ ShowsOtherKind image.now) (IsOtherKind image.now) }
-{
-    prove!(image.blocks() >= 16);
-    match image.boot_kind() {
-        BootKind::Ofs | BootKind::Ffs => None,
-        BootKind::OtherDos(_) => Some(FaultKind::UnsupportedKind),
-        BootKind::NotDos => Some(FaultKind::NotADosDisk),
-    }
 }
 
 /// Only that an image is no DOS disk, or one of an unsupported kind.

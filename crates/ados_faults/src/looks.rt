@@ -1,17 +1,18 @@
 //! The faults that a block shows in a role, as far as that needs no other block.
 ghost use Rattle.std.specs.Prelude.{◌≡◌, ◌↔◌, All, IsTrue, length};
-ghost use Rattle.ados_model.specs.Faults.{InImage, Reached, Shows};
-ghost use Rattle.ados_model.specs.declared.fault.FaultKind.TheVariants.{NotADosDisk, UnsupportedKind};
+ghost use Rattle.ados_model.specs.Faults.{InImage, Reached};
+ghost use Rattle.ados_model.specs.declared.fault.FaultKind.{FaultKind};
+ghost use Rattle.ados_faults.specs.Listed.{IsOtherKind};
 ghost use Rattle.ados_faults.specs.steps.Noted.{AreNoted, AreStillNoted, IsNoted, cell_of};
 ghost use Rattle.ados_faults.specs.steps.Looks.{AreLookedAt, AreWrongsNoted, IsBare, IsFieldNoted};
 ghost use Rattle.ados_faults.specs.steps.Walked.{IsStep};
 
 use crate::bits::is_marked_free;
+use crate::kinds::other_kind;
 use crate::notes::Notes;
-use crate::values::shows_disk;
 use crate::walk::Step;
 use adf_block::Image;
-use adf_block::layout::{KIND, KIND_BYTE};
+use adf_block::layout::KIND_BYTE;
 use ados_check::{
     FIELD_RULES, FieldRule, POINTER_RULES, Source, has_bad_field, has_bad_sum, has_bad_type,
 };
@@ -22,14 +23,12 @@ pub(crate) fn look_at_disk(image: &Image, notes: &mut Notes)
     requires noted { AreNoted image.now notes.old.cells.items }
     ensures noted { AreNoted image.now notes.new.cells.items }
     ensures stays { AreStillNoted notes.old.cells.items notes.new.cells.items }
-    ensures not_dos { Shows image.now NotADosDisk 0 → IsNoted notes.new.cells.items (cell_of NotADosDisk 0) }
-    ensures unsupported { Shows image.now UnsupportedKind 0 → IsNoted notes.new.cells.items (cell_of UnsupportedKind 0) }
+    ensures whole { (kind : FaultKind) → IsOtherKind image.now kind → IsNoted notes.new.cells.items (cell_of kind 0) }
 {
     prove!(image.blocks() >= 16);
-    let not_dos = shows_disk(image, FaultKind::NotADosDisk, 0, KIND);
-    notes.note_if(image, FaultKind::NotADosDisk, 0, not_dos);
-    let unsupported = shows_disk(image, FaultKind::UnsupportedKind, 0, KIND);
-    notes.note_if(image, FaultKind::UnsupportedKind, 0, unsupported);
+    if let Some(kind) = other_kind(image) {
+        notes.note(image, kind, 0);
+    }
 }
 
 /// Checks the block of each step.

@@ -67,7 +67,7 @@ impl Notes {
         ensures { IsTrue result → NotesOther self.now.cells.items }
     {
         for cell in 0..self.cells.len() {
-            if self.is_set(cell) && is_other(fault_at(image, cell)) {
+            if self.cells[cell] && is_other(fault_at(image, cell)) {
                 return true;
             }
         }
@@ -99,66 +99,19 @@ impl Notes {
     {
         let mut faults = Vec::new(alloc);
         for cell in 0..self.cells.len() {
-            let has_room = self.has_room_for(image, cell, most, &mut faults)?;
-            if !has_room {
+            if !self.cells[cell] {
+                continue;
+            }
+            let fault = fault_at(image, cell);
+            if faults.len() == most {
                 return Ok(Listed { faults, more: true });
             }
+            faults.push(fault)?;
         }
         Ok(Listed {
             faults,
             more: false,
         })
-    }
-
-    /// Adds the fault of a cell if the cell is set. The result is false if there are `most` already.
-    fn has_room_for(
-        &self,
-        image: &Image,
-        cell: usize,
-        most: usize,
-        faults: &mut Vec<VolumeFault>,
-    ) -> Result<bool, AllocError>
-        requires noted { AreNoted image.now self.now.cells.items }
-        requires within { cell < length self.now.cells.items }
-        requires listed { AreListed image.now self.now.cells.items most cell faults.old.items }
-        ensures listed { IfOk result (λ room. room ≡ true → AreListed image.now self.now.cells.items most (cell + 1) faults.new.items) }
-        ensures full { IfOk result (λ room. room ≡ false → IsFull image.now self.now.cells.items most faults.new.items) }
-    {
-        if self.is_set(cell) {
-            return self.add_fault(image, cell, most, faults);
-        }
-        Ok(true)
-    }
-
-    /// Adds the fault of a set cell, unless there are `most` already.
-    fn add_fault(
-        &self,
-        image: &Image,
-        cell: usize,
-        most: usize,
-        faults: &mut Vec<VolumeFault>,
-    ) -> Result<bool, AllocError>
-        requires noted { AreNoted image.now self.now.cells.items }
-        requires within { cell < length self.now.cells.items }
-        requires is_set { IsNoted self.now.cells.items cell }
-        requires listed { AreListed image.now self.now.cells.items most cell faults.old.items }
-        ensures listed { IfOk result (λ room. room ≡ true → AreListed image.now self.now.cells.items most (cell + 1) faults.new.items) }
-        ensures full { IfOk result (λ room. room ≡ false → IsFull image.now self.now.cells.items most faults.new.items) }
-    {
-        let fault = fault_at(image, cell);
-        if faults.len() == most {
-            return Ok(false);
-        }
-        faults.push(fault)?;
-        Ok(true)
-    }
-
-    /// Whether a cell is set.
-    fn is_set(&self, cell: usize) -> bool
-        requires { cell < length self.now.cells.items }
-        ensures { result ≡ slice_index_or self.now.cells.items cell false }
-    {
-        self.cells[cell]
     }
 }
 

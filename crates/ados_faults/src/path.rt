@@ -1,6 +1,6 @@
 //! Where a block is: the path of the directory or file that it belongs to.
 
-use crate::marked::{has_block, role_at};
+use crate::marked::role_at;
 use adf_block::Image;
 use adf_block::layout::NAME_BYTE;
 use adf_text::letter_text;
@@ -69,7 +69,7 @@ fn entries_above(
 
 /// Adds the name of a block, at most the length of a valid one.
 fn add_name(image: &Image, block: u32, path: &mut Vec<u8>) -> Result<(), AllocError> {
-    if !has_block(image, block) {
+    if block >= image.blocks() {
         return Ok(());
     }
     let length = usize::from(image.byte(block, NAME_BYTE)).min(Name::MAX_LEN);

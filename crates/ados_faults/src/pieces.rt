@@ -8,15 +8,15 @@ ghost use Rattle.adf_block.specs.Image.{block_count};
 ghost use Rattle.ados_model.specs.Faults.{InImage, IsOfs, pointers_of};
 ghost use Rattle.ados_check.specs.DataRules.{IsPlaced};
 ghost use Rattle.ados_faults.specs.steps.Chain.{AreHeaders, IsPiece, first_in, next_in};
-ghost use Rattle.ados_faults.specs.steps.FileNotes.{AreAllSeen, ArePlacesNoted, IsOneNoted, IsPieceNoted, is_known};
+ghost use Rattle.ados_faults.specs.steps.FileNotes.{AreAllSeen, ArePlacesNoted, IsOneNoted, IsPieceNoted, IsPlaceNoted, is_known};
 ghost use Rattle.ados_faults.specs.steps.Noted.{AreNoted, AreStillNoted};
 
-use crate::chain::look_at_place;
+use crate::bits::is_inside;
 use crate::file_blocks::pointers_in;
 use crate::notes::Notes;
 use adf_block::Image;
 use adf_block::layout::FIRST_POINTER;
-use ados_check::Place;
+use ados_check::{DATA_RULES, Place, Source, breaks_rule};
 
 /// The data blocks in the pointers of a block, at their places in a file.
 #[derive(Clone, Copy)]
@@ -76,7 +76,8 @@ pub(crate) fn look_along(
     }
 }
 
-/// Checks the data blocks of a piece. The result is the first one, or if there is none the data block behind it.
+/// Checks the data blocks of a piece, except those of which all is known. The result is the first one, or if there is
+/// none the data block behind it.
 fn look_at_piece(
     image: &Image,
     piece: Piece,
@@ -96,31 +97,18 @@ fn look_at_piece(
     if piece.count == 0 {
         return piece.behind;
     }
-    look_at_some(image, piece, seen, notes);
-    Some(image.long(piece.header, FIRST_POINTER))
-}
-
-/// Checks the data blocks of a piece that has some, except those of which all is known.
-fn look_at_some(image: &Image, piece: Piece, seen: &mut [Option<Seen>], notes: &mut Notes)
-    requires noted { AreNoted image.now notes.old.cells.items }
-    requires ofs { IsOfs image.now }
-    requires piece { IsPiece image.now piece }
-    requires some { 0 < piece.count }
-    requires seen { AreAllSeen image.now notes.old.cells.items seen.old }
-    ensures noted { AreNoted image.now notes.new.cells.items }
-    ensures stays { AreStillNoted notes.old.cells.items notes.new.cells.items }
-    ensures seen { AreAllSeen image.now notes.new.cells.items seen.new }
-    ensures piece { IsPieceNoted image.now notes.new.cells.items piece }
-{
+    let first = Some(image.long(piece.header, FIRST_POINTER));
     let before = seen[piece.header as usize];
     if is_known(before, piece.position) {
-        return look_at_one(image, piece, piece.count - 1, notes);
+        look_at_one(image, piece, piece.count - 1, notes);
+        return first;
     }
     look_at_all_in(image, piece, notes);
     seen[piece.header as usize] = Some(Seen {
         position: piece.position,
         is_settled: before.is_some(),
     });
+    first
 }
 
 /// Whether all but the last of the data blocks of a piece at this position need no look.
@@ -157,26 +145,12 @@ fn look_at_one(image: &Image, piece: Piece, i: u32, notes: &mut Notes)
     ensures stays { AreStillNoted notes.old.cells.items notes.new.cells.items }
     ensures place { IsOneNoted image.now notes.new.cells.items piece i }
 {
-    let place = place_in(image, piece, i);
-    look_at_place(image, place, notes);
-}
-
-/// One data block of a piece at its place.
-fn place_in(image: &Image, piece: Piece, i: u32) -> Place
-    requires piece { IsPiece image.now piece }
-    requires within { i < piece.count }
-    ensures placed { IsPlaced image.now result }
-    ensures block { result.block ≡ slice_index (pointers_of image.now piece.header) i }
-    ensures position { result.position ≡ piece.position + i }
-    ensures next { result.next ≡ next_in image.now piece i }
-{
-    let block = image.long(piece.header, FIRST_POINTER - i);
-    let next = next_of(image, piece, i);
-    Place {
-        block,
+    let place = Place {
+        block: image.long(piece.header, FIRST_POINTER - i),
         position: piece.position + u64::from(i),
-        next,
-    }
+        next: next_of(image, piece, i),
+    };
+    look_at_place(image, place, notes);
 }
 
 /// The data block behind one of a piece.
@@ -190,4 +164,23 @@ fn next_of(image: &Image, piece: Piece, i: u32) -> Option<u32>
         return piece.behind;
     }
     Some(image.long(piece.header, FIRST_POINTER - next))
+}
+
+/// Checks a data block at its place, if it is inside the image.
+pub(crate) fn look_at_place(image: &Image, place: Place, notes: &mut Notes)
+    requires noted { AreNoted image.now notes.old.cells.items }
+    requires ofs { IsOfs image.now }
+    requires at { IsPlaced image.now place }
+    ensures noted { AreNoted image.now notes.new.cells.items }
+    ensures stays { AreStillNoted notes.old.cells.items notes.new.cells.items }
+    ensures placed { InImage image.now place.block → IsPlaceNoted image.now notes.new.cells.items place.block place.position place.next }
+{
+    if !is_inside(image, place.block) {
+        return;
+    }
+    let source = Source::whole(image);
+    for rule in DATA_RULES.iter() {
+        let broken = breaks_rule(&source, place, *rule);
+        notes.note_if(image, rule.kind(), place.block, broken);
+    }
 }

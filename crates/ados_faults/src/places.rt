@@ -2,7 +2,7 @@
 ghost use Rattle.std.specs.Prelude.{◌<◌};
 ghost use Rattle.adf_block.specs.Image.{block_count};
 
-use crate::marked::{has_block, mark_at, role_at};
+use crate::marked::{mark_at, role_at};
 use crate::walk::is_other_place;
 use adf_block::Image;
 use adf_block::layout::*;
@@ -38,7 +38,7 @@ fn has_slots(image: &Image, marks: &[Option<Mark>], block: u32) -> bool {
     match role_at(marks, block) {
         Some(Role::Root) => true,
         Some(Role::Entry(_, _)) => {
-            has_block(image, block) && image.long(block, SECONDARY_TYPE) == DIRECTORY_TYPE
+            block < image.blocks() && image.long(block, SECONDARY_TYPE) == DIRECTORY_TYPE
         }
         _ => false,
     }

@@ -1,18 +1,25 @@
-//! The one right value of a long, if the rule of a fault's kind allows only one.
-ghost use Rattle.std.specs.Prelude.{◌≡◌, ◌<◌, IfSome};
+//! What is right in a long of a block, by the rule of a fault's kind: one value, or one of several.
+ghost use Rattle.std.specs.Prelude.{◌≡◌, ◌<◌, ◌↔◌, IfSome, IsTrue};
 ghost use Rattle.adf_block.specs.declared.layout.TheConstants.{BLOCK_LONGS};
 ghost use Rattle.adf_block.specs.Image.{block_count};
-ghost use Rattle.ados_model.specs.Faults.{InImage};
-ghost use Rattle.ados_faults.specs.Values.{HasFields, balance, checksum_long, extensions_to, full_count, is_extension, next_data, only_at, place_in_file, pointed_by, right_at, right_count, right_key, right_link, right_parent, right_sequence, right_type};
+ghost use Rattle.ados_check.specs.Rules.{HasOtherCount};
+ghost use Rattle.ados_model.specs.Faults.{InImage, IsPlace};
+ghost use Rattle.ados_model.specs.declared.role.Role.{Role};
+ghost use Rattle.ados_faults.specs.Values.{HasFields, HasWrongName, IsWrongAt, extensions_to, next_data, pointed_by, right_at};
 
 use crate::bits::is_inside;
 use crate::marked::mark_at;
 use adf_block::Image;
 use adf_block::layout::*;
-use ados_check::{Mark, Source, first_pointer};
+use ados_check::{
+    Mark, Source, first_pointer, has_entry_type, has_link_type, has_no_type, place_role,
+};
 use ados_model::{FaultKind, Role, VolumeFault};
 
-/// The one right value of long `i` of a fault's block, in the role of its mark.
+/// The long with the length of a comment, and its first letters.
+const COMMENT_LONG: u32 = COMMENT_BYTE / 4;
+
+/// The one right value of long `i` of a fault's block, in the role of its mark, if the rule allows only one.
 pub(crate) fn right_at(
     image: &Image,
     marks: &[Option<Mark>],
@@ -23,135 +30,83 @@ pub(crate) fn right_at(
     requires block { fault.block < block_count image.now }
     requires long { i < BLOCK_LONGS }
     requires fields { HasFields image.now mark mark.role }
-    ensures { result ≡ right_at image.now marks.now mark fault.kind fault.block i }
+    ensures { result ≡ right_at image.now marks.now mark fault.kind mark.role fault.block i }
+{
+    prove!(16 <= image.blocks() && image.blocks() <= MOST_BLOCKS);
+    let block = fault.block;
+    let is_file = image.long(block, SECONDARY_TYPE) == FILE_TYPE;
+    let is_continued = image.long(block, NEXT_EXTENSION) != 0;
+    let right = match (fault.kind, mark.role, i) {
+        (FaultKind::BadSum, Role::Page, PAGE_CHECKSUM)
+        | (
+            FaultKind::BadSum,
+            Role::Root | Role::Entry(_, _) | Role::Data(_) | Role::Extension(_),
+            CHECKSUM,
+        ) => image.long(block, i).wrapping_sub(image.sum(block)),
+        (FaultKind::BadType, Role::Root | Role::Entry(_, _), PRIMARY_TYPE) => HEADER_TYPE,
+        (FaultKind::BadType, Role::Root, TABLE_SIZE) => TABLE_LONGS,
+        (FaultKind::BadType, Role::Root, SECONDARY_TYPE) => ROOT_TYPE,
+        (FaultKind::BadType, Role::Extension(_), PRIMARY_TYPE) => LIST_TYPE,
+        (FaultKind::BadType, Role::Extension(_), SECONDARY_TYPE) => FILE_TYPE,
+        (FaultKind::BadType, Role::Data(_), PRIMARY_TYPE) => DATA_TYPE,
+        (FaultKind::BadOwnKey, Role::Entry(_, _) | Role::Extension(_), OWN_KEY) => block,
+        (FaultKind::BadParent, Role::Root, PARENT) => 0,
+        (FaultKind::BadParent, Role::Entry(holder, _) | Role::Extension(holder), PARENT)
+        | (FaultKind::BadParent, Role::Data(holder), OWN_KEY) => holder,
+        (FaultKind::BadPointer, Role::Entry(_, _), NEXT_DATA)
+            if is_file && image.byte(0, KIND_BYTE) == 0 => {
+            first_pointer(&Source::whole(image), block)
+        }
+        (FaultKind::BadPointer, Role::Data(_), NEXT_DATA) => next_data(image, mark).unwrap_or(0),
+        (FaultKind::BadCount, Role::Entry(_, _), POINTER_COUNT) if is_file && is_continued => {
+            TABLE_LONGS
+        }
+        (FaultKind::BadCount, Role::Extension(_), POINTER_COUNT) if is_continued => TABLE_LONGS,
+        (FaultKind::BadCount, Role::Data(_), HELD) if next_data(image, mark).is_some() => OFS_ROOM,
+        (FaultKind::BadSequence, Role::Data(_), SEQUENCE) => {
+            let above = extensions_to(image, marks, mark.holder)?;
+            TABLE_LONGS * above + FIRST_POINTER.saturating_sub(mark.long) + 1
+        }
+        _ => return None,
+    };
+    Some(right)
+}
+
+/// Whether long `i` of a fault's block in a role has none of several right values.
+pub(crate) fn is_wrong_at(image: &Image, role: Role, fault: VolumeFault, i: u32) -> bool
+    requires block { fault.block < block_count image.now }
+    requires long { i < BLOCK_LONGS }
+    ensures { IsTrue result ↔ IsWrongAt image.now fault.kind role fault.block i }
 {
     let block = fault.block;
-    match fault.kind {
-        FaultKind::BadSum => right_sum(image, mark.role, block, i),
-        FaultKind::BadType => right_type(mark.role, i),
-        FaultKind::BadOwnKey => right_key(mark.role, block, i),
-        FaultKind::BadParent => right_parent(mark.role, i),
-        FaultKind::BadPointer => right_link(image, mark, block, i),
-        FaultKind::BadCount => right_count(image, mark, block, i),
-        FaultKind::BadSequence => right_sequence(image, marks, mark, i),
-        _ => None,
-    }
-}
-
-/// This value, if the long is the one at this place.
-fn only_at(place: u32, right: u32, i: u32) -> Option<u32>
-    ensures { result ≡ only_at place right i }
-{
-    if i == place { Some(right) } else { None }
-}
-
-/// The checksum with which the longs of the block sum to 0.
-fn right_sum(image: &Image, role: Role, block: u32, i: u32) -> Option<u32>
-    requires block { block < block_count image.now }
-    requires long { i < BLOCK_LONGS }
-    ensures { result ≡ only_at (checksum_long role) (balance image.now block i) i }
-{
-    let place = match role {
-        Role::Page => PAGE_CHECKSUM,
-        Role::Root | Role::Entry(_, _) | Role::Data(_) | Role::Extension(_) => CHECKSUM,
-    };
-    if i != place {
-        return None;
-    }
-    Some(image.long(block, i).wrapping_sub(image.sum(block)))
-}
-
-/// The right types, and the right size of a root's table.
-fn right_type(role: Role, i: u32) -> Option<u32>
-    ensures { result ≡ right_type role i }
-{
-    match role {
-        Role::Root => match i {
-            PRIMARY_TYPE => Some(HEADER_TYPE),
-            TABLE_SIZE => Some(TABLE_LONGS),
-            _ => only_at(SECONDARY_TYPE, ROOT_TYPE, i),
-        },
-        Role::Entry(_, _) => only_at(PRIMARY_TYPE, HEADER_TYPE, i),
-        Role::Extension(_) => match i {
-            PRIMARY_TYPE => Some(LIST_TYPE),
-            _ => only_at(SECONDARY_TYPE, FILE_TYPE, i),
-        },
-        Role::Data(_) => only_at(PRIMARY_TYPE, DATA_TYPE, i),
-        Role::Page => None,
-    }
-}
-
-/// The right own number.
-fn right_key(role: Role, block: u32, i: u32) -> Option<u32>
-    ensures { result ≡ right_key role block i }
-{
-    match role {
-        Role::Entry(_, _) | Role::Extension(_) => only_at(OWN_KEY, block, i),
-        Role::Root | Role::Page | Role::Data(_) => None,
-    }
-}
-
-/// The right parent, or the right file header.
-fn right_parent(role: Role, i: u32) -> Option<u32>
-    ensures { result ≡ right_parent role i }
-{
-    match role {
-        Role::Root => only_at(PARENT, 0, i),
-        Role::Entry(holder, _) | Role::Extension(holder) => only_at(PARENT, holder, i),
-        Role::Data(file) => only_at(OWN_KEY, file, i),
-        Role::Page => None,
-    }
-}
-
-/// In OFS: the right link to the first data block, or to the next one.
-fn right_link(image: &Image, mark: Mark, block: u32, i: u32) -> Option<u32>
-    requires block { block < block_count image.now }
-    requires fields { HasFields image.now mark mark.role }
-    ensures { result ≡ right_link image.now mark mark.role block i }
-{
-    match mark.role {
-        Role::Entry(_, _) => {
-            if image.byte(0, KIND_BYTE) != 0 || image.long(block, SECONDARY_TYPE) != FILE_TYPE {
-                return None;
-            }
-            only_at(NEXT_DATA, first_pointer(&Source::whole(image), block), i)
+    let source = Source::whole(image);
+    let is_file = image.long(block, SECONDARY_TYPE) == FILE_TYPE;
+    match (fault.kind, role, i) {
+        (FaultKind::BadType, Role::Entry(_, _), SECONDARY_TYPE) => has_no_type(&source, block),
+        (FaultKind::LinkEntry, Role::Entry(_, _), SECONDARY_TYPE) => has_link_type(&source, block),
+        (FaultKind::BadPointer, _, _) => {
+            is_place(image, role, block, i) && !is_inside(image, image.long(block, i))
         }
-        Role::Data(_) => only_at(NEXT_DATA, next_data(image, mark).unwrap_or(0), i),
-        Role::Root | Role::Page | Role::Extension(_) => None,
-    }
-}
-
-/// The right number of pointers before an extension block, or of bytes before another data block.
-fn right_count(image: &Image, mark: Mark, block: u32, i: u32) -> Option<u32>
-    requires block { block < block_count image.now }
-    requires fields { HasFields image.now mark mark.role }
-    ensures { result ≡ right_count image.now mark mark.role block i }
-{
-    match mark.role {
-        Role::Entry(_, _) => {
-            if image.long(block, SECONDARY_TYPE) != FILE_TYPE {
-                return None;
-            }
-            full_count(image, block, i)
+        (FaultKind::BadName, Role::Root | Role::Entry(_, _), _) => has_wrong_name(image, block, i),
+        (FaultKind::BadComment, Role::Entry(_, _), COMMENT_LONG) => {
+            has_entry_type(&source, block) && image.byte(block, COMMENT_BYTE) > 79
         }
-        Role::Extension(_) => full_count(image, block, i),
-        Role::Data(_) => {
-            let _next = next_data(image, mark)?;
-            only_at(HELD, OFS_ROOM, i)
+        (FaultKind::BadCount, Role::Entry(_, _), POINTER_COUNT) => {
+            is_file && image.long(block, POINTER_COUNT) > TABLE_LONGS
         }
-        Role::Root | Role::Page => None,
+        (FaultKind::BadCount, Role::Entry(_, _), FILE_SIZE) => {
+            is_file && has_right_count(image, block)
+        }
+        (FaultKind::BadCount, Role::Extension(_), POINTER_COUNT) => {
+            let count = image.long(block, POINTER_COUNT);
+            count == 0 || count > TABLE_LONGS
+        }
+        (FaultKind::BadCount, Role::Data(_), HELD) => {
+            let count = image.long(block, HELD);
+            count == 0 || count > OFS_ROOM
+        }
+        _ => false,
     }
-}
-
-/// The number of pointers of a block that an extension block follows.
-fn full_count(image: &Image, block: u32, i: u32) -> Option<u32>
-    requires block { block < block_count image.now }
-    ensures { result ≡ full_count image.now block i }
-{
-    if image.long(block, NEXT_EXTENSION) == 0 {
-        return None;
-    }
-    only_at(POINTER_COUNT, TABLE_LONGS, i)
 }
 
 /// The data block behind the place of a mark, by the holder and the extension block that follows it.
@@ -180,30 +135,6 @@ fn pointed_by(image: &Image, block: u32, k: u32) -> Option<u32>
     Some(image.long(block, FIRST_POINTER - k))
 }
 
-/// The right number of an OFS data block.
-fn right_sequence(image: &Image, marks: &[Option<Mark>], mark: Mark, i: u32) -> Option<u32>
-    ensures { result ≡ right_sequence image.now marks.now mark mark.role i }
-{
-    match mark.role {
-        Role::Data(_) => {
-            if i != SEQUENCE {
-                return None;
-            }
-            place_in_file(image, marks, mark)
-        }
-        Role::Root | Role::Page | Role::Entry(_, _) | Role::Extension(_) => None,
-    }
-}
-
-/// The position of a data block in its file, from 1, by the place that named it first.
-fn place_in_file(image: &Image, marks: &[Option<Mark>], mark: Mark) -> Option<u32>
-    ensures { result ≡ place_in_file image.now marks.now mark }
-{
-    let above = extensions_to(image, marks, mark.holder)?;
-    prove!(image.blocks() <= MOST_BLOCKS);
-    Some(TABLE_LONGS * above + FIRST_POINTER.saturating_sub(mark.long) + 1)
-}
-
 /// The number of extension blocks from a file's header to a block, by the marks.
 fn extensions_to(image: &Image, marks: &[Option<Mark>], block: u32) -> Option<u32>
     ensures number { result ≡ extensions_to marks.now (block_count image.now) block }
@@ -212,16 +143,54 @@ fn extensions_to(image: &Image, marks: &[Option<Mark>], block: u32) -> Option<u3
     let mut here = block;
     for passed in 0..image.blocks() {
         let mark = mark_at(marks, here)?;
-        if !is_extension(mark.role) {
+        let Role::Extension(_) = mark.role else {
             return Some(passed);
-        }
+        };
         here = mark.holder;
     }
     None
 }
 
-fn is_extension(role: Role) -> bool
-    ensures { result ≡ is_extension role }
+/// Whether the long is a place.
+fn is_place(image: &Image, role: Role, block: u32, i: u32) -> bool
+    requires block { block < block_count image.now }
+    requires long { i < BLOCK_LONGS }
+    ensures { IsTrue result ↔ ((next : Role) × IsPlace image.now block role i next) }
 {
-    matches!(role, Role::Extension(_))
+    let source = Source::whole(image);
+    match place_role(&source, block, role, i) {
+        Some(_) => true,
+        None => false,
+    }
+}
+
+/// Whether the long has a wrong length of the name, or a slash or a colon of it.
+fn has_wrong_name(image: &Image, block: u32, i: u32) -> bool
+    requires block { block < block_count image.now }
+    requires long { i < BLOCK_LONGS }
+    ensures { IsTrue result ↔ HasWrongName image.now block i }
+{
+    let length = image.byte(block, NAME_BYTE);
+    if i == NAME_BYTE / 4 && (length == 0 || length > 30) {
+        return true;
+    }
+    for k in 0..4 {
+        let p = 4 * i + k;
+        if NAME_BYTE < p
+            && p <= NAME_BYTE + u32::from(length)
+            && matches!(image.byte(block, p), b'/' | b':')
+        {
+            return true;
+        }
+    }
+    false
+}
+
+/// Whether the number of pointers is at most 72, and 72 if an extension block follows.
+fn has_right_count(image: &Image, block: u32) -> bool
+    requires { block < block_count image.now }
+    ensures { IsTrue result ↔ ¬ HasOtherCount image.now block }
+{
+    let count = image.long(block, POINTER_COUNT);
+    count == TABLE_LONGS || count < TABLE_LONGS && image.long(block, NEXT_EXTENSION) == 0
 }

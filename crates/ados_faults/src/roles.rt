@@ -1,5 +1,5 @@
 //! The roles in which a walk takes each block: of each number that a role may have, at most two.
-ghost use Rattle.std.specs.Prelude.{◌≡◌, ◌<◌, ◌*◌, IfOk, List, false, length, replicate};
+ghost use Rattle.std.specs.Prelude.{◌≡◌, ◌<◌, ◌*◌, IfOk, List, MatchOption, false, length, replicate, true};
 ghost use Rattle.adf_block.specs.Image.{block_count};
 ghost use Rattle.ados_model.specs.declared.role.Role.TheVariants.{Entry};
 ghost use Rattle.ados_faults.specs.declared.roles.Taken.TheVariants.{Nothing};
@@ -98,33 +98,22 @@ impl Roles {
     {
         let _image = image;
         let cell = PARTS * block as usize + rank_of(part);
-        let taken = self.cells[cell];
-        if !lacks(taken, number) {
+        let Some(more) = with_number(self.cells[cell], number) else {
             return false;
-        }
-        self.cells[cell] = with_number(taken, number);
+        };
+        self.cells[cell] = more;
         true
     }
 }
 
-/// Whether a number is new.
-fn lacks(taken: Taken, number: u32) -> bool
-    ensures { result ≡ lacks number taken }
+/// One number more, if it is new.
+fn with_number(taken: Taken, number: u32) -> Option<Taken>
+    ensures { MatchOption result (lacks number taken ≡ false) (λ more. (lacks number taken ≡ true) × (more ≡ with_number number taken)) }
 {
     match taken {
-        Taken::Nothing => true,
-        Taken::One(other) => other != number,
-        Taken::Two => false,
-    }
-}
-
-/// One number more.
-fn with_number(taken: Taken, number: u32) -> Taken
-    ensures { result ≡ with_number number taken }
-{
-    match taken {
-        Taken::Nothing => Taken::One(number),
-        Taken::One(_) | Taken::Two => Taken::Two,
+        Taken::Nothing => Some(Taken::One(number)),
+        Taken::One(other) if other != number => Some(Taken::Two),
+        Taken::One(_) | Taken::Two => None,
     }
 }
 

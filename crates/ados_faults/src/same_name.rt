@@ -1,5 +1,5 @@
 //! Another entry with the name of an entry.
-use crate::marked::{has_block, role_at};
+use crate::marked::role_at;
 use adf_block::Image;
 use adf_block::layout::BOOT_BLOCKS;
 use ados_check::{Mark, Source, has_short_name, upper_name};
@@ -32,7 +32,7 @@ fn directory_of(marks: &[Option<Mark>], block: u32) -> Option<u32> {
 fn name_at(image: &Image, block: u32) -> Option<[u8; 31]> {
     prove!(image.blocks() >= 16);
     let source = Source::whole(image);
-    if !has_block(image, block) || !has_short_name(&source, block) {
+    if block >= image.blocks() || !has_short_name(&source, block) {
         return None;
     }
     Some(upper_name(&source, block))

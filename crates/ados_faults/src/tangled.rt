@@ -41,9 +41,10 @@ pub(crate) fn is_tangled(alloc: Global, image: &Image) -> Result<bool, AllocErro
     requires { IsImage image.now }
     ensures { IfOk result (λ tangled. tangled ≡ true → IsTangled image.now) }
 {
+    let most = (PAIRS * image.blocks()) as usize;
     let mut pairs = Pairs::start(alloc, image)?;
-    for i in 0..most_pairs(image) as usize {
-        if pairs.steps.len() >= most_pairs(image) as usize {
+    for i in 0..most {
+        if pairs.steps.len() >= most {
             return Ok(true);
         }
         if pairs.steps.len() <= i {
@@ -55,33 +56,19 @@ pub(crate) fn is_tangled(alloc: Global, image: &Image) -> Result<bool, AllocErro
     Ok(false)
 }
 
-/// The pairs of a tangled image.
-fn most_pairs(image: &Image) -> u32
-    ensures { result ≡ 4 * block_count image.now }
-{
-    PAIRS * image.blocks()
-}
-
 impl Pairs {
     /// Only the root.
     fn start(alloc: Global, image: &Image) -> Result<Pairs, AllocError>
         requires { IsImage image.now }
         ensures { IfOk result (λ pairs. ArePairs image.now pairs.steps.items pairs.known) }
     {
-        let mut pairs = Pairs::none(alloc, image);
+        let mut pairs = Pairs {
+            steps: Vec::new(alloc),
+            known: BTreeSet::new(alloc),
+        };
         let root = image.root();
         pairs.add(image, root, Role::Root)?;
         Ok(pairs)
-    }
-
-    /// No pairs.
-    fn none(alloc: Global, image: &Image) -> Pairs
-        ensures { ArePairs image.now result.steps.items result.known }
-    {
-        let _image = image;
-        let steps = Vec::new(alloc);
-        let known = BTreeSet::new(alloc);
-        Pairs { steps, known }
     }
 
     /// Adds the blocks that the places of a step name.

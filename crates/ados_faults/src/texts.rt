@@ -35,16 +35,32 @@ impl BadBlock<'_> {
         let Some(values) = values else {
             return self.text_without_long(alloc, kind);
         };
+        let (found, wanted) = (values.found, values.wanted.unwrap_or(0));
         match kind {
-            FaultKind::BadSum => sum_text(alloc, values),
+            FaultKind::BadSum => {
+                let sum = found.wrapping_sub(wanted);
+                format!(in alloc; "its checksum is wrong (off by {sum:08x})")
+            }
             FaultKind::BadType => type_text(alloc, values),
-            FaultKind::BadOwnKey => own_key_text(alloc, values),
-            FaultKind::BadParent => self.parent_text(alloc, values),
+            FaultKind::BadOwnKey => {
+                format!(in alloc; "its own number is {found}; it should be {wanted}")
+            }
+            FaultKind::BadParent => {
+                let what = self.word_for_parent();
+                format!(in alloc; "its {what} is block {found}; it should be {wanted}")
+            }
             FaultKind::BadPointer => self.pointer_text(alloc, values),
             FaultKind::BadName => name_text(alloc, values),
-            FaultKind::BadComment => comment_text(alloc, values),
+            FaultKind::BadComment => {
+                let length = found >> 24;
+                format!(in alloc; "its comment has {length} characters; it should have at most 79")
+            }
             FaultKind::BadCount => count_text(alloc, values),
-            FaultKind::BadSequence => sequence_text(alloc, values),
+            FaultKind::BadSequence => {
+                format!(in alloc;
+                    "its sequence number is {found}; its place in the file is {wanted}"
+                )
+            }
             _ => kind_text(alloc, kind, values),
         }
     }
@@ -59,13 +75,6 @@ impl BadBlock<'_> {
             Some(Role::Data(_) | Role::Extension(_)) => "file header",
             _ => "parent",
         }
-    }
-
-    /// A wrong parent, or a wrong file header in an extension block or an OFS data block.
-    fn parent_text(&self, alloc: Global, values: FaultValues) -> Result<String, AllocError> {
-        let what = self.word_for_parent();
-        let (found, wanted) = (values.found, values.wanted.unwrap_or(0));
-        format!(in alloc; "its {what} is block {found}; it should be {wanted}")
     }
 
     /// A place that names a block outside the image, or a wrong link between data blocks.
@@ -182,11 +191,6 @@ impl BadBlock<'_> {
     }
 }
 
-fn sum_text(alloc: Global, values: FaultValues) -> Result<String, AllocError> {
-    let sum = values.found.wrapping_sub(values.wanted.unwrap_or(0));
-    format!(in alloc; "its checksum is wrong (off by {sum:08x})")
-}
-
 /// A wrong type or hash table size. Types have a sign: a file has the type -3.
 fn type_text(alloc: Global, values: FaultValues) -> Result<String, AllocError> {
     let found = values.found.cast_signed();
@@ -206,11 +210,6 @@ fn type_text(alloc: Global, values: FaultValues) -> Result<String, AllocError> {
     )
 }
 
-fn own_key_text(alloc: Global, values: FaultValues) -> Result<String, AllocError> {
-    let (found, wanted) = (values.found, values.wanted.unwrap_or(0));
-    format!(in alloc; "its own number is {found}; it should be {wanted}")
-}
-
 /// A name without letters, with too many of them, or with a slash or a colon.
 fn name_text(alloc: Global, values: FaultValues) -> Result<String, AllocError> {
     let length = (values.found >> 24) as usize;
@@ -224,11 +223,6 @@ fn name_text(alloc: Global, values: FaultValues) -> Result<String, AllocError> {
         alloc,
         "its name has a slash or a colon; no name may have one",
     )
-}
-
-fn comment_text(alloc: Global, values: FaultValues) -> Result<String, AllocError> {
-    let length = values.found >> 24;
-    format!(in alloc; "its comment has {length} characters; it should have at most 79")
 }
 
 /// A count or a size that does not match the blocks of a file.
@@ -259,12 +253,6 @@ fn count_text(alloc: Global, values: FaultValues) -> Result<String, AllocError> 
             format!(in alloc; "it has {found} data pointers; it should have at most {TABLE_LONGS}")
         }
     }
-}
-
-/// An OFS data block with a wrong sequence number.
-fn sequence_text(alloc: Global, values: FaultValues) -> Result<String, AllocError> {
-    let (found, wanted) = (values.found, values.wanted.unwrap_or(0));
-    format!(in alloc; "its sequence number is {found}; its place in the file is {wanted}")
 }
 
 /// Faults of the disk's kind, and links.

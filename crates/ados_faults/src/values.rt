@@ -3,16 +3,16 @@ ghost use Rattle.std.specs.Prelude.{◌≡◌, ◌≢◌, ◌<◌, ◌↔◌, Is
 ghost use Rattle.adf_block.specs.declared.layout.TheConstants.{BLOCK_LONGS};
 ghost use Rattle.adf_block.specs.Image.{block_count, long};
 ghost use Rattle.ados_faults.specs.Values.{AreValues, HasFields, IsWrongAt, NoneShows, ShowsDisk};
-ghost use Rattle.ados_faults.specs.steps.Looked.{TellsField, TellsLong};
+ghost use Rattle.ados_faults.specs.steps.Looked.{TellsLong};
 
 use crate::bits::is_inside;
-use crate::marked::{has_block, mark_at};
-use crate::rights::right_at;
-use crate::wrongs::is_wrong_at;
+use crate::kinds::other_kind;
+use crate::marked::mark_at;
+use crate::rights::{is_wrong_at, right_at};
+use adf_block::Image;
 use adf_block::layout::{BLOCK_LONGS, KIND, KIND_BYTE};
-use adf_block::{BootKind, Image};
 use ados_check::Mark;
-use ados_model::{FaultKind, Role, VolumeFault};
+use ados_model::{Role, VolumeFault};
 
 /// The long of a block that shows a fault.
 #[derive(Clone, Copy, PartialEq, Eq)]
@@ -38,7 +38,7 @@ pub struct FaultValues {
 pub fn values_of(image: &Image, marks: &[Option<Mark>], fault: &VolumeFault) -> Option<FaultValues>
     ensures { MatchOption result (NoneShows image.now marks.now fault.now.kind fault.now.block) (AreValues image.now marks.now fault.now.kind fault.now.block) }
 {
-    if !has_block(image, fault.block) {
+    if fault.block >= image.blocks() {
         return None;
     }
     for i in 0..BLOCK_LONGS {
@@ -60,76 +60,38 @@ fn values_at(
     requires long { i < BLOCK_LONGS }
     ensures { TellsLong image.now marks.now fault.kind fault.block i result }
 {
-    if shows_disk(image, fault.kind, fault.block, i) {
-        return Some(held(image, fault.block, i, None));
+    let found = image.long(fault.block, i);
+    if shows_disk(image, fault, i) {
+        return Some(FaultValues {
+            long: i,
+            found,
+            wanted: None,
+        });
     }
-    match mark_at(marks, fault.block) {
-        Some(mark) => field_values(image, marks, mark, fault, i),
-        None => None,
-    }
-}
-
-/// The values of a long, if it shows the fault in the role of a mark.
-fn field_values(
-    image: &Image,
-    marks: &[Option<Mark>],
-    mark: Mark,
-    fault: VolumeFault,
-    i: u32,
-) -> Option<FaultValues>
-    requires block { fault.block < block_count image.now }
-    requires long { i < BLOCK_LONGS }
-    ensures { TellsField image.now marks.now mark fault.kind fault.block i result }
-{
+    let Some(mark) = mark_at(marks, fault.block) else {
+        return None;
+    };
     if !has_fields(image, mark) {
         return None;
     }
-    let right = right_at(image, marks, mark, fault, i);
-    if !is_wrong(image, mark.role, fault, i, right) {
-        return None;
-    }
-    Some(held(image, fault.block, i, right))
-}
-
-/// Whether a long does not hold its one right value, or none of several.
-fn is_wrong(image: &Image, role: Role, fault: VolumeFault, i: u32, right: Option<u32>) -> bool
-    requires block { fault.block < block_count image.now }
-    requires long { i < BLOCK_LONGS }
-    ensures { IsTrue result ↔ MatchOption right (IsWrongAt image.now fault.kind role fault.block i) (λ right. long image.now fault.block i ≢ right) }
-{
-    match right {
-        Some(right) => image.long(fault.block, i) != right,
-        None => is_wrong_at(image, role, fault, i),
-    }
-}
-
-/// What a long holds, and what is wanted there.
-fn held(image: &Image, block: u32, i: u32, wanted: Option<u32>) -> FaultValues
-    requires block { block < block_count image.now }
-    requires long { i < BLOCK_LONGS }
-    ensures long { result.long ≡ i }
-    ensures found { result.found ≡ long image.now block i }
-    ensures wanted { result.wanted ≡ wanted }
-{
-    FaultValues {
-        long: i,
-        found: image.long(block, i),
-        wanted,
+    match right_at(image, marks, mark, fault, i) {
+        Some(right) if found == right => None,
+        None if !is_wrong_at(image, mark.role, fault, i) => None,
+        right => Some(FaultValues {
+            long: i,
+            found,
+            wanted: right,
+        }),
     }
 }
 
 /// Whether the long is the first one of a disk of another kind than OFS and FFS.
-pub(crate) fn shows_disk(image: &Image, kind: FaultKind, block: u32, i: u32) -> bool
-    ensures { IsTrue result ↔ ShowsDisk image.now kind block i }
+fn shows_disk(image: &Image, fault: VolumeFault, i: u32) -> bool
+    ensures { IsTrue result ↔ ShowsDisk image.now fault.kind fault.block i }
 {
-    prove!(image.blocks() >= 16);
-    if block != 0 || i != KIND {
-        return false;
-    }
-    match kind {
-        FaultKind::NotADosDisk => matches!(image.boot_kind(), BootKind::NotDos),
-        FaultKind::UnsupportedKind => matches!(image.boot_kind(), BootKind::OtherDos(_)),
-        _ => false,
+    match other_kind(image) {
+        Some(kind) => fault.kind == kind && fault.block == 0 && i == KIND,
+        None => false,
     }
 }
 

@@ -63,13 +63,17 @@ impl Walk {
     {
         let root = image.root();
         let notes = Notes::none(alloc, image)?;
-        let mut marks = no_marks(alloc, image)?;
+        let mut marks = Vec::from_elem(alloc, None, image.blocks() as usize)?;
         marks[root as usize] = Some(Mark {
             role: Role::Root,
             holder: 0,
             long: 0,
         });
-        let steps = one_step(alloc, root)?;
+        let mut steps = Vec::new(alloc);
+        steps.push(Step {
+            block: root,
+            role: Role::Root,
+        })?;
         let roles = Roles::none(alloc, image)?;
         Ok(Walk {
             notes,
@@ -109,47 +113,15 @@ impl Walk {
         let Some(role) = place_role(&source, step.block, step.role, i) else {
             return Ok(());
         };
-        self.pass(image, step, role, i)?;
-        Ok(())
-    }
-
-    /// Visits one long, a place that gives the role.
-    fn pass(&mut self, image: &Image, step: Step, role: Role, i: u32) -> Result<(), AllocError>
-        requires walked { IsWalked image.now self.old.notes.cells.items self.old.marks.items self.old.roles.cells.items self.old.steps.items }
-        requires step { IsStep image.now step }
-        requires long { i < BLOCK_LONGS }
-        requires place { IsPlace image.now step.block step.role i role }
-        ensures walked { IfOk result (λ _. IsWalked image.now self.new.notes.cells.items self.new.marks.items self.new.roles.cells.items self.new.steps.items) }
-        ensures kept { IfOk result (λ _. AreKept self.old self.new) }
-        ensures met { IfOk result (λ _. LeadsInside image.now step.block i → IsMetBy self.new (long image.now step.block i) step.block i role) }
-        ensures outside { IfOk result (λ _. ¬ LeadsInside image.now step.block i → IsNoted self.new.notes.cells.items (cell_of BadPointer step.block)) }
-    {
         let block = image.long(step.block, i);
-        if is_inside(image, block) {
-            let mark = Mark {
-                role,
-                holder: step.block,
-                long: i,
-            };
-            return self.meet(image, block, mark);
+        if !is_inside(image, block) {
+            self.notes.note(image, FaultKind::BadPointer, step.block);
+            return Ok(());
         }
-        self.notes.note(image, FaultKind::BadPointer, step.block);
-        Ok(())
-    }
-
-    /// Handles a block that a place names.
-    fn meet(&mut self, image: &Image, block: u32, mark: Mark) -> Result<(), AllocError>
-        requires walked { IsWalked image.now self.old.notes.cells.items self.old.marks.items self.old.roles.cells.items self.old.steps.items }
-        requires inside { InImage image.now block }
-        requires reached { Reached image.now block mark.role }
-        requires named { IsNamedAs image.now block mark }
-        ensures walked { IfOk result (λ _. IsWalked image.now self.new.notes.cells.items self.new.marks.items self.new.roles.cells.items self.new.steps.items) }
-        ensures kept { IfOk result (λ _. AreKept self.old self.new) }
-        ensures met { IfOk result (λ _. IsMetBy self.new block mark.holder mark.long mark.role) }
-    {
-        self.mark(image, block, mark);
-        self.take(image, block, mark.role)?;
-        Ok(())
+        let holder = step.block;
+        let long = i;
+        self.mark(image, block, Mark { role, holder, long });
+        self.take(image, block, role)
     }
 
     /// Marks a block, or notes it if another place has marked it.
@@ -186,26 +158,6 @@ impl Walk {
         self.steps.push(Step { block, role })?;
         Ok(())
     }
-}
-
-/// One cell for each block, without marks.
-fn no_marks(alloc: Global, image: &Image) -> Result<Vec<Option<Mark>>, AllocError>
-    ensures none { IfOk result (λ marks. marks.items ≡ replicate (block_count image.now) None) }
-    ensures image { IsImage image.now }
-{
-    Vec::from_elem(alloc, None, image.blocks() as usize)
-}
-
-/// The step at the root.
-fn one_step(alloc: Global, root: u32) -> Result<Vec<Step>, AllocError>
-    ensures { IfOk result (λ steps. steps.items ≡ root_step root ∷ []) }
-{
-    let mut steps = Vec::new(alloc);
-    steps.push(Step {
-        block: root,
-        role: Role::Root,
-    })?;
-    Ok(steps)
 }
 
 /// Whether two marks are from different places.

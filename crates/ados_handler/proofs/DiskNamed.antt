@@ -1,14 +1,11 @@
 -- RENAME_DISK with a valid name.
-use Rattle.std.proofs.Common.{◌≡◌, ℕ, Bool, false, true, cond, nat_lt, not, ◌==◌, List, [], ◌∷◌, length, None, Some, refl, arith}
+use Rattle.std.proofs.Common.{◌≡◌, ℕ, Bool, false, true, cond, nat_lt, not, ◌==◌, List, [], ◌∷◌, length, None, Some, refl}
 use Rattle.std.specs.Prelude.{◌||◌}
 use Rattle.std.specs.List.{list_any}
-use Rattle.std.proofs.lemmas.Bool.{le-ltb, ne_eqb}
-use Rattle.std.proofs.lemmas.List.Folds.{list_any_none}
-use Rattle.std.proofs.lemmas.List.Elements.{All-from_get_or, All-get_or}
 use Rattle.ados_name.specs.declared.stamp.Date3.{Date3}
 use Rattle.ados_name.specs.declared.NameFault.{NameFault}
 use Rattle.ados_name.specs.declared.NameFault.TheVariants as faults
-use Rattle.ados_name.specs.Name.{IsName, IsNameByte, is_separator}
+use Rattle.ados_name.specs.Name.{IsName, is_separator}
 use Rattle.ados_name.specs.Fault.{first_fault}
 use Rattle.ados_model.specs.Tree.{Tree}
 use Rattle.ados_model.specs.Edits.{disk_renamed}
@@ -21,15 +18,7 @@ use Rattle.ados_model.specs.Refusals.{first_refusal, is_name, refusal, refuse}
 use Rattle.ados_model.specs.Success.{after}
 use Rattle.ados_handler.specs.steps.Methods.{MethodMeans}
 use Rattle.ados_handler.proofs.Meant.{done, served_means}
-use Rattle.ados_name.proofs.NameLemmas.{no_separator}
-
--- a name has no fault
-pub is_named : (name : List ℕ) → IsName name → is_name name ≡ true
-is_named name is =
-    let some : (length name == 0) ≡ false = ne_eqb (length name) 0 (λ e. absurd (omega (arith, e, is.not_empty))) in
-    let plain : list_any is_separator name ≡ false = list_any_none is_separator name
-    (All-from_get_or (λ c. is_separator c ≡ false) name 0 (λ k inside. no_separator _ (All-get_or IsNameByte name k 0 inside is.plain))) in
-    rw (some, le-ltb 30 (length name) is.short, plain) refl
+use Rattle.ados_volume.proofs.Refusing.{is_named}
 
 pub rename_disk_means : (t : Tree) (s new : Session) (name : List ℕ) (now : Date3) → s.died ≡ false → IsName name → new ≡ s
     → MethodMeans t s (RenameDisk name) now (disk_renamed now name t) new (done Empty)

@@ -6,7 +6,7 @@ use Rattle.std.specs.Ordering.{nat_cmp}
 use Rattle.std.specs.FinMap.{FinMap, get}
 use Rattle.ados_name.specs.declared.stamp.Date3.{Date3}
 use Rattle.ados_model.specs.Tree.{Content, Node, Tree, size_of}
-use Rattle.ados_model.specs.Parts.{size_in, protection_in}
+use Rattle.ados_model.specs.Parts.{size_in}
 use Rattle.ados_model.specs.Tree.Content.{File}
 use Rattle.ados_model.specs.Stands.{Stands}
 use Rattle.ados_model.specs.Change.{is_file}
@@ -20,7 +20,6 @@ use Rattle.ados_model.specs.declared.results.Results.{Results}
 use Rattle.ados_volume.specs.Shown.{Shown}
 use Rattle.ados_model.specs.Session.{Session, is_handle, handle_key, handle_position, HandlerState}
 use Rattle.ados_model.specs.declared.holds.HandleHold.{HandleHold}
-use Rattle.ados_model.specs.Objects.{protection_of}
 use Rattle.ados_handler.specs.Keeps.{HasPathTexts}
 use Rattle.ados_handler.specs.Gives.{IsSoundHandler}
 use Rattle.ados_handler.specs.steps.Methods.{MethodGives, MethodMeans}
@@ -73,11 +72,6 @@ module _ (image : List ℕ) (key : ℕ) (file : HasFileKey image key) where
   size_told size told t stands =
       let n = some_in (t.nodes key) (file_is_key t stands) in
       told t n.0 stands n.1 ∙ ap (λ (o : Option Node). size_in (option_map (λ node. node.content) o)) (sym n.1)
-
-  pub protection_told : (bits : ℕ) → ((t : Tree) (node : Node) → Stands image t → t.nodes key ≡ Some node → bits ≡ node.protection) → (t : Tree) → Stands image t → bits ≡ protection_of t key
-  protection_told bits told t stands =
-      let n = some_in (t.nodes key) (file_is_key t stands) in
-      told t n.0 stands n.1 ∙ ap protection_in (sym n.1)
 
 -- a packet without a time stamp that changes only the handles
 module _ (old given : HandlerState) (same : old ≡ given) (handles : FinMap nat_cmp HandleHold) (packet : Packet) (results : Results) where

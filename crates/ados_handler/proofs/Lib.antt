@@ -7,7 +7,6 @@ pub mod Named
 pub mod Telling
 pub mod Rewriting
 pub mod Making
-pub mod Under
 pub mod Unlisting
 pub mod ImageKept
 pub mod Tables
@@ -17,10 +16,8 @@ pub mod Meant
 pub mod Leaving
 pub mod HeldObjects
 pub mod Placed
-pub mod FreeBlock
 pub mod Deleting
 pub mod MakingDirectory
-pub mod Climbing
 pub mod Moving
 pub mod DiskNamed
 pub mod Locating

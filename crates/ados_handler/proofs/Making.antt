@@ -1,14 +1,12 @@
 -- Packets that make an entry, or find the existing file, keep tree and session proper.
-use Rattle.std.proofs.Common.{◌≡◌, ◌≢◌, ℕ, inl, inr, Bool, true, false, cond, nat_lt, ◌==◌, List, [], ◌∷◌, length, map, Contains, Option, Some, None, Result, Ok, Err, IsSome, is_some, option_map, MatchOption, refl, sym, ap, ◌∙◌, subst, arith}
-use Rattle.std.specs.Prelude.{◌||◌, find}
+use Rattle.std.proofs.Common.{◌≡◌, ◌≢◌, ℕ, inl, inr, Bool, true, false, cond, nat_lt, ◌==◌, List, [], ◌∷◌, length, Option, Some, None, Result, Ok, Err, IsSome, is_some, option_map, MatchOption, refl, sym, ap, ◌∙◌, subst, arith}
+use Rattle.std.specs.Prelude.{◌||◌}
 use Rattle.std.specs.Result.{result_err}
 use Rattle.std.proofs.lemmas.Bool.{cases_eq, false≢true, true≢false}
-use Rattle.std.proofs.lemmas.Slice.Eq.{bytes_eq-Decides}
-use Rattle.ados_model.proofs.KeyLists.{Contains-cases, Contains-nil}
 use Rattle.ados_name.specs.declared.stamp.Date3.{Date3}
-use Rattle.ados_name.specs.Name.{IsName, upper, front, last_name, steps}
+use Rattle.ados_name.specs.Name.{IsName, front, last_name, steps}
 use Rattle.ados_name.specs.Path.{IsPathText}
-use Rattle.ados_model.specs.Tree.{Content, Node, Tree, Proper, entries, name_of}
+use Rattle.ados_model.specs.Tree.{Content, Node, Tree, Proper}
 use Rattle.ados_model.specs.Parts.{IsUnused, size_in}
 use Rattle.ados_model.specs.Tree.Content.{Directory, File}
 use Rattle.ados_model.specs.Change.{child_of, holds_file, is_file, place_in, start_of, walk_steps, listed, made, rewritten, with_node}
@@ -16,7 +14,7 @@ use Rattle.ados_model.specs.Edits.{new_node}
 use Rattle.ados_model.specs.declared.dos_error.WalkFault.{WalkFault}
 use Rattle.ados_model.specs.declared.dos_error.WalkFault.TheVariants.{DirectoryNotFound}
 use Rattle.ados_model.specs.declared.dos_error.PlaceFault.TheVariants as faults
-use Rattle.ados_change.specs.Conditions.{CanMake, IsDirectoryKey, IsEmpty, IsNewName}
+use Rattle.ados_change.specs.Conditions.{CanMake, IsDirectoryKey, IsEmpty}
 use Rattle.ados_change.proofs.Changed.{nodes_here, nodes_other, relisted}
 use Rattle.ados_change.proofs.ProperChanges.{directory_at, dir_not_key, made_is_proper}
 use Rattle.ados_model.specs.declared.dos_error.DosError.TheVariants.{DeviceNotMounted, InvalidLock, ObjectExists, ObjectInUse, ObjectWrongType}
@@ -25,11 +23,13 @@ use Rattle.ados_model.specs.Session.{Session, is_in_use, is_lock}
 use Rattle.ados_model.specs.Objects.{lock_key, place_error, placed, spot, spot_directory, spot_name, standing}
 use Rattle.ados_model.specs.Refusals.{refuse, refusals, is_some_and, is_directory_there}
 use Rattle.ados_model.specs.Success.{After, GivesHandle, GivesLock, IsNewKey, MakesFile}
+use Rattle.ados_volume.proofs.Refusing.{no_child_new, none_refuses, none_there, not_refused}
 use Rattle.ados_handler.specs.ProperSession.{HoldNumber, hold_at, IsProperSession}
 use Rattle.ados_handler.specs.Keeps.{KeepsProper}
 use Rattle.ados_handler.proofs.Holding.{IsFree, not_in_use, not_held, proper_with_handle, proper_with_lock}
-use Rattle.ados_handler.proofs.Walked.{child_is_key, no_error, start_is_key, walk_key}
-use Rattle.ados_handler.proofs.Reading.{none_refuses, not_refused, from_not, IsProperAfter, same_after, by_success}
+use Rattle.ados_handler.proofs.Walked.{no_error, start_is_key, walk_key}
+use Rattle.ados_volume.proofs.Walking.{child_is_key}
+use Rattle.ados_handler.proofs.Reading.{from_not, IsProperAfter, same_after, by_success}
 use Rattle.ados_handler.proofs.Carrying.{Carried, carried_beside, carried_changed, carried_new, carried_on, carried_session}
 use Rattle.ados_handler.proofs.Named.{last_is_name}
 use Rattle.ados_handler.proofs.Rewriting.{file_node, rewritten_proper, rewritten_here, rewritten_is_file, rewritten_other}
@@ -76,18 +76,6 @@ is_directory t key = go (t.nodes key)
         by_content : (c : Content) → holds_file (Some c) ≡ false → (keys : List ℕ) × (Some c ≡ Some (Directory keys))
         by_content (Directory keys) f = (keys, refl)
         by_content (File bytes) f = absurd (true≢false f)
-
--- if `find` finds nothing, no element passes
-find_none : (p : ℕ → Bool) (xs : List ℕ) (x : ℕ) → find p xs ≡ None → Contains xs x → p x ≡ true → ⊥
-find_none p [] x e c h = Contains-nil x c
-find_none p (y ∷ ys) x e c h = go (p y) refl e (λ f m. find_none p ys x f m h)
-  where
-    go : (b : Bool) → p y ≡ b → cond b (Some y) (find p ys) ≡ None → (find p ys ≡ None → Contains ys x → ⊥) → ⊥
-    go true at f rest = absurd (cc f)
-    go false at f rest = elim (Contains-cases y ys x c) [ inl same ↦ true≢false (sym h ∙ ap p (sym same) ∙ at) | inr later ↦ rest f later ]
-
-pub no_child_new : (t : Tree) (dir : ℕ) (name : List ℕ) → child_of t dir name ≡ None → IsNewName t dir name
-no_child_new t dir name e k c same = find_none _ (entries t dir) k e c ((bytes_eq-Decides (map upper (name_of t k)) (map upper name)).1 same)
 
 -- ---- a new entry
 
@@ -152,10 +140,6 @@ module _ (t : Tree) (s : Session) (proper : Proper t) (session : IsProperSession
 
 can_make : (t : Tree) (there : ℕ × List ℕ) → IsSpot t there → child_of t there.0 there.1 ≡ None → CanMake t there.0 there.1
 can_make t there is none = record { directory = is_directory t there.0 is.node is.no_file; valid = is.name; new_name = no_child_new t there.0 there.1 none }
-
-pub none_there : (o : Option ℕ) → is_some o ≡ false → o ≡ None
-none_there None h = refl
-none_there (Some k) h = absurd (true≢false h)
 
 pub create_dir_keeps : (lock : ℕ) (path : List ℕ) → IsPathText path → KeepsProper (CreateDir lock path)
 create_dir_keeps lock path valid = by_success (CreateDir lock path) (λ t s now result proper session none w.

@@ -12,6 +12,7 @@ use Rattle.ados_model.specs.declared.dos_error.DosError.TheVariants.{DeviceNotMo
 use Rattle.ados_model.specs.declared.packet.Packet.TheVariants.{CreateDir}
 use Rattle.ados_model.specs.declared.answer.Body.TheVariants.{Empty}
 use Rattle.ados_model.specs.Session.{Session, IsFreeNumber, with_lock}
+use Rattle.ados_volume.proofs.Refusing.{passed}
 use Rattle.ados_handler.specs.ProperSession.{IsProperSession}
 use Rattle.ados_model.specs.Objects.{spot}
 use Rattle.ados_model.specs.Reads.{lacks}
@@ -22,7 +23,7 @@ use Rattle.ados_handler.specs.Gives.{IsSoundHandler}
 use Rattle.ados_handler.specs.steps.Methods.{MethodMeans}
 use Rattle.ados_handler.proofs.Making.{made_lock}
 use Rattle.ados_handler.proofs.Meant.{counted, served_means}
-use Rattle.ados_handler.proofs.Placed.{passed, placed_on}
+use Rattle.ados_handler.proofs.Placed.{placed_on}
 
 -- the refusals that depend on the place
 abbrev place_row : Tree → ℕ × List ℕ → List (Option DosError)

@@ -1,12 +1,10 @@
 -- A file made for a handle, if a block is free.
-use Rattle.std.proofs.Common.{◌≡◌, ℕ, Bool, false, List, [], ◌∷◌, None, refl, ap, subst}
+use Rattle.std.proofs.Common.{◌≡◌, ℕ, Bool, false, List, [], ◌∷◌, refl, ap, subst}
 use Rattle.std.specs.Ordering.{nat_cmp}
 use Rattle.std.specs.FinMap.{FinMap}
 use Rattle.ados_map.specs.Pages.{IsLowestFree}
 use Rattle.ados_name.specs.declared.stamp.Date3.{Date3}
-use Rattle.ados_name.specs.Name.{IsName}
-use Rattle.ados_model.specs.Change.{made, child_of}
-use Rattle.ados_model.specs.Keys.{HasDirectory}
+use Rattle.ados_model.specs.Change.{made}
 use Rattle.ados_change.specs.NewBlocks.{KeepsRest}
 use Rattle.ados_model.specs.Stands.{Stands}
 use Rattle.ados_model.specs.Tree.{Tree}
@@ -19,18 +17,11 @@ use Rattle.ados_model.specs.Session.{Session, HandlerState}
 use Rattle.ados_model.specs.Reads.{lacks}
 use Rattle.ados_model.specs.Refusals.{first_refusal, refuse}
 use Rattle.ados_model.specs.Success.{MakesFile}
+use Rattle.ados_volume.proofs.FreeBlock.{new_key}
 use Rattle.ados_handler.specs.Gives.{IsSoundHandler}
 use Rattle.ados_handler.specs.steps.Opening.{BringsHandle, Opens, make_refusals}
-use Rattle.ados_handler.proofs.FreeBlock.{new_key}
-use Rattle.ados_handler.proofs.Making.{made_handle, no_child_new}
+use Rattle.ados_handler.proofs.Making.{made_handle}
 use Rattle.ados_handler.proofs.Opening.{done_opens, gives_handle}
-
--- an entry can be made in a directory that does not have the name
-pub can_make_in : (image : List ℕ) (dir : ℕ) (name : List ℕ) → HasDirectory image dir → IsName name → ((t : Tree) → Stands image t → child_of t dir name ≡ None)
-    → (was : List ℕ) → was ≡ image → (t : Tree) → Stands was t → CanMake t dir name
-can_make_in image dir name directory valid none was same t stands =
-    let stood = subst (λ (m : List ℕ). Stands m t) same stands in
-    record { directory = directory t stood; valid = valid; new_name = no_child_new t dir name (none t stood) }
 
 -- the file with the lowest free key, and a handle on it
 module _ (was : List ℕ) (s : Session) (dir : ℕ) (name : List ℕ) (now : Date3) (key : ℕ) (low : IsLowestFree was key) (image : List ℕ) (stands : (t : Tree) → Stands was t → Stands image (made now dir key name (File []) t))

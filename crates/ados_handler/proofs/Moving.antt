@@ -1,21 +1,15 @@
 -- RENAME_OBJECT: the refusals in the order of the code, and its meaning if none holds.
-use Rattle.std.proofs.Common.{◌≡◌, ◌≢◌, ℕ, pos, Bool, true, false, cond, not, nat_eq, ◌==◌, List, [], ◌∷◌, Option, Some, None, Result, Ok, Err, MatchOption, option_map, inl, inr, refl, sym, ap, ◌∙◌, subst, eqb-true}
+use Rattle.std.proofs.Common.{◌≡◌, ℕ, pos, Bool, true, false, cond, not, List, [], ◌∷◌, Option, Some, None, Result, Ok, Err, MatchOption, option_map, inr, refl, sym, ap, ◌∙◌, subst}
 use Rattle.std.specs.Prelude.{◌&&◌, IsTrue}
 use Rattle.std.specs.Result.{result_err, result_unwrap_or}
-use Rattle.std.proofs.lemmas.Bool.{true≢false}
 use Rattle.ados_name.specs.declared.stamp.Date3.{Date3}
-use Rattle.ados_name.specs.Name.{IsName}
-use Rattle.ados_model.specs.Tree.{Node, Tree, parent_of, root}
-use Rattle.ados_model.specs.Change.{child_of, renamed}
-use Rattle.ados_model.specs.Keys.{HasDirectory, HasKey}
+use Rattle.ados_model.specs.Tree.{Tree}
+use Rattle.ados_model.specs.Change.{renamed}
 use Rattle.ados_model.specs.Stands.{Stands}
 use Rattle.ados_model.specs.declared.dos_error.WalkFault.{WalkFault}
 use Rattle.ados_model.specs.declared.dos_error.PlaceFault.{PlaceFault}
-use Rattle.ados_model.proofs.Nodes.{root_or_parent, some_in}
-use Rattle.ados_change.specs.Conditions.{CanRename}
-use Rattle.ados_volume.proofs.Looking.{is_child}
 use Rattle.ados_model.specs.declared.dos_error.DosError.{DosError}
-use Rattle.ados_model.specs.declared.dos_error.DosError.TheVariants.{DeviceNotMounted, InvalidLock, NoFreeStore, ObjectExists, ObjectInUse, ObjectWrongType}
+use Rattle.ados_model.specs.declared.dos_error.DosError.TheVariants.{DeviceNotMounted, InvalidLock, NoFreeStore}
 use Rattle.ados_model.specs.Packet.{error_number, dos_true, failure_of, handed_back}
 use Rattle.ados_model.specs.declared.packet.Packet.{Packet}
 use Rattle.ados_model.specs.declared.packet.Packet.TheVariants.{RenameObject}
@@ -24,17 +18,13 @@ use Rattle.ados_model.specs.declared.answer.Body.TheVariants.{Empty}
 use Rattle.ados_model.specs.Session.{Session, is_lock, HandlerState}
 use Rattle.ados_model.specs.Objects.{found, object, place_error, placed, spot, walk_error}
 use Rattle.ados_model.specs.Resolved.{place_result, walk_result}
-use Rattle.ados_model.specs.Refusals.{first_refusal, is_some_and, refusal, refusals, refuse}
+use Rattle.ados_model.specs.Refusals.{first_refusal, refusal, refusals, refuse}
 use Rattle.ados_handler.specs.steps.Moves.{both, move_refusal, move_refusals, source_and_place}
 use Rattle.ados_model.specs.Success.{after}
 use Rattle.ados_model.specs.Meaning.{IsRefused, ServedOrNoMemory, makes_hold}
 use Rattle.ados_handler.specs.steps.Methods.{MethodGives, MethodMeans, answer_to}
-use Rattle.ados_handler.proofs.Climbing.{directory_is_key}
 use Rattle.ados_handler.proofs.Leaving.{leaves_all}
 use Rattle.ados_handler.proofs.Meant.{done, served_means}
-use Rattle.ados_handler.proofs.Reading.{from_not, none_refuses, not_refused}
-use Rattle.ados_handler.proofs.Telling.{not_root}
-use Rattle.ados_handler.proofs.Under.{under_is_told}
 
 -- a refused packet leaves the handler unchanged
 pub refused_gives : (old new : HandlerState) (packet : Packet) (now : Date3) (results : Results) (t : Tree) (error : DosError) → Stands old.image t → new ≡ old → refusal t old.session packet ≡ Some error
@@ -109,23 +99,3 @@ module _ (t : Tree) (s : Session) (from_lock : ℕ) (from : List ℕ) (to_lock :
         let f = found_refusal in
         served_means t (renamed now key there.0 there.1 t) s new packet now (done Empty) (f.0 ∙ none)
         (record { success = λ i. after (renamed now (sym f.1 i) (sym f.2 i).0 (sym f.2 i).1 t) (same i) dos_true Empty; action = refl; res2 = refl })
-
--- an object that no refusal excludes can move
-pub can_rename : (image : List ℕ) (t : Tree) → Stands image t → (s : Session) (key dir : ℕ) (name : List ℕ) → HasKey image key → HasDirectory image dir → IsName name → move_refusal t s key dir name ≡ None → CanRename t key dir name
-can_rename image t stands s key dir name there directory valid none =
-    let no = none_refuses (move_refusals t s key dir name) none in
-    let n = some_in (t.nodes key) (there t stands) in
-    let above = holder n.0 n.1 (not_root key (root t) (not_refused ObjectWrongType _ no.0)) in record {
-      from = above.0;
-      listed = above.1;
-      directory = directory t stands;
-      not_under = λ u. true≢false (sym ((under_is_told t stands.proper key dir (directory_is_key image dir directory t stands)).1 u) ∙ not_refused ObjectInUse _ no.1.1.1.0);
-      valid = valid;
-      new_name = λ k c other same. other (free_for k (is_child image t stands dir k name c same) (not_refused ObjectExists _ no.1.0));
-    }
-  where
-    holder : (node : Node) → t.nodes key ≡ Some node → key ≢ root t → (from : ℕ) × (parent_of t key ≡ Some from)
-    holder node at other = elim (root_or_parent t stands.proper key node at) [ inl same ↦ absurd (other same) | inr p ↦ (p.0, rw at p.1) ]
-
-    free_for : (k : ℕ) → child_of t dir name ≡ Some k → is_some_and (λ other. not (other == key)) (child_of t dir name) ≡ false → k ≡ key
-    free_for k found h = eqb-true k key (from_not (nat_eq k key) (sym (ap (is_some_and (λ other. not (other == key))) found) ∙ h))

@@ -39,10 +39,6 @@ place_refused t s packet lock path error rest row alive e =
     go true (Err fault) e = let is : place_error fault ≡ error = cc e in ap Some is
     go false r e = let is : InvalidLock ≡ error = cc e in ap Some is
 
--- a refusal that does not hold is skipped
-pub passed : (code : DosError) (test : Bool) (more : List (Option DosError)) → test ≡ false → first_refusal (refuse code test ∷ more) ≡ first_refusal more
-passed code test more e = ap (λ (b : Bool). first_refusal (refuse code b ∷ more)) e
-
 -- a packet with a refusal that holds is refused
 pub refused_means : (t : Tree) (s new : Session) (packet : Packet) (now : Date3) (results : Results) (code : DosError) → refusal t s packet ≡ Some code → IsRefused t s packet code t new (answer_to packet results) → MethodMeans t s packet now t new results
 refused_means t s new packet now results code some refused =

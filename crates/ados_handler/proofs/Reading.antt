@@ -1,10 +1,9 @@
 -- Packets that change no tree keep tree and session proper.
-use Rattle.std.proofs.Common.{◌≡◌, ℕ, ◌+◌, ◌≤◌, ℤ, pos, negsuc, Bool, true, false, cond, not, List, [], ◌∷◌, length, take, drop, nat_eq, Some, None, refl, sym, ap, inl, inr, arith, subst, MatchOption, length-take, length-drop}
+use Rattle.std.proofs.Common.{◌≡◌, ℕ, ◌+◌, ◌≤◌, ℤ, pos, negsuc, Bool, true, false, cond, not, List, ◌∷◌, length, take, drop, nat_eq, Some, None, refl, sym, ap, inl, inr, arith, subst, MatchOption, length-take, length-drop}
 use Rattle.std.specs.Prelude.{Option, ◌&&◌, ◌||◌, is_some, IsSome, int_le, option_map}
 use Rattle.std.specs.Bool.{MatchBool}
 use Rattle.std.specs.Option.{option_map_or}
 use Rattle.std.specs.FinMap.{get, insert}
-use Rattle.std.proofs.lemmas.Option.{none-some}
 use Rattle.std.proofs.lemmas.Bool.{leb-true}
 use Rattle.ados_name.specs.declared.stamp.Date3.{Date3}
 use Rattle.ados_model.specs.Tree.{Content, Tree, Proper, root, bytes_in, bytes_of, content_at, parent_of, size_of}
@@ -22,35 +21,22 @@ use Rattle.ados_model.specs.declared.holds.LockHold.{LockHold}
 use Rattle.ados_model.specs.declared.holds.HandleHold.{HandleHold}
 use Rattle.ados_model.specs.Objects.{walk_error, lock_key, found, object, is_exclusive_mode, is_bad_target, target_number}
 use Rattle.ados_model.specs.Reads.{seek_target}
-use Rattle.ados_model.specs.Refusals.{refuse, first_refusal, refusal, refusals, is_some_and}
+use Rattle.ados_model.specs.Refusals.{refuse, refusal, refusals, is_some_and}
 use Rattle.ados_model.specs.Success.{After, after, Success, GivesLock, GivesHandle}
 use Rattle.ados_model.specs.Meaning.{IsRefused, ServedOrNoMemory}
+use Rattle.ados_volume.proofs.Refusing.{none_refuses, not_refused}
 use Rattle.ados_handler.specs.ProperSession.{HoldNumber, hold_at, IsProperSession}
 use Rattle.ados_handler.specs.ProperSession.HoldNumber.{ByLock, ByHandle}
 use Rattle.ados_handler.specs.Keeps.{KeepsProper}
 use Rattle.ados_handler.proofs.Holding.{true_false, proper_with_lock, proper_with_handle, proper_without_lock, proper_without_handle, proper_moved, shared_free, IsFree, not_in_use}
-use Rattle.ados_handler.proofs.Walked.{parent_is_key, found_is_key, no_error}
+use Rattle.ados_handler.proofs.Walked.{found_is_key, no_error}
+use Rattle.ados_volume.proofs.Walking.{parent_is_key}
 
 -- the number of a file's bytes is its size
 pub size_is : (c : Option Content) → length (bytes_in c) ≡ size_in c
 size_is None = refl
 size_is (Some (Directory keys)) = refl
 size_is (Some (File bytes)) = refl
-
--- no refusal in the list holds
-abbrev pub NoneRefuses : List (Option DosError) → Type 0
-NoneRefuses [] = Unit {0}
-NoneRefuses (o ∷ more) = (o ≡ None) × NoneRefuses more
-
--- a list without a first refusal has none that holds
-pub none_refuses : (list : List (Option DosError)) → first_refusal list ≡ None → NoneRefuses list
-none_refuses [] h = tt
-none_refuses (None ∷ more) h = (refl, none_refuses more h)
-none_refuses (Some c ∷ more) h = absurd (none-some c (sym h))
-
-pub not_refused : (code : DosError) (b : Bool) → refuse code b ≡ None → b ≡ false
-not_refused code true h = absurd (none-some code (sym h))
-not_refused code false h = refl
 
 pub and_right : (a b : Bool) → a && b ≡ true → b ≡ true
 and_right true b h = h

@@ -26,11 +26,12 @@ use Rattle.ados_model.specs.declared.holds.HandleHold.{HandleHold}
 use Rattle.ados_model.specs.Objects.{handle_target, target_number}
 use Rattle.ados_model.specs.Refusals.{refuse, refusals}
 use Rattle.ados_model.specs.Success.{After, resized}
+use Rattle.ados_volume.proofs.Refusing.{none_refuses, not_refused}
 use Rattle.ados_handler.specs.ProperSession.{HoldNumber, hold_at, IsProperSession}
 use Rattle.ados_handler.specs.ProperSession.HoldNumber.{ByLock, ByHandle}
 use Rattle.ados_handler.specs.Keeps.{KeepsProper}
 use Rattle.ados_handler.proofs.Holding.{option_map_some}
-use Rattle.ados_handler.proofs.Reading.{none_refuses, not_refused, from_not, same_after, by_success, moved, size_is}
+use Rattle.ados_handler.proofs.Reading.{from_not, same_after, by_success, moved, size_is}
 use Rattle.ados_handler.proofs.Carrying.{Carried, carried_changed, carried_same, carried_session}
 use Rattle.ados_handler.proofs.Telling.{told_proper}
 

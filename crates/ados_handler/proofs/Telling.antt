@@ -17,12 +17,13 @@ use Rattle.ados_model.specs.Session.{Session, is_lock}
 use Rattle.ados_model.specs.Objects.{walk_error, object, found}
 use Rattle.ados_model.specs.Refusals.{refuse, refusals, is_name, is_comment}
 use Rattle.ados_model.specs.Success.{After}
+use Rattle.ados_volume.proofs.Refusing.{none_refuses, not_refused}
 use Rattle.ados_handler.specs.ProperSession.{IsProperSession}
 use Rattle.ados_handler.specs.Keeps.{KeepsProper}
 use Rattle.ados_handler.proofs.Holding.{true_false}
 use Rattle.ados_handler.proofs.Named.{text_is_name, text_is_comment}
 use Rattle.ados_handler.proofs.Walked.{root_is_key, found_is_key, no_error}
-use Rattle.ados_handler.proofs.Reading.{none_refuses, not_refused, from_not, IsProperAfter, by_success}
+use Rattle.ados_handler.proofs.Reading.{from_not, IsProperAfter, by_success}
 use Rattle.ados_handler.proofs.Carrying.{carried_content, carried_changed, carried_session}
 
 -- a tree with one node's metadata and the disk date replaced is proper

@@ -1,36 +1,26 @@
 -- Packets that remove an entry from its directory's list keep tree and session proper.
-use Rattle.std.proofs.Common.{◌≡◌, ◌≢◌, ℕ, inl, inr, Bool, true, false, not, nat_eq, ◌==◌, List, [], ◌∷◌, filter, Contains, Option, Some, None, option_map, refl, sym, ap, ◌∙◌, subst, eqb-true}
-use Rattle.std.proofs.lemmas.Bool.{false≢true, true≢false}
+use Rattle.std.proofs.Common.{◌≡◌, ◌≢◌, ℕ, Bool, false, not, ◌==◌, List, ◌∷◌, filter, Option, Some, None, is_some, option_map, refl, sym, ap, ◌∙◌, subst}
 use Rattle.ados_name.specs.declared.stamp.Date3.{Date3}
-use Rattle.ados_name.specs.Name.{Same}
 use Rattle.ados_name.specs.Path.{IsPathText}
-use Rattle.ados_model.specs.Tree.{Node, Tree, Proper, entries, name_of, parent_of, root}
-use Rattle.ados_model.specs.Change.{child_of, changed, left, removed, renamed, with_node}
-use Rattle.ados_model.proofs.Nodes.{directory_node, root_or_parent}
+use Rattle.ados_model.specs.Tree.{Node, Tree, Proper, entries, parent_of}
+use Rattle.ados_model.specs.Change.{changed, left, removed, renamed, with_node}
+use Rattle.ados_model.proofs.Nodes.{directory_node}
 use Rattle.ados_change.specs.Conditions.{CanRename, IsDirectoryKey}
 use Rattle.ados_change.proofs.Loose.{left_is}
 use Rattle.ados_change.proofs.ProperChanges.{into_directory, removed_is_proper, renamed_is_proper}
-use Rattle.ados_model.specs.declared.dos_error.DosError.TheVariants.{DeviceNotMounted, DirectoryNotEmpty, InvalidLock, ObjectExists, ObjectInUse, ObjectWrongType}
+use Rattle.ados_model.specs.declared.dos_error.DosError.TheVariants.{DeviceNotMounted, InvalidLock, ObjectInUse}
 use Rattle.ados_model.specs.declared.packet.Packet.TheVariants.{DeleteObject, RenameObject}
-use Rattle.ados_model.specs.Session.{is_lock}
-use Rattle.ados_model.specs.Objects.{is_under, object, spot_directory, spot_name, standing}
-use Rattle.ados_model.specs.Refusals.{refuse, refusals, is_empty, is_some_and}
+use Rattle.ados_model.specs.Session.{is_held, is_held_exclusively, is_lock}
+use Rattle.ados_model.specs.Objects.{object, spot_directory, spot_name}
+use Rattle.ados_model.specs.Refusals.{refuse, refusals}
+use Rattle.ados_volume.proofs.Refusing.{can_move, can_remove, none_refuses, not_refused}
 use Rattle.ados_handler.specs.ProperSession.{HoldNumber, hold_at}
 use Rattle.ados_handler.specs.Keeps.{KeepsProper}
 use Rattle.ados_handler.proofs.Holding.{not_held}
-use Rattle.ados_handler.proofs.Reading.{none_refuses, not_refused, from_not, same_after, by_success}
+use Rattle.ados_handler.proofs.Reading.{from_not, same_after, by_success}
 use Rattle.ados_handler.proofs.Carrying.{Carried, carried_beside, carried_changed, carried_content, carried_on, carried_session}
-use Rattle.ados_handler.proofs.Telling.{not_root, walked_node}
-use Rattle.ados_handler.proofs.Making.{carried_listed, is_directory, no_child_new, spot_is}
-use Rattle.ados_handler.proofs.Under.{under_is_told}
-use Rattle.ados_volume.proofs.Children.{child_there}
-
--- the directory of an entry
-pub parent_there : (t : Tree) → Proper t → (key : ℕ) (node : Node) → t.nodes key ≡ Some node → key ≢ root t → (dir : ℕ) × (parent_of t key ≡ Some dir)
-parent_there t proper key node at other = elim (root_or_parent t proper key node at) [
-  | inl same ↦ absurd (other same)
-  | inr p ↦ (p.0, rw at p.1)
-]
+use Rattle.ados_handler.proofs.Telling.{walked_node}
+use Rattle.ados_handler.proofs.Making.{carried_listed, is_directory, spot_is}
 
 module _ (t : Tree) (proper : Proper t) (key dir : ℕ) (below : parent_of t key ≡ Some dir) (moment : Date3) where
   holder : IsDirectoryKey t dir
@@ -46,24 +36,19 @@ module _ (t : Tree) (proper : Proper t) (key dir : ℕ) (below : parent_of t key
 
 -- ---- DELETE_OBJECT
 
-pub is_nil : (list : List ℕ) → is_empty list ≡ true → list ≡ []
-is_nil [] h = refl
-is_nil (x ∷ xs) h = absurd (false≢true h)
-
 pub delete_keeps : (lock : ℕ) (path : List ℕ) → KeepsProper (DeleteObject lock path)
 delete_keeps lock path = by_success (DeleteObject lock path) (λ t s now result proper session none w.
     let no = none_refuses (refuse DeviceNotMounted s.died ∷ refusals t s (DeleteObject lock path)) none in
     let key = object t s lock path in
     let n = walked_node t s proper session lock path (from_not (is_lock s lock) (not_refused InvalidLock _ no.1.0)) no.1.1.0 in
-    let p = parent_there t proper key n.0 n.1 (not_root key (root t) (not_refused ObjectWrongType _ no.1.1.1.0)) in
+    let can = can_remove t proper key (ap is_some n.1) (is_held s key) false no.1.1.1 in
     let free = not_held s key (not_refused ObjectInUse _ no.1.1.1.1.0) in
-    let empty = is_nil (entries t key) (from_not (is_empty (entries t key)) (not_refused DirectoryNotEmpty _ no.1.1.1.1.1.0)) in
     let others : (hold : HoldNumber) (k : ℕ) (e : Bool) → hold_at s hold ≡ Some (k, e) → k ≢ key = λ hold k e h same. free hold e (subst (λ (i : ℕ). hold_at s hold ≡ Some (i, e)) same h) in
     let gone = left now key t in
     same_after result _ w (
-      removed_is_proper t now key proper (record { dir = p.0; listed = p.1; empty = empty }),
+      removed_is_proper t now key proper can,
       carried_session t (removed now key t) s session (λ hold k e h.
-          carried_on (t.nodes k) (gone.nodes k) ((with_node key None gone).nodes k) (left_carried t proper key p.0 p.1 now k) (carried_beside gone key None k (others hold k e h))),
+          carried_on (t.nodes k) (gone.nodes k) ((with_node key None gone).nodes k) (left_carried t proper key can.dir can.listed now k) (carried_beside gone key None k (others hold k e h))),
     ))
 
 -- ---- RENAME_OBJECT
@@ -85,15 +70,6 @@ module _ (t : Tree) (proper : Proper t) (moment : Date3) (key dir : ℕ) (name :
       (carried_changed (left moment key t) key (λ node. record node { name = name; parent = Some dir }) (λ a at. carried_content a (record a { name = name; parent = Some dir }) refl) k))
       (carried_listed loose moment dir _ target k)
 
--- no other entry of the directory has the name
-only_itself : (t : Tree) → Proper t → (dir key : ℕ) (name : List ℕ) (o : Option ℕ) → child_of t dir name ≡ o → is_some_and (λ other. not (other == key)) o ≡ false
-    → (k : ℕ) → Contains (entries t dir) k → k ≢ key → ¬ Same (name_of t k) name
-only_itself t proper dir key name None e h k c n = no_child_new t dir name e k c
-only_itself t proper dir key name (Some other) e h k c n = λ same.
-    let there = child_there t dir other name e in
-    let is_key : other ≡ key = eqb-true other key (from_not (nat_eq other key) h) in
-    n (proper.unlike dir k other c there.0 (same ∙ sym there.1) ∙ is_key)
-
 pub rename_keeps : (from_lock : ℕ) (from : List ℕ) (to_lock : ℕ) (to : List ℕ) → IsPathText to → KeepsProper (RenameObject from_lock from to_lock to)
 rename_keeps from_lock from to_lock to valid = by_success (RenameObject from_lock from to_lock to) (λ t s now result proper session none w.
     let no = none_refuses (refuse DeviceNotMounted s.died ∷ refusals t s (RenameObject from_lock from to_lock to)) none in
@@ -102,16 +78,7 @@ rename_keeps from_lock from to_lock to valid = by_success (RenameObject from_loc
     let name = spot_name t s to_lock to in
     let n = walked_node t s proper session from_lock from (from_not (is_lock s from_lock) (not_refused InvalidLock _ no.1.0)) no.1.1.1.0 in
     let is = spot_is t proper s session to_lock to valid (from_not (is_lock s to_lock) (not_refused InvalidLock _ no.1.1.0)) no.1.1.1.1.0 in
-    let p = parent_there t proper key n.0 n.1 (not_root key (root t) (not_refused ObjectWrongType _ no.1.1.1.1.1.0)) in
-    let apart : is_under t key dir ≡ false = not_refused ObjectInUse _ no.1.1.1.1.1.1.1.1.0 in
-    let can : CanRename t key dir name = record {
-      from = p.0;
-      listed = p.1;
-      directory = is_directory t dir is.node is.no_file;
-      not_under = λ u. true≢false (sym ((under_is_told t proper key dir is.node).1 u) ∙ apart);
-      valid = is.name;
-      new_name = only_itself t proper dir key name (standing t s to_lock to) refl (not_refused ObjectExists _ no.1.1.1.1.1.1.0);
-    } in
+    let can = can_move t proper key (ap is_some n.1) (is_held_exclusively s key) dir name (is_directory t dir is.node is.no_file) is.name no.1.1.1.1.1 in
     same_after result _ w (
       renamed_is_proper t now key dir name proper can,
       carried_session t (renamed now key dir name t) s session (λ hold k e h. renamed_carried t proper now key dir name can k),

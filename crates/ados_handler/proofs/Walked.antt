@@ -1,17 +1,15 @@
 -- The walks of packets end at nodes.
 use Rattle.std.proofs.Common.{◌≡◌, ℕ, Bool, true, false, cond, List, [], ◌∷◌, nat_eq, Option, Some, None, Result, Ok, Err, IsSome, is_some, refl, sym, ap, ◌∙◌}
-use Rattle.std.specs.Prelude.{◌||◌, ok_or, option_map}
+use Rattle.std.specs.Prelude.{◌||◌, option_map}
 use Rattle.std.specs.Option.{option_map_or}
 use Rattle.std.specs.Result.{result_err, result_unwrap_or}
 use Rattle.std.specs.FinMap.{get}
 use Rattle.ados_name.specs.Name.{Step, is_from_root, steps}
-use Rattle.ados_name.specs.Name.Step.{ToParent, ToChild}
-use Rattle.ados_model.specs.Tree.{Tree, Proper, root, entries, parent_of}
-use Rattle.ados_model.specs.Change.{and_then, child_of, is_file, missing_before, start_of, step_from, walk_steps}
+use Rattle.ados_model.specs.Tree.{Tree, Proper, root}
+use Rattle.ados_model.specs.Change.{and_then, missing_before, start_of, step_from, walk_steps}
 use Rattle.ados_model.specs.declared.dos_error.WalkFault.{WalkFault}
-use Rattle.ados_model.specs.declared.dos_error.WalkFault.TheVariants.{ObjectNotFound, WrongType}
-use Rattle.ados_model.proofs.Nodes.{entry_node, directory_node}
-use Rattle.ados_volume.proofs.Walking.{find-is}
+use Rattle.ados_model.specs.declared.dos_error.WalkFault.TheVariants.{ObjectNotFound}
+use Rattle.ados_volume.proofs.Walking.{step_key}
 use Rattle.ados_model.specs.Session.{Session, is_lock}
 use Rattle.ados_model.specs.declared.holds.LockHold.{LockHold}
 use Rattle.ados_model.specs.Objects.{lock_key, found}
@@ -23,10 +21,6 @@ pub no_error : {A E D : Type 0} (number : E → D) (r : Result A E) (d : A) → 
 no_error number (Ok x) d e = refl
 no_error number (Err c) d e = absurd (cc e)
 
-ok_or_some : {E : Type 0} (o : Option ℕ) (fault : E) (key : ℕ) → ok_or o fault ≡ Ok key → o ≡ Some key
-ok_or_some None fault key e = absurd (cc e)
-ok_or_some (Some x) fault key e = cc e
-
 and_then_ok : {E : Type 0} (r : Result ℕ E) (rest : ℕ → Result ℕ E) (key : ℕ) → and_then r rest ≡ Ok key → (middle : ℕ) × (r ≡ Ok middle) × (rest middle ≡ Ok key)
 and_then_ok (Ok middle) rest key e = (middle, refl, e)
 and_then_ok (Err fault) rest key e = absurd (cc e)
@@ -35,27 +29,12 @@ module _ (t : Tree) (proper : Proper t) where
   pub root_is_key : IsSome (t.nodes (root t))
   root_is_key = ap is_some proper.root_node.1
 
-  -- a child is a node, and a parent is a node
-  pub child_is_key : (dir : ℕ) (name : List ℕ) (key : ℕ) → child_of t dir name ≡ Some key → IsSome (t.nodes key)
-  child_is_key dir name key e = ap is_some (entry_node t proper dir key (find-is _ (entries t dir) key e).0).1
-
-  pub parent_is_key : (key dir : ℕ) → parent_of t key ≡ Some dir → IsSome (t.nodes dir)
-  parent_is_key key dir e = ap is_some (directory_node t proper dir key ((proper.listed dir key).1 e)).2
-
-  step_key : (at : ℕ) (step : Step) (missing : WalkFault) (key : ℕ) → step_from t at step missing ≡ Ok key → IsSome (t.nodes key)
-  step_key at ToParent missing key e = parent_is_key at key (ok_or_some (parent_of t at) ObjectNotFound key e)
-  step_key at (ToChild name) missing key e = go (is_file t at) e
-    where
-      go : (b : Bool) → cond b (Err WrongType) (ok_or (child_of t at name) missing) ≡ Ok key → IsSome (t.nodes key)
-      go true e = absurd (cc e)
-      go false e = child_is_key at name key (ok_or_some (child_of t at name) missing key e)
-
   -- steps from a node end at a node
   pub walk_key : (start : ℕ) (path : List Step) (last : WalkFault) (key : ℕ) → IsSome (t.nodes start) → walk_steps t start path last ≡ Ok key → IsSome (t.nodes key)
   walk_key start [] last key there e = let same : start ≡ key = cc e in ap (λ k. is_some (t.nodes k)) (sym same) ∙ there
   walk_key start (step ∷ rest) last key there e =
       let first = and_then_ok (step_from t start step (missing_before rest last)) (λ next. walk_steps t next rest last) key e
-      in walk_key first.0 rest last key (step_key start step (missing_before rest last) first.0 first.1) first.2
+      in walk_key first.0 rest last key (step_key t proper start step (missing_before rest last) first.0 first.1) first.2
 
   module _ (s : Session) (session : IsProperSession t s) where
     -- the object of a lock is a node

@@ -24,8 +24,8 @@ use Rattle.ados_model.specs.Resolved.{place_result, walk_result}
 use Rattle.ados_model.specs.Refusals.{first_refusal, has_no_room, is_directory_there, is_empty, is_some_and, refusals, refuse}
 use Rattle.ados_model.specs.DiskDate.{sets_disk_date}
 use Rattle.ados_handler.specs.Writes.{lacks_space_at_most, would_write}
-use Rattle.ados_handler.specs.steps.Moves.{both, move_refusal, move_refusals}
-use Rattle.ados_handler.specs.steps.Allowed.{can_empty, can_make, can_move, can_output, can_remove, can_resize, can_write, ok_and, removes}
+use Rattle.ados_handler.specs.steps.Moves.{both, move_refusal, move_refusals, remove_refusals}
+use Rattle.ados_handler.specs.steps.Allowed.{can_empty, can_make, can_move, can_output, can_resize, can_write, ok_and, removes}
 
 and_false : (b : Bool) → b && false ≡ false
 and_false true = refl
@@ -47,7 +47,7 @@ place_bars places.WrongType rest = refl
 place_bars places.InvalidName rest = refl
 
 -- rows of refusals by their conditions
-remove_row : (r h e d : Bool) → not r && not h && e && not d ≡ passes (refuse ObjectWrongType r ∷ refuse ObjectInUse h ∷ refuse DirectoryNotEmpty (not e) ∷ refuse DeleteProtected d ∷ [])
+remove_row : (r h e d : Bool) → is_none (first_refusal (refuse ObjectWrongType r ∷ refuse ObjectInUse h ∷ refuse DirectoryNotEmpty (not e) ∷ refuse DeleteProtected d ∷ [])) ≡ passes (refuse ObjectWrongType r ∷ refuse ObjectInUse h ∷ refuse DirectoryNotEmpty (not e) ∷ refuse DeleteProtected d ∷ [])
 remove_row true h e d = refl
 remove_row false true e d = refl
 remove_row false false false d = refl
@@ -107,7 +107,7 @@ module _ (t : Tree) (s : Session) where
   module _ (alive : s.died ≡ false) where
     pub deleted_by : (lock : ℕ) (path : List ℕ) → removes t s lock path ≡ would_write t s (DeleteObject lock path)
     deleted_by lock path =
-        walk_row lock path _ (λ key. refuse ObjectWrongType (key == root t) ∷ refuse ObjectInUse (is_held s key) ∷ refuse DirectoryNotEmpty (not (is_empty (entries t key))) ∷ refuse DeleteProtected (denies_delete (protection_of t key)) ∷ [])
+        walk_row lock path _ (remove_refusals t s)
         (λ key. remove_row (key == root t) (is_held s key) (is_empty (entries t key)) (denies_delete (protection_of t key))) (is_lock s lock) (found t s lock path)
         ∙ living (DeleteObject lock path) alive
 
@@ -194,11 +194,6 @@ module _ (t : Tree) (s : Session) where
         go (Some h) m =
             let to = seek_target h.position (size_of t h.key) offset mode in
             size_row (denies_write (protection_of t h.key)) (is_bad_target 2147483647 to) (target_number to == size_of t h.key) m
-
--- an object without what refuses its deletion
-pub can_remove_told : (t : Tree) (s : Session) (key : ℕ) (denied : Bool) → (key == root t) ≡ false → is_held s key ≡ false → is_empty (entries t key) ≡ true → denies_delete (protection_of t key) ≡ denied
-    → not denied ≡ can_remove t s key
-can_remove_told t s key denied other free empty is = rw (other, free, empty, is) refl
 
 -- bytes that are not empty are some
 pub some_bytes : (bytes : List ℕ) → (length bytes == 0) ≡ false → nat_lt 0 (length bytes) ≡ true

@@ -6,7 +6,7 @@ ghost use Rattle.ados_model.specs.Stands.{Stands};
 ghost use Rattle.ados_model.specs.Keys.{HasKey, HasTree};
 ghost use Rattle.ados_model.specs.Refusals.{is_comment as is_comment_text, is_name as is_name_text};
 ghost use Rattle.ados_handler.specs.Writes.{would_write};
-ghost use Rattle.ados_handler.specs.steps.Allowed.{can_empty, can_make, can_move, can_output, can_remove, can_resize, can_write, leads_to_entry, removes};
+ghost use Rattle.ados_handler.specs.steps.Allowed.{can_empty, can_make, can_move, can_output, can_resize, can_write, leads_to_entry, removes};
 
 use crate::handler::Handler;
 use crate::set_size::LARGEST;
@@ -73,26 +73,9 @@ impl Handler {
         ensures same { self.new ≡ self.old }
     {
         match self.walked(lock, path) {
-            Ok(key) => self.can_remove(key),
+            Ok(key) => self.remove_refusal(key).is_none(),
             Err(_) => false,
         }
-    }
-
-    /// Whether the object is no root, without holds, without entries and not protected from deletion.
-    fn can_remove(&self, key: u32) -> bool
-        requires { HasKey self.now.image key }
-        ensures { (t : Tree) → Stands self.now.image t → result ≡ can_remove t self.now.session key }
-    {
-        if key == self.volume.root() {
-            return false;
-        }
-        if self.is_held(key) {
-            return false;
-        }
-        if self.has_entries(key) {
-            return false;
-        }
-        !self.volume.examine(key).protection.denies_delete()
     }
 
     /// Whether the object of one path can move to the place of the other.

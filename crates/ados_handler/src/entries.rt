@@ -1,17 +1,17 @@
 //! Packets that make and delete entries.
 
-ghost use Rattle.std.specs.Prelude.{◌≡◌, not};
+ghost use Rattle.std.specs.Prelude.{◌≡◌};
 ghost use Rattle.ados_model.specs.Keys.{HasKey};
-ghost use Rattle.ados_model.specs.Tree.{Tree, entries};
+ghost use Rattle.ados_model.specs.Tree.{Tree};
 ghost use Rattle.ados_model.specs.Stands.{Stands};
 ghost use Rattle.ados_model.specs.declared.packet.Packet.TheVariants.{CreateDir, DeleteObject};
-ghost use Rattle.ados_model.specs.Refusals.{is_empty};
 ghost use Rattle.ados_handler.specs.steps.Methods.{MethodGives};
+ghost use Rattle.ados_handler.specs.steps.Moves.{remove_refusal};
 
 use crate::handler::Handler;
 use ados_model::{Body, DosError, LockHold, Results};
 use ados_name::{Date3, PathText};
-use ados_volume::{Next, NodeKind};
+use ados_volume::{NodeKind, remove_refusal};
 
 impl Handler {
     /// DELETE_OBJECT.
@@ -25,17 +25,8 @@ impl Handler {
             Ok(key) => key,
             Err(error) => return Results::refused(error),
         };
-        if key == self.volume.root() {
-            return Results::refused(DosError::ObjectWrongType);
-        }
-        if self.is_held(key) {
-            return Results::refused(DosError::ObjectInUse);
-        }
-        if self.has_entries(key) {
-            return Results::refused(DosError::DirectoryNotEmpty);
-        }
-        if self.volume.examine(key).protection.denies_delete() {
-            return Results::refused(DosError::DeleteProtected);
+        if let Some(error) = self.remove_refusal(key) {
+            return Results::refused(error);
         }
         self.volume.remove(key, now);
         Results::done(Body::Empty)
@@ -71,11 +62,11 @@ impl Handler {
         Results::counted(number, Body::Empty)
     }
 
-    /// Whether the object is a directory with entries.
-    pub(crate) fn has_entries(&self, key: u32) -> bool
+    /// The DOS error that refuses to delete an object, or none.
+    pub(crate) fn remove_refusal(&self, key: u32) -> Option<DosError>
         requires { HasKey self.now.image key }
-        ensures { (t : Tree) → Stands self.now.image t → result ≡ not (is_empty (entries t key)) }
+        ensures { (t : Tree) → Stands self.now.image t → result ≡ remove_refusal t self.now.session key }
     {
-        !self.volume.is_file(key) && self.volume.next(key, key) != Next::End
+        remove_refusal(&self.volume, key, self.is_held(key), false)
     }
 }

@@ -2,7 +2,6 @@
 #![tactic(auto)]
 
 mod attributes;
-mod below;
 mod bytes;
 mod changing;
 mod entries;

@@ -11,6 +11,7 @@ ghost use Rattle.ados_handler.specs.steps.Methods.{MethodGives};
 use crate::handler::Handler;
 use ados_model::{Body, DosError, Results};
 use ados_name::{Date3, Name, PathText};
+use ados_volume::move_refusal;
 
 impl Handler {
     /// RENAME_OBJECT. Protection bits do not refuse it.
@@ -67,17 +68,7 @@ impl Handler {
         ensures refusal { (t : Tree) → Stands self.old.image t → result ≡ move_refusal t self.old.session key dir name.now }
         ensures same { self.new ≡ self.old }
     {
-        if key == self.volume.root() {
-            return Some(DosError::ObjectWrongType);
-        }
-        if let Some(other) = self.volume.child(dir, name)
-            && other != key
-        {
-            return Some(DosError::ObjectExists);
-        }
-        if self.is_held_exclusively(key) || self.is_under(key, dir) {
-            return Some(DosError::ObjectInUse);
-        }
-        None
+        let held = self.is_held_exclusively(key);
+        move_refusal(&mut self.volume, key, dir, name, held)
     }
 }

@@ -5,10 +5,9 @@ ghost use Rattle.ados_model.specs.Keys.{HasDirectory, HasKey};
 ghost use Rattle.ados_model.specs.Tree.{Tree};
 ghost use Rattle.ados_model.specs.Stands.{Stands};
 ghost use Rattle.ados_model.specs.Resolved.{lock_object, placed_at, walked};
-ghost use Rattle.ados_model.specs.Objects.{place_error, walk_error};
 
 use crate::handler::Handler;
-use ados_model::{DosError, NO_LOCK, PlaceFault, WalkFault};
+use ados_model::{DosError, NO_LOCK};
 use ados_name::{Name, PathText};
 
 impl Handler {
@@ -37,7 +36,7 @@ impl Handler {
         };
         match self.volume.walk(start, path) {
             Ok(key) => Ok(key),
-            Err(fault) => Err(walk_error(fault)),
+            Err(fault) => Err(fault.error()),
         }
     }
 
@@ -52,30 +51,7 @@ impl Handler {
         };
         match self.volume.place(start, path) {
             Ok(found) => Ok(found),
-            Err(fault) => Err(place_error(fault)),
+            Err(fault) => Err(fault.error()),
         }
-    }
-}
-
-/// The DOS error of a walk that finds no object.
-fn walk_error(fault: WalkFault) -> DosError
-    ensures { result ≡ walk_error fault }
-{
-    match fault {
-        WalkFault::DirectoryNotFound => DosError::DirectoryNotFound,
-        WalkFault::ObjectNotFound => DosError::ObjectNotFound,
-        WalkFault::WrongType => DosError::ObjectWrongType,
-    }
-}
-
-/// The DOS error of a path without a place.
-fn place_error(fault: PlaceFault) -> DosError
-    ensures { result ≡ place_error fault }
-{
-    match fault {
-        PlaceFault::DirectoryNotFound => DosError::DirectoryNotFound,
-        PlaceFault::ObjectNotFound => DosError::ObjectNotFound,
-        PlaceFault::WrongType => DosError::ObjectWrongType,
-        PlaceFault::InvalidName => DosError::InvalidComponentName,
     }
 }

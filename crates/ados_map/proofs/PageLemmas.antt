@@ -4,8 +4,8 @@ use Rattle.std.proofs.lemmas.Bool.{cases_eq}
 use Rattle.std.specs.Int.{bit_at}
 use Rattle.adf_block.specs.declared.layout.TheConstants.{FIRST_PAGE, PAGE_LONGS, BITMAP_EXTENSION}
 use Rattle.adf_block.specs.Image.{long, block_count, block_sum, root_key, page_count, IsInside}
-use Rattle.adf_block.specs.Frame.{SameBut, AtLong, OnlyLong}
-use Rattle.adf_block.proofs.Frames.{same_count, same_long, same_trans, same_weaken, other_long}
+use Rattle.adf_block.specs.Frame.{SameBut}
+use Rattle.adf_block.proofs.Frames.{same_count, same_long}
 use Rattle.ados_map.specs.Pages.{LawfulPages, page_block, pages_of, page_of, map_long, HasBit}
 use Rattle.ados_map.specs.Changes.{InPages, MapPlace, BitChanged}
 use Rattle.ados_map.specs.Bits.{IsBitPut}
@@ -48,72 +48,53 @@ pub lawful_in_pages : (old new : List ℕ) → SameBut (InPages old) old new →
 lawful_in_pages old new h size lawful =
     lawful_beside_root (InPages old) old new h (λ k low high at. lawful.beside_root at.0 at.1 (sym at.2)) size lawful
 
--- a long other than the changed one and the checksum
-kept_long : (b l : ℕ) (old mid new : List ℕ) → OnlyLong b l old mid → OnlyLong b 0 mid new
-    → (c j : ℕ) → j < 128 → j ≢ 0 → (c ≢ b) ⊎ (j ≢ l) → long new c j ≡ long old c j
-kept_long b l old mid new first second c j lt behind apart =
-    other_long b 0 mid new second c j lt (inr behind) ∙ other_long b l old mid first c j lt apart
-
 -- a bit other than the changed one
-other_mark : (old mid new : List ℕ) (k : ℕ) (free : Bool) → LawfulPages old → block_count old ≤ 101602 → IsInside (block_count old) k
-    → OnlyLong (page_block old (page_of k)) (map_long k) old mid → OnlyLong (page_block old (page_of k)) 0 mid new
-    → IsBitPut (long old (page_block old (page_of k)) (map_long k)) ((k - 2) % 32) free (long mid (page_block old (page_of k)) (map_long k))
+other_mark : (old new : List ℕ) (k : ℕ) (free : Bool) → LawfulPages old → block_count old ≤ 101602 → IsInside (block_count old) k → SameBut (MapPlace old k) old new
+    → IsBitPut (long old (page_block old (page_of k)) (map_long k)) ((k - 2) % 32) free (long new (page_block old (page_of k)) (map_long k))
     → (j : ℕ) → HasBit old j → j ≢ k
     → mark (long new (page_block old (page_of j)) (map_long j)) ((j - 2) % 32) ≡ mark (long old (page_block old (page_of j)) (map_long j)) ((j - 2) % 32)
-other_mark old mid new k free lawful size inside first second put j has ne =
+other_mark old new k free lawful size inside rest put j has ne =
     let b = page_block old (page_of k) in
     let l = map_long k in
-    let place : map_long j < 128 = omega arith in
-    let behind : map_long j ≢ 0 = omega arith in
     let in_page : page_of j < pages_of old = omega (arith, has.0, has.1) in
     let k_page : page_of k < pages_of old = omega (arith, inside.0, inside.1) in
+    let kept : (page_block old (page_of j) ≢ b) ⊎ (map_long j ≢ l) → long new (page_block old (page_of j)) (map_long j) ≡ long old (page_block old (page_of j)) (map_long j) =
+    λ apart. same_long (MapPlace old k) old new rest (page_block old (page_of j)) (map_long j) (omega arith) (λ i e at. elim at.1 [
+      | inl sum ↦ absurd (omega (arith, e, sum))
+      | inr long ↦ elim apart [ inl other ↦ other at.0 | inr other ↦ other (sym e ∙ long) ]
+    ]) in
     elim (cases_eq (page_of j) (page_of k)) [
       | inl page ↦ elim (cases_eq (map_long j) (map_long k)) [
         | inl same ↦
             let other_bit : (j - 2) % 32 ≢ (k - 2) % 32 = λ e. ne (omega (arith, page, same, e, has.0, inside.0)) in
-            let k_place : map_long k < 128 = omega arith in
-            let k_behind : map_long k ≢ 0 = omega arith in
             let at : page_block old (page_of j) ≡ b = ap (page_block old) page in
-            let now : long new (page_block old (page_of j)) (map_long j) ≡ long mid b l =
-            ap₂ (long new) at same ∙ other_long b 0 mid new second b l k_place (inr k_behind) in
-            let was : long old (page_block old (page_of j)) (map_long j) ≡ long old b l = ap₂ (long old) at same in
             mark-same (long new (page_block old (page_of j)) (map_long j)) (long old (page_block old (page_of j)) (map_long j)) ((j - 2) % 32)
-            (ap (λ (v : ℕ). bit_at v ((j - 2) % 32)) now
+            (ap (λ (v : ℕ). bit_at v ((j - 2) % 32)) (ap₂ (long new) at same)
             ∙ put.others ((j - 2) % 32) (omega arith) other_bit
-            ∙ ap (λ (v : ℕ). bit_at v ((j - 2) % 32)) (sym was))
-        | inr other ↦ ap (λ (v : ℕ). mark v ((j - 2) % 32)) (kept_long b l old mid new first second (page_block old (page_of j)) (map_long j) place behind (inr other))
+            ∙ ap (λ (v : ℕ). bit_at v ((j - 2) % 32)) (sym (ap₂ (long old) at same)))
+        | inr other ↦ ap (λ (v : ℕ). mark v ((j - 2) % 32)) (kept (inr other))
       ]
-      | inr other ↦
-          let apart : page_block old (page_of j) ≢ b = λ e. other (lawful.apart (page_of j) (page_of k) in_page k_page e) in
-          ap (λ (v : ℕ). mark v ((j - 2) % 32)) (kept_long b l old mid new first second (page_block old (page_of j)) (map_long j) place behind (inl apart))
+      | inr other ↦ ap (λ (v : ℕ). mark v ((j - 2) % 32)) (kept (inl (λ e. other (lawful.apart (page_of j) (page_of k) in_page k_page e))))
     ]
 
--- the bit of a block written into its long, then the checksum changed by the opposite amount
-pub marked_by : (old mid new : List ℕ) (k : ℕ) (free : Bool) → LawfulPages old → block_count old ≤ 101602 → IsInside (block_count old) k
-    → OnlyLong (page_block old (page_of k)) (map_long k) old mid → OnlyLong (page_block old (page_of k)) 0 mid new
-    → IsBitPut (long old (page_block old (page_of k)) (map_long k)) ((k - 2) % 32) free (long mid (page_block old (page_of k)) (map_long k))
+-- the bit of a block written into its long, and the checksum changed by the opposite amount
+pub marked_by : (old new : List ℕ) (k : ℕ) (free : Bool) → LawfulPages old → block_count old ≤ 101602 → IsInside (block_count old) k → SameBut (MapPlace old k) old new
+    → IsBitPut (long old (page_block old (page_of k)) (map_long k)) ((k - 2) % 32) free (long new (page_block old (page_of k)) (map_long k))
     → block_sum new (page_block old (page_of k)) ≡ block_sum old (page_block old (page_of k)) → BitChanged old k free new
-marked_by old mid new k free lawful size inside first second put sum =
+marked_by old new k free lawful size inside rest put sum =
     let b = page_block old (page_of k) in
     let k_page : page_of k < pages_of old = omega (arith, inside.0, inside.1) in
-    let k_place : map_long k < 128 = omega arith in
-    let k_behind : map_long k ≢ 0 = omega arith in
-    let rest : SameBut (MapPlace old k) old new =
-    same_trans (MapPlace old k) old mid new
-    (same_weaken (AtLong b (map_long k)) (MapPlace old k) old mid (λ c i at. (at.0, inr at.1)) first)
-    (same_weaken (AtLong b 0) (MapPlace old k) mid new (λ c i at. (at.0, inl at.1)) second) in
     let page : (p : ℕ) → p < PAGE_LONGS → page_block new p ≡ page_block old p = same_page (MapPlace old k) old new rest (λ i low high at. lawful.beside_root (page_of k) k_page (sym at.0)) in
     record {
       bit =
           marked-is new k
           ∙ ap (λ (c : ℕ). mark (long new c (map_long k)) ((k - 2) % 32)) (page (page_of k) (omega arith))
-          ∙ ap (λ (v : ℕ). mark v ((k - 2) % 32)) (other_long b 0 mid new second b (map_long k) k_place (inr k_behind))
-          ∙ mark-bit (long mid b (map_long k)) ((k - 2) % 32) free put.bit;
+          ∙ mark-bit (long new b (map_long k)) ((k - 2) % 32) free put.bit;
       others = λ j has ne.
           let j_page : page_of j < PAGE_LONGS = omega (arith, has.0, has.1) in
           marked-is new j
           ∙ ap (λ (c : ℕ). mark (long new c (map_long j)) ((j - 2) % 32)) (page (page_of j) j_page)
-          ∙ other_mark old mid new k free lawful size inside first second put j has ne
+          ∙ other_mark old new k free lawful size inside rest put j has ne
           ∙ sym (marked-is old j);
       sum = sum;
       rest = rest;

@@ -65,10 +65,5 @@ fn put_mark(image: &mut Image, b: u32, free: bool)
     let long = FIRST_MAP_LONG + (b - BOOT_BLOCKS) % PAGE_BITS / LONG_BITS;
     let old = image.long(page, long);
     let new = with_bit(old, (b - BOOT_BLOCKS) % LONG_BITS, free);
-    let sum = image
-        .long(page, PAGE_CHECKSUM)
-        .wrapping_add(old)
-        .wrapping_sub(new);
-    image.set_long(page, long, new);
-    image.set_long(page, PAGE_CHECKSUM, sum);
+    image.set_summed(page, long, new, PAGE_CHECKSUM);
 }

@@ -18,22 +18,21 @@ use Rattle.ados_model.proofs.NoFaults.{faults_have_no_tree}
 use Rattle.ados_model.proofs.Standing.{reached_stands, root_is}
 use Rattle.ados_mend.specs.Mendable.{ShowsOnlyMendable}
 use Rattle.ados_mend.specs.Validated.{IsValidated, without_lost}
-use Rattle.ados_mend.specs.steps.Settled.{IsSettled}
 use Rattle.ados_mend.proofs.Carry.{reached_a, reached_b}
 use Rattle.ados_mend.proofs.PageFaults.{mendable_pages}
 use Rattle.ados_mend.proofs.Stay.{same_tree}
 use Rattle.ados_mend.proofs.Widened.{count, of_new, of_old, turned}
 
-module _ (old settled new : List ℕ) (small : block_count old ≤ 101602) (only : ShowsOnlyMendable old) (prep : IsSettled old settled) where
+module _ (old settled new : List ℕ) (small : block_count old ≤ 101602) (only : ShowsOnlyMendable old) (changed : SameBut (IsOfBitmap old) old settled) (not_valid : ¬ HasValidBitmap settled) where
   pages : LawfulPages old
   pages = mendable_pages old only
 
   module _ (rebuilt : Rebuilt settled new) (u : Tree) (s : Stands new u) (none : HasNoLost u) where
     rest_settled : SameBut (IsOfBitmap old) settled new
-    rest_settled = same_weaken (IsOfBitmap settled) (IsOfBitmap old) settled new (of_old old settled small pages prep.rest) rebuilt.rest
+    rest_settled = same_weaken (IsOfBitmap settled) (IsOfBitmap old) settled new (of_old old settled small pages changed) rebuilt.rest
 
     rest : SameBut (IsOfBitmap old) old new
-    rest = same_trans (IsOfBitmap old) old settled new prep.rest rest_settled
+    rest = same_trans (IsOfBitmap old) old settled new changed rest_settled
 
     -- the same from the new image
     to_old : SameBut (IsOfBitmap new) new old
@@ -43,7 +42,7 @@ module _ (old settled new : List ℕ) (small : block_count old ≤ 101602) (only
     to_settled = same_weaken (IsOfBitmap old) (IsOfBitmap new) new settled (of_new old new small pages rest) (turned (IsOfBitmap old) settled new rest_settled)
 
     settled_count : block_count settled ≡ block_count old
-    settled_count = count old settled small pages prep.rest
+    settled_count = count old settled small pages changed
 
     new_count : block_count new ≡ block_count old
     new_count = count old new small pages rest
@@ -104,5 +103,5 @@ module _ (old settled new : List ℕ) (small : block_count old ≤ 101602) (only
     }
 
   pub anew : (rebuilt : Bool) → Accepts settled rebuilt new → IsValidated old new
-  anew false h = absurd (prep.not_valid h.1)
+  anew false h = absurd (not_valid h.1)
   anew true (clean, rebuilt, (u, s, none)) = validated rebuilt u s none

@@ -1,5 +1,5 @@
 -- Sums that grow by one place.
-use Rattle.std.proofs.Common.{◌≡◌, ℕ, ◌+◌, ◌-◌, ◌≤◌, List, ◌&&◌, not, bit_xor, count_ones, if◌then◌else◌, add-one, ap, ap₂, sym, ◌∙◌, arith}
+use Rattle.std.proofs.Common.{◌≡◌, ℕ, ◌+◌, List, ◌&&◌, not, bit_xor, count_ones, if◌then◌else◌, add-one, ap}
 use Rattle.adf_block.specs.Image.{has_free_bit, long, total}
 
 -- the number of bits of a long of a bitmap block that differ
@@ -12,12 +12,3 @@ free_at image other k = if has_free_bit image (k + 2) && not (has_free_bit other
 
 pub total_more : (f : ℕ → ℕ) (n : ℕ) → total f (n + 1) ≡ total f n + f n
 total_more f n = ap (total f) (add-one n)
-
--- one more block is counted
-pub free_more : (image other : List ℕ) (block count here : ℕ) → 2 ≤ block → count ≡ total (free_at image other) (block - 2)
-    → here ≡ (if has_free_bit image block && not (has_free_bit other block) then 1 else 0) → count + here ≡ total (free_at image other) (block + 1 - 2)
-free_more image other block count here two h e =
-    let next : block + 1 - 2 ≡ block - 2 + 1 = omega arith in
-    let back : block - 2 + 2 ≡ block = omega arith in
-    let at : here ≡ free_at image other (block - 2) = e ∙ sym (ap (λ (k : ℕ). if has_free_bit image k && not (has_free_bit other k) then 1 else 0) back) in
-    ap₂ (λ (x y : ℕ). x + y) h at ∙ sym (total_more (free_at image other) (block - 2)) ∙ sym (ap (total (free_at image other)) next)

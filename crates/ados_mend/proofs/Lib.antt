@@ -11,12 +11,12 @@ pub mod KeptLongs
 pub mod Counted
 pub mod Passed
 pub mod SettlingPages
+pub mod Renewed
 mod Numbered
 pub mod Marking
 pub mod Walking
 pub mod OwnBlocks
 pub mod AllKinds
-pub mod Remaining
 pub mod Reaching
 pub mod Placing
 pub mod PlaceLists

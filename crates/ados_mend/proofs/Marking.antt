@@ -1,5 +1,5 @@
 -- Marks of blocks, set one by one and kind by kind.
-use Rattle.std.proofs.Common.{◌≡◌, ◌≢◌, ℕ, ◌+◌, ◌<◌, ◌⊎◌, inl, inr, Bool, true, false, List, [], ◌∷◌, ◌++◌, take, length, get_or, get_or-set_same, get_or-set_other, length-set, Contains, refl, sym, ap, ◌∙◌, subst, arith}
+use Rattle.std.proofs.Common.{◌≡◌, ◌≢◌, ℕ, ◌+◌, ◌<◌, ◌⊎◌, inl, inr, Bool, true, false, List, [], ◌∷◌, ◌++◌, take, length, get_or, get_or-set_same, get_or-set_other, Contains, refl, sym, ap, ◌∙◌, subst, arith}
 use Rattle.std.proofs.Math.ListN.{set}
 use Rattle.std.proofs.lemmas.Bool.{cases_eq}
 use Rattle.std.proofs.lemmas.List.{take_more}
@@ -25,15 +25,6 @@ module _ (marks : List Bool) (block : ℕ) (inside : block < length marks) where
     | inl e ↦ inr e
     | inr e ↦ inl (sym (others_same b e) ∙ is)
   ]
-
-  -- one block
-  pub adds_one : Adds (λ b. b ≡ block) marks (set marks block true)
-  adds_one = record {
-    size = length-set marks block true;
-    kept = still_marked;
-    added = λ b l e. ap (mark_at (set marks block true)) e ∙ now_marked;
-    only = marked_before;
-  }
 
 -- no block has the property
 pub adds_none : (P : ℕ → Type 0) (marks : List Bool) → ((b : ℕ) → b < length marks → ¬ P b) → Adds P marks marks
@@ -100,17 +91,3 @@ module _ {X : Type 0} (P : X → ℕ → Type 0) where
 -- one of the first bitmap blocks
 abbrev pub IsPageBelow : List ℕ → ℕ → ℕ → Type 0
 IsPageBelow image n block = (p : ℕ) × (p < n) × (page_block image p ≡ block)
-
-pub page_more : (image : List ℕ) (n page : ℕ) (old mid new : List Bool) → page ≡ page_block image n → Adds (IsPageBelow image n) old mid → Adds (λ b. b ≡ page) mid new → Adds (IsPageBelow image (n + 1)) old new
-page_more image n page old mid new is a c =
-    adds_as (λ b. IsPageBelow image n b ⊎ (b ≡ page)) (IsPageBelow image (n + 1)) old new there back (adds_both (IsPageBelow image n) (λ b. b ≡ page) old mid new a c)
-  where
-    there : (b : ℕ) → IsPageBelow image n b ⊎ (b ≡ page) → IsPageBelow image (n + 1) b
-    there b (inl (p, l, e)) = (p, omega (arith, l), e)
-    there b (inr e) = (n, omega arith, sym (e ∙ is))
-
-    back : (b : ℕ) → IsPageBelow image (n + 1) b → IsPageBelow image n b ⊎ (b ≡ page)
-    back b (p, l, e) = elim (cases_eq p n) [
-      | inl same ↦ inr (sym e ∙ ap (page_block image) same ∙ sym is)
-      | inr other ↦ inl (p, omega (arith, l, other), e)
-    ]

@@ -85,14 +85,6 @@ module _ (image : List ℕ) (file : ℕ) where
       (adds_both (IsOfFile image file i) (λ b. b ≡ pointer_block image file (i / 72)) old mid between a (subst (λ (n : ℕ). Adds (λ b. b ≡ n) mid between) h p))
       (subst (λ (n : ℕ). Adds (λ b. b ≡ n) between new) d q))
 
-  -- at first only the header is
-  pub file_none : (old new : List Bool) → Adds (λ b. b ≡ file) old new → Adds (IsOfFile image file 0) old new
-  file_none old new a = adds_as (λ b. b ≡ file) (IsOfFile image file 0) old new (λ b e. inl e) (λ b h. only b h) a
-    where
-      only : (b : ℕ) → IsOfFile image file 0 b → b ≡ file
-      only b (inl e) = e
-      only b (inr d) = absurd (omega (arith, d.below))
-
   -- at last all blocks are
   pub file_all : (n : ℕ) (old new : List Bool) → n ≡ length (data_blocks image file) → Adds (IsOfFile image file n) old new → Adds (Names image file) old new
   file_all n old new e a =

@@ -1,5 +1,5 @@
 -- The lists of places of the blocks that are asked for, each found one by one.
-use Rattle.std.proofs.Common.{◌≡◌, ◌≢◌, ℕ, ◌+◌, ◌*◌, ◌<◌, ◌≤◌, inl, inr, Option, Result, Ok, Err, Some, None, List, [], ◌∷◌, ◌++◌, length, get_or, set, take, All, Contains, Vec, Global, sym, ap, ◌∙◌, subst, refl, arith, get_or-set_other, get_or-set_same, length-set}
+use Rattle.std.proofs.Common.{◌≡◌, ◌≢◌, ℕ, ◌+◌, ◌*◌, ◌<◌, ◌≤◌, inl, inr, Option, Result, Ok, Err, List, [], ◌∷◌, ◌++◌, length, get_or, set, take, All, Contains, Vec, Global, sym, ap, ◌∙◌, subst, arith, get_or-set_other, get_or-set_same, length-set}
 use Rattle.std.specs.Option.{MatchOption}
 use Rattle.std.specs.Result.{MatchResult, result_ok}
 use Rattle.std.specs.List.{AllZip}

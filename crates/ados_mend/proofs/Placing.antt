@@ -1,5 +1,5 @@
 -- The places that name a block, found one by one.
-use Rattle.std.proofs.Common.{◌≡◌, ◌≢◌, ℕ, ◌+◌, ◌*◌, ◌<◌, ◌≤◌, inl, inr, Bool, true, false, MatchBool, List, [], ◌∷◌, ◌++◌, All, AllPairs, Contains, refl, sym, ap, ◌∙◌, subst, arith}
+use Rattle.std.proofs.Common.{◌≡◌, ◌≢◌, ℕ, ◌+◌, ◌*◌, ◌<◌, ◌≤◌, inl, inr, Bool, true, false, MatchBool, List, [], ◌∷◌, ◌++◌, Contains, refl, sym, ap, ◌∙◌, subst, arith}
 use Rattle.std.specs.Prelude.{◌==◌, if◌then◌else◌}
 use Rattle.std.proofs.lemmas.Bool.{cases_lt}
 use Rattle.std.proofs.lemmas.List.Elements.{All-push, Contains-append_left, Contains-push}
@@ -14,10 +14,10 @@ use Rattle.ados_model.specs.Faults.IsPlace.{root_page, root_slot, directory_slot
 use Rattle.ados_mend.specs.declared.naming.Naming.{Naming}
 use Rattle.ados_mend.specs.declared.naming.Naming.TheVariants.{Entry, NextEntry, Extension, Data, Page}
 use Rattle.ados_mend.specs.declared.naming.Place.{Place}
-use Rattle.ados_mend.specs.Places.{AreAllPlaces, Gives, IsPlaceOfReached, NamesBlock, naming_of, position, rank}
-use Rattle.ados_mend.specs.steps.Accounting.{IsMarked, mark_at}
+use Rattle.ados_mend.specs.Places.{AreAllPlaces, Gives, IsPlaceOfReached, NamesBlock, position, rank}
+use Rattle.ados_mend.specs.steps.Accounting.{mark_at}
 use Rattle.ados_mend.specs.steps.Placing.{ArePlacesBelow, IsGivenIn}
-use Rattle.ados_mend.specs.steps.Reaching.{AreCells, cell, form}
+use Rattle.ados_mend.specs.steps.Reaching.{AreCells, form}
 use Rattle.ados_mend.proofs.Reaching.{few_pages, form_small, same_place}
 
 -- ---- the order of places
@@ -81,13 +81,6 @@ module _ (image : List ℕ) where
         absurd (cc both)
 
     module _ (place : Place) (k : ℕ) where
-      -- a cell that is not marked
-      pub not_given : mark_at cells (4 * place.holder + k) ≡ false → ¬ IsGivenIn image place k
-      not_given free g =
-          let marked : mark_at cells (4 * place.holder + k) ≡ true = subst (λ (f : ℕ). mark_at cells (4 * place.holder + f) ≡ true) g.of_form (a.all place.holder g.role g.reached) in
-          let both : true ≡ false = sym marked ∙ free in
-          absurd (cc both)
-
       -- a marked cell
       pub given_in : k < 4 → mark_at cells (4 * place.holder + k) ≡ true → (role : Role) → form role ≡ k → (r : Bool) → MatchBool r (Gives image place role) (¬ Gives image place role)
           → MatchBool r (IsGivenIn image place k) (¬ IsGivenIn image place k)

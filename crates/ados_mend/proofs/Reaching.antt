@@ -1,9 +1,8 @@
 -- Reached blocks while a walk finds them, and that it finds all.
-use Rattle.std.proofs.Common.{◌≡◌, ℕ, ◌+◌, ◌*◌, ◌-◌, ◌<◌, ◌≤◌, inl, inr, Bool, true, false, List, [], ◌∷◌, ◌++◌, length, get_or, Some, set, length-set, refl, sym, ap, ap₂, ◌∙◌, subst, arith}
-use Rattle.std.specs.List.{All, slice_get}
+use Rattle.std.proofs.Common.{◌≡◌, ℕ, ◌+◌, ◌*◌, ◌-◌, ◌<◌, ◌≤◌, inl, inr, Bool, true, false, List, [], ◌∷◌, ◌++◌, length, get_or, Some, set, refl, sym, ap, ap₂, ◌∙◌, subst, arith}
+use Rattle.std.specs.List.{slice_get}
 use Rattle.std.proofs.lemmas.Bool.{cases_lt}
 use Rattle.std.proofs.lemmas.List.{length_push, get_or_push, get_or_append_left}
-use Rattle.std.proofs.lemmas.List.Elements.{All-push}
 use Rattle.std.proofs.lemmas.Option.{same_Some, slice_get-get_or, slice_get_within}
 use Rattle.adf_block.specs.declared.layout.TheConstants.{FIRST_PAGE, FIRST_POINTER, FIRST_SLOT, NEXT_EXTENSION, NEXT_IN_CHAIN}
 use Rattle.adf_block.specs.Image.{block_count, long, page_count}
@@ -21,7 +20,7 @@ use Rattle.ados_mend.specs.declared.reached.Walk.{Walk}
 use Rattle.ados_mend.specs.Places.{naming_of}
 use Rattle.ados_mend.specs.steps.Accounting.{IsMarked, mark_at, unmarked}
 use Rattle.ados_mend.specs.steps.Reaching.{AreCells, AreKept, AreVisited, AreWalked, IsPassed, IsStep, cell, form}
-use Rattle.ados_mend.proofs.Marking.{marked_before, still_marked}
+use Rattle.ados_mend.proofs.Marking.{still_marked}
 use Rattle.ados_mend.proofs.Walking.{fewer_unmarked}
 
 -- ---- the forms of roles
@@ -97,28 +96,6 @@ pushed_stays steps step k l =
 pushed_there : (steps : List Step) (step : Step) → slice_get (steps ++ step ∷ []) (length steps) ≡ Some step
 pushed_there steps step =
     slice_get-get_or (steps ++ step ∷ []) (length steps) step (omega (arith, length_push steps step)) ∙ ap (λ (s : Step). Some s) (get_or_push steps step step (length steps) refl)
-
-pub none_walked : (image : List ℕ) (cells : List Bool) (steps : List Step) → IsImage image → length cells ≡ 4 * block_count image → ((c : ℕ) → ¬ IsMarked cells c) → steps ≡ [] → AreWalked image cells steps
-none_walked image cells steps im size none is = record {
-  whole = im;
-  size = size;
-  reached = subst (All (IsStep image)) (sym is) (λ k d l. absurd (omega (arith, l)));
-  listed = λ c marked. absurd (none c marked);
-}
-
-module _ (image : List ℕ) (step : Step) (c : ℕ) (is : cell step.block step.role ≡ c) where
-  pub walked_more : (cells : List Bool) (steps more : List Step) → AreWalked image cells steps → IsStep image step → c < length cells → more ≡ steps ++ step ∷ [] → AreWalked image (set cells c true) more
-  walked_more cells steps more w new within e = subst (AreWalked image (set cells c true)) (sym e) (record {
-    whole = w.whole;
-    size = length-set cells c true ∙ w.size;
-    reached = All-push (IsStep image) steps step w.reached new;
-    listed = λ d marked. elim (marked_before cells c within d marked) [
-      | inl before ↦
-          (let has = w.listed d before in
-          record { k = has.k; step = has.step; at = pushed_stays steps step has.k (slice_get_within steps has.k has.step has.at) ∙ has.at; is = has.is })
-      | inr here ↦ record { k = length steps; step = step; at = pushed_there steps step; is = is ∙ sym here }
-    ];
-  })
 
 -- ---- a walk that goes on
 
@@ -200,13 +177,6 @@ module _ (image : List ℕ) (cells : List Bool) (steps : List Step) (n : ℕ) (w
 
 -- the cells of a block
 module _ (image : List ℕ) (cells : List Bool) (block : ℕ) (a : AreCells image cells) where
-  pub reached_at : (k : ℕ) → k < 4 → IsMarked cells (4 * block + k) → IsReached image block
-  reached_at k few marked =
-      let of = a.only (4 * block + k) marked in
-      let small = form_small of.role in
-      let same : of.block ≡ block = omega (arith, of.is, small, few) in
-      (of.role, subst (λ (b : ℕ). Reached image b of.role) same of.reached)
-
   pub unreached_at : ((k : ℕ) → k < 4 → mark_at cells (4 * block + k) ≡ false) → ¬ IsReached image block
   unreached_at none (role, reached) =
       let both : true ≡ false = sym (a.all block role reached) ∙ none (form role) (form_small role) in

@@ -1,5 +1,5 @@
 -- The extension blocks of a file while they are marked, one by one.
-use Rattle.std.proofs.Common.{◌≡◌, ℕ, zero, suc, ◌<◌, ◌⊎◌, inl, inr, Bool, true, false, List, [], ◌∷◌, length, length-set, refl, sym, ap, ◌∙◌, subst, arith}
+use Rattle.std.proofs.Common.{◌≡◌, ℕ, zero, suc, ◌<◌, ◌⊎◌, inl, inr, Bool, true, false, List, [], ◌∷◌, length, length-set, sym, ap, ◌∙◌, subst, arith}
 use Rattle.std.proofs.Math.ListN.{set}
 use Rattle.adf_block.specs.Image.{block_count}
 use Rattle.adf_block.specs.Fields.{parent_key}
@@ -28,17 +28,6 @@ pub record Walks (image : List ℕ) (file : ℕ) (old marks : List Bool) (holder
   pub here : (holder ≡ file) ⊎ HasExtensionBlock image file holder
   pub head : (holder ≡ file) ⊎ AreMarkedAfter image marks file file
   pub closed : (block : ℕ) → IsMarked marks block → ((block ≡ holder) × (parent_key image block ≡ file)) ⊎ AreMarkedAfter image marks (parent_key image block) block
-
-pub walk_starts : (image : List ℕ) (file : ℕ) (marks : List Bool) → InImage image file → AreClosed image marks → Walks image file marks marks file
-walk_starts image file marks inside closed = record {
-  size = closed.size;
-  inside = inside.1;
-  kept = λ block is. is;
-  only = λ block is. inl is;
-  here = inl refl;
-  head = inl refl;
-  closed = λ block is. inr (closed.next block is);
-}
 
 module _ (image : List ℕ) (file : ℕ) (inside : InImage image file) (old marks : List Bool) (holder : ℕ) (w : Walks image file old marks holder) where
   -- one step

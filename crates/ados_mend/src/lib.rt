@@ -11,6 +11,7 @@ mod caution;
 mod laws;
 mod mendable;
 mod old_bitmap;
+mod rebuilt;
 mod settled;
 
 // What changes, and what may be lost.

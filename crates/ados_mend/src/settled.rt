@@ -1,12 +1,16 @@
 //! The image that the check mends, and the mended one.
-ghost use Rattle.std.specs.Prelude.{MatchResult, Bool};
+ghost use Rattle.std.specs.Prelude.{◌≡◌, MatchResult, Bool};
 ghost use Rattle.adf_block.specs.Frame.{SameBut};
+ghost use Rattle.adf_block.specs.Image.{block_sum};
+ghost use Rattle.adf_block.specs.Whole.{IsImage};
 ghost use Rattle.ados_map.specs.Changes.{InPages};
-ghost use Rattle.ados_map.specs.Pages.{LawfulPages};
-ghost use Rattle.ados_mend.specs.Answer.{IsReason};
+ghost use Rattle.ados_map.specs.Pages.{LawfulPages, pages_of};
+ghost use Rattle.ados_mend.specs.Answer.{IsReason, IsSettled};
 ghost use Rattle.ados_mend.specs.Mendable.{ShowsOnlyMendable};
 ghost use Rattle.ados_mend.specs.Validated.{IsValidated};
-ghost use Rattle.ados_mend.specs.steps.Settled.{IsSettled};
+ghost use Rattle.ados_mend.specs.steps.Settled.{HaveSums, IsRootMark};
+ghost use Rattle.ados_model.specs.Faults.{root_of};
+ghost use Rattle.ados_model.specs.Rebuilt.{HasValidBitmap};
 
 use crate::answer::NotValidated;
 use crate::laws::lawful_pages;
@@ -40,8 +44,18 @@ fn settle(image: &mut Image)
     requires { LawfulPages image.old }
     ensures { IsSettled image.old image.new }
 {
-    prove!(image.blocks() >= 16);
     settle_pages(image);
+    set_not_valid(image);
+}
+
+/// Marks the bitmap as not valid.
+pub(crate) fn set_not_valid(image: &mut Image)
+    ensures not_valid { ¬ HasValidBitmap image.new }
+    ensures sum { block_sum image.new (root_of image.old) ≡ 0 }
+    ensures rest { SameBut (IsRootMark image.old) image.old image.new }
+    ensures image { IsImage image.new }
+{
+    prove!(image.blocks() >= 16);
     let root = image.root();
     image.set_long(root, BITMAP_FLAG, NOT_VALID);
     image.settle(root, CHECKSUM);
@@ -50,7 +64,8 @@ fn settle(image: &mut Image)
 /// Makes the checksums of the bitmap blocks right.
 fn settle_pages(image: &mut Image)
     requires { LawfulPages image.old }
-    ensures { SameBut (InPages image.old) image.old image.new }
+    ensures rest { SameBut (InPages image.old) image.old image.new }
+    ensures sums { HaveSums image.old image.new (pages_of image.old) }
 {
     prove!(image.blocks() <= MOST_BLOCKS);
     let root = image.root();

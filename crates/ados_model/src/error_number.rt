@@ -1,8 +1,9 @@
-//! The numbers of the errors.
+//! The numbers of the errors, and the errors of paths that lead nowhere.
 ghost use Rattle.std.specs.Prelude.{◌≡◌, pos};
 ghost use Rattle.ados_model.specs.Packet.{error_number};
+ghost use Rattle.ados_model.specs.Objects.{place_error, walk_error};
 
-use crate::dos_error::DosError;
+use crate::dos_error::{DosError, PlaceFault, WalkFault};
 
 impl DosError {
     /// The number of the error: the second result of an answer.
@@ -29,6 +30,33 @@ impl DosError {
             DosError::ReadProtected => 224,
             DosError::NotADosDisk => 225,
             DosError::NoMoreEntries => 232,
+        }
+    }
+}
+
+impl WalkFault {
+    /// The DOS error of a walk that finds no object.
+    pub fn error(self) -> DosError
+        ensures { result ≡ walk_error self }
+    {
+        match self {
+            WalkFault::DirectoryNotFound => DosError::DirectoryNotFound,
+            WalkFault::ObjectNotFound => DosError::ObjectNotFound,
+            WalkFault::WrongType => DosError::ObjectWrongType,
+        }
+    }
+}
+
+impl PlaceFault {
+    /// The DOS error of a path without a place.
+    pub fn error(self) -> DosError
+        ensures { result ≡ place_error self }
+    {
+        match self {
+            PlaceFault::DirectoryNotFound => DosError::DirectoryNotFound,
+            PlaceFault::ObjectNotFound => DosError::ObjectNotFound,
+            PlaceFault::WrongType => DosError::ObjectWrongType,
+            PlaceFault::InvalidName => DosError::InvalidComponentName,
         }
     }
 }

@@ -11,7 +11,7 @@ mod stamp;
 
 pub use comment::{Comment, CommentTooLong};
 pub use name::{Name, same_name_same_slot, upper};
-pub use path::{PathSteps, PathText, PathTooLong, Step};
+pub use path::{PathSteps, PathText, PathTooLong, Step, from_root, split_last};
 pub use protect::Protect;
 pub use stamp::Date3;
 

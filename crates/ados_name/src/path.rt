@@ -58,7 +58,7 @@ impl PathText {
     pub fn from_root(&self) -> bool
         ensures { result ≡ is_from_root self.now }
     {
-        self.bytes().find_byte(b':').is_some()
+        from_root(self.bytes())
     }
 
     /// The steps of the whole path. An empty component before a `/` is a step to the parent.
@@ -75,11 +75,26 @@ impl PathText {
         ensures last { result.1.now ≡ last_name self.now }
         ensures plain { list_any is_separator (last_name self.now) ≡ false }
     {
-        let bytes = self.bytes();
-        match bytes.rfind_byteset(b"/:") {
-            Some(at) => bytes.split_at(at + 1),
-            None => bytes.split_at(0),
-        }
+        split_last(self.bytes())
+    }
+}
+
+/// Whether a path starts at the root, as [`PathText::from_root`] for a path of any length.
+pub fn from_root(path: &[u8]) -> bool
+    ensures { result ≡ is_from_root path.now }
+{
+    path.find_byte(b':').is_some()
+}
+
+/// A path without its last name, and that name, as [`PathText::split_last`] for a path of any length.
+pub fn split_last(path: &[u8]) -> (&[u8], &[u8])
+    ensures front { result.0.now ≡ front path.now }
+    ensures last { result.1.now ≡ last_name path.now }
+    ensures plain { list_any is_separator (last_name path.now) ≡ false }
+{
+    match path.rfind_byteset(b"/:") {
+        Some(at) => path.split_at(at + 1),
+        None => path.split_at(0),
     }
 }
 

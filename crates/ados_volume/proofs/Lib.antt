@@ -26,6 +26,9 @@ pub mod AllBelow
 pub mod PathWalks
 pub mod Taking
 pub mod WholeFile
-pub mod LastName
 pub mod Owning
 pub mod OwningFiles
+pub mod Climbing
+pub mod Under
+pub mod Refusing
+pub mod FreeBlock

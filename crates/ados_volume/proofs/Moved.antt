@@ -1,5 +1,5 @@
 -- Cached children after an entry is made, removed or moved.
-use Rattle.std.proofs.Common.{◌≡◌, ◌≢◌, ℕ, inl, inr, List, [], filter, not, ◌==◌, Contains, Option, Some, None, IsSome, option_map, refl, sym, ap, ◌∙◌, subst}
+use Rattle.std.proofs.Common.{◌≡◌, ◌≢◌, ℕ, inl, inr, List, [], filter, not, ◌==◌, Contains, Option, Some, None, IsSome, is_some, option_map, refl, sym, ap, ◌∙◌, subst}
 use Rattle.std.specs.Option.{option_map_or}
 use Rattle.std.proofs.lemmas.Bool.{cases_eq}
 use Rattle.ados_model.proofs.KeyLists.{Contains-nil}
@@ -16,7 +16,6 @@ use Rattle.ados_change.proofs.Changed.{nodes_other, changed_keeps, listed_names,
 use Rattle.ados_change.proofs.Entering.{Contains-enter_kept, Contains-stays}
 use Rattle.ados_volume.specs.declared.cache.Sought.{Sought}
 use Rattle.ados_volume.specs.steps.Cache.{AreChildren, Forgets}
-use Rattle.ados_volume.proofs.Walking.{has_node}
 use Rattle.ados_volume.proofs.Children.{Stays, AllStay, child_there, carried}
 
 stays_on : (t u v : Tree) (dir k : ℕ) → Stays t u dir k → Stays u v dir k → Stays t v dir k
@@ -120,7 +119,7 @@ module _ (image : List ℕ) (t : Tree) (s : Stands image t) (key : ℕ) where
       absurd (cc both)
 
   pub has_parent : (dir : ℕ) → parent_of t key ≡ Some dir → IsSome (t.nodes key)
-  has_parent dir e = let n = parent_in (t.nodes key) dir e in has_node image t s key n.0 n.1
+  has_parent dir e = let n = parent_in (t.nodes key) dir e in ap is_some n.1
 
 -- if the object was removed from the cache and each other entry stays, the remaining pairs are children
 pub forgotten_carried : (old new : List ℕ) (t u : Tree) (s : Stands old t) (r : Stands new u) (key : ℕ) (old_pairs pairs : List (Sought × ℕ)) → AreChildren old old_pairs → Forgets old key old_pairs pairs

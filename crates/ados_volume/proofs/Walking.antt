@@ -1,11 +1,15 @@
 -- Steps from node to node.
-use Rattle.std.proofs.Common.{◌≡◌, ◌≢◌, ℕ, inl, inr, Bool, true, false, List, [], ◌∷◌, find, Contains, Some, None, IsSome, refl, sym, ap, ◌∙◌, subst}
+use Rattle.std.proofs.Common.{◌≡◌, ◌≢◌, ℕ, inl, inr, Bool, true, false, cond, List, [], ◌∷◌, find, Contains, Option, Some, None, IsSome, is_some, Ok, Err, refl, sym, ap, ◌∙◌, subst}
+use Rattle.std.specs.Prelude.{ok_or}
 use Rattle.adf_block.specs.Image.{long, block_count, root_key}
-use Rattle.ados_name.specs.Name.{IsName, Same}
+use Rattle.ados_name.specs.Name.{IsName, Same, Step}
+use Rattle.ados_name.specs.Name.Step.{ToParent, ToChild}
 use Rattle.ados_model.proofs.KeyLists.{Contains-here, Contains-later}
-use Rattle.ados_model.specs.Tree.{Node, Tree, entries, name_of, parent_of}
+use Rattle.ados_model.specs.Tree.{Tree, Proper, entries, name_of, parent_of}
 use Rattle.ados_model.specs.Stands.{Stands}
-use Rattle.ados_model.specs.Change.{child_of}
+use Rattle.ados_model.specs.Change.{child_of, is_file, step_from}
+use Rattle.ados_model.specs.declared.dos_error.WalkFault.{WalkFault}
+use Rattle.ados_model.specs.declared.dos_error.WalkFault.TheVariants.{ObjectNotFound, WrongType}
 use Rattle.ados_model.proofs.Nodes.{some_in, entry_node, directory_node, root_or_parent}
 use Rattle.ados_model.proofs.Standing.{root_is}
 use Rattle.ados_volume.proofs.Looking.{no_child}
@@ -19,18 +23,27 @@ find-is p (y ∷ ys) x e = go (p y) refl (λ m. find-is p ys x m)
     go true h rest = let same : y ≡ x = let first : Some y ≡ Some x = sym (rw h refl) ∙ e in cc first in (subst (Contains (y ∷ ys)) same (Contains-here y ys), sym (ap p same) ∙ h)
     go false h rest = let later = rest (sym (rw h refl) ∙ e) in (Contains-later y ys x later.0, later.1)
 
+ok_or_some : {E : Type 0} (o : Option ℕ) (fault : E) (key : ℕ) → ok_or o fault ≡ Ok key → o ≡ Some key
+ok_or_some None fault key e = absurd (cc e)
+ok_or_some (Some x) fault key e = cc e
+
+-- a child is a node, a parent is a node, and a step leads to a node
+module _ (t : Tree) (proper : Proper t) where
+  pub child_is_key : (dir : ℕ) (name : List ℕ) (key : ℕ) → child_of t dir name ≡ Some key → IsSome (t.nodes key)
+  child_is_key dir name key e = ap is_some (entry_node t proper dir key (find-is _ (entries t dir) key e).0).1
+
+  pub parent_is_key : (key dir : ℕ) → parent_of t key ≡ Some dir → IsSome (t.nodes dir)
+  parent_is_key key dir e = ap is_some (directory_node t proper dir key ((proper.listed dir key).1 e)).2
+
+  pub step_key : (at : ℕ) (step : Step) (missing : WalkFault) (key : ℕ) → step_from t at step missing ≡ Ok key → IsSome (t.nodes key)
+  step_key at ToParent missing key e = parent_is_key at key (ok_or_some (parent_of t at) ObjectNotFound key e)
+  step_key at (ToChild name) missing key e = go (is_file t at) e
+    where
+      go : (b : Bool) → cond b (Err WrongType) (ok_or (child_of t at name) missing) ≡ Ok key → IsSome (t.nodes key)
+      go true e = absurd (cc e)
+      go false e = child_is_key at name key (ok_or_some (child_of t at name) missing key e)
+
 module _ (image : List ℕ) (t : Tree) (s : Stands image t) where
-  pub has_node : (key : ℕ) (node : Node) → t.nodes key ≡ Some node → IsSome (t.nodes key)
-  has_node key node e = rw e refl
-
-  -- a child is a node
-  pub child_node : (dir key : ℕ) (name : List ℕ) → child_of t dir name ≡ Some key → IsSome (t.nodes key)
-  child_node dir key name e = let n = entry_node t s.proper dir key (find-is _ (entries t dir) key e).0 in has_node key n.0 n.1
-
-  -- a parent is a node
-  pub parent_node : (key dir : ℕ) → parent_of t key ≡ Some dir → IsSome (t.nodes dir)
-  parent_node key dir e = let n = directory_node t s.proper dir key ((s.proper.listed dir key).1 e) in has_node dir n.0 n.2
-
   -- the parent of an entry is in its parent long
   pub parent_is : (key v : ℕ) → IsSome (t.nodes key) → key ≢ root_key (block_count image) → v ≡ long image key 125 → Some v ≡ parent_of t key
   parent_is key v h other e =

@@ -5,6 +5,7 @@ pub use Rattle.ados_model.specs.Objects
 pub use Rattle.ados_model.specs.Reads
 pub mod Order
 pub mod Refused
+pub mod Refusals
 pub mod Located
 pub mod Below
 pub mod Paths

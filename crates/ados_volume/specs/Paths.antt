@@ -7,17 +7,21 @@ use Rattle.ados_model.specs.declared.dos_error.WalkFault.{WalkFault}
 use Rattle.ados_model.specs.Objects.{walk_error}
 use Rattle.ados_volume.specs.declared.paths.Stopped.{Stopped}
 
--- the first steps of the path lead from the root to this object; the next step fails there, and so does the whole
--- walk, with this error
-pub record StopsAt (t : Tree) (path : List ℕ) (last : WalkFault) (stopped : Stopped) : Type 0 where
+-- the first of these steps lead from the start to this object; the next step fails there, and so does the whole walk,
+-- with this fault
+pub record FailsAt (t : Tree) (start : ℕ) (all : List Step) (last : WalkFault) (at : ℕ) (fault : WalkFault) : Type 0 where
   pub done : List Step
   pub step : Step
   pub rest : List Step
-  pub spelled : steps path ≡ done ++ step ∷ rest
-  pub reached : walk_steps t (root t) done last ≡ Ok stopped.at
+  pub spelled : all ≡ done ++ step ∷ rest
+  pub reached : walk_steps t start done last ≡ Ok at
+  pub fails : step_from t at step (missing_before rest last) ≡ Err fault
+  pub walked : walk_steps t start all last ≡ Err fault
+
+-- the walk of the path from the root stops at this object, with this error
+pub record StopsAt (t : Tree) (path : List ℕ) (last : WalkFault) (stopped : Stopped) : Type 0 where
   pub fault : WalkFault
-  pub fails : step_from t stopped.at step (missing_before rest last) ≡ Err fault
-  pub walked : walk_steps t (root t) (steps path) last ≡ Err fault
+  pub fails : FailsAt t (root t) (steps path) last stopped.at fault
   pub error : stopped.error ≡ walk_error fault
 
 -- where the path leads, or where it stops; a missing child at the last step is the fault `last`

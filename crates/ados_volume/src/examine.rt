@@ -8,7 +8,7 @@ ghost use Rattle.ados_model.specs.Tree.{Node, Tree, cost_in};
 ghost use Rattle.ados_model.specs.Parts.{size_in};
 ghost use Rattle.ados_model.specs.Stands.{Stands};
 ghost use Rattle.ados_model.specs.Keys.{HasKey, HasTree};
-ghost use Rattle.ados_model.specs.Objects.{entry_type, file_info};
+ghost use Rattle.ados_model.specs.Objects.{entry_type, file_info, protection_of};
 
 use crate::look::is_file_in;
 use crate::volume::Volume;
@@ -38,7 +38,7 @@ impl Volume {
     /// The protection bits of an object, as in `examine`; 0 for the root.
     pub fn protection(&self, key: u32) -> Protect
         requires { HasKey self.now.image key }
-        ensures { (t : Tree) (node : Node) → Stands self.now.image t → t.nodes key ≡ Some node → result.0 ≡ node.protection }
+        ensures { (t : Tree) → Stands self.now.image t → result.0 ≡ protection_of t key }
     {
         protection_in(self.image(), key)
     }

@@ -1,5 +1,5 @@
--- All faults of an image with the numbers that show them, for C.
-use Rattle.std.specs.Prelude.{◌≡◌, ◌↔◌, ◌⊎◌, ⊤, ℕ, ℤ, pos, Bool, false, List, [], ◌∷◌, length, Option, Some, None}
+-- All faults of an image for C, alone and with the numbers that show them.
+use Rattle.std.specs.Prelude.{◌≡◌, ◌↔◌, ◌⊎◌, ⊤, ℕ, ℤ, pos, Bool, false, if◌then◌else◌, List, [], ◌∷◌, length, map, Option, Some, None}
 use Rattle.adf_block.specs.Size.{IsSizeFault}
 use Rattle.adf_block.specs.Whole.{IsImage}
 use Rattle.adf_block.specs.declared.volume_size.SizeFault.{SizeFault}
@@ -8,11 +8,11 @@ use Rattle.ados_faults.specs.Values.{AreValues, NoneShows}
 use Rattle.ados_faults.specs.declared.values.FaultValues.{FaultValues}
 use Rattle.ados_model.specs.Accepted.{ShowsNoFault}
 use Rattle.ados_model.specs.declared.fault.VolumeFault.{VolumeFault}
-use Rattle.c_values.specs.AllFaults.{yes_number}
 use Rattle.c_values.specs.Ends.{ComesTo}
 use Rattle.c_values.specs.Faults.{fault_number, size_fault_number}
 use Rattle.c_values.specs.Lists.{copied}
-use Rattle.c_values.specs.declared.all_faults.TheConstants.{MOST_FAULTS}
+use Rattle.c_values.specs.declared.findings.TheConstants.{MOST_FAULTS}
+use Rattle.c_values.specs.declared.faults.JipFault.{JipFault}
 use Rattle.c_values.specs.declared.findings.JipFinding.{JipFinding}
 use Rattle.c_values.specs.declared.refusal.Refusal.TheVariants.{NoMemory}
 
@@ -53,8 +53,10 @@ AreFindings image marks [] [] = ⊤
 AreFindings image marks (fault ∷ faults) (finding ∷ findings) = IsFindingOf image marks fault finding × AreFindings image marks faults findings
 AreFindings image marks _ _ = ⊥
 
--- the bytes are an image, and these are its faults in order, as in `TellsFaults`, with the longs that show them by the
--- marks of the image
+-- the bytes are an image, and these are its faults in order, none exactly if it shows none, with the longs that show them
+-- by the marks of the image; an image without faults has no more of them. Of a disk of another kind that alone is listed.
+-- Of any other each fault that it shows is listed, or there are more, exactly if it shows more; then the first ones are
+-- listed, unless it is tangled
 pub record TellsFindings (bytes : List ℕ) (told : List JipFinding) (more : Bool) : Type 0 where
   pub image : IsImage bytes
   pub faults : List VolumeFault
@@ -77,17 +79,37 @@ pub record TellsSizeFinding (bytes : List ℕ) (told : List JipFinding) (more : 
 abbrev pub AreFindingsOf : List ℕ → List JipFinding → Bool → Type 0
 AreFindingsOf bytes told more = TellsFindings bytes told more ⊎ TellsSizeFinding bytes told more
 
--- the faults are copied to the array; the count is the number of faults, with or without room for them
-pub record CopiesFindings (bytes : List ℕ) (before after : List JipFinding) (count : ℕ) (more : ℤ) : Type 0 where
-  pub told : List JipFinding
+-- the fault alone
+abbrev pub fault_in : JipFinding → JipFault
+fault_in finding = record { kind = finding.kind; block = finding.block }
+
+-- the same faults alone
+pub record AreFaultsOf (bytes : List ℕ) (told : List JipFault) (more : Bool) : Type 0 where
+  pub findings : List JipFinding
+  pub are : AreFindingsOf bytes findings more
+  pub told_are : told ≡ map fault_in findings
+
+-- the number of a yes or no
+abbrev pub yes_number : Bool → ℤ
+yes_number more = if more then pos 1 else pos 0
+
+-- the faults of the bytes are copied to the array; the count is the number of faults, with or without room for them
+pub record CopiesFaults {A : Type 0} (AreOf : List ℕ → List A → Bool → Type 0) (bytes : List ℕ) (before after : List A) (count : ℕ) (more : ℤ) : Type 0 where
+  pub told : List A
   pub is_more : Bool
-  pub are : AreFindingsOf bytes told is_more
+  pub are : AreOf bytes told is_more
   pub filled : after ≡ copied told before
   pub counted : count ≡ length told
   pub said : more ≡ yes_number is_more
 
 -- the result by the status; without memory nothing is written
-abbrev pub FindingsEnd : List ℕ → List JipFinding → List JipFinding → ℕ → ℕ → ℤ → ℤ → ℤ → Type 0
-FindingsEnd bytes before after count_before count more_before more =
-    ComesTo (CopiesFindings bytes before after count more)
+abbrev pub ListEnds : {A : Type 0} (AreOf : List ℕ → List A → Bool → Type 0) → List ℕ → List A → List A → ℕ → ℕ → ℤ → ℤ → ℤ → Type 0
+ListEnds AreOf bytes before after count_before count more_before more =
+    ComesTo (CopiesFaults AreOf bytes before after count more)
     (λ refusal. (refusal ≡ NoMemory) × (after ≡ before) × (count ≡ count_before) × (more ≡ more_before))
+
+abbrev pub CheckEnds : List ℕ → List JipFault → List JipFault → ℕ → ℕ → ℤ → ℤ → ℤ → Type 0
+CheckEnds = ListEnds AreFaultsOf
+
+abbrev pub FindingsEnd : List ℕ → List JipFinding → List JipFinding → ℕ → ℕ → ℤ → ℤ → ℤ → Type 0
+FindingsEnd = ListEnds AreFindingsOf

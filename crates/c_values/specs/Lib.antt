@@ -6,7 +6,6 @@ pub mod Buffers
 pub mod Dates
 pub mod Telling
 pub mod Faults
-pub mod AllFaults
 pub mod Findings
 pub mod Names
 pub mod Owners

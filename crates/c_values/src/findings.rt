@@ -1,9 +1,8 @@
-//! All faults of an image with the numbers that show them, for C.
+//! All faults of an image for C, alone and with the numbers that show them.
 
-ghost use Rattle.std.specs.Prelude.{◌≡◌, IfOk};
-ghost use Rattle.c_values.specs.Findings.{AreFindings, AreFindingsOf, FindingsEnd, IsFindingOf, TellsFindings, bare_finding, known_of, told_finding, wanted_of};
+ghost use Rattle.std.specs.Prelude.{◌≡◌, IfOk, map};
+ghost use Rattle.c_values.specs.Findings.{AreFindings, AreFindingsOf, CheckEnds, FindingsEnd, IsFindingOf, TellsFindings, bare_finding, fault_in, told_finding, yes_number};
 
-use crate::all_faults::{MOST_FAULTS, yes_number};
 use crate::faults::JipFault;
 use crate::lists::copy_to;
 use crate::refusal::Refusal;
@@ -11,6 +10,9 @@ use adf_block::Image;
 use ados_faults::{FaultValues, Mark, all_faults, values_of};
 use ados_model::VolumeFault;
 use std::alloc::{AllocError, Global};
+
+/// The most faults that are listed.
+pub const MOST_FAULTS: usize = 1_000;
 
 /// A fault with the long of its block that shows it.
 #[repr(C)]
@@ -27,6 +29,44 @@ pub struct JipFinding {
     pub found: u32,
     /// What it has to hold.
     pub wanted: u32,
+}
+
+/// Lists the faults of an image, by block and then by kind: the first 1,000 of them. They are written to `faults`, as
+/// many as it has room for, and `count` is how many there are. `more` is 1 if the image may have more. The status is 0,
+/// also for bytes that are no image.
+///
+/// Status 2: out of memory. Nothing is written then.
+pub fn check_image(
+    alloc: Global,
+    bytes: &[u8],
+    faults: &mut [JipFault],
+    count: &mut usize,
+    more: &mut i32,
+) -> i32
+    ensures { CheckEnds bytes.now faults.old faults.new count.old count.new more.old more.new result }
+{
+    let Ok(told) = findings_of(alloc, bytes) else {
+        return Refusal::NoMemory.number();
+    };
+    let Ok(alone) = faults_in(alloc, &told.findings) else {
+        return Refusal::NoMemory.number();
+    };
+    *count = copy_to(&alone, faults);
+    *more = yes_number(told.more);
+    0
+}
+
+/// The faults alone.
+fn faults_in(alloc: Global, findings: &[JipFinding]) -> Result<Vec<JipFault>, AllocError>
+    ensures { IfOk result (λ faults. faults.items ≡ map fault_in findings.now) }
+{
+    findings
+        .iter()
+        .map(|finding| JipFault {
+            kind: finding.kind,
+            block: finding.block,
+        })
+        .collect(alloc)
 }
 
 /// Lists the faults of an image as `check_image` does, each with the long of its block that shows it.
@@ -138,28 +178,20 @@ impl JipFinding {
         JipFinding {
             kind: shown.kind,
             block: shown.block,
-            known: known_number(values.wanted),
+            known: match values.wanted {
+                Some(_) => 2,
+                None => 1,
+            },
             at: values.long,
             found: values.found,
-            wanted: wanted_number(values.wanted),
+            wanted: values.wanted.unwrap_or(0),
         }
     }
 }
 
-fn known_number(wanted: Option<u32>) -> u32
-    ensures { result ≡ known_of wanted }
+/// 1 for yes, 0 for no.
+fn yes_number(more: bool) -> i32
+    ensures { result ≡ yes_number more }
 {
-    match wanted {
-        Some(_) => 2,
-        None => 1,
-    }
-}
-
-fn wanted_number(wanted: Option<u32>) -> u32
-    ensures { result ≡ wanted_of wanted }
-{
-    match wanted {
-        Some(wanted) => wanted,
-        None => 0,
-    }
+    if more { 1 } else { 0 }
 }

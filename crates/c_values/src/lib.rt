@@ -3,7 +3,6 @@
 //! The exports of `adf_c` are thin layers over these functions. No handle is needed here, and no raw pointer.
 #![tactic(auto)]
 
-mod all_faults;
 mod answer;
 mod buffers;
 mod date;
@@ -17,13 +16,12 @@ mod owners;
 mod refusal;
 mod salvaged;
 
-pub use all_faults::{MOST_FAULTS, check_image};
 pub use answer::{JipAnswer, JipDisk, JipEntry};
 pub use buffers::put;
 pub use date::JipDate;
 pub use dates::{date_of_text, date_of_time, text_of_date, time_of_date};
 pub use faults::JipFault;
-pub use findings::{JipFinding, find_values};
+pub use findings::{JipFinding, MOST_FAULTS, check_image, find_values};
 pub use lists::copy_to;
 pub use names::{
     bytes_of_letters, host_of_name, is_name, letters_of_bytes, letters_of_protection, name_of_host,

@@ -1,4 +1,2 @@
--- Lemmas on the ends of a port in one value, on the hash chains of a directory, and on an entry that moves.
+-- Lemmas on the ends of a port in one value.
 pub mod CaseEnds
-pub mod CaseChains
-pub mod CaseEntries

@@ -2,15 +2,16 @@
 
 ghost use Rattle.std.specs.Prelude.{◌≡◌, IfSome, IsTrue, length};
 ghost use Rattle.ados_model.specs.File.{LawfulFile, contents};
+ghost use Rattle.ados_model.specs.Keys.{HasFileKey};
 ghost use Rattle.ados_data.specs.Changing.{HasFree, WritableFile};
 
 use crate::drawn::{checked, drawn};
 use crate::fixtures::FLOPPY;
-use crate::on_volume::file;
-use crate::rows::{cut, expect_rows, holds, long_of, parts};
+use crate::rows::holds;
 use adf_block::Image;
 use ados_data::{blocks_of, extend, format_of, read_at, write_at};
 use ados_map::count_free;
+use ados_name::PathText;
 use ados_volume::Volume;
 use std::alloc::Global;
 use std::process::Abort;
@@ -100,92 +101,74 @@ fn extend_to(image: &mut Image, file: u32, size: u32)
     }
 }
 
-/// Whether the bytes from this position on are the expected ones; `.` is a byte outside the file.
-fn reads(image: &Image, file: u32, pos: u32, wanted: &[u8]) -> bool
+/// Whether so many of four bytes are read from this position on, and these are the four then; `.` is one that stays.
+fn reads(image: &Image, file: u32, pos: u32, count: usize, wanted: &[u8; 4]) -> bool
     requires { LawfulFile image.now file }
 {
     let mut bytes = *b"....";
-    let count = read_at(image, file, pos as u64, &mut bytes);
-    bytes.as_slice() == wanted && bytes.iter().filter(|byte| **byte != b'.').count() == count
+    read_at(image, file, pos as u64, &mut bytes) == count && bytes == *wanted
 }
 
-/// Changes a file by a call.
-fn change(image: &mut Image, file: u32, word: &str, number: u32, bytes: &[u8])
-    requires { WritableFile image.old file }
-    ensures { WritableFile image.new file }
+/// The file `f` in the root.
+fn file(rt: &impl Abort, volume: &mut Volume) -> u32
+    ensures { HasFileKey volume.new.image result }
 {
-    if word == "write" {
-        return write(image, file, number, bytes);
-    }
-    if word == "cut" {
-        return cut_to(image, file, number);
-    }
-    if word == "extend" {
-        extend_to(image, file, number);
-    }
-}
-
-/// Whether a call has the result that a row says: the bytes read, or the size of the file after a change.
-fn comes(image: &mut Image, file: u32, text: &str, wanted: &str) -> bool
-    requires { WritableFile image.old file }
-    ensures { WritableFile image.new file }
-{
-    let (word, rest) = cut(text);
-    let (number, bytes) = cut(rest);
-    if word == "read" {
-        return reads(image, file, long_of(number), wanted.as_bytes());
-    }
-    change(image, file, word, long_of(number), bytes.as_bytes());
-    size_of(image, file) == Some(long_of(wanted))
-}
-
-/// Each row of the file `f` in the root has the result that it says.
-fn expect_file(rt: &impl Abort, mut volume: Volume, rows: &str) {
-    let Ok(file) = file(&mut volume, "f") else {
-        panic!(rt; "no file");
+    let path = PathText::new(b"f").expect(rt, "a path");
+    let Ok(key) = volume.walk(volume.root(), &path) else {
+        panic!(rt; "no entry");
     };
-    let mut image = volume.into_image();
-    for row in rows.lines() {
-        let (text, wanted) = parts(row);
-        holds(rt, comes(&mut image, file, text, wanted), row);
-    }
+    assert!(rt; volume.is_file(key));
+    key
 }
 
-const READ: &str = "\
-read 510 = 2345
-read 598 = AB..
-read 600 = ....
-read 4294967295 = ....";
+/// No position after the end has a byte.
+fn expect_end(rt: &impl Abort, image: &Image, file: u32)
+    requires { LawfulFile image.now file }
+{
+    holds(rt, reads(image, file, 598, 2, b"AB.."), "the last bytes");
+    holds(rt, reads(image, file, 600, 0, b"...."), "the end");
+    holds(
+        rt,
+        reads(image, file, u32::MAX, 0, b"...."),
+        "far behind it",
+    );
+}
 
-/// Added bytes of a file are zeros, whatever the last block held before.
-const CHANGED: &str = "\
-cut 10 = 10
-write 0 0123456789 = 10
-write 8 abcd = 12
-read 0 = 0123
-read 7 = 7abc
-read 10 = cd..
-cut 1 = 1
-read 0 = 0...
-extend 600 = 600
-read 596 = \0\0\0\0
-read 0 = 0\0\0\0";
-
-/// The same by the volume, which also counts the bytes.
-const READ_BY_VOLUME: &str = "\
-read f 510 2345 = 4
-read f 598 AB.. = 2
-read f 600 .... = 0
-read f 18446744073709551615 .... = 0";
+/// Added bytes are zeros, whatever the last block held before.
+fn expect_changes(rt: &impl Abort, image: &mut Image, file: u32)
+    requires { WritableFile image.old file }
+{
+    write(image, file, 0, b"0123456789");
+    cut_to(image, file, 10);
+    write(image, file, 8, b"abcd");
+    holds(rt, reads(image, file, 7, 4, b"7abc"), "written");
+    holds(rt, reads(image, file, 10, 2, b"cd.."), "past the end");
+    cut_to(image, file, 1);
+    extend_to(image, file, 600);
+    holds(rt, reads(image, file, 0, 4, b"0\0\0\0"), "extended");
+    holds(rt, reads(image, file, 596, 4, b"\0\0\0\0"), "to the end");
+    holds(rt, size_of(image, file) == Some(600), "600 bytes");
+}
 
 #[test]
 fn read_at_the_end(rt: HostRuntime) {
     let mut volume = file_of_600_bytes(&rt, rt.alloc());
-    expect_rows(&rt, &mut volume, READ_BY_VOLUME);
-    expect_file(&rt, volume, READ);
+    let file = file(&rt, &mut volume);
+    let mut bytes = *b"....";
+    let count = volume.read(file, 598, &mut bytes);
+    holds(&rt, count == 2 && bytes == *b"AB..", "the last bytes");
+    holds(
+        &rt,
+        volume.read(file, u64::MAX, &mut bytes) == 0,
+        "far behind",
+    );
+    expect_end(&rt, volume.image(), file);
 }
 
 #[test]
 fn changed_file(rt: HostRuntime) {
-    expect_file(&rt, file_of_600_bytes(&rt, rt.alloc()), CHANGED);
+    let mut volume = file_of_600_bytes(&rt, rt.alloc());
+    let file = file(&rt, &mut volume);
+    let mut image = volume.into_image();
+    expect_changes(&rt, &mut image, file);
 }

@@ -1,7 +1,6 @@
-//! Cases of what only a call shows: names, the bitmap, hash chains, files, volumes, and sizes and sketches of images.
-//! Also the ends of a port, steps at an exchange, and clients on threads. Also readers and writers that fail in
-//! mid-stream, and refused growths of memory. Each public call and type is named here, so a change of the surface does
-//! not build.
+//! Cases of what only a call shows: names, sizes and sketches of images, and the calls that no packet makes. Also the
+//! ends of a port, steps at an exchange, and clients on threads. Also readers and writers that fail in mid-stream, and
+//! refused growths of memory.
 //!
 //! A case is a text, and one function runs its rows. Each test is proved too, and a text costs the prover nothing.
 #![tactic(auto)]
@@ -16,9 +15,7 @@ mod spoken;
 
 // Calls of lower crates, and the volumes that they work on.
 #[cfg(test)]
-mod bitmap;
-#[cfg(test)]
-mod chains;
+mod calls;
 #[cfg(test)]
 mod drawn;
 #[cfg(test)]
@@ -29,12 +26,6 @@ mod images;
 mod marks;
 #[cfg(test)]
 mod names;
-#[cfg(test)]
-mod on_image;
-#[cfg(test)]
-mod on_volume;
-#[cfg(test)]
-mod volumes;
 
 // A port with all its ends in one value, and what is left of it.
 #[cfg(test)]
@@ -81,7 +72,3 @@ mod streams_tests;
 mod desk;
 #[cfg(test)]
 mod growths;
-
-// The numbers of actions.
-#[cfg(test)]
-mod packets;

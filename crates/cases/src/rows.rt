@@ -60,17 +60,6 @@ fn digit_of(byte: u8) -> u32 {
     }
 }
 
-/// The result of a call: a number, or the number of a DOS error.
-pub(crate) type Came = Result<u32, u32>;
-
-/// The number that a text names, or the DOS error after `error`.
-pub(crate) fn came_of(text: &str) -> Came {
-    match cut(text) {
-        ("error", number) => Err(long_of(number)),
-        _ => Ok(long_of(text)),
-    }
-}
-
 /// The result of a turn: a word with a number and two more numbers, such as the results of a reply.
 pub(crate) type Went<'a> = (&'a str, u64, i32, i32);
 

@@ -1,10 +1,8 @@
 //! The text form of packets and answers in the cases. What goes through a port is generic in its server, so that a
 //! dropped packet is one case for the prover, and not one for each packet.
-use crate::packets::fields_of;
-use crate::rows::{count_of, cut, hexadecimal, long_of};
+use crate::rows::{cut, hexadecimal, long_of};
 use adf_script::grammar::parse;
 use ados_handler::{Answer, Body, Handler, Packet};
-use ados_model::Buffer;
 use ados_name::Name;
 use ados_port::Server;
 use ados_volume::DiskInfo;
@@ -31,9 +29,6 @@ pub(crate) struct Told {
 
 /// A server over an image, whose replies tell more.
 pub(crate) trait Telling: Spoken {
-    /// The number of fields of a packet.
-    fn fields_of(packet: &Self::Request) -> u32;
-
     fn told(reply: &Self::Reply) -> Told;
 
     /// Whether a text names what a reply carries beside its results.
@@ -43,22 +38,9 @@ pub(crate) trait Telling: Spoken {
     fn bytes(&self) -> &[u8];
 }
 
-/// A READ `HANDLE BYTES` whose buffer is filled with bytes EE.
-fn read_into_full<R: Abort>(rt: &R, alloc: Global, text: &str) -> Packet {
-    let (handle, size) = cut(text);
-    let bytes = vec![in alloc; 0xee_u8; count_of(size)].expect(rt, "error");
-    Packet::Read {
-        handle: long_of(handle),
-        buffer: Buffer::from(bytes),
-    }
-}
-
 impl Spoken for Handler {
     fn packet_of<R: Abort>(rt: &R, alloc: Global, line: &str) -> Option<Packet> {
-        match cut(line) {
-            ("full", text) => Some(read_into_full(rt, alloc, text)),
-            _ => parse(alloc, &[], line.as_bytes()).expect(rt, "error"),
-        }
+        parse(alloc, &[], line.as_bytes()).expect(rt, "error")
     }
 
     fn action_of(packet: &Packet) -> i32 {
@@ -71,10 +53,6 @@ impl Spoken for Handler {
 }
 
 impl Telling for Handler {
-    fn fields_of(packet: &Packet) -> u32 {
-        fields_of(packet)
-    }
-
     fn told(reply: &Answer) -> Told {
         Told {
             action: reply.action,

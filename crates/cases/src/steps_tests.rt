@@ -48,23 +48,6 @@ take 1 = 2 0 218
 take 1 = nothing
 put 1 diskinfo = closed 25";
 
-/// DIE waits until the lock is freed. An unknown client cannot put.
-const DIE: &str = "\
-put 1 locate 0 -2 \"\" = accepted 1
-put 1 die = accepted 2
-serve = served
-serve = served
-take 1 = 1 1 0
-take 1 = 2 0 202
-put 1 free 1 = accepted 3
-put 1 die = accepted 4
-serve = served
-serve = served
-take 1 = 3 -1 0
-take 1 = 4 -1 0
-put 2 diskinfo = closed 25
-put 3 diskinfo = no-client 25";
-
 /// Client 2 asks for a handle while client 1 holds an exclusive one. Client 1 writes, reads and ends its handle before
 /// client 2 asks again.
 const TWO_CLIENTS: &str = "\
@@ -96,24 +79,6 @@ take 2 = 2 -1 0 handle 1
 take 2 = 3 0 209
 take 2 = nothing";
 
-/// The last two bytes of ten are read into five bytes EE, so three of these stay. The next READ returns no bytes.
-const READ_INTO_FULL: &str = "\
-put 1 output 0 \"f\" = accepted 1
-serve = served
-take 1 = 1 -1 0 handle 1
-put 1 write 1 \"0123456789\" = accepted 2
-put 1 seek 1 8 -1 = accepted 3
-put 1 full 1 5 = accepted 4
-put 1 full 1 5 = accepted 5
-serve = served
-serve = served
-serve = served
-serve = served
-take 1 = 2 10 0 30313233343536373839
-take 1 = 3 10 0
-take 1 = 4 2 0 3839eeeeee
-take 1 = 5 0 0 eeeeeeeeee";
-
 const IDLE_AND_NO_CLIENT: &str = "\
 serve = idle
 take 1 = nothing
@@ -143,11 +108,6 @@ take 1 = 2 0 218
 take 2 = nothing
 take 1 = 3 0 218
 take 1 = nothing";
-
-const INFO: &str = "\
-put 1 diskinfo = accepted 1
-serve = served
-take 1 = 1 -1 0 disk 82 1758 2";
 
 /// Adds rows with the numbers from 1 on between two texts.
 fn push_numbered(rt: &impl Abort, rows: &mut String, count: u64, before: &str, behind: &str) {
@@ -193,18 +153,8 @@ fn die_then_info(rt: HostRuntime) {
 }
 
 #[test]
-fn die(rt: HostRuntime) {
-    expect(&rt, rt.alloc(), 2, DIE);
-}
-
-#[test]
 fn two_clients(rt: HostRuntime) {
     expect(&rt, rt.alloc(), 2, TWO_CLIENTS);
-}
-
-#[test]
-fn seek_and_read(rt: HostRuntime) {
-    expect(&rt, rt.alloc(), 1, READ_INTO_FULL);
 }
 
 #[test]
@@ -215,11 +165,6 @@ fn idle_and_no_client(rt: HostRuntime) {
 #[test]
 fn replies_in_order(rt: HostRuntime) {
     expect(&rt, rt.alloc(), 2, REPLIES_IN_ORDER);
-}
-
-#[test]
-fn info(rt: HostRuntime) {
-    expect(&rt, rt.alloc(), 1, INFO);
 }
 
 /// No put is refused with ample memory, however many packets wait.

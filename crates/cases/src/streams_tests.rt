@@ -1,8 +1,8 @@
 //! Rows of readers and writers that fail in mid-stream, and of their results.
 use crate::fixtures::{START, blank_handler, blank_image};
-use crate::images::size_text;
 use crate::rows::{Table, cut, expect_rows};
 use crate::streams::{Bytes, Narrow};
+use adf_block::SizeFault;
 use adf_host::read_sketch;
 use adf_io::{InputFault, LoadFault, StoreFault, load_image, store_image};
 use adf_script::{TryFault, run_script};
@@ -98,6 +98,14 @@ fn script_read(rt: &impl Abort, alloc: Global, reader: &mut Bytes, wanted: &str)
     let (word, line) = wanted.split_once(": ").unwrap_or((wanted, ""));
     let told = from_utf8(&lines).unwrap_or("no text").trim_end();
     try_text(ended) == word && told == line
+}
+
+fn size_text(fault: SizeFault) -> &'static str {
+    match fault {
+        SizeFault::NotWholeBlocks => "no whole blocks",
+        SizeFault::TooFewBlocks => "too few blocks",
+        SizeFault::TooManyBlocks => "too many blocks",
+    }
 }
 
 /// The number of blocks of an image, or why there is none.

@@ -1,5 +1,5 @@
 //! Scripts at the running handler, each client on its own thread.
-ghost use Rattle.std.specs.Prelude.{◌≡◌, ◌<◌, false, length, IfOk};
+ghost use Rattle.std.specs.Prelude.{◌≡◌, ◌<◌, false, length};
 
 use crate::desk::serve_line;
 use crate::fixtures::{START, blank_handler};
@@ -10,7 +10,7 @@ use crate::spoken::Spoken;
 use crate::staging::{Staged, stage};
 use ados_handler::Handler;
 use ados_run::ClientEnding;
-use std::alloc::{AllocError, Global};
+use std::alloc::Global;
 use std::process::Abort;
 use std::sync::Arc;
 
@@ -25,8 +25,8 @@ fn handler_with_directory<R: Abort>(rt: &R, alloc: Global) -> Handler
 
 /// The scripts of two clients. Each needs a reply of the other one before its next packet, so they cannot run one after
 /// the other.
-fn two_in_turns<R: Abort>(rt: &R, alloc: Global) -> Result<Vec<(Vec<u8>, TurnGate)>, AllocError>
-    ensures { IfOk result (λ scripts. 0 < length scripts.items) }
+fn two_in_turns<R: Abort>(rt: &R, alloc: Global) -> Vec<(Vec<u8>, TurnGate)>
+    ensures { 0 < length result.items }
 {
     let progress = Arc::new(alloc, Progress::new()).expect(rt, "error");
     let first = TurnGate {
@@ -39,7 +39,10 @@ fn two_in_turns<R: Abort>(rt: &R, alloc: Global) -> Result<Vec<(Vec<u8>, TurnGat
     };
     let a = Vec::from_slice(alloc, b"locate 0 -1 \"x\"\nfree $1\n").expect(rt, "error");
     let b = Vec::from_slice(alloc, b"locate 0 -1 \"x\"\nlocate 0 -1 \"x\"\n").expect(rt, "error");
-    Ok(vec![in alloc; (a, first), (b, second)]?)
+    let mut scripts = Vec::new(alloc);
+    scripts.push((a, first)).expect(rt, "error");
+    scripts.push((b, second)).expect(rt, "error");
+    scripts
 }
 
 /// What the clients print, each to its end.
@@ -79,8 +82,6 @@ fn expect_staged<S: Spoken + Drop, R: Abort>(rt: &R, staged: Staged<S>) {
 #[test]
 fn threads(rt: HostRuntime) {
     let server = handler_with_directory(&rt, rt.alloc());
-    let Ok(scripts) = two_in_turns(&rt, rt.alloc()) else {
-        panic!(rt; "memory");
-    };
+    let scripts = two_in_turns(&rt, rt.alloc());
     expect_staged(&rt, stage(&rt, rt.alloc(), server, START, scripts));
 }

@@ -11,7 +11,7 @@ use Rattle.ados_volume.specs.Located.{Located}
 use Rattle.adf_words.specs.declared.query.ListForm.{ListForm}
 use Rattle.adf_words.specs.declared.query.ListOrder.{ListOrder}
 use Rattle.adf_record.specs.Second.{to_second}
-use Rattle.adf_export.specs.Listing.{listing, AreEntries, IsEntry, IsLine, IsLongLine, head, shown}
+use Rattle.adf_export.specs.Listing.{listed, AreEntries, IsEntry, IsLine, IsLongLine, head, shown}
 use Rattle.adf_export.specs.steps.Levels.{IsSoFar, work}
 
 -- the text of the entry with this path is appended
@@ -36,9 +36,9 @@ Passes old new text rest = Writes old new (λ written. text ≡ written ++ rest)
 
 -- the text has what stands before the entries, and no entry is listed yet
 abbrev pub Starts : Tree → ListOrder → ℕ → ListForm → Listing → Type 0
-Starts t order dir form new =
+Starts t order key form new =
     (new.text.items ≡ head t form)
-    × IsSoFar t order dir new.levels.items new.path.items [] (listing t order dir) × (work new.levels.items (listing t order dir) < 2 * t.blocks)
+    × IsSoFar t order key new.levels.items new.path.items [] (listed t order key) × (work new.levels.items (listed t order key) < 2 * t.blocks)
 
 -- one step goes on: some entries were listed, and less is left; or nothing was left, and nothing changes
 abbrev pub GoesOn : Tree → ListOrder → ℕ → ListForm → Listing → Listing → List Located → List Located → Bool → Type 0

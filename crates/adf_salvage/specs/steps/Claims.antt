@@ -1,10 +1,9 @@
 -- The sound files that name a block, as claims.
-use Rattle.std.specs.Prelude.{◌≡◌, ◌≢◌, ℕ, ◌<◌, ◌==◌, ◌⊎◌, Bool, MatchBool, List, length, Contains, slice_index_or, if◌then◌else◌}
+use Rattle.std.specs.Prelude.{◌≡◌, ◌≢◌, ℕ, ◌<◌, ◌==◌, ◌⊎◌, List, length, Contains, slice_index_or, if◌then◌else◌}
 use Rattle.adf_block.specs.Image.{block_count}
 use Rattle.adf_salvage.specs.declared.claims.Claim.{Claim}
 use Rattle.adf_salvage.specs.declared.claims.Claim.TheVariants.{Free, One, Several}
-use Rattle.adf_salvage.specs.Sound.{IsClaimant, IsWhole, Names}
-use Rattle.adf_salvage.specs.steps.Giving.{mark_at}
+use Rattle.adf_salvage.specs.Sound.{IsClaimant, Names}
 
 -- the claim for a block
 abbrev pub claim_at : List Claim → ℕ → Claim
@@ -28,14 +27,10 @@ IsClaim out image n block Several = (one : ℕ) × (other : ℕ) × (one ≢ oth
 abbrev pub AreClaims : List ℕ → List ℕ → ℕ → List Claim → Type 0
 AreClaims out image n claims = (block : ℕ) → block < block_count image → IsClaim out image n block (claim_at claims block)
 
--- the claims are right for the sound files of the image, where some headers are left out
-abbrev pub AreSomeClaims : List ℕ → List Claim → Type 0
-AreSomeClaims image claims = (out : List ℕ) × AreClaims out image (block_count image) claims
-
--- for each block below n, whether it is the header of a whole file; there is a mark for each block of the image
-pub record AreWhole (out image : List ℕ) (n : ℕ) (whole : List Bool) : Type 0 where
-  pub size : length whole ≡ block_count image
-  pub decided : (block : ℕ) → block < n → MatchBool (mark_at whole block) (IsWhole out image block) (¬ IsWhole out image block)
+-- a claim for each block, right for all sound files of the image that are not left out
+pub record AreAllClaims (out image : List ℕ) (claims : List Claim) : Type 0 where
+  pub size : length claims ≡ block_count image
+  pub right : AreClaims out image (block_count image) claims
 
 -- the claim of a block was updated if it is one of these blocks, and is unchanged otherwise
 abbrev pub IsNoted : ℕ → List ℕ → List Claim → List Claim → ℕ → Type 0

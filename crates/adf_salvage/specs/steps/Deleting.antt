@@ -1,28 +1,18 @@
 -- What is known of an image while its deleted entries are told.
-use Rattle.std.specs.Prelude.{◌≡◌, ℕ, ◌<◌, ◌⊎◌, ◌&&◌, nat_le, nat_lt, not, Bool, true, false, List, [], length, map, All, AllPairs, Contains, Option, Some}
+use Rattle.std.specs.Prelude.{◌≡◌, ℕ, ◌⊎◌, ◌&&◌, nat_le, nat_lt, not, Bool, true, false, List, Option, Some}
 use Rattle.adf_block.specs.declared.layout.TheConstants.{BOOT_BLOCKS}
 use Rattle.adf_block.specs.Image.{block_count, has_free_bit}
 use Rattle.ados_check.specs.declared.mark.Mark.{Mark}
 use Rattle.ados_check.specs.Marks.{mark_at}
-use Rattle.ados_faults.specs.Listed.{fault_of}
-use Rattle.ados_model.specs.declared.fault.FaultKind.{FaultKind}
 use Rattle.ados_model.specs.declared.fault.FaultKind.TheVariants.{MarkedFree}
 use Rattle.ados_model.specs.declared.fault.VolumeFault.{VolumeFault}
-use Rattle.ados_model.specs.Faults.{InImage, Reached, Shows, root_of}
+use Rattle.ados_model.specs.Faults.{InImage, Reached, root_of}
 use Rattle.adf_salvage.specs.declared.claims.Claim.{Claim}
 use Rattle.adf_salvage.specs.declared.claims.Claim.TheVariants.{Several}
-use Rattle.adf_salvage.specs.declared.deleted.Deleted.{Deleted}
-use Rattle.adf_salvage.specs.Deleted.{IsDeleted, IsToldDeleted, IsTrustedBitmap}
-use Rattle.adf_salvage.specs.steps.Claims.{AreClaims}
 
 -- each marked block of the image is reached in the role of its mark
 abbrev pub AreOfReached : List ℕ → List (Option Mark) → Type 0
 AreOfReached image marks = (block : ℕ) (mark : Mark) → mark_at marks block ≡ Some mark → InImage image block → Reached image block mark.role
-
--- a claim for each block, right for all sound files of the image
-pub record AreAllClaims (image : List ℕ) (claims : List Claim) : Type 0 where
-  pub size : length claims ≡ block_count image
-  pub right : AreClaims [] image (block_count image) claims
 
 -- a fault for which a bitmap is not trusted: one at the root, or a reached block that is marked free
 abbrev pub IsDoubt : List ℕ → VolumeFault → Type 0
@@ -36,17 +26,3 @@ is_used image block = nat_le BOOT_BLOCKS block && nat_lt block (block_count imag
 abbrev pub is_several : Claim → Bool
 is_several Several = true
 is_several claim = false
-
--- the entries are the deleted ones below block n, each once, by block
-pub record AreListedBelow (image : List ℕ) (n : ℕ) (entries : List Deleted) : Type 0 where
-  pub told : All (IsToldDeleted image) entries
-  pub in_order : AllPairs (λ a b. a.header < b.header) entries
-  pub below : All (λ entry. entry.header < n) entries
-  pub all : (block : ℕ) → block < n → IsDeleted image block → Contains (map (λ entry. entry.header) entries) block
-
--- the headers are those of the deleted entries below block n, each once, by block
-pub record AreDeletedBelow (image : List ℕ) (n : ℕ) (headers : List ℕ) : Type 0 where
-  pub deleted : All (IsDeleted image) headers
-  pub in_order : AllPairs (λ a b. a < b) headers
-  pub below : All (λ header. header < n) headers
-  pub all : (block : ℕ) → block < n → IsDeleted image block → Contains headers block

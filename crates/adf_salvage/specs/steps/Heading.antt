@@ -5,7 +5,7 @@ use Rattle.adf_block.specs.Fields.{parent_key}
 use Rattle.adf_salvage.specs.declared.headers.Found.{Found}
 use Rattle.adf_salvage.specs.declared.known.Known.{Known}
 use Rattle.adf_salvage.specs.Doubtful.{IsHeader, IsPlaceIn, MayBeHeader}
-use Rattle.adf_salvage.specs.steps.Claims.{AreWhole}
+use Rattle.adf_salvage.specs.steps.Claims.{AreAllClaims}
 use Rattle.adf_salvage.specs.steps.Giving.{mark_at}
 
 -- the block is marked
@@ -41,7 +41,7 @@ pub record AreHeaders (out image : List ℕ) (headers : List Bool) : Type 0 wher
   pub size : length headers ≡ block_count image
   pub decided : (block : ℕ) → block < block_count image → MatchBool (mark_at headers block) (IsHeader out image block) (¬ IsHeader out image block)
 
--- what is known of the blocks of an image, where some headers are left out: which are headers that are told, and which are headers of whole files
+-- what is known of the blocks of an image, where some headers are left out: which are headers that are told, and the files that claim them
 pub record AreKnown (image : List ℕ) (known : Known) : Type 0 where
   pub headers : AreHeaders known.left_out image known.headers.items
-  pub whole : AreWhole known.left_out image (block_count image) known.whole.items
+  pub claims : AreAllClaims known.left_out image known.claims.items

@@ -1,12 +1,13 @@
 -- Which bytes of a block an edit of its fields may change.
 use Rattle.std.specs.Prelude.{◌≡◌, ℕ, ◌/◌, ◌⊎◌, ◌<◌, ◌≤◌}
 use Rattle.adf_block.specs.declared.layout.TheConstants.{PRIMARY_TYPE, OWN_KEY, CHECKSUM, SECONDARY_TYPE, PARENT, OFS_DATA_BYTE}
+use Rattle.adf_block.specs.Frame.{AtTwoLongs}
 use Rattle.adf_block.specs.declared.layout.Format.{Format}
 use Rattle.adf_block.specs.declared.layout.Format.TheVariants.{Ofs}
 
 -- the bytes of long i of block b, and of its checksum
 abbrev pub AtField : ℕ → ℕ → ℕ → ℕ → Type 0
-AtField b i c k = (c ≡ b) × ((k / 4 ≡ i) ⊎ (k / 4 ≡ CHECKSUM))
+AtField b i = AtTwoLongs b i CHECKSUM
 
 -- the bytes of longs i and j of block b, and of its checksum
 abbrev pub AtFields : ℕ → ℕ → ℕ → ℕ → ℕ → Type 0

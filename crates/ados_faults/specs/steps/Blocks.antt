@@ -1,9 +1,12 @@
--- Lists of blocks, each once.
-use Rattle.std.specs.Prelude.{◌≡◌, ℕ, ◌+◌, ◌<◌, ◌⊎◌, List, [], ◌∷◌, ◌++◌, Bool, true, false, length, slice_index, slice_index_or, All, Contains}
+-- Lists of blocks, each once; of those with a secondary type, and of the entries of a directory.
+use Rattle.std.specs.Prelude.{◌≡◌, ℕ, ◌+◌, ◌<◌, ◌⊎◌, List, [], ◌∷◌, ◌++◌, Bool, true, false, length, slice_index, slice_get, slice_index_or, Some, All, Contains}
 use Rattle.adf_block.specs.Image.{block_count, long}
-use Rattle.adf_block.specs.declared.layout.TheConstants.{FIRST_SLOT, NEXT_IN_CHAIN}
-use Rattle.ados_model.specs.declared.role.Role.TheVariants.{Entry}
+use Rattle.adf_block.specs.Fields.{secondary_type}
+use Rattle.adf_block.specs.declared.layout.TheConstants.{DIRECTORY_TYPE, FIRST_SLOT, NEXT_IN_CHAIN}
+use Rattle.ados_model.specs.declared.role.Role.{Role}
+use Rattle.ados_model.specs.declared.role.Role.TheVariants.{Root, Entry}
 use Rattle.ados_model.specs.Faults.{InImage, IsDirectory, LeadsInside, Reached, root_of}
+use Rattle.ados_faults.specs.declared.walk.Step.{Step}
 
 -- the blocks in the list, all inside the image, are those with a set cell
 pub record AreMet (image : List ℕ) (has : List Bool) (blocks : List ℕ) : Type 0 where
@@ -36,3 +39,17 @@ pub record AreNextMet (image : List ℕ) (blocks : List ℕ) (n : ℕ) : Type 0 
 pub record AreEntriesOf (image : List ℕ) (dir : ℕ) (blocks : List ℕ) : Type 0 where
   pub entries : All (IsEntryIn image dir) blocks
   pub each : (block s : ℕ) → Reached image block (Entry dir s) → Contains blocks block
+
+-- the block in this role is an entry with the secondary type; the root is one with that of a directory
+abbrev pub HasTypeAs : List ℕ → ℕ → ℕ → Role → Type 0
+HasTypeAs image kind block Root = kind ≡ DIRECTORY_TYPE
+HasTypeAs image kind block (Entry dir s) = secondary_type image block ≡ kind
+HasTypeAs image kind block _ = ⊥
+
+-- so it is of a reached block
+abbrev pub IsOfType : List ℕ → ℕ → ℕ → Type 0
+IsOfType image kind block = ((block ≡ root_of image) × (kind ≡ DIRECTORY_TYPE)) ⊎ ((dir : ℕ) × (s : ℕ) × Reached image block (Entry dir s) × (secondary_type image block ≡ kind))
+
+-- of the first steps, as many as a number says, each block of the type is in the list
+pub record AreTypesMet (image : List ℕ) (kind : ℕ) (steps : List Step) (blocks : List ℕ) (n : ℕ) : Type 0 where
+  pub met : (k : ℕ) (step : Step) → k < n → slice_get steps k ≡ Some step → HasTypeAs image kind step.block step.role → Contains blocks step.block

@@ -1,16 +1,14 @@
 -- What the header, extension and data blocks of files show, noted.
-use Rattle.std.specs.Prelude.{◌≡◌, ◌≢◌, ℕ, ◌+◌, ◌-◌, ◌^◌, ◌<◌, ◌≤◌, ◌==◌, ◌||◌, List, Bool, true, false, Option, Some, None, MatchOption, length, min, slice_get, slice_index, slice_index_or, sum_by, All}
+use Rattle.std.specs.Prelude.{◌≡◌, ◌≢◌, ℕ, ◌+◌, ◌-◌, ◌^◌, ◌<◌, ◌≤◌, ◌==◌, ◌||◌, List, Bool, true, false, Option, Some, None, MatchOption, length, min, slice_get, slice_index, sum_by, All}
 use Rattle.adf_block.specs.Image.{block_count}
 use Rattle.adf_block.specs.Fields.{file_size, held_count}
 use Rattle.ados_check.specs.DataRules.{BreaksRule, kind_of_data}
 use Rattle.ados_check.specs.declared.data_rules.DataRule.{DataRule}
 use Rattle.ados_check.specs.declared.data_rules.Place.{Place}
 use Rattle.ados_model.specs.declared.fault.FaultKind.TheVariants.{BadCount, BadSequence}
-use Rattle.ados_model.specs.declared.role.Role.TheVariants.{Entry}
-use Rattle.ados_model.specs.Faults.{AreDataBlocks, HasFileType, InImage, IsFile, IsOfs, count_of_size, pointers_of}
+use Rattle.ados_model.specs.Faults.{AreDataBlocks, InImage, IsFile, IsOfs, count_of_size, pointers_of}
 use Rattle.ados_faults.specs.declared.pieces.Piece.{Piece}
 use Rattle.ados_faults.specs.declared.pieces.Seen.{Seen}
-use Rattle.ados_faults.specs.declared.walk.Step.{Step}
 use Rattle.ados_faults.specs.steps.Chain.{next_in}
 use Rattle.ados_faults.specs.steps.Noted.{IsNoted, cell_of}
 
@@ -77,22 +75,6 @@ pub record AreBlocksNoted (image : List ℕ) (cells : List Bool) (file : ℕ) (b
 -- what the data blocks of the file show is noted
 pub record IsFileNoted (image : List ℕ) (cells : List Bool) (file : ℕ) : Type 0 where
   pub noted : (blocks : List ℕ) → AreDataBlocks image file blocks → AreBlocksNoted image cells file blocks
-
--- the block was checked
-abbrev pub IsChecked : List Bool → ℕ → Type 0
-IsChecked files file = slice_index_or files file false ≡ true
-
--- what each checked file shows is noted
-pub record AreFilesNoted (image : List ℕ) (cells files : List Bool) : Type 0 where
-  pub noted : (file : ℕ) → IsChecked files file → IsFileNoted image cells file
-
--- the step is no file, or a file that was checked
-pub record IsStepChecked (image : List ℕ) (files : List Bool) (step : Step) : Type 0 where
-  pub checked : (dir s : ℕ) → step.role ≡ Entry dir s → HasFileType image step.block → IsChecked files step.block
-
--- the first steps were checked, as many as a number says
-pub record AreStepsChecked (image : List ℕ) (files : List Bool) (steps : List Step) (n : ℕ) : Type 0 where
-  pub checked : (k : ℕ) (step : Step) → k < n → slice_get steps k ≡ Some step → IsStepChecked image files step
 
 -- what each file shows is noted
 pub record AreAllFilesNoted (image : List ℕ) (cells : List Bool) : Type 0 where

@@ -1,9 +1,8 @@
 -- What is told of one long of a block.
 use Rattle.std.specs.Prelude.{◌≡◌, ℕ, List, Option, MatchOption}
 use Rattle.adf_block.specs.Image.{long}
-use Rattle.ados_check.specs.declared.mark.Mark.{Mark}
 use Rattle.ados_model.specs.declared.fault.FaultKind.{FaultKind}
-use Rattle.ados_faults.specs.Values.{ShowsAt, ShowsField, right_at, wanted_at}
+use Rattle.ados_faults.specs.Values.{ShowsAt, wanted_at}
 use Rattle.ados_faults.specs.Listed.{Marks}
 use Rattle.ados_faults.specs.declared.values.FaultValues.{FaultValues}
 
@@ -17,14 +16,3 @@ pub record IsLong (image : List ℕ) (marks : Marks) (kind : FaultKind) (block i
 -- the values of the long, if it shows the fault
 abbrev pub TellsLong : List ℕ → Marks → FaultKind → ℕ → ℕ → Option FaultValues → Type 0
 TellsLong image marks kind block i told = MatchOption told (¬ ShowsAt image marks kind block i) (IsLong image marks kind block i)
-
--- the values of a long that shows the fault in the role of a mark
-pub record IsField (image : List ℕ) (marks : Marks) (mark : Mark) (kind : FaultKind) (block i : ℕ) (values : FaultValues) : Type 0 where
-  pub shows : ShowsField image marks mark kind block i
-  pub at : values.long ≡ i
-  pub found : values.found ≡ long image block i
-  pub wanted : values.wanted ≡ right_at image marks mark kind block i
-
--- the values of the long, if it shows the fault in the role of a mark
-abbrev pub TellsField : List ℕ → Marks → Mark → FaultKind → ℕ → ℕ → Option FaultValues → Type 0
-TellsField image marks mark kind block i told = MatchOption told (¬ ShowsField image marks mark kind block i) (IsField image marks mark kind block i)

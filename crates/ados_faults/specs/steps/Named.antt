@@ -1,27 +1,17 @@
 -- The names of entries, and the entries that share one.
-use Rattle.std.specs.Prelude.{◌≡◌, ◌≢◌, ℕ, ◌<◌, List, Bool, Option, Some, MatchOption, ⊤, option_and_then, length, slice_get}
+use Rattle.std.specs.Prelude.{◌≡◌, ◌≢◌, ℕ, ◌<◌, List, Bool, Option, Some, MatchOption, option_and_then, length, slice_get}
 use Rattle.std.specs.declared.cmp.Ordering.{Ordering}
 use Rattle.std.specs.Ordering.{nat_cmp}
 use Rattle.std.specs.Cmp.Lexicographic.{slice_cmp}
 use Rattle.std.specs.BTreeMap.{BTreeMap, get}
 use Rattle.adf_block.specs.Image.{block_count}
 use Rattle.ados_model.specs.declared.fault.FaultKind.TheVariants.{DuplicateName}
-use Rattle.ados_model.specs.declared.role.Role.{Role}
-use Rattle.ados_model.specs.declared.role.Role.TheVariants.{Root, Page, Entry, Data, Extension}
-use Rattle.ados_model.specs.Faults.{HasDirectoryType, HasShortName, Reached}
+use Rattle.ados_model.specs.declared.role.Role.TheVariants.{Entry}
+use Rattle.ados_model.specs.Faults.{HasShortName, Reached}
 use Rattle.ados_check.specs.Entries.{upper_name}
 use Rattle.ados_faults.specs.declared.names.Named.{Named}
 use Rattle.ados_faults.specs.steps.Blocks.{IsEntryIn}
-use Rattle.ados_faults.specs.steps.FileNotes.{IsChecked}
 use Rattle.ados_faults.specs.steps.Noted.{IsNoted, cell_of}
-
--- the block has entries in this role
-abbrev pub HoldsEntriesAs : List ℕ → ℕ → Role → Type 0
-HoldsEntriesAs image block Root = ⊤
-HoldsEntriesAs image block Page = ⊥
-HoldsEntriesAs image block (Entry dir s) = HasDirectoryType image block
-HoldsEntriesAs image block (Data file) = ⊥
-HoldsEntriesAs image block (Extension file) = ⊥
 
 -- the order of names, by their bytes
 abbrev pub name_cmp : List ℕ → List ℕ → Ordering
@@ -85,11 +75,6 @@ pub record AreFirstMet (cells : List Bool) (met : List (Option Named)) (first : 
 pub record AreNamesNoted (image : List ℕ) (cells : List Bool) (dir : ℕ) : Type 0 where
   pub noted : (block other s t : ℕ) → Reached image block (Entry dir s) → Reached image other (Entry dir t) → HasShortName image block → HasShortName image other
       → upper_name image block ≡ upper_name image other → block ≢ other → IsNoted cells (cell_of DuplicateName block)
-
--- so it is of each directory that was gone through
-pub record AreDirectoriesNoted (image : List ℕ) (cells passed : List Bool) : Type 0 where
-  pub size : length passed ≡ block_count image
-  pub noted : (dir : ℕ) → IsChecked passed dir → AreNamesNoted image cells dir
 
 -- so it is of each directory
 pub record AreDuplicatesNoted (image : List ℕ) (cells : List Bool) : Type 0 where

@@ -3,14 +3,13 @@ use Rattle.std.specs.Prelude.{ℕ, ℤ, Bool, true, false, not, ◌&&◌, ◌==�
 use Rattle.std.specs.Option.{option_map_or}
 use Rattle.std.specs.FinMap as numbered
 use Rattle.ados_name.specs.Name.{denies_delete, denies_write}
-use Rattle.ados_model.specs.Tree.{Tree, entries, root, size_of}
+use Rattle.ados_model.specs.Tree.{Tree, root, size_of}
 use Rattle.ados_model.specs.Change.{child_of, is_file}
-use Rattle.ados_model.specs.Session.{Session, is_held, is_in_use}
+use Rattle.ados_model.specs.Session.{Session, is_in_use}
 use Rattle.ados_model.specs.Objects.{is_bad_target, protection_of, target_number}
 use Rattle.ados_model.specs.Reads.{seek_target}
-use Rattle.ados_model.specs.Refusals.{is_empty}
 use Rattle.ados_model.specs.Resolved.{placed_at, walked}
-use Rattle.ados_handler.specs.steps.Moves.{move_refusal, source_and_place}
+use Rattle.ados_handler.specs.steps.Moves.{move_refusal, remove_refusal, source_and_place}
 
 -- there is a value, and it passes the test
 abbrev pub ok_and : {A E : Type 0} → (A → Bool) → Result A E → Bool
@@ -21,12 +20,9 @@ ok_and test (Err e) = false
 abbrev pub leads_to_entry : Tree → Session → ℕ → List ℕ → Bool
 leads_to_entry t s lock path = ok_and (λ key. not (key == root t)) (walked t s lock path)
 
--- the object can be deleted, and the path leads to such an object
-abbrev pub can_remove : Tree → Session → ℕ → Bool
-can_remove t s key = not (key == root t) && not (is_held s key) && is_empty (entries t key) && not (denies_delete (protection_of t key))
-
+-- the path leads to an object that can be deleted
 abbrev pub removes : Tree → Session → ℕ → List ℕ → Bool
-removes t s lock path = ok_and (can_remove t s) (walked t s lock path)
+removes t s lock path = ok_and (λ key. is_none (remove_refusal t s key)) (walked t s lock path)
 
 -- the object of one path can move to the place of the other
 abbrev pub can_move : Tree → Session → ℕ → List ℕ → ℕ → List ℕ → Bool

@@ -1,13 +1,13 @@
--- The refusals of a move, after those of its locks.
-use Rattle.std.specs.Prelude.{ℕ, not, ◌==◌, ◌&&◌, if◌then◌else◌, List, [], ◌∷◌, Option, Result, Ok, Err}
-use Rattle.ados_model.specs.Tree.{Tree, root}
-use Rattle.ados_model.specs.Change.{child_of}
+-- The refusals of a delete and of a move, after those of their locks and paths.
+use Rattle.std.specs.Prelude.{ℕ, false, ◌&&◌, if◌then◌else◌, List, Option, Result, Ok, Err}
+use Rattle.ados_model.specs.Tree.{Tree}
 use Rattle.ados_model.specs.declared.dos_error.DosError.{DosError}
-use Rattle.ados_model.specs.declared.dos_error.DosError.TheVariants.{InvalidLock, ObjectExists, ObjectInUse, ObjectWrongType}
-use Rattle.ados_model.specs.Session.{Session, is_held_exclusively, is_lock}
-use Rattle.ados_model.specs.Objects.{found, is_under, placed}
+use Rattle.ados_model.specs.declared.dos_error.DosError.TheVariants.{InvalidLock}
+use Rattle.ados_model.specs.Session.{Session, is_held, is_held_exclusively, is_lock}
+use Rattle.ados_model.specs.Objects.{found, placed}
 use Rattle.ados_model.specs.Resolved.{place_result, walk_result}
-use Rattle.ados_model.specs.Refusals.{first_refusal, is_some_and, refuse}
+use Rattle.ados_model.specs.Refusals.{first_refusal}
+use Rattle.ados_volume.specs.Refusals as volume
 
 -- two values, or the first error
 abbrev pub both : {A B E : Type 0} → Result A E → Result B E → Result (A × B) E
@@ -23,12 +23,14 @@ source_and_place t s from_lock from to_lock to =
 
 -- the refusals of a move of an object into a directory under a name, and the first of them
 abbrev pub move_refusals : Tree → Session → ℕ → ℕ → List ℕ → List (Option DosError)
-move_refusals t s key dir name =
-    refuse ObjectWrongType (key == root t)
-    ∷ refuse ObjectExists (is_some_and (λ other. not (other == key)) (child_of t dir name))
-    ∷ refuse ObjectInUse (is_held_exclusively s key)
-    ∷ refuse ObjectInUse (is_under t key dir)
-    ∷ []
+move_refusals t s key dir name = volume.move_refusals t key dir name (is_held_exclusively s key)
 
 abbrev pub move_refusal : Tree → Session → ℕ → ℕ → List ℕ → Option DosError
 move_refusal t s key dir name = first_refusal (move_refusals t s key dir name)
+
+-- the refusals of a delete, and the first of them
+abbrev pub remove_refusals : Tree → Session → ℕ → List (Option DosError)
+remove_refusals t s key = volume.remove_refusals t key (is_held s key) false
+
+abbrev pub remove_refusal : Tree → Session → ℕ → Option DosError
+remove_refusal t s key = first_refusal (remove_refusals t s key)

@@ -1,16 +1,19 @@
 -- The image that the check mends, and the bitmap blocks of the images.
-use Rattle.std.specs.Prelude.{◌≡◌, ℕ, ◌<◌, List}
-use Rattle.adf_block.specs.Frame.{SameBut}
-use Rattle.adf_block.specs.Image.{block_count}
+use Rattle.std.specs.Prelude.{◌≡◌, ◌⊎◌, ℕ, ◌/◌, ◌<◌, List}
+use Rattle.adf_block.specs.declared.layout.TheConstants.{BITMAP_FLAG, CHECKSUM}
+use Rattle.adf_block.specs.Image.{block_count, block_sum}
 use Rattle.ados_map.specs.Pages.{LawfulPages, page_block, pages_of}
-use Rattle.ados_model.specs.Rebuilt.{HasValidBitmap, IsOfBitmap}
+use Rattle.ados_model.specs.Faults.{root_of}
 use Rattle.ados_mend.specs.Mendable.{ShowsOnlyMendable}
 use Rattle.ados_mend.specs.Validated.{IsValidated}
 
--- only the bitmap changed, and it is not valid
-pub record IsSettled (old settled : List ℕ) : Type 0 where
-  pub rest : SameBut (IsOfBitmap old) old settled
-  pub not_valid : ¬ HasValidBitmap settled
+-- byte i of a block is in the root's checksum or bitmap flag
+abbrev pub IsRootMark : List ℕ → ℕ → ℕ → Type 0
+IsRootMark image block i = (block ≡ root_of image) × ((i / 4 ≡ CHECKSUM) ⊎ (i / 4 ≡ BITMAP_FLAG))
+
+-- the first n bitmap blocks of the old image have right checksums in the new one
+abbrev pub HaveSums : List ℕ → List ℕ → ℕ → Type 0
+HaveSums old new n = (p : ℕ) → p < n → block_sum new (page_block old p) ≡ 0
 
 -- an image that shows only faults which a new bitmap mends has lawful bitmap blocks
 abbrev pub MendableHasPages : Type 0

@@ -3,6 +3,7 @@ use Rattle.adf_block.specs.Boot.{HasKind}
 use Rattle.adf_block.specs.Image.{block_count}
 use Rattle.ados_model.specs.Accepted.{Accepts}
 use Rattle.adf_archive.proofs.checking.accepted.Goals as goal
+use Rattle.adf_archive.proofs.checking.accepted.Goals.{then-detail+in_ok-contents_of, else-detail, then-detail-2+in_ok-suspects_of, else-detail-2}
 
 pub returns : goal.returns
 returns c = λ old a. record {
@@ -11,10 +12,19 @@ returns c = λ old a. record {
     accepts = subst (λ (b : Bool). Accepts old b c.args.volume.now.image) (sym c.was_validated.ensures) a;
     kind = subst (λ (image : List ℕ). HasKind image c.boot_kind.result) c.image-image.ensures.same c.boot_kind.ensures;
     blocks = c.blocks-2.ensures.count ∙ ap block_count c.image-image.ensures.same;
-    contents = c.in_ok-contents.ensures;
-    suspects = c.in_ok-suspects.ensures.are;
+    contents = elim c.if-detail.branch [
+      | then-detail+in_ok-contents_of w ↦ rw w.contents-is w.in_ok-contents_of.ensures
+      | else-detail w ↦ rw w.contents-is tt
+    ];
+    suspects = elim c.if-detail-2.branch [
+      | then-detail-2+in_ok-suspects_of w ↦ rw w.suspects-is w.in_ok-suspects_of.ensures
+      | else-detail-2 w ↦ rw w.suspects-is tt
+    ];
   };
   texts = λ wanted. tt;
   each = λ wanted. tt;
-  filler = c.in_ok-suspects.ensures.asked;
+  filler = elim c.if-detail-2.branch [
+    | then-detail-2+in_ok-suspects_of w ↦ rw w.suspects-is (sym w.if-detail-2.true)
+    | else-detail-2 w ↦ rw w.suspects-is (sym w.if-detail-2.false)
+  ];
 }

@@ -1,4 +1,4 @@
-use Rattle.std.proofs.Common.{◌≡◌, ◌*◌, Bool, true, false, IsTrue, MatchBool, refl}
+use Rattle.std.proofs.Common.{Bool, true, false, IsTrue, MatchBool, refl}
 use Rattle.adf_archive.proofs.Repeating.{comes_again, repeats}
 use Rattle.adf_archive.proofs.filler.repeats_from.Goals as goal
 

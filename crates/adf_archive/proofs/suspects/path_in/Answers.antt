@@ -1,7 +1,8 @@
-use Rattle.std.proofs.Common.{◌≡◌, ℕ, ◌-◌, ◌<◌, length, Result, Ok, Err, IfOk, sym, ap, ◌∙◌, subst, arith}
+use Rattle.std.proofs.Common.{◌≡◌, ℕ, ◌-◌, ◌<◌, length, Result, Ok, Err, IfOk, option_map, sym, ap, ◌∙◌, subst, arith}
 use Rattle.std.proofs.Math.ListN.{get_or}
 use Rattle.std.proofs.lemmas.List.{get_or_default}
 use Rattle.adf_archive.specs.declared.suspects.Suspect.{Suspect}
+use Rattle.std.specs.String.{string_bytes}
 use Rattle.adf_archive.specs.Paths.{IsPathOf}
 use Rattle.adf_archive.specs.Suspects.{TellsSuspect}
 use Rattle.adf_archive.proofs.suspects.path_in.Goals as goal
@@ -21,5 +22,5 @@ returns-then-found-count c =
     mapped _ _
     (λ path keeps t s.
     let told = subst (TellsSuspect c.args.volume.now.image t) (sym c.index-found-count-then-found-count.is) (c.requires.found t s (length found - 1) last within) in
-    subst (λ (key : ℕ). IsPathOf t key path) file (keeps t told.path))
+    rw keeps (subst (λ (key : ℕ). IsPathOf t key (option_map string_bytes last.path)) file told.path))
     c.same_path.result c.same_path.ensures

@@ -45,7 +45,7 @@ loop-block-preserved c = λ t s.
     let at : slice_get c.in_ok-owners.owners.items block ≡ Some c.index.result.now =
     slice_get_read c.in_ok-owners.owners.items _ block c.index.result.now c.in_ok-owners.owners.ok.0 n c.index.ensures in
     let alone : (other : Owner) → Owns image t block other → other ≡ c.index.result.now = λ other owns. owned.alone block c.index.result.now other at owns in
-    elim c.match-branch-3.branch [
+    elim c.match-branch-4.branch [
       | in-Some+in_ok-push w ↦
           subst (AreSuspectsBelow image t (block + 1)) (sym (ap (λ (v : Vec Suspect Global). v.items) w.found-is ∙ w.in_ok-push.ensures.items))
           (suspects_more image t block c.index.result.now alone c.loop-block.found.items (c.loop-block.invariant t s) _ (rw w.in-Some.is at c.in_ok-suspect.ensures t s))

@@ -10,4 +10,4 @@ pub loop-word-preserved : goal.loop-word-preserved
 loop-word-preserved c = λ text.
     key_added (λ word. key_of word.now) c.args.words.now c.loop-word.word-index _ (string_bytes c.in_ok-key.key) text (contains_text c.loop-word.keys text) (contains_text c.insert.new.self text)
     (omega (arith, c.loop-word-test.true)) c.in_ok-key.ensures.key (c.loop-word.invariant text)
-    (btree_set_updates_text (string_bytes c.in_ok-key.key) c.loop-word.keys c.insert.new.self true c.in_ok-insert.ensures.updates text)
+    (btree_set_updates_text (string_bytes c.in_ok-key.key) c.loop-word.keys c.insert.new.self true c.in-Ok.ensures.updates text)

@@ -1,4 +1,4 @@
-use Rattle.std.proofs.Common.{◌≡◌, ◌≤◌, List, Vec, Global, ltb, leb, true, false, ◌∙◌, arith, rules}
+use Rattle.std.proofs.Common.{◌≡◌, Vec, Global, ltb, leb, true, false, ◌∙◌, arith, rules}
 use Rattle.std.specs.Prelude.{filter, ◌==◌}
 use Rattle.std.specs.List.{between}
 use Rattle.std.specs.List.Sorted.{IsPartitionPoint}

@@ -1,6 +1,7 @@
 use Rattle.std.proofs.Common.{ℕ, List, AllPairs, refl, sym, ap, ◌∙◌, subst}
 use Rattle.std.specs.Prelude.{◌==◌, filter}
 use Rattle.ados_faults.specs.Listed.{StandsBefore}
+use Rattle.ados_mend.specs.Places.{AreAllPlaces}
 use Rattle.ados_model.specs.declared.fault.VolumeFault.{VolumeFault}
 use Rattle.adf_export.proofs.FaultsThere.{faults_there}
 use Rattle.adf_export.proofs.faulty.faulty_block.Goals as goal
@@ -15,7 +16,8 @@ returns c =
     let kept = c.in_ok-faults.ensures ∙ ap (λ (faults : List VolumeFault). filter at faults) c.deref.ensures.value in
     record {
       block_is = refl;
+      more_is = refl;
       root = ap (λ (root : ℕ). block == root) c.root.ensures;
-      places = c.requires.places;
+      places = subst (AreAllPlaces c.args.image.now block) (sym c.in_ok-from_slice.ensures.items) c.requires.places;
       faults = faults_there c.args.image.now block c.args.found.now c.in_ok-faults.faults.items c.requires.found kept;
     }

@@ -19,6 +19,6 @@ returns-clause-text c =
       more = more;
       told = told;
       are_told = subst (λ (blocks : List ℕ). AllZip (IsFaultyBlock c.args.image.now more) blocks told) c.deref-2.ensures.value c.in_ok-told.ensures;
-      text_is = c.in_ok-text.ensures ∙ ap (λ (them : List FaultyBlock). faulty_of c.args.json c.blocks-count.result more them) c.deref-3.ensures.value
-          ∙ ap (λ (n : ℕ). faulty_of c.args.json n more told) count;
+      text_is = c.in_ok-text.ensures ∙ ap (λ (them : List FaultyBlock). faulty_of c.args.json c.blocks-count.result them) c.deref-3.ensures.value
+          ∙ ap (λ (n : ℕ). faulty_of c.args.json n told) count;
     }

@@ -4,7 +4,3 @@ use Rattle.adf_export.proofs.undeleting.undelete_entries.Goals as goal
 pub returns-in_err-undeletion-clause-fault : goal.returns-in_err-undeletion-clause-fault
 returns-in_err-undeletion-clause-fault g c =
     passed_on c.args.image c.in_err-undeletion.field-0.0 _ c.in_err-undeletion.ensures.fault c.from_residual-in_err-undeletion.ensures.1
-
-pub returns-in_err-write-clause-fault : goal.returns-in_err-write-clause-fault
-returns-in_err-write-clause-fault g c =
-    passed_on c.args.image c.in_err-write.field-0.0 _ c.in_err-write.ensures c.from_residual-in_err-write.ensures.1

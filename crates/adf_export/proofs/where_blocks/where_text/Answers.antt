@@ -5,6 +5,7 @@ use Rattle.ados_volume.specs.declared.owner.Owner.{Owner}
 use Rattle.ados_volume.specs.Owners.{AreOwners}
 use Rattle.adf_export.specs.declared.owned.OwnedBlock.{OwnedBlock}
 use Rattle.adf_export.specs.Where.{AreNamed, AreTold, seen, where_of}
+use Rattle.adf_export.proofs.Belonging.{told_seen}
 use Rattle.adf_export.proofs.where_blocks.where_text.Goals as goal
 
 pub owned_blocks-requires-clause-owners : goal.owned_blocks-requires-clause-owners
@@ -23,6 +24,6 @@ returns-clause-text c = λ t s.
       owned = c.in_ok-owners.ensures t s;
       told = told;
       are_told = subst (λ (owners : List Owner). AreTold t owners c.in-Ok.blocks.items told) c.deref.ensures.value are_told;
-      text_is = c.in_ok-text.ensures ∙ ap (λ (owned : List OwnedBlock). where_of c.args.json c.blocks-count.result (map seen owned)) c.deref-3.ensures.value
+      text_is = c.in_ok-text.ensures ∙ told_seen c.args.json c.blocks-count.result c.deref-3.result.now ∙ ap (λ (owned : List OwnedBlock). where_of c.args.json c.blocks-count.result (map seen owned)) c.deref-3.ensures.value
           ∙ ap (λ (n : ℕ). where_of c.args.json n told) count;
     }

@@ -2,14 +2,8 @@ use Rattle.std.proofs.Common.{sym, subst}
 use Rattle.ados_volume.specs.Shown.{Shown}
 use Rattle.adf_import.specs.Progress.{IsReady}
 use Rattle.adf_import.specs.Put.{KeepsKeys}
-use Rattle.adf_import.proofs.Keeping.{keeps_both, keeps_same}
+use Rattle.adf_import.proofs.Keeping.{keeps_both}
 use Rattle.adf_import.proofs.adding.put_entries.Goals as goal
-
-pub loop-entry-init : goal.loop-entry-init
-loop-entry-init g c = record {
-  ready = record { dir = c.requires; progress = c.in_ok-progress.ensures c.args.volume.now.image };
-  keeps = keeps_same c.args.volume.now.image;
-}
 
 pub child-requires : goal.child-requires
 child-requires g c = (c.directory-dir.ensures c.loop-entry.volume.image c.loop-entry.invariant.ready).dir

@@ -27,8 +27,8 @@ returns-in-Delete c =
 
 pub returns-in-Date : goal.returns-in-Date
 returns-in-Date c =
-    let after = c.set_date.new.volume in
+    let after = c.change_one.new.volume in
     let path = c.in-Date.path.now in
-    subst (λ (change : Change). ChangesVolume change c.args.moment c.args.volume.now after c.set_date.result) (sym c.in-Date.is)
-    (subst (λ (date : Date3). ReadsFirst (path ∷ []) (EndsAt (Dates c.args.moment (chars path) date) path) c.args.volume.now after c.set_date.result)
-    c.unwrap_or.ensures c.set_date.ensures)
+    subst (λ (change : Change). ChangesVolume change c.args.moment c.args.volume.now after c.change_one.result) (sym c.in-Date.is)
+    (subst (λ (date : Date3). ReadsFirst (path ∷ []) (EndsAt (Dates c.args.moment (chars path) date) path) c.args.volume.now after c.change_one.result)
+    c.unwrap_or.ensures c.change_one.ensures)

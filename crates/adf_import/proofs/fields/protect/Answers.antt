@@ -3,12 +3,12 @@ use Rattle.ados_model.specs.declared.dos_error.DosError.TheVariants.{ObjectWrong
 use Rattle.ados_model.specs.Tree.{root}
 use Rattle.ados_model.specs.Stands.{Stands}
 use Rattle.ados_model.specs.Edits.{with_protection}
-use Rattle.ados_handler.proofs.Placed.{passed}
+use Rattle.ados_volume.proofs.Refusing.{passed}
 use Rattle.adf_import.proofs.fields.protect.Goals as goal
 
 pub returns-clause-done : goal.returns-clause-done
 returns-clause-done c = λ t s.
     let other : c.args.key ≢ root t = λ e. c.if-key-root.false (e ∙ sym (c.root.ensures.root t s)) in (
       passed ObjectWrongType (c.args.key == root t) [] (ne_eqb c.args.key (root t) other),
-      subst (λ (p : ℕ). Stands c.set_protect.new.self.image (with_protection c.args.moment c.args.key (256 * (p / 256) + c.args.bits.0 % 256) t)) (c.protection_in-old.ensures t s) (c.set_protect.ensures.stands t s),
+      subst (λ (p : ℕ). Stands c.set_protect.new.self.image (with_protection c.args.moment c.args.key (256 * (p / 256) + c.args.bits.0 % 256) t)) (c.protection-old.ensures t s) (c.set_protect.ensures.stands t s),
     )

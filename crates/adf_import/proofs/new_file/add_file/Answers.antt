@@ -1,4 +1,5 @@
 use Rattle.std.proofs.Common.{◌+◌, ◌≤◌, ℕ, Option, [], length, is_some, rules, sym, ap, ◌∙◌, subst, le-ltb}
+use Rattle.std.proofs.lemmas.Bool.{true≢false}
 use Rattle.ados_model.specs.Tree.{block_cost, free as free_of, Tree}
 use Rattle.ados_name.specs.Name.{IsName}
 use Rattle.ados_model.specs.declared.dos_error.DosError.{DosError}
@@ -8,36 +9,13 @@ use Rattle.ados_model.specs.Stands.{Stands}
 use Rattle.ados_model.specs.Change.{made, child_of}
 use Rattle.ados_volume.specs.Shown.{Shown}
 use Rattle.ados_change.proofs.Making.{unused}
-use Rattle.ados_handler.proofs.FreeBlock.{none_free_lacks}
-use Rattle.ados_handler.proofs.Holding.{true_false}
-use Rattle.ados_handler.proofs.Making.{none_there}
-use Rattle.ados_handler.proofs.MakingFile.{can_make_in}
-use Rattle.ados_handler.proofs.Placed.{passed}
+use Rattle.ados_volume.proofs.FreeBlock.{none_free_lacks}
+use Rattle.ados_volume.proofs.Refusing.{can_make_in, none_there, passed}
 use Rattle.adf_import.specs.Refusals.{more_blocks, or_no_room}
 use Rattle.adf_import.proofs.Filling.{IsFileKey, after_change}
-use Rattle.adf_import.proofs.Rooms.{as_told, has_room, new_is_empty, no_room, room_in_new, some_room}
-use Rattle.adf_import.proofs.Rows.{stops}
+use Rattle.adf_import.proofs.Rooms.{as_told, has_room, new_is_empty, room_in_new, some_room}
 use Rattle.adf_import.proofs.Turns.{in_turn_as_it_was, in_turn_both, in_turn_one, kept_looked}
 use Rattle.adf_import.proofs.new_file.add_file.Goals as goal
-
-pub returns-then-is_some-clause-added : goal.returns-then-is_some-clause-added
-returns-then-is_some-clause-added c = (
-  c.child.ensures.same,
-  λ t s.
-      let there = ap is_some (sym (c.child.ensures.child t s)) ∙ sym c.is_some.ensures ∙ c.if-is_some.true in
-      ap (λ (o : Option DosError). or_no_room o (1 + block_cost t.format (length c.args.file.now.bytes.now)) (free_of t)) (stops ObjectExists (is_some (child_of t c.args.dir c.args.name)) [] there),
-)
-
-pub returns-in-Err-clause-added : goal.returns-in-Err-clause-added
-returns-in-Err-clause-added c = (
-  c.child.ensures.same,
-  λ t s.
-      let there = subst (λ (v : Shown). Stands v.image t) (sym c.child.ensures.same) s in
-      let absent = ap is_some (sym (c.child.ensures.child t s)) ∙ sym c.is_some.ensures ∙ c.if-is_some.false in
-      let full = c.in-Err.ensures t there in
-      ap (λ (o : Option DosError). or_no_room o (1 + block_cost t.format (length c.args.file.now.bytes.now)) (free_of t)) (passed ObjectExists (is_some (child_of t c.args.dir c.args.name)) [] absent)
-      ∙ no_room (1 + block_cost t.format (length c.args.file.now.bytes.now)) (free_of t) c.new_file_blocks-needed.result c.in-Err.refused (c.new_file_blocks-needed.ensures t there) full.0 full.1,
-)
 
 pub create-requires : goal.create-requires
 create-requires c =
@@ -51,7 +29,7 @@ unreachable-requires c =
     let t = c.image.ensures.stands.0 in
     let s = subst (λ (v : Shown). Stands v.image t) (sym c.child.ensures.same) c.image.ensures.stands.1 in
     let enough = some_room c.new_file_blocks-needed.result (block_cost t.format (length c.args.file.now.bytes.now)) (free_of t) (c.new_file_blocks-needed.ensures t s) (c.in_default.ensures t s) in
-    true_false (sym (none_free_lacks c.child.new.self.image t s c.in_default-create.ensures.done.0) ∙ le-ltb (free_of t) 1 enough)
+    true≢false (sym (none_free_lacks c.child.new.self.image t s c.in_default-create.ensures.done.0) ∙ le-ltb (free_of t) 1 enough)
 
 pub fill-requires-clause-key : goal.fill-requires-clause-key
 fill-requires-clause-key c =
@@ -72,9 +50,6 @@ fill-requires-clause-room c =
     let enough = as_told c.new_file_blocks-needed.result (1 + block_cost t.format size) (free_of t) (c.new_file_blocks-needed.ensures t there) (c.in_default.ensures t there) in
     after_change (λ (v : Tree). more_blocks v c.in-Ok.key size ≤ free_of v) (made c.args.moment c.args.dir c.in-Ok.key c.args.name (File [])) c.child.new.self.image c.create.new.self.image t there c.in-Ok.ensures.done.1
     (room_in_new t c.args.moment c.args.dir c.in-Ok.key c.args.name (c.requires t s) fresh size enough)
-
-pub returns-clause-unused : goal.returns-clause-unused
-returns-clause-unused c = λ t s. unused c.child.new.self.image t (subst (λ (v : Shown). Stands v.image t) (sym c.child.ensures.same) s) c.in-Ok.key c.in-Ok.ensures.done.0
 
 pub returns-clause-added : goal.returns-clause-added
 returns-clause-added c = λ t s.

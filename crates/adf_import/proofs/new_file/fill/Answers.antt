@@ -3,16 +3,9 @@ use Rattle.ados_model.specs.Stands.{Stands}
 use Rattle.ados_model.specs.Change.{written}
 use Rattle.adf_import.specs.steps.CutBack.{cut_back}
 use Rattle.adf_import.proofs.Filling.{IsEntry, IsFileKey, after_change, content_held, filled_is, held_entry, holds_its_own, holds_put, holds_written}
-use Rattle.adf_import.proofs.Rooms.{fits_in}
 use Rattle.adf_import.specs.InTurn.KeepsInTurn.{none, one_more}
 use Rattle.adf_import.proofs.Turns.{in_turn_both}
 use Rattle.adf_import.proofs.new_file.fill.Goals as goal
-
-pub unreachable-requires : goal.unreachable-requires
-unreachable-requires c =
-    let t = c.image.ensures.stands.0 in
-    let s = c.image.ensures.stands.1 in
-    fits_in t c.args.key c.args.file.now.bytes.now (c.requires.room t s) (c.in_default.ensures.done.1 t s)
 
 pub cut_behind-requires : goal.cut_behind-requires
 cut_behind-requires c =

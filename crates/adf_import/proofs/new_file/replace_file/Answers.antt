@@ -1,4 +1,4 @@
-use Rattle.std.proofs.Common.{◌≡◌, ℕ, Bool, Option, None, false, true, not, List, [], ◌∷◌, length, refl, sym, ap, ◌∙◌}
+use Rattle.std.proofs.Common.{◌≡◌, ℕ, Bool, Option, None, false, true, not, List, [], ◌∷◌, length, sym, ap, ◌∙◌}
 use Rattle.std.specs.Prelude.{◌&&◌}
 use Rattle.ados_name.specs.Name.{denies_delete, denies_write}
 use Rattle.ados_model.specs.declared.dos_error.DosError.{DosError}
@@ -7,11 +7,10 @@ use Rattle.ados_model.specs.Tree.{free as free_of, Tree}
 use Rattle.ados_model.specs.Change.{is_file}
 use Rattle.ados_model.specs.Objects.{protection_of}
 use Rattle.ados_model.specs.Refusals.{first_refusal, refuse}
-use Rattle.ados_handler.proofs.Placed.{passed}
+use Rattle.ados_volume.proofs.Refusing.{passed}
 use Rattle.adf_import.specs.declared.new_file.NotPut.{NotPut}
 use Rattle.adf_import.specs.Refusals.{more_blocks, or_no_room}
-use Rattle.adf_import.proofs.Rooms.{as_told, has_room, no_room}
-use Rattle.adf_import.proofs.Rows.{stops}
+use Rattle.adf_import.proofs.Rooms.{has_room}
 use Rattle.adf_import.specs.InTurn.KeepsInTurn.{none}
 use Rattle.adf_import.proofs.new_file.replace_file.Goals as goal
 
@@ -31,48 +30,6 @@ allowed : (key : ℕ) (force : Bool) (t : Tree) → is_file t key ≡ true → n
     → first_refusal (refuse ObjectWrongType (not (is_file t key)) ∷ bits_refuse key force t) ≡ None
 allowed key force t file deletes writes =
     a_file key force t file ∙ passed DeleteProtected _ (refuse WriteProtected (not force && denies_write (protection_of t key)) ∷ []) deletes ∙ passed WriteProtected _ [] writes
-
-pub returns-then-not-is_file-clause-done : goal.returns-then-not-is_file-clause-done
-returns-then-not-is_file-clause-done c = (
-  refl,
-  λ t s.
-      ap (room_of c.args.key (length c.args.file.now.bytes.now) t)
-      (stops ObjectWrongType (not (is_file t c.args.key)) (bits_refuse c.args.key c.args.force t) (ap not (sym (c.is_file.ensures.file t s) ∙ c.if-not-is_file.true))),
-)
-
-pub returns-then-is_denied-clause-done : goal.returns-then-is_denied-clause-done
-returns-then-is_denied-clause-done c = (
-  refl,
-  λ t s.
-      ap (room_of c.args.key (length c.args.file.now.bytes.now) t)
-      (a_file c.args.key c.args.force t (sym (c.is_file.ensures.file t s) ∙ c.if-not-is_file.false)
-      ∙ stops DeleteProtected _ (refuse WriteProtected (not c.args.force && denies_write (protection_of t c.args.key)) ∷ []) (sym (c.is_denied.ensures t s) ∙ c.if-is_denied.true)),
-)
-
-pub returns-then-is_write_denied-clause-done : goal.returns-then-is_write_denied-clause-done
-returns-then-is_write_denied-clause-done c = (
-  refl,
-  λ t s.
-      ap (room_of c.args.key (length c.args.file.now.bytes.now) t)
-      (a_file c.args.key c.args.force t (sym (c.is_file.ensures.file t s) ∙ c.if-not-is_file.false)
-      ∙ passed DeleteProtected _ (refuse WriteProtected (not c.args.force && denies_write (protection_of t c.args.key)) ∷ []) (sym (c.is_denied.ensures t s) ∙ c.if-is_denied.false)
-      ∙ stops WriteProtected _ [] (sym (c.is_write_denied.ensures t s) ∙ c.if-is_write_denied.true)),
-)
-
-pub returns-in-Err-clause-done : goal.returns-in-Err-clause-done
-returns-in-Err-clause-done c = (
-  refl,
-  λ t s.
-      let size : ℕ = length c.args.file.now.bytes.now in
-      let full = c.in-Err.ensures t s in
-      ap (room_of c.args.key size t)
-      (allowed c.args.key c.args.force t (sym (c.is_file.ensures.file t s) ∙ c.if-not-is_file.false) (sym (c.is_denied.ensures t s) ∙ c.if-is_denied.false) (sym (c.is_write_denied.ensures t s) ∙ c.if-is_write_denied.false))
-      ∙ no_room (more_blocks t c.args.key size) (free_of t) c.more_blocks-needed.result c.in-Err.refused (c.more_blocks-needed.ensures t s) full.0 full.1,
-)
-
-pub fill-requires-clause-room : goal.fill-requires-clause-room
-fill-requires-clause-room c = λ t s.
-    as_told c.more_blocks-needed.result (more_blocks t c.args.key (length c.args.file.now.bytes.now)) (free_of t) (c.more_blocks-needed.ensures t s) (c.in_default.ensures t s)
 
 pub returns-clause-done : goal.returns-clause-done
 returns-clause-done c = λ t s.

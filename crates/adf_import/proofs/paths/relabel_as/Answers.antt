@@ -3,8 +3,7 @@ use Rattle.ados_model.specs.declared.dos_error.DosError.TheVariants.{InvalidComp
 use Rattle.ados_model.specs.Edits.{disk_renamed}
 use Rattle.ados_model.specs.Stands.{Stands}
 use Rattle.ados_model.specs.Refusals.{is_name}
-use Rattle.ados_handler.proofs.DiskNamed.{is_named}
-use Rattle.ados_handler.proofs.Placed.{passed}
+use Rattle.ados_volume.proofs.Refusing.{is_named, passed}
 use Rattle.adf_import.proofs.paths.relabel_as.Goals as goal
 
 pub returns : goal.returns

@@ -1,6 +1,6 @@
-use Rattle.std.proofs.Common.{◌≡◌, ℕ, false, get_or, sym, ◌∙◌, arith, below_more}
+use Rattle.std.proofs.Common.{get_or, sym, ◌∙◌, arith}
 use Rattle.std.proofs.lemmas.List.Elements.{Contains-get_or}
-use Rattle.adf_import.proofs.Denying.{below_denied, denies, itself_denied, none_denied}
+use Rattle.adf_import.proofs.Denying.{below_denied, itself_denied, none_denied}
 use Rattle.adf_import.proofs.KeysBelow.{key_there}
 use Rattle.adf_import.proofs.prune.first_denied.Goals as goal
 
@@ -18,11 +18,6 @@ returns-then-is_denied c = (
       below_denied t s.proper c.args.key c.args.force c.args.below.now (c.requires.below t s) (get_or c.args.below.now c.loop-entry.entry-index 0)
       (Contains-get_or c.args.below.now c.loop-entry.entry-index 0 (omega arith)) (sym (c.is_denied.ensures t s) ∙ c.if-is_denied.true),
 )
-
-pub loop-entry-preserved : goal.loop-entry-preserved
-loop-entry-preserved c = λ t s.
-    below_more (λ (i : ℕ). denies t c.args.force (get_or c.args.below.now i 0) ≡ false) c.loop-entry.entry-index (c.loop-entry.invariant t s)
-    (sym (c.is_denied.ensures t s) ∙ c.if-is_denied.false)
 
 pub returns-then-is_denied-2 : goal.returns-then-is_denied-2
 returns-then-is_denied-2 c = (

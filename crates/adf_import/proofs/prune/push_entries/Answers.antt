@@ -1,10 +1,7 @@
-use Rattle.std.proofs.Common.{◌∷◌, [], ◌++◌, ℕ, List, length, arith, refl, sym, ap, ◌∙◌, append_assoc, length-append}
+use Rattle.std.proofs.Common.{◌∷◌, [], ◌++◌, ℕ, List, length, arith, sym, ap, ◌∙◌, append_assoc, length-append}
 use Rattle.ados_model.proofs.Standing.{count_same}
 use Rattle.ados_volume.proofs.DirectoryKeys.{listing_goes_on, listing_small}
 use Rattle.adf_import.proofs.prune.push_entries.Goals as goal
-
-pub next_from-requires-clause-place : goal.next_from-requires-clause-place
-next_from-requires-clause-place c = λ t s. rw (c.loop-key.invariant t s).2.behind_last refl
 
 pub loop-key-smaller : goal.loop-key-smaller
 loop-key-smaller c =

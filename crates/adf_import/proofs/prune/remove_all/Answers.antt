@@ -4,7 +4,7 @@ use Rattle.ados_model.specs.Tree.{Tree, Proper, parent_of}
 use Rattle.ados_model.specs.Stands.{Stands}
 use Rattle.ados_model.specs.Keys.{HasEntryKey}
 use Rattle.ados_model.proofs.Nodes.{some_in}
-use Rattle.ados_handler.proofs.Unlisting.{parent_there}
+use Rattle.ados_volume.proofs.Refusing.{parent_there}
 use Rattle.adf_import.proofs.Pruning.{IsPruning, can_remove_next, can_remove_top, pruning_ends, pruning_goes_on, pruning_starts}
 use Rattle.adf_import.specs.InTurn.KeepsInTurn.{none, one_more}
 use Rattle.adf_import.proofs.prune.remove_all.Goals as goal

@@ -11,9 +11,6 @@ cost_small : (format : Format) (size : ℕ) → size < 2 ^ 64 → 1 + block_cost
 cost_small Ofs size small = omega arith
 cost_small Ffs size small = omega arith
 
-pub overflow_add-result : goal.overflow_add-result
-overflow_add-result c = omega (arith, c.blocks_of.ensures, cost_small c.format.result c.args.size (omega arith))
-
 pub returns : goal.returns
 returns c = λ t s.
     ap (λ (n : ℕ). 1 + n) c.blocks_of.ensures

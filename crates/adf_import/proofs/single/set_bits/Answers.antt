@@ -1,10 +1,10 @@
-use Rattle.std.proofs.Common.{List, ℕ, [], ◌∷◌, Err, Ok, subst}
+use Rattle.std.proofs.Common.{List, ℕ, [], ◌∷◌, Err, subst}
 use Rattle.std.specs.Str.{chars}
 use Rattle.adf_text.specs.declared.protect_words.Form.{Form}
 use Rattle.adf_text.specs.ProtectWords.{protect_word}
-use Rattle.adf_import.specs.Commands.{EndsProtect, Protects}
+use Rattle.adf_import.specs.Commands.{EndsProtect}
 use Rattle.adf_import.specs.Turns.{ReadsFirst}
-use Rattle.adf_import.proofs.Telling.{bits_refused, no_bits, nothing_said, word_ends}
+use Rattle.adf_import.proofs.Telling.{bits_read, no_bits, nothing_said}
 use Rattle.adf_import.proofs.Turning.{both_texts, first_word, foreign_in, not_read, second_word}
 use Rattle.adf_import.proofs.single.set_bits.Goals as goal
 
@@ -23,18 +23,9 @@ returns-in-Err-protection c =
     subst (λ (b : List ℕ). ReadsFirst (c.args.path.now ∷ b ∷ []) (EndsProtect c.args.moment c.args.path.now b) c.args.volume.now c.args.volume.now (Err c.in-Err-protection.fault)) c.in-Ok-new.ensures.same
     (no_bits c.args.moment c.args.path.now c.in-Ok-new.spelled.text.now c.args.volume.now c.in-Err-protection.fault c.in-Err-protection.ensures.fault)
 
-pub returns-in-Ok-protect_at : goal.returns-in-Ok-protect_at
-returns-in-Ok-protect_at c =
-    let after = c.protect_at.new.volume in
-    let word : Form × List ℕ = (c.in-Ok-protection.bits.form, c.in-Ok-protection.bits.letters.now) in
-    both_texts (λ f t. EndsProtect c.args.moment f t c.args.volume.now after (Ok tt)) c.in-Ok.word.text.now c.in-Ok-new.spelled.text.now c.args.path.now c.args.letters.now c.in-Ok.ensures.same c.in-Ok-new.ensures.same
-    (word_ends c.args.moment c.in-Ok.word.text.now c.in-Ok-new.spelled.text.now c.args.volume.now after word (Ok tt) c.in-Ok-protection.ensures.word
-    (subst (λ (p : List ℕ). Protects c.args.moment p word c.args.volume.now after (Ok tt)) c.bytes.ensures c.in-Ok-protect_at.ensures))
-
 pub returns : goal.returns
 returns c =
-    let after = c.protect_at.new.volume in
+    let after = c.change_word.new.volume in
     let word : Form × List ℕ = (c.in-Ok-protection.bits.form, c.in-Ok-protection.bits.letters.now) in
-    both_texts (λ f t. ReadsFirst (f ∷ t ∷ []) (EndsProtect c.args.moment f t) c.args.volume.now after (Err c.refused.result)) c.in-Ok.word.text.now c.in-Ok-new.spelled.text.now c.args.path.now c.args.letters.now c.in-Ok.ensures.same c.in-Ok-new.ensures.same
-    (bits_refused c.args.moment c.in-Ok.word.text.now c.in-Ok-new.spelled.text.now c.args.volume.now after word c.in-Err-protect_at.error c.refused.result c.in-Ok-protection.ensures.word c.refused.ensures
-    (subst (λ (p : List ℕ). Protects c.args.moment p word c.args.volume.now after (Err c.in-Err-protect_at.error)) c.bytes.ensures c.in-Err-protect_at.ensures))
+    both_texts (λ f t. ReadsFirst (f ∷ t ∷ []) (EndsProtect c.args.moment f t) c.args.volume.now after c.change_word.result) c.in-Ok.word.text.now c.in-Ok-new.spelled.text.now c.args.path.now c.args.letters.now c.in-Ok.ensures.same c.in-Ok-new.ensures.same
+    (bits_read c.args.moment c.in-Ok.word.text.now c.in-Ok-new.spelled.text.now c.args.volume.now after word c.change_word.result c.in-Ok-protection.ensures.word c.change_word.ensures)

@@ -38,7 +38,7 @@ loop-file-preserved c = elim c.match-branch-4.branch [
   }
 ]
 
-pub returns-clause-claims : goal.returns-clause-claims
-returns-clause-claims c =
+pub returns : goal.returns
+returns c =
     let all : c.loop-file.file ≡ block_count c.args.image.now = omega arith in
-    subst (λ (n : ℕ). AreClaims c.args.left_out.now c.args.image.now n c.loop-file.claims.items) all c.loop-file.invariant.claims
+    record { size = c.loop-file.invariant.size; right = subst (λ (n : ℕ). AreClaims c.args.left_out.now c.args.image.now n c.loop-file.claims.items) all c.loop-file.invariant.claims }

@@ -1,20 +1,30 @@
-use Rattle.std.proofs.Common.{Vec, Global, ◌+◌, sym, ap, ◌∙◌, subst}
+use Rattle.std.proofs.Common.{ℕ, List, [], ◌∷◌, ◌++◌, All, map, slice_index, sym, ap, ◌∙◌, subst, arith}
+use Rattle.std.proofs.lemmas.List.{map-append, take_all, take_more}
 use Rattle.adf_salvage.specs.declared.deleted.Deleted.{Deleted}
-use Rattle.adf_salvage.specs.steps.Deleting.{AreListedBelow}
-use Rattle.adf_salvage.proofs.ListingDeleted.{listed_more, listed_same}
+use Rattle.adf_salvage.specs.Deleted.{HasRecovery}
+use Rattle.adf_salvage.specs.Salvaged.{AreDeleted}
+use Rattle.adf_salvage.proofs.Growing.{all_more}
+use Rattle.adf_salvage.proofs.ListingDeleted.{lists_all}
 use Rattle.adf_salvage.proofs.deleted.all_deleted.Goals as goal
-use Rattle.adf_salvage.proofs.deleted.all_deleted.Goals.{in-Some+in_ok-push, in_default}
+
+pub recovery_of-requires-clause-users : goal.recovery_of-requires-clause-users
+recovery_of-requires-clause-users c =
+    c.loop-header.invariant.users (slice_index c.args.headers.now c.loop-header.header-index) (c.requires.headers.deleted c.loop-header.header-index 0 c.loop-header-test.true).header.inside.0
+    (λ k l. c.requires.headers.in_order k c.loop-header.header-index 0 l c.loop-header-test.true)
 
 pub loop-header-preserved : goal.loop-header-preserved
 loop-header-preserved c = record {
-  listed = elim c.match-branch-3.branch [
-    | in-Some+in_ok-push w ↦
-        (let told = rw w.in-Some.is at c.in_ok-entry.ensures.told in
-        listed_more c.args.image.now c.loop-header.header c.loop-header.found.items c.loop-header.invariant.listed c.match-branch-3.found.items w.in-Some.entry
-        (ap (λ (v : Vec Deleted Global). v.items) w.found-is ∙ w.in_ok-push.ensures.items) told.0 told.1)
-    | in_default w ↦
-        subst (λ (v : Vec Deleted Global). AreListedBelow c.args.image.now (c.loop-header.header + 1) v.items) (sym w.found-is)
-        (listed_same c.args.image.now c.loop-header.header c.loop-header.found.items c.loop-header.invariant.listed (rw w.in_default.is at c.in_ok-entry.ensures.told))
-  ];
-  users = c.in_ok-entry.ensures.users;
+  same = ap (map (λ (entry : Deleted). entry.header)) c.in_ok-push.ensures.items ∙ map-append (λ (entry : Deleted). entry.header) c.loop-header.found.items _
+      ∙ ap (λ (xs : List ℕ). xs ++ slice_index c.args.headers.now c.loop-header.header-index ∷ []) c.loop-header.invariant.same ∙ sym (take_more c.args.headers.now c.loop-header.header-index 0 c.loop-header-test.true);
+  told = subst (All (λ (entry : Deleted). HasRecovery c.args.image.now entry.header entry.recovery)) (sym c.in_ok-push.ensures.items)
+      (all_more (λ (entry : Deleted). HasRecovery c.args.image.now entry.header entry.recovery) c.loop-header.found.items _ c.loop-header.invariant.told c.in_ok-recovery.ensures.recovery);
+  users = λ n l below. record {
+    size = c.in_ok-recovery.ensures.users.size;
+    below = λ k d m. omega (arith, c.in_ok-recovery.ensures.users.below k d m, below c.loop-header.header-index (omega arith));
+  };
 }
+
+pub returns : goal.returns
+returns c =
+    lists_all c.args.image.now c.loop-header.found.items
+    (subst (AreDeleted c.args.image.now) (sym (c.loop-header.invariant.same ∙ take_all c.loop-header.header-index c.args.headers.now c.loop-header-test.false)) c.requires.headers) c.loop-header.invariant.told

@@ -1,9 +1,12 @@
-use Rattle.adf_salvage.specs.steps.Deleting.{AreListedBelow}
+use Rattle.std.proofs.Common.{◌≡◌, ℕ, ◌<◌, ◌≤◌, All, map, take, slice_index}
+use Rattle.adf_salvage.specs.Deleted.{HasRecovery}
 use Rattle.adf_salvage.specs.steps.Parts.{AreUsersBelow}
 use Rattle.adf_salvage.proofs.deleted.all_deleted.Given as goal
 
+-- the users of blocks are below each number behind the headers so far
 abbrev pub invariant-loop-header : goal.invariant-loop-header
 invariant-loop-header l = record {
-  listed : AreListedBelow l.image l.header l.found.items;
-  users : AreUsersBelow l.image l.header l.users.items;
+  same : map (λ entry. entry.header) l.found.items ≡ take l.header-index l.headers;
+  told : All (λ entry. HasRecovery l.image entry.header entry.recovery) l.found.items;
+  users : (n : ℕ) → 2 ≤ n → ((k : ℕ) → k < l.header-index → slice_index l.headers k < n) → AreUsersBelow l.image n l.users.items;
 }

@@ -33,4 +33,4 @@ loop-i-preserved c =
 pub returns : goal.returns
 returns c =
     let count : c.loop-i.i ≡ data_needed c.args.image.now c.args.file = omega (arith, c.loop-i-test.false, c.loop-i.auto.i-end, c.data_needed-needed.ensures) in
-    all_data c.args.image.now c.args.file c.loop-i.blocks.items c.loop-i.i c.loop-i.invariant count
+    ((rw c.in-Some.is at c.in_ok-blocks.ensures).0, all_data c.args.image.now c.args.file c.loop-i.blocks.items c.loop-i.i c.loop-i.invariant count)

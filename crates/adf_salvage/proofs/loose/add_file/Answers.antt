@@ -18,6 +18,6 @@ returns-in-Some c =
     on_ok c.add_loose.result _ _ (λ more next after s.
     settles_more out image next c.args.gathered.now c.add_loose.new.self s (ap (λ ps. ps.items) c.add_loose.ensures.places)
     (subst (IsGiving image) (sym c.add_loose.ensures.giving) c.in_ok-state.ensures.giving) more.0 c.args.header after
-    (λ some. let both : false ≡ true = sym c.if-is_there.false ∙ c.is_there.ensures.1 some in absurd (cc both)) more.1
+    (λ some. let both : false ≡ true = sym c.if-has.false ∙ c.has.ensures.1 some in absurd (cc both)) more.1
     (subst (IsLoose out image c.args.header) (sym more.2) loose) more.3
     (omega (arith, ap broken_length more.2, ap (λ (g : Giving). g.left) c.add_loose.ensures.giving, left))) c.add_loose.ensures.entries

@@ -1,44 +1,54 @@
-use Rattle.std.proofs.Common.{get_or, arith}
+use Rattle.std.proofs.Common.{rules, inr, List, ℕ, length, drop, get_or, sym, subst, arith}
+use Rattle.std.specs.List.{All, Contains}
+use Rattle.std.proofs.lemmas.List.{take_at}
 use Rattle.std.proofs.lemmas.Option.{slice_get-get_or}
-use Rattle.ados_model.specs.declared.role.Role.TheVariants.{Root}
-use Rattle.ados_faults.specs.steps.Roles.{step_of}
+use Rattle.adf_block.specs.declared.layout.TheConstants.{FILE_TYPE}
+use Rattle.ados_faults.specs.steps.Blocks.{IsOfType}
+use Rattle.ados_faults.specs.steps.FileNotes.{AreAllSeen, IsFileNoted}
 use Rattle.ados_faults.proofs.ByHeaders.{none_seen}
 use Rattle.ados_faults.proofs.Cells.{noted_on}
-use Rattle.ados_faults.proofs.FileNotes.{all_files, no_files, steps_more}
+use Rattle.ados_faults.proofs.FileNotes.{file_of, file_on}
+use Rattle.ados_faults.proofs.Firsts.{all_firsts, one_more}
 use Rattle.ados_faults.proofs.files.look_at_files.Goals as goal
 
-pub loop-step-init : goal.loop-step-init
-loop-step-init c =
-    let none = c.in_ok-files.ensures in
-    let files = no_files c.args.image.now c.args.notes.now.cells.items c.in_ok-files.files.checked.items none.checked in
-    record {
-      noted = c.requires.noted;
-      stays = record { stay = λ cell e. e };
-      cells = files.0;
-      whole = files.1;
-      met = none.met;
-      held = none.held;
-      seen = none_seen c.args.image.now c.args.notes.now.cells.items c.in_ok-files.files.seen.items none.seen;
-      checked = record { checked = λ k step l e. absurd (omega (arith, l)) };
-    }
+pub loop-file-init : goal.loop-file-init
+loop-file-init c = record {
+  noted = c.requires.noted;
+  stays = record { stay = λ cell e. e };
+  met = c.in_ok-headers.ensures.met;
+  seen = none_seen c.args.image.now c.args.notes.now.cells.items c.in_ok-seen.seen.items (search rules);
+  each = λ k file l e. absurd (omega (arith, l));
+}
 
-pub loop-step-preserved : goal.loop-step-preserved
-loop-step-preserved c =
-    let done = c.in_ok-look_at_step.ensures in
-    let n = c.loop-step.step-index in
+pub look_at_file-requires-clause-file : goal.look_at_file-requires-clause-file
+look_at_file-requires-clause-file c =
+    let files = c.deref-file-items.result.now in
+    let n = c.loop-file.file-index in
+    file_of c.args.image.now (get_or files n 0) (subst (All (IsOfType c.args.image.now FILE_TYPE)) (sym c.deref-file-items.ensures.value) c.in_ok-files.ensures.typed n 0 c.loop-file-test.true)
+
+pub loop-file-preserved : goal.loop-file-preserved
+loop-file-preserved c =
+    let image = c.args.image.now in
+    let files = c.deref-file-items.result.now in
+    let n = c.loop-file.file-index in
+    let done = c.look_at_file.ensures in
+    let before = c.loop-file.invariant in
+    let old = c.loop-file.notes.cells.items in
+    let new = c.look_at_file.new.notes.cells.items in
+    let seen = c.look_at_file.new.seen in
     record {
       noted = done.noted;
-      stays = noted_on c.loop-step.invariant.stays done.stays;
-      cells = done.cells;
-      whole = done.whole;
-      met = done.met;
-      held = done.held;
-      seen = done.seen;
-      checked = steps_more c.args.image.now c.loop-step.files.checked.items c.look_at_step.new.self.checked.items c.args.steps.now n (get_or c.args.steps.now n (step_of 0 Root))
-          (slice_get-get_or c.args.steps.now n (step_of 0 Root) c.loop-step-test.true) c.loop-step.invariant.checked done.files done.checked;
+      stays = noted_on before.stays done.stays;
+      met = c.in_ok-list_headers.ensures.met;
+      seen = subst (AreAllSeen image new) (sym (take_at seen (drop (length seen) c.loop-file.seen.items) c.loop-file.seen.len (omega (arith, done.seen.size, before.seen.size, c.loop-file.seen.ok.0)))) done.seen;
+      each = one_more files (IsFileNoted image old) (IsFileNoted image new) n (get_or files n 0) (slice_get-get_or files n 0 c.loop-file-test.true) (file_on image old new done.stays) done.whole before.each;
     }
 
 pub returns-clause-whole : goal.returns-clause-whole
 returns-clause-whole c =
-    all_files c.args.image.now c.loop-step.notes.cells.items c.loop-step.files.checked.items c.args.steps.now c.loop-step.step-index c.loop-step.invariant.whole
-    c.loop-step.invariant.checked c.loop-step-test.false c.requires.covered
+    let image = c.args.image.now in
+    record {
+      noted = λ file f.
+          all_firsts c.deref-file-items.result.now (IsFileNoted image c.loop-file.notes.cells.items) c.loop-file.file-index c.loop-file-test.false c.loop-file.invariant.each file
+          (subst (λ (xs : List ℕ). Contains xs file) (sym c.deref-file-items.ensures.value) (c.in_ok-files.ensures.each file (inr (f.dir, f.slot_of_chain, f.reached, f.secondary))));
+    }

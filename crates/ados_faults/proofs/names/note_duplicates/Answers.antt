@@ -1,38 +1,51 @@
-use Rattle.std.proofs.Common.{get_or, arith}
+use Rattle.std.proofs.Common.{rules, List, ℕ, length, drop, get_or, sym, subst, arith}
+use Rattle.std.specs.List.{All, Contains}
+use Rattle.std.proofs.lemmas.List.{take_at}
 use Rattle.std.proofs.lemmas.Option.{slice_get-get_or}
-use Rattle.ados_model.specs.declared.role.Role.TheVariants.{Root}
-use Rattle.ados_faults.specs.steps.Roles.{step_of}
+use Rattle.adf_block.specs.declared.layout.TheConstants.{DIRECTORY_TYPE}
+use Rattle.ados_faults.specs.steps.Blocks.{IsOfType}
+use Rattle.ados_faults.specs.steps.Named.{AreNamesMet, AreNamesNoted}
 use Rattle.ados_faults.proofs.Cells.{noted_on}
-use Rattle.ados_faults.proofs.Sameness.{all_duplicates, directories_none, passed_more}
+use Rattle.ados_faults.proofs.Firsts.{all_firsts, one_more}
+use Rattle.ados_faults.proofs.Sameness.{all_duplicates, duplicates_on, holder_of, names_none}
 use Rattle.ados_faults.proofs.names.note_duplicates.Goals as goal
 
-pub loop-step-init : goal.loop-step-init
-loop-step-init c = record {
+pub loop-dir-init : goal.loop-dir-init
+loop-dir-init c = record {
   noted = c.requires.noted;
   stays = record { stay = λ cell e. e };
-  passed = directories_none c.args.image.now c.args.notes.now.cells.items c.in_ok-names.names.passed.items c.in_ok-names.ensures.passed;
-  first = c.in_ok-names.ensures.first;
-  met = c.in_ok-names.ensures.met;
-  entries = c.in_ok-names.ensures.entries;
-  steps = record { was = λ k step l e. absurd (omega (arith, l)) };
+  met = names_none c.args.image.now c.in_ok-met.met.items (search rules);
+  entries = c.in_ok-entries.ensures.met;
+  each = λ k dir l e. absurd (omega (arith, l));
 }
 
-pub loop-step-preserved : goal.loop-step-preserved
-loop-step-preserved c =
-    let done = c.in_ok-look_at_step.ensures in
-    let n = c.loop-step.step-index in
+pub list_entries-requires-clause-holder : goal.list_entries-requires-clause-holder
+list_entries-requires-clause-holder c =
+    let dirs = c.deref-dir-items.result.now in
+    let n = c.loop-dir.dir-index in
+    holder_of c.args.image.now (get_or dirs n 0) (subst (All (IsOfType c.args.image.now DIRECTORY_TYPE)) (sym c.deref-dir-items.ensures.value) c.in_ok-dirs.ensures.typed n 0 c.loop-dir-test.true)
+
+pub loop-dir-preserved : goal.loop-dir-preserved
+loop-dir-preserved c =
+    let image = c.args.image.now in
+    let dirs = c.deref-dir-items.result.now in
+    let n = c.loop-dir.dir-index in
+    let done = c.note_names.ensures in
+    let before = c.loop-dir.invariant in
+    let old = c.loop-dir.notes.cells.items in
+    let new = c.note_names.new.notes.cells.items in
+    let met = c.note_names.new.met in
     record {
       noted = done.noted;
-      stays = noted_on c.loop-step.invariant.stays done.stays;
-      passed = done.passed;
-      first = done.first;
-      met = done.met;
-      entries = done.entries;
-      steps = passed_more c.args.image.now c.loop-step.names.passed.items c.look_at_step.new.self.passed.items c.args.steps.now n (get_or c.args.steps.now n (step_of 0 Root))
-          (slice_get-get_or c.args.steps.now n (step_of 0 Root) c.loop-step-test.true) c.loop-step.invariant.steps done.further done.here;
+      stays = noted_on before.stays done.stays;
+      met = subst (AreNamesMet image) (sym (take_at met (drop (length met) c.loop-dir.met.items) c.loop-dir.met.len (omega (arith, done.met.size, before.met.size, c.loop-dir.met.ok.0)))) done.met;
+      entries = c.in_ok-list_entries.ensures.met;
+      each = one_more dirs (AreNamesNoted image old) (AreNamesNoted image new) n (get_or dirs n 0) (slice_get-get_or dirs n 0 c.loop-dir-test.true) (λ dir. duplicates_on image old new dir done.stays) done.whole before.each;
     }
 
 pub returns-clause-whole : goal.returns-clause-whole
 returns-clause-whole c =
-    all_duplicates c.args.image.now c.loop-step.notes.cells.items c.loop-step.names.passed.items c.args.steps.now c.loop-step.step-index c.loop-step.invariant.passed c.loop-step.invariant.steps c.loop-step-test.false
-    c.requires.covered
+    let image = c.args.image.now in
+    all_duplicates image c.loop-dir.notes.cells.items (λ dir typed.
+    all_firsts c.deref-dir-items.result.now (AreNamesNoted image c.loop-dir.notes.cells.items) c.loop-dir.dir-index c.loop-dir-test.false c.loop-dir.invariant.each dir
+    (subst (λ (xs : List ℕ). Contains xs dir) (sym c.deref-dir-items.ensures.value) (c.in_ok-dirs.ensures.each dir typed)))

@@ -1,16 +1,15 @@
-use Rattle.ados_faults.proofs.Sameness.{AreStepsPassed}
+use Rattle.std.proofs.Common.{◌≡◌, ◌<◌, ℕ, Some}
+use Rattle.std.specs.List.{slice_get}
 use Rattle.ados_faults.specs.steps.Blocks.{AreMet}
-use Rattle.ados_faults.specs.steps.Named.{AreDirectoriesNoted, AreFirstNames, AreNamesMet}
+use Rattle.ados_faults.specs.steps.Named.{AreNamesMet, AreNamesNoted}
 use Rattle.ados_faults.specs.steps.Noted.{AreNoted, AreStillNoted}
 use Rattle.ados_faults.proofs.names.note_duplicates.Given as goal
 
-abbrev pub invariant-loop-step : goal.invariant-loop-step
-invariant-loop-step l = record {
+abbrev pub invariant-loop-dir : goal.invariant-loop-dir
+invariant-loop-dir l = record {
   noted : AreNoted l.image l.notes.cells.items;
   stays : AreStillNoted l.fn.notes.cells.items l.notes.cells.items;
-  passed : AreDirectoriesNoted l.image l.notes.cells.items l.names.passed.items;
-  first : AreFirstNames l.image l.names.first.items;
-  met : AreNamesMet l.image l.names.met.items;
-  entries : AreMet l.image l.names.entries.has.items l.names.entries.list.items;
-  steps : AreStepsPassed l.image l.names.passed.items l.steps l.step-index;
+  met : AreNamesMet l.image l.met.items;
+  entries : AreMet l.image l.entries.has.items l.entries.list.items;
+  each : (k dir : ℕ) → k < l.dir-index → slice_get l.dir-items k ≡ Some dir → AreNamesNoted l.image l.notes.cells.items dir;
 }

@@ -34,8 +34,7 @@ returns-clause-searched c =
         named = c.look_further.new.notes.cells.items;
         names = c.in_ok-look_further.ensures.names uncut;
         after_names = after_further;
-        not_dos = c.look_at_disk.ensures.not_dos;
-        unsupported = c.look_at_disk.ensures.unsupported;
+        disk = c.look_at_disk.ensures.whole;
       }) steps kind block;
       root = root_noted image c.in_ok-walk.ensures.walked.whole last steps;
       free = λ block h. free_noted image last steps block h.role h.reached (record { valid = h.valid; page = h.page; free = h.free });

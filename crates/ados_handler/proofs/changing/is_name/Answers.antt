@@ -1,7 +1,8 @@
 use Rattle.std.proofs.Common.{refl, sym, ap, ◌∙◌, subst}
 use Rattle.ados_name.specs.Name.{IsName}
 use Rattle.ados_name.specs.Fault.{first_fault}
-use Rattle.ados_handler.proofs.DiskNamed.{is_named, unnamed}
+use Rattle.ados_volume.proofs.Refusing.{is_named}
+use Rattle.ados_handler.proofs.DiskNamed.{unnamed}
 use Rattle.ados_handler.proofs.changing.is_name.Goals as goal
 
 pub returns-in-Ok : goal.returns-in-Ok

@@ -1,6 +1,6 @@
 use Rattle.std.proofs.Common.{ℕ, ◌+◌, Vec, Global, sym, ap, ◌∙◌, subst}
 use Rattle.ados_mend.specs.Account.{IsUnaccounted}
-use Rattle.ados_mend.proofs.Remaining.{ListsBelow, lists_more, lists_same}
+use Rattle.adf_salvage.proofs.InOrder.{ListsBelow, lists_more, lists_same}
 use Rattle.ados_mend.proofs.account.unmarked_blocks.Goals as goal
 use Rattle.ados_mend.proofs.account.unmarked_blocks.Goals.{then-is_unaccounted+in_ok-push, else-is_unaccounted}
 

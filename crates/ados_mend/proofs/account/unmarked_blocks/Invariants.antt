@@ -1,5 +1,5 @@
 use Rattle.ados_mend.specs.Account.{IsUnaccounted}
-use Rattle.ados_mend.proofs.Remaining.{ListsBelow}
+use Rattle.adf_salvage.proofs.InOrder.{ListsBelow}
 use Rattle.ados_mend.proofs.account.unmarked_blocks.Given as goal
 
 abbrev pub invariant-loop-block : goal.invariant-loop-block

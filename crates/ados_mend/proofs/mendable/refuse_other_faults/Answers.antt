@@ -1,9 +1,7 @@
-use Rattle.std.proofs.Common.{ℕ, Bool, true, false, inl, inr, List, All, Contains, subst}
+use Rattle.std.proofs.Common.{inl, inr, All, Contains, subst}
 use Rattle.std.proofs.lemmas.Bool.{cases_Bool}
 use Rattle.std.proofs.lemmas.List.Elements.{All-contains}
-use Rattle.ados_model.specs.declared.fault.FaultKind.{FaultKind}
 use Rattle.ados_model.specs.declared.fault.VolumeFault.{VolumeFault}
-use Rattle.ados_model.specs.Faults.{Shows}
 use Rattle.ados_faults.specs.Listed.{fault_of}
 use Rattle.ados_mend.specs.Mendable.{IsMendable}
 use Rattle.ados_mend.proofs.mendable.refuse_other_faults.Goals as goal

@@ -1,4 +1,4 @@
-use Rattle.std.proofs.Common.{◌≡◌, ℕ, ◌≤◌, List, ◌∙◌, sym, ap, subst, refl, length, Vec, Global}
+use Rattle.std.proofs.Common.{ℕ, ◌≤◌, List, ◌∙◌, sym, ap, subst, refl, length, Vec, Global}
 use Rattle.std.specs.Prelude.{All, Contains}
 use Rattle.std.specs.List.{AllZip}
 use Rattle.std.proofs.lemmas.Result.{IfOk-weaker}

@@ -1,4 +1,4 @@
-use Rattle.std.proofs.Common.{◌≡◌, ◌+◌, ◌*◌, Vec, Global, ap, ◌∙◌, sym, subst, refl, arith}
+use Rattle.std.proofs.Common.{◌≡◌, ◌+◌, ◌*◌, Vec, Global, ap, ◌∙◌, sym, subst, arith}
 use Rattle.adf_block.specs.Image.{long}
 use Rattle.ados_mend.specs.declared.naming.Place.{Place}
 use Rattle.ados_mend.specs.Places.{position}

@@ -1,7 +1,7 @@
 use Rattle.std.proofs.Common.{ℕ, ◌+◌, ◌<◌, ap, ◌∙◌, arith}
 use Rattle.adf_block.specs.Image.{long}
 use Rattle.ados_map.specs.Pages.{pages_of}
-use Rattle.ados_mend.proofs.SettlingPages.{page_within, settled_page}
+use Rattle.ados_mend.proofs.SettlingPages.{page_within, settled_page, sums_more}
 use Rattle.ados_mend.proofs.settled.settle_pages.Goals as goal
 
 pub settle-requires-clause-block : goal.settle-requires-clause-block
@@ -10,14 +10,20 @@ settle-requires-clause-block c =
     let blocks = c.blocks-3.ensures.count in
     let within : c.loop-p.p < pages_of c.args.image.now = omega (arith, end, blocks) in
     let few : c.loop-p.p < 25 = omega (arith, within) in
-    page_within c.args.image.now c.loop-p.image c.requires c.loop-p.invariant c.loop-p.p c.long-page.result within few
+    page_within c.args.image.now c.loop-p.image c.requires c.loop-p.invariant.rest c.loop-p.p c.long-page.result within few
     (c.long-page.ensures ∙ ap (λ (b : ℕ). long c.loop-p.image b (79 + c.loop-p.p)) c.root-root.ensures)
 
 pub loop-p-preserved : goal.loop-p-preserved
 loop-p-preserved c =
+    let old = c.args.image.now in
     let end = c.page_count-p-end.ensures in
     let blocks = c.blocks-3.ensures.count in
-    let within : c.loop-p.p < pages_of c.args.image.now = omega (arith, end, blocks) in
+    let within : c.loop-p.p < pages_of old = omega (arith, end, blocks) in
     let few : c.loop-p.p < 25 = omega (arith, within) in
-    settled_page c.args.image.now c.loop-p.image c.requires c.loop-p.invariant c.settle.new.self c.loop-p.p c.long-page.result within few
-    (c.long-page.ensures ∙ ap (λ (b : ℕ). long c.loop-p.image b (79 + c.loop-p.p)) c.root-root.ensures) c.settle.ensures.rest
+    let named = c.long-page.ensures ∙ ap (λ (b : ℕ). long c.loop-p.image b (79 + c.loop-p.p)) c.root-root.ensures in
+    record {
+      rest = settled_page old c.loop-p.image c.requires c.loop-p.invariant.rest c.settle.new.self c.loop-p.p c.long-page.result within few named c.settle.ensures.rest;
+      sums =
+          sums_more old c.loop-p.image c.requires c.loop-p.invariant.rest c.settle.new.self c.loop-p.p c.long-page.result within few named c.settle.ensures.rest c.settle.ensures.sum
+          c.loop-p.invariant.sums;
+    }

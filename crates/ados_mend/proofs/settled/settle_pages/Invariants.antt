@@ -1,6 +1,10 @@
 use Rattle.adf_block.specs.Frame.{SameBut}
 use Rattle.ados_map.specs.Changes.{InPages}
+use Rattle.ados_mend.specs.steps.Settled.{HaveSums}
 use Rattle.ados_mend.proofs.settled.settle_pages.Given as goal
 
 abbrev pub invariant-loop-p : goal.invariant-loop-p
-invariant-loop-p l = SameBut (InPages l.fn.image) l.fn.image l.image
+invariant-loop-p l = record {
+  rest : SameBut (InPages l.fn.image) l.fn.image l.image;
+  sums : HaveSums l.fn.image l.image l.p;
+}

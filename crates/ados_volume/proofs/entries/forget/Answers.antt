@@ -12,11 +12,11 @@ returns-in-Some-clause-names c = λ d n k p.
       λ t s.
           let node = some_in (t.nodes c.args.key) (c.requires.key t s) in
           let own : c.name_in.result ≡ name_of t c.args.key = c.name_in.ensures t node.0 s node.1 ∙ sym (ap name_in node.1) in
-          forgets c.args.image.now t s c.args.key c.in-Some.dir c.name_in.result (sym (c.in-Some.ensures t s)) own d n taken.1,
+          forgets c.args.image.now t s c.args.key c.in-Some.dir c.name_in.result (sym (c.in-Some.ensures.parent t s)) own d n taken.1,
     )
 
 pub returns-in_default-clause-names : goal.returns-in_default-clause-names
 returns-in_default-clause-names c = λ d n k p. (
   p,
-  λ t s. no_child_here c.args.image.now t s c.args.key (sym (c.in_default.ensures t s)) d n,
+  λ t s. no_child_here c.args.image.now t s c.args.key (sym (c.in_default.ensures.parent t s)) d n,
 )

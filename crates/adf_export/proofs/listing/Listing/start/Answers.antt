@@ -1,12 +1,9 @@
 use Rattle.std.proofs.Common.{◌++◌, List, [], ◌∷◌, ap, ◌∙◌, arith}
+use Rattle.ados_model.proofs.Nodes.{some_in}
 use Rattle.adf_export.specs.declared.listing.Level.{Level}
-use Rattle.adf_export.proofs.Directories.{node_of, node_there}
 use Rattle.adf_export.proofs.Left.{starts}
 use Rattle.adf_export.proofs.Levels.{none_are, pushed_are}
 use Rattle.adf_export.proofs.listing.Listing.start.Goals as goal
-
-pub front_of-requires : goal.front_of-requires
-front_of-requires c = λ t s. node_there t c.args.dir (c.requires t s)
 
 pub returns-clause-keys : goal.returns-clause-keys
 returns-clause-keys c =
@@ -18,6 +15,6 @@ pub returns-clause-starts : goal.returns-clause-starts
 returns-clause-starts c = λ t s.
     let level : Level = record { keys = c.in_ok-keys.keys; next = 0; path = c.len.result } in
     let levels = c.in_ok-push.ensures.items ∙ ap (λ (l : List Level). l ++ level ∷ []) c.new-levels.ensures.items in
-    let node = node_of t c.args.dir (c.requires t s) in
-    let begun = starts t c.args.order s.proper c.args.dir node.0 level c.push.new.self.items c.in_ok-path.path.items node.1 levels (c.in_ok-path.ensures t s) (c.in_ok-keys.ensures.order t s) (omega (arith, c.len.ensures, c.in_ok-path.path.ok.0)) in
+    let node = some_in (t.nodes c.args.key) (c.requires t s) in
+    let begun = starts t c.args.order s.proper c.args.key node.0 level c.push.new.self.items c.in_ok-path.path.items node.1 levels (c.in_ok-path.ensures t s) (c.in_ok-keys.ensures.first t s) (omega (arith, c.len.ensures, c.in_ok-path.path.ok.0)) in
     (c.in_ok-text.ensures t s, begun.0, begun.1)

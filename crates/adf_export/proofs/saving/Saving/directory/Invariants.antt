@@ -5,7 +5,7 @@ use Rattle.adf_export.proofs.saving.Saving.directory.Given as goal
 
 -- directories have no files
 abbrev pub invariant-loop-position : goal.invariant-loop-position
-invariant-loop-position l = flat_map file_in l.self.sources.items ≡ flat_map file_in l.initial.self.sources.items
+invariant-loop-position l = flat_map file_in l.self.out.sources.items ≡ flat_map file_in l.initial.self.out.sources.items
 
 abbrev pub decreases-loop-position : goal.decreases-loop-position
 decreases-loop-position l = vec_len l.way

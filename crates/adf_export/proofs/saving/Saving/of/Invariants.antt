@@ -5,4 +5,4 @@ use Rattle.adf_export.proofs.saving.Saving.of.Given as goal
 
 -- the files of the entries before this one
 abbrev pub invariant-loop-one : goal.invariant-loop-one
-invariant-loop-one l = flat_map file_in l.saving.sources.items ≡ files_saved l.force (take l.one-index l.chosen)
+invariant-loop-one l = flat_map file_in l.saving.out.sources.items ≡ files_saved l.force (take l.one-index l.chosen)

@@ -1,7 +1,7 @@
 use Rattle.std.proofs.lemmas.List.Elements.{All-weaker}
 use Rattle.ados_model.specs.Keys.{HasEntryKey}
 use Rattle.adf_import.specs.declared.progress.Made.{Made}
-use Rattle.adf_import.proofs.Keeping.{keeps_both, keeps_same}
+use Rattle.adf_import.proofs.Keeping.{keeps_both}
 use Rattle.adf_import.proofs.progress.Progress.note_directories.Goals as goal
 
 pub loop-made-preserved : goal.loop-made-preserved
@@ -10,6 +10,3 @@ loop-made-preserved c = record {
       c.args.self.made.items c.loop-made.invariant.made;
   keeps = keeps_both c.args.volume.now.image c.loop-made.volume.image c.note_directory.new.volume.image c.loop-made.invariant.keeps c.note_directory.ensures.keeps;
 }
-
-pub loop-made-init : goal.loop-made-init
-loop-made-init c = record { made = c.requires.made; keeps = keeps_same c.args.volume.now.image }

@@ -1,9 +1,15 @@
-use Rattle.std.proofs.Common.{ℕ, sym, subst}
+use Rattle.std.proofs.Common.{ℕ, List, sym, subst}
 use Rattle.ados_model.specs.declared.role.Role.TheVariants.{Root}
 use Rattle.ados_model.specs.Faults.{InImage, Reached}
 use Rattle.ados_model.specs.Faults.Reached.{start}
+use Rattle.ados_faults.specs.declared.walk.Step.{Step}
+use Rattle.ados_faults.specs.steps.Pairs.{ArePairs}
 use Rattle.ados_faults.proofs.Insides.{root_inside}
+use Rattle.ados_faults.proofs.Pairing.{no_pairs}
 use Rattle.ados_faults.proofs.tangled.Pairs.start.Goals as goal
+
+pub add-requires-clause-pairs : goal.add-requires-clause-pairs
+add-requires-clause-pairs c = subst (λ (xs : List Step). ArePairs c.args.image.now xs c.new-2.result) (sym c.new.ensures.items) (no_pairs c.args.image.now c.new-2.result)
 
 pub add-requires-clause-inside : goal.add-requires-clause-inside
 add-requires-clause-inside c = subst (InImage c.args.image.now) (sym c.root-root.ensures) (root_inside c.args.image.now c.requires)

@@ -1,25 +1,22 @@
-use Rattle.std.proofs.Common.{sym, subst}
-use Rattle.std.proofs.lemmas.Option.{none-some, same_Some}
-use Rattle.adf_block.specs.Image.{long}
-use Rattle.ados_model.specs.declared.role.Role.{Role}
+use Rattle.std.proofs.Common.{ap, refl, sym, subst, ◌∙◌}
+use Rattle.std.proofs.lemmas.Bool.{false≢true}
 use Rattle.ados_check.specs.Source.{SourceView}
-use Rattle.ados_model.specs.Faults.{IsPlace}
-use Rattle.ados_faults.specs.steps.Walked.{IsMetBy}
+use Rattle.ados_model.specs.Faults.{InImage, IsPlace}
+use Rattle.ados_model.specs.Faults.HasBadPointer.{outside}
+use Rattle.ados_faults.proofs.Insides.{named_at}
 use Rattle.ados_faults.proofs.walk.Walk.visit.Goals as goal
 
-pub returns-in_default-clause-passed : goal.returns-in_default-clause-passed
-returns-in_default-clause-passed c = record {
-  met = λ next place inside.
-      absurd (none-some next ((c.in_default.ensures next).1 (subst (λ (s : SourceView). IsPlace s.bytes c.args.step.block c.args.step.role c.args.i next) (sym c.whole-source.ensures) place)));
-  outside = λ next place out.
-      absurd (none-some next ((c.in_default.ensures next).1 (subst (λ (s : SourceView). IsPlace s.bytes c.args.step.block c.args.step.role c.args.i next) (sym c.whole-source.ensures) place)));
-}
+pub note-requires-clause-shown : goal.note-requires-clause-shown
+note-requires-clause-shown c =
+    let place = subst (λ (s : SourceView). IsPlace s.bytes c.args.step.block c.args.step.role c.args.i c.in-Some.role) c.whole-source.ensures ((c.in-Some.ensures c.in-Some.role).0 refl) in
+    outside c.requires.step.reached place (λ inside. false≢true (sym c.if-not-is_inside.true ∙ c.is_inside.ensures.1 (subst (InImage c.args.image.now) (sym c.long-block.ensures) inside)))
 
-pub returns-clause-passed : goal.returns-clause-passed
-returns-clause-passed c = record {
-  met = λ next place inside.
-      subst (λ (r : Role). IsMetBy c.pass.new.self (long c.args.image.now c.args.step.block c.args.i) c.args.step.block c.args.i r)
-      (same_Some c.in-Some.role next ((c.in-Some.ensures next).1 (subst (λ (s : SourceView). IsPlace s.bytes c.args.step.block c.args.step.role c.args.i next) (sym c.whole-source.ensures) place)))
-      (c.in_ok-pass.ensures.met inside);
-  outside = λ next place out. c.in_ok-pass.ensures.outside out;
-}
+pub mark-requires-clause-reached : goal.mark-requires-clause-reached
+mark-requires-clause-reached c =
+    named_at c.args.image.now c.whole-source.result.bytes c.args.step.block c.args.i c.long-block.result c.args.step.role c.in-Some.role c.requires.step.reached (ap (λ (s : SourceView). s.bytes) c.whole-source.ensures)
+    ((c.in-Some.ensures c.in-Some.role).0 refl) c.long-block.ensures (c.if-not-is_inside.ensures.0 refl)
+
+pub take-requires-clause-reached : goal.take-requires-clause-reached
+take-requires-clause-reached c =
+    named_at c.args.image.now c.whole-source.result.bytes c.args.step.block c.args.i c.long-block.result c.args.step.role c.in-Some.role c.requires.step.reached (ap (λ (s : SourceView). s.bytes) c.whole-source.ensures)
+    ((c.in-Some.ensures c.in-Some.role).0 refl) c.long-block.ensures (c.if-not-is_inside.ensures.0 refl)

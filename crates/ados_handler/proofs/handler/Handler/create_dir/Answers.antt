@@ -14,9 +14,9 @@ use Rattle.ados_model.specs.declared.results.Results.{Results}
 use Rattle.ados_model.specs.Session.{Session, IsFreeNumber, with_lock, HandlerState}
 use Rattle.ados_model.specs.declared.holds.LockHold.{LockHold}
 use Rattle.ados_model.specs.Reads.{lacks}
+use Rattle.ados_volume.proofs.FreeBlock.{can_make_new, new_key, none_free_lacks, not_lacking}
 use Rattle.ados_handler.specs.steps.Methods.{MethodMeans}
 use Rattle.ados_handler.proofs.Leaving.{leaves_rest}
-use Rattle.ados_handler.proofs.FreeBlock.{can_make_new, new_key, none_free_lacks, not_lacking}
 use Rattle.ados_handler.proofs.MakingDirectory.{create_dir_means, create_dir_passes, create_dir_sound}
 use Rattle.ados_handler.proofs.Moving.{no_memory_gives, refused_gives}
 use Rattle.ados_handler.proofs.Placed.{place_refused}

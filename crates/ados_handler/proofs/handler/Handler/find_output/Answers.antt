@@ -6,7 +6,7 @@ use Rattle.ados_model.specs.Session.{Session, HandlerState}
 use Rattle.ados_handler.proofs.Moving.{refused_gives}
 use Rattle.ados_handler.proofs.Placed.{place_refused}
 use Rattle.ados_handler.proofs.Spotted.{output_empties, output_makes}
-use Rattle.ados_handler.proofs.Walked.{child_is_key}
+use Rattle.ados_volume.proofs.Walking.{child_is_key}
 use Rattle.ados_handler.proofs.handler.Handler.find_output.Goals as goal
 
 pub empty_file-requires : goal.empty_file-requires

@@ -6,7 +6,7 @@ use Rattle.ados_model.specs.declared.packet.Packet.TheVariants.{FindUpdate}
 use Rattle.ados_handler.proofs.Moving.{refused_gives}
 use Rattle.ados_handler.proofs.Placed.{place_refused}
 use Rattle.ados_handler.proofs.Spotted.{update_opens, update_makes}
-use Rattle.ados_handler.proofs.Walked.{child_is_key}
+use Rattle.ados_volume.proofs.Walking.{child_is_key}
 use Rattle.ados_handler.proofs.handler.Handler.find_update.Goals as goal
 
 pub returns-in-Err : goal.returns-in-Err

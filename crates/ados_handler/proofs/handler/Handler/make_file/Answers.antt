@@ -3,10 +3,11 @@ use Rattle.ados_name.specs.Name.{IsName}
 use Rattle.ados_model.specs.Stands.{Stands}
 use Rattle.ados_model.specs.Reads.{lacks}
 use Rattle.ados_model.specs.Session.{HandlerState}
+use Rattle.ados_volume.proofs.FreeBlock.{none_free_lacks, not_lacking}
+use Rattle.ados_volume.proofs.Refusing.{can_make_in}
 use Rattle.ados_handler.specs.steps.Opening.{BringsHandle}
-use Rattle.ados_handler.proofs.FreeBlock.{none_free_lacks, not_lacking}
 use Rattle.ados_handler.proofs.Holding.{true_false}
-use Rattle.ados_handler.proofs.MakingFile.{can_make_in, made_opens, made_sound}
+use Rattle.ados_handler.proofs.MakingFile.{made_opens, made_sound}
 use Rattle.ados_handler.proofs.handler.Handler.make_file.Goals as goal
 
 pub create-requires : goal.create-requires

@@ -2,7 +2,6 @@ use Rattle.std.proofs.Common.{◌≡◌, pos, None, rules, sym, ap, ◌∙◌, s
 use Rattle.ados_name.specs.Name.{IsName}
 use Rattle.ados_model.specs.Tree.{Tree}
 use Rattle.ados_model.specs.Stands.{Stands}
-use Rattle.ados_model.specs.Keys.{HasDirectory, HasKey}
 use Rattle.ados_change.specs.NewBlocks.{KeepsRest}
 use Rattle.ados_model.specs.Change.{renamed}
 use Rattle.ados_model.specs.Packet.{error_number}
@@ -10,14 +9,15 @@ use Rattle.ados_model.specs.declared.packet.Packet.{Packet}
 use Rattle.ados_model.specs.declared.packet.Packet.TheVariants.{RenameObject}
 use Rattle.ados_model.specs.declared.results.Results.{Results}
 use Rattle.ados_model.specs.declared.answer.Body.TheVariants.{Empty}
-use Rattle.ados_model.specs.Session.{Session, HandlerState}
+use Rattle.ados_model.specs.Session.{Session, HandlerState, is_held_exclusively}
+use Rattle.ados_volume.proofs.Refusing.{can_move, none_refuses}
 use Rattle.ados_handler.specs.Gives.{IsSoundHandler}
 use Rattle.ados_handler.specs.steps.Methods.{MethodMeans}
-use Rattle.ados_handler.specs.steps.Moves.{move_refusal}
+use Rattle.ados_handler.specs.steps.Moves.{move_refusal, move_refusals}
 use Rattle.ados_handler.proofs.Unlisting.{rename_keeps}
 use Rattle.ados_handler.proofs.Leaving.{leaves_rest}
 use Rattle.ados_handler.proofs.Meant.{sound_after}
-use Rattle.ados_handler.proofs.Moving.{can_rename, move_refused, refused_gives, rename_object_means, source_refused}
+use Rattle.ados_handler.proofs.Moving.{move_refused, refused_gives, rename_object_means, source_refused}
 use Rattle.ados_handler.proofs.handler.Handler.rename_object.Goals as goal
 
 pub returns-in-Err : goal.returns-in-Err
@@ -51,10 +51,9 @@ rename-requires c = λ t stands.
     let between : Stands c.source_and_place.new.self.image t = subst (λ (h : HandlerState). Stands h.image t) (c.self-2.view_is ∙ c.move_refusal.ensures.same) stands in
     let valid : IsName c.in-Ok.found.1.1 = search rules in
     let none : c.move_refusal.result ≡ None = c.in_default.is in
-    can_rename c.self-2.inside.volume.image t stands c.source_and_place.new.self.session c.in-Ok.found.0 c.in-Ok.found.1.0 c.in-Ok.found.1.1
-    (subst (λ (h : HandlerState). HasKey h.image c.in-Ok.found.0) (sym same) c.in-Ok.ensures.key)
-    (subst (λ (h : HandlerState). HasDirectory h.image c.in-Ok.found.1.0) (sym same) c.in-Ok.ensures.directory) valid
-    (sym (c.move_refusal.ensures.refusal t between) ∙ none)
+    let stood = subst (λ (h : HandlerState). Stands h.image t) same stands in
+    can_move t stands.proper c.in-Ok.found.0 (c.in-Ok.ensures.key t stood) (is_held_exclusively c.source_and_place.new.self.session c.in-Ok.found.0) c.in-Ok.found.1.0 c.in-Ok.found.1.1
+    (c.in-Ok.ensures.directory t stood) valid (none_refuses (move_refusals t c.source_and_place.new.self.session c.in-Ok.found.0 c.in-Ok.found.1.0 c.in-Ok.found.1.1) (sym (c.move_refusal.ensures.refusal t between) ∙ none))
 
 pub returns : goal.returns
 returns c =

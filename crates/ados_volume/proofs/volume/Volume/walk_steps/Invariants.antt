@@ -1,8 +1,9 @@
 use Rattle.std.proofs.Common.{◌≡◌}
+use Rattle.ados_name.specs.Name.{steps}
 use Rattle.ados_model.specs.Tree.{Tree}
 use Rattle.ados_model.specs.Stands.{Stands}
-use Rattle.ados_model.specs.Change.{walk_steps}
 use Rattle.ados_model.specs.Keys.{HasKey}
+use Rattle.ados_volume.proofs.PathWalks.{HasCome}
 use Rattle.ados_volume.proofs.volume.Volume.walk_steps.Given as goal
 
 abbrev pub invariant-loop-step : goal.invariant-loop-step
@@ -11,5 +12,5 @@ invariant-loop-step l = record {
   finite : (goal.iterator-loop-step).is_finite l.steps;
   same : l.self ≡ l.initial.self;
   key : HasKey l.initial.self.image l.key;
-  walked : (t : Tree) → Stands l.initial.self.image t → walk_steps t l.initial.key l.initial.steps l.last ≡ walk_steps t l.key l.steps l.last;
+  come : (t : Tree) → Stands l.initial.self.image t → HasCome t l.start (steps l.path) l.last l.key l.steps;
 }

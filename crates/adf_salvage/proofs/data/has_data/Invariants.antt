@@ -1,0 +1,10 @@
+use Rattle.std.proofs.Common.{◌≡◌, ℕ, ◌<◌}
+use Rattle.ados_model.specs.File.{data_block}
+use Rattle.adf_salvage.specs.steps.Parts.{IsDataBlock, data_before}
+use Rattle.adf_salvage.proofs.data.has_data.Given as goal
+
+abbrev pub invariant-loop-i : goal.invariant-loop-i
+invariant-loop-i l = record {
+  before : l.before ≡ data_before l.image l.file l.i;
+  sound : (k : ℕ) → k < l.i → IsDataBlock l.image l.file k (data_before l.image l.file k) (data_block l.image l.file k);
+}

@@ -1,0 +1,11 @@
+use Rattle.std.proofs.Common.{◌≡◌, ℕ, Option, Some, length}
+use Rattle.std.specs.List.{slice_get}
+use Rattle.ados_model.specs.Faults.{pointers_of}
+use Rattle.ados_faults.specs.steps.FileNotes.{IsHeld}
+use Rattle.ados_faults.proofs.file_blocks.held_in_ofs.Given as goal
+
+abbrev pub invariant-loop-header : goal.invariant-loop-header
+invariant-loop-header l = record {
+  size : length l.held.items ≡ l.header;
+  each : (k : ℕ) (sum : Option ℕ) → slice_get l.held.items k ≡ Some sum → IsHeld l.image (pointers_of l.image k) sum;
+}

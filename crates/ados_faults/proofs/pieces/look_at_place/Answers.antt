@@ -1,0 +1,42 @@
+use Rattle.std.proofs.Common.{get_or, sym, subst, arith}
+use Rattle.std.proofs.lemmas.List.{take_all}
+use Rattle.std.proofs.lemmas.List.Elements.{All-more, All-weaker}
+use Rattle.std.specs.List.{All}
+use Rattle.ados_check.specs.DataRules.{BreaksRule}
+use Rattle.ados_check.specs.Source.{SourceView}
+use Rattle.ados_check.specs.declared.data_rules.DataRule.TheVariants.{Sequence}
+use Rattle.ados_check.specs.declared.data_rules.TheConstants.{DATA_RULES}
+use Rattle.ados_check.proofs.DataRuling.{data_shows, each_rule}
+use Rattle.ados_model.specs.declared.fault.FaultKind.{FaultKind}
+use Rattle.ados_model.specs.Faults.{Shows}
+use Rattle.ados_faults.specs.steps.FileNotes.{IsRuleNoted}
+use Rattle.ados_faults.specs.steps.Noted.{IsNoted, cell_of}
+use Rattle.ados_faults.proofs.Cells.{noted_on}
+use Rattle.ados_faults.proofs.pieces.look_at_place.Goals as goal
+
+pub note_if-requires-clause-shown : goal.note_if-requires-clause-shown
+note_if-requires-clause-shown c = λ w.
+    let rule = get_or DATA_RULES c.loop-rule.rule-index Sequence in
+    let bad = subst (λ (s : SourceView). BreaksRule s.bytes c.args.place rule) c.whole-source.ensures (c.breaks_rule-broken.ensures.0 w) in
+    subst (λ (kind : FaultKind). Shows c.args.image.now kind c.args.place.block) (sym c.kind.ensures) (data_shows c.args.image.now c.args.place c.requires.at c.requires.ofs (c.is_inside.ensures.0 c.if-not-is_inside.false) rule bad)
+
+pub loop-rule-preserved : goal.loop-rule-preserved
+loop-rule-preserved c =
+    let rule = get_or DATA_RULES c.loop-rule.rule-index Sequence in
+    let old = IsRuleNoted c.args.image.now c.loop-rule.notes.cells.items c.args.place in
+    let new = IsRuleNoted c.args.image.now c.note_if.new.self.cells.items c.args.place in
+    record {
+      noted = c.note_if.ensures.noted;
+      stays = noted_on c.loop-rule.invariant.stays c.note_if.ensures.stays;
+      rules = All-more new DATA_RULES c.loop-rule.rule-index Sequence c.loop-rule-test.true
+          (All-weaker old new (λ other is bad. c.note_if.ensures.stays.stay _ (is bad)) _ c.loop-rule.invariant.rules)
+          (λ bad.
+          let w = c.breaks_rule-broken.ensures.1 (subst (λ (s : SourceView). BreaksRule s.bytes c.args.place rule) (sym c.whole-source.ensures) bad) in
+          subst (λ (kind : FaultKind). IsNoted c.note_if.new.self.cells.items (cell_of kind c.args.place.block)) c.kind.ensures (c.note_if.ensures.set w));
+    }
+
+pub returns-clause-placed : goal.returns-clause-placed
+returns-clause-placed c = λ _. record {
+  each = each_rule (IsRuleNoted c.args.image.now c.loop-rule.notes.cells.items c.args.place)
+      (subst (All (IsRuleNoted c.args.image.now c.loop-rule.notes.cells.items c.args.place)) (take_all c.loop-rule.rule-index DATA_RULES (omega (arith, c.loop-rule-test.false))) c.loop-rule.invariant.rules);
+}

@@ -1,0 +1,12 @@
+use Rattle.std.proofs.Common.{All, take}
+use Rattle.ados_check.specs.declared.data_rules.TheConstants.{DATA_RULES}
+use Rattle.ados_faults.specs.steps.FileNotes.{IsRuleNoted}
+use Rattle.ados_faults.specs.steps.Noted.{AreNoted, AreStillNoted}
+use Rattle.ados_faults.proofs.pieces.look_at_place.Given as goal
+
+abbrev pub invariant-loop-rule : goal.invariant-loop-rule
+invariant-loop-rule l = record {
+  noted : AreNoted l.image l.notes.cells.items;
+  stays : AreStillNoted l.initial.notes.cells.items l.notes.cells.items;
+  rules : All (IsRuleNoted l.image l.notes.cells.items l.place) (take l.rule-index DATA_RULES);
+}

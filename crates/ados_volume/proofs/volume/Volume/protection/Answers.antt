@@ -1,0 +1,10 @@
+use Rattle.std.proofs.Common.{List, ℕ, sym, ap, ◌∙◌, subst}
+use Rattle.ados_model.proofs.Nodes.{some_in}
+use Rattle.ados_model.specs.Parts.{protection_in}
+use Rattle.ados_model.specs.Stands.{Stands}
+use Rattle.ados_volume.proofs.volume.Volume.protection.Goals as goal
+
+pub returns : goal.returns
+returns c = λ t s.
+    let n = some_in (t.nodes c.args.key) (c.requires t s) in
+    c.protection_in.ensures t n.0 (subst (λ (image : List ℕ). Stands image t) (sym c.image.ensures.same) s) n.1 ∙ sym (ap protection_in n.1)

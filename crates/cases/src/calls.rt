@@ -1,0 +1,89 @@
+//! Calls that no packet makes: a block that is borrowed for writing, the lowest free block, and hash chains that are
+//! asked whether they are empty.
+
+ghost use Rattle.std.specs.Prelude.{IsTrue};
+ghost use Rattle.ados_map.specs.Pages.{LawfulPages};
+
+use crate::desk::serve_line;
+use crate::drawn::settle;
+use crate::fixtures::{FLOPPY, START, blank_handler, blank_image, work};
+use crate::rows::holds;
+use adf_block::Image;
+use adf_block::layout::{BOOT_BLOCKS, FIRST_PAGE, PAGE_BITS};
+use ados_chain::is_empty;
+use ados_map::{count_free, give_back, is_free, take_first};
+use ados_volume::Volume;
+use std::process::Abort;
+
+/// Writes the last byte of the first long of the bitmap block of a blank floppy.
+fn write_byte(image: &mut Image) {
+    if 881 < image.blocks() {
+        image.block_mut(881)[3] = 0x38;
+    }
+}
+
+/// The sum of the longs of the bitmap block.
+fn bitmap_sum(image: &Image) -> Option<u32> {
+    if 881 < image.blocks() {
+        Some(image.sum(881))
+    } else {
+        None
+    }
+}
+
+/// The checksum of the bitmap block is wrong after a written byte, and is then settled.
+#[test]
+fn blocks(rt: HostRuntime) {
+    let mut image = blank_image(&rt, rt.alloc(), FLOPPY);
+    write_byte(&mut image);
+    holds(&rt, bitmap_sum(&image) == Some(1), "written");
+    settle(&mut image, 881, 0);
+    holds(&rt, bitmap_sum(&image) == Some(0), "settled");
+    let was = blank_image(&rt, rt.alloc(), FLOPPY);
+    holds(
+        &rt,
+        image.into_bytes().as_slice() == was.as_bytes(),
+        "as before",
+    );
+}
+
+/// Whether the volume has one bitmap block, which is inside it and not the root.
+fn has_one_bitmap_block(image: &Image) -> bool
+    ensures { IsTrue result → LawfulPages image.now }
+{
+    let blocks = image.blocks();
+    let root = image.root();
+    let page = image.long(root, FIRST_PAGE);
+    blocks <= BOOT_BLOCKS + PAGE_BITS && BOOT_BLOCKS <= page && page < blocks && page != root
+}
+
+/// The lowest free block of a blank floppy is taken, and given back.
+fn expect_first_free(rt: &impl Abort, image: &mut Image) {
+    assert!(rt; has_one_bitmap_block(image) && image.blocks() == FLOPPY);
+    holds(rt, count_free(image) == 1_756, "blank");
+    holds(rt, take_first(image) == Some(2), "first");
+    holds(rt, take_first(image) == Some(3), "second");
+    holds(rt, count_free(image) == 1_754, "two taken");
+    give_back(image, 2);
+    holds(rt, is_free(image, 2) && !is_free(image, 3), "given back");
+    holds(rt, take_first(image) == Some(2), "first again");
+}
+
+#[test]
+fn first_free(rt: HostRuntime) {
+    expect_first_free(&rt, &mut blank_image(&rt, rt.alloc(), FLOPPY));
+}
+
+/// Whether the root has no entries, by its hash chains alone.
+fn has_empty_root(volume: Volume) -> bool {
+    let dir = volume.root();
+    is_empty(&volume.into_image(), dir)
+}
+
+#[test]
+fn empty_chains(rt: HostRuntime) {
+    holds(&rt, has_empty_root(work(&rt, rt.alloc(), FLOPPY)), "blank");
+    let mut handler = blank_handler(&rt, rt.alloc());
+    serve_line(&rt, rt.alloc(), &mut handler, START, "mkdir 0 \"d\"");
+    holds(&rt, !has_empty_root(handler.into_volume()), "a directory");
+}
