@@ -1,7 +1,6 @@
 -- Lemmas about archives.
 pub mod Chunks
 pub mod Climbing
-pub mod Counting
 pub mod Gathered
 pub mod Listed
 pub mod Repeating

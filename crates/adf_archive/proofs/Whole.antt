@@ -1,5 +1,6 @@
 -- The output for an archive, whole or in part.
 use Rattle.std.proofs.Common.{◌≡◌, ℕ, zero, suc, ◌+◌, ◌<◌, ◌≤◌, Bool, true, false, List, [], length, get_or, All, Option, Result, Ok, Err, IsErrAnd, refl, sym, subst, arith}
+use Rattle.std.specs.Prelude.{nat_lt}
 use Rattle.std.proofs.lemmas.List.Elements.{All-nil}
 use denote.Param.Members.{Shared}
 use Rattle.std.specs.Fn.{FnReturns}
@@ -39,7 +40,7 @@ not_broken_over zero tally Output broken e = cc e
 not_broken_over zero tally Memory broken e = cc e
 not_broken_over zero tally Refused broken e = broken
 not_broken_over zero tally NotChecked broken e = broken
-not_broken_over (suc n) tally fault broken e = not_broken tally.not_checked tally.refused fault broken e
+not_broken_over (suc n) tally fault broken e = not_broken (nat_lt 0 tally.not_checked) (nat_lt 0 tally.refused) fault broken e
 
 module _ (job : CheckJob) where
   -- all that the command may report

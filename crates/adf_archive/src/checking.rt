@@ -1,5 +1,5 @@
 //! The check of one image, as a report.
-ghost use Rattle.std.specs.Prelude.{ℕ, List, IfOk, IfSome};
+ghost use Rattle.std.specs.Prelude.{ℕ, List, IfOk};
 ghost use Rattle.ados_model.specs.Accepted.{Accepts};
 ghost use Rattle.adf_archive.specs.Report.{IsReportFor, IsReportOfSome};
 ghost use Rattle.adf_archive.specs.declared.checking.Detail.{Detail};
@@ -30,8 +30,8 @@ pub struct Detail {
     pub texts: bool,
 }
 
-/// The report on an image file. For most images a sketch decides; the others are read whole. A path that is not the
-/// host's leads to no file.
+/// The report on an image file. For most images a sketch decides, if it has all that is reported; the others are read whole.
+/// A path that is not the host's leads to no file.
 pub fn report_file<R: ReadImages>(
     rt: &R,
     alloc: Global,
@@ -44,36 +44,23 @@ pub fn report_file<R: ReadImages>(
     if !is_hosts {
         return ImageReport::NotChecked(WhyNot::Name);
     }
-    if let Some(report) = report_sketch(rt, alloc, file, detail) {
-        return report;
+    if !detail.contents && !detail.filler {
+        if let Some(sketch) = rt.read_sketch(alloc, file) {
+            if let Some(kind) = accepted_kind(alloc, &sketch) {
+                return ImageReport::Accepted(AcceptedImage {
+                    kind,
+                    blocks: sketch.blocks(),
+                    validated: false,
+                    contents: None,
+                    suspects: None,
+                });
+            }
+        }
     }
     match rt.read_image(alloc, file) {
         Ok(image) => report_image(alloc, image, detail),
         Err(fault) => unread(fault),
     }
-}
-
-/// The report on an image that is accepted as it is, if a sketch shows this and has all that is reported.
-fn report_sketch<R: ReadImages>(
-    rt: &R,
-    alloc: Global,
-    file: ImageFile<'_>,
-    detail: Detail,
-) -> Option<ImageReport>
-    ensures { IfSome result (IsReportOfSome detail) }
-{
-    if detail.contents || detail.filler {
-        return None;
-    }
-    let sketch = rt.read_sketch(alloc, file)?;
-    let kind = accepted_kind(alloc, &sketch)?;
-    Some(ImageReport::Accepted(AcceptedImage {
-        kind,
-        blocks: sketch.blocks(),
-        validated: false,
-        contents: None,
-        suspects: None,
-    }))
 }
 
 /// The report on a file without an image.

@@ -112,10 +112,7 @@ impl FoundImages {
 
     /// Whether the path at a position is the host's.
     pub(crate) fn is_hosts(&self, place: usize) -> bool {
-        match self.are_hosts.get(place) {
-            Some(is_hosts) => *is_hosts,
-            None => true,
-        }
+        self.are_hosts.get(place).copied().unwrap_or(true)
     }
 }
 
@@ -139,28 +136,16 @@ fn find_below<R: Files>(
         let Some(next) = waiting.pop() else {
             break;
         };
-        visit(rt, alloc, next, found, &mut waiting)?;
+        match look_at(rt, &next) {
+            Look::Image => found.add(next.path, next.is_hosts)?,
+            Look::Directory => wait_for_names(rt, alloc, next.path, found, &mut waiting)?,
+            Look::Compressed => found.remarks.push(Remark::Compressed(next.path))?,
+            Look::Neither => {}
+        }
     }
     if found.paths.len() == before {
         let word = String::from_str(alloc, word)?;
         found.remarks.push(Remark::NoImage(word))?;
-    }
-    Ok(())
-}
-
-/// Visits one path in a directory. It is an image, its entries become pending, or it is neither.
-fn visit<R: Files>(
-    rt: &R,
-    alloc: Global,
-    next: Waiting,
-    found: &mut FoundImages,
-    waiting: &mut Vec<Waiting>,
-) -> Result<(), AllocError> {
-    match look_at(rt, &next) {
-        Look::Image => found.add(next.path, next.is_hosts)?,
-        Look::Directory => wait_for_names(rt, alloc, next.path, found, waiting)?,
-        Look::Compressed => found.remarks.push(Remark::Compressed(next.path))?,
-        Look::Neither => {}
     }
     Ok(())
 }

@@ -22,7 +22,6 @@ mod report;
 mod running;
 mod suspects;
 mod telling;
-mod totals;
 mod words;
 
 pub use checking::{Detail, report_file, report_image};

@@ -3,6 +3,7 @@ use crate::finding::Remark;
 use crate::likeness::{filling, likeness_of, other_root, root_in};
 use crate::reading::ReadImages;
 use crate::report::{ImageReport, RefusedImage, WhyNot};
+use crate::telling::Form;
 use adf_block::layout::BLOCK_BYTES;
 use adf_block::{Image, MOST_BYTES, SizeFault};
 use adf_host::why_no_image;
@@ -26,12 +27,14 @@ const BLOCK: u64 = BLOCK_BYTES as u64;
 /// How a person is told of images.
 #[derive(Clone, Copy)]
 pub struct Manner {
-    /// Each line begins with the path.
-    pub paths: bool,
+    /// The form of the reports. With paths, each line begins with the path.
+    pub form: Form,
     /// What explains the faults is told too; otherwise only which images were not checked.
     pub texts: bool,
     /// The number of blocks at the start of a file that are its image; by default all of it is.
     pub blocks: Option<u32>,
+    /// Of several images, how many are done is shown on a terminal.
+    pub terminal: bool,
 }
 
 /// Prints what a search for images found beside them.
@@ -52,55 +55,17 @@ pub(crate) fn tell_person<R: Files + ReadImages, F: Write>(
     faults: &mut F,
 ) {
     for (path, report) in paths.iter().zip(reports) {
-        tell_report(rt, alloc, path.as_str(), report, manner, faults);
-    }
-}
-
-/// Prints what is told of an image.
-fn tell_report<R: Files + ReadImages, F: Write>(
-    rt: &R,
-    alloc: Global,
-    path: &str,
-    report: &ImageReport,
-    manner: Manner,
-    faults: &mut F,
-) {
-    match report {
-        ImageReport::NotChecked(why) => tell_unread(rt, path, *why, manner, faults),
-        ImageReport::WrongSize(fault) if manner.texts => {
-            tell_size(rt, alloc, path, *fault, manner, faults);
-        }
-        ImageReport::Refused(told) if manner.texts => {
-            tell_refused(rt, alloc, path, told, manner, faults);
-        }
-        _ => {}
-    }
-}
-
-/// Prints why an image was not checked.
-fn tell_unread<R: Files, F: Write>(
-    rt: &R,
-    path: &str,
-    why: WhyNot,
-    manner: Manner,
-    faults: &mut F,
-) {
-    match why {
-        WhyNot::Read => {
-            let reason = why_no_image(rt, path, manner.blocks);
-            print_line(
-                faults,
-                format_args!("adf_serve: cannot read '{path}': {reason}"),
-            );
-        }
-        WhyNot::Name => {
-            print_line(
-                faults,
-                format_args!("adf_serve: cannot read '{path}': name is not UTF-8"),
-            );
-        }
-        WhyNot::Memory | WhyNot::Endless => {
-            print_line(faults, format_args!("adf_serve: '{path}' {why}"));
+        let path = path.as_str();
+        let about = About { path, manner };
+        match report {
+            ImageReport::NotChecked(why) => about.tell_unread(rt, *why, faults),
+            ImageReport::WrongSize(fault) if manner.texts => {
+                about.tell_size(rt, alloc, *fault, faults);
+            }
+            ImageReport::Refused(told) if manner.texts => {
+                about.tell_refused(rt, alloc, told, faults);
+            }
+            _ => {}
         }
     }
 }
@@ -176,20 +141,134 @@ impl Display for PartOfBlock {
     }
 }
 
-/// Prints what explains a wrong size, and what the file looks like.
-pub(crate) fn tell_size<R: Files, F: Write>(
-    rt: &R,
-    alloc: Global,
-    path: &str,
-    fault: SizeFault,
-    manner: Manner,
-    faults: &mut F,
-) {
-    let length = regular_length(rt, path);
-    tell(path, manner, WrongLength { fault, length }, faults);
-    if let Some(length) = length {
-        let front = front_of(rt, alloc, path, length);
-        tell_front(path, front, length, manner, faults);
+/// An image that a person is told about.
+#[derive(Clone, Copy)]
+pub(crate) struct About<'a> {
+    pub(crate) path: &'a str,
+    pub(crate) manner: Manner,
+}
+
+impl About<'_> {
+    /// Prints a text on the image, with its path if it is one of several.
+    fn tell<F: Write, T: Display + Drop>(self, text: T, faults: &mut F) {
+        if self.manner.form.paths {
+            print_line(faults, format_args!("{}: {text}", self.path));
+        } else {
+            print_line(faults, text);
+        }
+    }
+
+    /// Prints why the image was not checked.
+    fn tell_unread<R: Files, F: Write>(self, rt: &R, why: WhyNot, faults: &mut F) {
+        let path = self.path;
+        match why {
+            WhyNot::Read => {
+                let reason = why_no_image(rt, path, self.manner.blocks);
+                print_line(
+                    faults,
+                    format_args!("adf_serve: cannot read '{path}': {reason}"),
+                );
+            }
+            WhyNot::Name => {
+                print_line(
+                    faults,
+                    format_args!("adf_serve: cannot read '{path}': name is not UTF-8"),
+                );
+            }
+            WhyNot::Memory | WhyNot::Endless => {
+                print_line(faults, format_args!("adf_serve: '{path}' {why}"));
+            }
+        }
+    }
+
+    /// Prints what explains a wrong size, and what the file looks like.
+    pub(crate) fn tell_size<R: Files, F: Write>(
+        self,
+        rt: &R,
+        alloc: Global,
+        fault: SizeFault,
+        faults: &mut F,
+    ) {
+        let length = regular_length(rt, self.path);
+        self.tell(WrongLength { fault, length }, faults);
+        if let Some(length) = length {
+            let front = front_of(rt, alloc, self.path, length);
+            self.tell_bytes(&front, length, faults);
+            self.tell_root(root_in(front), "the file has", length, faults);
+        }
+    }
+
+    /// Prints what explains the faults of the image, and what the file looks like.
+    fn tell_refused<R: Files + ReadImages, F: Write>(
+        self,
+        rt: &R,
+        alloc: Global,
+        told: &RefusedImage,
+        faults: &mut F,
+    ) {
+        for shown in told.faults.iter() {
+            if let Some(text) = &shown.text {
+                self.tell(text.as_str(), faults);
+            }
+        }
+        self.tell_other(rt, alloc, told, faults);
+    }
+
+    /// Prints what a refused image looks like, if there is no disk of DOS, or no root where it should be. For that a regular file
+    /// is read once more.
+    pub(crate) fn tell_other<R: Files + ReadImages, F: Write>(
+        self,
+        rt: &R,
+        alloc: Global,
+        told: &RefusedImage,
+        faults: &mut F,
+    ) {
+        let About { path, manner } = self;
+        if !may_be_other(told) || regular_length(rt, path).is_none() {
+            return;
+        }
+        let blocks = manner.blocks;
+        if let Ok(image) = rt.read_image(alloc, ImageFile { path, blocks }) {
+            let length = image.as_bytes().len() as u64;
+            self.tell_bytes(image.as_bytes(), length, faults);
+            let holder = match blocks {
+                Some(_) => "--blocks takes",
+                None => "the file has",
+            };
+            self.tell_root(other_root(&image), holder, length, faults);
+        }
+    }
+
+    /// Prints what a file of this length looks like, by its first bytes: another kind of file, or one byte from end to end.
+    fn tell_bytes<F: Write>(self, front: &[u8], length: u64, faults: &mut F) {
+        if let Some(likeness) = likeness_of(front) {
+            self.tell(likeness, faults);
+        }
+        if front.len() as u64 != length {
+            return;
+        }
+        if let Some(byte) = filling(front) {
+            let text = format_args!("each of its bytes is {byte:02X}: nothing was written or read");
+            self.tell(text, faults);
+        }
+    }
+
+    /// Prints which size the root of an image of another size fits, if there is one.
+    fn tell_root<F: Write>(
+        self,
+        root: Option<u32>,
+        holder: &'static str,
+        length: u64,
+        faults: &mut F,
+    ) {
+        if let Some(root) = root {
+            let size = OtherSize {
+                root,
+                holder,
+                length,
+            };
+            self.tell(size, faults);
+        }
     }
 }
 
@@ -201,40 +280,12 @@ fn front_of<R: Files>(rt: &R, alloc: Global, path: &str, length: u64) -> Vec<u8>
     } else {
         MOST_BYTES
     };
-    match fs::open(rt, path) {
-        Ok(mut file) => match read_bounded(alloc, &mut file, most) {
-            Ok(front) => front,
-            Err(_) => Vec::new(alloc),
-        },
+    let Ok(mut file) = fs::open(rt, path) else {
+        return Vec::new(alloc);
+    };
+    match read_bounded(alloc, &mut file, most) {
+        Ok(front) => front,
         Err(_) => Vec::new(alloc),
-    }
-}
-
-/// Prints what a file of this length looks like, by its first bytes.
-fn tell_front<F: Write>(path: &str, front: Vec<u8>, length: u64, manner: Manner, faults: &mut F) {
-    tell_bytes(path, &front, length, manner, faults);
-    if let Some(root) = root_in(front) {
-        let holder = "the file has";
-        let size = OtherSize {
-            root,
-            holder,
-            length,
-        };
-        tell(path, manner, size, faults);
-    }
-}
-
-/// Prints what a file of this length looks like, by its first bytes: another kind of file, or one byte from end to end.
-fn tell_bytes<F: Write>(path: &str, front: &[u8], length: u64, manner: Manner, faults: &mut F) {
-    if let Some(likeness) = likeness_of(front) {
-        tell(path, manner, likeness, faults);
-    }
-    if front.len() as u64 != length {
-        return;
-    }
-    if let Some(byte) = filling(front) {
-        let text = format_args!("each of its bytes is {byte:02X}: nothing was written or read");
-        tell(path, manner, text, faults);
     }
 }
 
@@ -246,78 +297,11 @@ pub(crate) fn regular_length<R: Files>(rt: &R, path: &str) -> Option<u64> {
     }
 }
 
-/// Prints what explains the faults of an image, and what the file looks like.
-fn tell_refused<R: Files + ReadImages, F: Write>(
-    rt: &R,
-    alloc: Global,
-    path: &str,
-    told: &RefusedImage,
-    manner: Manner,
-    faults: &mut F,
-) {
-    for shown in told.faults.iter() {
-        if let Some(text) = &shown.text {
-            tell(path, manner, text.as_str(), faults);
-        }
-    }
-    tell_other(rt, alloc, path, told, manner, faults);
-}
-
-/// Prints what a refused image looks like, if there is no disk of DOS, or no root where it should be. For that a regular file is
-/// read once more.
-pub(crate) fn tell_other<R: Files + ReadImages, F: Write>(
-    rt: &R,
-    alloc: Global,
-    path: &str,
-    told: &RefusedImage,
-    manner: Manner,
-    faults: &mut F,
-) {
-    if !may_be_other(told) || regular_length(rt, path).is_none() {
-        return;
-    }
-    let blocks = manner.blocks;
-    if let Ok(image) = rt.read_image(alloc, ImageFile { path, blocks }) {
-        tell_looks(path, &image, manner, faults);
-    }
-}
-
 /// Whether the file may be no image, or one of another size: there is no disk of DOS, or no root where it should be.
 fn may_be_other(told: &RefusedImage) -> bool {
-    for shown in told.faults.iter() {
+    told.faults.iter().any(|shown| {
         let fault = shown.fault;
         let is_root = fault.block == told.blocks.div_ceil(2);
-        if fault.kind == FaultKind::NotADosDisk || (is_root && fault.kind == FaultKind::BadType) {
-            return true;
-        }
-    }
-    false
-}
-
-/// Prints what a refused image looks like.
-fn tell_looks<F: Write>(path: &str, image: &Image, manner: Manner, faults: &mut F) {
-    let bytes = image.as_bytes();
-    let length = bytes.len() as u64;
-    tell_bytes(path, bytes, length, manner, faults);
-    if let Some(root) = other_root(image) {
-        let holder = match manner.blocks {
-            Some(_) => "--blocks takes",
-            None => "the file has",
-        };
-        let size = OtherSize {
-            root,
-            holder,
-            length,
-        };
-        tell(path, manner, size, faults);
-    }
-}
-
-/// Prints a text on an image, with its path if it is one of several.
-fn tell<F: Write, T: Display + Drop>(path: &str, manner: Manner, text: T, faults: &mut F) {
-    if manner.paths {
-        print_line(faults, format_args!("{path}: {text}"));
-    } else {
-        print_line(faults, text);
-    }
+        fault.kind == FaultKind::NotADosDisk || (is_root && fault.kind == FaultKind::BadType)
+    })
 }

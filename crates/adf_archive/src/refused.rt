@@ -1,8 +1,9 @@
 //! What is printed of a refused image.
 use crate::checking::{Detail, report_file};
-use crate::person::{Manner, regular_length, tell_other, tell_size};
+use crate::person::{About, Manner, regular_length};
 use crate::reading::ReadImages;
 use crate::report::{ImageReport, RefusedImage};
+use crate::telling::Form;
 use crate::words::kind_word;
 use adf_block::BootKind;
 use adf_record::size_words;
@@ -12,14 +13,11 @@ use std::alloc::Global;
 use std::io::Write;
 use std::rt::Files;
 
-/// How a person is told of one image alone, which is all of its file or some of its first blocks.
-fn alone(blocks: Option<u32>) -> Manner {
-    Manner {
-        paths: false,
-        texts: true,
-        blocks,
-    }
-}
+/// The image is the only one.
+const ALONE: Form = Form {
+    json: false,
+    paths: false,
+};
 
 /// What is reported of the image: its first fault, with the text that explains it.
 const FIRST_FAULT: Detail = Detail {
@@ -49,6 +47,15 @@ pub fn explain_refused<R: Files + ReadImages, F: Write>(
     if regular_length(rt, file.path).is_none() {
         return;
     }
+    let about = About {
+        path: file.path,
+        manner: Manner {
+            form: ALONE,
+            texts: true,
+            blocks: file.blocks,
+            terminal: false,
+        },
+    };
     match report_file(rt, alloc, file, true, FIRST_FAULT) {
         ImageReport::Refused(told) => {
             tell_size_of(alloc, &told, faults);
@@ -58,11 +65,9 @@ pub fn explain_refused<R: Files + ReadImages, F: Write>(
                     tell_fault(&all, kind, block, faults);
                 }
             }
-            tell_other(rt, alloc, file.path, &told, alone(file.blocks), faults);
+            about.tell_other(rt, alloc, &told, faults);
         }
-        ImageReport::WrongSize(fault) => {
-            tell_size(rt, alloc, file.path, fault, alone(file.blocks), faults);
-        }
+        ImageReport::WrongSize(fault) => about.tell_size(rt, alloc, fault, faults),
         _ => {}
     }
 }

@@ -14,7 +14,6 @@ use crate::person::{Manner, tell_person, tell_remarks};
 use crate::reading::ReadImages;
 use crate::report::ImageReport;
 use crate::telling::{Form, Tally, end_over, tell_reports};
-use crate::totals::Totals;
 use adf_text::print_line;
 use adf_words::{CheckJob, ImageFile};
 use std::alloc::Global;
@@ -69,9 +68,12 @@ where
                 detail,
             )
         },
-        form,
-        manner_of(job, form, detail),
-        terminal,
+        Manner {
+            form,
+            texts: detail.texts,
+            blocks: job.blocks,
+            terminal,
+        },
         writer,
         faults,
     )?;
@@ -102,15 +104,6 @@ fn detail_of(job: &CheckJob<'_>, form: Form) -> Detail
     }
 }
 
-/// How a person is told of the images.
-fn manner_of(job: &CheckJob<'_>, form: Form, detail: Detail) -> Manner {
-    Manner {
-        paths: form.paths,
-        texts: detail.texts,
-        blocks: job.blocks,
-    }
-}
-
 /// The number of images checked in parallel; by default the number of processors.
 fn jobs_for<R: Threads>(rt: &R, given: Option<u32>) -> usize {
     match given {
@@ -130,9 +123,7 @@ pub fn check_each<R, C, W, F>(
     paths: &[String],
     jobs: usize,
     report: &C,
-    form: Form,
     manner: Manner,
-    terminal: bool,
     writer: &mut W,
     faults: &mut F,
 ) -> Result<Tally, ArchiveFault>
@@ -142,45 +133,30 @@ where
     W: Write,
     F: Write,
     requires { (i : ℕ) → i < length paths.now → C.pre report.now i }
-    ensures ok { IfOk result (TellsAll C.Fn report.now form (map string_bytes paths.now) (W.contents writer.old) (W.contents writer.new)) }
-    ensures fault { IfErr result (λ _. LeavesOff C.Fn report.now form (map string_bytes paths.now) (W.contents writer.old) (W.contents writer.new)) }
+    ensures ok { IfOk result (TellsAll C.Fn report.now manner.form (map string_bytes paths.now) (W.contents writer.old) (W.contents writer.new)) }
+    ensures fault { IfErr result (λ _. LeavesOff C.Fn report.now manner.form (map string_bytes paths.now) (W.contents writer.old) (W.contents writer.new)) }
     ensures broken { IfErr result IsBroken }
 {
+    let form = manner.form;
+    let shows = manner.terminal && paths.len() > 1;
     let mut tally = Tally::new();
-    let mut totals = Totals::none();
     let mut done = 0;
     while done < paths.len() {
         let count = jobs.max(1).min(paths.len() - done);
-        show_progress(terminal, done, paths.len(), faults);
+        if shows {
+            let _ = write!(faults, "{done} of {} images", paths.len());
+        }
         let reports = together(rt, alloc, done, count, report)?;
-        clear_progress(terminal, paths.len(), faults);
+        if shows {
+            let _ = write!(faults, "\r\x1b[K");
+        }
         tell_reports(alloc, paths, done, &reports, form, writer)?;
         tell_person(rt, alloc, &paths[done..], &reports, manner, faults);
         tally.add(&reports);
-        totals.add(&reports);
         done += count;
     }
-    tell_totals(form, totals, faults);
-    Ok(tally)
-}
-
-/// Prints how many of several images are accepted.
-fn tell_totals<F: Write>(form: Form, totals: Totals, faults: &mut F) {
     if form.paths {
-        print_line(faults, totals);
+        print_line(faults, tally);
     }
-}
-
-/// Prints how many of several images are done.
-fn show_progress<F: Write>(terminal: bool, done: usize, all: usize, faults: &mut F) {
-    if terminal && all > 1 {
-        let _ = write!(faults, "{done} of {all} images");
-    }
-}
-
-/// Removes that line.
-fn clear_progress<F: Write>(terminal: bool, all: usize, faults: &mut F) {
-    if terminal && all > 1 {
-        let _ = write!(faults, "\r\x1b[K");
-    }
+    Ok(tally)
 }

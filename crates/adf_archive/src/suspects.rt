@@ -1,5 +1,5 @@
 //! Data blocks of files that hold nothing but a filler.
-ghost use Rattle.std.specs.Prelude.{◌≡◌, ◌<◌, ◌↔◌, ℕ, All, IfOk, IsTrue, MatchOption, option_map};
+ghost use Rattle.std.specs.Prelude.{◌≡◌, ◌<◌, ◌↔◌, All, IfOk, IsTrue, MatchOption, option_map};
 ghost use Rattle.std.specs.String.{string_bytes};
 ghost use Rattle.adf_block.specs.Image.{block_count};
 ghost use Rattle.ados_model.specs.Keys.{HasKey};

@@ -11,7 +11,10 @@ use crate::lines::push_lines;
 use crate::objects::push_object;
 use crate::report::ImageReport;
 use adf_io::write_output;
+use adf_record::Grouped;
 use std::alloc::{AllocError, Global};
+use std::fmt;
+use std::fmt::{Display, Formatter};
 use std::io::Write;
 
 /// The form of reports.
@@ -23,13 +26,12 @@ pub struct Form {
     pub paths: bool,
 }
 
-/// The overall status of images.
+/// The overall status of images: how many are accepted, refused, and not checked.
 #[derive(Clone, Copy)]
 pub struct Tally {
-    /// Whether one is refused.
-    pub refused: bool,
-    /// Whether one was not checked.
-    pub not_checked: bool,
+    pub accepted: u64,
+    pub refused: u64,
+    pub not_checked: u64,
 }
 
 impl Tally {
@@ -38,12 +40,14 @@ impl Tally {
         ensures { IsTally [] result }
     {
         Tally {
-            refused: false,
-            not_checked: false,
+            accepted: 0,
+            refused: 0,
+            not_checked: 0,
         }
     }
 
     /// The status with these images added.
+    #[tactic(auto, using(std::proofs::lemmas::List::Sums::fold_more))]
     pub fn add(&mut self, reports: &[ImageReport])
         ensures { self.new ≡ tallied self.old reports.now }
     {
@@ -57,9 +61,11 @@ impl Tally {
         ensures { self.new ≡ noted self.old report.now }
     {
         match report {
-            ImageReport::Accepted(_) => {}
-            ImageReport::Refused(_) | ImageReport::WrongSize(_) => self.refused = true,
-            ImageReport::NotChecked(_) => self.not_checked = true,
+            ImageReport::Accepted(_) => self.accepted = self.accepted.saturating_add(1),
+            ImageReport::Refused(_) | ImageReport::WrongSize(_) => {
+                self.refused = self.refused.saturating_add(1);
+            }
+            ImageReport::NotChecked(_) => self.not_checked = self.not_checked.saturating_add(1),
         }
     }
 
@@ -67,13 +73,31 @@ impl Tally {
     pub fn end(self) -> Result<(), ArchiveFault>
         ensures { result ≡ ends_as self }
     {
-        if self.not_checked {
+        if self.not_checked > 0 {
             return Err(ArchiveFault::NotChecked);
         }
-        if self.refused {
+        if self.refused > 0 {
             return Err(ArchiveFault::Refused);
         }
         Ok(())
+    }
+}
+
+impl Display for Tally {
+    fn fmt<W: fmt::Write>(&self, f: &mut Formatter<W>) -> fmt::Result {
+        let images = self
+            .accepted
+            .saturating_add(self.refused)
+            .saturating_add(self.not_checked);
+        write!(
+            f,
+            "{} {}: {} ok, {} refused, {} unreadable",
+            Grouped(images),
+            if images == 1 { "image" } else { "images" },
+            Grouped(self.accepted),
+            Grouped(self.refused),
+            Grouped(self.not_checked)
+        )
     }
 }
 

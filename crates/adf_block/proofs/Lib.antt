@@ -6,3 +6,6 @@ pub mod Totals
 pub mod Frames
 pub mod Blocks
 pub mod Putting
+pub mod Booting
+pub mod Coding
+pub mod Showing

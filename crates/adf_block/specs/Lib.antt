@@ -6,3 +6,6 @@ pub mod Frame
 pub mod Size
 pub mod Boot
 pub mod Lending
+pub mod HasBoot
+pub mod BootCode
+pub mod BootText

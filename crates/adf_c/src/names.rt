@@ -5,21 +5,29 @@
 ghost use Rattle.std.specs.Prelude.{◌≡◌, ◌⊎◌, pos};
 ghost use Rattle.ados_name.specs.Name.{IsName};
 ghost use Rattle.adf_text.specs.Letters.{letters};
-ghost use Rattle.adf_text.specs.ProtectionLetters.{protection_letters};
+ghost use Rattle.adf_text.specs.ProtectionLetters.{protection_letters as letters_of};
 ghost use Rattle.c_values.specs.Buffers.{Puts, TextEnds};
 ghost use Rattle.c_values.specs.Names.{AreBytesOf, BitsEnd, HasByteLetters, IsHostOf, IsNamedBy};
 
+use adf_text::{protection_letters, protection_of_letters};
+use ados_name::{Name, Protect};
+use c_values::{Refusal, bytes_of_letters, host_of_name, letters_of_bytes, name_of_host, put};
 use std::alloc::Global;
 
-/// As `c_values::is_name`.
+/// Whether the bytes are a name of an entry: 1 if so, else 0.
 #[unsafe(no_mangle)]
 pub extern "C" fn jip_lib_is_name(name: &[u8]) -> i32
     ensures { ((result ≡ pos 1) × IsName name.now) ⊎ ((result ≡ pos 0) × (¬ IsName name.now)) }
 {
-    c_values::is_name(name)
+    match Name::new(name) {
+        Ok(_) => 1,
+        Err(_) => 0,
+    }
 }
 
-/// As `c_values::host_of_name`.
+/// The name of the host file for an entry's name, in UTF-8. The status is 0.
+///
+/// Status 2: out of memory. Status 3: the bytes are not a name. In these cases `to` and `length` are unchanged.
 #[unsafe(no_mangle)]
 pub extern "C" fn jip_lib_host_of_name(
     alloc: Global,
@@ -29,10 +37,19 @@ pub extern "C" fn jip_lib_host_of_name(
 ) -> i32
     ensures { TextEnds (IsHostOf name.now) (¬ IsName name.now) to.old to.new length.old length.new result }
 {
-    c_values::host_of_name(alloc, name, to, length)
+    match host_of_name(alloc, name) {
+        Ok(text) => {
+            *length = put(text.as_bytes(), to);
+            0
+        }
+        Err(refusal) => refusal.number(),
+    }
 }
 
-/// As `c_values::name_of_host`.
+/// The bytes that the name of a host file stands for. The status is 0. `jip_lib_is_name` says whether they are a name.
+///
+/// Status 2: out of memory. Status 3: the name is not UTF-8, or a letter is not in ISO 8859-1. In these cases `to` and
+/// `length` are unchanged.
 #[unsafe(no_mangle)]
 pub extern "C" fn jip_lib_name_of_host(
     alloc: Global,
@@ -42,10 +59,16 @@ pub extern "C" fn jip_lib_name_of_host(
 ) -> i32
     ensures { TextEnds (IsNamedBy host.now) (¬ HasByteLetters host.now) to.old to.new length.old length.new result }
 {
-    c_values::name_of_host(alloc, host, to, length)
+    match name_of_host(alloc, host) {
+        Ok(bytes) => {
+            *length = put(&bytes, to);
+            0
+        }
+        Err(refusal) => refusal.number(),
+    }
 }
 
-/// As `c_values::letters_of_bytes`.
+/// The letters of bytes in UTF-8. The status is 0, or 2 if memory runs out; then `to` and `length` are unchanged.
 #[unsafe(no_mangle)]
 pub extern "C" fn jip_lib_letters_of_bytes(
     alloc: Global,
@@ -55,10 +78,19 @@ pub extern "C" fn jip_lib_letters_of_bytes(
 ) -> i32
     ensures { TextEnds (λ text. text ≡ letters bytes.now) ⊥ to.old to.new length.old length.new result }
 {
-    c_values::letters_of_bytes(alloc, bytes, to, length)
+    match letters_of_bytes(alloc, bytes) {
+        Ok(text) => {
+            *length = put(text.as_bytes(), to);
+            0
+        }
+        Err(refusal) => refusal.number(),
+    }
 }
 
-/// As `c_values::bytes_of_letters`.
+/// The bytes of a text's letters. The status is 0.
+///
+/// Status 2: out of memory. Status 3: the text is not UTF-8, or a letter is not in ISO 8859-1. In these cases `to` and
+/// `length` are unchanged.
 #[unsafe(no_mangle)]
 pub extern "C" fn jip_lib_bytes_of_letters(
     alloc: Global,
@@ -68,22 +100,37 @@ pub extern "C" fn jip_lib_bytes_of_letters(
 ) -> i32
     ensures { TextEnds (AreBytesOf text.now) (¬ HasByteLetters text.now) to.old to.new length.old length.new result }
 {
-    c_values::bytes_of_letters(alloc, text, to, length)
+    match bytes_of_letters(alloc, text) {
+        Ok(bytes) => {
+            *length = put(&bytes, to);
+            0
+        }
+        Err(refusal) => refusal.number(),
+    }
 }
 
-/// As `c_values::letters_of_protection`.
+/// The low eight protection bits as `hsparwed`, with a dash for each letter that is not shown. The status is 0.
 #[unsafe(no_mangle)]
 pub extern "C" fn jip_lib_letters_of_protection(bits: u32, to: &mut [u8], length: &mut usize) -> i32
     ensures status { result ≡ pos 0 }
-    ensures letters { Puts (protection_letters bits) to.old to.new length.new }
+    ensures letters { Puts (letters_of bits) to.old to.new length.new }
 {
-    c_values::letters_of_protection(bits, to, length)
+    *length = put(&protection_letters(Protect(bits)), to);
+    0
 }
 
-/// As `c_values::protection_of_letters`.
+/// The protection bits of eight such places, or of some of the letters in any order. The status is 0.
+///
+/// Status 3: the text is neither; the bits are unchanged.
 #[unsafe(no_mangle)]
 pub extern "C" fn jip_lib_protection_of_letters(letters: &[u8], bits: &mut u32) -> i32
     ensures { BitsEnd letters.now bits.old bits.new result }
 {
-    c_values::protection_of_letters(letters, bits)
+    match protection_of_letters(letters) {
+        Some(protect) => {
+            *bits = protect.bits();
+            0
+        }
+        None => Refusal::WrongArgument.number(),
+    }
 }

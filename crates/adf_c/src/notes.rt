@@ -7,10 +7,15 @@ ghost use Rattle.c_values.specs.Buffers.{TextEnds};
 ghost use Rattle.c_values.specs.Dates.{DateOfTextEnds, DateOfTimeEnds, IsTimeOf, date_of};
 ghost use Rattle.c_values.specs.Names.{IsNoteOf, NoteEnds};
 
-use c_values::JipDate;
+use c_values::{
+    JipDate, date_of_text, date_of_time, put, read_uaem, text_of_date, time_of_date, uaem_line,
+};
 use std::alloc::Global;
 
-/// As `c_values::uaem_line`.
+/// The line of a `.uaem` file with these protection bits, date and comment, as `adf_text::uaem_line` writes it. The
+/// status is 0.
+///
+/// Status 2: out of memory. Status 3: the comment is longer than 79 bytes. In these cases `to` and `length` are unchanged.
 #[unsafe(no_mangle)]
 pub extern "C" fn jip_lib_uaem_line(
     alloc: Global,
@@ -22,10 +27,18 @@ pub extern "C" fn jip_lib_uaem_line(
 ) -> i32
     ensures { TextEnds (IsNoteOf bits (date_of date.now) comment.now) (¬ IsComment comment.now) to.old to.new length.old length.new result }
 {
-    c_values::uaem_line(alloc, bits, date, comment, to, length)
+    match uaem_line(alloc, bits, date.date(), comment) {
+        Ok(line) => {
+            *length = put(line.as_bytes(), to);
+            0
+        }
+        Err(refusal) => refusal.number(),
+    }
 }
 
-/// As `c_values::read_uaem`.
+/// Reads a `.uaem` file, as `adf_text::read_uaem` does. The comment is put into the buffer. The status is 0.
+///
+/// Status 2: out of memory. Status 3: the file has a fault. In these cases everything is unchanged.
 #[unsafe(no_mangle)]
 pub extern "C" fn jip_lib_read_uaem(
     alloc: Global,
@@ -37,10 +50,19 @@ pub extern "C" fn jip_lib_read_uaem(
 ) -> i32
     ensures { NoteEnds file.now bits.old bits.new date.old date.new comment.old comment.new length.old length.new result }
 {
-    c_values::read_uaem(alloc, file, bits, date, comment, length)
+    match read_uaem(alloc, file) {
+        Ok(noted) => {
+            *bits = noted.protect.bits();
+            *date = JipDate::of(noted.date);
+            *length = put(noted.comment.bytes(), comment);
+            0
+        }
+        Err(refusal) => refusal.number(),
+    }
 }
 
-/// As `c_values::text_of_date`.
+/// The text of a date: `YYYY-MM-DD hh:mm:ss.cc`, or `raw DAYS MINUTES TICKS` if it has none of this form. The status is 0,
+/// or 2 if memory runs out; then `to` and `length` are unchanged.
 #[unsafe(no_mangle)]
 pub extern "C" fn jip_lib_text_of_date(
     alloc: Global,
@@ -50,26 +72,50 @@ pub extern "C" fn jip_lib_text_of_date(
 ) -> i32
     ensures { TextEnds (IsTextOf (date_of date.now)) ⊥ to.old to.new length.old length.new result }
 {
-    c_values::text_of_date(alloc, date, to, length)
+    match text_of_date(alloc, date.date()) {
+        Ok(text) => {
+            *length = put(text.as_bytes(), to);
+            0
+        }
+        Err(refusal) => refusal.number(),
+    }
 }
 
-/// As `c_values::date_of_text`.
+/// The date that has this text, in the form of `jip_lib_text_of_date`. The status is 0.
+///
+/// Status 2: out of memory. Status 3: no date has this text. In these cases the date is unchanged.
 #[unsafe(no_mangle)]
 pub extern "C" fn jip_lib_date_of_text(alloc: Global, text: &[u8], date: &mut JipDate) -> i32
     ensures { DateOfTextEnds text.now date.old date.new result }
 {
-    c_values::date_of_text(alloc, text, date)
+    match date_of_text(alloc, text) {
+        Ok(found) => {
+            *date = JipDate::of(found);
+            0
+        }
+        Err(refusal) => refusal.number(),
+    }
 }
 
-/// As `c_values::date_of_time`.
+/// The date at a host's time, in seconds and nanoseconds since 1970: the last tick that is not after it. A time before
+/// 1978 is the first date, and one after the last day the last date. The status is 0.
+///
+/// Status 3: a second or more in nanoseconds; the date is unchanged.
 #[unsafe(no_mangle)]
 pub extern "C" fn jip_lib_date_of_time(seconds: i64, nanoseconds: u32, date: &mut JipDate) -> i32
     ensures { DateOfTimeEnds seconds nanoseconds date.old date.new result }
 {
-    c_values::date_of_time(seconds, nanoseconds, date)
+    match date_of_time(seconds, nanoseconds) {
+        Ok(found) => {
+            *date = JipDate::of(found);
+            0
+        }
+        Err(refusal) => refusal.number(),
+    }
 }
 
-/// As `c_values::time_of_date`.
+/// The time of a host for a date, in seconds and nanoseconds since 1970: the start of its tick. Minutes beyond a day and
+/// ticks beyond a minute are added. The status is 0.
 #[unsafe(no_mangle)]
 pub extern "C" fn jip_lib_time_of_date(
     date: &JipDate,
@@ -79,5 +125,8 @@ pub extern "C" fn jip_lib_time_of_date(
     ensures status { result ≡ pos 0 }
     ensures time { IsTimeOf (date_of date.now) seconds.new nanoseconds.new }
 {
-    c_values::time_of_date(date, seconds, nanoseconds)
+    let since = time_of_date(date.date());
+    *seconds = since.as_secs() as i64;
+    *nanoseconds = since.subsec_nanos();
+    0
 }

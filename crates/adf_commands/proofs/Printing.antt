@@ -12,8 +12,7 @@ use Rattle.ados_model.specs.declared.fault.VolumeFault.{VolumeFault}
 use Rattle.ados_run.specs.Refused.{IsRunFault}
 use Rattle.ados_run.specs.declared.run.RunFault.{RunFault}
 use Rattle.ados_run.specs.declared.run.RunFault.TheVariants as of_run
-use Rattle.adf_script.specs.Streams.{Writes}
-use Rattle.adf_io.specs.Prefix.{WritesFront, WritesFrontOf}
+use Rattle.adf_io.specs.Prefix.{Writes, WritesFront, WritesFrontOf}
 use Rattle.adf_export.specs.Listing.{BeginsList, IsList}
 use Rattle.adf_words.specs.declared.job.ImageJob.{ImageJob}
 use Rattle.adf_words.specs.declared.job.ImageJob.TheVariants.{Blank}
@@ -39,9 +38,9 @@ use Rattle.adf_words.specs.declared.query.ListJob.{ListJob}
 use Rattle.adf_words.specs.declared.query.ListOrder.{ListOrder}
 use Rattle.adf_words.specs.declared.query.WhereJob.{WhereJob}
 use Rattle.adf_words.specs.declared.query.UndeleteJob.{UndeleteJob}
-use Rattle.adf_export.specs.declared.undeleting.Undeletion.{Undeletion}
-use Rattle.adf_export.specs.Undelete.{IsUndeletion, key_of}
-use Rattle.adf_export.specs.Where.{IsWhere, IsWhereOf}
+use Rattle.adf_rescue.specs.declared.undeleting.Undeletion.{Undeletion}
+use Rattle.adf_rescue.specs.Undelete.{IsUndeletion, key_of}
+use Rattle.adf_where.specs.Where.{IsWhere, IsWhereOf}
 use Rattle.adf_export.specs.Words.{LeadsTo}
 use Rattle.adf_commands.specs.Archives.{EndsArchive}
 use Rattle.adf_commands.specs.Placed.{DoesWhere, IsBareLine, IsUnplaced, IsWhereText, MayEnd}

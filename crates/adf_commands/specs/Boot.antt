@@ -2,8 +2,8 @@
 use Rattle.std.specs.Prelude.{◌≡◌, ℕ, ◌≤◌, List, [], length, Result, Ok, MatchResult}
 use Rattle.adf_words.specs.declared.boot.BootBlock.{BootBlock}
 use Rattle.adf_words.specs.declared.boot.BootBlock.TheVariants.{Empty, Standard, File}
-use Rattle.adf_boot.specs.declared.standard.TheConstants.{STANDARD_BOOT}
-use Rattle.adf_boot.specs.Boot.{HasBoot, HoldsCode}
+use Rattle.adf_block.specs.declared.standard.TheConstants.{STANDARD_BOOT}
+use Rattle.adf_block.specs.HasBoot.{HasBoot, HoldsCode}
 use Rattle.adf_commands.specs.declared.fault.CommandFault.{CommandFault}
 
 -- the bytes of some file are installed; after a fault the image is as it was

@@ -1,8 +1,7 @@
 -- How a command ends, by the bytes of the image that it reads and by its output.
 use Rattle.std.specs.Prelude.{◌≡◌, ◌⊎◌, ⊤, ℕ, List, Option, Some, Result, Ok, Err, MatchOption, MatchResult}
 use Rattle.std.specs.Io.KnownBytes.{Keeps}
-use Rattle.adf_script.specs.Streams.{Writes}
-use Rattle.adf_io.specs.Prefix.{WritesFrontOf}
+use Rattle.adf_io.specs.Prefix.{Writes, WritesFrontOf}
 use Rattle.adf_words.specs.declared.job.ImageJob.{ImageJob}
 use Rattle.adf_words.specs.declared.job.ImageJob.TheVariants.{AddBundle, Check, Extract, ExtractBundle, Change, Boot, SaveBoot, Salvage, Serve, Where}
 use Rattle.adf_words.specs.declared.query.CheckJob.{CheckJob}

@@ -1,9 +1,9 @@
 -- How `where` ends for blocks: the output for an accepted image, and for a refused one.
 use Rattle.std.specs.Prelude.{◌≡◌, ◌⊎◌, ℕ, Bool, true, false, List, ◌++◌, Option, Result, ⊤}
 use Rattle.adf_block.specs.Image.{block_count}
-use Rattle.adf_export.specs.declared.where_fault.WhereFault.TheVariants.{NoBlock}
-use Rattle.adf_export.specs.Faulty.{IsFaultyWhere}
-use Rattle.adf_export.specs.Where.{IsWhereFault}
+use Rattle.adf_where.specs.declared.where_fault.WhereFault.TheVariants.{NoBlock}
+use Rattle.adf_where.specs.Faulty.{IsFaultyWhere}
+use Rattle.adf_where.specs.Where.{IsWhereFault}
 use Rattle.adf_words.specs.declared.block_word.BlockWord.{BlockWord}
 use Rattle.adf_words.specs.declared.query.WhereJob.{WhereJob}
 use Rattle.adf_commands.specs.declared.fault.CommandFault.{CommandFault}

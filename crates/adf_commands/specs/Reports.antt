@@ -1,8 +1,7 @@
 -- How a command ends that reports on an image, whether the image is accepted or refused.
 use Rattle.std.specs.Prelude.{◌≡◌, ◌⊎◌, ℕ, Bool, true, false, List, Option, Some, Result, Ok, Err}
 use Rattle.std.specs.Io.KnownBytes.{Keeps}
-use Rattle.adf_script.specs.Streams.{Writes}
-use Rattle.adf_io.specs.Prefix.{WritesFrontOf}
+use Rattle.adf_io.specs.Prefix.{Writes, WritesFrontOf}
 use Rattle.adf_commands.specs.declared.fault.CommandFault.{CommandFault}
 use Rattle.adf_commands.specs.declared.fault.CommandFault.TheVariants.{Dos, NotWhole, Refused}
 use Rattle.adf_commands.specs.Refusals.{dos_line, refusal_line, told_line}

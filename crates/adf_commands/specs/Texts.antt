@@ -16,7 +16,7 @@ use Rattle.ados_model.specs.Objects.{disk_info}
 use Rattle.ados_port.specs.Step.{Step}
 use Rattle.ados_port.specs.Step.TheVariants as steps
 use Rattle.ados_port.specs.Step.TheVariants.{Put, Take}
-use Rattle.adf_boot.specs.Shown.{IsBootText}
+use Rattle.adf_block.specs.BootText.{IsBootText}
 use Rattle.adf_export.specs.Info.{info_text}
 use Rattle.adf_export.specs.Listing.{BeginsList, IsList}
 use Rattle.adf_record.specs.declared.told.FactsForm.{FactsForm}
@@ -29,8 +29,8 @@ use Rattle.adf_words.specs.declared.query.ListJob.{ListJob}
 use Rattle.adf_words.specs.declared.query.ListOrder.{ListOrder}
 use Rattle.adf_words.specs.declared.query.UndeleteJob.{UndeleteJob}
 use Rattle.adf_words.specs.declared.query.WhereJob.{WhereJob}
-use Rattle.adf_export.specs.Undelete.{IsUndeleteText, key_of}
-use Rattle.adf_export.specs.Where.{IsWhere, IsWhereOf}
+use Rattle.adf_rescue.specs.Undelete.{IsUndeleteText, key_of}
+use Rattle.adf_where.specs.Where.{IsWhere, IsWhereOf}
 use Rattle.adf_export.specs.Words.{LeadsTo}
 use Rattle.adf_commands.specs.declared.look.Look.{Look}
 use Rattle.adf_commands.specs.declared.look.Look.TheVariants as looks

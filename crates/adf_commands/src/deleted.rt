@@ -5,7 +5,7 @@ ghost use Rattle.adf_commands.specs.Texts.{AreDeletedLines};
 use crate::fault::CommandFault;
 use crate::output::tell;
 use adf_block::Image;
-use adf_export::undelete_entries;
+use adf_rescue::undelete_entries;
 use adf_words::UndeleteJob;
 use std::alloc::Global;
 use std::fs::File;

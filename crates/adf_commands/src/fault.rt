@@ -6,11 +6,12 @@ ghost use Rattle.adf_commands.specs.Refusals.{told_line};
 
 use crate::refusal::{Detail, DosRefusal, Refusal, Room};
 use adf_archive::ArchiveFault;
-use adf_export::{BundleOutFault, OutFault, PrintFault, UndeleteFault};
+use adf_export::{BundleOutFault, OutFault};
 use adf_host::{HoldFault, ReadReason, ReplaceFault, why_unreadable};
 use adf_import::{BundleInFault, InFault};
-use adf_io::InputFault;
+use adf_io::{InputFault, PrintFault};
 use adf_record::Grouped;
+use adf_rescue::UndeleteFault;
 use adf_words::Refused;
 use ados_mend::NotValidated;
 use ados_model::DosError;

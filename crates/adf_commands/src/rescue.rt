@@ -1,16 +1,16 @@
 //! The command `extract --damaged`.
 ghost use Rattle.std.specs.Prelude.{ℕ, List, IfErr, IfOk};
-ghost use Rattle.adf_export.specs.Rescue.{IsRescue};
+ghost use Rattle.adf_rescue.specs.Rescue.{IsRescue};
 ghost use Rattle.adf_commands.specs.Faults.{IsNoImage};
 ghost use Rattle.adf_commands.specs.Rescues.{DoesRescue, IsRescueEnd};
 
 use crate::fault::CommandFault;
 use crate::images::{read_image, unread};
 use adf_block::Image;
-use adf_export::{Doubt, OutFault, PrintFault, Rescue, extract_damaged};
 use adf_host::read_filled_file;
-use adf_io::{Filled, write_output};
+use adf_io::{Filled, PrintFault, write_output};
 use adf_record::Grouped;
+use adf_rescue::{Doubt, Rescue, RescueFault, extract_damaged};
 use adf_text::print_line;
 use adf_words::{ImageFile, SalvageJob};
 use std::alloc::Global;
@@ -161,7 +161,7 @@ fn rescue_of<'a, R: Files<File = File>>(
 {
     match extract_damaged(rt, alloc, image, job) {
         Ok(rescue) => Ok(rescue),
-        Err(OutFault::Host(fault)) => Err(CommandFault::Extracted(fault)),
-        Err(_) => Err(CommandFault::Memory),
+        Err(RescueFault::Host(fault)) => Err(CommandFault::Extracted(fault)),
+        Err(RescueFault::Memory) => Err(CommandFault::Memory),
     }
 }

@@ -16,8 +16,7 @@ pub climbs : (t : Tree) (depth key above : ℕ) (keys : List ℕ) → parent_of 
     → front t depth above ++ names_down t (keys ++ key ∷ []) ≡ front t (suc depth) key ++ names_down t keys
 unfolding front
 climbs t depth key above keys up =
-    rw up (ap (λ (l : List ℕ). front t depth above ++ l) (names_pushed t keys key)
-    ∙ sym (append_assoc (front t depth above) (name_of t key ++ 47 ∷ []) (names_down t keys)))
+    rw up (simp (names_pushed t keys key, append_assoc))
 
 -- the path before the names in the root is empty
 pub nothing_above : (t : Tree) (depth key : ℕ) → parent_of t key ≡ None → front t depth key ≡ []
@@ -33,7 +32,4 @@ nothing_deeper t depth key none = rw none refl
 -- the last of the keys is the first of the names
 pub names_popped : (t : Tree) (keys : List ℕ) (key : ℕ) (text : List ℕ)
     → text ++ names_down t (keys ++ key ∷ []) ≡ text ++ name_of t key ++ 47 ∷ [] ++ names_down t keys
-names_popped t keys key text =
-    ap (λ (l : List ℕ). text ++ l) (names_pushed t keys key)
-    ∙ sym (append_assoc text (name_of t key ++ 47 ∷ []) (names_down t keys))
-    ∙ ap (λ (l : List ℕ). l ++ names_down t keys) (sym (append_assoc text (name_of t key) (47 ∷ [])))
+names_popped t keys key text = simp (names_pushed t keys key, append_assoc)

@@ -1,4 +1,4 @@
--- Lemmas about the listing of a directory, the lines of its entries, entries that become files of the host, owned blocks, the faults of a block, and a loop over a `zip`.
+-- Lemmas about the listing of a directory, the lines of its entries, and entries that become files of the host.
 pub mod Levels
 pub mod Lists
 pub mod Sorting
@@ -8,7 +8,6 @@ pub mod Files
 pub mod Left
 pub mod Directories
 pub mod InOrder
-pub mod Outcomes
 pub mod Fronting
 pub mod Padding
 pub mod ListingSteps
@@ -17,10 +16,3 @@ pub mod Under
 pub mod Entries
 pub mod Going
 pub mod Leading
-pub mod Belonging
-pub mod FaultsThere
-mod Telling
-mod TellingObjects
-mod Asking
-mod Zipped
-mod Pieces

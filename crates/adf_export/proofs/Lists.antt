@@ -1,8 +1,16 @@
 -- Lists without duplicates, and concatenated lists.
-use Rattle.std.proofs.Common.{◌≡◌, ◌≢◌, ℕ, ◌+◌, List, [], ◌∷◌, length, Contains, length-append, refl, sym, ap₂, ◌∙◌, subst}
+use Rattle.std.proofs.Common.{◌≡◌, ◌≢◌, ℕ, ◌+◌, inl, inr, List, [], ◌∷◌, length, Contains, length-append, refl, sym, ap₂, ◌∙◌, subst}
 use Rattle.std.specs.List.{flat_map}
-use Rattle.ados_model.proofs.KeyLists.{Once, Once-head, Once-tail, Contains-here, Contains-later, Once-append}
-use Rattle.ados_faults.proofs.Rooted.{in_joined}
+use Rattle.std.proofs.lemmas.List.Elements.{Contains-append_cases}
+use Rattle.ados_model.proofs.KeyLists.{Once, Once-head, Once-tail, Contains-here, Contains-later, Contains-nil, Once-append}
+
+-- an element of a concatenation is in one of its lists
+pub in_joined : (f : ℕ → List ℕ) (xs : List ℕ) (y : ℕ) → Contains (flat_map f xs) y → (x : ℕ) × Contains xs x × Contains (f x) y
+in_joined f [] y m = absurd (Contains-nil y m)
+in_joined f (x ∷ xs) y m = elim (Contains-append_cases (f x) (flat_map f xs) y m) [
+  | inl here ↦ (x, Contains-here x xs, here)
+  | inr later ↦ let r = in_joined f xs y later in (r.0, Contains-later x xs r.0 r.1, r.2)
+]
 
 -- lists without common elements
 pub Once-joined : (f : ℕ → List ℕ) (xs : List ℕ) → Once xs → ((x : ℕ) → Contains xs x → Once (f x))

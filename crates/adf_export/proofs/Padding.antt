@@ -9,15 +9,8 @@ blanks n =
     let left : 8 - min n 8 ≡ 8 - n = omega arith in
     drop-replicate (min n 8) 8 32 ∙ ap (λ (k : ℕ). replicate k 32) left
 
-pub five_pieces : (text a b c d e : List ℕ) → text ++ a ++ b ++ c ++ d ++ e ≡ text ++ (a ++ b ++ c ++ d ++ e)
-five_pieces text a b c d e =
-    ap (λ (l : List ℕ). l ++ c ++ d ++ e) (append_assoc text a b)
-    ∙ ap (λ (l : List ℕ). l ++ d ++ e) (append_assoc text (a ++ b) c)
-    ∙ ap (λ (l : List ℕ). l ++ e) (append_assoc text (a ++ b ++ c) d)
-    ∙ append_assoc text (a ++ b ++ c ++ d) e
-
 pub six_pieces : (text a b c d e f : List ℕ) → text ++ a ++ b ++ c ++ d ++ e ++ f ≡ text ++ (a ++ b ++ c ++ d ++ e ++ f)
-six_pieces text a b c d e f = ap (λ (l : List ℕ). l ++ f) (five_pieces text a b c d e) ∙ append_assoc text (a ++ b ++ c ++ d ++ e) f
+six_pieces text a b c d e f = simp append_assoc
 
 -- no comment, and one in quotes
 module _ (text comment : List ℕ) where

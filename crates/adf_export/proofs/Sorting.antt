@@ -76,26 +76,21 @@ module _ (before : ℕ → ℕ → Bool) where
 
 -- the keys of a directory in an order are its entries, each once
 module _ (t : Tree) where
-  pub ordered_has : (order : ListOrder) (dir x : ℕ) → Contains (ordered t order dir) x → Contains (entries t dir) x
+  by_order : (P : List ℕ → Type 0) (order : ListOrder) (dir : ℕ) → P (entries t dir) → ((before : ℕ → ℕ → Bool) → P (sorted before (entries t dir))) → P (ordered t order dir)
   unfolding ordered
-  ordered_has Disk dir x m = m
-  ordered_has Name dir x m = sorted_has (comes_before t Name) (entries t dir) x m
-  ordered_has Size dir x m = sorted_has (comes_before t Size) (entries t dir) x m
-  ordered_has Date dir x m = sorted_has (comes_before t Date) (entries t dir) x m
+  by_order P Disk dir same other = same
+  by_order P Name dir same other = other (comes_before t Name)
+  by_order P Size dir same other = other (comes_before t Size)
+  by_order P Date dir same other = other (comes_before t Date)
+
+  pub ordered_has : (order : ListOrder) (dir x : ℕ) → Contains (ordered t order dir) x → Contains (entries t dir) x
+  ordered_has order dir x = by_order (λ (keys : List ℕ). Contains keys x → Contains (entries t dir) x) order dir (λ m. m) (λ before m. sorted_has before (entries t dir) x m)
 
   pub ordered_once : (order : ListOrder) (dir : ℕ) → Once (entries t dir) → Once (ordered t order dir)
-  unfolding ordered
-  ordered_once Disk dir once = once
-  ordered_once Name dir once = sorted_once (comes_before t Name) (entries t dir) once
-  ordered_once Size dir once = sorted_once (comes_before t Size) (entries t dir) once
-  ordered_once Date dir once = sorted_once (comes_before t Date) (entries t dir) once
+  ordered_once order dir once = by_order Once order dir once (λ before. sorted_once before (entries t dir) once)
 
   pub ordered_none : (order : ListOrder) (dir : ℕ) → entries t dir ≡ [] → ordered t order dir ≡ []
-  unfolding ordered
-  ordered_none Disk dir none = none
-  ordered_none Name dir none = ap (sorted (comes_before t Name)) none ∙ sorted_none (comes_before t Name)
-  ordered_none Size dir none = ap (sorted (comes_before t Size)) none ∙ sorted_none (comes_before t Size)
-  ordered_none Date dir none = ap (sorted (comes_before t Date)) none ∙ sorted_none (comes_before t Date)
+  ordered_none order dir none = by_order (λ (keys : List ℕ). keys ≡ []) order dir none (λ before. ap (sorted before) none ∙ sorted_none before)
 
   -- as in the directory, and sorted
   pub ordered_disk : (order : ListOrder) (dir : ℕ) → order ≡ Disk → ordered t order dir ≡ entries t dir

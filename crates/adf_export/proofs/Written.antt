@@ -5,16 +5,15 @@ use Rattle.std.proofs.KnownBytes.{Appends-nil}
 use Rattle.std.proofs.lemmas.List.{nil_from_length}
 use Rattle.ados_model.specs.Tree.{Tree}
 use Rattle.adf_export.specs.declared.listing.Listing.{Listing}
-use Rattle.adf_script.specs.Streams.{Writes}
-use Rattle.adf_io.specs.Prefix.{WritesFront, WritesFrontOf}
+use Rattle.adf_io.specs.Prefix.{Passes, Writes, WritesFront, WritesFrontOf}
 use Rattle.ados_volume.specs.Located.{Located}
 use Rattle.adf_words.specs.declared.query.ListForm.{ListForm}
 use Rattle.adf_words.specs.declared.query.ListOrder.{ListOrder}
 use Rattle.adf_export.specs.Listing.{AreEntries, BeginsList, BeginsListing, IsList, IsListing, listed, head}
 use Rattle.adf_export.specs.steps.Levels.{IsSoFar, work}
-use Rattle.adf_export.specs.steps.Going.{GoesOn, Passes, Starts}
+use Rattle.adf_export.specs.steps.Going.{GoesOn, Starts}
 use Rattle.adf_export.proofs.InOrder.{entries_append}
-use Rattle.adf_export.proofs.Telling.{IsBegun, begun_with, told_all, told_front, told_more, told_part, told_passed}
+use Rattle.adf_io.proofs.Telling.{IsBegun, begun_with, told_all, told_front, told_more, told_part, told_passed}
 
 -- a list of the entries so far is written, but for its end, which waits; the remaining turns suffice for what is left
 pub record IsWritten (t : Tree) (order : ListOrder) (dir : ℕ) (s : ListForm) (old new : Option (List ℕ)) (at : Listing) (turns : ℕ) : Type 0 where

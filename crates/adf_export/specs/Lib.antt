@@ -7,9 +7,4 @@ pub mod Words
 pub mod Printing
 pub mod Items
 pub mod Bytes
-pub mod Rescue
-pub mod RescueObject
-pub mod Where
-pub mod Faulty
-pub mod Undelete
 pub mod steps

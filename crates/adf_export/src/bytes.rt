@@ -76,7 +76,7 @@ fn note_bytes(alloc: Global, volume: &Volume, key: u32) -> Result<Vec<u8>, Alloc
 }
 
 /// The line of a note.
-pub(crate) fn line_of(alloc: Global, noted: &Uaem) -> Result<Vec<u8>, AllocError>
+fn line_of(alloc: Global, noted: &Uaem) -> Result<Vec<u8>, AllocError>
     ensures { IfOk result (λ line. IsLineOf noted.now line.items) }
 {
     Ok(uaem_line(alloc, noted)?.into_bytes())

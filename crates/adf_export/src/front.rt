@@ -6,6 +6,7 @@ ghost use Rattle.ados_model.specs.Tree.{Tree};
 ghost use Rattle.adf_export.specs.Listing.{front, front_above, path_of};
 ghost use Rattle.adf_export.specs.steps.Fronting.{names_down};
 
+use crate::keys::name_of;
 use ados_volume::Volume;
 use std::alloc::{AllocError, Global};
 
@@ -15,7 +16,7 @@ pub fn path_of(alloc: Global, volume: &Volume, key: u32) -> Result<Vec<u8>, Allo
     ensures { IfOk result (λ path. (t : Tree) → Stands volume.now.image t → path.items ≡ path_of t key) }
 {
     let mut path = front_above(alloc, volume, key)?;
-    path.extend_from_slice(volume.examine(key).name.bytes())?;
+    path.extend_from_slice(name_of(volume, key).bytes())?;
     Ok(path)
 }
 
@@ -38,7 +39,7 @@ pub(crate) fn front_of(alloc: Global, volume: &Volume, dir: u32) -> Result<Vec<u
     let mut keys = keys_up(alloc, volume, dir)?;
     let mut text = Vec::new(alloc);
     while let Some(key) = keys.pop() {
-        text.extend_from_slice(volume.examine(key).name.bytes())?;
+        text.extend_from_slice(name_of(volume, key).bytes())?;
         text.push(b'/')?;
     }
     Ok(text)

@@ -4,6 +4,7 @@ ghost use Rattle.ados_model.specs.Stands.{Stands};
 ghost use Rattle.ados_model.specs.Tree.{Tree};
 ghost use Rattle.adf_export.specs.Listing.{head, volume_line};
 
+use crate::keys::name_of;
 use crate::lines::push_names;
 use adf_words::ListForm;
 use ados_volume::Volume;
@@ -19,9 +20,7 @@ pub(crate) fn head_text(
 {
     match form {
         ListForm::Bytes => volume_line(alloc, volume, false),
-        ListForm::Letters => volume_line(alloc, volume, true),
-        ListForm::Long => volume_line(alloc, volume, true),
-        ListForm::Bold => volume_line(alloc, volume, true),
+        ListForm::Letters | ListForm::Long | ListForm::Bold => volume_line(alloc, volume, true),
         ListForm::Json => Ok(Vec::new(alloc)),
     }
 }
@@ -32,7 +31,7 @@ fn volume_line(alloc: Global, volume: &Volume, letters: bool) -> Result<Vec<u8>,
 {
     let mut text = Vec::new(alloc);
     text.extend_from_slice(b"Volume ")?;
-    let volume_name = volume.examine(volume.root()).name;
+    let volume_name = name_of(volume, volume.root());
     push_names(alloc, &mut text, volume_name.bytes(), letters)?;
     text.push(b'\n')?;
     Ok(text)

@@ -4,9 +4,8 @@ ghost use Rattle.std.specs.Io.KnownBytes.{Appends, Keeps};
 ghost use Rattle.adf_io.specs.Prefix.{WritesFront};
 ghost use Rattle.adf_export.specs.Info.{boot_line, info_text};
 
-use crate::output::write_text;
-use crate::print_fault::PrintFault;
 use adf_block::Image;
+use adf_io::{PrintFault, write_text};
 use adf_script::text::results_text;
 use ados_model::Answer;
 use std::alloc::Global;

@@ -6,11 +6,12 @@ ghost use Rattle.ados_chain.specs.declared.read.Next.TheVariants.{Entry};
 ghost use Rattle.ados_model.specs.Change.{entries_after};
 ghost use Rattle.ados_model.specs.Keys.{HasDirectory, HasKey};
 ghost use Rattle.ados_model.specs.Stands.{Stands};
-ghost use Rattle.ados_model.specs.Tree.{Tree, Node};
+ghost use Rattle.ados_model.specs.Tree.{Tree, Node, name_of};
 ghost use Rattle.ados_model.specs.Objects.{file_info};
 ghost use Rattle.ados_volume.specs.Order.{IsPlaceIn};
 
 use ados_model::FileInfo;
+use ados_name::Name;
 use ados_volume::{Next, Volume};
 
 /// The entry type of a directory other than the root.
@@ -41,6 +42,14 @@ pub(crate) fn describe(volume: &Volume, key: u32) -> FileInfo
     ensures info { (t : Tree) (node : Node) → Stands volume.now.image t → t.nodes key ≡ Some node → result ≡ file_info t.format key node }
 {
     volume.examine(key)
+}
+
+/// The name of an object.
+pub(crate) fn name_of(volume: &Volume, key: u32) -> Name
+    requires { HasKey volume.now.image key }
+    ensures { (t : Tree) → Stands volume.now.image t → result ≡ name_of t key }
+{
+    volume.examine(key).name
 }
 
 /// Whether the object is a directory other than the root.

@@ -22,7 +22,8 @@ pub(crate) fn read_files<R: Files>(
     bundle: &Bundle,
     directory: &str,
 ) -> Result<Vec<Vec<u8>>, BundleInFault> {
-    refuse_no_top(rt, alloc, directory)?;
+    let top = format!(in alloc; "{directory}/files")?;
+    refuse_no_directory(rt, alloc, top.as_str())?;
     let mut contents = Vec::new(alloc);
     let mut room = bundle.head.blocks as u64 * BLOCK_BYTES as u64;
     for entry in bundle.entries.iter() {
@@ -31,12 +32,6 @@ pub(crate) fn read_files<R: Files>(
         contents.push(bytes)?;
     }
     Ok(contents)
-}
-
-/// Refuses what stands in place of `files`.
-fn refuse_no_top<R: Files>(rt: &R, alloc: Global, directory: &str) -> Result<(), BundleInFault> {
-    let path = format!(in alloc; "{directory}/files")?;
-    refuse_no_directory(rt, alloc, path.as_str())
 }
 
 /// The bytes of an entry, if there is so much room for them.

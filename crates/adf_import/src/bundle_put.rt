@@ -1,19 +1,17 @@
 //! The volume of a bundle.
-ghost use Rattle.std.specs.Prelude.{IfOk, IsTrue, OnOk, map};
+ghost use Rattle.std.specs.Prelude.{IfOk, IsTrue, map};
 ghost use Rattle.ados_model.specs.Stands.{Stands};
 ghost use Rattle.ados_model.specs.Tree.{Tree};
 ghost use Rattle.adf_record.specs.Bundle.{AreBundleOf, AreContentsOf};
-ghost use Rattle.adf_import.specs.Progress.{Advances, IsReady};
 
 use crate::bundle_fault::BundleInFault;
 use crate::bundle_files::host_path;
-use crate::fault::{InFault, refused};
-use crate::item::{Content, How, Item, put_bytes, put_directory};
+use crate::fault::refused;
+use crate::item::{Content, How, Item, put_item};
 use crate::paths::directory_at;
 use crate::progress::Progress;
 use adf_block::layout::{CHECKSUM, DATE};
-use adf_block::{Image, size_ok};
-use adf_boot::restore_boot;
+use adf_block::{Image, restore_boot, size_ok};
 use adf_record::{Bundle, BundleEntry, bundle_of, contents_of, same_bundle, same_contents};
 use adf_text::Uaem;
 use ados_change::put_date;
@@ -97,6 +95,8 @@ fn date_root(image: &mut Image, date: Date3) {
 
 /// Puts all entries of a bundle into a volume. Metadata of directories is set last, because each entry put into a
 /// directory sets its date.
+///
+/// Error: 203 if two entries have one name.
 fn put_entries(
     alloc: Global,
     volume: &mut Volume,
@@ -107,7 +107,10 @@ fn put_entries(
     let Ok(top) = directory_at(volume, b"") else {
         return Err(BundleInFault::Unlike);
     };
-    let moment = bundle.head.changed;
+    let how = How {
+        force: false,
+        moment: bundle.head.changed,
+    };
     let mut progress = Progress::new(alloc, bundle.head.blocks)?;
     for (place, entry) in bundle.entries.iter().enumerate() {
         let path = host_path(alloc, directory, &bundle.entries, entry)?;
@@ -117,45 +120,19 @@ fn put_entries(
             name: entry.name,
             noted: noted_of(entry),
         };
-        let bytes = match entry.size {
-            Some(_) => contents.get(place),
-            None => None,
+        let content = match (entry.size, contents.get(place)) {
+            (Some(_), Some(bytes)) => Some(Content {
+                bytes: bytes.as_slice(),
+                more: 0,
+            }),
+            _ => None,
         };
-        put_entry(alloc, volume, &item, bytes, moment, &mut progress)?;
+        if !put_item(alloc, volume, &item, content, how, &mut progress)? {
+            return Err(BundleInFault::from(refused(alloc, item.path, DosError::ObjectExists)));
+        }
     }
-    progress.note_directories(volume, moment);
+    progress.note_directories(volume, how.moment);
     Ok(())
-}
-
-/// Puts a file with these bytes, or makes a directory, which has none.
-///
-/// Error: 203 if an entry has the name.
-fn put_entry(
-    alloc: Global,
-    volume: &mut Volume,
-    item: &Item<'_>,
-    bytes: Option<&Vec<u8>>,
-    moment: Date3,
-    progress: &mut Progress,
-) -> Result<(), InFault>
-    requires { IsReady volume.old.image item.now.dir progress.old }
-    ensures { OnOk result (Advances volume.old.image volume.new.image progress.new) }
-{
-    let how = How {
-        force: false,
-        moment,
-    };
-    if let Some(bytes) = bytes {
-        let content = Content {
-            bytes: bytes.as_slice(),
-            more: 0,
-        };
-        return put_bytes(alloc, volume, item, content, how, progress);
-    }
-    if put_directory(alloc, volume, item, how, progress)? {
-        return Ok(());
-    }
-    Err(refused(alloc, item.path, DosError::ObjectExists))
 }
 
 /// The metadata of an entry.

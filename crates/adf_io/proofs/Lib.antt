@@ -3,3 +3,5 @@ mod Parts
 mod Fronts
 mod Puts
 pub mod Prefixes
+pub mod Telling
+pub mod Outcomes

@@ -6,6 +6,7 @@ mod input;
 mod load;
 mod output;
 mod part;
+mod printing;
 mod store;
 
 pub use input::{Input, InputFault, read_bounded, read_counted, read_input};
@@ -14,4 +15,5 @@ pub use load::{
 };
 pub use output::{StoreFault, write_output};
 pub use part::read_some;
+pub use printing::{PrintFault, write_text, write_when_long};
 pub use store::store_image;

@@ -4,3 +4,4 @@ pub mod Pieces
 pub mod Entries
 pub mod Lines
 pub mod Mapped
+pub mod Written

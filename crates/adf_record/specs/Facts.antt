@@ -2,7 +2,7 @@
 use Rattle.std.specs.Prelude.{◌≡◌, ℕ, ◌-◌, Bool, List}
 use Rattle.adf_block.specs.declared.layout.TheConstants.{BOOT_BLOCKS}
 use Rattle.ados_model.specs.Tree.{Tree, free, name_of, root}
-use Rattle.adf_boot.specs.Code.{IsBootCode}
+use Rattle.adf_block.specs.BootCode.{IsBootCode}
 use Rattle.adf_record.specs.declared.facts.Facts.{Facts}
 use Rattle.adf_record.specs.Counts.{AreCounts}
 

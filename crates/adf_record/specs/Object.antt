@@ -5,8 +5,8 @@ use Rattle.json.specs.Print.{print}
 use Rattle.adf_block.specs.declared.layout.Format.{Format}
 use Rattle.adf_block.specs.declared.layout.Format.TheVariants.{Ofs, Ffs}
 use Rattle.ados_name.specs.Date.{IsTextOf}
-use Rattle.adf_boot.specs.declared.kind.BootCode.{BootCode}
-use Rattle.adf_boot.specs.declared.kind.BootCode.TheVariants.{Empty, Wrong, Standard, Custom}
+use Rattle.adf_block.specs.declared.code.BootCode.{BootCode}
+use Rattle.adf_block.specs.declared.code.BootCode.TheVariants.{Empty, Wrong, Standard, Custom}
 use Rattle.adf_text.specs.Letters.{letters}
 use Rattle.adf_record.specs.declared.facts.Facts.{Facts}
 

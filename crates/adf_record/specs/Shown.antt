@@ -3,7 +3,7 @@ use Rattle.std.specs.Prelude.{◌≡◌, ℕ, ◌/◌, ◌%◌, ◌==◌, nat_lt
 use Rattle.adf_block.specs.declared.layout.Format.{Format}
 use Rattle.adf_block.specs.declared.layout.Format.TheVariants.{Ofs, Ffs}
 use Rattle.ados_name.specs.declared.stamp.Date3.{Date3}
-use Rattle.adf_boot.specs.Shown.{code_line}
+use Rattle.adf_block.specs.BootText.{code_line}
 use Rattle.adf_text.specs.Letters.{letters}
 use Rattle.adf_text.specs.Plain.{plain}
 use Rattle.adf_record.specs.declared.facts.Facts.{Facts}

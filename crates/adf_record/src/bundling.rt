@@ -6,8 +6,8 @@ ghost use Rattle.ados_model.specs.Tree.{Node, Tree, root};
 ghost use Rattle.adf_record.specs.Bundle.{AreBundleOf, AreEntriesOf, IsEntryOf, IsHeadOf, file_size};
 
 use crate::bundle::{Bundle, BundleEntry, BundleHead};
+use adf_block::boot_bytes;
 use adf_block::layout::{CREATION_DATE, DISK_DATE};
-use adf_boot::boot_bytes;
 use ados_name::Date3;
 use ados_volume::{Below, Volume, entries_below};
 use std::alloc::{AllocError, Global};
@@ -43,7 +43,7 @@ fn head_of(volume: &Volume) -> BundleHead
 }
 
 /// The date at this long of the root.
-fn root_date(volume: &Volume, at: u32) -> Date3
+pub(crate) fn root_date(volume: &Volume, at: u32) -> Date3
     requires { at ≤ 125 }
     ensures { (t : Tree) → Stands volume.now.image t → result ≡ date_at volume.now.image (root t) at }
 {

@@ -5,7 +5,7 @@ ghost use Rattle.adf_record.specs.Shown.{IsFactsText, PushesDates, contents_line
 use crate::contents::{contents_line, volume_words};
 use crate::facts::Facts;
 use crate::second::push_second;
-use adf_boot::code_line;
+use adf_block::code_line;
 use adf_text::{letter_text, push_plain};
 use std::alloc::{AllocError, Global};
 

@@ -3,8 +3,7 @@ ghost use Rattle.std.specs.Prelude.{◌≡◌};
 ghost use Rattle.adf_record.specs.Shown.{bitmap_words, density_words, format_word};
 ghost use Rattle.adf_record.specs.Object.{boot_word, kind_word};
 
-use adf_block::Format;
-use adf_boot::BootCode;
+use adf_block::{BootCode, Format};
 
 /// The blocks of a double-density floppy.
 const DOUBLE_DENSITY: u32 = 1_760;

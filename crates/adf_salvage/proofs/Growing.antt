@@ -1,31 +1,21 @@
 -- The entries while they are gathered, one by one.
-use Rattle.std.proofs.Common.{◌≡◌, ◌≢◌, ℕ, ◌+◌, ◌*◌, ◌<◌, ◌≤◌, inl, inr, true, false, All, List, [], ◌∷◌, ◌++◌, length, map, slice_index, get_or-set_same, get_or-set_other, length-set, Contains, Option, None, Some, IsSome, is_some, refl, sym, ap, ◌∙◌, subst, arith}
+use Rattle.std.proofs.Common.{◌≡◌, ◌≢◌, ℕ, ◌+◌, ◌*◌, ◌<◌, ◌≤◌, inl, inr, true, false, All, List, [], ◌∷◌, ◌++◌, length, slice_index, get_or-set_same, get_or-set_other, length-set, Contains, Option, None, Some, IsSome, is_some, refl, sym, ap, ◌∙◌, subst, arith}
 use Rattle.std.proofs.Math.ListN.{set}
 use Rattle.std.proofs.lemmas.Bool.{cases_lt, cases_eq}
-use Rattle.std.proofs.lemmas.List.{get_or_append_left, get_or_push, length-append, length-map}
-use Rattle.std.proofs.lemmas.List.Elements.{Contains-append_left, Contains-append_right}
+use Rattle.std.proofs.lemmas.List.{get_or_append_left, get_or_push, length-append, length-map, map-append}
+use Rattle.std.proofs.lemmas.List.Elements.{All-nil, All-push, Contains-append_left, Contains-append_right}
 use Rattle.adf_block.specs.Image.{block_count}
 use Rattle.adf_block.specs.Whole.{text_at}
 use Rattle.adf_block.specs.declared.layout.TheConstants.{NAME_BYTE}
 use Rattle.ados_name.specs.Name.{IsName}
-use Rattle.ados_volume.specs.declared.below.Below.{Below}
 use Rattle.adf_salvage.specs.declared.gathered.Gathered.{Gathered}
+use Rattle.adf_salvage.specs.declared.known.Known.{Known}
 use Rattle.adf_salvage.specs.declared.salvaged.Salvaged.{Salvaged}
 use Rattle.adf_salvage.specs.declared.salvaged.State.TheVariants.{Lost}
 use Rattle.adf_salvage.specs.Lost.{IsLost}
-use Rattle.adf_salvage.specs.Salvaged.{IsLostEntry, IsTold, broken_length, broken_total, headers_of, located_of}
+use Rattle.adf_salvage.specs.Salvaged.{IsLostEntry, IsTold, broken_length, broken_total, headers_of}
 use Rattle.adf_salvage.specs.steps.Giving.{IsGiving}
-use Rattle.adf_salvage.specs.steps.Gathering.{AreGathered, GathersMore, place_at}
-
-pub headers_more : (xs : List Salvaged) (e : Salvaged) → headers_of (xs ++ e ∷ []) ≡ headers_of xs ++ e.header ∷ []
-headers_more [] e = refl
-headers_more (x ∷ xs) e = ap (λ (ys : List ℕ). x.header ∷ ys) (headers_more xs e)
-
-pub all_more : {X : Type 0} (P : X → Type 0) (xs : List X) (e : X) → All P xs → P e → All P (xs ++ e ∷ [])
-all_more P xs e all last k d l = elim (cases_lt k (length xs)) [
-  | inl a ↦ subst P (sym (get_or_append_left xs (e ∷ []) d k a)) (all k d a)
-  | inr a ↦ (let here : length xs ≡ k = omega (arith, a, l, length-append xs (e ∷ [])) in subst P (sym (get_or_push xs e d k here)) last)
-]
+use Rattle.adf_salvage.specs.steps.Gathering.{AreGathered, AreGatheredBy, GathersMore, place_at}
 
 -- the bytes of broken files, with one more entry
 pub broken_more : (xs : List Salvaged) (e : Salvaged) → broken_total (xs ++ e ∷ []) ≡ broken_total xs + broken_length e.state
@@ -37,14 +27,11 @@ pub none_broken : broken_total [] ≡ 0
 unfolding broken_total
 none_broken = refl
 
-pub none_told : {X : Type 0} (P : X → Type 0) → All P []
-none_told P k d l = absurd (omega (arith, l))
-
 -- nothing is found yet
 pub gathers_none : (out image : List ℕ) (g : Gathered) → g.entries.items ≡ [] → length g.places.items ≡ block_count image → ((block : ℕ) → place_at g.places.items block ≡ None) → IsGiving image g.giving
     → g.giving.left ≤ 4 * length image → AreGathered out image g
 gathers_none out image g entries size places giving share = record {
-  told = subst (All (IsTold out image)) (sym entries) (none_told (IsTold out image));
+  told = subst (All (IsTold out image)) (sym entries) (All-nil (IsTold out image));
   size = size;
   placed = λ i l. absurd (omega (arith, l, ap (λ (es : List Salvaged). length (headers_of es)) entries));
   met = λ block some.
@@ -53,7 +40,11 @@ gathers_none out image g entries size places giving share = record {
   bounded = omega (arith, share, ap broken_total entries, none_broken);
 }
 
-module _ (out image : List ℕ) (old new : Gathered) (g : AreGathered out image old) (e : Salvaged) (block : ℕ) (told : IsTold out image e) (is : e.header ≡ block) (below : block < block_count image) (free : place_at old.places.items block ≡ None) where
+module _ (known : Known) (old new : Gathered) (by : AreGatheredBy known old) (e : Salvaged) (block : ℕ) (told : IsTold known.left_out known.image e) (is : e.header ≡ block) (below : block < block_count known.image)
+    (free : place_at old.places.items block ≡ None) where
+  g : AreGathered known.left_out known.image old
+  g = by.so_far
+
   inside : block < length old.places.items
   inside = omega (arith, below, g.size)
 
@@ -68,14 +59,14 @@ module _ (out image : List ℕ) (old new : Gathered) (g : AreGathered out image 
 
   -- one more entry, whose state takes its share
   pub gathers_more : (place : ℕ) → new.entries.items ≡ old.entries.items ++ e ∷ [] → new.places.items ≡ set old.places.items block (Some place) → place ≡ length old.entries.items
-      → IsGiving image new.giving → broken_length e.state + new.giving.left ≡ old.giving.left → GathersMore out image old new × IsSome (place_at new.places.items block)
+      → IsGiving known.image new.giving → broken_length e.state + new.giving.left ≡ old.giving.left → GathersMore known old new × IsSome (place_at new.places.items block)
   gathers_more place grown noted at giving share =
       let more_headers : headers_of new.entries.items ≡ headers_of old.entries.items ++ block ∷ [] =
-      ap headers_of grown ∙ headers_more old.entries.items e ∙ ap (λ (b : ℕ). headers_of old.entries.items ++ b ∷ []) is in
+      ap headers_of grown ∙ map-append (λ (entry : Salvaged). entry.header) old.entries.items (e ∷ []) ∙ ap (λ (b : ℕ). headers_of old.entries.items ++ b ∷ []) is in
       let here : place_at new.places.items block ≡ Some place = ap (λ (ps : List (Option ℕ)). place_at ps block) noted ∙ now_met place in
       let there : (b : ℕ) → b ≢ block → place_at new.places.items b ≡ place_at old.places.items b = λ b other. ap (λ (ps : List (Option ℕ)). place_at ps b) noted ∙ still place b other in
-      let gathered : AreGathered out image new = record {
-        told = subst (All (IsTold out image)) (sym grown) (all_more (IsTold out image) old.entries.items e g.told told);
+      let gathered : AreGathered known.left_out known.image new = record {
+        told = subst (All (IsTold known.left_out known.image)) (sym grown) (All-push (IsTold known.left_out known.image) old.entries.items e g.told told);
         size = ap length noted ∙ length-set old.places.items block (Some place) ∙ g.size;
         placed = λ i l.
             let same : slice_index (headers_of new.entries.items) i ≡ slice_index (headers_of old.entries.items ++ block ∷ []) i = ap (λ (xs : List ℕ). slice_index xs i) more_headers in
@@ -97,7 +88,7 @@ module _ (out image : List ℕ) (old new : Gathered) (g : AreGathered out image 
         bounded = omega (arith, g.bounded, share, ap broken_total grown, broken_more old.entries.items e);
       } in (
         (
-          gathered,
+          record { sure = by.sure; so_far = gathered },
           λ b some. elim (cases_eq b block) [
             | inl a ↦ ap (λ (k : ℕ). is_some (place_at new.places.items k)) a ∙ ap is_some here
             | inr a ↦ ap is_some (there b a) ∙ some
@@ -118,7 +109,3 @@ lost_told out image block e lost is name named valid state = record {
 -- it takes no share of the bytes
 pub lost_takes_none : (e : Salvaged) (left : ℕ) → e.state ≡ Lost → broken_length e.state + left ≡ left
 lost_takes_none e left is = omega (arith, ap broken_length is)
-
-pub located_more : (xs : List Salvaged) (e : Salvaged) → map located_of (xs ++ e ∷ []) ≡ map located_of xs ++ located_of e ∷ []
-located_more [] e = refl
-located_more (x ∷ xs) e = ap (λ (ys : List Below). located_of x ∷ ys) (located_more xs e)

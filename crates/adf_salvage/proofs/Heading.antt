@@ -3,7 +3,7 @@ use Rattle.std.proofs.Common.{◌≡◌, ◌≢◌, ℕ, ◌+◌, ◌<◌, ◌�
 use Rattle.std.proofs.Math.ListN.{set}
 use Rattle.std.proofs.lemmas.Bool.{cases_eq, cases_order}
 use Rattle.std.proofs.lemmas.List.{get_or_append_left, get_or_default, length-append}
-use Rattle.std.proofs.lemmas.List.Elements.{Contains-append_left, Contains-append_right}
+use Rattle.std.proofs.lemmas.List.Elements.{All-push, Contains-append_left, Contains-append_right}
 use Rattle.std.proofs.lemmas.List.Quantifiers.{all_pairs_push}
 use Rattle.adf_block.specs.Image.{block_count}
 use Rattle.ados_check.proofs.Counting.{AreDifferent, different_few}
@@ -12,7 +12,6 @@ use Rattle.adf_salvage.specs.Doubtful.{IsHeader, IsNamedHeader, IsRoot, IsToldHe
 use Rattle.adf_salvage.specs.Doubtful.NamesEntries.{of_root, of_sound, of_named}
 use Rattle.adf_salvage.specs.steps.Giving.{mark_at}
 use Rattle.adf_salvage.specs.steps.Heading.{AreFound, AreHeaders, AreSought, FindsMore, IsFound, IsSought}
-use Rattle.adf_salvage.proofs.Growing.{all_more}
 use Rattle.adf_salvage.proofs.Naming.{header_inside, header_names}
 
 -- more and more
@@ -46,7 +45,7 @@ finds_one out image old new block inside free noted grown header f =
           | inl e ↦ Contains-append_right old.blocks.items (block ∷ []) b (0, omega arith, sym e)
           | inr e ↦ Contains-append_left old.blocks.items (block ∷ []) b (f.listed b (sym (there b e) ∙ is))
         ]);
-        marked = subst (All (IsFound new.marks.items)) (sym grown) (all_more (IsFound new.marks.items) old.blocks.items block (λ k d l. kept (get_or old.blocks.items k d) (f.marked k d l)) now);
+        marked = subst (All (IsFound new.marks.items)) (sym grown) (All-push (IsFound new.marks.items) old.blocks.items block (λ k d l. kept (get_or old.blocks.items k d) (f.marked k d l)) now);
         once = subst (AllPairs (λ a b. a ≢ b)) (sym grown) (all_pairs_push (λ (a : ℕ) (b : ℕ). a ≢ b) old.blocks.items block f.once
             (λ k d l e. let both : true ≡ false = sym (f.marked k d l) ∙ ap (mark_at old.marks.items) e ∙ free in absurd (cc both)));
       };

@@ -1,9 +1,8 @@
 -- Blocks with a property, while they are listed in order.
 use Rattle.std.proofs.Common.{◌≡◌, ℕ, ◌+◌, ◌<◌, inl, inr, List, [], ◌∷◌, ◌++◌, All, AllPairs, Contains, sym, subst, arith}
 use Rattle.std.proofs.lemmas.Bool.{cases_lt}
-use Rattle.std.proofs.lemmas.List.Elements.{Contains-append_left, Contains-push}
+use Rattle.std.proofs.lemmas.List.Elements.{All-nil, All-push, Contains-append_left, Contains-push}
 use Rattle.std.proofs.lemmas.List.Quantifiers.{all_pairs_push}
-use Rattle.adf_salvage.proofs.Growing.{all_more, none_told}
 
 -- the blocks are exactly those below n with a property, in order
 pub record ListsBelow (P : ℕ → Type 0) (n : ℕ) (blocks : List ℕ) : Type 0 where
@@ -16,8 +15,8 @@ module _ (P : ℕ → Type 0) where
   pub lists_none : (n : ℕ) (blocks : List ℕ) → blocks ≡ [] → ((block : ℕ) → block < n → ¬ P block) → ListsBelow P n blocks
   lists_none n blocks e none = record {
     in_order = subst (AllPairs (λ (a b : ℕ). a < b)) (sym e) (λ i j d l m. absurd (omega (arith, l, m)));
-    below = subst (All (λ (block : ℕ). block < n)) (sym e) (none_told (λ (block : ℕ). block < n));
-    each = subst (All P) (sym e) (none_told P);
+    below = subst (All (λ (block : ℕ). block < n)) (sym e) (All-nil (λ (block : ℕ). block < n));
+    each = subst (All P) (sym e) (All-nil P);
     all = λ block l p. absurd (none block l p);
   }
 
@@ -36,8 +35,8 @@ module _ (P : ℕ → Type 0) where
     pub lists_more : (more : List ℕ) → more ≡ blocks ++ n ∷ [] → P n → ListsBelow P (n + 1) more
     lists_more more e here = subst (ListsBelow P (n + 1)) (sym e) (record {
       in_order = all_pairs_push (λ (a : ℕ) (b : ℕ). a < b) blocks n h.in_order (λ k d l. h.below k d l);
-      below = all_more (λ (block : ℕ). block < n + 1) blocks n (λ k d l. omega (arith, h.below k d l)) (omega arith);
-      each = all_more P blocks n h.each here;
+      below = All-push (λ (block : ℕ). block < n + 1) blocks n (λ k d l. omega (arith, h.below k d l)) (omega arith);
+      each = All-push P blocks n h.each here;
       all = λ block l p. elim (cases_lt block n) [
         | inl before ↦ Contains-append_left blocks (n ∷ []) block (h.all block before p)
         | inr behind ↦ (let same : n ≡ block = omega (arith, l, behind) in subst (Contains (blocks ++ n ∷ [])) same (Contains-push blocks n))

@@ -4,7 +4,6 @@ use Rattle.std.proofs.Math.ListN.{set}
 use Rattle.std.proofs.lemmas.Bool.{cases_eq}
 use Rattle.std.proofs.lemmas.List.Elements.{Contains-append_cases, Contains-append_left, Contains-append_right}
 use Rattle.std.proofs.lemmas.List.{take_more}
-use Rattle.adf_salvage.specs.Deleted.{IsTrustedBitmap, TellsTrust}
 use Rattle.adf_salvage.specs.steps.Giving.{mark_at}
 use Rattle.adf_salvage.specs.steps.Leaving.{AreMarked}
 
@@ -43,8 +42,3 @@ marked_next marks headers i n d size inside marked l = (
   length-set marks (get_or headers i d) true ∙ size,
   subst (AreMarked (set marks (get_or headers i d) true)) (sym (take_more headers i d l)) (marked_more marks (take i headers) (get_or headers i d) (omega (arith, size, inside i d l)) marked),
 )
-
--- a bitmap that is called trusted is
-pub is_trusted : (image : List ℕ) (trusted : Bool) → TellsTrust image trusted → trusted ≡ true → IsTrustedBitmap image
-is_trusted image true trust e = trust
-is_trusted image false trust e = absurd (cc e)

@@ -3,11 +3,11 @@ use Rattle.std.proofs.Common.{◌≡◌, ◌≢◌, ℕ, inl, inr, Bool, true, f
 use Rattle.std.proofs.Math.ListN.{set}
 use Rattle.std.proofs.lemmas.Bool.{cases_eq}
 use Rattle.std.proofs.lemmas.List.Quantifiers.{all_pairs_push}
+use Rattle.std.proofs.lemmas.List.Elements.{All-push}
 use Rattle.adf_salvage.specs.declared.giving.Giving.{Giving}
 use Rattle.adf_salvage.specs.declared.giving.Piece.{Piece}
 use Rattle.adf_salvage.specs.Salvaged.{AreApart}
 use Rattle.adf_salvage.specs.steps.Giving.{IsGiving, IsMarked, IsOpen, mark_at}
-use Rattle.adf_salvage.proofs.Growing.{all_more}
 
 module _ (image : List ℕ) (old new : Giving) (piece : Piece) (g : IsGiving image old) (o : IsOpen old.given.items piece.block) (noted : new.given.items ≡ set old.given.items piece.block true) where
   long : length new.given.items ≡ length old.given.items
@@ -36,7 +36,7 @@ module _ (image : List ℕ) (old new : Giving) (piece : Piece) (g : IsGiving ima
     size = long ∙ g.size;
     passed = ap length passed ∙ g.passed;
     marked = subst (All (IsMarked new.given.items)) (sym more)
-        (all_more (IsMarked new.given.items) old.pieces.items piece (λ k d l. still_marked (get_or old.pieces.items k d) (g.marked k d l)) (record { inside = omega (arith, o.inside, long); marked = now_marked }));
+        (All-push (IsMarked new.given.items) old.pieces.items piece (λ k d l. still_marked (get_or old.pieces.items k d) (g.marked k d l)) (record { inside = omega (arith, o.inside, long); marked = now_marked }));
     once = subst AreApart (sym more)
         (all_pairs_push (λ (p : Piece) (q : Piece). p.block ≢ q.block) old.pieces.items piece g.once (λ k d l. other (get_or old.pieces.items k d) (g.marked k d l)));
   }

@@ -1,15 +1,15 @@
 -- The entries of all sound headers, and what can be read of them.
-use Rattle.std.proofs.Common.{◌≡◌, ℕ, ◌<◌, inl, inr, Bool, List, length, slice_index, Some, IsSome, sym, ap, ◌∙◌, subst, arith}
+use Rattle.std.proofs.Common.{◌≡◌, ℕ, ◌<◌, inl, inr, false, List, length, slice_index, Some, IsSome, sym, ap, ◌∙◌, subst, arith}
 use Rattle.std.proofs.lemmas.List.{get_or_default}
 use Rattle.adf_salvage.specs.declared.gathered.Gathered.{Gathered}
-use Rattle.adf_salvage.specs.Deleted.{TellsTrust}
+use Rattle.adf_salvage.specs.declared.known.Known.{Known}
 use Rattle.adf_salvage.specs.Lost.{IsLost}
-use Rattle.adf_salvage.specs.Salvaged.{AreApart, AreDeleted, AreSalvaged, Saved, SavesSound, broken_total, headers_of}
+use Rattle.adf_salvage.specs.Salvaged.{AreDeleted, AreSalvaged, SavesSound, headers_of}
 use Rattle.adf_salvage.specs.steps.Gathering.{AreAllHeaders, AreGathered, place_at}
 use Rattle.adf_salvage.specs.steps.Settling.{AreSettled}
 
-module _ (out image : List ℕ) (gathered : Gathered) (g : AreGathered out image gathered) where
-  pub all_salvaged : AreAllHeaders out image gathered.places.items → ((block : ℕ) → IsLost out image block → IsSome (place_at gathered.places.items block)) → AreSalvaged out image gathered.entries.items
+module _ (known : Known) (gathered : Gathered) (g : AreGathered known.left_out known.image gathered) where
+  pub all_salvaged : AreAllHeaders known gathered.places.items → ((block : ℕ) → IsLost known.left_out known.image block → IsSome (place_at gathered.places.items block)) → AreSalvaged known.left_out known.image gathered.entries.items
   all_salvaged met lost_met = record {
     told = λ i d l. inl (g.told i d l);
     once = λ i j d l m e.
@@ -25,13 +25,13 @@ module _ (out image : List ℕ) (gathered : Gathered) (g : AreGathered out image
     lost = λ block lost. g.met block (lost_met block lost);
   }
 
-pub saves_sound : (out image : List ℕ) (next : ℕ) (gathered : Gathered) (saved : Saved) (trusted : Bool) → AreSettled out image next gathered → TellsTrust image trusted → saved.trusted ≡ trusted → AreDeleted image out → saved.deleted ≡ out
-    → saved.image ≡ image → saved.entries ≡ gathered.entries.items → saved.given ≡ gathered.giving.pieces.items → SavesSound saved
-saves_sound out image next gathered saved trusted s trust tells deleted leaves same are given = record {
-  trust = subst (λ (xs : List ℕ). TellsTrust xs saved.trusted) (sym same) (subst (TellsTrust image) (sym tells) trust);
-  deleted = subst (λ (xs : List ℕ). AreDeleted xs saved.deleted) (sym same) (subst (AreDeleted image) (sym leaves) deleted);
-  salvaged = subst (λ (xs : List ℕ). AreSalvaged saved.deleted xs saved.entries) (sym same)
-      (subst (λ (xs : List ℕ). AreSalvaged xs image saved.entries) (sym leaves) (subst (AreSalvaged out image) (sym are) s.salvaged));
-  apart = subst AreApart (sym given) s.giving.once;
-  bounded = omega (arith, s.bounded, ap broken_total are, ap length same);
+-- what was gathered of an image, as it is told
+pub saves_sound : (known : Known) (next : ℕ) (gathered : Gathered) (deleted : List ℕ) → AreSettled known next gathered → AreDeleted known.image known.left_out → deleted ≡ known.left_out
+    → SavesSound (record { accepted = false; image = known.image; trusted = known.trusted; entries = gathered.entries.items; deleted = deleted; given = gathered.giving.pieces.items })
+saves_sound known next gathered deleted s are is = record {
+  trust = s.sure.trust;
+  deleted = subst (AreDeleted known.image) (sym is) are;
+  salvaged = subst (λ (out : List ℕ). AreSalvaged out known.image gathered.entries.items) (sym is) s.salvaged;
+  apart = s.giving.once;
+  bounded = omega (arith, s.bounded);
 }

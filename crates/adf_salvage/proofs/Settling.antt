@@ -1,32 +1,36 @@
 -- Files without a header are added to the entries.
 use Rattle.std.proofs.Common.{◌≡◌, ◌≢◌, ℕ, zero, suc, ◌+◌, ◌<◌, ◌≤◌, ◌⊎◌, inl, inr, All, AllPairs, List, [], ◌∷◌, ◌++◌, length, slice_index, get_or, Contains, Option, IsSome, is_some, sym, ap, ◌∙◌, subst, arith}
 use Rattle.std.proofs.Math.ListN.{set}
-use Rattle.std.proofs.lemmas.List.{get_or_default, get_or-map, map-set, set-get_or}
-use Rattle.std.proofs.lemmas.List.Elements.{All-set, Contains-append_cases, Contains-append_left}
+use Rattle.std.proofs.lemmas.List.{get_or_default, get_or-map, map-append, map-set, set-get_or}
+use Rattle.std.proofs.lemmas.List.Elements.{All-push, All-set, Contains-append_cases, Contains-append_left}
 use Rattle.std.proofs.lemmas.List.Quantifiers.{all_pairs_push}
 use Rattle.adf_salvage.specs.declared.gathered.Gathered.{Gathered}
+use Rattle.adf_salvage.specs.declared.known.Known.{Known}
 use Rattle.adf_salvage.specs.declared.salvaged.Salvaged.{Salvaged}
 use Rattle.adf_salvage.specs.declared.salvaged.State.TheVariants.{Lost}
 use Rattle.adf_salvage.specs.Lost.{IsLost}
 use Rattle.adf_salvage.specs.Salvaged.{AreSalvaged, IsListed, IsLoose, broken_length, broken_total, headers_of}
-use Rattle.adf_salvage.specs.steps.Gathering.{AreAllHeaders, AreGathered, place_at}
+use Rattle.adf_salvage.specs.steps.Gathering.{AreAllHeaders, AreGatheredBy, place_at}
 use Rattle.adf_salvage.specs.steps.Giving.{IsGiving}
 use Rattle.adf_salvage.specs.steps.Settling.{AreSettled}
-use Rattle.adf_salvage.proofs.Growing.{all_more, broken_more, headers_more}
+use Rattle.adf_salvage.proofs.Growing.{broken_more}
 use Rattle.adf_salvage.proofs.Saving.{all_salvaged}
 
 -- no file without a header was added yet
-pub settles_none : (out image : List ℕ) (gathered : Gathered) → AreGathered out image gathered → AreAllHeaders out image gathered.places.items
-    → ((block : ℕ) → IsLost out image block → IsSome (place_at gathered.places.items block)) → AreSettled out image 0 gathered
-settles_none out image gathered g met lost = record {
-  salvaged = all_salvaged out image gathered g met lost;
-  placed = λ block there.
-      let headers : List ℕ = headers_of gathered.entries.items in
-      let is : slice_index headers there.0 ≡ block = get_or_default headers there.0 0 block there.1 ∙ there.2 in
-      inl (subst (λ (b : ℕ). IsSome (place_at gathered.places.items b)) is (ap is_some (g.placed there.0 there.1)));
-  giving = g.giving;
-  bounded = g.bounded;
-}
+pub settles_none : (known : Known) (gathered : Gathered) → AreGatheredBy known gathered → AreAllHeaders known gathered.places.items
+    → ((block : ℕ) → IsLost known.left_out known.image block → IsSome (place_at gathered.places.items block)) → AreSettled known 0 gathered
+settles_none known gathered by met lost =
+    let g = by.so_far in
+    let headers : List ℕ = headers_of gathered.entries.items in
+    record {
+      sure = by.sure;
+      salvaged = all_salvaged known gathered g met lost;
+      placed = λ block there.
+          let is : slice_index headers there.0 ≡ block = get_or_default headers there.0 0 block there.1 ∙ there.2 in
+          inl (subst (λ (b : ℕ). IsSome (place_at gathered.places.items b)) is (ap is_some (g.placed there.0 there.1)));
+      giving = g.giving;
+      bounded = g.bounded;
+    }
 
 -- the entries of the list with these headers, other ones in their places, and more behind them
 salvages_more : (out image : List ℕ) (old new : List Salvaged) → AreSalvaged out image old → All (IsListed out image) new → AllPairs (λ a b. a ≢ b) (headers_of new)
@@ -57,21 +61,22 @@ broken_set [] n e l = absurd (omega (arith, l))
 broken_set (x ∷ xs) zero e l = omega arith
 broken_set (x ∷ xs) (suc n) e l = omega (arith, broken_set xs n e (omega (arith, l)))
 
-module _ (out image : List ℕ) (next : ℕ) (old new : Gathered) (s : AreSettled out image next old) (places : new.places.items ≡ old.places.items) (giving : IsGiving image new.giving) where
+module _ (known : Known) (next : ℕ) (old new : Gathered) (s : AreSettled known next old) (places : new.places.items ≡ old.places.items) (giving : IsGiving known.image new.giving) where
   -- one more file without a header
-  pub settles_more : (e : Salvaged) (header : ℕ) → next ≤ header → (IsSome (place_at old.places.items header) → ⊥) → e.header ≡ header → IsLoose out image header e.state
-      → new.entries.items ≡ old.entries.items ++ e ∷ [] → broken_length e.state + new.giving.left ≡ old.giving.left → AreSettled out image (header + 1) new
+  pub settles_more : (e : Salvaged) (header : ℕ) → next ≤ header → (IsSome (place_at old.places.items header) → ⊥) → e.header ≡ header → IsLoose known.left_out known.image header e.state
+      → new.entries.items ≡ old.entries.items ++ e ∷ [] → broken_length e.state + new.giving.left ≡ old.giving.left → AreSettled known (header + 1) new
   settles_more e header after free is loose grown left =
       let more_headers : headers_of new.entries.items ≡ headers_of old.entries.items ++ header ∷ [] =
-      ap headers_of grown ∙ headers_more old.entries.items e ∙ ap (λ (b : ℕ). headers_of old.entries.items ++ b ∷ []) is in
-      let listed : IsListed out image e = inr (subst (λ (b : ℕ). IsLoose out image b e.state) (sym is) loose) in
+      ap headers_of grown ∙ map-append (λ (entry : Salvaged). entry.header) old.entries.items (e ∷ []) ∙ ap (λ (b : ℕ). headers_of old.entries.items ++ b ∷ []) is in
+      let listed : IsListed known.left_out known.image e = inr (subst (λ (b : ℕ). IsLoose known.left_out known.image b e.state) (sym is) loose) in
       let other : (b : ℕ) → Contains (headers_of old.entries.items) b → b ≢ header = λ b there same. elim (s.placed b there) [
         | inl some ↦ free (subst (λ (k : ℕ). IsSome (place_at old.places.items k)) same some)
         | inr below ↦ absurd (omega (arith, below, after, same))
       ] in
       record {
-        salvaged = salvages_more out image old.entries.items new.entries.items s.salvaged
-            (subst (All (IsListed out image)) (sym grown) (all_more (IsListed out image) old.entries.items e s.salvaged.told listed))
+        sure = s.sure;
+        salvaged = salvages_more known.left_out known.image old.entries.items new.entries.items s.salvaged
+            (subst (All (IsListed known.left_out known.image)) (sym grown) (All-push (IsListed known.left_out known.image) old.entries.items e s.salvaged.told listed))
             (subst (AllPairs (λ a b. a ≢ b)) (sym more_headers) (all_pairs_push (λ (a : ℕ) (b : ℕ). a ≢ b) (headers_of old.entries.items) header s.salvaged.once
             (λ k d l. other (get_or (headers_of old.entries.items) k d) (k, l, get_or_default (headers_of old.entries.items) k _ d l))))
             (λ b there. subst (λ (xs : List ℕ). Contains xs b) (sym more_headers) (Contains-append_left (headers_of old.entries.items) (header ∷ []) b there));
@@ -89,16 +94,17 @@ module _ (out image : List ℕ) (next : ℕ) (old new : Gathered) (s : AreSettle
 
   -- a lost entry became a file without a header
   pub settles_lost : (place : ℕ) (was e d : Salvaged) → place < length old.entries.items → was ≡ get_or old.entries.items place d → e.header ≡ was.header → was.state ≡ Lost
-      → IsLoose out image was.header e.state → new.entries.items ≡ set old.entries.items place e → broken_length e.state + new.giving.left ≡ old.giving.left → AreSettled out image next new
+      → IsLoose known.left_out known.image was.header e.state → new.entries.items ≡ set old.entries.items place e → broken_length e.state + new.giving.left ≡ old.giving.left → AreSettled known next new
   settles_lost place was e d inside at same lost loose replaced left =
       let there : get_or old.entries.items place e ≡ was = get_or_default old.entries.items place e d inside ∙ sym at in
       let still : headers_of new.entries.items ≡ headers_of old.entries.items =
       ap headers_of replaced ∙ headers_set old.entries.items place e inside (ap (λ (entry : Salvaged). entry.header) there ∙ sym same) in
       let empty : broken_length (get_or old.entries.items place e).state ≡ 0 = ap (λ (entry : Salvaged). broken_length entry.state) there ∙ ap broken_length lost in
-      let listed : IsListed out image e = inr (subst (λ (b : ℕ). IsLoose out image b e.state) (sym same) loose) in
+      let listed : IsListed known.left_out known.image e = inr (subst (λ (b : ℕ). IsLoose known.left_out known.image b e.state) (sym same) loose) in
       record {
-        salvaged = salvages_more out image old.entries.items new.entries.items s.salvaged
-            (subst (All (IsListed out image)) (sym replaced) (All-set (IsListed out image) old.entries.items place e listed s.salvaged.told))
+        sure = s.sure;
+        salvaged = salvages_more known.left_out known.image old.entries.items new.entries.items s.salvaged
+            (subst (All (IsListed known.left_out known.image)) (sym replaced) (All-set (IsListed known.left_out known.image) old.entries.items place e listed s.salvaged.told))
             (subst (AllPairs (λ a b. a ≢ b)) (sym still) s.salvaged.once) (λ b there. subst (λ (xs : List ℕ). Contains xs b) (sym still) there);
         placed = λ b there. subst (λ (ps : List (Option ℕ)). IsSome (place_at ps b) ⊎ (b < next)) (sym places) (s.placed b (subst (λ (xs : List ℕ). Contains xs b) still there));
         giving = giving;

@@ -1,31 +1,24 @@
 //! The entries along the hash chains, from the root.
 ghost use Rattle.std.specs.Prelude.{◌<◌, OnOk};
 ghost use Rattle.adf_block.specs.Image.{block_count};
-ghost use Rattle.adf_salvage.specs.steps.Gathering.{AreGathered};
-ghost use Rattle.adf_salvage.specs.steps.Heading.{AreKnown};
+ghost use Rattle.adf_salvage.specs.steps.Gathering.{AreGatheredBy};
 
 use crate::gathered::Gathered;
 use crate::known::Known;
 use crate::names::Standing;
 use crate::salvaged::State;
-use adf_block::Image;
 use adf_block::layout::{FIRST_SLOT, NEXT_IN_CHAIN, TABLE_LONGS};
-use std::alloc::{AllocError, Global};
+use std::alloc::AllocError;
 
 /// Adds all entries along the hash chains: those of the root, then those of each directory in the order in which they
 /// were found.
-pub(crate) fn add_reached(
-    alloc: Global,
-    image: &Image,
-    known: &Known,
-    gathered: &mut Gathered,
-) -> Result<(), AllocError>
-    requires gathered { AreGathered known.now.left_out image.now gathered.old }
-    requires known { AreKnown image.now known.now }
-    ensures { OnOk result (AreGathered known.now.left_out image.now gathered.new) }
+pub(crate) fn add_reached(known: &Known, gathered: &mut Gathered) -> Result<(), AllocError>
+    requires { AreGatheredBy known.now gathered.old }
+    ensures { OnOk result (AreGatheredBy known.now gathered.new) }
 {
+    let image = &known.image;
     prove!(image.blocks() >= 16);
-    add_chains(alloc, image, known, image.root(), None, gathered)?;
+    add_chains(known, image.root(), None, gathered)?;
     for place in 0..image.blocks() {
         let Some(entry) = gathered.entries.get(place as usize) else {
             break;
@@ -34,7 +27,7 @@ pub(crate) fn add_reached(
             && entry.header < image.blocks()
         {
             let dir = entry.header;
-            add_chains(alloc, image, known, dir, Some(place as usize), gathered)?;
+            add_chains(known, dir, Some(place as usize), gathered)?;
         }
     }
     Ok(())
@@ -42,49 +35,43 @@ pub(crate) fn add_reached(
 
 /// Adds the entries along the hash chains of a directory, whose entry has this position.
 fn add_chains(
-    alloc: Global,
-    image: &Image,
     known: &Known,
     dir: u32,
     above: Option<usize>,
     gathered: &mut Gathered,
 ) -> Result<(), AllocError>
-    requires dir { dir < block_count image.now }
-    requires gathered { AreGathered known.now.left_out image.now gathered.old }
-    requires known { AreKnown image.now known.now }
-    ensures { OnOk result (AreGathered known.now.left_out image.now gathered.new) }
+    requires dir { dir < block_count known.now.image }
+    requires gathered { AreGatheredBy known.now gathered.old }
+    ensures { OnOk result (AreGatheredBy known.now gathered.new) }
 {
     for slot in 0..TABLE_LONGS {
-        let first = image.long(dir, FIRST_SLOT + slot);
-        add_chain(alloc, image, known, first, above, gathered)?;
+        let first = known.image.long(dir, FIRST_SLOT + slot);
+        add_chain(known, first, above, gathered)?;
     }
     Ok(())
 }
 
 /// Adds the entries of a hash chain, as long as they are headers that were not found before.
 fn add_chain(
-    alloc: Global,
-    image: &Image,
     known: &Known,
     first: u32,
     above: Option<usize>,
     gathered: &mut Gathered,
 ) -> Result<(), AllocError>
-    requires gathered { AreGathered known.now.left_out image.now gathered.old }
-    requires known { AreKnown image.now known.now }
-    ensures { OnOk result (AreGathered known.now.left_out image.now gathered.new) }
+    requires { AreGatheredBy known.now gathered.old }
+    ensures { OnOk result (AreGatheredBy known.now gathered.new) }
 {
     let standing = Standing {
         above,
         found: false,
     };
     let mut key = first;
-    for _passed in 0..image.blocks() {
-        if !gathered.is_new(image, known, key) {
+    for _passed in 0..known.image.blocks() {
+        if !gathered.is_new(known, key) {
             break;
         }
-        gathered.add(alloc, image, known, key, standing)?;
-        key = image.long(key, NEXT_IN_CHAIN);
+        gathered.add(known, key, standing)?;
+        key = known.image.long(key, NEXT_IN_CHAIN);
     }
     Ok(())
 }

@@ -5,12 +5,11 @@ ghost use Rattle.adf_salvage.specs.Salvaged.{AreDeleted};
 ghost use Rattle.adf_salvage.specs.steps.Claims.{AreAllClaims};
 ghost use Rattle.adf_salvage.specs.steps.Deleting.{AreOfReached};
 
-use crate::claims::Claim;
 use crate::intact::no_users;
+use crate::known::Known;
 use crate::recovery::recovery_of;
-use adf_block::Image;
 use ados_check::Mark;
-use std::alloc::{AllocError, Global};
+use std::alloc::AllocError;
 
 /// How much of a deleted entry can be had back.
 #[derive(Clone, Copy, PartialEq, Eq)]
@@ -49,21 +48,19 @@ pub struct Deleted {
 ///
 /// Time and memory grow about linearly with the size of the image.
 pub(crate) fn all_deleted(
-    alloc: Global,
-    image: &Image,
+    known: &Known,
     headers: &[u32],
-    claims: &[Claim],
     marks: &[Option<Mark>],
 ) -> Result<Vec<Deleted>, AllocError>
-    requires headers { AreDeleted image.now headers.now }
-    requires claims { AreAllClaims [] image.now claims.now }
-    requires marks { AreOfReached image.now marks.now }
-    ensures { IfOk result (λ found. ListsDeleted image.now found.items) }
+    requires headers { AreDeleted known.now.image headers.now }
+    requires claims { AreAllClaims [] known.now.image known.now.claims.items }
+    requires marks { AreOfReached known.now.image marks.now }
+    ensures { IfOk result (λ found. ListsDeleted known.now.image found.items) }
 {
-    let mut users = no_users(alloc, image)?;
-    let mut found = Vec::new(alloc);
+    let mut users = no_users(known.alloc, &known.image)?;
+    let mut found = Vec::new(known.alloc);
     for header in headers {
-        let recovery = recovery_of(alloc, image, *header, claims, marks, &mut users)?;
+        let recovery = recovery_of(known, *header, marks, &mut users)?;
         found.push(Deleted {
             header: *header,
             recovery,

@@ -3,7 +3,7 @@ ghost use Rattle.std.specs.Prelude.{◌≡◌, ◌<◌, ◌↔◌, ◌++◌, ◌
 ghost use Rattle.adf_block.specs.Image.{block_count};
 ghost use Rattle.adf_salvage.specs.declared.salvaged.Salvaged.{Salvaged as Entry};
 ghost use Rattle.adf_salvage.specs.Lost.{IsLost};
-ghost use Rattle.adf_salvage.specs.steps.Gathering.{AreGathered, GathersMore, IsNew, place_at};
+ghost use Rattle.adf_salvage.specs.steps.Gathering.{AreGathered, AreGatheredBy, GathersMore, IsNew, place_at};
 ghost use Rattle.adf_salvage.specs.steps.Heading.{AreKnown};
 
 use crate::giving::Giving;
@@ -48,11 +48,11 @@ impl Gathered {
     }
 
     /// Whether a block is a header that is told and was not found before.
-    pub(crate) fn is_new(&self, image: &Image, known: &Known, block: u32) -> bool
-        requires known { AreKnown image.now known.now }
-        ensures { IsTrue result ↔ IsNew known.now.left_out image.now self.now.places.items block }
+    pub(crate) fn is_new(&self, known: &Known, block: u32) -> bool
+        requires known { AreKnown known.now }
+        ensures { IsTrue result ↔ IsNew known.now self.now.places.items block }
     {
-        !self.has(block) && known.is_header(image, block)
+        !self.has(block) && known.is_header(block)
     }
 
     /// Whether a block has an entry.
@@ -71,69 +71,43 @@ impl Gathered {
         }
     }
 
-    /// Takes the names of a directory, and of those above it, below `lost+found` too.
-    pub(crate) fn take_aside(&mut self, alloc: Global, dir: usize) -> Result<(), AllocError>
-        ensures entries { self.new.entries ≡ self.old.entries }
-        ensures places { self.new.places ≡ self.old.places }
-        ensures giving { self.new.giving ≡ self.old.giving }
-    {
-        self.names.take_aside(alloc, self.entries.as_slice(), dir)
-    }
-
     /// Adds the entry of a header.
     pub(crate) fn add(
         &mut self,
-        alloc: Global,
-        image: &Image,
         known: &Known,
         block: u32,
         standing: Standing,
     ) -> Result<(), AllocError>
-        requires gathered { AreGathered known.now.left_out image.now self.old }
-        requires met { IsNew known.now.left_out image.now self.old.places.items block }
-        requires known { AreKnown image.now known.now }
-        ensures more { OnOk result (GathersMore known.now.left_out image.now self.old self.new) }
+        requires gathered { AreGatheredBy known.now self.old }
+        requires met { IsNew known.now self.old.places.items block }
+        ensures more { OnOk result (GathersMore known.now self.old self.new) }
         ensures met { OnOk result (IsSome (place_at self.new.places.items block)) }
     {
+        let image = &known.image;
         let Some(name) = name_of(image, block) else {
             unreachable!()
         };
         let place = self.entries.len();
-        let state = state_of(alloc, image, known, block, place, &mut self.giving)?;
-        let endings = self.names.take(alloc, standing, name.bytes(), block)?;
+        let state = state_of(known, block, place, &mut self.giving)?;
+        let endings = self.names.take(known.alloc, standing, name.bytes(), block)?;
         let entry = told_of(image, block, standing, endings, state);
         self.entries.push(entry)?;
         self.places[block as usize] = Some(place);
         Ok(())
     }
-}
 
-impl Gathered {
     /// Where an entry is that a long of a block names: a slot, or the one for the next entry in its hash chain.
     pub(crate) fn standing_at(&self, block: u32, at: u32) -> Standing {
-        if at == NEXT_IN_CHAIN {
-            self.standing_beside(block)
-        } else {
-            self.standing_in(block)
-        }
-    }
-
-    /// Where an entry is that a slot of the root or of a directory names.
-    fn standing_in(&self, dir: u32) -> Standing {
-        let above = self.directory(dir);
-        let found = above
-            .and_then(|place| self.entries.get(place))
-            .is_some_and(|entry| entry.found);
-        Standing { above, found }
-    }
-
-    /// Where an entry is that follows this one in its hash chain.
-    fn standing_beside(&self, block: u32) -> Standing {
+        let above = self.directory(block);
         let place = self.places.get(block as usize).copied().flatten();
         match place.and_then(|place| self.entries.get(place)) {
-            Some(entry) => Standing {
+            Some(entry) if at == NEXT_IN_CHAIN => Standing {
                 above: entry.above,
                 found: entry.found,
+            },
+            Some(entry) => Standing {
+                above,
+                found: entry.found && above.is_some(),
             },
             None => Standing {
                 above: None,
@@ -145,29 +119,25 @@ impl Gathered {
     /// Adds a lost entry.
     pub(crate) fn add_lost(
         &mut self,
-        alloc: Global,
-        image: &Image,
         known: &Known,
         block: u32,
         standing: Standing,
     ) -> Result<(), AllocError>
-        requires gathered { AreGathered known.now.left_out image.now self.old }
+        requires gathered { AreGatheredBy known.now self.old }
         requires free { place_at self.old.places.items block ≡ None }
-        requires lost { IsLost known.now.left_out image.now block }
-        ensures more { OnOk result (GathersMore known.now.left_out image.now self.old self.new) }
+        requires lost { IsLost known.now.left_out known.now.image block }
+        ensures more { OnOk result (GathersMore known.now self.old self.new) }
         ensures met { OnOk result (IsSome (place_at self.new.places.items block)) }
     {
         let place = self.entries.len();
-        let name = name_of_lost(alloc, image, block)?;
-        let endings = self.names.take(alloc, standing, name.bytes(), block)?;
+        let name = name_of_lost(known.alloc, &known.image, block)?;
+        let endings = self.names.take(known.alloc, standing, name.bytes(), block)?;
         let entry = told_by_name(block, standing, endings, name, State::Lost);
         self.entries.push(entry)?;
         self.places[block as usize] = Some(place);
         Ok(())
     }
-}
 
-impl Gathered {
     /// Adds the entry of a file without a header, as a recovered one. Its header needs no place.
     pub(crate) fn add_loose(
         &mut self,

@@ -1,6 +1,7 @@
-//! What is known of the blocks of an image before its entries are gathered.
+//! An image, and what is known of its blocks before its entries are gathered.
 ghost use Rattle.std.specs.Prelude.{◌≡◌, ◌<◌, ◌↔◌, IfOk, IsTrue, MatchBool};
 ghost use Rattle.adf_block.specs.Image.{block_count};
+ghost use Rattle.adf_salvage.specs.Deleted.{TellsTrust};
 ghost use Rattle.adf_salvage.specs.Doubtful.{IsHeader, NamesEntries};
 ghost use Rattle.adf_salvage.specs.steps.Heading.{AreKnown};
 
@@ -11,9 +12,13 @@ use crate::left_out::LeftOut;
 use adf_block::Image;
 use std::alloc::{AllocError, Global};
 
-/// What is known of the blocks of an image.
+/// An image, and what is known of its blocks.
 #[derive(Drop)]
 pub(crate) struct Known {
+    pub(crate) alloc: Global,
+    pub(crate) image: Image,
+    /// Whether the bitmap of the image is trusted.
+    pub(crate) trusted: bool,
     /// The headers that are left out.
     pub(crate) left_out: LeftOut,
     /// For each block, whether it is a header that is told, sound or doubtful.
@@ -22,35 +27,45 @@ pub(crate) struct Known {
     pub(crate) claims: Vec<Claim>,
 }
 
-/// What is known of the blocks of an image, where some headers are left out.
-pub(crate) fn known_of(alloc: Global, image: &Image, left_out: LeftOut) -> Result<Known, AllocError>
-    ensures known { IfOk result (AreKnown image.now) }
-    ensures left_out { IfOk result (λ known. known.left_out ≡ left_out) }
-{
-    let claims = claims(alloc, image, &left_out)?;
-    let headers = headers(alloc, image, &left_out)?;
-    Ok(Known {
-        left_out,
-        headers,
-        claims,
-    })
-}
-
 impl Known {
-    /// Whether a block is a header that is told.
-    pub(crate) fn is_header(&self, image: &Image, block: u32) -> bool
-        requires { AreKnown image.now self.now }
-        ensures { MatchBool result (IsHeader self.now.left_out image.now block) (¬ IsHeader self.now.left_out image.now block) }
+    /// What is known of the blocks of an image, where some headers are left out.
+    pub(crate) fn of(
+        alloc: Global,
+        image: Image,
+        trusted: bool,
+        left_out: LeftOut,
+    ) -> Result<Known, AllocError>
+        requires { TellsTrust image trusted }
+        ensures known { IfOk result AreKnown }
+        ensures image { IfOk result (λ known. known.image ≡ image) }
+        ensures left_out { IfOk result (λ known. known.left_out ≡ left_out) }
     {
-        block < image.blocks() && self.headers[block as usize]
+        let claims = claims(alloc, &image, &left_out)?;
+        let headers = headers(alloc, &image, &left_out)?;
+        Ok(Known {
+            alloc,
+            image,
+            trusted,
+            left_out,
+            headers,
+            claims,
+        })
+    }
+
+    /// Whether a block is a header that is told.
+    pub(crate) fn is_header(&self, block: u32) -> bool
+        requires { AreKnown self.now }
+        ensures { MatchBool result (IsHeader self.now.left_out self.now.image block) (¬ IsHeader self.now.left_out self.now.image block) }
+    {
+        block < self.image.blocks() && self.headers[block as usize]
     }
 
     /// Whether a block can name entries: it is the root or a header that is told.
-    pub(crate) fn names_entries(&self, image: &Image, block: u32) -> bool
-        requires inside { block < block_count image.now }
-        requires known { AreKnown image.now self.now }
-        ensures { IsTrue result ↔ NamesEntries self.now.left_out image.now block }
+    pub(crate) fn names_entries(&self, block: u32) -> bool
+        requires inside { block < block_count self.now.image }
+        requires known { AreKnown self.now }
+        ensures { IsTrue result ↔ NamesEntries self.now.left_out self.now.image block }
     {
-        self.is_header(image, block) || is_root(image, block)
+        self.is_header(block) || is_root(&self.image, block)
     }
 }

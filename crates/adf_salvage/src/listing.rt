@@ -1,11 +1,10 @@
 //! The entries of an accepted volume.
-ghost use Rattle.std.specs.Prelude.{◌≡◌, ℕ, List, All, IfOk, Some, true, map};
+ghost use Rattle.std.specs.Prelude.{◌≡◌, ℕ, List, All, IfOk, Some, map};
 ghost use Rattle.ados_model.specs.Accepted.{Accepts};
 ghost use Rattle.ados_model.specs.Keys.{HasKey};
 ghost use Rattle.ados_model.specs.Stands.{Stands};
 ghost use Rattle.ados_model.specs.Tree.{Node, Tree};
-ghost use Rattle.adf_salvage.specs.Deleted.{TellsTrust};
-ghost use Rattle.adf_salvage.specs.Salvaged.{AreDeleted, AreOfTree, HoldsAll, IsOfTree, located_of};
+ghost use Rattle.adf_salvage.specs.Salvaged.{HoldsAll, IsOfTree, SavesTree, located_of};
 ghost use Rattle.adf_salvage.specs.steps.Keeping.{CanBeRead, IsReadable};
 
 use crate::left_out::deleted_in;
@@ -16,18 +15,19 @@ use std::alloc::{AllocError, Global};
 
 /// All entries of a volume, in its order, with whole files; and its deleted entries, if its bitmap is trusted.
 pub(crate) fn volume_entries(alloc: Global, volume: Volume) -> Result<Salvage, AllocError>
-    ensures accepted { IfOk result (λ saved. saved.accepted ≡ true) }
-    ensures image { IfOk result (λ saved. saved.image ≡ volume.image) }
-    ensures deleted { IfOk result (λ saved. (image : List ℕ) → Accepts image volume.was_validated volume.image → AreDeleted image saved.deleted) }
-    ensures trust { IfOk result (λ saved. (image : List ℕ) → Accepts image volume.was_validated volume.image → TellsTrust image saved.trusted) }
-    ensures told { IfOk result (λ saved. (t : Tree) → Stands volume.image t → AreOfTree t saved) }
+    ensures { (given : List ℕ) → Accepts given volume.was_validated volume.image → IfOk result (SavesTree given) }
 {
     let (deleted, trusted) = deleted_in(alloc, &volume)?;
     let below = entries_below(alloc, &volume, volume.root())?;
     let entries = entries_of(alloc, &volume, &below)?;
-    let pieces = Vec::new(alloc);
-    let image = volume.into_image();
-    Ok(Salvage::of(true, image, trusted, entries, deleted, pieces))
+    Ok(Salvage {
+        accepted: true,
+        image: volume.into_image(),
+        trusted,
+        entries,
+        deleted,
+        pieces: Vec::new(alloc),
+    })
 }
 
 /// These entries of a volume, with whole files.

@@ -1,8 +1,6 @@
 //! Files whose header is gone, from the OFS data blocks that name it.
-ghost use Rattle.std.specs.Prelude.{◌≡◌, ◌<◌, ◌≤◌, ◌+◌, ℕ, IfOk, IfSome, IsTrue, MatchBool, MatchOption, OnOk, length, true};
+ghost use Rattle.std.specs.Prelude.{◌≡◌, ◌<◌, ◌≤◌, ◌+◌, ℕ, IfOk, IfSome, IsTrue, MatchOption, OnOk, length};
 ghost use Rattle.adf_block.specs.Image.{block_count};
-ghost use Rattle.adf_salvage.specs.Deleted.{IsTrustedBitmap};
-ghost use Rattle.adf_salvage.specs.Doubtful.{IsHeader};
 ghost use Rattle.adf_salvage.specs.Loose.{IsLooseData};
 ghost use Rattle.adf_salvage.specs.Salvaged.{IsLoose, broken_length};
 ghost use Rattle.adf_salvage.specs.steps.Giving.{IsGiving};
@@ -14,12 +12,12 @@ use crate::giving::{Giving, Piece, Remains};
 use crate::known::Known;
 use crate::salvaged::{HeaderState, State};
 use crate::state::damaged;
+use crate::trust::is_used;
 use adf_block::layout::{
     BOOT_BLOCKS, DATA_TYPE, HELD, NEXT_DATA, OFS_ROOM, OWN_KEY, PRIMARY_TYPE, SEQUENCE,
 };
 use adf_block::{Format, Image};
-use ados_map::is_free;
-use std::alloc::{AllocError, Global};
+use std::alloc::AllocError;
 
 /// An OFS data block of a file whose header is not told.
 #[derive(Clone, Copy, PartialEq, Eq, PartialOrd, Ord)]
@@ -31,69 +29,52 @@ struct Part {
     block: u32,
 }
 
-/// The OFS data blocks with right checksums whose headers are not told, by header, number and block.
-#[derive(Drop)]
-struct Parts {
-    items: Vec<Part>,
-    /// Whether the bitmap can be trusted.
-    trusted: bool,
-}
-
 /// Adds a file for each header that is not told and that OFS data blocks with right checksums name: in place of the lost
 /// entry with that block, if there is one, and else as a recovered one. There is none if a bitmap that can be trusted marks
 /// all of these blocks free. Of data blocks with one number the lowest is taken.
-pub(crate) fn add_loose(
-    alloc: Global,
-    image: &Image,
-    known: &Known,
-    trusted: bool,
-    gathered: &mut Gathered,
-) -> Result<(), AllocError>
-    requires known { AreKnown image.now known.now }
-    requires trust { trusted ≡ true → IsTrustedBitmap image.now }
-    requires settled { AreSettled known.now.left_out image.now 0 gathered.old }
-    ensures { OnOk result ((next : ℕ) × AreSettled known.now.left_out image.now next gathered.new) }
+pub(crate) fn add_loose(known: &Known, gathered: &mut Gathered) -> Result<(), AllocError>
+    requires { AreSettled known.now 0 gathered.old }
+    ensures { OnOk result ((next : ℕ) × AreSettled known.now next gathered.new) }
 {
-    let parts = Parts::of(alloc, image, known, trusted)?;
-    replace_lost(image, known, &parts, gathered)?;
-    add_found(alloc, image, known, &parts, gathered)
+    let parts = loose_parts(known)?;
+    replace_lost(known, &parts, gathered)?;
+    add_found(known, &parts, gathered)
 }
 
-impl Parts {
-    fn of(alloc: Global, image: &Image, known: &Known, trusted: bool) -> Result<Parts, AllocError>
-        requires { AreKnown image.now known.now }
-        ensures { IfOk result (λ parts. parts.trusted ≡ trusted) }
-    {
-        let mut items = Vec::new(alloc);
-        for block in BOOT_BLOCKS..image.blocks() {
-            let (header, number) = (image.long(block, OWN_KEY), image.long(block, SEQUENCE));
-            if number > 0 && is_loose(image, header, block) && !known.is_header(image, header) {
-                items.push(Part {
-                    header,
-                    number,
-                    block,
-                })?;
-            }
+/// The OFS data blocks with right checksums whose headers are not told, by header, number and block.
+fn loose_parts(known: &Known) -> Result<Vec<Part>, AllocError>
+    requires { AreKnown known.now }
+{
+    let image = &known.image;
+    let mut parts = Vec::new(known.alloc);
+    for block in BOOT_BLOCKS..image.blocks() {
+        let (header, number) = (image.long(block, OWN_KEY), image.long(block, SEQUENCE));
+        if number > 0 && is_loose(image, header, block) && !known.is_header(header) {
+            parts.push(Part {
+                header,
+                number,
+                block,
+            })?;
         }
-        items.sort_unstable();
-        Ok(Parts { items, trusted })
     }
+    parts.sort_unstable();
+    Ok(parts)
+}
 
-    /// Those that name a header; none if they are all deleted.
-    fn naming(&self, image: &Image, header: u32) -> &[Part]
-        requires { self.now.trusted ≡ true → IsTrustedBitmap image.now }
-    {
-        let first = self.items.partition_point(|part| part.header < header);
-        let end = self.items.partition_point(|part| part.header <= header);
-        if first >= end {
-            return &[];
-        }
-        let parts = &self.items[first..end];
-        if self.trusted && parts.iter().all(|part| is_marked_free(image, part.block)) {
-            return &[];
-        }
-        parts
+/// Those that name a header; none if they are all deleted.
+fn naming<'a>(known: &Known, parts: &'a [Part], header: u32) -> &'a [Part]
+    requires { AreKnown known.now }
+{
+    let first = parts.partition_point(|part| part.header < header);
+    let end = parts.partition_point(|part| part.header <= header);
+    if first >= end {
+        return &[];
     }
+    let parts = &parts[first..end];
+    if known.trusted && parts.iter().all(|part| !is_used(&known.image, part.block)) {
+        return &[];
+    }
+    parts
 }
 
 /// Whether a block is an OFS data block with a right checksum that names this header.
@@ -108,52 +89,34 @@ fn is_loose(image: &Image, header: u32, block: u32) -> bool
         && image.sum(block) == 0
 }
 
-/// Whether a trusted bitmap marks a block free.
-#[tactic(auto, using(crate::proofs::Trusting::trusted_pages))]
-fn is_marked_free(image: &Image, block: u32) -> bool
-    requires { IsTrustedBitmap image.now }
-{
-    block >= BOOT_BLOCKS && block < image.blocks() && is_free(image, block)
-}
-
 /// Gives the lost entries the data blocks that name them.
-fn replace_lost(
-    image: &Image,
-    known: &Known,
-    parts: &Parts,
-    gathered: &mut Gathered,
-) -> Result<(), AllocError>
-    requires known { AreKnown image.now known.now }
-    requires trust { parts.now.trusted ≡ true → IsTrustedBitmap image.now }
-    requires settled { AreSettled known.now.left_out image.now 0 gathered.old }
-    ensures { OnOk result (AreSettled known.now.left_out image.now 0 gathered.new) }
+fn replace_lost(known: &Known, parts: &[Part], gathered: &mut Gathered) -> Result<(), AllocError>
+    requires { AreSettled known.now 0 gathered.old }
+    ensures { OnOk result (AreSettled known.now 0 gathered.new) }
 {
     for place in 0..gathered.entries.len() {
-        replace(image, known, parts, place, gathered)?;
+        replace(known, parts, place, gathered)?;
     }
     Ok(())
 }
 
 /// Gives the entry at a position the data blocks that name it, if it is lost.
 fn replace(
-    image: &Image,
     known: &Known,
-    parts: &Parts,
+    parts: &[Part],
     place: usize,
     gathered: &mut Gathered,
 ) -> Result<(), AllocError>
-    requires known { AreKnown image.now known.now }
-    requires trust { parts.now.trusted ≡ true → IsTrustedBitmap image.now }
     requires place { place < length gathered.old.entries.items }
-    requires settled { AreSettled known.now.left_out image.now 0 gathered.old }
-    ensures settled { OnOk result (AreSettled known.now.left_out image.now 0 gathered.new) }
+    requires settled { AreSettled known.now 0 gathered.old }
+    ensures settled { OnOk result (AreSettled known.now 0 gathered.new) }
     ensures count { length gathered.new.entries.items ≡ length gathered.old.entries.items }
 {
     let State::Lost = gathered.entries[place].state else {
         return Ok(());
     };
     let header = gathered.entries[place].header;
-    let state = loose_state(image, known, parts, header, place, &mut gathered.giving)?;
+    let state = loose_state(known, parts, header, place, &mut gathered.giving)?;
     if let Some(state) = state {
         gathered.entries[place].state = state;
     }
@@ -161,24 +124,16 @@ fn replace(
 }
 
 /// Adds the files of the headers that have no entry.
-fn add_found(
-    alloc: Global,
-    image: &Image,
-    known: &Known,
-    parts: &Parts,
-    gathered: &mut Gathered,
-) -> Result<(), AllocError>
-    requires known { AreKnown image.now known.now }
-    requires trust { parts.now.trusted ≡ true → IsTrustedBitmap image.now }
-    requires settled { AreSettled known.now.left_out image.now 0 gathered.old }
-    ensures { OnOk result ((next : ℕ) × AreSettled known.now.left_out image.now next gathered.new) }
+fn add_found(known: &Known, parts: &[Part], gathered: &mut Gathered) -> Result<(), AllocError>
+    requires { AreSettled known.now 0 gathered.old }
+    ensures { OnOk result ((next : ℕ) × AreSettled known.now next gathered.new) }
 {
     let mut next = 0_u64;
-    for part in &parts.items {
+    for part in parts {
         if u64::from(part.header) < next {
             continue;
         }
-        add_file(alloc, image, known, parts, part.header, gathered)?;
+        add_file(known, parts, part.header, gathered)?;
         next = u64::from(part.header) + 1;
     }
     Ok(())
@@ -186,26 +141,22 @@ fn add_found(
 
 /// Adds the file of a header, if it has no entry and something is left of it.
 fn add_file(
-    alloc: Global,
-    image: &Image,
     known: &Known,
-    parts: &Parts,
+    parts: &[Part],
     header: u32,
     gathered: &mut Gathered,
 ) -> Result<(), AllocError>
-    requires known { AreKnown image.now known.now }
-    requires trust { parts.now.trusted ≡ true → IsTrustedBitmap image.now }
-    requires giving { IsGiving image.now gathered.old.giving }
-    ensures { OnOk result ((next : ℕ) → next ≤ header → AreSettled known.now.left_out image.now next gathered.old
-        → AreSettled known.now.left_out image.now (header + 1) gathered.new) }
+    requires known { AreKnown known.now }
+    requires giving { IsGiving known.now.image gathered.old.giving }
+    ensures { OnOk result ((next : ℕ) → next ≤ header → AreSettled known.now next gathered.old → AreSettled known.now (header + 1) gathered.new) }
 {
     if gathered.has(header) {
         return Ok(());
     }
     let place = gathered.entries.len();
-    let state = loose_state(image, known, parts, header, place, &mut gathered.giving)?;
+    let state = loose_state(known, parts, header, place, &mut gathered.giving)?;
     match state {
-        Some(state) => gathered.add_loose(alloc, header, state),
+        Some(state) => gathered.add_loose(known.alloc, header, state),
         None => Ok(()),
     }
 }
@@ -213,24 +164,23 @@ fn add_file(
 /// The state of a file without a header, whose entry has this position and is given its data blocks. `None` if the header is
 /// told, or if no block is left for it.
 fn loose_state(
-    image: &Image,
     known: &Known,
-    parts: &Parts,
+    parts: &[Part],
     header: u32,
     place: usize,
     giving: &mut Giving,
 ) -> Result<Option<State>, AllocError>
-    requires known { AreKnown image.now known.now }
-    requires trust { parts.now.trusted ≡ true → IsTrustedBitmap image.now }
-    requires giving { IsGiving image.now giving.old }
-    ensures state { IfOk result (λ state. IfSome state (IsLoose known.now.left_out image.now header)) }
-    ensures giving { OnOk result (IsGiving image.now giving.new) }
+    requires known { AreKnown known.now }
+    requires giving { IsGiving known.now.image giving.old }
+    ensures state { IfOk result (λ state. IfSome state (IsLoose known.now.left_out known.now.image header)) }
+    ensures giving { OnOk result (IsGiving known.now.image giving.new) }
     ensures left { IfOk result (λ state. MatchOption state (giving.new.left ≡ giving.old.left) (λ state. broken_length state + giving.new.left ≡ giving.old.left)) }
 {
-    if known.is_header(image, header) {
+    if known.is_header(header) {
         return Ok(None);
     }
-    let Some(remains) = give(image, header, place, parts.naming(image, header), giving)? else {
+    let parts = naming(known, parts, header);
+    let Some(remains) = give(&known.image, header, place, parts, giving)? else {
         return Ok(None);
     };
     let state = damaged(remains, giving.left, HeaderState::Gone);

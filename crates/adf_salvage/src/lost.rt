@@ -3,76 +3,60 @@ ghost use Rattle.std.specs.Prelude.{◌<◌, ℕ, IsSome, OnOk};
 ghost use Rattle.adf_block.specs.Image.{block_count};
 ghost use Rattle.adf_salvage.specs.Doubtful.{NamesEntries};
 ghost use Rattle.adf_salvage.specs.Lost.{IsLost};
-ghost use Rattle.adf_salvage.specs.steps.Gathering.{AreAllHeaders, AreFollowed, AreGathered, GathersMore, IsFollowed, place_at};
-ghost use Rattle.adf_salvage.specs.steps.Heading.{AreKnown};
+ghost use Rattle.adf_salvage.specs.steps.Gathering.{AreAllHeaders, AreFollowed, AreGatheredBy, GathersMore, IsFollowed, place_at};
 
 use crate::gathered::Gathered;
 use crate::header::dir_of_place;
 use crate::known::Known;
-use adf_block::Image;
 use adf_block::layout::{BLOCK_LONGS, BOOT_BLOCKS};
-use std::alloc::{AllocError, Global};
+use std::alloc::AllocError;
 
 /// Adds all lost entries, after all headers were found.
-pub(crate) fn add_lost(
-    alloc: Global,
-    image: &Image,
-    known: &Known,
-    gathered: &mut Gathered,
-) -> Result<(), AllocError>
-    requires known { AreKnown image.now known.now }
-    requires gathered { AreGathered known.now.left_out image.now gathered.old }
-    requires headers { AreAllHeaders known.now.left_out image.now gathered.old.places.items }
-    ensures gathered { OnOk result (AreGathered known.now.left_out image.now gathered.new) }
-    ensures headers { OnOk result (AreAllHeaders known.now.left_out image.now gathered.new.places.items) }
-    ensures lost { OnOk result ((block : ℕ) → IsLost known.now.left_out image.now block → IsSome (place_at gathered.new.places.items block)) }
+pub(crate) fn add_lost(known: &Known, gathered: &mut Gathered) -> Result<(), AllocError>
+    requires gathered { AreGatheredBy known.now gathered.old }
+    requires headers { AreAllHeaders known.now gathered.old.places.items }
+    ensures gathered { OnOk result (AreGatheredBy known.now gathered.new) }
+    ensures headers { OnOk result (AreAllHeaders known.now gathered.new.places.items) }
+    ensures lost { OnOk result ((block : ℕ) → IsLost known.now.left_out known.now.image block → IsSome (place_at gathered.new.places.items block)) }
 {
-    for block in 0..image.blocks() {
-        follow(alloc, image, known, block, gathered)?;
+    for block in 0..known.image.blocks() {
+        follow(known, block, gathered)?;
     }
     Ok(())
 }
 
 /// Adds the lost entries that a block names, if it is the root or a header.
-fn follow(
-    alloc: Global,
-    image: &Image,
-    known: &Known,
-    block: u32,
-    gathered: &mut Gathered,
-) -> Result<(), AllocError>
-    requires inside { block < block_count image.now }
-    requires known { AreKnown image.now known.now }
-    requires gathered { AreGathered known.now.left_out image.now gathered.old }
-    requires headers { AreAllHeaders known.now.left_out image.now gathered.old.places.items }
-    ensures more { OnOk result (GathersMore known.now.left_out image.now gathered.old gathered.new) }
-    ensures followed { OnOk result (AreFollowed known.now.left_out image.now gathered.new.places.items block) }
+fn follow(known: &Known, block: u32, gathered: &mut Gathered) -> Result<(), AllocError>
+    requires inside { block < block_count known.now.image }
+    requires gathered { AreGatheredBy known.now gathered.old }
+    requires headers { AreAllHeaders known.now gathered.old.places.items }
+    ensures more { OnOk result (GathersMore known.now gathered.old gathered.new) }
+    ensures followed { OnOk result (AreFollowed known.now gathered.new.places.items block) }
 {
-    if !known.names_entries(image, block) {
+    if !known.names_entries(block) {
         return Ok(());
     }
     for at in 0..BLOCK_LONGS {
-        follow_long(alloc, image, known, block, at, gathered)?;
+        follow_long(known, block, at, gathered)?;
     }
     Ok(())
 }
 
 /// Adds the block that a long of a block names as an entry, if it is lost and neither left out nor added before.
 fn follow_long(
-    alloc: Global,
-    image: &Image,
     known: &Known,
     block: u32,
     at: u32,
     gathered: &mut Gathered,
 ) -> Result<(), AllocError>
-    requires inside { (block < block_count image.now) × (at < 128) }
-    requires accepted { NamesEntries known.now.left_out image.now block }
-    requires gathered { AreGathered known.now.left_out image.now gathered.old }
-    requires headers { AreAllHeaders known.now.left_out image.now gathered.old.places.items }
-    ensures more { OnOk result (GathersMore known.now.left_out image.now gathered.old gathered.new) }
-    ensures followed { OnOk result (IsFollowed known.now.left_out image.now gathered.new.places.items block at) }
+    requires inside { (block < block_count known.now.image) × (at < 128) }
+    requires accepted { NamesEntries known.now.left_out known.now.image block }
+    requires gathered { AreGatheredBy known.now gathered.old }
+    requires headers { AreAllHeaders known.now gathered.old.places.items }
+    ensures more { OnOk result (GathersMore known.now gathered.old gathered.new) }
+    ensures followed { OnOk result (IsFollowed known.now gathered.new.places.items block at) }
 {
+    let image = &known.image;
     let Some(_dir) = dir_of_place(image, block, at) else {
         return Ok(());
     };
@@ -84,5 +68,5 @@ fn follow_long(
         return Ok(());
     }
     let standing = gathered.standing_at(block, at);
-    gathered.add_lost(alloc, image, known, named, standing)
+    gathered.add_lost(known, named, standing)
 }

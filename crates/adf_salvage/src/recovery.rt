@@ -12,37 +12,37 @@ use crate::claims::Claim;
 use crate::deleted::Recovery;
 use crate::header::is_file;
 use crate::intact::{named_blocks, own_blocks};
+use crate::known::Known;
 use crate::trust::is_used;
 use adf_block::Image;
 use adf_block::layout::BOOT_BLOCKS;
 use ados_check::Mark;
 use ados_model::Role;
-use std::alloc::{AllocError, Global};
+use std::alloc::AllocError;
 
 /// How much of the entry with a sound header can be had back.
 pub(crate) fn recovery_of(
-    alloc: Global,
-    image: &Image,
+    known: &Known,
     header: u32,
-    claims: &[Claim],
     marks: &[Option<Mark>],
     users: &mut Vec<u32>,
 ) -> Result<Recovery, AllocError>
-    requires trusted { IsTrustedBitmap image.now }
-    requires header { IsSoundHeader image.now header }
-    requires claims { AreAllClaims [] image.now claims.now }
-    requires marks { AreOfReached image.now marks.now }
-    requires users { AreUsersBelow image.now header users.old.items }
-    ensures users { OnOk result (AreUsersBelow image.now (header + 1) users.new.items) }
-    ensures recovery { IfOk result (HasRecovery image.now header) }
+    requires trusted { IsTrustedBitmap known.now.image }
+    requires header { IsSoundHeader known.now.image header }
+    requires claims { AreAllClaims [] known.now.image known.now.claims.items }
+    requires marks { AreOfReached known.now.image marks.now }
+    requires users { AreUsersBelow known.now.image header users.old.items }
+    ensures users { OnOk result (AreUsersBelow known.now.image (header + 1) users.new.items) }
+    ensures recovery { IfOk result (HasRecovery known.now.image header) }
 {
-    if let Some(blocks) = sound_blocks(alloc, image, header, claims, users)? {
-        return Ok(recovery_of_intact(image, header, claims, marks, &blocks));
+    if let Some(blocks) = sound_blocks(known, header, users)? {
+        return Ok(recovery_of_intact(known, header, marks, &blocks));
     }
+    let image = &known.image;
     if !is_file(image, header) {
         return Ok(Recovery::Directory);
     }
-    let Some(blocks) = named_blocks(alloc, image, header)? else {
+    let Some(blocks) = named_blocks(known.alloc, image, header)? else {
         return Ok(Recovery::NotIntact);
     };
     match use_of(image, marks, &blocks) {
@@ -53,44 +53,36 @@ pub(crate) fn recovery_of(
 
 /// The blocks of a file, if it is sound. If only this file claims its header, they need no second look.
 fn sound_blocks(
-    alloc: Global,
-    image: &Image,
+    known: &Known,
     file: u32,
-    claims: &[Claim],
     users: &mut Vec<u32>,
 ) -> Result<Option<Vec<u32>>, AllocError>
-    requires file { file < block_count image.now }
-    requires claims { AreAllClaims [] image.now claims.now }
-    requires users { AreUsersBelow image.now file users.old.items }
-    ensures users { OnOk result (AreUsersBelow image.now (file + 1) users.new.items) }
-    ensures own { IfOk result (λ found. MatchOption found (¬ IsIntact image.now file)
-        (λ blocks. IsIntact image.now file × (blocks.items ≡ own_blocks image.now file))) }
+    requires file { file < block_count known.now.image }
+    requires claims { AreAllClaims [] known.now.image known.now.claims.items }
+    requires users { AreUsersBelow known.now.image file users.old.items }
+    ensures users { OnOk result (AreUsersBelow known.now.image (file + 1) users.new.items) }
+    ensures own { IfOk result (λ found. MatchOption found (¬ IsIntact known.now.image file)
+        (λ blocks. IsIntact known.now.image file × (blocks.items ≡ own_blocks known.now.image file))) }
 {
-    if claims[file as usize] != Claim::One(file) {
-        return own_blocks(alloc, image, file, users);
+    if known.claims[file as usize] != Claim::One(file) {
+        return own_blocks(known.alloc, &known.image, file, users);
     }
-    named_blocks(alloc, image, file)
+    named_blocks(known.alloc, &known.image, file)
 }
 
 /// How much of a sound file with these blocks can be had back.
-fn recovery_of_intact(
-    image: &Image,
-    file: u32,
-    claims: &[Claim],
-    marks: &[Option<Mark>],
-    blocks: &[u32],
-) -> Recovery
-    requires trusted { IsTrustedBitmap image.now }
-    requires intact { IsIntact image.now file }
-    requires own { blocks.now ≡ own_blocks image.now file }
-    requires claims { AreAllClaims [] image.now claims.now }
-    requires marks { AreOfReached image.now marks.now }
-    ensures { HasRecovery image.now file result }
+fn recovery_of_intact(known: &Known, file: u32, marks: &[Option<Mark>], blocks: &[u32]) -> Recovery
+    requires trusted { IsTrustedBitmap known.now.image }
+    requires intact { IsIntact known.now.image file }
+    requires own { blocks.now ≡ own_blocks known.now.image file }
+    requires claims { AreAllClaims [] known.now.image known.now.claims.items }
+    requires marks { AreOfReached known.now.image marks.now }
+    ensures { HasRecovery known.now.image file result }
 {
-    if let Some(recovery) = use_of(image, marks, blocks) {
+    if let Some(recovery) = use_of(&known.image, marks, blocks) {
         return recovery;
     }
-    let shared = count_several(claims, blocks);
+    let shared = count_several(&known.claims, blocks);
     if shared > 0 {
         return Recovery::Shared {
             shared,

@@ -1,14 +1,14 @@
 //! Everything in an image that can be trusted.
-ghost use Rattle.std.specs.Prelude.{◌≡◌, false, IfOk};
+ghost use Rattle.std.specs.Prelude.{ℕ, List, IfOk};
 ghost use Rattle.ados_model.specs.Stands.{Stands};
 ghost use Rattle.ados_model.specs.Tree.{Tree};
-ghost use Rattle.adf_salvage.specs.Salvaged.{AreOfTree, SavesSound, Salvages};
+ghost use Rattle.adf_salvage.specs.Salvaged.{AreOfTree, IsReadAs, Salvages, SavesRest};
 
 use crate::chains::add_reached;
 use crate::gathered::Gathered;
 use crate::giving::Giving;
 use crate::kind::with_kind;
-use crate::known::known_of;
+use crate::known::Known;
 use crate::left_out::left_out_of;
 use crate::listing::volume_entries;
 use crate::loose::add_loose;
@@ -46,23 +46,34 @@ pub fn salvage(alloc: Global, image: Image) -> Result<Salvage, AllocError>
 /// The entries of all sound and doubtful headers of an image but the deleted ones, its lost entries, and the files without a
 /// header.
 fn told_headers(alloc: Global, image: Image) -> Result<Salvage, AllocError>
-    ensures refused { IfOk result (λ saved. saved.accepted ≡ false) }
-    ensures image { IfOk result (λ saved. saved.image ≡ image) }
-    ensures saves { IfOk result SavesSound }
+    ensures { (given : List ℕ) → IsReadAs given image → IfOk result (SavesRest given) }
 {
     let (left_out, trusted) = left_out_of(alloc, &image)?;
-    let known = known_of(alloc, &image, left_out)?;
-    let mut gathered = Gathered::new(alloc, &image)?;
-    add_reached(alloc, &image, &known, &mut gathered)?;
-    add_unreached(alloc, &image, &known, &mut gathered)?;
-    add_lost(alloc, &image, &known, &mut gathered)?;
-    add_loose(alloc, &image, &known, trusted, &mut gathered)?;
+    let known = Known::of(alloc, image, trusted, left_out)?;
+    let mut gathered = Gathered::new(alloc, &known.image)?;
+    add_reached(&known, &mut gathered)?;
+    add_unreached(&known, &mut gathered)?;
+    add_lost(&known, &mut gathered)?;
+    add_loose(&known, &mut gathered)?;
     let Gathered {
         entries,
         giving,
         ..
     } = gathered;
     let Giving { pieces, .. } = giving;
-    let deleted = known.left_out.into_headers();
-    Ok(Salvage::of(false, image, trusted, entries, deleted, pieces))
+    let Known {
+        image,
+        trusted,
+        left_out,
+        ..
+    } = known;
+    let deleted = left_out.into_headers();
+    Ok(Salvage {
+        accepted: false,
+        image,
+        trusted,
+        entries,
+        deleted,
+        pieces,
+    })
 }

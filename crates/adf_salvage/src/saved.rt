@@ -21,12 +21,12 @@ use std::marker::Model;
 /// headers of the deleted entries, which are left out, and the blocks given to files that are not whole.
 #[derive(Drop)]
 pub struct Salvage {
-    accepted: bool,
-    image: Image,
-    trusted: bool,
-    entries: Vec<Salvaged>,
-    deleted: Vec<u32>,
-    pieces: Vec<Piece>,
+    pub(crate) accepted: bool,
+    pub(crate) image: Image,
+    pub(crate) trusted: bool,
+    pub(crate) entries: Vec<Salvaged>,
+    pub(crate) deleted: Vec<u32>,
+    pub(crate) pieces: Vec<Piece>,
 }
 
 impl Model for Salvage {
@@ -41,33 +41,6 @@ impl Model for Salvage {
 }
 
 impl Salvage {
-    /// Entries that can be read in an image.
-    pub(crate) fn of(
-        accepted: bool,
-        image: Image,
-        trusted: bool,
-        entries: Vec<Salvaged>,
-        deleted: Vec<u32>,
-        pieces: Vec<Piece>,
-    ) -> Salvage
-        requires { IsKept image trusted entries.items pieces.items }
-        ensures accepted { result.accepted ≡ accepted }
-        ensures image { result.image ≡ image }
-        ensures trusted { result.trusted ≡ trusted }
-        ensures entries { result.entries ≡ entries.items }
-        ensures deleted { result.deleted ≡ deleted.items }
-        ensures given { result.given ≡ pieces.items }
-    {
-        Salvage {
-            accepted,
-            image,
-            trusted,
-            entries,
-            deleted,
-            pieces,
-        }
-    }
-
     /// Whether the image was accepted by the check.
     pub fn is_accepted(&self) -> bool
         ensures { result ≡ self.now.accepted }

@@ -11,26 +11,24 @@ use crate::header::{is_file, is_sound_header};
 use crate::known::Known;
 use crate::salvaged::{HeaderState, State};
 use crate::whole::is_whole;
-use adf_block::Image;
-use std::alloc::{AllocError, Global};
+use std::alloc::AllocError;
 
 /// The state of a header whose entry has this position. A file that is not whole is given its blocks, and as many bytes as
 /// are left for it. If no block is missing, and it has all these bytes, it is doubtful.
 pub(crate) fn state_of(
-    alloc: Global,
-    image: &Image,
     known: &Known,
     block: u32,
     place: usize,
     giving: &mut Giving,
 ) -> Result<State, AllocError>
-    requires header { IsHeader known.now.left_out image.now block }
-    requires known { AreKnown image.now known.now }
-    requires giving { IsGiving image.now giving.old }
-    ensures state { IfOk result (HasState known.now.left_out image.now block) }
-    ensures giving { OnOk result (IsGiving image.now giving.new) }
+    requires header { IsHeader known.now.left_out known.now.image block }
+    requires known { AreKnown known.now }
+    requires giving { IsGiving known.now.image giving.old }
+    ensures state { IfOk result (HasState known.now.left_out known.now.image block) }
+    ensures giving { OnOk result (IsGiving known.now.image giving.new) }
     ensures left { IfOk result (λ state. broken_length state + giving.new.left ≡ giving.old.left) }
 {
+    let image = &known.image;
     let sound = is_sound_header(image, block);
     if !is_file(image, block) {
         return Ok(if sound {
@@ -39,7 +37,7 @@ pub(crate) fn state_of(
             State::DoubtfulDirectory
         });
     }
-    if is_whole(alloc, image, known, block)? {
+    if is_whole(known, block)? {
         return Ok(State::Whole);
     }
     let remains = giving.give(image, block, place)?;

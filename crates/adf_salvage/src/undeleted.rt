@@ -4,21 +4,19 @@ ghost use Rattle.adf_block.specs.Image.{block_count};
 ghost use Rattle.adf_salvage.specs.Deleted.{IsTrustedBitmap, ListsDeleted};
 ghost use Rattle.adf_salvage.specs.Undeleted.{TellsUndeleted};
 ghost use Rattle.adf_salvage.specs.Sound.{IsSoundHeader};
-ghost use Rattle.adf_salvage.specs.steps.Deleting.{AreOfReached};
-ghost use Rattle.adf_salvage.specs.steps.Gathering.{AreGathered, GathersMore, place_at};
+ghost use Rattle.adf_salvage.specs.steps.Gathering.{AreGathered, AreGatheredBy, GathersMore, place_at};
 ghost use Rattle.adf_salvage.specs.steps.Heading.{AreKnown};
 ghost use Rattle.adf_salvage.specs.steps.Undeleting.{AreHeaders, HasEach};
 
 use crate::deleted::{Deleted, Recovery, all_deleted};
 use crate::gathered::Gathered;
 use crate::giving::Giving;
-use crate::known::{Known, known_of};
+use crate::known::Known;
 use crate::left_out::{LeftOut, deleted_headers};
 use crate::saved::Salvage;
 use crate::trust::trusted_marks;
 use crate::unreached::add_with_parents;
 use adf_block::Image;
-use ados_check::Mark;
 use std::alloc::{AllocError, Global};
 
 /// The deleted entries of an image, and all directories above them as far as these are sound.
@@ -51,7 +49,25 @@ pub fn undelete(alloc: Global, image: Image) -> Result<UndeletedEntries, AllocEr
     let Some(marks) = trusted_marks(alloc, &image)? else {
         return Ok(UndeletedEntries::NoTrustedBitmap);
     };
-    let (deleted, gathered) = deleted_and_gathered(alloc, &image, &marks)?;
+    let headers = deleted_headers(alloc, &image)?;
+    if headers.is_empty() {
+        let gathered = Gathered::new(alloc, &image)?;
+        return Ok(found(alloc, image, Vec::new(alloc), gathered));
+    }
+    let known = Known::of(alloc, image, true, LeftOut::none(alloc))?;
+    let deleted = all_deleted(&known, &headers, &marks)?;
+    let gathered = gathered_deleted(&known, &deleted)?;
+    Ok(found(alloc, known.image, deleted, gathered))
+}
+
+/// The deleted entries of an image, with what was gathered of them.
+fn found(alloc: Global, image: Image, deleted: Vec<Deleted>, gathered: Gathered) -> UndeletedEntries
+    requires trusted { IsTrustedBitmap image }
+    requires deleted { ListsDeleted image deleted.items }
+    requires gathered { AreGathered [] image gathered }
+    requires each { HasEach gathered.places.items deleted.items }
+    ensures { TellsUndeleted image result }
+{
     let Gathered {
         entries,
         places,
@@ -59,90 +75,58 @@ pub fn undelete(alloc: Global, image: Image) -> Result<UndeletedEntries, AllocEr
         ..
     } = gathered;
     let Giving { pieces, .. } = giving;
-    let salvage = Salvage::of(false, image, true, entries, Vec::new(alloc), pieces);
-    Ok(UndeletedEntries::Found(Undeleted {
-        salvage,
+    UndeletedEntries::Found(Undeleted {
+        salvage: Salvage {
+            accepted: false,
+            image,
+            trusted: true,
+            entries,
+            deleted: Vec::new(alloc),
+            pieces,
+        },
         deleted,
         places,
-    }))
-}
-
-/// The deleted entries, and those with the directories above them.
-fn deleted_and_gathered(
-    alloc: Global,
-    image: &Image,
-    marks: &[Option<Mark>],
-) -> Result<(Vec<Deleted>, Gathered), AllocError>
-    requires trusted { IsTrustedBitmap image.now }
-    requires marks { AreOfReached image.now marks.now }
-    ensures deleted { IfOk result (λ found. ListsDeleted image.now found.0.items) }
-    ensures gathered { IfOk result (λ found. AreGathered [] image.now found.1) }
-    ensures each { IfOk result (λ found. HasEach found.1.places.items found.0.items) }
-{
-    let headers = deleted_headers(alloc, image)?;
-    if headers.is_empty() {
-        let gathered = Gathered::new(alloc, image)?;
-        return Ok((Vec::new(alloc), gathered));
-    }
-    let known = known_of(alloc, image, LeftOut::none(alloc))?;
-    let deleted = all_deleted(alloc, image, &headers, &known.claims, marks)?;
-    let gathered = gathered_deleted(alloc, image, &known, &deleted)?;
-    Ok((deleted, gathered))
+    })
 }
 
 /// The deleted entries, each after the directories above it. The entries that have blocks of deleted files now come first, so
 /// that their names have no endings.
-fn gathered_deleted(
-    alloc: Global,
-    image: &Image,
-    known: &Known,
-    deleted: &[Deleted],
-) -> Result<Gathered, AllocError>
-    requires sound { AreHeaders image.now deleted.now }
-    requires known { AreKnown image.now known.now }
+fn gathered_deleted(known: &Known, deleted: &[Deleted]) -> Result<Gathered, AllocError>
+    requires sound { AreHeaders known.now.image deleted.now }
+    requires known { AreKnown known.now }
     requires all { known.now.left_out ≡ [] }
-    ensures gathered { IfOk result (AreGathered [] image.now) }
+    ensures gathered { IfOk result (AreGatheredBy known.now) }
     ensures each { IfOk result (λ gathered. HasEach gathered.places.items deleted.now) }
 {
-    let mut gathered = Gathered::new(alloc, image)?;
-    let mut climbed = vec![in alloc; false; image.blocks() as usize]?;
+    let mut gathered = Gathered::new(known.alloc, &known.image)?;
+    let mut climbed = vec![in known.alloc; false; known.image.blocks() as usize]?;
     for entry in deleted {
         if let Recovery::Used { by: Some(user), .. } = entry.recovery {
-            add_entry(alloc, image, known, user, &mut climbed, &mut gathered)?;
+            add_entry(known, user, &mut climbed, &mut gathered)?;
         }
     }
     for entry in deleted {
-        add_entry(
-            alloc,
-            image,
-            known,
-            entry.header,
-            &mut climbed,
-            &mut gathered,
-        )?;
+        add_entry(known, entry.header, &mut climbed, &mut gathered)?;
     }
     Ok(gathered)
 }
 
 /// Adds a header after the directories above it, if it is sound and was not added before.
 fn add_entry(
-    alloc: Global,
-    image: &Image,
     known: &Known,
     header: u32,
     climbed: &mut Vec<bool>,
     gathered: &mut Gathered,
 ) -> Result<(), AllocError>
-    requires climbed { length climbed.old.items ≡ block_count image.now }
-    requires gathered { AreGathered [] image.now gathered.old }
-    requires known { AreKnown image.now known.now }
+    requires climbed { length climbed.old.items ≡ block_count known.now.image }
+    requires gathered { AreGatheredBy known.now gathered.old }
     requires all { known.now.left_out ≡ [] }
-    ensures climbed { OnOk result (length climbed.new.items ≡ block_count image.now) }
-    ensures more { OnOk result (GathersMore [] image.now gathered.old gathered.new) }
-    ensures met { OnOk result (IsSoundHeader image.now header → IsSome (place_at gathered.new.places.items header)) }
+    ensures climbed { OnOk result (length climbed.new.items ≡ block_count known.now.image) }
+    ensures more { OnOk result (GathersMore known.now gathered.old gathered.new) }
+    ensures met { OnOk result (IsSoundHeader known.now.image header → IsSome (place_at gathered.new.places.items header)) }
 {
-    if !gathered.is_new(image, known, header) {
+    if !gathered.is_new(known, header) {
         return Ok(());
     }
-    add_with_parents(alloc, image, known, header, climbed, gathered)
+    add_with_parents(known, header, climbed, gathered)
 }

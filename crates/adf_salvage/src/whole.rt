@@ -7,26 +7,20 @@ ghost use Rattle.adf_salvage.specs.steps.Heading.{AreKnown};
 use crate::claims::{Claim, are_alone};
 use crate::intact::named_blocks;
 use crate::known::Known;
-use adf_block::Image;
-use std::alloc::{AllocError, Global};
+use std::alloc::AllocError;
 
 /// Whether a file is whole. Files that are left out claim no blocks. If only this file claims its header, its blocks are sound,
 /// and need no second look.
-pub(crate) fn is_whole(
-    alloc: Global,
-    image: &Image,
-    known: &Known,
-    file: u32,
-) -> Result<bool, AllocError>
-    requires inside { file < block_count image.now }
-    requires known { AreKnown image.now known.now }
-    ensures { IfOk result (λ whole. MatchBool whole (IsWhole known.now.left_out image.now file) (¬ IsWhole known.now.left_out image.now file)) }
+pub(crate) fn is_whole(known: &Known, file: u32) -> Result<bool, AllocError>
+    requires inside { file < block_count known.now.image }
+    requires known { AreKnown known.now }
+    ensures { IfOk result (λ whole. MatchBool whole (IsWhole known.now.left_out known.now.image file) (¬ IsWhole known.now.left_out known.now.image file)) }
 {
     let claims = known.claims.as_slice();
     if claims[file as usize] != Claim::One(file) {
         return Ok(false);
     }
-    match named_blocks(alloc, image, file)? {
+    match named_blocks(known.alloc, &known.image, file)? {
         Some(blocks) => Ok(are_alone(claims, file, &blocks)),
         None => Ok(false),
     }

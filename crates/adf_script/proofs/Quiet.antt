@@ -5,7 +5,7 @@ use Rattle.std.specs.Bool.{MatchBool}
 use Rattle.ados_model.specs.declared.packet.Packet.{Packet}
 use Rattle.ados_model.specs.declared.answer.Answer.{Answer}
 use Rattle.ados_port.specs.History.{ClientState, PortState, client_state}
-use Rattle.ados_port.specs.Steps.{PutGives, ServeGives, TakeGives}
+use Rattle.ados_port.specs.Gives.{PutGives, ServeGives, TakeGives}
 use Rattle.ados_port.specs.PutRefused.TheVariants.{Closed, NoRoom}
 use Rattle.ados_port.specs.Reply.{Reply}
 use Rattle.ados_port.specs.Outcome.{Outcome}

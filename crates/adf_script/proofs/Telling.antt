@@ -9,12 +9,13 @@ use Rattle.std.proofs.lemmas.Option.{none-some, same_Some}
 use Rattle.ados_model.specs.declared.packet.Packet.{Packet}
 use Rattle.ados_model.specs.declared.answer.Answer.{Answer}
 use Rattle.ados_port.specs.History.{PortState, PortHistory}
-use Rattle.ados_port.specs.Steps.{StepGives}
+use Rattle.ados_port.specs.Gives.{StepGives}
 use Rattle.ados_port.specs.Step.TheVariants.{Put, Serve, Take}
 use Rattle.ados_port.specs.PutRefused.TheVariants.{Closed}
 use Rattle.ados_port.specs.Reply.{Reply}
 use Rattle.ados_port.specs.Outcome.TheVariants.{Accepted, Refused, Served, Taken}
-use Rattle.ados_port.proofs.Grows.{grown_nil, grow, history_of_step}
+use Rattle.ados_port.proofs.Histories.{history_nil}
+use Rattle.ados_port.proofs.Grows.{grow, history_of_step}
 use Rattle.adf_script.specs.Lines.{kept_lines, is_too_long}
 use Rattle.adf_script.specs.Values.{answer_value}
 use Rattle.adf_script.specs.Text.{reply_line, closed_line, fault_line}
@@ -22,7 +23,8 @@ use Rattle.adf_script.specs.Packets.{NextPuts, NextIsFaulty, NoneIsLeft}
 use Rattle.adf_script.specs.Told.{steps_of, outcomes_of, LinesTell, Told}
 use Rattle.adf_script.specs.Told.LinesTell.{ended, answered, closed, faulty}
 use Rattle.adf_script.specs.steps.Calls.{IsQuiet, Calls}
-use Rattle.adf_script.specs.Streams.{Writes, ReadsAndWrites}
+use Rattle.adf_script.specs.Streams.{ReadsAndWrites}
+use Rattle.adf_io.specs.Prefix.{Writes}
 use Rattle.adf_script.proofs.Quiet.{put_closed}
 use Rattle.std.proofs.KnownBytes.{Appends-nil as appends_nothing, Appends-trans as appends_more, Appends-kept as appends_kept}
 
@@ -43,9 +45,9 @@ module _ {S M : Type 0} (gives : S → Packet → M → S → Answer → Type 0)
   history_of_call : (moment : M) (old new : PortState S Packet Answer) (packet : Packet) (reply : Reply Answer) → Calls gives has_died moment old packet reply new
       → PortHistory gives has_died old (steps_of moment packet) (outcomes_of reply) new
   history_of_call moment old new packet reply calls =
-      let one = grow gives has_died old [] [] old (grown_nil gives has_died old) (Put 1 packet) (Accepted reply.number) calls.put calls.puts
+      let one = grow gives has_died old [] [] old (history_nil gives has_died old) (Put 1 packet) (Accepted reply.number) calls.put calls.puts
       in let two = grow gives has_died old _ _ calls.put one (Serve moment) Served calls.served calls.serves
-      in (grow gives has_died old _ _ calls.served two (Take 1) (Taken reply) new calls.takes).history
+      in grow gives has_died old _ _ calls.served two (Take 1) (Taken reply) new calls.takes
 
 module _ {S M : Type 0} (gives : S → Packet → M → S → Answer → Type 0) (has_died : S → Bool) (opening : PortState S Packet Answer) (moment : M) (script : List ℕ) (contents : Option (List ℕ)) where
   -- the output of the script's lines, and of the remaining lines from a port after this many replies

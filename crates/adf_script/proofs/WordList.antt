@@ -1,95 +1,63 @@
 -- The words of lines: each is in the list of all, and no two have the same spelling.
-use Rattle.std.proofs.Common.{◌≡◌, ◌≢◌, ℕ, ◌<◌, List, get_or, refl, sym, ap, ◌∙◌, arith}
+use Rattle.std.proofs.Common.{◌≡◌, ◌≢◌, Bool, true, false, ℕ, ◌<◌, List, [], ◌∷◌, get_or, Option, Some, None, refl, sym, ap, ◌∙◌, arith}
+use Rattle.std.specs.Prelude.{◌==◌, ◌&&◌, if◌then◌else◌}
 use Rattle.adf_script.specs.declared.words.Word.{Word}
 use Rattle.adf_script.specs.declared.words.Word.TheVariants.{Die, Locate, RenameDisk, Free, Delete, Rename, Copy, Protect, MakeDir, Examine, Next, DiskInfo, Info, Comment, Parent, Date, Same, Read, Write, Update, Input, Output, End, Seek, Size, Other}
 use Rattle.adf_script.specs.declared.words.TheConstants.Word.{ALL}
+use Rattle.adf_script.specs.Pieces.{has_byte}
 use Rattle.adf_script.specs.steps.Words.{spelling}
 
--- the position of a word in the list
-abbrev pub place_of : Word → ℕ
-place_of Die = 0
-place_of Locate = 1
-place_of RenameDisk = 2
-place_of Free = 3
-place_of Delete = 4
-place_of Rename = 5
-place_of Copy = 6
-place_of Protect = 7
-place_of MakeDir = 8
-place_of Examine = 9
-place_of Next = 10
-place_of DiskInfo = 11
-place_of Info = 12
-place_of Comment = 13
-place_of Parent = 14
-place_of Date = 15
-place_of Same = 16
-place_of Read = 17
-place_of Write = 18
-place_of Update = 19
-place_of Input = 20
-place_of Output = 21
-place_of End = 22
-place_of Seek = 23
-place_of Size = 24
-place_of Other = 25
+abbrev same_bytes : List ℕ → List ℕ → Bool
+same_bytes [] [] = true
+same_bytes (x ∷ xs) (y ∷ ys) = (x == y) && same_bytes xs ys
+same_bytes [] (y ∷ ys) = false
+same_bytes (x ∷ xs) [] = false
 
-pub listed : (word : Word) → get_or ALL (place_of word) Die ≡ word
-listed Die = refl
-listed Locate = refl
-listed RenameDisk = refl
-listed Free = refl
-listed Delete = refl
-listed Rename = refl
-listed Copy = refl
-listed Protect = refl
-listed MakeDir = refl
-listed Examine = refl
-listed Next = refl
-listed DiskInfo = refl
-listed Info = refl
-listed Comment = refl
-listed Parent = refl
-listed Date = refl
-listed Same = refl
-listed Read = refl
-listed Write = refl
-listed Update = refl
-listed Input = refl
-listed Output = refl
-listed End = refl
-listed Seek = refl
-listed Size = refl
-listed Other = refl
+-- the first word of these with this spelling
+abbrev word_of : List ℕ → List Word → Option Word
+word_of bytes [] = None
+word_of bytes (word ∷ words) = if same_bytes (spelling word) bytes then Some word else word_of bytes words
 
-pub within : (word : Word) → place_of word < 26
-within Die = omega arith
-within Locate = omega arith
-within RenameDisk = omega arith
-within Free = omega arith
-within Delete = omega arith
-within Rename = omega arith
-within Copy = omega arith
-within Protect = omega arith
-within MakeDir = omega arith
-within Examine = omega arith
-within Next = omega arith
-within DiskInfo = omega arith
-within Info = omega arith
-within Comment = omega arith
-within Parent = omega arith
-within Date = omega arith
-within Same = omega arith
-within Read = omega arith
-within Write = omega arith
-within Update = omega arith
-within Input = omega arith
-within Output = omega arith
-within End = omega arith
-within Seek = omega arith
-within Size = omega arith
-within Other = omega arith
+-- a word's position in the list; it is found by its spelling, which has no space
+abbrev IsListed : Word → Type 0
+IsListed word = (k : ℕ) × (k < 26) × (get_or ALL k Die ≡ word) × (word_of (spelling word) ALL ≡ Some word) × (has_byte 32 (spelling word) ≡ false)
+
+listed : (word : Word) → IsListed word
+listed Die = (0, omega arith, refl, refl, refl)
+listed Locate = (1, omega arith, refl, refl, refl)
+listed RenameDisk = (2, omega arith, refl, refl, refl)
+listed Free = (3, omega arith, refl, refl, refl)
+listed Delete = (4, omega arith, refl, refl, refl)
+listed Rename = (5, omega arith, refl, refl, refl)
+listed Copy = (6, omega arith, refl, refl, refl)
+listed Protect = (7, omega arith, refl, refl, refl)
+listed MakeDir = (8, omega arith, refl, refl, refl)
+listed Examine = (9, omega arith, refl, refl, refl)
+listed Next = (10, omega arith, refl, refl, refl)
+listed DiskInfo = (11, omega arith, refl, refl, refl)
+listed Info = (12, omega arith, refl, refl, refl)
+listed Comment = (13, omega arith, refl, refl, refl)
+listed Parent = (14, omega arith, refl, refl, refl)
+listed Date = (15, omega arith, refl, refl, refl)
+listed Same = (16, omega arith, refl, refl, refl)
+listed Read = (17, omega arith, refl, refl, refl)
+listed Write = (18, omega arith, refl, refl, refl)
+listed Update = (19, omega arith, refl, refl, refl)
+listed Input = (20, omega arith, refl, refl, refl)
+listed Output = (21, omega arith, refl, refl, refl)
+listed End = (22, omega arith, refl, refl, refl)
+listed Seek = (23, omega arith, refl, refl, refl)
+listed Size = (24, omega arith, refl, refl, refl)
+listed Other = (25, omega arith, refl, refl, refl)
+
+pub word_plain : (word : Word) → has_byte 32 (spelling word) ≡ false
+word_plain word = (listed word).4
+
+pub spelled_once : (a b : Word) → spelling a ≡ spelling b → a ≡ b
+spelled_once a b e =
+    let same : Some a ≡ Some b = sym (listed a).3 ∙ ap (λ l. word_of l ALL) e ∙ (listed b).3
+    in cc
 
 -- no word of the list has this spelling
 pub none_spelled : (bytes : List ℕ) → ((k : ℕ) → k < 26 → bytes ≢ spelling (get_or ALL k Die)) → (word : Word) → bytes ≢ spelling word
-none_spelled bytes none word e = none (place_of word) (within word) (e ∙ sym (ap spelling (listed word)))
+none_spelled bytes none word e = none (listed word).0 (listed word).1 (e ∙ sym (ap spelling (listed word).2))

@@ -1,14 +1,11 @@
 -- Data from a reader to a writer.
 use Rattle.std.specs.Prelude.{List, ℕ, Option}
-use Rattle.std.specs.Io.KnownBytes.{Consumes, Appends, IsAtEnd}
+use Rattle.std.specs.Io.KnownBytes.{Consumes, IsAtEnd}
+use Rattle.adf_io.specs.Prefix.{Writes}
 use Rattle.adf_io.specs.declared.input.InputFault.{InputFault}
 use Rattle.adf_io.specs.declared.input.InputFault.TheVariants as input
 use Rattle.adf_script.specs.declared.fault.TryFault.{TryFault}
 use Rattle.adf_script.specs.declared.fault.TryFault.TheVariants.{Read, Memory, TurnLimit}
-
--- the text that was written fits; the writer is given before and after
-abbrev pub Writes : Option (List ℕ) → Option (List ℕ) → (List ℕ → Type 0) → Type 0
-Writes old new IsFit = (written : List ℕ) × Appends old new written × IsFit written
 
 -- everything the reader has is read, and the written text fits it; each stream is given before and after
 abbrev pub ReadsAndWrites : Option (List ℕ) → Option (List ℕ) → Option (List ℕ) → Option (List ℕ) → (List ℕ → List ℕ → Type 0) → Type 0

@@ -11,7 +11,8 @@ use Rattle.ados_port.specs.Reply.{Reply}
 use Rattle.ados_port.specs.Outcome.{Outcome}
 use Rattle.ados_port.specs.Outcome.TheVariants.{Accepted, Refused, Served, Taken}
 use Rattle.adf_script.specs.Lines.{kept_lines, is_too_long}
-use Rattle.adf_script.specs.Streams.{Writes, ReadsAndWrites}
+use Rattle.adf_script.specs.Streams.{ReadsAndWrites}
+use Rattle.adf_io.specs.Prefix.{Writes}
 use Rattle.adf_script.specs.Values.{answer_value}
 use Rattle.adf_script.specs.Grammar.{IsPacketLine, IsFaulty}
 use Rattle.adf_script.specs.Text.{reply_line, closed_line, fault_line}

@@ -5,7 +5,8 @@ use Rattle.ados_model.specs.Blank.{blank_tree}
 use Rattle.ados_port.specs.History.{opening_port}
 use Rattle.ados_model.specs.Session.{opening_session}
 use Rattle.ados_run.specs.TreePort.{TreeState, means, tree_died}
-use Rattle.adf_script.specs.Streams.{ReadsAndWrites, Writes}
+use Rattle.adf_script.specs.Streams.{ReadsAndWrites}
+use Rattle.adf_io.specs.Prefix.{Writes}
 use Rattle.adf_script.specs.Told.{Told}
 use Rattle.adf_commands.specs.Texts.{first_moment}
 

@@ -56,12 +56,12 @@ split-decimal m n vs ws few_m few_n same =
     (decimal_injective m n fm fn parts.0, parts.1)
 
 -- a text without a calendar date, and the rest after it
-pub raw-shape : (d : Date3) (vs : List ℕ) → raw_text d ++ 32 ∷ vs ≡ 114 ∷ (97 ∷ (119 ∷ (32 ∷ (decimal d.days ++ 32 ∷ (decimal d.minutes ++ 32 ∷ (decimal d.ticks ++ 32 ∷ vs))))))
-raw-shape d vs = simp append_assoc refl
+raw-tail : (d : Date3) (vs : List ℕ) → raw_text d ++ vs ≡ 114 ∷ (97 ∷ (119 ∷ (32 ∷ (decimal d.days ++ 32 ∷ (decimal d.minutes ++ 32 ∷ (decimal d.ticks ++ vs))))))
+raw-tail d vs = simp append_assoc refl
 
 raw-same : (d e : Date3) (vs ws : List ℕ) → IsStamp d → IsStamp e → raw_text d ++ 32 ∷ vs ≡ raw_text e ++ 32 ∷ ws → (d ≡ e) × (vs ≡ ws)
 raw-same d e vs ws of_d of_e same =
-    let shapes = sym (raw-shape d vs) ∙ same ∙ raw-shape e ws in
+    let shapes = sym (raw-tail d (32 ∷ vs)) ∙ same ∙ raw-tail e (32 ∷ ws) in
     let numbers : decimal d.days ++ 32 ∷ (decimal d.minutes ++ 32 ∷ (decimal d.ticks ++ 32 ∷ vs)) ≡ decimal e.days ++ 32 ∷ (decimal e.minutes ++ 32 ∷ (decimal e.ticks ++ 32 ∷ ws)) = ap (drop 4) shapes in
     let days = split-decimal d.days e.days _ _ of_d.days of_e.days numbers in
     let minutes = split-decimal d.minutes e.minutes _ _ of_d.minutes of_e.minutes days.1 in
@@ -129,10 +129,10 @@ not_raw (pos n) rest others within same =
     omega (arith, head, small)
 not_raw (negsuc n) rest others within same = let head : ◌≡◌ {A = ℕ} 45 114 = cc in omega (arith, head)
 
-civil-not_raw : (date : Date) (m t : ℕ) (e : Date3) (vs ws : List ℕ) → civil_text date m t ++ vs ≡ raw_text e ++ 32 ∷ ws → ⊥
-civil-not_raw date m t e vs ws same =
+civil-raw : (date : Date) (m t : ℕ) (vs others : List ℕ) → civil_text date m t ++ vs ≡ 114 ∷ others → ⊥
+civil-raw date m t vs others same =
     let year : year_text date.year ++ (45 ∷ (pad2 date.month ++ (45 ∷ (pad2 date.day ++ time m t vs)))) ≡ civil_text date m t ++ vs = simp append_assoc refl in
-    not_raw date.year _ _ date.year_in (year ∙ same ∙ raw-shape e ws)
+    not_raw date.year _ _ date.year_in (year ∙ same)
 
 -- the day and time of a text
 abbrev pub Civil : Date3 → List ℕ → Type 0
@@ -145,9 +145,9 @@ module _ (d e : Date3) (x y vs ws : List ℕ) (of_d : IsStamp d) (of_e : IsStamp
       let days = days-same d.days e.days first.0 second.0 first.1 second.1 parts.0 in
       (λ i. record { days = days i; minutes = parts.1.0 i; ticks = parts.1.1 i }, ap (drop 1) parts.1.2)
   dates-by true false first second =
-      absurd (civil-not_raw first.0 d.minutes d.ticks e (32 ∷ vs) ws (sym (ap (λ z. z ++ 32 ∷ vs) first.2) ∙ same ∙ ap (λ z. z ++ 32 ∷ ws) second))
+      absurd (civil-raw first.0 d.minutes d.ticks (32 ∷ vs) _ (sym (ap (λ z. z ++ 32 ∷ vs) first.2) ∙ same ∙ ap (λ z. z ++ 32 ∷ ws) second ∙ raw-tail e (32 ∷ ws)))
   dates-by false true first second =
-      absurd (civil-not_raw second.0 e.minutes e.ticks d (32 ∷ ws) vs (sym (ap (λ z. z ++ 32 ∷ ws) second.2) ∙ sym same ∙ ap (λ z. z ++ 32 ∷ vs) first))
+      absurd (civil-raw second.0 e.minutes e.ticks (32 ∷ ws) _ (sym (ap (λ z. z ++ 32 ∷ ws) second.2) ∙ sym same ∙ ap (λ z. z ++ 32 ∷ vs) first ∙ raw-tail d (32 ∷ vs)))
   dates-by false false first second =
       raw-same d e vs ws of_d of_e (sym (ap (λ z. z ++ 32 ∷ vs) first) ∙ same ∙ ap (λ z. z ++ 32 ∷ ws) second)
 
@@ -389,14 +389,6 @@ no-date text shown date none dated finds = λ d behind stamp begins.
     none behind begins.apart (begins.stands ∙ ap (λ x. x ++ behind) (text-same d begins.shown shown begins.dated (subst (λ x. IsTextOf x shown) same dated)))
 
 -- ---- the parts of a date, as the reader finds them
-
-raw-tail : (d : Date3) (vs : List ℕ) → raw_text d ++ vs ≡ 114 ∷ (97 ∷ (119 ∷ (32 ∷ (decimal d.days ++ 32 ∷ (decimal d.minutes ++ 32 ∷ (decimal d.ticks ++ vs))))))
-raw-tail d vs = simp append_assoc refl
-
-civil-raw : (date : Date) (m t : ℕ) (vs others : List ℕ) → civil_text date m t ++ vs ≡ 114 ∷ others → ⊥
-civil-raw date m t vs others same =
-    let year : year_text date.year ++ (45 ∷ (pad2 date.month ++ (45 ∷ (pad2 date.day ++ time m t vs)))) ≡ civil_text date m t ++ vs = simp append_assoc refl in
-    not_raw date.year _ _ date.year_in (year ∙ same)
 
 pub finds-raw : (text numbers : List ℕ) (found : Option Date3) → text ≡ codes "raw" ++ numbers → FindsNumbers numbers found → FindsDate text found
 finds-raw text numbers found whole finds date behind stamp begins = by (has_civil_text date) begins.dated

@@ -10,7 +10,7 @@ use Rattle.std.proofs.lemmas.Nat.{mod-pow-add}
 use Rattle.std.proofs.lemmas.Nat.Bits.{bit_at-lt}
 use Rattle.ados_name.specs.Protection.{is_set, letter_or_dash}
 use Rattle.adf_text.specs.Letters.{letters}
-use Rattle.adf_text.specs.ProtectionLetters.{protection_letters, has, bit, protection_of, AreLetters}
+use Rattle.adf_text.specs.ProtectionLetters.{protection_letters, bit, protection_of, AreLetters}
 
 -- what a place shows: its letter, or a dash
 abbrev shown : Bool × ℕ → ℕ
@@ -73,30 +73,6 @@ module _ (bits : ℕ) where
   places = (is_set bits 7, 104) ∷ (is_set bits 6, 115) ∷ (is_set bits 5, 112) ∷ (is_set bits 4, 97)
       ∷ (not (is_set bits 3), 114) ∷ (not (is_set bits 2), 119) ∷ (not (is_set bits 1), 101) ∷ (not (is_set bits 0), 100) ∷ []
 
-  has-h : has (protection_letters bits) 104 ≡ is_set bits 7
-  has-h = one-shown 104 (take 0 places) (drop 1 places) (is_set bits 7) refl refl refl refl
-
-  has-s : has (protection_letters bits) 115 ≡ is_set bits 6
-  has-s = one-shown 115 (take 1 places) (drop 2 places) (is_set bits 6) refl refl refl refl
-
-  has-p : has (protection_letters bits) 112 ≡ is_set bits 5
-  has-p = one-shown 112 (take 2 places) (drop 3 places) (is_set bits 5) refl refl refl refl
-
-  has-a : has (protection_letters bits) 97 ≡ is_set bits 4
-  has-a = one-shown 97 (take 3 places) (drop 4 places) (is_set bits 4) refl refl refl refl
-
-  lacks-r : not (has (protection_letters bits) 114) ≡ is_set bits 3
-  lacks-r = ap not (one-shown 114 (take 4 places) (drop 5 places) (not (is_set bits 3)) refl refl refl refl) ∙ twice (is_set bits 3)
-
-  lacks-w : not (has (protection_letters bits) 119) ≡ is_set bits 2
-  lacks-w = ap not (one-shown 119 (take 5 places) (drop 6 places) (not (is_set bits 2)) refl refl refl refl) ∙ twice (is_set bits 2)
-
-  lacks-e : not (has (protection_letters bits) 101) ≡ is_set bits 1
-  lacks-e = ap not (one-shown 101 (take 6 places) (drop 7 places) (not (is_set bits 1)) refl refl refl refl) ∙ twice (is_set bits 1)
-
-  lacks-d : not (has (protection_letters bits) 100) ≡ is_set bits 0
-  lacks-d = ap not (one-shown 100 (take 7 places) (drop 8 places) (not (is_set bits 0)) refl refl refl refl) ∙ twice (is_set bits 0)
-
   summed : bit (is_set bits 7) 128 + bit (is_set bits 6) 64 + bit (is_set bits 5) 32 + bit (is_set bits 4) 16 + bit (is_set bits 3) 8 + bit (is_set bits 2) 4 + bit (is_set bits 1) 2 + bit (is_set bits 0) 1
       ≡ 128 * bit_at bits 7 + 64 * bit_at bits 6 + 32 * bit_at bits 5 + 16 * bit_at bits 4 + 8 * bit_at bits 3 + 4 * bit_at bits 2 + 2 * bit_at bits 1 + 1 * bit_at bits 0
   summed = λ i. bit-of (bit_at bits 7) 128 (bit_at-lt bits 7) i + bit-of (bit_at bits 6) 64 (bit_at-lt bits 6) i
@@ -107,38 +83,25 @@ module _ (bits : ℕ) where
   pub protection_of-letters : protection_of (protection_letters bits) ≡ bits % 256
   protection_of-letters =
       let shows : protection_of (protection_letters bits) ≡ bit (is_set bits 7) 128 + bit (is_set bits 6) 64 + bit (is_set bits 5) 32 + bit (is_set bits 4) 16 + bit (is_set bits 3) 8 + bit (is_set bits 2) 4 + bit (is_set bits 1) 2 + bit (is_set bits 0) 1 =
-      λ i. bit (has-h i) 128 + bit (has-s i) 64 + bit (has-p i) 32 + bit (has-a i) 16 + bit (lacks-r i) 8 + bit (lacks-w i) 4 + bit (lacks-e i) 2 + bit (lacks-d i) 1 in
+      λ i. bit (one-shown 104 (take 0 places) (drop 1 places) (is_set bits 7) refl refl refl refl i) 128
+      + bit (one-shown 115 (take 1 places) (drop 2 places) (is_set bits 6) refl refl refl refl i) 64
+      + bit (one-shown 112 (take 2 places) (drop 3 places) (is_set bits 5) refl refl refl refl i) 32
+      + bit (one-shown 97 (take 3 places) (drop 4 places) (is_set bits 4) refl refl refl refl i) 16
+      + bit ((ap not (one-shown 114 (take 4 places) (drop 5 places) (not (is_set bits 3)) refl refl refl refl) ∙ twice (is_set bits 3)) i) 8
+      + bit ((ap not (one-shown 119 (take 5 places) (drop 6 places) (not (is_set bits 2)) refl refl refl refl) ∙ twice (is_set bits 2)) i) 4
+      + bit ((ap not (one-shown 101 (take 6 places) (drop 7 places) (not (is_set bits 1)) refl refl refl refl) ∙ twice (is_set bits 1)) i) 2
+      + bit ((ap not (one-shown 100 (take 7 places) (drop 8 places) (not (is_set bits 0)) refl refl refl refl) ∙ twice (is_set bits 0)) i) 1 in
       shows ∙ summed ∙ low-bits
 
-same-7 : (n : ℕ) → n % 256 / 128 % 2 ≡ n / 128 % 2
-same-7 n = omega arith
-
-same-6 : (n : ℕ) → n % 256 / 64 % 2 ≡ n / 64 % 2
-same-6 n = omega arith
-
-same-5 : (n : ℕ) → n % 256 / 32 % 2 ≡ n / 32 % 2
-same-5 n = omega arith
-
-same-4 : (n : ℕ) → n % 256 / 16 % 2 ≡ n / 16 % 2
-same-4 n = omega arith
-
-same-3 : (n : ℕ) → n % 256 / 8 % 2 ≡ n / 8 % 2
-same-3 n = omega arith
-
-same-2 : (n : ℕ) → n % 256 / 4 % 2 ≡ n / 4 % 2
-same-2 n = omega arith
-
-same-1 : (n : ℕ) → n % 256 / 2 % 2 ≡ n / 2 % 2
-same-1 n = omega arith
-
-same-0 : (n : ℕ) → n % 256 / 1 % 2 ≡ n / 1 % 2
-same-0 n = omega arith
+same_bits : (n : ℕ) → (n % 256 / 128 % 2 ≡ n / 128 % 2) × (n % 256 / 64 % 2 ≡ n / 64 % 2) × (n % 256 / 32 % 2 ≡ n / 32 % 2) × (n % 256 / 16 % 2 ≡ n / 16 % 2)
+    × (n % 256 / 8 % 2 ≡ n / 8 % 2) × (n % 256 / 4 % 2 ≡ n / 4 % 2) × (n % 256 / 2 % 2 ≡ n / 2 % 2) × (n % 256 / 1 % 2 ≡ n / 1 % 2)
+same_bits n = (omega arith, omega arith, omega arith, omega arith, omega arith, omega arith, omega arith, omega arith)
 
 -- the letters show only the low eight bits
 pub protection_letters-low : (n : ℕ) → protection_letters (n % 256) ≡ protection_letters n
-protection_letters-low n = λ i. letter_or_dash (same-7 n i == 1) 104 ∷ letter_or_dash (same-6 n i == 1) 115 ∷ letter_or_dash (same-5 n i == 1) 112
-    ∷ letter_or_dash (same-4 n i == 1) 97 ∷ letter_or_dash (not (same-3 n i == 1)) 114 ∷ letter_or_dash (not (same-2 n i == 1)) 119
-    ∷ letter_or_dash (not (same-1 n i == 1)) 101 ∷ letter_or_dash (not (same-0 n i == 1)) 100 ∷ []
+protection_letters-low n = λ i. letter_or_dash ((same_bits n).0 i == 1) 104 ∷ letter_or_dash ((same_bits n).1 i == 1) 115 ∷ letter_or_dash ((same_bits n).2 i == 1) 112
+    ∷ letter_or_dash ((same_bits n).3 i == 1) 97 ∷ letter_or_dash (not ((same_bits n).4 i == 1)) 114 ∷ letter_or_dash (not ((same_bits n).5 i == 1)) 119
+    ∷ letter_or_dash (not ((same_bits n).6 i == 1)) 101 ∷ letter_or_dash (not ((same_bits n).7 i == 1)) 100 ∷ []
 
 pub AreLetters-letters : (bits : ℕ) → AreLetters (protection_letters bits)
 AreLetters-letters bits = inr (sym (ap protection_letters (protection_of-letters bits) ∙ protection_letters-low bits))

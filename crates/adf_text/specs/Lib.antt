@@ -11,3 +11,4 @@ pub mod ProtectWords
 pub mod Uaem
 pub mod UaemReads
 pub mod steps
+pub mod Ranges

@@ -96,11 +96,6 @@ pub first-all : (chains : ℕ → List ℕ) → first_left (Some (chains_from ch
 unfolding chains_from
 first-all chains = refl
 
--- there is no first entry only in an empty list
-pub first-end : (xs : List ℕ) → first_left (Some xs) ≡ End → xs ≡ []
-first-end [] e = refl
-first-end (x ∷ xs) e = absurd (cc e)
-
 -- a first remaining key comes from a list
 pub first-entry : (left : Option (List ℕ)) (next : ℕ) → first_left left ≡ Entry next → (rest : List ℕ) × (left ≡ Some (next ∷ rest))
 first-entry None next e = absurd (cc e)

@@ -38,7 +38,7 @@ module _ (image : List ℕ) (b : ℕ) where
   header_field e dir r i (inr (inr z)) = file_longs e (3, (80, 81), omega arith, refl, (omega (arith, z), omega (arith, z)))
 
   -- a long that a change of an extension block may write is a field
-  extension_field : (f i : ℕ) → IsPointerField (pointer_count image b) (i / 4) → IsField image b (roles.Extension f) i
+  pub extension_field : (f i : ℕ) → IsPointerField (pointer_count image b) (i / 4) → IsField image b (roles.Extension f) i
   extension_field f i (inl z) = extension_longs (0, (0, 2), omega arith, refl, (omega (arith, z), omega (arith, z)))
   extension_field f i (inr (inl z)) = extension_longs (1, (5, 5), omega arith, refl, (omega (arith, z), omega (arith, z)))
   extension_field f i (inr (inr (inl z))) = extension_longs (2, (78 - pointer_count image b, 77), omega arith, refl, (omega (arith, z.0), omega (arith, z.1)))

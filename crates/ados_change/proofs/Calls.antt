@@ -1,19 +1,15 @@
 -- The calls on a file's data rewrite the file.
-use Rattle.std.proofs.Common.{◌≡◌, ℕ, suc, ◌+◌, ◌/◌, ◌<◌, ◌≤◌, ◌⊎◌, inl, inr, true, List, length, take, slice_index, sym, ap, ap₂, ◌∙◌, arith}
+use Rattle.std.proofs.Common.{◌≡◌, ℕ, zero, suc, ◌<◌, ◌≤◌, ◌⊎◌, inl, inr, true, List, ◌∷◌, length, take, slice_index, sym, ap, ◌∙◌, arith}
 use Rattle.std.proofs.lemmas.Bool.{false≢true, cases_lt}
 use Rattle.std.proofs.lemmas.List.{get_or-take, length-take}
-use Rattle.adf_block.specs.declared.layout.Format.{Format}
 use Rattle.adf_block.specs.Image.{IsInside, block_count, has_free_bit}
 use Rattle.adf_block.specs.Fields.{format_of}
-use Rattle.adf_block.specs.Whole.{free_bit_count}
-use Rattle.ados_model.specs.Tree.{block_cost, extension_count}
 use Rattle.ados_model.specs.File.{data_blocks, extension_blocks, contents}
 use Rattle.ados_data.specs.Changing.{WritableFile}
 use Rattle.ados_data.specs.Others.{LeavesOthers}
 use Rattle.ados_data.specs.Growth.{GrowsFile}
-use Rattle.ados_change.proofs.Relaid.{ComesFrom, GoesTo, IsRewritten}
-use Rattle.ados_change.proofs.Taken.{taken_is_got}
-use Rattle.ados_data.proofs.Grown.{front_at, front_length}
+use Rattle.ados_change.proofs.Relaid.{ComesFrom, GoesTo, IsIn, IsRewritten}
+use Rattle.ados_data.proofs.Grown.{front_at}
 
 -- ---- lists that get shorter
 
@@ -66,28 +62,17 @@ of_gains {old} {new} {file} was g = record {
   extensions_from = extension_from;
   data_to = more_to new (data_blocks old file) (data_blocks new file) g.blocks;
   extensions_to = more_to new (extension_blocks old file) (extension_blocks new file) g.extensions;
-  taken = taken_is_got old new file (data_blocks old file) (extension_blocks old file) (data_blocks new file) (extension_blocks new file) (contents new file) g.writable g.gains
-      (ap (λ (n : ℕ). n / 512) g.leaves.same_length)
-      (front_length (data_blocks old file) (data_blocks new file) g.blocks) (front_length (extension_blocks old file) (extension_blocks new file) g.extensions)
-      data_new extensions_new costs
-      (let inside = was.lawful.places.headers_inside 0 (omega arith) in omega (arith, inside.0, inside.1));
+  taken = λ c i was_free is_used. elim (g.gains.taken c i was_free is_used) [
+    | inl header ↦ in_lists c was_free header.0 header.1 header.2
+    | inr block ↦ inl (block.0, block.1, sym block.2)
+  ];
 }
   where
     extension_from : (q : ℕ) → q < length (extension_blocks new file) → ComesFrom old (extension_blocks old file) (extension_blocks new file) q
     extension_from q l =
         more_from old (extension_blocks old file) (extension_blocks new file) g.extensions q (elim (g.gains.headers (suc q) (omega arith)) [ inl same ↦ inl (omega (arith, same.0), same.1) | inr free ↦ inr free ])
 
-    data_new : (i : ℕ) → length (data_blocks old file) ≤ i → i < length (data_blocks new file) → has_free_bit old (slice_index (data_blocks new file) i) ≡ true
-    data_new i l m = elim (g.gains.data_blocks_of i m) [ inl same ↦ absurd (omega (arith, l, same.0)) | inr free ↦ free.1 ]
-
-    extensions_new : (q : ℕ) → length (extension_blocks old file) ≤ q → q < length (extension_blocks new file) → has_free_bit old (slice_index (extension_blocks new file) q) ≡ true
-    extensions_new q l m = elim (extension_from q m) [ inl same ↦ absurd (omega (arith, l, same.0)) | inr free ↦ free.1 ]
-
-    cost_of : (image : List ℕ) → WritableFile image file → block_cost (format_of image) (length (contents image file)) ≡ length (data_blocks image file) + length (extension_blocks image file)
-    cost_of image w = ap₂ (λ (a b : ℕ). a + b) (sym w.lawful.data_fits) (ap extension_count (sym w.lawful.data_fits) ∙ sym w.lawful.extensions_fit)
-
-    costs : free_bit_count new + (length (data_blocks new file) + length (extension_blocks new file)) ≡ free_bit_count old + (length (data_blocks old file) + length (extension_blocks old file))
-    costs =
-        let after : block_cost (format_of old) (length (contents new file)) ≡ length (data_blocks new file) + length (extension_blocks new file) = ap (λ (f : Format). block_cost f (length (contents new file))) (sym g.format) ∙ cost_of new g.writable in
-        let before = cost_of old was in
-        ap (λ (n : ℕ). free_bit_count new + n) (sym after) ∙ ap (λ (n : ℕ). free_bit_count new + block_cost (format_of old) n) g.sized ∙ g.free ∙ ap (λ (n : ℕ). free_bit_count old + n) before
+    -- the header was in use before
+    in_lists : (c : ℕ) → has_free_bit old c ≡ true → (q : ℕ) → q ≤ length (extension_blocks new file) → c ≡ slice_index (file ∷ extension_blocks new file) q → IsIn (data_blocks new file) c ⊎ IsIn (extension_blocks new file) c
+    in_lists c free zero l e = absurd (false≢true (sym (was.headers_used 0 (omega arith)).marked ∙ ap (has_free_bit old) (sym e) ∙ free))
+    in_lists c free (suc q) l e = inr (q, omega (arith, l), sym e)

@@ -11,13 +11,14 @@ use Rattle.ados_name.specs.Name.{IsName, IsComment}
 use Rattle.ados_model.specs.Tree.{Node, Tree, Proper, IsRoot, root}
 use Rattle.ados_model.specs.Stands.{HasEntry, Stands, date_at}
 use Rattle.ados_model.specs.Change.{changed, stamped, with_node}
-use Rattle.ados_model.specs.Kept.{Kept}
 use Rattle.ados_change.specs.NewBlocks.{KeepsRest}
 use Rattle.ados_model.proofs.Nodes.{root_or_parent}
 use Rattle.ados_change.specs.Places.{Summed, Restamped}
 use Rattle.ados_change.proofs.Retells.{retold, Retells}
 use Rattle.ados_change.proofs.Retold.{Telling, Tells, stands_retold}
-use Rattle.ados_change.proofs.FieldsKept.{IsKeyField, IsTold, kept_fields, keeps_fields, telling_field, telling_told, disk_date_field}
+use Rattle.ados_change.proofs.FieldsKept.{IsTold, keeps_fields, telling_told, telling_written}
+use Rattle.ados_change.proofs.EntriesKept.{IsPlain, IsWritten}
+use Rattle.ados_change.proofs.EntriesKept.IsWritten.{of_node}
 use Rattle.ados_change.proofs.Summing.{text_beside, long_beside, date_beside}
 
 -- bytes low to high - 1 of the key's block may differ between the two nodes
@@ -31,85 +32,38 @@ module _ (t : Tree) (p : Proper t) (key : ℕ) (node : Node) (at : t.nodes key �
   is_root : key ≡ root t → IsRoot node
   is_root e = let same : p.root_node.0 ≡ node = cc (p.root_node.1, ap t.nodes e, at) in subst IsRoot same p.root_node.2
 
-  pub date_case : (date : Date3) → Case t key node (record node { date = date }) t.disk_date 420 432
-  date_case date = record {
+  -- a node with the same parent and content; the root has no protection and no comment
+  case : (after : Node) (d : Date3) (low high : ℕ) → after.parent ≡ node.parent → after.content ≡ node.content → IsName after.name → IsComment after.comment → (key ≢ root t → after.name ≡ node.name) → (key ≢ root t → d ≡ t.disk_date)
+      → (key ≡ root t → after.protection ≡ node.protection) → (key ≡ root t → after.comment ≡ node.comment) → ((i : ℕ) → low ≤ i → i < high → Telling t key after i) → Case t key node after d low high
+  case after d low high parent content name comment same_name same_disk bits text within = record {
     retells = record {
       at = at;
-      parent = refl;
-      content = refl;
-      name = p.name key node at;
-      comment = p.comment key node at;
-      same_name = λ n. refl;
-      same_disk = λ n. refl;
-      no_protection = λ e. (is_root e).no_protection;
-      no_comment = λ e. (is_root e).no_comment;
+      parent = parent;
+      content = content;
+      name = name;
+      comment = comment;
+      same_name = same_name;
+      same_disk = same_disk;
+      no_protection = λ e. bits e ∙ (is_root e).no_protection;
+      no_comment = λ e. text e ∙ (is_root e).no_comment;
     };
-    within = λ i l m. Telling.date l m;
+    within = within;
   }
+
+  pub date_case : (date : Date3) → Case t key node (record node { date = date }) t.disk_date 420 432
+  date_case date = case (record node { date = date }) t.disk_date 420 432 refl refl (p.name key node at) (p.comment key node at) (λ n. refl) (λ n. refl) (λ e. refl) (λ e. refl) (λ i l m. Telling.date l m)
 
   pub bits_case : (bits : ℕ) → key ≢ root t → Case t key node (record node { protection = bits }) t.disk_date 320 324
-  bits_case bits n = record {
-    retells = record {
-      at = at;
-      parent = refl;
-      content = refl;
-      name = p.name key node at;
-      comment = p.comment key node at;
-      same_name = λ _. refl;
-      same_disk = λ _. refl;
-      no_protection = λ e. absurd (n e);
-      no_comment = λ e. absurd (n e);
-    };
-    within = λ i l m. Telling.bits n l m;
-  }
+  bits_case bits n = case (record node { protection = bits }) t.disk_date 320 324 refl refl (p.name key node at) (p.comment key node at) (λ n. refl) (λ n. refl) (λ e. absurd (n e)) (λ e. refl) (λ i l m. Telling.bits n l m)
 
   pub comment_case : (comment : List ℕ) → IsComment comment → key ≢ root t → Case t key node (record node { comment = comment }) t.disk_date 328 (329 + length comment)
-  comment_case comment valid n = record {
-    retells = record {
-      at = at;
-      parent = refl;
-      content = refl;
-      name = p.name key node at;
-      comment = valid;
-      same_name = λ _. refl;
-      same_disk = λ _. refl;
-      no_protection = λ e. absurd (n e);
-      no_comment = λ e. absurd (n e);
-    };
-    within = λ i l m. Telling.comment n l m;
-  }
+  comment_case comment valid n = case (record node { comment = comment }) t.disk_date 328 (329 + length comment) refl refl (p.name key node at) valid (λ n. refl) (λ n. refl) (λ e. refl) (λ e. absurd (n e)) (λ i l m. Telling.comment n l m)
 
   pub name_case : (name : List ℕ) → IsName name → key ≡ root t → Case t key node (record node { name = name }) t.disk_date 432 (433 + length name)
-  name_case name valid e = record {
-    retells = record {
-      at = at;
-      parent = refl;
-      content = refl;
-      name = valid;
-      comment = p.comment key node at;
-      same_name = λ n. absurd (n e);
-      same_disk = λ _. refl;
-      no_protection = λ _. (is_root e).no_protection;
-      no_comment = λ _. (is_root e).no_comment;
-    };
-    within = λ i l m. Telling.root_name e l m;
-  }
+  name_case name valid e = case (record node { name = name }) t.disk_date 432 (433 + length name) refl refl valid (p.comment key node at) (λ n. absurd (n e)) (λ n. refl) (λ e. refl) (λ e. refl) (λ i l m. Telling.root_name e l m)
 
   pub stamp_case : (moment : Date3) → key ≡ root t → Case t key node node moment 472 484
-  stamp_case moment e = record {
-    retells = record {
-      at = at;
-      parent = refl;
-      content = refl;
-      name = p.name key node at;
-      comment = p.comment key node at;
-      same_name = λ _. refl;
-      same_disk = λ n. absurd (n e);
-      no_protection = λ _. (is_root e).no_protection;
-      no_comment = λ _. (is_root e).no_comment;
-    };
-    within = λ i l m. Telling.disk_date e l m;
-  }
+  stamp_case moment e = case node moment 472 484 refl refl (p.name key node at) (p.comment key node at) (λ n. refl) (λ n. absurd (n e)) (λ e. refl) (λ e. refl) (λ i l m. Telling.disk_date e l m)
 
 -- an unchanged node: only the disk date of the tree changes
 same_node : (t : Tree) (key : ℕ) (node : Node) → t.nodes key ≡ Some node → (moment : Date3) → retold key node moment t ≡ stamped moment t
@@ -225,45 +179,37 @@ module _ (old new : List ℕ) (t : Tree) (s : Stands old t) (key : ℕ) (node : 
       | inr dir ↦ (dir.0, u.entries key dir.0 after here (c.retells.parent ∙ dir.1))
     ]
 
-    field_told : (i : ℕ) → Telling t key after i → IsKeyField new t key i
-    field_told = telling_field old new t s key node after at (λ n. (entry_told n).1.secondary) (λ e. (u.nodes key after here).name) (λ n. (entry_told n).1.comment)
+    written : (i : ℕ) → Telling t key after i → IsWritten old t s new key i
+    written = telling_written old new t s key node after at c.retells.name c.retells.comment (λ e. (u.nodes key after here).name) (λ n. (entry_told n).1.comment)
 
-    field_at : (b i : ℕ) → Summed key low high b i → IsKeyField new t b i
-    field_at b i (inl w) = subst (λ (k : ℕ). IsKeyField new t k i) (sym w.0) (field_told i (c.within i w.1 w.2))
-    field_at b i (inr w) = subst (λ (k : ℕ). IsKeyField new t k i) (sym w.0) (field_told i (Telling.sum w.1))
+    written_at : (b i : ℕ) → Summed key low high b i → IsWritten old t s new b i
+    written_at b i (inl w) = subst (λ (k : ℕ). IsWritten old t s new k i) (sym w.0) (written i (c.within i w.1 w.2))
+    written_at b i (inr w) = subst (λ (k : ℕ). IsWritten old t s new k i) (sym w.0) (written i (Telling.sum w.1))
 
     told_at : (b i : ℕ) → Summed key low high b i → IsTold t b i
     told_at b i (inl w) = subst (λ (k : ℕ). IsTold t k i) (sym w.0) (telling_told old new t s key after c.retells.name c.retells.comment i (c.within i w.1 w.2))
     told_at b i (inr w) = inl w.1
 
-    kept_told : SameBut (Summed key low high) old new → Kept old new
-    kept_told rest = kept_fields old new t s (Summed key low high) rest (λ b i l w. field_at b i w) told_at
-
     keeps_retold : (r : ℕ) → r ≡ root t → SameBut (Restamped r key low high) old new → KeepsRest old new
-    keeps_retold r e rest = keeps_fields old new t s (Restamped r key low high) rest (λ b i l w. field b i w) told
+    keeps_retold r e rest = keeps_fields old new t s (Restamped r key low high) rest restamped told
       where
-        field : (b i : ℕ) → Restamped r key low high b i → IsKeyField new t b i
-        field b i (inl w) = field_at b i w
-        field b i (inr (inl w)) = disk_date_field old new t s b (w.0 ∙ e) i (inr (w.1, w.2))
-        field b i (inr (inr w)) = disk_date_field old new t s b (w.0 ∙ e) i (inl w.1)
+        root_at : (b : ℕ) → b ≡ r → t.nodes b ≡ Some s.proper.root_node.0
+        root_at b d = ap t.nodes (d ∙ e) ∙ s.proper.root_node.1
+
+        restamped : (b i : ℕ) → Restamped r key low high b i → IsWritten old t s new b i
+        restamped b i (inl w) = written_at b i w
+        restamped b i (inr (inl w)) = of_node s.proper.root_node.0 (root_at b w.0) (IsPlain.disk (w.0 ∙ e) (omega (arith, w.1)) (omega (arith, w.2)))
+        restamped b i (inr (inr w)) = of_node s.proper.root_node.0 (root_at b w.0) (IsPlain.sum w.1)
 
         told : (b i : ℕ) → Restamped r key low high b i → IsTold t b i
         told b i (inl w) = told_at b i w
-        told b i (inr (inl w)) = inr (omega (arith, w.1), omega (arith, w.2), λ z. omega (arith, w.1, z), λ _. omega (arith, w.1))
+        told b i (inr (inl w)) = inr (omega (arith, w.1), omega (arith, w.2), λ z. omega (arith, w.1, z))
         told b i (inr (inr w)) = inl w.1
 
   to_retold : (f : Node → Node) (d : Date3) → Stands new (stamped d (changed key f t)) → Stands new (retold key (f node) d t)
   to_retold f d h = subst (λ o. Stands new (stamped d (with_node key o t))) (ap (option_map f) at) h
 
-  -- a field is changed
-  pub kept_changed : (f : Node → Node) → Case t key node (f node) t.disk_date low high → Stands new (changed key f t) → SameBut (Summed key low high) old new → Kept old new
-  kept_changed f c h rest = kept_told (f node) t.disk_date t.disk_date c (to_retold f t.disk_date h) rest
-
   -- a field is changed, and then the disk date
   pub keeps_restamped : (f : Node → Node) → Case t key node (f node) t.disk_date low high → (moment : Date3) → Stands new (stamped moment (changed key f t))
       → (r : ℕ) → r ≡ root t → SameBut (Restamped r key low high) old new → KeepsRest old new
   keeps_restamped f c moment h r e rest = keeps_retold (f node) t.disk_date moment c (to_retold f moment h) r e rest
-
-  -- the disk date is changed
-  pub kept_stamped : (moment : Date3) → Case t key node node moment low high → Stands new (stamped moment t) → SameBut (Summed key low high) old new → Kept old new
-  kept_stamped moment c h rest = kept_told node moment moment c (subst (Stands new) (sym (same_node t key node at moment)) h) rest

@@ -1,14 +1,12 @@
 -- The nodes of a changed tree.
-use Rattle.std.proofs.Common.{◌≡◌, ◌≢◌, ℕ, ◌⊎◌, inl, inr, ◌==◌, not, List, Option, Some, None, is_some, IsSome, option_map, option_and_then, refl, sym, ap, ◌∙◌, subst, eq-eqb}
-use Rattle.std.specs.Prelude.{filter}
-use Rattle.std.specs.Option.{option_map_or}
+use Rattle.std.proofs.Common.{◌≡◌, ◌≢◌, ℕ, ◌⊎◌, inl, inr, List, Option, Some, None, is_some, IsSome, option_map, option_and_then, refl, sym, ap, ◌∙◌, subst, eq-eqb}
 use Rattle.std.proofs.lemmas.Bool.{ne_eqb, cases_eq}
 use Rattle.ados_name.specs.Name.{slot}
 use Rattle.ados_name.specs.declared.stamp.Date3.{Date3}
 use Rattle.ados_model.specs.Tree.{Content, Node, Tree, entries, entries_in, name_of, parent_of}
 use Rattle.ados_model.specs.Parts.{name_in}
 use Rattle.ados_model.specs.Tree.Content.{Directory}
-use Rattle.ados_model.specs.Change.{with_node, changed, enter, left, listed, made, removed, renamed}
+use Rattle.ados_model.specs.Change.{with_node, changed, enter, listed, made}
 use Rattle.ados_model.specs.Edits.{new_node}
 
 pub nodes_here : (key : ℕ) (o : Option Node) (t : Tree) → (with_node key o t).nodes key ≡ o
@@ -79,54 +77,9 @@ module _ (moment : Date3) (dir : ℕ) (keys : List ℕ) (t : Tree) where
   pub listed_other : (d : ℕ) → d ≢ dir → entries (listed moment dir keys t) d ≡ entries t d
   listed_other d n = ap (λ (o : Option Node). entries_in (option_map (λ node. node.content) o)) (nodes_other dir (option_map (relisted moment keys) (t.nodes dir)) t d n)
 
--- ---- what is unchanged when entries change: the size, the lost blocks, and all other keys
-
-module _ (moment : Date3) (key : ℕ) (t : Tree) where
-  abbrev left_by : Option ℕ → Tree
-  left_by o = option_map_or (λ dir. listed moment dir (filter (λ j. not (j == key)) (entries t dir)) t) o t
-
-  pub left_blocks : (left moment key t).blocks ≡ t.blocks
-  left_blocks = go (parent_of t key)
-    where
-      go : (o : Option ℕ) → (left_by o).blocks ≡ t.blocks
-      go None = refl
-      go (Some dir) = refl
-
-  pub left_lost : (left moment key t).lost ≡ t.lost
-  left_lost = go (parent_of t key)
-    where
-      go : (o : Option ℕ) → (left_by o).lost ≡ t.lost
-      go None = refl
-      go (Some dir) = refl
-
-  left_some : (k : ℕ) → is_some ((left moment key t).nodes k) ≡ is_some (t.nodes k)
-  left_some k = go (parent_of t key)
-    where
-      go : (o : Option ℕ) → is_some ((left_by o).nodes k) ≡ is_some (t.nodes k)
-      go None = refl
-      go (Some dir) = listed_some moment dir (filter (λ j. not (j == key)) (entries t dir)) t k
-
-  pub removed_some : (k : ℕ) → k ≢ key → is_some ((removed moment key t).nodes k) ≡ is_some (t.nodes k)
-  removed_some k n = ap is_some (nodes_other key None (left moment key t) k n) ∙ left_some k
-
 -- the keys of a directory after an insertion
 abbrev with_key : ℕ → ℕ → Tree → List ℕ
 with_key dir key t = enter (λ k. slot (name_of t k)) key (entries t dir)
-
--- an entry under another name, in another directory
-abbrev retitled : ℕ → List ℕ → Node → Node
-retitled dir name node = record node { name = name; parent = Some dir }
-
-module _ (moment : Date3) (key dir : ℕ) (name : List ℕ) (t : Tree) where
-  abbrev moving : Tree
-  moving = changed key (retitled dir name) (left moment key t)
-
-  pub renamed_some : (k : ℕ) → is_some ((renamed moment key dir name t).nodes k) ≡ is_some (t.nodes k)
-  renamed_some k = listed_some moment dir (with_key dir key moving) moving k ∙ changed_keeps is_some (retitled dir name) key (left moment key t) go k ∙ left_some moment key t k
-    where
-      go : (o : Option Node) → is_some (option_map (retitled dir name) o) ≡ is_some o
-      go None = refl
-      go (Some a) = refl
 
 module _ (moment : Date3) (dir key : ℕ) (name : List ℕ) (content : Content) (t : Tree) where
   abbrev making : Tree
@@ -134,6 +87,3 @@ module _ (moment : Date3) (dir key : ℕ) (name : List ℕ) (content : Content) 
 
   pub made_here : IsSome ((made moment dir key name content t).nodes key)
   made_here = listed_some moment dir (with_key dir key making) making key ∙ ap is_some (nodes_here key (Some (new_node moment dir name content)) t)
-
-  pub made_other : (k : ℕ) → k ≢ key → is_some ((made moment dir key name content t).nodes k) ≡ is_some (t.nodes k)
-  made_other k n = listed_some moment dir (with_key dir key making) making k ∙ ap is_some (nodes_other key (Some (new_node moment dir name content)) t k n)

@@ -1,13 +1,13 @@
 -- The tree with other bytes in a file.
-use Rattle.std.proofs.Common.{◌≡◌, ◌≢◌, ℕ, ◌≤◌, ◌⊎◌, inl, inr, ◌==◌, List, length, map, filter, AllPairs, Contains, Option, Some, option_map, option_and_then, refl, sym, ap, ap₂, ◌∙◌, subst, eq-eqb}
+use Rattle.std.proofs.Common.{◌≡◌, ◌≢◌, ℕ, ◌⊎◌, inl, inr, List, length, Option, Some, option_map, option_and_then, refl, sym, ap, ◌∙◌, subst, eq-eqb}
 use Rattle.std.proofs.lemmas.Bool.{ne_eqb, cases_eq}
-use Rattle.ados_name.specs.Name.{upper, slot, IsName, IsComment}
-use Rattle.ados_model.specs.Tree.{Content, Node, Tree, Proper, LeadsToRoot, root, entries_in, entries, size_of, name_of, parent_of}
+use Rattle.ados_name.specs.Name.{IsName, IsComment}
+use Rattle.ados_model.specs.Tree.{Content, Node, Tree, Proper, root, entries_in, entries, size_of, name_of, parent_of}
 use Rattle.ados_model.specs.Parts.{size_in, name_in}
 use Rattle.ados_model.specs.Tree.Content.{Directory, File}
-use Rattle.ados_model.specs.Tree.LeadsToRoot.{at_root, by_parent}
 use Rattle.ados_model.specs.Stands.{in_slot}
 use Rattle.ados_model.specs.Change.{changed}
+use Rattle.ados_change.proofs.SameLists.{proper_alike, slots_alike}
 
 -- the node with these bytes
 abbrev pub holding : List ℕ → Node → Node
@@ -93,16 +93,7 @@ module _ (t : Tree) (file : ℕ) (node : Node) (bytes bytes' : List ℕ) (found 
   size_there k n = ap (λ (o : Option Node). size_in (option_map (λ node. node.content) o)) (there k n)
 
   pub slots_same : (dir r : ℕ) → in_slot u dir r ≡ in_slot t dir r
-  slots_same dir r = ap₂ (λ (nm : ℕ → List ℕ) (keys : List ℕ). filter (λ k. slot (nm k) == r) keys) (λ i k. names k i) (entries_same dir)
-
-  pairs_same : (R : List ℕ → List ℕ → Type 0) (dir : ℕ) → AllPairs (λ j k. R (name_of t j) (name_of t k)) (entries t dir) → AllPairs (λ j k. R (name_of u j) (name_of u k)) (entries u dir)
-  pairs_same R dir h =
-      subst (λ (keys : List ℕ). AllPairs (λ j k. R (name_of u j) (name_of u k)) keys) (sym (entries_same dir))
-      (subst (λ (nm : ℕ → List ℕ). AllPairs (λ j k. R (nm j) (nm k)) (entries t dir)) (λ i k. sym (names k) i) h)
-
-  leads_on : (k : ℕ) → LeadsToRoot t k → LeadsToRoot u k
-  leads_on k (at_root e) = at_root e
-  leads_on k (by_parent {dir = dir} p q) = by_parent (parents k ∙ p) (leads_on dir q)
+  slots_same = slots_alike t u.nodes t.disk_date parents entries_same (λ dir k m. names k)
 
   module _ (proper : Proper t) where
     pub file_not_root : file ≢ root t
@@ -113,15 +104,6 @@ module _ (t : Tree) (file : ℕ) (node : Node) (bytes bytes' : List ℕ) (found 
         cc kind
 
     pub proper_after : Proper u
-    proper_after = record {
-      size = proper.size;
-      inside = λ k a e. let w = was k a e in proper.inside k w.old w.at;
-      root_node = let m = proper.root_node in (m.0, there (root t) (λ e. file_not_root (sym e)) ∙ m.1, m.2);
-      listed = λ d k. (λ h. parents k ∙ (proper.listed d k).0 (subst (λ (keys : List ℕ). Contains keys k) (entries_same d) h), λ e. subst (λ (keys : List ℕ). Contains keys k) (sym (entries_same d)) ((proper.listed d k).1 (sym (parents k) ∙ e)));
-      once = λ d. subst (AllPairs (λ j k. j ≢ k)) (sym (entries_same d)) (proper.once d);
-      unlike = λ d j k h m same. proper.unlike d j k (subst (λ (keys : List ℕ). Contains keys j) (entries_same d) h) (subst (λ (keys : List ℕ). Contains keys k) (entries_same d) m) (ap (map upper) (sym (names j)) ∙ same ∙ ap (map upper) (names k));
-      rising = λ d. pairs_same (λ a b. slot a ≤ slot b) d (proper.rising d);
-      rooted = λ k a e. let w = was k a e in leads_on k (proper.rooted k w.old w.at);
-      name = λ k a e. let w = was k a e in subst IsName (sym w.name) (proper.name k w.old w.at);
-      comment = λ k a e. let w = was k a e in subst IsComment (sym w.comment) (proper.comment k w.old w.at);
-    }
+    proper_after =
+        proper_alike t u.nodes t.disk_date parents entries_same (λ dir k m. names k) proper (let m = proper.root_node in (m.0, there (root t) (λ e. file_not_root (sym e)) ∙ m.1, m.2)) (λ k a e. let w = was k a e in (w.old, w.at))
+        (λ k a e. let w = was k a e in subst IsName (sym w.name) (proper.name k w.old w.at)) (λ k a e. let w = was k a e in subst IsComment (sym w.comment) (proper.comment k w.old w.at))

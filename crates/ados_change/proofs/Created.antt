@@ -1,16 +1,18 @@
 -- The steps that make an entry.
-use Rattle.std.proofs.Common.{◌≡◌, ◌≢◌, ℕ, ◌+◌, ◌/◌, ◌<◌, inl, inr, Bool, List, true, false, Some, is_some, IsSome, refl, sym, ap, ◌∙◌, subst, arith}
-use Rattle.std.proofs.lemmas.Bool.{cases_eq, false≢true}
+use Rattle.std.proofs.Common.{◌≡◌, ◌≢◌, ℕ, ◌+◌, ◌*◌, ◌/◌, ◌<◌, inl, inr, List, false, Some, refl, sym, ap, ◌∙◌, subst, arith}
+use Rattle.std.proofs.lemmas.Bool.{cases_eq}
 use Rattle.adf_block.specs.Frame.{OnlyBlock, SameBut}
 use Rattle.adf_block.specs.Image.{IsInside, block_count, has_free_bit, root_key}
 use Rattle.adf_block.specs.Whole.{HasFreeBit}
 use Rattle.adf_block.proofs.Frames.{same_count, same_trans}
 use Rattle.ados_map.specs.Changes.{MapPlace, BitChanged}
-use Rattle.ados_map.specs.Pages.{IsLowestFree, LawfulPages, NoneFreeBelow, page_of, pages_of}
+use Rattle.ados_map.specs.Pages.{IsLowestFree, NoneFreeBelow, page_of, pages_of}
 use Rattle.ados_name.specs.declared.stamp.Date3.{Date3}
 use Rattle.ados_chain.proofs.Changes.{slot_at-small}
 use Rattle.ados_chain.specs.Chains.{LawfulChains, slot_at}
 use Rattle.ados_chain.specs.Relinks.{CanInsert, InsertsLast, link_block, link_long}
+use Rattle.ados_map.proofs.MarkLemmas.{bit_of_inside}
+use Rattle.ados_model.specs.Faults.{InImage}
 use Rattle.ados_model.specs.Change.{made, with_node}
 use Rattle.ados_model.specs.Edits.{new_node}
 use Rattle.ados_model.specs.Stands.{Stands, Duty, HasDuty, in_slot}
@@ -24,47 +26,37 @@ use Rattle.ados_change.specs.declared.node_kind.NodeKind.TheVariants as kinds
 use Rattle.ados_change.specs.Conditions.{CanMake, IsEmpty}
 use Rattle.ados_change.specs.Kinds.{content_of}
 use Rattle.ados_change.specs.steps.Making.{IsNewEntry}
-use Rattle.ados_change.specs.steps.Writes.{AtDate, AtLongs, Dated}
-use Rattle.ados_change.proofs.Changed.{made_here, made_other, nodes_here, nodes_other}
+use Rattle.ados_change.specs.Places.{Summed}
+use Rattle.ados_change.specs.steps.Writes.{Dated}
+use Rattle.ados_change.proofs.Changed.{made_here, nodes_here, nodes_other}
 use Rattle.ados_change.proofs.FirstFree.{AtLink, dated_there, linked_there, stamped_there, takes_key}
-use Rattle.ados_change.proofs.Lawful.{lawful_chains, lawful_pages, page_is, page_within}
-use Rattle.ados_change.proofs.EntriesKept.{IsWritten, written_kept}
+use Rattle.ados_change.proofs.Lawful.{lawful_chains, page_is, page_within}
+use Rattle.ados_change.proofs.Writable.{lawful_pages}
+use Rattle.ados_change.proofs.EntriesKept.{IsChanged, IsPage, IsWritten, changed_kept, page_changed, written_changed}
 use Rattle.ados_change.proofs.KeptSteps.{IsKnown, dated_kept, filled_kept, linked_kept, marked_kept, stamped_kept}
 use Rattle.ados_change.proofs.Listing.{can_insert, place_behind}
 use Rattle.ados_change.proofs.Loose.{Loose, proper_is_loose}
 use Rattle.ados_change.proofs.Making.{begun_spells, made_spells, made_stands, no_duty, unused}
 use Rattle.ados_change.proofs.ProperChanges.{IsDirectoryNode, begun_is_loose, dir_not_key, directory_at}
 use Rattle.ados_change.proofs.Relisted.{IsLinkPlace}
-use Rattle.ados_change.proofs.Spared.{keeps_freed, was_free}
 use Rattle.ados_change.proofs.Spells.{Spells, spells}
-use Rattle.ados_change.proofs.EntriesUntold.{IsOffMap, bit_past_end, dated_off, filled_off, linked_off, off_past_end, old_pages, pages_after, stamped_off, untold_kept}
-
--- the bitmap blocks of an image that represents a tree are lawful
-pub pages_of_standing : (image : List ℕ) (t : Tree) → Stands image t → LawfulPages image
-pages_of_standing image t st = lawful_pages image t st.layout 0 (spells image t st) (proper_is_loose t st.proper)
+use Rattle.ados_change.proofs.EntriesUntold.{HasPages, IsOffMap, bit_past_end, freed_stays, off_marks, off_past_end, old_pages, pages_after, untold_kept, written_off}
 
 -- the disk date is written into the root
 pub at_root : (old new : List ℕ) (t : Tree) (moment : Date3) → block_count old ≡ t.blocks → Dated (root_key (block_count old)) 118 moment old new → Dated (root t) 118 moment old new
 at_root old new t moment count h = subst (λ (n : ℕ). Dated (root_key n) 118 moment old new) count h
 
 pub dated_count : (b i : ℕ) (moment : Date3) (old new : List ℕ) → Dated b i moment old new → block_count new ≡ block_count old
-dated_count b i moment old new h = same_count (AtLongs (AtDate b i)) old new h.rest
+dated_count b i moment old new h = same_count (Summed b (4 * i) (4 * i + 12)) old new h.rest
 
 module _ (old m1 m2 : List ℕ) (t : Tree) (st : Stands old t) (moment : Date3) (dir key : ℕ) (name : List ℕ) (kind : NodeKind) (can : CanMake t dir name)
     (low : IsLowestFree old key) (taken : BitChanged old key false m1) (filled : OnlyBlock key m1 m2) (entry : IsNewEntry m2 key dir name (content_of kind) moment) where
-  empty : IsEmpty (content_of kind)
-  empty = go kind
+  no_contents : IsEmpty (content_of kind) × (size_in (Some (content_of kind)) ≡ 0)
+  no_contents = go kind
     where
-      go : (k : NodeKind) → IsEmpty (content_of k)
-      go kinds.Directory = refl
-      go kinds.File = refl
-
-  no_bytes : size_in (Some (content_of kind)) ≡ 0
-  no_bytes = go kind
-    where
-      go : (k : NodeKind) → size_in (Some (content_of k)) ≡ 0
-      go kinds.Directory = refl
-      go kinds.File = refl
+      go : (k : NodeKind) → IsEmpty (content_of k) × (size_in (Some (content_of k)) ≡ 0)
+      go kinds.Directory = (refl, refl)
+      go kinds.File = (refl, refl)
 
   fresh : IsUnused t key
   fresh = unused old t st key low
@@ -73,16 +65,16 @@ module _ (old m1 m2 : List ℕ) (t : Tree) (st : Stands old t) (moment : Date3) 
   begun = with_node key (Some (new_node moment dir name (content_of kind))) t
 
   spelled : Spells m2 begun st.layout
-  spelled = begun_spells old m1 m2 t st moment dir key name (content_of kind) can fresh empty no_bytes low taken filled entry
+  spelled = begun_spells old m1 m2 t st moment dir key name (content_of kind) can fresh no_contents.0 no_contents.1 low taken filled entry
 
   loose : Loose begun key
-  loose = begun_is_loose t moment dir key name (content_of kind) st.proper can fresh empty
+  loose = begun_is_loose t moment dir key name (content_of kind) st.proper can fresh no_contents.0
 
   directory : IsDirectoryNode t dir
   directory = directory_at t dir can.directory
 
   apart : dir ≢ key
-  apart = dir_not_key t moment dir key name (content_of kind) st.proper can fresh empty
+  apart = dir_not_key t moment dir key name (content_of kind) st.proper can fresh no_contents.0
 
   dir_node : begun.nodes dir ≡ Some directory.node
   dir_node = nodes_other key (Some (new_node moment dir name (content_of kind))) t dir apart ∙ directory.at
@@ -115,14 +107,14 @@ module _ (old m1 m2 : List ℕ) (t : Tree) (st : Stands old t) (moment : Date3) 
     module _ (m4 m5 : List ℕ) (dated : Dated dir 105 moment m3 m4) (stamp : Dated (root_key (block_count m4)) 118 moment m4 m5) where
       pub created : Stands m5 (made moment dir key name (content_of kind) t)
       created =
-          made_stands old m1 m2 t st moment dir key name (content_of kind) can fresh empty no_bytes low taken filled entry m3 m4 m5 inserted dated
+          made_stands old m1 m2 t st moment dir key name (content_of kind) can fresh no_contents.0 no_contents.1 low taken filled entry m3 m4 m5 inserted dated
           (at_root m4 m5 t moment (dated_count dir 105 moment m3 m4 dated ∙ count_m3) stamp)
 
       restamped : Dated (root t) 118 moment m4 m5
       restamped = at_root m4 m5 t moment (dated_count dir 105 moment m3 m4 dated ∙ count_m3) stamp
 
       after : Spells m5 (made moment dir key name (content_of kind) t) st.layout
-      after = made_spells old m1 m2 t st moment dir key name (content_of kind) can fresh empty no_bytes low taken filled entry m3 m4 m5 inserted dated restamped
+      after = made_spells old m1 m2 t st moment dir key name (content_of kind) can fresh no_contents.0 no_contents.1 low taken filled entry m3 m4 m5 inserted dated restamped
 
       -- ---- what is written
 
@@ -141,29 +133,47 @@ module _ (old m1 m2 : List ℕ) (t : Tree) (st : Stands old t) (moment : Date3) 
       own_page : page_of key < pages_of old
       own_page = omega (arith, low.inside.0, low.inside.1)
 
-      created_written : SameBut (IsWritten old t st m5) old m5
-      created_written =
+      marked : SameBut (λ b i. IsPage old t st b) old m1
+      marked =
           let whole = proper_is_loose t st.proper in
           let within = page_within old t st.layout 0 (spells old t st) whole (page_of key) own_page in
           let page = page_is old t st.layout 0 (spells old t st) whole (page_of key) within in
-          same_trans (IsWritten old t st m5) old m4 m5
-          (same_trans (IsWritten old t st m5) old m3 m4
-          (same_trans (IsWritten old t st m5) old m2 m3
-          (same_trans (IsWritten old t st m5) old m1 m2
-          (marked_kept old t st m5 key (page_of key) false old m1 within (sym page) taken)
-          (filled_kept old t st m5 key fresh.inside.0 in_use no_duties m1 m2 filled))
+          marked_kept old t st m5 key (page_of key) false old m1 within (sym page) taken
+
+      -- no bitmap block is written after the mark
+      beside_map : SameBut (IsWritten old t st m5) m1 m5
+      beside_map =
+          same_trans (IsWritten old t st m5) m1 m4 m5
+          (same_trans (IsWritten old t st m5) m1 m3 m4
+          (same_trans (IsWritten old t st m5) m1 m2 m3
+          (filled_kept old t st m5 key fresh.inside.0 in_use no_duties m1 m2 filled)
           (linked_kept old t st m5 begun dir (link_block dir (in_slot begun dir slot_key)) (link_long (6 + slot_key) (in_slot begun dir slot_key)) key key directory.node directory.keys directory.at directory.content known link_at
           (inr (fresh.inside.0, in_use, no_duties)) m2 m3 inserted.relinks))
           (dated_kept old t st m5 dir directory.node directory.at moment m3 m4 dated))
           (stamped_kept old t st m5 moment m4 m5 restamped)
 
-      -- ---- which block it is
+      created_changed : SameBut (IsChanged old t st m5) old m5
+      created_changed = same_trans (IsChanged old t st m5) old m1 m5 (page_changed old t st m5 old m1 marked) (written_changed old t st m5 m1 m5 beside_map)
 
       no_root : key ≢ root t
       no_root e = cc (sym fresh.no_node ∙ ap t.nodes e ∙ st.proper.root_node.1)
 
-      is_none : (k : ℕ) → k ≡ key → IsSome (t.nodes k) → ⊥
-      is_none k e some = false≢true (sym (ap is_some (ap t.nodes e ∙ fresh.no_node)) ∙ some)
+      -- ---- the bitmap
+
+      mark_end : KeepsPastEnd old m1
+      mark_end = bit_past_end old t st old m1 key false (old_pages old t st) (lawful_pages old t st) low.inside taken
+
+      count_m1 : block_count m1 ≡ block_count old
+      count_m1 = same_count (MapPlace old key) old m1 taken.rest
+
+      marked_map : HasPages old t st m1
+      marked_map = pages_after old t st old m1 count_m1 mark_end (old_pages old t st)
+
+      off_map : SameBut (IsOffMap old t st) m1 m5
+      off_map = written_off old t st m5 m1 m5 beside_map
+
+      other_mark : (b : ℕ) → InImage old b → b ≢ key → has_free_bit m5 b ≡ has_free_bit old b
+      other_mark b inside n = off_marks old t st m1 m5 marked_map off_map b (bit_of_inside m1 b (inside.0, omega (arith, inside.1, count_m1))) ∙ taken.others b (bit_of_inside old b inside) n
 
       created_lowest : TakesLowest old m5
       created_lowest =
@@ -173,49 +183,17 @@ module _ (old m1 m2 : List ℕ) (t : Tree) (st : Stands old t) (moment : Date3) 
           (linked_there key dir t apart no_root begun (link_block dir (in_slot begun dir slot_key)) (link_long (6 + slot_key) (in_slot begun dir slot_key)) key link_at m2 m3 inserted.relinks)
           (dated_there key dir t apart no_root moment m3 m4 dated))
           (stamped_there key dir t apart no_root moment m4 m5 restamped))
-          old t st low no_root after created
-
-      -- ---- the bitmap past the volume's end
-
-      of_key : IsKnown old t st m5 key
-      of_key = inr (fresh.inside.0, in_use, no_duties)
-
-      off_map : SameBut (IsOffMap old t st) m1 m5
-      off_map =
-          same_trans (IsOffMap old t st) m1 m4 m5
-          (same_trans (IsOffMap old t st) m1 m3 m4
-          (same_trans (IsOffMap old t st) m1 m2 m3
-          (filled_off old t st m5 key of_key no_root m1 m2 filled)
-          (linked_off old t st m5 begun dir (link_block dir (in_slot begun dir slot_key)) (link_long (6 + slot_key) (in_slot begun dir slot_key)) key key directory.node directory.at known link_at of_key m2 m3 inserted.relinks))
-          (dated_off old t st dir 105 directory.node directory.at (omega arith) moment m3 m4 dated))
-          (stamped_off old t st moment m4 m5 restamped)
-
-      past_end : KeepsPastEnd old m5
-      past_end =
-          let bit = bit_past_end old t st old m1 key false (old_pages old t st) (pages_of_standing old t st) low.inside taken in
-          let count = same_count (MapPlace old key) old m1 taken.rest in
-          past_end_trans old m1 m5 count bit (off_past_end old t st m1 m5 (pages_after old t st old m1 count bit (old_pages old t st)) off_map)
+          old t low no_root other_mark created
 
       pub created_keeps : KeepsRest old m5
-      created_keeps =
-          record {
-            kept = written_kept old m5 t st created_written;
-            lowest = created_lowest;
-            freed = keeps_freed old m5 t (made moment dir key name (content_of kind) t) st after refl refl created_written
-                (λ k some. made_other moment dir key name (content_of kind) t k (λ e. is_none k e some) ∙ some);
-            untold = untold_kept old m5 t (made moment dir key name (content_of kind) t) st after created.proper created_written past_end;
-          }
+      created_keeps = record {
+        kept = changed_kept old m5 t st created_changed;
+        lowest = created_lowest;
+        freed = λ b inside free. freed_stays old m5 t st created_changed b inside (sym (other_mark b inside (λ e. in_use (subst (HasFreeBit m5) e free))) ∙ free) free;
+        untold = untold_kept old m5 t (made moment dir key name (content_of kind) t) st after created.proper created_changed
+            (past_end_trans old m1 m5 count_m1 mark_end (off_past_end old t st m1 m5 marked_map off_map));
+      }
 
       -- the key was the lowest free block, and no block became free
       pub created_below : NoneFreeBelow m5 key
-      created_below k inside lt = go (has_free_bit m5 k) refl
-        where
-          here : IsInside (block_count old) k
-          here = subst (λ (n : ℕ). IsInside (n / 512) k) created_written.same_length inside
-
-          go : (v : Bool) → has_free_bit m5 k ≡ v → has_free_bit m5 k ≡ false
-          go false e = e
-          go true e =
-              absurd (false≢true (sym (low.lowest k inside.0 lt)
-              ∙ was_free old m5 t (made moment dir key name (content_of kind) t) st after refl refl k here
-              (λ some. made_other moment dir key name (content_of kind) t k (λ same. omega (arith, lt, same)) ∙ some) e))
+      created_below k inside below = other_mark k (subst (λ (n : ℕ). IsInside (n / 512) k) created_changed.same_length inside) (λ e. omega (arith, below, e)) ∙ low.lowest k inside.0 below

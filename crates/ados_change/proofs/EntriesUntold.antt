@@ -1,29 +1,26 @@
 -- A change of entries leaves untouched what no tree determines, step by step: the bitmap past the volume's end, and
 -- the data blocks of files.
-use Rattle.std.proofs.Common.{◌≡◌, ◌≢◌, ℕ, ◌+◌, ◌/◌, ◌<◌, ◌≤◌, ◌⊎◌, inl, inr, Bool, List, length, Some, refl, sym, ap, ◌∙◌, subst, arith}
-use Rattle.adf_block.specs.Frame.{InBlock, OnlyBlock, SameBut}
-use Rattle.adf_block.specs.Image.{IsInside, block_count, page_count, long, root_key}
+use Rattle.std.proofs.Common.{◌≡◌, ℕ, ◌+◌, ◌/◌, ◌<◌, ◌≤◌, ◌⊎◌, inl, inr, Bool, List, refl, sym, ap, ◌∙◌, subst, arith}
+use Rattle.adf_block.specs.Frame.{SameBut}
+use Rattle.adf_block.specs.Image.{IsInside, block_count, has_free_bit, page_count, long, root_key}
 use Rattle.adf_block.proofs.Frames.{same_count, same_long, same_weaken}
+use Rattle.adf_block.specs.Whole.{HasFreeBit}
 use Rattle.ados_map.specs.Changes.{MapPlace, BitChanged}
-use Rattle.ados_map.specs.Pages.{LawfulPages, page_block, page_of, pages_of}
-use Rattle.ados_map.proofs.MarkLemmas.{mark_kept}
+use Rattle.ados_map.specs.Pages.{HasBit, LawfulPages, page_block, page_of, pages_of}
+use Rattle.ados_map.proofs.MarkLemmas.{bit_of_inside, mark_kept}
 use Rattle.ados_data.proofs.Marks.{page_kept}
-use Rattle.ados_name.specs.declared.stamp.Date3.{Date3}
-use Rattle.ados_chain.specs.Relinks.{AtLinks, Relinks}
-use Rattle.ados_model.specs.Tree.{Node, Tree, Proper, root}
+use Rattle.ados_model.specs.Tree.{Tree, Proper, root}
 use Rattle.ados_model.specs.Stands.{Duty, HasDuty, Layout, Stands}
+use Rattle.ados_model.specs.Faults.{InImage}
 use Rattle.ados_model.specs.Keys.{HasFileKey}
+use Rattle.ados_change.specs.NewBlocks.{KeepsBlock, KeepsFreed}
 use Rattle.ados_change.specs.Untold.{KeepsData, KeepsPastEnd, KeepsUntold, data_at}
 use Rattle.ados_change.proofs.FilesStay.{data_serves, file_of_key, files_stay}
-use Rattle.ados_model.proofs.Standing.{count_same, slice_get-index}
+use Rattle.ados_model.proofs.Standing.{count_same}
 use Rattle.ados_change.proofs.Writable.{data_is, extensions_is, page_serves}
-use Rattle.ados_change.specs.steps.Writes.{AtDate, AtLongs, AtTitle, Dated, Titled}
-use Rattle.ados_change.proofs.EntriesKept.{IsWritten}
-use Rattle.ados_change.proofs.EntriesKept.IsWritten.{of_page, of_none, of_node, of_name}
-use Rattle.ados_change.proofs.KeptSteps.{IsKnown}
-use Rattle.ados_change.proofs.Reaching.{IsPage}
-use Rattle.ados_change.proofs.Relisted.{IsLinkPlace}
-use Rattle.ados_change.proofs.Relisted.IsLinkPlace.{in_table, in_entry}
+use Rattle.ados_change.proofs.EntriesKept.{IsChanged, IsPage, IsWritten, unwritten, written_changed}
+use Rattle.ados_change.proofs.EntriesKept.IsWritten.{of_none, of_node, of_name, of_comment}
+use Rattle.ados_change.proofs.EntriesKept.IsPlain.{sum, table, bits, date, disk, link}
 use Rattle.ados_change.proofs.Spells.{Spells, layout_is, stands}
 
 -- ---- the bitmap
@@ -34,48 +31,20 @@ module _ (old : List ℕ) (t : Tree) (st : Stands old t) where
     pub no_page : ¬ IsPage old t st b
     pub no_name : b ≡ root t → (i / 4 < 79) ⊎ (105 ≤ i / 4)
 
-  node_no_page : (b : ℕ) (n : Node) → t.nodes b ≡ Some n → ¬ IsPage old t st b
-  node_no_page b n e p = let same = st.fits.one_duty b Duty.Key (Duty.Page p.0) (rw e refl) p.1 in cc same
-
-  known_no_page : (new : List ℕ) (k : ℕ) → IsKnown old t st new k → ¬ IsPage old t st k
-  known_no_page new k (inl n) p = node_no_page k n.0 n.1 p
-  known_no_page new k (inr n) p = n.2 (Duty.Page p.0) p.1
-
-  -- ---- the steps that leave them untouched
-
-  off_at : (b c i : ℕ) → c ≡ b → ¬ IsPage old t st b → (i / 4 < 79) ⊎ (105 ≤ i / 4) → IsOffMap c i
-  off_at b c i e n place = record { no_page = λ p. n (subst (IsPage old t st) e p); no_name = λ _. place }
-
-  pub linked_off : (new : List ℕ) (u : Tree) (dir b i0 next key : ℕ) (d : Node) → t.nodes dir ≡ Some d → ((k : ℕ) (x : Node) → u.nodes k ≡ Some x → k ≢ root u → IsKnown old t st new k)
-      → IsLinkPlace u dir b i0 → IsKnown old t st new key → (m m' : List ℕ) → Relinks b i0 next key m m' → SameBut IsOffMap m m'
-  linked_off new u dir b i0 next key d at known place of_key m m' r = same_weaken (AtLinks b i0 key) IsOffMap m m' within r.rest
+  -- the footprint of a change apart from bitmap blocks
+  pub written_off : (new m m' : List ℕ) → SameBut (IsWritten old t st new) m m' → SameBut IsOffMap m m'
+  written_off new m m' h = same_weaken (IsWritten old t st new) IsOffMap m m' (λ b i w. record { no_page = λ p. unwritten old t st new b i (Duty.Page p.0) p.1 (λ z. cc z) w; no_name = λ e. off e w }) h
     where
-      holder : IsLinkPlace u dir b i0 → (¬ IsPage old t st b) × ((i0 < 79) ⊎ (105 ≤ i0))
-      holder (in_table e l n) = (node_no_page b d (ap t.nodes e ∙ at), inl (omega (arith, n)))
-      holder (in_entry x f n e) = (known_no_page new b (known b x f n), inr (omega (arith, e)))
-
-      within : (c i : ℕ) → AtLinks b i0 key c i → IsOffMap c i
-      within c i (inl (inl w)) = let h = holder place in off_at b c i w.0 h.0 (elim (h.1) [ inl l ↦ inl (omega (arith, l, w.1)) | inr l ↦ inr (omega (arith, l, w.1)) ])
-      within c i (inl (inr w)) = off_at b c i w.0 (holder place).0 (inl (omega (arith, w.1)))
-      within c i (inr (inl w)) = off_at key c i w.0 (known_no_page new key of_key) (inr (omega (arith, w.1)))
-      within c i (inr (inr w)) = off_at key c i w.0 (known_no_page new key of_key) (inl (omega (arith, w.1)))
-
-  pub dated_off : (dir i0 : ℕ) (d : Node) → t.nodes dir ≡ Some d → 105 ≤ i0 → (moment : Date3) (m m' : List ℕ) → Dated dir i0 moment m m' → SameBut IsOffMap m m'
-  dated_off dir i0 d at l moment m m' r = same_weaken (AtLongs (AtDate dir i0)) IsOffMap m m' within r.rest
-    where
-      within : (c i : ℕ) → AtLongs (AtDate dir i0) c i → IsOffMap c i
-      within c i (e, inl f) = off_at dir c i e (node_no_page dir d at) (inl (omega (arith, f)))
-      within c i (e, inr f) = off_at dir c i e (node_no_page dir d at) (inr (omega (arith, l, f.0)))
-
-  pub stamped_off : (moment : Date3) (m m' : List ℕ) → Dated (root t) 118 moment m m' → SameBut IsOffMap m m'
-  stamped_off moment m m' r = dated_off (root t) 118 st.proper.root_node.0 st.proper.root_node.1 (omega arith) moment m m' r
-
-  pub filled_off : (new : List ℕ) (key : ℕ) → IsKnown old t st new key → key ≢ root t → (m m' : List ℕ) → OnlyBlock key m m' → SameBut IsOffMap m m'
-  filled_off new key of_key n m m' h =
-      same_weaken (InBlock key) IsOffMap m m' (λ c i e. record { no_page = λ p. known_no_page new key of_key (subst (IsPage old t st) e p); no_name = λ r. absurd (n (sym e ∙ r)) }) h
-
-  pub titled_off : (new : List ℕ) (key dir : ℕ) (name : List ℕ) → IsKnown old t st new key → key ≢ root t → (m m' : List ℕ) → Titled key dir name m m' → SameBut IsOffMap m m'
-  titled_off new key dir name of_key n m m' r = filled_off new key of_key n m m' (same_weaken (AtTitle key (length name)) (InBlock key) m m' (λ c i w. w.0) r.rest)
+      off : {b i : ℕ} → b ≡ root t → IsWritten old t st new b i → (i / 4 < 79) ⊎ (105 ≤ i / 4)
+      off e (of_none l used none) = absurd (none Duty.Key (rw (ap t.nodes e ∙ st.proper.root_node.1) refl))
+      off e (of_node n at (sum f)) = inl (omega (arith, f))
+      off e (of_node n at (table keys c l m)) = inl (omega (arith, m))
+      off e (of_node n at (bits o f)) = absurd (o e)
+      off e (of_node n at (date l m)) = inr l
+      off e (of_node n at (disk f l m)) = inr (omega (arith, l))
+      off e (of_node n at (link o l m)) = absurd (o e)
+      off e (of_name n at text short) = inr (omega (arith, text.0))
+      off e (of_comment n at o text short) = absurd (o e)
 
   -- ---- the bits past the volume's end
 
@@ -95,15 +64,19 @@ module _ (old : List ℕ) (t : Tree) (st : Stands old t) where
         subst (IsPage old t st) (sym (k.pages p before)) (h.serves p before);
   }
 
+  off_pages : (m m' : List ℕ) → HasPages m → SameBut IsOffMap m m' → (p : ℕ) → p < pages_of m → page_block m' p ≡ page_block m p
+  off_pages m m' h off p l =
+      let size = st.proper.size in
+      ap (λ (n : ℕ). long m' (root_key n) (79 + p)) (same_count IsOffMap m m' off)
+      ∙ same_long IsOffMap m m' off (root_key (block_count m)) (79 + p) (omega (arith, l, h.count, size.1))
+      (λ k e w. elim (w.no_name (ap root_key h.count)) [ inl x ↦ omega (arith, e, x) | inr x ↦ omega (arith, e, x, l, h.count, size.1) ])
+
+  -- all bits are unchanged
+  pub off_marks : (m m' : List ℕ) → HasPages m → SameBut IsOffMap m m' → (k : ℕ) → HasBit m k → has_free_bit m' k ≡ has_free_bit m k
+  off_marks m m' h off = mark_kept IsOffMap m m' off (off_pages m m' h off) (λ p i l n w. w.no_page (h.serves p l))
+
   pub off_past_end : (m m' : List ℕ) → HasPages m → SameBut IsOffMap m m' → KeepsPastEnd m m'
-  off_past_end m m' h off = record { pages = page_stays; bits = λ k has past. mark_kept IsOffMap m m' off page_stays (λ p i l n w. w.no_page (h.serves p l)) k has }
-    where
-      page_stays : (p : ℕ) → p < pages_of m → page_block m' p ≡ page_block m p
-      page_stays p l =
-          let size = st.proper.size in
-          ap (λ (n : ℕ). long m' (root_key n) (79 + p)) (same_count IsOffMap m m' off)
-          ∙ same_long IsOffMap m m' off (root_key (block_count m)) (79 + p) (omega (arith, l, h.count, size.1))
-          (λ k e w. elim (w.no_name (ap root_key h.count)) [ inl x ↦ omega (arith, e, x) | inr x ↦ omega (arith, e, x, l, h.count, size.1) ])
+  off_past_end m m' h off = record { pages = off_pages m m' h off; bits = λ k has past. off_marks m m' h off k has }
 
   pub bit_past_end : (m m' : List ℕ) (key : ℕ) (free : Bool) → HasPages m → LawfulPages m → IsInside (block_count m) key → BitChanged m key free m' → KeepsPastEnd m m'
   bit_past_end m m' key free h lawful inside r =
@@ -113,6 +86,34 @@ module _ (old : List ℕ) (t : Tree) (st : Stands old t) where
         pages = page_kept (MapPlace m key) m m' r.rest (omega (arith, h.count, size.1)) (λ k w. lawful.beside_root (page_of key) own (sym w.0));
         bits = λ k has past. r.others k has (λ e. omega (arith, e, past, inside.1));
       }
+
+-- ---- free blocks
+
+module _ (old new : List ℕ) (t : Tree) (st : Stands old t) where
+  -- a block that was free and still is has its old bytes
+  pub freed_stays : SameBut (IsChanged old t st new) old new → (b : ℕ) → InImage old b → HasFreeBit old b → HasFreeBit new b → KeepsBlock b old new
+  freed_stays h b inside was is i l = h.same_byte b i l go
+    where
+      unused : (duty : Duty) → ¬ HasDuty t st.layout b duty
+      unused duty m = st.marked_free b (inside.0, omega (arith, inside.1, count_same old t st)) was (duty, m)
+
+      go : ¬ IsChanged old t st new b i
+      go (inl p) = unused (Duty.Page p.0) p.1
+      go (inr (of_none m used none)) = used is
+      go (inr (of_node a e p)) = unused Duty.Key (rw e refl)
+      go (inr (of_name a e text short)) = unused Duty.Key (rw e refl)
+      go (inr (of_comment a e n text short)) = unused Duty.Key (rw e refl)
+
+  -- a change that writes no bitmap block changes no bit
+  module _ (h : SameBut (IsWritten old t st new) old new) where
+    pub past_end : KeepsPastEnd old new
+    past_end = off_past_end old t st old new (old_pages old t st) (written_off old t st new old new h)
+
+    pub marks_stay : (b : ℕ) → InImage old b → has_free_bit new b ≡ has_free_bit old b
+    marks_stay b inside = off_marks old t st old new (old_pages old t st) (written_off old t st new old new h) b (bit_of_inside old b inside)
+
+    pub keeps_freed : KeepsFreed old new
+    keeps_freed b inside free = freed_stays (written_changed old t st new old new h) b inside (sym (marks_stay b inside) ∙ free) free
 
 -- ---- the files
 
@@ -138,12 +139,9 @@ module _ (old new : List ℕ) (t u : Tree) (st : Stands old t) (after : Spells n
     pub untold_beside : KeepsPastEnd old new → KeepsUntold old new
     untold_beside past = files_stay old new past data_stays
 
-  -- no data block is written
-  data_unwritten : (b i file q : ℕ) → HasDuty t st.layout b (Duty.Data file q) → ¬ IsWritten old t st new b i
-  data_unwritten b i file q m (of_page p l e) = let duty = st.fits.one_duty b (Duty.Page p) (Duty.Data file q) (slice_get-index st.layout.pages p l ∙ ap Some e) m in cc duty
-  data_unwritten b i file q m (of_none l used none) = none (Duty.Data file q) m
-  data_unwritten b i file q m (of_node a e p) = let duty = st.fits.one_duty b Duty.Key (Duty.Data file q) (rw e refl) m in cc duty
-  data_unwritten b i file q m (of_name a e n text short) = let duty = st.fits.one_duty b Duty.Key (Duty.Data file q) (rw e refl) m in cc duty
-
-  pub untold_kept : SameBut (IsWritten old t st new) old new → KeepsPastEnd old new → KeepsUntold old new
-  untold_kept h = untold_beside (IsWritten old t st new) h data_unwritten
+  pub untold_kept : SameBut (IsChanged old t st new) old new → KeepsPastEnd old new → KeepsUntold old new
+  untold_kept h = untold_beside (IsChanged old t st new) h data_unchanged
+    where
+      data_unchanged : (b i file q : ℕ) → HasDuty t st.layout b (Duty.Data file q) → ¬ IsChanged old t st new b i
+      data_unchanged b i file q m (inl p) = let duty = st.fits.one_duty b (Duty.Page p.0) (Duty.Data file q) p.1 m in cc duty
+      data_unchanged b i file q m (inr w) = unwritten old t st new b i (Duty.Data file q) m (λ z. cc z) w

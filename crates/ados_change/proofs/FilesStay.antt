@@ -15,7 +15,7 @@ use Rattle.ados_change.specs.Untold.{HasData, HasFileBytes, KeepsData, KeepsFile
 use Rattle.ados_model.proofs.Nodes.{content_in}
 use Rattle.ados_model.proofs.OneTree.{one_tree}
 use Rattle.ados_model.proofs.Standing.{IsFileNode, slice_get-index}
-use Rattle.ados_change.proofs.Writable.{data_is}
+use Rattle.ados_change.proofs.Writable.{data_is, extensions_is}
 
 -- ---- lists whose links are unchanged
 
@@ -61,6 +61,11 @@ module _ (image : List ℕ) (t : Tree) (s : Stands image t) (file : ℕ) where
   data_serves f q l =
       let lists = data_is image t s file f.node f.bytes f.at f.content in
       slice_get-index (s.layout.file_data file) q (subst (λ (xs : List ℕ). q < length xs) lists l) ∙ ap (λ (xs : List ℕ). Some (slice_index xs q)) (sym lists)
+
+  pub extension_serves : IsFileNode image t s file → (q : ℕ) → q < length (extension_blocks image file) → HasDuty t s.layout (slice_index (extension_blocks image file) q) (Duty.Extension file q)
+  extension_serves f q l =
+      let lists = extensions_is image t s file f.node f.bytes f.at f.content in
+      slice_get-index (s.layout.extensions file) q (subst (λ (xs : List ℕ). q < length xs) lists l) ∙ ap (λ (xs : List ℕ). Some (slice_index xs q)) (sym lists)
 
 -- ---- one change
 

@@ -2,27 +2,14 @@
 use Rattle.std.proofs.Common.{◌≡◌, ℕ, ◌+◌, ◌/◌, ◌<◌, ◌≤◌, ◌⊎◌, inl, inr, List, length, refl, ◌∙◌, arith}
 use Rattle.adf_block.specs.Image.{byte_at, block_sum, long, HasText}
 use Rattle.adf_block.specs.Frame.{AtLong, OnlyLong, SameBut, Within}
-use Rattle.adf_block.proofs.Frames.{other_long, same_bytes_at, same_long, same_trans, same_weaken}
+use Rattle.adf_block.proofs.Frames.{other_long, same_long, same_trans, same_weaken}
+use Rattle.ados_change.proofs.Frame.{text_kept, date_kept}
 use Rattle.ados_name.specs.declared.stamp.Date3.{Date3}
 use Rattle.ados_name.specs.Name.{IsName}
 use Rattle.ados_model.specs.Stands.{date_at, type_of}
 use Rattle.ados_model.specs.Tree.{Content}
 use Rattle.ados_change.specs.steps.Making.{IsHead, IsNewEntry}
 use Rattle.ados_change.specs.steps.Writes.{AtTitle, Titled}
-
--- a text is unchanged if none of its bytes changes
-text_kept : (At : ℕ → ℕ → Type 0) (old new : List ℕ) → SameBut At old new → (b i : ℕ) (text : List ℕ) → i + length text < 512 → ((k : ℕ) → i ≤ k → k < i + 1 + length text → ¬ At b k) → HasText old b i text → HasText new b i text
-text_kept At old new h b i text room n g = record {
-  counted = h.same_byte b i (omega arith) (n i (omega arith) (omega arith)) ∙ g.counted;
-  follows = same_bytes_at At old new h b (i + 1) (length text) (omega arith) (λ k l m. n k (omega arith) (omega arith)) ∙ g.follows;
-}
-
--- a date is unchanged if none of its longs changes
-date_kept : (At : ℕ → ℕ → Type 0) (old new : List ℕ) → SameBut At old new → (b i : ℕ) → i + 2 < 128 → ((k : ℕ) → i ≤ k / 4 → k / 4 < i + 3 → ¬ At b k) → date_at new b i ≡ date_at old b i
-date_kept At old new h b i room n = λ k. record { days = one i (omega arith) (omega arith) k; minutes = one (i + 1) (omega arith) (omega arith) k; ticks = one (i + 2) (omega arith) (omega arith) k }
-  where
-    one : (j : ℕ) → i ≤ j → j < i + 3 → long new b j ≡ long old b j
-    one j l m = same_long At old new h b j (omega arith) (λ k e. n k (omega (arith, e)) (omega (arith, e)))
 
 pub titled : (old m1 m2 new : List ℕ) (key dir : ℕ) (name : List ℕ) → IsName name → HasText m1 key 432 name → SameBut (Within key 432 (433 + length name)) old m1 → OnlyLong key 125 m1 m2 → long m2 key 125 ≡ dir → OnlyLong key 5 m2 new → block_sum new key ≡ 0 → Titled key dir name old new
 titled old m1 m2 new key dir name valid text first second set third sum = record {
@@ -62,11 +49,7 @@ module _ (old new : List ℕ) (key dir : ℕ) (name : List ℕ) (content : Conte
 
   -- a long of the head
   beside_title : (j : ℕ) → j < 128 → (j < 5) ⊎ (((6 ≤ j) × (j < 108)) ⊎ (j ≡ 127)) → (k : ℕ) → k / 4 ≡ j → ¬ At key k
-  beside_title j l o k e w = elim (w.1) [
-    | inl a ↦ elim o [ inl x ↦ omega (arith, e, a, x) | inr (inl x) ↦ omega (arith, e, a, x.0) | inr (inr x) ↦ omega (arith, e, a, x) ]
-    | inr (inl a) ↦ elim o [ inl x ↦ omega (arith, e, a.0, x) | inr (inl x) ↦ omega (arith, e, a.0, x.1) | inr (inr x) ↦ omega (arith, e, a.1, x, valid.short) ]
-    | inr (inr a) ↦ elim o [ inl x ↦ omega (arith, e, a, x) | inr (inl x) ↦ omega (arith, e, a, x.1) | inr (inr x) ↦ omega (arith, e, a, x) ]
-  ]
+  beside_title j l o k e w = let short = valid.short in omega (arith, o, e, w.1, short)
 
   kept : (j : ℕ) → j < 128 → (j < 5) ⊎ (((6 ≤ j) × (j < 108)) ⊎ (j ≡ 127)) → long new key j ≡ long old key j
   kept j l o = same_long At old new t.rest key j l (beside_title j l o)

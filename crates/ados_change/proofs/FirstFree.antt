@@ -1,36 +1,34 @@
 -- A new entry gets the lowest free block, and its bytes outside fields are 0.
-use Rattle.std.proofs.Common.{◌≡◌, ◌≢◌, ℕ, ◌+◌, ◌*◌, ◌/◌, ◌<◌, ◌≤◌, ◌⊎◌, inl, inr, nat_le, cond, List, [], length, slice_index, Option, Some, None, is_some, option_map, refl, sym, ap, ◌∙◌, subst, arith}
+use Rattle.std.proofs.Common.{◌≡◌, ◌≢◌, ℕ, ◌+◌, ◌*◌, ◌/◌, ◌<◌, ◌≤◌, ◌⊎◌, inl, inr, nat_le, cond, List, [], length, slice_index, refl, sym, ap, ◌∙◌, subst, arith}
 use Rattle.std.proofs.lemmas.Bool.{cases_eq, cases_lt, cases_order, false≢true}
 use Rattle.adf_block.specs.declared.layout.TheConstants.{FILE_TYPE, NAME_BYTE, NEXT_IN_CHAIN}
-use Rattle.adf_block.specs.Image.{IsInside, byte_at, long}
+use Rattle.adf_block.specs.Image.{byte_at, has_free_bit, long}
 use Rattle.adf_block.specs.Whole.{HasFreeBit}
 use Rattle.adf_block.specs.Fields.{secondary_type}
 use Rattle.adf_block.specs.Frame.{SameBut}
 use Rattle.adf_block.proofs.Frames.{same_long, same_weaken}
 use Rattle.ados_chain.specs.Relinks.{AtLinks, Relinks}
 use Rattle.ados_map.specs.Pages.{IsLowestFree}
-use Rattle.ados_name.specs.Name.{slot}
 use Rattle.ados_name.specs.declared.stamp.Date3.{Date3}
-use Rattle.ados_model.specs.Change.{enter, made, with_node}
-use Rattle.ados_model.specs.Edits.{new_node}
+use Rattle.ados_model.specs.Change.{made}
 use Rattle.ados_model.specs.Faults.{InImage, Reached, first_pointers}
 use Rattle.ados_model.specs.Kept.{IsField, NamesFirstData}
 use Rattle.ados_model.specs.Kept.IsField.{directory_longs, file_longs, entry_name}
-use Rattle.ados_model.specs.Stands.{Duty, Named, HasDuty, Stands, type_of}
+use Rattle.ados_model.specs.Stands.{Duty, HasDuty, Stands, type_of}
+use Rattle.ados_change.proofs.Frame.{AtDate, AtLongs, dated_longs}
 use Rattle.ados_change.specs.NewBlocks.{IsTaken, TakesLowest}
-use Rattle.ados_model.specs.Tree.{Content, Node, Tree, entries, name_of, root}
+use Rattle.ados_model.specs.Tree.{Content, Tree, root}
 use Rattle.ados_model.specs.Tree.Content.{Directory, File}
 use Rattle.ados_model.specs.declared.role.Role.{Role}
 use Rattle.ados_model.specs.declared.role.Role.TheVariants as roles
-use Rattle.ados_change.proofs.Serving.{data_duty, extension_duty}
-use Rattle.ados_model.proofs.Standing.{StandsAt, count_same, duty_of, reached_stands, root_at, serves_at}
+use Rattle.ados_change.proofs.FilesStay.{data_serves, extension_serves, file_of_key}
+use Rattle.ados_model.proofs.Standing.{StandsAt, duty_of, reached_stands, root_at, serves_at}
 use Rattle.ados_change.specs.steps.Making.{IsNewEntry, IsNewField}
-use Rattle.ados_change.specs.steps.Writes.{AtDate, AtLongs, Dated}
-use Rattle.ados_change.proofs.Changed.{changed_keeps, nodes_here, nodes_other, relisted}
+use Rattle.ados_change.specs.steps.Writes.{Dated}
+use Rattle.ados_change.proofs.Changed.{made_here}
 use Rattle.ados_change.proofs.Making.{zero_long}
 use Rattle.ados_change.proofs.Relisted.{IsLinkPlace}
 use Rattle.ados_change.proofs.Relisted.IsLinkPlace.{in_table, in_entry}
-use Rattle.ados_change.proofs.Spells.{Spells}
 
 -- ---- the bytes of the block
 
@@ -40,10 +38,10 @@ AtLink key b i = (b ≢ key) ⊎ ((i / 4 ≡ 5) ⊎ (i / 4 ≡ NEXT_IN_CHAIN))
 
 module _ (key dir : ℕ) (t : Tree) (apart : dir ≢ key) (no_root : key ≢ root t) where
   pub dated_there : (moment : Date3) (m m' : List ℕ) → Dated dir 105 moment m m' → SameBut (AtLink key) m m'
-  dated_there moment m m' r = same_weaken (AtLongs (AtDate dir 105)) (AtLink key) m m' (λ b i w. inl (λ e. apart (sym w.0 ∙ e))) r.rest
+  dated_there moment m m' r = same_weaken (AtLongs (AtDate dir 105)) (AtLink key) m m' (λ b i w. inl (λ e. apart (sym w.0 ∙ e))) (dated_longs dir 105 moment m m' r)
 
   pub stamped_there : (moment : Date3) (m m' : List ℕ) → Dated (root t) 118 moment m m' → SameBut (AtLink key) m m'
-  stamped_there moment m m' r = same_weaken (AtLongs (AtDate (root t) 118)) (AtLink key) m m' (λ b i w. inl (λ e. no_root (sym e ∙ w.0))) r.rest
+  stamped_there moment m m' r = same_weaken (AtLongs (AtDate (root t) 118)) (AtLink key) m m' (λ b i w. inl (λ e. no_root (sym e ∙ w.0))) (dated_longs (root t) 118 moment m m' r)
 
   pub linked_there : (u : Tree) (b0 i0 next : ℕ) → IsLinkPlace u dir b0 i0 → (m m' : List ℕ) → Relinks b0 i0 next key m m' → SameBut (AtLink key) m m'
   linked_there u b0 i0 next place m m' r = same_weaken (AtLinks b0 i0 key) (AtLink key) m m' within r.rest
@@ -124,48 +122,20 @@ module _ (filled new : List ℕ) (key dir : ℕ) (name : List ℕ) (content : Co
       other k p q (inr w) = omega (arith, o, p, q, w)
 
       no_field : (k : ℕ) → 4 * j ≤ k → k < 4 * j + 4 → ¬ IsNewField (length name) k
-      no_field k p q (inl f) = omega (arith, o, p, q, f)
-      no_field k p q (inr (inl f)) = omega (arith, o, p, q, f)
-      no_field k p q (inr (inr (inl f))) = omega (arith, o, p, q, f.0)
-      no_field k p q (inr (inr (inr f))) = omega (arith, o, p, q, f)
+      no_field k p q f = omega (arith, o, p, q, f)
 
   names_none : NamesFirstData new key
   names_none = zero_at 4 (inr refl) ∙ sym (ap (λ (n : ℕ). slice_index (cond (nat_le n 72) (first_pointers new key n) []) 0) (zero_at 2 (inl refl)))
 
   -- ---- which block it is
 
-  module _ (old : List ℕ) (t : Tree) (st : Stands old t) (low : IsLowestFree old key) (no_root : key ≢ root t)
-      (spelled : Spells new (made moment dir key name content t) st.layout) (after : Stands new (made moment dir key name content t)) where
-    abbrev begun : Tree
-    begun = with_node key (Some (new_node moment dir name content)) t
-
+  module _ (old : List ℕ) (t : Tree) (low : IsLowestFree old key) (no_root : key ≢ root t)
+      (still : (b : ℕ) → InImage old b → b ≢ key → has_free_bit new b ≡ has_free_bit old b) (after : Stands new (made moment dir key name content t)) where
     abbrev u : Tree
     u = made moment dir key name content t
 
-    abbrev list : Node → Node
-    list = relisted moment (enter (λ k. slot (name_of begun k)) key (entries begun dir))
-
-    some_same : (b : ℕ) → is_some (u.nodes b) ≡ is_some (begun.nodes b)
-    some_same b = changed_keeps is_some list dir begun go b
-      where
-        go : (o : Option Node) → is_some (option_map list o) ≡ is_some o
-        go None = refl
-        go (Some a) = refl
-
-    was_named : (b : ℕ) → b ≢ key → Named u st.layout b → Named t st.layout b
-    was_named b n (Duty.Page p, m) = (Duty.Page p, m)
-    was_named b n (Duty.Key, m) = (Duty.Key, sym (some_same b ∙ ap is_some (nodes_other key (Some (new_node moment dir name content)) t b n)) ∙ m)
-    was_named b n (Duty.Data file i, m) = (Duty.Data file i, m)
-    was_named b n (Duty.Extension file i, m) = (Duty.Extension file i, m)
-    was_named b n (Duty.Lost, m) = (Duty.Lost, m)
-
     is_key : (b : ℕ) → IsTaken old new b → b ≡ key
-    is_key b m = elim (cases_eq b key) [
-      | inl e ↦ e
-      | inr n ↦
-          let inside : IsInside t.blocks b = (m.inside.0, omega (arith, m.inside.1, count_same old t st)) in
-          absurd (st.marked_free b inside m.was_free (was_named b n (spelled.marked_used b inside m.in_use)))
-    ]
+    is_key b m = elim (cases_eq b key) [ inl e ↦ e | inr n ↦ absurd (m.in_use (still b m.inside n ∙ m.was_free)) ]
 
     lowest_of : (block other : ℕ) → IsTaken old new block → InImage old other → HasFreeBit old other → HasFreeBit new other → block < other
     lowest_of block other m i was is =
@@ -176,8 +146,8 @@ module _ (filled new : List ℕ) (key dir : ℕ) (name : List ℕ) (content : Co
           | inr (inr above) ↦ absurd (false≢true (sym (low.lowest other i.0 (omega (arith, above, here))) ∙ was))
         ]
 
-    key_serves : HasDuty u st.layout key Duty.Key
-    key_serves = some_same key ∙ ap is_some (nodes_here key (Some (new_node moment dir name content)) t)
+    key_serves : HasDuty u after.layout key Duty.Key
+    key_serves = made_here moment dir key name content t
 
     zero_in : (role : Role) (i : ℕ) → Reached new key role → i < 512 → ¬ IsField new key role i → byte_at new key i ≡ 0
     zero_in role i r l n =
@@ -199,11 +169,11 @@ module _ (filled new : List ℕ) (key dir : ℕ) (name : List ℕ) (content : Co
           ap (λ (c : ℕ). byte_at new c i) e ∙ zero_in role i (subst (λ (c : ℕ). Reached new c role) e r) l (subst (λ (c : ℕ). ¬ IsField new c role i) e n);
       first = λ b m f. subst (NamesFirstData new) (sym (is_key b m)) names_none;
       data_rise = λ f k i j l m a b.
-          let serves : HasDuty u after.layout key (Duty.Data f i) = subst (λ (c : ℕ). HasDuty u after.layout c (Duty.Data f i)) (is_key _ a) (data_duty new u after f k i (omega (arith, l, m))) in
+          let serves : HasDuty u after.layout key (Duty.Data f i) = subst (λ (c : ℕ). HasDuty u after.layout c (Duty.Data f i)) (is_key _ a) (data_serves new u after f (file_of_key new u after f k) i (omega (arith, l, m))) in
           let duty : Duty.Data f i ≡ Duty.Key = after.fits.one_duty key (Duty.Data f i) Duty.Key serves key_serves in
           absurd (cc duty);
       extensions_rise = λ f k i j l m a b.
-          let serves : HasDuty u after.layout key (Duty.Extension f i) = subst (λ (c : ℕ). HasDuty u after.layout c (Duty.Extension f i)) (is_key _ a) (extension_duty new u after f k i (omega (arith, l, m))) in
+          let serves : HasDuty u after.layout key (Duty.Extension f i) = subst (λ (c : ℕ). HasDuty u after.layout c (Duty.Extension f i)) (is_key _ a) (extension_serves new u after f (file_of_key new u after f k) i (omega (arith, l, m))) in
           let duty : Duty.Extension f i ≡ Duty.Key = after.fits.one_duty key (Duty.Extension f i) Duty.Key serves key_serves in
           absurd (cc duty);
     }

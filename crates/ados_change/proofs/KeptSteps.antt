@@ -10,11 +10,13 @@ use Rattle.ados_map.specs.Pages.{page_block, page_of}
 use Rattle.ados_name.specs.declared.stamp.Date3.{Date3}
 use Rattle.ados_chain.specs.Relinks.{AtLinks, Relinks}
 use Rattle.ados_model.specs.Stands.{Duty, HasDuty, Stands}
+use Rattle.ados_model.proofs.Standing.{slice_get-index}
 use Rattle.ados_model.specs.Tree.{Node, Tree, root}
 use Rattle.ados_model.specs.Tree.Content.{Directory}
-use Rattle.ados_change.specs.steps.Writes.{AtDate, AtLongs, AtTitle, Dated, Titled}
-use Rattle.ados_change.proofs.EntriesKept.{IsWritten}
-use Rattle.ados_change.proofs.EntriesKept.IsWritten.{of_page, of_none, of_node, of_name}
+use Rattle.ados_change.proofs.Frame.{AtDate, AtLongs, dated_longs}
+use Rattle.ados_change.specs.steps.Writes.{AtTitle, Dated, Titled}
+use Rattle.ados_change.proofs.EntriesKept.{IsPage, IsWritten}
+use Rattle.ados_change.proofs.EntriesKept.IsWritten.{of_none, of_node, of_name}
 use Rattle.ados_change.proofs.EntriesKept.IsPlain.{sum, table, date, disk, link}
 use Rattle.ados_change.proofs.Relisted.{IsLinkPlace}
 use Rattle.ados_change.proofs.Relisted.IsLinkPlace.{in_table, in_entry}
@@ -50,21 +52,21 @@ module _ (old : List ℕ) (t : Tree) (st : Stands old t) (new : List ℕ) where
       within c i (inr (inr w)) = subst (λ (x : ℕ). At x i) (sym w.0) (known_link key i of_key (inr w.1))
 
   pub dated_kept : (dir : ℕ) (d : Node) → t.nodes dir ≡ Some d → (moment : Date3) (m m' : List ℕ) → Dated dir 105 moment m m' → SameBut At m m'
-  dated_kept dir d at moment m m' r = same_weaken (AtLongs (AtDate dir 105)) At m m' within r.rest
+  dated_kept dir d at moment m m' r = same_weaken (AtLongs (AtDate dir 105)) At m m' within (dated_longs dir 105 moment m m' r)
     where
       within : (c i : ℕ) → AtLongs (AtDate dir 105) c i → At c i
       within c i (e, inl f) = of_node d (ap t.nodes e ∙ at) (sum f)
       within c i (e, inr f) = of_node d (ap t.nodes e ∙ at) (date f.0 f.1)
 
   pub stamped_kept : (moment : Date3) (m m' : List ℕ) → Dated (root t) 118 moment m m' → SameBut At m m'
-  stamped_kept moment m m' r = same_weaken (AtLongs (AtDate (root t) 118)) At m m' within r.rest
+  stamped_kept moment m m' r = same_weaken (AtLongs (AtDate (root t) 118)) At m m' within (dated_longs (root t) 118 moment m m' r)
     where
       within : (c i : ℕ) → AtLongs (AtDate (root t) 118) c i → At c i
       within c i (e, inl f) = of_node st.proper.root_node.0 (ap t.nodes e ∙ st.proper.root_node.1) (sum f)
       within c i (e, inr f) = of_node st.proper.root_node.0 (ap t.nodes e ∙ st.proper.root_node.1) (disk e f.0 f.1)
 
-  pub marked_kept : (key p : ℕ) (free : Bool) (m m' : List ℕ) → p < length st.layout.pages → slice_index st.layout.pages p ≡ page_block m (page_of key) → BitChanged m key free m' → SameBut At m m'
-  marked_kept key p free m m' l e r = same_weaken (MapPlace m key) At m m' (λ c i w. of_page p l (e ∙ sym w.0)) r.rest
+  pub marked_kept : (key p : ℕ) (free : Bool) (m m' : List ℕ) → p < length st.layout.pages → slice_index st.layout.pages p ≡ page_block m (page_of key) → BitChanged m key free m' → SameBut (λ b i. IsPage old t st b) m m'
+  marked_kept key p free m m' l e r = same_weaken (MapPlace m key) (λ b i. IsPage old t st b) m m' (λ c i w. (p, slice_get-index st.layout.pages p l ∙ ap Some (e ∙ sym w.0))) r.rest
 
   pub filled_kept : (key : ℕ) → 2 ≤ key → ¬ HasFreeBit new key → ((duty : Duty) → ¬ HasDuty t st.layout key duty) → (m m' : List ℕ) → OnlyBlock key m m' → SameBut At m m'
   filled_kept key l used none m m' h = same_weaken (InBlock key) At m m' (λ c i w. subst (λ (x : ℕ). At x i) (sym w) (of_none l used none)) h
@@ -74,5 +76,5 @@ module _ (old : List ℕ) (t : Tree) (st : Stands old t) (new : List ℕ) where
     where
       within : (c i : ℕ) → AtTitle key (length name) c i → At c i
       within c i (e, inl f) = of_node d (ap t.nodes e ∙ at) (sum f)
-      within c i (e, inr (inl f)) = subst (λ (x : ℕ). At x i) (sym e) (of_name d at n (f.0, omega (arith, f.1, counted)) (omega (arith, f.1, short)))
+      within c i (e, inr (inl f)) = subst (λ (x : ℕ). At x i) (sym e) (of_name d at (f.0, omega (arith, f.1, counted)) (omega (arith, f.1, short)))
       within c i (e, inr (inr f)) = subst (λ (x : ℕ). At x i) (sym e) (of_node d at (link n (omega (arith, f)) (omega (arith, f))))

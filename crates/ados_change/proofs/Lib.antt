@@ -1,6 +1,7 @@
 -- An image with changed fields, a rewritten file or changed hash chains represents the changed tree. First the fields,
 -- then the bytes of files, then lists of entries, each change by its steps.
 pub mod Texts
+pub mod SameLists
 pub mod Retells
 pub mod Retold
 pub mod Summing
@@ -11,7 +12,6 @@ pub mod Unchanged
 pub mod Relaid
 pub mod OtherFiles
 pub mod Refilled
-pub mod Taken
 pub mod Calls
 pub mod FirstData
 pub mod BytesKept
@@ -42,7 +42,6 @@ pub mod Created
 pub mod Renamed
 pub mod Removed
 pub mod EntriesKept
-pub mod Spared
 pub mod KeptSteps
 pub mod Since
 pub mod Reaching
@@ -51,6 +50,5 @@ pub mod Unreached
 pub mod Emptying
 pub mod Emptier
 pub mod Writable
-pub mod Serving
 pub mod FilesStay
 pub mod Keeping

@@ -7,6 +7,7 @@ use Rattle.adf_block.specs.Fields.{table_entry}
 use Rattle.adf_block.specs.declared.layout.TheConstants.{NEXT_IN_CHAIN}
 use Rattle.ados_name.specs.declared.stamp.Date3.{Date3}
 use Rattle.ados_name.specs.Name.{slot}
+use Rattle.adf_block.specs.Frame.{SameBut}
 use Rattle.ados_chain.specs.Chains.{slot_at, with_last}
 use Rattle.ados_chain.specs.Relinks.{CanInsert, CanUnlink, InsertsLast, Unlinks, link_block, link_long}
 use Rattle.ados_chain.proofs.Changes.{slot_at-small}
@@ -16,8 +17,8 @@ use Rattle.ados_model.specs.Tree.{Node, Tree, root, entries, name_of, parent_of}
 use Rattle.ados_model.specs.Tree.Content.{Directory}
 use Rattle.ados_model.specs.Change.{listed, entered, enter, stamped}
 use Rattle.ados_model.specs.Stands.{Layout, in_slot}
-use Rattle.ados_change.specs.steps.Writes.{AtDate, Dated}
-use Rattle.ados_change.proofs.Frame.{sum-kept, long-kept}
+use Rattle.ados_change.specs.steps.Writes.{Dated}
+use Rattle.ados_change.proofs.Frame.{AtDate, sum-kept, long-kept, AtLongs, dated_longs}
 use Rattle.ados_model.proofs.Nodes.{parent_in}
 use Rattle.ados_change.proofs.Entering.{Contains-passes}
 use Rattle.ados_change.proofs.Loose.{Loose}
@@ -117,6 +118,9 @@ module _ (old new : List ℕ) (t : Tree) (l : Layout) (key : ℕ) (s : Spells ol
   abbrev W : ℕ → ℕ → Type 0
   W = AtDate (root t) 118
 
+  change : SameBut (AtLongs W) old new
+  change = dated_longs (root t) 118 moment old new r
+
   tells : TellsOnly t W
   tells = record {
     of_key = λ b j w. ap is_some (ap t.nodes w.0 ∙ loose.root_node.1);
@@ -134,18 +138,18 @@ module _ (old new : List ℕ) (t : Tree) (l : Layout) (key : ℕ) (s : Spells ol
 
   summed : (k : ℕ) → block_sum old k ≡ 0 → block_sum new k ≡ 0
   summed k was = elim (cases_eq k (root t)) [
-    | inl e ↦ ap (block_sum new) e ∙ r.summed
-    | inr n ↦ sum-kept W old new r.rest k (λ j m w. n w.0) ∙ was
+    | inl e ↦ ap (block_sum new) e ∙ r.sum (ap (block_sum old) (sym e) ∙ was)
+    | inr n ↦ sum-kept W old new change k (λ j m w. n w.0) ∙ was
   ]
 
   pub stamped_spells : Spells new (stamped moment t) l
   stamped_spells =
-      reframed old new t l s root_some size W tells r.rest t.nodes moment
+      reframed old new t l s root_some size W tells change t.nodes moment
       (record { same_keys = λ k. refl; was_file = λ k a bytes e c. (a, e, c); same_size = λ d k. refl })
       r.date
-      (λ k a e. let g = s.nodes k a e in node_stays old new t l s root_some size W tells r.rest k a (loose.name k a e) (λ j p q. free k j (omega arith) (inl (omega arith))) (summed k g.sum) g)
-      (λ k d a e p. entry_stays old new t l s root_some size W tells r.rest k d a (loose.comment k a e) (λ j p q. free k j (omega arith) (inl (omega arith))) (free k 125 (omega arith) (inr (omega arith))) (s.entries k d a e p))
+      (λ k a e. let g = s.nodes k a e in node_stays old new t l s root_some size W tells change k a (loose.name k a e) (λ j p q. free k j (omega arith) (inl (omega arith))) (summed k g.sum) g)
+      (λ k d a e p. entry_stays old new t l s root_some size W tells change k d a (loose.comment k a e) (λ j p q. free k j (omega arith) (inl (omega arith))) (free k 125 (omega arith) (inr (omega arith))) (s.entries k d a e p))
       (λ d a keys q e c m.
-      let link : (b j : ℕ) → j < 128 → j ≢ 5 → (j < 118) ⊎ (121 ≤ j) → long new b j ≡ long old b j = λ b j n o p. long-kept W old new r.rest b j n (free b j o p) in
+      let link : (b j : ℕ) → j < 128 → j ≢ 5 → (j < 118) ⊎ (121 ≤ j) → long new b j ≡ long old b j = λ b j n o p. long-kept W old new change b j n (free b j o p) in
       subst (λ (first : ℕ). Chained new NEXT_IN_CHAIN first (in_slot t d q)) (sym (link d (6 + q) (omega (arith, m)) (omega arith) (inl (omega (arith, m)))))
       (Chained-kept old new NEXT_IN_CHAIN (table_entry old d q) (in_slot t d q) (λ b n. link b 124 (omega arith) (omega arith) (inr (omega arith))) (s.chains d a keys q e c m)))

@@ -15,6 +15,7 @@ use Rattle.ados_model.specs.Tree.LeadsToRoot.{at_root, by_parent}
 use Rattle.ados_model.specs.Change.{with_node, listed, enter, entered, left, stamped}
 use Rattle.ados_model.proofs.Nodes.{entry_node, directory_node, parent_in}
 use Rattle.ados_change.proofs.Entering.{Contains-enter, Contains-entered, Contains-enter_kept, Once-enter, Rises-enter, Contains-stays, Contains-left}
+use Rattle.ados_change.proofs.SameLists.{proper_alike}
 use Rattle.ados_change.proofs.Changed.{nodes_here, nodes_other, was, was_with, relisted, listed_names, listed_parents, listed_here, listed_other}
 
 -- the chain of parents leads from the key to the root, or to the loose key
@@ -22,6 +23,15 @@ pub data LeadsLoosely (t : Tree) (loose : ℕ) : ℕ → Type 0 where
   to_root : {key : ℕ} → key ≡ root t → LeadsLoosely t loose key
   to_loose : {key : ℕ} → key ≡ loose → LeadsLoosely t loose key
   to_parent : {key dir : ℕ} → key ≢ loose → parent_of t key ≡ Some dir → LeadsLoosely t loose dir → LeadsLoosely t loose key
+
+-- a path to the root of a tree, in a tree with the same parents
+leads_loosely : (t u : Tree) (loose : ℕ) → root u ≡ root t → ((k : ℕ) → parent_of u k ≡ parent_of t k) → (k : ℕ) → LeadsToRoot t k → LeadsLoosely u loose k
+leads_loosely t u loose same parents k (at_root e) = to_root (e ∙ sym same)
+leads_loosely t u loose same parents k (by_parent {dir = d} p rest) = go (leads_loosely t u loose same parents d rest) (cases_eq k loose)
+  where
+    go : LeadsLoosely u loose d → (k ≡ loose) ⊎ (k ≡ loose → ⊥) → LeadsLoosely u loose k
+    go below (inl e) = to_loose e
+    go below (inr n) = to_parent n (parents k ∙ p) below
 
 -- one tree with its lists in order, except that the loose key is in no list; it may be a node or not
 pub record Loose (t : Tree) (loose : ℕ) : Type 0 where
@@ -112,14 +122,6 @@ module _ (t : Tree) (proper : Proper t) (key from : ℕ) (below : parent_of t ke
     | inr o ↦ subst (AllPairs R) (sym (entries_other d o)) (h d)
   ]
 
-  leads : (k : ℕ) → LeadsToRoot t k → LeadsLoosely l key k
-  leads k (at_root e) = to_root e
-  leads k (by_parent {dir = d} p rest) = go (leads d rest) (cases_eq k key)
-    where
-      go : LeadsLoosely l key d → (k ≡ key) ⊎ (k ≡ key → ⊥) → LeadsLoosely l key k
-      go below (inl e) = to_loose e
-      go below (inr n) = to_parent n (parents_same k ∙ p) below
-
   pub key_not_root : key ≢ root t
   key_not_root e =
       let none : parent_of t key ≡ None = let at : t.nodes key ≡ Some proper.root_node.0 = ap t.nodes e ∙ proper.root_node.1 in rw at proper.root_node.2.no_parent in
@@ -135,7 +137,7 @@ module _ (t : Tree) (proper : Proper t) (key from : ℕ) (below : parent_of t ke
     once = λ d. pairs_kept (λ j k. j ≢ k) d proper.once;
     unlike = λ d j k m n same. proper.unlike d j k (was_listed d j m).0 (was_listed d k n).0 (ap (map upper) (sym (names_same j)) ∙ same ∙ ap (map upper) (names_same k));
     rising = λ d. rising_kept (name_of t) (name_of l) (entries l d) names_same (pairs_kept (λ j k. slot (name_of t j) ≤ slot (name_of t k)) d proper.rising);
-    rooted = λ k a e. let w = was (relisted moment kept) from t k a e in leads k (proper.rooted k w.old w.at);
+    rooted = λ k a e. let w = was (relisted moment kept) from t k a e in leads_loosely t l key refl parents_same k (proper.rooted k w.old w.at);
     name = λ k a e. let w = was (relisted moment kept) from t k a e in was_with (λ n. IsName n.name) (relisted moment kept) from t k a (λ n h. h) w (proper.name k w.old w.at);
     comment = λ k a e. let w = was (relisted moment kept) from t k a e in was_with (λ n. IsComment n.comment) (relisted moment kept) from t k a (λ n h. h) w (proper.comment k w.old w.at);
   }
@@ -187,18 +189,10 @@ unused_is_loose t key proper unused = record {
   once = proper.once;
   unlike = proper.unlike;
   rising = proper.rising;
-  rooted = λ k a e. leads k (proper.rooted k a e);
+  rooted = λ k a e. leads_loosely t t key refl (λ i. refl) k (proper.rooted k a e);
   name = proper.name;
   comment = proper.comment;
 }
-  where
-    leads : (k : ℕ) → LeadsToRoot t k → LeadsLoosely t key k
-    leads k (at_root e) = to_root e
-    leads k (by_parent {dir = d} p rest) = go (leads d rest) (cases_eq k key)
-      where
-        go : LeadsLoosely t key d → (k ≡ key) ⊎ (k ≡ key → ⊥) → LeadsLoosely t key k
-        go below (inl e) = to_loose e
-        go below (inr n) = to_parent n p below
 
 -- a proper tree has no node in block 0
 pub proper_is_loose : (t : Tree) → Proper t → Loose t 0
@@ -207,6 +201,29 @@ proper_is_loose t proper = unused_is_loose t 0 proper (none (t.nodes 0) refl)
     none : (o : Option Node) → t.nodes 0 ≡ o → o ≡ None
     none None e = refl
     none (Some a) e = absurd (let inside = proper.inside 0 a e in omega (arith, inside.0))
+
+-- a tree without a node at the loose key, and with none below it, is proper
+loose_is_proper : (t : Tree) (key : ℕ) → Loose t key → t.nodes key ≡ None → entries t key ≡ [] → Proper t
+loose_is_proper t key loose none empty = record {
+  size = loose.size;
+  inside = loose.inside;
+  root_node = loose.root_node;
+  listed = λ d k. (λ m. ((loose.listed d k).0 m).1, λ h. (loose.listed d k).1 ((λ e. let gone : parent_of t k ≡ None = ap (λ (i : ℕ). parent_of t i) e ∙ ap (option_and_then (λ node. node.parent)) none in cc (gone, h)), h));
+  once = loose.once;
+  unlike = loose.unlike;
+  rising = loose.rising;
+  rooted = λ k a e. leads_on k (λ d. let at = ap t.nodes (sym d) ∙ e in cc (at, none)) (loose.rooted k a e);
+  name = loose.name;
+  comment = loose.comment;
+}
+  where
+    -- only the key itself leads to the key
+    leads_on : (k : ℕ) → k ≢ key → LeadsLoosely t key k → LeadsToRoot t k
+    leads_on k n (to_root e) = at_root e
+    leads_on k n (to_loose e) = absurd (n e)
+    leads_on k n (to_parent {dir = d} m p rest) =
+        let not_below : d ≢ key = λ e. Contains-nil k (subst (λ (keys : List ℕ). Contains keys k) (ap (entries t) e ∙ empty) ((loose.listed d k).1 (m, p))) in
+        by_parent p (leads_on d not_below rest)
 
 -- ---- the node of the loose key is changed, made or removed
 
@@ -288,36 +305,7 @@ module _ (t : Tree) (key : ℕ) (loose : Loose t key) (o : Option Node) (same_li
 
   -- the tree is proper if the key has no node and nothing is below it
   pub without_is_proper : o ≡ None → entries t key ≡ [] → Proper w
-  without_is_proper none empty = record {
-    size = loose.size;
-    inside = each_with (λ k a. IsInside t.blocks k) loose.inside (λ a e. absurd (no_node a e));
-    root_node = root_with;
-    listed = λ d k. (
-      λ m. let p = (loose.listed d k).0 (listed_before d k m) in parent_other k p.0 ∙ p.1,
-      λ h.
-          let n : k ≢ key = λ e. let at : w.nodes k ≡ None = ap w.nodes e ∙ nodes_here key o t ∙ none in let gone : parent_of w k ≡ None = ap (option_and_then (λ node. node.parent)) at in cc (gone, h) in
-          listed_after d k ((loose.listed d k).1 (n, sym (parent_other k n) ∙ h)),
-    );
-    once = once_with;
-    unlike = unlike_with;
-    rising = rising_with;
-    rooted = λ k a e.
-        let n : k ≢ key = λ d. no_node a (sym (nodes_here key o t) ∙ ap w.nodes (sym d) ∙ e) in
-        leads_on k n (loose.rooted k a (sym (node_other k n) ∙ e));
-    name = each_with (λ k a. IsName a.name) loose.name (λ a e. absurd (no_node a e));
-    comment = each_with (λ k a. IsComment a.comment) loose.comment (λ a e. absurd (no_node a e));
-  }
-    where
-      no_node : (a : Node) → o ≡ Some a → ⊥
-      no_node a e = cc (none, e)
-
-      -- only the key itself leads to the key
-      leads_on : (k : ℕ) → k ≢ key → LeadsLoosely t key k → LeadsToRoot w k
-      leads_on k n (to_root e) = at_root e
-      leads_on k n (to_loose e) = absurd (n e)
-      leads_on k n (to_parent {dir = d} m p rest) =
-          let not_below : d ≢ key = λ e. Contains-nil k (subst (λ (keys : List ℕ). Contains keys k) (ap (entries t) e ∙ empty) ((loose.listed d k).1 (m, p))) in
-          by_parent (parent_other k n ∙ p) (leads_on d not_below rest)
+  without_is_proper none empty = loose_is_proper w key (changed_is_loose (λ a e. absurd (cc (none, e)))) (nodes_here key o t ∙ none) (entries_with key ∙ empty)
 
 -- ---- the loose key joins a list
 
@@ -420,8 +408,4 @@ module _ (t : Tree) (key dir : ℕ) (loose : Loose t key) (directory : Node) (at
       ]
 
 pub stamped_is_proper : (moment : Date3) (t : Tree) → Proper t → Proper (stamped moment t)
-stamped_is_proper moment t p = record { size = p.size; inside = p.inside; root_node = p.root_node; listed = p.listed; once = p.once; unlike = p.unlike; rising = p.rising; rooted = λ k a e. leads k (p.rooted k a e); name = p.name; comment = p.comment }
-  where
-    leads : (k : ℕ) → LeadsToRoot t k → LeadsToRoot (stamped moment t) k
-    leads k (at_root e) = at_root e
-    leads k (by_parent {dir = d} q rest) = by_parent q (leads d rest)
+stamped_is_proper moment t p = proper_alike t t.nodes moment (λ k. refl) (λ dir. refl) (λ dir k m. refl) p p.root_node (λ k a e. (a, e)) p.name p.comment

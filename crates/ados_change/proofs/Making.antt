@@ -2,6 +2,7 @@
 use Rattle.std.proofs.Common.{◌≡◌, ◌≢◌, ℕ, zero, suc, ◌+◌, ◌-◌, ◌*◌, ◌<◌, ◌≤◌, ◌⊎◌, inl, inr, true, false, min, List, [], ◌∷◌, length, slice_index, Contains, Option, Some, None, refl, sym, ap, ◌∙◌, subst, arith}
 use Rattle.std.proofs.lemmas.Bool.{cases_eq}
 use Rattle.std.proofs.lemmas.List.{get_or_default}
+use Rattle.std.proofs.lemmas.List.{nil_from_length}
 use Rattle.adf_block.specs.declared.layout.Format.{Format}
 use Rattle.adf_block.specs.declared.layout.Format.TheVariants.{Ofs, Ffs}
 use Rattle.adf_block.specs.Image.{Chained, IsInside, block_count, block_sum, byte_at, bytes_at, has_free_bit, long, root_key}
@@ -37,10 +38,6 @@ use Rattle.ados_change.proofs.Remarked.{IsAlone, Remarks, remarked}
 no_text : (image : List ℕ) (b : ℕ) → bytes_at image b 329 0 ≡ []
 unfolding bytes_at
 no_text image b = refl
-
-pub no_elements : (xs : List ℕ) → length xs ≡ 0 → xs ≡ []
-no_elements [] e = refl
-no_elements (x ∷ xs) e = absurd (omega (arith, e))
 
 -- a long of zeros
 pub zero_long : (image : List ℕ) (b i : ℕ) → ((k : ℕ) → 4 * i ≤ k → k < 4 * i + 4 → byte_at image b k ≡ 0) → long image b i ≡ 0
@@ -144,34 +141,19 @@ module _ (old m1 m2 : List ℕ) (t : Tree) (st : Stands old t) (moment : Date3) 
 
   -- bytes outside the fields of a new entry
   zero_at : (i : ℕ) → ((2 ≤ i) × (i < 5)) ⊎ (((6 ≤ i) × (i < 105)) ⊎ ((i ≡ 124) ⊎ (i ≡ 126))) → long m2 key i ≡ 0
-  zero_at i o = zero_long m2 key i (λ k p q. entry.zeros k (elim o [
-    | inl x ↦ omega (arith, x.1, q)
-    | inr (inl x) ↦ omega (arith, x.1, q)
-    | inr (inr (inl x)) ↦ omega (arith, x, q)
-    | inr (inr (inr x)) ↦ omega (arith, x, q)
-  ]) (λ f. no_field k p q o f))
-    where
-      low_name : length name ≤ 30
-      low_name = can.valid.short
-
-      no_field : (k : ℕ) → 4 * i ≤ k → k < 4 * i + 4 → ((2 ≤ i) × (i < 5)) ⊎ (((6 ≤ i) × (i < 105)) ⊎ ((i ≡ 124) ⊎ (i ≡ 126))) → IsNewField (length name) k → ⊥
-      no_field k p q o (inl f) = elim o [ inl x ↦ omega (arith, x.0, f) | inr (inl x) ↦ omega (arith, x.0, f) | inr (inr (inl x)) ↦ omega (arith, x, f) | inr (inr (inr x)) ↦ omega (arith, x, f) ]
-      no_field k p q o (inr (inl f)) = elim o [ inl x ↦ omega (arith, x.1, f) | inr (inl x) ↦ omega (arith, x.0, f) | inr (inr (inl x)) ↦ omega (arith, x, f) | inr (inr (inr x)) ↦ omega (arith, x, f) ]
-      no_field k p q o (inr (inr (inl f))) = elim o [ inl x ↦ omega (arith, x.1, f.0) | inr (inl x) ↦ omega (arith, x.1, f.0) | inr (inr (inl x)) ↦ omega (arith, x, f.1, low_name) | inr (inr (inr x)) ↦ omega (arith, x, f.1, low_name) ]
-      no_field k p q o (inr (inr (inr (inl f)))) = elim o [ inl x ↦ omega (arith, x.1, f) | inr (inl x) ↦ omega (arith, x.1, f) | inr (inr (inl x)) ↦ omega (arith, x, f) | inr (inr (inr x)) ↦ omega (arith, x, f) ]
-      no_field k p q o (inr (inr (inr (inr f)))) = elim o [ inl x ↦ omega (arith, x.1, f) | inr (inl x) ↦ omega (arith, x.1, f) | inr (inr (inl x)) ↦ omega (arith, x, f) | inr (inr (inr x)) ↦ omega (arith, x, f) ]
+  zero_at i o = zero_long m2 key i (λ k p q. entry.zeros k (omega (arith, o, q)) (λ f. let short = can.valid.short in omega (arith, p, q, o, f, short)))
 
   no_blocks : st.layout.file_data key ≡ []
   no_blocks =
       let size : size_of t key ≡ 0 = alone.size_before in
-      no_elements (st.layout.file_data key) (st.fits.file_data key ∙ ap (data_count t.format) size ∙ none t.format)
+      nil_from_length (st.layout.file_data key) (st.fits.file_data key ∙ ap (data_count t.format) size ∙ none t.format)
     where
       none : (f : Format) → data_count f 0 ≡ 0
       none Ofs = refl
       none Ffs = refl
 
   no_extensions : st.layout.extensions key ≡ []
-  no_extensions = no_elements (st.layout.extensions key) (st.fits.extensions key ∙ ap (λ (xs : List ℕ). extension_count (length xs)) no_blocks)
+  no_extensions = nil_from_length (st.layout.extensions key) (st.fits.extensions key ∙ ap (λ (xs : List ℕ). extension_count (length xs)) no_blocks)
 
   node_here : (a : Node) → Some new ≡ Some a → HasNode m2 key a
   node_here a e =
@@ -191,11 +173,7 @@ module _ (old m1 m2 : List ℕ) (t : Tree) (st : Stands old t) (moment : Date3) 
       }))
     where
       no_comment : ¬ IsNewField (length name) 328
-      no_comment (inl f) = omega (arith, f)
-      no_comment (inr (inl f)) = omega (arith, f)
-      no_comment (inr (inr (inl f))) = omega (arith, f.0)
-      no_comment (inr (inr (inr (inl f)))) = omega (arith, f)
-      no_comment (inr (inr (inr (inr f)))) = omega (arith, f)
+      no_comment f = omega (arith, f)
 
   no_entries : (q : ℕ) → in_slot t key q ≡ []
   no_entries q = let none = fresh.no_node in rw none refl
@@ -207,7 +185,7 @@ module _ (old m1 m2 : List ℕ) (t : Tree) (st : Stands old t) (moment : Date3) 
   file_here a bytes e c =
       let same : new ≡ a = cc e in
       let short : length bytes ≡ 0 = ap (λ (d : Content). size_in (Some d)) (sym c ∙ ap (λ (n : Node). n.content) (sym same)) ∙ no_bytes in
-      let none : bytes ≡ [] = no_elements bytes short in
+      let none : bytes ≡ [] = nil_from_length bytes short in
       subst (λ (bs : List ℕ). HasFile m2 t.format key (st.layout.file_data key) (st.layout.extensions key) bs) (sym none)
       (subst (λ (xs : List ℕ). HasFile m2 t.format key xs (st.layout.extensions key) []) (sym no_blocks)
       (subst (λ (xs : List ℕ). HasFile m2 t.format key [] xs []) (sym no_extensions) (record {

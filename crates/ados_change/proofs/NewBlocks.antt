@@ -1,6 +1,6 @@
 -- The new blocks of a rewritten file, and the bytes of its freed blocks.
-use Rattle.std.proofs.Common.{◌≡◌, ◌≢◌, ℕ, zero, suc, ◌-◌, ◌*◌, ◌/◌, ◌<◌, ◌≤◌, ◌⊎◌, inl, inr, min, Bool, true, false, List, ◌∷◌, length, slice_index, Some, refl, sym, ap, ◌∙◌, subst, arith}
-use Rattle.std.proofs.lemmas.Bool.{cases_order, false≢true}
+use Rattle.std.proofs.Common.{◌≡◌, ◌≢◌, ℕ, zero, suc, ◌-◌, ◌*◌, ◌/◌, ◌<◌, ◌≤◌, ◌⊎◌, inl, inr, min, true, false, List, ◌∷◌, length, slice_index, Some, refl, sym, ap, ◌∙◌, subst, arith}
+use Rattle.std.proofs.lemmas.Bool.{cases_order, false_from_ne_true, false≢true}
 use Rattle.adf_block.specs.declared.layout.Format.{Format}
 use Rattle.adf_block.specs.declared.layout.Format.TheVariants.{Ofs, Ffs}
 use Rattle.adf_block.specs.Image.{IsInside, block_count, byte_at, has_free_bit}
@@ -22,12 +22,12 @@ use Rattle.ados_model.specs.Kept.IsField.{extension_longs, ffs_data}
 use Rattle.ados_model.specs.Keys.{HasFileKey}
 use Rattle.ados_change.specs.NewBlocks.{IsTaken, TakenRise, TakesLowest}
 use Rattle.ados_model.proofs.Standing.{StandsAt, slice_get-index, reached_stands, serves_at, duty_of}
-use Rattle.ados_change.proofs.Serving.{data_duty, extension_duty}
+use Rattle.ados_change.proofs.FilesStay.{data_serves, extension_serves, file_of_key}
 use Rattle.ados_change.proofs.Writable.{key_serves, named_used, page_serves}
 use Rattle.ados_change.proofs.Contents.{refilled, stays}
 use Rattle.ados_change.proofs.Relaid.{IsIn, IsRewritten, relaid, serves_data, serves_extension}
 use Rattle.ados_change.proofs.Refilled.{stands_after, layout_after}
-use Rattle.ados_change.proofs.BytesKept.{data_field, is_ofs, is_ffs}
+use Rattle.ados_change.proofs.BytesKept.{extension_field as pointer_field, data_field, is_ofs, is_ffs}
 
 module _ (old new : List ℕ) (t : Tree) (s : Stands old t) (file : ℕ) (node : Node) (bytes : List ℕ) (found : t.nodes file ≡ Some node) (is_file : node.content ≡ File bytes)
     (blocks' extensions' bytes' : List ℕ) (h : IsRewritten old file (s.layout.file_data file) (s.layout.extensions file) new blocks' extensions' bytes')
@@ -40,26 +40,19 @@ module _ (old new : List ℕ) (t : Tree) (s : Stands old t) (file : ℕ) (node :
 
   -- ---- the lowest
 
-  unmarked : (image : List ℕ) (b : ℕ) → ¬ HasFreeBit image b → has_free_bit image b ≡ false
-  unmarked image b n = go (has_free_bit image b) refl
-    where
-      go : (v : Bool) → has_free_bit image b ≡ v → v ≡ false
-      go true e = absurd (n e)
-      go false e = refl
-
   lowest_of : ((c d : ℕ) → IsInside (block_count old) d → 2 ≤ c → c < d → has_free_bit old d ≡ true → has_free_bit new d ≡ false → has_free_bit new c ≡ false)
       → (block other : ℕ) → IsTaken old new block → InImage old other → HasFreeBit old other → HasFreeBit new other → block < other
   lowest_of lowest block other m i was is = elim (cases_order block other) [
     | inl same ↦ absurd (m.in_use (subst (HasFreeBit new) (sym same) is))
     | inr (inl below) ↦ below
-    | inr (inr above) ↦ absurd (false≢true (sym (lowest other block m.inside i.0 above m.was_free (unmarked new block m.in_use)) ∙ is))
+    | inr (inr above) ↦ absurd (false≢true (sym (lowest other block m.inside i.0 above m.was_free (false_from_ne_true (has_free_bit new block) m.in_use)) ∙ is))
   ]
 
   -- ---- the bytes of new blocks
 
   -- an allocated block is one of the file's new blocks
   is_new : (b : ℕ) → IsTaken old new b → IsIn blocks' b ⊎ IsIn extensions' b
-  is_new b m = h.taken b m.inside m.was_free (unmarked new b m.in_use)
+  is_new b m = h.taken b m.inside m.was_free (false_from_ne_true (has_free_bit new b) m.in_use)
 
   new_data : (i b : ℕ) → IsTaken old new b → (l : i < length blocks') → slice_index blocks' i ≡ b → length (s.layout.file_data file) ≤ i
   new_data i b m l e = elim (h.data_from i l) [
@@ -106,10 +99,7 @@ module _ (old new : List ℕ) (t : Tree) (s : Stands old t) (file : ℕ) (node :
 
   -- the meaningful longs of an extension block are fields
   extension_field : (b f i : ℕ) → IsExtensionField (pointer_count new b) (i / 4) → IsField new b (roles.Extension f) i
-  extension_field b f i (inl (inl z)) = extension_longs (0, (0, 2), omega arith, refl, (omega (arith, z), omega (arith, z)))
-  extension_field b f i (inl (inr (inl z))) = extension_longs (1, (5, 5), omega arith, refl, (omega (arith, z), omega (arith, z)))
-  extension_field b f i (inl (inr (inr (inl z)))) = extension_longs (2, (78 - pointer_count new b, 77), omega arith, refl, (omega (arith, z.0), omega (arith, z.1)))
-  extension_field b f i (inl (inr (inr (inr z)))) = extension_longs (3, (125, 127), omega arith, refl, (omega (arith, z), omega (arith, z)))
+  extension_field b f i (inl z) = pointer_field new b f i z
   extension_field b f i (inr (inl z)) = extension_longs (0, (0, 2), omega arith, refl, (omega (arith, z), omega (arith, z)))
   extension_field b f i (inr (inr (inl z))) = extension_longs (0, (0, 2), omega arith, refl, (omega (arith, z), omega (arith, z)))
   extension_field b f i (inr (inr (inr (inl z)))) = extension_longs (3, (125, 127), omega arith, refl, (omega (arith, z), omega (arith, z)))
@@ -133,40 +123,28 @@ module _ (old new : List ℕ) (t : Tree) (s : Stands old t) (file : ℕ) (node :
   in_after : (b : ℕ) (duty : Duty) → HasDuty v (relaid s.layout file blocks' extensions') b duty → HasDuty v after.layout b duty
   in_after b duty n = subst (λ (l : Layout). HasDuty v l b duty) (sym (layout_after old new t s file node bytes found is_file blocks' extensions' bytes' h)) n
 
-  -- an allocated block is in no other list
-  of_data : (b f i : ℕ) → IsTaken old new b → HasDuty v after.layout b (Duty.Data f i) → f ≡ file
-  of_data b f i m serves = elim (is_new b m) [
-    | inl at ↦
-        let duty : Duty.Data f i ≡ Duty.Data file at.0 =
-        after.fits.one_duty b (Duty.Data f i) (Duty.Data file at.0) serves (in_after b (Duty.Data file at.0) (serves_data old new t s file node bytes found is_file blocks' extensions' bytes' h at.0 at.1 ∙ ap Some at.2)) in
-        cc duty
-    | inr at ↦
-        let duty : Duty.Data f i ≡ Duty.Extension file at.0 =
-        after.fits.one_duty b (Duty.Data f i) (Duty.Extension file at.0) serves (in_after b (Duty.Extension file at.0) (serves_extension old new t s file node bytes found is_file blocks' extensions' bytes' h at.0 at.1 ∙ ap Some at.2)) in
-        absurd (cc duty)
+  -- an allocated block is in the file's lists, and in no other
+  own_duty : (b : ℕ) (duty : Duty) → IsTaken old new b → HasDuty v after.layout b duty → ((i : ℕ) × (duty ≡ Duty.Data file i)) ⊎ ((q : ℕ) × (duty ≡ Duty.Extension file q))
+  own_duty b duty m serves = elim (is_new b m) [
+    | inl at ↦ inl (at.0, after.fits.one_duty b duty (Duty.Data file at.0) serves (in_after b (Duty.Data file at.0) (serves_data old new t s file node bytes found is_file blocks' extensions' bytes' h at.0 at.1 ∙ ap Some at.2)))
+    | inr at ↦ inr (at.0, after.fits.one_duty b duty (Duty.Extension file at.0) serves (in_after b (Duty.Extension file at.0) (serves_extension old new t s file node bytes found is_file blocks' extensions' bytes' h at.0 at.1 ∙ ap Some at.2)))
   ]
 
+  of_data : (b f i : ℕ) → IsTaken old new b → HasDuty v after.layout b (Duty.Data f i) → f ≡ file
+  of_data b f i m serves = elim (own_duty b (Duty.Data f i) m serves) [ inl d ↦ let same = d.1 in cc same | inr d ↦ absurd (let same = d.1 in cc same) ]
+
   of_extension : (b f q : ℕ) → IsTaken old new b → HasDuty v after.layout b (Duty.Extension f q) → f ≡ file
-  of_extension b f q m serves = elim (is_new b m) [
-    | inl at ↦
-        let duty : Duty.Extension f q ≡ Duty.Data file at.0 =
-        after.fits.one_duty b (Duty.Extension f q) (Duty.Data file at.0) serves (in_after b (Duty.Data file at.0) (serves_data old new t s file node bytes found is_file blocks' extensions' bytes' h at.0 at.1 ∙ ap Some at.2)) in
-        absurd (cc duty)
-    | inr at ↦
-        let duty : Duty.Extension f q ≡ Duty.Extension file at.0 =
-        after.fits.one_duty b (Duty.Extension f q) (Duty.Extension file at.0) serves (in_after b (Duty.Extension file at.0) (serves_extension old new t s file node bytes found is_file blocks' extensions' bytes' h at.0 at.1 ∙ ap Some at.2)) in
-        cc duty
-  ]
+  of_extension b f q m serves = elim (own_duty b (Duty.Extension f q) m serves) [ inl d ↦ absurd (let same = d.1 in cc same) | inr d ↦ let same = d.1 in cc same ]
 
   data_rise : RisesBehind (s.layout.file_data file) blocks' → (f : ℕ) → HasFileKey new f → TakenRise old new (data_blocks new f)
   data_rise rises f k i j l m a b =
-      let same = of_data (slice_index (data_blocks new f) i) f i a (data_duty new v after f k i (omega (arith, l, m))) in
+      let same = of_data (slice_index (data_blocks new f) i) f i a (data_serves new v after f (file_of_key new v after f k) i (omega (arith, l, m))) in
       let here : data_blocks new f ≡ blocks' = ap (data_blocks new) same ∙ data_blocks_are new file blocks' extensions' bytes' h.writable.lawful in
       subst (TakenRise old new) (sym here) (λ p q x y c d. rises p q (new_data p (slice_index blocks' p) c (omega (arith, x, y)) refl) x y) i j l m a b
 
   extensions_rise : RisesBehind (s.layout.extensions file) extensions' → (f : ℕ) → HasFileKey new f → TakenRise old new (extension_blocks new f)
   extensions_rise rises f k i j l m a b =
-      let same = of_extension (slice_index (extension_blocks new f) i) f i a (extension_duty new v after f k i (omega (arith, l, m))) in
+      let same = of_extension (slice_index (extension_blocks new f) i) f i a (extension_serves new v after f (file_of_key new v after f k) i (omega (arith, l, m))) in
       let here : extension_blocks new f ≡ extensions' = ap (extension_blocks new) same ∙ extension_blocks_are new file blocks' extensions' bytes' h.writable.lawful in
       subst (TakenRise old new) (sym here) (λ p q x y c d. rises p q (new_extension p (slice_index extensions' p) c (omega (arith, x, y)) refl) x y) i j l m a b
 
@@ -208,8 +186,7 @@ module _ (old new : List ℕ) (t : Tree) (s : Stands old t) (file : ℕ) (node :
   module _ (c : ℕ) (free : HasFreeBit new c) where
     unused : (b : ℕ) (duty : Duty) → HasDuty v (relaid s.layout file blocks' extensions') b duty → c ≢ b
     unused b duty m e =
-        let also : HasDuty v after.layout b duty = subst (λ (l : Layout). HasDuty v l b duty) (sym (layout_after old new t s file node bytes found is_file blocks' extensions' bytes' h)) m in
-        false≢true (sym (named_used new v after b duty also) ∙ ap (has_free_bit new) (sym e) ∙ free)
+        false≢true (sym (named_used new v after b duty (in_after b duty m)) ∙ ap (has_free_bit new) (sym e) ∙ free)
 
     beside_headers : (q : ℕ) → q ≤ length extensions' → c ≢ slice_index (file ∷ extensions') q
     beside_headers zero l e = false≢true (sym (key_used file node found) ∙ ap (has_free_bit new) (sym e) ∙ free)

@@ -1,25 +1,26 @@
 -- A file with unchanged blocks is the same file.
-use Rattle.std.proofs.Common.{◌≡◌, ℕ, zero, suc, ◌+◌, ◌-◌, ◌*◌, ◌/◌, ◌%◌, ◌<◌, ◌≤◌, List, ◌∷◌, length, slice_index, sym, ◌∙◌, arith}
+use Rattle.std.proofs.Common.{◌≡◌, ℕ, zero, suc, ◌+◌, ◌-◌, ◌*◌, ◌/◌, ◌%◌, ◌<◌, ◌≤◌, ◌⊎◌, inl, inr, List, ◌∷◌, length, slice_index, refl, sym, ◌∙◌, arith}
 use Rattle.adf_block.specs.declared.layout.Format.{Format}
-use Rattle.adf_block.specs.declared.layout.Format.TheVariants.{Ofs, Ffs}
+use Rattle.adf_block.specs.Image.{long}
 use Rattle.ados_model.specs.Tree.{data_size, data_start, data_count}
 use Rattle.ados_model.specs.Stands.{HasFile, HasExtension, HasOfsData}
 use Rattle.ados_model.specs.File.{file_byte}
 use Rattle.ados_data.proofs.Chains.{next_of, chained}
+use Rattle.ados_data.proofs.Sizes.{in_count, in_block}
 use Rattle.ados_change.proofs.Unchanged.{Stays, long_as, sum_stays}
 use Rattle.ados_model.proofs.FileFaults.{chain_head}
 
--- a byte of a file is in one of its data blocks
-byte_within : (format : Format) (k size : ℕ) → k < size → (k / data_size format < data_count format size) × (data_start format + k % data_size format < 512)
-byte_within Ofs k size l = (omega arith, omega arith)
-byte_within Ffs k size l = (omega arith, omega arith)
+-- the longs of a header that lead to the file's data
+abbrev pub IsFileLong : ℕ → Type 0
+IsFileLong j = (j < 5) ⊎ (((6 ≤ j) × (j < 78)) ⊎ ((j ≡ 81) ⊎ (j ≡ 126)))
 
 module _ (old new : List ℕ) (format : Format) (file : ℕ) (blocks extensions bytes : List ℕ)
-    (header : Stays old new file) (extension : (q : ℕ) → q < length extensions → Stays old new (slice_index extensions q)) (datas : (i : ℕ) → i < length blocks → Stays old new (slice_index blocks i))
+    (header : (j : ℕ) → IsFileLong j → long new file j ≡ long old file j) (extension : (q : ℕ) → q < length extensions → Stays old new (slice_index extensions q)) (datas : (i : ℕ) → i < length blocks → Stays old new (slice_index blocks i))
     (room : length blocks ≤ 72 * suc (length extensions)) (fits : length blocks ≡ data_count format (length bytes)) where
-  headers : (q : ℕ) → q ≤ length extensions → Stays old new (slice_index (file ∷ extensions) q)
-  headers zero l = header
-  headers (suc q) l = extension q (omega arith)
+  -- the number of pointers or a pointer
+  pointer_long : (q j : ℕ) → q ≤ length extensions → (j ≡ 2) ⊎ ((6 ≤ j) × (j < 78)) → long new (slice_index (file ∷ extensions) q) j ≡ long old (slice_index (file ∷ extensions) q) j
+  pointer_long zero j l o = header j (elim o [ inl e ↦ inl (omega (arith, e)) | inr m ↦ inr (inl m) ])
+  pointer_long (suc q) j l o = long_as old new (slice_index extensions q) (extension q (omega arith)) j (omega (arith, o))
 
   extension_stays : (block : ℕ) → Stays old new block → HasExtension old file block → HasExtension new file block
   extension_stays block stays e = record {
@@ -41,19 +42,18 @@ module _ (old new : List ℕ) (format : Format) (file : ℕ) (blocks extensions 
 
   byte_stays : (k : ℕ) → k < length bytes → file_byte format new blocks k ≡ file_byte format old blocks k
   byte_stays k l =
-      let within = byte_within format k (length bytes) l in
-      (datas (k / data_size format) (omega (arith, within.0, fits))).bytes (data_start format + k % data_size format) within.1 (λ z. z)
+      (datas (k / data_size format) (omega (arith, in_count format k (length bytes) l, fits))).bytes (data_start format + k % data_size format) (in_block format k) (λ z. z)
 
   pub file_stays : HasFile old format file blocks extensions bytes → HasFile new format file blocks extensions bytes
   file_stays h = record {
-    size = long_as old new file header 81 (omega arith) ∙ h.size;
-    chain = chained new 126 _ extensions (long_as old new file header 126 (omega arith) ∙ chain_head old 126 _ extensions h.chain)
+    size = header 81 (inr (inr (inl refl))) ∙ h.size;
+    chain = chained new 126 _ extensions (header 126 (inr (inr (inr refl))) ∙ chain_head old 126 _ extensions h.chain)
         (λ q l. long_as old new _ (extension q l) 126 (omega arith) ∙ next_of old 126 _ extensions h.chain q l);
     extension = λ q l. extension_stays _ (extension q l) (h.extension q l);
-    counts = λ q l. long_as old new _ (headers q l) 2 (omega arith) ∙ h.counts q l;
-    pointers = λ i l. long_as old new _ (headers (i / 72) (omega (arith, l, room))) (77 - i % 72) (omega arith) ∙ h.pointers i l;
+    counts = λ q l. pointer_long q 2 l (inl refl) ∙ h.counts q l;
+    pointers = λ i l. pointer_long (i / 72) (77 - i % 72) (omega (arith, l, room)) (inr (omega arith, omega arith)) ∙ h.pointers i l;
     contents = λ k l. h.contents k l ∙ sym (byte_stays k l);
-    ofs_chain = λ o. chained new 4 _ blocks (long_as old new file header 4 (omega arith) ∙ chain_head old 4 _ blocks (h.ofs_chain o))
+    ofs_chain = λ o. chained new 4 _ blocks (header 4 (inl (omega arith)) ∙ chain_head old 4 _ blocks (h.ofs_chain o))
         (λ i l. long_as old new _ (datas i l) 4 (omega arith) ∙ next_of old 4 _ blocks (h.ofs_chain o) i l);
     ofs_data = λ o i l. data_stays i _ (datas i l) (h.ofs_data o i l);
   }

@@ -1,5 +1,5 @@
 -- A block that is reached after a removal was reached before, in the same role and with the same fields.
-use Rattle.std.proofs.Common.{◌≡◌, ◌≢◌, ℕ, ◌+◌, ◌-◌, ◌/◌, ◌<◌, ◌≤◌, ◌⊎◌, inl, inr, true, List, length, slice_index, Some, refl, sym, ap, ap₂, ◌∙◌, subst, arith}
+use Rattle.std.proofs.Common.{◌≡◌, ◌≢◌, ℕ, ◌+◌, ◌-◌, ◌/◌, ◌<◌, ◌≤◌, ◌⊎◌, inl, inr, List, Some, refl, sym, ap, ap₂, ◌∙◌, subst, arith}
 use Rattle.std.proofs.lemmas.Bool.{cases_eq}
 use Rattle.adf_block.specs.declared.layout.TheConstants.{NEXT_IN_CHAIN}
 use Rattle.adf_block.specs.Image.{block_count, byte_at, long, page_count}
@@ -7,8 +7,6 @@ use Rattle.adf_block.specs.Fields.{pointer_count, secondary_type}
 use Rattle.adf_block.specs.Frame.{SameBut}
 use Rattle.adf_block.proofs.Frames.{same_count, same_long, same_trans, same_weaken}
 use Rattle.ados_chain.specs.Relinks.{AtLinks, Relinks}
-use Rattle.ados_map.specs.Changes.{MapPlace, BitChanged}
-use Rattle.ados_map.specs.Pages.{page_block, page_of}
 use Rattle.ados_name.specs.declared.stamp.Date3.{Date3}
 use Rattle.ados_model.specs.Tree.{Node, Tree, root}
 use Rattle.ados_model.specs.Tree.Content.{Directory, File}
@@ -16,12 +14,14 @@ use Rattle.ados_model.specs.Faults.{InImage, IsFile, IsPlace, Reached}
 use Rattle.ados_model.specs.Faults.IsPlace.{root_page, root_slot, directory_slot, next_entry, header_pointer, first_extension, extension_pointer, further_extension}
 use Rattle.ados_model.specs.Faults.Reached.{start, named}
 use Rattle.ados_model.specs.Kept.{Kept}
-use Rattle.ados_model.specs.Stands.{Duty, HasDuty, Stands}
+use Rattle.ados_model.specs.Stands.{Duty, Stands}
 use Rattle.ados_model.specs.declared.role.Role.{Role}
 use Rattle.ados_model.specs.declared.role.Role.TheVariants as roles
+use Rattle.ados_change.proofs.Frame.{AtDate, AtLongs, dated_longs}
+use Rattle.ados_change.proofs.EntriesKept.{IsPage}
 use Rattle.ados_change.proofs.Since.{HasSameExtent, place_long, place_was, kept_since as kept_after}
-use Rattle.ados_model.proofs.Standing.{count_same, duty_of, file_at, reached_stands, serves_at, slice_get-index}
-use Rattle.ados_change.specs.steps.Writes.{AtDate, AtLongs, Dated}
+use Rattle.ados_model.proofs.Standing.{count_same, duty_of, file_at, reached_stands, serves_at}
+use Rattle.ados_change.specs.steps.Writes.{Dated}
 use Rattle.ados_change.proofs.Relisted.{IsLinkPlace}
 use Rattle.ados_change.proofs.Relisted.IsLinkPlace.{in_table, in_entry}
 
@@ -40,30 +40,26 @@ is_at b i c j = elim (cases_eq b c) [
 ]
 
 module _ (old : List ℕ) (t : Tree) (st : Stands old t) where
-  -- a bitmap block
-  abbrev pub IsPage : ℕ → Type 0
-  IsPage b = (p : ℕ) × HasDuty t st.layout b (Duty.Page p)
-
   -- the bytes of the bitmap blocks, and of checksums and dates
   abbrev pub AtAside : ℕ → ℕ → Type 0
-  AtAside b i = IsPage b ⊎ IsAside (i / 4)
+  AtAside b i = IsPage old t st b ⊎ IsAside (i / 4)
 
   pub dated_aside : (dir : ℕ) (moment : Date3) (m m' : List ℕ) → Dated dir 105 moment m m' → SameBut AtAside m m'
-  dated_aside dir moment m m' r = same_weaken (AtLongs (AtDate dir 105)) AtAside m m' (λ c i w. inr (elim (w.1) [ inl f ↦ inl f | inr f ↦ inr (inl f) ])) r.rest
+  dated_aside dir moment m m' r = same_weaken (AtLongs (AtDate dir 105)) AtAside m m' (λ c i w. inr (elim (w.1) [ inl f ↦ inl f | inr f ↦ inr (inl f) ])) (dated_longs dir 105 moment m m' r)
 
   pub stamped_aside : (moment : Date3) (m m' : List ℕ) → Dated (root t) 118 moment m m' → SameBut AtAside m m'
-  stamped_aside moment m m' r = same_weaken (AtLongs (AtDate (root t) 118)) AtAside m m' (λ c i w. inr (elim (w.1) [ inl f ↦ inl f | inr f ↦ inr (inr f) ])) r.rest
+  stamped_aside moment m m' r = same_weaken (AtLongs (AtDate (root t) 118)) AtAside m m' (λ c i w. inr (elim (w.1) [ inl f ↦ inl f | inr f ↦ inr (inr f) ])) (dated_longs (root t) 118 moment m m' r)
 
-  pub marked_aside : (key p : ℕ) (m m' : List ℕ) → p < length st.layout.pages → slice_index st.layout.pages p ≡ page_block m (page_of key) → BitChanged m key true m' → SameBut AtAside m m'
-  marked_aside key p m m' l e r = same_weaken (MapPlace m key) AtAside m m' (λ c i w. inl (p, slice_get-index st.layout.pages p l ∙ ap Some (e ∙ sym w.0))) r.rest
+  pub marked_aside : (m m' : List ℕ) → SameBut (λ b i. IsPage old t st b) m m' → SameBut AtAside m m'
+  marked_aside m m' h = same_weaken (λ b i. IsPage old t st b) AtAside m m' (λ b i w. inl w) h
 
-  node_no_page : (b : ℕ) (n : Node) → t.nodes b ≡ Some n → ¬ IsPage b
+  node_no_page : (b : ℕ) (n : Node) → t.nodes b ≡ Some n → ¬ IsPage old t st b
   node_no_page b n e p = let same = st.fits.one_duty b Duty.Key (Duty.Page p.0) (rw e refl) p.1 in cc same
 
-  boot_no_page : ¬ IsPage 0
+  boot_no_page : ¬ IsPage old t st 0
   boot_no_page p = let inside = st.fits.inside 0 (Duty.Page p.0) p.1 in omega (arith, inside.0)
 
-  reached_no_page : (block : ℕ) (role : Role) → role ≢ roles.Page → Reached old block role → ¬ IsPage block
+  reached_no_page : (block : ℕ) (role : Role) → role ≢ roles.Page → Reached old block role → ¬ IsPage old t st block
   reached_no_page block role n r p =
       let at = reached_stands old t st r in
       go role n at.0 (st.fits.one_duty block (duty_of old t st role at.0) (Duty.Page p.0) (serves_at old t st role at.0 block at.1) p.1)
@@ -94,10 +90,10 @@ module _ (old : List ℕ) (t : Tree) (st : Stands old t) where
         go (in_table e m n) = inl (m, n)
         go (in_entry n f m e) = inr e
 
-    no_page : ¬ IsPage b0
+    no_page : ¬ IsPage old t st b0
     no_page = go place
       where
-        go : IsLinkPlace t dir b0 i0 → ¬ IsPage b0
+        go : IsLinkPlace t dir b0 i0 → ¬ IsPage old t st b0
         go (in_table e m n) = node_no_page b0 a (ap t.nodes e ∙ at)
         go (in_entry n f m e) = node_no_page b0 n f
 
@@ -115,7 +111,7 @@ module _ (old : List ℕ) (t : Tree) (st : Stands old t) where
 
     -- ---- what is unchanged
 
-    stays : (b i : ℕ) → ¬ IsPage b → ¬ IsAside (i / 4) → ¬ ((b ≡ b0) × (i / 4 ≡ i0)) → ¬ ((b ≡ key) × (i / 4 ≡ NEXT_IN_CHAIN)) → ¬ W b i
+    stays : (b i : ℕ) → ¬ IsPage old t st b → ¬ IsAside (i / 4) → ¬ ((b ≡ b0) × (i / 4 ≡ i0)) → ¬ ((b ≡ key) × (i / 4 ≡ NEXT_IN_CHAIN)) → ¬ W b i
     stays b i p x l k (inl (inl (inl w))) = l w
     stays b i p x l k (inl (inl (inr w))) = x (inl w.1)
     stays b i p x l k (inl (inr (inl w))) = k w
@@ -123,19 +119,19 @@ module _ (old : List ℕ) (t : Tree) (st : Stands old t) where
     stays b i p x l k (inr (inl w)) = p w
     stays b i p x l k (inr (inr w)) = x w
 
-    fixed : (b i : ℕ) → ¬ IsPage b → IsFixed (i / 4) → ¬ W b i
+    fixed : (b i : ℕ) → ¬ IsPage old t st b → IsFixed (i / 4) → ¬ W b i
     fixed b i p f = stays b i p (λ x. omega (arith, f, x)) (λ w. omega (arith, f, w.1, link_is)) (λ w. omega (arith, f, w.1))
 
-    long_stays : (b j : ℕ) → ¬ IsPage b → j < 128 → IsFixed j → long new b j ≡ long old b j
+    long_stays : (b j : ℕ) → ¬ IsPage old t st b → j < 128 → IsFixed j → long new b j ≡ long old b j
     long_stays b j p l f = same_long W old new change b j l (λ k e. fixed b k p (subst IsFixed (sym e) f))
 
-    byte_stays : (b i : ℕ) → ¬ IsPage b → i < 512 → IsFixed (i / 4) → byte_at new b i ≡ byte_at old b i
+    byte_stays : (b i : ℕ) → ¬ IsPage old t st b → i < 512 → IsFixed (i / 4) → byte_at new b i ≡ byte_at old b i
     byte_stays b i p l f = change.same_byte b i l (fixed b i p f)
 
-    type_stays : (b : ℕ) → ¬ IsPage b → secondary_type new b ≡ secondary_type old b
+    type_stays : (b : ℕ) → ¬ IsPage old t st b → secondary_type new b ≡ secondary_type old b
     type_stays b p = long_stays b 127 p (omega arith) (inr (inr (inr (omega arith))))
 
-    pointers_stay : (b : ℕ) → ¬ IsPage b → pointer_count new b ≡ pointer_count old b
+    pointers_stay : (b : ℕ) → ¬ IsPage old t st b → pointer_count new b ≡ pointer_count old b
     pointers_stay b p = long_stays b 2 p (omega arith) (inl (omega arith))
 
     -- ---- places
@@ -143,7 +139,7 @@ module _ (old : List ℕ) (t : Tree) (st : Stands old t) where
     few_pages : page_count (block_count new) ≤ 25
     few_pages = let s = st.proper.size in omega (arith, s.1, count, count_same old t st)
 
-    extent : (b : ℕ) → ¬ IsPage b → HasSameExtent old new b
+    extent : (b : ℕ) → ¬ IsPage old t st b → HasSameExtent old new b
     extent b q = record {
       secondary = type_stays b q;
       pointers = pointers_stay b q;
@@ -189,14 +185,14 @@ module _ (old : List ℕ) (t : Tree) (st : Stands old t) where
         behind_key (long new block (6 + s)) block s (ap₂ (long new) e f ∙ now) inside (key_reached r (root_slot l (key_not_zero (long old block (6 + s)) to)) to)
     relinked {block = block} r (directory_slot {s = s} c l n) inside e f =
         let to = ap₂ (long old) e f ∙ was in
-        let typed = sym (type_stays block (subst (λ (b : ℕ). ¬ IsPage b) (sym e) no_page)) ∙ c in
+        let typed = sym (type_stays block (subst (λ (b : ℕ). ¬ IsPage old t st b) (sym e) no_page)) ∙ c in
         behind_key (long new block (6 + s)) block s (ap₂ (long new) e f ∙ now) inside (key_reached r (directory_slot typed l (key_not_zero (long old block (6 + s)) to)) to)
     relinked {block = block} r (next_entry {dir = dir'} {s = s} n) inside e f =
         let to = ap₂ (long old) e f ∙ was in
         behind_key (long new block NEXT_IN_CHAIN) dir' s (ap₂ (long new) e f ∙ now) inside (key_reached r (next_entry (key_not_zero (long old block NEXT_IN_CHAIN) to)) to)
     relinked {block = block} r (header_pointer {dir = dir'} {s = s} {i = i} c p) inside e f =
         let stood = reached_stands old t st r in
-        let typed = sym (type_stays block (subst (λ (b : ℕ). ¬ IsPage b) (sym e) no_page)) ∙ c in
+        let typed = sym (type_stays block (subst (λ (b : ℕ). ¬ IsPage old t st b) (sym e) no_page)) ∙ c in
         let file = file_at old t st dir' s stood.0 block stood.1 typed in
         let here = dir_node block (77 - i) (omega arith) e f in
         let same : file.node ≡ a = cc (file.at, here) in
@@ -230,7 +226,7 @@ module _ (old : List ℕ) (t : Tree) (st : Stands old t) where
     reached_before (named r p inside) = step (reached_before r) p inside
 
     -- the pointers of a file
-    pointer_stays : (b : ℕ) → ¬ IsPage b → IsFile old b → (i : ℕ) → i < 72 → long new b (77 - i) ≡ long old b (77 - i)
+    pointer_stays : (b : ℕ) → ¬ IsPage old t st b → IsFile old b → (i : ℕ) → i < 72 → long new b (77 - i) ≡ long old b (77 - i)
     pointer_stays b q f i l =
         same_long W old new change b (77 - i) (omega arith)
         (λ k e. stays b k q (λ x. omega (arith, x, e, l)) (λ w. no_link w.0 (sym e ∙ w.1)) (λ w. omega (arith, w.1, e)))

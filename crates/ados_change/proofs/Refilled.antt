@@ -15,25 +15,14 @@ use Rattle.ados_model.specs.Tree.Content.{Directory, File}
 use Rattle.ados_model.proofs.Standing.{count_same, slice_get-index, entry_at}
 use Rattle.ados_change.proofs.Writable.{key_serves, page_serves, lawful_pages, is_lawful, format_is}
 use Rattle.ados_change.proofs.Contents.{refilled, Was, was, file_not_root, proper_after, slots_same}
-use Rattle.ados_change.proofs.Unchanged.{StaysBut, Stays, long_stays, text_stays, date_stays, long_as, bytes_as, sum_stays, text_as, date_as}
-use Rattle.ados_change.proofs.Relaid.{IsRewritten, relaid, data_there, data_here, extensions_there, extensions_here, other, fits_after, marked_free_after, marked_used_after}
+use Rattle.ados_change.proofs.Unchanged.{StaysBut, Stays, long_stays, text_stays, date_stays, long_as, bytes_as, date_as, node_as, entry_as}
+use Rattle.ados_change.proofs.Relaid.{IsRewritten, relaid, data_there, data_here, extensions_there, extensions_here, not_header, other, fits_after, marked_free_after, marked_used_after}
 use Rattle.ados_change.proofs.OtherFiles.{file_stays}
 use Rattle.ados_model.proofs.FileFaults.{chain_head}
 
 -- a long of a header outside the fields of its data
 beside_fields : (j : ℕ) → (j < 2) ⊎ ((77 < j) × (j ≢ 81) × (j ≢ 126)) → ¬ IsDataField j
-beside_fields j (inl l) (inl e) = omega (arith, l, e)
-beside_fields j (inl l) (inr (inl e)) = omega (arith, l, e)
-beside_fields j (inl l) (inr (inr (inl e))) = omega (arith, l, e)
-beside_fields j (inl l) (inr (inr (inr (inl e)))) = omega (arith, l, e.0)
-beside_fields j (inl l) (inr (inr (inr (inr (inl e))))) = omega (arith, l, e)
-beside_fields j (inl l) (inr (inr (inr (inr (inr e))))) = omega (arith, l, e)
-beside_fields j (inr l) (inl e) = omega (arith, l.0, e)
-beside_fields j (inr l) (inr (inl e)) = omega (arith, l.0, e)
-beside_fields j (inr l) (inr (inr (inl e))) = omega (arith, l.0, e)
-beside_fields j (inr l) (inr (inr (inr (inl e)))) = omega (arith, l.0, e.1)
-beside_fields j (inr l) (inr (inr (inr (inr (inl e))))) = l.1 e
-beside_fields j (inr l) (inr (inr (inr (inr (inr e))))) = l.2 e
+beside_fields j l e = omega (arith, l, e)
 
 module _ (old new : List ℕ) (t : Tree) (s : Stands old t) (file : ℕ) (node : Node) (bytes : List ℕ) (found : t.nodes file ≡ Some node) (is_file : node.content ≡ File bytes)
     (blocks' extensions' bytes' : List ℕ) (h : IsRewritten old file (s.layout.file_data file) (s.layout.extensions file) new blocks' extensions' bytes') where
@@ -60,23 +49,19 @@ module _ (old new : List ℕ) (t : Tree) (s : Stands old t) (file : ℕ) (node :
   key_stays k a e n =
       stays_other k (other old new t s file node bytes found is_file blocks' extensions' bytes' h k Duty.Key (key_serves old t s k a e) (record { no_data = λ i z. cc z; no_extension = λ q z. cc z }) n (λ p z. cc z))
 
-  -- a block with another use is not the header
-  not_header : (b : ℕ) (duty : Duty) → HasDuty t s.layout b duty → duty ≢ Duty.Key → b ≢ file
-  not_header b duty m n e = n (s.fits.one_duty b duty Duty.Key m (key_serves old t s b node (ap t.nodes e ∙ found)))
-
   pub lost_stays : (b : ℕ) → HasDuty t s.layout b Duty.Lost → Stays old new b
   lost_stays b m =
-      stays_other b (other old new t s file node bytes found is_file blocks' extensions' bytes' h b Duty.Lost m (record { no_data = λ i z. cc z; no_extension = λ q z. cc z }) (not_header b Duty.Lost m (λ z. cc z)) (λ p z. cc z))
+      stays_other b (other old new t s file node bytes found is_file blocks' extensions' bytes' h b Duty.Lost m (record { no_data = λ i z. cc z; no_extension = λ q z. cc z }) (not_header old new t s file node bytes found is_file blocks' extensions' bytes' h b Duty.Lost m (λ z. cc z)) (λ p z. cc z))
 
   pub data_stays : (f i : ℕ) → f ≢ file → i < length (s.layout.file_data f) → Stays old new (slice_index (s.layout.file_data f) i)
   data_stays f i n l =
       let m = slice_get-index (s.layout.file_data f) i l in
-      stays_other _ (other old new t s file node bytes found is_file blocks' extensions' bytes' h _ (Duty.Data f i) m (record { no_data = λ j z. let same : f ≡ file = cc z in n same; no_extension = λ q z. cc z }) (not_header _ (Duty.Data f i) m (λ z. cc z)) (λ p z. cc z))
+      stays_other _ (other old new t s file node bytes found is_file blocks' extensions' bytes' h _ (Duty.Data f i) m (record { no_data = λ j z. let same : f ≡ file = cc z in n same; no_extension = λ q z. cc z }) (not_header old new t s file node bytes found is_file blocks' extensions' bytes' h _ (Duty.Data f i) m (λ z. cc z)) (λ p z. cc z))
 
   pub extension_stays : (f q : ℕ) → f ≢ file → q < length (s.layout.extensions f) → Stays old new (slice_index (s.layout.extensions f) q)
   extension_stays f q n l =
       let m = slice_get-index (s.layout.extensions f) q l in
-      stays_other _ (other old new t s file node bytes found is_file blocks' extensions' bytes' h _ (Duty.Extension f q) m (record { no_data = λ j z. cc z; no_extension = λ j z. let same : f ≡ file = cc z in n same }) (not_header _ (Duty.Extension f q) m (λ z. cc z)) (λ p z. cc z))
+      stays_other _ (other old new t s file node bytes found is_file blocks' extensions' bytes' h _ (Duty.Extension f q) m (record { no_data = λ j z. cc z; no_extension = λ j z. let same : f ≡ file = cc z in n same }) (not_header old new t s file node bytes found is_file blocks' extensions' bytes' h _ (Duty.Extension f q) m (λ z. cc z)) (λ p z. cc z))
 
   pub header_stays : StaysBut IsDataField old new file
   header_stays = record { size = h.leaves.same_length; bytes = λ k l n. h.leaves.header k l n }
@@ -102,16 +87,7 @@ module _ (old new : List ℕ) (t : Tree) (s : Stands old t) (file : ℕ) (node :
       }
 
   other_node : (k : ℕ) (a : Node) → k ≢ file → t.nodes k ≡ Some a → HasNode new k a
-  other_node k a m e =
-      let n = s.nodes k a e in
-      let stays = key_stays k a e m in
-      let short = (s.proper.name k a e).short in
-      record {
-        primary = long_as old new k stays 0 (omega arith) ∙ n.primary;
-        sum = sum_stays old new k stays ∙ n.sum;
-        name = text_as old new k stays NAME_BYTE a.name (omega (arith, short)) n.name;
-        date = date_as old new k stays 105 (omega arith) ∙ n.date;
-      }
+  other_node k a m e = node_as old new k (key_stays k a e m) a (s.proper.name k a e) (s.nodes k a e)
 
   old_node : (k : ℕ) (a : Node) → t.nodes k ≡ Some a → HasNode new k a
   old_node k a e = elim (cases_eq k file) [
@@ -140,17 +116,7 @@ module _ (old new : List ℕ) (t : Tree) (s : Stands old t) (file : ℕ) (node :
       }
 
   other_entry : (k : ℕ) (a : Node) (d : ℕ) → k ≢ file → t.nodes k ≡ Some a → a.parent ≡ Some d → HasEntry new k a d
-  other_entry k a d m e p =
-      let n = s.entries k d a e p in
-      let stays = key_stays k a e m in
-      let short = (s.proper.comment k a e).short in
-      record {
-        key_field = long_as old new k stays 1 (omega arith) ∙ n.key_field;
-        protection_field = long_as old new k stays 80 (omega arith) ∙ n.protection_field;
-        comment = text_as old new k stays COMMENT_BYTE a.comment (omega (arith, short)) n.comment;
-        parent = long_as old new k stays 125 (omega arith) ∙ n.parent;
-        secondary = long_as old new k stays 127 (omega arith) ∙ n.secondary;
-      }
+  other_entry k a d m e p = entry_as old new k (key_stays k a e m) a d (s.proper.comment k a e) (s.entries k d a e p)
 
   old_entry : (k d : ℕ) (a : Node) → t.nodes k ≡ Some a → a.parent ≡ Some d → HasEntry new k a d
   old_entry k d a e p = elim (cases_eq k file) [
@@ -226,7 +192,7 @@ module _ (old new : List ℕ) (t : Tree) (s : Stands old t) (file : ℕ) (node :
   other_file : (f : ℕ) (a : Node) (bs : List ℕ) → t.nodes f ≡ Some a → a.content ≡ File bs → f ≢ file → HasFile new t.format f (s.layout.file_data f) (s.layout.extensions f) bs
   other_file f a bs e c n =
       let lawful = is_lawful old t s f a bs e c in
-      file_stays old new t.format f (s.layout.file_data f) (s.layout.extensions f) bs (key_stays f a e n) (λ q l. extension_stays f q n l) (λ i l. data_stays f i n l)
+      file_stays old new t.format f (s.layout.file_data f) (s.layout.extensions f) bs (λ j o. long_as old new f (key_stays f a e n) j (omega (arith, o))) (λ q l. extension_stays f q n l) (λ i l. data_stays f i n l)
       (omega (arith, s.fits.extensions f)) (subst (λ (g : Format). length (s.layout.file_data f) ≡ data_count g (length bs)) (format_is old t s) lawful.data_fits) (s.files f a bs e c)
 
   this_file : HasFile new t.format file blocks' extensions' bytes'

@@ -1,25 +1,21 @@
 -- A change of longs in the blocks of keys turns an image of one tree into an image of another, if it does so for each
 -- node.
-use Rattle.std.proofs.Common.{◌≡◌, ◌≢◌, ℕ, zero, suc, ◌+◌, ◌-◌, ◌/◌, ◌%◌, ◌^◌, ◌<◌, ◌≤◌, ◌⊎◌, inl, inr, ◌==◌, List, ◌∷◌, length, slice_index, bit_and, not, Option, Some, is_some, IsSome, refl, sym, ap, ◌∙◌, subst, arith}
-use Rattle.std.proofs.lemmas.Bool.{cases_lt}
-use Rattle.std.proofs.lemmas.List.{get_or_default, get_or_past}
-use Rattle.adf_block.specs.declared.layout.Format.{Format}
-use Rattle.adf_block.specs.declared.layout.Format.TheVariants.{Ofs, Ffs}
+use Rattle.std.proofs.Common.{◌≡◌, ◌≢◌, ℕ, ◌+◌, ◌-◌, ◌/◌, ◌%◌, ◌^◌, ◌<◌, ◌≤◌, ◌⊎◌, inl, inr, ◌==◌, List, length, slice_index, bit_and, not, Option, Some, is_some, IsSome, refl, sym, ap, ◌∙◌, arith}
+use Rattle.std.proofs.lemmas.List.{get_or_default}
 use Rattle.adf_block.specs.Image.{IsInside, has_free_bit, block_count, root_key, long, block_sum, Chained, HasText}
 use Rattle.adf_block.specs.Fields.{table_entry}
-use Rattle.adf_block.specs.declared.layout.TheConstants.{COMMENT_BYTE, NAME_BYTE, NEXT_IN_CHAIN, NEXT_EXTENSION, NEXT_DATA}
+use Rattle.adf_block.specs.declared.layout.TheConstants.{COMMENT_BYTE, NAME_BYTE, NEXT_IN_CHAIN}
 use Rattle.ados_name.specs.declared.stamp.Date3.{Date3}
 use Rattle.ados_name.specs.Name.{IsName, IsComment}
 use Rattle.ados_model.specs.Tree.{data_count, Node, Tree, root, size_of}
 use Rattle.ados_model.specs.Stands.{HasFile, Layout, Duty, HasDuty, date_at, HasNode, HasEntry, HasRoot, in_slot}
-use Rattle.ados_model.specs.File.{file_byte}
 use Rattle.ados_model.specs.Tree.Content.{Directory, File}
 use Rattle.adf_block.specs.Frame.{SameBut}
-use Rattle.ados_change.specs.steps.Writes.{AtLongs}
-use Rattle.ados_change.proofs.Frame.{long-kept, bytes-kept, sum-kept}
+use Rattle.ados_change.proofs.Frame.{AtLongs, long-kept, bytes-kept, sum-kept, text_kept, date_kept}
 use Rattle.ados_model.proofs.Standing.{slice_get-index}
-use Rattle.ados_change.proofs.Spells.{Spells}
-use Rattle.ados_chain.proofs.Spelling.{Chained-kept}
+use Rattle.ados_change.proofs.Spells.{Spells, same_duty}
+use Rattle.ados_change.proofs.Unchanged.{Stays}
+use Rattle.ados_change.proofs.OtherFiles.{IsFileLong, file_stays}
 
 -- the tree with these nodes and this disk date
 abbrev pub renewed : Tree → (ℕ → Option Node) → Date3 → Tree
@@ -54,11 +50,11 @@ module _ (old new : List ℕ) (t : Tree) (l : Layout) (s : Spells old t l) (root
   unwritten b j o w = go o (tells.telling b j w)
     where
       go : (j < 5) ⊎ ((j ≡ 81) ⊎ ((j ≡ 78) ⊎ (((121 ≤ j) × (j < 124)) ⊎ (126 ≤ j)))) → Telling t b j → ⊥
-      go o (sum e) = elim o [ inl x ↦ omega (arith, x, e) | inr (inl x) ↦ omega (arith, x, e) | inr (inr (inl x)) ↦ omega (arith, x, e) | inr (inr (inr (inl x))) ↦ omega (arith, x.0, e) | inr (inr (inr (inr x))) ↦ omega (arith, x, e) ]
-      go o (table n p q) = elim o [ inl x ↦ omega (arith, x, p) | inr (inl x) ↦ omega (arith, x, q) | inr (inr (inl x)) ↦ omega (arith, x, q) | inr (inr (inr (inl x))) ↦ omega (arith, x.0, q) | inr (inr (inr (inr x))) ↦ omega (arith, x, q) ]
-      go o (attributes n p q m) = elim o [ inl x ↦ omega (arith, x, p) | inr (inl x) ↦ m x | inr (inr (inl x)) ↦ omega (arith, x, p) | inr (inr (inr (inl x))) ↦ omega (arith, x.0, q) | inr (inr (inr (inr x))) ↦ omega (arith, x, q) ]
-      go o (heading p q) = elim o [ inl x ↦ omega (arith, x, p) | inr (inl x) ↦ omega (arith, x, p) | inr (inr (inl x)) ↦ omega (arith, x, p) | inr (inr (inr (inl x))) ↦ omega (arith, x.0, q) | inr (inr (inr (inr x))) ↦ omega (arith, x, q) ]
-      go o (linking n p q) = elim o [ inl x ↦ omega (arith, x, p) | inr (inl x) ↦ omega (arith, x, p) | inr (inr (inl x)) ↦ omega (arith, x, p) | inr (inr (inr (inl x))) ↦ omega (arith, x.1, p) | inr (inr (inr (inr x))) ↦ omega (arith, x, q) ]
+      go o (sum e) = omega (arith, o, e)
+      go o (table n p q) = omega (arith, o, p, q)
+      go o (attributes n p q m) = omega (arith, o, p, q, m)
+      go o (heading p q) = omega (arith, o, p, q)
+      go o (linking n p q) = omega (arith, o, p, q)
 
   pub first_kept : (b j : ℕ) → j < 5 → long new b j ≡ long old b j
   first_kept b j m = kept b j (omega arith) (unwritten b j (inl m))
@@ -71,22 +67,22 @@ module _ (old new : List ℕ) (t : Tree) (l : Layout) (s : Spells old t l) (root
   root_unwritten j o w = go o (tells.telling (root t) j w)
     where
       go : ((79 ≤ j) × (j < 104)) ⊎ ((j ≡ 124) ⊎ (j ≡ 125)) → Telling t (root t) j → ⊥
-      go o (sum e) = elim o [ inl x ↦ omega (arith, x.0, e) | inr (inl x) ↦ omega (arith, x, e) | inr (inr x) ↦ omega (arith, x, e) ]
-      go o (table n p q) = elim o [ inl x ↦ omega (arith, x.0, q) | inr (inl x) ↦ omega (arith, x, q) | inr (inr x) ↦ omega (arith, x, q) ]
+      go o (sum e) = omega (arith, o, e)
+      go o (table n p q) = omega (arith, o, p, q)
       go o (attributes n p q m) = n refl
-      go o (heading p q) = elim o [ inl x ↦ omega (arith, x.1, p) | inr (inl x) ↦ omega (arith, x, q) | inr (inr x) ↦ omega (arith, x, q) ]
+      go o (heading p q) = omega (arith, o, p, q)
       go o (linking n p q) = n refl
 
-  -- the pointers of a file
-  pointer_unwritten : (b j : ℕ) (a : Node) (bytes : List ℕ) → t.nodes b ≡ Some a → a.content ≡ File bytes → 6 ≤ j → j < 78 → ¬ W b j
-  pointer_unwritten b j a bytes e c m n w = go (tells.telling b j w)
+  -- the longs of a file's header that lead to its data
+  header_unwritten : (b j : ℕ) (a : Node) (bytes : List ℕ) → t.nodes b ≡ Some a → a.content ≡ File bytes → IsFileLong j → ¬ W b j
+  header_unwritten b j a bytes e c o w = go (tells.telling b j w)
     where
       go : Telling t b j → ⊥
-      go (sum d) = omega (arith, m, d)
+      go (sum d) = omega (arith, o, d)
       go (table f p q) = f a bytes e c
-      go (attributes f p q d) = omega (arith, n, p)
-      go (heading p q) = omega (arith, n, p)
-      go (linking f p q) = omega (arith, n, p)
+      go (attributes f p q d) = omega (arith, o, p, q, d)
+      go (heading p q) = omega (arith, o, p, q)
+      go (linking f p q) = omega (arith, o, p, q)
 
   -- a block that is used otherwise than as a key
   by_duty : (b : ℕ) (duty : Duty) → HasDuty t l b duty → duty ≢ Duty.Key → (j : ℕ) → ¬ W b j
@@ -95,49 +91,16 @@ module _ (old new : List ℕ) (t : Tree) (l : Layout) (s : Spells old t l) (root
   low_block : (b j : ℕ) → b < 2 → ¬ W b j
   low_block b j m w = let inside = s.fits.inside b Duty.Key (tells.of_key b j w) in omega (arith, m, inside.0)
 
-  data_duty : (file i j : ℕ) → ¬ W (slice_index (l.file_data file) i) j
-  data_duty file i j = elim (cases_lt i (length (l.file_data file))) [
-    | inl m ↦ by_duty (slice_index (l.file_data file) i) (Duty.Data file i) (slice_get-index (l.file_data file) i m) (λ z. cc z) j
-    | inr m ↦ subst (λ (b : ℕ). ¬ W b j) (sym (get_or_past (l.file_data file) i 0 m)) (low_block 0 j (omega arith))
-  ]
-
-  extension_duty : (file i : ℕ) → i < length (l.extensions file) → (j : ℕ) → ¬ W (slice_index (l.extensions file) i) j
-  extension_duty file i m = by_duty (slice_index (l.extensions file) i) (Duty.Extension file i) (slice_get-index (l.extensions file) i m) (λ z. cc z)
-
-  file_byte_kept : (format : Format) (file k : ℕ) → file_byte format new (l.file_data file) k ≡ file_byte format old (l.file_data file) k
-  file_byte_kept Ofs file k = change.same_byte (slice_index (l.file_data file) (k / 488)) (24 + k % 488) (omega arith) (data_duty file (k / 488) ((24 + k % 488) / 4))
-  file_byte_kept Ffs file k = change.same_byte (slice_index (l.file_data file) (k / 512)) (0 + k % 512) (omega arith) (data_duty file (k / 512) ((0 + k % 512) / 4))
-
-  -- a pointer of a file's header or extension blocks
-  pointer_kept : (file q j : ℕ) (a : Node) (bytes : List ℕ) → t.nodes file ≡ Some a → a.content ≡ File bytes → q ≤ length (l.extensions file) → 6 ≤ j → j < 78 → long new (slice_index (file ∷ l.extensions file) q) j ≡ long old (slice_index (file ∷ l.extensions file) q) j
-  pointer_kept file zero j a bytes e c m n o = kept file j (omega arith) (pointer_unwritten file j a bytes e c n o)
-  pointer_kept file (suc q) j a bytes e c m n o = kept (slice_index (l.extensions file) q) j (omega arith) (extension_duty file q (omega arith) j)
+  -- such a block is unchanged
+  stays : (b : ℕ) (duty : Duty) → HasDuty t l b duty → duty ≢ Duty.Key → Stays old new b
+  stays b duty m n = record { size = change.same_length; bytes = λ k h o. change.same_byte b k h (by_duty b duty m n (k / 4)) }
 
   file_kept : (file : ℕ) (a : Node) (bytes : List ℕ) → t.nodes file ≡ Some a → a.content ≡ File bytes → HasFile new t.format file (l.file_data file) (l.extensions file) bytes
   file_kept file a bytes e c =
-      let g = s.files file a bytes e c in
-      record {
-        size = kept file 81 (omega arith) (unwritten file 81 (inr (inl refl))) ∙ g.size;
-        chain = subst (λ (n : ℕ). Chained new NEXT_EXTENSION n (l.extensions file)) (sym (last_kept file 126 (omega arith) (omega arith))) (Chained-kept old new NEXT_EXTENSION (long old file NEXT_EXTENSION) (l.extensions file) (λ b m. last_kept b 126 (omega arith) (omega arith)) g.chain);
-        extension = λ i m. let x = g.extension i m in let block = slice_index (l.extensions file) i in record {
-          primary = first_kept block 0 (omega arith) ∙ x.primary;
-          key_field = first_kept block 1 (omega arith) ∙ x.key_field;
-          sum = sum-kept W old new change block (λ j n. extension_duty file i m j) ∙ x.sum;
-          parent = kept block 125 (omega arith) (extension_duty file i m 125) ∙ x.parent;
-          secondary = last_kept block 127 (omega arith) (omega arith) ∙ x.secondary;
-        };
-        counts = λ i m. first_kept (slice_index (file ∷ l.extensions file) i) 2 (omega arith) ∙ g.counts i m;
-        pointers = λ i m. pointer_kept file (i / 72) (77 - i % 72) a bytes e c (omega (arith, m, s.fits.extensions file)) (omega arith) (omega arith) ∙ g.pointers i m;
-        contents = λ k m. g.contents k m ∙ sym (file_byte_kept t.format file k);
-        ofs_chain = λ o. subst (λ (n : ℕ). Chained new NEXT_DATA n (l.file_data file)) (sym (first_kept file 4 (omega arith))) (Chained-kept old new NEXT_DATA (long old file NEXT_DATA) (l.file_data file) (λ b m. first_kept b 4 (omega arith)) (g.ofs_chain o));
-        ofs_data = λ o i m. let x = g.ofs_data o i m in let block = slice_index (l.file_data file) i in record {
-          primary = first_kept block 0 (omega arith) ∙ x.primary;
-          header = first_kept block 1 (omega arith) ∙ x.header;
-          sequence = first_kept block 2 (omega arith) ∙ x.sequence;
-          held = first_kept block 3 (omega arith) ∙ x.held;
-          sum = sum-kept W old new change block (λ j n. data_duty file i j) ∙ x.sum;
-        };
-      }
+      let held : size_of t file ≡ length bytes = rw e (rw c refl) in
+      file_stays old new t.format file (l.file_data file) (l.extensions file) bytes (λ j o. kept file j (omega (arith, o)) (header_unwritten file j a bytes e c o))
+      (λ q m. stays _ (Duty.Extension file q) (slice_get-index (l.extensions file) q m) (λ z. cc z)) (λ i m. stays _ (Duty.Data file i) (slice_get-index (l.file_data file) i m) (λ z. cc z))
+      (omega (arith, s.fits.extensions file)) (s.fits.file_data file ∙ ap (data_count t.format) held) (s.files file a bytes e c)
 
   page_long : (i : ℕ) → i < length l.pages → long new (root t) (79 + i) ≡ slice_index l.pages i
   page_long i m = kept (root t) (79 + i) (omega (arith, m, s.fits.pages, size.0)) (root_unwritten (79 + i) (inl (omega arith, omega (arith, m, s.fits.pages, size.0)))) ∙ s.root_fields.pages i m
@@ -158,16 +121,10 @@ module _ (old new : List ℕ) (t : Tree) (l : Layout) (s : Spells old t l) (root
   -- ---- what is unchanged in a node whose fields are not written
 
   pub text_stays : (b i : ℕ) (text : List ℕ) → i + length text < 512 → ((j : ℕ) → i ≤ j → j < i + 1 + length text → ¬ W b (j / 4)) → HasText old b i text → HasText new b i text
-  text_stays b i text m n g = record {
-    counted = change.same_byte b i (omega arith) (n i (omega arith) (omega arith)) ∙ g.counted;
-    follows = bytes-kept W old new change b (i + 1) (length text) (omega arith) (λ j p q. n j (omega arith) (omega arith)) ∙ g.follows;
-  }
+  text_stays b i text m n g = text_kept (AtLongs W) old new change b i text m n g
 
   pub date_stays : (b i : ℕ) → i + 2 < 128 → ((j : ℕ) → i ≤ j → j < i + 3 → ¬ W b j) → date_at new b i ≡ date_at old b i
-  date_stays b i m n = λ k. record { days = one i (omega arith) (omega arith) k; minutes = one (i + 1) (omega arith) (omega arith) k; ticks = one (i + 2) (omega arith) (omega arith) k }
-    where
-      one : (j : ℕ) → i ≤ j → j < i + 3 → long new b j ≡ long old b j
-      one j p q = kept b j (omega (arith, m, q)) (n j p q)
+  date_stays b i m n = date_kept (AtLongs W) old new change b i m (λ k p q. n (k / 4) p q)
 
   pub node_stays : (k : ℕ) (a : Node) → IsName a.name → ((j : ℕ) → 105 ≤ j → j < 116 → ¬ W k j) → block_sum new k ≡ 0 → HasNode old k a → HasNode new k a
   node_stays k a short n summed g = record {
@@ -191,18 +148,10 @@ module _ (old new : List ℕ) (t : Tree) (l : Layout) (s : Spells old t l) (root
       (entries_after : (k dir : ℕ) (a : Node) → nodes k ≡ Some a → a.parent ≡ Some dir → HasEntry new k a dir)
       (chains_after : (dir : ℕ) (a : Node) (keys : List ℕ) (r : ℕ) → nodes dir ≡ Some a → a.content ≡ Directory keys → r < 72 → Chained new NEXT_IN_CHAIN (table_entry new dir r) (in_slot (renewed t nodes d) dir r)) where
     serves_back : (b : ℕ) (duty : Duty) → HasDuty (renewed t nodes d) l b duty → HasDuty t l b duty
-    serves_back b (Duty.Page i) m = m
-    serves_back b Duty.Key m = sym (files.same_keys b) ∙ m
-    serves_back b (Duty.Data file i) m = m
-    serves_back b (Duty.Extension file i) m = m
-    serves_back b Duty.Lost m = m
+    serves_back b = same_duty (renewed t nodes d) t l b (sym (files.same_keys b)) refl
 
     serves_on : (b : ℕ) (duty : Duty) → HasDuty t l b duty → HasDuty (renewed t nodes d) l b duty
-    serves_on b (Duty.Page i) m = m
-    serves_on b Duty.Key m = files.same_keys b ∙ m
-    serves_on b (Duty.Data file i) m = m
-    serves_on b (Duty.Extension file i) m = m
-    serves_on b Duty.Lost m = m
+    serves_on b = same_duty t (renewed t nodes d) l b (files.same_keys b) refl
 
     root_after : HasRoot new (renewed t nodes d) l
     root_after =

@@ -93,6 +93,10 @@ module _ (old new : List ℕ) (t : Tree) (s : Stands old t) (file : ℕ) (node :
       headers zero l e = not_file e
       headers (suc q) l e = beside.no_extension q (s.fits.one_duty b duty (Duty.Extension file q) m (slice_get-index (s.layout.extensions file) q (omega (arith, l)) ∙ ap Some (sym e)))
 
+  -- a block with a use other than a key is not the header
+  pub not_header : (b : ℕ) (duty : Duty) → HasDuty t s.layout b duty → duty ≢ Duty.Key → b ≢ file
+  not_header b duty m n e = n (s.fits.one_duty b duty Duty.Key m (key_serves old t s b node (ap t.nodes e ∙ found)))
+
   -- ---- uses in the new tree
 
   -- a use that the block had before, or one by the file's new lists
@@ -234,18 +238,9 @@ module _ (old new : List ℕ) (t : Tree) (s : Stands old t) (file : ℕ) (node :
         | inl e ↦ ap (has_free_bit new) e ∙ (h.writable.headers_used 0 (omega arith)).marked
         | inr n ↦ left Duty.Key m beside n (λ p z. cc z)
       ]
-      go (Duty.Data f i) m beside = left (Duty.Data f i) m beside (λ e. no_key m e) (λ p z. cc z)
-        where
-          no_key : HasDuty t s.layout b (Duty.Data f i) → b ≢ file
-          no_key m e = let duty : Duty.Data f i ≡ Duty.Key = s.fits.one_duty b (Duty.Data f i) Duty.Key m (key_serves old t s b node (ap t.nodes e ∙ found)) in cc duty
-      go (Duty.Extension f q) m beside = left (Duty.Extension f q) m beside (λ e. no_key m e) (λ p z. cc z)
-        where
-          no_key : HasDuty t s.layout b (Duty.Extension f q) → b ≢ file
-          no_key m e = let duty : Duty.Extension f q ≡ Duty.Key = s.fits.one_duty b (Duty.Extension f q) Duty.Key m (key_serves old t s b node (ap t.nodes e ∙ found)) in cc duty
-      go Duty.Lost m beside = left Duty.Lost m beside (λ e. no_key m e) (λ p z. cc z)
-        where
-          no_key : HasDuty t s.layout b Duty.Lost → b ≢ file
-          no_key m e = let duty : Duty.Lost ≡ Duty.Key = s.fits.one_duty b Duty.Lost Duty.Key m (key_serves old t s b node (ap t.nodes e ∙ found)) in cc duty
+      go (Duty.Data f i) m beside = left (Duty.Data f i) m beside (not_header b (Duty.Data f i) m (λ z. cc z)) (λ p z. cc z)
+      go (Duty.Extension f q) m beside = left (Duty.Extension f q) m beside (not_header b (Duty.Extension f q) m (λ z. cc z)) (λ p z. cc z)
+      go Duty.Lost m beside = left Duty.Lost m beside (not_header b Duty.Lost m (λ z. cc z)) (λ p z. cc z)
 
   used_after : (b : ℕ) (duty : Duty) → Holds b duty → has_free_bit new b ≡ false
   used_after b duty (as_before m x) = used_before b duty m x

@@ -15,8 +15,8 @@ use Rattle.ados_model.specs.Parts.{size_in}
 use Rattle.ados_model.specs.Tree.Content.{Directory, File}
 use Rattle.ados_model.specs.Change.{listed}
 use Rattle.ados_model.specs.Stands.{date_at, Layout, HasNode, HasEntry, type_of, in_slot}
-use Rattle.ados_change.specs.steps.Writes.{AtLongs, AtDate, Dated}
-use Rattle.ados_change.proofs.Frame.{long-kept, sum-kept}
+use Rattle.ados_change.specs.steps.Writes.{Dated}
+use Rattle.ados_change.proofs.Frame.{AtLongs, AtDate, long-kept, sum-kept, dated_longs}
 use Rattle.ados_change.proofs.Changed.{nodes_here, nodes_other, changed_keeps, was, relisted}
 use Rattle.ados_change.proofs.Loose.{Loose}
 use Rattle.ados_change.proofs.Spells.{Spells}
@@ -53,10 +53,13 @@ module _ (old mid new : List ℕ) (t : Tree) (l : Layout) (loose_key : ℕ) (s :
   abbrev W : ℕ → ℕ → Type 0
   W b j = Wrote b0 i0 key dir b j
 
+  redate : SameBut (AtLongs (AtDate dir 105)) mid new
+  redate = dated_longs dir 105 moment mid new redated
+
   change : SameBut (AtLongs W) old new
   change = record {
-    same_length = redated.rest.same_length ∙ relinks.rest.same_length;
-    same_byte = λ b i m n. redated.rest.same_byte b i m (λ w. elim (w.1) [ inl e ↦ n (dated_sum w.0 e) | inr e ↦ n (dated w.0 e.0 e.1) ])
+    same_length = redate.same_length ∙ relinks.rest.same_length;
+    same_byte = λ b i m n. redate.same_byte b i m (λ w. elim (w.1) [ inl e ↦ n (dated_sum w.0 e) | inr e ↦ n (dated w.0 e.0 e.1) ])
         ∙ relinks.rest.same_byte b i m (λ w. elim w [
           | inl x ↦ elim x [ inl y ↦ n (link y.0 y.1) | inr y ↦ n (link_sum y.0 y.1) ]
           | inr x ↦ elim x [ inl y ↦ n (key_link y.0 y.1) | inr y ↦ n (key_sum y.0 y.1) ]
@@ -134,8 +137,8 @@ module _ (old mid new : List ℕ) (t : Tree) (l : Layout) (loose_key : ℕ) (s :
 
   sum_after : (k : ℕ) → block_sum old k ≡ 0 → block_sum new k ≡ 0
   sum_after k was = elim (cases_eq k dir) [
-    | inl e ↦ ap (block_sum new) e ∙ redated.summed
-    | inr n ↦ sum-kept (AtDate dir 105) mid new redated.rest k (λ j m w. n w.0) ∙ linked (cases_eq k key) (cases_eq k b0)
+    | inl e ↦ ap (block_sum new) e ∙ redated.sum (ap (block_sum mid) (sym e) ∙ linked (cases_eq k key) (cases_eq k b0))
+    | inr n ↦ sum-kept (AtDate dir 105) mid new redate k (λ j m w. n w.0) ∙ linked (cases_eq k key) (cases_eq k b0)
   ]
     where
       linked : (k ≡ key) ⊎ (k ≡ key → ⊥) → (k ≡ b0) ⊎ (k ≡ b0 → ⊥) → block_sum mid k ≡ 0
@@ -217,7 +220,7 @@ module _ (old mid new : List ℕ) (t : Tree) (l : Layout) (loose_key : ℕ) (s :
           | inr h ↦ let same : w.old ≡ a = cc (sym (ap t.nodes h.0) ∙ w.at, at) in (keys, ap (λ (n : Node). n.content) same ∙ holds)
         ] in
         let undated_long : (i j : ℕ) → j < 128 → (j < 105) ⊎ (108 ≤ j) → j ≢ 5 → long new i j ≡ long mid i j = λ i j n o p.
-        long-kept (AtDate dir 105) mid new redated.rest i j n (λ z. elim (z.1) [ inl x ↦ p x | inr x ↦ elim o [ inl y ↦ omega (arith, x.0, y) | inr y ↦ omega (arith, x.1, y) ] ]) in
+        long-kept (AtDate dir 105) mid new redate i j n (λ z. elim (z.1) [ inl x ↦ p x | inr x ↦ elim o [ inl y ↦ omega (arith, x.0, y) | inr y ↦ omega (arith, x.1, y) ] ]) in
         subst (λ (first : ℕ). Chained new NEXT_IN_CHAIN first (in_slot u d q)) (sym (undated_long d (6 + q) (omega (arith, m)) (inl (omega (arith, m))) (omega arith)))
         (Chained-kept mid new NEXT_IN_CHAIN (table_entry mid d q) (in_slot u d q) (λ i n. undated_long i 124 (omega arith) (inr (omega arith)) (omega arith)) (chains d w.old directory.0 q w.at directory.1 m))
 

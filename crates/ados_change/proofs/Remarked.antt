@@ -1,30 +1,27 @@
 -- A block allocated for a new node, or freed by one: the rest of the image is unchanged.
-use Rattle.std.proofs.Common.{◌≡◌, ◌≢◌, ℕ, zero, suc, ◌+◌, ◌-◌, ◌/◌, ◌%◌, ◌<◌, ◌≤◌, ◌⊎◌, inl, inr, Bool, true, false, ◌==◌, List, ◌∷◌, length, slice_index, Contains, not, Option, Some, is_some, option_map, refl, sym, ap, ◌∙◌, subst, arith}
-use Rattle.std.proofs.lemmas.Bool.{cases_lt, cases_eq}
-use Rattle.std.proofs.lemmas.List.{get_or_default, get_or_past}
-use Rattle.adf_block.specs.declared.layout.Format.{Format}
-use Rattle.adf_block.specs.declared.layout.Format.TheVariants.{Ofs, Ffs}
-use Rattle.adf_block.specs.Image.{IsInside, has_free_bit, bytes_at, long, block_sum, Chained, HasText}
+use Rattle.std.proofs.Common.{◌≡◌, ◌≢◌, ℕ, ◌+◌, ◌-◌, ◌/◌, ◌<◌, ◌⊎◌, inl, inr, Bool, true, false, ◌==◌, List, length, slice_index, Contains, not, Option, Some, is_some, option_map, refl, sym, ap, ◌∙◌, subst, arith}
+use Rattle.std.proofs.lemmas.Bool.{cases_eq}
+use Rattle.adf_block.specs.Image.{IsInside, has_free_bit, block_sum, Chained}
 use Rattle.adf_block.specs.Whole.{HasFreeBit}
 use Rattle.adf_block.specs.Fields.{table_entry}
-use Rattle.adf_block.specs.declared.layout.TheConstants.{COMMENT_BYTE, NAME_BYTE, NEXT_IN_CHAIN, NEXT_EXTENSION, NEXT_DATA}
+use Rattle.adf_block.specs.declared.layout.TheConstants.{NEXT_IN_CHAIN}
 use Rattle.ados_name.specs.Name.{slot}
 use Rattle.ados_model.specs.Tree.{data_count, Node, Tree, root, entries, entries_in, size_of, name_of}
 use Rattle.ados_model.specs.Parts.{size_in}
-use Rattle.ados_model.specs.Stands.{HasFile, Layout, Fits, Duty, HasDuty, Named, date_at, HasNode, HasEntry, HasRoot, in_slot}
-use Rattle.ados_model.specs.File.{file_byte}
+use Rattle.ados_model.specs.Stands.{HasFile, Layout, Fits, Duty, HasDuty, Named, HasNode, HasEntry, HasRoot, in_slot}
 use Rattle.ados_model.specs.Tree.Content.{Directory, File}
 use Rattle.ados_model.specs.Change.{with_node}
 use Rattle.adf_block.specs.Frame.{SameBut}
-use Rattle.ados_change.specs.steps.Writes.{AtLongs}
-use Rattle.ados_change.proofs.Frame.{long-kept, bytes-kept, sum-kept}
+use Rattle.ados_change.proofs.Frame.{AtLongs}
+use Rattle.ados_change.proofs.Unchanged.{Stays, long_as, bytes_as, date_as, node_as, entry_as}
+use Rattle.ados_change.proofs.OtherFiles.{file_stays}
 use Rattle.ados_model.proofs.Standing.{slice_get-index}
 use Rattle.ados_model.proofs.Nodes.{parent_in}
 use Rattle.ados_change.proofs.Entering.{Contains-part}
 use Rattle.ados_change.proofs.Changed.{nodes_here, nodes_other}
 use Rattle.ados_change.proofs.Loose.{Loose}
 use Rattle.ados_change.proofs.Slots.{slots_beside}
-use Rattle.ados_change.proofs.Spells.{Spells}
+use Rattle.ados_change.proofs.Spells.{Spells, same_duty}
 use Rattle.ados_chain.proofs.Spelling.{Chained-kept}
 
 -- a bitmap block
@@ -62,23 +59,8 @@ module _ (old new : List ℕ) (t : Tree) (l : Layout) (key : ℕ) (o : Option No
   untouched b j n (inl m) = n.1 m.0 m.1 m.2
   untouched b j n (inr e) = n.0 e
 
-  long_stays : (b j : ℕ) → IsBeside b → j < 128 → long new b j ≡ long old b j
-  long_stays b j n m = long-kept (InPageOr l key) old new r.change b j m (untouched b j n)
-
-  sum_stays : (b : ℕ) → IsBeside b → block_sum new b ≡ block_sum old b
-  sum_stays b n = sum-kept (InPageOr l key) old new r.change b (λ j m. untouched b j n)
-
-  bytes_stay : (b i m : ℕ) → IsBeside b → i + m ≤ 512 → bytes_at new b i m ≡ bytes_at old b i m
-  bytes_stay b i m n h = bytes-kept (InPageOr l key) old new r.change b i m h (λ j p q. untouched b (j / 4) n)
-
-  text_stays : (b i : ℕ) (text : List ℕ) → IsBeside b → i + length text < 512 → HasText old b i text → HasText new b i text
-  text_stays b i text n m g = record {
-    counted = r.change.same_byte b i (omega arith) (untouched b (i / 4) n) ∙ g.counted;
-    follows = bytes_stay b (i + 1) (length text) n (omega arith) ∙ g.follows;
-  }
-
-  date_stays : (b i : ℕ) → IsBeside b → i + 2 < 128 → date_at new b i ≡ date_at old b i
-  date_stays b i n m = λ k. record { days = long_stays b i n (omega arith) k; minutes = long_stays b (i + 1) n (omega arith) k; ticks = long_stays b (i + 2) n m k }
+  stays : (b : ℕ) → IsBeside b → Stays old new b
+  stays b n = record { size = r.change.same_length; bytes = λ k l m. r.change.same_byte b k l (untouched b (k / 4) n) }
 
   -- a block used otherwise than as a bitmap block, and not the key
   by_duty : (b : ℕ) (duty : Duty) → HasDuty t l b duty → ((p : ℕ) → duty ≢ Duty.Page p) → b ≢ key → IsBeside b
@@ -93,72 +75,35 @@ module _ (old new : List ℕ) (t : Tree) (l : Layout) (key : ℕ) (o : Option No
   root_beside : IsBeside (root t)
   root_beside = node_beside (root t) loose.root_node.0 loose.root_node.1 (λ e. loose.not_root (sym e))
 
-  low_beside : (b : ℕ) → b < 2 → IsBeside b
-  low_beside b m = (
-    λ e. omega (arith, m, e, alone.inside.0),
-    λ p h e. let inside = s.fits.inside b (Duty.Page p) (slice_get-index l.pages p h ∙ ap Some e) in omega (arith, m, inside.0),
+  boot_beside : IsBeside 0
+  boot_beside = (
+    λ e. omega (arith, e, alone.inside.0),
+    λ p h e. let inside = s.fits.inside 0 (Duty.Page p) (slice_get-index l.pages p h ∙ ap Some e) in omega (arith, inside.0),
   )
 
-  data_beside : (file i : ℕ) → IsBeside (slice_index (l.file_data file) i)
-  data_beside file i = elim (cases_lt i (length (l.file_data file))) [
-    | inl m ↦
-        let serves = slice_get-index (l.file_data file) i m in
-        by_duty (slice_index (l.file_data file) i) (Duty.Data file i) serves (λ p z. cc z) (not_key_duty _ (Duty.Data file i) serves (λ z. cc z))
-    | inr m ↦ subst IsBeside (sym (get_or_past (l.file_data file) i 0 m)) (low_beside 0 (omega arith))
-  ]
+  -- a block used neither as a bitmap block nor as a key is unchanged
+  list_stays : (b : ℕ) (duty : Duty) → HasDuty t l b duty → ((p : ℕ) → duty ≢ Duty.Page p) → duty ≢ Duty.Key → Stays old new b
+  list_stays b duty m n o = stays b (by_duty b duty m n (not_key_duty b duty m o))
 
-  extension_beside : (file i : ℕ) → i < length (l.extensions file) → IsBeside (slice_index (l.extensions file) i)
-  extension_beside file i m =
-      let serves = slice_get-index (l.extensions file) i m in
-      by_duty (slice_index (l.extensions file) i) (Duty.Extension file i) serves (λ p z. cc z) (not_key_duty _ (Duty.Extension file i) serves (λ z. cc z))
-
-  header_beside : (file i : ℕ) → IsBeside file → i ≤ length (l.extensions file) → IsBeside (slice_index (file ∷ l.extensions file) i)
-  header_beside file zero n m = n
-  header_beside file (suc i) n m = extension_beside file i (omega arith)
-
-  file_byte_stays : (format : Format) (file k : ℕ) → file_byte format new (l.file_data file) k ≡ file_byte format old (l.file_data file) k
-  file_byte_stays Ofs file k = r.change.same_byte (slice_index (l.file_data file) (k / 488)) (24 + k % 488) (omega arith) (untouched (slice_index (l.file_data file) (k / 488)) ((24 + k % 488) / 4) (data_beside file (k / 488)))
-  file_byte_stays Ffs file k = r.change.same_byte (slice_index (l.file_data file) (k / 512)) (0 + k % 512) (omega arith) (untouched (slice_index (l.file_data file) (k / 512)) ((0 + k % 512) / 4) (data_beside file (k / 512)))
-
-  -- each such block of a list has its old link
-  links_stay : (link : ℕ) (xs : List ℕ) → link < 128 → ((i : ℕ) → i < length xs → IsBeside (slice_index xs i)) → (b : ℕ) → Contains xs b → long new b link ≡ long old b link
-  links_stay link xs m n b c = long_stays b link (subst IsBeside (get_or_default xs c.0 0 b c.1 ∙ c.2) (n c.0 c.1)) m
-
-  file_stays : (file : ℕ) (bytes : List ℕ) → IsBeside file → HasFile old t.format file (l.file_data file) (l.extensions file) bytes → HasFile new t.format file (l.file_data file) (l.extensions file) bytes
-  file_stays file bytes n g = record {
-    size = long_stays file 81 n (omega arith) ∙ g.size;
-    chain = subst (λ (i : ℕ). Chained new NEXT_EXTENSION i (l.extensions file)) (sym (long_stays file 126 n (omega arith))) (Chained-kept old new NEXT_EXTENSION (long old file NEXT_EXTENSION) (l.extensions file) (links_stay 126 (l.extensions file) (omega arith) (extension_beside file)) g.chain);
-    extension = λ i m. let x = g.extension i m in let block = slice_index (l.extensions file) i in let b = extension_beside file i m in record {
-      primary = long_stays block 0 b (omega arith) ∙ x.primary;
-      key_field = long_stays block 1 b (omega arith) ∙ x.key_field;
-      sum = sum_stays block b ∙ x.sum;
-      parent = long_stays block 125 b (omega arith) ∙ x.parent;
-      secondary = long_stays block 127 b (omega arith) ∙ x.secondary;
-    };
-    counts = λ i m. long_stays (slice_index (file ∷ l.extensions file) i) 2 (header_beside file i n m) (omega arith) ∙ g.counts i m;
-    pointers = λ i m. long_stays (slice_index (file ∷ l.extensions file) (i / 72)) (77 - i % 72) (header_beside file (i / 72) n (omega (arith, m, s.fits.extensions file))) (omega arith) ∙ g.pointers i m;
-    contents = λ k m. g.contents k m ∙ sym (file_byte_stays t.format file k);
-    ofs_chain = λ o. subst (λ (i : ℕ). Chained new NEXT_DATA i (l.file_data file)) (sym (long_stays file 4 n (omega arith))) (Chained-kept old new NEXT_DATA (long old file NEXT_DATA) (l.file_data file) (links_stay 4 (l.file_data file) (omega arith) (λ i m. data_beside file i)) (g.ofs_chain o));
-    ofs_data = λ o i m. let x = g.ofs_data o i m in let block = slice_index (l.file_data file) i in let b = data_beside file i in record {
-      primary = long_stays block 0 b (omega arith) ∙ x.primary;
-      header = long_stays block 1 b (omega arith) ∙ x.header;
-      sequence = long_stays block 2 b (omega arith) ∙ x.sequence;
-      held = long_stays block 3 b (omega arith) ∙ x.held;
-      sum = sum_stays block b ∙ x.sum;
-    };
-  }
+  file_kept : (file : ℕ) (a : Node) (bytes : List ℕ) → t.nodes file ≡ Some a → a.content ≡ File bytes → IsBeside file → HasFile new t.format file (l.file_data file) (l.extensions file) bytes
+  file_kept file a bytes e c n =
+      let held : size_of t file ≡ length bytes = rw e (rw c refl) in
+      file_stays old new t.format file (l.file_data file) (l.extensions file) bytes (λ j o. long_as old new file (stays file n) j (omega (arith, o)))
+      (λ q m. list_stays _ (Duty.Extension file q) (slice_get-index (l.extensions file) q m) (λ p z. cc z) (λ z. cc z)) (λ i m. list_stays _ (Duty.Data file i) (slice_get-index (l.file_data file) i m) (λ p z. cc z) (λ z. cc z))
+      (omega (arith, s.fits.extensions file)) (s.fits.file_data file ∙ ap (data_count t.format) held) (s.files file a bytes e c)
 
   root_stays : HasRoot new w l
   root_stays =
       let g = s.root_fields in
+      let still = long_as old new (root t) (stays (root t) root_beside) in
       record {
-        table_size = long_stays (root t) 3 root_beside (omega arith) ∙ g.table_size;
-        valid = long_stays (root t) 78 root_beside (omega arith) ∙ g.valid;
-        pages = λ i m. long_stays (root t) (79 + i) root_beside (omega (arith, m, s.fits.pages, loose.size.1)) ∙ g.pages i m;
-        disk_date = date_stays (root t) 118 root_beside (omega arith) ∙ g.disk_date;
-        creation_date = date_stays (root t) 121 root_beside (omega arith) ∙ g.creation_date;
-        parent = long_stays (root t) 125 root_beside (omega arith) ∙ g.parent;
-        secondary = long_stays (root t) 127 root_beside (omega arith) ∙ g.secondary;
+        table_size = still 3 (omega arith) ∙ g.table_size;
+        valid = still 78 (omega arith) ∙ g.valid;
+        pages = λ i m. still (79 + i) (omega (arith, m, s.fits.pages, loose.size.1)) ∙ g.pages i m;
+        disk_date = date_as old new (root t) (stays (root t) root_beside) 118 (omega arith) ∙ g.disk_date;
+        creation_date = date_as old new (root t) (stays (root t) root_beside) 121 (omega arith) ∙ g.creation_date;
+        parent = still 125 (omega arith) ∙ g.parent;
+        secondary = still 127 (omega arith) ∙ g.secondary;
       }
 
   node_at : (k : ℕ) (a : Node) → w.nodes k ≡ Some a → ((k ≡ key) × (o ≡ Some a)) ⊎ ((k ≢ key) × (t.nodes k ≡ Some a))
@@ -173,18 +118,10 @@ module _ (old new : List ℕ) (t : Tree) (l : Layout) (key : ℕ) (o : Option No
   -- ---- the uses
 
   serves_old : (b : ℕ) (duty : Duty) → b ≢ key → HasDuty w l b duty → HasDuty t l b duty
-  serves_old b (Duty.Page i) n m = m
-  serves_old b Duty.Key n m = ap is_some (sym (nodes_other key o t b n)) ∙ m
-  serves_old b (Duty.Data file i) n m = m
-  serves_old b (Duty.Extension file i) n m = m
-  serves_old b Duty.Lost n m = m
+  serves_old b duty n m = same_duty w t l b (ap is_some (sym (nodes_other key o t b n))) refl duty m
 
   serves_new : (b : ℕ) (duty : Duty) → b ≢ key → HasDuty t l b duty → HasDuty w l b duty
-  serves_new b (Duty.Page i) n m = m
-  serves_new b Duty.Key n m = ap is_some (nodes_other key o t b n) ∙ m
-  serves_new b (Duty.Data file i) n m = m
-  serves_new b (Duty.Extension file i) n m = m
-  serves_new b Duty.Lost n m = m
+  serves_new b duty n m = same_duty t w l b (ap is_some (nodes_other key o t b n)) refl duty m
 
   serves_here : (duty : Duty) → HasDuty w l key duty → (duty ≡ Duty.Key) × (is_some o ≡ true)
   serves_here (Duty.Page i) m = absurd (let e = alone.only (Duty.Page i) m in cc e)
@@ -243,32 +180,13 @@ module _ (old new : List ℕ) (t : Tree) (l : Layout) (key : ℕ) (o : Option No
     node_after : (k : ℕ) (a : Node) → w.nodes k ≡ Some a → HasNode new k a
     node_after k a e = elim (node_at k a e) [
       | inl h ↦ subst (λ (b : ℕ). HasNode new b a) (sym h.0) (node_here a h.1)
-      | inr h ↦
-          let b = node_beside k a h.1 h.0 in
-          let g = s.nodes k a h.1 in
-          let short = loose.name k a h.1 in
-          record {
-            primary = long_stays k 0 b (omega arith) ∙ g.primary;
-            sum = sum_stays k b ∙ g.sum;
-            name = text_stays k NAME_BYTE a.name b (omega (arith, short.short)) g.name;
-            date = date_stays k 105 b (omega arith) ∙ g.date;
-          }
+      | inr h ↦ node_as old new k (stays k (node_beside k a h.1 h.0)) a (loose.name k a h.1) (s.nodes k a h.1)
     ]
 
     entry_after : (k dir : ℕ) (a : Node) → w.nodes k ≡ Some a → a.parent ≡ Some dir → HasEntry new k a dir
     entry_after k dir a e p = elim (node_at k a e) [
       | inl h ↦ subst (λ (b : ℕ). HasEntry new b a dir) (sym h.0) (entry_here a dir h.1 p)
-      | inr h ↦
-          let b = node_beside k a h.1 h.0 in
-          let g = s.entries k dir a h.1 p in
-          let short = loose.comment k a h.1 in
-          record {
-            key_field = long_stays k 1 b (omega arith) ∙ g.key_field;
-            protection_field = long_stays k 80 b (omega arith) ∙ g.protection_field;
-            comment = text_stays k COMMENT_BYTE a.comment b (omega (arith, short.short)) g.comment;
-            parent = long_stays k 125 b (omega arith) ∙ g.parent;
-            secondary = long_stays k 127 b (omega arith) ∙ g.secondary;
-          }
+      | inr h ↦ entry_as old new k (stays k (node_beside k a h.1 h.0)) a dir (loose.comment k a h.1) (s.entries k dir a h.1 p)
     ]
 
     -- an entry of a list is such a node
@@ -282,24 +200,24 @@ module _ (old new : List ℕ) (t : Tree) (l : Layout) (key : ℕ) (o : Option No
     chain_after dir a keys q e c m = subst (Chained new NEXT_IN_CHAIN (table_entry new dir q)) (sym (slots_same dir q)) (elim (node_at dir a e) [
       | inl h ↦ subst (λ (d : ℕ). Chained new NEXT_IN_CHAIN (table_entry new d q) (in_slot t d q)) (sym h.0) (slots_here a keys q h.1 c m)
       | inr h ↦
-          subst (λ (first : ℕ). Chained new NEXT_IN_CHAIN first (in_slot t dir q)) (sym (long_stays dir (6 + q) (node_beside dir a h.1 h.0) (omega (arith, m))))
-          (Chained-kept old new NEXT_IN_CHAIN (table_entry old dir q) (in_slot t dir q) (λ b n. long_stays b 124 (listed_beside dir b (Contains-part (λ k. slot (name_of t k) == q) (entries t dir) b n)) (omega arith)) (s.chains dir a keys q h.1 c m))
+          subst (λ (first : ℕ). Chained new NEXT_IN_CHAIN first (in_slot t dir q)) (sym (long_as old new dir (stays dir (node_beside dir a h.1 h.0)) (6 + q) (omega (arith, m))))
+          (Chained-kept old new NEXT_IN_CHAIN (table_entry old dir q) (in_slot t dir q) (λ b n. long_as old new b (stays b (listed_beside dir b (Contains-part (λ k. slot (name_of t k) == q) (entries t dir) b n))) 124 (omega arith)) (s.chains dir a keys q h.1 c m))
     ])
 
     pub remarked : Spells new w l
     remarked = record {
       fits = fits_after;
       whole = r.change.same_length ∙ s.whole;
-      boot = bytes_stay 0 0 4 (low_beside 0 (omega arith)) (omega arith) ∙ s.boot;
+      boot = bytes_as old new 0 (stays 0 boot_beside) 0 4 (omega arith) ∙ s.boot;
       root_fields = root_stays;
       nodes = node_after;
       entries = entry_after;
       pages = r.sums;
-      lost = λ b bytes e. let serves : HasDuty t l b Duty.Lost = rw e refl in bytes_stay b 0 512 (by_duty b Duty.Lost serves (λ p z. cc z) (not_key_duty b Duty.Lost serves (λ z. cc z))) (omega arith) ∙ s.lost b bytes e;
+      lost = λ b bytes e. bytes_as old new b (list_stays b Duty.Lost (rw e refl) (λ p z. cc z) (λ z. cc z)) 0 512 (omega arith) ∙ s.lost b bytes e;
       chains = chain_after;
       files = λ file a bytes e c. elim (node_at file a e) [
         | inl h ↦ subst (λ (f : ℕ). HasFile new t.format f (l.file_data f) (l.extensions f) bytes) (sym h.0) (file_here a bytes h.1 c)
-        | inr h ↦ file_stays file bytes (node_beside file a h.1 h.0) (s.files file a bytes h.1 c)
+        | inr h ↦ file_kept file a bytes h.1 c (node_beside file a h.1 h.0)
       ];
       marked_free = free_after;
       marked_used = used_after;

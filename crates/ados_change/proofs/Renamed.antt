@@ -22,17 +22,16 @@ use Rattle.ados_change.specs.Conditions.{CanRename}
 use Rattle.ados_change.specs.steps.Writes.{AtTitle, Dated, Titled}
 use Rattle.ados_change.proofs.Created.{at_root, dated_count}
 use Rattle.ados_change.proofs.Lawful.{lawful_chains, not_root}
-use Rattle.ados_change.proofs.Changed.{left_blocks, left_lost, nodes_other, relisted, renamed_some, was}
-use Rattle.ados_change.proofs.EntriesKept.{behind_name, IsWritten, written_kept}
+use Rattle.ados_change.proofs.Changed.{nodes_other, relisted, was}
+use Rattle.ados_change.proofs.EntriesKept.{behind_name, IsChanged, IsWritten, changed_kept, written_changed}
 use Rattle.ados_change.specs.Behind.{KeepsBehindName}
 use Rattle.ados_change.proofs.KeptSteps.{IsKnown, dated_kept, linked_kept, stamped_kept, titled_kept}
 use Rattle.ados_change.proofs.Listing.{place_behind}
 use Rattle.ados_change.proofs.Loose.{kept, left_is}
 use Rattle.ados_change.proofs.ProperChanges.{dir_is_other, directory_at, moved_here}
-use Rattle.ados_change.proofs.Spared.{keeps_freed, still_free, was_free}
 use Rattle.ados_change.proofs.Relisted.{IsLinkPlace}
 use Rattle.ados_change.proofs.Spells.{Spells}
-use Rattle.ados_change.proofs.EntriesUntold.{IsOffMap, dated_off, linked_off, off_past_end, old_pages, stamped_off, titled_off, untold_kept}
+use Rattle.ados_change.proofs.EntriesUntold.{keeps_freed, marks_stay, past_end, untold_kept}
 use Rattle.ados_change.proofs.Renaming.{directory, goal_directory, gone, moves_in, moves_link, renamed_spells, renamed_stands, s, the_entry, there, there_loose, there_spells, whole_loose}
 
 -- the entry's node, with its new name and directory
@@ -94,11 +93,6 @@ module _ (old : List ℕ) (t : Tree) (st : Stands old t) (moment : Date3) (key d
           count_m4 : block_count m4 ≡ t.blocks
           count_m4 = same_count _ m3 m4 inserted.relinks.rest ∙ same_count (AtTitle key (length name)) m2 m3 titled.rest ∙ count_m2
 
-          pub moved : (m5 m6 : List ℕ) → Dated dir 105 moment m4 m5 → Dated (root_key (block_count m5)) 118 moment m5 m6 → Stands m6 (renamed moment key dir name t)
-          moved m5 m6 dated stamp =
-              renamed_stands old t st moment key dir name can m1 m2 m3 unlinked dated_from titled m4 m5 m6 inserted dated
-              (at_root m5 m6 t moment (dated_count dir 105 moment m4 m5 dated ∙ count_m4) stamp)
-
           -- ---- bytes outside fields
 
           no_root : key ≢ root t
@@ -130,75 +124,60 @@ module _ (old : List ℕ) (t : Tree) (st : Stands old t) (moment : Date3) (key d
               place_behind m3 (there old t st moment key dir name can) st.layout key (there_spells old t st moment key dir name can m1 m2 m3 unlinked dated_from titled) (there_loose old t st moment key dir name can) dir g.0 g.1 g.2 g.3 (slot_at m3 key) (slot_at-small m3 key)
               (in_slot (there old t st moment key dir name can) dir (slot_at m3 key)) (λ k m. m)
 
-          moved_written : (m5 m6 : List ℕ) → Dated dir 105 moment m4 m5 → Dated (root_key (block_count m5)) 118 moment m5 m6 → SameBut (IsWritten old t st m6) old m6
-          moved_written m5 m6 dated stamp =
-              let d = directory old t st moment key dir name can in
-              let e = the_entry old t st moment key dir name can in
-              let into = directory_at t dir can.directory in
-              let old_slot = slot_at old key in
-              let new_slot = slot_at m3 key in
-              let goal_tree = there old t st moment key dir name can in
-              let of_key : IsKnown old t st m6 key = inl (e.0, e.1, no_root) in
-              same_trans (IsWritten old t st m6) old m5 m6
-              (same_trans (IsWritten old t st m6) old m4 m5
-              (same_trans (IsWritten old t st m6) old m3 m4
-              (same_trans (IsWritten old t st m6) old m2 m3
-              (same_trans (IsWritten old t st m6) old m1 m2
-              (linked_kept old t st m6 t can.from (link_block can.from unlinked.front) (link_long (6 + old_slot) unlinked.front) (long old key NEXT_IN_CHAIN) key d.0 d.1 d.2 d.3 (λ k x f n. inl (x, f, n)) left_place of_key old m1 unlinked.relinks)
-              (dated_kept old t st m6 can.from d.0 d.2 moment m1 m2 dated_from))
-              (titled_kept old t st m6 key dir name e.0 e.1 no_root (counted m6 (moved m5 m6 dated stamp)) can.valid.short m2 m3 titled))
-              (linked_kept old t st m6 goal_tree dir (link_block dir (in_slot goal_tree dir new_slot)) (link_long (6 + new_slot) (in_slot goal_tree dir new_slot)) key key into.node into.keys into.at into.content (known m6) goal_place of_key m3 m4 inserted.relinks))
-              (dated_kept old t st m6 dir into.node into.at moment m4 m5 dated))
-              (stamped_kept old t st m6 moment m5 m6 (at_root m5 m6 t moment (dated_count dir 105 moment m4 m5 dated ∙ count_m4) stamp))
+          module _ (m5 m6 : List ℕ) (dated : Dated dir 105 moment m4 m5) (stamp : Dated (root_key (block_count m5)) 118 moment m5 m6) where
+            restamped : Dated (root t) 118 moment m5 m6
+            restamped = at_root m5 m6 t moment (dated_count dir 105 moment m4 m5 dated ∙ count_m4) stamp
 
-          -- ---- what is unchanged
+            pub moved : Stands m6 (renamed moment key dir name t)
+            moved =
+                renamed_stands old t st moment key dir name can m1 m2 m3 unlinked dated_from titled m4 m5 m6 inserted dated restamped
 
-          after : (m5 m6 : List ℕ) → Dated dir 105 moment m4 m5 → Dated (root_key (block_count m5)) 118 moment m5 m6 → Spells m6 (renamed moment key dir name t) st.layout
-          after m5 m6 dated stamp =
-              renamed_spells old t st moment key dir name can m1 m2 m3 unlinked dated_from titled m4 m5 m6 inserted dated
-              (at_root m5 m6 t moment (dated_count dir 105 moment m4 m5 dated ∙ count_m4) stamp)
+            moved_written : SameBut (IsWritten old t st m6) old m6
+            moved_written =
+                let d = directory old t st moment key dir name can in
+                let e = the_entry old t st moment key dir name can in
+                let into = directory_at t dir can.directory in
+                let old_slot = slot_at old key in
+                let new_slot = slot_at m3 key in
+                let goal_tree = there old t st moment key dir name can in
+                let of_key : IsKnown old t st m6 key = inl (e.0, e.1, no_root) in
+                same_trans (IsWritten old t st m6) old m5 m6
+                (same_trans (IsWritten old t st m6) old m4 m5
+                (same_trans (IsWritten old t st m6) old m3 m4
+                (same_trans (IsWritten old t st m6) old m2 m3
+                (same_trans (IsWritten old t st m6) old m1 m2
+                (linked_kept old t st m6 t can.from (link_block can.from unlinked.front) (link_long (6 + old_slot) unlinked.front) (long old key NEXT_IN_CHAIN) key d.0 d.1 d.2 d.3 (λ k x f n. inl (x, f, n)) left_place of_key old m1 unlinked.relinks)
+                (dated_kept old t st m6 can.from d.0 d.2 moment m1 m2 dated_from))
+                (titled_kept old t st m6 key dir name e.0 e.1 no_root (counted m6 moved) can.valid.short m2 m3 titled))
+                (linked_kept old t st m6 goal_tree dir (link_block dir (in_slot goal_tree dir new_slot)) (link_long (6 + new_slot) (in_slot goal_tree dir new_slot)) key key into.node into.keys into.at into.content (known m6) goal_place of_key m3 m4 inserted.relinks))
+                (dated_kept old t st m6 dir into.node into.at moment m4 m5 dated))
+                (stamped_kept old t st m6 moment m5 m6 restamped)
 
-          pub moved_none : (m5 m6 : List ℕ) → Dated dir 105 moment m4 m5 → Dated (root_key (block_count m5)) 118 moment m5 m6 → TakesNone old m6
-          moved_none m5 m6 dated stamp =
-              λ b inside free. still_free old m6 t (renamed moment key dir name t) st (after m5 m6 dated stamp) (left_blocks moment key t) (left_lost moment key t) b inside (λ some. sym (renamed_some moment key dir name t b) ∙ some) free
+            moved_changed : SameBut (IsChanged old t st m6) old m6
+            moved_changed = written_changed old t st m6 old m6 moved_written
 
-          pub moved_gives_none : (m5 m6 : List ℕ) → Dated dir 105 moment m4 m5 → Dated (root_key (block_count m5)) 118 moment m5 m6 → (b : ℕ) → InImage old b → HasFreeBit m6 b → HasFreeBit old b
-          moved_gives_none m5 m6 dated stamp =
-              λ b inside free. was_free old m6 t (renamed moment key dir name t) st (after m5 m6 dated stamp) (left_blocks moment key t) (left_lost moment key t) b inside (λ some. renamed_some moment key dir name t b ∙ some) free
+            -- ---- what is unchanged
 
-          -- no byte of the bitmap is written
-          moved_off : (m5 m6 : List ℕ) → Dated dir 105 moment m4 m5 → Dated (root_key (block_count m5)) 118 moment m5 m6 → SameBut (IsOffMap old t st) old m6
-          moved_off m5 m6 dated stamp =
-              let d = directory old t st moment key dir name can in
-              let e = the_entry old t st moment key dir name can in
-              let into = directory_at t dir can.directory in
-              let old_slot = slot_at old key in
-              let new_slot = slot_at m3 key in
-              let goal_tree = there old t st moment key dir name can in
-              let of_key : IsKnown old t st m6 key = inl (e.0, e.1, no_root) in
-              same_trans (IsOffMap old t st) old m5 m6
-              (same_trans (IsOffMap old t st) old m4 m5
-              (same_trans (IsOffMap old t st) old m3 m4
-              (same_trans (IsOffMap old t st) old m2 m3
-              (same_trans (IsOffMap old t st) old m1 m2
-              (linked_off old t st m6 t can.from (link_block can.from unlinked.front) (link_long (6 + old_slot) unlinked.front) (long old key NEXT_IN_CHAIN) key d.0 d.2 (λ k x f n. inl (x, f, n)) left_place of_key old m1 unlinked.relinks)
-              (dated_off old t st can.from 105 d.0 d.2 (omega arith) moment m1 m2 dated_from))
-              (titled_off old t st m6 key dir name of_key no_root m2 m3 titled))
-              (linked_off old t st m6 goal_tree dir (link_block dir (in_slot goal_tree dir new_slot)) (link_long (6 + new_slot) (in_slot goal_tree dir new_slot)) key key into.node into.at (known m6) goal_place of_key m3 m4 inserted.relinks))
-              (dated_off old t st dir 105 into.node into.at (omega arith) moment m4 m5 dated))
-              (stamped_off old t st moment m5 m6 (at_root m5 m6 t moment (dated_count dir 105 moment m4 m5 dated ∙ count_m4) stamp))
+            after : Spells m6 (renamed moment key dir name t) st.layout
+            after =
+                renamed_spells old t st moment key dir name can m1 m2 m3 unlinked dated_from titled m4 m5 m6 inserted dated restamped
 
-          pub moved_behind : (m5 m6 : List ℕ) → Dated dir 105 moment m4 m5 → Dated (root_key (block_count m5)) 118 moment m5 m6 → KeepsBehindName key name old m6
-          moved_behind m5 m6 dated stamp =
-              let e = the_entry old t st moment key dir name can in
-              behind_name old m6 t st (moved_written m5 m6 dated stamp) key e.0 e.1 name (counted m6 (moved m5 m6 dated stamp))
+            pub moved_none : TakesNone old m6
+            moved_none = λ b inside free. marks_stay old m6 t st moved_written b inside ∙ free
 
-          pub moved_keeps : (m5 m6 : List ℕ) → Dated dir 105 moment m4 m5 → Dated (root_key (block_count m5)) 118 moment m5 m6 → KeepsRest old m6
-          moved_keeps m5 m6 dated stamp =
-              record {
-                kept = written_kept old m6 t st (moved_written m5 m6 dated stamp);
-                lowest = none_taken old m6 (moved_none m5 m6 dated stamp);
-                freed = keeps_freed old m6 t (renamed moment key dir name t) st (after m5 m6 dated stamp) (left_blocks moment key t) (left_lost moment key t) (moved_written m5 m6 dated stamp) (λ k some. renamed_some moment key dir name t k ∙ some);
-                untold = untold_kept old m6 t (renamed moment key dir name t) st (after m5 m6 dated stamp) (moved m5 m6 dated stamp).proper (moved_written m5 m6 dated stamp)
-                    (off_past_end old t st old m6 (old_pages old t st) (moved_off m5 m6 dated stamp));
-              }
+            pub moved_gives_none : (b : ℕ) → InImage old b → HasFreeBit m6 b → HasFreeBit old b
+            moved_gives_none = λ b inside free. sym (marks_stay old m6 t st moved_written b inside) ∙ free
+
+            pub moved_behind : KeepsBehindName key name old m6
+            moved_behind =
+                let e = the_entry old t st moment key dir name can in
+                behind_name old m6 t st moved_changed key e.0 e.1 name (counted m6 moved)
+
+            pub moved_keeps : KeepsRest old m6
+            moved_keeps =
+                record {
+                  kept = changed_kept old m6 t st moved_changed;
+                  lowest = none_taken old m6 moved_none;
+                  freed = keeps_freed old m6 t st moved_written;
+                  untold = untold_kept old m6 t (renamed moment key dir name t) st after moved.proper moved_changed (past_end old m6 t st moved_written);
+                }

@@ -15,8 +15,8 @@ use Rattle.ados_model.specs.Stands.{Layout, Stands, HasNode, HasEntry, in_slot}
 use Rattle.ados_model.proofs.Nodes.{directory_node}
 use Rattle.ados_change.specs.Conditions.{CanRename}
 use Rattle.adf_block.specs.Frame.{SameBut}
-use Rattle.ados_change.specs.steps.Writes.{AtLongs, AtTitle, Dated, Titled}
-use Rattle.ados_change.proofs.Frame.{sum-kept, long-kept}
+use Rattle.ados_change.specs.steps.Writes.{AtTitle, Dated, Titled}
+use Rattle.ados_change.proofs.Frame.{AtLongs, sum-kept, long-kept}
 use Rattle.ados_change.proofs.Changed.{changed_keeps, was}
 use Rattle.ados_change.proofs.Loose.{Loose, in_list, left_is, proper_is_loose}
 use Rattle.ados_change.proofs.ProperChanges.{named, out, out_is_loose, entry, entry_out, moved, moved_here, moved_is_loose, moved_entered_proper, dir_is_other, into_directory, renamed_is_proper}

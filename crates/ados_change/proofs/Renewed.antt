@@ -24,8 +24,7 @@ use Rattle.ados_model.specs.Keys.{HasFileKey, HasTree}
 use Rattle.ados_model.specs.Change.{rewritten}
 use Rattle.ados_name.specs.Name.{without_archive}
 use Rattle.ados_change.specs.NewBlocks.{KeepsRest}
-use Rattle.ados_model.proofs.Nodes.{content_in}
-use Rattle.ados_change.proofs.FilesStay.{has_bytes, untold_trans}
+use Rattle.ados_change.proofs.FilesStay.{file_of_key, has_bytes, untold_trans}
 use Rattle.ados_model.proofs.Standing.{root_is, IsFileNode}
 use Rattle.ados_model.proofs.Counting.{free_bits_count}
 use Rattle.ados_model.proofs.OneTree.{one_tree}
@@ -37,39 +36,32 @@ use Rattle.ados_change.proofs.Relaid.{IsRewritten}
 use Rattle.ados_change.proofs.Refilled.{stands_after}
 use Rattle.ados_change.proofs.BytesKept.{kept}
 use Rattle.ados_change.proofs.NewBlocks.{takes_lowest, freed_stays, key_used}
-use Rattle.ados_change.proofs.Stamped.{kept_before, type_stamped, count_marked, lowest_before, marks_same, format_same, untold_stays}
+use Rattle.ados_change.proofs.Stamped.{kept_before, type_stamped, count_marked, lowest_before, marks_same, format_same, stamps_keep}
 use Rattle.ados_change.proofs.BytesUntold.{untold_kept}
-
--- the node of a file's key
-pub file_node : (image : List ℕ) (t : Tree) (s : Stands image t) (file : ℕ) → HasFileKey image file → IsFileNode image t s file
-file_node image t s file key =
-    let c = key t s in
-    let n = content_in (t.nodes file) (File c.0) c.1 in
-    record { node = n.0; bytes = c.0; at = n.1; content = n.2 }
 
 pub bytes_in : (image : List ℕ) (t : Tree) (s : Stands image t) (file : ℕ) → HasFileKey image file → contents image file ≡ bytes_of t file
 bytes_in image t s file key =
-    let f = file_node image t s file key in
+    let f = file_of_key image t s file key in
     bytes_is image t s file f.node f.bytes f.at f.content ∙ rw f.at (rw f.content refl)
 
 pub size_in : (image : List ℕ) (t : Tree) (s : Stands image t) (file : ℕ) → HasFileKey image file → length (contents image file) ≡ size_of t file
 size_in image t s file key =
-    let f = file_node image t s file key in
+    let f = file_of_key image t s file key in
     ap length (bytes_is image t s file f.node f.bytes f.at f.content) ∙ rw f.at (rw f.content refl)
 
 pub file_writable : (image : List ℕ) (file : ℕ) → HasTree image → HasFileKey image file → WritableFile image file
 file_writable image file tree key =
-    let f = file_node image tree.0 tree.1 file key in
+    let f = file_of_key image tree.0 tree.1 file key in
     writable image tree.0 tree.1 file f.node f.bytes f.at f.content
 
 pub file_inside : (image : List ℕ) (file : ℕ) → HasTree image → HasFileKey image file → file < block_count image
 file_inside image file tree key =
-    let f = file_node image tree.0 tree.1 file key in
+    let f = file_of_key image tree.0 tree.1 file key in
     (inside image tree.0 tree.1 file Duty.Key (key_serves image tree.0 tree.1 file f.node f.at)).1
 
 pub size_field : (image : List ℕ) (t : Tree) (s : Stands image t) (file : ℕ) → HasFileKey image file → long image file 81 ≡ size_of t file
 size_field image t s file key =
-    let f = file_node image t s file key in
+    let f = file_of_key image t s file key in
     (s.files file f.node f.bytes f.at f.content).size ∙ rw f.at (rw f.content refl)
 
 -- ---- room
@@ -147,7 +139,7 @@ module _ (moment : Date3) (old mid : List ℕ) (file : ℕ) (tree : HasTree old)
   mid_writable = file_writable mid file mid_tree mid_key
 
   node : IsFileNode old tree.0 tree.1 file
-  node = file_node old tree.0 tree.1 file key
+  node = file_of_key old tree.0 tree.1 file key
 
   file_is_no_root : file ≢ root tree.0
   file_is_no_root = file_not_root tree.0 file node.node node.bytes [] node.at node.content tree.1.proper
@@ -180,7 +172,7 @@ module _ (moment : Date3) (old mid : List ℕ) (file : ℕ) (tree : HasTree old)
   pub same_place : (place : Place) → IsPlace old file place → IsPlace mid file place
   same_place place =
       let c = key tree.0 tree.1 in
-      let stays = untold_stays old mid tree.0 tree.1 file node.node node.at file_is_no_root rest in
+      let stays = (stamps_keep old mid tree.0 tree.1 file node.node node.at file_is_no_root rest).untold in
       let same = stays.other_data file c.0 (has_bytes old tree.0 tree.1 file c.0 c.1) (has_bytes mid mid_tree.0 mid_tree.1 file c.0 (touched_content tree.0 ∙ c.1)) in
       subst (λ (xs : List ℕ). IsAmong file xs place) (sym same.extensions)
 
@@ -197,7 +189,7 @@ module _ (moment : Date3) (old mid : List ℕ) (file : ℕ) (tree : HasTree old)
     pub stands_rewritten : (u : Tree) → Stands old u → Stands new (rewritten moment file (contents new file) u)
     stands_rewritten u s =
         let after = h.stands u s in
-        let f = file_node mid (touched moment file u) after file mid_key in
+        let f = file_of_key mid (touched moment file u) after file mid_key in
         let blocks = data_is mid (touched moment file u) after file f.node f.bytes f.at f.content in
         let lists = extensions_is mid (touched moment file u) after file f.node f.bytes f.at f.content in
         let laid : IsRewritten mid file (after.layout.file_data file) (after.layout.extensions file) new (data_blocks new file) (extension_blocks new file) (contents new file) =
@@ -213,12 +205,7 @@ module _ (moment : Date3) (old mid : List ℕ) (file : ℕ) (tree : HasTree old)
         ∙ type_stamped old mid tree.0 tree.1 file node.node node.at file_is_no_root rest node.bytes node.content
       where
         beside_data : (j : ℕ) → j ≡ 127 → ¬ IsDataField j
-        beside_data j e (inl z) = omega (arith, e, z)
-        beside_data j e (inr (inl z)) = omega (arith, e, z)
-        beside_data j e (inr (inr (inl z))) = omega (arith, e, z)
-        beside_data j e (inr (inr (inr (inl z)))) = omega (arith, e, z.1)
-        beside_data j e (inr (inr (inr (inr (inl z))))) = omega (arith, e, z)
-        beside_data j e (inr (inr (inr (inr (inr z))))) = omega (arith, e, z)
+        beside_data j e f = omega (arith, e, f)
 
     module _ (keeps : KeepsUnnamed mid file (data_blocks mid file) (extension_blocks mid file) new (data_blocks new file) (extension_blocks new file))
         (images : contents new file ≡ contents mid file → IsImage mid × IsImage new)
@@ -227,7 +214,7 @@ module _ (moment : Date3) (old mid : List ℕ) (file : ℕ) (tree : HasTree old)
       pub keeps_rest : KeepsRest old new
       keeps_rest =
           let u = touched moment file tree.0 in
-          let f = file_node mid u mid_tree.1 file mid_key in
+          let f = file_of_key mid u mid_tree.1 file mid_key in
           let blocks = data_is mid u mid_tree.1 file f.node f.bytes f.at f.content in
           let lists = extensions_is mid u mid_tree.1 file f.node f.bytes f.at f.content in
           let laid : IsRewritten mid file (mid_tree.1.layout.file_data file) (mid_tree.1.layout.extensions file) new (data_blocks new file) (extension_blocks new file) (contents new file) =
@@ -237,7 +224,7 @@ module _ (moment : Date3) (old mid : List ℕ) (file : ℕ) (tree : HasTree old)
           subst (λ (xs : List ℕ). KeepsUnnamed mid file xs (mid_tree.1.layout.extensions file) new (data_blocks new file) (extension_blocks new file)) blocks
           (subst (λ (xs : List ℕ). KeepsUnnamed mid file (data_blocks mid file) xs new (data_blocks new file) (extension_blocks new file)) lists keeps) in
           record {
-            kept = kept_before old mid tree.0 tree.1 file node.node node.at file_is_no_root rest new still_file h.kept
+            kept = kept_before old mid tree.0 tree.1 file node.node node.at file_is_no_root rest node.bytes node.content new still_file (stamps_keep old mid tree.0 tree.1 file node.node node.at file_is_no_root rest).kept
                 (kept mid new u mid_tree.1 file f.node f.bytes f.at f.content (data_blocks new file) (extension_blocks new file) (contents new file) laid unnamed);
             lowest = lowest_before old mid tree.0 tree.1 file node.node node.at file_is_no_root rest new
                 (takes_lowest mid new u mid_tree.1 file f.node f.bytes f.at f.content (data_blocks new file) (extension_blocks new file) (contents new file) laid unnamed lowest
@@ -252,7 +239,7 @@ module _ (moment : Date3) (old mid : List ℕ) (file : ℕ) (tree : HasTree old)
                 ]);
             untold = untold_trans old mid new tree.0 tree.1 (same_count (AtStamps (root tree.0) file) old mid rest)
                 (λ g bs is was. has_bytes mid u mid_tree.1 g bs (touched_contents tree.0 g ∙ was tree.0 tree.1))
-                (untold_stays old mid tree.0 tree.1 file node.node node.at file_is_no_root rest)
+                (stamps_keep old mid tree.0 tree.1 file node.node node.at file_is_no_root rest).untold
                 (untold_kept mid new u mid_tree.1 file f.node f.bytes f.at f.content (data_blocks new file) (extension_blocks new file) (contents new file) laid unnamed
                 (λ same. images (same ∙ sym (bytes_is mid u mid_tree.1 file f.node f.bytes f.at f.content))));
           }

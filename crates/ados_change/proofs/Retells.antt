@@ -1,16 +1,14 @@
 -- A tree with one node replaced: the parts that the lists of entries depend on are unchanged.
-use Rattle.std.proofs.Common.{◌≡◌, ◌≢◌, ℕ, ◌≤◌, inl, inr, ◌==◌, List, [], map, filter, slice_index_or, AllPairs, Contains, Option, Some, None, is_some, option_map, option_and_then, refl, sym, ap, ◌∙◌, subst, arith, eq-eqb}
+use Rattle.std.proofs.Common.{◌≡◌, ◌≢◌, ℕ, inl, inr, [], Contains, Option, Some, None, is_some, option_map, option_and_then, refl, sym, ap, ◌∙◌, subst, eq-eqb}
 use Rattle.std.proofs.lemmas.Bool.{ne_eqb, cases_eq}
-use Rattle.std.proofs.lemmas.List.Elements.{Contains-get_or}
 use Rattle.ados_name.specs.declared.stamp.Date3.{Date3}
-use Rattle.ados_name.specs.Name.{upper, slot, IsName, IsComment}
-use Rattle.ados_model.specs.Tree.{data_count, Node, Tree, Proper, IsRoot, LeadsToRoot, root, content_at, entries_in, entries, name_of, parent_of}
-use Rattle.ados_model.specs.Parts.{size_in, name_in}
-use Rattle.ados_model.specs.Tree.LeadsToRoot.{at_root, by_parent}
-use Rattle.ados_model.specs.Stands.{Layout, Fits, Duty, HasDuty, in_slot}
+use Rattle.ados_name.specs.Name.{IsName, IsComment}
+use Rattle.ados_model.specs.Tree.{Node, Tree, Proper, IsRoot, root, content_at, entries_in, entries, name_of, parent_of}
+use Rattle.ados_model.specs.Parts.{name_in}
+use Rattle.ados_model.specs.Stands.{in_slot}
 use Rattle.ados_model.specs.Change.{stamped, with_node}
 use Rattle.ados_model.proofs.Nodes.{entry_node}
-use Rattle.ados_change.proofs.Entering.{filter_same}
+use Rattle.ados_change.proofs.SameLists.{proper_alike, slots_alike}
 
 -- the tree with this node at a key, and this disk date
 abbrev pub retold : ℕ → Node → Date3 → Tree → Tree
@@ -66,7 +64,7 @@ module _ (t : Tree) (key : ℕ) (node after : Node) (d : Date3) (r : Retells t k
   names : (k : ℕ) → k ≢ root t → name_of u k ≡ name_of t k
   names k n = same_of name_in k (λ e. r.same_name (λ z. n (e ∙ z)))
 
-  some_same : (k : ℕ) → is_some (u.nodes k) ≡ is_some (t.nodes k)
+  pub some_same : (k : ℕ) → is_some (u.nodes k) ≡ is_some (t.nodes k)
   some_same k = same_of is_some k (λ e. refl)
 
   entries_same : (dir : ℕ) → entries u dir ≡ entries t dir
@@ -87,21 +85,12 @@ module _ (t : Tree) (key : ℕ) (node after : Node) (d : Date3) (r : Retells t k
     | inr n ↦ record { old = a; at = sym (at_other k n) ∙ e; parent = refl; content = refl }
   ]
 
-  leads_on : (k : ℕ) → LeadsToRoot t k → LeadsToRoot u k
-  leads_on k (at_root e) = at_root e
-  leads_on k (by_parent {dir = dir} p q) = by_parent (parents k ∙ p) (leads_on dir q)
-
   module _ (p : Proper t) where
     listed_names : (dir k : ℕ) → Contains (entries t dir) k → name_of u k ≡ name_of t k
     listed_names dir k c = names k (entry_not_root t p dir k c)
 
     pub slots_same : (dir s : ℕ) → in_slot u dir s ≡ in_slot t dir s
-    slots_same dir s =
-        ap (filter (λ k. slot (name_of u k) == s)) (entries_same dir)
-        ∙ filter_same (λ k. slot (name_of u k) == s) (λ k. slot (name_of t k) == s) (entries t dir) (λ k c. ap (λ (name : List ℕ). slot name == s) (listed_names dir k c))
-
-    was_listed : (dir k : ℕ) → Contains (entries u dir) k → Contains (entries t dir) k
-    was_listed dir k c = subst (λ (keys : List ℕ). Contains keys k) (entries_same dir) c
+    slots_same = slots_alike t u.nodes d parents entries_same listed_names
 
     root_after : (a : Node) × (u.nodes (root t) ≡ Some a) × IsRoot a
     root_after = elim (cases_eq (root t) key) [
@@ -129,52 +118,6 @@ module _ (t : Tree) (key : ℕ) (node after : Node) (d : Date3) (r : Retells t k
     ]
 
     pub proper_after : Proper u
-    proper_after = record {
-      size = p.size;
-      inside = λ k a e. let w = was k a e in p.inside k w.old w.at;
-      root_node = root_after;
-      listed = λ dir k. (
-        λ c. parents k ∙ (p.listed dir k).0 (was_listed dir k c),
-        λ e. subst (λ (keys : List ℕ). Contains keys k) (sym (entries_same dir)) ((p.listed dir k).1 (sym (parents k) ∙ e)),
-      );
-      once = λ dir. subst (AllPairs (λ j k. j ≢ k)) (sym (entries_same dir)) (p.once dir);
-      unlike = λ dir j k c m same.
-          let b = was_listed dir j c in
-          let n = was_listed dir k m in
-          p.unlike dir j k b n (ap (map upper) (sym (listed_names dir j b)) ∙ same ∙ ap (map upper) (listed_names dir k n));
-      rising = λ dir. subst (AllPairs (λ j k. slot (name_of u j) ≤ slot (name_of u k))) (sym (entries_same dir)) (rises dir);
-      rooted = λ k a e. let w = was k a e in leads_on k (p.rooted k w.old w.at);
-      name = of_each (λ (a : Node). IsName a.name) r.name p.name;
-      comment = of_each (λ (a : Node). IsComment a.comment) r.comment p.comment;
-    }
-      where
-        rises : (dir : ℕ) → AllPairs (λ j k. slot (name_of u j) ≤ slot (name_of u k)) (entries t dir)
-        rises dir i j e l m =
-            let first = ap slot (listed_names dir (slice_index_or (entries t dir) i e) (Contains-get_or (entries t dir) i e (omega arith))) in
-            let second = ap slot (listed_names dir (slice_index_or (entries t dir) j e) (Contains-get_or (entries t dir) j e m)) in
-            omega (arith, first, second, p.rising dir i j e l m)
-
-  -- the blocks have the same uses as before
-  pub serves_back : (l : Layout) (b : ℕ) (duty : Duty) → HasDuty u l b duty → HasDuty t l b duty
-  serves_back l b (Duty.Page i) m = m
-  serves_back l b Duty.Key m = sym (some_same b) ∙ m
-  serves_back l b (Duty.Data file i) m = m
-  serves_back l b (Duty.Extension file i) m = m
-  serves_back l b Duty.Lost m = m
-
-  pub serves_on : (l : Layout) (b : ℕ) (duty : Duty) → HasDuty t l b duty → HasDuty u l b duty
-  serves_on l b (Duty.Page i) m = m
-  serves_on l b Duty.Key m = some_same b ∙ m
-  serves_on l b (Duty.Data file i) m = m
-  serves_on l b (Duty.Extension file i) m = m
-  serves_on l b Duty.Lost m = m
-
-  pub fits_after : (l : Layout) → Fits t l → Fits u l
-  fits_after l f = record {
-    pages = f.pages;
-    file_data = λ file. f.file_data file ∙ ap (data_count t.format) (ap size_in (sym (contents file)));
-    extensions = f.extensions;
-    inside = λ b duty m. f.inside b duty (serves_back l b duty m);
-    lost = f.lost;
-    one_duty = λ b duty other m n. f.one_duty b duty other (serves_back l b duty m) (serves_back l b other n);
-  }
+    proper_after =
+        proper_alike t u.nodes d parents entries_same listed_names p root_after (λ k a e. let w = was k a e in (w.old, w.at))
+        (of_each (λ (a : Node). IsName a.name) r.name p.name) (of_each (λ (a : Node). IsComment a.comment) r.comment p.comment)

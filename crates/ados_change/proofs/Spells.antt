@@ -1,10 +1,10 @@
 -- An image that has the blocks of a tree. It represents the tree if that is proper.
-use Rattle.std.proofs.Common.{◌≡◌, ℕ, ◌*◌, ◌<◌, List, [], ◌∷◌, length, Some, Contains, refl}
+use Rattle.std.proofs.Common.{◌≡◌, ℕ, ◌*◌, ◌<◌, List, [], ◌∷◌, length, Some, is_some, Contains, refl, ◌∙◌}
 use Rattle.adf_block.specs.Image.{bytes_at, block_sum, IsInside, Chained}
 use Rattle.adf_block.specs.Whole.{HasFreeBit}
 use Rattle.adf_block.specs.Fields.{table_entry}
 use Rattle.adf_block.specs.declared.layout.TheConstants.{NEXT_IN_CHAIN}
-use Rattle.ados_model.specs.Stands.{HasFile, Layout, Fits, Named, Stands, HasNode, HasEntry, HasRoot, format_byte, in_slot}
+use Rattle.ados_model.specs.Stands.{HasFile, Layout, Duty, HasDuty, Fits, Named, Stands, HasNode, HasEntry, HasRoot, format_byte, in_slot}
 use Rattle.ados_model.specs.Tree.{Node, Tree, Proper}
 use Rattle.ados_model.specs.Tree.Content.{Directory, File}
 
@@ -60,3 +60,11 @@ stands image t l proper s = record {
 pub layout_is : (image : List ℕ) (t : Tree) (l : Layout) (proper : Proper t) (s : Spells image t l) → (stands image t l proper s).layout ≡ l
 unfolding stands
 layout_is image t l proper s = refl
+
+-- a block has the same uses in a tree with the same keys and lost blocks
+pub same_duty : (t u : Tree) (l : Layout) (b : ℕ) → is_some (u.nodes b) ≡ is_some (t.nodes b) → is_some (u.lost b) ≡ is_some (t.lost b) → (duty : Duty) → HasDuty t l b duty → HasDuty u l b duty
+same_duty t u l b key lost (Duty.Page i) m = m
+same_duty t u l b key lost Duty.Key m = key ∙ m
+same_duty t u l b key lost (Duty.Data file i) m = m
+same_duty t u l b key lost (Duty.Extension file i) m = m
+same_duty t u l b key lost Duty.Lost m = lost ∙ m

@@ -1,5 +1,5 @@
 -- The time stamp of a change, in three steps.
-use Rattle.std.proofs.Common.{◌≡◌, ◌≢◌, ℕ, inl, inr, List, [], Option, Some, None, IsSome, option_map, refl, sym, ap, ◌∙◌, subst, arith, eq-eqb}
+use Rattle.std.proofs.Common.{◌≡◌, ℕ, inl, inr, List, [], Option, Some, None, IsSome, option_map, refl, sym, ap, ◌∙◌, subst, arith, eq-eqb}
 use Rattle.std.proofs.lemmas.Bool.{ne_eqb, cases_eq}
 use Rattle.adf_block.specs.Image.{root_key, long}
 use Rattle.adf_block.specs.Frame.{SameBut}
@@ -9,7 +9,6 @@ use Rattle.ados_model.specs.Tree.{Node, Tree, root}
 use Rattle.ados_model.specs.Keys.{HasFileKey, HasEntryKey, HasKey, HasTree}
 use Rattle.ados_model.specs.Stands.{Stands}
 use Rattle.ados_model.specs.Faults.{root_of}
-use Rattle.ados_model.specs.Kept.{Kept}
 use Rattle.ados_model.specs.Change.{stamped}
 use Rattle.ados_name.specs.Name.{without_archive}
 use Rattle.ados_model.proofs.Nodes.{root_or_parent}
@@ -20,8 +19,7 @@ use Rattle.ados_change.specs.FieldTold.{dated, protected}
 use Rattle.ados_change.specs.Stamps.{AtStamps, touched}
 use Rattle.ados_change.specs.Renewed.{IsStamped}
 use Rattle.ados_change.proofs.Contents.{file_not_root}
-use Rattle.ados_change.proofs.Stamped.{kept_before, type_stamped}
-use Rattle.ados_change.proofs.Renewed.{file_node}
+use Rattle.ados_change.proofs.FilesStay.{file_of_key}
 
 abbrev with_bits : ℕ → Node → Node
 with_bits bits node = record node { protection = bits }
@@ -32,7 +30,7 @@ with_date moment node = record node { date = moment }
 -- a file's key is not the root
 pub entry_key : (image : List ℕ) (file : ℕ) → HasFileKey image file → HasEntryKey image file
 entry_key image file key t s =
-    let f = file_node image t s file key in
+    let f = file_of_key image t s file key in
     (rw f.at refl, file_not_root t file f.node f.bytes [] f.at f.content s.proper)
 
 -- the protection bits in a file's header are those of its node
@@ -61,7 +59,7 @@ module _ (moment : Date3) (bits file : ℕ) (t : Tree) (node : Node) (at : t.nod
 
 module _ (moment : Date3) (bits file : ℕ) (old first : List ℕ) (tree : HasTree old) (key : HasFileKey old file)
     (cleared : bits ≡ without_archive (long old file 80))
-    (first_stands : (t : Tree) → Stands old t → Stands first (protected file bits t)) (first_kept : Kept old first) (first_rest : SameBut (Summed file 320 324) old first) where
+    (first_stands : (t : Tree) → Stands old t → Stands first (protected file bits t)) (first_rest : SameBut (Summed file 320 324) old first) where
   pub first_tree : HasTree first
   first_tree = (protected file bits tree.0, first_stands tree.0 tree.1)
 
@@ -72,16 +70,16 @@ module _ (moment : Date3) (bits file : ℕ) (old first : List ℕ) (tree : HasTr
 
   pub first_key : HasKey first file
   first_key t s =
-      let f = file_node old tree.0 tree.1 file key in
+      let f = file_of_key old tree.0 tree.1 file key in
       let same : protected file bits tree.0 ≡ t = one_tree first (protected file bits tree.0) t (first_stands tree.0 tree.1) s in
       let some : IsSome ((protected file bits tree.0).nodes file) = rw (eq-eqb file file refl) (first_node (tree.0.nodes file) f.node f.at) in
       subst (λ (u : Tree). IsSome (u.nodes file)) same some
 
-  module _ (second : List ℕ) (second_stands : (t : Tree) → Stands first t → Stands second (dated file moment t)) (second_kept : Kept first second) (second_rest : SameBut (Summed file 420 432) first second) where
+  module _ (second : List ℕ) (second_stands : (t : Tree) → Stands first t → Stands second (dated file moment t)) (second_rest : SameBut (Summed file 420 432) first second) where
     pub second_tree : HasTree second
     second_tree = (dated file moment (protected file bits tree.0), second_stands (protected file bits tree.0) (first_stands tree.0 tree.1))
 
-    module _ (new : List ℕ) (third_stands : (t : Tree) → Stands second t → Stands new (stamped moment t)) (third_kept : Kept second new) (third_rest : SameBut (Summed (root_of second) 472 484) second new) where
+    module _ (new : List ℕ) (third_stands : (t : Tree) → Stands second t → Stands new (stamped moment t)) (third_rest : SameBut (Summed (root_of second) 472 484) second new) where
       abbrev r : ℕ
       r = root tree.0
 
@@ -112,24 +110,12 @@ module _ (moment : Date3) (bits file : ℕ) (old first : List ℕ) (tree : HasTr
       all_same : SameBut (AtStamps r file) old new
       all_same = same_trans (AtStamps r file) old first new first_same (same_trans (AtStamps r file) first second new second_same third_same)
 
-      file_not : file ≢ root tree.0
-      file_not = (entry_key old file key tree.0 tree.1).1
-
-      all_kept : Kept old new
-      all_kept =
-          let f = file_node old tree.0 tree.1 file key in
-          let at : (protected file bits tree.0).nodes file ≡ Some (with_bits bits f.node) = rw (eq-eqb file file refl, f.at) refl in
-          let typed = type_stamped old new tree.0 tree.1 file f.node f.at file_not all_same f.bytes f.content in
-          kept_before old first tree.0 tree.1 file f.node f.at file_not first_same new typed first_kept
-          (kept_before first second (protected file bits tree.0) (first_stands tree.0 tree.1) file (with_bits bits f.node) at file_not second_same new typed second_kept third_kept)
-
       pub is_stamped : IsStamped moment old file new
       is_stamped = record {
         stands = λ t s.
-            let f = file_node old t s file key in
+            let f = file_of_key old t s file key in
             let is : bits ≡ without_archive f.node.protection = cleared ∙ ap without_archive (bits_field old t s file f) in
             subst (Stands new) (is_touched moment bits file t f.node f.at is)
             (third_stands (dated file moment (protected file bits t)) (second_stands (protected file bits t) (first_stands t s)));
-        kept = all_kept;
         rest = subst (λ (n : ℕ). SameBut (AtStamps n file) old new) (sym (root_is old tree.0 tree.1)) all_same;
       }

@@ -1,10 +1,11 @@
 -- What is unchanged when bytes after a block's checksum change, and the checksum with them.
-use Rattle.std.proofs.Common.{◌≡◌, ℕ, ◌+◌, ◌*◌, ◌<◌, ◌≤◌, ◌⊎◌, inl, inr, List, length, ap, ◌∙◌, subst, arith}
+use Rattle.std.proofs.Common.{◌≡◌, ℕ, ◌+◌, ◌*◌, ◌<◌, ◌≤◌, ◌⊎◌, inl, inr, List, length, ap, subst, arith}
 use Rattle.adf_block.specs.Image.{root_key, long, HasText}
 use Rattle.adf_block.specs.Frame.{SameBut, AtLong}
-use Rattle.adf_block.proofs.Frames.{same_trans, same_weaken, same_count, same_long, same_bytes_at}
+use Rattle.adf_block.proofs.Frames.{same_trans, same_weaken, same_count, same_long}
 use Rattle.ados_model.specs.Stands.{date_at}
 use Rattle.ados_model.specs.Faults.{root_of}
+use Rattle.ados_change.proofs.Frame.{text_kept, date_kept}
 use Rattle.ados_change.specs.Places.{Summed, Restamped}
 
 module _ (key low high : ℕ) (old new : List ℕ) (h : SameBut (Summed key low high) old new) where
@@ -14,19 +15,13 @@ module _ (key low high : ℕ) (old new : List ℕ) (h : SameBut (Summed key low 
   beside b i n k behind side l m (inr w) = omega (arith, l, w.1, behind)
 
   pub text_beside : (b i : ℕ) (text : List ℕ) → 24 ≤ i → i + 1 + length text ≤ 512 → (i + (1 + length text) ≤ low) ⊎ (high ≤ i) → HasText old b i text → HasText new b i text
-  text_beside b i text behind room side g = record {
-    counted = h.same_byte b i (omega arith) (beside b i (1 + length text) i behind side (omega arith) (omega arith)) ∙ g.counted;
-    follows = same_bytes_at (Summed key low high) old new h b (i + 1) (length text) room (λ k l m. beside b i (1 + length text) k behind side (omega arith) (omega arith)) ∙ g.follows;
-  }
+  text_beside b i text behind room side g = text_kept (Summed key low high) old new h b i text (omega (arith, room)) (λ k l m. beside b i (1 + length text) k behind side l (omega (arith, m))) g
 
   pub long_beside : (b i : ℕ) → i < 128 → 6 ≤ i → (4 * i + 4 ≤ low) ⊎ (high ≤ 4 * i) → long new b i ≡ long old b i
   long_beside b i l behind side = same_long (Summed key low high) old new h b i l (λ k e. beside b (4 * i) 4 k (omega arith) side (omega (arith, e)) (omega (arith, e)))
 
   pub date_beside : (b i : ℕ) → i + 2 < 128 → 6 ≤ i → (4 * i + 12 ≤ low) ⊎ (high ≤ 4 * i) → date_at new b i ≡ date_at old b i
-  date_beside b i l behind side = λ q. record { days = one i (omega arith) (omega arith) q; minutes = one (i + 1) (omega arith) (omega arith) q; ticks = one (i + 2) (omega arith) (omega arith) q }
-    where
-      one : (j : ℕ) → i ≤ j → j ≤ i + 2 → long new b j ≡ long old b j
-      one j m n = same_long (Summed key low high) old new h b j (omega (arith, l, n)) (λ k e. beside b (4 * i) 12 k (omega (arith, behind)) side (omega (arith, e, m)) (omega (arith, e, n)))
+  date_beside b i l behind side = date_kept (Summed key low high) old new h b i l (λ k m n. beside b (4 * i) 12 k (omega (arith, behind)) side (omega (arith, m)) (omega (arith, n)))
 
 -- a change of the checksum keeps a text after it
 pub text_settled : (b i : ℕ) (text old new : List ℕ) → 24 ≤ i → i + 1 + length text ≤ 512 → SameBut (AtLong b 5) old new → HasText old b i text → HasText new b i text

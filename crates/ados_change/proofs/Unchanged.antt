@@ -4,7 +4,10 @@ use Rattle.std.proofs.lemmas.Bool.{cases_eq}
 use Rattle.adf_block.specs.Image.{byte_at, bytes_at, long, block_sum, HasText}
 use Rattle.adf_block.proofs.Longs.{long-same}
 use Rattle.adf_block.proofs.Frames.{same_bytes_at, same_sum}
-use Rattle.ados_model.specs.Stands.{date_at}
+use Rattle.adf_block.specs.declared.layout.TheConstants.{COMMENT_BYTE, NAME_BYTE}
+use Rattle.ados_name.specs.Name.{IsName, IsComment}
+use Rattle.ados_model.specs.Stands.{HasNode, HasEntry, date_at}
+use Rattle.ados_model.specs.Tree.{Node}
 
 -- the bytes of a block are unchanged, except in some longs
 pub record StaysBut (changed : ℕ → Type 0) (old new : List ℕ) (block : ℕ) : Type 0 where
@@ -69,3 +72,20 @@ module _ (old new : List ℕ) (block : ℕ) (h : Stays old new block) where
 
   pub date_as : (i : ℕ) → i + 2 < 128 → date_at new block i ≡ date_at old block i
   date_as i l = date_stays (λ j. ⊥) old new block h i l (λ j from below c. c)
+
+  pub node_as : (a : Node) → IsName a.name → HasNode old block a → HasNode new block a
+  node_as a name n = record {
+    primary = long_as 0 (omega arith) ∙ n.primary;
+    sum = sum_stays ∙ n.sum;
+    name = let short = name.short in text_as NAME_BYTE a.name (omega (arith, short)) n.name;
+    date = date_as 105 (omega arith) ∙ n.date;
+  }
+
+  pub entry_as : (a : Node) (d : ℕ) → IsComment a.comment → HasEntry old block a d → HasEntry new block a d
+  entry_as a d comment n = record {
+    key_field = long_as 1 (omega arith) ∙ n.key_field;
+    protection_field = long_as 80 (omega arith) ∙ n.protection_field;
+    comment = let short = comment.short in text_as COMMENT_BYTE a.comment (omega (arith, short)) n.comment;
+    parent = long_as 125 (omega arith) ∙ n.parent;
+    secondary = long_as 127 (omega arith) ∙ n.secondary;
+  }

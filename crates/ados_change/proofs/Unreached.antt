@@ -20,8 +20,8 @@ use Rattle.ados_model.specs.Tree.{Node, Tree, entries_in}
 use Rattle.ados_model.specs.declared.role.Role.{Role}
 use Rattle.ados_model.specs.declared.role.Role.TheVariants as roles
 use Rattle.ados_model.proofs.Standing.{count_same, duty_of, reached_stands, serves_at, slice_get-index}
+use Rattle.ados_change.proofs.Frame.{AtLongs}
 use Rattle.ados_change.specs.Untold.{KeepsPastEnd, KeepsUntold}
-use Rattle.ados_change.specs.steps.Writes.{AtLongs}
 use Rattle.ados_change.proofs.Changed.{nodes_here, nodes_other}
 use Rattle.ados_change.proofs.EntriesUntold.{IsOffMap, off_past_end, old_pages, untold_beside}
 use Rattle.ados_change.proofs.Keeping.{header_stays}

@@ -1,5 +1,6 @@
 -- An image that represents a tree has lawful bitmap blocks, and each of its files can be changed.
-use Rattle.std.proofs.Common.{◌≡◌, ◌≢◌, ℕ, zero, suc, ◌+◌, ◌<◌, ◌≤◌, ◌==◌, Bool, true, false, List, ◌∷◌, length, slice_index, Some, refl, sym, ap, ◌∙◌, subst, arith, eq-eqb, ne_eqb}
+use Rattle.std.proofs.Common.{◌≡◌, ◌≢◌, ℕ, zero, suc, ◌+◌, ◌<◌, ◌≤◌, ◌==◌, true, false, List, ◌∷◌, length, slice_index, Some, refl, sym, ap, ◌∙◌, subst, arith, eq-eqb, ne_eqb}
+use Rattle.std.proofs.lemmas.Bool.{false_from_ne_true}
 use Rattle.adf_block.specs.declared.layout.Format.{Format}
 use Rattle.adf_block.specs.declared.layout.Format.TheVariants.{Ofs, Ffs}
 use Rattle.adf_block.specs.Image.{IsInside, block_count, byte_at, root_key, long, has_free_bit}
@@ -26,11 +27,7 @@ module _ (image : List ℕ) (t : Tree) (s : Stands image t) where
 
   -- a block with a use is not marked free
   pub named_used : (block : ℕ) (duty : Duty) → HasDuty t s.layout block duty → has_free_bit image block ≡ false
-  named_used block duty h = go (has_free_bit image block) refl
-    where
-      go : (b : Bool) → has_free_bit image block ≡ b → b ≡ false
-      go true e = absurd (s.marked_free block (s.fits.inside block duty h) e (duty, h))
-      go false e = refl
+  named_used block duty h = false_from_ne_true (has_free_bit image block) (λ e. s.marked_free block (s.fits.inside block duty h) e (duty, h))
 
   -- ---- bitmap blocks
 

@@ -7,7 +7,6 @@ use Rattle.ados_model.specs.Stands.{Stands}
 use Rattle.ados_model.specs.Change.{written}
 use Rattle.ados_model.specs.Edits.{grown}
 use Rattle.ados_model.specs.Faults.{root_of}
-use Rattle.ados_model.specs.Kept.{Kept}
 use Rattle.ados_change.specs.Stamps.{AtStamps, touched}
 
 -- for this size the file needs more new blocks than are free
@@ -47,5 +46,4 @@ StaysUngrown file size old new = (new ≡ old) × CannotGrow file size old
 -- the time stamp was written into the file and the root, and nothing else changed
 pub record IsStamped (moment : Date3) (old : List ℕ) (file : ℕ) (new : List ℕ) : Type 0 where
   pub stands : (t : Tree) → Stands old t → Stands new (touched moment file t)
-  pub kept : Kept old new
   pub rest : SameBut (AtStamps (root_of old) file) old new

@@ -1,9 +1,8 @@
 //! Fields written into the block of one node, with the right checksum.
 
-ghost use Rattle.std.specs.Prelude.{◌<◌, ◌+◌};
+ghost use Rattle.std.specs.Prelude.{◌<◌};
 ghost use Rattle.adf_block.specs.Whole.{IsImage};
 ghost use Rattle.adf_block.specs.Image.{block_count, root_key};
-ghost use Rattle.adf_block.specs.declared.layout.TheConstants.{BLOCK_LONGS};
 ghost use Rattle.adf_block.specs.Frame.{OnlyBlock};
 ghost use Rattle.ados_name.specs.Name.{IsName};
 ghost use Rattle.ados_change.specs.Kinds.{content_of};
@@ -12,6 +11,7 @@ ghost use Rattle.ados_change.specs.steps.Writes.{Dated, Titled};
 
 use crate::edit::{put_date, put_text};
 use crate::node_kind::NodeKind;
+use crate::settled::settle_date;
 use adf_block::Image;
 use adf_block::layout::{
     CHECKSUM, DATE, DISK_DATE, HEADER_TYPE, NAME_BYTE, OWN_KEY, PARENT, PRIMARY_TYPE,
@@ -37,18 +37,6 @@ pub fn stamp(image: &mut Image, moment: Date3)
     prove!(image.blocks() >= 16);
     let root = image.root();
     settle_date(image, root, DISK_DATE, moment);
-}
-
-/// Writes a date into three longs of a block, from long `i`: days, minutes, ticks.
-fn settle_date(image: &mut Image, b: u32, i: u32, moment: Date3)
-    requires block { b < block_count image.old }
-    requires behind { CHECKSUM < i }
-    requires place { i + 2 < BLOCK_LONGS }
-    ensures dated { Dated b i moment image.old image.new }
-    ensures image { IsImage image.new }
-{
-    put_date(image, b, i, moment);
-    image.settle(b, CHECKSUM);
 }
 
 /// Sets the name and the directory of an entry. Bytes of a longer old name after the new one are unchanged (this

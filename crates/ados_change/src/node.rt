@@ -7,7 +7,6 @@ ghost use Rattle.ados_model.specs.Tree.{Tree};
 ghost use Rattle.ados_model.specs.Stands.{Stands};
 ghost use Rattle.ados_model.specs.Keys.{HasEntryKey, HasKey, HasTree};
 ghost use Rattle.ados_model.specs.Faults.{root_of};
-ghost use Rattle.ados_model.specs.Kept.{Kept};
 ghost use Rattle.ados_model.specs.Change.{stamped};
 ghost use Rattle.ados_change.specs.Places.{Summed};
 ghost use Rattle.ados_change.specs.FieldTold.{commented, dated, named, protected};
@@ -22,7 +21,6 @@ pub fn put_protection(image: &mut Image, key: u32, bits: Protect)
     requires tree { HasTree image.old }
     requires key { HasEntryKey image.old key }
     ensures stands { (t : Tree) → Stands image.old t → Stands image.new (protected key bits.0 t) }
-    ensures kept { Kept image.old image.new }
     ensures rest { SameBut (Summed key (long_byte PROTECTION) (long_byte (PROTECTION + 1))) image.old image.new }
 {
     image.set_summed(key, PROTECTION, bits.bits(), CHECKSUM);
@@ -34,7 +32,6 @@ pub fn put_comment(image: &mut Image, key: u32, comment: &Comment)
     requires tree { HasTree image.old }
     requires key { HasEntryKey image.old key }
     ensures stands { (t : Tree) → Stands image.old t → Stands image.new (commented key comment.now t) }
-    ensures kept { Kept image.old image.new }
     ensures rest { SameBut (Summed key COMMENT_BYTE (COMMENT_BYTE + 1 + length comment.now)) image.old image.new }
 {
     settle_text(image, key, COMMENT_BYTE as usize, comment.bytes());
@@ -45,7 +42,6 @@ pub fn touch(image: &mut Image, key: u32, date: Date3)
     requires tree { HasTree image.old }
     requires key { HasKey image.old key }
     ensures stands { (t : Tree) → Stands image.old t → Stands image.new (dated key date t) }
-    ensures kept { Kept image.old image.new }
     ensures rest { SameBut (Summed key (long_byte DATE) (long_byte (DATE + 3))) image.old image.new }
 {
     settle_date(image, key, DATE, date);
@@ -55,7 +51,6 @@ pub fn touch(image: &mut Image, key: u32, date: Date3)
 pub fn put_disk_name(image: &mut Image, name: &Name)
     requires { HasTree image.old }
     ensures stands { (t : Tree) → Stands image.old t → Stands image.new (named name.now t) }
-    ensures kept { Kept image.old image.new }
     ensures rest { SameBut (Summed (root_of image.old) NAME_BYTE (NAME_BYTE + 1 + length name.now)) image.old image.new }
 {
     prove!(image.blocks() >= 16);
@@ -67,7 +62,6 @@ pub fn put_disk_name(image: &mut Image, name: &Name)
 pub fn stamp_disk(image: &mut Image, moment: Date3)
     requires { HasTree image.old }
     ensures stands { (t : Tree) → Stands image.old t → Stands image.new (stamped moment t) }
-    ensures kept { Kept image.old image.new }
     ensures rest { SameBut (Summed (root_of image.old) (long_byte DISK_DATE) (long_byte (DISK_DATE + 3))) image.old image.new }
 {
     prove!(image.blocks() >= 16);

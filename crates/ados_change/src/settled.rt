@@ -4,6 +4,7 @@ ghost use Rattle.std.specs.Prelude.{◌≡◌, ◌<◌, ◌≤◌, ◌+◌, ◌*
 ghost use Rattle.adf_block.specs.Image.{long_byte, block_count, block_sum, HasText};
 ghost use Rattle.adf_block.specs.declared.layout.TheConstants.{BLOCK_BYTES, BLOCK_LONGS};
 ghost use Rattle.adf_block.specs.Frame.{SameBut};
+ghost use Rattle.adf_block.specs.Whole.{IsImage};
 ghost use Rattle.ados_model.specs.Stands.{date_at};
 ghost use Rattle.ados_change.specs.Places.{Summed};
 
@@ -34,6 +35,7 @@ pub fn settle_date(image: &mut Image, b: u32, i: u32, date: Date3)
     ensures date { date_at image.new b i ≡ date }
     ensures sum { block_sum image.old b ≡ 0 → block_sum image.new b ≡ 0 }
     ensures rest { SameBut (Summed b (4 * i) (4 * i + 12)) image.old image.new }
+    ensures image { IsImage image.new }
 {
     image.set_summed(b, i, date.days, CHECKSUM);
     image.set_summed(b, i + 1, date.minutes, CHECKSUM);

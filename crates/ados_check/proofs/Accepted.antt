@@ -14,11 +14,11 @@ use Rattle.ados_model.specs.Faults.{InImage, Reached, root_of}
 use Rattle.ados_model.specs.Faults.IsPlace.{root_page}
 use Rattle.ados_model.specs.Faults.Reached.{start, named}
 use Rattle.ados_model.specs.Rebuilt.{HasValidBitmap, IsOfBitmap, Rebuilt}
-use Rattle.ados_model.specs.Accepted.{HasNoLost}
+use Rattle.ados_model.specs.Accepted.{Accepts, HasNoLost}
 use Rattle.ados_model.proofs.NoFaults.{faults_have_no_tree}
 use Rattle.ados_check.specs.declared.mark.Mark.{Mark}
 use Rattle.ados_check.specs.Marks.{mark_at, IsChecked}
-use Rattle.ados_check.specs.Laws.{AreInUse, IsMended, CheckedHasPages, CheckedIsAccepted, MendedIsAccepted}
+use Rattle.ados_check.specs.Laws.{AreInUse, IsMended}
 use Rattle.ados_check.proofs.Paths.{mark_of}
 use Rattle.ados_check.proofs.Roles.{reached_marked, marked_inside}
 use Rattle.ados_check.proofs.RolePlaces.{length-pages_of, page-at, reached_stands}
@@ -64,10 +64,8 @@ module _ (image : List ℕ) (marks : List (Option Mark)) (c : IsChecked image ma
       let l : at.0 < pages_of image = omega (arith, at.1.within, length-pages_of image) in
       (at.0, l, sym at.1.here ∙ page-at image at.0 l)
 
-pub checked_has_pages : CheckedHasPages
-checked_has_pages image marks im c = lawful_pages image marks c
-
-pub checked_is_accepted : CheckedIsAccepted
+-- with a valid bitmap it is accepted as it is, if no marked block is free
+pub checked_is_accepted : (image : List ℕ) (marks : List (Option Mark)) → IsImage image → IsChecked image marks → HasValidBitmap image → AreInUse image marks → Accepts image false image
 checked_is_accepted image marks im c valid used =
     let t = tree_of image marks in
     let s = stands image marks im c valid used in
@@ -213,7 +211,8 @@ module _ (old new : List ℕ) (marks : List (Option Mark)) (im : IsImage old) (c
           let free : has_free_bit new b ≡ true = free_unmarked b (lost.inside.0, omega (arith, lost.inside.1, count)) ∙ ap (λ (o : Option Mark). not (is_some o)) lost.unmarked in
           absurd (false≢true (sym lost.used ∙ free))
 
-pub mended_is_accepted : MendedIsAccepted
+-- without a valid bitmap it is accepted with a rebuilt one
+pub mended_is_accepted : (old new : List ℕ) (marks : List (Option Mark)) → IsImage old → IsImage new → IsChecked old marks → ¬ HasValidBitmap old → IsMended old marks new → Accepts old true new
 mended_is_accepted old new marks im new_im c was mended = (
   shows_no_fault old marks im c was,
   rebuilt old new marks im c mended was,

@@ -2,7 +2,7 @@
 use Rattle.std.proofs.Common.{◌≡◌, ◌≢◌, ℕ, ◌+◌, ◌<◌, ◌≤◌, ◌⊎◌, inl, inr, Bool, true, false, cond, List, length, Option, refl, sym, ap, ap₂, ◌∙◌, subst, arith}
 use Rattle.std.proofs.lemmas.Bool.{cases_Bool, cases_lt}
 use Rattle.std.specs.declared.cmp.Ordering.{Ordering}
-use Rattle.std.specs.declared.cmp.Ordering.TheVariants.{Less, Equal, Greater}
+use Rattle.std.specs.declared.cmp.Ordering.TheVariants.{Equal}
 use Rattle.std.specs.Ordering.{nat_cmp, ordering_then, is_eq}
 use Rattle.std.specs.Cmp.Lexicographic.{slice_cmp}
 use Rattle.std.specs.FinMap.{nat_cmp-IsAntisymmetric, slice_cmp-IsAntisymmetric}
@@ -24,14 +24,12 @@ abbrev pub key_of : List ℕ → ℕ → ℕ → EntryName
 key_of image block dir = record { dir = dir; name = upper_name image block }
 
 equal_parts : (x y : EntryName) (o : Ordering) → nat_cmp x.dir y.dir ≡ o → ordering_then o (slice_cmp nat_cmp x.name y.name) ≡ Equal → (x.dir ≡ y.dir) × (x.name ≡ y.name)
-equal_parts x y Less e h = absurd (cc h)
 equal_parts x y Equal e h = (nat_cmp-IsAntisymmetric x.dir y.dir e, slice_cmp-IsAntisymmetric nat_cmp-IsAntisymmetric x.name y.name h)
-equal_parts x y Greater e h = absurd (cc h)
+equal_parts x y _ e h = absurd (cc h)
 
 pub is_equal : (o : Ordering) → is_eq o ≡ true → o ≡ Equal
-is_equal Less e = absurd (cc e)
 is_equal Equal e = refl
-is_equal Greater e = absurd (cc e)
+is_equal _ e = absurd (cc e)
 
 -- names that are equal in this order are equal
 same_keys : (x y : EntryName) → is_at (entry_cmp x) y ≡ true → (x.dir ≡ y.dir) × (x.name ≡ y.name)
@@ -126,4 +124,4 @@ pub all_unlike : (image : List ℕ) (marks : List (Option Mark)) (n : ℕ) (name
 all_unlike image marks n names c size e block other dir m k same =
     let v = (entry_sound image marks c block dir m).name in
     let w = (entry_sound image marks c other dir k).name in
-    e.unlike block other dir (omega (arith, entry_below marks block dir m, size)) (omega (arith, entry_below marks other dir k, size)) m k (upper_names_equal image block other v w same)
+    e.unlike block other dir (omega (arith, entry_below marks block dir m, size)) (omega (arith, entry_below marks other dir k, size)) m k (upper_names_equal image block other v.text.counted w.text.counted same)

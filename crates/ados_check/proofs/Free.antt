@@ -1,5 +1,5 @@
 -- A reached block that is marked free is a fault of the bitmap.
-use Rattle.std.proofs.Common.{◌≡◌, ℕ, zero, suc, ◌<◌, List, [], ◌∷◌, get_or, true, false, Option, Some, None, is_some, refl, sym, ap, ◌∙◌, arith}
+use Rattle.std.proofs.Common.{◌≡◌, ℕ, suc, ◌<◌, List, ◌∷◌, get_or, true, false, Option, Some, None, is_some, refl, sym, ap, ◌∙◌, arith}
 use Rattle.std.proofs.lemmas.Bool.{false≢true}
 use Rattle.adf_block.specs.Whole.{IsImage, HasFreeBit}
 use Rattle.ados_map.specs.Pages.{LawfulPages, page_block, page_of, pages_of}
@@ -12,9 +12,8 @@ use Rattle.ados_check.proofs.Roles.{marked_inside}
 use Rattle.ados_check.proofs.MarkLemmas.{some_is}
 
 pub mark_got : (marks : List (Option Mark)) (block : ℕ) → mark_at marks block ≡ get_or marks block None
-mark_got [] block = refl
-mark_got (m ∷ ms) zero = refl
 mark_got (m ∷ ms) (suc block) = mark_got ms block
+mark_got _ _ = refl
 
 -- a cell with a mark
 pub marked_by : (marks : List (Option Mark)) (block : ℕ) → is_some (get_or marks block None) ≡ true → (mark : Mark) × (mark_at marks block ≡ Some mark)

@@ -8,7 +8,7 @@ use Rattle.adf_block.specs.Fields.{pointer_count, primary_type}
 use Rattle.adf_block.specs.declared.layout.TheConstants.{HEADER_TYPE, NEXT_DATA}
 use Rattle.ados_model.specs.File.{pointer_block}
 use Rattle.ados_model.specs.declared.role.Role.{Role}
-use Rattle.ados_model.specs.declared.role.Role.TheVariants.{Root, Page, Entry, Data, Extension}
+use Rattle.ados_model.specs.declared.role.Role.TheVariants.{Entry, Extension}
 use Rattle.ados_model.specs.Faults.{HasFileType, IsOfs, Reached, pointers_of}
 use Rattle.ados_check.specs.Rules.{HasBadField, HasBadTypeAs}
 use Rattle.ados_check.specs.declared.rules.FieldRule.TheVariants.{PointerCount, FirstData}
@@ -70,9 +70,6 @@ module _ (image : List ℕ) (file : ℕ) (r : IsReachedFile image file) where
 
 -- the count that a block with pointers has if it does not break the rule
 pub right_count : (image : List ℕ) (block : ℕ) (role : Role) → HasPointersAs image block role → ¬ HasBadField image block role PointerCount → HasCount image block role (pointer_count image block)
-right_count image block Root held right = elim held [ ]
-right_count image block Page held right = elim held [ ]
-right_count image block (Data file) held right = elim held [ ]
 right_count image block (Entry dir s) (header h f) right =
     let over : ¬ (72 < pointer_count image block) = λ l. right (f, inl l) in
     record {
@@ -90,14 +87,13 @@ right_count image block (Extension file) (extension h) right =
       full = λ more. let less : ¬ (pointer_count image block < 72) = λ l. right (inr (inr (l, more))) in omega (arith, over, less);
       some = λ file e. omega (arith, none);
     }
+right_count image block _ held right = elim held [ ]
 
 module _ (image : List ℕ) (block : ℕ) where
   pub reached_as : (role : Role) → HasPointersAs image block role → Reached image block role
-  reached_as Root held = elim held [ ]
-  reached_as Page held = elim held [ ]
-  reached_as (Data file) held = elim held [ ]
   reached_as (Entry dir s) (header h f) = h
   reached_as (Extension file) (extension h) = h
+  reached_as _ held = elim held [ ]
 
   entry_as : (role : Role) → IsReachedEntry image block role → HasFileType image block → HasPointersAs image block role
   entry_as role e f = subst (HasPointersAs image block) (sym e.is) (header (subst (Reached image block) e.is e.reached) f)

@@ -9,16 +9,11 @@ use Rattle.ados_model.specs.Stands.{format_byte}
 
 first_four : (image : List ℕ) → 4 ≤ length image → take 4 image ≡ slice_index image 0 ∷ slice_index image 1 ∷ slice_index image 2 ∷ slice_index image 3 ∷ []
 first_four (a ∷ b ∷ c ∷ d ∷ rest) h = refl
-first_four (a ∷ b ∷ c ∷ []) h = absurd (omega arith)
-first_four (a ∷ b ∷ []) h = absurd (omega arith)
-first_four (a ∷ []) h = absurd (omega arith)
-first_four [] h = absurd (omega arith)
+first_four _ h = absurd (omega arith)
 
 first_three : (image : List ℕ) → 3 ≤ length image → take 3 image ≡ slice_index image 0 ∷ slice_index image 1 ∷ slice_index image 2 ∷ []
 first_three (a ∷ b ∷ c ∷ rest) h = refl
-first_three (a ∷ b ∷ []) h = absurd (omega arith)
-first_three (a ∷ []) h = absurd (omega arith)
-first_three [] h = absurd (omega arith)
+first_three _ h = absurd (omega arith)
 
 pub dos_bytes : (image : List ℕ) (k : ℕ) → 4 ≤ length image → IsDos image → byte_at image 0 3 ≡ k → bytes_at image 0 0 4 ≡ 68 ∷ 79 ∷ 83 ∷ k ∷ []
 unfolding bytes_at byte_at

@@ -19,7 +19,6 @@ pub mod Adding
 pub mod Reading
 pub mod PlacesTold
 pub mod PlaceLemmas
-pub mod ReachLemmas
 pub mod KindLemmas
 pub mod NameLemmas
 pub mod MarkLemmas
@@ -27,7 +26,6 @@ pub mod ReachMoves
 pub mod Moves
 pub mod Ruling
 pub mod DataRuling
-pub mod Shown
 pub mod Reached
 pub mod Headers
 pub mod Pointers

@@ -37,11 +37,9 @@ module _ (image : List ℕ) (marks : List (Option Mark)) (im : IsImage image) (c
   no_bad_sum block h = go h.role h.reached h.summed
     where
       go : (role : Role) → Reached image block role → Faults.HasSum image role → ⊥
-      go roles.Root r m = h.wrong (sound r).sum
       go roles.Page r m = h.wrong (sound r)
-      go (roles.Entry dir s) r m = h.wrong (sound r).sum
       go (roles.Data file) r m = h.wrong (sound r m).sum
-      go (roles.Extension file) r m = h.wrong (sound r).sum
+      go _ r m = h.wrong (sound r).sum
 
   no_bad_type : (block : ℕ) → Faults.HasBadType image block → ⊥
   no_bad_type block (Faults.HasBadType.root_primary e n) = n (sound_root e).primary

@@ -14,17 +14,18 @@ use Rattle.ados_model.specs.Parts.{name_in}
 use Rattle.ados_model.specs.Tree.LeadsToRoot.{at_root, by_parent}
 use Rattle.ados_model.specs.Stands.{in_slot}
 use Rattle.ados_model.specs.Faults.{InImage, Reached, root_of}
-use Rattle.ados_model.specs.Faults.IsPlace.{root_page, root_slot, directory_slot, next_entry, header_pointer, first_extension, extension_pointer, further_extension}
+use Rattle.ados_model.specs.Faults.IsPlace.{root_page, root_slot, directory_slot, next_entry}
 use Rattle.ados_model.specs.Faults.Reached.{start, named}
 use Rattle.ados_model.proofs.Lists.{joined}
 use Rattle.ados_check.specs.declared.mark.Mark.{Mark}
-use Rattle.ados_check.specs.Marks.{mark_at, IsChecked, IsSound, IsSoundEntry, IsSoundRoot}
+use Rattle.ados_check.specs.Marks.{mark_at, IsChecked, IsSound, IsSoundRoot}
 use Rattle.ados_check.proofs.Joined.{place_of, Contains-joined, part_of_joined, AllPairs-joined, filter-joined}
 use Rattle.ados_check.proofs.Paths.{mark_of}
 use Rattle.ados_check.proofs.Roles.{IsMarkedDirectory, reached_marked, marked_inside, root_role}
 use Rattle.ados_check.proofs.RolePlaces.{chain_of, StandsAt, marked_at, marked_stands, one_place, holder_of, long_of}
 use Rattle.ados_check.proofs.Texts.{comment_valid}
 use Rattle.ados_check.proofs.TreeOf.{keys_of, root_node, tree_of, NodeView, the_root, an_entry, node_view, node_is, entry_of_parent, parent_of_entry, entries_are, directory_of_entry}
+use Rattle.ados_check.proofs.UpperNames.{entry_sound}
 
 module _ (image : List ℕ) (marks : List (Option Mark)) (im : IsImage image) (c : IsChecked image marks) where
   abbrev t : Tree
@@ -49,9 +50,6 @@ module _ (image : List ℕ) (marks : List (Option Mark)) (im : IsImage image) (c
       let stands : StandsAt image marks im c (roles.Entry dir s) at.0 key = subst (λ (role : Role). StandsAt image marks im c role at.0 key) is at.1 in
       (stands.holder.0, stands.holder.1, subst (Contains (chain_of image dir s)) stands.here (Contains-get_or (chain_of image dir s) at.0 0 stands.within))
 
-  sound_entry : (key : ℕ) (m : Mark) (dir s : ℕ) → mark_at marks key ≡ Some m → m.role ≡ roles.Entry dir s → IsSoundEntry image key dir s
-  sound_entry key m dir s e is = subst (IsSound image key) is (c.reached.sound key m e)
-
   name_is : (key : ℕ) (m : Mark) (dir s : ℕ) → mark_at marks key ≡ Some m → m.role ≡ roles.Entry dir s → name_of t key ≡ text_at image key NAME_BYTE
   name_is key m dir s e is = ap name_in (node_is image marks key m (roles.Entry dir s) e is)
 
@@ -59,7 +57,7 @@ module _ (image : List ℕ) (marks : List (Option Mark)) (im : IsImage image) (c
   told : (dir : ℕ) → IsMarkedDirectory image marks dir → (s x : ℕ) → s < 72 → Contains (chain_of image dir s) x → slot (name_of t x) ≡ s
   told dir d s x l h =
       let at = chain_marked dir s d l x h in
-      ap slot (name_is x at.0 dir s at.1 at.2) ∙ (sound_entry x at.0 dir s at.1 at.2).slotted
+      ap slot (name_is x at.0 dir s at.1 at.2) ∙ (entry_sound image marks c.reached x dir (at.0, s, at.1, at.2)).slotted
 
   -- the entries of a slot are the slot's chain
   pub slot_is : (dir s : ℕ) → IsMarkedDirectory image marks dir → s < 72 → in_slot t dir s ≡ chain_of image dir s
@@ -153,10 +151,7 @@ module _ (image : List ℕ) (marks : List (Option Mark)) (im : IsImage image) (c
       let m = reached_marked image marks c.reached h in
       by_parent (parent_of_entry image marks _ m.0 dir r m.1 m.2) (parent_leads h)
   parent_leads (named h (next_entry n) inside) = parent_leads h
-  parent_leads (named h (header_pointer e p) inside) = tt
-  parent_leads (named h (first_extension e n) inside) = tt
-  parent_leads (named h (extension_pointer p) inside) = tt
-  parent_leads (named h (further_extension n) inside) = tt
+  parent_leads _ = tt
 
   leads : (key : ℕ) (a : Node) → NodeView image marks key a → LeadsToRoot t key
   leads key a (the_root m e is same) = at_root (root_role image marks c.reached key m e is)
@@ -169,14 +164,14 @@ module _ (image : List ℕ) (marks : List (Option Mark)) (im : IsImage image) (c
   name_valid key a (the_root m e is same) =
       let sound : IsSoundRoot image key = subst (IsSound image key) is (c.reached.sound key m e) in
       subst IsName (sym (ap (λ (b : Node). b.name) same)) sound.name.valid
-  name_valid key a (an_entry m dir s e is same) = subst IsName (sym (ap (λ (b : Node). b.name) same)) (sound_entry key m dir s e is).name.valid
+  name_valid key a (an_entry m dir s e is same) = subst IsName (sym (ap (λ (b : Node). b.name) same)) (entry_sound image marks c.reached key dir (m, s, e, is)).name.valid
 
   comment_is_valid : (key : ℕ) (a : Node) → NodeView image marks key a → IsComment a.comment
   comment_is_valid key a (the_root m e is same) =
       let none : a.comment ≡ [] = ap (λ (b : Node). b.comment) same in
       subst IsComment (sym none) (record { short = omega arith; bytes = λ k d l. absurd (omega (arith, l)) })
   comment_is_valid key a (an_entry m dir s e is same) =
-      subst IsComment (sym (ap (λ (b : Node). b.comment) same)) (comment_valid image key im (marked_inside image marks c.reached im key m e).1 (sound_entry key m dir s e is).comment)
+      subst IsComment (sym (ap (λ (b : Node). b.comment) same)) (comment_valid image key im (marked_inside image marks c.reached im key m e).1 (entry_sound image marks c.reached key dir (m, s, e, is)).comment)
 
   node_inside : (key : ℕ) (a : Node) → NodeView image marks key a → InImage image key
   node_inside key a (the_root m e is same) = marked_inside image marks c.reached im key m e

@@ -23,7 +23,7 @@ unfoldable extensions_of : List ℕ → ℕ → List ℕ
 extensions_of image file = follow (suc (block_count image)) image NEXT_EXTENSION (long image file NEXT_EXTENSION)
 
 module _ (image : List ℕ) (marks : List (Option Mark)) (im : IsImage image) (c : AreReached image marks) (file : ℕ) (f : IsMarkedFile image marks file) where
-  along : AreMarkedAlong image marks (roles.Extension file) NEXT_EXTENSION (long image file NEXT_EXTENSION) file NEXT_EXTENSION
+  pub along : AreMarkedAlong image marks (roles.Extension file) NEXT_EXTENSION (long image file NEXT_EXTENSION) file NEXT_EXTENSION
   along = record {
     begins = λ n. c.marked file NEXT_EXTENSION f.mark (roles.Extension file) f.marked (subst (λ (x : Role). IsPlace image file x NEXT_EXTENSION (roles.Extension file)) (sym f.role) (first_extension f.secondary n));
     goes_on = λ b h at e n. c.marked b NEXT_EXTENSION (mark_of (roles.Extension file) h at) (roles.Extension file) e (further_extension n);
@@ -74,12 +74,11 @@ module _ (image : List ℕ) (marks : List (Option Mark)) (im : IsImage image) (c
       along.apart m.0 m.1 (ap (mark_at marks) e ∙ m.2) refl
 
   once_at : (p q : ℕ) → p < q → q ≤ length (extensions_of image file) → pointer_block image file p ≢ pointer_block image file q
-  once_at zero zero l m e = omega arith
   once_at zero (suc q) l m e = not_file q (omega arith) e
-  once_at (suc p) zero l m e = omega arith
   once_at (suc p) (suc q) l m e =
       let same = extension_once p q (omega arith) (omega arith) (sym (header_is (suc p) (omega arith)) ∙ e ∙ header_is (suc q) (omega arith)) in
       omega (arith, same, l)
+  once_at _ _ l m e = omega arith
 
   -- a pointer of a header or extension block is a place
   pointer_place : (q : ℕ) → q ≤ length (extensions_of image file)

@@ -22,6 +22,7 @@ use Rattle.ados_check.specs.Marks.{mark_at, IsChecked, IsSoundFile}
 use Rattle.ados_check.proofs.Counting.{AreDifferent}
 use Rattle.ados_check.proofs.Paths.{mark_of, IsPath, follow, follow-path, follow-chained, chained_path, holder_along, long_along, AreMarkedAlong, marked_along, once_along}
 use Rattle.ados_check.proofs.Roles.{IsMarkedDirectory, as_root, as_entry, IsMarkedFile, marked_inside}
+use Rattle.ados_check.proofs.Reached.{along}
 
 -- the blocks in the hash chain of a slot
 unfoldable pub chain_of : List ℕ → ℕ → ℕ → List ℕ
@@ -92,15 +93,7 @@ module _ (image : List ℕ) (marks : List (Option Mark)) (im : IsImage image) (c
   sound_file file f = c.files file f.dir (f.mark, f.slot_of_chain, f.marked, f.role) f.secondary
 
   extension-along : (file : ℕ) → IsMarkedFile image marks file → AreMarkedAlong image marks (roles.Extension file) NEXT_EXTENSION (long image file NEXT_EXTENSION) file NEXT_EXTENSION
-  extension-along file f = record {
-    begins = λ n. c.reached.marked file NEXT_EXTENSION f.mark (roles.Extension file) f.marked (subst (λ (x : Role). IsPlace image file x NEXT_EXTENSION (roles.Extension file)) (sym f.role) (first_extension f.secondary n));
-    goes_on = λ b h at e n. c.reached.marked b NEXT_EXTENSION (mark_of (roles.Extension file) h at) (roles.Extension file) e (further_extension n);
-    apart = λ h at e z.
-        let same : f.mark ≡ mark_of (roles.Extension file) h at = cc (e, f.marked) in
-        let role : f.mark.role ≡ roles.Extension file = ap (λ (m : Mark). m.role) same in
-        let entry = f.role in
-        cc (role, entry);
-  }
+  extension-along file f = along image marks im c.reached file f
 
   extension-path : (file : ℕ) → IsMarkedFile image marks file → IsPath image NEXT_EXTENSION (long image file NEXT_EXTENSION) (extension_blocks image file)
   extension-path file f =

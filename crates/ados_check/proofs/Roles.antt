@@ -7,7 +7,7 @@ use Rattle.ados_model.specs.declared.role.Role.{Role}
 use Rattle.ados_model.specs.declared.role.Role.TheVariants.{Root, Entry}
 use Rattle.adf_block.specs.declared.layout.TheConstants.{FILE_TYPE}
 use Rattle.ados_model.specs.Faults.{InImage, IsPlace, Reached, root_of}
-use Rattle.ados_model.specs.Faults.IsPlace.{root_page, root_slot, directory_slot, next_entry, header_pointer, first_extension, extension_pointer, further_extension}
+use Rattle.ados_model.specs.Faults.IsPlace.{root_page}
 use Rattle.ados_model.specs.Faults.Reached.{start, named}
 use Rattle.ados_check.specs.declared.mark.Mark.{Mark}
 use Rattle.ados_check.specs.Marks.{mark_at, AreReached}
@@ -16,13 +16,12 @@ use Rattle.ados_check.proofs.Paths.{mark_of}
 -- no place names the root
 pub place_not_root : {image : List ℕ} {block i : ℕ} {role next : Role} → IsPlace image block role i next → next ≢ Root
 place_not_root (root_page l) z = cc z
-place_not_root (root_slot l n) z = cc z
-place_not_root (directory_slot e l n) z = cc z
-place_not_root (next_entry n) z = cc z
-place_not_root (header_pointer e p) z = cc z
-place_not_root (first_extension e n) z = cc z
-place_not_root (extension_pointer p) z = cc z
-place_not_root (further_extension n) z = cc z
+place_not_root _ z = cc z
+
+-- only the root has the role of the root
+pub only_root : {image : List ℕ} {block : ℕ} {role : Role} → Reached image block role → role ≡ Root → block ≡ root_of image
+only_root start e = refl
+only_root (named h p inside) e = absurd (place_not_root p e)
 
 -- a block marked as an entry that is a directory
 pub data IsMarkedDirectory (image : List ℕ) (marks : List (Option Mark)) (dir : ℕ) : Type 0 where
@@ -63,8 +62,4 @@ module _ (image : List ℕ) (marks : List (Option Mark)) (c : AreReached image m
 
   -- only the root is marked as the root
   pub root_role : (block : ℕ) (m : Mark) → mark_at marks block ≡ Some m → m.role ≡ Root → block ≡ root_of image
-  root_role block m e is = go (c.reached block m e) is
-    where
-      go : {b : ℕ} {role : Role} → Reached image b role → role ≡ Root → b ≡ root_of image
-      go start z = refl
-      go (named h p inside) z = absurd (place_not_root p z)
+  root_role block m e is = only_root (c.reached block m e) is

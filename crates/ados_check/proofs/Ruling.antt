@@ -1,5 +1,5 @@
 -- What a broken rule shows, and that a block which breaks none is sound.
-use Rattle.std.proofs.Common.{◌≡◌, ◌≢◌, ℕ, ◌+◌, ◌<◌, ◌≤◌, inl, inr, ◌==◌, List, All, Contains, subst, arith, eq-eqb}
+use Rattle.std.proofs.Common.{◌≡◌, ◌≢◌, ℕ, ◌+◌, ◌<◌, ◌≤◌, inl, inr, ◌==◌, List, All, Contains, refl, subst, arith, eq-eqb}
 use Rattle.std.proofs.lemmas.Bool.{cases_Bool, eqb-true}
 use Rattle.std.proofs.lemmas.List.Elements.{Contains-get_or}
 use Rattle.adf_block.specs.Image.{block_count, byte_at}
@@ -22,7 +22,7 @@ use Rattle.ados_check.specs.declared.rules.FieldRule.{FieldRule}
 use Rattle.ados_check.specs.declared.rules.FieldRule.TheVariants.{NoLink, OwnKey, Parent, Name, Chain, Comment, PointerCount, FirstData}
 use Rattle.ados_check.specs.declared.rules.TheConstants.{FIELD_RULES}
 use Rattle.ados_check.proofs.NameLemmas.{length_text, valid_name}
-use Rattle.ados_check.proofs.ReachLemmas.{reached_root}
+use Rattle.ados_check.proofs.Roles.{only_root}
 use Rattle.ados_check.proofs.Texts.{bytes_at-small}
 
 pub stable : (a b : ℕ) → ¬ (a ≢ b) → a ≡ b
@@ -33,9 +33,9 @@ stable a b h = elim (cases_Bool (a == b)) [
 
 module _ (image : List ℕ) (block : ℕ) where
   pub type_shows : (role : Role) → Reached image block role → HasBadTypeAs image block role → Faults.HasBadType image block
-  type_shows Root h (inl n) = root_primary (reached_root image block h) n
-  type_shows Root h (inr (inl n)) = root_table (reached_root image block h) n
-  type_shows Root h (inr (inr n)) = root_secondary (reached_root image block h) n
+  type_shows Root h (inl n) = root_primary (only_root h refl) n
+  type_shows Root h (inr (inl n)) = root_table (only_root h refl) n
+  type_shows Root h (inr (inr n)) = root_secondary (only_root h refl) n
   type_shows Page h n = absurd n
   type_shows (Entry dir s) h (inl n) = entry_primary (dir, s, h) n
   type_shows (Entry dir s) h (inr n) = entry_secondary (dir, s, h) n.0 n.1 n.2
@@ -47,15 +47,8 @@ module _ (image : List ℕ) (block : ℕ) where
   file_of dir s h f = record { dir = dir; slot_of_chain = s; reached = h; secondary = f }
 
   pub field_shows : (role : Role) (rule : FieldRule) → Reached image block role → HasBadField image block role rule → Shows image (kind_of rule) block
-  field_shows Root NoLink h n = absurd n
-  field_shows Root OwnKey h n = absurd n
-  field_shows Root Parent h n = root_parent (reached_root image block h) n
+  field_shows Root Parent h n = root_parent (only_root h refl) n
   field_shows Root Name h n = n
-  field_shows Root Chain h n = absurd n
-  field_shows Root Comment h n = absurd n
-  field_shows Root PointerCount h n = absurd n
-  field_shows Root FirstData h n = absurd n
-  field_shows Page rule h n = absurd n
   field_shows (Entry dir s) NoLink h n = ((dir, s, h), n)
   field_shows (Entry dir s) OwnKey h n = entry_key (dir, s, h) n
   field_shows (Entry dir s) Parent h n = entry_parent h n
@@ -66,24 +59,13 @@ module _ (image : List ℕ) (block : ℕ) where
   field_shows (Entry dir s) PointerCount h (f, inl n) = Faults.HasBadCount.over (file_pointers (file_of dir s h f)) n
   field_shows (Entry dir s) PointerCount h (f, inr n) = Faults.HasBadCount.not_full (file_pointers (file_of dir s h f)) n.0 n.1
   field_shows (Entry dir s) FirstData h n = Faults.HasBadPointer.first_data n.1.0 (file_of dir s h n.0) n.1.1
-  field_shows (Data file) NoLink h n = absurd n
-  field_shows (Data file) OwnKey h n = absurd n
   field_shows (Data file) Parent h n = data_file n.0 h n.1
-  field_shows (Data file) Name h n = absurd n
-  field_shows (Data file) Chain h n = absurd n
-  field_shows (Data file) Comment h n = absurd n
-  field_shows (Data file) PointerCount h n = absurd n
-  field_shows (Data file) FirstData h n = absurd n
-  field_shows (Extension file) NoLink h n = absurd n
   field_shows (Extension file) OwnKey h n = extension_key (file, h) n
   field_shows (Extension file) Parent h n = extension_file h n
-  field_shows (Extension file) Name h n = absurd n
-  field_shows (Extension file) Chain h n = absurd n
-  field_shows (Extension file) Comment h n = absurd n
   field_shows (Extension file) PointerCount h (inl n) = Faults.HasBadCount.no_pointer (file, h) n
   field_shows (Extension file) PointerCount h (inr (inl n)) = Faults.HasBadCount.over (extension_pointers (file, h)) n
   field_shows (Extension file) PointerCount h (inr (inr n)) = Faults.HasBadCount.not_full (extension_pointers (file, h)) n.0 n.1
-  field_shows (Extension file) FirstData h n = absurd n
+  field_shows _ _ h n = absurd n
 
   -- an entry that is no link and has a type is a directory or a file
   entry_typed : ¬ HasNoType image block → ¬ Faults.HasLinkType image block → HasEntryType image block
@@ -121,7 +103,7 @@ module _ (image : List ℕ) (block : ℕ) where
       secondary = stable _ _ (λ n. types (inr (inr n)));
       parent = stable _ _ (fields 2 NoLink (omega arith));
       sum = stable _ _ (λ n. sum (tt, n));
-      name = name_right (root_name (reached_root image block h)) (fields 3 NoLink (omega arith));
+      name = name_right (root_name (only_root h refl)) (fields 3 NoLink (omega arith));
     }
     sound Page h sum types fields = stable _ _ (λ n. sum (tt, n))
     sound (Entry dir s) h sum types fields =

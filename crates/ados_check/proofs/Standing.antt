@@ -18,7 +18,7 @@ use Rattle.ados_model.proofs.Nodes.{content_in}
 use Rattle.ados_model.proofs.Counting.{no_data, slice_get-back}
 use Rattle.ados_model.proofs.Standing.{slice_get-index}
 use Rattle.ados_check.specs.declared.mark.Mark.{Mark}
-use Rattle.ados_check.specs.Marks.{mark_at, IsChecked, IsSound, IsSoundEntry, IsSoundRoot}
+use Rattle.ados_check.specs.Marks.{mark_at, IsChecked, IsSound, IsSoundRoot}
 use Rattle.ados_check.proofs.Joined.{place_of}
 use Rattle.ados_check.proofs.Paths.{mark_of}
 use Rattle.ados_check.proofs.Roles.{marked_inside}
@@ -26,17 +26,16 @@ use Rattle.ados_check.proofs.RolePlaces.{pages_of, length-pages_of, page-at, len
 use Rattle.ados_check.proofs.Texts.{length-bytes_at, comment_text}
 use Rattle.ados_check.proofs.TreeOf.{content_of, tree_of, IsLost, lost_view, lost_is, NodeView, the_root, an_entry, node_view, node_is, directory_content, file_content, file_bytes}
 use Rattle.ados_check.proofs.ProperTree.{proper, slot_is}
+use Rattle.ados_check.proofs.UpperNames.{entry_sound}
 
 -- the data blocks and the extension blocks for a node's content
 abbrev pub data_in : List ℕ → ℕ → Option Content → List ℕ
 data_in image file (Some (File bytes)) = data_blocks image file
-data_in image file (Some (Directory keys)) = []
-data_in image file None = []
+data_in image file _ = []
 
 abbrev pub extensions_in : List ℕ → ℕ → Option Content → List ℕ
 extensions_in image file (Some (File bytes)) = extension_blocks image file
-extensions_in image file (Some (Directory keys)) = []
-extensions_in image file None = []
+extensions_in image file _ = []
 
 abbrev pub layout_of : List ℕ → List (Option Mark) → Layout
 layout_of image marks = record {
@@ -46,11 +45,10 @@ layout_of image marks = record {
 }
 
 abbrev duty_of : Role → ℕ → Duty
-duty_of roles.Root k = Duty.Key
 duty_of roles.Page k = Duty.Page k
-duty_of (roles.Entry dir s) k = Duty.Key
 duty_of (roles.Data file) k = Duty.Data file k
 duty_of (roles.Extension file) k = Duty.Extension file k
+duty_of _ k = Duty.Key
 
 module _ (image : List ℕ) (marks : List (Option Mark)) (im : IsImage image) (c : IsChecked image marks) where
   abbrev t : Tree
@@ -155,9 +153,8 @@ module _ (image : List ℕ) (marks : List (Option Mark)) (im : IsImage image) (c
       length-data_blocks image file ∙ ap (data_count (format_of image)) (sym (ap (λ (xs : List ℕ). length xs) same ∙ length-contents image file))
 
   extension_length : (file : ℕ) (o : Option Content) → length (extensions_in image file o) ≡ extension_count (length (data_in image file o))
-  extension_length file None = refl
-  extension_length file (Some (Directory keys)) = refl
   extension_length file (Some (File bytes)) = length-extension_blocks image file
+  extension_length file _ = refl
 
   lost_length : (block : ℕ) (bytes : List ℕ) → t.lost block ≡ Some bytes → length bytes ≡ 512
   lost_length block bytes h =
@@ -179,15 +176,12 @@ module _ (image : List ℕ) (marks : List (Option Mark)) (im : IsImage image) (c
   sound_root : (key : ℕ) (m : Mark) → mark_at marks key ≡ Some m → m.role ≡ roles.Root → IsSoundRoot image key
   sound_root key m e is = subst (IsSound image key) is (c.reached.sound key m e)
 
-  sound_entry : (key : ℕ) (m : Mark) (dir s : ℕ) → mark_at marks key ≡ Some m → m.role ≡ roles.Entry dir s → IsSoundEntry image key dir s
-  sound_entry key m dir s e is = subst (IsSound image key) is (c.reached.sound key m e)
-
   has_node : (key : ℕ) (a : Node) → NodeView image marks key a → HasNode image key a
   has_node key a (the_root m e is same) =
       let sound = sound_root key m e is in
       subst (HasNode image key) (sym same) (record { primary = sound.primary; sum = sound.sum; name = sound.name.text; date = refl })
   has_node key a (an_entry m dir s e is same) =
-      let sound = sound_entry key m dir s e is in
+      let sound = entry_sound image marks c.reached key dir (m, s, e, is) in
       subst (HasNode image key) (sym same) (record { primary = sound.primary; sum = sound.sum; name = sound.name.text; date = refl })
 
   type_is : (key : ℕ) → (secondary_type image key ≡ 2) ⊎ (secondary_type image key ≡ FILE_TYPE) → secondary_type image key ≡ type_of (content_of image key)
@@ -201,7 +195,7 @@ module _ (image : List ℕ) (marks : List (Option Mark)) (im : IsImage image) (c
       let none : a.parent ≡ None = ap (λ (b : Node). b.parent) same in
       absurd (cc (none, p))
   has_entry key dir a (an_entry m up s e is same) p =
-      let sound = sound_entry key m up s e is in
+      let sound = entry_sound image marks c.reached key up (m, s, e, is) in
       let parent : a.parent ≡ Some up = ap (λ (b : Node). b.parent) same in
       let dirs : up ≡ dir = cc (parent, p) in
       let inside = marked_inside image marks c.reached im key m e in

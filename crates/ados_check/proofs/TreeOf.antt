@@ -51,9 +51,7 @@ entry_node image block dir = record {
 abbrev pub node_of : List ℕ → ℕ → Role → Option Node
 node_of image block roles.Root = Some (root_node image block)
 node_of image block (roles.Entry dir s) = Some (entry_node image block dir)
-node_of image block roles.Page = None
-node_of image block (roles.Data file) = None
-node_of image block (roles.Extension file) = None
+node_of image block _ = None
 
 abbrev pub node_in : List ℕ → ℕ → Option Mark → Option Node
 node_in image key None = None
@@ -88,9 +86,7 @@ module _ (image : List ℕ) (marks : List (Option Mark)) where
       by_role : (m : Mark) (role : Role) → mark_at marks key ≡ Some m → m.role ≡ role → node_of image key role ≡ Some a → NodeView image marks key a
       by_role m roles.Root e is n = let same : root_node image key ≡ a = cc n in the_root m e is (sym same)
       by_role m (roles.Entry dir s) e is n = let same : entry_node image key dir ≡ a = cc n in an_entry m dir s e is (sym same)
-      by_role m roles.Page e is n = absurd (cc n)
-      by_role m (roles.Data file) e is n = absurd (cc n)
-      by_role m (roles.Extension file) e is n = absurd (cc n)
+      by_role m _ e is n = absurd (cc n)
 
       go : (o : Option Mark) → mark_at marks key ≡ o → node_in image key o ≡ Some a → NodeView image marks key a
       go None e n = absurd (cc n)

@@ -8,7 +8,7 @@ use Rattle.adf_block.specs.Frame.{SameBut}
 use Rattle.adf_block.proofs.Frames.{same_count, same_long, same_bytes_at, same_sum}
 use Rattle.ados_name.specs.Name.{IsName}
 use Rattle.ados_model.specs.declared.role.Role.{Role}
-use Rattle.ados_model.specs.declared.role.Role.TheVariants.{Root, Page, Entry, Data, Extension}
+use Rattle.ados_model.specs.declared.role.Role.TheVariants.{Root, Page}
 use Rattle.ados_model.specs.Faults.{IsPlace, IsPointer, Reached, root_of}
 use Rattle.ados_model.specs.Faults.IsPlace.{root_page, root_slot, directory_slot, next_entry, header_pointer, first_extension, extension_pointer, further_extension}
 use Rattle.ados_model.specs.Rebuilt.{IsOfBitmap}
@@ -113,9 +113,7 @@ module _ (old new : List ℕ) (marks : List (Option Mark)) (im : IsImage old) (r
       go : (role : Role) → m.role ≡ role → HasSameLongs old new block
       go Root is = subst (HasSameLongs old new) (sym (root_role old marks r block m e is)) root_longs
       go Page is = absurd (no_page is)
-      go (Entry dir s) is = other (λ z. cc (z, is))
-      go (Data file) is = other (λ z. cc (z, is))
-      go (Extension file) is = other (λ z. cc (z, is))
+      go _ is = other (λ z. cc (z, is))
 
   -- ---- names
 

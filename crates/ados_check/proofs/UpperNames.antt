@@ -54,23 +54,22 @@ name_is image block name im l short size first text rest = ext_get_or 0 name (by
 pub short_name : (image : List ℕ) (block : ℕ) → HasValidName image block → byte_at image block NAME_BYTE ≤ 30
 short_name image block v = let few = v.valid.short in omega (arith, v.text.counted, few)
 
-same_length : (image : List ℕ) (block other : ℕ) → HasValidName image block → HasValidName image other → Same (text_at image block NAME_BYTE) (text_at image other NAME_BYTE) → byte_at image block NAME_BYTE ≡ byte_at image other NAME_BYTE
-same_length image block other v w e =
-    v.text.counted ∙ sym (length-map (text_at image block NAME_BYTE) upper) ∙ ap length e ∙ length-map (text_at image other NAME_BYTE) upper ∙ sym w.text.counted
-
-pub upper_names_equal : (image : List ℕ) (block other : ℕ) → HasValidName image block → HasValidName image other → Same (text_at image block NAME_BYTE) (text_at image other NAME_BYTE) → upper_name image block ≡ upper_name image other
+pub upper_names_equal : (image : List ℕ) (block other : ℕ) → byte_at image block NAME_BYTE ≡ length (text_at image block NAME_BYTE) → byte_at image other NAME_BYTE ≡ length (text_at image other NAME_BYTE)
+    → Same (text_at image block NAME_BYTE) (text_at image other NAME_BYTE) → upper_name image block ≡ upper_name image other
 unfolding upper_name
 upper_names_equal image block other v w e =
-    let sizes = same_length image block other v w e in
+    let sizes : byte_at image block NAME_BYTE ≡ byte_at image other NAME_BYTE =
+    v ∙ sym (length-map (text_at image block NAME_BYTE) upper) ∙ ap length e ∙ length-map (text_at image other NAME_BYTE) upper ∙ sym w in
     ap₂ (λ (n : ℕ) (text : List ℕ). n ∷ (text ++ replicate (30 - n) 0)) sizes e
 
-pub names_same : (image : List ℕ) (block other : ℕ) → HasValidName image block → HasValidName image other → upper_name image block ≡ upper_name image other → Same (text_at image block NAME_BYTE) (text_at image other NAME_BYTE)
+pub names_same : (image : List ℕ) (block other : ℕ) → byte_at image block NAME_BYTE ≡ length (text_at image block NAME_BYTE) → byte_at image other NAME_BYTE ≡ length (text_at image other NAME_BYTE)
+    → upper_name image block ≡ upper_name image other → Same (text_at image block NAME_BYTE) (text_at image other NAME_BYTE)
 unfolding upper_name
 names_same image block other v w e =
     let sizes : byte_at image block NAME_BYTE ≡ byte_at image other NAME_BYTE = ap (λ (xs : List ℕ). slice_index xs 0) e in
     let tails = ap (λ (xs : List ℕ). take (byte_at image other NAME_BYTE) (drop 1 xs)) e in
-    let one : length (map upper (text_at image block NAME_BYTE)) ≡ byte_at image other NAME_BYTE = length-map (text_at image block NAME_BYTE) upper ∙ sym v.text.counted ∙ sizes in
-    let two : length (map upper (text_at image other NAME_BYTE)) ≡ byte_at image other NAME_BYTE = length-map (text_at image other NAME_BYTE) upper ∙ sym w.text.counted in
+    let one : length (map upper (text_at image block NAME_BYTE)) ≡ byte_at image other NAME_BYTE = length-map (text_at image block NAME_BYTE) upper ∙ sym v ∙ sizes in
+    let two : length (map upper (text_at image other NAME_BYTE)) ≡ byte_at image other NAME_BYTE = length-map (text_at image other NAME_BYTE) upper ∙ sym w in
     sym (take_at (map upper (text_at image block NAME_BYTE)) (replicate (30 - byte_at image block NAME_BYTE) 0) (byte_at image other NAME_BYTE) one)
     ∙ tails
     ∙ take_at (map upper (text_at image other NAME_BYTE)) (replicate (30 - byte_at image other NAME_BYTE) 0) (byte_at image other NAME_BYTE) two
@@ -99,5 +98,5 @@ module _ (image : List ℕ) (marks : List (Option Mark)) (c : AreReached image m
         two = ne;
         short = short_name image block v;
         other_short = short_name image other w;
-        same = names_same image block other v w e;
+        same = names_same image block other v.text.counted w.text.counted e;
       }

@@ -1,16 +1,13 @@
--- Laws: conclusions from the marks of a check.
-use Rattle.std.specs.Prelude.{◌≡◌, ℕ, List, map, Option, Some, is_some, false, true}
-use Rattle.adf_block.specs.Whole.{IsImage, HasFreeBit}
+-- Bitmaps by the marks of a check.
+use Rattle.std.specs.Prelude.{◌≡◌, ℕ, List, map, Option, Some, is_some}
+use Rattle.adf_block.specs.Whole.{HasFreeBit}
 use Rattle.adf_block.specs.Image.{long, block_sum}
 use Rattle.adf_block.specs.declared.layout.TheConstants.{CHECKSUM, BITMAP_FLAG, BITMAP_VALID}
 use Rattle.adf_block.specs.Frame.{OnlyLong}
-use Rattle.ados_map.specs.Pages.{LawfulPages}
 use Rattle.ados_map.specs.Changes.{PagesRebuilt}
 use Rattle.ados_model.specs.Faults.{root_of}
-use Rattle.ados_model.specs.Rebuilt.{HasValidBitmap}
-use Rattle.ados_model.specs.Accepted.{Accepts}
 use Rattle.ados_check.specs.declared.mark.Mark.{Mark}
-use Rattle.ados_check.specs.Marks.{mark_at, IsChecked}
+use Rattle.ados_check.specs.Marks.{mark_at}
 
 -- no marked block is free
 abbrev pub AreInUse : List ℕ → List (Option Mark) → Type 0
@@ -26,19 +23,3 @@ pub record IsMended (old : List ℕ) (marks : List (Option Mark)) (new : List �
   pub valid : long flagged (root_of old) BITMAP_FLAG ≡ BITMAP_VALID
   pub settled : OnlyLong (root_of old) CHECKSUM flagged new
   pub sum : block_sum new (root_of old) ≡ 0
-
--- the bitmap blocks of a checked image are lawful
-abbrev pub CheckedHasPages : Type 0
-CheckedHasPages = (image : List ℕ) (marks : List (Option Mark)) → IsImage image → IsChecked image marks → LawfulPages image
-
--- a checked image with a valid bitmap is accepted as it is, if no marked block is free
-abbrev pub CheckedIsAccepted : Type 0
-CheckedIsAccepted =
-    (image : List ℕ) (marks : List (Option Mark)) → IsImage image → IsChecked image marks → HasValidBitmap image → AreInUse image marks
-    → Accepts image false image
-
--- a checked image without a valid bitmap is accepted with a rebuilt one
-abbrev pub MendedIsAccepted : Type 0
-MendedIsAccepted =
-    (old new : List ℕ) (marks : List (Option Mark)) → IsImage old → IsImage new → IsChecked old marks → ¬ HasValidBitmap old
-    → IsMended old marks new → Accepts old true new

@@ -7,7 +7,6 @@ ghost use Rattle.ados_check.specs.Marks.{IsChecked};
 ghost use Rattle.ados_check.specs.Answer.{AcceptsOrHandsBack};
 
 use crate::bitmap::{has_valid_bitmap, mend, reached_and_free};
-use crate::laws::{checked_is_accepted, mended_is_accepted};
 use crate::mark::Mark;
 use crate::source::Source;
 use adf_block::Image;
@@ -53,7 +52,6 @@ fn accept_valid(image: Image, marks: &[Option<Mark>]) -> Result<Accepted, Reject
     ensures answer { AcceptsOrHandsBack image result }
     ensures stands { IfOk result (λ accepted. (t : Tree) × Stands accepted.image t) }
 {
-    checked_is_accepted();
     match reached_and_free(&Source::whole(&image), marks) {
         None => Ok(Accepted {
             image,
@@ -76,7 +74,6 @@ fn accept_mended(alloc: Global, image: Image, marks: &[Option<Mark>]) -> Result<
     ensures answer { AcceptsOrHandsBack image result }
     ensures stands { IfOk result (λ accepted. (t : Tree) × Stands accepted.image t) }
 {
-    mended_is_accepted();
     let mut image = image;
     match mend(alloc, &mut image, marks) {
         Ok(()) => Ok(Accepted {

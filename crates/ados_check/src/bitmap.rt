@@ -10,7 +10,6 @@ ghost use Rattle.ados_check.specs.Laws.{AreInUse, IsMended};
 ghost use Rattle.ados_check.specs.Marks.{IsChecked};
 ghost use Rattle.ados_check.specs.BitmapTold.{IsFree, TellsBitmap};
 
-use crate::laws::{checked_has_pages, checked_is_accepted};
 use crate::mark::Mark;
 use crate::source::Source;
 use adf_block::Image;
@@ -31,13 +30,13 @@ pub fn has_valid_bitmap(source: &Source<'_>) -> bool
 }
 
 /// Whether a checked image shows no fault: its bitmap is not valid, or marks no reached block free.
+#[tactic(auto, using(crate::proofs::Accepted::checked_is_accepted))]
 pub(crate) fn has_sound_bitmap(source: &Source<'_>, marks: &[Option<Mark>]) -> bool
     requires checked { IsChecked source.now.bytes marks.now }
     requires told { TellsBitmap source.now }
     ensures { IsTrue result → ShowsNoFault source.now.bytes }
 {
     prove!(source.blocks() >= 16);
-    checked_is_accepted();
     if !has_valid_bitmap(source) {
         return true;
     }
@@ -52,7 +51,6 @@ pub(crate) fn reached_and_free(source: &Source<'_>, marks: &[Option<Mark>]) -> O
     ensures found { MatchOption result (AreInUse source.now.bytes marks.now) (λ block. IsReachedAndFree source.now.bytes block) }
     ensures image { IsImage source.now.bytes }
 {
-    checked_has_pages();
     for block in BOOT_BLOCKS..source.blocks() {
         if marks[block as usize].is_some() && is_free(source, block) {
             return Some(block);
@@ -68,10 +66,7 @@ pub fn is_free(source: &Source<'_>, block: u32) -> bool
     ensures { IsTrue result ↔ IsFree source.now.bytes block }
 {
     let page = page_with(source, block);
-    if page < BOOT_BLOCKS || source.blocks() <= page {
-        return false;
-    }
-    has_bit(source, page, block)
+    source.contains(page) && has_bit(source, page, block)
 }
 
 /// The bitmap block with the bit of a block.
@@ -109,6 +104,7 @@ fn reached_blocks(alloc: Global, marks: &[Option<Mark>]) -> Result<Vec<bool>, Al
 
 /// Rebuilds the bitmap so that exactly the reached blocks are in use, and sets the root's flag. All memory is
 /// allocated before the first change.
+#[tactic(auto, using(crate::proofs::Accepted::lawful_pages))]
 pub fn mend(alloc: Global, image: &mut Image, marks: &[Option<Mark>]) -> Result<(), AllocError>
     requires { IsChecked image.old marks.now }
     ensures mended { IfOk result (λ _. IsMended image.old marks.now image.new) }
@@ -117,7 +113,6 @@ pub fn mend(alloc: Global, image: &mut Image, marks: &[Option<Mark>]) -> Result<
     ensures image { IsImage image.new }
 {
     prove!(image.blocks() >= 16);
-    checked_has_pages();
     let named = reached_blocks(alloc, marks)?;
     let root = image.root();
     rebuild(image, &named);

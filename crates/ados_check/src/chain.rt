@@ -8,14 +8,13 @@ ghost use Rattle.ados_check.specs.DataRules.{IsPlaced, TellsHeader};
 ghost use Rattle.ados_check.specs.Source.{Tells};
 ghost use Rattle.ados_check.specs.steps.Files.{HasCounts, IsLinked, IsReachedEntry, IsReachedFile, KeepsRules};
 
-use crate::counts::bad_count;
 use crate::data_rules::{DATA_RULES, Place, breaks_rule};
 use crate::looks::check_field;
 use crate::rules::{FieldRule, first_pointer};
 use crate::sizes::has_other_size;
 use crate::source::Source;
 use adf_block::layout::{FIRST_POINTER, HELD, NEXT_EXTENSION, TABLE_LONGS};
-use ados_model::{Role, VolumeFault};
+use ados_model::{FaultKind, Role, VolumeFault};
 
 /// Checks the data blocks of a file along its pointers, each at its place. The header has to link to the first one, and
 /// together they have to hold as many bytes as the file's size.
@@ -49,7 +48,10 @@ pub(crate) fn check_chain(
         block = next.unwrap_or(0);
     }
     if has_other_size(source, file, sum) {
-        return Err(bad_count(file));
+        return Err(VolumeFault {
+            kind: FaultKind::BadCount,
+            block: file,
+        });
     }
     Ok(())
 }

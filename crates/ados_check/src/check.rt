@@ -10,10 +10,11 @@ ghost use Rattle.ados_check.specs.Answer.{AcceptsOrHandsBack};
 
 use crate::accept::{Accepted, Rejected, accept_checked};
 use crate::bitmap::has_sound_bitmap;
+use crate::entries::check_files;
 use crate::file_system::check_kind;
 use crate::mark::Mark;
+use crate::names::check_names;
 use crate::reaching::reach;
-use crate::sound::check_sound;
 use crate::source::Source;
 use adf_block::Image;
 use ados_model::VolumeFault;
@@ -62,6 +63,7 @@ pub(crate) fn sound_marks(
     ensures { MatchResult result (λ marks. IsChecked source.now.bytes marks.items) (λ fault. IsRefusal source.now.bytes fault) }
 {
     let marks = reach(alloc, source)?;
-    check_sound(alloc, source, &marks)?;
+    check_files(source, &marks)?;
+    check_names(alloc, source, &marks)?;
     Ok(marks)
 }

@@ -1,7 +1,6 @@
 //! The counts in a file's header and extension blocks, against its size.
 ghost use Rattle.std.specs.Prelude.{◌≡◌, ◌<◌, ℕ, IfErr, IfOk, MatchResult};
 ghost use Rattle.adf_block.specs.Image.{block_count};
-ghost use Rattle.ados_model.specs.declared.fault.FaultKind.TheVariants.{BadCount};
 ghost use Rattle.ados_model.specs.Faults.{Shows, count_of_size};
 ghost use Rattle.ados_check.specs.Rules.{TellsFields};
 ghost use Rattle.ados_check.specs.Source.{Tells};
@@ -57,18 +56,10 @@ pub(crate) fn check_counts(source: &Source<'_>, file: u32, entry: Role) -> Resul
 {
     let count = count_blocks(source, file, entry)?;
     if needs_other_count(source, file, u64::from(count)) {
-        return Err(bad_count(file));
+        return Err(VolumeFault {
+            kind: FaultKind::BadCount,
+            block: file,
+        });
     }
     Ok(count)
-}
-
-/// The fault of a count or a size that does not match the blocks of the file.
-pub(crate) fn bad_count(block: u32) -> VolumeFault
-    ensures kind { result.kind ≡ BadCount }
-    ensures block { result.block ≡ block }
-{
-    VolumeFault {
-        kind: FaultKind::BadCount,
-        block,
-    }
 }

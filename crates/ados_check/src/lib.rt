@@ -1,9 +1,8 @@
 //! The check of an image: accepted as it is, accepted with a rebuilt bitmap, or returned with a fault.
 //!
 //! The check reads a [`Source`]: the image itself, or a [`Sketch`] with only the bytes that the check needs. It walks
-//! from the root and marks each reached block with its role ([`reach`]). Then it checks files and names by the marks
-//! ([`check_sound`]), and last the bitmap ([`check_image`], [`accepted_kind`]). A law of the marks says that an image
-//! with sound marks represents a tree.
+//! from the root and marks each reached block with its role ([`reach`]). Then it checks files and names by the marks,
+//! and last the bitmap ([`check_image`], [`accepted_kind`]). An image with sound marks represents a tree.
 #![tactic(auto)]
 
 // What is read.
@@ -11,8 +10,7 @@ mod room;
 mod sketch;
 mod source;
 
-// The marks, and their laws.
-mod laws;
+// The marks.
 mod mark;
 
 // The rules of a block by itself, of a data block at its place, and of a file's size.
@@ -33,7 +31,6 @@ mod counts;
 mod entries;
 mod file;
 mod names;
-mod sound;
 
 // The decision.
 mod accept;
@@ -52,7 +49,7 @@ pub use reaching::reach;
 pub use room::whole_pages;
 pub use rules::{
     FIELD_RULES, FieldRule, POINTER_RULES, first_pointer, has_bad_field, has_bad_sum, has_bad_type,
-    has_entry_type, has_link_type, has_no_type,
+    has_entry_type, has_link_type, has_no_type, has_other_count,
 };
 pub use sizes::{has_other_size, needs_other_count};
 pub use sketch::Sketch;

@@ -1,12 +1,12 @@
 //! The names of the entries: each once in its directory.
-ghost use Rattle.std.specs.Prelude.{◌≡◌, MatchResult};
-ghost use Rattle.ados_model.specs.declared.fault.FaultKind.TheVariants.{DuplicateName, NoMemory};
+ghost use Rattle.std.specs.Prelude.{MatchResult};
 ghost use Rattle.ados_model.specs.Accepted.{IsRefusal};
 ghost use Rattle.ados_check.specs.Marks.{AreReached, AreUnlike};
 
 use crate::entries::directory_of;
 use crate::mark::Mark;
 use crate::naming::upper_name;
+use crate::reaching::NO_MEMORY;
 use crate::source::Source;
 use ados_model::{FaultKind, VolumeFault};
 use std::alloc::Global;
@@ -36,30 +36,15 @@ pub fn check_names(
             let name = upper_name(source, block);
             match names.insert(EntryName { dir, name }) {
                 Ok(true) => {}
-                Ok(false) => return Err(duplicate_name(block)),
-                Err(_) => return Err(no_memory()),
+                Ok(false) => {
+                    return Err(VolumeFault {
+                        kind: FaultKind::DuplicateName,
+                        block,
+                    });
+                }
+                Err(_) => return Err(NO_MEMORY),
             }
         }
     }
     Ok(())
-}
-
-fn duplicate_name(block: u32) -> VolumeFault
-    ensures kind { result.kind ≡ DuplicateName }
-    ensures block { result.block ≡ block }
-{
-    VolumeFault {
-        kind: FaultKind::DuplicateName,
-        block,
-    }
-}
-
-fn no_memory() -> VolumeFault
-    ensures kind { result.kind ≡ NoMemory }
-    ensures block { result.block ≡ 0 }
-{
-    VolumeFault {
-        kind: FaultKind::NoMemory,
-        block: 0,
-    }
 }

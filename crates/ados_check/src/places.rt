@@ -1,6 +1,6 @@
 //! The longs of a block that name other blocks.
 ghost use Rattle.std.specs.Prelude.{◌≡◌, ◌<◌, ◌+◌, ◌-◌, ◌≤◌, ◌↔◌, ℕ, List, IsTrue, Some, false};
-ghost use Rattle.adf_block.specs.Image.{block_count, page_count};
+ghost use Rattle.adf_block.specs.Image.{block_count};
 ghost use Rattle.adf_block.specs.declared.layout.TheConstants.{BLOCK_LONGS};
 ghost use Rattle.ados_model.specs.declared.role.Role.{Role};
 ghost use Rattle.ados_model.specs.declared.role.Role.TheVariants.{Root, Entry, Extension};
@@ -79,7 +79,8 @@ fn root_place(source: &Source<'_>, block: u32, i: u32) -> Option<Role>
     requires told { TellsAll source.now block }
     ensures { (next : Role) → (result ≡ Some next) ↔ IsPlace source.now.bytes block Root i next }
 {
-    if FIRST_PAGE <= i && i - FIRST_PAGE < pages(source) {
+    let pages = page_count(source.blocks());
+    if FIRST_PAGE <= i && i - FIRST_PAGE < pages {
         return Some(Role::Page);
     }
     if is_slot(i) && source.long(block, i) != 0 {
@@ -144,11 +145,4 @@ fn is_pointer(source: &Source<'_>, block: u32, i: u32) -> bool
 {
     let count = source.long(block, POINTER_COUNT);
     i <= FIRST_POINTER && FIRST_POINTER - i < count && count <= TABLE_LONGS
-}
-
-/// The number of bitmap blocks.
-fn pages(source: &Source<'_>) -> u32
-    ensures { result ≡ page_count (block_count source.now.bytes) }
-{
-    page_count(source.blocks())
 }

@@ -1,5 +1,5 @@
 //! The walk from the root over every place of every reached block.
-ghost use Rattle.std.specs.Prelude.{◌≡◌, ◌+◌, ◌<◌, ◌≤◌, IfNone, IfSome, IfOk, IfErr, MatchResult, vec_capacity, replicate, None};
+ghost use Rattle.std.specs.Prelude.{◌≡◌, ◌+◌, ◌<◌, ◌≤◌, IfNone, IfSome, IfOk, IfErr, MatchResult, vec_capacity};
 ghost use Rattle.adf_block.specs.Image.{block_count};
 ghost use Rattle.adf_block.specs.declared.layout.TheConstants.{FIRST_SLOT};
 ghost use Rattle.ados_model.specs.Accepted.{IsRefusal};
@@ -11,7 +11,7 @@ use crate::looks::look;
 use crate::mark::Mark;
 use crate::places::{TABLE_END, fields_from, has_places, place_role, table_from};
 use crate::source::Source;
-use adf_block::layout::{BOOT_BLOCKS, SECONDARY_TYPE};
+use adf_block::layout::SECONDARY_TYPE;
 use ados_model::{FaultKind, Role, VolumeFault};
 use std::alloc::Global;
 
@@ -23,7 +23,7 @@ struct Progress {
 }
 
 /// Out of memory, which has block 0.
-const NO_MEMORY: VolumeFault = VolumeFault {
+pub(crate) const NO_MEMORY: VolumeFault = VolumeFault {
     kind: FaultKind::NoMemory,
     block: 0,
 };
@@ -50,10 +50,12 @@ impl Progress {
         ensures refused { IfErr result (λ fault. IsRefusal source.now.bytes fault) }
     {
         let root = source.root();
-        let mut marks = no_marks(alloc, source.blocks())?;
-        let mut pending = match Vec::with_capacity(alloc, source.blocks() as usize) {
-            Ok(pending) => pending,
-            Err(_) => return Err(NO_MEMORY),
+        let blocks = source.blocks() as usize;
+        let Ok(mut marks) = Vec::from_elem(alloc, None, blocks) else {
+            return Err(NO_MEMORY);
+        };
+        let Ok(mut pending) = Vec::with_capacity(alloc, blocks) else {
+            return Err(NO_MEMORY);
         };
         if let Err(kind) = look(source, root, Role::Root) {
             return Err(VolumeFault { kind, block: root });
@@ -144,7 +146,7 @@ impl Progress {
             return Ok(());
         };
         let block = source.long(holder, i);
-        if block < BOOT_BLOCKS || source.blocks() <= block {
+        if !source.contains(block) {
             return Err(VolumeFault {
                 kind: FaultKind::BadPointer,
                 block: holder,
@@ -168,16 +170,5 @@ impl Progress {
             self.pending.push_reserved(block);
         }
         Ok(())
-    }
-}
-
-/// One cell for each block, without marks.
-fn no_marks(alloc: Global, blocks: u32) -> Result<Vec<Option<Mark>>, VolumeFault>
-    ensures none { IfOk result (λ marks. marks.items ≡ replicate blocks None) }
-    ensures err { IfErr result (λ fault. fault ≡ NO_MEMORY) }
-{
-    match Vec::from_elem(alloc, None, blocks as usize) {
-        Ok(marks) => Ok(marks),
-        Err(_) => Err(NO_MEMORY),
     }
 }

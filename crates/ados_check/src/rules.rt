@@ -229,7 +229,7 @@ pub fn has_link_type(source: &Source<'_>, block: u32) -> bool
 }
 
 /// Whether there are more than 72 pointers, or fewer although another block follows.
-fn has_other_count(source: &Source<'_>, block: u32) -> bool
+pub fn has_other_count(source: &Source<'_>, block: u32) -> bool
     requires inside { block < block_count source.now.bytes }
     requires told { TellsAll source.now block }
     ensures { IsTrue result ↔ HasOtherCount source.now.bytes block }

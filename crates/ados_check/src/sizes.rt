@@ -1,5 +1,5 @@
 //! The rules of a file's size: it needs a number of data blocks, and in OFS these hold as many bytes.
-ghost use Rattle.std.specs.Prelude.{◌≡◌, ◌≢◌, ◌<◌, ◌↔◌, IsTrue};
+ghost use Rattle.std.specs.Prelude.{◌≢◌, ◌<◌, ◌↔◌, IsTrue};
 ghost use Rattle.adf_block.specs.Image.{block_count};
 ghost use Rattle.adf_block.specs.Fields.{file_size};
 ghost use Rattle.ados_model.specs.Faults.{count_of_size};
@@ -14,21 +14,12 @@ pub fn needs_other_count(source: &Source<'_>, file: u32, count: u64) -> bool
     requires told { Tells source.now file FILE_SIZE }
     ensures { IsTrue result ↔ (count ≢ count_of_size source.now.bytes file) }
 {
-    count != u64::from(blocks_of_size(source, file))
-}
-
-/// The number of data blocks that the size of a file needs.
-fn blocks_of_size(source: &Source<'_>, file: u32) -> u32
-    requires inside { file < block_count source.now.bytes }
-    requires told { Tells source.now file FILE_SIZE }
-    ensures { result ≡ count_of_size source.now.bytes file }
-{
     let room = if source.kind_byte() == 0 {
         OFS_ROOM
     } else {
         FFS_ROOM
     };
-    source.long(file, FILE_SIZE).div_ceil(room)
+    count != u64::from(source.long(file, FILE_SIZE).div_ceil(room))
 }
 
 /// Whether a file whose data blocks hold so many bytes has another size.

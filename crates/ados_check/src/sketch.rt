@@ -122,14 +122,6 @@ impl Sketch {
         self.starts.len() as u32
     }
 
-    /// The byte after `DOS`.
-    pub(crate) fn kind_byte(&self) -> u8
-        requires { BLOCK_BYTES ≤ length self.now }
-        ensures { result ≡ byte_at self.now 0 3 }
-    {
-        self.boot[3]
-    }
-
     /// Whether the longs of block `b` add up to 0 modulo 2^32.
     pub(crate) fn has_sum(&self, b: u32) -> bool
         requires { b < block_count self.now }

@@ -11,7 +11,6 @@ ghost use Rattle.ados_check.specs.BitmapTold.{TellsBitmap};
 
 use crate::bitmap::{has_valid_bitmap, reached_and_free};
 use crate::check::sound_marks;
-use crate::laws::{checked_has_pages, checked_is_accepted};
 use crate::mark::Mark;
 use crate::sketch::Sketch;
 use crate::source::Source;
@@ -51,22 +50,22 @@ fn file_system_of(sketch: &Sketch) -> Option<BootKind>
 }
 
 /// Whether the bitmap is valid and marks no reached block free.
+#[tactic(auto, using(crate::proofs::Accepted::checked_is_accepted))]
 fn is_accepted(source: &Source<'_>, marks: &[Option<Mark>]) -> bool
     requires { IsChecked source.now.bytes marks.now }
     ensures { IsTrue result → Accepts source.now.bytes false source.now.bytes }
 {
-    checked_is_accepted();
     tells_bitmap(source, marks)
         && has_valid_bitmap(source)
         && reached_and_free(source, marks).is_none()
 }
 
 /// Whether the sketch has all bitmap blocks. One that looks like an OFS data block is kept only in part.
+#[tactic(auto, using(crate::proofs::Accepted::lawful_pages))]
 fn tells_bitmap(source: &Source<'_>, marks: &[Option<Mark>]) -> bool
     requires { IsChecked source.now.bytes marks.now }
     ensures { IsTrue result → TellsBitmap source.now }
 {
-    checked_has_pages();
     let root = source.root();
     for p in 0..page_count(source.blocks()) {
         let page = source.long(root, FIRST_PAGE + p);

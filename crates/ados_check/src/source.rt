@@ -1,14 +1,15 @@
 //! The blocks that a check reads: those of an image, or of a sketch.
 
-ghost use Rattle.std.specs.Prelude.{◌≡◌, ◌≢◌, ◌<◌, ◌*◌, ◌/◌, length, MatchBool, true, false};
+ghost use Rattle.std.specs.Prelude.{◌≡◌, ◌≢◌, ◌<◌, ◌*◌, ◌/◌, ◌↔◌, IsTrue, length, MatchBool, true, false};
 ghost use Rattle.adf_block.specs.declared.layout.TheConstants.{BLOCK_BYTES, BLOCK_LONGS};
 ghost use Rattle.adf_block.specs.Whole.{IsImage, IsSize};
 ghost use Rattle.adf_block.specs.Image.{block_count, block_sum, bytes_at, byte_at, long, root_key};
+ghost use Rattle.ados_model.specs.Faults.{InImage};
 ghost use Rattle.ados_check.specs.Source.{Tells};
 
 use crate::sketch::Sketch;
 use adf_block::Image;
-use adf_block::layout::KIND_BYTE;
+use adf_block::layout::{BOOT_BLOCKS, KIND_BYTE};
 use std::marker::Model;
 
 /// What the blocks are read from.
@@ -78,6 +79,13 @@ impl<'a> Source<'a> {
         (self.blocks() + 1) / 2
     }
 
+    /// Whether the block is inside the image, after the boot blocks.
+    pub fn contains(&self, b: u32) -> bool
+        ensures { IsTrue result ↔ InImage self.now.bytes b }
+    {
+        BOOT_BLOCKS <= b && b < self.blocks()
+    }
+
     /// The byte after `DOS`: 0 is the old file system, 1 the fast one.
     pub fn kind_byte(&self) -> u8
         ensures { result ≡ byte_at self.now.bytes 0 KIND_BYTE }
@@ -85,7 +93,7 @@ impl<'a> Source<'a> {
         prove!(self.blocks() >= 16);
         match &self.kept {
             Kept::Whole(image) => image.byte(0, KIND_BYTE),
-            Kept::Sketch(sketch) => sketch.kind_byte(),
+            Kept::Sketch(sketch) => sketch.boot()[3],
         }
     }
 

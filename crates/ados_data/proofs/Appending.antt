@@ -20,13 +20,13 @@ use Rattle.ados_data.proofs.Spelled.{data_blocks_are, extension_blocks_are, cont
 use Rattle.ados_data.proofs.Lists.{head_pushed_before, head_pushed_last, pushed_before, pushed_last}
 use Rattle.std.proofs.lemmas.List.{take_all, take_at}
 use Rattle.ados_data.specs.steps.Blocks.{HasPointerRoom}
-use Rattle.ados_data.proofs.Standing.{Standing, standing_of, writable_of, stands_beside_new, new_inside, new_in_use, header_beside_new, data_beside_new, untouched_new, same_blocks}
+use Rattle.ados_data.proofs.Standing.{Standing, marks_stay, count_stays, standing_of, writable_of, stands_beside_new, new_inside, new_in_use, header_beside_new, data_beside_new, untouched_new, same_blocks}
 use Rattle.ados_data.specs.Others.{Leaves, Gains}
 use Rattle.ados_data.specs.Growth.{GrowsFile}
 use Rattle.ados_data.proofs.Composing.{grows_to}
 use Rattle.ados_data.proofs.Leaving.{leaves_same, leaves_both, leaves_taken, leaves_extended, leaves_longer, leaves_resized, beside_gains, gains_same, gains_both, gains_taken, gains_kept}
-use Rattle.ados_data.proofs.Growing.{extended_marks, longer_marks, stands_extended, stands_longer, extended_byte, extended_count, longer_count, longer_byte, longer_new_byte}
-use Rattle.ados_data.proofs.Resizing.{stands_resized, resized_byte, resized_count, resized_marks}
+use Rattle.ados_data.proofs.Growing.{extended_owned, longer_owned, stands_extended, stands_longer, extended_byte, longer_byte, longer_new_byte}
+use Rattle.ados_data.proofs.Resizing.{stands_resized, resized_byte, resized_owned}
 use Rattle.ados_data.specs.Unnamed.{KeepsUnnamed}
 use Rattle.ados_data.proofs.Grown.{Grown, grown_of, keeps_same, keeps_both}
 use Rattle.ados_data.proofs.Gained.{keeps_extended}
@@ -90,13 +90,13 @@ module _ (old : List ℕ) (format : Format) (file : ℕ) (blocks extensions : Li
         least = omega (arith, fits, some, full, length_push extensions holder);
         room = omega (arith, fits, some, full, length_push extensions holder);
         bytes = λ i k l m. extended_byte mid new format file blocks extensions size holder t x inside used headers datas i k l m ∙ untouched_new old holder mid n s.size_ok s.map (slice_index blocks i) (s.data_used i l) k m;
-        count = omega (arith, n.count, extended_count mid new format file blocks extensions size holder t x inside used headers datas, fits, some, full);
+        count = omega (arith, n.count, count_stays (extended_owned mid new format file blocks extensions size holder t x inside used headers datas), fits, some, full);
         leaves = leaves_new;
         front = take_at extensions (holder ∷ []) (length extensions) refl;
         grown = grown_of old new format format file blocks extensions blocks (extensions ++ holder ∷ []) size size s.skeleton stands_new.skeleton leaves_new.same_length leaves_new.pages (stands_new.format_is ∙ sym s.format_is) (omega arith)
             (take_all (length blocks) blocks (omega arith)) (take_at extensions (holder ∷ []) (length extensions) refl);
         keeps = keeps_extended old mid new format file blocks extensions size holder s n x;
-        gains = gains_kept old mid new file blocks extensions blocks (extensions ++ holder ∷ []) (same_blocks old holder mid n s.size_ok s.map) (extended_marks mid new format file blocks extensions size holder t x inside used headers datas) taken_gains;
+        gains = gains_kept old mid new file blocks extensions blocks (extensions ++ holder ∷ []) (same_blocks old holder mid n s.size_ok s.map) (marks_stay (extended_owned mid new format file blocks extensions size holder t x inside used headers datas)) taken_gains;
       }
 
   pub roomy : HasPointerRoom old file (slice_index (file ∷ extensions) (length extensions)) (length blocks) holder new → Roomy old format file blocks extensions size holder new
@@ -191,8 +191,8 @@ module _ (i0 i1 i2 i3 i4 : List ℕ) (format : Format) (file : ℕ) (blocks was 
         arith,
         r.count,
         n.count,
-        longer_count i2 i3 format file blocks r.extensions size b t2 x' inside used headers datas,
-        resized_count i3 i4 format file (blocks ++ b ∷ []) r.extensions size (length blocks + 1) (length r.extensions) size' t3 y' few (omega arith),
+        count_stays (longer_owned i2 i3 format file blocks r.extensions size b t2 x' inside used headers datas),
+        count_stays (resized_owned i3 i4 format file (blocks ++ b ∷ []) r.extensions size (length blocks + 1) (length r.extensions) size' t3 y' few (omega arith)),
       );
       leaves = leaves_both i0 i1 i4 file blocks was blocks r.extensions r.leaves later_leaves (beside_gains i0 i1 file blocks was blocks r.extensions r.gains);
       front = r.front;
@@ -203,8 +203,8 @@ module _ (i0 i1 i2 i3 i4 : List ℕ) (format : Format) (file : ℕ) (blocks was 
           (λ i l. subst (λ (m : ℕ). IsInside m (slice_index (blocks ++ b ∷ []) i)) counts04 (t4.places.data_inside i l))
           (take_at blocks (b ∷ []) (length blocks) refl) (take_all (length r.extensions) r.extensions (omega arith))
           (λ i l. (r.stands.data_used i l).marked) (λ q l. (r.stands.headers_used (suc q) (omega (arith, l))).marked) r.gains
-          (gains_kept i1 i3 i4 file blocks r.extensions (blocks ++ b ∷ []) r.extensions counts13 (resized_marks i3 i4 format file (blocks ++ b ∷ []) r.extensions size (length blocks + 1) (length r.extensions) size' t3 y' few (omega arith))
-          (gains_kept i1 i2 i3 file blocks r.extensions (blocks ++ b ∷ []) r.extensions (same_blocks i1 b i2 n r.stands.size_ok r.stands.map) (longer_marks i2 i3 format file blocks r.extensions size b t2 x' inside used headers datas) new_gains));
+          (gains_kept i1 i3 i4 file blocks r.extensions (blocks ++ b ∷ []) r.extensions counts13 (marks_stay (resized_owned i3 i4 format file (blocks ++ b ∷ []) r.extensions size (length blocks + 1) (length r.extensions) size' t3 y' few (omega arith)))
+          (gains_kept i1 i2 i3 file blocks r.extensions (blocks ++ b ∷ []) r.extensions (same_blocks i1 b i2 n r.stands.size_ok r.stands.map) (marks_stay (longer_owned i2 i3 format file blocks r.extensions size b t2 x' inside used headers datas)) new_gains));
     }
       where
         new_gains : Gains i1 file blocks r.extensions i2 (blocks ++ b ∷ []) r.extensions

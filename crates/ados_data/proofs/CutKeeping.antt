@@ -69,10 +69,7 @@ module _ (file : ℕ) (blocks extensions : List ℕ) (d : ℕ) (old new : List �
   extension_end q k n l o (inr (inr at)) = a.headers_once 0 (suc q) (omega arith) (omega arith) (sym at.0)
 
   data_end_of : (i k size : ℕ) → i < d → data_end (format_of old) size i ≤ k → ¬ AtEnds (format_of old) file blocks extensions d (slice_index blocks i) k
-  data_end_of i k size l m (inl (f, r, (at, z))) = let far = behind_fields (format_of old) size i k f m in elim z [
-    | inl x ↦ omega (arith, x, far)
-    | inr y ↦ elim y [ inl x ↦ omega (arith, x, far) | inr x ↦ omega (arith, x, far) ]
-  ]
+  data_end_of i k size l m (inl (f, r, (at, z))) = let far = behind_fields (format_of old) size i k f m in omega (arith, z, far)
   data_end_of i k size l m (inr (inl at)) = a.apart (extension_count d) i fewer (omega arith) (sym at.0)
   data_end_of i k size l m (inr (inr at)) = a.apart 0 i (omega arith) (omega arith) (sym at.0)
 

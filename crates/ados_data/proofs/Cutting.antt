@@ -26,8 +26,8 @@ use Rattle.ados_data.proofs.CutKeeping.{AtEnds, header_uncut, keeps_cut}
 use Rattle.ados_data.proofs.Sizes.{fewer_blocks, some_blocks, ofs_count, in_block, behind_start, in_count}
 use Rattle.ados_data.proofs.Spelled.{link_of, data_blocks_are, extension_blocks_are, contents_are}
 use Rattle.ados_data.proofs.Places.{header_is, data_is, holder_of}
-use Rattle.ados_data.proofs.Resizing.{stands_resized, resized_blocks, resized_page, resized_byte, resized_count, header_long, later_long, used_resized, resized_marks}
-use Rattle.ados_data.proofs.Standing.{Standing, standing_of, writable_of, writable_file}
+use Rattle.ados_data.proofs.Resizing.{Resized, resized_owned, stands_resized, resized_byte, header_long, later_long}
+use Rattle.ados_data.proofs.Standing.{Standing, standing_of, writable_of, writable_file, Owned, blocks_stay, pages_stay, count_stays, marks_stay, use_stays}
 use Rattle.ados_data.proofs.Giving.{leaves_given, given_count, given_long, given_use, given_total, stands_given, given_page, untouched_given}
 use Rattle.ados_map.proofs.MarkLemmas.{bit_of_inside}
 
@@ -257,11 +257,11 @@ module _ (old : List ℕ) (file size d : ℕ) (w : WritableFile old file) (ok : 
       y' : IsResized old (format_of old) file (slice_index (file ∷ extensions) (extension_count d)) (slice_index blocks (d - 1)) d size new
       y' = subst (λ (h : ℕ). IsResized old (format_of old) file h (slice_index blocks (d - 1)) d size new) holder_header (subst (λ (c : ℕ). IsResized old (format_of old) file holder c d size new) last_data y)
 
-      still_used : (c : ℕ) → IsInside (block_count old) c → IsInUse old c → IsInUse new c
-      still_used = used_resized old new format file blocks extensions (length (contents old file)) d (extension_count d) size s0 y' few fewer
+      owned : Owned (Resized old new format file blocks extensions (length (contents old file)) d (extension_count d) size s0 y' few fewer) old new
+      owned = resized_owned old new format file blocks extensions (length (contents old file)) d (extension_count d) size s0 y' few fewer
 
       same : block_count new ≡ block_count old
-      same = resized_blocks old new format file blocks extensions (length (contents old file)) d (extension_count d) size s0 y' few fewer
+      same = blocks_stay owned
 
       pub cutting_begun : Cutting blocks extensions (format_of old) file d size d ((d - 1) / 72) holder next old new
       cutting_begun =
@@ -272,18 +272,18 @@ module _ (old : List ℕ) (file size d : ℕ) (w : WritableFile old file) (ok : 
             holder_is = holder_header;
             next_is = next_here ∙ ap (λ (b : ℕ). long old b NEXT_EXTENSION) holder_header ∙ link_of old file blocks extensions (contents old file) w.lawful.holds (extension_count d) fewer;
             beside_pages = λ q p l k e. let n : p < pages_of old = omega (arith, k, same) in
-                (w.headers_used q l).beside_pages p n (e ∙ resized_page old new format file blocks extensions (length (contents old file)) d (extension_count d) size s0 y' few fewer p n);
+                (w.headers_used q l).beside_pages p n (e ∙ pages_stay owned p n);
             pointers = λ j l k. pointer_kept j l k ∙ w.lawful.holds.pointers j k;
             links = λ q l k. later_long old new format file blocks extensions (length (contents old file)) d (extension_count d) size s0 y' few fewer q NEXT_EXTENSION (omega arith) l k ∙ link_of old file blocks extensions (contents old file) w.lawful.holds q k;
-            data_used = λ j l k. still_used (slice_index blocks j) (w.lawful.places.data_inside j k) (w.data_used j k);
-            headers_used = λ q l k. still_used (slice_index (file ∷ extensions) q) (w.lawful.places.headers_inside q k) (w.headers_used q k);
+            data_used = λ j l k. use_stays owned (slice_index blocks j) (w.lawful.places.data_inside j k) (w.data_used j k);
+            headers_used = λ q l k. use_stays owned (slice_index (file ∷ extensions) q) (w.lawful.places.headers_inside q k) (w.headers_used q k);
             bytes = resized_byte old new format file blocks extensions (length (contents old file)) d (extension_count d) size s0 y' few fewer;
-            count = resized_count old new format file blocks extensions (length (contents old file)) d (extension_count d) size s0 y' few fewer ∙ omega arith;
+            count = count_stays owned ∙ omega arith;
             leaves = leaves_resized old new format file blocks extensions (length (contents old file)) d (extension_count d) size s0 y' few fewer;
             freed_data = λ j l k. absurd (omega arith);
             freed_headers = λ q l k. absurd (omega arith);
             untouched = λ x k l n o. y'.rest.same_byte x k l o;
-            free_stays = λ x o f. resized_marks old new format file blocks extensions (length (contents old file)) d (extension_count d) size s0 y' few fewer x (bit_of_inside old x o) ∙ f;
+            free_stays = λ x o f. marks_stay owned x (bit_of_inside old x o) ∙ f;
             no_first = y'.no_first;
             first = y'.first;
           })

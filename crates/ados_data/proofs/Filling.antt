@@ -5,17 +5,16 @@ use Rattle.std.proofs.lemmas.List.{take_all}
 use Rattle.adf_block.specs.declared.layout.TheConstants.{FILE_SIZE}
 use Rattle.adf_block.specs.declared.layout.Format.{Format}
 use Rattle.adf_block.specs.declared.layout.Format.TheVariants.{Ofs}
-use Rattle.adf_block.specs.Image.{has_free_bit, byte_at, long, block_sum, block_count, IsInside}
-use Rattle.adf_block.specs.Whole.{IsSize, free_bit_count}
+use Rattle.adf_block.specs.Image.{byte_at, long, block_sum, block_count, IsInside}
+use Rattle.adf_block.specs.Whole.{IsSize}
 use Rattle.adf_block.specs.Fields.{format_of}
 use Rattle.adf_block.specs.Frame.{SameBut}
-use Rattle.adf_block.proofs.Frames.{same_long, same_sum, same_count}
+use Rattle.adf_block.proofs.Frames.{same_long, same_sum}
 use Rattle.ados_model.specs.Tree.{block_cost, data_count, data_size, data_start}
 use Rattle.ados_model.specs.File.{AreApart, data_blocks, extension_blocks, contents, file_byte}
 use Rattle.ados_data.specs.Changing.{IsInUse}
 use Rattle.ados_data.proofs.GrowthSteps.{KeepsData, untouched_holder, untouched_data, skeleton_kept}
-use Rattle.ados_data.proofs.Standing.{marks_stay, Standing, standing_of, writable_of, format_kept, map_stays, use_stays, count_stays}
-use Rattle.ados_map.specs.Pages.{HasBit}
+use Rattle.ados_data.proofs.Standing.{marks_stay, Owned, Standing, blocks_stay, standing_of, writable_of, format_kept, map_stays, use_stays, count_stays}
 use Rattle.ados_data.specs.Others.{Leaves}
 use Rattle.ados_data.specs.Growth.{GrowsFile}
 use Rattle.ados_data.proofs.Composing.{grows_to}
@@ -34,14 +33,11 @@ module _ (old new : List ℕ) (format : Format) (file : ℕ) (blocks extensions 
   abbrev pub Put : ℕ → ℕ → Type 0
   Put c k = AtData format (slice_index blocks i) low high c k
 
-  pub put_owner : (c k : ℕ) → Put c k → IsInUse old c × IsInside (block_count old) c
+  put_owner : (c k : ℕ) → Put c k → IsInUse old c × IsInside (block_count old) c
   put_owner c k at = (subst (IsInUse old) (sym at.0) (s.data_used i within), subst (IsInside (block_count old)) (sym at.0) (s.places.data_inside i within))
 
-  put_blocks : block_count new ≡ block_count old
-  put_blocks = same_count Put old new h
-
-  put_used : (c : ℕ) → IsInside (block_count old) c → IsInUse old c → IsInUse new c
-  put_used = use_stays Put old new h s.size_ok put_owner
+  pub put_owned : Owned Put old new
+  put_owned = record { same = h; size = s.size_ok; owner = put_owner }
 
   header_beside : (q k : ℕ) → q ≤ length extensions → ¬ Put (slice_index (file ∷ extensions) q) k
   header_beside q k l at = s.places.apart q i l within at.0
@@ -59,8 +55,8 @@ module _ (old new : List ℕ) (format : Format) (file : ℕ) (blocks extensions 
 
   pub stands_put : Standing new format file blocks extensions size
   stands_put = record {
-    format_is = format_kept Put old new h s.size_ok put_owner ∙ s.format_is;
-    size_ok = subst IsSize (sym put_blocks) s.size_ok;
+    format_is = format_kept put_owned ∙ s.format_is;
+    size_ok = subst IsSize (sym (blocks_stay put_owned)) s.size_ok;
     skeleton = skeleton_kept old new format file blocks extensions size s.skeleton
         (λ q l. untouched_holder old new (slice_index (file ∷ extensions) q) (λ k m. h.same_byte (slice_index (file ∷ extensions) q) k m (header_beside q k l)))
         (same_long Put old new h file FILE_SIZE (omega arith) (λ k e. header_beside 0 k (omega arith)))
@@ -72,17 +68,11 @@ module _ (old new : List ℕ) (format : Format) (file : ℕ) (blocks extensions 
             sum = λ z. summed f;
           })
         ]);
-    places = subst (λ (n : ℕ). AreApart n file blocks extensions) (sym put_blocks) s.places;
-    map = map_stays Put old new h s.size_ok put_owner s.map;
-    headers_used = λ q l. put_used (slice_index (file ∷ extensions) q) (s.places.headers_inside q l) (s.headers_used q l);
-    data_used = λ j l. put_used (slice_index blocks j) (s.places.data_inside j l) (s.data_used j l);
+    places = subst (λ (n : ℕ). AreApart n file blocks extensions) (sym (blocks_stay put_owned)) s.places;
+    map = map_stays put_owned s.map;
+    headers_used = λ q l. use_stays put_owned (slice_index (file ∷ extensions) q) (s.places.headers_inside q l) (s.headers_used q l);
+    data_used = λ j l. use_stays put_owned (slice_index blocks j) (s.places.data_inside j l) (s.data_used j l);
   }
-
-  pub put_marks : (c : ℕ) → HasBit old c → has_free_bit new c ≡ has_free_bit old c
-  put_marks = marks_stay Put old new h s.size_ok put_owner
-
-  pub put_count : free_bit_count new ≡ free_bit_count old
-  put_count = count_stays Put old new h s.size_ok put_owner
 
   -- all other bytes
   pub put_other : (j k : ℕ) → j < length blocks → k < 512 → (format ≡ Ofs → 24 ≤ k) → (j ≡ i → (k < low) ⊎ (high ≤ k)) → byte_at new (slice_index blocks j) k ≡ byte_at old (slice_index blocks j) k
@@ -100,7 +90,7 @@ module _ (old new : List ℕ) (format : Format) (file : ℕ) (blocks extensions 
     (summed : format ≡ Ofs → block_sum new (slice_index blocks i) ≡ 0) (h : SameBut (AtData format (slice_index blocks i) low high) old new) where
   pub leaves_put : Leaves old file blocks extensions new
   leaves_put =
-      leaves_owned (Put old new format file blocks extensions size i low high s within fields summed h) old new file blocks extensions h s.size_ok (put_owner old new format file blocks extensions size i low high s within fields summed h)
+      leaves_owned file blocks extensions (put_owned old new format file blocks extensions size i low high s within fields summed h)
       (λ c k o at. o.beside_data i within at.0) (λ k at. absurd (s.places.apart 0 i (omega arith) within at.0))
       (λ z. same_sum (Put old new format file blocks extensions size i low high s within fields summed h) old new h file (λ k l at. s.places.apart 0 i (omega arith) within at.0) ∙ z)
 
@@ -180,9 +170,9 @@ module _ (old new : List ℕ) (format : Format) (file : ℕ) (w : WritableFile o
       (subst (Standing new format file (data_blocks old file) (extension_blocks old file)) (sym length-bytes) stands) (fits_format ∙ ap (data_count format) (sym length-bytes)) w.lawful.extensions_fit held in
       record {
         grown = grows_to old new file (length (contents old file)) (data_blocks old file) (extension_blocks old file) written_bytes written length-bytes (omega arith) (stands.format_is ∙ f)
-            (ap (λ (n : ℕ). n + block_cost (format_of old) (length (contents old file))) (put_count old new format file (data_blocks old file) (extension_blocks old file) (length (contents old file)) (at / data_size format) (data_start format + at % data_size format) (data_start format + at % data_size format + length ys) s place fields put_sum put_rest))
+            (ap (λ (n : ℕ). n + block_cost (format_of old) (length (contents old file))) (count_stays (put_owned old new format file (data_blocks old file) (extension_blocks old file) (length (contents old file)) (at / data_size format) (data_start format + at % data_size format) (data_start format + at % data_size format + length ys) s place fields put_sum put_rest)))
             (leaves_put old new format file (data_blocks old file) (extension_blocks old file) (length (contents old file)) (at / data_size format) (data_start format + at % data_size format) (data_start format + at % data_size format + length ys) s place fields put_sum put_rest)
-            (gains_kept old old new file (data_blocks old file) (extension_blocks old file) (data_blocks old file) (extension_blocks old file) refl (put_marks old new format file (data_blocks old file) (extension_blocks old file) (length (contents old file)) (at / data_size format) (data_start format + at % data_size format) (data_start format + at % data_size format + length ys) s place fields put_sum put_rest) (gains_same old file (data_blocks old file) (extension_blocks old file)))
+            (gains_kept old old new file (data_blocks old file) (extension_blocks old file) (data_blocks old file) (extension_blocks old file) refl (marks_stay (put_owned old new format file (data_blocks old file) (extension_blocks old file) (length (contents old file)) (at / data_size format) (data_start format + at % data_size format) (data_start format + at % data_size format + length ys) s place fields put_sum put_rest)) (gains_same old file (data_blocks old file) (extension_blocks old file)))
             (take_all (length (data_blocks old file)) (data_blocks old file) (omega arith)) (take_all (length (extension_blocks old file)) (extension_blocks old file) (omega arith)) kept;
         extensions = extension_blocks_are new file (data_blocks old file) (extension_blocks old file) written_bytes written.lawful;
         bytes = contents_are new file (data_blocks old file) (extension_blocks old file) written_bytes written.lawful;

@@ -3,7 +3,7 @@ use Rattle.std.proofs.Common.{inl, inr, ◌≡◌, ◌≢◌, ℕ, ◌+◌, ◌<
 use Rattle.adf_block.specs.declared.layout.TheConstants.{FILE_SIZE}
 use Rattle.adf_block.specs.declared.layout.Format.{Format}
 use Rattle.adf_block.specs.declared.layout.Format.TheVariants.{Ofs, Ffs}
-use Rattle.adf_block.specs.Image.{long, block_count, root_key, has_free_bit, IsInside, block_sum}
+use Rattle.adf_block.specs.Image.{long, block_count, root_key, IsInside, block_sum}
 use Rattle.adf_block.specs.Whole.{IsSize, free_bit_count}
 use Rattle.adf_block.specs.Fields.{format_of}
 use Rattle.adf_block.proofs.Frames.{same_count}
@@ -13,7 +13,7 @@ use Rattle.ados_model.specs.File.{AreApart}
 use Rattle.ados_data.specs.Changing.{IsInUse, LawfulMap}
 use Rattle.ados_data.proofs.Untouched.{Untouched, untouched_long}
 use Rattle.ados_data.proofs.GrowthSteps.{untouched_holder, untouched_data, skeleton_kept}
-use Rattle.ados_data.proofs.Marks.{page_kept, in_use_kept}
+use Rattle.ados_data.proofs.Marks.{page_kept, in_use_kept, map_after}
 use Rattle.ados_data.proofs.Standing.{Standing}
 use Rattle.std.proofs.lemmas.Bool.{cases_eq}
 use Rattle.ados_data.proofs.Untouched.{untouched_sum}
@@ -48,17 +48,10 @@ module _ (old : List ℕ) (b : ℕ) (new : List ℕ) (m : BitChanged old b true 
   given_format = ap (λ (v : ℕ). cond (eqb v 0) Ofs Ffs) (m.rest.same_byte 0 3 (omega arith) (λ at. omega (arith, at.0, (map.pages.inside (page_of b) page_within).0)))
 
   pub given_map : LawfulMap new
-  given_map = record {
-    pages = pages;
-    root_marked =
-        ap (λ (x : ℕ). has_free_bit new (root_key x)) given_count
-        ∙ m.others (root_key (block_count old)) (bit_of_inside old (root_key (block_count old)) (omega (arith, ok.0), omega (arith, ok.0))) (λ e. used.beside_root (sym e))
-        ∙ map.root_marked;
-    pages_marked = λ p l. let a : p < pages_of old = omega (arith, given_count, l) in
-        ap (has_free_bit new) (given_page p a)
-        ∙ m.others (page_block old p) (bit_of_inside old (page_block old p) (map.pages.inside p a)) (λ e. used.beside_pages p a (sym e))
-        ∙ map.pages_marked p a;
-  }
+  given_map =
+      map_after (MapPlace old b) old new m.rest ok.1 root_kept pages
+      (m.others (root_key (block_count old)) (bit_of_inside old (root_key (block_count old)) (omega (arith, ok.0), omega (arith, ok.0))) (λ e. used.beside_root (sym e)))
+      (λ p l. m.others (page_block old p) (bit_of_inside old (page_block old p) (map.pages.inside p l)) (λ e. used.beside_pages p l (sym e))) map
 
   pub given_total : free_bit_count new ≡ free_bit_count old + 1
   given_total = one_more old new b inside given_count (λ j i ne. m.others j (bit_of_inside old j i) ne) used.marked m.bit

@@ -5,23 +5,22 @@ use Rattle.std.proofs.lemmas.List.{length_push}
 use Rattle.adf_block.specs.declared.layout.TheConstants.{FIRST_POINTER, FILE_SIZE, NEXT_EXTENSION}
 use Rattle.adf_block.specs.declared.layout.Format.{Format}
 use Rattle.adf_block.specs.declared.layout.Format.TheVariants.{Ofs}
-use Rattle.adf_block.specs.Image.{byte_at, long, block_sum, block_count, has_free_bit, IsInside}
-use Rattle.adf_block.specs.Whole.{IsSize, free_bit_count}
-use Rattle.adf_block.proofs.Frames.{same_long, same_count}
-use Rattle.ados_map.specs.Pages.{HasBit}
+use Rattle.adf_block.specs.Image.{byte_at, long, block_sum, block_count, IsInside}
+use Rattle.adf_block.specs.Whole.{IsSize}
+use Rattle.adf_block.proofs.Frames.{same_long}
 use Rattle.ados_data.specs.steps.Edits.{AtField, AtFields, AtExtensionFields, AtDataFields}
 use Rattle.ados_model.specs.File.{AreApart}
 use Rattle.ados_data.specs.Changing.{IsInUse}
 use Rattle.ados_data.specs.steps.Blocks.{IsExtended, IsLengthened, AtLink}
 use Rattle.ados_data.proofs.Lists.{head_pushed_before, head_pushed_last, pushed_before, pushed_last, apart_extended, apart_longer}
 use Rattle.ados_data.proofs.GrowthSteps.{KeepsHolder, untouched_holder, untouched_data, skeleton_extended, skeleton_longer}
-use Rattle.ados_data.proofs.Standing.{Standing, format_kept, map_stays, use_stays, marks_stay, count_stays}
+use Rattle.ados_data.proofs.Standing.{Standing, Owned, blocks_stay, format_kept, map_stays, use_stays}
 
 -- ---- an extension block
 
 module _ (old new : List ℕ) (format : Format) (file : ℕ) (blocks extensions : List ℕ) (size e : ℕ) (s : Standing old format file blocks extensions size) (x : IsExtended old file (slice_index (file ∷ extensions) (length extensions)) e new)
     (inside : IsInside (block_count old) e) (used : IsInUse old e) (beside_headers : (q : ℕ) → q ≤ length extensions → slice_index (file ∷ extensions) q ≢ e) (beside_data : (i : ℕ) → i < length blocks → slice_index blocks i ≢ e) where
-  pub extended_owner : (c k : ℕ) → (AtExtensionFields e c k ⊎ AtField (slice_index (file ∷ extensions) (length extensions)) NEXT_EXTENSION c k) → IsInUse old c × IsInside (block_count old) c
+  extended_owner : (c k : ℕ) → (AtExtensionFields e c k ⊎ AtField (slice_index (file ∷ extensions) (length extensions)) NEXT_EXTENSION c k) → IsInUse old c × IsInside (block_count old) c
   extended_owner c k (inl at) = (subst (IsInUse old) (sym at.0) used, subst (IsInside (block_count old)) (sym at.0) inside)
   extended_owner c k (inr at) = (subst (IsInUse old) (sym at.0) (s.headers_used (length extensions) (omega arith)), subst (IsInside (block_count old)) (sym at.0) (s.places.headers_inside (length extensions) (omega arith)))
 
@@ -33,22 +32,18 @@ module _ (old new : List ℕ) (format : Format) (file : ℕ) (blocks extensions 
   -- a long other than the link
   extended_other : (c k j : ℕ) → k / 4 ≡ j → c ≢ e → j ≢ NEXT_EXTENSION → j ≢ 5 → ¬ (AtExtensionFields e c k ⊎ AtField (slice_index (file ∷ extensions) (length extensions)) NEXT_EXTENSION c k)
   extended_other c k j m a b d (inl at) = a at.0
-  extended_other c k j m a b d (inr (at, inl z)) = b (sym m ∙ z)
-  extended_other c k j m a b d (inr (at, inr z)) = d (sym m ∙ z)
+  extended_other c k j m a b d (inr (at, z)) = omega (arith, m, z, b, d)
 
   other_long : (c j : ℕ) → j < 128 → c ≢ e → j ≢ NEXT_EXTENSION → j ≢ 5 → long new c j ≡ long old c j
   other_long c j l a b d = same_long (λ c k. AtExtensionFields e c k ⊎ AtField (slice_index (file ∷ extensions) (length extensions)) NEXT_EXTENSION c k) old new x.rest c j l (λ k m. extended_other c k j m a b d)
 
-  same_blocks : block_count new ≡ block_count old
-  same_blocks = same_count (λ c k. AtExtensionFields e c k ⊎ AtField (slice_index (file ∷ extensions) (length extensions)) NEXT_EXTENSION c k) old new x.rest
-
-  still_in_use : (c : ℕ) → IsInside (block_count old) c → IsInUse old c → IsInUse new c
-  still_in_use = use_stays (λ c k. AtExtensionFields e c k ⊎ AtField (slice_index (file ∷ extensions) (length extensions)) NEXT_EXTENSION c k) old new x.rest s.size_ok extended_owner
+  pub extended_owned : Owned (λ c k. AtExtensionFields e c k ⊎ AtField (slice_index (file ∷ extensions) (length extensions)) NEXT_EXTENSION c k) old new
+  extended_owned = record { same = x.rest; size = s.size_ok; owner = extended_owner }
 
   pub stands_extended : length blocks ≡ 72 * suc (length extensions) → Standing new format file blocks (extensions ++ e ∷ []) size
   stands_extended full = record {
-    format_is = format_kept (λ c k. AtExtensionFields e c k ⊎ AtField (slice_index (file ∷ extensions) (length extensions)) NEXT_EXTENSION c k) old new x.rest s.size_ok extended_owner ∙ s.format_is;
-    size_ok = subst IsSize (sym same_blocks) s.size_ok;
+    format_is = format_kept extended_owned ∙ s.format_is;
+    size_ok = subst IsSize (sym (blocks_stay extended_owned)) s.size_ok;
     skeleton = skeleton_extended old new format file blocks extensions size s.skeleton e full
         (λ q l. untouched_holder old new (slice_index (file ∷ extensions) q) (λ k m. x.rest.same_byte (slice_index (file ∷ extensions) q) k m (extended_beside (slice_index (file ∷ extensions) q) k (beside_headers q (omega arith)) (s.places.headers_once q (length extensions) l (omega arith)))))
         (λ j l a b. other_long (slice_index (file ∷ extensions) (length extensions)) j l (beside_headers (length extensions) (omega arith)) a b)
@@ -57,25 +52,18 @@ module _ (old new : List ℕ) (format : Format) (file : ℕ) (blocks extensions 
         (other_long file 4 (omega arith) (beside_headers 0 (omega arith)) (omega arith) (omega arith))
         (λ f i l. untouched_data old new (slice_index blocks i) (λ k m. x.rest.same_byte (slice_index blocks i) k m (extended_beside (slice_index blocks i) k (beside_data i l) (λ z. s.places.apart (length extensions) i (omega arith) l (sym z)))))
         x.fields x.no_pointers x.no_next;
-    places = subst (λ (n : ℕ). AreApart n file blocks (extensions ++ e ∷ [])) (sym same_blocks) (apart_extended (block_count old) file blocks extensions s.places e inside beside_headers beside_data);
-    map = map_stays (λ c k. AtExtensionFields e c k ⊎ AtField (slice_index (file ∷ extensions) (length extensions)) NEXT_EXTENSION c k) old new x.rest s.size_ok extended_owner s.map;
+    places = subst (λ (n : ℕ). AreApart n file blocks (extensions ++ e ∷ [])) (sym (blocks_stay extended_owned)) (apart_extended (block_count old) file blocks extensions s.places e inside beside_headers beside_data);
+    map = map_stays extended_owned s.map;
     headers_used = λ q l. elim (cases_lt q (suc (length extensions))) [
-      | inl m ↦ subst (IsInUse new) (sym (head_pushed_before file extensions e q (omega arith))) (still_in_use (slice_index (file ∷ extensions) q) (s.places.headers_inside q (omega arith)) (s.headers_used q (omega arith)))
-      | inr m ↦ subst (IsInUse new) (sym (head_pushed_last file extensions e q (omega (arith, length_push extensions e)))) (still_in_use e inside used)
+      | inl m ↦ subst (IsInUse new) (sym (head_pushed_before file extensions e q (omega arith))) (use_stays extended_owned (slice_index (file ∷ extensions) q) (s.places.headers_inside q (omega arith)) (s.headers_used q (omega arith)))
+      | inr m ↦ subst (IsInUse new) (sym (head_pushed_last file extensions e q (omega (arith, length_push extensions e)))) (use_stays extended_owned e inside used)
     ];
-    data_used = λ i l. still_in_use (slice_index blocks i) (s.places.data_inside i l) (s.data_used i l);
+    data_used = λ i l. use_stays extended_owned (slice_index blocks i) (s.places.data_inside i l) (s.data_used i l);
   }
 
   -- the bytes of data blocks are unchanged
   pub extended_byte : (i k : ℕ) → i < length blocks → k < 512 → byte_at new (slice_index blocks i) k ≡ byte_at old (slice_index blocks i) k
   extended_byte i k l m = x.rest.same_byte (slice_index blocks i) k m (extended_beside (slice_index blocks i) k (beside_data i l) (λ z. s.places.apart (length extensions) i (omega arith) l (sym z)))
-
-  -- the marks are unchanged
-  pub extended_marks : (c : ℕ) → HasBit old c → has_free_bit new c ≡ has_free_bit old c
-  extended_marks = marks_stay (λ c k. AtExtensionFields e c k ⊎ AtField (slice_index (file ∷ extensions) (length extensions)) NEXT_EXTENSION c k) old new x.rest s.size_ok extended_owner
-
-  pub extended_count : free_bit_count new ≡ free_bit_count old
-  extended_count = count_stays (λ c k. AtExtensionFields e c k ⊎ AtField (slice_index (file ∷ extensions) (length extensions)) NEXT_EXTENSION c k) old new x.rest s.size_ok extended_owner
 
 -- ---- a data block
 
@@ -84,7 +72,7 @@ module _ (old new : List ℕ) (format : Format) (file : ℕ) (blocks extensions 
   abbrev pub Lengthened : ℕ → ℕ → Type 0
   Lengthened c k = AtDataFields format b c k ⊎ (AtLink format (length blocks) (slice_index blocks (length blocks - 1)) c k ⊎ (AtFields (slice_index (file ∷ extensions) (length extensions)) (FIRST_POINTER - length blocks % 72) 2 c k ⊎ AtField file 4 c k))
 
-  pub lengthened_owner : (c k : ℕ) → Lengthened c k → IsInUse old c × IsInside (block_count old) c
+  lengthened_owner : (c k : ℕ) → Lengthened c k → IsInUse old c × IsInside (block_count old) c
   lengthened_owner c k (inl at) = (subst (IsInUse old) (sym at.1) used, subst (IsInside (block_count old)) (sym at.1) inside)
   lengthened_owner c k (inr (inl at)) = (subst (IsInUse old) (sym at.2.0) (s.data_used (length blocks - 1) (omega (arith, at.1))), subst (IsInside (block_count old)) (sym at.2.0) (s.places.data_inside (length blocks - 1) (omega (arith, at.1))))
   lengthened_owner c k (inr (inr (inl at))) = (subst (IsInUse old) (sym at.0) (s.headers_used (length extensions) (omega arith)), subst (IsInside (block_count old)) (sym at.0) (s.places.headers_inside (length extensions) (omega arith)))
@@ -103,13 +91,9 @@ module _ (old new : List ℕ) (format : Format) (file : ℕ) (blocks extensions 
   kept_long q k j m l a d e (inr (inl at)) = s.places.apart q (length blocks - 1) l (omega (arith, at.1)) at.2.0
   kept_long q k j m l a d e (inr (inr (inl (at, z)))) = elim (cases_lt q (length extensions)) [
     | inl r ↦ s.places.headers_once q (length extensions) r (omega arith) at
-    | inr r ↦ let no = a (omega arith) in elim z [
-      | inl y ↦ no.1 (sym m ∙ y)
-      | inr y ↦ elim y [ inl w ↦ no.0 (sym m ∙ w) | inr w ↦ e (sym m ∙ w) ]
-    ]
+    | inr r ↦ let no = a (omega arith) in omega (arith, m, z, no, e)
   ]
-  kept_long q k j m l a d e (inr (inr (inr (at, inl z)))) = d (sym m ∙ z)
-  kept_long q k j m l a d e (inr (inr (inr (at, inr z)))) = e (sym m ∙ z)
+  kept_long q k j m l a d e (inr (inr (inr (at, z)))) = omega (arith, m, z, d, e)
 
   header_long : (q j : ℕ) → j < 128 → q ≤ length extensions → (q ≡ length extensions → (j ≢ 2) × (j ≢ FIRST_POINTER - length blocks % 72)) → j ≢ 4 → j ≢ 5 → long new (slice_index (file ∷ extensions) q) j ≡ long old (slice_index (file ∷ extensions) q) j
   header_long q j l m a d e = same_long Lengthened old new x.rest (slice_index (file ∷ extensions) q) j l (λ k r. kept_long q k j r m a d e)
@@ -124,16 +108,12 @@ module _ (old new : List ℕ) (format : Format) (file : ℕ) (blocks extensions 
   -- an unchanged long of the last data block
   last_other : (i k j : ℕ) → k / 4 ≡ j → suc i ≡ length blocks → j < 4 → ¬ Lengthened (slice_index blocks i) k
   last_other i k j m l a (inl at) = beside_data i (omega arith) at.1
-  last_other i k j m l a (inr (inl (f, c, (at, inl z)))) = omega (arith, m, z, a)
-  last_other i k j m l a (inr (inl (f, c, (at, inr z)))) = omega (arith, m, z, a)
+  last_other i k j m l a (inr (inl (f, c, (at, z)))) = omega (arith, m, z, a)
   last_other i k j m l a (inr (inr (inl at))) = s.places.apart (length extensions) i (omega arith) (omega arith) (sym at.0)
   last_other i k j m l a (inr (inr (inr at))) = s.places.apart 0 i (omega arith) (omega arith) (sym at.0)
 
-  longer_blocks : block_count new ≡ block_count old
-  longer_blocks = same_count Lengthened old new x.rest
-
-  used_longer : (c : ℕ) → IsInside (block_count old) c → IsInUse old c → IsInUse new c
-  used_longer = use_stays Lengthened old new x.rest s.size_ok lengthened_owner
+  pub longer_owned : Owned Lengthened old new
+  longer_owned = record { same = x.rest; size = s.size_ok; owner = lengthened_owner }
 
   keeps_holder : (q : ℕ) → q < length extensions → KeepsHolder old new (slice_index (file ∷ extensions) q)
   keeps_holder zero l = record {
@@ -147,8 +127,8 @@ module _ (old new : List ℕ) (format : Format) (file : ℕ) (blocks extensions 
 
   pub stands_longer : length blocks % 72 ≡ length blocks - 72 * length extensions → 72 * length extensions ≤ length blocks → (format ≡ Ofs → size ≤ 488 * length blocks) → Standing new format file (blocks ++ b ∷ []) extensions size
   stands_longer place least full = record {
-    format_is = format_kept Lengthened old new x.rest s.size_ok lengthened_owner ∙ s.format_is;
-    size_ok = subst IsSize (sym longer_blocks) s.size_ok;
+    format_is = format_kept longer_owned ∙ s.format_is;
+    size_ok = subst IsSize (sym (blocks_stay longer_owned)) s.size_ok;
     skeleton = skeleton_longer old new format file blocks extensions size s.skeleton b (length blocks % 72) (omega (arith, place, least)) (omega arith)
         keeps_holder
         (λ j l a d e f. header_long (length extensions) j l (omega arith) (λ z. (a, d)) e f)
@@ -162,12 +142,12 @@ module _ (old new : List ℕ) (format : Format) (file : ℕ) (blocks extensions 
           λ z. ap (block_sum new) (last_is i l) ∙ x.last_sum f (omega arith) (ap (block_sum old) (sym (last_is i l)) ∙ z),
         ))
         (λ f. (record { primary = x.primary f; header = x.header f; sequence = x.sequence f; held = x.held ∙ omega (arith, full f); sum = x.sum f }, x.next));
-    places = subst (λ (n : ℕ). AreApart n file (blocks ++ b ∷ []) extensions) (sym longer_blocks) (apart_longer (block_count old) file blocks extensions s.places b inside beside_headers beside_data);
-    map = map_stays Lengthened old new x.rest s.size_ok lengthened_owner s.map;
-    headers_used = λ q l. used_longer (slice_index (file ∷ extensions) q) (s.places.headers_inside q l) (s.headers_used q l);
+    places = subst (λ (n : ℕ). AreApart n file (blocks ++ b ∷ []) extensions) (sym (blocks_stay longer_owned)) (apart_longer (block_count old) file blocks extensions s.places b inside beside_headers beside_data);
+    map = map_stays longer_owned s.map;
+    headers_used = λ q l. use_stays longer_owned (slice_index (file ∷ extensions) q) (s.places.headers_inside q l) (s.headers_used q l);
     data_used = λ i l. elim (cases_lt i (length blocks)) [
-      | inl m ↦ subst (IsInUse new) (sym (pushed_before blocks b i m)) (used_longer (slice_index blocks i) (s.places.data_inside i m) (s.data_used i m))
-      | inr m ↦ subst (IsInUse new) (sym (pushed_last blocks b i (omega (arith, length_push blocks b)))) (used_longer b inside used)
+      | inl m ↦ subst (IsInUse new) (sym (pushed_before blocks b i m)) (use_stays longer_owned (slice_index blocks i) (s.places.data_inside i m) (s.data_used i m))
+      | inr m ↦ subst (IsInUse new) (sym (pushed_last blocks b i (omega (arith, length_push blocks b)))) (use_stays longer_owned b inside used)
     ];
   }
 
@@ -177,8 +157,7 @@ module _ (old new : List ℕ) (format : Format) (file : ℕ) (blocks extensions 
     where
       no : ¬ Lengthened (slice_index blocks i) k
       no (inl at) = beside_data i l at.1
-      no (inr (inl (f, c, (at, inl z)))) = omega (arith, z, a f)
-      no (inr (inl (f, c, (at, inr z)))) = omega (arith, z, a f)
+      no (inr (inl (f, c, (at, z)))) = omega (arith, z, a f)
       no (inr (inr (inl at))) = s.places.apart (length extensions) i (omega arith) l (sym at.0)
       no (inr (inr (inr at))) = s.places.apart 0 i (omega arith) l (sym at.0)
 
@@ -191,10 +170,3 @@ module _ (old new : List ℕ) (format : Format) (file : ℕ) (blocks extensions 
       no (inr (inl (f, c, (at, z)))) = beside_data (length blocks - 1) (omega (arith, c)) (sym at)
       no (inr (inr (inl at))) = beside_headers (length extensions) (omega arith) (sym at.0)
       no (inr (inr (inr at))) = beside_headers 0 (omega arith) (sym at.0)
-
-  -- the marks are unchanged
-  pub longer_marks : (c : ℕ) → HasBit old c → has_free_bit new c ≡ has_free_bit old c
-  longer_marks = marks_stay Lengthened old new x.rest s.size_ok lengthened_owner
-
-  pub longer_count : free_bit_count new ≡ free_bit_count old
-  longer_count = count_stays Lengthened old new x.rest s.size_ok lengthened_owner

@@ -4,9 +4,8 @@ use Rattle.std.proofs.lemmas.Bool.{cases_Bool, cases_lt, cases_eq, cases_order, 
 use Rattle.std.proofs.lemmas.List.{length_push}
 use Rattle.adf_block.specs.declared.layout.TheConstants.{NEXT_EXTENSION}
 use Rattle.adf_block.specs.declared.layout.Format.{Format}
-use Rattle.adf_block.specs.Image.{block_sum, block_count, root_key, has_free_bit, IsInside}
+use Rattle.adf_block.specs.Image.{block_sum, block_count, has_free_bit, IsInside}
 use Rattle.adf_block.specs.Whole.{IsSize}
-use Rattle.adf_block.specs.Frame.{SameBut}
 use Rattle.adf_block.proofs.Frames.{same_sum}
 use Rattle.ados_map.specs.Pages.{pages_of, page_block, page_of, HasBit}
 use Rattle.ados_map.specs.Changes.{MapPlace}
@@ -15,13 +14,12 @@ use Rattle.ados_data.specs.Changing.{IsInUse, LawfulMap}
 use Rattle.ados_data.specs.steps.Blocks.{IsNewBlock, IsExtended, IsLengthened, IsResized}
 use Rattle.ados_data.proofs.Lists.{head_pushed_before, head_pushed_last, pushed_before, pushed_last}
 use Rattle.ados_data.proofs.Untouched.{untouched_sum}
-use Rattle.ados_data.proofs.Marks.{page_kept}
 use Rattle.std.proofs.lemmas.Bool.{true_from_ne_false}
 use Rattle.ados_data.specs.Others.{IsOther, IsDataField, Leaves, IsOwn, Gains, RisesBehind, WasFree}
 use Rattle.ados_data.proofs.Grown.{front_length, front_at, front_header}
-use Rattle.ados_data.proofs.Growing.{extended_owner, Lengthened, lengthened_owner}
-use Rattle.ados_data.proofs.Resizing.{Resized, resized_owner}
-use Rattle.ados_data.proofs.Standing.{Standing, root_free, pages_free, marks_stay, beside_new}
+use Rattle.ados_data.proofs.Growing.{extended_owned, Lengthened, longer_owned}
+use Rattle.ados_data.proofs.Resizing.{Resized, resized_owned}
+use Rattle.ados_data.proofs.Standing.{Owned, Standing, pages_free, pages_same, pages_stay, marks_stay, beside_new, untaken}
 use Rattle.ados_map.proofs.MarkLemmas.{bit_of_inside}
 
 -- nothing changes
@@ -69,29 +67,29 @@ leaves_both old mid new file blocks extensions blocks' extensions' a b more = re
     }
 
 -- only blocks of the file change
-pub leaves_owned : (changed : ℕ → ℕ → Type 0) (old new : List ℕ) (file : ℕ) (blocks extensions : List ℕ) → SameBut changed old new → IsSize (block_count old) → ((c k : ℕ) → changed c k → IsInUse old c × IsInside (block_count old) c) →
+pub leaves_owned : {changed : ℕ → ℕ → Type 0} {old new : List ℕ} (file : ℕ) (blocks extensions : List ℕ) → Owned changed old new →
     ((c k : ℕ) → IsOther old file blocks extensions c → ¬ changed c k) → ((k : ℕ) → changed file k → IsDataField (k / 4)) → (block_sum old file ≡ 0 → block_sum new file ≡ 0) → Leaves old file blocks extensions new
-leaves_owned changed old new file blocks extensions h ok owner beside field summed = record {
-  same_length = h.same_length;
-  pages = page_kept changed old new h ok.1 (root_free changed old new h ok owner);
-  others = λ c k l o. h.same_byte c k l (beside c k o);
-  used = λ c i o. marks_stay changed old new h ok owner c (bit_of_inside old c i) ∙ o.used i.0;
-  past_end = λ j b l. marks_stay changed old new h ok owner j b;
-  header = λ k l n. h.same_byte file k l (λ at. n (field k at));
+leaves_owned {changed} {old} {new} file blocks extensions h beside field summed = record {
+  same_length = h.same.same_length;
+  pages = pages_stay h;
+  others = λ c k l o. h.same.same_byte c k l (beside c k o);
+  used = λ c i o. marks_stay h c (bit_of_inside old c i) ∙ o.used i.0;
+  past_end = λ j b l. marks_stay h j b;
+  header = λ k l n. h.same.same_byte file k l (λ at. n (field k at));
   header_sum = summed;
-  page_sums = λ p l e. same_sum changed old new h (page_block old p) (λ k m. pages_free changed old new h ok owner p k l) ∙ e;
+  page_sums = λ p l e. same_sum changed old new h.same (page_block old p) (λ k m. pages_free h p k l) ∙ e;
 }
 
 -- a block is allocated
 pub leaves_taken : (old : List ℕ) (b : ℕ) (new : List ℕ) (file : ℕ) (blocks extensions : List ℕ) → IsNewBlock old b new → IsSize (block_count old) → LawfulMap old → IsInUse old file → Leaves old file blocks extensions new
 leaves_taken old b new file blocks extensions n ok m header_used = record {
   same_length = n.rest.same_length;
-  pages = page_kept (λ c k. MapPlace old b c k ⊎ (c ≡ b)) old new n.rest ok.1 root_untaken;
+  pages = pages_same old b new n ok m;
   others = λ c k l o. n.rest.same_byte c k l (no c k o);
   used = λ c i o. n.others c (bit_of_inside old c i) (another c o) ∙ o.used i.0;
   past_end = λ j h l. n.others j h (λ e. omega (arith, e, l, n.lowest.inside.1));
-  header = λ k l f. n.rest.same_byte file k l (no_header k);
-  header_sum = λ e. untouched_sum old new file (λ k l. n.rest.same_byte file k l (no_header k)) ∙ e;
+  header = λ k l f. n.rest.same_byte file k l (untaken old b new n ok m file k header_used);
+  header_sum = λ e. untouched_sum old new file (λ k l. n.rest.same_byte file k l (untaken old b new n ok m file k header_used)) ∙ e;
   page_sums = λ p l e. elim (cases_eq p (page_of b)) [
     | inl same ↦ ap (λ (x : ℕ). block_sum new (page_block old x)) same ∙ n.page_sum ∙ ap (λ (x : ℕ). block_sum old (page_block old x)) (sym same) ∙ e
     | inr ne ↦ untouched_sum old new (page_block old p) (λ k r. n.rest.same_byte (page_block old p) k r (no_page p k l ne)) ∙ e
@@ -108,17 +106,9 @@ leaves_taken old b new file blocks extensions n ok m header_used = record {
     no c k o (inl p) = o.beside_pages (page_of b) within p.0
     no c k o (inr e) = another c o e
 
-    no_header : (k : ℕ) → ¬ (MapPlace old b file k ⊎ (file ≡ b))
-    no_header k (inl p) = header_used.beside_pages (page_of b) within p.0
-    no_header k (inr e) = beside_new old b new n ok m file header_used.marked e
-
     no_page : (p k : ℕ) → p < pages_of old → p ≢ page_of b → ¬ (MapPlace old b (page_block old p) k ⊎ (page_block old p ≡ b))
     no_page p k l ne (inl q) = ne (m.pages.apart p (page_of b) l within q.0)
     no_page p k l ne (inr e) = beside_new old b new n ok m (page_block old p) (m.pages_marked p l) e
-
-    root_untaken : (k : ℕ) → ¬ (MapPlace old b (root_key (block_count old)) k ⊎ (root_key (block_count old) ≡ b))
-    root_untaken k (inl p) = m.pages.beside_root (page_of b) within (sym p.0)
-    root_untaken k (inr e) = beside_new old b new n ok m (root_key (block_count old)) m.root_marked e
 
 -- ---- lists that grow
 
@@ -208,8 +198,7 @@ module _ (old new : List ℕ) (format : Format) (file : ℕ) (blocks extensions 
     (inside : IsInside (block_count old) e) (used : IsInUse old e) (beside_headers : (q : ℕ) → q ≤ length extensions → slice_index (file ∷ extensions) q ≢ e) (beside_data : (i : ℕ) → i < length blocks → slice_index blocks i ≢ e) where
   pub leaves_extended : Leaves old file blocks (extensions ++ e ∷ []) new
   leaves_extended =
-      leaves_owned (λ c k. AtExtensionFields e c k ⊎ AtField (slice_index (file ∷ extensions) (length extensions)) NEXT_EXTENSION c k) old new file blocks (extensions ++ e ∷ []) x.rest s.size_ok
-      (extended_owner old new format file blocks extensions size e s x inside used beside_headers beside_data) beside field summed
+      leaves_owned file blocks (extensions ++ e ∷ []) (extended_owned old new format file blocks extensions size e s x inside used beside_headers beside_data) beside field summed
     where
       beside : (c k : ℕ) → IsOther old file blocks (extensions ++ e ∷ []) c → ¬ (AtExtensionFields e c k ⊎ AtField (slice_index (file ∷ extensions) (length extensions)) NEXT_EXTENSION c k)
       beside c k o (inl at) = o.beside_headers (suc (length extensions)) (omega (arith, length_push extensions e)) (at.0 ∙ sym (head_pushed_last file extensions e (suc (length extensions)) refl))
@@ -234,8 +223,7 @@ module _ (old new : List ℕ) (format : Format) (file : ℕ) (blocks extensions 
     (inside : IsInside (block_count old) b) (used : IsInUse old b) (beside_headers : (q : ℕ) → q ≤ length extensions → slice_index (file ∷ extensions) q ≢ b) (beside_data : (i : ℕ) → i < length blocks → slice_index blocks i ≢ b) where
   pub leaves_longer : Leaves old file (blocks ++ b ∷ []) extensions new
   leaves_longer =
-      leaves_owned (Lengthened old new format file blocks extensions size b s x inside used beside_headers beside_data) old new file (blocks ++ b ∷ []) extensions x.rest s.size_ok
-      (lengthened_owner old new format file blocks extensions size b s x inside used beside_headers beside_data) beside field x.file_sum
+      leaves_owned file (blocks ++ b ∷ []) extensions (longer_owned old new format file blocks extensions size b s x inside used beside_headers beside_data) beside field x.file_sum
     where
       beside : (c k : ℕ) → IsOther old file (blocks ++ b ∷ []) extensions c → ¬ Lengthened old new format file blocks extensions size b s x inside used beside_headers beside_data c k
       beside c k o (inl at) = o.beside_data (length blocks) (omega (arith, length_push blocks b)) (at.1 ∙ sym (pushed_last blocks b (length blocks) refl))
@@ -256,7 +244,7 @@ module _ (old new : List ℕ) (format : Format) (file : ℕ) (blocks extensions 
     (x : IsResized old format file (slice_index (file ∷ extensions) e) (slice_index blocks (d - 1)) d size' new) (few : d ≤ length blocks) (fewer : e ≤ length extensions) where
   pub leaves_resized : Leaves old file blocks extensions new
   leaves_resized =
-      leaves_owned (Resized old new format file blocks extensions size d e size' s x few fewer) old new file blocks extensions x.rest s.size_ok (resized_owner old new format file blocks extensions size d e size' s x few fewer) beside field x.file_sum
+      leaves_owned file blocks extensions (resized_owned old new format file blocks extensions size d e size' s x few fewer) beside field x.file_sum
     where
       beside : (c k : ℕ) → IsOther old file blocks extensions c → ¬ Resized old new format file blocks extensions size d e size' s x few fewer c k
       beside c k o (inl at) = o.beside_data (d - 1) (omega (arith, at.1)) at.2.0

@@ -11,7 +11,7 @@ use Rattle.adf_block.proofs.Blocks.{byte-bytes_at}
 use Rattle.ados_model.specs.Tree.{block_cost, data_count, data_size, data_start, extension_count}
 use Rattle.ados_model.specs.File.{file_byte, data_blocks, extension_blocks, contents}
 use Rattle.ados_data.specs.steps.Blocks.{IsResized}
-use Rattle.ados_data.proofs.Standing.{Standing, standing_of, writable_of}
+use Rattle.ados_data.proofs.Standing.{Standing, standing_of, writable_of, count_stays, marks_stay}
 use Rattle.std.proofs.lemmas.List.{take_all, length-append, get_or_append_left, get_or-append_right}
 use Rattle.std.proofs.Math.Nat.{mod-lt}
 use Rattle.ados_data.specs.declared.grow.End.{End}
@@ -23,7 +23,7 @@ use Rattle.ados_data.proofs.Reading.{length-bytes_at}
 use Rattle.ados_data.specs.Growth.{GrowsFile}
 use Rattle.ados_data.proofs.Composing.{grows_to}
 use Rattle.ados_data.proofs.Leaving.{leaves_resized, gains_same, gains_kept}
-use Rattle.ados_data.proofs.Resizing.{stands_resized, resized_byte, resized_count, resized_marks}
+use Rattle.ados_data.proofs.Resizing.{stands_resized, resized_byte, resized_owned}
 use Rattle.ados_data.proofs.Spelled.{data_blocks_are, extension_blocks_are, contents_are}
 use Rattle.ados_data.proofs.Within.{keeps_resized}
 
@@ -126,9 +126,9 @@ module _ (i0 i1 : List ℕ) (format : Format) (file : ℕ) (end : End) (part : �
       let costs : block_cost format (old + part) ≡ block_cost format old = ap (λ (n : ℕ). n + extension_count n) (sizes.2 ∙ count_is) in
       record {
         grown = grows_to i0 i1 file (old + part) blocks extensions filled written length-filled (omega arith) (s1.format_is ∙ f)
-            (subst (λ (t : Format). free_bit_count i1 + block_cost t (old + part) ≡ free_bit_count i0 + block_cost t old) f (ap₂ (λ (a b : ℕ). a + b) (resized_count i0 i1 format file blocks extensions old (length blocks) (length extensions) (old + part) s0 y' (omega arith) (omega arith)) costs))
+            (subst (λ (t : Format). free_bit_count i1 + block_cost t (old + part) ≡ free_bit_count i0 + block_cost t old) f (ap₂ (λ (a b : ℕ). a + b) (count_stays (resized_owned i0 i1 format file blocks extensions old (length blocks) (length extensions) (old + part) s0 y' (omega arith) (omega arith))) costs))
             (leaves_resized i0 i1 format file blocks extensions old (length blocks) (length extensions) (old + part) s0 y' (omega arith) (omega arith))
-            (gains_kept i0 i0 i1 file blocks extensions blocks extensions refl (resized_marks i0 i1 format file blocks extensions old (length blocks) (length extensions) (old + part) s0 y' (omega arith) (omega arith)) (gains_same i0 file blocks extensions))
+            (gains_kept i0 i0 i1 file blocks extensions blocks extensions refl (marks_stay (resized_owned i0 i1 format file blocks extensions old (length blocks) (length extensions) (old + part) s0 y' (omega arith) (omega arith))) (gains_same i0 file blocks extensions))
             (take_all (length blocks) blocks (omega arith)) (take_all (length extensions) extensions (omega arith)) (keeps_resized i0 i1 format file blocks extensions old (old + part) s0 sizes.0 y');
         end_is = record {
           counted = e.counted ∙ sym (ap length bl);

@@ -27,6 +27,14 @@ module _ (changed : ℕ → ℕ → Type 0) (old new : List ℕ) (h : SameBut ch
     beside_pages = λ p l e. u.beside_pages p (omega (arith, pages_kept, l)) (e ∙ page_kept p (omega (arith, pages_kept, l)));
   }
 
+  -- the bitmap is lawful if its blocks are, and they and the root keep their marks
+  pub map_after : LawfulPages new → has_free_bit new (root_key (block_count old)) ≡ has_free_bit old (root_key (block_count old)) → ((p : ℕ) → p < pages_of old → has_free_bit new (page_block old p) ≡ has_free_bit old (page_block old p)) → LawfulMap old → LawfulMap new
+  map_after pages root page m = record {
+    pages = pages;
+    root_marked = ap (λ (n : ℕ). has_free_bit new (root_key n)) count ∙ root ∙ m.root_marked;
+    pages_marked = λ p l. let a : p < pages_of old = omega (arith, pages_kept, l) in ap (has_free_bit new) (page_kept p a) ∙ page p a ∙ m.pages_marked p a;
+  }
+
   module _ (pages_free : (p k : ℕ) → p < pages_of old → ¬ changed (page_block old p) k) where
     pub mark_kept : (c : ℕ) → HasBit old c → has_free_bit new c ≡ has_free_bit old c
     mark_kept = marks.mark_kept changed old new h page_kept (λ p k within l. pages_free p k within)
@@ -35,9 +43,6 @@ module _ (changed : ℕ → ℕ → Type 0) (old new : List ℕ) (h : SameBut ch
     lawful_pages_kept m = lawful_kept old new m count page_kept
 
     pub map_kept : 16 ≤ block_count old → LawfulMap old → LawfulMap new
-    map_kept many m = record {
-      pages = lawful_pages_kept m.pages;
-      root_marked = ap (λ (n : ℕ). has_free_bit new (root_key n)) count ∙ mark_kept (root_key (block_count old)) (bit_of_inside old (root_key (block_count old)) (omega arith, omega arith)) ∙ m.root_marked;
-      pages_marked = λ p l. let a : p < pages_of old = omega (arith, pages_kept, l) in
-          ap (has_free_bit new) (page_kept p a) ∙ mark_kept (page_block old p) (bit_of_inside old (page_block old p) (m.pages.inside p a)) ∙ m.pages_marked p a;
-    }
+    map_kept many m =
+        map_after (lawful_pages_kept m.pages) (mark_kept (root_key (block_count old)) (bit_of_inside old (root_key (block_count old)) (omega arith, omega arith)))
+        (λ p l. mark_kept (page_block old p) (bit_of_inside old (page_block old p) (m.pages.inside p l))) m

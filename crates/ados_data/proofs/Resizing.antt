@@ -5,10 +5,9 @@ use Rattle.std.proofs.lemmas.List.{length-take-le}
 use Rattle.adf_block.specs.declared.layout.TheConstants.{POINTER_COUNT, FILE_SIZE, NEXT_EXTENSION, NEXT_DATA}
 use Rattle.adf_block.specs.declared.layout.Format.{Format}
 use Rattle.adf_block.specs.declared.layout.Format.TheVariants.{Ofs}
-use Rattle.adf_block.specs.Image.{byte_at, long, block_sum, block_count, has_free_bit, IsInside}
-use Rattle.adf_block.specs.Whole.{IsSize, free_bit_count}
-use Rattle.adf_block.proofs.Frames.{same_long, same_count}
-use Rattle.ados_map.specs.Pages.{pages_of, page_block, HasBit}
+use Rattle.adf_block.specs.Image.{byte_at, long, block_sum, block_count, IsInside}
+use Rattle.adf_block.specs.Whole.{IsSize}
+use Rattle.adf_block.proofs.Frames.{same_long}
 use Rattle.ados_model.specs.Tree.{extension_count}
 use Rattle.ados_data.specs.steps.Edits.{AtFields}
 use Rattle.ados_model.specs.File.{AreApart}
@@ -16,15 +15,14 @@ use Rattle.ados_data.specs.Changing.{IsInUse}
 use Rattle.ados_data.specs.steps.Blocks.{IsResized, AtEnd}
 use Rattle.ados_data.proofs.Lists.{head_taken, taken_before, apart_taken}
 use Rattle.ados_data.proofs.GrowthSteps.{KeepsHolder, untouched_holder, untouched_data, skeleton_resized}
-use Rattle.ados_data.proofs.Marks.{page_kept}
-use Rattle.ados_data.proofs.Standing.{Standing, format_kept, map_stays, use_stays, marks_stay, count_stays, root_free}
+use Rattle.ados_data.proofs.Standing.{Standing, Owned, blocks_stay, format_kept, map_stays, use_stays}
 
 module _ (old new : List ℕ) (format : Format) (file : ℕ) (blocks extensions : List ℕ) (size d e size' : ℕ) (s : Standing old format file blocks extensions size)
     (x : IsResized old format file (slice_index (file ∷ extensions) e) (slice_index blocks (d - 1)) d size' new) (few : d ≤ length blocks) (fewer : e ≤ length extensions) where
   abbrev pub Resized : ℕ → ℕ → Type 0
   Resized c k = AtEnd format d (slice_index blocks (d - 1)) c k ⊎ (AtFields (slice_index (file ∷ extensions) e) POINTER_COUNT NEXT_EXTENSION c k ⊎ AtFields file NEXT_DATA FILE_SIZE c k)
 
-  pub resized_owner : (c k : ℕ) → Resized c k → IsInUse old c × IsInside (block_count old) c
+  resized_owner : (c k : ℕ) → Resized c k → IsInUse old c × IsInside (block_count old) c
   resized_owner c k (inl at) = (subst (IsInUse old) (sym at.2.0) (s.data_used (d - 1) (omega (arith, at.1))), subst (IsInside (block_count old)) (sym at.2.0) (s.places.data_inside (d - 1) (omega (arith, at.1))))
   resized_owner c k (inr (inl at)) = (subst (IsInUse old) (sym at.0) (s.headers_used e fewer), subst (IsInside (block_count old)) (sym at.0) (s.places.headers_inside e fewer))
   resized_owner c k (inr (inr at)) = (subst (IsInUse old) (sym at.0) (s.headers_used 0 (omega arith)), subst (IsInside (block_count old)) (sym at.0) (s.places.headers_inside 0 (omega arith)))
@@ -49,14 +47,9 @@ module _ (old new : List ℕ) (format : Format) (file : ℕ) (blocks extensions 
   other_long q k j m l a f g h (inl at) = s.places.apart q (d - 1) (omega arith) (omega (arith, at.1)) at.2.0
   other_long q k j m l a f g h (inr (inl (at, z))) = elim (cases_lt q e) [
     | inl r ↦ s.places.headers_once q e r fewer at
-    | inr r ↦ let no = a (omega arith) in elim z [
-      | inl y ↦ no.0 (sym m ∙ y)
-      | inr y ↦ elim y [ inl w ↦ no.1 (sym m ∙ w) | inr w ↦ g (sym m ∙ w) ]
-    ]
+    | inr r ↦ let no = a (omega arith) in omega (arith, m, z, no, g)
   ]
-  other_long q k j m l a f g h (inr (inr (at, inl z))) = f (sym m ∙ z)
-  other_long q k j m l a f g h (inr (inr (at, inr (inl z)))) = h (sym m ∙ z)
-  other_long q k j m l a f g h (inr (inr (at, inr (inr z)))) = g (sym m ∙ z)
+  other_long q k j m l a f g h (inr (inr (at, z))) = omega (arith, m, z, f, g, h)
 
   pub header_long : (q j : ℕ) → j < 128 → q ≤ e → (q ≡ e → (j ≢ 2) × (j ≢ NEXT_EXTENSION)) → j ≢ 4 → j ≢ 5 → j ≢ FILE_SIZE → long new (slice_index (file ∷ extensions) q) j ≡ long old (slice_index (file ∷ extensions) q) j
   header_long q j l m a f g h = same_long Resized old new x.rest (slice_index (file ∷ extensions) q) j l (λ k r. other_long q k j r m a f g h)
@@ -69,9 +62,7 @@ module _ (old new : List ℕ) (format : Format) (file : ℕ) (blocks extensions 
 
   -- an unchanged long of the last data block
   last_other : (i k j : ℕ) → k / 4 ≡ j → suc i ≡ d → (format ≡ Ofs → (j ≢ 3) × (j ≢ 4) × (j ≢ 5)) → ¬ Resized (slice_index blocks i) k
-  last_other i k j m l a (inl (f, c, (at, inl z))) = (a f).0 (sym m ∙ z)
-  last_other i k j m l a (inl (f, c, (at, inr (inl z)))) = (a f).1 (sym m ∙ z)
-  last_other i k j m l a (inl (f, c, (at, inr (inr z)))) = (a f).2 (sym m ∙ z)
+  last_other i k j m l a (inl (f, c, (at, z))) = let no = a f in omega (arith, m, z, no)
   last_other i k j m l a (inr (inl at)) = s.places.apart e i fewer (omega arith) (sym at.0)
   last_other i k j m l a (inr (inr at)) = s.places.apart 0 i (omega arith) (omega arith) (sym at.0)
 
@@ -82,11 +73,8 @@ module _ (old new : List ℕ) (format : Format) (file : ℕ) (blocks extensions 
     | inr r ↦ x.rest.same_byte (slice_index blocks i) k m (last_other i k (k / 4) refl (omega arith) (λ f. let n = a f in (omega arith, omega arith, omega arith)))
   ]
 
-  pub resized_blocks : block_count new ≡ block_count old
-  resized_blocks = same_count Resized old new x.rest
-
-  pub used_resized : (c : ℕ) → IsInside (block_count old) c → IsInUse old c → IsInUse new c
-  used_resized = use_stays Resized old new x.rest s.size_ok resized_owner
+  pub resized_owned : Owned Resized old new
+  resized_owned = record { same = x.rest; size = s.size_ok; owner = resized_owner }
 
   keeps_holder : (q : ℕ) → q < e → KeepsHolder old new (slice_index (file ∷ extensions) q)
   keeps_holder zero l = record {
@@ -103,8 +91,8 @@ module _ (old new : List ℕ) (format : Format) (file : ℕ) (blocks extensions 
       let dl : length (take d blocks) ≡ d = length-take-le d blocks few in
       let el : length (take e extensions) ≡ e = length-take-le e extensions fewer in
       record {
-        format_is = format_kept Resized old new x.rest s.size_ok resized_owner ∙ s.format_is;
-        size_ok = subst IsSize (sym resized_blocks) s.size_ok;
+        format_is = format_kept resized_owned ∙ s.format_is;
+        size_ok = subst IsSize (sym (blocks_stay resized_owned)) s.size_ok;
         skeleton = skeleton_resized old new format file blocks extensions size s.skeleton d e size' few fewer (omega (arith, e_is)) (λ l. omega (arith, e_is, l)) (omega (arith, e_is))
             (λ f. omega (arith, d_is f)) full
             keeps_holder
@@ -117,19 +105,8 @@ module _ (old new : List ℕ) (format : Format) (file : ℕ) (blocks extensions 
               ap (λ (c : ℕ). long new c 4) (last_is i l) ∙ x.last_next f (omega arith),
               λ z. ap (block_sum new) (last_is i l) ∙ x.last_sum f (omega arith) (ap (block_sum old) (sym (last_is i l)) ∙ z),
             ));
-        places = subst (λ (n : ℕ). AreApart n file (take d blocks) (take e extensions)) (sym resized_blocks) (apart_taken (block_count old) file blocks extensions s.places d e few fewer);
-        map = map_stays Resized old new x.rest s.size_ok resized_owner s.map;
-        headers_used = λ q l. subst (IsInUse new) (sym (head_taken file extensions e q (omega (arith, l, el)))) (used_resized (slice_index (file ∷ extensions) q) (s.places.headers_inside q (omega (arith, l, el, fewer))) (s.headers_used q (omega (arith, l, el, fewer))));
-        data_used = λ i l. subst (IsInUse new) (sym (taken_before blocks d i (omega (arith, l, dl)))) (used_resized (slice_index blocks i) (s.places.data_inside i (omega (arith, l, dl, few))) (s.data_used i (omega (arith, l, dl, few))));
+        places = subst (λ (n : ℕ). AreApart n file (take d blocks) (take e extensions)) (sym (blocks_stay resized_owned)) (apart_taken (block_count old) file blocks extensions s.places d e few fewer);
+        map = map_stays resized_owned s.map;
+        headers_used = λ q l. subst (IsInUse new) (sym (head_taken file extensions e q (omega (arith, l, el)))) (use_stays resized_owned (slice_index (file ∷ extensions) q) (s.places.headers_inside q (omega (arith, l, el, fewer))) (s.headers_used q (omega (arith, l, el, fewer))));
+        data_used = λ i l. subst (IsInUse new) (sym (taken_before blocks d i (omega (arith, l, dl)))) (use_stays resized_owned (slice_index blocks i) (s.places.data_inside i (omega (arith, l, dl, few))) (s.data_used i (omega (arith, l, dl, few))));
       }
-
-  -- the marks are unchanged
-  pub resized_marks : (c : ℕ) → HasBit old c → has_free_bit new c ≡ has_free_bit old c
-  resized_marks = marks_stay Resized old new x.rest s.size_ok resized_owner
-
-  pub resized_count : free_bit_count new ≡ free_bit_count old
-  resized_count = count_stays Resized old new x.rest s.size_ok resized_owner
-
-  -- the bitmap blocks are the same
-  pub resized_page : (p : ℕ) → p < pages_of old → page_block new p ≡ page_block old p
-  resized_page = page_kept Resized old new x.rest s.size_ok.1 (root_free Resized old new x.rest s.size_ok resized_owner)

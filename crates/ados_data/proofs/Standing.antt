@@ -22,7 +22,7 @@ use Rattle.ados_data.proofs.Untouched.{Untouched}
 use Rattle.ados_data.proofs.Skeleton.{Skeleton, skeleton_of, file_of}
 use Rattle.ados_data.proofs.GrowthSteps.{untouched_holder, untouched_data, skeleton_kept}
 use Rattle.ados_data.proofs.Counts.{as_many}
-use Rattle.ados_data.proofs.Marks.{page_kept, in_use_kept, mark_kept, map_kept}
+use Rattle.ados_data.proofs.Marks.{page_kept, in_use_kept, mark_kept, map_after, map_kept}
 use Rattle.ados_map.proofs.MarkLemmas.{bit_of_inside}
 
 -- a file without its bytes; the bitmap is lawful and all blocks of the file are in use
@@ -69,27 +69,39 @@ writable_file image file blocks extensions bytes w =
 
 -- ---- changes of blocks in use
 
-module _ (changed : ℕ → ℕ → Type 0) (old new : List ℕ) (h : SameBut changed old new) (ok : IsSize (block_count old)) (owner : (c k : ℕ) → changed c k → IsInUse old c × IsInside (block_count old) c) where
-  pub format_kept : format_of new ≡ format_of old
-  format_kept = ap (λ (v : ℕ). cond (eqb v 0) Ofs Ffs) (h.same_byte 0 3 (omega arith) (λ at. omega (arith, (owner 0 3 at).1)))
+-- only bytes of blocks in use change
+pub record Owned (changed : ℕ → ℕ → Type 0) (old new : List ℕ) : Type 0 where
+  pub same : SameBut changed old new
+  pub size : IsSize (block_count old)
+  pub owner : (c k : ℕ) → changed c k → IsInUse old c × IsInside (block_count old) c
 
-  pub root_free : (k : ℕ) → ¬ changed (root_key (block_count old)) k
-  root_free k at = (owner (root_key (block_count old)) k at).0.beside_root refl
+module _ {changed : ℕ → ℕ → Type 0} {old new : List ℕ} (o : Owned changed old new) where
+  pub blocks_stay : block_count new ≡ block_count old
+  blocks_stay = same_count changed old new o.same
+
+  pub format_kept : format_of new ≡ format_of old
+  format_kept = ap (λ (v : ℕ). cond (eqb v 0) Ofs Ffs) (o.same.same_byte 0 3 (omega arith) (λ at. omega (arith, (o.owner 0 3 at).1)))
+
+  root_free : (k : ℕ) → ¬ changed (root_key (block_count old)) k
+  root_free k at = (o.owner (root_key (block_count old)) k at).0.beside_root refl
 
   pub pages_free : (p k : ℕ) → p < pages_of old → ¬ changed (page_block old p) k
-  pages_free p k l at = (owner (page_block old p) k at).0.beside_pages p l refl
+  pages_free p k l at = (o.owner (page_block old p) k at).0.beside_pages p l refl
+
+  pub pages_stay : (p : ℕ) → p < pages_of old → page_block new p ≡ page_block old p
+  pages_stay = page_kept changed old new o.same o.size.1 root_free
 
   pub marks_stay : (c : ℕ) → HasBit old c → has_free_bit new c ≡ has_free_bit old c
-  marks_stay = mark_kept changed old new h ok.1 root_free pages_free
+  marks_stay = mark_kept changed old new o.same o.size.1 root_free pages_free
 
   pub count_stays : free_bit_count new ≡ free_bit_count old
-  count_stays = as_many old new (same_count changed old new h) (λ j inside. marks_stay j (bit_of_inside old j inside))
+  count_stays = as_many old new blocks_stay (λ j inside. marks_stay j (bit_of_inside old j inside))
 
   pub map_stays : LawfulMap old → LawfulMap new
-  map_stays = map_kept changed old new h ok.1 root_free pages_free ok.0
+  map_stays = map_kept changed old new o.same o.size.1 root_free pages_free o.size.0
 
   pub use_stays : (c : ℕ) → IsInside (block_count old) c → IsInUse old c → IsInUse new c
-  use_stays c inside u = in_use_kept changed old new h ok.1 root_free c (marks_stay c (bit_of_inside old c inside)) u
+  use_stays c inside u = in_use_kept changed old new o.same o.size.1 root_free c (marks_stay c (bit_of_inside old c inside)) u
 
 -- ---- a new block
 
@@ -125,7 +137,7 @@ module _ (old : List ℕ) (b : ℕ) (new : List ℕ) (n : IsNewBlock old b new) 
   pub still_in_use : (c : ℕ) → IsInside (block_count old) c → IsInUse old c → IsInUse new c
   still_in_use c inside u = in_use_kept (λ c k. MapPlace old b c k ⊎ (c ≡ b)) old new n.rest ok.1 root_untaken c (n.others c (bit_of_inside old c inside) (beside_new c u.marked)) u
 
-  pages_same : (p : ℕ) → p < pages_of old → page_block new p ≡ page_block old p
+  pub pages_same : (p : ℕ) → p < pages_of old → page_block new p ≡ page_block old p
   pages_same = page_kept (λ c k. MapPlace old b c k ⊎ (c ≡ b)) old new n.rest ok.1 root_untaken
 
   pub new_in_use : IsInUse new b
@@ -136,17 +148,10 @@ module _ (old : List ℕ) (b : ℕ) (new : List ℕ) (n : IsNewBlock old b new) 
   }
 
   pub new_map : LawfulMap new
-  new_map = record {
-    pages = n.pages;
-    root_marked =
-        ap (λ (x : ℕ). has_free_bit new (root_key x)) same_blocks
-        ∙ n.others (root_key (block_count old)) (bit_of_inside old (root_key (block_count old)) (omega (arith, ok.0), omega (arith, ok.0))) (beside_new (root_key (block_count old)) m.root_marked)
-        ∙ m.root_marked;
-    pages_marked = λ p l. let a : p < pages_of old = omega (arith, same_blocks, l) in
-        ap (has_free_bit new) (pages_same p a)
-        ∙ n.others (page_block old p) (bit_of_inside old (page_block old p) (m.pages.inside p a)) (beside_new (page_block old p) (m.pages_marked p a))
-        ∙ m.pages_marked p a;
-  }
+  new_map =
+      map_after (λ c k. MapPlace old b c k ⊎ (c ≡ b)) old new n.rest ok.1 root_untaken n.pages
+      (n.others (root_key (block_count old)) (bit_of_inside old (root_key (block_count old)) (omega (arith, ok.0), omega (arith, ok.0))) (beside_new (root_key (block_count old)) m.root_marked))
+      (λ p l. n.others (page_block old p) (bit_of_inside old (page_block old p) (m.pages.inside p l)) (beside_new (page_block old p) (m.pages_marked p l))) m
 
   pub untouched_new : (c : ℕ) → IsInUse old c → Untouched old new c
   untouched_new c u = λ k l. n.rest.same_byte c k l (untaken c k u)

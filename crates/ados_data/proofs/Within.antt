@@ -83,9 +83,7 @@ module _ (old new : List ℕ) (format : Format) (file : ℕ) (blocks extensions 
   in_data j k l at = subst (λ (f : Format). k < data_end f size' j) (sym s.format_is) (there at)
     where
       there : Resized (slice_index blocks j) k → k < data_end format size' j
-      there (inl (f, c, (at, inl z))) = header_within format size' j k f (omega (arith, z))
-      there (inl (f, c, (at, inr (inl z)))) = header_within format size' j k f (omega (arith, z))
-      there (inl (f, c, (at, inr (inr z)))) = header_within format size' j k f (omega (arith, z))
+      there (inl (f, c, (at, z))) = header_within format size' j k f (omega (arith, z))
       there (inr (inl at)) = absurd (s.places.apart (length extensions) j (omega arith) l (sym at.0))
       there (inr (inr at)) = absurd (s.places.apart 0 j (omega arith) l (sym at.0))
 

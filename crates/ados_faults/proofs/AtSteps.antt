@@ -1,10 +1,11 @@
 -- Each fault that an image shows is noted at a step of the walk, or shows only further.
-use Rattle.std.proofs.Common.{◌≡◌, ◌≢◌, ℕ, ◌<◌, ◌⊎◌, List, Bool, length, Some, inl, inr, refl, sym, subst}
-use Rattle.std.proofs.lemmas.Option.{slice_get_within}
+use Rattle.std.proofs.Common.{◌≡◌, ◌≢◌, ℕ, ◌+◌, ◌<◌, ◌⊎◌, List, Bool, length, get_or, None, Some, inl, inr, refl, sym, ◌∙◌, subst}
+use Rattle.std.specs.List.{slice_get}
+use Rattle.std.proofs.lemmas.Option.{none-some, slice_get-get_or, slice_get_within, unwrap_or-slice_get}
 use Rattle.adf_block.specs.Whole.{text_at}
 use Rattle.adf_block.specs.Image.{block_sum}
-use Rattle.adf_block.specs.Fields.{held_count, own_key, parent_key}
-use Rattle.adf_block.specs.declared.layout.TheConstants.{NAME_BYTE, OFS_ROOM}
+use Rattle.adf_block.specs.Fields.{own_key, parent_key}
+use Rattle.adf_block.specs.declared.layout.TheConstants.{NAME_BYTE}
 use Rattle.ados_name.specs.Name.{slot}
 use Rattle.ados_model.specs.declared.fault.FaultKind.{FaultKind}
 use Rattle.ados_model.specs.declared.fault.FaultKind.TheVariants.{NotADosDisk, UnsupportedKind, BadSum, BadType, BadOwnKey, BadParent, BadPointer, BlockUsedTwice, WrongChain, BadName, DuplicateName, BadComment, BadCount, BadSequence, LinkEntry, MarkedFree, NoMemory}
@@ -12,6 +13,9 @@ use Rattle.ados_model.specs.declared.role.Role.{Role}
 use Rattle.ados_model.specs.declared.role.Role.TheVariants.{Root, Page, Entry, Data, Extension}
 use Rattle.ados_model.specs.Faults
 use Rattle.ados_model.specs.Faults.{HasName, HasSum, Reached, Shows, root_of}
+use Rattle.ados_check.specs.DataRules.{BreaksRule, kind_of_data}
+use Rattle.ados_check.specs.declared.data_rules.DataRule.{DataRule}
+use Rattle.ados_check.specs.declared.data_rules.DataRule.TheVariants.{Sequence, TooFew, TooMany, Link}
 use Rattle.ados_check.specs.Rules.{HasBadField, HasBadTypeAs, HasOtherCount, kind_of}
 use Rattle.ados_check.specs.declared.rules.FieldRule.{FieldRule}
 use Rattle.ados_check.specs.declared.rules.FieldRule.TheVariants.{NoLink, OwnKey, Parent, Name, Chain, Comment, PointerCount, FirstData}
@@ -24,13 +28,16 @@ use Rattle.ados_faults.specs.declared.roles.Part.TheVariants.{Directory, Slot, D
 use Rattle.ados_faults.specs.steps.Roles.{AreCovered, IsListed, number_of, step_of}
 use Rattle.ados_faults.specs.steps.Walked.{AreOutsideNoted, AreTwiceNoted, IsMarkedFree}
 use Rattle.ados_faults.proofs.Covering.{data_listed, data_role, directory_role, entry_listed, extension_listed, extension_role, other_number, page_listed, slot_role}
-use Rattle.ados_faults.proofs.Closing.{root_only}
+use Rattle.ados_check.proofs.Roles.{only_root}
 
 has_name : (image : List ℕ) (block : ℕ) → Faults.HasBadName image block → HasName image block
 has_name image block (Faults.HasBadName.empty h e) = h
 has_name image block (Faults.HasBadName.long_name h e) = h
 has_name image block (Faults.HasBadName.slash h e) = h
 has_name image block (Faults.HasBadName.colon h e) = h
+
+followed : (blocks : List ℕ) (i : ℕ) → i < length blocks → slice_get blocks i ≢ None
+followed blocks i l e = none-some (get_or blocks i 0) (sym e ∙ slice_get-get_or blocks i 0 l)
 
 -- what the walk noted, and what the looks at its steps noted, is still noted
 pub record AreStepsNoted (image : List ℕ) (cells : List Bool) : Type 0 where
@@ -48,13 +55,10 @@ pub record AreStepsNoted (image : List ℕ) (cells : List Bool) : Type 0 where
 pub data ShowsFurther (image : List ℕ) : FaultKind → ℕ → Type 0 where
   disk : {kind : FaultKind} {block : ℕ} → IsOtherKind image kind → block ≡ 0 → ShowsFurther image kind block
   name : {block : ℕ} → Faults.HasDuplicateName image block → ShowsFurther image DuplicateName block
-  link : {file i block : ℕ} {blocks : List ℕ} → Faults.IsOfs image → Faults.IsDataAt image file blocks i block → ¬ Faults.LinksOn image block blocks i → ShowsFurther image BadPointer block
+  placed : {file i block : ℕ} {blocks : List ℕ} → Faults.IsOfs image → Faults.IsDataAt image file blocks i block → (rule : DataRule) → BreaksRule image (record { block = block; position = i; next = slice_get blocks (i + 1) }) rule
+      → ShowsFurther image (kind_of_data rule) block
   size : {block : ℕ} {blocks : List ℕ} → Faults.AreDataBlocks image block blocks → length blocks ≢ Faults.count_of_size image block → ShowsFurther image BadCount block
-  short : {block : ℕ} → Faults.IsOfs image → Faults.IsInnerData image block → held_count image block ≢ OFS_ROOM → ShowsFurther image BadCount block
-  none : {file i block : ℕ} {blocks : List ℕ} → Faults.IsOfs image → Faults.IsDataAt image file blocks i block → held_count image block ≡ 0 → ShowsFurther image BadCount block
-  over : {file i block : ℕ} {blocks : List ℕ} → Faults.IsOfs image → Faults.IsDataAt image file blocks i block → OFS_ROOM < held_count image block → ShowsFurther image BadCount block
   sum : {block : ℕ} → Faults.IsOfs image → Faults.HoldsOtherSize image block → ShowsFurther image BadCount block
-  sequence : {block : ℕ} → Faults.HasBadSequence image block → ShowsFurther image BadSequence block
 
 module _ (image : List ℕ) (last : List Bool) (w : AreStepsNoted image last) where
   look_at : (block : ℕ) (role : Role) → IsListed w.steps (step_of block role) → IsLookedAt image w.looked (step_of block role)
@@ -80,15 +84,16 @@ module _ (image : List ℕ) (last : List Bool) (w : AreStepsNoted image last) wh
       let o = other_number w.steps block part n field apart ((w.covered.covered block role h).covered part n is) in
       (o.0, o.1.0.role, o.1.0.number, o.1.1, look_at block o.1.0.role o.1.0.listed)
 
-  sum_in : (block : ℕ) (role : Role) → IsLookedAt image w.looked (step_of block role) → HasSum image role → block_sum image block ≢ 0 → IsNoted last (cell_of BadSum block)
-  sum_in block role look summed wrong = w.after_looks.stay (cell_of BadSum block) (look.wrongs.sum (summed, wrong))
+  -- the block was looked at in a role of the same kind
+  like_look : (block : ℕ) (role : Role) → Reached image block role → (r : Role) × IsLookedAt image w.looked (step_of block r) × (HasSum image role → HasSum image r)
+  like_look block Root h = (Root, root_look block (only_root h refl), λ x. x)
+  like_look block Page h = (Page, look_at block Page (page_listed w.steps block (w.covered.covered block Page h)), λ x. x)
+  like_look block (Entry d s) h = let look = entry_look block d s h in (Entry look.0 look.1, look.2, λ x. x)
+  like_look block (Data f) h = let look = data_look block f h in (Data look.0, look.1, λ x. x)
+  like_look block (Extension f) h = let look = extension_look block f h in (Extension look.0, look.1, λ x. x)
 
   sum_noted : (block : ℕ) (role : Role) → Reached image block role → HasSum image role → block_sum image block ≢ 0 → IsNoted last (cell_of BadSum block)
-  sum_noted block Root h summed wrong = sum_in block Root (root_look block (root_only h refl)) summed wrong
-  sum_noted block Page h summed wrong = sum_in block Page (look_at block Page (page_listed w.steps block (w.covered.covered block Page h))) summed wrong
-  sum_noted block (Entry d s) h summed wrong = let look = entry_look block d s h in sum_in block (Entry look.0 look.1) look.2 summed wrong
-  sum_noted block (Data f) h summed wrong = let look = data_look block f h in sum_in block (Data look.0) look.1 summed wrong
-  sum_noted block (Extension f) h summed wrong = let look = extension_look block f h in sum_in block (Extension look.0) look.1 summed wrong
+  sum_noted block role h summed wrong = let look = like_look block role h in w.after_looks.stay (cell_of BadSum block) (look.1.wrongs.sum (look.2 summed, wrong))
 
   types_noted : (block : ℕ) (role : Role) → IsLookedAt image w.looked (step_of block role) → HasBadTypeAs image block role → IsNoted last (cell_of BadType block)
   types_noted block role look wrong = w.after_looks.stay (cell_of BadType block) (look.wrongs.types wrong)
@@ -142,26 +147,22 @@ module _ (image : List ℕ) (last : List Bool) (w : AreStepsNoted image last) wh
   pointers_noted block (Faults.HasPointers.extension_pointers h) n = let look = extension_look block h.0 h.1 in field_noted block (Extension look.0) PointerCount look.1 (inr n)
 
   pub free_noted : (block : ℕ) (role : Role) → Reached image block role → IsMarkedFree image block → IsNoted last (cell_of MarkedFree block)
-  free_noted block Root h free = w.after_looks.stay (cell_of MarkedFree block) ((root_look block (root_only h refl)).free free)
-  free_noted block Page h free = w.after_looks.stay (cell_of MarkedFree block) ((look_at block Page (page_listed w.steps block (w.covered.covered block Page h))).free free)
-  free_noted block (Entry d s) h free = w.after_looks.stay (cell_of MarkedFree block) ((entry_look block d s h).2.free free)
-  free_noted block (Data f) h free = w.after_looks.stay (cell_of MarkedFree block) ((data_look block f h).1.free free)
-  free_noted block (Extension f) h free = w.after_looks.stay (cell_of MarkedFree block) ((extension_look block f h).1.free free)
+  free_noted block role h free = w.after_looks.stay (cell_of MarkedFree block) ((like_look block role h).1.free free)
 
   pointer_noted : (block : ℕ) → Faults.HasBadPointer image block → IsNoted last (cell_of BadPointer block) ⊎ ShowsFurther image BadPointer block
   pointer_noted block (Faults.HasBadPointer.outside {i = i} {role = r} {next = n} h place out) = inl (w.after_walk.stay (cell_of BadPointer block) (w.outside.noted block i r n h place out))
   pointer_noted block (Faults.HasBadPointer.first_data ofs h wrong) =
       inl (let look = entry_look block h.dir h.slot_of_chain h.reached in field_noted block (Entry look.0 look.1) FirstData look.2 (h.secondary, (ofs, wrong)))
-  pointer_noted block (Faults.HasBadPointer.further_data ofs at wrong) = inr (ShowsFurther.link ofs at wrong)
+  pointer_noted block (Faults.HasBadPointer.further_data {i = i} {blocks = b} ofs at wrong) = inr (ShowsFurther.placed ofs at Link (λ e. wrong (e ∙ unwrap_or-slice_get b (i + 1) 0)))
 
   count_noted : (block : ℕ) → Faults.HasBadCount image block → IsNoted last (cell_of BadCount block) ⊎ ShowsFurther image BadCount block
   count_noted block (Faults.HasBadCount.over h l) = inl (pointers_noted block h (inl l))
   count_noted block (Faults.HasBadCount.not_full h l n) = inl (pointers_noted block h (inr (l, n)))
   count_noted block (Faults.HasBadCount.no_pointer h e) = inl (let look = extension_look block h.0 h.1 in field_noted block (Extension look.0) PointerCount look.1 (inl e))
   count_noted block (Faults.HasBadCount.wrong_size d n) = inr (ShowsFurther.size d n)
-  count_noted block (Faults.HasBadCount.held_not_full ofs h n) = inr (ShowsFurther.short ofs h n)
-  count_noted block (Faults.HasBadCount.held_none ofs at e) = inr (ShowsFurther.none ofs at e)
-  count_noted block (Faults.HasBadCount.held_over ofs at l) = inr (ShowsFurther.over ofs at l)
+  count_noted block (Faults.HasBadCount.held_not_full ofs h n) = inr (ShowsFurther.placed ofs h.at TooFew (inr (n, followed h.blocks (h.i + 1) h.followed)))
+  count_noted block (Faults.HasBadCount.held_none ofs at e) = inr (ShowsFurther.placed ofs at TooFew (inl e))
+  count_noted block (Faults.HasBadCount.held_over ofs at l) = inr (ShowsFurther.placed ofs at TooMany l)
   count_noted block (Faults.HasBadCount.wrong_sum ofs h) = inr (ShowsFurther.sum ofs h)
 
   pub noted_or_further : (kind : FaultKind) (block : ℕ) → Shows image kind block → IsNoted last (cell_of kind block) ⊎ ShowsFurther image kind block
@@ -178,7 +179,7 @@ module _ (image : List ℕ) (last : List Bool) (w : AreStepsNoted image last) wh
   noted_or_further DuplicateName block h = inr (ShowsFurther.name h)
   noted_or_further BadComment block h = inl (comment_noted block h)
   noted_or_further BadCount block h = count_noted block h
-  noted_or_further BadSequence block h = inr (ShowsFurther.sequence h)
+  noted_or_further BadSequence block h = inr (ShowsFurther.placed h.ofs h.at Sequence h.wrong)
   noted_or_further LinkEntry block h = inl (let look = entry_look block h.0.0 h.0.1 h.0.2 in field_noted block (Entry look.0 look.1) NoLink look.2 h.1)
   noted_or_further MarkedFree block h = inl (free_noted block h.role h.reached (record { valid = h.valid; page = h.page; free = h.free }))
   noted_or_further NoMemory block h = absurd h

@@ -10,12 +10,12 @@ use Rattle.std.proofs.lemmas.List.Sums.{sum_by-append}
 use Rattle.std.proofs.lemmas.Option.{get_or_from_slice_get, none-some, same_Some, slice_get-get_or, slice_get_within}
 use Rattle.adf_block.specs.Image.{block_count}
 use Rattle.adf_block.specs.Fields.{held_count, pointer, pointer_count, sequence_number}
-use Rattle.ados_model.specs.declared.fault.FaultKind.TheVariants.{BadCount, BadPointer, BadSequence}
+use Rattle.ados_model.specs.declared.fault.FaultKind.TheVariants.{BadSequence}
 use Rattle.ados_model.specs.Faults.{InImage, pointers_of}
 use Rattle.ados_model.proofs.FileBlocks.{first_pointers-at, length-first_pointers}
 use Rattle.ados_check.specs.DataRules.{BreaksRule, kind_of_data}
 use Rattle.ados_check.specs.declared.data_rules.DataRule.{DataRule}
-use Rattle.ados_check.specs.declared.data_rules.DataRule.TheVariants.{Sequence, TooFew, TooMany, Link}
+use Rattle.ados_check.specs.declared.data_rules.DataRule.TheVariants.{Sequence}
 use Rattle.ados_check.proofs.Pointers.{pointers_are}
 use Rattle.ados_faults.specs.declared.pieces.Piece.{Piece}
 use Rattle.ados_faults.specs.declared.pieces.Seen.{Seen}
@@ -283,9 +283,7 @@ placed_again image cells later block old position next on was sequence = record 
   where
     go : (rule : DataRule) → BreaksRule image (record { block = block; position = position; next = next }) rule → IsNoted later (cell_of (kind_of_data rule) block)
     go Sequence h = sequence h
-    go TooFew h = on.stay (cell_of BadCount block) (was.each TooFew h)
-    go TooMany h = on.stay (cell_of BadCount block) (was.each TooMany h)
-    go Link h = on.stay (cell_of BadPointer block) (was.each Link h)
+    go rule h = on.stay (cell_of (kind_of_data rule) block) (was.each rule h)
 
 -- at a position where only the last one needed a look
 pub seen_before : (image : List ℕ) (cells later : List Bool) (piece : Piece) (seen : Seen) → AreStillNoted cells later → IsPiece image piece → 0 < piece.count → IsHeaderSeen image cells piece.header seen

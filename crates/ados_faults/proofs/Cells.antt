@@ -20,22 +20,7 @@ all_kinds = NotADosDisk ∷ UnsupportedKind ∷ BadSum ∷ BadType ∷ BadOwnKey
 ranked : (kind : FaultKind) → (rank kind < 17) × (get_or all_kinds (rank kind) NoMemory ≡ kind)
 unfolding all_kinds
 ranked NotADosDisk = (omega arith, refl)
-ranked UnsupportedKind = (omega arith, refl)
-ranked BadSum = (omega arith, refl)
-ranked BadType = (omega arith, refl)
-ranked BadOwnKey = (omega arith, refl)
-ranked BadParent = (omega arith, refl)
-ranked BadPointer = (omega arith, refl)
-ranked BlockUsedTwice = (omega arith, refl)
-ranked WrongChain = (omega arith, refl)
-ranked BadName = (omega arith, refl)
-ranked DuplicateName = (omega arith, refl)
-ranked BadComment = (omega arith, refl)
-ranked BadCount = (omega arith, refl)
-ranked BadSequence = (omega arith, refl)
-ranked LinkEntry = (omega arith, refl)
-ranked MarkedFree = (omega arith, refl)
-ranked NoMemory = (omega arith, refl)
+ranked _ = (omega arith, refl)
 
 pub rank_small : (kind : FaultKind) → rank kind < 17
 rank_small kind = (ranked kind).0

@@ -20,6 +20,7 @@ use Rattle.ados_check.specs.declared.mark.Mark.{Mark}
 use Rattle.ados_check.specs.Marks.{mark_at}
 use Rattle.ados_check.proofs.MarkLemmas.{IsMarkedMore, marked_more}
 use Rattle.ados_check.proofs.PlaceLemmas.{place_within}
+use Rattle.ados_check.proofs.Roles.{place_not_root}
 use Rattle.ados_faults.specs.declared.roles.Part.{Part}
 use Rattle.ados_faults.specs.declared.roles.Part.TheVariants.{Directory, Slot, DataFile, ExtensionFile}
 use Rattle.ados_faults.specs.declared.roles.Taken.{Taken}
@@ -35,7 +36,7 @@ use Rattle.ados_faults.proofs.Insides.{root_inside}
 
 -- ---- one more step in a list
 
-pushed_stays : (steps : List Step) (step : Step) (k : ℕ) → k < length steps → slice_get (steps ++ step ∷ []) k ≡ slice_get steps k
+pub pushed_stays : (steps : List Step) (step : Step) (k : ℕ) → k < length steps → slice_get (steps ++ step ∷ []) k ≡ slice_get steps k
 pushed_stays steps step k l =
     slice_get-get_or (steps ++ step ∷ []) k step (omega (arith, l, length_push steps step))
     ∙ ap (λ (s : Step). Some s) (get_or_append_left steps (step ∷ []) step k l) ∙ sym (slice_get-get_or steps k step l)
@@ -175,7 +176,7 @@ marked_by_it walk block mark marked = record {
 
 -- ---- the places of a step
 
-few_pages : (image : List ℕ) → IsImage image → page_count (block_count image) ≤ 25
+pub few_pages : (image : List ℕ) → IsImage image → page_count (block_count image) ≤ 25
 few_pages image im = omega (arith, im.whole, im.size.0, im.size.1)
 
 module _ (image : List ℕ) (walk : Walk) (step : Step) (whole : IsImage image) where
@@ -216,21 +217,6 @@ pub record IsStanding (image : List ℕ) (walk : Walk) (block : ℕ) (role : Rol
   pub marked : IsMarked walk.marks.items block
   pub covered : AreCoveredBy walk.steps.items block role
   pub first : role ≡ Root → IsListed walk.steps.items (step_of block Root)
-
-not_root : {image : List ℕ} {block i : ℕ} {role next : Role} → IsPlace image block role i next → next ≢ Root
-not_root (root_page l) e = cc e
-not_root (root_slot l n) e = cc e
-not_root (directory_slot d l n) e = cc e
-not_root (next_entry n) e = cc e
-not_root (header_pointer d p) e = cc e
-not_root (first_extension d n) e = cc e
-not_root (extension_pointer p) e = cc e
-not_root (further_extension n) e = cc e
-
--- only the root is reached as a root
-pub root_only : {image : List ℕ} {block : ℕ} {role : Role} → Reached image block role → role ≡ Root → block ≡ root_of image
-root_only start e = refl
-root_only (named h place inside) e = absurd (not_root place e)
 
 -- after all steps
 module _ (image : List ℕ) (walk : Walk) (n : ℕ) (w : IsWalked image walk.notes.cells.items walk.marks.items walk.roles.cells.items walk.steps.items) (v : AreVisited image walk n)
@@ -309,7 +295,7 @@ module _ (image : List ℕ) (walk : Walk) (n : ℕ) (w : IsWalked image walk.not
       let s = standing h in
       let like = like_place s place in
       let m = met_of b i like.role like.next like.listed like.place inside in
-      record { marked = (m.placed.first, m.placed.marked); covered = next_covered s place inside; first = λ e. absurd (not_root place e) }
+      record { marked = (m.placed.first, m.placed.marked); covered = next_covered s place inside; first = λ e. absurd (place_not_root place e) }
 
   pub closed : AreClosed image walk.marks.items
   closed block i mark next e place inside = (standing (named (w.marked block mark e) place inside)).marked

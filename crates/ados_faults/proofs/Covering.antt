@@ -21,10 +21,7 @@ all_parts = Bitmap ∷ Directory ∷ Slot ∷ DataFile ∷ ExtensionFile ∷ []
 ranked : (part : Part) → (part_rank part < 5) × (get_or all_parts (part_rank part) Bitmap ≡ part)
 unfolding all_parts
 ranked Bitmap = (omega arith, refl)
-ranked Directory = (omega arith, refl)
-ranked Slot = (omega arith, refl)
-ranked DataFile = (omega arith, refl)
-ranked ExtensionFile = (omega arith, refl)
+ranked _ = (omega arith, refl)
 
 pub part_small : (part : Part) → part_rank part < 5
 part_small part = (ranked part).0
@@ -92,10 +89,7 @@ covered_here steps block role at = record { covered = λ part n is. inl (number_
 
 pub none_of_root : (part : Part) (n : ℕ) → number_of part Root ≡ Some n → ⊥
 none_of_root Bitmap n h = none-some n h
-none_of_root Directory n h = none-some n h
-none_of_root Slot n h = none-some n h
-none_of_root DataFile n h = none-some n h
-none_of_root ExtensionFile n h = none-some n h
+none_of_root _ n h = none-some n h
 
 module _ (steps : List Step) (block : ℕ) where
   pub root_covered : AreCoveredBy steps block Root
@@ -106,76 +100,50 @@ module _ (steps : List Step) (block : ℕ) where
     where
       go : (part : Part) (n : ℕ) → number_of part Page ≡ Some n → IsCovered steps block part n
       go Bitmap n h = subst (IsCovered steps block Bitmap) (same_Some 0 n h) c
-      go Directory n h = absurd (none-some n h)
-      go Slot n h = absurd (none-some n h)
-      go DataFile n h = absurd (none-some n h)
-      go ExtensionFile n h = absurd (none-some n h)
+      go _ n h = absurd (none-some n h)
 
   pub entry_covered : (dir s : ℕ) → IsCovered steps block Directory dir → IsCovered steps block Slot s → AreCoveredBy steps block (Entry dir s)
   entry_covered dir s c d = record { covered = go }
     where
       go : (part : Part) (n : ℕ) → number_of part (Entry dir s) ≡ Some n → IsCovered steps block part n
-      go Bitmap n h = absurd (none-some n h)
       go Directory n h = subst (IsCovered steps block Directory) (same_Some dir n h) c
       go Slot n h = subst (IsCovered steps block Slot) (same_Some s n h) d
-      go DataFile n h = absurd (none-some n h)
-      go ExtensionFile n h = absurd (none-some n h)
+      go _ n h = absurd (none-some n h)
 
   pub data_covered : (file : ℕ) → IsCovered steps block DataFile file → AreCoveredBy steps block (Data file)
   data_covered file c = record { covered = go }
     where
       go : (part : Part) (n : ℕ) → number_of part (Data file) ≡ Some n → IsCovered steps block part n
-      go Bitmap n h = absurd (none-some n h)
-      go Directory n h = absurd (none-some n h)
-      go Slot n h = absurd (none-some n h)
       go DataFile n h = subst (IsCovered steps block DataFile) (same_Some file n h) c
-      go ExtensionFile n h = absurd (none-some n h)
+      go _ n h = absurd (none-some n h)
 
   pub extension_covered : (file : ℕ) → IsCovered steps block ExtensionFile file → AreCoveredBy steps block (Extension file)
   extension_covered file c = record { covered = go }
     where
       go : (part : Part) (n : ℕ) → number_of part (Extension file) ≡ Some n → IsCovered steps block part n
-      go Bitmap n h = absurd (none-some n h)
-      go Directory n h = absurd (none-some n h)
-      go Slot n h = absurd (none-some n h)
-      go DataFile n h = absurd (none-some n h)
       go ExtensionFile n h = subst (IsCovered steps block ExtensionFile) (same_Some file n h) c
+      go _ n h = absurd (none-some n h)
 
 -- the role with a number in a part
 pub directory_role : (role : Role) (n : ℕ) → number_of Directory role ≡ Some n → (s : ℕ) × (role ≡ Entry n s)
-directory_role Root n h = absurd (none-some n h)
-directory_role Page n h = absurd (none-some n h)
 directory_role (Entry d s) n h = (s, ap (λ (x : ℕ). Entry x s) (same_Some d n h))
-directory_role (Data f) n h = absurd (none-some n h)
-directory_role (Extension f) n h = absurd (none-some n h)
+directory_role _ n h = absurd (none-some n h)
 
 pub slot_role : (role : Role) (n : ℕ) → number_of Slot role ≡ Some n → (d : ℕ) × (role ≡ Entry d n)
-slot_role Root n h = absurd (none-some n h)
-slot_role Page n h = absurd (none-some n h)
 slot_role (Entry d s) n h = (d, ap (λ (x : ℕ). Entry d x) (same_Some s n h))
-slot_role (Data f) n h = absurd (none-some n h)
-slot_role (Extension f) n h = absurd (none-some n h)
+slot_role _ n h = absurd (none-some n h)
 
 pub data_role : (role : Role) (n : ℕ) → number_of DataFile role ≡ Some n → role ≡ Data n
-data_role Root n h = absurd (none-some n h)
-data_role Page n h = absurd (none-some n h)
-data_role (Entry d s) n h = absurd (none-some n h)
 data_role (Data f) n h = ap (λ (x : ℕ). Data x) (same_Some f n h)
-data_role (Extension f) n h = absurd (none-some n h)
+data_role _ n h = absurd (none-some n h)
 
 pub extension_role : (role : Role) (n : ℕ) → number_of ExtensionFile role ≡ Some n → role ≡ Extension n
-extension_role Root n h = absurd (none-some n h)
-extension_role Page n h = absurd (none-some n h)
-extension_role (Entry d s) n h = absurd (none-some n h)
-extension_role (Data f) n h = absurd (none-some n h)
 extension_role (Extension f) n h = ap (λ (x : ℕ). Extension x) (same_Some f n h)
+extension_role _ n h = absurd (none-some n h)
 
 pub page_role : (role : Role) (n : ℕ) → number_of Bitmap role ≡ Some n → role ≡ Page
-page_role Root n h = absurd (none-some n h)
 page_role Page n h = refl
-page_role (Entry d s) n h = absurd (none-some n h)
-page_role (Data f) n h = absurd (none-some n h)
-page_role (Extension f) n h = absurd (none-some n h)
+page_role _ n h = absurd (none-some n h)
 
 -- ---- what covers a number
 

@@ -1,20 +1,20 @@
 -- Each fault that an image shows is noted: at a step, in a directory, or at a file.
-use Rattle.std.proofs.Common.{◌≢◌, ℕ, ◌+◌, ◌<◌, List, Bool, length, get_or, None, inl, inr, sym, ◌∙◌, subst, arith}
+use Rattle.std.proofs.Common.{ℕ, ◌+◌, List, Bool, inl, inr, sym, subst, arith}
 use Rattle.std.specs.List.{slice_get}
-use Rattle.std.proofs.lemmas.Option.{none-some, slice_get-get_or, unwrap_or-slice_get}
 use Rattle.adf_block.specs.Whole.{IsImage}
 use Rattle.ados_model.specs.declared.fault.FaultKind.{FaultKind}
-use Rattle.ados_model.specs.declared.fault.FaultKind.TheVariants.{BadPointer, DuplicateName, BadCount, BadSequence}
+use Rattle.ados_model.specs.declared.fault.FaultKind.TheVariants.{DuplicateName, BadCount}
 use Rattle.ados_model.specs.Faults
-use Rattle.ados_model.specs.Faults.{HasName, HasSum, Reached, Shows, root_of}
-use Rattle.ados_check.specs.declared.data_rules.DataRule.TheVariants.{Sequence, TooFew, TooMany, Link}
+use Rattle.ados_model.specs.Faults.{Shows}
+use Rattle.ados_check.specs.DataRules.{kind_of_data}
+use Rattle.ados_check.proofs.NameLemmas.{length_text}
+use Rattle.ados_check.proofs.UpperNames.{upper_names_equal}
 use Rattle.ados_faults.specs.Listed.{IsOtherKind}
 use Rattle.ados_faults.specs.steps.FileNotes.{AreAllFilesNoted, IsFileNoted, IsPlaceNoted}
 use Rattle.ados_faults.specs.steps.Named.{AreDuplicatesNoted}
 use Rattle.ados_faults.specs.steps.Noted.{AreStillNoted, IsNoted, cell_of}
 use Rattle.ados_faults.proofs.AtSteps.{AreStepsNoted, ShowsFurther, noted_or_further}
 use Rattle.ados_faults.proofs.Insides.{reached_inside}
-use Rattle.ados_faults.proofs.Sameness.{names_equal}
 
 -- names and files were gone through, and what they show is still noted
 pub record AreFurtherNoted (image : List ℕ) (cells : List Bool) : Type 0 where
@@ -36,30 +36,18 @@ module _ (image : List ℕ) (im : IsImage image) (last : List Bool) (f : AreFurt
       subst (λ (b : ℕ). IsPlaceNoted image f.filed b i (slice_get blocks (i + 1))) at.here
       ((((file_of file at.of_file.is_file).noted blocks at.of_file).places ofs).placed i (omega arith) at.within (subst (Faults.InImage image) (sym at.here) at.inside))
 
-  followed : (blocks : List ℕ) (i : ℕ) → i < length blocks → slice_get blocks i ≢ None
-  followed blocks i l e = none-some (get_or blocks i 0) (sym e ∙ slice_get-get_or blocks i 0 l)
-
-  sequence_noted : (block : ℕ) → Faults.HasBadSequence image block → IsNoted last (cell_of BadSequence block)
-  sequence_noted block h = f.after_files.stay (cell_of BadSequence block) ((place_of h.file h.i block h.blocks h.ofs h.at).each Sequence h.wrong)
-
   name_noted : (block : ℕ) → Faults.HasDuplicateName image block → IsNoted last (cell_of DuplicateName block)
   name_noted block h =
-      let same = names_equal image block h.other im (reached_inside image im h.reached).1 (reached_inside image im h.other_reached).1 h.short h.other_short h.same in
+      let same = upper_names_equal image block h.other (sym (length_text image block (reached_inside image im h.reached).1 h.short)) (sym (length_text image h.other (reached_inside image im h.other_reached).1 h.other_short)) h.same in
       f.after_names.stay (cell_of DuplicateName block) ((f.names.noted h.dir).noted block h.other h.slot_of_chain h.other_slot h.reached h.other_reached h.short h.other_short same h.two)
 
   further_noted : (kind : FaultKind) (block : ℕ) → ShowsFurther image kind block → IsNoted last (cell_of kind block)
   further_noted kind block (ShowsFurther.disk other here) = subst (λ (b : ℕ). IsNoted last (cell_of kind b)) (sym here) (f.disk kind other)
   further_noted kind block (ShowsFurther.name h) = name_noted block h
-  further_noted kind block (ShowsFurther.link {file = g} {i = i} {blocks = b} ofs at wrong) =
-      f.after_files.stay (cell_of BadPointer block) ((place_of g i block b ofs at).each Link (λ e. wrong (e ∙ unwrap_or-slice_get b (i + 1) 0)))
+  further_noted kind block (ShowsFurther.placed {file = g} {i = i} {blocks = b} ofs at rule broken) = f.after_files.stay (cell_of (kind_of_data rule) block) ((place_of g i block b ofs at).each rule broken)
   further_noted kind block (ShowsFurther.size {blocks = b} d n) = f.after_files.stay (cell_of BadCount block) (((file_of block d.is_file).noted b d).count n)
-  further_noted kind block (ShowsFurther.short ofs h n) =
-      f.after_files.stay (cell_of BadCount block) ((place_of h.file h.i block h.blocks ofs h.at).each TooFew (inr (n, followed h.blocks (h.i + 1) h.followed)))
-  further_noted kind block (ShowsFurther.none {file = g} {i = i} {blocks = b} ofs at e) = f.after_files.stay (cell_of BadCount block) ((place_of g i block b ofs at).each TooFew (inl e))
-  further_noted kind block (ShowsFurther.over {file = g} {i = i} {blocks = b} ofs at l) = f.after_files.stay (cell_of BadCount block) ((place_of g i block b ofs at).each TooMany l)
   further_noted kind block (ShowsFurther.sum ofs h) =
       f.after_files.stay (cell_of BadCount block) (((file_of block h.of_file.is_file).noted h.blocks h.of_file).sum ofs (h.inside, h.wrong))
-  further_noted kind block (ShowsFurther.sequence h) = sequence_noted block h
 
   pub each_noted : AreStepsNoted image last → (kind : FaultKind) (block : ℕ) → Shows image kind block → IsNoted last (cell_of kind block)
   each_noted w kind block h = elim (noted_or_further image last w kind block h) [ inl noted ↦ noted | inr further ↦ further_noted kind block further ]

@@ -1,10 +1,10 @@
 -- Lists of blocks with a cell for each block: those of a type, and the entries of a directory.
-use Rattle.std.proofs.Common.{◌≡◌, ◌≢◌, ℕ, ◌+◌, ◌<◌, ◌≤◌, inl, inr, Bool, true, false, List, [], ◌∷◌, ◌++◌, length, get_or, slice_index, replicate, set, refl, sym, ap, ◌∙◌, subst, arith, length-set, get_or-set_same, get_or-set_other}
+use Rattle.std.proofs.Common.{◌≡◌, ◌≢◌, ℕ, ◌+◌, ◌<◌, ◌≤◌, inl, inr, Bool, true, false, List, [], ◌∷◌, ◌++◌, length, get_or, slice_index, replicate, Some, set, refl, sym, ap, ◌∙◌, subst, arith, length-set, get_or-set_same, get_or-set_other}
 use Rattle.std.specs.List.{All, Contains}
 use Rattle.std.proofs.lemmas.Bool.{cases_eq, cases_lt, false≢true}
 use Rattle.std.proofs.lemmas.Option.{slice_get_within}
 use Rattle.std.proofs.lemmas.List.{get_or_append_left, get_or_default, length-replicate}
-use Rattle.std.proofs.lemmas.List.Elements.{All-push, Contains-append_left, Contains-push, Contains-push_cases}
+use Rattle.std.proofs.lemmas.List.Elements.{All-pop, All-push, Contains-append_left, Contains-push, Contains-push_cases}
 use Rattle.adf_block.specs.Image.{block_count, long}
 use Rattle.adf_block.specs.declared.layout.TheConstants.{FIRST_SLOT, NEXT_IN_CHAIN, TABLE_LONGS}
 use Rattle.ados_model.specs.declared.role.Role.{Role}
@@ -15,7 +15,7 @@ use Rattle.ados_model.specs.Faults.Reached.{start, named}
 use Rattle.ados_faults.specs.steps.Blocks.{AreEntriesOf, AreMet, AreNextMet, AreSlotsMet, AreTypesMet, HasTypeAs, HoldsEntries, IsEntryIn, IsGrown, IsOfType}
 use Rattle.ados_faults.specs.declared.walk.Step.{Step}
 use Rattle.ados_faults.specs.steps.Roles.{AreCovered, IsListed, step_of}
-use Rattle.ados_faults.proofs.Closing.{root_only}
+use Rattle.ados_check.proofs.Roles.{only_root}
 use Rattle.ados_faults.proofs.Covering.{entry_listed}
 use Rattle.ados_faults.proofs.Firsts.{each_same}
 
@@ -52,45 +52,42 @@ met_more image has blocks next m inside = record {
 pub cell_read : (has : List Bool) (block : ℕ) (x : Bool) → block < length has → x ≡ get_or has block x → get_or has block false ≡ x
 cell_read has block x l e = get_or_default has block false x l ∙ sym e
 
--- the cells of the first blocks in the list are cleared
-pub record AreLeft (image : List ℕ) (has : List Bool) (blocks : List ℕ) (n : ℕ) : Type 0 where
+-- each block with a set cell is in the list
+pub record AreLeft (image : List ℕ) (has : List Bool) (blocks : List ℕ) : Type 0 where
   pub size : length has ≡ block_count image
   pub inside : All (InImage image) blocks
-  pub behind : (block : ℕ) → get_or has block false ≡ true → (k : ℕ) × (n ≤ k) × (k < length blocks) × (slice_index blocks k ≡ block)
+  pub listed : (block : ℕ) → get_or has block false ≡ true → Contains blocks block
 
-pub left_all : (image : List ℕ) (has : List Bool) (blocks : List ℕ) → AreMet image has blocks → AreLeft image has blocks 0
-left_all image has blocks m = record {
-  size = m.size;
-  inside = m.inside;
-  behind = λ block e. let c = m.listed block e in (c.0, omega arith, c.1, get_or_default blocks c.0 0 block c.1 ∙ c.2);
-}
+pub left_all : {image : List ℕ} {has : List Bool} {blocks : List ℕ} → AreMet image has blocks → AreLeft image has blocks
+left_all m = record { size = m.size; inside = m.inside; listed = m.listed }
 
-pub left_less : (image : List ℕ) (has : List Bool) (blocks : List ℕ) (n block : ℕ) → block ≡ slice_index blocks n → AreLeft image has blocks n → block < length has → AreLeft image (set has block false) blocks (n + 1)
-left_less image has blocks n block is l within = record {
+-- without the last one
+pub left_less : {image : List ℕ} {has : List Bool} (blocks rest : List ℕ) (block : ℕ) → blocks ≡ rest ++ block ∷ [] → AreLeft image has blocks → AreLeft image (set has block false) rest
+left_less {image = image} {has = has} blocks rest block is l = record {
   size = length-set has block false ∙ l.size;
-  inside = l.inside;
-  behind = λ other e. elim (cases_eq other block) [
+  inside = parts.0;
+  listed = λ other e. elim (cases_eq other block) [
     | inl here ↦ absurd (false≢true (sym (get_or-set_same has block false false within) ∙ ap (λ (i : ℕ). get_or (set has block false) i false) (sym here) ∙ e))
-    | inr apart ↦
-        let b = l.behind other (sym (get_or-set_other has block other false false apart) ∙ e) in
-        (b.0, further b.0 b.1 (λ z. apart (sym b.3 ∙ ap (slice_index blocks) (sym z) ∙ sym is)), b.2, b.3)
+    | inr apart ↦ elim (Contains-push_cases rest block other (subst (λ (xs : List ℕ). Contains xs other) is (l.listed other (sym (get_or-set_other has block other false false apart) ∙ e)))) [
+      | inl before ↦ before
+      | inr last ↦ absurd (apart (sym last))
+    ]
   ];
 }
   where
-    further : (k : ℕ) → n ≤ k → n ≢ k → n + 1 ≤ k
-    further k le ne = omega (arith, le, ne)
+    parts : All (InImage image) rest × InImage image block
+    parts = All-pop (InImage image) blocks rest (Some block) is l.inside
 
--- the block of the next cell is inside the image
-pub left_within : (image : List ℕ) (has : List Bool) (blocks : List ℕ) (n block : ℕ) → block ≡ get_or blocks n block → n < length blocks → AreLeft image has blocks n → block < length has
-left_within image has blocks n block is l m = let inside = subst (InImage image) (sym is) (m.inside n block l) in omega (arith, inside.1, m.size)
+    within : block < length has
+    within = omega (arith, parts.1.1, l.size)
 
-pub left_none : (image : List ℕ) (has : List Bool) (blocks : List ℕ) (n : ℕ) → AreLeft image has blocks n → length blocks ≤ n → AreMet image has []
-left_none image has blocks n l all = record {
+pub left_none : {image : List ℕ} {has : List Bool} {blocks later : List ℕ} → AreLeft image has blocks → blocks ≡ [] → later ≡ [] → AreMet image has later
+left_none {image = image} {has = has} l none now = subst (AreMet image has) (sym now) (record {
   size = l.size;
   inside = λ k d m. absurd (omega (arith, m));
-  listed = λ block e. let b = l.behind block e in absurd (omega (arith, b.1, b.2, all));
+  listed = λ block e. subst (λ (xs : List ℕ). Contains xs block) none (l.listed block e);
   held = λ block c. absurd (omega (arith, c.1));
-}
+})
 
 -- ---- a list that may have grown
 
@@ -214,11 +211,8 @@ dir_of image dir (named h place inside) s e = held h place (λ t f. dir_of image
 
     held : {h i : ℕ} {role next : Role} → Reached image h role → IsPlace image h role i next → ((t : ℕ) → role ≡ Entry dir t → HoldsEntries image dir) → (s : ℕ) → next ≡ Entry dir s → HoldsEntries image dir
     held r (root_page l) before s e = absurd (cc e)
-    held {h = h} r (root_slot {s = t} l n) before s e = inl (sym (same_dir h dir t s e) ∙ root_only r refl)
+    held {h = h} r (root_slot {s = t} l n) before s e = inl (sym (same_dir h dir t s e) ∙ only_root r refl)
     held {h = h} r (directory_slot {dir = d} {r = q} {s = t} y l n) before s e =
         subst (HoldsEntries image) (same_dir h dir t s e) (inr (record { dir = d; slot_of_chain = q; reached = r; secondary = y }))
     held r (next_entry n) before s e = before s e
-    held r (header_pointer d p) before s e = absurd (cc e)
-    held r (first_extension d n) before s e = absurd (cc e)
-    held r (extension_pointer p) before s e = absurd (cc e)
-    held r (further_extension n) before s e = absurd (cc e)
+    held r _ before s e = absurd (cc e)

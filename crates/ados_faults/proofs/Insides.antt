@@ -4,7 +4,7 @@ use Rattle.adf_block.specs.Whole.{IsImage}
 use Rattle.adf_block.specs.Image.{block_count, long}
 use Rattle.ados_model.specs.declared.role.Role.{Role}
 use Rattle.ados_model.specs.Faults
-use Rattle.ados_model.specs.Faults.{HasName, HasPointers, InImage, IsPlace, Reached, Shows, root_of}
+use Rattle.ados_model.specs.Faults.{InImage, IsPlace, Reached, root_of}
 use Rattle.ados_model.specs.Faults.Reached.{start, named}
 
 module _ (image : List ℕ) (im : IsImage image) where

@@ -7,9 +7,10 @@ use Rattle.ados_check.specs.declared.rules.FieldRule.TheVariants.{NoLink, OwnKey
 use Rattle.ados_check.specs.declared.rules.TheConstants.{FIELD_RULES, POINTER_RULES}
 use Rattle.ados_model.specs.declared.fault.FaultKind.TheVariants.{BadSum, BadType, MarkedFree}
 use Rattle.ados_model.specs.declared.role.Role.{Role}
-use Rattle.ados_model.specs.declared.role.Role.TheVariants.{Root, Page, Entry, Data, Extension}
+use Rattle.ados_model.specs.declared.role.Role.TheVariants.{Data}
+use Rattle.ados_model.specs.Faults.{IsOfs}
 use Rattle.ados_faults.specs.declared.walk.Step.{Step}
-use Rattle.ados_faults.specs.steps.Looks.{AreLookedAt, AreWrongsNoted, IsBare, IsFieldNoted, IsLookedAt}
+use Rattle.ados_faults.specs.steps.Looks.{AreLookedAt, AreWrongsNoted, IsFieldNoted, IsLookedAt}
 use Rattle.ados_faults.specs.steps.Noted.{AreStillNoted, cell_of}
 use Rattle.ados_faults.proofs.Firsts.{one_more}
 
@@ -28,23 +29,13 @@ module _ (image : List ℕ) (cells : List Bool) (block : ℕ) (role : Role) wher
   fields_noted fields pointers PointerCount = pointers 0 NoLink (omega arith)
   fields_noted fields pointers FirstData = pointers 1 NoLink (omega arith)
 
--- blocks without a checksum and fields break no rule
-pub bare_noted : (image : List ℕ) (cells : List Bool) (block : ℕ) (role : Role) → IsBare image role → AreWrongsNoted image cells block role
-bare_noted image cells block (Data file) other = record { sum = λ h. absurd (other h.0); types = λ h. absurd (other h.0); fields = none }
+-- data blocks without a checksum and fields break no rule
+pub bare_noted : (image : List ℕ) (cells : List Bool) (block file : ℕ) → ¬ IsOfs image → AreWrongsNoted image cells block (Data file)
+bare_noted image cells block file other = record { sum = λ h. absurd (other h.0); types = λ h. absurd (other h.0); fields = none }
   where
     none : (rule : FieldRule) → IsFieldNoted image cells block (Data file) rule
-    none NoLink h = absurd h
-    none OwnKey h = absurd h
     none Parent h = absurd (other h.0)
-    none Name h = absurd h
-    none Chain h = absurd h
-    none Comment h = absurd h
-    none PointerCount h = absurd h
-    none FirstData h = absurd h
-bare_noted image cells block Root other = absurd other
-bare_noted image cells block Page other = absurd other
-bare_noted image cells block (Entry dir s) other = absurd other
-bare_noted image cells block (Extension file) other = absurd other
+    none _ h = absurd h
 
 -- what stays noted
 pub looked_on : (image : List ℕ) (cells later : List Bool) (step : Step) → AreStillNoted cells later → IsLookedAt image cells step → IsLookedAt image later step

@@ -83,22 +83,15 @@ module _ (image : List ℕ) (im : IsImage image) (last : List Bool) (w : AreStep
   used_twice : (block : ℕ) (role : Role) → block ≡ root_of image → (role ≡ Root → ⊥) → Reached image block role → IsNoted last (cell_of BlockUsedTwice block)
   used_twice block role e other h = w.after_walk.stay (cell_of BlockUsedTwice block) (w.twice.noted block (named_root image block role e other h))
 
-  of_data : (file i block : ℕ) (blocks : List ℕ) → block ≡ root_of image → IsDataAt image file blocks i block → IsNoted last (cell_of BlockUsedTwice block)
-  of_data file i block blocks e at = used_twice block (Data file) e (λ z. cc z) (data_reached image file i block blocks at)
-
   of_file : (block : ℕ) → block ≡ root_of image → IsFile image block → IsNoted last (cell_of BlockUsedTwice block)
   of_file block e f = used_twice block (Entry f.dir f.slot_of_chain) e (λ z. cc z) f.reached
 
   further_twice : (kind : FaultKind) (block : ℕ) → block ≡ root_of image → ShowsFurther image kind block → IsNoted last (cell_of BlockUsedTwice block)
   further_twice kind block e (ShowsFurther.disk other here) = absurd (let inside = root_inside image im in omega (arith, inside.0, e, here))
   further_twice kind block e (ShowsFurther.name h) = used_twice block (Entry h.dir h.slot_of_chain) e (λ z. cc z) h.reached
-  further_twice kind block e (ShowsFurther.link {file = f} {i = i} {blocks = b} ofs at wrong) = of_data f i block b e at
+  further_twice kind block e (ShowsFurther.placed {file = f} {i = i} {blocks = b} ofs at rule broken) = used_twice block (Data f) e (λ z. cc z) (data_reached image f i block b at)
   further_twice kind block e (ShowsFurther.size d n) = of_file block e d.is_file
-  further_twice kind block e (ShowsFurther.short ofs h n) = of_data h.file h.i block h.blocks e h.at
-  further_twice kind block e (ShowsFurther.none {file = f} {i = i} {blocks = b} ofs at n) = of_data f i block b e at
-  further_twice kind block e (ShowsFurther.over {file = f} {i = i} {blocks = b} ofs at l) = of_data f i block b e at
   further_twice kind block e (ShowsFurther.sum ofs h) = of_file block e h.of_file.is_file
-  further_twice kind block e (ShowsFurther.sequence h) = of_data h.file h.i block h.blocks e h.at
 
   pub root_noted : (kind : FaultKind) → Shows image kind (root_of image) → (other : FaultKind) × IsNoted last (cell_of other (root_of image))
   root_noted kind h = elim (noted_or_further image last w kind (root_of image) h) [

@@ -1,9 +1,9 @@
 //! Lists of blocks, each once, that are quick to empty.
-ghost use Rattle.std.specs.Prelude.{◌≡◌, ◌∷◌, ◌++◌, [], Contains, IfOk, false, replicate, true};
-ghost use Rattle.adf_block.specs.Image.{block_count};
+ghost use Rattle.std.specs.Prelude.{◌≡◌, ◌∷◌, ◌++◌, [], Contains, IfOk, false, true};
 ghost use Rattle.ados_model.specs.Faults.{InImage};
 ghost use Rattle.ados_faults.specs.steps.Blocks.{AreMet, IsGrown};
 
+use crate::bits::is_inside;
 use adf_block::Image;
 use std::alloc::{AllocError, Global};
 
@@ -35,25 +35,25 @@ impl Blocks {
         ensures none { self.new.list.items ≡ [] }
     {
         let _image = image;
-        for i in 0..self.list.len() {
-            let block = self.list[i];
+        while let Some(block) = self.list.pop() {
             self.has[block as usize] = false;
         }
-        self.list.clear();
     }
 
-    /// Adds a block. The result is false if it was there.
+    /// Adds a block. The result is false if it was there, or is not inside the image.
     pub(crate) fn add(&mut self, image: &Image, block: u32) -> Result<bool, AllocError>
-        requires met { AreMet image.now self.old.has.items self.old.list.items }
-        requires inside { InImage image.now block }
+        requires { AreMet image.now self.old.has.items self.old.list.items }
         ensures met { IfOk result (λ _. AreMet image.now self.new.has.items self.new.list.items) }
         ensures grown { IfOk result (λ _. IsGrown image.now block self.old.list.items self.new.list.items) }
-        ensures there { IfOk result (λ _. Contains self.new.list.items block) }
+        ensures there { IfOk result (λ _. InImage image.now block → Contains self.new.list.items block) }
         ensures same { IfOk result (λ is_new. is_new ≡ false → self.new.list.items ≡ self.old.list.items) }
+        ensures inside { IfOk result (λ is_new. is_new ≡ true → InImage image.now block) }
         ensures new { IfOk result (λ is_new. is_new ≡ true → self.new.list.items ≡ self.old.list.items ++ block ∷ []) }
         ensures fresh { IfOk result (λ is_new. is_new ≡ true → ¬ Contains self.old.list.items block) }
     {
-        let _image = image;
+        if !is_inside(image, block) {
+            return Ok(false);
+        }
         if self.has[block as usize] {
             return Ok(false);
         }

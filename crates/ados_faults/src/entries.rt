@@ -1,9 +1,8 @@
 //! The entries of a directory.
-ghost use Rattle.std.specs.Prelude.{◌≡◌, All, Contains, IfOk};
+ghost use Rattle.std.specs.Prelude.{All, IfOk};
 ghost use Rattle.ados_model.specs.Faults.{InImage};
-ghost use Rattle.ados_faults.specs.steps.Blocks.{AreEntriesOf, AreMet, AreSlotsMet, HoldsEntries, IsEntryIn, IsGrown};
+ghost use Rattle.ados_faults.specs.steps.Blocks.{AreEntriesOf, AreMet, AreSlotsMet, HoldsEntries, IsEntryIn};
 
-use crate::bits::is_inside;
 use crate::blocks::Blocks;
 use adf_block::Image;
 use adf_block::layout::{FIRST_SLOT, NEXT_IN_CHAIN, TABLE_LONGS};
@@ -35,7 +34,7 @@ fn meet_slots(image: &Image, dir: u32, entries: &mut Blocks) -> Result<(), Alloc
 {
     for i in 0..TABLE_LONGS {
         let first = image.long(dir, FIRST_SLOT + i);
-        meet(image, first, entries)?;
+        entries.add(image, first)?;
     }
     Ok(())
 }
@@ -50,27 +49,12 @@ fn meet_chains(image: &Image, dir: u32, entries: &mut Blocks) -> Result<(), Allo
     ensures all { IfOk result (λ _. AreEntriesOf image.now dir entries.new.list.items) }
 {
     let _dir = dir;
-    for i in 0..usize::MAX {
-        if entries.list.len() <= i {
-            return Ok(());
-        }
+    let mut i = 0;
+    while i < entries.list.len() {
         let entry = entries.list[i];
         let next = image.long(entry, NEXT_IN_CHAIN);
-        meet(image, next, entries)?;
+        entries.add(image, next)?;
+        i += 1;
     }
-    Ok(())
-}
-
-/// Adds a block, if it is inside the image.
-fn meet(image: &Image, block: u32, entries: &mut Blocks) -> Result<(), AllocError>
-    requires { AreMet image.now entries.old.has.items entries.old.list.items }
-    ensures met { IfOk result (λ _. AreMet image.now entries.new.has.items entries.new.list.items) }
-    ensures grown { IfOk result (λ _. IsGrown image.now block entries.old.list.items entries.new.list.items) }
-    ensures there { IfOk result (λ _. InImage image.now block → Contains entries.new.list.items block) }
-{
-    if !is_inside(image, block) {
-        return Ok(());
-    }
-    entries.add(image, block)?;
     Ok(())
 }

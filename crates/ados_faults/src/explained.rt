@@ -3,6 +3,7 @@ ghost use Rattle.std.specs.Prelude.{IfOk};
 ghost use Rattle.std.specs.String.{string_bytes};
 ghost use Rattle.ados_faults.specs.Explained.{TellsOfBlock};
 
+use crate::marked::role_at;
 use crate::path::{place_of, volume_name};
 use crate::texts::BadBlock;
 use crate::values::values_of;
@@ -32,6 +33,7 @@ pub fn explain(
         marks,
         seconds,
         block,
+        role: role_at(marks, block),
     };
     let what = bad.text(alloc, fault.kind, values_of(image, marks, fault))?;
     let Some(path) = place_of(alloc, image, marks, block)? else {

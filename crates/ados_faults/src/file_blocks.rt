@@ -1,6 +1,5 @@
 //! The header and extension blocks of a file, and the data blocks in their pointers.
-ghost use Rattle.std.specs.Prelude.{◌≡◌, ◌<◌, ◌≤◌, ◌+◌, ◌*◌, All, MatchOption, false, flat_map, length, slice_index, sum_by, true, IfOk};
-ghost use Rattle.adf_block.specs.Fields.{held_count};
+ghost use Rattle.std.specs.Prelude.{◌≡◌, ◌<◌, ◌≤◌, ◌+◌, ◌*◌, All, false, flat_map, length, slice_index, true, IfOk};
 ghost use Rattle.adf_block.specs.Image.{block_count};
 ghost use Rattle.ados_model.specs.Faults.{InImage, IsOfs, LinkedOnce, pointers_of};
 ghost use Rattle.ados_faults.specs.steps.Blocks.{AreMet};
@@ -46,9 +45,6 @@ fn go_on(image: &Image, headers: &mut Blocks) -> Result<bool, AllocError>
 {
     let last = headers.list[headers.list.len() - 1];
     let next = image.long(last, NEXT_EXTENSION);
-    if !is_inside(image, next) {
-        return Ok(false);
-    }
     let more = headers.add(image, next)?;
     Ok(more)
 }

@@ -1,10 +1,9 @@
 //! The files, checked against their sizes.
-ghost use Rattle.std.specs.Prelude.{◌≡◌, ◌↔◌, ◌≤◌, All, IfOk, IsTrue, flat_map, false, length, replicate, None};
+ghost use Rattle.std.specs.Prelude.{◌↔◌, ◌≤◌, All, IfOk, IsTrue, flat_map, false, length, None};
 ghost use Rattle.adf_block.specs.Image.{block_count};
 ghost use Rattle.adf_block.specs.declared.layout.TheConstants.{NEXT_EXTENSION};
 ghost use Rattle.ados_model.specs.Faults.{InImage, IsFile, IsOfs, LinkedOnce, pointers_of};
-ghost use Rattle.ados_faults.specs.steps.Blocks.{AreMet};
-ghost use Rattle.ados_faults.specs.steps.FileNotes.{AreAllFilesNoted, AreAllSeen, AreBlocksNoted, AreHeld, HoldOtherSize, IsFileNoted};
+ghost use Rattle.ados_faults.specs.steps.FileNotes.{AreAllFilesNoted, AreAllSeen, AreHeld, HoldOtherSize, IsFileNoted};
 ghost use Rattle.ados_faults.specs.steps.Noted.{AreNoted, AreStillNoted};
 ghost use Rattle.ados_faults.specs.steps.Roles.{AreCovered};
 ghost use Rattle.ados_faults.specs.steps.Walked.{IsStep};

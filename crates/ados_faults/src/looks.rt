@@ -1,10 +1,10 @@
 //! The faults that a block shows in a role, as far as that needs no other block.
-ghost use Rattle.std.specs.Prelude.{◌≡◌, ◌↔◌, All, IsTrue, length};
+ghost use Rattle.std.specs.Prelude.{All, length};
 ghost use Rattle.ados_model.specs.Faults.{InImage, Reached};
 ghost use Rattle.ados_model.specs.declared.fault.FaultKind.{FaultKind};
 ghost use Rattle.ados_faults.specs.Listed.{IsOtherKind};
 ghost use Rattle.ados_faults.specs.steps.Noted.{AreNoted, AreStillNoted, IsNoted, cell_of};
-ghost use Rattle.ados_faults.specs.steps.Looks.{AreLookedAt, AreWrongsNoted, IsBare, IsFieldNoted};
+ghost use Rattle.ados_faults.specs.steps.Looks.{AreLookedAt, AreWrongsNoted, IsFieldNoted};
 ghost use Rattle.ados_faults.specs.steps.Walked.{IsStep};
 
 use crate::bits::is_marked_free;
@@ -55,8 +55,11 @@ fn look(image: &Image, block: u32, role: Role, notes: &mut Notes)
     ensures stays { AreStillNoted notes.old.cells.items notes.new.cells.items }
     ensures whole { AreWrongsNoted image.now notes.new.cells.items block role }
 {
-    if is_bare(image, role) {
-        return;
+    prove!(image.blocks() >= 16);
+    match role {
+        // The data blocks of FFS files have no checksum and no fields.
+        Role::Data(_) if image.byte(0, KIND_BYTE) != 0 => return,
+        _ => {}
     }
     let source = Source::whole(image);
     let sum = has_bad_sum(&source, block, role);
@@ -65,17 +68,6 @@ fn look(image: &Image, block: u32, role: Role, notes: &mut Notes)
     notes.note_if(image, FaultKind::BadType, block, types);
     look_at_fields(image, block, role, &FIELD_RULES, notes);
     look_at_fields(image, block, role, &POINTER_RULES, notes);
-}
-
-/// Whether blocks in this role have no checksum and no fields: the data blocks of FFS files.
-fn is_bare(image: &Image, role: Role) -> bool
-    ensures { IsTrue result ↔ IsBare image.now role }
-{
-    prove!(image.blocks() >= 16);
-    match role {
-        Role::Data(_) => image.byte(0, KIND_BYTE) != 0,
-        Role::Root | Role::Page | Role::Entry(_, _) | Role::Extension(_) => false,
-    }
 }
 
 /// Checks the fields of a block in a role by these rules.

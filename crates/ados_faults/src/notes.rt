@@ -1,9 +1,9 @@
 //! The faults found so far: a cell for each kind of fault of each block.
-ghost use Rattle.std.specs.Prelude.{◌≡◌, ◌↔◌, ◌<◌, ◌≤◌, ◌+◌, ◌*◌, false, length, slice_index_or, true, IfOk, IsTrue};
+ghost use Rattle.std.specs.Prelude.{◌≡◌, ◌↔◌, ◌<◌, ◌≤◌, ◌+◌, ◌*◌, false, length, true, IfOk, IsTrue};
 ghost use Rattle.adf_block.specs.Image.{block_count};
 ghost use Rattle.ados_model.specs.Faults.{Shows};
 ghost use Rattle.ados_faults.specs.Listed.{IsOther, ListsFaults};
-ghost use Rattle.ados_faults.specs.steps.Noted.{AreListed, AreNoted, AreStillNoted, HasNote, IsFull, IsNoted, ListsNoted, NotesOther, cell_of};
+ghost use Rattle.ados_faults.specs.steps.Noted.{AreNoted, AreStillNoted, HasNote, IsFull, IsNoted, ListsNoted, NotesOther, cell_of};
 
 use crate::kinds::{KINDS, kind_at, rank_of};
 use adf_block::Image;

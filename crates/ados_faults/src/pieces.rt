@@ -3,7 +3,7 @@
 //! A header or extension block may belong to many files. All but the last of its data blocks show the same in each of
 //! them, save for their positions: at two positions each shows that its sequence number is wrong. So they are checked at
 //! two positions at most, and then only the last one is.
-ghost use Rattle.std.specs.Prelude.{◌≡◌, ◌<◌, ◌≤◌, ◌+◌, All, flat_map, length, slice_index};
+ghost use Rattle.std.specs.Prelude.{◌≡◌, ◌<◌, ◌≤◌, ◌+◌, All, flat_map, length};
 ghost use Rattle.adf_block.specs.Image.{block_count};
 ghost use Rattle.ados_model.specs.Faults.{InImage, IsOfs, pointers_of};
 ghost use Rattle.ados_check.specs.DataRules.{IsPlaced};

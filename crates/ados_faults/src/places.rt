@@ -27,21 +27,17 @@ pub(crate) fn place_text(
     if long >= FIRST_PAGE {
         return format!(in alloc; "bitmap block {}", long.saturating_sub(FIRST_PAGE) + 1);
     }
-    if has_slots(image, marks, holder) {
+    let has_slots = match role_at(marks, holder) {
+        Some(Role::Root) => true,
+        Some(Role::Entry(_, _)) => {
+            holder < image.blocks() && image.long(holder, SECONDARY_TYPE) == DIRECTORY_TYPE
+        }
+        _ => false,
+    };
+    if has_slots {
         return format!(in alloc; "hash slot {}", long.saturating_sub(FIRST_SLOT));
     }
     format!(in alloc; "pointer {}", FIRST_POINTER.saturating_sub(long) + 1)
-}
-
-/// Whether the table of a block has slots, and not data pointers.
-fn has_slots(image: &Image, marks: &[Option<Mark>], block: u32) -> bool {
-    match role_at(marks, block) {
-        Some(Role::Root) => true,
-        Some(Role::Entry(_, _)) => {
-            block < image.blocks() && image.long(block, SECONDARY_TYPE) == DIRECTORY_TYPE
-        }
-        _ => false,
-    }
 }
 
 /// For each block that two places name, one that is not the place of its mark. `marks` are those of the walk over the
@@ -60,7 +56,7 @@ pub fn second_places(
     Ok(seconds)
 }
 
-/// Notes the places of a block in a role.
+/// Notes the places of a block in a role: each that is the first one of a block not to be that of the block's mark.
 fn note_places(
     image: &Image,
     marks: &[Option<Mark>],
@@ -72,24 +68,19 @@ fn note_places(
 {
     let source = Source::whole(image);
     for long in FIRST_SLOT..SECONDARY_TYPE {
-        if let Some(role) = place_role(&source, holder, role, long) {
-            let place = Mark { role, holder, long };
-            note_place(marks, image.long(holder, long), place, seconds);
-        }
-    }
-}
-
-/// Notes a place of a block, if it is the first one that is not that of the block's mark.
-fn note_place(marks: &[Option<Mark>], block: u32, place: Mark, seconds: &mut [Option<Mark>]) {
-    let Some(first) = mark_at(marks, block) else {
-        return;
-    };
-    if !is_other_place(first, place) {
-        return;
-    }
-    if let Some(second) = seconds.get_mut(block as usize) {
-        if second.is_none() {
-            *second = Some(place);
+        let Some(role) = place_role(&source, holder, role, long) else {
+            continue;
+        };
+        let block = image.long(holder, long);
+        let place = Mark { role, holder, long };
+        let Some(first) = mark_at(marks, block) else {
+            continue;
+        };
+        match seconds.get_mut(block as usize) {
+            Some(second) if second.is_none() && is_other_place(first, place) => {
+                *second = Some(place);
+            }
+            _ => {}
         }
     }
 }

@@ -2,7 +2,6 @@
 ghost use Rattle.std.specs.Prelude.{◌≡◌, ◌<◌, ◌↔◌, IfSome, IsTrue};
 ghost use Rattle.adf_block.specs.declared.layout.TheConstants.{BLOCK_LONGS};
 ghost use Rattle.adf_block.specs.Image.{block_count};
-ghost use Rattle.ados_check.specs.Rules.{HasOtherCount};
 ghost use Rattle.ados_model.specs.Faults.{InImage, IsPlace};
 ghost use Rattle.ados_model.specs.declared.role.Role.{Role};
 ghost use Rattle.ados_faults.specs.Values.{HasFields, HasWrongName, IsWrongAt, extensions_to, next_data, pointed_by, right_at};
@@ -12,7 +11,8 @@ use crate::marked::mark_at;
 use adf_block::Image;
 use adf_block::layout::*;
 use ados_check::{
-    Mark, Source, first_pointer, has_entry_type, has_link_type, has_no_type, place_role,
+    Mark, Source, first_pointer, has_entry_type, has_link_type, has_no_type, has_other_count,
+    place_role,
 };
 use ados_model::{FaultKind, Role, VolumeFault};
 
@@ -95,7 +95,7 @@ pub(crate) fn is_wrong_at(image: &Image, role: Role, fault: VolumeFault, i: u32)
             is_file && image.long(block, POINTER_COUNT) > TABLE_LONGS
         }
         (FaultKind::BadCount, Role::Entry(_, _), FILE_SIZE) => {
-            is_file && has_right_count(image, block)
+            is_file && !has_other_count(&source, block)
         }
         (FaultKind::BadCount, Role::Extension(_), POINTER_COUNT) => {
             let count = image.long(block, POINTER_COUNT);
@@ -184,13 +184,4 @@ fn has_wrong_name(image: &Image, block: u32, i: u32) -> bool
         }
     }
     false
-}
-
-/// Whether the number of pointers is at most 72, and 72 if an extension block follows.
-fn has_right_count(image: &Image, block: u32) -> bool
-    requires { block < block_count image.now }
-    ensures { IsTrue result ↔ ¬ HasOtherCount image.now block }
-{
-    let count = image.long(block, POINTER_COUNT);
-    count == TABLE_LONGS || count < TABLE_LONGS && image.long(block, NEXT_EXTENSION) == 0
 }

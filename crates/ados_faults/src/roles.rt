@@ -64,27 +64,17 @@ impl Roles {
         match role {
             Role::Root => false,
             Role::Page => self.take_number(image, block, Part::Bitmap, 0),
-            Role::Entry(dir, slot) => self.take_entry(image, block, dir, slot),
+            Role::Entry(dir, slot) => {
+                let in_dir = self.take_number(image, block, Part::Directory, dir);
+                let in_slot = self.take_number(image, block, Part::Slot, slot);
+                if in_dir {
+                    return true;
+                }
+                in_slot
+            }
             Role::Data(file) => self.take_number(image, block, Part::DataFile, file),
             Role::Extension(file) => self.take_number(image, block, Part::ExtensionFile, file),
         }
-    }
-
-    /// Takes the role of an entry.
-    fn take_entry(&mut self, image: &Image, block: u32, dir: u32, slot: u32) -> bool
-        requires inside { block < block_count image.now }
-        requires size { length self.old.cells.items ≡ 5 * block_count image.now }
-        ensures size { length self.new.cells.items ≡ length self.old.cells.items }
-        ensures same { result ≡ false → self.new.cells.items ≡ self.old.cells.items }
-        ensures covered { result ≡ false → (steps : List Step) → AreBacked self.old.cells.items steps → AreCoveredBy steps block (Entry dir slot) }
-        ensures backed { (steps : List Step) → AreBacked self.old.cells.items steps → IsListed steps (step_of block (Entry dir slot)) → AreBacked self.new.cells.items steps }
-    {
-        let in_dir = self.take_number(image, block, Part::Directory, dir);
-        let in_slot = self.take_number(image, block, Part::Slot, slot);
-        if in_dir {
-            return true;
-        }
-        in_slot
     }
 
     /// Takes a number in a part.

@@ -7,25 +7,17 @@ use ados_model::Role;
 
 /// The first other entry of the same directory with the name of this one, by the roles of the marks.
 pub(crate) fn same_named(image: &Image, marks: &[Option<Mark>], block: u32) -> Option<u32> {
-    let dir = directory_of(marks, block)?;
+    let Some(Role::Entry(dir, _)) = role_at(marks, block) else {
+        return None;
+    };
     let name = name_at(image, block)?;
     for other in BOOT_BLOCKS..image.blocks() {
-        if other != block
-            && directory_of(marks, other) == Some(dir)
-            && name_at(image, other) == Some(name)
-        {
+        let is_beside = matches!(role_at(marks, other), Some(Role::Entry(of, _)) if of == dir);
+        if other != block && is_beside && name_at(image, other) == Some(name) {
             return Some(other);
         }
     }
     None
-}
-
-/// The directory of a block that is marked as an entry.
-fn directory_of(marks: &[Option<Mark>], block: u32) -> Option<u32> {
-    match role_at(marks, block)? {
-        Role::Entry(dir, _) => Some(dir),
-        Role::Root | Role::Page | Role::Data(_) | Role::Extension(_) => None,
-    }
 }
 
 /// The name of a block in the form for comparison, if it has at most 30 bytes.

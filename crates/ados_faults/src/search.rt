@@ -1,5 +1,5 @@
 //! The search for all faults of an image: one walk, then names and files.
-ghost use Rattle.std.specs.Prelude.{◌≡◌, All, IfOk, IsTrue, false, true};
+ghost use Rattle.std.specs.Prelude.{◌≡◌, All, IfOk, false, true};
 ghost use Rattle.adf_block.specs.Whole.{IsImage};
 ghost use Rattle.ados_faults.specs.Listed.{AreMarks, IsTangled, ShowsMoreThan};
 ghost use Rattle.ados_faults.specs.steps.FileNotes.{AreAllFilesNoted};

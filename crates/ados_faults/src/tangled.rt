@@ -1,7 +1,6 @@
 //! Whether blocks are reached in very many roles.
 ghost use Rattle.std.specs.Prelude.{◌≡◌, ◌<◌, ◌*◌, IfOk, true};
 ghost use Rattle.adf_block.specs.declared.layout.TheConstants.{BLOCK_LONGS};
-ghost use Rattle.adf_block.specs.Image.{block_count};
 ghost use Rattle.adf_block.specs.Whole.{IsImage};
 ghost use Rattle.ados_model.specs.Faults.{InImage, Reached};
 ghost use Rattle.ados_faults.specs.Listed.{IsTangled};
@@ -42,7 +41,11 @@ pub(crate) fn is_tangled(alloc: Global, image: &Image) -> Result<bool, AllocErro
     ensures { IfOk result (λ tangled. tangled ≡ true → IsTangled image.now) }
 {
     let most = (PAIRS * image.blocks()) as usize;
-    let mut pairs = Pairs::start(alloc, image)?;
+    let mut pairs = Pairs {
+        steps: Vec::new(alloc),
+        known: BTreeSet::new(alloc),
+    };
+    pairs.add(image, image.root(), Role::Root)?;
     for i in 0..most {
         if pairs.steps.len() >= most {
             return Ok(true);
@@ -57,20 +60,6 @@ pub(crate) fn is_tangled(alloc: Global, image: &Image) -> Result<bool, AllocErro
 }
 
 impl Pairs {
-    /// Only the root.
-    fn start(alloc: Global, image: &Image) -> Result<Pairs, AllocError>
-        requires { IsImage image.now }
-        ensures { IfOk result (λ pairs. ArePairs image.now pairs.steps.items pairs.known) }
-    {
-        let mut pairs = Pairs {
-            steps: Vec::new(alloc),
-            known: BTreeSet::new(alloc),
-        };
-        let root = image.root();
-        pairs.add(image, root, Role::Root)?;
-        Ok(pairs)
-    }
-
     /// Adds the blocks that the places of a step name.
     fn go_through(&mut self, image: &Image, step: Step) -> Result<(), AllocError>
         requires pairs { ArePairs image.now self.old.steps.items self.old.known }

@@ -2,7 +2,7 @@
 ghost use Rattle.std.specs.Prelude.{◌<◌};
 ghost use Rattle.adf_block.specs.Image.{block_count};
 
-use crate::marked::{mark_at, role_at};
+use crate::marked::mark_at;
 use crate::places::place_text;
 use crate::same_name::same_named;
 use crate::values::FaultValues;
@@ -21,6 +21,8 @@ pub(crate) struct BadBlock<'a> {
     pub(crate) marks: &'a [Option<Mark>],
     pub(crate) seconds: &'a [Option<Mark>],
     pub(crate) block: u32,
+    /// The role of the block by the first place that names it.
+    pub(crate) role: Option<Role>,
     ghost inside: { block < block_count image.now },
 }
 
@@ -65,13 +67,9 @@ impl BadBlock<'_> {
         }
     }
 
-    fn role(&self) -> Option<Role> {
-        role_at(self.marks, self.block)
-    }
-
     /// What the block calls the block above it.
     fn word_for_parent(&self) -> &'static str {
-        match self.role() {
+        match self.role {
             Some(Role::Data(_) | Role::Extension(_)) => "file header",
             _ => "parent",
         }
@@ -81,7 +79,7 @@ impl BadBlock<'_> {
     fn pointer_text(&self, alloc: Global, values: FaultValues) -> Result<String, AllocError> {
         let found = values.found;
         if values.long == NEXT_DATA {
-            let what = match self.role() {
+            let what = match self.role {
                 Some(Role::Data(_)) => "next",
                 _ => "first",
             };
@@ -117,7 +115,7 @@ impl BadBlock<'_> {
 
     /// A block that names one of its holders, and has another one.
     fn other_holder_text(&self, alloc: Global) -> Result<String, AllocError> {
-        let named = match self.role() {
+        let named = match self.role {
             Some(Role::Data(holder) | Role::Extension(holder) | Role::Entry(holder, _)) => holder,
             _ => 0,
         };
@@ -176,7 +174,7 @@ impl BadBlock<'_> {
         let length = usize::from(self.image.byte(self.block, NAME_BYTE)).min(Name::MAX_LEN);
         let start = NAME_BYTE as usize + 1;
         let name = Name::new(&self.image.block(self.block)[start..start + length]);
-        match (self.role(), name) {
+        match (self.role, name) {
             (Some(Role::Entry(_, slot)), Ok(name)) => {
                 format!(in alloc;
                     "its hash chain is that of slot {slot}; its name belongs to slot {}",

@@ -1,5 +1,5 @@
 //! The directories and the files of an image.
-ghost use Rattle.std.specs.Prelude.{◌≡◌, ◌↔◌, ℕ, All, Contains, IfOk, IsTrue};
+ghost use Rattle.std.specs.Prelude.{ℕ, All, Contains, IfOk};
 ghost use Rattle.ados_model.specs.Faults.{InImage};
 ghost use Rattle.ados_faults.specs.steps.Blocks.{AreMet, HasTypeAs, IsGrown, IsOfType};
 ghost use Rattle.ados_faults.specs.steps.Roles.{AreCovered};

@@ -1,8 +1,8 @@
 //! The long of a block that shows a fault: what it holds, and what it should hold.
-ghost use Rattle.std.specs.Prelude.{◌≡◌, ◌≢◌, ◌<◌, ◌↔◌, IsTrue, MatchOption};
+ghost use Rattle.std.specs.Prelude.{◌<◌, ◌↔◌, IsTrue, MatchOption};
 ghost use Rattle.adf_block.specs.declared.layout.TheConstants.{BLOCK_LONGS};
 ghost use Rattle.adf_block.specs.Image.{block_count, long};
-ghost use Rattle.ados_faults.specs.Values.{AreValues, HasFields, IsWrongAt, NoneShows, ShowsDisk};
+ghost use Rattle.ados_faults.specs.Values.{AreValues, HasFields, NoneShows, ShowsDisk};
 ghost use Rattle.ados_faults.specs.steps.Looked.{TellsLong};
 
 use crate::bits::is_inside;

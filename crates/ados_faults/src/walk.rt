@@ -1,14 +1,12 @@
 //! The walk from the root over every place of every reached block, past all faults.
-ghost use Rattle.std.specs.Prelude.{◌≡◌, ◌≢◌, ◌<◌, ◌⊎◌, ◌↔◌, ◌∷◌, [], IfOk, IsTrue, None, replicate};
+ghost use Rattle.std.specs.Prelude.{◌≢◌, ◌<◌, ◌⊎◌, ◌↔◌, IfOk, IsTrue, None};
 ghost use Rattle.adf_block.specs.declared.layout.TheConstants.{BLOCK_LONGS};
-ghost use Rattle.adf_block.specs.Whole.{IsImage};
-ghost use Rattle.adf_block.specs.Image.{block_count, long};
-ghost use Rattle.ados_model.specs.Faults.{InImage, IsPlace, LeadsInside, Reached};
+ghost use Rattle.adf_block.specs.Image.{long};
+ghost use Rattle.ados_model.specs.Faults.{InImage, Reached};
 ghost use Rattle.ados_faults.specs.Listed.{AreClosed, IsNamedAs};
 ghost use Rattle.ados_model.specs.declared.fault.FaultKind.TheVariants.{BadPointer};
-ghost use Rattle.ados_faults.specs.steps.Noted.{IsNoted, cell_of};
-ghost use Rattle.ados_faults.specs.steps.Roles.{AreCovered, AreCoveredBy, root_step};
-ghost use Rattle.ados_faults.specs.steps.Walked.{AreKept, AreOutsideNoted, AreTwiceNoted, IsMarkedBy, IsMetBy, IsPassed, IsStep, IsVisited, IsWalked};
+ghost use Rattle.ados_faults.specs.steps.Roles.{AreCovered, AreCoveredBy};
+ghost use Rattle.ados_faults.specs.steps.Walked.{AreKept, AreOutsideNoted, AreTwiceNoted, IsMarkedBy, IsPassed, IsStep, IsVisited, IsWalked};
 
 use crate::bits::is_inside;
 use crate::notes::Notes;
@@ -46,12 +44,11 @@ pub(crate) fn walked(alloc: Global, image: &Image) -> Result<Walk, AllocError>
     ensures outside { IfOk result (λ walk. AreOutsideNoted image.now walk.notes.cells.items) }
 {
     let mut walk = Walk::start(alloc, image)?;
-    for i in 0..usize::MAX {
-        if walk.steps.len() <= i {
-            return Ok(walk);
-        }
+    let mut i = 0;
+    while i < walk.steps.len() {
         let step = walk.steps[i];
         walk.go_through(image, step)?;
+        i += 1;
     }
     Ok(walk)
 }

@@ -1,5 +1,5 @@
 -- DELETE_OBJECT.
-use Rattle.std.proofs.Common.{◌≡◌, ℕ, false, List, [], None, Ok, refl, sym, ap, ◌∙◌}
+use Rattle.std.proofs.Common.{◌≡◌, ℕ, false, List, [], None, Ok, sym, ap, ◌∙◌}
 use Rattle.ados_name.specs.declared.stamp.Date3.{Date3}
 use Rattle.ados_model.specs.Tree.{Tree}
 use Rattle.ados_model.specs.Change.{removed}
@@ -13,9 +13,8 @@ use Rattle.ados_model.specs.Resolved.{walked}
 use Rattle.ados_model.specs.Refusals.{refusal, refusals}
 use Rattle.ados_model.specs.Success.{after}
 use Rattle.ados_volume.proofs.Refusing.{passed}
-use Rattle.ados_handler.specs.steps.Methods.{MethodMeans}
 use Rattle.ados_handler.specs.steps.Moves.{remove_refusal, remove_refusals}
-use Rattle.ados_handler.proofs.Meant.{done, served_means, walked_on}
+use Rattle.ados_handler.proofs.Meant.{IsEdit, walked_on}
 
 module _ (t : Tree) (s : Session) (lock : ℕ) (path : List ℕ) (key : ℕ) (alive : s.died ≡ false) (walk : walked t s lock path ≡ Ok key) where
   -- only the object can refuse it
@@ -25,8 +24,8 @@ module _ (t : Tree) (s : Session) (lock : ℕ) (path : List ℕ) (key : ℕ) (al
       ∙ (walked_on t s lock path key (remove_refusals t s (object t s lock path)) walk).0
       ∙ ap (λ (k : ℕ). remove_refusal t s k) (walked_on t s lock path key [] walk).1
 
-  pub delete_means : (now : Date3) (new : Session) → remove_refusal t s key ≡ None → new ≡ s
-      → MethodMeans t s (DeleteObject lock path) now (removed now key t) new (done Empty)
-  delete_means now new none same =
-      served_means t (removed now key t) s new (DeleteObject lock path) now (done Empty) (delete_refusal ∙ none)
-      (record { success = λ i. after (removed now (sym (walked_on t s lock path key [] walk).1 i) t) (same i) dos_true Empty; action = refl; res2 = refl })
+  pub delete_edits : (now : Date3) → remove_refusal t s key ≡ None → IsEdit t (removed now key t) s (DeleteObject lock path) now
+  delete_edits now none = record {
+    none = delete_refusal ∙ none;
+    success = ap (λ (k : ℕ). after (removed now k t) s dos_true Empty) (sym (walked_on t s lock path key [] walk).1);
+  }

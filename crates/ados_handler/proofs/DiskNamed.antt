@@ -10,22 +10,18 @@ use Rattle.ados_name.specs.Fault.{first_fault}
 use Rattle.ados_model.specs.Tree.{Tree}
 use Rattle.ados_model.specs.Edits.{disk_renamed}
 use Rattle.ados_model.specs.declared.dos_error.DosError.TheVariants.{DeviceNotMounted, InvalidComponentName}
-use Rattle.ados_model.specs.Packet.{dos_true}
 use Rattle.ados_model.specs.declared.packet.Packet.TheVariants.{RenameDisk}
 use Rattle.ados_model.specs.declared.answer.Body.TheVariants.{Empty}
 use Rattle.ados_model.specs.Session.{Session}
 use Rattle.ados_model.specs.Refusals.{first_refusal, is_name, refusal, refuse}
-use Rattle.ados_model.specs.Success.{after}
-use Rattle.ados_handler.specs.steps.Methods.{MethodMeans}
-use Rattle.ados_handler.proofs.Meant.{done, served_means}
+use Rattle.ados_handler.proofs.Meant.{IsEdit}
 use Rattle.ados_volume.proofs.Refusing.{is_named}
 
-pub rename_disk_means : (t : Tree) (s new : Session) (name : List ℕ) (now : Date3) → s.died ≡ false → IsName name → new ≡ s
-    → MethodMeans t s (RenameDisk name) now (disk_renamed now name t) new (done Empty)
-rename_disk_means t s new name now alive is same =
-    let none : refusal t s (RenameDisk name) ≡ None = λ i. first_refusal (refuse DeviceNotMounted (alive i) ∷ refuse InvalidComponentName (not (is_named name is i)) ∷ []) in
-    served_means t (disk_renamed now name t) s new (RenameDisk name) now (done Empty) none
-    (record { success = λ i. after (disk_renamed now name t) (same i) dos_true Empty; action = refl; res2 = refl })
+pub rename_disk_edits : (t : Tree) (s : Session) (name : List ℕ) (now : Date3) → s.died ≡ false → IsName name → IsEdit t (disk_renamed now name t) s (RenameDisk name) now
+rename_disk_edits t s name now alive is = record {
+  none = λ i. first_refusal (refuse DeviceNotMounted (alive i) ∷ refuse InvalidComponentName (not (is_named name is i)) ∷ []);
+  success = refl;
+}
 
 faulty : (a b c : Bool) (fault : NameFault) → cond a (Some faults.Empty) (cond b (Some faults.TooLong) (cond c (Some faults.Separator) None)) ≡ Some fault → not (a || b || c) ≡ false
 faulty true b c fault h = refl

@@ -27,7 +27,7 @@ use Rattle.ados_model.specs.Refusals.{first_refusal, refuse}
 use Rattle.ados_handler.proofs.Rewriting.{file_node}
 use Rattle.ados_handler.proofs.ImageKept.{meaning_keeps_proper}
 use Rattle.ados_handler.proofs.Leaving.{leaves_all}
-use Rattle.ados_handler.proofs.Meant.{sound_after}
+use Rattle.ados_handler.proofs.Meant.{sound_on}
 
 module _ (s : Session) (handle : ℕ) (hold : HandleHold) (at : get s.handles handle ≡ Some hold) where
   pub key_is : handle_key s handle ≡ hold.key
@@ -87,8 +87,7 @@ module _ (old given : HandlerState) (same : old ≡ given) (handles : FinMap nat
       → IsSoundHandler old.image (record old.session { handles = handles })
   sound_moved texts sound gives =
       let moment : Date3 = record { days = 0; minutes = 0; ticks = 0 } in
-      sound_after given (record old { session = record old.session { handles = handles } }) packet moment results (meaning_keeps_proper packet texts)
-      (subst (λ (h : HandlerState). IsSoundHandler h.image h.session) same sound) (gives moment)
+      sound_on {new = record old { session = record old.session { handles = handles } }} same (gives moment) (meaning_keeps_proper packet texts) sound
 
   -- the same if the volume caches another place in a file
   pub sound_read : (volume : Shown) → volume ≡ record { image = old.image; was_validated = old.was_validated } → HasPathTexts packet → IsSoundHandler old.image old.session

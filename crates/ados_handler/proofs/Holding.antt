@@ -8,6 +8,7 @@ use Rattle.std.specs.Cmp.{nat_cmp_total}
 use Rattle.std.specs.FinMap.{FinMap, get, insert, remove, entries, find, get-entries, get-insert, get-remove}
 use Rattle.std.proofs.lemmas.Option.{none-some, same_Some}
 use Rattle.std.proofs.lemmas.Bool.Decides.{eqb_tells, nat_tests}
+use Rattle.std.proofs.lemmas.Bool.{true≢false, or_parts}
 use Rattle.ados_model.specs.Tree.{Tree, size_of}
 use Rattle.ados_model.specs.Change.{is_file}
 use Rattle.ados_model.specs.Session.{Session, holds, is_held, is_held_exclusively, is_in_use, with_lock, without_lock, with_handle, without_handle}
@@ -26,14 +27,10 @@ apart q k h = grind (arith, nat_tests)
 pub number_tells : (q k : ℕ) → ((eq_by_cmp nat_cmp q k ≡ true) × (q ≡ k)) ⊎ ((eq_by_cmp nat_cmp q k ≡ false) × (q ≢ k))
 number_tells q k = elim (eqb_tells q k) [ inl w ↦ inl (tied q k w.1, w.1) | inr w ↦ inr (apart q k w.1, w.1) ]
 
-pub or_false : (a b : Bool) → a || b ≡ false → (a ≡ false) × (b ≡ false)
-or_false true b h = absurd (cc)
-or_false false b h = (refl, h)
-
 pub list_any-append : {X : Type 0} (p : X → Bool) (xs ys : List X) → list_any p (xs ++ ys) ≡ false → (list_any p xs ≡ false) × (list_any p ys ≡ false)
 list_any-append p [] ys h = (refl, h)
 list_any-append p (x ∷ xs) ys h =
-    let parts = or_false (p x) _ h
+    let parts = or_parts (p x) _ h
     in let rest = list_any-append p xs ys parts.1
     in (ap (λ b. b || list_any p xs) parts.0 ∙ rest.0, rest.1)
 
@@ -41,7 +38,7 @@ list_any-append p (x ∷ xs) ys h =
 pub find_none_passes : {X Y : Type 0} (p : Y → Bool) (f : X → Y) (q : ℕ) (es : List (ℕ × X)) (x : X) → list_any p (map f (map (λ e. e.1) es)) ≡ false → find nat_cmp q es ≡ Some x → p (f x) ≡ false
 find_none_passes p f q [] x none found = absurd (none-some x found)
 find_none_passes p f q (e ∷ es) x none found =
-    let parts = or_false (p (f e.1)) _ none
+    let parts = or_parts (p (f e.1)) _ none
     in elim (number_tells q e.0) [
       | inl w ↦ ap (λ v. p (f v)) (sym (same_Some e.1 x (sym (ap (λ b. cond b (Some e.1) (find nat_cmp q es)) w.0) ∙ found))) ∙ parts.0
       | inr w ↦ find_none_passes p f q es x parts.1 (sym (ap (λ b. cond b (Some e.1) (find nat_cmp q es)) w.0) ∙ found)
@@ -60,12 +57,9 @@ none_passes s p none (ByHandle n) v h =
     let is = option_map_some _ (get s.handles n) v h
     in ap p (sym is.2) ∙ find_none_passes p _ n (entries s.handles) is.0 (list_any-append p _ _ none).1 (sym (get-entries s.handles n) ∙ is.1)
 
-pub true_false : true ≡ false → ⊥
-true_false e = cc
-
 -- if an object is not held, no hold is on it
 pub not_held : (s : Session) (key : ℕ) → is_held s key ≡ false → (hold : HoldNumber) (e : Bool) → hold_at s hold ≡ Some (key, e) → ⊥
-not_held s key none hold e h = true_false (sym (eq-eqb key key refl) ∙ none_passes s (λ v. nat_eq v.0 key) none hold (key, e) h)
+not_held s key none hold e h = true≢false (sym (eq-eqb key key refl) ∙ none_passes s (λ v. nat_eq v.0 key) none hold (key, e) h)
 
 -- if it is not held exclusively, each hold on it is shared
 pub not_exclusive : (s : Session) (key : ℕ) → is_held_exclusively s key ≡ false → (hold : HoldNumber) (e : Bool) → hold_at s hold ≡ Some (key, e) → e ≡ false
@@ -97,14 +91,14 @@ adds_alone s new number key exclusive adds free alone a b k e at_a at_b =
             | inr v ↦
                 let same_key : k ≡ key = ap (λ p. p.0) w.1
                 in let not_both = free b e (subst (λ n. hold_at s b ≡ Some (n, e)) same_key v)
-                in absurd (true_false (ap (λ p. p.1) w.1 ∙ not_both.0))
+                in absurd (true≢false (ap (λ p. p.1) w.1 ∙ not_both.0))
           ]
       | inr w ↦
           elim (adds.cases b (k, e) at_b) [
             | inl v ↦
                 let same_key : k ≡ key = ap (λ p. p.0) v.1
                 in let not_both = free a true (subst (λ n. hold_at s a ≡ Some (n, true)) same_key w)
-                in absurd (true_false not_both.1)
+                in absurd (true≢false not_both.1)
             | inr v ↦ alone a b k e w v
           ]
     ]

@@ -1,5 +1,6 @@
 -- What packets leave untouched in the image.
 use Rattle.std.proofs.Common.{◌≡◌, pos, true, inl, inr, sym, ◌∙◌, subst}
+use Rattle.std.proofs.lemmas.Bool.{true≢false}
 use Rattle.ados_model.specs.Tree.{Tree}
 use Rattle.ados_change.specs.NewBlocks.{KeepsRest}
 use Rattle.ados_change.proofs.Keeping.{same_keeps}
@@ -9,7 +10,6 @@ use Rattle.ados_model.specs.DiskDate.{sets_disk_date}
 use Rattle.ados_model.specs.Session.{HandlerState}
 use Rattle.ados_handler.specs.Gives.{LeavesImage}
 use Rattle.ados_handler.specs.steps.Methods.{answer_to}
-use Rattle.ados_handler.proofs.Holding.{true_false}
 
 module _ (t : Tree) (old : HandlerState) (packet : Packet) (new : HandlerState) (results : Results) where
   -- no byte changes
@@ -20,5 +20,5 @@ module _ (t : Tree) (old : HandlerState) (packet : Packet) (new : HandlerState) 
   pub leaves_rest : KeepsRest old.image new.image → results.res2 ≡ pos 0 → sets_disk_date t old.session packet ≡ true → LeavesImage t old packet new (answer_to packet results)
   leaves_rest keeps served sets = record {
     keeps = keeps;
-    rest = λ why. elim why [ inl refused ↦ absurd (refused served) | inr none ↦ absurd (true_false (sym sets ∙ none)) ];
+    rest = λ why. elim why [ inl refused ↦ absurd (refused served) | inr none ↦ absurd (true≢false (sym sets ∙ none)) ];
   }

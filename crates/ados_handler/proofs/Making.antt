@@ -2,7 +2,7 @@
 use Rattle.std.proofs.Common.{◌≡◌, ◌≢◌, ℕ, inl, inr, Bool, true, false, cond, nat_lt, ◌==◌, List, [], ◌∷◌, length, Option, Some, None, Result, Ok, Err, IsSome, is_some, option_map, MatchOption, refl, sym, ap, ◌∙◌, subst, arith}
 use Rattle.std.specs.Prelude.{◌||◌}
 use Rattle.std.specs.Result.{result_err}
-use Rattle.std.proofs.lemmas.Bool.{cases_eq, false≢true, true≢false}
+use Rattle.std.proofs.lemmas.Bool.{cases_eq, false≢true, true≢false, not-false}
 use Rattle.ados_name.specs.declared.stamp.Date3.{Date3}
 use Rattle.ados_name.specs.Name.{IsName, front, last_name, steps}
 use Rattle.ados_name.specs.Path.{IsPathText}
@@ -29,7 +29,7 @@ use Rattle.ados_handler.specs.Keeps.{KeepsProper}
 use Rattle.ados_handler.proofs.Holding.{IsFree, not_in_use, not_held, proper_with_handle, proper_with_lock}
 use Rattle.ados_handler.proofs.Walked.{no_error, start_is_key, walk_key}
 use Rattle.ados_volume.proofs.Walking.{child_is_key}
-use Rattle.ados_handler.proofs.Reading.{from_not, IsProperAfter, same_after, by_success}
+use Rattle.ados_handler.proofs.Reading.{IsProperAfter, same_after, by_success}
 use Rattle.ados_handler.proofs.Carrying.{Carried, carried_beside, carried_changed, carried_new, carried_on, carried_session}
 use Rattle.ados_handler.proofs.Named.{last_is_name}
 use Rattle.ados_handler.proofs.Rewriting.{file_node, rewritten_proper, rewritten_here, rewritten_is_file, rewritten_other}
@@ -144,7 +144,7 @@ can_make t there is none = record { directory = is_directory t there.0 is.node i
 pub create_dir_keeps : (lock : ℕ) (path : List ℕ) → IsPathText path → KeepsProper (CreateDir lock path)
 create_dir_keeps lock path valid = by_success (CreateDir lock path) (λ t s now result proper session none w.
     let no = none_refuses (refuse DeviceNotMounted s.died ∷ refusals t s (CreateDir lock path)) none in
-    let is = spot_is t proper s session lock path valid (from_not (is_lock s lock) (not_refused InvalidLock _ no.1.0)) no.1.1.0 in
+    let is = spot_is t proper s session lock path valid (not-false (is_lock s lock) (not_refused InvalidLock _ no.1.0)) no.1.1.0 in
     let new = none_there (standing t s lock path) (not_refused ObjectExists _ no.1.1.1.0) in
     made_lock t s proper session now (spot_directory t s lock path) w.0 (spot_name t s lock path) (Directory []) (can_make t (spot t s lock path) is new) w.1 refl true result w.2)
 
@@ -155,7 +155,7 @@ makes_file t s now result proper session there is none exclusive w =
 pub find_update_keeps : (lock : ℕ) (path : List ℕ) → IsPathText path → KeepsProper (FindUpdate lock path)
 find_update_keeps lock path valid = by_success (FindUpdate lock path) (λ t s now result proper session none w.
     let no = none_refuses (refuse DeviceNotMounted s.died ∷ refusals t s (FindUpdate lock path)) none in
-    let is = spot_is t proper s session lock path valid (from_not (is_lock s lock) (not_refused InvalidLock _ no.1.0)) no.1.1.0 in
+    let is = spot_is t proper s session lock path valid (not-false (is_lock s lock) (not_refused InvalidLock _ no.1.0)) no.1.1.0 in
     go t s now result proper session (spot t s lock path) is (standing t s lock path) refl (not_refused ObjectWrongType _ no.1.1.1.0) (not_refused ObjectInUse _ no.1.1.1.1.0) w)
   where
     go : (t : Tree) (s : Session) (now : Date3) (result : After) → Proper t → IsProperSession t s → (there : ℕ × List ℕ) → IsSpot t there → (o : Option ℕ) → child_of t there.0 there.1 ≡ o
@@ -163,12 +163,12 @@ find_update_keeps lock path valid = by_success (FindUpdate lock path) (λ t s no
         → MatchOption o (MakesFile t s there.0 there.1 false now result) (λ key. GivesHandle t s key false result) → IsProperAfter result
     go t s now result proper session there is None e type free w = makes_file t s now result proper session there is e false w
     go t s now result proper session there is (Some key) e type free w =
-        same_after result _ w.2 (proper, proper_with_handle t s session w.0 key false (child_is_key t proper there.0 there.1 key e) (from_not (is_file t key) type) (not_in_use s key false free))
+        same_after result _ w.2 (proper, proper_with_handle t s session w.0 key false (child_is_key t proper there.0 there.1 key e) (not-false (is_file t key) type) (not_in_use s key false free))
 
 pub find_output_keeps : (lock : ℕ) (path : List ℕ) → IsPathText path → KeepsProper (FindOutput lock path)
 find_output_keeps lock path valid = by_success (FindOutput lock path) (λ t s now result proper session none w.
     let no = none_refuses (refuse DeviceNotMounted s.died ∷ refusals t s (FindOutput lock path)) none in
-    let is = spot_is t proper s session lock path valid (from_not (is_lock s lock) (not_refused InvalidLock _ no.1.0)) no.1.1.0 in
+    let is = spot_is t proper s session lock path valid (not-false (is_lock s lock) (not_refused InvalidLock _ no.1.0)) no.1.1.0 in
     go t s now result proper session (spot t s lock path) is (standing t s lock path) refl (not_refused ObjectWrongType _ no.1.1.1.0) (not_refused ObjectInUse _ no.1.1.1.1.0) w)
   where
     emptied : (t : Tree) (s : Session) (now : Date3) (result : After) → Proper t → IsProperSession t s → (key : ℕ) → is_file t key ≡ true → is_in_use s key true ≡ false → GivesHandle (rewritten now key [] t) s key true result → IsProperAfter result
@@ -186,4 +186,4 @@ find_output_keeps lock path valid = by_success (FindOutput lock path) (λ t s no
         → is_directory_there t o ≡ false → is_some_and (λ key. is_in_use s key true) o ≡ false
         → MatchOption o (MakesFile t s there.0 there.1 true now result) (λ key. GivesHandle (rewritten now key [] t) s key true result) → IsProperAfter result
     go t s now result proper session there is None e type free w = makes_file t s now result proper session there is e true w
-    go t s now result proper session there is (Some key) e type free w = emptied t s now result proper session key (from_not (is_file t key) type) free w
+    go t s now result proper session there is (Some key) e type free w = emptied t s now result proper session key (not-false (is_file t key) type) free w

@@ -1,7 +1,7 @@
 -- The meaning of a packet if none of its refusals holds, and soundness of the handler after it.
-use Rattle.std.proofs.Common.{◌≡◌, ◌≢◌, ℕ, pos, Bool, true, false, cond, not, ◌==◌, List, [], ◌∷◌, Option, None, Result, Ok, Err, MatchOption, option_map, inl, refl, sym, ap, ◌∙◌, subst}
+use Rattle.std.proofs.Common.{◌≡◌, ◌≢◌, ℕ, pos, Bool, true, false, cond, not, ◌==◌, List, [], ◌∷◌, Option, Some, None, Result, Ok, Err, MatchOption, option_map, inl, inr, refl, sym, ap, ◌∙◌, subst}
 use Rattle.std.specs.Result.{result_err, result_unwrap_or}
-use Rattle.std.specs.Prelude.{length}
+use Rattle.std.specs.Prelude.{IsTrue, length}
 use Rattle.std.proofs.lemmas.Bool.{le-leb, ne_eqb}
 use Rattle.ados_name.specs.declared.stamp.Date3.{Date3}
 use Rattle.ados_name.specs.Name.{IsComment}
@@ -10,8 +10,8 @@ use Rattle.ados_model.specs.Edits.{with_comment, with_date, with_protection}
 use Rattle.ados_model.specs.declared.dos_error.WalkFault.{WalkFault}
 use Rattle.ados_model.proofs.OneTree.{one_tree}
 use Rattle.ados_model.specs.declared.dos_error.DosError.{DosError}
-use Rattle.ados_model.specs.declared.dos_error.DosError.TheVariants.{CommentTooBig, DeviceNotMounted, InvalidLock, ObjectWrongType}
-use Rattle.ados_model.specs.Packet.{dos_true}
+use Rattle.ados_model.specs.declared.dos_error.DosError.TheVariants.{CommentTooBig, DeviceNotMounted, InvalidLock, NoFreeStore, ObjectWrongType}
+use Rattle.ados_model.specs.Packet.{dos_true, error_number, failure_of, handed_back}
 use Rattle.ados_model.specs.declared.packet.Packet.{Packet}
 use Rattle.ados_model.specs.declared.packet.Packet.TheVariants.{SetComment, SetDate, SetProtect}
 use Rattle.ados_model.specs.declared.results.Results.{Results}
@@ -21,12 +21,18 @@ use Rattle.ados_model.specs.Session.{Session, is_lock, HandlerState}
 use Rattle.ados_model.specs.Objects.{found, object, walk_error}
 use Rattle.ados_model.specs.Resolved.{walk_result, walked}
 use Rattle.ados_model.specs.Refusals.{is_comment, first_refusal, refusal, refusals, refuse}
-use Rattle.ados_model.specs.Success.{after}
-use Rattle.ados_model.specs.Meaning.{IsRefused, IsServed, ServedOrNoMemory}
+use Rattle.ados_model.specs.Success.{Success, after}
+use Rattle.ados_model.specs.DiskDate.{sets_disk_date}
+use Rattle.ados_model.specs.Stands.{Stands}
+use Rattle.ados_model.specs.declared.answer.Answer.{Answer}
+use Rattle.ados_model.specs.Meaning.{IsRefused, IsServed, ServedOrNoMemory, makes_hold}
 use Rattle.ados_handler.specs.ProperSession.{IsProperSession}
 use Rattle.ados_handler.specs.Keeps.{KeepsProper}
-use Rattle.ados_handler.specs.Gives.{IsSoundHandler}
+use Rattle.ados_change.specs.NewBlocks.{KeepsRest}
+use Rattle.ados_volume.specs.Shown.{Shown}
+use Rattle.ados_handler.specs.Gives.{HandlerGives, IsSoundHandler}
 use Rattle.ados_handler.specs.steps.Methods.{MethodGives, MethodMeans, answer_to}
+use Rattle.ados_handler.proofs.Leaving.{leaves_all, leaves_rest}
 
 -- the results of success, and of success with a number
 abbrev pub done : Body → Results
@@ -36,10 +42,11 @@ abbrev pub counted : ℕ → Body → Results
 counted count body = record { res1 = pos count; res2 = pos 0; body = body }
 
 -- a sound handler is still sound after it did what a packet means
-pub sound_after : (old new : HandlerState) (packet : Packet) (now : Date3) (results : Results) → KeepsProper packet → IsSoundHandler old.image old.session → MethodGives old packet now new results → IsSoundHandler new.image new.session
-sound_after old new packet now results keeps sound gives =
-    let same = one_tree old.image sound.tree gives.old_tree sound.stands gives.stood in
-    let kept = keeps gives.old_tree gives.new_tree old.session new.session now (answer_to packet results) gives.stood.proper (subst (λ (t : Tree). IsProperSession t old.session) same sound.holds) gives.means in
+pub sound_on : {old opened new : HandlerState} {packet : Packet} {now : Date3} {answer : Answer} → opened ≡ old → HandlerGives old packet now new answer → KeepsProper packet → IsSoundHandler opened.image opened.session → IsSoundHandler new.image new.session
+sound_on {old} {opened} {new} {packet} {now} {answer} same gives keeps opened_sound =
+    let sound : IsSoundHandler old.image old.session = subst (λ (h : HandlerState). IsSoundHandler h.image h.session) same opened_sound in
+    let one = one_tree old.image sound.tree gives.old_tree sound.stands gives.stood in
+    let kept = keeps gives.old_tree gives.new_tree old.session new.session now answer gives.stood.proper (subst (λ (t : Tree). IsProperSession t old.session) one sound.holds) gives.means in
     record { tree = gives.new_tree; stands = gives.stands; holds = kept.1 }
 
 -- a walk to an object is not refused
@@ -62,34 +69,86 @@ marked_on t s lock path key alive walk other =
     let not_root : (object t s lock path == root t) ≡ false = ap (λ (k : ℕ). k == root t) w.1 ∙ ne_eqb key (root t) other in
     (ap (λ (b : Bool). first_refusal (refuse DeviceNotMounted b ∷ row)) alive ∙ w.0 ∙ ap (λ (b : Bool). first_refusal (refuse ObjectWrongType b ∷ [])) not_root, w.1)
 
+-- the meaning of a packet by its first refusal
+pub meaning_by : (t u : Tree) (s new : Session) (packet : Packet) (now : Date3) (results : Results) (o : Option DosError) → refusal t s packet ≡ o
+    → MatchOption o (ServedOrNoMemory t s packet now u new (answer_to packet results)) (λ error. IsRefused t s packet error u new (answer_to packet results)) → MethodMeans t s packet now u new results
+meaning_by t u s new packet now results o is means =
+    subst (λ (o : Option DosError). MatchOption o (ServedOrNoMemory t s packet now u new (answer_to packet results)) (λ error. IsRefused t s packet error u new (answer_to packet results))) (sym is) means
+
 -- a packet that no refusal excludes means what it does when served
 pub served_means : (t u : Tree) (s new : Session) (packet : Packet) (now : Date3) (results : Results) → refusal t s packet ≡ None → IsServed t s packet now u new (answer_to packet results) → MethodMeans t s packet now u new results
-served_means t u s new packet now results none served =
-    subst (λ (o : Option DosError). MatchOption o (ServedOrNoMemory t s packet now u new (answer_to packet results)) (λ code. IsRefused t s packet code u new (answer_to packet results))) (sym none) (inl served)
+served_means t u s new packet now results none served = meaning_by t u s new packet now results None none (inl served)
 
-module _ (t : Tree) (s new : Session) (lock : ℕ) (path : List ℕ) (now : Date3) (key : ℕ) (alive : s.died ≡ false) (walk : walked t s lock path ≡ Ok key) (other : key ≢ root t) (same : new ≡ s) where
-  pub set_protect_means : (bits : ℕ) → MethodMeans t s (SetProtect lock path bits) now (with_protection now key bits t) new (done Empty)
-  set_protect_means bits =
+-- ---- packets that change nothing
+
+module _ (old new : HandlerState) (packet : Packet) (now : Date3) (results : Results) (t : Tree) where
+  pub stays_gives : Stands old.image t → new ≡ old → MethodMeans t old.session packet now t new.session results → MethodGives old packet now new results
+  stays_gives stood same means = record {
+    old_tree = t;
+    new_tree = t;
+    stood = stood;
+    stands = subst (λ (h : HandlerState). Stands h.image t) (sym same) stood;
+    means = means;
+    leaves = leaves_all t old packet new results (ap (λ (h : HandlerState). h.image) same);
+    validated = ap (λ (h : HandlerState). h.was_validated) same;
+  }
+
+  tells : (error : DosError) → new ≡ old → results ≡ record { res1 = failure_of packet; res2 = pos (error_number error); body = handed_back packet } → IsRefused t old.session packet error t new.session (answer_to packet results)
+  tells error same told = record { tree = refl; session = ap (λ (h : HandlerState). h.session) same; answered = ap (answer_to packet) told }
+
+  -- a packet that is refused returns the error
+  pub refused_gives : (error : DosError) → Stands old.image t → new ≡ old → refusal t old.session packet ≡ Some error
+      → results ≡ record { res1 = failure_of packet; res2 = pos (error_number error); body = handed_back packet } → MethodGives old packet now new results
+  refused_gives error stood same is told = stays_gives stood same (meaning_by t t old.session new.session packet now results (Some error) is (tells error same told))
+
+  -- so does a packet without memory for its lock or handle
+  pub no_memory_gives : Stands old.image t → new ≡ old → refusal t old.session packet ≡ None → IsTrue (makes_hold t old.session packet)
+      → results ≡ record { res1 = failure_of packet; res2 = pos (error_number NoFreeStore); body = handed_back packet } → MethodGives old packet now new results
+  no_memory_gives stood same none makes told = stays_gives stood same (meaning_by t t old.session new.session packet now results None none (inr (makes, tells NoFreeStore same told)))
+
+-- ---- packets that change the tree and no hold, and return no number and no body
+
+-- no refusal excludes it, and this is the new tree
+pub record IsEdit (t u : Tree) (s : Session) (packet : Packet) (now : Date3) : Type 0 where
+  pub none : refusal t s packet ≡ None
+  pub success : Success t s packet now (after u s dos_true Empty)
+
+-- the volume made the change
+pub edit_gives : (old opened : HandlerState) → opened ≡ old → {t u : Tree} {packet : Packet} {now : Date3} → IsEdit t u old.session packet now → sets_disk_date t old.session packet ≡ true
+    → Stands opened.image t → (new : Shown) → Stands new.image u → KeepsRest opened.image new.image → new.was_validated ≡ opened.was_validated → (results : Results) → results ≡ done Empty
+    → MethodGives old packet now (record { image = new.image; was_validated = new.was_validated; session = opened.session }) results
+edit_gives old opened same {t} {u} {packet} {now} edit sets stood new stands keeps validated results told =
+    let end : Session → HandlerState = λ s. record { image = new.image; was_validated = new.was_validated; session = s } in
+    let given : MethodGives old packet now (end old.session) (done Empty) = record {
+      old_tree = t;
+      new_tree = u;
+      stood = subst (λ (h : HandlerState). Stands h.image t) same stood;
+      stands = stands;
+      means = served_means t u old.session old.session packet now (done Empty) edit.none (record { success = edit.success; action = refl; res2 = refl });
+      leaves = leaves_rest t old packet (end old.session) (done Empty) (subst (λ (h : HandlerState). KeepsRest h.image new.image) same keeps) refl sets;
+      validated = validated ∙ ap (λ (h : HandlerState). h.was_validated) same;
+    } in
+    subst (λ (r : Results). MethodGives old packet now (end opened.session) r) (sym told) (subst (λ (h : HandlerState). MethodGives old packet now (end h.session) (done Empty)) (sym same) given)
+
+module _ (t : Tree) (s : Session) (lock : ℕ) (path : List ℕ) (now : Date3) (key : ℕ) (alive : s.died ≡ false) (walk : walked t s lock path ≡ Ok key) (other : key ≢ root t) where
+  pub set_protect_edits : (bits : ℕ) → IsEdit t (with_protection now key bits t) s (SetProtect lock path bits) now
+  set_protect_edits bits =
       let m = marked_on t s lock path key alive walk other in
-      served_means t (with_protection now key bits t) s new (SetProtect lock path bits) now (done Empty) m.0
-      (record { success = λ i. after (with_protection now (sym m.1 i) bits t) (same i) dos_true Empty; action = refl; res2 = refl })
+      record { none = m.0; success = ap (λ (k : ℕ). after (with_protection now k bits t) s dos_true Empty) (sym m.1) }
 
-  pub set_date_means : (date : Date3) → MethodMeans t s (SetDate lock path date) now (with_date now key date t) new (done Empty)
-  set_date_means date =
+  pub set_date_edits : (date : Date3) → IsEdit t (with_date now key date t) s (SetDate lock path date) now
+  set_date_edits date =
       let m = marked_on t s lock path key alive walk other in
-      served_means t (with_date now key date t) s new (SetDate lock path date) now (done Empty) m.0
-      (record { success = λ i. after (with_date now (sym m.1 i) date t) (same i) dos_true Empty; action = refl; res2 = refl })
+      record { none = m.0; success = ap (λ (k : ℕ). after (with_date now k date t) s dos_true Empty) (sym m.1) }
 
--- SET_COMMENT with a valid comment
-module _ (t : Tree) (s : Session) (lock : ℕ) (path comment : List ℕ) (now : Date3) (key : ℕ) (alive : s.died ≡ false) (walk : walked t s lock path ≡ Ok key) where
-  pub set_comment_means : (new : Session) → key ≢ root t → new ≡ s → IsComment comment → MethodMeans t s (SetComment lock path comment) now (with_comment now key comment t) new (done Empty)
-  set_comment_means new other same is =
+  pub set_comment_edits : (comment : List ℕ) → IsComment comment → IsEdit t (with_comment now key comment t) s (SetComment lock path comment) now
+  set_comment_edits comment is =
       let last : List (Option DosError) = refuse ObjectWrongType (object t s lock path == root t) ∷ [] in
       let w = walked_on t s lock path key (refuse CommentTooBig (not (is_comment comment)) ∷ last) walk in
       let away : (object t s lock path == root t) ≡ false = ap (λ (k : ℕ). k == root t) w.1 ∙ ne_eqb key (root t) other in
       let fits : is_comment comment ≡ true = le-leb (length comment) 79 is.short in
-      let none : refusal t s (SetComment lock path comment) ≡ None =
-      ap (λ (d : Bool). first_refusal (refuse DeviceNotMounted d ∷ refusals t s (SetComment lock path comment))) alive ∙ w.0
-      ∙ ap (λ (c : Bool). first_refusal (refuse CommentTooBig (not c) ∷ last)) fits ∙ ap (λ (b : Bool). first_refusal (refuse ObjectWrongType b ∷ [])) away in
-      served_means t (with_comment now key comment t) s new (SetComment lock path comment) now (done Empty) none
-      (record { success = λ i. after (with_comment now (sym w.1 i) comment t) (same i) dos_true Empty; action = refl; res2 = refl })
+      record {
+        none = ap (λ (d : Bool). first_refusal (refuse DeviceNotMounted d ∷ refusals t s (SetComment lock path comment))) alive ∙ w.0
+            ∙ ap (λ (c : Bool). first_refusal (refuse CommentTooBig (not c) ∷ last)) fits ∙ ap (λ (b : Bool). first_refusal (refuse ObjectWrongType b ∷ [])) away;
+        success = ap (λ (k : ℕ). after (with_comment now k comment t) s dos_true Empty) (sym w.1);
+      }

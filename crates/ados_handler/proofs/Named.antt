@@ -6,7 +6,7 @@ use Rattle.std.proofs.lemmas.List.Folds.{list_any_none, list_any_at}
 use Rattle.std.proofs.lemmas.List.Elements.{All-drop, All-from_get_or, All-get_or}
 use Rattle.std.proofs.lemmas.List.Sums.{suffix_len_is}
 use Rattle.std.proofs.Common.{◌⊎◌, inl, inr}
-use Rattle.std.proofs.lemmas.Bool.{cases_eq, eq-eqb, false_from_ne_true, true≢false, leb-true}
+use Rattle.std.proofs.lemmas.Bool.{cases_eq, eq-eqb, false_from_ne_true, true≢false, leb-true, not-true}
 use Rattle.ados_name.specs.Name.{is_separator, IsComment, IsName, IsNameByte, last_name}
 use Rattle.ados_name.specs.Path.{IsPathText}
 use Rattle.ados_model.specs.Refusals.{is_name, is_comment}
@@ -57,10 +57,6 @@ last_place p xs (suc n) l passes = go (p (get_or xs n 0)) refl (λ h. last_place
         at k m inside (inl same) = ap (λ (i : ℕ). p (get_or xs i 0)) same ∙ e
         at k m inside (inr other) = passes k (omega (arith, m, other)) inside
 
-not_true : (b : Bool) → not b ≡ true → b ≡ false
-not_true false h = refl
-not_true true h = absurd (true≢false (sym h))
-
 pub last_name_plain : (path : List ℕ) → list_any is_separator (last_name path) ≡ false
 unfolding last_name
 last_name_plain path =
@@ -70,7 +66,7 @@ last_name_plain path =
     let here : length path - suffix_len test path ≡ l.place = omega (arith, count, l.within) in
     subst (λ (n : ℕ). list_any is_separator (drop n path) ≡ false) (sym here)
     (list_any_none is_separator (drop l.place path) (All-from_get_or (λ c. is_separator c ≡ false) (drop l.place path) 0
-    (λ k inside. rw get_or-drop (not_true _ (l.passes (l.place + k) (omega arith) (let total = length-drop l.place path in omega (arith, inside, total, l.within)))))))
+    (λ k inside. rw get_or-drop (not-true _ (l.passes (l.place + k) (omega arith) (let total = length-drop l.place path in omega (arith, inside, total, l.within)))))))
 
 pub last_name_bytes : (path : List ℕ) → IsPathText path → All (λ c. c < 256) (last_name path)
 unfolding last_name

@@ -26,8 +26,7 @@ use Rattle.ados_handler.specs.ProperSession.{IsProperSession}
 use Rattle.ados_handler.specs.steps.Methods.{MethodGives, MethodMeans, answer_to}
 use Rattle.ados_handler.specs.steps.Opening.{BringsHandle, IsOpened, IsUnopened, Opens, open_refusals}
 use Rattle.ados_handler.proofs.Holding.{not_in_use, proper_with_handle}
-use Rattle.ados_handler.proofs.Leaving.{leaves_all}
-use Rattle.ados_handler.proofs.Meant.{walked_on}
+use Rattle.ados_handler.proofs.Meant.{walked_on, meaning_by, stays_gives}
 
 -- ---- the meaning of a packet that opens a file
 
@@ -52,22 +51,11 @@ module _ (packet : Packet) (now : Date3) (rows : Tree → List (Option DosError)
       }
 
       meaning : (u : Tree) (r : Option DosError) → first_refusal (rows o.tree) ≡ r → MatchOption r (ServedOrNoMemory o.tree old.session packet now u new.session (answer_to packet results)) (λ code. IsRefused o.tree old.session packet code u new.session (answer_to packet results)) → MethodMeans o.tree old.session packet now u new.session results
-      meaning u r e m = subst (λ (r : Option DosError). MatchOption r (ServedOrNoMemory o.tree old.session packet now u new.session (answer_to packet results)) (λ code. IsRefused o.tree old.session packet code u new.session (answer_to packet results))) (sym (is.row ∙ e)) m
-
-      unopened : (code : DosError) → IsUnopened code old new results → MethodMeans o.tree old.session packet now o.tree new.session results → MethodGives old packet now new results
-      unopened code u means = record {
-        old_tree = o.tree;
-        new_tree = o.tree;
-        stood = o.stood;
-        stands = subst (λ (h : HandlerState). Stands h.image o.tree) (sym u.same) o.stood;
-        means = means;
-        leaves = leaves_all o.tree old packet new results (ap (λ (h : HandlerState). h.image) u.same);
-        validated = ap (λ (h : HandlerState). h.was_validated) u.same;
-      }
+      meaning u r e m = meaning_by o.tree u old.session new.session packet now results r (is.row ∙ e) m
 
       go : (r : Option DosError) → first_refusal (rows o.tree) ≡ r → MatchOption r (IsOpened (success o.tree) old new results ⊎ IsUnopened NoFreeStore old new results) (λ code. IsUnopened code old new results) → MethodGives old packet now new results
-      go (Some code) e u = unopened code u (meaning o.tree (Some code) e (refused code u))
-      go None e (inr u) = unopened NoFreeStore u (meaning o.tree None e (inr (is.makes, refused NoFreeStore u)))
+      go (Some code) e u = stays_gives old new packet now results o.tree o.stood u.same (meaning o.tree (Some code) e (refused code u))
+      go None e (inr u) = stays_gives old new packet now results o.tree o.stood u.same (meaning o.tree None e (inr (is.makes, refused NoFreeStore u)))
       go None e (inl d) = record {
         old_tree = o.tree;
         new_tree = d.tree;

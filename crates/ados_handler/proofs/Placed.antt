@@ -1,19 +1,15 @@
--- The places of packets, and the meaning of a refused packet.
-use Rattle.std.proofs.Common.{◌≡◌, ℕ, Bool, true, false, cond, not, List, [], ◌∷◌, Option, Some, MatchOption, Result, Ok, Err, option_map, refl, sym, ap, ◌∙◌, subst}
+-- The places of packets.
+use Rattle.std.proofs.Common.{◌≡◌, ℕ, Bool, true, false, cond, not, List, [], ◌∷◌, Option, Some, Result, Ok, Err, option_map, refl, ap, ◌∙◌}
 use Rattle.std.specs.Result.{result_err, result_unwrap_or}
-use Rattle.ados_name.specs.declared.stamp.Date3.{Date3}
 use Rattle.ados_model.specs.Tree.{Tree}
 use Rattle.ados_model.specs.declared.dos_error.PlaceFault.{PlaceFault}
 use Rattle.ados_model.specs.declared.dos_error.DosError.{DosError}
 use Rattle.ados_model.specs.declared.dos_error.DosError.TheVariants.{DeviceNotMounted, InvalidLock}
 use Rattle.ados_model.specs.declared.packet.Packet.{Packet}
-use Rattle.ados_model.specs.declared.results.Results.{Results}
 use Rattle.ados_model.specs.Session.{Session, is_lock}
 use Rattle.ados_model.specs.Objects.{place_error, placed, spot}
 use Rattle.ados_model.specs.Resolved.{place_result, placed_at}
 use Rattle.ados_model.specs.Refusals.{first_refusal, refusal, refusals, refuse}
-use Rattle.ados_model.specs.Meaning.{IsRefused, ServedOrNoMemory}
-use Rattle.ados_handler.specs.steps.Methods.{MethodMeans, answer_to}
 
 -- a path with a place is not refused
 pub placed_on : (t : Tree) (s : Session) (lock : ℕ) (path : List ℕ) (there : ℕ × List ℕ) (more : List (Option DosError)) → placed_at t s lock path ≡ Ok there
@@ -38,8 +34,3 @@ place_refused t s packet lock path error rest row alive e =
     go true (Ok p) e = absurd (cc e)
     go true (Err fault) e = let is : place_error fault ≡ error = cc e in ap Some is
     go false r e = let is : InvalidLock ≡ error = cc e in ap Some is
-
--- a packet with a refusal that holds is refused
-pub refused_means : (t : Tree) (s new : Session) (packet : Packet) (now : Date3) (results : Results) (code : DosError) → refusal t s packet ≡ Some code → IsRefused t s packet code t new (answer_to packet results) → MethodMeans t s packet now t new results
-refused_means t s new packet now results code some refused =
-    subst (λ (o : Option DosError). MatchOption o (ServedOrNoMemory t s packet now t new (answer_to packet results)) (λ code. IsRefused t s packet code t new (answer_to packet results))) (sym some) refused

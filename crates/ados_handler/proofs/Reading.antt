@@ -1,10 +1,10 @@
 -- Packets that change no tree keep tree and session proper.
 use Rattle.std.proofs.Common.{◌≡◌, ℕ, ◌+◌, ◌≤◌, ℤ, pos, negsuc, Bool, true, false, cond, not, List, ◌∷◌, length, take, drop, nat_eq, Some, None, refl, sym, ap, inl, inr, arith, subst, MatchOption, length-take, length-drop}
-use Rattle.std.specs.Prelude.{Option, ◌&&◌, ◌||◌, is_some, IsSome, int_le, option_map}
+use Rattle.std.specs.Prelude.{Option, ◌||◌, is_some, IsSome, int_le, option_map}
 use Rattle.std.specs.Bool.{MatchBool}
 use Rattle.std.specs.Option.{option_map_or}
 use Rattle.std.specs.FinMap.{get, insert}
-use Rattle.std.proofs.lemmas.Bool.{leb-true}
+use Rattle.std.proofs.lemmas.Bool.{leb-true, true≢false, not-false, and_parts}
 use Rattle.ados_name.specs.declared.stamp.Date3.{Date3}
 use Rattle.ados_model.specs.Tree.{Content, Tree, Proper, root, bytes_in, bytes_of, content_at, parent_of, size_of}
 use Rattle.ados_model.specs.Parts.{size_in}
@@ -28,7 +28,7 @@ use Rattle.ados_volume.proofs.Refusing.{none_refuses, not_refused}
 use Rattle.ados_handler.specs.ProperSession.{HoldNumber, hold_at, IsProperSession}
 use Rattle.ados_handler.specs.ProperSession.HoldNumber.{ByLock, ByHandle}
 use Rattle.ados_handler.specs.Keeps.{KeepsProper}
-use Rattle.ados_handler.proofs.Holding.{true_false, proper_with_lock, proper_with_handle, proper_without_lock, proper_without_handle, proper_moved, shared_free, IsFree, not_in_use}
+use Rattle.ados_handler.proofs.Holding.{proper_with_lock, proper_with_handle, proper_without_lock, proper_without_handle, proper_moved, shared_free, IsFree, not_in_use}
 use Rattle.ados_handler.proofs.Walked.{found_is_key, no_error}
 use Rattle.ados_volume.proofs.Walking.{parent_is_key}
 
@@ -37,14 +37,6 @@ pub size_is : (c : Option Content) → length (bytes_in c) ≡ size_in c
 size_is None = refl
 size_is (Some (Directory keys)) = refl
 size_is (Some (File bytes)) = refl
-
-pub and_right : (a b : Bool) → a && b ≡ true → b ≡ true
-and_right true b h = h
-and_right false b h = absurd (true_false (sym h))
-
-pub from_not : (b : Bool) → not b ≡ false → b ≡ true
-from_not true h = refl
-from_not false h = absurd (true_false h)
 
 -- the state after a packet is proper
 abbrev pub IsProperAfter : After → Type 0
@@ -103,25 +95,25 @@ module _ (t : Tree) (s : Session) (now : Date3) (result : After) (proper : Prope
   pub copy : (lock : ℕ) → refusal t s (CopyDir lock) ≡ None → Success t s (CopyDir lock) now result → IsProperAfter result
   copy lock none w =
       let no = none_refuses (refuse DeviceNotMounted s.died ∷ refusals t s (CopyDir lock)) none
-      in go (nat_eq lock 0) (get s.locks lock) refl (from_not (is_lock s lock) (not_refused InvalidLock _ no.1.0)) (not_refused ObjectInUse _ no.1.1.0) w
+      in go (nat_eq lock 0) (get s.locks lock) refl (not-false (is_lock s lock) (not_refused InvalidLock _ no.1.0)) (not_refused ObjectInUse _ no.1.1.0) w
     where
       go : (b : Bool) (o : Option LockHold) → get s.locks lock ≡ o → b || is_some o ≡ true → cond b false (option_map_or (λ l. l.exclusive) o false) ≡ false
           → MatchBool b (result ≡ after t s (pos 0) Empty) (GivesLock t s (cond b (root t) (option_map_or (λ l. l.key) o 0)) false result) → IsProperAfter result
       go true o e held shared v = same (pos 0) Empty v
-      go false None e held shared v = absurd (true_false (sym held))
+      go false None e held shared v = absurd (true≢false (sym held))
       go false (Some l) e held shared v = gives_lock l.key false (session.on_keys (ByLock lock) l.key l.exclusive (ap (option_map (λ l. (l.key, l.exclusive))) e)) (shared_free t s session lock l e shared) v
 
   pub locate : (lock : ℕ) (path : List ℕ) (mode : ℤ) → refusal t s (LocateObject lock path mode) ≡ None → Success t s (LocateObject lock path mode) now result → IsProperAfter result
   locate lock path mode none w =
       let no = none_refuses (refuse DeviceNotMounted s.died ∷ refusals t s (LocateObject lock path mode)) none
-      in let held = from_not (is_lock s lock) (not_refused InvalidLock _ no.1.0)
+      in let held = not-false (is_lock s lock) (not_refused InvalidLock _ no.1.0)
       in gives_lock (object t s lock path) (is_exclusive_mode mode) (found_is_key t proper s session lock path _ held (no_error walk_error (found t s lock path) 0 no.1.1.0)) (not_in_use s _ _ (not_refused ObjectInUse _ no.1.1.1.0)) w
 
   pub find_input : (lock : ℕ) (path : List ℕ) → refusal t s (FindInput lock path) ≡ None → Success t s (FindInput lock path) now result → IsProperAfter result
   find_input lock path none w =
       let no = none_refuses (refuse DeviceNotMounted s.died ∷ refusals t s (FindInput lock path)) none
-      in let held = from_not (is_lock s lock) (not_refused InvalidLock _ no.1.0)
-      in gives_handle (object t s lock path) false (found_is_key t proper s session lock path _ held (no_error walk_error (found t s lock path) 0 no.1.1.0)) (from_not _ (not_refused ObjectWrongType _ no.1.1.1.0)) (not_in_use s _ _ (not_refused ObjectInUse _ no.1.1.1.1.0)) w
+      in let held = not-false (is_lock s lock) (not_refused InvalidLock _ no.1.0)
+      in gives_handle (object t s lock path) false (found_is_key t proper s session lock path _ held (no_error walk_error (found t s lock path) 0 no.1.1.0)) (not-false _ (not_refused ObjectWrongType _ no.1.1.1.0)) (not_in_use s _ _ (not_refused ObjectInUse _ no.1.1.1.1.0)) w
 
   pub parent : (lock : ℕ) → refusal t s (Parent lock) ≡ None → Success t s (Parent lock) now result → IsProperAfter result
   parent lock none w =
@@ -168,5 +160,5 @@ module _ (t : Tree) (s : Session) (now : Date3) (result : After) (proper : Prope
     where
       in_range : (size : ℕ) (target : Option ℤ) → is_bad_target size target ≡ false → target_number target ≤ size
       in_range size None h = omega arith
-      in_range size (Some (pos n)) h = leb-true n size (and_right (int_le (pos 0) (pos n)) (int_le (pos n) (pos size)) (from_not _ h))
-      in_range size (Some (negsuc n)) h = absurd (true_false (sym (from_not _ h)))
+      in_range size (Some (pos n)) h = leb-true n size (and_parts (int_le (pos 0) (pos n)) (int_le (pos n) (pos size)) (not-false _ h)).1
+      in_range size (Some (negsuc n)) h = absurd (true≢false (sym (not-false _ h)))

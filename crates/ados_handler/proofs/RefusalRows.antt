@@ -8,7 +8,9 @@ use Rattle.adf_block.specs.declared.layout.Format.TheVariants.{Ffs}
 use Rattle.ados_name.specs.Name.{steps, steps_along, last_name, front}
 use Rattle.ados_model.specs.Tree.{Content, Node, Tree}
 use Rattle.ados_model.specs.Tree.Content.{Directory, File}
+use Rattle.ados_model.specs.declared.dos_error.DosError.{DosError}
 use Rattle.ados_model.specs.declared.dos_error.DosError.TheVariants.{ActionNotKnown, CommentTooBig, DeleteProtected, DeviceNotMounted, DirectoryNotFound, InvalidComponentName, NoMoreEntries, ObjectExists, ObjectInUse, ObjectNotFound, ObjectWrongType}
+use Rattle.ados_model.specs.declared.packet.Packet.{Packet}
 use Rattle.ados_model.specs.declared.packet.Packet.TheVariants.{LocateObject, RenameDisk, DeleteObject, RenameObject, CreateDir, SetComment, ExamineNext, FindInput, FindOutput, Other}
 use Rattle.ados_model.specs.Session.{holds, opening_session}
 use Rattle.ados_model.specs.declared.holds.LockHold.{LockHold}
@@ -43,89 +45,45 @@ pub no_holds : holds opening_session ≡ []
 no_holds = ap₂ (λ (ls : List (ℕ × LockHold)) (hs : List (ℕ × HandleHold)). map (λ l. (l.key, l.exclusive)) (map (λ e. e.1) ls) ++ map (λ h. (h.key, h.exclusive)) (map (λ e. e.1) hs)) no_entries no_entries
 
 dead : refusal small (record opening_session { died = true }) (Other (pos 999)) ≡ Some DeviceNotMounted
-unfolding steps steps_along last_name front
 dead = refl
 
-unknown_action : refusal small opening_session (Other (pos 999)) ≡ Some ActionNotKnown
-unfolding steps steps_along last_name front
-unknown_action = refl
+-- packets, each with its refusal
+abbrev HaveRefusals : List (Packet × Option DosError) → Type 0
+HaveRefusals rows = map (λ row. refusal small opening_session row.0) rows ≡ map (λ row. row.1) rows
 
-missing_last : refusal small opening_session (LocateObject 0 (codes "x") (negsuc 1)) ≡ Some ObjectNotFound
+by_paths : HaveRefusals (
+    (Other (pos 999), Some ActionNotKnown)
+    -- a missing last name and a missing prefix, and a prefix through a file
+    ∷ (LocateObject 0 (codes "x") (negsuc 1), Some ObjectNotFound)
+    ∷ (LocateObject 0 (codes "x/y") (negsuc 1), Some DirectoryNotFound)
+    ∷ (LocateObject 0 (codes "f/y") (negsuc 1), Some ObjectWrongType)
+    ∷ (CreateDir 0 (codes "a/"), Some InvalidComponentName)
+    ∷ (CreateDir 0 (codes "x/y"), Some DirectoryNotFound)
+    ∷ (CreateDir 0 (codes "A"), Some ObjectExists)
+    ∷ (CreateDir 0 (codes "c"), None)
+    -- the root
+    ∷ (DeleteObject 0 [], Some ObjectWrongType)
+    ∷ (SetComment 0 [] (replicate 80 65), Some CommentTooBig)
+    ∷ (SetComment 0 [] (codes "abc"), Some ObjectWrongType)
+    ∷ (RenameDisk (codes "a/b"), Some InvalidComponentName)
+    -- the entry after no entry, after the last one and after the first one
+    ∷ (ExamineNext 0 9, Some ObjectNotFound)
+    ∷ (ExamineNext 0 3, Some NoMoreEntries)
+    ∷ (ExamineNext 0 4, None)
+    -- a move over another entry, and a directory as a file
+    ∷ (RenameObject 0 (codes "a") 0 (codes "B"), Some ObjectExists)
+    ∷ (FindInput 0 (codes "b"), Some ObjectWrongType)
+    ∷ [])
 unfolding steps steps_along last_name front
-missing_last = refl
+by_paths = refl
 
-missing_front : refusal small opening_session (LocateObject 0 (codes "x/y") (negsuc 1)) ≡ Some DirectoryNotFound
+by_holds : HaveRefusals (
+    -- a move below itself, and to the same name in another case
+    (RenameObject 0 (codes "a") 0 (codes "a/c"), Some ObjectInUse)
+    ∷ (RenameObject 0 (codes "a") 0 (codes "A"), None)
+    -- the protected file
+    ∷ (DeleteObject 0 (codes "f"), Some DeleteProtected)
+    ∷ (FindOutput 0 (codes "f"), Some DeleteProtected)
+    ∷ [])
 unfolding steps steps_along last_name front
-missing_front = refl
-
-through_file : refusal small opening_session (LocateObject 0 (codes "f/y") (negsuc 1)) ≡ Some ObjectWrongType
-unfolding steps steps_along last_name front
-through_file = refl
-
-no_last_name : refusal small opening_session (CreateDir 0 (codes "a/")) ≡ Some InvalidComponentName
-unfolding steps steps_along last_name front
-no_last_name = refl
-
-no_front : refusal small opening_session (CreateDir 0 (codes "x/y")) ≡ Some DirectoryNotFound
-unfolding steps steps_along last_name front
-no_front = refl
-
-there_already : refusal small opening_session (CreateDir 0 (codes "A")) ≡ Some ObjectExists
-unfolding steps steps_along last_name front
-there_already = refl
-
-can_be_made : refusal small opening_session (CreateDir 0 (codes "c")) ≡ None
-unfolding steps steps_along last_name front
-can_be_made = refl
-
-delete_root : refusal small opening_session (DeleteObject 0 []) ≡ Some ObjectWrongType
-unfolding steps steps_along last_name front
-delete_root = refl
-
-long_comment : refusal small opening_session (SetComment 0 [] (replicate 80 65)) ≡ Some CommentTooBig
-unfolding steps steps_along last_name front
-long_comment = refl
-
-comment_of_root : refusal small opening_session (SetComment 0 [] (codes "abc")) ≡ Some ObjectWrongType
-unfolding steps steps_along last_name front
-comment_of_root = refl
-
-no_disk_name : refusal small opening_session (RenameDisk (codes "a/b")) ≡ Some InvalidComponentName
-unfolding steps steps_along last_name front
-no_disk_name = refl
-
-next_of_no_entry : refusal small opening_session (ExamineNext 0 9) ≡ Some ObjectNotFound
-unfolding steps steps_along last_name front
-next_of_no_entry = refl
-
-next_of_last : refusal small opening_session (ExamineNext 0 3) ≡ Some NoMoreEntries
-unfolding steps steps_along last_name front
-next_of_last = refl
-
-next_of_first : refusal small opening_session (ExamineNext 0 4) ≡ None
-unfolding steps steps_along last_name front
-next_of_first = refl
-
-move_under_itself : refusal small opening_session (RenameObject 0 (codes "a") 0 (codes "a/c")) ≡ Some ObjectInUse
-unfolding steps steps_along last_name front
-move_under_itself = rw no_holds refl
-
-move_over_another : refusal small opening_session (RenameObject 0 (codes "a") 0 (codes "B")) ≡ Some ObjectExists
-unfolding steps steps_along last_name front
-move_over_another = refl
-
-rename_in_other_case : refusal small opening_session (RenameObject 0 (codes "a") 0 (codes "A")) ≡ None
-unfolding steps steps_along last_name front
-rename_in_other_case = rw no_holds refl
-
-delete_denied : refusal small opening_session (DeleteObject 0 (codes "f")) ≡ Some DeleteProtected
-unfolding steps steps_along last_name front
-delete_denied = rw no_holds refl
-
-output_denied : refusal small opening_session (FindOutput 0 (codes "f")) ≡ Some DeleteProtected
-unfolding steps steps_along last_name front
-output_denied = rw no_holds refl
-
-input_of_directory : refusal small opening_session (FindInput 0 (codes "b")) ≡ Some ObjectWrongType
-unfolding steps steps_along last_name front
-input_of_directory = refl
+by_holds = rw no_holds refl

@@ -1,5 +1,5 @@
 -- SET_FILE_SIZE.
-use Rattle.std.proofs.Common.{◌≡◌, MutBor, ℕ, ◌+◌, ◌-◌, ◌/◌, ◌<◌, ◌≤◌, ℤ, pos, Bool, true, false, cond, List, [], ◌∷◌, Option, Some, None, Result, Ok, Err, MatchOption, MatchResult, inl, inr, refl, sym, ap, ap₂, ◌∙◌, subst, arith, nat_lt, eq-eqb}
+use Rattle.std.proofs.Common.{◌≡◌, MutBor, ℕ, ◌+◌, ◌-◌, ◌/◌, ◌<◌, ◌≤◌, ℤ, pos, Bool, true, false, cond, List, [], ◌∷◌, Option, Some, None, Result, Ok, Err, MatchResult, inl, inr, refl, sym, ap, ap₂, ◌∙◌, subst, arith, nat_lt, eq-eqb}
 use Rattle.std.specs.Prelude.{map, option_map}
 use Rattle.std.specs.Ordering.{nat_cmp}
 use Rattle.std.specs.Cmp.{nat_cmp_total}
@@ -30,10 +30,8 @@ use Rattle.ados_model.specs.Objects.{handle_target, is_bad_target, protection_of
 use Rattle.ados_model.specs.Reads.{seek_target}
 use Rattle.ados_model.specs.Refusals.{first_refusal, refusal, refuse}
 use Rattle.ados_model.specs.Success.{after, resized}
-use Rattle.ados_model.specs.Meaning.{IsRefused, ServedOrNoMemory}
-use Rattle.ados_handler.specs.steps.Methods.{MethodGives, answer_to}
-use Rattle.ados_handler.proofs.Leaving.{leaves_all}
-use Rattle.ados_handler.proofs.Meant.{done, served_means}
+use Rattle.ados_handler.specs.steps.Methods.{MethodGives}
+use Rattle.ados_handler.proofs.Meant.{done, refused_gives, served_means}
 use Rattle.ados_handler.proofs.HandleFiles.{key_is, opened_on, position_is}
 use Rattle.ados_handler.proofs.Tables.{sorted_entries}
 
@@ -103,16 +101,7 @@ module _ (old given : HandlerState) (same : old ≡ given) (t : Tree) (stood : S
       ∙ (λ i. first_refusal (refuse WriteProtected (denied i) ∷ refuse SeekError (is_bad i) ∷ refuse DiskFull (needs i) ∷ []))
 
   refused : (new : HandlerState) (results : Results) (code : DosError) → refusal t old.session packet ≡ Some code → new ≡ old → results ≡ record { res1 = pos 0; res2 = pos (error_number code); body = Empty } → MethodGives given packet now new results
-  refused new results code first stays told = subst (λ (h : HandlerState). MethodGives h packet now new results) same (record {
-    old_tree = t;
-    new_tree = t;
-    stood = stood;
-    stands = subst (λ (h : HandlerState). Stands h.image t) (sym stays) stood;
-    means = subst (λ (o : Option DosError). MatchOption o (ServedOrNoMemory t old.session packet now t new.session (answer_to packet results)) (λ c. IsRefused t old.session packet c t new.session (answer_to packet results))) (sym first)
-        (record { tree = refl; session = ap (λ (h : HandlerState). h.session) stays; answered = ap (answer_to packet) told });
-    leaves = leaves_all t old packet new results (ap (λ (h : HandlerState). h.image) stays);
-    validated = ap (λ (h : HandlerState). h.was_validated) stays;
-  })
+  refused new results code first stays told = subst (λ (h : HandlerState). MethodGives h packet now new results) same (refused_gives old new packet now results t code stood stays first told)
 
   -- the target is not a size
   pub bad_gives : (results : Results) → is_bad_target 2147483647 target ≡ true → results ≡ record { res1 = pos 0; res2 = pos (error_number SeekError); body = Empty } → MethodGives given packet now given results

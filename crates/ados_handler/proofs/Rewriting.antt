@@ -6,7 +6,7 @@ use Rattle.std.specs.Cmp.{nat_cmp_total}
 use Rattle.std.specs.Option.{option_map_or}
 use Rattle.std.specs.FinMap.{get, find, entries, get-entries, get-from_entries}
 use Rattle.std.proofs.lemmas.List.{length-replicate}
-use Rattle.std.proofs.lemmas.Bool.{cases_eq, false≢true, true≢false}
+use Rattle.std.proofs.lemmas.Bool.{cases_eq, false≢true, true≢false, not-false}
 use Rattle.ados_name.specs.declared.stamp.Date3.{Date3}
 use Rattle.ados_model.specs.Tree.{Content, Node, Tree, Proper, root, bytes_in, bytes_of, size_of}
 use Rattle.ados_model.specs.Parts.{size_in}
@@ -31,7 +31,7 @@ use Rattle.ados_handler.specs.ProperSession.{HoldNumber, hold_at, IsProperSessio
 use Rattle.ados_handler.specs.ProperSession.HoldNumber.{ByLock, ByHandle}
 use Rattle.ados_handler.specs.Keeps.{KeepsProper}
 use Rattle.ados_handler.proofs.Holding.{option_map_some}
-use Rattle.ados_handler.proofs.Reading.{from_not, same_after, by_success, moved, size_is}
+use Rattle.ados_handler.proofs.Reading.{same_after, by_success, moved, size_is}
 use Rattle.ados_handler.proofs.Carrying.{Carried, carried_changed, carried_same, carried_session}
 use Rattle.ados_handler.proofs.Telling.{told_proper}
 
@@ -150,7 +150,7 @@ length-overlaid pos new old fits =
 pub write_keeps : (handle : ℕ) (bytes : List ℕ) → KeepsProper (Write handle bytes)
 write_keeps handle bytes = by_success (Write handle bytes) (λ t s now result proper session none w.
     let no = none_refuses (refuse DeviceNotMounted s.died ∷ refusals t s (Write handle bytes)) none in
-    let on = on_file t s session handle (from_not (is_handle s handle) (not_refused InvalidLock _ no.1.0)) in
+    let on = on_file t s session handle (not-false (is_handle s handle) (not_refused InvalidLock _ no.1.0)) in
     same_after result _ w (go t s now result proper session on bytes))
   where
     go : (t : Tree) (s : Session) (now : Date3) (result : After) → Proper t → IsProperSession t s → IsOnFile t s handle → (new : List ℕ)
@@ -246,7 +246,7 @@ drawn_session t u s session key size there file is carried = record {
 pub set_file_size_keeps : (handle : ℕ) (offset mode : ℤ) → KeepsProper (SetFileSize handle offset mode)
 set_file_size_keeps handle offset mode = by_success (SetFileSize handle offset mode) (λ t s now result proper session none w.
     let no = none_refuses (refuse DeviceNotMounted s.died ∷ refusals t s (SetFileSize handle offset mode)) none in
-    let on = on_file t s session handle (from_not (is_handle s handle) (not_refused InvalidLock _ no.1.0)) in
+    let on = on_file t s session handle (not-false (is_handle s handle) (not_refused InvalidLock _ no.1.0)) in
     let key = handle_key s handle in
     same_after result _ w (resized_keeps t s now proper session key (target_number (handle_target t s handle offset mode)) on.file))
   where

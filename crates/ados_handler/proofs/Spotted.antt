@@ -2,6 +2,7 @@
 use Rattle.std.proofs.Common.{◌≡◌, ℕ, Bool, true, false, not, List, [], ◌∷◌, ◌++◌, Option, Some, None, Ok, MatchOption, option_map, refl, sym, ap, ◌∙◌, subst}
 use Rattle.std.specs.Prelude.{is_none}
 use Rattle.std.specs.Result.{result_err}
+use Rattle.std.proofs.lemmas.Bool.{true≢false}
 use Rattle.ados_name.specs.declared.stamp.Date3.{Date3}
 use Rattle.ados_model.specs.Tree.{Tree}
 use Rattle.ados_model.specs.Stands.{Stands}
@@ -18,7 +19,6 @@ use Rattle.ados_model.specs.Refusals.{first_refusal, has_no_room, is_directory_t
 use Rattle.ados_model.specs.Success.{After, GivesHandle, MakesFile}
 use Rattle.ados_handler.specs.steps.Methods.{MethodGives}
 use Rattle.ados_handler.specs.steps.Opening.{Opens, empty_refusals, make_refusals, open_refusals}
-use Rattle.ados_handler.proofs.Holding.{true_false}
 use Rattle.ados_volume.specs.Shown.{Shown}
 use Rattle.ados_handler.proofs.Opening.{opening_gives}
 use Rattle.ados_handler.proofs.Placed.{placed_on}
@@ -115,7 +115,7 @@ module _ (old : HandlerState) (lock : ℕ) (path : List ℕ) (now : Date3) (ther
           row = w.row (update_rows o.tree s);
           serves = λ left m. subst (λ (k : Option ℕ). MatchOption k (MakesFile o.tree s (spot_directory o.tree s lock path) (spot_name o.tree s lock path) false now left) (λ key. GivesHandle o.tree s key false left)) (sym w.standing_is)
               (makes_at o.tree false left w.spot_is m);
-          quiet = λ e. absurd (true_false (sym (ap is_none w.standing_is) ∙ e));
+          quiet = λ e. absurd (true≢false (sym (ap is_none w.standing_is) ∙ e));
         })
 
     pub output_empties : (key : ℕ) → HasChild (Some key)
@@ -130,7 +130,7 @@ module _ (old : HandlerState) (lock : ℕ) (path : List ℕ) (now : Date3) (ther
           makes = refl;
           row = w.row (output_rows o.tree s) ∙ behind_none (empty_refusals s key o.tree);
           serves = λ left m. subst (λ (k : Option ℕ). MatchOption k (MakesFile o.tree s (spot_directory o.tree s lock path) (spot_name o.tree s lock path) true now left) (λ key. GivesHandle (rewritten now key [] o.tree) s key true left)) (sym w.standing_is) m;
-          quiet = λ e. absurd (true_false e);
+          quiet = λ e. absurd (true≢false e);
         })
 
     pub output_makes : HasChild None
@@ -146,5 +146,5 @@ module _ (old : HandlerState) (lock : ℕ) (path : List ℕ) (now : Date3) (ther
           row = w.row (output_rows o.tree s);
           serves = λ left m. subst (λ (k : Option ℕ). MatchOption k (MakesFile o.tree s (spot_directory o.tree s lock path) (spot_name o.tree s lock path) true now left) (λ key. GivesHandle (rewritten now key [] o.tree) s key true left)) (sym w.standing_is)
               (makes_at o.tree true left w.spot_is m);
-          quiet = λ e. absurd (true_false e);
+          quiet = λ e. absurd (true≢false e);
         })

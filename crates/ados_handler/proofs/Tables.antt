@@ -11,7 +11,7 @@ use Rattle.std.specs.Prelude.{length, filter, is_some}
 use Rattle.std.proofs.lemmas.List.Sums.{length-filter}
 use Rattle.slab.specs.Slab.{Slab, get, entries_from, slab_len, Updates}
 use Rattle.ados_handler.specs.steps.Table.{numbered_from_one}
-use Rattle.ados_handler.proofs.Holding.{number_tells, true_false}
+use Rattle.ados_handler.proofs.Holding.{number_tells}
 
 is_below : (i j : ℕ) → i < j → T (is_lt (nat_cmp i j))
 is_below i j h = grind (arith, nat_tests)
@@ -19,10 +19,6 @@ is_below i j h = grind (arith, nat_tests)
 both : (a b : Bool) → T a → T b → T (a && b)
 both true b p q = q
 both false b p q = p
-
-pub and_left : (a b : Bool) → a && b ≡ true → a ≡ true
-and_left true b h = refl
-and_left false b h = absurd (true_false (sym h))
 
 below_entries : {X : Type 0} (slots : List (Option X)) (i j : ℕ) → i < j → T (below_all nat_cmp i (entries_from j slots))
 below_entries [] i j h = tt

@@ -2,7 +2,7 @@
 use Rattle.std.proofs.Common.{◌≡◌, ◌≢◌, ℕ, true, false, inl, inr, List, Option, Some, None, option_map, refl, sym, ap, ◌∙◌, subst, eq-eqb}
 use Rattle.std.specs.Prelude.{◌∷◌, ◌==◌}
 use Rattle.std.specs.Result.{result_err}
-use Rattle.std.proofs.lemmas.Bool.{cases_eq}
+use Rattle.std.proofs.lemmas.Bool.{cases_eq, true≢false, not-false}
 use Rattle.ados_name.specs.declared.stamp.Date3.{Date3}
 use Rattle.ados_name.specs.Path.{IsPathText}
 use Rattle.ados_model.specs.Tree.{Node, Tree, Proper, root}
@@ -20,10 +20,9 @@ use Rattle.ados_model.specs.Success.{After}
 use Rattle.ados_volume.proofs.Refusing.{none_refuses, not_refused}
 use Rattle.ados_handler.specs.ProperSession.{IsProperSession}
 use Rattle.ados_handler.specs.Keeps.{KeepsProper}
-use Rattle.ados_handler.proofs.Holding.{true_false}
 use Rattle.ados_handler.proofs.Named.{text_is_name, text_is_comment}
 use Rattle.ados_handler.proofs.Walked.{root_is_key, found_is_key, no_error}
-use Rattle.ados_handler.proofs.Reading.{from_not, IsProperAfter, by_success}
+use Rattle.ados_handler.proofs.Reading.{IsProperAfter, by_success}
 use Rattle.ados_handler.proofs.Carrying.{carried_content, carried_changed, carried_session}
 
 -- a tree with one node's metadata and the disk date replaced is proper
@@ -44,7 +43,7 @@ tells t now result proper key f same node at retells u holds tree is =
 
 -- the object of the packet is a node other than the root
 pub not_root : (key r : ℕ) → (key == r) ≡ false → key ≢ r
-not_root key r h e = elim (cases_eq key r) [ inl d ↦ absurd (true_false (sym (rw e (eq-eqb r r refl)) ∙ h)) | inr n ↦ n e ]
+not_root key r h e = elim (cases_eq key r) [ inl d ↦ absurd (true≢false (sym (rw e (eq-eqb r r refl)) ∙ h)) | inr n ↦ n e ]
 
 module _ (t : Tree) (s : Session) (proper : Proper t) (session : IsProperSession t s) where
   -- the node of a walk that is not refused
@@ -55,7 +54,7 @@ pub set_protect_keeps : (lock : ℕ) (path : List ℕ) (bits : ℕ) → KeepsPro
 set_protect_keeps lock path bits = by_success (SetProtect lock path bits) (λ t s now result proper session none w.
     let no = none_refuses (refuse DeviceNotMounted s.died ∷ refusals t s (SetProtect lock path bits)) none in
     let key = object t s lock path in
-    let n = walked_node t s proper session lock path (from_not (is_lock s lock) (not_refused InvalidLock _ no.1.0)) no.1.1.0 in
+    let n = walked_node t s proper session lock path (not-false (is_lock s lock) (not_refused InvalidLock _ no.1.0)) no.1.1.0 in
     let other = not_root key (root t) (not_refused ObjectWrongType _ no.1.1.1.0) in
     tells t now result proper key (λ node. record node { protection = bits }) (λ node. refl) n.0 n.1 (bits_case t proper key n.0 n.1 bits other).retells s session (ap (λ (r : After). r.tree) w) (ap (λ (r : After). r.session) w))
 
@@ -63,8 +62,8 @@ pub set_comment_keeps : (lock : ℕ) (path comment : List ℕ) → IsPathText co
 set_comment_keeps lock path comment valid = by_success (SetComment lock path comment) (λ t s now result proper session none w.
     let no = none_refuses (refuse DeviceNotMounted s.died ∷ refusals t s (SetComment lock path comment)) none in
     let key = object t s lock path in
-    let n = walked_node t s proper session lock path (from_not (is_lock s lock) (not_refused InvalidLock _ no.1.0)) no.1.1.0 in
-    let short = text_is_comment comment valid (from_not (is_comment comment) (not_refused CommentTooBig _ no.1.1.1.0)) in
+    let n = walked_node t s proper session lock path (not-false (is_lock s lock) (not_refused InvalidLock _ no.1.0)) no.1.1.0 in
+    let short = text_is_comment comment valid (not-false (is_comment comment) (not_refused CommentTooBig _ no.1.1.1.0)) in
     let other = not_root key (root t) (not_refused ObjectWrongType _ no.1.1.1.1.0) in
     tells t now result proper key (λ node. record node { comment = comment }) (λ node. refl) n.0 n.1 (comment_case t proper key n.0 n.1 comment short other).retells s session (ap (λ (r : After). r.tree) w) (ap (λ (r : After). r.session) w))
 
@@ -72,12 +71,12 @@ pub set_date_keeps : (lock : ℕ) (path : List ℕ) (date : Date3) → KeepsProp
 set_date_keeps lock path date = by_success (SetDate lock path date) (λ t s now result proper session none w.
     let no = none_refuses (refuse DeviceNotMounted s.died ∷ refusals t s (SetDate lock path date)) none in
     let key = object t s lock path in
-    let n = walked_node t s proper session lock path (from_not (is_lock s lock) (not_refused InvalidLock _ no.1.0)) no.1.1.0 in
+    let n = walked_node t s proper session lock path (not-false (is_lock s lock) (not_refused InvalidLock _ no.1.0)) no.1.1.0 in
     tells t now result proper key (λ node. record node { date = date }) (λ node. refl) n.0 n.1 (date_case t proper key n.0 n.1 date).retells s session (ap (λ (r : After). r.tree) w) (ap (λ (r : After). r.session) w))
 
 pub rename_disk_keeps : (name : List ℕ) → IsPathText name → KeepsProper (RenameDisk name)
 rename_disk_keeps name valid = by_success (RenameDisk name) (λ t s now result proper session none w.
     let no = none_refuses (refuse DeviceNotMounted s.died ∷ refusals t s (RenameDisk name)) none in
     let n = some_in (t.nodes (root t)) (root_is_key t proper) in
-    let is = text_is_name name valid (from_not (is_name name) (not_refused InvalidComponentName _ no.1.0)) in
+    let is = text_is_name name valid (not-false (is_name name) (not_refused InvalidComponentName _ no.1.0)) in
     tells t now result proper (root t) (λ node. record node { name = name }) (λ node. refl) n.0 n.1 (name_case t proper (root t) n.0 n.1 name is refl).retells s session (ap (λ (r : After). r.tree) w) (ap (λ (r : After). r.session) w))

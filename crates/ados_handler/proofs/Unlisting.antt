@@ -1,5 +1,6 @@
 -- Packets that remove an entry from its directory's list keep tree and session proper.
 use Rattle.std.proofs.Common.{◌≡◌, ◌≢◌, ℕ, Bool, false, not, ◌==◌, List, ◌∷◌, filter, Option, Some, None, is_some, option_map, refl, sym, ap, ◌∙◌, subst}
+use Rattle.std.proofs.lemmas.Bool.{not-false}
 use Rattle.ados_name.specs.declared.stamp.Date3.{Date3}
 use Rattle.ados_name.specs.Path.{IsPathText}
 use Rattle.ados_model.specs.Tree.{Node, Tree, Proper, entries, parent_of}
@@ -17,7 +18,7 @@ use Rattle.ados_volume.proofs.Refusing.{can_move, can_remove, none_refuses, not_
 use Rattle.ados_handler.specs.ProperSession.{HoldNumber, hold_at}
 use Rattle.ados_handler.specs.Keeps.{KeepsProper}
 use Rattle.ados_handler.proofs.Holding.{not_held}
-use Rattle.ados_handler.proofs.Reading.{from_not, same_after, by_success}
+use Rattle.ados_handler.proofs.Reading.{same_after, by_success}
 use Rattle.ados_handler.proofs.Carrying.{Carried, carried_beside, carried_changed, carried_content, carried_on, carried_session}
 use Rattle.ados_handler.proofs.Telling.{walked_node}
 use Rattle.ados_handler.proofs.Making.{carried_listed, is_directory, spot_is}
@@ -40,7 +41,7 @@ pub delete_keeps : (lock : ℕ) (path : List ℕ) → KeepsProper (DeleteObject 
 delete_keeps lock path = by_success (DeleteObject lock path) (λ t s now result proper session none w.
     let no = none_refuses (refuse DeviceNotMounted s.died ∷ refusals t s (DeleteObject lock path)) none in
     let key = object t s lock path in
-    let n = walked_node t s proper session lock path (from_not (is_lock s lock) (not_refused InvalidLock _ no.1.0)) no.1.1.0 in
+    let n = walked_node t s proper session lock path (not-false (is_lock s lock) (not_refused InvalidLock _ no.1.0)) no.1.1.0 in
     let can = can_remove t proper key (ap is_some n.1) (is_held s key) false no.1.1.1 in
     let free = not_held s key (not_refused ObjectInUse _ no.1.1.1.1.0) in
     let others : (hold : HoldNumber) (k : ℕ) (e : Bool) → hold_at s hold ≡ Some (k, e) → k ≢ key = λ hold k e h same. free hold e (subst (λ (i : ℕ). hold_at s hold ≡ Some (i, e)) same h) in
@@ -76,8 +77,8 @@ rename_keeps from_lock from to_lock to valid = by_success (RenameObject from_loc
     let key = object t s from_lock from in
     let dir = spot_directory t s to_lock to in
     let name = spot_name t s to_lock to in
-    let n = walked_node t s proper session from_lock from (from_not (is_lock s from_lock) (not_refused InvalidLock _ no.1.0)) no.1.1.1.0 in
-    let is = spot_is t proper s session to_lock to valid (from_not (is_lock s to_lock) (not_refused InvalidLock _ no.1.1.0)) no.1.1.1.1.0 in
+    let n = walked_node t s proper session from_lock from (not-false (is_lock s from_lock) (not_refused InvalidLock _ no.1.0)) no.1.1.1.0 in
+    let is = spot_is t proper s session to_lock to valid (not-false (is_lock s to_lock) (not_refused InvalidLock _ no.1.1.0)) no.1.1.1.1.0 in
     let can = can_move t proper key (ap is_some n.1) (is_held_exclusively s key) dir name (is_directory t dir is.node is.no_file) is.name no.1.1.1.1.1 in
     same_after result _ w (
       renamed_is_proper t now key dir name proper can,

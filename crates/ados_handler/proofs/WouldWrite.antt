@@ -1,6 +1,6 @@
 -- The packets that would change the disk, by what objects, places and handles allow.
 use Rattle.std.proofs.Common.{◌≡◌, ◌≢◌, ℕ, ◌+◌, ℤ, Bool, true, false, cond, not, nat_lt, List, [], ◌∷◌, length, max, Option, Some, None, Result, Ok, Err, option_map, refl, sym, ap, ◌∙◌, arith, lt-ltb}
-use Rattle.std.proofs.lemmas.Bool.{eq-eqb, true≢false}
+use Rattle.std.proofs.lemmas.Bool.{eq-eqb, true≢false, and_right}
 use Rattle.std.specs.Prelude.{◌&&◌, ◌==◌, is_none, is_some}
 use Rattle.std.specs.Option.{option_map_or}
 use Rattle.std.specs.Result.{result_err, result_unwrap_or}
@@ -26,10 +26,6 @@ use Rattle.ados_model.specs.DiskDate.{sets_disk_date}
 use Rattle.ados_handler.specs.Writes.{lacks_space_at_most, would_write}
 use Rattle.ados_handler.specs.steps.Moves.{both, move_refusal, move_refusals, remove_refusals}
 use Rattle.ados_handler.specs.steps.Allowed.{can_empty, can_make, can_move, can_output, can_resize, can_write, ok_and, removes}
-
-and_false : (b : Bool) → b && false ≡ false
-and_false true = refl
-and_false false = refl
 
 -- the list has no refusal but that of a full disk
 abbrev passes : List (Option DosError) → Bool
@@ -150,8 +146,8 @@ module _ (t : Tree) (s : Session) where
             ≡ is_none (child_of t (result_unwrap_or r (0, [])).0 (result_unwrap_or r (0, [])).1)
             && passes (refuse InvalidLock (not b) ∷ option_map place_error (result_err r) ∷ rows (child_of t (result_unwrap_or r (0, [])).0 (result_unwrap_or r (0, [])).1))
         go true (Ok spot) = at (child_of t spot.0 spot.1)
-        go true (Err fault) = sym (ap (λ (b : Bool). is_none (child_of t 0 []) && b) (sym (place_bars fault (rows (child_of t 0 [])))) ∙ and_false (is_none (child_of t 0 [])))
-        go false r = sym (and_false (is_none (child_of t (result_unwrap_or r (0, [])).0 (result_unwrap_or r (0, [])).1)))
+        go true (Err fault) = sym (ap (λ (b : Bool). is_none (child_of t 0 []) && b) (sym (place_bars fault (rows (child_of t 0 [])))) ∙ and_right (is_none (child_of t 0 [])) false refl)
+        go false r = sym (and_right (is_none (child_of t (result_unwrap_or r (0, [])).0 (result_unwrap_or r (0, [])).1)) false refl)
 
     pub output_by : (lock : ℕ) (path : List ℕ) → can_output t s lock path ≡ would_write t s (FindOutput lock path)
     output_by lock path =
@@ -190,7 +186,7 @@ module _ (t : Tree) (s : Session) where
             → option_map_or (λ h. not (denies_write (protection_of t h.key)) && not (is_bad_target 2147483647 (seek_target h.position (size_of t h.key) offset mode)) && not (target_number (seek_target h.position (size_of t h.key) offset mode) == size_of t h.key)) o false
             ≡ not (target_number (target o) == size_of t (file o))
             && passes (refuse InvalidLock (not (is_some o)) ∷ refuse WriteProtected (denies_write (protection_of t (file o))) ∷ refuse SeekError (is_bad_target 2147483647 (target o)) ∷ refuse DiskFull m ∷ [])
-        go None m = sym (and_false (not (target_number (target None) == size_of t (file None))))
+        go None m = sym (and_right (not (target_number (target None) == size_of t (file None))) false refl)
         go (Some h) m =
             let to = seek_target h.position (size_of t h.key) offset mode in
             size_row (denies_write (protection_of t h.key)) (is_bad_target 2147483647 to) (target_number to == size_of t h.key) m

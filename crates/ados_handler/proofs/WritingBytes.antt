@@ -3,15 +3,14 @@ use Rattle.std.proofs.Common.{◌≡◌, ℕ, ◌+◌, ◌-◌, ◌≤◌, pos, 
 use Rattle.std.specs.Prelude.{max}
 use Rattle.std.specs.Ordering.{nat_cmp}
 use Rattle.std.specs.FinMap.{FinMap, get}
-use Rattle.std.proofs.lemmas.Bool.{false_from_ne_true, ltb-true}
+use Rattle.std.proofs.lemmas.Bool.{false_from_ne_true}
 use Rattle.std.proofs.lemmas.List.{nil_from_length}
-use Rattle.ados_model.specs.Tree.{block_cost, Tree, Proper, bytes_of, content_at, size_of, needs_more}
+use Rattle.ados_model.specs.Tree.{Tree, Proper, bytes_of, content_at, size_of, needs_more}
 use Rattle.ados_name.specs.declared.stamp.Date3.{Date3}
 use Rattle.ados_name.specs.Name.{denies_write}
 use Rattle.ados_change.specs.NewBlocks.{KeepsRest}
 use Rattle.ados_model.specs.Stands.{Stands}
-use Rattle.ados_model.specs.Keys.{HasFileKey, HasTree}
-use Rattle.ados_model.specs.Change.{holds_file, is_file, written}
+use Rattle.ados_model.specs.Change.{is_file, written}
 use Rattle.ados_model.specs.Edits.{overlaid}
 use Rattle.ados_change.specs.Renewed.{NeedsMore}
 use Rattle.ados_model.specs.declared.dos_error.DosError.TheVariants.{DiskFull, WriteProtected}
@@ -60,21 +59,19 @@ written_leaves t old new handle bytes results served keeps empty = record {
 
 module _ (old given : HandlerState) (same : old ≡ given) (t : Tree) (stood : Stands old.image t) (handle : ℕ) (hold : HandleHold) (at : get given.session.handles handle ≡ Some hold) (now : Date3)
     (bytes shown : List ℕ) (is : shown ≡ bytes) where
-  pub write_gives : (image : List ℕ) (validated : Bool) (handles : FinMap nat_cmp HandleHold) (end : ℕ) (results : Results) → old.session.died ≡ false → denies_write (protection_of t hold.key) ≡ false
-      → end ≡ hold.position + length shown
+  pub write_gives : (image : List ℕ) (validated : Bool) (handles : FinMap nat_cmp HandleHold) (results : Results) → old.session.died ≡ false → denies_write (protection_of t hold.key) ≡ false
       → (¬ NeedsMore t hold.key (max (size_of t hold.key) (hold.position + length shown))) × Stands image (written now hold.key hold.position shown t)
       → KeepsRest old.image image → (shown ≡ [] → image ≡ old.image) → validated ≡ old.was_validated
-      → handles ≡ (at_position handle end old.session).handles → results ≡ answers (end - hold.position) (Buffer bytes)
+      → handles ≡ (at_position handle (hold.position + length shown) old.session).handles → results ≡ answers (length shown) (Buffer bytes)
       → MethodGives given (Write handle bytes) now (record { image = image; was_validated = validated; session = record old.session { handles = handles } }) results
-  write_gives image validated handles end results alive writable ends done keeps empty kept moved told =
+  write_gives image validated handles results alive writable done keeps empty kept moved told =
       let s : Session = old.session in
       let new : HandlerState = record { image = image; was_validated = validated; session = record s { handles = handles } } in
-      let ended : end ≡ hold.position + length bytes = ends ∙ ap (λ (xs : List ℕ). hold.position + length xs) is in
-      let count : end - hold.position ≡ length bytes = omega (arith, ended) in
+      let count : length shown ≡ length bytes = ap length is in
       let held = ap (λ (h : HandlerState). get h.session.handles handle) same ∙ at in
       let wrote = subst (λ (xs : List ℕ). (¬ NeedsMore t hold.key (max (size_of t hold.key) (hold.position + length xs))) × Stands image (written now hold.key hold.position xs t)) is done in
-      let moves : record s { handles = handles } ≡ at_position handle end s = λ i. record s { handles = moved i } in
-      let means = write_means t s handle bytes hold held (record s { handles = handles }) now (end - hold.position) alive writable wrote.0 count (moves ∙ ap (λ (p : ℕ). at_position handle p s) ended) in
+      let moves : record s { handles = handles } ≡ at_position handle (hold.position + length shown) s = λ i. record s { handles = moved i } in
+      let means = write_means t s handle bytes hold held (record s { handles = handles }) now (length shown) alive writable wrote.0 count (moves ∙ ap (λ (n : ℕ). at_position handle (hold.position + n) s) count) in
       subst (λ (h : HandlerState). MethodGives h (Write handle bytes) now new results) same (record {
         old_tree = t;
         new_tree = written now hold.key hold.position bytes t;
@@ -97,22 +94,7 @@ written_reaches t proper now key start file within (c ∷ cs) =
     omega (arith, size, whole, front, length-take start old, size_is (content_at t key), within)
 
 -- the bytes end at most at the largest size of a file
-pub written_end : (old new : List ℕ) → HasTree old → (now : Date3) (key start : ℕ) → HasFileKey old key → ((t : Tree) → Stands old t → start ≤ size_of t key) → (bytes : List ℕ)
-    → ((t : Tree) → Stands old t → Stands new (written now key start bytes t)) → start + length bytes ≤ 52020224
-written_end old new (t, stands) now key start file within bytes stood =
-    let is : is_file t key ≡ true = ap holds_file (file t stands).1 in
-    let reaches = written_reaches t stands.proper now key start is (within t stands) bytes in
-    omega (arith, reaches, size_small new (written now key start bytes t) (stood t stands) key)
-
--- no bytes need no free blocks, and change no tree
-pub written_none : (image : List ℕ) → HasTree image → (now : Date3) (key start : ℕ) → ((t : Tree) → Stands image t → start ≤ size_of t key) → (bytes : List ℕ) → length bytes ≡ 0
-    → (start ≡ start + length bytes) × (start ≤ 52020224)
-    × ((t : Tree) → Stands image t → (¬ NeedsMore t key (max (size_of t key) (start + length bytes))) × Stands image (written now key start bytes t))
-written_none image (u, stood) now key start within [] none = (
-  omega arith,
-  omega (arith, within u stood, size_small image u stood key),
-  λ t stands.
-      let same : max (size_of t key) (start + 0) ≡ size_of t key = omega (arith, within t stands) in
-      (λ more. omega (arith, ltb-true _ _ more, ap (block_cost t.format) same), stands),
-)
-written_none image tree now key start within (c ∷ cs) none = absurd (omega (arith, none))
+pub written_end : (new : List ℕ) (t : Tree) → Proper t → (now : Date3) (key start : ℕ) → is_file t key ≡ true → start ≤ size_of t key → (bytes : List ℕ) → Stands new (written now key start bytes t) → start + length bytes ≤ 52020224
+written_end new t proper now key start file within bytes stands =
+    let reaches = written_reaches t proper now key start file within bytes in
+    omega (arith, reaches, size_small new (written now key start bytes t) stands key)

@@ -5,7 +5,7 @@ use Rattle.std.proofs.lemmas.Bool.{cases_lt}
 use Rattle.adf_block.specs.declared.layout.TheConstants.{BOOT_BLOCKS, PAGE_LONGS, MAP_LONGS, LONG_BITS, PAGE_BITS}
 use Rattle.adf_block.specs.Image.{long, block_count, block_sum}
 use Rattle.adf_block.specs.Frame.{SameBut, InBlock, OnlyBlock}
-use Rattle.adf_block.proofs.Frames.{same_trans, same_refl, same_weaken, other_block_long, other_block_sum}
+use Rattle.adf_block.proofs.Frames.{same_trans, same_weaken, other_block_long, other_block_sum}
 use Rattle.ados_map.specs.Pages.{LawfulPages, page_block, pages_of, page_of, map_long}
 use Rattle.ados_map.specs.Bits.{IsUnnamedBits, is_unnamed}
 use Rattle.ados_map.specs.Changes.{InPages, PagesRebuilt}
@@ -17,13 +17,6 @@ pub record IsBegun (old : List ℕ) (named : List Bool) (p : ℕ) (image : List 
   pub longs : (q : ℕ) → q < p → (j : ℕ) → j < MAP_LONGS → IsUnnamedBits named (MAP_LONGS * q + j) (long image (page_block old q) (1 + j))
   pub sums : (q : ℕ) → q < p → block_sum image (page_block old q) ≡ 0
   pub rest : SameBut (InPages old) old image
-
-pub begun_none : (image : List ℕ) (named : List Bool) → IsBegun image named 0 image
-begun_none image named = record {
-  longs = λ q lt. absurd (omega arith);
-  sums = λ q lt. absurd (omega arith);
-  rest = same_refl (InPages image) image;
-}
 
 -- the root names the bitmap blocks as before while only these are written
 pub begun_page : (old : List ℕ) (named : List Bool) (p : ℕ) (image : List ℕ) → LawfulPages old → IsBegun old named p image → (q : ℕ) → q < PAGE_LONGS → page_block image q ≡ page_block old q

@@ -38,9 +38,6 @@ module _ (old settled new : List ℕ) (small : block_count old ≤ 101602) (only
     to_old : SameBut (IsOfBitmap new) new old
     to_old = same_weaken (IsOfBitmap old) (IsOfBitmap new) new old (of_new old new small pages rest) (turned (IsOfBitmap old) old new rest)
 
-    to_settled : SameBut (IsOfBitmap new) new settled
-    to_settled = same_weaken (IsOfBitmap old) (IsOfBitmap new) new settled (of_new old new small pages rest) (turned (IsOfBitmap old) settled new rest_settled)
-
     settled_count : block_count settled ≡ block_count old
     settled_count = count old settled small pages changed
 
@@ -50,12 +47,12 @@ module _ (old settled new : List ℕ) (small : block_count old ≤ 101602) (only
     in_settled : (block : ℕ) → InImage old block → InImage settled block
     in_settled block h = (h.0, omega (arith, h.1, settled_count))
 
-    -- a block that is reached in one of the images is reached in the others
+    -- the same blocks are reached before and after the checksums are settled
     reached_settled : {block : ℕ} {role : Role} → Reached old block role → Reached settled block role
-    reached_settled h = reached_b new settled u s to_settled (reached_a new old u s to_old h)
+    reached_settled h = reached_b old settled small only changed h
 
     reached_old : {block : ℕ} {role : Role} → Reached settled block role → Reached old block role
-    reached_old h = reached_b new old u s to_old (reached_a new settled u s to_settled h)
+    reached_old h = reached_a old settled small only changed h
 
     free : (block : ℕ) → InImage old block → HasFreeBit new block → (role : Role) → ¬ Reached old block role
     free block inside bit role h = rebuilt.free block (in_settled block inside) bit role (reached_settled h)
@@ -77,7 +74,7 @@ module _ (old settled new : List ℕ) (small : block_count old ≤ 101602) (only
 
       page_sums : (page : ℕ) → Reached new page roles.Page → block_sum old page ≡ 0
       page_sums page h =
-          let at = reached_stands old t r (reached_b new old u s to_old h) in
+          let at = reached_stands old t r (reached_a old new small only rest h) in
           r.pages page (at.0, at.1.within, get_or_default r.layout.pages at.0 page 0 at.1.within ∙ at.1.here)
 
       used : (block : ℕ) → InImage new block → ¬ HasFreeBit new block → ¬ HasFreeBit old block

@@ -1,5 +1,6 @@
--- Two images of which one represents a tree, and that differ only in its bitmap, reach the same blocks.
-use Rattle.std.proofs.Common.{◌≡◌, ◌≢◌, ℕ, ◌/◌, ◌≤◌, inl, inr, List, sym, ap, ◌∙◌, subst, arith}
+-- Two images of which one shows only faults that a new bitmap mends, and that differ only in its bitmap, reach the same
+-- blocks.
+use Rattle.std.proofs.Common.{◌≡◌, ◌≢◌, ℕ, ◌≤◌, List, sym, ap, ◌∙◌, subst, arith}
 use Rattle.adf_block.specs.Image.{block_count, long, root_key}
 use Rattle.adf_block.specs.Frame.{SameBut}
 use Rattle.adf_block.proofs.Frames.{same_count, same_long}
@@ -8,56 +9,52 @@ use Rattle.ados_model.specs.declared.role.Role.TheVariants.{Page, Root}
 use Rattle.ados_model.specs.Faults.{InImage, IsPlace, Reached, root_of}
 use Rattle.ados_model.specs.Faults.Reached.{named, start}
 use Rattle.ados_model.specs.Rebuilt.{IsOfBitmap}
-use Rattle.ados_model.specs.Stands.{Stands}
-use Rattle.ados_model.specs.Tree.{Tree}
-use Rattle.ados_model.proofs.Standing.{count_same, reached_stands, same_place}
 use Rattle.ados_check.proofs.Untouched.{HasSameLongs, IsPlaceLong, place_long, place_moves}
+use Rattle.ados_mend.specs.Mendable.{ShowsOnlyMendable}
+use Rattle.ados_mend.proofs.BesidePages.{beside}
 
-module _ (a b : List ℕ) (u : Tree) (s : Stands a u) (same : SameBut (IsOfBitmap a) a b) where
+module _ (a b : List ℕ) (few : block_count a ≤ 101602) (only : ShowsOnlyMendable a) (same : SameBut (IsOfBitmap a) a b) where
   pub count : block_count b ≡ block_count a
   count = same_count (IsOfBitmap a) a b same
 
   pub root_same : root_of b ≡ root_of a
   root_same = ap root_key count
 
-  few : block_count a ≤ 101602
-  few = omega (arith, count_same a u s, s.proper.size.1)
+  -- a reached block that is no bitmap block keeps its longs
+  pub longs : {block : ℕ} {role : Role} → Reached a block role → role ≢ Page → HasSameLongs a b block
+  longs {block} h n j l m f = same_long (IsOfBitmap a) a b same block j l (λ k e. beside a only h n k (λ z. m (sym e ∙ z)) (λ z. f (sym e ∙ z)))
 
-  -- a block has one role
-  one_role : {block : ℕ} {role other : Role} → Reached a block role → Reached a block other → role ≡ other
-  one_role {block} {role} {other} h m =
-      let x = reached_stands a u s h in
-      let y = reached_stands a u s m in
-      (same_place a u s role other x.0 y.0 block x.1 y.1).0
+  -- a place of a reached block is unchanged
+  pub record PlaceKept (block i : ℕ) (role next : Role) : Type 0 where
+    pub in_a : IsPlace a block role i next
+    pub in_b : IsPlace b block role i next
+    pub kept : long b block i ≡ long a block i
 
-  -- of a reached block that is no bitmap block only two longs belong to the bitmap
-  untouched : {block : ℕ} {role : Role} → Reached a block role → role ≢ Page → (k : ℕ) → k / 4 ≢ 5 → k / 4 ≢ 78 → ¬ IsOfBitmap a block k
-  untouched h n k m f (inl page) = n (one_role h page)
-  untouched h n k m f (inr (e, inl z)) = m z
-  untouched h n k m f (inr (e, inr z)) = f z
+  place_b : {block i : ℕ} {role next : Role} → Reached a block role → IsPlace a block role i next → PlaceKept block i role next
+  place_b {i = i} {role = role} h p =
+      let at : IsPlaceLong role i = place_long few p in
+      let kept = longs h at.no_page in
+      record { in_a = p; in_b = place_moves a b count kept p; kept = kept i at.small at.no_sum at.no_flag }
 
-  longs : {block : ℕ} {role : Role} → Reached a block role → role ≢ Page → HasSameLongs a b block
-  longs {block} h n j l m f = same_long (IsOfBitmap a) a b same block j l (λ k e. untouched h n k (λ z. m (sym e ∙ z)) (λ z. f (sym e ∙ z)))
+  pub place_a : {block i : ℕ} {role next : Role} → Reached a block role → IsPlace b block role i next → PlaceKept block i role next
+  place_a {i = i} {role = role} h p =
+      let at : IsPlaceLong role i = place_long (omega (arith, few, count)) p in
+      let kept = longs h at.no_page in
+      record { in_a = place_moves b a (sym count) (λ j l n f. sym (kept j l n f)) p; in_b = p; kept = kept i at.small at.no_sum at.no_flag }
 
-  long_at : {block i : ℕ} {role : Role} → Reached a block role → IsPlaceLong role i → long b block i ≡ long a block i
-  long_at {i = i} h at = longs h at.no_page i at.small at.no_sum at.no_flag
+  pub inside_a : {block : ℕ} → InImage b block → InImage a block
+  inside_a h = (h.0, omega (arith, h.1, count))
 
   pub reached_b : {block : ℕ} {role : Role} → Reached a block role → Reached b block role
   reached_b start = subst (λ (x : ℕ). Reached b x Root) root_same start
   reached_b (named {block = c} {i = i} {role = role} {next = next} h p inside) =
-      let at : IsPlaceLong role i = place_long few p in
-      let kept : long b c i ≡ long a c i = long_at h at in
-      let place : IsPlace b c role i next = place_moves a b count (longs h at.no_page) p in
-      let inside_b : InImage b (long b c i) = (omega (arith, inside.0, kept), omega (arith, inside.1, kept, count)) in
-      subst (λ (x : ℕ). Reached b x next) kept (named (reached_b h) place inside_b)
+      let place = place_b h p in
+      let inside_b : InImage b (long b c i) = (omega (arith, inside.0, place.kept), omega (arith, inside.1, place.kept, count)) in
+      subst (λ (x : ℕ). Reached b x next) place.kept (named (reached_b h) place.in_b inside_b)
 
   pub reached_a : {block : ℕ} {role : Role} → Reached b block role → Reached a block role
   reached_a start = subst (λ (x : ℕ). Reached a x Root) (sym root_same) start
   reached_a (named {block = c} {i = i} {role = role} {next = next} h p inside) =
       let r = reached_a h in
-      let at : IsPlaceLong role i = place_long (omega (arith, few, count)) p in
-      let kept : long b c i ≡ long a c i = long_at r at in
-      let back : HasSameLongs b a c = λ j l n g. sym (longs r at.no_page j l n g) in
-      let place : IsPlace a c role i next = place_moves b a (sym count) back p in
-      let inside_a : InImage a (long a c i) = (omega (arith, inside.0, kept), omega (arith, inside.1, kept, count)) in
-      subst (λ (x : ℕ). Reached a x next) (sym kept) (named r place inside_a)
+      let place = place_a r p in
+      subst (λ (x : ℕ). Reached a x next) (sym place.kept) (named r place.in_a (subst (InImage a) place.kept (inside_a inside)))

@@ -1,7 +1,9 @@
 -- The bitmap blocks of an image, what stays when only the bitmap changes, the image with a new bitmap; the marks of the account; and the places that name blocks.
 pub mod PageFaults
 pub mod PageRoles
+pub mod BesidePages
 pub mod Carry
+pub mod CarryFaults
 pub mod Stay
 pub mod Widened
 pub mod Anew

@@ -1,5 +1,5 @@
 -- The bitmap blocks of an image that shows only faults which a new bitmap mends.
-use Rattle.std.proofs.Common.{◌≡◌, ◌≢◌, ℕ, ◌+◌, ◌<◌, ◌⊎◌, inl, inr, List, refl, sym, arith}
+use Rattle.std.proofs.Common.{◌≡◌, ℕ, ◌+◌, ◌<◌, ◌⊎◌, inl, inr, Bool, true, false, List, refl, sym, ap, ◌∙◌, arith}
 use Rattle.std.proofs.lemmas.Bool.{cases_eq, cases_lt}
 use Rattle.adf_block.specs.Image.{IsInside, block_count}
 use Rattle.ados_map.specs.Pages.{LawfulPages, page_block, pages_of}
@@ -20,10 +20,19 @@ inside_or_not n b = elim (cases_lt b 2) [
   | inr l ↦ elim (cases_lt b n) [ inl m ↦ inl (l, m) | inr m ↦ inr (λ h. omega (arith, h.1, m)) ]
 ]
 
+-- a new bitmap may mend a fault of the kind
+abbrev pub is_mended_kind : FaultKind → Bool
+is_mended_kind MarkedFree = true
+is_mended_kind BadSum = true
+is_mended_kind _ = false
+
 module _ (image : List ℕ) (only : ShowsOnlyMendable image) where
   -- a fault of another kind is not shown
-  pub not_shown : (kind : FaultKind) (block : ℕ) → kind ≢ MarkedFree → kind ≢ BadSum → ¬ Shows image kind block
-  not_shown kind block m s h = elim (only kind block h) [ inl e ↦ m e | inr e ↦ s e.0 ]
+  pub not_shown : (kind : FaultKind) (block : ℕ) → is_mended_kind kind ≡ false → ¬ Shows image kind block
+  not_shown kind block other h = elim (only kind block h) [
+    | inl e ↦ let no : false ≡ true = sym other ∙ ap is_mended_kind e in cc no
+    | inr e ↦ let no : false ≡ true = sym other ∙ ap is_mended_kind e.0 in cc no
+  ]
 
   names_page : (p : ℕ) → p < pages_of image → PlaceNames image (root_of image) (79 + p) (page_block image p)
   names_page p l = record { role = Root; next = Page; reached = start; place = root_page l; names = refl }
@@ -31,7 +40,7 @@ module _ (image : List ℕ) (only : ShowsOnlyMendable image) where
   page_inside : (p : ℕ) → p < pages_of image → InImage image (page_block image p)
   page_inside p l = elim (inside_or_not (block_count image) (page_block image p)) [
     | inl h ↦ h
-    | inr n ↦ absurd (not_shown BadPointer (root_of image) (λ z. cc z) (λ z. cc z) (outside {i = 79 + p} start (root_page l) n))
+    | inr n ↦ absurd (not_shown BadPointer (root_of image) refl (outside {i = 79 + p} start (root_page l) n))
   ]
 
   -- two longs of the root that name one block are one long
@@ -40,14 +49,14 @@ module _ (image : List ℕ) (only : ShowsOnlyMendable image) where
     | inl same ↦ same
     | inr n ↦
         let other : PlaceNames image (root_of image) (79 + q) (page_block image p) = record { role = Root; next = Page; reached = start; place = root_page m; names = sym e } in
-        absurd (not_shown BlockUsedTwice (page_block image p) (λ z. cc z) (λ z. cc z) (two_longs (page_inside p l) (names_page p l) other (λ z. n (omega (arith, z)))))
+        absurd (not_shown BlockUsedTwice (page_block image p) refl (two_longs (page_inside p l) (names_page p l) other (λ z. n (omega (arith, z)))))
   ]
 
   pub mendable_pages : LawfulPages image
   mendable_pages = record {
     inside = page_inside;
     apart = used_once;
-    beside_root = λ p l e. not_shown BlockUsedTwice (page_block image p) (λ z. cc z) (λ z. cc z) (root_named e (names_page p l));
+    beside_root = λ p l e. not_shown BlockUsedTwice (page_block image p) refl (root_named e (names_page p l));
   }
 
 pub mendable_has_pages : MendableHasPages

@@ -7,13 +7,8 @@ use Rattle.ados_model.specs.declared.role.Role.TheVariants.{Page, Root}
 use Rattle.ados_model.specs.Faults.{IsPlace, Reached, root_of}
 use Rattle.ados_model.specs.Faults.IsPlace.{directory_slot, extension_pointer, first_extension, further_extension, header_pointer, next_entry, root_page, root_slot}
 use Rattle.ados_model.specs.Faults.Reached.{named, start}
-use Rattle.ados_check.proofs.Roles.{place_not_root}
+use Rattle.ados_check.proofs.Roles.{only_root}
 use Rattle.ados_mend.specs.Mendable.{IsPage}
-
--- only the root has its role
-pub root_only : {image : List ℕ} {block : ℕ} {role : Role} → Reached image block role → role ≡ Root → block ≡ root_of image
-root_only start z = refl
-root_only (named h p inside) z = absurd (place_not_root p z)
 
 -- a place that names a bitmap block
 record PageLong (image : List ℕ) (i : ℕ) (role : Role) : Type 0 where
@@ -36,7 +31,7 @@ pub page_of_reached : {image : List ℕ} {block : ℕ} {role : Role} → Reached
 page_of_reached start z = absurd (cc z)
 page_of_reached {image = image} (named {block = b} {i = i} h q inside) z =
     let at = page_long q z in
-    let root : b ≡ root_of image = root_only h at.is_root in
+    let root : b ≡ root_of image = only_root h at.is_root in
     (at.p, at.within, ap₂ (λ (c j : ℕ). long image c j) (sym root) (sym at.at))
 
 pub reached_of_page : (image : List ℕ) → LawfulPages image → (block : ℕ) → IsPage image block → Reached image block Page

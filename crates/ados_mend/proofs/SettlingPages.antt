@@ -8,8 +8,7 @@ use Rattle.ados_map.specs.Changes.{InPages}
 use Rattle.ados_map.specs.Pages.{LawfulPages, page_block, pages_of}
 use Rattle.ados_model.specs.Faults.{root_of}
 use Rattle.ados_model.specs.Rebuilt.{HasValidBitmap, IsOfBitmap}
-use Rattle.ados_mend.specs.Answer.{IsSettled}
-use Rattle.ados_mend.specs.steps.Settled.{HaveSums, IsRootMark}
+use Rattle.ados_mend.specs.steps.Settled.{HaveSums, IsRootMark, IsSettled}
 use Rattle.ados_mend.proofs.PageRoles.{reached_of_page}
 
 module _ (old mid : List ℕ) (pages : LawfulPages old) (same : SameBut (InPages old) old mid) where

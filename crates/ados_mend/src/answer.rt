@@ -21,9 +21,6 @@ pub enum NotValidated {
     /// The image shows a fault that a new bitmap does not mend.
     #[error("block {} has a fault that a new bitmap does not mend", .0.block)]
     OtherFault(VolumeFault),
-    /// The image still shows a fault when the checksums of its bitmap blocks are right.
-    #[error("block {} still has a fault when the checksums of the bitmap blocks are right", .0.block)]
-    StillFaulty(VolumeFault),
     /// Something may be lost with the old bitmap.
     #[error("{0}: --force writes the bitmap anew all the same")]
     Asks(Caution),

@@ -5,10 +5,10 @@ ghost use Rattle.adf_block.specs.Image.{block_sum};
 ghost use Rattle.adf_block.specs.Whole.{IsImage};
 ghost use Rattle.ados_map.specs.Changes.{InPages};
 ghost use Rattle.ados_map.specs.Pages.{LawfulPages, pages_of};
-ghost use Rattle.ados_mend.specs.Answer.{IsReason, IsSettled};
+ghost use Rattle.ados_mend.specs.Answer.{IsReason};
 ghost use Rattle.ados_mend.specs.Mendable.{ShowsOnlyMendable};
 ghost use Rattle.ados_mend.specs.Validated.{IsValidated};
-ghost use Rattle.ados_mend.specs.steps.Settled.{HaveSums, IsRootMark};
+ghost use Rattle.ados_mend.specs.steps.Settled.{HaveSums, IsRootMark, IsSettled};
 ghost use Rattle.ados_model.specs.Faults.{root_of};
 ghost use Rattle.ados_model.specs.Rebuilt.{HasValidBitmap};
 
@@ -34,8 +34,11 @@ pub(crate) fn mended(alloc: Global, image: Image) -> Result<Image, NotValidated>
     settle(&mut settled);
     match check_image(alloc, settled) {
         Ok(accepted) => Ok(accepted.image),
-        Err(rejected) if rejected.fault.kind == FaultKind::NoMemory => Err(NotValidated::Memory),
-        Err(rejected) => Err(NotValidated::StillFaulty(rejected.fault)),
+        Err(rejected) => match rejected.fault.kind {
+            FaultKind::NoMemory => Err(NotValidated::Memory),
+            // The settled image shows no fault.
+            _ => unreachable!(),
+        },
     }
 }
 

@@ -1,6 +1,6 @@
 -- A blank image represents the tree of an empty root.
-use Rattle.std.proofs.Common.{◌≡◌, ◌≢◌, ℕ, zero, suc, ◌+◌, ◌-◌, ◌<◌, ◌≤◌, ◌⊎◌, inl, inr, Bool, true, false, cond, ◌==◌, List, [], ◌∷◌, length, filter, slice_index, slice_get, Contains, AllPairs, Some, None, IsSome, option_map, option_and_then, refl, sym, ap, ◌∙◌, subst, arith, eq-eqb, eqb-true}
-use Rattle.std.proofs.lemmas.Bool.{cases_order, false≢true}
+use Rattle.std.proofs.Common.{◌≡◌, ◌≢◌, ℕ, zero, suc, ◌+◌, ◌-◌, ◌<◌, ◌≤◌, ◌⊎◌, inl, inr, Bool, true, false, cond, ◌==◌, List, [], ◌∷◌, length, filter, slice_index, slice_get, Contains, AllPairs, Option, Some, None, IsSome, option_map, option_and_then, refl, sym, ap, ◌∙◌, subst, arith, eq-eqb, eqb-true}
+use Rattle.std.proofs.lemmas.Bool.{cases_order, cond_both, false≢true}
 use Rattle.std.proofs.lemmas.List.{get_or_default}
 use Rattle.adf_block.specs.declared.layout.Format.{Format}
 use Rattle.adf_block.specs.Image.{IsInside, root_key, page_count, long, block_sum}
@@ -65,26 +65,18 @@ module _ (format : Format) (n : ℕ) (name : List ℕ) (moment : Date3) where
   the_root : t.nodes (root_key n) ≡ Some (blank_root name moment)
   the_root = rw (eq-eqb (root_key n) (root_key n) refl) refl
 
+  -- a key is the root, or is none
+  at_most_root : (key : ℕ) (P : Option Node → Type 0) → P (Some (blank_root name moment)) → P None → P (t.nodes key)
+  at_most_root key P some none = cond_both (key == root_key n) (Some (blank_root name moment)) None P (λ _. some) (λ _. none)
+
   no_entries : (dir : ℕ) → entries t dir ≡ []
-  no_entries dir = go (dir == root_key n)
-    where
-      go : (b : Bool) → entries_in (option_map (λ node. node.content) (cond b (Some (blank_root name moment)) None)) ≡ []
-      go true = refl
-      go false = refl
+  no_entries dir = at_most_root dir (λ o. entries_in (option_map (λ node. node.content) o) ≡ []) refl refl
 
   no_parent : (key : ℕ) → parent_of t key ≡ None
-  no_parent key = go (key == root_key n)
-    where
-      go : (b : Bool) → option_and_then (λ node. node.parent) (cond b (Some (blank_root name moment)) None) ≡ None
-      go true = refl
-      go false = refl
+  no_parent key = at_most_root key (λ o. option_and_then (λ node. node.parent) o ≡ None) refl refl
 
   no_size : (key : ℕ) → size_of t key ≡ 0
-  no_size key = go (key == root_key n)
-    where
-      go : (b : Bool) → size_in (option_map (λ node. node.content) (cond b (Some (blank_root name moment)) None)) ≡ 0
-      go true = refl
-      go false = refl
+  no_size key = at_most_root key (λ o. size_in (option_map (λ node. node.content) o) ≡ 0) refl refl
 
   no_pairs : (R : ℕ → ℕ → Type 0) (dir : ℕ) → AllPairs R (entries t dir)
   no_pairs R dir i j d l m = absurd (omega (arith, m, ap length (no_entries dir)))

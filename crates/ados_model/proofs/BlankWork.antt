@@ -9,8 +9,9 @@ use Rattle.adf_block.specs.declared.layout.TheConstants.{NAME_BYTE}
 use Rattle.ados_model.specs.declared.role.Role.TheVariants.{Root}
 use Rattle.ados_model.specs.Kept.{IsField}
 use Rattle.ados_model.specs.Laws.{HasBlankImage}
+use Rattle.adf_block.proofs.Totals.{total-same}
 use Rattle.ados_model.proofs.Lists.{joined}
-use Rattle.ados_model.proofs.Blocks.{length-joined, byte-joined, byte-joined_next, bytes-joined, long-joined, of_longs, length-of_longs, long-of_longs, total-same}
+use Rattle.ados_model.proofs.Blocks.{length-joined, byte-joined, byte-joined_next, bytes-joined, long-joined, of_longs, length-of_longs, long-of_longs}
 
 abbrev root_longs : List ℕ
 root_longs = 2 ∷ 0 ∷ 0 ∷ 72 ∷ 0 ∷ 0x90A88CD3 ∷ (replicate 72 0 ++ (0xFFFFFFFF ∷ 0x371 ∷ (replicate 28 0 ++ (0x04576F72 ∷ 0x6B000000 ∷ (replicate 17 0 ++ (1 ∷ []))))))
@@ -58,11 +59,11 @@ whole = length-joined blocks full 1760
 
 root_sum : block_sum image 880 ≡ 0
 unfolding block_sum
-root_sum = ap (λ (n : ℕ). n % 2 ^ 32) (total-same (long image 880) (slice_index root_longs) 128 long_root)
+root_sum = ap (λ (n : ℕ). n % 2 ^ 32) (total-same (slice_index root_longs) (long image 880) 128 long_root)
 
 page_sum : block_sum image 881 ≡ 0
 unfolding block_sum
-page_sum = ap (λ (n : ℕ). n % 2 ^ 32) (total-same (long image 881) (slice_index page_longs) 128 long_page)
+page_sum = ap (λ (n : ℕ). n % 2 ^ 32) (total-same (slice_index page_longs) (long image 881) 128 long_page)
 
 boot_is : bytes_at image 0 0 4 ≡ 68 ∷ 79 ∷ 83 ∷ 1 ∷ []
 unfolding image

@@ -3,7 +3,7 @@ use Rattle.std.proofs.Common.{◌≡◌, ℕ, zero, suc, ◌+◌, ◌-◌, ◌*�
 use Rattle.std.specs.List.{AllByRecursion}
 use Rattle.std.proofs.lemmas.Bool.{cases_lt}
 use Rattle.std.proofs.lemmas.List.{get_or_append_left, get_or-append_right, get_or-take, get_or-drop, length-take, length-drop, length-append, ext_get_or}
-use Rattle.adf_block.specs.Image.{byte_at, bytes_at, long, total}
+use Rattle.adf_block.specs.Image.{byte_at, bytes_at, long}
 use Rattle.ados_model.proofs.Lists.{joined}
 
 -- the number in the first four bytes, big-endian
@@ -72,7 +72,3 @@ long-of_longs (x ∷ xs) zero h l = omega arith
 long-of_longs (x ∷ xs) (suc i) h l =
     let behind : 4 * suc i ≡ suc (suc (suc (suc (4 * i)))) = omega arith in
     ap (λ (k : ℕ). number (drop k (of_longs (x ∷ xs)))) behind ∙ long-of_longs xs i h.1 (omega arith)
-
-pub total-same : (f g : ℕ → ℕ) (n : ℕ) → ((i : ℕ) → i < n → f i ≡ g i) → total f n ≡ total g n
-total-same f g zero h = refl
-total-same f g (suc n) h = ap₂ (λ (a b : ℕ). a + b) (total-same f g n (λ i l. h i (omega arith))) (h n (omega arith))

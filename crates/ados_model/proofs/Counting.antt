@@ -1,6 +1,7 @@
 -- The number of blocks marked free is the number of blocks that the tree does not use.
-use Rattle.std.proofs.Common.{◌≡◌, ◌≢◌, ℕ, zero, suc, ◌+◌, ◌-◌, ◌<◌, Bool, true, false, cond, List, [], ◌∷◌, length, slice_index, slice_get, Option, Some, None, is_some, option_map, refl, sym, ap, ◌∙◌, arith}
+use Rattle.std.proofs.Common.{◌≡◌, ◌≢◌, ℕ, suc, ◌+◌, ◌-◌, ◌<◌, Bool, true, false, cond, List, length, slice_index, slice_get, Option, Some, None, is_some, option_map, refl, sym, ap, ◌∙◌, arith}
 use Rattle.std.proofs.lemmas.Bool.{false≢true}
+use Rattle.std.proofs.lemmas.Option.{slice_get_within, get_or_from_slice_get}
 use Rattle.adf_block.specs.declared.layout.Format.{Format}
 use Rattle.adf_block.specs.declared.layout.Format.TheVariants.{Ofs, Ffs}
 use Rattle.adf_block.specs.Image.{IsInside, has_free_bit, block_count, total}
@@ -10,17 +11,19 @@ use Rattle.ados_model.specs.Tree.Content.{Directory, File}
 use Rattle.ados_model.specs.Stands.{Duty, HasDuty, Named, Stands}
 use Rattle.ados_model.specs.Laws.{FreeBitsCount}
 use Rattle.ados_model.proofs.Standing.{slice_get-index}
-use Rattle.ados_model.proofs.Blocks.{total-same}
+use Rattle.adf_block.proofs.Totals.{total-same}
 use Rattle.ados_model.proofs.Totals.{total-add, total-zero, total-ones, total-one, total-swap, total-from_two, occurrences, occurrences-none, occurrences-one, total-occurrences}
 
 pub slice_get-back : (xs : List ℕ) (i b : ℕ) → slice_get xs i ≡ Some b → (i < length xs) × (slice_index xs i ≡ b)
-slice_get-back [] i b e = absurd (cc e)
-slice_get-back (x ∷ xs) zero b e = (omega arith, cc e)
-slice_get-back (x ∷ xs) (suc i) b e = let h = slice_get-back xs i b e in (omega (arith, h.0), h.1)
+slice_get-back xs i b e = (slice_get_within xs i b e, get_or_from_slice_get xs i b 0 e)
 
 pub no_data : (format : Format) → data_count format 0 ≡ 0
 no_data Ofs = refl
 no_data Ffs = refl
+
+not_counted : (c : Bool) → ¬ (c ≡ true) → ◌≡◌ {A = ℕ} (cond c 1 0) 0
+not_counted true n = absurd (n refl)
+not_counted false n = refl
 
 module _ (image : List ℕ) (t : Tree) (s : Stands image t) where
   -- how often a block is used in each way
@@ -43,18 +46,10 @@ module _ (image : List ℕ) (t : Tree) (s : Stands image t) where
   times_named b = as_key b + (as_page b + (as_data b + (as_extension b + as_lost b)))
 
   key_none : (b : ℕ) → ¬ HasDuty t s.layout b Duty.Key → as_key b ≡ 0
-  key_none b n = go (is_some (t.nodes b)) refl
-    where
-      go : (c : Bool) → is_some (t.nodes b) ≡ c → ◌≡◌ {A = ℕ} (cond c 1 0) 0
-      go true e = absurd (n e)
-      go false e = refl
+  key_none b n = not_counted (is_some (t.nodes b)) n
 
   lost_none : (b : ℕ) → ¬ HasDuty t s.layout b Duty.Lost → as_lost b ≡ 0
-  lost_none b n = go (is_some (t.lost b)) refl
-    where
-      go : (c : Bool) → is_some (t.lost b) ≡ c → ◌≡◌ {A = ℕ} (cond c 1 0) 0
-      go true e = absurd (n e)
-      go false e = refl
+  lost_none b n = not_counted (is_some (t.lost b)) n
 
   page_none : (b : ℕ) → ((i : ℕ) → ¬ HasDuty t s.layout b (Duty.Page i)) → as_page b ≡ 0
   page_none b n = occurrences-none b s.layout.pages (λ i l e. n i (slice_get-index s.layout.pages i l ∙ ap Some e))
@@ -164,14 +159,14 @@ module _ (image : List ℕ) (t : Tree) (s : Stands image t) where
       let pages = total-occurrences t.blocks s.layout.pages (λ i l. (s.fits.inside _ (Duty.Page i) (slice_get-index s.layout.pages i l)).1) in
       let of_data : total as_data t.blocks ≡ total data_length t.blocks =
       total-swap (λ b k. occurrences b (s.layout.file_data k)) t.blocks t.blocks
-      ∙ total-same (λ k. total (λ b. occurrences b (s.layout.file_data k)) t.blocks) data_length t.blocks
+      ∙ total-same data_length (λ k. total (λ b. occurrences b (s.layout.file_data k)) t.blocks) t.blocks
       (λ k l. total-occurrences t.blocks (s.layout.file_data k) (λ i m. (s.fits.inside _ (Duty.Data k i) (slice_get-index (s.layout.file_data k) i m)).1)) in
       let of_extensions : total as_extension t.blocks ≡ total extension_length t.blocks =
       total-swap (λ b k. occurrences b (s.layout.extensions k)) t.blocks t.blocks
-      ∙ total-same (λ k. total (λ b. occurrences b (s.layout.extensions k)) t.blocks) extension_length t.blocks
+      ∙ total-same extension_length (λ k. total (λ b. occurrences b (s.layout.extensions k)) t.blocks) t.blocks
       (λ k l. total-occurrences t.blocks (s.layout.extensions k) (λ i m. (s.fits.inside _ (Duty.Extension k i) (slice_get-index (s.layout.extensions k) i m)).1)) in
       let cost : total (λ k. cost_in t.format (content_at t k)) t.blocks ≡ total as_key t.blocks + total (λ k. data_length k + extension_length k) t.blocks =
-      total-same (λ k. cost_in t.format (content_at t k)) (λ k. as_key k + (data_length k + extension_length k)) t.blocks (λ k l. cost_is k)
+      total-same (λ k. as_key k + (data_length k + extension_length k)) (λ k. cost_in t.format (content_at t k)) t.blocks (λ k l. cost_is k)
       ∙ total-add as_key (λ k. data_length k + extension_length k) t.blocks in
       let lengths = total-add data_length extension_length t.blocks in
       let split_key = total-add as_key (λ b. as_page b + (as_data b + (as_extension b + as_lost b))) t.blocks in

@@ -1,9 +1,11 @@
 -- Lists of keys without duplicates.
-use Rattle.std.proofs.Common.{◌≡◌, ◌≢◌, ℕ, zero, suc, ◌<◌, ◌≤◌, ◌⊎◌, inl, inr, Bool, true, false, cond, eqb, ◌==◌, not, List, [], ◌∷◌, ◌++◌, length, get_or, filter, AllPairs, Contains, refl, sym, ap, ap₂, ◌∙◌, subst, arith, eq-eqb, slice_index}
-use Rattle.std.proofs.lemmas.Bool.{ne_eqb, cases_eq}
+use Rattle.std.proofs.Common.{◌≡◌, ◌≢◌, ℕ, zero, suc, ◌<◌, ◌≤◌, ◌⊎◌, inl, inr, Bool, true, false, cond, eqb, ◌==◌, not, List, [], ◌∷◌, ◌++◌, length, filter, AllPairs, Contains, refl, sym, ap, ap₂, ◌∙◌, subst, arith, eq-eqb, eqb-true, slice_index}
+use Rattle.std.proofs.lemmas.Bool.{ne_eqb}
 use Rattle.std.proofs.lemmas.Bool.Decides.{Decides-eqb}
 use Rattle.std.proofs.lemmas.List.Elements.{Contains-append_left, Contains-append_right, filter-append, Contains-append_cases, Contains-get_or}
+use Rattle.std.proofs.lemmas.List.{get_or_default}
 use Rattle.std.proofs.lemmas.Map.Made.{IsDistinct-from_AllPairs}
+use Rattle.std.proofs.lemmas.Map.Views.{Contains-from_any}
 use Rattle.std.proofs.lemmas.Map.Steps.{length-le_from_distinct_below}
 use Rattle.std.specs.List.{list_any}
 use Rattle.std.proofs.lemmas.List.Kept.{AllPairs-cons}
@@ -57,12 +59,7 @@ pub Once-front : (xs ys : List ℕ) → Once (xs ++ ys) → Once xs
 Once-front [] ys h i j d l m = absurd (omega arith)
 Once-front (x ∷ xs) ys h zero zero d l m = absurd (omega arith)
 Once-front (x ∷ xs) ys h (suc i) zero d l m = absurd (omega arith)
-Once-front (x ∷ xs) ys h zero (suc j) d l m = λ e. Once-head x (xs ++ ys) h (Contains-append_left xs ys x (j, omega arith, at_default xs j x d (omega arith) ∙ sym e))
-  where
-    at_default : (zs : List ℕ) (k c e : ℕ) → k < length zs → get_or zs k c ≡ get_or zs k e
-    at_default [] k c e l = absurd (omega arith)
-    at_default (z ∷ zs) zero c e l = refl
-    at_default (z ∷ zs) (suc k) c e l = at_default zs k c e (omega arith)
+Once-front (x ∷ xs) ys h zero (suc j) d l m = λ e. Once-head x (xs ++ ys) h (Contains-append_left xs ys x (j, omega arith, get_or_default xs j x d (omega arith) ∙ sym e))
 Once-front (x ∷ xs) ys h (suc i) (suc j) d l m = Once-front xs ys (Once-tail x (xs ++ ys) h) i j d (omega arith) (omega arith)
 
 -- a key before is not a key after
@@ -76,15 +73,7 @@ Once-apart (z ∷ zs) ys x h m n =
 
 -- a list of numbers below n without duplicates has at most n elements
 pub length-once : (xs : List ℕ) (n : ℕ) → Once xs → ((x : ℕ) → Contains xs x → x < n) → length xs ≤ n
-length-once xs n h small = length-le_from_distinct_below xs n (IsDistinct-from_AllPairs Decides-eqb xs h) (λ q any. small q (found xs q any))
-  where
-    found : (ys : List ℕ) (q : ℕ) → list_any (eqb q) ys ≡ true → Contains ys q
-    found [] q e = absurd (cc e)
-    found (y ∷ ys) q e =
-        elim (cases_eq q y) [
-          | inl same ↦ subst (λ (z : ℕ). Contains (z ∷ ys) q) same (Contains-here q ys)
-          | inr other ↦ Contains-later y ys q (found ys q (rw (ne_eqb q y other) at e))
-        ]
+length-once xs n h small = length-le_from_distinct_below xs n (IsDistinct-from_AllPairs Decides-eqb xs h) (λ q any. small q (Contains-from_any {eq = eqb} eqb-true q xs any))
 
 -- the test for the keys that `without` keeps
 abbrev pub is_not : ℕ → ℕ → Bool
@@ -126,8 +115,6 @@ Once-append (x ∷ xs) ys h g apart =
 
 -- an element of a list is below the bound of the list
 pub below_bound : (xs : List ℕ) (n q : ℕ) → ((i : ℕ) → i < length xs → slice_index xs i < n) → list_any (eqb q) xs ≡ true → q < n
-below_bound [] n q small any = cc
-below_bound (x ∷ xs) n q small any = elim (cases_eq q x) [
-  | inl e ↦ omega (arith, e, small 0 (omega arith))
-  | inr ne ↦ below_bound xs n q (λ i l. small (suc i) (omega arith)) (rw (ne_eqb q x ne) at any)
-]
+below_bound xs n q small any =
+    let m = Contains-from_any {eq = eqb} eqb-true q xs any in
+    omega (arith, small m.0 m.1, get_or_default xs m.0 q 0 m.1, m.2)

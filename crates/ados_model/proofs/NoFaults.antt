@@ -1,11 +1,12 @@
 -- An image that represents a tree shows no fault.
 use Rattle.std.proofs.Common.{◌≡◌, ℕ, zero, suc, ◌+◌, ◌*◌, ◌<◌, ◌≤◌, ◌⊎◌, inl, inr, List, [], ◌∷◌, length, take, drop, slice_index, Contains, refl, sym, ap, ap₂, ◌∙◌, subst, arith, ◌==◌, if◌then◌else◌}
-use Rattle.std.proofs.lemmas.List.{get_or_default, get_or-take, get_or-drop, take-take}
+use Rattle.std.proofs.lemmas.List.{get_or_default, take-take}
 use Rattle.std.proofs.lemmas.List.Elements.{All-contains}
 use Rattle.adf_block.specs.declared.layout.Format.{Format}
 use Rattle.adf_block.specs.declared.layout.Format.TheVariants.{Ofs, Ffs}
 use Rattle.adf_block.specs.Image.{byte_at, bytes_at, long, block_sum, HasText}
 use Rattle.adf_block.specs.Fields.{primary_type, parent_key, secondary_type, format_of}
+use Rattle.adf_block.proofs.Blocks.{byte-bytes_at}
 use Rattle.ados_name.specs.Name.{Same, slot, IsName, IsNameByte}
 use Rattle.ados_model.specs.declared.fault.FaultKind.TheVariants.{NotADosDisk, UnsupportedKind, BadSum, BadType, BadOwnKey, BadParent, BadPointer, BlockUsedTwice, WrongChain, BadName, DuplicateName, BadComment, BadCount, BadSequence, LinkEntry, MarkedFree, NoMemory}
 use Rattle.ados_model.specs.Tree.{Content, Node, Tree, root, name_of, size_of, data_count}
@@ -21,13 +22,6 @@ use Rattle.ados_model.specs.Laws.{FaultsHaveNoTree}
 use Rattle.ados_model.proofs.Standing.{StandsAt, IsFileNode, IsEntryNode, entry_at, file_at, reached_stands, same_place, inside_at, serves_at, duty_of, leads, LeadsTo, root_at, root_is, holder_of, long_of}
 use Rattle.ados_model.proofs.FileBlocks.{IsWhole}
 use Rattle.ados_model.proofs.FileFaults.{WholeFile, AreWhole, first_link, next_link, no_bad_sequence, no_bad_count}
-
--- a byte of a part of a block
-byte_in : (image : List ℕ) (b i n j : ℕ) → j < n → byte_at image b (i + j) ≡ slice_index (bytes_at image b i n) j
-unfolding byte_at bytes_at
-byte_in image b i n j l =
-    ap (λ (k : ℕ). slice_index image k) (omega arith)
-    ∙ sym (get_or-take n (drop (512 * b + i) image) j 0 l ∙ get_or-drop (512 * b + i) image j 0)
 
 -- the first bytes of a part of a block
 front_of : (image : List ℕ) (b i m n : ℕ) → m ≤ n → bytes_at image b i m ≡ take m (bytes_at image b i n)
@@ -55,7 +49,7 @@ module _ (image : List ℕ) (format : Format) (boot : bytes_at image 0 0 4 ≡ k
   is_dos = front_of image 0 0 3 4 (omega arith) ∙ ap (take 3) boot
 
   format_at : byte_at image 0 3 ≡ format_byte format
-  format_at = byte_in image 0 0 4 3 (omega arith) ∙ ap (λ (bytes : List ℕ). slice_index bytes 3) boot
+  format_at = sym (byte-bytes_at image 0 0 4 3 (omega arith)) ∙ ap (λ (bytes : List ℕ). slice_index bytes 3) boot
 
   pub is_known : byte_at image 0 3 ≤ 1
   is_known = omega (arith, format_at, format_small format)

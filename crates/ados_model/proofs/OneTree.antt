@@ -168,36 +168,30 @@ module _ (image : List ℕ) (t u : Tree) (s : Stands image t) (r : Stands image 
         r.fits.file_data file ∙ ap (data_count u.format) size_u ∙ data_count-zero u.format,
       )
 
-  all_data_same : (file : ℕ) → s.layout.file_data file ≡ r.layout.file_data file
-  all_data_same file = go (content_at t file) refl
+  -- a list of blocks that is the same for each file, and empty for any other key
+  all_same : (xs ys : List ℕ) (file : ℕ) → (size_of t file ≡ 0 → (length xs ≡ 0) × (length ys ≡ 0))
+      → ((a b : Node) (bytes : List ℕ) → t.nodes file ≡ Some a → u.nodes file ≡ Some b → a.content ≡ File bytes → b.content ≡ File bytes → xs ≡ ys) → xs ≡ ys
+  all_same xs ys file none same = go (content_at t file) refl
     where
-      none : size_of t file ≡ 0 → s.layout.file_data file ≡ r.layout.file_data file
-      none e = let n = no_data file e in nil_from_length _ n.0 ∙ sym (nil_from_length _ n.1)
+      empty : size_of t file ≡ 0 → xs ≡ ys
+      empty e = let n = none e in nil_from_length xs n.0 ∙ sym (nil_from_length ys n.1)
 
-      go : (o : Option Content) → content_at t file ≡ o → s.layout.file_data file ≡ r.layout.file_data file
-      go None e = none (ap size_in e)
-      go (Some (Directory keys)) e = none (ap size_in e)
+      go : (o : Option Content) → content_at t file ≡ o → xs ≡ ys
+      go None e = empty (ap size_in e)
+      go (Some (Directory keys)) e = empty (ap size_in e)
       go (Some (File bytes)) e =
           let m = content_in (t.nodes file) (File bytes) e in
           let n = content_in (u.nodes file) (File bytes) (sym (contents_same file) ∙ e) in
-          data_same image t u s r file m.0 n.0 bytes bytes m.1 n.1 m.2 n.2
+          same m.0 n.0 bytes m.1 n.1 m.2 n.2
+
+  all_data_same : (file : ℕ) → s.layout.file_data file ≡ r.layout.file_data file
+  all_data_same file = all_same (s.layout.file_data file) (r.layout.file_data file) file (no_data file) (λ a b bytes. data_same image t u s r file a b bytes bytes)
 
   all_extensions_same : (file : ℕ) → s.layout.extensions file ≡ r.layout.extensions file
-  all_extensions_same file = go (content_at t file) refl
-    where
-      none : size_of t file ≡ 0 → s.layout.extensions file ≡ r.layout.extensions file
-      none e =
-          let n = no_data file e in
-          nil_from_length _ (s.fits.extensions file ∙ ap extension_count n.0)
-          ∙ sym (nil_from_length _ (r.fits.extensions file ∙ ap extension_count n.1))
-
-      go : (o : Option Content) → content_at t file ≡ o → s.layout.extensions file ≡ r.layout.extensions file
-      go None e = none (ap size_in e)
-      go (Some (Directory keys)) e = none (ap size_in e)
-      go (Some (File bytes)) e =
-          let m = content_in (t.nodes file) (File bytes) e in
-          let n = content_in (u.nodes file) (File bytes) (sym (contents_same file) ∙ e) in
-          extensions_same image t u s r file m.0 n.0 bytes bytes m.1 n.1 m.2 n.2
+  all_extensions_same file =
+      all_same (s.layout.extensions file) (r.layout.extensions file) file
+      (λ e. let n = no_data file e in (s.fits.extensions file ∙ ap extension_count n.0, r.fits.extensions file ∙ ap extension_count n.1))
+      (λ a b bytes. extensions_same image t u s r file a b bytes bytes)
 
   pages_same : s.layout.pages ≡ r.layout.pages
   pages_same =

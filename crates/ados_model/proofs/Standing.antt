@@ -2,6 +2,7 @@
 use Rattle.std.proofs.Common.{◌≡◌, ◌≢◌, ℕ, zero, suc, ◌+◌, ◌-◌, ◌*◌, ◌/◌, ◌%◌, ◌<◌, ◌≤◌, ◌⊎◌, inl, inr, true, ◌==◌, List, [], ◌∷◌, length, slice_index, slice_get, AllPairs, Contains, Some, None, refl, sym, ap, ap₂, ◌∙◌, subst, arith, eqb-true}
 use Rattle.std.specs.Bool.{⊤}
 use Rattle.std.proofs.lemmas.Bool.{cases_order}
+use Rattle.std.proofs.lemmas.Option.{slice_get-get_or}
 use Rattle.std.proofs.lemmas.List.Elements.{All-filter, All-contains_itself, filter_passes}
 use Rattle.std.proofs.lemmas.List.Kept.{AllPairs-filter}
 use Rattle.adf_block.specs.Image.{block_count, root_key, page_count, long, Chained}
@@ -32,9 +33,7 @@ Chained-first image link first [] c n = absurd (n c)
 Chained-first image link first (x ∷ xs) c n = (omega arith, sym c.0)
 
 pub slice_get-index : (xs : List ℕ) (i : ℕ) → i < length xs → slice_get xs i ≡ Some (slice_index xs i)
-slice_get-index [] i l = absurd (omega arith)
-slice_get-index (x ∷ xs) zero l = refl
-slice_get-index (x ∷ xs) (suc i) l = slice_get-index xs i (omega arith)
+slice_get-index xs i l = slice_get-get_or xs i 0 l
 
 -- an element of a list without duplicates has one position
 pub one_place : (xs : List ℕ) → AllPairs (λ a b. a ≢ b) xs → (i j : ℕ) → i < length xs → j < length xs → slice_index xs i ≡ slice_index xs j → i ≡ j

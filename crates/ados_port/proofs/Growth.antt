@@ -2,7 +2,7 @@
 use Rattle.std.proofs.Common.{◌≡◌, ℕ, List, ◌++◌, length, Some, slice_get, sym, ap, subst, ◌∙◌, append_assoc, arith}
 use Rattle.std.proofs.lemmas.Option.{slice_get_within, slice_get-get_or}
 use Rattle.std.proofs.Math.ListN.{get_or}
-use Rattle.port_history.specs.History.{Serving}
+use Rattle.port_ends.specs.History.{Serving}
 use Rattle.port_ends.specs.Rings.{OutView}
 use Rattle.port_ends.specs.Ends.{ClientView, HandlerView, AreEnds, Serves}
 use Rattle.ados_port.specs.Grown.{Grown}

@@ -1,24 +1,22 @@
 -- Two histories, one after the other, are one history.
 use Rattle.std.proofs.Common.{◌≡◌, ◌⊎◌, ℕ, zero, suc, ◌+◌, ◌<◌, ◌≤◌, Bool, cond, List, [], ◌∷◌, ◌++◌, map, length, take, drop, slice_get, nat_eq, Some, None, refl, sym, ap, ◌∙◌, inl, inr, arith, subst, MatchOption, append_assoc, length-append}
-use Rattle.std.specs.Prelude.{Option}
 use Rattle.std.specs.Option.{option_map}
-use Rattle.std.proofs.lemmas.List.{map-append, take-append-drop, take-append-le, take-take, take_all, drop-append-le, drop-drop, length-map, length-drop}
+use Rattle.std.proofs.lemmas.List.{map-append, take-append-le, length-take, drop-append-le, drop-drop, length-map}
 use Rattle.std.proofs.lemmas.List.Elements.{filter_map-append}
-use Rattle.std.proofs.lemmas.Option.{none-some, same_Some}
 use Rattle.std.proofs.lemmas.Bool.Decides.{eqb_tells}
 use Rattle.std.proofs.Math.Seq.{take-append-add, drop-append-add}
-use Rattle.port_history.proofs.Events.{filter_map-take}
-use Rattle.port_history.proofs.Numbers.{eq_true, eq_false}
-use Rattle.port_history.proofs.Serving.{run-append, last_server-append, packets_by-append, packets_by-own, packets_by-other, answers_to-append}
-use Rattle.port_history.specs.History.{ClientState, PortState, Serving, Event, events_of, packets_by, accepted_in, moments_in, taken_in, served_count, taken_count, client_state, Run, last_server, queue, client_now, PutFits, take_outcome, OutcomeFits, PortHistory, moment_served}
-use Rattle.port_history.specs.Lawful.{accepted_count, packets_of, answers_to}
-use Rattle.port_history.specs.declared.step.Step.{Step}
-use Rattle.port_history.specs.declared.step.Step.TheVariants.{Put, Serve, Take}
-use Rattle.port_history.specs.declared.step.Reply.{Reply}
-use Rattle.port_history.specs.declared.step.Outcome.{Outcome}
-use Rattle.port_history.specs.declared.step.Outcome.TheVariants.{Accepted, Refused, Served, Idle, Taken, Nothing, NoClient}
-use Rattle.ados_port.proofs.Histories.{served_length, servers_length, queue_is, MatchOption-map, option_map-both}
-use Rattle.ados_port.proofs.Grows.{MatchOption-weaken}
+use Rattle.port_ends.proofs.Events.{filter_map-take}
+use Rattle.port_ends.proofs.Numbers.{eq_true, eq_false}
+use Rattle.port_ends.proofs.Lawful.{length-numbered}
+use Rattle.port_ends.proofs.Replies.{took_first}
+use Rattle.port_ends.proofs.Serving.{run-append, last_server-append, packets_by-append, answers_to-append}
+use Rattle.port_ends.specs.History.{ClientState, PortState, Serving, Event, events_of, packets_by, accepted_in, moments_in, taken_in, served_count, taken_count, client_state, Run, last_server, queue, client_now, PutFits, take_outcome, OutcomeFits, PortHistory, moment_served}
+use Rattle.port_ends.specs.Lawful.{accepted_count, packets_of, answers_to}
+use Rattle.port_ends.specs.declared.step.Step.{Step}
+use Rattle.port_ends.specs.declared.step.Step.TheVariants.{Put, Serve, Take}
+use Rattle.port_ends.specs.declared.step.Outcome.{Outcome}
+use Rattle.port_ends.specs.declared.step.Outcome.TheVariants.{Served, Idle, NoClient}
+use Rattle.ados_port.proofs.Histories.{served_length, servers_length, queue_is, MatchOption-map, MatchOption-weaken, option_map-both}
 
 events-append : {Q M A : Type 0} (steps more : List (Step Q M)) (outcomes after : List (Outcome Q A)) → length outcomes ≡ length steps
     → events_of (steps ++ more) (outcomes ++ after) ≡ events_of steps outcomes ++ events_of more after
@@ -37,18 +35,6 @@ slice_get-append_at (z ∷ zs) ys (suc i) x h = elim (slice_get-append_at zs ys 
   | inr w ↦ inr (w.0, omega (arith, w.1), w.2)
 ]
 
--- one more element, or none
-take-next : {X : Type 0} (xs : List X) (i : ℕ) (x : X) → slice_get xs i ≡ Some x → take (suc i) xs ≡ take i xs ++ x ∷ []
-take-next [] i x h = absurd (none-some x h)
-take-next (y ∷ ys) zero x h = ap (λ z. z ∷ []) (same_Some y x h)
-take-next (y ∷ ys) (suc i) x h = ap (λ l. y ∷ l) (take-next ys i x h)
-
-take-none : {X : Type 0} (xs : List X) (i : ℕ) → slice_get xs i ≡ None → take (suc i) xs ≡ take i xs
-take-none [] zero h = refl
-take-none [] (suc i) h = refl
-take-none (y ∷ ys) zero h = absurd (none-some y (sym h))
-take-none (y ∷ ys) (suc i) h = ap (λ l. y ∷ l) (take-none ys i h)
-
 -- two numbers, both larger by k
 eq-longer : (k a b x y : ℕ) → x ≡ k + a → y ≡ k + b → nat_eq x y ≡ nat_eq a b
 eq-longer k a b x y e f = elim (eqb_tells a b) [
@@ -56,97 +42,27 @@ eq-longer k a b x y e f = elim (eqb_tells a b) [
   | inr w ↦ eq_false x y (λ q. w.1 (omega (arith, e, f, q))) ∙ sym w.0
 ]
 
--- a reply is taken only if one is left
-one_is_left : {Q A : Type 0} (taken : ℕ) (untaken : List A) (reply : Reply A) → ◌≡◌ {A = Outcome Q A} (Taken reply) (take_outcome taken untaken) → 1 ≤ length untaken
-one_is_left taken [] reply e = let f = e in cc
-one_is_left taken (answer ∷ answers) reply e = omega arith
-
 module _ {Q M A : Type 0} where
-  -- the first packets have no further answers
-  answers_to-take : (number k : ℕ) (served : List (Serving Q M A)) → length (answers_to number (take k served)) ≤ length (answers_to number served)
-  answers_to-take number k served =
-      let all : answers_to number (take k served) ++ answers_to number (drop k served) ≡ answers_to number served =
-      sym (answers_to-append number (take k served) (drop k served)) ∙ ap (answers_to number) (take-append-drop k served)
-      in omega (arith, ap length all, length-append (answers_to number (take k served)) (answers_to number (drop k served)))
-
-  -- nor has an earlier event
-  answers_to-later : (number i j : ℕ) (served : List (Serving Q M A)) → i ≤ j → length (answers_to number (take i served)) ≤ length (answers_to number (take j served))
-  answers_to-later number i j served before =
-      let few = answers_to-take number i (take j served)
-      in omega (arith, few, ap (λ l. length (answers_to number l)) (take-take i j served before))
-
   taken-append : (number : ℕ) (es fs : List (Event Q M A)) → taken_count number (es ++ fs) ≡ taken_count number es + taken_count number fs
-  taken-append number es fs = ap length (ap (packets_by number) (filter_map-append _ es fs) ∙ packets_by-append number (taken_in es) (taken_in fs)) ∙ length-append _ _
+  taken-append number es fs = simp (filter_map-append, packets_by-append, length-append)
 
   accepted-append : (number : ℕ) (es fs : List (Event Q M A)) → accepted_count number (es ++ fs) ≡ accepted_count number es + accepted_count number fs
-  accepted-append number es fs = ap length (ap (packets_by number) (filter_map-append _ es fs) ∙ packets_by-append number (accepted_in es) (accepted_in fs)) ∙ length-append _ _
+  accepted-append number es fs = simp (filter_map-append, packets_by-append, length-append)
 
   served-append : (es fs : List (Event Q M A)) → served_count (es ++ fs) ≡ served_count es + served_count fs
-  served-append es fs = ap length (filter_map-append _ es fs) ∙ length-append _ _
-
-  -- an event takes a reply of this client, or none
-  abbrev TakesOne : ℕ → Step Q M → Outcome Q A → Type 0
-  TakesOne number step outcome =
-      (taken_count number (record { step = step; outcome = outcome } ∷ []) ≡ 0)
-      ⊎ ((reply : Reply A) × (step ≡ Take number) × (outcome ≡ Taken reply) × (taken_count number (record { step = step; outcome = outcome } ∷ []) ≡ 1))
-
-  takes_one : (number : ℕ) (step : Step Q M) (outcome : Outcome Q A) → TakesOne number step outcome
-  takes_one number (Put client packet) outcome = inl refl
-  takes_one number (Serve moment) outcome = inl refl
-  takes_one number (Take client) (Accepted n) = inl refl
-  takes_one number (Take client) (Refused refused) = inl refl
-  takes_one number (Take client) Served = inl refl
-  takes_one number (Take client) Idle = inl refl
-  takes_one number (Take client) (Taken reply) = elim (eqb_tells number client) [
-    | inl w ↦ inr (reply, ap Take (sym w.1), refl, ap length (packets_by-own client number reply w.1))
-    | inr w ↦ inl (ap length (packets_by-other client number reply w.1))
-  ]
-  takes_one number (Take client) Nothing = inl refl
-  takes_one number (Take client) (NoClient packet) = inl refl
+  served-append es fs = simp (filter_map-append, length-append)
 
 module _ {S Q M A : Type 0} (gives : S → Q → M → S → A → Type 0) (has_died : S → Bool) where
   module _ (opening : PortState S Q A) (steps : List (Step Q M)) (outcomes : List (Outcome Q A)) (mid : PortState S Q A) (h : PortHistory gives has_died opening steps outcomes mid) where
     abbrev es : List (Event Q M A)
     es = events_of steps outcomes
 
-    -- at no event has a client taken more replies than there were
-    abbrev Bounded : ℕ → ClientState A → List (Event Q M A) → Type 0
-    Bounded number c before = taken_count number before ≤ length (c.untaken ++ answers_to number (take (served_count before) h.served))
-
-    taken_more : (number : ℕ) (c : ClientState A) → client_state opening.clients number ≡ Some c → (i : ℕ) (f : Event Q M A) → slice_get es i ≡ Some f
-        → Bounded number c (take i es) → Bounded number c (take i es ++ f ∷ [])
-    taken_more number c found i f at_i bound =
-        let before = take i es
-        in let now = answers_to number (take (served_count before) h.served)
-        in let then = answers_to number (take (served_count (before ++ f ∷ [])) h.served)
-        in let more = answers_to-later number (served_count before) (served_count (before ++ f ∷ [])) h.served (omega (arith, served-append before (f ∷ [])))
-        in let counted = taken-append number before (f ∷ [])
-        in elim (takes_one number f.step f.outcome) [
-          | inl w ↦ omega (arith, bound, more, counted, w, length-append c.untaken now, length-append c.untaken then)
-          | inr w ↦
-              let served = take (served_count before) h.served
-              in let died = has_died (last_server opening.server (take (served_count before) h.servers))
-              in let fits : OutcomeFits opening served died before (Take number) (Taken w.0) =
-              subst (λ o. OutcomeFits opening served died before (Take number) o) w.2 (subst (λ s. OutcomeFits opening served died before s f.outcome) w.1 (h.fits i f at_i))
-              in let takes : ◌≡◌ {A = Outcome Q A} (Taken w.0) (take_outcome (client_now served before number c).taken (client_now served before number c).untaken) =
-              subst (λ o. MatchOption o (◌≡◌ {A = Outcome Q A} (Taken w.0) (NoClient None)) (λ d. ◌≡◌ {A = Outcome Q A} (Taken w.0) (take_outcome (client_now served before number d).taken (client_now served before number d).untaken))) found fits
-              in let left = one_is_left {Q = Q} (client_now served before number c).taken (client_now served before number c).untaken w.0 takes
-              in omega (arith, left, more, counted, w.3, length-drop (taken_count number before) (c.untaken ++ now), length-append c.untaken now, length-append c.untaken then)
-        ]
-
-    taken_by : (number : ℕ) (c : ClientState A) → client_state opening.clients number ≡ Some c → (i : ℕ) → Bounded number c (take i es)
-    taken_by number c found zero = omega arith
-    taken_by number c found (suc i) = go (slice_get es i) refl (taken_by number c found i)
-      where
-        go : (o : Option (Event Q M A)) → slice_get es i ≡ o → Bounded number c (take i es) → Bounded number c (take (suc i) es)
-        go None e bound = subst (Bounded number c) (sym (take-none es i e)) bound
-        go (Some f) e bound = subst (Bounded number c) (sym (take-next es i f e)) (taken_more number c found i f e bound)
-
+    -- no client has taken more replies than there were
     taken_bound : (number : ℕ) (c : ClientState A) → client_state opening.clients number ≡ Some c → taken_count number es ≤ length (c.untaken ++ answers_to number h.served)
     taken_bound number c found =
-        let last : Bounded number c es = subst (Bounded number c) (take_all (length es) es (omega arith)) (taken_by number c found (length es))
-        in let all : take (served_count es) h.served ≡ h.served = take_all (served_count es) h.served (omega (arith, served_length gives has_died opening steps outcomes mid h))
-        in subst (λ l. taken_count number es ≤ length (c.untaken ++ answers_to number l)) all last
+        let replies = c.untaken ++ answers_to number h.served
+        in let first = took_first gives has_died opening steps outcomes mid h number c found
+        in omega (arith, ap length first, length-numbered (c.taken + 1) (take (taken_count number es) replies), length-take (taken_count number es) replies)
 
     -- the queue and the clients, counted from the first opening
     queue_behind : (before : List (Event Q M A)) → queue opening (es ++ before) ≡ packets_of h.served ++ queue mid before
@@ -185,7 +101,7 @@ module _ {S Q M A : Type 0} (gives : S → Q → M → S → A → Type 0) (has_
     fits_behind served died before (Put client packet) outcome w = by_client_behind (outcome ≡ NoClient (Some packet)) (λ c. PutFits died packet c outcome) client served before w
     fits_behind served died before (Serve moment) outcome w =
         let longer : length (queue opening (es ++ before)) ≡ length h.served + length (queue mid before) =
-        ap length (queue_behind before) ∙ length-append (packets_of h.served) (queue mid before) ∙ ap (λ n. n + length (queue mid before)) (length-map h.served _)
+        ap length (queue_behind before) ∙ simp (length-append, length-map)
         in w ∙ sym (ap (λ b. cond b Idle Served) (eq-longer (length h.served) (length served) (length (queue mid before)) _ _ (length-append h.served served) longer))
     fits_behind served died before (Take client) outcome w = by_client_behind (outcome ≡ NoClient None) (λ c. outcome ≡ take_outcome c.taken c.untaken) client served before w
 
@@ -212,9 +128,7 @@ module _ {S Q M A : Type 0} (gives : S → Q → M → S → A → Type 0) (has_
           in let as_served : take (served_count (take i es)) (h.served ++ g.served) ≡ take (served_count (take i es)) h.served = take-append-le _ h.served g.served few
           in let as_servers : take (served_count (take i es)) (h.servers ++ g.servers) ≡ take (served_count (take i es)) h.servers =
           take-append-le _ h.servers g.servers (omega (arith, few, as_many_servers))
-          in subst (λ l. OutcomeFits opening (take (served_count l) (h.served ++ g.served)) (has_died (last_server opening.server (take (served_count l) (h.servers ++ g.servers)))) l f.step f.outcome) (sym same)
-          (subst (λ l. OutcomeFits opening l (has_died (last_server opening.server (take (served_count (take i es)) (h.servers ++ g.servers)))) (take i es) f.step f.outcome) (sym as_served)
-          (subst (λ l. OutcomeFits opening (take (served_count (take i es)) h.served) (has_died (last_server opening.server l)) (take i es) f.step f.outcome) (sym as_servers) (h.fits i f at_i)))
+          in simp (same, as_served, as_servers) (h.fits i f at_i)
 
       fits_second : (j : ℕ) (f : Event Q M A) → slice_get fs j ≡ Some f → FitsBoth (length es + j) f
       fits_second j f at_j =
@@ -227,11 +141,7 @@ module _ {S Q M A : Type 0} (gives : S → Q → M → S → A → Type 0) (has_
           ap (λ n. take n (h.servers ++ g.servers)) (served-append es before ∙ ap (λ n. n + k) (counted ∙ sym as_many_servers)) ∙ take-append-add h.servers g.servers k
           in let server : last_server opening.server (h.servers ++ take k g.servers) ≡ last_server mid.server (take k g.servers) =
           last_server-append opening.server h.servers (take k g.servers) ∙ ap (λ s. last_server s (take k g.servers)) (sym h.closing_server)
-          in subst (λ l. OutcomeFits opening (take (served_count l) (h.served ++ g.served)) (has_died (last_server opening.server (take (served_count l) (h.servers ++ g.servers)))) l f.step f.outcome) (sym same)
-          (subst (λ l. OutcomeFits opening l (has_died (last_server opening.server (take (served_count (es ++ before)) (h.servers ++ g.servers)))) (es ++ before) f.step f.outcome) (sym as_served)
-          (subst (λ l. OutcomeFits opening (h.served ++ take k g.served) (has_died (last_server opening.server l)) (es ++ before) f.step f.outcome) (sym as_servers)
-          (subst (λ s. OutcomeFits opening (h.served ++ take k g.served) (has_died s) (es ++ before) f.step f.outcome) (sym server)
-          (fits_behind (take k g.served) (has_died (last_server mid.server (take k g.servers))) before f.step f.outcome (g.fits j f at_j)))))
+          in simp (same, as_served, as_servers, server) (fits_behind (take k g.served) (has_died (last_server mid.server (take k g.servers))) before f.step f.outcome (g.fits j f at_j))
 
       events_both : events_of (steps ++ more) (outcomes ++ after) ≡ es ++ fs
       events_both = events-append steps more outcomes after h.as_long

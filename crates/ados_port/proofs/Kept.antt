@@ -1,39 +1,26 @@
 -- Lemmas on the clients and the waiting packets.
-use Rattle.std.proofs.Common.{◌≡◌, ◌≢◌, ◌⊎◌, ℕ, zero, suc, ◌+◌, ◌<◌, ◌≤◌, List, [], ◌∷◌, ◌++◌, length, slice_get, slice_set, nat_eq, Some, refl, sym, ap, ◌∙◌, inl, inr, arith, cond, add-zero, zero-add}
+use Rattle.std.proofs.Common.{◌≡◌, ◌≢◌, ◌⊎◌, ℕ, suc, ◌+◌, ◌<◌, ◌≤◌, List, [], ◌∷◌, ◌++◌, length, slice_get, slice_set, nat_eq, Some, sym, ap, ◌∙◌, inl, inr, arith, cond, add-zero, zero-add}
 use Rattle.std.specs.Prelude.{count_by}
 use Rattle.std.proofs.lemmas.List.Sums.{sum_by-append}
 use Rattle.std.proofs.lemmas.List.{length-set}
-use Rattle.std.proofs.lemmas.Option.{none-some, same_Some, slice_get_within}
-use Rattle.port_history.proofs.Numbers.{eq_true, eq_false}
+use Rattle.std.proofs.lemmas.Option.{same_Some, slice_get_within}
+use Rattle.std.proofs.lemmas.Bool.Decides.{eqb_tells}
+use Rattle.port_ends.proofs.Numbers.{eq_true, eq_false}
+use Rattle.port_ends.proofs.Eachs.{get_set_same, get_set_other}
 use Rattle.ados_port.specs.View.{IsKept}
+use Rattle.ados_port.proofs.Histories.{slice_get-push_at}
 use Rattle.ados_port.specs.declared.counts.Client.{Client}
 use Rattle.ados_port.specs.declared.exchange.Waiting.{Waiting}
 
-suc_path : (i p : ℕ) → i ≡ p → suc i ≡ suc p
-suc_path i p e = ap suc e
-
-suc_apart : (i p : ℕ) → i ≢ p → suc i ≢ suc p
-suc_apart i p h e = h (omega (arith, e))
-
 -- an element of a list after a write is the written one, or an old one at another index
-pub slice_get-set_cases : {A : Type 0} (xs : List A) (p : ℕ) (y : A) (i : ℕ) (x : A) → slice_get (slice_set xs p y) i ≡ Some x
+slice_get-set_cases : {A : Type 0} (xs : List A) (p : ℕ) (y : A) (i : ℕ) (x : A) → slice_get (slice_set xs p y) i ≡ Some x
     → ((i ≡ p) × (x ≡ y)) ⊎ ((i ≢ p) × (slice_get xs i ≡ Some x))
-slice_get-set_cases [] p y i x h = absurd (none-some x h)
-slice_get-set_cases (z ∷ zs) zero y zero x h = inl (refl, sym (same_Some y x h))
-slice_get-set_cases (z ∷ zs) zero y (suc i) x h = inr ((λ e. absurd (omega (arith, e))), h)
-slice_get-set_cases (z ∷ zs) (suc p) y zero x h = inr ((λ e. absurd (omega (arith, e))), h)
-slice_get-set_cases (z ∷ zs) (suc p) y (suc i) x h =
-    elim (slice_get-set_cases zs p y i x h) [
-      | inl c ↦ inl (suc_path i p c.0, c.1)
-      | inr c ↦ inr (suc_apart i p c.0, c.1)
-    ]
-
--- an element of a list after a push is an old one, or the pushed one
-pub slice_get-push_cases : {A : Type 0} (xs : List A) (y : A) (i : ℕ) (x : A) → slice_get (xs ++ y ∷ []) i ≡ Some x → (slice_get xs i ≡ Some x) ⊎ (x ≡ y)
-slice_get-push_cases [] y zero x h = inr (sym (same_Some y x h))
-slice_get-push_cases [] y (suc i) x h = absurd (none-some x h)
-slice_get-push_cases (z ∷ zs) y zero x h = inl h
-slice_get-push_cases (z ∷ zs) y (suc i) x h = slice_get-push_cases zs y i x h
+slice_get-set_cases xs p y i x h = elim (eqb_tells i p) [
+  | inl w ↦
+      let within : p < length xs = omega (arith, slice_get_within (slice_set xs p y) i x h, length-set xs p y, w.1)
+      in inl (w.1, same_Some x y (sym h ∙ ap (slice_get (slice_set xs p y)) w.1 ∙ get_set_same xs p y within))
+  | inr w ↦ inr (w.1, sym (get_set_other xs p i y w.1) ∙ h)
+]
 
 -- one more packet at the end, and one less at the start
 pub count-push : {Q : Type 0} (ws : List (Waiting Q)) (w : Waiting Q) (n : ℕ) → count_by (λ v. nat_eq v.client n) (ws ++ w ∷ []) ≡ count_by (λ v. nat_eq v.client n) ws + cond (nat_eq w.client n) 1 0
@@ -67,9 +54,9 @@ module _ {Q A : Type 0} (clients : List (Client A)) (waiting : List (Waiting Q))
           ∙ ap (λ b. count_by (λ w. nat_eq w.client (i + 1)) waiting + cond b 1 0) (sym (eq_false w.client (i + 1) (λ q. e.0 (omega (arith, q, is_client)))))
           ∙ sym (count-push waiting w (i + 1))
     ];
-    known = λ i v h. rw length-set (elim (slice_get-push_cases waiting w i v h) [
-      | inl e ↦ kept.known i v e
-      | inr e ↦ let short : p < length clients = slice_get_within clients p old at_p in rw e (omega (arith, is_client))
+    known = λ i v h. rw length-set (elim (slice_get-push_at waiting w i v h) [
+      | inl e ↦ kept.known i v e.1
+      | inr e ↦ let short : p < length clients = slice_get_within clients p old at_p in rw e.1 (omega (arith, is_client))
     ]);
   }
 

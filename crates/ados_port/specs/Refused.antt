@@ -1,7 +1,7 @@
 -- What a refused run of steps hands back.
 use Rattle.std.specs.Prelude.{◌≡◌, List}
-use Rattle.port_history.specs.History.{PortState}
-use Rattle.port_history.specs.declared.step.Step.{Step}
+use Rattle.port_ends.specs.History.{PortState}
+use Rattle.port_ends.specs.declared.step.Step.{Step}
 use Rattle.ados_port.specs.declared.steps.RunRefused.{RunRefused}
 
 -- the exchange and the steps, unchanged

@@ -2,8 +2,7 @@
 ghost use Rattle.port_ends.specs.Ends.{ClientView};
 ghost use Rattle.ados_port.specs.Grown.{Grown};
 
-use port_ends::ClientEnd;
-use port_history::Server;
+use port_ends::{ClientEnd, Server};
 use std::sync::Wait;
 
 /// What a client does with its end, on its own thread.

@@ -2,7 +2,7 @@
 ghost use Rattle.std.specs.Prelude.{◌≡◌, ◌+◌, ◌≤◌, ◌<◌, [], ◌∷◌, ◌++◌, MatchOption};
 ghost use Rattle.std.specs.VecDeque.{deque_len, deque_capacity};
 
-use port_history::Reply;
+use port_ends::Reply;
 use std::alloc::Global;
 use std::collections::VecDeque;
 

@@ -1,10 +1,10 @@
 //! The exchange: a server, its port and its clients' replies.
 ghost use Rattle.std.specs.Prelude.{◌≡◌, ◌≤◌, [], ◌∷◌, MatchResult};
-ghost use Rattle.port_history.specs.History.{opening_port, PortHistory};
-ghost use Rattle.port_history.specs.Steps.{PutGives, ServeGives, TakeGives, StepGives};
+ghost use Rattle.port_ends.specs.History.{opening_port, PortHistory};
+ghost use Rattle.port_ends.specs.Gives.{PutGives, ServeGives, TakeGives, StepGives};
 
 use crate::counts::Client;
-use port_history::{Outcome, PutRefused, Server, Step};
+use port_ends::{Outcome, PutRefused, Server, Step};
 use std::alloc::Global;
 use std::collections::VecDeque;
 use std::marker::Model;
@@ -26,8 +26,8 @@ pub struct Exchange<S: Server> {
 }
 
 impl<S: Server> Model for Exchange<S> {
-    ghost use Rattle.port_history.specs.History.{PortState};
-    ghost use Rattle.port_history.specs.Codes.{port_code};
+    ghost use Rattle.port_ends.specs.History.{PortState};
+    ghost use Rattle.port_ends.specs.Codes.{port_code};
 
     ghost Value = { PortState S S.Request S.Reply };
 

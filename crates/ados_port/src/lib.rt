@@ -15,11 +15,9 @@ mod serve;
 pub use client::Client;
 pub use exchange::{Exchange, NewRefused};
 pub use port_ends::{
-    ClientEnd, GatherRefused, Gathered, HandlerEnd, OpenRefused, Rest, ServeEnd, ServeFault,
-    gather, open_port,
-};
-pub use port_history::{
-    Outcome, PutRefused, Reply, Server, Step, closed_after_death, lists_have_a_history,
+    ClientEnd, GatherRefused, Gathered, HandlerEnd, OpenRefused, Outcome, PutRefused, Reply, Rest,
+    ServeEnd, ServeFault, Server, Step, closed_after_death, gather, lists_have_a_history,
+    open_port,
 };
 pub use serve::{ServeClientsFault, Served, serve_clients};
 pub use steps::{RunDone, RunRefused, run};

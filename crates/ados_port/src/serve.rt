@@ -5,8 +5,7 @@ ghost use Rattle.port_ends.specs.Batches.{ServesSome};
 ghost use Rattle.ados_port.specs.Grown.{Did, EachDid};
 
 use crate::client::Client;
-use port_ends::{ClientEnd, HandlerEnd, Rest};
-use port_history::Server;
+use port_ends::{ClientEnd, HandlerEnd, Rest, Server};
 use std::alloc::{AllocError, Global};
 use std::collections::VecDeque;
 use std::snapshot::Snapshot;

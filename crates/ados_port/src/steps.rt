@@ -1,11 +1,11 @@
 //! Runs a list of steps at an exchange.
 ghost use Rattle.std.specs.Prelude.{◌≡◌, true, IfOk, MatchResult};
-ghost use Rattle.port_history.specs.History.{PortHistory, events_of, PutsAreClosed};
-ghost use Rattle.port_history.specs.Steps.{FirstAreServed};
+ghost use Rattle.port_ends.specs.History.{PortHistory, events_of, PutsAreClosed};
+ghost use Rattle.port_ends.specs.Gives.{FirstAreServed};
 ghost use Rattle.ados_port.specs.Refused.{HandsBack};
 
 use crate::exchange::Exchange;
-use port_history::{Outcome, Server, Step};
+use port_ends::{Outcome, Server, Step};
 use std::alloc::Global;
 use std::collections::VecDeque;
 

@@ -3,6 +3,7 @@ use Rattle.std.proofs.Common.{◌≡◌, ◌≢◌, ℕ, zero, suc, ◌+◌, pos
 use Rattle.std.specs.Prelude.{All}
 use Rattle.std.proofs.lemmas.List.Elements.{All-nil, All-cons}
 use Rattle.std.proofs.lemmas.Option.{none-some, same_Some}
+use Rattle.std.proofs.lemmas.Bool.{true≢false}
 use Rattle.ados_name.specs.declared.stamp.Date3.{Date3}
 use Rattle.ados_model.specs.Tree.{Tree}
 use Rattle.ados_port.specs.History.{Serving, Run, last_server}
@@ -14,7 +15,6 @@ use Rattle.ados_model.specs.Refusals.{first_refusal, refuse, refusals}
 use Rattle.ados_model.specs.Meaning.{Meaning, IsRefused, ServedOrNoMemory, is_closing, is_number}
 use Rattle.ados_handler.specs.Gives.{HandlerGives}
 use Rattle.ados_handler.specs.steps.Closes.{serves_closing}
-use Rattle.ados_handler.proofs.Holding.{true_false}
 use Rattle.ados_run.specs.Runs.{handler_died, handler_after, RestsAfter}
 use Rattle.ados_run.specs.Opened.{IsTooLate}
 use Rattle.ados_run.specs.Laws.{DeadHandlersRest}
@@ -27,7 +27,7 @@ dead_refused t u s v packet now answer dead means = go s.died dead means
         → MatchOption (first_refusal (refuse DeviceNotMounted b ∷ refusals t s packet)) (ServedOrNoMemory t s packet now u v answer) (λ code. IsRefused t s packet code u v answer)
         → IsRefused t s packet DeviceNotMounted u v answer
     go true e refused = refused
-    go false e other = absurd (true_false (sym e))
+    go false e other = absurd (true≢false (sym e))
 
 -- without packets, the handler is the old one
 last_of_none : (old : HandlerState) (n : ℕ) → last_server old (take n []) ≡ old
@@ -51,7 +51,7 @@ dead_run old (s ∷ served) [] dead run = elim run [ ]
 dead_run old (s ∷ served) (new ∷ servers) dead run =
     let first : HandlerGives old s.packet s.moment new s.answer = run.0 in
     let refused = dead_refused first.old_tree first.new_tree old.session new.session s.packet s.moment s.answer dead first.means in
-    let failed : s.answer.res2 ≢ pos 0 = λ zero_res2. true_false (ap (is_number 0) (sym zero_res2 ∙ ap (λ (a : Answer). a.res2) refused.answered)) in
+    let failed : s.answer.res2 ≢ pos 0 = λ zero_res2. true≢false (ap (is_number 0) (sym zero_res2 ∙ ap (λ (a : Answer). a.res2) refused.answered)) in
     let rest : DeadRun new served servers = dead_run new served servers (ap (λ (v : Session). v.died) refused.session ∙ dead) run.1 in
     record { too_late = All-cons IsTooLate s served refused.answered rest.too_late; image = image_behind old new servers (first.leaves.rest (inl failed)) rest.image }
 

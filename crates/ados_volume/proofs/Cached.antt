@@ -1,20 +1,21 @@
 -- The results of the cache of children, and its contents.
-use Rattle.std.proofs.Common.{◌≡◌, ℕ, zero, suc, ◌-◌, Bool, true, false, ◌==◌, ◌&&◌, ◌⊎◌, inl, inr, List, [], ◌∷◌, ◌++◌, map, length, take, drop, replicate, find, Contains, Option, Some, None, Result, Ok, Err, OnOk, OnErr, IfSome, bytes_eq, refl, sym, ap, ap₂, ◌∙◌, subst, eq-eqb, arith}
+use Rattle.std.proofs.Common.{◌≡◌, ℕ, zero, suc, ◌-◌, Bool, true, ◌==◌, ◌&&◌, inl, inr, List, [], ◌∷◌, ◌++◌, map, length, take, drop, replicate, find, Contains, Option, Some, None, Result, OnOk, OnErr, IfSome, bytes_eq, refl, sym, ap, ap₂, ◌∙◌, subst, eq-eqb, arith}
 use Rattle.std.specs.Map.{lookup, remove_entry, keys_of}
-use Rattle.std.specs.List.{AllByRecursion, IsDistinct}
-use Rattle.std.proofs.lemmas.Bool.{and_parts, and_from, eqb-true, false≢true}
+use Rattle.std.specs.List.{IsDistinct}
+use Rattle.std.proofs.lemmas.Bool.{and_parts, and_from, eqb-true}
 use Rattle.std.specs.Char.{to_ascii_uppercase}
 use Rattle.std.proofs.lemmas.Bool.Decides.{nat_tests}
 use Rattle.std.proofs.lemmas.List.{length-map, map-append, take_at, drop-replicate}
 use Rattle.std.proofs.lemmas.Slice.Eq.{bytes_eq-Decides}
 use Rattle.lru.specs.LruCache.{LruCache, lru_cache, promoted, put_entries}
-use Rattle.lru.proofs.CallerLemmas.{Contains-lookup, Contains-promoted, Contains-put_entries, Contains-remove_entry}
+use Rattle.lru.proofs.CallerLemmas.{Contains-promoted, Contains-remove_entry}
 use Rattle.ados_name.specs.Name.{upper, Same}
-use Rattle.lru.proofs.Splits.{Contains-nil, Contains-cons}
+use Rattle.lru.proofs.Splits.{Contains-nil}
 use Rattle.ados_model.specs.Tree.{Tree, entries, name_of}
 use Rattle.ados_model.specs.Stands.{Stands}
 use Rattle.ados_model.specs.Change.{child_of}
 use Rattle.ados_volume.specs.declared.cache.Sought.{Sought}
+use Rattle.ados_volume.proofs.Pairs.{found_pair, gone, put_pair}
 use Rattle.ados_volume.specs.steps.Cache.{Seeks, HasPair, Adds, AddsNone, TakesOut, AreChildren}
 
 -- how keys of the cache are compared
@@ -68,59 +69,23 @@ spelled name copied letters same e =
     zeros_upper zero = refl
     zeros_upper (suc n) = ap (λ (zeros : List ℕ). 0 ∷ zeros) (zeros_upper n)
 
--- ---- an entry that was removed
-
-apart : (x sought : Sought) (key : ℕ) (pairs : List (Sought × ℕ)) → AllByRecursion (λ y. same_sought x y ≡ false) (keys_of pairs) → Contains pairs (sought, key) → same_sought x sought ≡ false
-apart x sought key [] all c = absurd (Contains-nil (sought, key) c)
-apart x sought key (f ∷ pairs) all c = elim (Contains-cons f pairs (sought, key) c) [
-  | inl e ↦ subst (λ (p : Sought × ℕ). same_sought x p.0 ≡ false) e all.0
-  | inr later ↦ apart x sought key pairs all.1 later
-]
-
-gone : (sought : Sought) (key : ℕ) (pairs : List (Sought × ℕ)) → IsDistinct same_sought (keys_of pairs) → ¬ Contains (remove_entry (same_sought sought) pairs) (sought, key)
-unfolding IsDistinct
-gone sought key [] distinct c = Contains-nil (sought, key) c
-gone sought key (f ∷ pairs) distinct c = go (same_sought sought f.0) refl (gone sought key pairs distinct.1)
-  where
-    go : (b : Bool) → same_sought sought f.0 ≡ b → ¬ Contains (remove_entry (same_sought sought) pairs) (sought, key) → ⊥
-    go true e rest =
-        let other = apart f.0 sought key pairs distinct.0 (rw e at c) in
-        false≢true (sym (subst (λ (x : Sought). same_sought x sought ≡ false) (sym (sought_is sought f.0 e)) other) ∙ is_sought sought)
-    go false e rest = elim (Contains-cons f (remove_entry (same_sought sought) pairs) (sought, key) (rw e at c)) [
-      | inl same ↦ false≢true (sym e ∙ ap (λ (p : Sought × ℕ). same_sought sought p.0) same ∙ is_sought sought)
-      | inr later ↦ rest later
-    ]
-
 module _ (sought : Sought) (dir : ℕ) (name : List ℕ) (seeks : Seeks sought dir name) where
   -- a found value belongs to a pair
   pub found : (pairs : List (Sought × ℕ)) (r : Option ℕ) → r ≡ lookup (same_sought sought) pairs → IfSome r (λ key. HasPair pairs dir name key)
   found pairs None e = tt
-  found pairs (Some key) e =
-      let h = Contains-lookup (same_sought sought) pairs key (sym e) in
-      record {
-        sought = sought;
-        listed = subst (λ (s : Sought). Contains pairs (s, key)) (sym (sought_is sought h.0 h.2)) h.1;
-        seeks = seeks;
-      }
+  found pairs (Some key) e = record { sought = sought; listed = found_pair same_sought sought_is is_sought pairs sought key (sym e); seeks = seeks }
 
   -- a put adds no other pair
-  pub added : (cache : LruCache Sought ℕ) (key : ℕ) → Adds cache.entries dir name key (put_entries same_sought cache sought key)
-  added cache key d n k h = elim (Contains-put_entries same_sought cache sought key (h.sought, k) h.listed) [
-    | inl was ↦ inl (record { sought = h.sought; listed = was; seeks = h.seeks })
-    | inr put ↦ inr (is_put (one_key put.1) put.0)
-  ]
-    where
-      one_key : (h.sought ≡ sought) ⊎ ((w : ℕ) × Contains cache.entries (h.sought, w) × (same_sought sought h.sought ≡ true)) → h.sought ≡ sought
-      one_key (inl same) = same
-      one_key (inr there) = sym (sought_is sought h.sought there.2)
-
-      is_put : h.sought ≡ sought → k ≡ key → (d ≡ dir) × Same n name × (k ≡ key)
-      is_put same value = (sym h.seeks.dir ∙ ap (λ (s : Sought). s.dir) same ∙ seeks.dir, seeks_same sought d dir n name (subst (λ (s : Sought). Seeks s d n) same h.seeks) seeks, value)
-
   pub put_adds : {E : Type 0} (old : LruCache Sought ℕ) (key : ℕ) (new : LruCache Sought ℕ) (r : Result (Option ℕ) E)
       → OnOk r (new ≡ lru_cache (put_entries same_sought old sought key) old.cap) → OnErr r (new ≡ old) → Adds old.entries dir name key new.entries
-  put_adds old key new (Ok o) put stays = subst (λ (c : LruCache Sought ℕ). Adds old.entries dir name key c.entries) (sym put) (added old key)
-  put_adds old key new (Err e) put stays = subst (λ (c : LruCache Sought ℕ). Adds old.entries dir name key c.entries) (sym stays) (λ d n k h. inl h)
+  put_adds old key new r put stays d n k h = elim (put_pair same_sought sought_is is_sought old sought key new r put stays h.sought k h.listed) [
+    | inl was ↦ inl (record { sought = h.sought; listed = was; seeks = h.seeks })
+    | inr is ↦ inr (
+      sym h.seeks.dir ∙ ap (λ (s : Sought). s.dir) is.0 ∙ seeks.dir,
+      seeks_same sought d dir n name (subst (λ (s : Sought). Seeks s d n) is.0 h.seeks) seeks,
+      is.1,
+    )
+  ]
 
   -- a removed pair is gone
   pub taken_out : (old new : LruCache Sought ℕ) → IsDistinct same_sought (keys_of old.entries) → new ≡ lru_cache (remove_entry (same_sought sought) old.entries) old.cap → TakesOut old.entries dir name new.entries
@@ -129,7 +94,7 @@ module _ (sought : Sought) (dir : ℕ) (name : List ℕ) (seeks : Seeks sought d
         record { sought = h.sought; listed = Contains-remove_entry (same_sought sought) old.entries (h.sought, k) left; seeks = h.seeks },
         λ same.
             let one : h.sought ≡ sought = seeks_one h.sought sought dir n name (subst (λ (i : ℕ). Seeks h.sought i n) same.0 h.seeks) seeks same.1 in
-            gone sought k old.entries distinct (subst (λ (s : Sought). Contains (remove_entry (same_sought sought) old.entries) (s, k)) one left),
+            gone same_sought sought_is is_sought sought k old.entries distinct (subst (λ (s : Sought). Contains (remove_entry (same_sought sought) old.entries) (s, k)) one left),
       )
 
 -- a look-up adds no pair

@@ -1,13 +1,12 @@
 -- Cached children after a change of the tree.
-use Rattle.std.proofs.Common.{◌≡◌, ℕ, inl, inr, List, map, Contains, Option, Some, None, IsSome, is_some, option_map, refl, sym, ap, ◌∙◌, subst, eq-eqb}
+use Rattle.std.proofs.Common.{◌≡◌, ℕ, inl, inr, List, map, Contains, Option, Some, None, option_map, refl, sym, ap, ◌∙◌, subst, eq-eqb}
 use Rattle.std.proofs.lemmas.Bool.{ne_eqb, cases_eq}
 use Rattle.std.proofs.lemmas.Slice.Eq.{bytes_eq-Decides}
 use Rattle.ados_name.specs.Name.{upper, Same}
-use Rattle.ados_model.specs.Tree.{Node, Tree, Proper, entries, entries_in, name_of}
+use Rattle.ados_model.specs.Tree.{Node, Tree, entries, entries_in, name_of}
 use Rattle.ados_model.specs.Parts.{name_in}
 use Rattle.ados_model.specs.Stands.{Stands}
 use Rattle.ados_model.specs.Change.{child_of, changed}
-use Rattle.ados_model.proofs.Nodes.{entry_node}
 use Rattle.ados_model.proofs.OneTree.{one_tree}
 use Rattle.ados_volume.specs.declared.cache.Sought.{Sought}
 use Rattle.ados_volume.specs.steps.Cache.{HasPair, AreChildren}
@@ -43,12 +42,8 @@ module _ (old new : List ℕ) (t u : Tree) (s : Stands old t) (r : Stands new u)
       subst (λ (x : Tree). child_of x dir name ≡ Some key) (one_tree new u v r w) (child_stays dir key name (c.1 child) child)
 
   -- entries that stay are entries in the new tree
-  told_stay : (told : List (ℕ × ℕ)) → AreListed old told → AllStay t u → AreListed new told
+  pub told_stay : (told : List (ℕ × ℕ)) → AreListed old told → AllStay t u → AreListed new told
   told_stay told listed stay dir key c v w = subst (λ (x : Tree). Contains (entries x dir) key) (one_tree new u v r w) (stay dir key (listed dir key c t s)).0
-
-  -- the image represents a tree in which the pairs are children and the listed entries are entries
-  pub all_carried : (pairs : List (Sought × ℕ)) → AreChildren old pairs → (told : List (ℕ × ℕ)) → AreListed old told → AllStay t u → (((x : Tree) × Stands new x) × AreChildren new pairs) × AreListed new told
-  all_carried pairs h told listed stay = (((u, r), carried pairs pairs h (λ dir key name p. (p, λ child. stay dir key))), told_stay told listed stay)
 
 -- ---- one node changes
 

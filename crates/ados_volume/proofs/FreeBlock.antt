@@ -1,10 +1,9 @@
 -- Free space for one more entry, and its key.
-use Rattle.std.proofs.Common.{◌≡◌, ℕ, ◌+◌, ◌-◌, Bool, true, false, not, cond, nat_lt, List, Some, None, Option, is_some, refl, sym, ap, ◌∙◌, arith}
+use Rattle.std.proofs.Common.{◌≡◌, ℕ, ◌+◌, ◌-◌, Bool, true, false, cond, nat_lt, List, Some, None, Option, is_some, refl, sym, ap, ◌∙◌, arith}
 use Rattle.adf_block.specs.Image.{block_count, has_free_bit}
 use Rattle.ados_map.specs.Pages.{IsLowestFree, NoneFree}
 use Rattle.ados_name.specs.Name.{IsName}
 use Rattle.ados_model.specs.Tree.{Tree}
-use Rattle.ados_model.specs.Parts.{IsUnused}
 use Rattle.ados_model.specs.Stands.{Stands, Duty}
 use Rattle.ados_model.specs.Change.{child_of}
 use Rattle.ados_model.proofs.Counting.{free_bits_count}
@@ -22,20 +21,13 @@ module _ (image : List ℕ) (t : Tree) (s : Stands image t) where
       let each = total-zero (λ k. cond (has_free_bit image (k + 2)) 1 0) (block_count image - 2) (λ k l. ap {B = ℕ} (λ (b : Bool). cond b 1 0) (none (k + 2) (omega arith, omega (arith, l)))) in
       ap (λ (n : ℕ). nat_lt n 1) (sym (free_bits_count image t s) ∙ each)
 
-  fresh : (key : ℕ) → IsLowestFree image key → IsUnused t key
-  fresh key low = unused image t s key low
-
   -- the lowest free block is a new key
   pub new_key : (key : ℕ) → IsLowestFree image key → IsNewKey t key
-  new_key key low = ((fresh key low).inside, (fresh key low).no_node, go (t.lost key) refl)
+  new_key key low = ((unused image t s key low).inside, (unused image t s key low).no_node, go (t.lost key) refl)
     where
       go : (o : Option (List ℕ)) → t.lost key ≡ o → o ≡ None
       go None e = refl
-      go (Some bytes) e = absurd (s.marked_free key (fresh key low).inside low.free (Duty.Lost, ap is_some e))
-
-pub not_lacking : (lack : Bool) → not lack ≡ true → lack ≡ false
-not_lacking true h = sym h
-not_lacking false h = refl
+      go (Some bytes) e = absurd (s.marked_free key (unused image t s key low).inside low.free (Duty.Lost, ap is_some e))
 
 -- an entry can be made in a directory without a child of that name
 pub can_make_new : (t : Tree) (dir : ℕ) (name : List ℕ) → IsDirectoryKey t dir → IsName name → is_some (child_of t dir name) ≡ false → CanMake t dir name

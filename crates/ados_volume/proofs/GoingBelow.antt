@@ -1,6 +1,6 @@
 -- The progress of a walk over everything below a directory.
 use Rattle.std.proofs.Common.{◌≡◌, ◌≢◌, ℕ, suc, ◌+◌, ◌<◌, Option, Some, inl, inr, List, [], ◌∷◌, ◌++◌, length, map, reverse, Contains, IsSome, is_some, refl, sym, ap, ◌∙◌, subst, arith, append_assoc, length-append}
-use Rattle.std.proofs.lemmas.List.{append-nil, map-append, reverse-append}
+use Rattle.std.proofs.lemmas.List.{append-nil, map-append, reverse-append, reverse-reverse}
 use Rattle.std.proofs.lemmas.List.Elements.{Contains-append_cases, Contains-append_left, Contains-append_right}
 use Rattle.ados_model.proofs.KeyLists.{Once, Once-before, Once-front, Contains-cases, Contains-here, Contains-later, Contains-nil, length-once, Once-append}
 use Rattle.ados_model.specs.Tree.{Tree, Proper, entries, parent_of}
@@ -147,17 +147,13 @@ keys_reverse [] = refl
 keys_reverse (e ∷ es) =
     ap keys_of (reverse-append (e ∷ []) es) ∙ map-append (λ e. e.key) (reverse es) (e ∷ []) ∙ ap (λ (xs : List ℕ). xs ++ e.key ∷ []) (keys_reverse es) ∙ sym (reverse-append (e.key ∷ []) (keys_of es))
 
-reverse_twice : (es : List Below) → reverse (reverse es) ≡ es
-reverse_twice [] = refl
-reverse_twice (e ∷ es) = ap reverse (reverse-append (e ∷ []) es) ∙ reverse-append (reverse es) (e ∷ []) ∙ ap (λ (xs : List Below). e ∷ xs) (reverse_twice es)
-
 module _ (t : Tree) (proper : Proper t) (top : ℕ) (above : Option ℕ) (at : ℕ) where
   pub going_starts : (waiting : List Below) → waiting ≡ reverse (map (placed above) (entries t top)) → IsGoing t top above at [] waiting
   going_starts waiting is = record {
     follows = λ more f.
         let same : 0 + at ≡ at = omega arith in
         let p = parted t (length more) above at (entries t top) [] more (omega arith)
-        (subst (λ (es : List Below). Following t at es more) (ap reverse is ∙ reverse_twice own ∙ sym (append-nil own)) (subst (λ (k : ℕ). Following t k (reverse waiting) more) same f)) in
+        (subst (λ (es : List Below). Following t at es more) (ap reverse is ∙ reverse-reverse own ∙ sym (append-nil own)) (subst (λ (k : ℕ). Following t k (reverse waiting) more) same f)) in
         subst (AreBelow t above at (entries t top)) (sym (p.whole ∙ none_left (length p.below + at) p.below p.others p.follow)) p.are_below;
     keys = subst (AreApart t top []) (sym (ap keys_of is ∙ keys_reverse own ∙ ap reverse (keys_inside above (entries t top)))) (apart_at_first t proper top);
   }
@@ -186,7 +182,7 @@ module _ (t : Tree) (proper : Proper t) (top : ℕ) (above : Option ℕ) (at : �
     going_goes_on waiting is = record {
       follows = λ more f.
           let after : length (gone ++ e ∷ []) + at ≡ suc (length gone + at) = omega (arith, length-append gone (e ∷ [])) in
-          let turned : reverse waiting ≡ own ++ reverse others = ap reverse is ∙ reverse-append others (reverse own) ∙ ap (λ (es : List Below). es ++ reverse others) (reverse_twice own) in
+          let turned : reverse waiting ≡ own ++ reverse others = ap reverse is ∙ reverse-append others (reverse own) ∙ ap (λ (es : List Below). es ++ reverse others) (reverse-reverse own) in
           let from_e : Following t (length gone + at) (e ∷ reverse others) (e ∷ more) =
           next (subst (λ (es : List Below). Following t (suc (length gone + at)) es more) turned (subst (λ (k : ℕ). Following t k (reverse waiting) more) after f)) in
           subst (AreBelow t above at (entries t top)) (sym (append_assoc gone (e ∷ []) more))

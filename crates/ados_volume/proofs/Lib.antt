@@ -9,6 +9,7 @@ pub mod Looking
 pub mod Ordered
 pub mod Walking
 pub mod Examining
+pub mod Pairs
 pub mod Cached
 pub mod Children
 pub mod Refilled
@@ -16,6 +17,7 @@ pub mod Moved
 pub mod Kept
 pub mod Known
 pub mod Bounds
+pub mod Staying
 pub mod Listed
 pub mod Loops
 pub mod DirectoryKeys

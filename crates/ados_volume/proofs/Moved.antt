@@ -14,9 +14,7 @@ use Rattle.ados_model.specs.Edits.{new_node}
 use Rattle.ados_model.proofs.Nodes.{content_in, directory_in, entry_node, parent_in}
 use Rattle.ados_change.proofs.Changed.{nodes_other, changed_keeps, listed_names, listed_here, listed_other}
 use Rattle.ados_change.proofs.Entering.{Contains-enter_kept, Contains-stays}
-use Rattle.ados_volume.specs.declared.cache.Sought.{Sought}
-use Rattle.ados_volume.specs.steps.Cache.{AreChildren, Forgets}
-use Rattle.ados_volume.proofs.Children.{Stays, AllStay, child_there, carried}
+use Rattle.ados_volume.proofs.Children.{Stays, AllStay, child_there}
 
 stays_on : (t u v : Tree) (dir k : ℕ) → Stays t u dir k → Stays u v dir k → Stays t v dir k
 stays_on t u v dir k first second c = let a = first c in let b = second a.0 in (b.0, b.1 ∙ a.1)
@@ -120,13 +118,3 @@ module _ (image : List ℕ) (t : Tree) (s : Stands image t) (key : ℕ) where
 
   pub has_parent : (dir : ℕ) → parent_of t key ≡ Some dir → IsSome (t.nodes key)
   has_parent dir e = let n = parent_in (t.nodes key) dir e in ap is_some n.1
-
--- if the object was removed from the cache and each other entry stays, the remaining pairs are children
-pub forgotten_carried : (old new : List ℕ) (t u : Tree) (s : Stands old t) (r : Stands new u) (key : ℕ) (old_pairs pairs : List (Sought × ℕ)) → AreChildren old old_pairs → Forgets old key old_pairs pairs
-    → ((dir k : ℕ) → k ≢ key → Stays t u dir k) → ((x : Tree) × Stands new x) × AreChildren new pairs
-forgotten_carried old new t u s r key old_pairs pairs h forgotten stays = (
-  (u, r),
-  carried old new t u s r old_pairs pairs h (λ dir k name p.
-      let f = forgotten dir name k p in
-      (f.0, λ child. stays dir k (λ e. f.1 t s (child ∙ ap Some e)))),
-)

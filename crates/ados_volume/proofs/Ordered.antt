@@ -28,10 +28,6 @@ some-behind (x ∷ xs) key s = go (x == key) refl s (some-behind xs key)
     go true e s rest = subst (Contains (x ∷ xs)) (eqb-true x key e) (Contains-here x xs)
     go false e s rest = Contains-later x xs key (rest s)
 
--- the directory's own key
-pub own_place : (image : List ℕ) (dir : ℕ) → IsPlaceIn image dir dir
-own_place image dir t s = rw (eq-eqb dir dir refl) refl
-
 -- the key of an entry
 pub entry_place : (image : List ℕ) (dir key : ℕ) → IsListed image dir key → IsPlaceIn image dir key
 entry_place image dir key listed t s = behind-some (dir ∷ entries t dir) key (Contains-later dir (entries t dir) key (listed t s))

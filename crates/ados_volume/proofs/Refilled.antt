@@ -1,9 +1,13 @@
 -- Cached children after a change of a file's bytes, and what contracts see of it.
-use Rattle.std.proofs.Common.{◌≡◌, ℕ, Bool, List, [], ◌∷◌, Some, Result, Ok, Err, IsErrAnd, MatchResult, option_map, refl, sym, ap, ◌∙◌}
+use Rattle.std.proofs.Common.{◌≡◌, ℕ, ◌+◌, ◌≤◌, Bool, List, [], ◌∷◌, length, Some, Result, Ok, Err, IsErrAnd, MatchResult, option_map, refl, sym, ap, ◌∙◌, arith}
+use Rattle.std.specs.Prelude.{max}
+use Rattle.std.proofs.lemmas.Bool.{ltb-true}
 use Rattle.ados_name.specs.declared.stamp.Date3.{Date3}
-use Rattle.ados_model.specs.Tree.{Node, Tree, content_at, entries_in, bytes_of}
+use Rattle.ados_model.specs.Tree.{Node, Tree, block_cost, content_at, entries_in, bytes_of, size_of}
 use Rattle.ados_model.specs.Tree.Content.{File}
+use Rattle.ados_model.specs.Stands.{Stands}
 use Rattle.ados_model.specs.Change.{rewritten, written}
+use Rattle.ados_change.specs.Renewed.{Writes}
 use Rattle.ados_model.specs.Edits.{overlaid}
 use Rattle.ados_name.specs.Name.{without_archive}
 use Rattle.ados_volume.specs.Shown.{Shown}
@@ -19,6 +23,13 @@ module _ (t : Tree) (key : ℕ) (file : (bytes : List ℕ) × (content_at t key 
   pub written_stay : (pos : ℕ) (bytes : List ℕ) → AllStay t (written moment key pos bytes t)
   written_stay pos [] dir k c = (c, refl)
   written_stay pos (b ∷ bs) dir k c = rewritten_stay (overlaid (bytes_of t key) pos (b ∷ bs)) dir k c
+
+-- no bytes need no free blocks, and change no tree
+pub written_none : (image : List ℕ) (moment : Date3) (key pos : ℕ) → ((t : Tree) → Stands image t → pos ≤ size_of t key) → (bytes : List ℕ) → length bytes ≡ 0 → Writes moment key pos bytes image image
+written_none image moment key pos start [] none t s =
+    let same : max (size_of t key) (pos + 0) ≡ size_of t key = omega (arith, start t s) in
+    (λ more. omega (arith, ltb-true _ _ more, ap (block_cost t.format) same), s)
+written_none image moment key pos start (c ∷ cs) none t s = absurd (omega (arith, none))
 
 -- an unchanged image is seen unchanged
 pub still_shown : (old new : List ℕ) (validated : Bool) (shown : Shown) → record { image = old; was_validated = validated } ≡ shown → new ≡ old → record { image = new; was_validated = validated } ≡ shown

@@ -1,12 +1,13 @@
 -- A key is below another if a chain of parents leads to that. `is_under` finds this within as many steps as there are
 -- blocks.
-use Rattle.std.proofs.Common.{◌≡◌, ◌≢◌, ℕ, zero, suc, ◌+◌, ◌<◌, ◌≤◌, inl, inr, Bool, true, false, nat_eq, ◌==◌, List, [], ◌∷◌, length, Contains, Option, None, refl, sym, ap, ◌∙◌, subst, arith, eq-eqb, eqb-true}
-use Rattle.std.specs.Prelude.{◌||◌, ◌↔◌, IsSome, IsTrue, option_and_then}
+use Rattle.std.proofs.Common.{◌≡◌, ◌≢◌, ℕ, zero, suc, ◌+◌, ◌<◌, ◌≤◌, inl, inr, true, ◌==◌, List, [], ◌∷◌, length, Contains, Option, None, refl, sym, ap, ◌∙◌, subst, arith, eq-eqb, eqb-true}
+use Rattle.std.specs.Prelude.{◌↔◌, IsSome, IsTrue, option_and_then}
 use Rattle.std.specs.List.{list_any}
 use Rattle.std.specs.Option.{option_map_or}
-use Rattle.std.proofs.lemmas.Bool.{false≢true}
 use Rattle.std.proofs.lemmas.List.Elements.{Contains-get_or}
+use Rattle.std.proofs.lemmas.List.Folds.{list_any_at}
 use Rattle.std.proofs.lemmas.List.Kept.{AllPairs-cons}
+use Rattle.std.proofs.lemmas.Map.Views.{Contains-from_any}
 use Rattle.ados_model.proofs.KeyLists.{Once, Contains-cases, Contains-here, Contains-later, Contains-nil, length-once}
 use Rattle.ados_model.specs.Tree.{Tree, Proper, LeadsToRoot, parent_of}
 use Rattle.ados_model.specs.Tree.LeadsToRoot.{at_root, by_parent}
@@ -79,23 +80,10 @@ module _ (t : Tree) (proper : Proper t) where
 
 -- a test of a list finds an element of it
 found_in : (xs : List ℕ) (x : ℕ) → Contains xs x → list_any (λ k. k == x) xs ≡ true
-found_in [] x c = absurd (Contains-nil x c)
-found_in (y ∷ ys) x c = elim (Contains-cases y ys x c) [
-  | inl same ↦ ap (λ (b : Bool). b || list_any (λ k. k == x) ys) (eq-eqb y x same)
-  | inr later ↦ go (nat_eq y x) (list_any (λ k. k == x) ys) (found_in ys x later)
-]
-  where
-    go : (a b : Bool) → b ≡ true → a || b ≡ true
-    go true b h = refl
-    go false b h = h
+found_in xs x c = list_any_at (λ k. k == x) xs c.0 x c.1 (eq-eqb _ x c.2)
 
 in_found : (xs : List ℕ) (x : ℕ) → list_any (λ k. k == x) xs ≡ true → Contains xs x
-in_found [] x h = absurd (false≢true h)
-in_found (y ∷ ys) x h = go (nat_eq y x) refl h (λ e. in_found ys x e)
-  where
-    go : (b : Bool) → nat_eq y x ≡ b → b || list_any (λ k. k == x) ys ≡ true → (list_any (λ k. k == x) ys ≡ true → Contains ys x) → Contains (y ∷ ys) x
-    go true e h rest = subst (Contains (y ∷ ys)) (eqb-true y x e) (Contains-here y ys)
-    go false e h rest = Contains-later y ys x (rest h)
+in_found xs x h = Contains-from_any {eq = λ q k. k == q} (λ q k e. sym (eqb-true k q e)) x xs h
 
 pub under_is_told : (t : Tree) → Proper t → (above key : ℕ) → IsSome (t.nodes key) → IsTrue (is_under t above key) ↔ IsUnder t above key
 under_is_told t proper above key there =

@@ -1,6 +1,6 @@
 //! Changes of a file's bytes.
 
-ghost use Rattle.std.specs.Prelude.{◌≡◌, ◌<◌, ◌≤◌};
+ghost use Rattle.std.specs.Prelude.{◌≡◌, ◌<◌, ◌≤◌, []};
 ghost use Rattle.ados_model.specs.Tree.{Tree, size_of};
 ghost use Rattle.ados_model.specs.Stands.{Stands};
 ghost use Rattle.ados_model.specs.Keys.{HasFileKey};
@@ -11,7 +11,6 @@ ghost use Rattle.ados_volume.specs.Refused.{GrowsOrRefuses, WritesOrRefuses};
 use crate::volume::Volume;
 use adf_block::layout::BOOT_BLOCKS;
 use ados_change::{cut, grow, write};
-use ados_data::place_at;
 use ados_model::Full;
 use ados_name::Date3;
 
@@ -26,10 +25,13 @@ impl Volume {
         requires start { (t : Tree) → Stands self.old.image t → pos ≤ size_of t key }
         ensures done { WritesOrRefuses moment key pos bytes.now self.old self.new result }
         ensures keeps { KeepsRest self.old.image self.new.image }
+        ensures none { bytes.now ≡ [] → self.new ≡ self.old }
         ensures validated { self.new.was_validated ≡ self.old.was_validated }
     {
-        let place = place_at(&self.image, key, self.places.of(key), pos);
-        self.places.keep(key, place);
+        if bytes.is_empty() {
+            return Ok(());
+        }
+        let place = self.places.at(&self.image, key, pos);
         self.free_from = write(
             &mut self.image,
             key,
@@ -69,8 +71,7 @@ impl Volume {
         ensures keeps { KeepsRest self.old.image self.new.image }
         ensures validated { self.new.was_validated ≡ self.old.was_validated }
     {
-        let place = place_at(&self.image, key, self.places.of(key), size as u64);
-        self.places.keep(key, place);
+        let place = self.places.at(&self.image, key, size as u64);
         self.free_from = grow(&mut self.image, key, place, size, moment, self.free_from)?;
         Ok(())
     }

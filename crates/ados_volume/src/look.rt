@@ -15,7 +15,7 @@ use crate::volume::Volume;
 use adf_block::Image;
 use adf_block::layout::{FILE_TYPE, SECONDARY_TYPE};
 use ados_chain::{Next, after, after_entry, find};
-use ados_data::{place_at, read_near};
+use ados_data::read_near;
 use ados_name::{Name, same_name_same_slot};
 
 impl Volume {
@@ -104,8 +104,7 @@ impl Volume {
         ensures bytes { (t : Tree) → Stands self.old.image t → buffer.new ≡ take result (drop pos (bytes_of t key)) ++ drop result buffer.old }
         ensures same { self.new ≡ self.old }
     {
-        let place = place_at(&self.image, key, self.places.of(key), pos);
-        self.places.keep(key, place);
+        let place = self.places.at(&self.image, key, pos);
         read_near(&self.image, key, place, pos, buffer)
     }
 }

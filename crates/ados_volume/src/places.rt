@@ -2,9 +2,11 @@
 
 ghost use Rattle.std.specs.Prelude.{◌≡◌, IfOk, List, ℕ, []};
 ghost use Rattle.ados_data.specs.Place.{IsPlace};
-ghost use Rattle.ados_volume.specs.steps.Places.{AreKnown, Drops, IsKnown};
+ghost use Rattle.ados_model.specs.Keys.{HasFileKey, HasTree};
+ghost use Rattle.ados_volume.specs.steps.Places.{AreKnown, Drops};
 
-use ados_data::Place;
+use adf_block::Image;
+use ados_data::{Place, place_at};
 use lru::LruCache;
 use std::alloc::{AllocError, Global};
 use std::num::NonZeroUsize;
@@ -37,11 +39,17 @@ impl PlaceCache {
         }
     }
 
-    /// Caches a place in a file. If memory runs out, it is not cached.
-    pub fn keep(&mut self, file: u32, place: Place)
-        ensures { (image : List ℕ) → IsKnown image file place → AreKnown image self.old.places.entries → AreKnown image self.new.places.entries }
+    /// The place at byte `pos` of a file. It is cached, unless memory runs out.
+    pub fn at(&mut self, image: &Image, file: u32, pos: u64) -> Place
+        requires tree { HasTree image.now }
+        requires file { HasFileKey image.now file }
+        requires known { AreKnown image.now self.old.places.entries }
+        ensures place { IsPlace image.now file result }
+        ensures known { AreKnown image.now self.new.places.entries }
     {
+        let place = place_at(image, file, self.of(file), pos);
         let _ = self.places.put(file, place);
+        place
     }
 
     /// Removes the place in a file, if there is one.

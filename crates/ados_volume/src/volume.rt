@@ -27,19 +27,14 @@ pub struct Volume {
 }
 
 impl Model for Volume {
-    ghost use Rattle.ados_model.specs.Tree.{Tree};
-    ghost use Rattle.ados_model.specs.Stands.{Stands};
-    ghost use Rattle.ados_map.specs.Pages.{NoneFreeBelow};
-    ghost use Rattle.ados_volume.specs.steps.Cache.{AreChildren};
-    ghost use Rattle.ados_volume.specs.steps.Places.{AreKnown};
-    ghost use Rattle.ados_volume.specs.steps.Listed.{AreListed};
+    ghost use Rattle.ados_volume.specs.steps.SoundVolume.{IsSoundVolume};
     ghost use Rattle.ados_volume.specs.Shown.{Shown};
 
     ghost Value = { Shown };
 
     ghost view = { λ volume. record { image = volume.image; was_validated = volume.was_validated } };
 
-    ghost invariant = { λ volume. (((((t : Tree) × Stands volume.image t) × AreChildren volume.image volume.names.pairs.entries) × AreListed volume.image volume.told.entries.entries) × NoneFreeBelow volume.image volume.free_from) × AreKnown volume.image volume.places.places.entries };
+    ghost invariant = { λ volume. IsSoundVolume volume.image volume.names.pairs.entries volume.told.entries.entries volume.places.places.entries volume.free_from };
 }
 
 impl Volume {

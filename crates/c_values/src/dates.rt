@@ -1,17 +1,16 @@
 //! Dates for C, as texts and as times of a host, in both directions.
 
-ghost use Rattle.std.specs.Prelude.{◌≡◌, ◌<◌, pos, MatchResult};
+ghost use Rattle.std.specs.Prelude.{◌≡◌, ◌<◌, ◌≤◌, MatchResult};
 ghost use Rattle.std.specs.String.{string_bytes};
 ghost use Rattle.std.specs.Time.{system_time_nanos};
 ghost use Rattle.std.specs.Duration.{as_nanos};
 ghost use Rattle.ados_name.specs.Date.{IsTextOf};
 ghost use Rattle.adf_text.specs.Dated.{IsTextOfNone};
-ghost use Rattle.host_trees.specs.Dates.{nanos_of};
-ghost use Rattle.c_values.specs.Buffers.{Refuses, TextEnds};
-ghost use Rattle.c_values.specs.Dates.{DateOfTextEnds, DateOfTimeEnds, IsTimeOf, date_of, since_1970};
+ghost use Rattle.host_trees.specs.Dates.{IsDateAt, nanos_of};
+ghost use Rattle.c_values.specs.Buffers.{Refuses};
+ghost use Rattle.c_values.specs.Dates.{second_nanos, since_1970};
+ghost use Rattle.c_values.specs.declared.refusal.Refusal.TheVariants.{WrongArgument as Wrong};
 
-use crate::buffers::put;
-use crate::date::JipDate;
 use crate::refusal::Refusal;
 use ados_name::Date3;
 use std::alloc::Global;
@@ -20,21 +19,8 @@ use std::time::{Duration, SystemTime, UNIX_EPOCH};
 /// Nanoseconds in a second.
 const SECOND_NANOS: u32 = 1_000_000_000;
 
-/// The text of a date: `YYYY-MM-DD hh:mm:ss.cc`, or `raw DAYS MINUTES TICKS` if it has none of this form. The status is 0,
-/// or 2 if memory runs out; then `to` and `length` are unchanged.
-pub fn text_of_date(alloc: Global, date: &JipDate, to: &mut [u8], length: &mut usize) -> i32
-    ensures { TextEnds (IsTextOf (date_of date.now)) ⊥ to.old to.new length.old length.new result }
-{
-    match text_of(alloc, date.date()) {
-        Ok(text) => {
-            *length = put(text.as_bytes(), to);
-            0
-        }
-        Err(refusal) => refusal.number(),
-    }
-}
-
-fn text_of(alloc: Global, date: Date3) -> Result<String, Refusal>
+/// The text of a date: `YYYY-MM-DD hh:mm:ss.cc`, or `raw DAYS MINUTES TICKS` if it has none of this form.
+pub fn text_of_date(alloc: Global, date: Date3) -> Result<String, Refusal>
     ensures { MatchResult result (λ text. IsTextOf date (string_bytes text)) (Refuses ⊥) }
 {
     match date.text(alloc) {
@@ -43,22 +29,10 @@ fn text_of(alloc: Global, date: Date3) -> Result<String, Refusal>
     }
 }
 
-/// The date that has this text, in the form of `text_of_date`. The status is 0.
+/// The date that has this text, in the form of `text_of_date`.
 ///
-/// Status 2: out of memory. Status 3: no date has this text. In these cases the date is unchanged.
-pub fn date_of_text(alloc: Global, text: &[u8], date: &mut JipDate) -> i32
-    ensures { DateOfTextEnds text.now date.old date.new result }
-{
-    match dated(alloc, text) {
-        Ok(found) => {
-            *date = JipDate::of(found);
-            0
-        }
-        Err(refusal) => refusal.number(),
-    }
-}
-
-fn dated(alloc: Global, text: &[u8]) -> Result<Date3, Refusal>
+/// Errors: `WrongArgument` if no date has this text.
+pub fn date_of_text(alloc: Global, text: &[u8]) -> Result<Date3, Refusal>
     ensures { MatchResult result (λ date. IsTextOf date text.now) (Refuses (IsTextOfNone text.now)) }
 {
     match adf_text::date_of_text(alloc, text) {
@@ -69,17 +43,17 @@ fn dated(alloc: Global, text: &[u8]) -> Result<Date3, Refusal>
 }
 
 /// The date at a host's time, in seconds and nanoseconds since 1970: the last tick that is not after it. A time before
-/// 1978 is the first date, and one after the last day the last date. The status is 0.
+/// 1978 is the first date, and one after the last day the last date.
 ///
-/// Status 3: a second or more in nanoseconds; the date is unchanged.
-pub fn date_of_time(seconds: i64, nanoseconds: u32, date: &mut JipDate) -> i32
-    ensures { DateOfTimeEnds seconds nanoseconds date.old date.new result }
+/// Errors: `WrongArgument` for a second or more in nanoseconds.
+pub fn date_of_time(seconds: i64, nanoseconds: u32) -> Result<Date3, Refusal>
+    ensures { MatchResult result (λ date. (nanoseconds < second_nanos) × IsDateAt (since_1970 seconds nanoseconds) date)
+        (λ refusal. (refusal ≡ Wrong) × (second_nanos ≤ nanoseconds)) }
 {
     if nanoseconds >= SECOND_NANOS {
-        return Refusal::WrongArgument.number();
+        return Err(Refusal::WrongArgument);
     }
-    *date = JipDate::of(host_trees::date_of_time(time_at(seconds, nanoseconds)));
-    0
+    Ok(host_trees::date_of_time(time_at(seconds, nanoseconds)))
 }
 
 /// The time so long after 1970; the start of 1970 for a time before.
@@ -93,20 +67,9 @@ fn time_at(seconds: i64, nanoseconds: u32) -> SystemTime
     }
 }
 
-/// The time of a host for a date, in seconds and nanoseconds since 1970: the start of its tick. Minutes beyond a day and
-/// ticks beyond a minute are added. The status is 0.
-pub fn time_of_date(date: &JipDate, seconds: &mut i64, nanoseconds: &mut u32) -> i32
-    ensures status { result ≡ pos 0 }
-    ensures time { IsTimeOf (date_of date.now) seconds.new nanoseconds.new }
-{
-    let since = after_1970(date.date());
-    *seconds = since.as_secs() as i64;
-    *nanoseconds = since.subsec_nanos();
-    0
-}
-
-/// How long after 1970 a date is.
-fn after_1970(date: Date3) -> Duration
+/// How long after 1970 the time of a host for a date is: the start of its tick. Minutes beyond a day and ticks beyond a
+/// minute are added.
+pub fn time_of_date(date: Date3) -> Duration
     ensures { as_nanos result ≡ nanos_of date }
 {
     match host_trees::host_time(date).duration_since(UNIX_EPOCH) {

@@ -1,11 +1,9 @@
 //! All faults of an image for C, alone and with the numbers that show them.
 
 ghost use Rattle.std.specs.Prelude.{◌≡◌, IfOk, map};
-ghost use Rattle.c_values.specs.Findings.{AreFindings, AreFindingsOf, CheckEnds, FindingsEnd, IsFindingOf, TellsFindings, bare_finding, fault_in, told_finding, yes_number};
+ghost use Rattle.c_values.specs.Findings.{AreFindings, AreFindingsOf, IsFindingOf, TellsFindings, bare_finding, fault_in, told_finding};
 
 use crate::faults::JipFault;
-use crate::lists::copy_to;
-use crate::refusal::Refusal;
 use adf_block::Image;
 use ados_faults::{FaultValues, Mark, all_faults, values_of};
 use ados_model::VolumeFault;
@@ -31,75 +29,16 @@ pub struct JipFinding {
     pub wanted: u32,
 }
 
-/// Lists the faults of an image, by block and then by kind: the first 1,000 of them. They are written to `faults`, as
-/// many as it has room for, and `count` is how many there are. `more` is 1 if the image may have more. The status is 0,
-/// also for bytes that are no image.
-///
-/// Status 2: out of memory. Nothing is written then.
-pub fn check_image(
-    alloc: Global,
-    bytes: &[u8],
-    faults: &mut [JipFault],
-    count: &mut usize,
-    more: &mut i32,
-) -> i32
-    ensures { CheckEnds bytes.now faults.old faults.new count.old count.new more.old more.new result }
-{
-    let Ok(told) = findings_of(alloc, bytes) else {
-        return Refusal::NoMemory.number();
-    };
-    let Ok(alone) = faults_in(alloc, &told.findings) else {
-        return Refusal::NoMemory.number();
-    };
-    *count = copy_to(&alone, faults);
-    *more = yes_number(told.more);
-    0
-}
-
-/// The faults alone.
-fn faults_in(alloc: Global, findings: &[JipFinding]) -> Result<Vec<JipFault>, AllocError>
-    ensures { IfOk result (λ faults. faults.items ≡ map fault_in findings.now) }
-{
-    findings
-        .iter()
-        .map(|finding| JipFault {
-            kind: finding.kind,
-            block: finding.block,
-        })
-        .collect(alloc)
-}
-
-/// Lists the faults of an image as `check_image` does, each with the long of its block that shows it.
-///
-/// Status 2: out of memory. Nothing is written then.
-pub fn find_values(
-    alloc: Global,
-    bytes: &[u8],
-    findings: &mut [JipFinding],
-    count: &mut usize,
-    more: &mut i32,
-) -> i32
-    ensures { FindingsEnd bytes.now findings.old findings.new count.old count.new more.old more.new result }
-{
-    match findings_of(alloc, bytes) {
-        Ok(told) => {
-            *count = copy_to(&told.findings, findings);
-            *more = yes_number(told.more);
-            0
-        }
-        Err(_) => Refusal::NoMemory.number(),
-    }
-}
-
 /// Faults, and whether there may be more.
 #[derive(Drop)]
-struct ToldFindings {
-    findings: Vec<JipFinding>,
-    more: bool,
+pub struct ToldFindings {
+    pub findings: Vec<JipFinding>,
+    pub more: bool,
 }
 
-/// The faults of these bytes.
-fn findings_of(alloc: Global, bytes: &[u8]) -> Result<ToldFindings, AllocError>
+/// The faults of an image, by block and then by kind: the first 1,000 of them, each with the long of its block that shows it.
+/// For bytes that are no image it is the fault of their length.
+pub fn findings_of(alloc: Global, bytes: &[u8]) -> Result<ToldFindings, AllocError>
     ensures { IfOk result (λ told. AreFindingsOf bytes.now told.findings.items told.more) }
 {
     let copy = Vec::from_slice(alloc, bytes)?;
@@ -114,6 +53,19 @@ fn findings_of(alloc: Global, bytes: &[u8]) -> Result<ToldFindings, AllocError>
             })
         }
     }
+}
+
+/// These faults alone.
+pub fn faults_in(alloc: Global, findings: &[JipFinding]) -> Result<Vec<JipFault>, AllocError>
+    ensures { IfOk result (λ faults. faults.items ≡ map fault_in findings.now) }
+{
+    findings
+        .iter()
+        .map(|finding| JipFault {
+            kind: finding.kind,
+            block: finding.block,
+        })
+        .collect(alloc)
 }
 
 /// The faults of an image.
@@ -187,11 +139,4 @@ impl JipFinding {
             wanted: values.wanted.unwrap_or(0),
         }
     }
-}
-
-/// 1 for yes, 0 for no.
-fn yes_number(more: bool) -> i32
-    ensures { result ≡ yes_number more }
-{
-    if more { 1 } else { 0 }
 }

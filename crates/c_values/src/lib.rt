@@ -1,6 +1,6 @@
 //! Values as programs in C see them: statuses, dates, texts in a buffer, lists in an array, and structs of numbers.
 //!
-//! The exports of `adf_c` are thin layers over these functions. No handle is needed here, and no raw pointer.
+//! The exports of `adf_c` write these values through references. No handle is needed here, and no raw pointer.
 #![tactic(auto)]
 
 mod answer;
@@ -21,12 +21,9 @@ pub use buffers::put;
 pub use date::JipDate;
 pub use dates::{date_of_text, date_of_time, text_of_date, time_of_date};
 pub use faults::JipFault;
-pub use findings::{JipFinding, MOST_FAULTS, check_image, find_values};
+pub use findings::{JipFinding, MOST_FAULTS, ToldFindings, faults_in, findings_of};
 pub use lists::copy_to;
-pub use names::{
-    bytes_of_letters, host_of_name, is_name, letters_of_bytes, letters_of_protection, name_of_host,
-    protection_of_letters,
-};
+pub use names::{bytes_of_letters, host_of_name, letters_of_bytes, name_of_host};
 pub use notes::{read_uaem, uaem_line};
 pub use owners::{JipOwner, owners_of};
 pub use refusal::{Refusal, status};

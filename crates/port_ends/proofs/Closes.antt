@@ -7,10 +7,10 @@ use Rattle.std.proofs.lemmas.List.Folds.{list_any-append}
 use Rattle.std.proofs.lemmas.Option.{slice_get_within, slice_get_cases}
 use native.Mathlib.Decide.{ℕ_discrete}
 use mathlib.Core.Logic.{dite}
-use Rattle.port_history.specs.declared.step.Reply.{Reply}
-use Rattle.port_history.specs.History.{Serving, Run, last_server}
-use Rattle.port_history.specs.Lawful.{MeaningRun}
-use Rattle.port_history.proofs.Closing.{run-dead}
+use Rattle.port_ends.specs.declared.step.Reply.{Reply}
+use Rattle.port_ends.specs.History.{Serving, Run, last_server}
+use Rattle.port_ends.specs.Lawful.{MeaningRun}
+use Rattle.port_ends.proofs.Closing.{run-dead}
 use Rattle.port_ends.specs.Ends.{ClientView, CloseMeansDeath, replies_to}
 use Rattle.port_ends.specs.steps.HandlerEnds.{AllHeard}
 use Rattle.port_ends.specs.steps.Rooms.{Left}

@@ -1,10 +1,10 @@
 -- Replies are numbered in the order in which they are taken.
 use Rattle.std.proofs.Common.{◌≡◌, ℕ, suc, ◌+◌, List, [], ◌∷◌, ◌++◌, length, sym, refl, ap, ◌∙◌, arith, append_assoc, length-append}
 use Rattle.std.proofs.lemmas.List.{map-append}
-use Rattle.port_history.specs.declared.step.Reply.{Reply}
-use Rattle.port_history.specs.Lawful.{numbered}
+use Rattle.port_ends.specs.declared.step.Reply.{Reply}
+use Rattle.port_ends.specs.Lawful.{numbered}
 use Rattle.port_ends.specs.Gathering.{answers}
-use Rattle.port_history.proofs.Replies.{numbered-append}
+use Rattle.port_ends.proofs.Replies.{numbered-append}
 
 pub count_more : {X : Type 0} (past past' : List X) (e : X) (n : ℕ) → past' ≡ past ++ e ∷ [] → n ≡ length past → n + 1 ≡ length past'
 count_more past past' e n is count = ap (λ (k : ℕ). k + 1) count ∙ (sym (length-append past (e ∷ [])) ∙ ap (λ l. length l) (sym is))

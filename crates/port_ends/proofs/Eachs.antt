@@ -6,7 +6,7 @@ use Rattle.std.proofs.Math.ListN.{get_or}
 use native.Mathlib.Decide.{ℕ_discrete}
 use mathlib.Core.Logic.{dite}
 use Rattle.std.proofs.lemmas.List.Sums.{sum_by-set, sum_by_push, sum_by-cons}
-use Rattle.port_history.specs.History.{packets_by}
+use Rattle.port_ends.specs.History.{packets_by}
 use Rattle.port_ends.specs.steps.Rule.{total}
 use Rattle.port_ends.specs.Rings.{OutView, Each, EachLooked, EachOffers, EachOffersFirst, EachStaysPosted, Offers, OffersFirst, StaysPosted, all_of, waiting_count}
 use Rattle.port_ends.specs.steps.Sending.{EachGetsRoom, EachHasRoom, GetsRoom, SameLooks, SendsTo, UsesOne}

@@ -8,10 +8,10 @@ use mathlib.Core.Logic.{dite}
 use Rattle.port_ends.proofs.Eachs.{get_set_other}
 use Rattle.std.specs.declared.alloc.Global.{Global}
 use Rattle.std.specs.Prelude.{Vec}
-use Rattle.port_history.specs.declared.step.Reply.{Reply}
+use Rattle.port_ends.specs.declared.step.Reply.{Reply}
 use Rattle.port_ends.specs.Rings.{OutView, all_of}
-use Rattle.port_history.specs.History.{Serving, packets_by}
-use Rattle.port_history.specs.Lawful.{packets_of, answers_to, ClientLists, Lawful, MeaningRun, numbered}
+use Rattle.port_ends.specs.History.{Serving, packets_by}
+use Rattle.port_ends.specs.Lawful.{packets_of, answers_to, ClientLists, Lawful, MeaningRun, numbered}
 use Rattle.port_ends.specs.steps.Rooms.{OnlyElement, SameFrom, Left}
 use Rattle.port_ends.specs.Gathering.{answers, lists_of, all_lists}
 use Rattle.port_ends.proofs.Moves.{get_end}

@@ -4,8 +4,8 @@ use Rattle.std.proofs.lemmas.List.{map-append, length-map}
 use Rattle.std.proofs.lemmas.Option.{slice_get_within}
 use native.Mathlib.Decide.{ℕ_discrete}
 use mathlib.Core.Logic.{dite}
-use Rattle.port_history.specs.History.{Serving, packets_by}
-use Rattle.port_history.specs.Lawful.{packets_of}
+use Rattle.port_ends.specs.History.{Serving, packets_by}
+use Rattle.port_ends.specs.Lawful.{packets_of}
 use Rattle.port_ends.proofs.Moves.{get_end}
 use Rattle.port_ends.proofs.Packets.{packets_by_append, packets_by_here, packets_by_past, same_number, other_number, lists_total, put_lists}
 use Rattle.port_ends.proofs.Runs.{meaning_none, meaning_one, meaning_append, all_at_append}

@@ -7,7 +7,7 @@ use lib.ListN.{get_elem?}
 use Rattle.crossbeam_queue.specs.Fifo.{Pushes, Pops, Forks, Merges, Learns}
 use Rattle.crossbeam_queue.proofs.Lists.{at_set}
 use Rattle.port_ends.specs.declared.seat.Seat.{Seat}
-use Rattle.port_history.specs.History.{packets_by}
+use Rattle.port_ends.specs.History.{packets_by}
 use Rattle.port_ends.specs.steps.Rule.{ArePutLists, total, handler, client, FitsClient, PortRule}
 use Rattle.port_ends.specs.Ends.{OfClients}
 use Rattle.port_ends.proofs.Packets.{packets_by_same, packets_by_other, packets_by_beyond, of_clients_snoc, of_clients_more, of_clients_at, total_all}

@@ -3,7 +3,7 @@ use Rattle.std.proofs.Common.{◌≡◌, ◌≢◌, ℕ, zero, suc, ◌+◌, ◌
 use Rattle.std.proofs.lemmas.Bool.Decides.{nat_tests}
 use Rattle.std.proofs.lemmas.List.{map-append}
 use Rattle.std.proofs.lemmas.List.Elements.{filter-append}
-use Rattle.port_history.specs.History.{packets_by}
+use Rattle.port_ends.specs.History.{packets_by}
 use Rattle.port_ends.specs.steps.Rule.{ArePutLists, total}
 use Rattle.port_ends.specs.Ends.{OfClients}
 use native.Mathlib.Decide.{ℕ_discrete}

@@ -2,10 +2,10 @@
 use Rattle.std.proofs.Common.{◌≡◌, Bool, true, false, List, [], ◌∷◌, ◌++◌, sym, refl, subst, ap, ◌∙◌}
 use Rattle.std.proofs.lemmas.List.{map-append}
 use Rattle.port_ends.specs.declared.desk.Entry.{Entry}
-use Rattle.port_history.specs.History.{Serving, Run, last_server}
-use Rattle.port_history.specs.Lawful.{MeaningRun, AllAt}
+use Rattle.port_ends.specs.History.{Serving, Run, last_server}
+use Rattle.port_ends.specs.Lawful.{MeaningRun, AllAt}
 use Rattle.port_ends.specs.steps.Entries.{served_of}
-use Rattle.port_history.proofs.Serving.{last_server-append}
+use Rattle.port_ends.proofs.Serving.{last_server-append}
 
 -- a server that is alive later was alive before
 pub still_alive : (a b : Bool) → (a ≡ true → b ≡ true) → b ≡ false → a ≡ b

@@ -1,6 +1,6 @@
 -- The results of the handler's batches.
 use Rattle.std.specs.Prelude.{◌≡◌, ◌⊎◌, ℕ, Bool, true, false, List, length}
-use Rattle.port_history.specs.History.{ServerMeaning, Serving}
+use Rattle.port_ends.specs.History.{ServerMeaning, Serving}
 use Rattle.port_ends.specs.declared.handler.ServeEnd.{ServeEnd}
 use Rattle.port_ends.specs.declared.handler.ServeEnd.TheVariants.{Closed, Idle}
 use Rattle.port_ends.specs.Rings.{EachOffers}

@@ -2,11 +2,11 @@
 use Rattle.std.specs.Prelude.{◌≡◌, ◌⊎◌, ◌||◌, ℕ, ◌+◌, ◌≤◌, Bool, true, false, List, [], ◌∷◌, ◌++◌, length, map, Some, slice_get}
 use Rattle.std.specs.declared.alloc.Global.{Global}
 use Rattle.crossbeam_queue.specs.SegTies.{SegId}
-use Rattle.port_history.specs.declared.step.Reply.{Reply}
-use Rattle.port_history.specs.declared.step.PutRefused.{PutRefused}
-use Rattle.port_history.specs.declared.step.PutRefused.TheVariants.{Closed, NoRoom}
-use Rattle.port_history.specs.History.{ServerMeaning, Serving, packets_by}
-use Rattle.port_history.specs.Lawful.{packets_of, MeaningRun, AllAt}
+use Rattle.port_ends.specs.declared.step.Reply.{Reply}
+use Rattle.port_ends.specs.declared.step.PutRefused.{PutRefused}
+use Rattle.port_ends.specs.declared.step.PutRefused.TheVariants.{Closed, NoRoom}
+use Rattle.port_ends.specs.History.{ServerMeaning, Serving, packets_by}
+use Rattle.port_ends.specs.Lawful.{packets_of, MeaningRun, AllAt}
 use Rattle.port_ends.specs.Rings.{RingId, OutView, all_of, AreEmpty, EachStaysPosted, HavePlaces}
 
 -- a client's end: its port, mark and ring, its number, its put list, its taken list with time stamps, and whether it

@@ -1,8 +1,8 @@
 -- What remains of a port when all its ends are held at once.
 use Rattle.std.specs.Prelude.{List, [], ◌∷◌, map, Vec}
 use Rattle.std.specs.declared.alloc.Global.{Global}
-use Rattle.port_history.specs.declared.step.Reply.{Reply}
-use Rattle.port_history.specs.Lawful.{ClientLists, numbered}
+use Rattle.port_ends.specs.declared.step.Reply.{Reply}
+use Rattle.port_ends.specs.Lawful.{ClientLists, numbered}
 use Rattle.port_ends.specs.Ends.{ClientView}
 
 module _ {M A : Type 0} where

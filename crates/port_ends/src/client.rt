@@ -11,7 +11,7 @@ use crate::closing_mark::CloseReader;
 use crate::desk::Desk;
 use crate::queue::PutEnd;
 use crate::ring::{Inlet, Outlet};
-use port_history::{PutRefused, Reply, Server};
+use crate::{PutRefused, Reply, Server};
 use std::marker::Model;
 use std::sync::Wait;
 

@@ -1,10 +1,10 @@
 //! The server with the history of what it served.
 ghost use Rattle.std.specs.Prelude.{◌≡◌, ◌<◌, [], ◌∷◌, ◌++◌, length, true, false, IfOk, IsTrue};
-ghost use Rattle.port_history.specs.Lawful.{MeaningRun};
+ghost use Rattle.port_ends.specs.Lawful.{MeaningRun};
 
+use crate::Server;
 use crate::closing_mark::{CloseReader, CloseSetter};
 use crate::trail::Trail;
-use port_history::Server;
 use std::alloc::AllocError;
 use std::marker::Model;
 use std::snapshot::Snapshot;
@@ -30,7 +30,7 @@ pub struct Desk<S: Server> {
 
 impl<S: Server> Model for Desk<S> {
     ghost use Rattle.std.specs.Prelude.{◌≡◌, length};
-    ghost use Rattle.port_history.specs.Lawful.{MeaningRun};
+    ghost use Rattle.port_ends.specs.Lawful.{MeaningRun};
     ghost use Rattle.port_ends.specs.steps.Desks.{DeskView};
 
     ghost Value = { DeskView S S.Request S.Moment S.Reply };

@@ -1,6 +1,6 @@
 //! Gathers the ends of a port.
 ghost use Rattle.std.specs.Prelude.{◌≡◌, ℕ, ◌+◌, ◌<◌, ◌≤◌, ◌++◌, ◌∷◌, [], map, length, vec_capacity, Some, slice_get, IfOk, IfErr, IfSome, IsTrue};
-ghost use Rattle.port_history.specs.Lawful.{Lawful};
+ghost use Rattle.port_ends.specs.Lawful.{Lawful};
 ghost use Rattle.port_ends.specs.Ends.{OfClients, AreEnds, CloseMeansDeath};
 ghost use Rattle.port_ends.specs.steps.Rule.{ArePutLists, total};
 ghost use Rattle.port_ends.specs.steps.Rooms.{OnlyElement, RoomsFit, HasRoomAt, AreOutletsOf, LeftAt, AllLeft};
@@ -11,7 +11,7 @@ use crate::client::ClientEnd;
 use crate::handler::HandlerEnd;
 use crate::queue::TakeEnd;
 use crate::ring::Outlet;
-use port_history::{Reply, Server};
+use crate::{Reply, Server};
 use std::alloc::Global;
 use std::sync::Wait;
 

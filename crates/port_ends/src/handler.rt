@@ -1,6 +1,6 @@
 //! The handler's end of a port.
 ghost use Rattle.std.specs.Prelude.{◌≡◌, ◌<◌, ◌≤◌, ◌^◌, ◌∷◌, [], length, false, IfOk, OnOk, OnErr, IsTrue, IsFalse, MatchResult, Some, slice_get};
-ghost use Rattle.port_history.specs.History.{Serving};
+ghost use Rattle.port_ends.specs.History.{Serving};
 ghost use Rattle.port_ends.specs.Rings.{EachLooked, EachOffers, EachOffersFirst, waiting_count};
 ghost use Rattle.port_ends.specs.steps.Sending.{EachGetsRoom, EachHasRoom, SameLooks, UsesOne};
 ghost use Rattle.port_ends.specs.steps.HandlerEnds.{AddsClientEnd, Heard, IsQueueOf};
@@ -8,6 +8,7 @@ ghost use Rattle.port_ends.specs.steps.Rooms.{HasUntaken};
 ghost use Rattle.port_ends.specs.Ends.{HandlerView, IsNew, IsSound, Serves};
 ghost use Rattle.port_ends.specs.Batches.{ServesSome, ServesSoMany, OnlyOffers, EndsAs, empty_batches};
 
+use crate::Server;
 use crate::bell::Rest;
 use crate::client::ClientEnd;
 use crate::closing_mark::CloseSetter;
@@ -16,7 +17,6 @@ use crate::open::OpenRefused;
 use crate::outlets::{any_waits, post_all, reserve_all, ring_all, send_to};
 use crate::queue::{TakeEnd, open_queue};
 use crate::ring::{Outlet, open_ring};
-use port_history::Server;
 use std::alloc::{AllocError, Global};
 use std::marker::Model;
 use std::sync::Wait;
@@ -47,7 +47,7 @@ pub struct HandlerEnd<S: Server> {
 
 impl<S: Server> Model for HandlerEnd<S> {
     ghost use Rattle.std.specs.Prelude.{◌≡◌, ◌+◌, [], ℕ, length, Some, slice_get};
-    ghost use Rattle.port_history.specs.Lawful.{packets_of};
+    ghost use Rattle.port_ends.specs.Lawful.{packets_of};
     ghost use Rattle.port_ends.specs.Rings.{all_of};
     ghost use Rattle.port_ends.specs.Ends.{OfClients};
     ghost use Rattle.port_ends.specs.Ends.{HandlerView, replies_to};

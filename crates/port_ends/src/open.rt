@@ -2,9 +2,9 @@
 ghost use Rattle.std.specs.Prelude.{◌≡◌, ◌<◌, false, MatchResult};
 ghost use Rattle.port_ends.specs.Ends.{IsOpened};
 
+use crate::Server;
 use crate::client::ClientEnd;
 use crate::handler::HandlerEnd;
-use port_history::Server;
 use std::alloc::Global;
 
 /// A port that was not opened because memory ran out. It hands the server back.

@@ -1,15 +1,15 @@
 //! The two ends of a reply ring, with a list beside the sending end.
 ghost use Rattle.std.specs.Prelude.{◌≡◌, ◌+◌, ◌-◌, ◌<◌, ◌≤◌, [], ◌∷◌, ◌++◌, length, IfOk, OnOk, IfSome, IfNone, ◌^◌, List, vec_len, vec_capacity};
 ghost use Rattle.rtrb.specs.Ring.{ProducerLooked, known_free, known_items};
-ghost use Rattle.port_history.specs.Lawful.{numbered};
+ghost use Rattle.port_ends.specs.Lawful.{numbered};
 ghost use Rattle.port_ends.specs.Gathering.{answers};
 ghost use Rattle.port_ends.specs.Rings.{OutView, Offers, StaysPosted, all_of};
 ghost use Rattle.port_ends.specs.steps.Sending.{GetsRoom};
 ghost use Rattle.port_ends.specs.steps.Rooms.{FitIn};
 
+use crate::Reply;
 use crate::bell::{Bell, Rest};
 use crate::trail::Trail;
-use port_history::Reply;
 use rtrb::{Consumer, Producer, PushError, RingBuffer};
 use std::alloc::{AllocError, Global};
 use std::collections::VecDeque;

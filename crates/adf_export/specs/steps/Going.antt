@@ -4,7 +4,7 @@ use Rattle.ados_name.specs.declared.stamp.Date3.{Date3}
 use Rattle.ados_name.specs.Date.{IsTextOf}
 use Rattle.ados_model.specs.declared.answer.FileInfo.{FileInfo}
 use Rattle.ados_model.specs.Tree.{Tree}
-use Rattle.adf_script.specs.Streams.{Writes}
+use Rattle.adf_io.specs.Prefix.{Writes}
 use Rattle.adf_script.specs.Text.{spaced}
 use Rattle.adf_export.specs.declared.listing.Listing.{Listing}
 use Rattle.ados_volume.specs.Located.{Located}
@@ -29,10 +29,6 @@ PushesLine as_letters old new info path = (line : List ℕ) × IsLine info (show
 -- one long line is appended: that of the entry with this path
 abbrev pub PushesLong : Bool → List ℕ → List ℕ → FileInfo → List ℕ → Type 0
 PushesLong styled old new info path = (line : List ℕ) × IsLongLine styled info path line × (new ≡ old ++ line)
-
--- a prefix of a text is written, and the rest is kept
-abbrev pub Passes : Option (List ℕ) → Option (List ℕ) → List ℕ → List ℕ → Type 0
-Passes old new text rest = Writes old new (λ written. text ≡ written ++ rest)
 
 -- the text has what stands before the entries, and no entry is listed yet
 abbrev pub Starts : Tree → ListOrder → ℕ → ListForm → Listing → Type 0

@@ -4,6 +4,7 @@ use Rattle.adf_block.specs.Image.{block_count, long}
 use Rattle.adf_block.specs.Fields.{parent_key}
 use Rattle.adf_salvage.specs.declared.headers.Found.{Found}
 use Rattle.adf_salvage.specs.declared.known.Known.{Known}
+use Rattle.adf_salvage.specs.Deleted.{TellsTrust}
 use Rattle.adf_salvage.specs.Doubtful.{IsHeader, IsPlaceIn, MayBeHeader}
 use Rattle.adf_salvage.specs.steps.Claims.{AreAllClaims}
 use Rattle.adf_salvage.specs.steps.Giving.{mark_at}
@@ -41,7 +42,8 @@ pub record AreHeaders (out image : List ℕ) (headers : List Bool) : Type 0 wher
   pub size : length headers ≡ block_count image
   pub decided : (block : ℕ) → block < block_count image → MatchBool (mark_at headers block) (IsHeader out image block) (¬ IsHeader out image block)
 
--- what is known of the blocks of an image, where some headers are left out: which are headers that are told, and the files that claim them
-pub record AreKnown (image : List ℕ) (known : Known) : Type 0 where
-  pub headers : AreHeaders known.left_out image known.headers.items
-  pub claims : AreAllClaims known.left_out image known.claims.items
+-- what is known of an image is right: whether its bitmap is trusted, which blocks are headers that are told, and the files that claim blocks
+pub record AreKnown (known : Known) : Type 0 where
+  pub trust : TellsTrust known.image known.trusted
+  pub headers : AreHeaders known.left_out known.image known.headers.items
+  pub claims : AreAllClaims known.left_out known.image known.claims.items

@@ -1,12 +1,14 @@
 -- Files without a header while they are added to the entries.
 use Rattle.std.specs.Prelude.{◌≡◌, ℕ, ◌+◌, ◌*◌, ◌<◌, ◌≤◌, ◌⊎◌, List, length, Contains, Option, IsSome, ⊤}
 use Rattle.adf_salvage.specs.declared.gathered.Gathered.{Gathered}
+use Rattle.adf_salvage.specs.declared.known.Known.{Known}
 use Rattle.adf_salvage.specs.declared.salvaged.HeaderState.{HeaderState}
 use Rattle.adf_salvage.specs.declared.salvaged.State.{State}
 use Rattle.adf_salvage.specs.declared.salvaged.State.TheVariants as states
 use Rattle.adf_salvage.specs.Salvaged.{AreSalvaged, broken_total, headers_of}
 use Rattle.adf_salvage.specs.steps.Gathering.{place_at}
 use Rattle.adf_salvage.specs.steps.Giving.{IsGiving}
+use Rattle.adf_salvage.specs.steps.Heading.{AreKnown}
 
 -- the state of a file that is not whole and has such a header
 abbrev pub IsDamaged : HeaderState → State → Type 0
@@ -19,8 +21,9 @@ abbrev pub ArePlaced : List (Option ℕ) → ℕ → List ℕ → Type 0
 ArePlaced places next headers = (block : ℕ) → Contains headers block → IsSome (place_at places block) ⊎ (block < next)
 
 -- the entries so far, the blocks given and the bytes left; each header is below a number, or was gathered
-pub record AreSettled (out image : List ℕ) (next : ℕ) (gathered : Gathered) : Type 0 where
-  pub salvaged : AreSalvaged out image gathered.entries.items
+pub record AreSettled (known : Known) (next : ℕ) (gathered : Gathered) : Type 0 where
+  pub sure : AreKnown known
+  pub salvaged : AreSalvaged known.left_out known.image gathered.entries.items
   pub placed : ArePlaced gathered.places.items next (headers_of gathered.entries.items)
-  pub giving : IsGiving image gathered.giving
-  pub bounded : broken_total gathered.entries.items + gathered.giving.left ≤ 4 * length image
+  pub giving : IsGiving known.image gathered.giving
+  pub bounded : broken_total gathered.entries.items + gathered.giving.left ≤ 4 * length known.image

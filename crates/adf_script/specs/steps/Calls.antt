@@ -3,7 +3,7 @@ use Rattle.std.specs.Prelude.{◌≡◌, ℕ, ◌+◌, Bool, [], ◌∷◌, Resu
 use Rattle.ados_model.specs.declared.packet.Packet.{Packet}
 use Rattle.ados_model.specs.declared.answer.Answer.{Answer}
 use Rattle.ados_port.specs.History.{PortState, ServerMeaning}
-use Rattle.ados_port.specs.Steps.{StepGives}
+use Rattle.ados_port.specs.Gives.{StepGives}
 use Rattle.ados_port.specs.Step.TheVariants.{Put, Serve, Take}
 use Rattle.ados_port.specs.Outcome.TheVariants.{Accepted, Refused, Served, Taken}
 use Rattle.ados_port.specs.PutRefused.{PutRefused}

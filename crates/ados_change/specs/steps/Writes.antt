@@ -1,25 +1,19 @@
 -- The bytes that each step of a change of entries writes into one block.
-use Rattle.std.specs.Prelude.{◌≡◌, ◌⊎◌, ℕ, ◌+◌, ◌/◌, ◌<◌, ◌≤◌, List, length}
+use Rattle.std.specs.Prelude.{◌≡◌, ◌⊎◌, ℕ, ◌+◌, ◌*◌, ◌/◌, ◌<◌, ◌≤◌, List, length}
 use Rattle.adf_block.specs.Image.{block_sum, HasText}
 use Rattle.adf_block.specs.Fields.{parent_key}
 use Rattle.adf_block.specs.declared.layout.TheConstants.{CHECKSUM, NAME_BYTE, PARENT}
 use Rattle.adf_block.specs.Frame.{SameBut}
 use Rattle.ados_name.specs.declared.stamp.Date3.{Date3}
 use Rattle.ados_model.specs.Stands.{date_at}
+use Rattle.ados_change.specs.Places.{Summed}
 
--- the bytes of these longs
-abbrev pub AtLongs : (ℕ → ℕ → Type 0) → ℕ → ℕ → Type 0
-AtLongs At b i = At b (i / 4)
-
--- the three longs of a date from long i of a block, and the block's checksum
-abbrev pub AtDate : ℕ → ℕ → ℕ → ℕ → Type 0
-AtDate block i b j = (b ≡ block) × ((j ≡ CHECKSUM) ⊎ ((i ≤ j) × (j < i + 3)))
-
--- a date was written into a block, and its checksum is right
+-- a date was written into three longs of a block, from long i, and its checksum with them; a right checksum stays
+-- right
 pub record Dated (block i : ℕ) (moment : Date3) (old new : List ℕ) : Type 0 where
-  pub rest : SameBut (AtLongs (AtDate block i)) old new
+  pub rest : SameBut (Summed block (4 * i) (4 * i + 12)) old new
   pub date : date_at new block i ≡ moment
-  pub summed : block_sum new block ≡ 0
+  pub sum : block_sum old block ≡ 0 → block_sum new block ≡ 0
 
 -- the bytes of a name with n bytes, of the directory's number and of the checksum
 abbrev pub AtTitle : ℕ → ℕ → ℕ → ℕ → Type 0

@@ -4,16 +4,9 @@ use Rattle.ados_check.specs.Rules.{HasBadField, HasBadSumAs, HasBadTypeAs, kind_
 use Rattle.ados_check.specs.declared.rules.FieldRule.{FieldRule}
 use Rattle.ados_model.specs.declared.fault.FaultKind.TheVariants.{BadSum, BadType, MarkedFree}
 use Rattle.ados_model.specs.declared.role.Role.{Role}
-use Rattle.ados_model.specs.declared.role.Role.TheVariants.{Data}
-use Rattle.ados_model.specs.Faults.{IsOfs}
 use Rattle.ados_faults.specs.declared.walk.Step.{Step}
 use Rattle.ados_faults.specs.steps.Noted.{IsNoted, cell_of}
 use Rattle.ados_faults.specs.steps.Walked.{IsMarkedFree}
-
--- blocks in this role have no checksum and no fields
-abbrev pub IsBare : List ℕ → Role → Type 0
-IsBare image (Data file) = ¬ IsOfs image
-IsBare image role = ⊥
 
 -- the rule, if the block breaks it in the role, is noted
 abbrev pub IsFieldNoted : List ℕ → List Bool → ℕ → Role → FieldRule → Type 0

@@ -1,8 +1,8 @@
 -- A dead handler stays dead, and only a dead handler gives a reply that closes.
-use Rattle.std.proofs.Common.{◌≡◌, ℕ, ℤ, Bool, true, false, List, [], ◌∷◌, nat_eq, Some, None, Ok, Err, refl, sym, ap, ◌∙◌, subst, inl, inr, MatchOption}
-use Rattle.std.specs.Prelude.{Option, Result, ◌&&◌, ◌||◌, option_map}
-use Rattle.std.specs.Bool.{MatchBool}
+use Rattle.std.proofs.Common.{◌≡◌, ℕ, ℤ, Bool, true, false, List, [], ◌∷◌, nat_eq, Some, None, Ok, Err, refl, sym, ap, ◌∙◌, inl, inr, MatchOption}
+use Rattle.std.specs.Prelude.{Option, Result, ◌&&◌, option_map}
 use Rattle.std.specs.Result.{result_err}
+use Rattle.std.proofs.lemmas.Bool.{and_parts, and_right, both_ways, or_cases, true≢false}
 use Rattle.std.proofs.lemmas.Option.{none-some, same_Some}
 use Rattle.ados_name.specs.declared.stamp.Date3.{Date3}
 use Rattle.ados_model.specs.Tree.{Tree}
@@ -25,9 +25,6 @@ use Rattle.ados_model.specs.Meaning.{IsRefused, ServedOrNoMemory, is_closing, is
 use Rattle.ados_handler.specs.Closing.{ClosingIsDead, DeadStays}
 use Rattle.ados_handler.specs.Gives.{HandlerGives}
 
-true_false : true ≡ false → ⊥
-true_false e = subst (λ (b : Bool). MatchBool b (Unit {0}) ⊥) e tt
-
 -- the error of a dead handler, and no other
 abbrev is_mount_error : DosError → Bool
 is_mount_error DeviceNotMounted = true
@@ -36,7 +33,7 @@ is_mount_error _ = false
 -- no other error has its number
 by_number : (error : DosError) → nat_eq (error_number error) (error_number DeviceNotMounted) ≡ true → error ≡ DeviceNotMounted
 by_number DeviceNotMounted h = refl
-by_number _ h = absurd (true_false (sym h))
+by_number _ h = absurd (true≢false (sym h))
 
 -- a check that never refuses with this error
 abbrev IsOther : Option DosError → Type 0
@@ -47,7 +44,7 @@ AreOther [] = Unit {0}
 AreOther (o ∷ more) = IsOther o × AreOther more
 
 apart : (error : DosError) → is_mount_error error ≡ false → Some error ≡ Some DeviceNotMounted → ⊥
-apart error other e = true_false (sym (ap is_mount_error (same_Some error DeviceNotMounted e)) ∙ other)
+apart error other e = true≢false (sym (ap is_mount_error (same_Some error DeviceNotMounted e)) ∙ other)
 
 other_error : (error : DosError) (b : Bool) → is_mount_error error ≡ false → IsOther (refuse error b)
 other_error error true other e = apart error other e
@@ -138,24 +135,12 @@ module _ (t : Tree) (s : Session) where
       go true e = refl
       go false e = absurd (first_other (refusals t s packet) (all_other packet) e)
 
-and_false : (b : Bool) → b && false ≡ false
-and_false true = refl
-and_false false = refl
-
-or_false_right : (a b : Bool) → b ≡ false → a || b ≡ true → a ≡ true
-or_false_right true b e h = refl
-or_false_right false b e h = absurd (true_false (sym h ∙ e))
-
-and_first : (a b : Bool) → a && b ≡ true → a ≡ true
-and_first true b h = refl
-and_first false b h = absurd (true_false (sym h))
-
 -- a refusal does not look like a successful DIE
 refused_quiet : (packet : Packet) → is_number 5 (action_of packet) && is_dos_true (failure_of packet) ≡ false
 refused_quiet (Read handle buffer) = refl
 refused_quiet (Write handle bytes) = refl
 refused_quiet (Seek handle offset mode) = refl
-refused_quiet (Other action) = and_false (is_number 5 action)
+refused_quiet (Other action) = and_right (is_number 5 action) false refl
 refused_quiet _ = refl
 
 -- of all served packets, only DIE has its action
@@ -163,7 +148,7 @@ served_dies : (t : Tree) (s : Session) (packet : Packet) (now : Date3) (new_tree
     → is_number 5 (action_of packet) ≡ true → Success t s packet now (after new_tree new_session res1 body) → new_session.died ≡ true
 served_dies t s Die now new_tree new_session res1 body h w = ap (λ r. r.session.died) w
 served_dies t s (Other action) now new_tree new_session res1 body h w = elim w [ ]
-served_dies t s _ now new_tree new_session res1 body h w = absurd (true_false (sym h))
+served_dies t s _ now new_tree new_session res1 body h w = absurd (true≢false (sym h))
 
 pub closing_is_dead : ClosingIsDead
 closing_is_dead t new_tree s new_session packet now answer meaning closing = go (refusal t s packet) refl meaning
@@ -171,23 +156,19 @@ closing_is_dead t new_tree s new_session packet now answer meaning closing = go 
     refused : (error : DosError) → (error ≡ DeviceNotMounted → s.died ≡ true) → IsRefused t s packet error new_tree new_session answer → new_session.died ≡ true
     refused error dead w =
         let same = nat_eq (error_number error) (error_number DeviceNotMounted)
-        in let told : same ≡ true = or_false_right same _ (refused_quiet packet) (ap is_closing (sym w.answered) ∙ closing)
+        in let told : same ≡ true = elim (or_cases same _ (ap is_closing (sym w.answered) ∙ closing)) [ inl is ↦ is | inr dies ↦ absurd (both_ways _ (refused_quiet packet) dies) ]
         in ap (λ u. u.died) w.session ∙ dead (by_number error told)
 
     go : (o : Option DosError) → refusal t s packet ≡ o
         → MatchOption o (ServedOrNoMemory t s packet now new_tree new_session answer) (λ error. IsRefused t s packet error new_tree new_session answer)
         → new_session.died ≡ true
     go (Some error) e w = refused error (λ q. only_dead t s packet (e ∙ ap Some q)) w
-    go None e (inr w) = refused NoFreeStore (λ q. absurd (true_false (sym (ap is_mount_error q)))) w.1
+    go None e (inr w) = refused NoFreeStore (λ q. absurd (true≢false (sym (ap is_mount_error q)))) w.1
     go None e (inl w) =
         let alive : is_number (error_number DeviceNotMounted) answer.res2 ≡ false = ap (λ z. is_number (error_number DeviceNotMounted) z) w.res2
         in let dies = is_number 5 answer.action && is_dos_true answer.res1
-        in let shown : dies ≡ true = or_second (is_number (error_number DeviceNotMounted) answer.res2) dies alive closing
-        in served_dies t s packet now new_tree new_session answer.res1 answer.body (ap (λ z. is_number 5 z) (sym w.action) ∙ and_first _ _ shown) w.success
-      where
-        or_second : (a b : Bool) → a ≡ false → a || b ≡ true → b ≡ true
-        or_second true b e h = absurd (true_false e)
-        or_second false b e h = h
+        in let shown : dies ≡ true = elim (or_cases _ dies closing) [ inl dead ↦ absurd (both_ways _ alive dead) | inr is ↦ is ]
+        in served_dies t s packet now new_tree new_session answer.res1 answer.body (ap (λ z. is_number 5 z) (sym w.action) ∙ (and_parts _ _ shown).0) w.success
 
 -- a dead handler refuses each packet, and so stays dead
 pub dead_stays : DeadStays
@@ -199,7 +180,7 @@ dead_stays t new_tree s new_session packet now answer meaning dead = go s.died d
         (λ error. IsRefused t s packet error new_tree new_session answer)
         → new_session.died ≡ true
     go true e refused = ap (λ (v : Session). v.died) refused.session ∙ dead
-    go false e meaning = absurd (true_false (sym e))
+    go false e meaning = absurd (true≢false (sym e))
 
 module _ (old new : HandlerState) (packet : Packet) (now : Date3) (answer : Answer) (given : HandlerGives old packet now new answer) where
   pub serves_dead : old.session.died ≡ true → new.session.died ≡ true

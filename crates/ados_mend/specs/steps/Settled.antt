@@ -1,9 +1,11 @@
 -- The image that the check mends, and the bitmap blocks of the images.
 use Rattle.std.specs.Prelude.{◌≡◌, ◌⊎◌, ℕ, ◌/◌, ◌<◌, List}
 use Rattle.adf_block.specs.declared.layout.TheConstants.{BITMAP_FLAG, CHECKSUM}
+use Rattle.adf_block.specs.Frame.{SameBut}
 use Rattle.adf_block.specs.Image.{block_count, block_sum}
 use Rattle.ados_map.specs.Pages.{LawfulPages, page_block, pages_of}
 use Rattle.ados_model.specs.Faults.{root_of}
+use Rattle.ados_model.specs.Rebuilt.{HasValidBitmap, IsOfBitmap}
 use Rattle.ados_mend.specs.Mendable.{ShowsOnlyMendable}
 use Rattle.ados_mend.specs.Validated.{IsValidated}
 
@@ -14,6 +16,13 @@ IsRootMark image block i = (block ≡ root_of image) × ((i / 4 ≡ CHECKSUM) �
 -- the first n bitmap blocks of the old image have right checksums in the new one
 abbrev pub HaveSums : List ℕ → List ℕ → ℕ → Type 0
 HaveSums old new n = (p : ℕ) → p < n → block_sum new (page_block old p) ≡ 0
+
+-- only the bitmap changed: its blocks and the root have right checksums, and its flag says that it is not valid
+pub record IsSettled (old settled : List ℕ) : Type 0 where
+  pub rest : SameBut (IsOfBitmap old) old settled
+  pub not_valid : ¬ HasValidBitmap settled
+  pub page_sums : HaveSums old settled (pages_of old)
+  pub root_sum : block_sum settled (root_of old) ≡ 0
 
 -- an image that shows only faults which a new bitmap mends has lawful bitmap blocks
 abbrev pub MendableHasPages : Type 0

@@ -1,6 +1,6 @@
 -- The effect of a put and a take on a client.
 use Rattle.std.specs.Prelude.{◌≡◌, ℕ, ◌+◌, [], ◌∷◌}
-use Rattle.port_history.specs.declared.step.Reply.{Reply}
+use Rattle.port_ends.specs.declared.step.Reply.{Reply}
 use Rattle.ados_port.specs.declared.counts.Client.{Client}
 
 -- one more packet was accepted, and this is its number

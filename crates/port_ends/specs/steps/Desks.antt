@@ -1,6 +1,6 @@
 -- The visible state of a server with the history of what it served.
 use Rattle.std.specs.Prelude.{ℕ, Bool, List}
-use Rattle.port_history.specs.History.{Serving}
+use Rattle.port_ends.specs.History.{Serving}
 
 -- the opening server, the current server, the packets served in between, which mark, and whether the mark is known to
 -- be set

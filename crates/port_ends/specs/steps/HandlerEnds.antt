@@ -1,7 +1,7 @@
 -- One more client's end, what it shows of the mark, and what the handler's end leaves to a gathering.
 use Rattle.std.specs.Prelude.{◌≡◌, ◌⊎◌, ℕ, Bool, true, List, [], ◌∷◌, ◌++◌, length, Some, slice_get}
 use Rattle.std.specs.List.{list_any}
-use Rattle.port_history.specs.Lawful.{packets_of}
+use Rattle.port_ends.specs.Lawful.{packets_of}
 use Rattle.port_ends.specs.Rings.{OutView}
 use Rattle.port_ends.specs.Ends.{ClientView, HandlerView, IsFresh, IsEndOf}
 use Rattle.port_ends.specs.steps.QueueEnds.{TakeView}

@@ -1,8 +1,8 @@
 -- Room that is reserved before the ends of a port are gathered, and what each end leaves in it.
 use Rattle.std.specs.Prelude.{◌≡◌, ◌≢◌, ℕ, ◌+◌, ◌<◌, ◌≤◌, ◌^◌, List, [], ◌++◌, length, Some, slice_get, vec_capacity, Vec}
 use Rattle.std.specs.declared.alloc.Global.{Global}
-use Rattle.port_history.specs.declared.step.Reply.{Reply}
-use Rattle.port_history.specs.Lawful.{numbered}
+use Rattle.port_ends.specs.declared.step.Reply.{Reply}
+use Rattle.port_ends.specs.Lawful.{numbered}
 use Rattle.port_ends.specs.Rings.{OutView, all_of}
 use Rattle.port_ends.specs.Ends.{ClientView}
 use Rattle.port_ends.specs.Gathering.{answers}

@@ -4,7 +4,7 @@ use Rattle.std.specs.Prelude.{◌≡◌, ℕ, ◌+◌, ◌<◌, ◌≤◌, true,
 use mathlib.Core.Option.{some}
 use lib.ListN.{get_elem?}
 use Rattle.port_ends.specs.declared.seat.Seat.{Seat}
-use Rattle.port_history.specs.History.{packets_by}
+use Rattle.port_ends.specs.History.{packets_by}
 use Rattle.port_ends.specs.Ends.{OfClients}
 
 module _ {Q : Type 0} where

@@ -1,4 +1,4 @@
-use Rattle.std.proofs.Common.{ℕ, List, map, ap, subst, ◌∙◌, arith}
+use Rattle.std.proofs.Common.{ℕ, List, [], map, ap, sym, subst, ◌∙◌, append-nil, arith}
 use Rattle.std.proofs.lemmas.List.{length-map}
 use Rattle.std.specs.Io.KnownBytes.{Appends}
 use Rattle.std.specs.String.{string_bytes}
@@ -11,16 +11,16 @@ use Rattle.adf_archive.proofs.running.check_each.Goals as goal
 
 pub loop-done-init : goal.loop-done-init
 loop-done-init g c =
-    (omega arith, so_far_none g.C.Fn c.args.report.now c.args.form (map string_bytes c.args.paths.now) (g.W.Write.contents c.args.writer.now) c.new-tally.result c.new-tally.ensures)
+    (omega arith, so_far_none g.C.Fn c.args.report.now c.args.manner.form (map string_bytes c.args.paths.now) (g.W.Write.contents c.args.writer.now) c.new-tally.result c.new-tally.ensures)
 
 pub loop-done-preserved : goal.loop-done-preserved
 loop-done-preserved g c =
     let paths : List (List ℕ) = map string_bytes c.args.paths.now in
-    let written : Appends (g.W.Write.contents c.loop-done.writer) (g.W.Write.contents c.tell_reports.new.writer) (told_from c.args.form paths c.loop-done.done c.in_ok-reports.reports.items) =
-    subst (λ (rs : List ImageReport). Appends (g.W.Write.contents c.loop-done.writer) (g.W.Write.contents c.tell_reports.new.writer) (told_from c.args.form paths c.loop-done.done rs))
+    let written : Appends (g.W.Write.contents c.loop-done.writer) (g.W.Write.contents c.tell_reports.new.writer) (told_from c.args.manner.form paths c.loop-done.done c.in_ok-reports.reports.items) =
+    subst (λ (rs : List ImageReport). Appends (g.W.Write.contents c.loop-done.writer) (g.W.Write.contents c.tell_reports.new.writer) (told_from c.args.manner.form paths c.loop-done.done rs))
     c.deref.ensures.value c.in_ok-tell_reports.ensures.ok in (
       omega (arith, c.min-count.ensures, c.loop-done-test.true),
-      so_far_more g.C.Fn c.args.report.now c.args.form paths (g.W.Write.contents c.args.writer.now) (g.W.Write.contents c.loop-done.writer) (g.W.Write.contents c.tell_reports.new.writer)
+      so_far_more g.C.Fn c.args.report.now c.args.manner.form paths (g.W.Write.contents c.args.writer.now) (g.W.Write.contents c.loop-done.writer) (g.W.Write.contents c.tell_reports.new.writer)
           c.loop-done.done c.min-count.result c.loop-done.tally c.loop-done.invariant.1 c.in_ok-reports.reports.items c.in_ok-reports.ensures.each
           c.add.new.self written (c.add.ensures ∙ ap (tallied c.loop-done.tally) c.deref-in-loop-done-2.ensures.value),
     )
@@ -28,10 +28,17 @@ loop-done-preserved g c =
 pub returns-in_err-tell_reports-clause-fault : goal.returns-in_err-tell_reports-clause-fault
 returns-in_err-tell_reports-clause-fault g c =
     let paths : List (List ℕ) = map string_bytes c.args.paths.now in
-    let front : WritesFront (g.W.Write.contents c.loop-done.writer) (g.W.Write.contents c.tell_reports.new.writer) (told_from c.args.form paths c.loop-done.done c.in_ok-reports.reports.items) =
-    subst (λ (rs : List ImageReport). WritesFront (g.W.Write.contents c.loop-done.writer) (g.W.Write.contents c.tell_reports.new.writer) (told_from c.args.form paths c.loop-done.done rs))
+    let front : WritesFront (g.W.Write.contents c.loop-done.writer) (g.W.Write.contents c.tell_reports.new.writer) (told_from c.args.manner.form paths c.loop-done.done c.in_ok-reports.reports.items) =
+    subst (λ (rs : List ImageReport). WritesFront (g.W.Write.contents c.loop-done.writer) (g.W.Write.contents c.tell_reports.new.writer) (told_from c.args.manner.form paths c.loop-done.done rs))
     c.deref.ensures.value c.in_err-tell_reports.ensures.front in
     at_err c.from_residual-in_err-tell_reports.result
-    (so_far_front g.C.Fn c.args.report.now c.args.form paths (g.W.Write.contents c.args.writer.now) (g.W.Write.contents c.loop-done.writer) (g.W.Write.contents c.tell_reports.new.writer)
+    (so_far_front g.C.Fn c.args.report.now c.args.manner.form paths (g.W.Write.contents c.args.writer.now) (g.W.Write.contents c.loop-done.writer) (g.W.Write.contents c.tell_reports.new.writer)
     c.loop-done.done c.min-count.result c.loop-done.tally c.loop-done.invariant.1 c.in_ok-reports.reports.items c.in_ok-reports.ensures.each front
     (omega (arith, c.min-count.ensures, c.loop-done-test.true, length-map c.args.paths.now string_bytes)))
+
+pub returns-in_err-reports-clause-fault : goal.returns-in_err-reports-clause-fault
+returns-in_err-reports-clause-fault g c =
+    let so = c.loop-done.invariant.1 in
+    let told : List ℕ = told_from c.args.manner.form (map string_bytes c.args.paths.now) 0 so.reports in
+    at_err c.from_residual.result
+    (c.loop-done.done, so.reports, omega (arith, c.loop-done.invariant.0, length-map c.args.paths.now string_bytes), so.gives, (told, so.written, ([], sym (append-nil told))))

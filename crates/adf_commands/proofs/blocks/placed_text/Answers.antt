@@ -1,6 +1,6 @@
 use Rattle.std.proofs.Common.{List, ◌∙◌, subst}
 use Rattle.adf_words.specs.declared.block_word.BlockWord.{BlockWord}
-use Rattle.adf_export.specs.Faulty.{IsFaultyWhere}
+use Rattle.adf_where.specs.Faulty.{IsFaultyWhere}
 use Rattle.adf_commands.specs.Refusals.{refusal_line}
 use Rattle.adf_commands.proofs.Printing.{pushed}
 use Rattle.adf_commands.proofs.blocks.placed_text.Goals as goal

@@ -2,7 +2,7 @@ use Rattle.std.proofs.Common.{ℕ, List, subst, sym}
 use Rattle.ados_model.specs.Stands.{Stands}
 use Rattle.ados_model.specs.Tree.{Tree}
 use Rattle.ados_volume.specs.Shown.{Shown}
-use Rattle.adf_export.specs.Where.{IsWhereOf}
+use Rattle.adf_where.specs.Where.{IsWhereOf}
 use Rattle.adf_commands.specs.declared.fault.CommandFault.TheVariants.{Memory}
 use Rattle.adf_commands.specs.Texts.{AreEntryBlocks}
 use Rattle.adf_commands.proofs.Printing.{entry_told, tells_unlisted, told_text}

@@ -2,7 +2,7 @@ use Rattle.std.proofs.Common.{ℕ, List, subst, sym}
 use Rattle.ados_model.specs.Stands.{Stands}
 use Rattle.ados_model.specs.Tree.{Tree}
 use Rattle.adf_words.specs.declared.block_word.BlockWord.{BlockWord}
-use Rattle.adf_export.specs.Where.{IsWhere}
+use Rattle.adf_where.specs.Where.{IsWhere}
 use Rattle.adf_commands.specs.Placed.{IsBareLine, IsWhereText, MayEnd}
 use Rattle.adf_commands.proofs.Printing.{blocks_told, reported, reports_nothing}
 use Rattle.adf_commands.proofs.blocks.tell_owners.Goals as goal

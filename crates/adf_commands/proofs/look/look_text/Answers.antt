@@ -2,7 +2,7 @@ use Rattle.std.proofs.Common.{ℕ, List, IfOk, subst, sym}
 use Rattle.std.proofs.lemmas.Result.{IfOk-weaker}
 use Rattle.ados_model.specs.Stands.{Stands}
 use Rattle.ados_model.specs.Tree.{Tree}
-use Rattle.adf_boot.specs.Shown.{IsBootText}
+use Rattle.adf_block.specs.BootText.{IsBootText}
 use Rattle.adf_commands.specs.declared.look.Look.{Look}
 use Rattle.adf_commands.specs.Texts.{IsLook}
 use Rattle.adf_commands.proofs.look.look_text.Goals as goal

@@ -6,12 +6,12 @@ use Rattle.ados_model.specs.Tree.{Tree}
 use Rattle.adf_text.specs.Uaem.{IsLineOf}
 use Rattle.adf_export.specs.declared.entry.Source.TheVariants.{Note}
 use Rattle.adf_export.specs.Items.{AreBytesOf, noted}
-use Rattle.adf_salvage.proofs.Answering.{if_ok}
+use Rattle.std.proofs.lemmas.Result.{IfOk-weaker}
 use Rattle.adf_export.proofs.bytes.note_bytes.Goals as goal
 
 pub returns : goal.returns
 returns c =
-    if_ok c.line_of.result
+    IfOk-weaker c.line_of.result
     (λ line. IsLineOf (noted c.examine-told.result) line.items)
     (λ line. (t : Tree) → Stands c.args.volume.now.image t → AreBytesOf t (Note c.args.key) line.items)
     (λ line is t s.

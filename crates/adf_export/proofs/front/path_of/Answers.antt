@@ -1,11 +1,6 @@
-use Rattle.std.proofs.Common.{◌++◌, List, ℕ, sym, ap, ap₂, ◌∙◌}
-use Rattle.ados_model.specs.declared.answer.FileInfo.{FileInfo}
-use Rattle.ados_model.specs.Parts.{name_in}
-use Rattle.ados_model.proofs.Nodes.{some_in}
+use Rattle.std.proofs.Common.{◌++◌, List, ℕ, ap₂, ◌∙◌}
 use Rattle.adf_export.proofs.front.path_of.Goals as goal
 
 pub returns : goal.returns
 returns c = λ t s.
-    let n = some_in (t.nodes c.args.key) (c.requires t s) in
-    let name = c.bytes.ensures.value ∙ ap (λ (i : FileInfo). i.name) (c.examine.ensures t n.0 s n.1) ∙ sym (ap name_in n.1) in
-    c.in_ok-extend_from_slice.ensures.items ∙ ap₂ (λ (a b : List ℕ). a ++ b) (c.in_ok-path.ensures t s) name
+    c.in_ok-extend_from_slice.ensures.items ∙ ap₂ (λ (a b : List ℕ). a ++ b) (c.in_ok-path.ensures t s) (c.bytes.ensures.value ∙ c.name_of.ensures t s)

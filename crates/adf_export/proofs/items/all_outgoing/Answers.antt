@@ -3,8 +3,8 @@ use Rattle.ados_model.specs.Stands.{Stands}
 use Rattle.ados_model.specs.Tree.{Tree}
 use Rattle.ados_volume.specs.Below.{AreBelow}
 use Rattle.adf_export.specs.Items.{AllGoOut, EachGoesOut, HasSource, sources_of, tops}
-use Rattle.adf_salvage.proofs.Answering.{if_ok}
-use Rattle.adf_export.proofs.Outcomes.{if_ok_both}
+use Rattle.std.proofs.lemmas.Result.{IfOk-weaker}
+use Rattle.adf_io.proofs.Outcomes.{if_ok_both}
 use Rattle.adf_export.proofs.Under.{all_before, found_there, sources_there}
 use Rattle.adf_export.proofs.items.all_outgoing.Goals as goal
 
@@ -36,7 +36,7 @@ returns-clause-items c =
 
 pub returns-clause-sources : goal.returns-clause-sources
 returns-clause-sources c =
-    if_ok c.items_of.result
+    IfOk-weaker c.items_of.result
     (λ out. out.sources.items ≡ flat_map (sources_of c.args.meta) c.deref.result.now)
     (λ out. All (HasSource c.args.volume.now.image) out.sources.items)
     (λ out from. subst (All (HasSource c.args.volume.now.image)) (sym from) (sources_there c.args.volume.now.image c.args.meta c.deref.result.now

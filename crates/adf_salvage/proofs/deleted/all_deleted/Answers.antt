@@ -1,9 +1,9 @@
 use Rattle.std.proofs.Common.{ℕ, List, [], ◌∷◌, ◌++◌, All, map, slice_index, sym, ap, ◌∙◌, subst, arith}
 use Rattle.std.proofs.lemmas.List.{map-append, take_all, take_more}
+use Rattle.std.proofs.lemmas.List.Elements.{All-push}
 use Rattle.adf_salvage.specs.declared.deleted.Deleted.{Deleted}
 use Rattle.adf_salvage.specs.Deleted.{HasRecovery}
 use Rattle.adf_salvage.specs.Salvaged.{AreDeleted}
-use Rattle.adf_salvage.proofs.Growing.{all_more}
 use Rattle.adf_salvage.proofs.ListingDeleted.{lists_all}
 use Rattle.adf_salvage.proofs.deleted.all_deleted.Goals as goal
 
@@ -16,8 +16,8 @@ pub loop-header-preserved : goal.loop-header-preserved
 loop-header-preserved c = record {
   same = ap (map (λ (entry : Deleted). entry.header)) c.in_ok-push.ensures.items ∙ map-append (λ (entry : Deleted). entry.header) c.loop-header.found.items _
       ∙ ap (λ (xs : List ℕ). xs ++ slice_index c.args.headers.now c.loop-header.header-index ∷ []) c.loop-header.invariant.same ∙ sym (take_more c.args.headers.now c.loop-header.header-index 0 c.loop-header-test.true);
-  told = subst (All (λ (entry : Deleted). HasRecovery c.args.image.now entry.header entry.recovery)) (sym c.in_ok-push.ensures.items)
-      (all_more (λ (entry : Deleted). HasRecovery c.args.image.now entry.header entry.recovery) c.loop-header.found.items _ c.loop-header.invariant.told c.in_ok-recovery.ensures.recovery);
+  told = subst (All (λ (entry : Deleted). HasRecovery c.args.known.now.image entry.header entry.recovery)) (sym c.in_ok-push.ensures.items)
+      (All-push (λ (entry : Deleted). HasRecovery c.args.known.now.image entry.header entry.recovery) c.loop-header.found.items _ c.loop-header.invariant.told c.in_ok-recovery.ensures.recovery);
   users = λ n l below. record {
     size = c.in_ok-recovery.ensures.users.size;
     below = λ k d m. omega (arith, c.in_ok-recovery.ensures.users.below k d m, below c.loop-header.header-index (omega arith));
@@ -26,5 +26,5 @@ loop-header-preserved c = record {
 
 pub returns : goal.returns
 returns c =
-    lists_all c.args.image.now c.loop-header.found.items
-    (subst (AreDeleted c.args.image.now) (sym (c.loop-header.invariant.same ∙ take_all c.loop-header.header-index c.args.headers.now c.loop-header-test.false)) c.requires.headers) c.loop-header.invariant.told
+    lists_all c.args.known.now.image c.loop-header.found.items
+    (subst (AreDeleted c.args.known.now.image) (sym (c.loop-header.invariant.same ∙ take_all c.loop-header.header-index c.args.headers.now c.loop-header-test.false)) c.requires.headers) c.loop-header.invariant.told

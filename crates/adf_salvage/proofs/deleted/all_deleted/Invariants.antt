@@ -7,6 +7,6 @@ use Rattle.adf_salvage.proofs.deleted.all_deleted.Given as goal
 abbrev pub invariant-loop-header : goal.invariant-loop-header
 invariant-loop-header l = record {
   same : map (λ entry. entry.header) l.found.items ≡ take l.header-index l.headers;
-  told : All (λ entry. HasRecovery l.image entry.header entry.recovery) l.found.items;
-  users : (n : ℕ) → 2 ≤ n → ((k : ℕ) → k < l.header-index → slice_index l.headers k < n) → AreUsersBelow l.image n l.users.items;
+  told : All (λ entry. HasRecovery l.known.image entry.header entry.recovery) l.found.items;
+  users : (n : ℕ) → 2 ≤ n → ((k : ℕ) → k < l.header-index → slice_index l.headers k < n) → AreUsersBelow l.known.image n l.users.items;
 }

@@ -1,22 +1,22 @@
 use Rattle.std.proofs.Common.{◌++◌, ◌∷◌, [], All, List, map, sym, ap, ap₂, ◌∙◌, subst}
-use Rattle.std.proofs.lemmas.List.{take_all, take_more}
+use Rattle.std.proofs.lemmas.List.{map-append, take_all, take_more}
+use Rattle.std.proofs.lemmas.List.Elements.{All-push}
 use Rattle.ados_volume.specs.declared.below.Below.{Below}
 use Rattle.adf_salvage.specs.Salvaged.{IsOfTree, located_of}
 use Rattle.adf_salvage.specs.steps.Keeping.{IsReadable}
-use Rattle.adf_salvage.proofs.Growing.{all_more, located_more}
 use Rattle.adf_salvage.proofs.listing.entries_of.Goals as goal
 
 pub loop-entry-preserved : goal.loop-entry-preserved
 loop-entry-preserved c =
     let told = c.entry_of.ensures in
     record {
-      located = ap (map located_of) c.in_ok-push.ensures.items ∙ located_more c.loop-entry.found.items c.entry_of.result
+      located = ap (map located_of) c.in_ok-push.ensures.items ∙ map-append located_of c.loop-entry.found.items (c.entry_of.result ∷ [])
           ∙ ap₂ (λ (xs : List Below) (x : Below). xs ++ x ∷ []) c.loop-entry.invariant.located told.located
           ∙ sym (take_more c.args.below.now c.loop-entry.entry-index _ c.loop-entry-test.true);
       told = λ t s. subst (All (IsOfTree c.args.volume.now.image t)) (sym c.in_ok-push.ensures.items)
-          (all_more (IsOfTree c.args.volume.now.image t) c.loop-entry.found.items c.entry_of.result (c.loop-entry.invariant.told t s) (told.told t s));
+          (All-push (IsOfTree c.args.volume.now.image t) c.loop-entry.found.items c.entry_of.result (c.loop-entry.invariant.told t s) (told.told t s));
       readable = subst (All (IsReadable c.args.volume.now.image)) (sym c.in_ok-push.ensures.items)
-          (all_more (IsReadable c.args.volume.now.image) c.loop-entry.found.items c.entry_of.result c.loop-entry.invariant.readable told.readable);
+          (All-push (IsReadable c.args.volume.now.image) c.loop-entry.found.items c.entry_of.result c.loop-entry.invariant.readable told.readable);
     }
 
 pub returns-clause-located : goal.returns-clause-located

@@ -1,22 +1,22 @@
 use Rattle.std.proofs.Common.{◌≡◌, IfSome, MatchOption, Option, ◌+◌, true, false, sym, ap, ◌∙◌, subst, arith}
+use Rattle.std.proofs.lemmas.Result.{on_ok_weaker}
 use Rattle.adf_salvage.specs.declared.giving.Giving.{Giving}
 use Rattle.adf_salvage.specs.declared.salvaged.State.{State}
 use Rattle.adf_salvage.specs.Salvaged.{IsLoose, broken_length}
 use Rattle.adf_salvage.specs.steps.Giving.{IsGiving}
-use Rattle.adf_salvage.proofs.Answering.{on_ok}
 use Rattle.adf_salvage.proofs.Settling.{settles_more}
 use Rattle.adf_salvage.proofs.loose.add_file.Goals as goal
 
 pub returns-in-Some : goal.returns-in-Some
 returns-in-Some c =
-    let image = c.args.image.now in
+    let image = c.args.known.now.image in
     let out = c.args.known.now.left_out in
     let loose : IsLoose out image c.args.header c.in-Some.state = subst (λ (o : Option State). IfSome o (IsLoose out image c.args.header)) c.in-Some.is c.in_ok-state.ensures.state in
     let left : broken_length c.in-Some.state + c.loose_state.new.giving.left ≡ c.args.gathered.now.giving.left =
     subst (λ (o : Option State). MatchOption o (c.loose_state.new.giving.left ≡ c.args.gathered.now.giving.left) (λ state. broken_length state + c.loose_state.new.giving.left ≡ c.args.gathered.now.giving.left))
     c.in-Some.is c.in_ok-state.ensures.left in
-    on_ok c.add_loose.result _ _ (λ more next after s.
-    settles_more out image next c.args.gathered.now c.add_loose.new.self s (ap (λ ps. ps.items) c.add_loose.ensures.places)
+    on_ok_weaker c.add_loose.result (λ more next after s.
+    settles_more c.args.known.now next c.args.gathered.now c.add_loose.new.self s (ap (λ ps. ps.items) c.add_loose.ensures.places)
     (subst (IsGiving image) (sym c.add_loose.ensures.giving) c.in_ok-state.ensures.giving) more.0 c.args.header after
     (λ some. let both : false ≡ true = sym c.if-has.false ∙ c.has.ensures.1 some in absurd (cc both)) more.1
     (subst (IsLoose out image c.args.header) (sym more.2) loose) more.3

@@ -22,7 +22,7 @@ returns-in-Some-clause-settled c =
       state = c.in-Some.state;
     } in
     let out = c.args.known.now.left_out in
-    let image = c.args.image.now in
+    let image = c.args.known.now.image in
     let at : (entry : Salvaged) → entry ≡ get_or c.args.gathered.now.entries.items c.args.place entry → was ≡ entry =
     λ entry is. c.index_mut.ensures.value ∙ get_or_default c.args.gathered.now.entries.items c.args.place was entry c.requires.place ∙ sym is in
     let same : was.header ≡ c.index-2.result.now.header = ap (λ (entry : Salvaged). entry.header) (at c.index-2.result.now c.index-2.ensures) in
@@ -32,4 +32,4 @@ returns-in-Some-clause-settled c =
     let left : broken_length e.state + c.loose_state.new.giving.left ≡ c.args.gathered.now.giving.left =
     subst (λ (o : Option State). MatchOption o (c.loose_state.new.giving.left ≡ c.args.gathered.now.giving.left) (λ state. broken_length state + c.loose_state.new.giving.left ≡ c.args.gathered.now.giving.left))
     c.in-Some.is c.in_ok-state.ensures.left in
-    settles_lost out image 0 c.args.gathered.now _ c.requires.settled refl c.in_ok-state.ensures.giving c.args.place was e _ c.requires.place c.index_mut.ensures.value refl lost loose refl left
+    settles_lost c.args.known.now 0 c.args.gathered.now _ c.requires.settled refl c.in_ok-state.ensures.giving c.args.place was e _ c.requires.place c.index_mut.ensures.value refl lost loose refl left

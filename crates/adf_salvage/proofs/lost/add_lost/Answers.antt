@@ -7,9 +7,9 @@ loop-block-preserved c =
     let more = c.in_ok-follow.ensures.more in
     record {
       gathered = more.0;
-      headers = headers_kept c.args.known.now.left_out c.args.image.now _ _ more.1 c.loop-block.invariant.headers;
-      followed = below_more _ _ (λ block l. followed_kept c.args.known.now.left_out c.args.image.now _ _ more.1 block (c.loop-block.invariant.followed block l)) c.in_ok-follow.ensures.followed;
+      headers = headers_kept c.args.known.now _ _ more.1 c.loop-block.invariant.headers;
+      followed = below_more _ _ (λ block l. followed_kept c.args.known.now _ _ more.1 block (c.loop-block.invariant.followed block l)) c.in_ok-follow.ensures.followed;
     }
 
 pub returns-clause-lost : goal.returns-clause-lost
-returns-clause-lost c = lost_met c.args.known.now.left_out c.args.image.now _ (omega (arith, c.blocks-block-end.ensures.count, c.blocks-block-end.ensures.size)) (λ holder l. c.loop-block.invariant.followed holder (omega arith))
+returns-clause-lost c = lost_met c.args.known.now _ (omega (arith, c.blocks-block-end.ensures.count, c.blocks-block-end.ensures.size)) (λ holder l. c.loop-block.invariant.followed holder (omega arith))

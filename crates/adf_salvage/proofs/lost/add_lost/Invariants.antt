@@ -1,10 +1,10 @@
 use Rattle.std.proofs.Common.{ℕ, ◌<◌}
-use Rattle.adf_salvage.specs.steps.Gathering.{AreAllHeaders, AreFollowed, AreGathered}
+use Rattle.adf_salvage.specs.steps.Gathering.{AreAllHeaders, AreFollowed, AreGatheredBy}
 use Rattle.adf_salvage.proofs.lost.add_lost.Given as goal
 
 abbrev pub invariant-loop-block : goal.invariant-loop-block
 invariant-loop-block l = record {
-  gathered : AreGathered l.known.left_out l.image l.gathered;
-  headers : AreAllHeaders l.known.left_out l.image l.gathered.places.items;
-  followed : (block : ℕ) → block < l.block → AreFollowed l.known.left_out l.image l.gathered.places.items block;
+  gathered : AreGatheredBy l.known l.gathered;
+  headers : AreAllHeaders l.known l.gathered.places.items;
+  followed : (block : ℕ) → block < l.block → AreFollowed l.known l.gathered.places.items block;
 }

@@ -8,10 +8,10 @@ loop-at-preserved c =
     let more = c.in_ok-follow_long.ensures.more in
     record {
       more = (more.0, λ block some. more.1 block (c.loop-at.invariant.more.1 block some));
-      headers = headers_kept c.args.known.now.left_out c.args.image.now _ _ more.1 c.loop-at.invariant.headers;
-      followed = below_more _ _ (λ at l. long_kept c.args.known.now.left_out c.args.image.now _ _ more.1 c.args.block at (c.loop-at.invariant.followed at l)) c.in_ok-follow_long.ensures.followed;
+      headers = headers_kept c.args.known.now _ _ more.1 c.loop-at.invariant.headers;
+      followed = below_more _ _ (λ at l. long_kept c.args.known.now _ _ more.1 c.args.block at (c.loop-at.invariant.followed at l)) c.in_ok-follow_long.ensures.followed;
     }
 
 pub returns-clause-followed : goal.returns-clause-followed
 returns-clause-followed c = λ accepted at dir named place.
-    c.loop-at.invariant.followed at (omega (arith, place_below c.args.image.now dir c.args.block at place)) dir named place
+    c.loop-at.invariant.followed at (omega (arith, place_below c.args.known.now.image dir c.args.block at place)) dir named place

@@ -1,19 +1,19 @@
-use Rattle.std.proofs.Common.{◌≡◌, ℕ, ◌<◌, [], length, slice_index_or}
+use Rattle.std.proofs.Common.{◌≡◌, ℕ, ◌<◌, length, slice_index_or}
 use Rattle.adf_block.specs.Image.{block_count}
 use Rattle.adf_salvage.specs.declared.deleted.Deleted.{Deleted}
-use Rattle.adf_salvage.specs.steps.Gathering.{AreGathered}
+use Rattle.adf_salvage.specs.steps.Gathering.{AreGatheredBy}
 use Rattle.adf_salvage.specs.steps.Undeleting.{IsThere}
 use Rattle.adf_salvage.proofs.undeleted.gathered_deleted.Given as goal
 
 abbrev pub invariant-loop-entry : goal.invariant-loop-entry
 invariant-loop-entry l = record {
-  gathered : AreGathered [] l.image l.gathered;
-  climbed : length l.climbed.items ≡ block_count l.image;
+  gathered : AreGatheredBy l.known l.gathered;
+  climbed : length l.climbed.items ≡ block_count l.known.image;
 }
 
 abbrev pub invariant-loop-entry-2 : goal.invariant-loop-entry-2
 invariant-loop-entry-2 l = record {
-  gathered : AreGathered [] l.image l.gathered;
-  climbed : length l.climbed.items ≡ block_count l.image;
+  gathered : AreGatheredBy l.known l.gathered;
+  climbed : length l.climbed.items ≡ block_count l.known.image;
   there : (k : ℕ) (d : Deleted) → k < l.entry-index → IsThere l.gathered.places.items (slice_index_or l.deleted k d);
 }

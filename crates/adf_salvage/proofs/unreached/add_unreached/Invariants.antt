@@ -1,12 +1,12 @@
 use Rattle.std.proofs.Common.{◌≡◌, ℕ, ◌<◌, length, IsSome}
 use Rattle.adf_block.specs.Image.{block_count}
 use Rattle.adf_salvage.specs.Doubtful.{IsHeader}
-use Rattle.adf_salvage.specs.steps.Gathering.{AreGathered, place_at}
+use Rattle.adf_salvage.specs.steps.Gathering.{AreGatheredBy, place_at}
 use Rattle.adf_salvage.proofs.unreached.add_unreached.Given as goal
 
 abbrev pub invariant-loop-block : goal.invariant-loop-block
 invariant-loop-block l = record {
-  gathered : AreGathered l.known.left_out l.image l.gathered;
-  climbed : length l.climbed.items ≡ block_count l.image;
-  all : (b : ℕ) → b < l.block → IsHeader l.known.left_out l.image b → IsSome (place_at l.gathered.places.items b);
+  gathered : AreGatheredBy l.known l.gathered;
+  climbed : length l.climbed.items ≡ block_count l.known.image;
+  all : (b : ℕ) → b < l.block → IsHeader l.known.left_out l.known.image b → IsSome (place_at l.gathered.places.items b);
 }

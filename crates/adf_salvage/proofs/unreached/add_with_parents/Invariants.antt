@@ -4,10 +4,10 @@ use Rattle.adf_salvage.specs.steps.Gathering.{GathersMore}
 use Rattle.adf_salvage.proofs.unreached.add_with_parents.Given as goal
 
 abbrev pub invariant-loop-step : goal.invariant-loop-step
-invariant-loop-step l = length l.climbed.items ≡ block_count l.image
+invariant-loop-step l = length l.climbed.items ≡ block_count l.known.image
 
 abbrev pub invariant-loop-dir : goal.invariant-loop-dir
-invariant-loop-dir l = GathersMore l.known.left_out l.image l.initial.gathered l.gathered
+invariant-loop-dir l = GathersMore l.known l.initial.gathered l.gathered
 
 abbrev pub decreases-loop-dir : goal.decreases-loop-dir
 decreases-loop-dir l = vec_len l.above

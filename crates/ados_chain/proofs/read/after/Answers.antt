@@ -1,18 +1,12 @@
-use Rattle.std.proofs.Common.{ap, sym, eq-eqb}
+use Rattle.std.proofs.Common.{ap, sym}
 use Rattle.std.proofs.lemmas.Bool.{ne_eqb}
 use Rattle.ados_chain.specs.Chains.{entries_of}
 use Rattle.ados_chain.specs.Look.{first_left}
 use Rattle.ados_chain.proofs.Order.{behind-absent, entry-in_chains}
 use Rattle.ados_chain.proofs.read.after.Goals as goal
 
-pub returns-then-key-dir : goal.returns-then-key-dir
-returns-then-key-dir c = λ chains h. rw (eq-eqb c.args.dir c.args.key (sym c.if-key-dir.true)) (c.first_from.ensures chains h)
-
 pub returns-in_default : goal.returns-in_default
 returns-in_default c =
     λ chains h.
     rw (ne_eqb c.args.dir c.args.key (λ e. c.if-key-dir.false (sym e)))
     (sym (ap first_left (behind-absent (entries_of chains) c.args.key (λ m. c.in_default.ensures chains h (entry-in_chains chains c.args.key m)))))
-
-pub behind_entry-requires-clause-entry : goal.behind_entry-requires-clause-entry
-behind_entry-requires-clause-entry c = λ chains h. c.in-Some.ensures chains h

@@ -1,11 +1,12 @@
 use Rattle.std.proofs.Common.{subst, sym}
 use Rattle.ados_change.specs.NewBlocks.{KeepsRest}
 use Rattle.ados_change.proofs.Keeping.{same_keeps}
-use Rattle.ados_change.proofs.Created.{created, created_below, created_keeps, insertable, pages_of_standing, room}
+use Rattle.ados_change.proofs.Created.{created, created_below, created_keeps, insertable, room}
+use Rattle.ados_change.proofs.Writable.{lawful_pages}
 use Rattle.ados_change.proofs.entry_made.create.Goals as goal
 
 pub take_first_from-requires-clause-pages : goal.take_first_from-requires-clause-pages
-take_first_from-requires-clause-pages c = pages_of_standing c.args.image.now c.requires.tree.0 c.requires.tree.1
+take_first_from-requires-clause-pages c = lawful_pages c.args.image.now c.requires.tree.0 c.requires.tree.1
 
 pub insert_last-requires : goal.insert_last-requires
 insert_last-requires c =

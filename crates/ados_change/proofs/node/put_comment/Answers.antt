@@ -3,7 +3,7 @@ use Rattle.adf_block.specs.Image.{HasText}
 use Rattle.adf_block.specs.Frame.{SameBut}
 use Rattle.ados_model.proofs.Nodes.{some_in}
 use Rattle.ados_change.specs.Places.{Summed}
-use Rattle.ados_change.proofs.Cases.{comment_case, commented_stands, kept_changed}
+use Rattle.ados_change.proofs.Cases.{commented_stands}
 use Rattle.ados_change.proofs.node.put_comment.Goals as goal
 
 pub returns-clause-rest : goal.returns-clause-rest
@@ -16,12 +16,3 @@ returns-clause-stands c = λ t s.
     let n = some_in (t.nodes c.args.key) entry.0 in
     let text = subst (HasText c.settle_text.new.image c.args.key 328) c.bytes.ensures.value c.settle_text.ensures.text in
     commented_stands c.args.image.now c.settle_text.new.image t s c.args.key n.0 n.1 c.settle_text.ensures.sum c.args.comment.now c.bytes.ensures.valid entry.1 (returns-clause-rest c) text
-
-pub returns-clause-kept : goal.returns-clause-kept
-returns-clause-kept c =
-    let t = c.requires.tree.0 in
-    let s = c.requires.tree.1 in
-    let entry = c.requires.key t s in
-    let n = some_in (t.nodes c.args.key) entry.0 in
-    kept_changed c.args.image.now c.settle_text.new.image t s c.args.key n.0 n.1 328 (329 + length c.args.comment.now) (λ a. record a { comment = c.args.comment.now })
-    (comment_case t s.proper c.args.key n.0 n.1 c.args.comment.now c.bytes.ensures.valid entry.1) (returns-clause-stands c t s) (returns-clause-rest c)

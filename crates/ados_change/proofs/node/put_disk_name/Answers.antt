@@ -4,7 +4,7 @@ use Rattle.adf_block.specs.Frame.{SameBut}
 use Rattle.ados_model.specs.Tree.{root}
 use Rattle.ados_model.proofs.Standing.{root_is}
 use Rattle.ados_change.specs.Places.{Summed}
-use Rattle.ados_change.proofs.Cases.{name_case, named_stands, kept_changed}
+use Rattle.ados_change.proofs.Cases.{named_stands}
 use Rattle.ados_change.proofs.node.put_disk_name.Goals as goal
 
 pub returns-clause-rest : goal.returns-clause-rest
@@ -19,11 +19,3 @@ returns-clause-stands c = λ t s.
     let rest = subst (λ (b : ℕ). SameBut (Summed b 432 (433 + length c.args.name.now)) c.args.image.now c.settle_text.new.image) (root_is c.args.image.now t s) (returns-clause-rest c) in
     named_stands c.args.image.now c.settle_text.new.image t s (root t) s.proper.root_node.0 s.proper.root_node.1
     (ap (block_sum c.settle_text.new.image) (sym at_root) ∙ c.settle_text.ensures.sum) c.args.name.now c.bytes.ensures.valid refl rest text
-
-pub returns-clause-kept : goal.returns-clause-kept
-returns-clause-kept c =
-    let t = c.requires.0 in
-    let s = c.requires.1 in
-    let rest = subst (λ (b : ℕ). SameBut (Summed b 432 (433 + length c.args.name.now)) c.args.image.now c.settle_text.new.image) (root_is c.args.image.now t s) (returns-clause-rest c) in
-    kept_changed c.args.image.now c.settle_text.new.image t s (root t) s.proper.root_node.0 s.proper.root_node.1 432 (433 + length c.args.name.now) (λ a. record a { name = c.args.name.now })
-    (name_case t s.proper (root t) s.proper.root_node.0 s.proper.root_node.1 c.args.name.now c.bytes.ensures.valid refl) (returns-clause-stands c t s) rest

@@ -3,7 +3,7 @@ use Rattle.adf_block.specs.Frame.{AtTwoLongs}
 use Rattle.adf_block.proofs.Frames.{same_weaken}
 use Rattle.ados_model.proofs.Nodes.{some_in}
 use Rattle.ados_change.specs.Places.{Summed}
-use Rattle.ados_change.proofs.Cases.{bits_case, protected_stands, kept_changed}
+use Rattle.ados_change.proofs.Cases.{protected_stands}
 use Rattle.ados_change.proofs.node.put_protection.Goals as goal
 
 pub returns-clause-rest : goal.returns-clause-rest
@@ -18,12 +18,3 @@ returns-clause-stands c = λ t s.
     let entry = c.requires.key t s in
     let n = some_in (t.nodes c.args.key) entry.0 in
     protected_stands c.args.image.now c.set_summed.new.self t s c.args.key n.0 n.1 (c.set_summed.ensures.sum ∙ (s.nodes c.args.key n.0 n.1).sum) c.args.bits.0 entry.1 (returns-clause-rest c) (c.set_summed.ensures.long ∙ c.bits.ensures)
-
-pub returns-clause-kept : goal.returns-clause-kept
-returns-clause-kept c =
-    let t = c.requires.tree.0 in
-    let s = c.requires.tree.1 in
-    let entry = c.requires.key t s in
-    let n = some_in (t.nodes c.args.key) entry.0 in
-    kept_changed c.args.image.now c.set_summed.new.self t s c.args.key n.0 n.1 320 324 (λ a. record a { protection = c.args.bits.0 })
-    (bits_case t s.proper c.args.key n.0 n.1 c.args.bits.0 entry.1) (returns-clause-stands c t s) (returns-clause-rest c)

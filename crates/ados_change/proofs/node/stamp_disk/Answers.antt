@@ -5,7 +5,7 @@ use Rattle.ados_model.specs.Tree.{root}
 use Rattle.ados_model.specs.Stands.{date_at}
 use Rattle.ados_model.proofs.Standing.{root_is}
 use Rattle.ados_change.specs.Places.{Summed}
-use Rattle.ados_change.proofs.Cases.{stamp_case, stamped_stands, kept_stamped}
+use Rattle.ados_change.proofs.Cases.{stamped_stands}
 use Rattle.ados_change.proofs.node.stamp_disk.Goals as goal
 
 pub returns-clause-stands : goal.returns-clause-stands
@@ -16,12 +16,3 @@ returns-clause-stands c = λ t s.
     (ap (block_sum c.settle_date.new.image) (sym at_root) ∙ c.settle_date.ensures.sum sum) c.args.moment refl
     (subst (λ (b : ℕ). SameBut (Summed b 472 484) c.args.image.now c.settle_date.new.image) at_root c.settle_date.ensures.rest)
     (ap (λ (b : ℕ). date_at c.settle_date.new.image b 118) (sym at_root) ∙ c.settle_date.ensures.date)
-
-pub returns-clause-kept : goal.returns-clause-kept
-returns-clause-kept c =
-    let t = c.requires.0 in
-    let s = c.requires.1 in
-    let at_root = c.root-root.ensures ∙ root_is c.args.image.now t s in
-    kept_stamped c.args.image.now c.settle_date.new.image t s (root t) s.proper.root_node.0 s.proper.root_node.1 472 484 c.args.moment
-    (stamp_case t s.proper (root t) s.proper.root_node.0 s.proper.root_node.1 c.args.moment refl) (returns-clause-stands c t s)
-    (subst (λ (b : ℕ). SameBut (Summed b 472 484) c.args.image.now c.settle_date.new.image) at_root c.settle_date.ensures.rest)

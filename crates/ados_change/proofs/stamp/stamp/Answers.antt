@@ -15,20 +15,20 @@ pub touch-requires-clause-tree : goal.touch-requires-clause-tree
 touch-requires-clause-tree c =
     let cleared : c.without_archive.result.0 ≡ without_archive (long c.args.image.now c.args.file 80) = c.without_archive.ensures ∙ ap without_archive c.long.ensures in
     let first = c.put_protection.ensures in
-    first_tree c.args.moment c.without_archive.result.0 c.args.file c.args.image.now c.put_protection.new.image c.requires.tree c.requires.file cleared first.stands first.kept first.rest
+    first_tree c.args.moment c.without_archive.result.0 c.args.file c.args.image.now c.put_protection.new.image c.requires.tree c.requires.file cleared first.stands first.rest
 
 pub touch-requires-clause-key : goal.touch-requires-clause-key
 touch-requires-clause-key c =
     let cleared : c.without_archive.result.0 ≡ without_archive (long c.args.image.now c.args.file 80) = c.without_archive.ensures ∙ ap without_archive c.long.ensures in
     let first = c.put_protection.ensures in
-    first_key c.args.moment c.without_archive.result.0 c.args.file c.args.image.now c.put_protection.new.image c.requires.tree c.requires.file cleared first.stands first.kept first.rest
+    first_key c.args.moment c.without_archive.result.0 c.args.file c.args.image.now c.put_protection.new.image c.requires.tree c.requires.file cleared first.stands first.rest
 
 pub stamp_disk-requires : goal.stamp_disk-requires
 stamp_disk-requires c =
     let cleared : c.without_archive.result.0 ≡ without_archive (long c.args.image.now c.args.file 80) = c.without_archive.ensures ∙ ap without_archive c.long.ensures in
     let first = c.put_protection.ensures in
     let second = c.touch.ensures in
-    second_tree c.args.moment c.without_archive.result.0 c.args.file c.args.image.now c.put_protection.new.image c.requires.tree c.requires.file cleared first.stands first.kept first.rest c.touch.new.image second.stands second.kept second.rest
+    second_tree c.args.moment c.without_archive.result.0 c.args.file c.args.image.now c.put_protection.new.image c.requires.tree c.requires.file cleared first.stands first.rest c.touch.new.image second.stands second.rest
 
 pub returns : goal.returns
 returns c =
@@ -36,5 +36,5 @@ returns c =
     let first = c.put_protection.ensures in
     let second = c.touch.ensures in
     let third = c.stamp_disk.ensures in
-    is_stamped c.args.moment c.without_archive.result.0 c.args.file c.args.image.now c.put_protection.new.image c.requires.tree c.requires.file cleared first.stands first.kept first.rest
-    c.touch.new.image second.stands second.kept second.rest c.stamp_disk.new.image third.stands third.kept third.rest
+    is_stamped c.args.moment c.without_archive.result.0 c.args.file c.args.image.now c.put_protection.new.image c.requires.tree c.requires.file cleared first.stands first.rest
+    c.touch.new.image second.stands second.rest c.stamp_disk.new.image third.stands third.rest

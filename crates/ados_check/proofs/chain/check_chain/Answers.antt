@@ -3,10 +3,8 @@ use Rattle.std.specs.List.{sum_by}
 use Rattle.std.specs.Option.{unwrap_or}
 use Rattle.std.proofs.lemmas.Option.{unwrap_or-slice_get}
 use Rattle.adf_block.specs.Fields.{held_count}
-use Rattle.ados_model.specs.declared.fault.FaultKind.TheVariants.{BadCount}
 use Rattle.ados_check.specs.declared.data_rules.Place.{Place}
 use Rattle.ados_check.proofs.DataRuling.{few_held}
-use Rattle.ados_check.proofs.Shown.{shown}
 use Rattle.ados_check.proofs.Headers.{first_link, header_inside}
 use Rattle.ados_check.proofs.Pointed.{blocks_upto, holder_within}
 use Rattle.ados_check.proofs.Linked.{IsPlacedAt, placed, first-is, next_holder, holder_inside, named_block, named_inside, is_placed, sum_shown, sum_more, linked_file}
@@ -112,8 +110,7 @@ returns-then-has_other_size c =
     let image = c.args.source.now.bytes in
     let last : c.loop-position.position ≡ c.args.count = omega (arith, c.loop-position-test.false, c.loop-position.auto.position-end) in
     let sum = c.loop-position.invariant.sum ∙ ap (λ (k : ℕ). sum_by (held_count image) (take k (blocks_upto image c.args.file c.args.count))) last in
-    shown image c.bad_count.result BadCount c.args.file c.bad_count.ensures.kind c.bad_count.ensures.block
-    (sum_shown image c.args.file c.args.count c.requires.reached c.requires.counts c.requires.ofs c.loop-position.sum sum (c.if-has_other_size.ensures.0 refl))
+    sum_shown image c.args.file c.args.count c.requires.reached c.requires.counts c.requires.ofs c.loop-position.sum sum (c.if-has_other_size.ensures.0 refl)
 
 pub returns : goal.returns
 returns c =

@@ -1,7 +1,5 @@
 use Rattle.std.proofs.Common.{refl, sym, ◌∙◌, arith}
-use Rattle.ados_model.specs.declared.fault.FaultKind.TheVariants.{BadCount}
 use Rattle.ados_model.specs.Faults.HasBadCount.{wrong_size}
-use Rattle.ados_check.proofs.Shown.{shown}
 use Rattle.ados_check.proofs.Pointed.{length-blocks_upto, are_data_blocks}
 use Rattle.ados_check.proofs.FilesTold.{holder_told}
 use Rattle.ados_check.proofs.Ruling.{stable}
@@ -12,9 +10,8 @@ needs_other_count-requires-clause-told c = holder_told c.args.source.now c.args.
 
 pub returns-then-needs_other_count-clause-fault : goal.returns-then-needs_other_count-clause-fault
 returns-then-needs_other_count-clause-fault c =
-    shown c.args.source.now.bytes c.bad_count.result BadCount c.args.file c.bad_count.ensures.kind c.bad_count.ensures.block
-    (wrong_size (are_data_blocks c.args.source.now.bytes c.args.file c.in_ok-count.count c.requires.reached c.in_ok-count.ensures)
-    (λ z. c.if-needs_other_count.ensures.0 refl (c.from.ensures ∙ sym (length-blocks_upto c.args.source.now.bytes c.args.file c.in_ok-count.count) ∙ z)))
+    wrong_size (are_data_blocks c.args.source.now.bytes c.args.file c.in_ok-count.count c.requires.reached c.in_ok-count.ensures)
+    (λ z. c.if-needs_other_count.ensures.0 refl (c.from.ensures ∙ sym (length-blocks_upto c.args.source.now.bytes c.args.file c.in_ok-count.count) ∙ z))
 
 pub returns-clause-size : goal.returns-clause-size
 returns-clause-size c = sym c.from.ensures ∙ stable _ _ (λ n. let t = c.if-needs_other_count.ensures.1 n in cc t)

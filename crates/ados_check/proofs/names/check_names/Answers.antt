@@ -1,7 +1,5 @@
 use Rattle.std.proofs.Common.{◌+◌, inl, sym, ◌∙◌, subst, arith}
 use Rattle.std.proofs.lemmas.Bool.{not-true, not-false}
-use Rattle.ados_model.specs.declared.fault.FaultKind.TheVariants.{DuplicateName}
-use Rattle.ados_check.proofs.Shown.{shown}
 use Rattle.ados_check.proofs.Entered.{AreEntered, entered_none, entered_twice, entered_more, all_unlike}
 use Rattle.ados_check.proofs.FilesTold.{entry_told}
 use Rattle.ados_check.proofs.names.check_names.Goals as goal
@@ -13,9 +11,8 @@ upper_name-name-requires-clause-told c =
 
 pub returns-in-Ok-false : goal.returns-in-Ok-false
 returns-in-Ok-false c =
-    inl (shown c.args.source.now.bytes c.duplicate_name.result DuplicateName c.loop-block.block c.duplicate_name.ensures.kind c.duplicate_name.ensures.block
-    (entered_twice c.args.source.now.bytes c.args.marks.now c.loop-block.block c.loop-block.names c.loop-block.invariant c.in-Some.dir c.upper_name-name.result c.in-Some.ensures c.upper_name-name.ensures c.requires
-    (not-false _ (sym c.in-Ok-false.ensures.added ∙ c.in-Ok-false.field-0-test))))
+    inl (entered_twice c.args.source.now.bytes c.args.marks.now c.loop-block.block c.loop-block.names c.loop-block.invariant c.in-Some.dir c.upper_name-name.result c.in-Some.ensures c.upper_name-name.ensures c.requires
+    (not-false _ (sym c.in-Ok-false.ensures.added ∙ c.in-Ok-false.field-0-test)))
 
 pub loop-block-preserved : goal.loop-block-preserved
 loop-block-preserved c =

@@ -5,9 +5,8 @@ use Rattle.ados_check.proofs.UpperNames.{name_is}
 use Rattle.ados_check.proofs.naming.upper_name.Goals as goal
 
 zeros : (n k : ℕ) → slice_index (replicate n 0) k ≡ 0
-zeros zero k = refl
-zeros (suc n) zero = refl
 zeros (suc n) (suc k) = zeros n k
+zeros _ _ = refl
 
 zeros_behind : (len k : ℕ) → 0 < k → slice_index (len ∷ replicate 30 0) k ≡ 0
 zeros_behind len zero l = absurd (omega (arith, l))

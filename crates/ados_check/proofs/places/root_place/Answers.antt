@@ -10,7 +10,7 @@ use Rattle.ados_check.proofs.places.root_place.Goals as goal
 pub returns-then-i-pages : goal.returns-then-i-pages
 returns-then-i-pages c =
     let image = c.args.source.now.bytes in
-    let within : c.args.i - 79 < page_count (block_count image) = omega (arith, c.pages.ensures) in
+    let within : c.args.i - 79 < page_count (block_count image) = omega (arith, c.page_count-pages.ensures, c.blocks-2.ensures.count) in
     is_only (λ (next : Role). IsPlace image c.args.block Root c.args.i next) Page (page_place image c.args.block c.args.i (omega arith) within)
     (λ next p. elim (of_root p) [ of_page f e ↦ e | of_slot f t e ↦ absurd (omega arith) ])
 

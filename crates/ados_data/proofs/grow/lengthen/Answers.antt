@@ -1,4 +1,4 @@
-use Rattle.std.proofs.Common.{◌≡◌, ◌<◌, ◌≤◌, ◌-◌, ◌*◌, ◌/◌, ℕ, length, sym, ap, ◌∙◌, arith, subst}
+use Rattle.std.proofs.Common.{◌≡◌, ◌<◌, ◌≤◌, ◌-◌, ◌*◌, ◌/◌, ℕ, length, sym, ap, arith, subst}
 use Rattle.adf_block.specs.declared.layout.Format.{Format}
 use Rattle.ados_map.specs.Pages.{NoneFreeBelow}
 use Rattle.ados_model.specs.Tree.{data_size}
@@ -34,9 +34,6 @@ loop-reached-preserved c =
       bytes = longer_zeros c.format-format.result (contents c.args.image.now c.args.file) (contents c.loop-reached.image c.args.file) (contents c.append-end.new.image c.args.file) c.loop-reached.reached c.min-next.result
           c.loop-reached.invariant.grown.longer next_over c.loop-reached.invariant.bytes e.bytes;
     }
-
-pub append-end-requires-clause-full : goal.append-end-requires-clause-full
-append-end-requires-clause-full c = c.loop-reached.invariant.grown.sized ∙ c.loop-reached.invariant.full c.loop-reached-test.true
 
 pub loop-reached-init : goal.loop-reached-init
 loop-reached-init c =

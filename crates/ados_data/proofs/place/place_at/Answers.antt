@@ -5,9 +5,6 @@ use Rattle.ados_data.proofs.Placed.{last_place}
 use Rattle.ados_data.proofs.Places.{header_is}
 use Rattle.ados_data.proofs.place.place_at.Goals as goal
 
-pub long-requires-clause-block : goal.long-requires-clause-block
-long-requires-clause-block c = c.requires.readable.headers_inside 0 (omega arith)
-
 pub pointer_block-block-requires-clause-within : goal.pointer_block-block-requires-clause-within
 pointer_block-block-requires-clause-within c =
     let last = last_place c.args.image.now c.args.file c.format-format.result c.long.result c.data_count.result c.extension_count-last.result c.format-format.ensures c.long.ensures c.data_count.ensures c.extension_count-last.ensures in

@@ -10,9 +10,6 @@ use Rattle.ados_data.proofs.Walking.{holder_inside, block_inside, block_is, on_t
 use Rattle.ados_data.proofs.Sizes.{few_bytes, part_bounds}
 use Rattle.ados_data.proofs.read.read_near.Goals as goal
 
-pub long-size-requires-clause-block : goal.long-size-requires-clause-block
-long-size-requires-clause-block c = c.requires.readable.headers_inside 0 (omega arith)
-
 pub returns-then-size-pos-clause-count : goal.returns-then-size-pos-clause-count
 returns-then-size-pos-clause-count c = omega (arith, c.if-size-pos.true, c.long-size.ensures, size_is c.args.image.now c.args.file)
 

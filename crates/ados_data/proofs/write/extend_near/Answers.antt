@@ -5,14 +5,10 @@ use Rattle.ados_model.specs.File.{contents}
 use Rattle.ados_model.specs.Edits.{overlaid}
 use Rattle.ados_data.proofs.Composing.{grows_over, below_grown}
 use Rattle.ados_data.proofs.LongerBytes.{zeroed_longer}
-use Rattle.ados_data.proofs.Placed.{among_more}
 use Rattle.ados_data.proofs.write.extend_near.Goals as goal
 
 pub long-old-requires-clause-block : goal.long-old-requires-clause-block
 long-old-requires-clause-block c = omega (arith, c.requires.writable.lawful.places.headers_inside 0 (omega arith))
-
-pub overlay-requires-clause-near : goal.overlay-requires-clause-near
-overlay-requires-clause-near c = among_more c.lengthen-bound.ensures.grown.extensions c.requires.near
 
 pub returns-clause-grown : goal.returns-clause-grown
 returns-clause-grown c = grows_over c.requires.writable c.lengthen-bound.ensures.grown c.overlay.ensures.grown

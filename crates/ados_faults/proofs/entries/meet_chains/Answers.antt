@@ -14,17 +14,17 @@ loop-i-init c = record { met = c.requires.met; entries = c.requires.entries; slo
 pub long-next-requires-clause-block : goal.long-next-requires-clause-block
 long-next-requires-clause-block c =
     let old = c.loop-i.entries.list.items in
-    let within : c.loop-i.i < length old = omega (arith, c.if-len-i.false, c.len.ensures) in
+    let within : c.loop-i.i < length old = omega arith in
     (subst (InImage c.args.image.now) (sym c.index-entry.ensures) (c.loop-i.invariant.met.inside c.loop-i.i c.index-entry.result.now within)).1
 
 pub loop-i-preserved : goal.loop-i-preserved
 loop-i-preserved c =
     let image = c.args.image.now in
     let old = c.loop-i.entries.list.items in
-    let new = c.meet.new.entries.list.items in
-    let done = c.in_ok-meet.ensures in
+    let new = c.add.new.self.list.items in
+    let done = c.in_ok-add.ensures in
     let entry = c.index-entry.result.now in
-    let within : c.loop-i.i < length old = omega (arith, c.if-len-i.false, c.len.ensures) in
+    let within : c.loop-i.i < length old = omega arith in
     let at : entry ≡ slice_index old c.loop-i.i = c.index-entry.ensures ∙ get_or_default old c.loop-i.i entry 0 within in
     let there : long image entry NEXT_IN_CHAIN ≡ c.long-next.result = sym c.long-next.ensures in
     let entry_in : IsEntryIn image c.args.dir entry = subst (IsEntryIn image c.args.dir) (sym c.index-entry.ensures) (c.loop-i.invariant.entries c.loop-i.i entry within) in
@@ -37,11 +37,5 @@ loop-i-preserved c =
           (subst (λ (b : ℕ). InImage image b → Contains new b) (sym there) done.there);
     }
 
-pub returns-then-len-i-clause-all : goal.returns-then-len-i-clause-all
-returns-then-len-i-clause-all c =
-    all_entries c.args.image.now c.args.dir c.loop-i.entries.list.items c.loop-i.i c.loop-i.invariant.entries c.loop-i.invariant.slots c.loop-i.invariant.next (omega (arith, c.if-len-i.true, c.len.ensures))
-
 pub returns-clause-all : goal.returns-clause-all
-returns-clause-all c =
-    all_entries c.args.image.now c.args.dir c.loop-i.entries.list.items c.loop-i.i c.loop-i.invariant.entries c.loop-i.invariant.slots c.loop-i.invariant.next
-    (omega (arith, c.loop-i-test.false, c.loop-i.entries.list.ok.0))
+returns-clause-all c = all_entries c.args.image.now c.args.dir c.loop-i.entries.list.items c.loop-i.i c.loop-i.invariant.entries c.loop-i.invariant.slots c.loop-i.invariant.next (omega arith)

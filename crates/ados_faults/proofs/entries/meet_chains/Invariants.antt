@@ -1,3 +1,4 @@
+use Rattle.std.proofs.Common.{◌-◌, ◌^◌}
 use Rattle.std.specs.List.{All}
 use Rattle.ados_faults.specs.steps.Blocks.{AreMet, AreNextMet, AreSlotsMet, IsEntryIn}
 use Rattle.ados_faults.proofs.entries.meet_chains.Given as goal
@@ -9,3 +10,6 @@ invariant-loop-i l = record {
   slots : AreSlotsMet l.image l.dir l.entries.list.items 72;
   next : AreNextMet l.image l.entries.list.items l.i;
 }
+
+abbrev pub decreases-loop-i : goal.decreases-loop-i
+decreases-loop-i l = 2 ^ 64 - l.i

@@ -14,8 +14,8 @@ pub loop-i-preserved : goal.loop-i-preserved
 loop-i-preserved c =
     let image = c.args.image.now in
     let old = c.loop-i.entries.list.items in
-    let new = c.meet.new.entries.list.items in
-    let done = c.in_ok-meet.ensures in
+    let new = c.add.new.self.list.items in
+    let done = c.in_ok-add.ensures in
     let there : long image c.args.dir (FIRST_SLOT + c.loop-i.i) ≡ c.long-first.result = sym c.long-first.ensures in
     record {
       met = done.met;

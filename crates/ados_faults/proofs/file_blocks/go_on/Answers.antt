@@ -1,6 +1,6 @@
-use Rattle.std.proofs.Common.{inl, inr, ℕ, List, length, slice_index, refl, sym, ap, ◌∙◌, subst, arith}
+use Rattle.std.proofs.Common.{inl, inr, ℕ, List, length, slice_index, sym, ap, ◌∙◌, subst, arith}
 use Rattle.std.specs.List.{Contains}
-use Rattle.std.proofs.lemmas.Bool.{cases_Bool, false≢true}
+use Rattle.std.proofs.lemmas.Bool.{cases_Bool}
 use Rattle.std.proofs.lemmas.List.{length_push}
 use Rattle.adf_block.specs.declared.layout.TheConstants.{NEXT_EXTENSION}
 use Rattle.ados_model.specs.Faults.{LinkedOnce}
@@ -8,18 +8,12 @@ use Rattle.ados_faults.specs.steps.Chain.{IsChain}
 use Rattle.ados_faults.proofs.Linking.{chain_whole, chain_more, head_kept, last_next}
 use Rattle.ados_faults.proofs.file_blocks.go_on.Goals as goal
 
-pub returns-then-not-is_inside-clause-whole : goal.returns-then-not-is_inside-clause-whole
-returns-then-not-is_inside-clause-whole c = λ _.
-    let blocks = c.args.headers.now.list.items in
-    let link = last_next c.args.image.now NEXT_EXTENSION blocks c.len.result c.index-last.result.now c.long-next.result c.requires.chain.not_empty (omega (arith, c.len.ensures, c.args.headers.now.list.ok.0)) c.index-last.ensures c.long-next.ensures in
-    chain_whole c.args.image.now NEXT_EXTENSION blocks c.requires.chain c.long-next.result link (λ inside. absurd (false≢true (sym c.if-not-is_inside.true ∙ c.is_inside.ensures.1 inside)))
-
 pub returns-clause-whole : goal.returns-clause-whole
 returns-clause-whole c = λ kept.
     let blocks = c.args.headers.now.list.items in
     let link = last_next c.args.image.now NEXT_EXTENSION blocks c.len.result c.index-last.result.now c.long-next.result c.requires.chain.not_empty (omega (arith, c.len.ensures, c.args.headers.now.list.ok.0)) c.index-last.ensures c.long-next.ensures in
     let done = c.in_ok-more.ensures in
-    let old : LinkedOnce c.args.image.now NEXT_EXTENSION (slice_index blocks 0) blocks = chain_whole c.args.image.now NEXT_EXTENSION blocks c.requires.chain c.long-next.result link (λ inside. subst (λ (xs : List ℕ). Contains xs c.long-next.result) (done.same kept) done.there) in
+    let old : LinkedOnce c.args.image.now NEXT_EXTENSION (slice_index blocks 0) blocks = chain_whole c.args.image.now NEXT_EXTENSION blocks c.requires.chain c.long-next.result link (λ inside. subst (λ (xs : List ℕ). Contains xs c.long-next.result) (done.same kept) (done.there inside)) in
     subst (λ (xs : List ℕ). LinkedOnce c.args.image.now NEXT_EXTENSION (slice_index xs 0) xs) (sym (done.same kept)) old
 
 pub returns-clause-chain : goal.returns-clause-chain
@@ -30,7 +24,7 @@ returns-clause-chain c =
     elim (cases_Bool c.in_ok-more.more) [
       | inl added ↦
           subst (IsChain c.args.image.now NEXT_EXTENSION) (sym (done.new added))
-          (chain_more c.args.image.now NEXT_EXTENSION blocks c.requires.chain c.long-next.result link (c.if-not-is_inside.ensures.0 refl) (done.fresh added))
+          (chain_more c.args.image.now NEXT_EXTENSION blocks c.requires.chain c.long-next.result link (done.inside added) (done.fresh added))
       | inr kept ↦ subst (IsChain c.args.image.now NEXT_EXTENSION) (sym (done.same kept)) c.requires.chain
     ]
 

@@ -9,7 +9,7 @@ use Rattle.ados_faults.proofs.file_blocks.list_headers.Goals as goal
 
 pub loop-passed-init : goal.loop-passed-init
 loop-passed-init c =
-    let only = only_one c.args.image.now c.args.file c.clear.new.self.list.items c.add.new.self.list.items c.clear.ensures.none c.in_ok-add.ensures.grown c.in_ok-add.ensures.there in
+    let only = only_one c.args.image.now c.args.file c.clear.new.self.list.items c.add.new.self.list.items c.clear.ensures.none c.in_ok-add.ensures.grown (c.in_ok-add.ensures.there c.requires.inside) in
     record {
       chain = subst (IsChain c.args.image.now NEXT_EXTENSION) (sym only) (chain_start c.args.image.now NEXT_EXTENSION c.args.file c.requires.inside);
       met = c.in_ok-add.ensures.met;

@@ -1,10 +1,10 @@
-use Rattle.std.proofs.Common.{sym, subst}
+use Rattle.std.proofs.Common.{sym, subst, ◌∙◌}
 use Rattle.std.proofs.lemmas.List.Elements.{All-weaker}
 use Rattle.ados_check.specs.Rules.{HasBadSumAs, HasBadTypeAs}
 use Rattle.ados_check.specs.Source.{SourceView}
 use Rattle.ados_check.specs.declared.rules.TheConstants.{FIELD_RULES}
 use Rattle.ados_check.proofs.Ruling.{type_shows}
-use Rattle.ados_faults.specs.steps.Looks.{IsFieldNoted}
+use Rattle.ados_faults.specs.steps.Looks.{AreWrongsNoted, IsFieldNoted}
 use Rattle.ados_faults.proofs.Cells.{noted_on}
 use Rattle.ados_faults.proofs.Looking.{bare_noted, fields_noted}
 use Rattle.ados_faults.proofs.looks.look.Goals as goal
@@ -14,8 +14,10 @@ note_if-requires-2-clause-shown c = λ w.
     type_shows c.args.image.now c.args.block c.args.role c.requires.reached
     (subst (λ (s : SourceView). HasBadTypeAs s.bytes c.args.block c.args.role) c.whole-source.ensures (c.has_bad_type-types.ensures.0 w))
 
-pub returns-then-is_bare-clause-whole : goal.returns-then-is_bare-clause-whole
-returns-then-is_bare-clause-whole c = bare_noted c.args.image.now c.args.notes.now.cells.items c.args.block c.args.role (c.is_bare.ensures.0 c.if-is_bare.true)
+pub returns-in-Data-clause-whole : goal.returns-in-Data-clause-whole
+returns-in-Data-clause-whole c =
+    subst (AreWrongsNoted c.args.image.now c.args.notes.now.cells.items c.args.block) (sym c.in-Data.is)
+    (bare_noted c.args.image.now c.args.notes.now.cells.items c.args.block c.in-Data.field-0 (λ ofs. c.if-byte-ne0.true (c.byte.ensures ∙ ofs)))
 
 pub returns-clause-whole : goal.returns-clause-whole
 returns-clause-whole c =

@@ -11,7 +11,7 @@ pub loop-i-preserved : goal.loop-i-preserved
 loop-i-preserved c =
     let walk = c.loop-i.walk in
     let done = c.in_ok-go_through.ensures in
-    let within : c.loop-i.i < length walk.steps.items = omega (arith, c.if-len-i.false, c.len.ensures) in
+    let within : c.loop-i.i < length walk.steps.items = omega arith in
     let at : slice_get walk.steps.items c.loop-i.i ≡ Some c.index-step.result.now =
     slice_get_read walk.steps.items (length walk.steps.items) c.loop-i.i c.index-step.result.now refl within c.index-step.ensures in
     record {
@@ -19,26 +19,14 @@ loop-i-preserved c =
       visited = visited_more c.args.image.now walk c.go_through.new.self c.loop-i.i c.index-step.result.now at c.loop-i.invariant.visited done.kept done.visited;
     }
 
-pub returns-then-len-i-clause-closed : goal.returns-then-len-i-clause-closed
-returns-then-len-i-clause-closed c = closed c.args.image.now c.loop-i.walk c.loop-i.i c.loop-i.invariant.walked c.loop-i.invariant.visited (omega (arith, c.if-len-i.true, c.len.ensures))
-
 pub returns-clause-closed : goal.returns-clause-closed
-returns-clause-closed c = closed c.args.image.now c.loop-i.walk c.loop-i.i c.loop-i.invariant.walked c.loop-i.invariant.visited (omega (arith, c.loop-i-test.false, c.loop-i.walk.steps.ok.0))
-
-pub returns-then-len-i-clause-covered : goal.returns-then-len-i-clause-covered
-returns-then-len-i-clause-covered c = all_covered c.args.image.now c.loop-i.walk c.loop-i.i c.loop-i.invariant.walked c.loop-i.invariant.visited (omega (arith, c.if-len-i.true, c.len.ensures))
+returns-clause-closed c = closed c.args.image.now c.loop-i.walk c.loop-i.i c.loop-i.invariant.walked c.loop-i.invariant.visited (omega arith)
 
 pub returns-clause-covered : goal.returns-clause-covered
-returns-clause-covered c = all_covered c.args.image.now c.loop-i.walk c.loop-i.i c.loop-i.invariant.walked c.loop-i.invariant.visited (omega (arith, c.loop-i-test.false, c.loop-i.walk.steps.ok.0))
-
-pub returns-then-len-i-clause-twice : goal.returns-then-len-i-clause-twice
-returns-then-len-i-clause-twice c = twice_noted c.args.image.now c.loop-i.walk c.loop-i.i c.loop-i.invariant.walked c.loop-i.invariant.visited (omega (arith, c.if-len-i.true, c.len.ensures))
+returns-clause-covered c = all_covered c.args.image.now c.loop-i.walk c.loop-i.i c.loop-i.invariant.walked c.loop-i.invariant.visited (omega arith)
 
 pub returns-clause-twice : goal.returns-clause-twice
-returns-clause-twice c = twice_noted c.args.image.now c.loop-i.walk c.loop-i.i c.loop-i.invariant.walked c.loop-i.invariant.visited (omega (arith, c.loop-i-test.false, c.loop-i.walk.steps.ok.0))
-
-pub returns-then-len-i-clause-outside : goal.returns-then-len-i-clause-outside
-returns-then-len-i-clause-outside c = outside_noted c.args.image.now c.loop-i.walk c.loop-i.i c.loop-i.invariant.walked c.loop-i.invariant.visited (omega (arith, c.if-len-i.true, c.len.ensures))
+returns-clause-twice c = twice_noted c.args.image.now c.loop-i.walk c.loop-i.i c.loop-i.invariant.walked c.loop-i.invariant.visited (omega arith)
 
 pub returns-clause-outside : goal.returns-clause-outside
-returns-clause-outside c = outside_noted c.args.image.now c.loop-i.walk c.loop-i.i c.loop-i.invariant.walked c.loop-i.invariant.visited (omega (arith, c.loop-i-test.false, c.loop-i.walk.steps.ok.0))
+returns-clause-outside c = outside_noted c.args.image.now c.loop-i.walk c.loop-i.i c.loop-i.invariant.walked c.loop-i.invariant.visited (omega arith)

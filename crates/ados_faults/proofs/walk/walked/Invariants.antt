@@ -1,3 +1,4 @@
+use Rattle.std.proofs.Common.{◌-◌, ◌^◌}
 use Rattle.ados_faults.specs.steps.Walked.{AreVisited, IsWalked}
 use Rattle.ados_faults.proofs.walk.walked.Given as goal
 
@@ -6,3 +7,6 @@ invariant-loop-i l = record {
   walked : IsWalked l.image l.walk.notes.cells.items l.walk.marks.items l.walk.roles.cells.items l.walk.steps.items;
   visited : AreVisited l.image l.walk l.i;
 }
+
+abbrev pub decreases-loop-i : goal.decreases-loop-i
+decreases-loop-i l = 2 ^ 64 - l.i

@@ -1,9 +1,9 @@
-use Rattle.std.proofs.Common.{inl, inr, sym, arith}
+use Rattle.std.proofs.Common.{inl, inr}
 use Rattle.adf_block.specs.Frame.{AtTwoLongs}
 use Rattle.adf_block.proofs.Frames.{same_weaken}
 use Rattle.ados_map.specs.Pages.{map_long, page_block, page_of}
 use Rattle.ados_map.specs.Changes.{MapPlace}
-use Rattle.ados_map.proofs.PageLemmas.{lawful_beside_root, marked_by}
+use Rattle.ados_map.proofs.PageLemmas.{marked_by}
 use Rattle.ados_map.proofs.MarkLemmas.{marked_sums}
 use Rattle.ados_map.proofs.changes.put_mark.Goals as goal
 
@@ -17,12 +17,6 @@ returns-clause-marked c =
     (λ b i at. (at.0, elim at.1 [ inl long ↦ inr long | inr sum ↦ inl sum ])) (rw (← page) c.set_summed.ensures.rest))
     (rw (← page, ← c.long-old.ensures, c.set_summed.ensures.long) c.with_bit-new.ensures)
     (rw (← page) c.set_summed.ensures.sum)
-
-pub returns-clause-pages : goal.returns-clause-pages
-returns-clause-pages c =
-    lawful_beside_root (MapPlace c.args.image.now c.args.b) c.args.image.now c.set_summed.new.self (returns-clause-marked c).rest
-    (λ k low high at. c.requires.pages.beside_root (page_of c.args.b) (omega (arith, c.requires.inside.0, c.requires.inside.1)) (sym at.0))
-    c.page_at-page.ensures.size.1 c.requires.pages
 
 pub returns-clause-sums : goal.returns-clause-sums
 returns-clause-sums c = marked_sums c.args.image.now c.args.b c.args.free c.set_summed.new.self c.requires.pages c.page_at-page.ensures.size.1 c.requires.inside (returns-clause-marked c)

@@ -42,9 +42,6 @@ pub returns-then-bits-ne0-clause-lowest : goal.returns-then-bits-ne0-clause-lowe
 returns-then-bits-ne0-clause-lowest c =
     lowest c.args.image.now c.loop-w.w c.free_bits-bits.result c.loop-w.invariant c.free_bits-bits.ensures c.if-bits-ne0.true c.free_bits-bits.type_inv
 
-pub loop-w-init : goal.loop-w-init
-loop-w-init c = λ k inside lt. c.requires.below k inside (omega (arith, lt, inside.0, c.map_long_of-w.ensures))
-
 pub loop-w-preserved : goal.loop-w-preserved
 loop-w-preserved c =
     none_more c.args.image.now c.loop-w.w c.free_bits-bits.result c.loop-w.invariant c.free_bits-bits.ensures c.if-bits-ne0.false

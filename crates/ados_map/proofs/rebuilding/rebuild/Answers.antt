@@ -1,11 +1,8 @@
 use Rattle.std.proofs.Common.{◌<◌, arith, ◌∙◌}
 use Rattle.ados_map.specs.Pages.{pages_of}
-use Rattle.ados_map.proofs.Begun.{begun_none, begun_page, begun_more, begun_all}
+use Rattle.ados_map.proofs.Begun.{begun_page, begun_more, begun_all}
 use Rattle.ados_map.proofs.PageLemmas.{lawful_in_pages}
 use Rattle.ados_map.proofs.rebuilding.rebuild.Goals as goal
-
-pub loop-p-init : goal.loop-p-init
-loop-p-init c = record { begun = begun_none c.args.image.now c.args.named.now; image = c.blocks-2.ensures.image }
 
 pub page_at-page-requires-clause-pages : goal.page_at-page-requires-clause-pages
 page_at-page-requires-clause-pages c = lawful_in_pages c.args.image.now c.loop-p.image c.loop-p.invariant.begun.rest (omega arith) c.requires.pages

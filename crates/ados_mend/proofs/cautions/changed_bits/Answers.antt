@@ -2,7 +2,8 @@ use Rattle.std.proofs.Common.{ℕ, ◌+◌, bit_xor, arith, ap, ap₂, ◌∙◌
 use Rattle.std.specs.Int.Count.{ones, ones-le}
 use Rattle.std.proofs.lemmas.Nat.{xor_of_32}
 use Rattle.adf_block.specs.Image.{long}
-use Rattle.ados_mend.proofs.Counted.{bits_at, total_more}
+use Rattle.adf_block.proofs.Totals.{total-more}
+use Rattle.ados_mend.proofs.Counted.{bits_at}
 use Rattle.ados_mend.proofs.cautions.changed_bits.Goals as goal
 
 pub overflow_add-bits : goal.overflow_add-bits
@@ -13,7 +14,7 @@ overflow_add-bits c =
 pub loop-i-preserved : goal.loop-i-preserved
 loop-i-preserved c =
     let few = ones-le 32 (bit_xor c.long.result c.long-in-loop-i.result) (xor_of_32 c.long.result c.long-in-loop-i.result c.long.type_inv c.long-in-loop-i.type_inv) in
-    let more = total_more (bits_at c.args.old.now c.args.new.now c.args.page) c.loop-i.i in
+    let more = total-more (bits_at c.args.old.now c.args.new.now c.args.page) c.loop-i.i in
     let was = c.long.ensures ∙ ap (λ (b : ℕ). long c.args.old.now b (c.loop-i.i + 1)) c.requires.page in
     let here = ap₂ (λ x y. ones (bit_xor x y)) was c.long-in-loop-i.ensures in
     record { counted = omega (arith, more, here); bound = omega (arith, few) }

@@ -1,17 +1,17 @@
 use Rattle.std.proofs.Common.{◌≡◌, Bool, List, [], ◌∷◌, ◌++◌, length, drop, arith, sym, ap, subst, ◌∙◌, append_assoc}
 use Rattle.std.proofs.lemmas.List.{append-nil}
-use Rattle.port_history.specs.History.{PortState, PortHistory, events_of, queue}
-use Rattle.port_history.specs.Steps.{FirstAreServed}
-use Rattle.port_history.specs.declared.step.Step.{Step}
-use Rattle.port_history.specs.declared.step.Outcome.{Outcome}
-use Rattle.port_history.proofs.Closing.{dead-closed, dead-closing}
-use Rattle.ados_port.proofs.Histories.{served_length}
-use Rattle.ados_port.proofs.Grows.{grown_nil, grow}
+use Rattle.port_ends.specs.History.{PortState, PortHistory, events_of, queue}
+use Rattle.port_ends.specs.Gives.{FirstAreServed}
+use Rattle.port_ends.specs.declared.step.Step.{Step}
+use Rattle.port_ends.specs.declared.step.Outcome.{Outcome}
+use Rattle.port_ends.proofs.Closing.{dead-closed, dead-closing}
+use Rattle.ados_port.proofs.Histories.{history_nil, served_length}
+use Rattle.ados_port.proofs.Grows.{grow}
 use Rattle.ados_port.proofs.Joins.{nil_of}
 use Rattle.ados_port.proofs.steps.run.Goals as goal
 
 pub loop-step-init : goal.loop-step-init
-loop-step-init g c = ([], c.from_vec-rest.ensures.items, rw c.in-Ok.ensures.items (grown_nil g.S.Server.gives g.S.Server.has_died c.args.exchange), omega (arith, c.in-Ok.ensures.len, c.in-Ok.ensures.exact, c.from_vec-rest.ensures.len, c.len.ensures))
+loop-step-init g c = ([], c.from_vec-rest.ensures.items, rw c.in-Ok.ensures.items (history_nil g.S.Server.gives g.S.Server.has_died c.args.exchange), omega (arith, c.in-Ok.ensures.len, c.in-Ok.ensures.exact, c.from_vec-rest.ensures.len, c.len.ensures))
 
 pub loop-step-preserved : goal.loop-step-preserved
 loop-step-preserved g c =
@@ -40,23 +40,23 @@ pub returns-clause-history : goal.returns-clause-history
 returns-clause-history g c =
     let old = c.loop-step.invariant
     in whole_history g.S.Server.gives g.S.Server.has_died c.args.exchange old.0 c.loop-step.rest.items c.args.steps.items c.loop-step.outcomes.items c.loop-step.exchange old.1
-    (omega (arith, c.loop-step.rest.ok.0, c.in_default-pop_front.ensures.cases.0)) old.2.history
+    (omega (arith, c.loop-step.rest.ok.0, c.in_default-pop_front.ensures.cases.0)) old.2
 
 pub returns-clause-first_served : goal.returns-clause-first_served
 returns-clause-first_served g c =
     let old = c.loop-step.invariant
     in first_served g.S.Server.gives g.S.Server.has_died c.args.exchange c.args.steps.items c.loop-step.outcomes.items c.loop-step.exchange
     (whole_history g.S.Server.gives g.S.Server.has_died c.args.exchange old.0 c.loop-step.rest.items c.args.steps.items c.loop-step.outcomes.items c.loop-step.exchange old.1
-    (omega (arith, c.loop-step.rest.ok.0, c.in_default-pop_front.ensures.cases.0)) old.2.history)
+    (omega (arith, c.loop-step.rest.ok.0, c.in_default-pop_front.ensures.cases.0)) old.2)
 
 pub returns-clause-stays_dead : goal.returns-clause-stays_dead
 returns-clause-stays_dead g c =
     let old = c.loop-step.invariant
-    in dead-closing g.S.Server.gives g.S.Server.has_died g.met.S.Server.stays_dead c.args.exchange old.0 c.loop-step.outcomes.items c.loop-step.exchange old.2.history
+    in dead-closing g.S.Server.gives g.S.Server.has_died g.met.S.Server.stays_dead c.args.exchange old.0 c.loop-step.outcomes.items c.loop-step.exchange old.2
 
 pub returns-clause-stays_closed : goal.returns-clause-stays_closed
 returns-clause-stays_closed g c =
     let old = c.loop-step.invariant
     in dead-closed g.S.Server.gives g.S.Server.has_died g.met.S.Server.stays_dead c.args.exchange c.args.steps.items c.loop-step.outcomes.items c.loop-step.exchange
     (whole_history g.S.Server.gives g.S.Server.has_died c.args.exchange old.0 c.loop-step.rest.items c.args.steps.items c.loop-step.outcomes.items c.loop-step.exchange old.1
-    (omega (arith, c.loop-step.rest.ok.0, c.in_default-pop_front.ensures.cases.0)) old.2.history)
+    (omega (arith, c.loop-step.rest.ok.0, c.in_default-pop_front.ensures.cases.0)) old.2)

@@ -1,12 +1,12 @@
 use Rattle.std.proofs.Common.{◌≡◌, ◌+◌, ◌≤◌, List, ◌++◌, vec_len, vec_capacity}
 use Rattle.std.specs.VecDeque.{deque_len}
-use Rattle.ados_port.proofs.Grows.{Grown}
-use Rattle.port_history.specs.declared.step.Step.{Step}
+use Rattle.port_ends.specs.History.{PortHistory}
+use Rattle.port_ends.specs.declared.step.Step.{Step}
 use Rattle.ados_port.proofs.steps.run.Given as goal
 
 abbrev pub invariant-loop-step : goal.invariant-loop-step
 invariant-loop-step g l =
-    (done : List (Step _ _)) × (done ++ l.rest.items ≡ l.fn.steps.items) × Grown g.S.Server.gives g.S.Server.has_died l.fn.exchange done l.outcomes.items l.exchange
+    (done : List (Step _ _)) × (done ++ l.rest.items ≡ l.fn.steps.items) × PortHistory g.S.Server.gives g.S.Server.has_died l.fn.exchange done l.outcomes.items l.exchange
     × (vec_len l.outcomes + deque_len l.rest ≤ vec_capacity l.outcomes)
 
 abbrev pub decreases-loop-step : goal.decreases-loop-step

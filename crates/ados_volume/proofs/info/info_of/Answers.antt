@@ -1,8 +1,13 @@
-use Rattle.std.proofs.Common.{◌≡◌, ℕ, ◌+◌, ◌-◌, ◌≤◌, Bool, true, false, cond, sym, ap, ap₂, ◌∙◌, arith}
+use Rattle.std.proofs.Common.{◌≡◌, ℕ, ◌+◌, ◌-◌, ◌≤◌, Bool, true, false, cond, List, sym, ◌∙◌, arith}
+use Rattle.adf_block.specs.declared.layout.Format.{Format}
+use Rattle.adf_block.specs.declared.layout.Format.TheVariants.{Ffs, Ofs}
+use Rattle.adf_block.specs.Fields.{format_of}
 use Rattle.adf_block.specs.Image.{block_count, has_free_bit}
+use Rattle.adf_block.specs.Whole.{free_bit_count}
 use Rattle.adf_block.proofs.Totals.{total-bound}
-use Rattle.ados_model.specs.Tree.{data_size, free}
-use Rattle.ados_model.specs.Stands.{format_byte}
+use Rattle.ados_model.specs.Tree.{Tree, data_size}
+use Rattle.ados_model.specs.Stands.{Stands, format_byte}
+use Rattle.ados_model.specs.Objects.{disk_info}
 use Rattle.ados_model.proofs.Standing.{count_same}
 use Rattle.ados_model.proofs.Counting.{free_bits_count}
 use Rattle.ados_change.proofs.Writable.{lawful_pages, format_is}
@@ -19,28 +24,23 @@ pub overflow_sub-used : goal.overflow_sub-used
 overflow_sub-used c =
     omega (arith, c.count_free.ensures, c.blocks-blocks.ensures.count, total-bound (λ k. cond (has_free_bit c.args.image.now (k + 2)) 1 0) 1 (block_count c.args.image.now - 2) (λ k. at_most_one (has_free_bit c.args.image.now (k + 2))))
 
-pub returns-in-Ofs : goal.returns-in-Ofs
-returns-in-Ofs c = λ t s.
-    let blocks : c.blocks-blocks.result - 2 ≡ t.blocks - 2 = ap (λ (n : ℕ). n - 2) (c.blocks-blocks.ensures.count ∙ count_same c.args.image.now t s) in
-    let free_is : c.count_free.result ≡ free t = c.count_free.ensures ∙ free_bits_count c.args.image.now t s in
-    let format = sym c.in-Ofs.is ∙ c.format.ensures ∙ format_is c.args.image.now t s in
+-- the description of a tree, by its blocks, its free ones and its format
+told : (image : List ℕ) (t : Tree) → Stands image t → (format : Format) → format ≡ format_of image → (blocks free_ones : ℕ) → blocks ≡ block_count image → free_ones ≡ free_bit_count image
+    → record { state = 82; blocks = blocks - 2; used = blocks - 2 - free_ones; bytes_per_block = data_size format; disk_type = 0x444F5300 + format_byte format } ≡ disk_info t
+told image t s format is blocks free_ones count free_is =
+    let blocks_are = count ∙ count_same image t s in
+    let free_are = free_is ∙ free_bits_count image t s in
+    let formats = is ∙ format_is image t s in
     λ i. record {
       state = 82;
-      blocks = blocks i;
-      used = ap₂ (λ (m n : ℕ). m - n) blocks free_is i;
-      bytes_per_block = ap data_size format i;
-      disk_type = ap (λ f. 0x444F5300 + format_byte f) format i;
+      blocks = blocks_are i - 2;
+      used = blocks_are i - 2 - free_are i;
+      bytes_per_block = data_size (formats i);
+      disk_type = 0x444F5300 + format_byte (formats i);
     }
 
+pub returns-in-Ofs : goal.returns-in-Ofs
+returns-in-Ofs c = λ t s. told c.args.image.now t s Ofs (sym c.in-Ofs.is ∙ c.format.ensures) _ _ c.blocks-blocks.ensures.count c.count_free.ensures
+
 pub returns-in-Ffs : goal.returns-in-Ffs
-returns-in-Ffs c = λ t s.
-    let blocks : c.blocks-blocks.result - 2 ≡ t.blocks - 2 = ap (λ (n : ℕ). n - 2) (c.blocks-blocks.ensures.count ∙ count_same c.args.image.now t s) in
-    let free_is : c.count_free.result ≡ free t = c.count_free.ensures ∙ free_bits_count c.args.image.now t s in
-    let format = sym c.in-Ffs.is ∙ c.format.ensures ∙ format_is c.args.image.now t s in
-    λ i. record {
-      state = 82;
-      blocks = blocks i;
-      used = ap₂ (λ (m n : ℕ). m - n) blocks free_is i;
-      bytes_per_block = ap data_size format i;
-      disk_type = ap (λ f. 0x444F5300 + format_byte f) format i;
-    }
+returns-in-Ffs c = λ t s. told c.args.image.now t s Ffs (sym c.in-Ffs.is ∙ c.format.ensures) _ _ c.blocks-blocks.ensures.count c.count_free.ensures

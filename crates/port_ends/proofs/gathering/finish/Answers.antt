@@ -1,8 +1,8 @@
 use Rattle.std.proofs.Common.{ap, sym, subst, ◌∙◌, ◌+◌, ◌++◌, ◌≡◌, Some, slice_get, length, arith}
 use Rattle.port_ends.proofs.Closes.{close_means_death}
 use Rattle.port_ends.proofs.Gathers.{replies_few, lawful_replies, get_map, is_lawful}
-use Rattle.port_history.specs.Lawful.{MeaningRun, packets_of}
-use Rattle.port_history.specs.History.{packets_by}
+use Rattle.port_ends.specs.Lawful.{MeaningRun, packets_of}
+use Rattle.port_ends.specs.History.{packets_by}
 use Rattle.port_ends.specs.Ends.{OfClients}
 use Rattle.port_ends.specs.steps.HandlerEnds.{AllHeard}
 use Rattle.port_ends.proofs.gathering.finish.Goals as goal

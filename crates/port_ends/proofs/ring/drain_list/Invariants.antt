@@ -1,5 +1,5 @@
 use Rattle.std.proofs.Common.{◌≡◌, ◌+◌, ◌++◌, List, length, vec_len, vec_capacity}
-use Rattle.port_history.specs.Lawful.{numbered}
+use Rattle.port_ends.specs.Lawful.{numbered}
 use Rattle.port_ends.specs.Gathering.{answers}
 use Rattle.port_ends.proofs.ring.drain_list.Given as goal
 

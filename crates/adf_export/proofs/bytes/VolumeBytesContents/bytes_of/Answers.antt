@@ -3,7 +3,7 @@ use Rattle.std.specs.declared.alloc.Global.{Global}
 use Rattle.std.proofs.lemmas.Option.{slice_get_cases, slice_get_read}
 use Rattle.ados_model.specs.Stands.{Stands}
 use Rattle.ados_model.specs.Tree.{Tree}
-use Rattle.adf_salvage.proofs.Answering.{if_ok}
+use Rattle.std.proofs.lemmas.Result.{IfOk-weaker}
 use Rattle.adf_export.specs.declared.entry.Source.{Source}
 use Rattle.adf_export.specs.declared.entry.Source.TheVariants.{Entry, Note}
 use Rattle.adf_export.specs.Bytes.{BytesView}
@@ -20,7 +20,7 @@ module _ {V E : Type 0} (bytes : V → List ℕ) (image : List ℕ) (sources : L
   unfolding IsAnswer
   found source at h =
       subst IsAnswer is
-      (if_ok r
+      (IfOk-weaker r
       (λ b. (t : Tree) → Stands image t → AreBytesOf t source (bytes b))
       (λ b. (t : Tree) → Stands image t → IfSome (slice_get sources place) (λ source. AreBytesOf t source (bytes b)))
       (λ b own t st. subst (λ (o : Option Source). IfSome o (λ source. AreBytesOf t source (bytes b))) (sym at) (own t st))

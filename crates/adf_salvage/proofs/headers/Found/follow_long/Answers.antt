@@ -1,8 +1,7 @@
-use Rattle.std.proofs.Common.{◌≡◌, ℕ, List, refl, sym, ◌∙◌, subst}
+use Rattle.std.proofs.Common.{◌≡◌, ℕ, refl, sym, ◌∙◌, subst}
+use Rattle.std.proofs.lemmas.Result.{on_ok_weaker}
 use Rattle.adf_block.specs.Fields.{parent_key}
-use Rattle.adf_salvage.specs.Doubtful.{IsHeader, IsPlaceIn, MayBeHeader}
-use Rattle.adf_salvage.specs.steps.Heading.{AreFound, FindsMore}
-use Rattle.adf_salvage.proofs.Answering.{on_ok}
+use Rattle.adf_salvage.specs.Doubtful.{IsPlaceIn, MayBeHeader}
 use Rattle.adf_salvage.proofs.Naming.{named_header}
 use Rattle.adf_salvage.proofs.headers.Found.follow_long.Goals as goal
 use Rattle.adf_salvage.proofs.headers.Found.follow_long.Goals.{then-not-may_be_header-via-then-not-may_be_header, then-not-may_be_header-via-else-not-may_be_header+then-long-dir}
@@ -14,8 +13,7 @@ returns-clause-more c =
     let parent : parent_key image c.long-named.result ≡ c.in-Some.dir = sym c.long.ensures ∙ c.if-long-dir.false in
     let place = subst (λ (dir : ℕ). IsPlaceIn image dir c.args.block c.args.at) (sym parent) ((c.in-Some.ensures c.in-Some.dir).1 refl) in
     let header = named_header out image c.requires.accepted place (sym c.long-named.ensures) (c.may_be_header.ensures.0 c.if-not-may_be_header.false) in
-    on_ok c.note.result ((out image : List ℕ) → IsHeader out image c.long-named.result → AreFound out image c.args.self.now → FindsMore out image c.args.self.now c.note.new.self)
-    (FindsMore out image c.args.self.now c.note.new.self) (λ more. more out image header c.requires.found) c.note.ensures.more
+    on_ok_weaker c.note.result (λ more. more out image header c.requires.found) c.note.ensures.more
 
 pub returns-in_default-clause-sought : goal.returns-in_default-clause-sought
 returns-in_default-clause-sought c = λ named place. absurd (cc ((c.in_default.ensures (parent_key c.args.image.now named)).0 place))

@@ -1,4 +1,5 @@
-use Rattle.std.proofs.Common.{◌≡◌, ◌<◌, ℕ, length, None, Some, sym, ◌∙◌, subst, arith}
+use Rattle.std.proofs.Common.{◌≡◌, ◌<◌, ℕ, length, None, Some, refl, sym, ◌∙◌, subst, arith}
+use Rattle.std.proofs.lemmas.Bool.{false≢true}
 use Rattle.std.proofs.lemmas.Option.{same_Some}
 use Rattle.adf_block.specs.Image.{long}
 use Rattle.ados_model.specs.Faults.{InImage, Reached, IsUsedTwice}
@@ -7,7 +8,6 @@ use Rattle.ados_check.proofs.MarkLemmas.{marked_within, mark_read, some_is, none
 use Rattle.ados_check.proofs.Moves.{skipped, took_at, took_unplaced, reached_next, points_outside, used_twice}
 use Rattle.ados_check.proofs.PlacesTold.{place_told}
 use Rattle.ados_check.proofs.reaching.Progress.pass.Goals as goal
-use Rattle.ados_check.proofs.reaching.Progress.pass.Goals.{then-block-lt-BOOT_BLOCKS-via-then-block-lt-BOOT_BLOCKS, then-block-lt-BOOT_BLOCKS-via-else-block-lt-BOOT_BLOCKS+then-blocks-block}
 
 pub returns-in_default-clause-hand : goal.returns-in_default-clause-hand
 returns-in_default-clause-hand c =
@@ -25,15 +25,11 @@ long-block-requires-clause-told c =
     let sound = subst (IsSound c.args.source.now.bytes c.args.holder) hand.of_role (hand.but.sound c.args.holder hand.mark hand.held) in
     place_told c.args.source.now c.args.holder c.args.i c.args.role c.in-Some.next ((c.place_role.ensures c.in-Some.next).0 c.in-Some.is) sound
 
-pub returns-then-block-lt-BOOT_BLOCKS-clause-shown : goal.returns-then-block-lt-BOOT_BLOCKS-clause-shown
-returns-then-block-lt-BOOT_BLOCKS-clause-shown c =
+pub returns-then-not-contains-clause-shown : goal.returns-then-not-contains-clause-shown
+returns-then-not-contains-clause-shown c =
     let image = c.args.source.now.bytes in
-    let place = (c.place_role.ensures c.in-Some.next).0 c.in-Some.is in
-    let not_in : ¬ InImage image (long image c.args.holder c.args.i) = λ within. elim c.then-block-lt-BOOT_BLOCKS.branch [
-      | then-block-lt-BOOT_BLOCKS-via-then-block-lt-BOOT_BLOCKS w ↦ omega (arith, within.0, c.long-block.ensures, w.if-block-lt-BOOT_BLOCKS.true)
-      | then-block-lt-BOOT_BLOCKS-via-else-block-lt-BOOT_BLOCKS+then-blocks-block w ↦ omega (arith, within.1, c.long-block.ensures, w.if-blocks-block.true, w.blocks-else-block-lt-BOOT_BLOCKS.ensures.count)
-    ] in
-    points_outside image c.args.self.now.marks.items c.args.self.now.pending.items c.args.holder c.args.i c.args.role c.in-Some.next c.requires.hand place not_in
+    points_outside image c.args.self.now.marks.items c.args.self.now.pending.items c.args.holder c.args.i c.args.role c.in-Some.next c.requires.hand ((c.place_role.ensures c.in-Some.next).0 c.in-Some.is)
+    (λ inside. false≢true (sym c.if-not-contains.true ∙ c.contains.ensures.1 (subst (InImage image) (sym c.long-block.ensures) inside)))
 
 pub returns-then-is_some-clause-shown : goal.returns-then-is_some-clause-shown
 returns-then-is_some-clause-shown c =
@@ -41,7 +37,7 @@ returns-then-is_some-clause-shown c =
     let marks = c.args.self.now.marks.items in
     let block = c.long-block.result in
     let place = (c.place_role.ensures c.in-Some.next).0 c.in-Some.is in
-    let inside : InImage image block = (c.if-block-lt-BOOT_BLOCKS.false, omega (arith, c.if-blocks-block.false, c.blocks-else-block-lt-BOOT_BLOCKS.ensures.count)) in
+    let inside = c.if-not-contains.ensures.0 refl in
     let within : InImage image (long image c.args.holder c.args.i) = subst (λ (b : ℕ). InImage image b) c.long-block.ensures inside in
     let there : block < length marks = omega (arith, inside.1, c.requires.hand.but.size) in
     let read = mark_read marks block c.index.result.now there c.index.ensures in
@@ -55,7 +51,7 @@ look-requires-clause-reached c =
     let image = c.args.source.now.bytes in
     let block = c.long-block.result in
     let place = (c.place_role.ensures c.in-Some.next).0 c.in-Some.is in
-    let inside : InImage image block = (c.if-block-lt-BOOT_BLOCKS.false, omega (arith, c.if-blocks-block.false, c.blocks-else-block-lt-BOOT_BLOCKS.ensures.count)) in
+    let inside = c.if-not-contains.ensures.0 refl in
     let within : InImage image (long image c.args.holder c.args.i) = subst (λ (b : ℕ). InImage image b) c.long-block.ensures inside in
     subst (λ (b : ℕ). Reached image b c.in-Some.next) (sym c.long-block.ensures)
     (reached_next image c.args.self.now.marks.items c.args.self.now.pending.items c.args.holder c.args.i c.args.role c.in-Some.next c.requires.hand place within)
@@ -66,7 +62,7 @@ returns-then-has_places-clause-hand c =
     let marks = c.args.self.now.marks.items in
     let block = c.long-block.result in
     let place = (c.place_role.ensures c.in-Some.next).0 c.in-Some.is in
-    let inside : InImage image block = (c.if-block-lt-BOOT_BLOCKS.false, omega (arith, c.if-blocks-block.false, c.blocks-else-block-lt-BOOT_BLOCKS.ensures.count)) in
+    let inside = c.if-not-contains.ensures.0 refl in
     let there : block < length marks = omega (arith, inside.1, c.requires.hand.but.size) in
     let none : mark_at marks block ≡ None = mark_read marks block c.index.result.now there c.index.ensures ∙ none_is c.index.result.now (sym c.is_some.ensures ∙ c.if-is_some.false) in
     took_at image marks c.args.self.now.pending.items c.push_reserved.new.self.items c.args.holder c.args.i c.args.role c.in-Some.next block c.long-block.ensures c.requires.hand place
@@ -79,7 +75,7 @@ returns-else-has_places-clause-hand c =
     let marks = c.args.self.now.marks.items in
     let block = c.long-block.result in
     let place = (c.place_role.ensures c.in-Some.next).0 c.in-Some.is in
-    let inside : InImage image block = (c.if-block-lt-BOOT_BLOCKS.false, omega (arith, c.if-blocks-block.false, c.blocks-else-block-lt-BOOT_BLOCKS.ensures.count)) in
+    let inside = c.if-not-contains.ensures.0 refl in
     let there : block < length marks = omega (arith, inside.1, c.requires.hand.but.size) in
     let none : mark_at marks block ≡ None = mark_read marks block c.index.result.now there c.index.ensures ∙ none_is c.index.result.now (sym c.is_some.ensures ∙ c.if-is_some.false) in
     took_unplaced image marks c.args.self.now.pending.items c.args.holder c.args.i c.args.role c.in-Some.next block c.long-block.ensures c.requires.hand place

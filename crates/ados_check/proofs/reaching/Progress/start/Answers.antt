@@ -1,4 +1,4 @@
-use Rattle.std.proofs.Common.{◌<◌, ◌++◌, ◌∷◌, [], ℕ, List, ap, sym, ◌∙◌, subst, arith}
+use Rattle.std.proofs.Common.{rules, ◌<◌, ◌++◌, ◌∷◌, [], ℕ, List, ap, sym, ◌∙◌, subst, arith}
 use Rattle.ados_model.specs.declared.role.Role.TheVariants.{Root}
 use Rattle.ados_model.specs.Faults.{Reached}
 use Rattle.ados_model.specs.Faults.Reached.{start}
@@ -11,6 +11,7 @@ look-requires-clause-reached c = subst (λ (b : ℕ). Reached c.args.source.now.
 pub returns-clause-between : goal.returns-clause-between
 returns-clause-between c =
     let root = c.root-root.result in
-    let within : root < c.blocks-2.result = omega (arith, c.root-root.ensures, c.blocks-2.ensures.count, c.blocks-2.ensures.size) in
-    begun_at c.args.source.now.bytes c.blocks-2.result root c.in_ok-marks.marks.items c.push_reserved.new.self.items c.blocks-2.ensures.count c.root-root.ensures within c.in_default.ensures c.in_ok-marks.ensures.none
-    (c.push_reserved.ensures.items ∙ ap (λ (xs : List ℕ). xs ++ root ∷ []) c.in-Ok.ensures.items)
+    let blocks = c.blocks-blocks.ensures in
+    let within : root < c.blocks-blocks.result = omega (arith, c.root-root.ensures, blocks.count, blocks.size) in
+    begun_at c.args.source.now.bytes c.blocks-blocks.result root c.in-Ok.marks.items c.push_reserved.new.self.items blocks.count c.root-root.ensures within c.in_default-look.ensures (search rules)
+    (c.push_reserved.ensures.items ∙ ap (λ (xs : List ℕ). xs ++ root ∷ []) c.in-Ok-with_capacity.ensures.items)

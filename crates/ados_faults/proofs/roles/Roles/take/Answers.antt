@@ -1,7 +1,7 @@
 use Rattle.std.proofs.Common.{refl, sym, subst}
 use Rattle.ados_model.specs.declared.role.Role.{Role}
-use Rattle.ados_model.specs.declared.role.Role.TheVariants.{Page, Data, Extension}
-use Rattle.ados_faults.specs.declared.roles.Part.TheVariants.{Bitmap, DataFile, ExtensionFile}
+use Rattle.ados_model.specs.declared.role.Role.TheVariants.{Page, Entry, Data, Extension}
+use Rattle.ados_faults.specs.declared.roles.Part.TheVariants.{Bitmap, Directory, Slot, DataFile, ExtensionFile}
 use Rattle.ados_faults.specs.steps.Roles.{AreCoveredBy, IsListed, step_of}
 use Rattle.ados_faults.proofs.Covering.{data_covered, extension_covered, number_here, page_covered, root_covered}
 use Rattle.ados_faults.proofs.roles.Roles.take.Goals as goal
@@ -16,11 +16,17 @@ pub returns-in-Page-clause-backed : goal.returns-in-Page-clause-backed
 returns-in-Page-clause-backed c = λ steps back at.
     c.take_number.ensures.backed steps back (number_here steps c.args.block Page Bitmap 0 (subst (λ (r : Role). IsListed steps (step_of c.args.block r)) c.in-Page.is at) refl)
 
-pub returns-in-Entry-clause-covered : goal.returns-in-Entry-clause-covered
-returns-in-Entry-clause-covered c = λ e steps back. subst (AreCoveredBy steps c.args.block) (sym c.in-Entry.is) (c.take_entry.ensures.covered e steps back)
+pub returns-then-in_dir-clause-backed : goal.returns-then-in_dir-clause-backed
+returns-then-in_dir-clause-backed c = λ steps back at.
+    let here = subst (λ (r : Role). IsListed steps (step_of c.args.block r)) c.in-Entry.is at in
+    c.take_number-in_slot.ensures.backed steps (c.take_number-in_dir.ensures.backed steps back (number_here steps c.args.block (Entry c.in-Entry.dir c.in-Entry.slot) Directory c.in-Entry.dir here refl))
+    (number_here steps c.args.block (Entry c.in-Entry.dir c.in-Entry.slot) Slot c.in-Entry.slot here refl)
 
-pub returns-in-Entry-clause-backed : goal.returns-in-Entry-clause-backed
-returns-in-Entry-clause-backed c = λ steps back at. c.take_entry.ensures.backed steps back (subst (λ (r : Role). IsListed steps (step_of c.args.block r)) c.in-Entry.is at)
+pub returns-else-in_dir-clause-backed : goal.returns-else-in_dir-clause-backed
+returns-else-in_dir-clause-backed c = λ steps back at.
+    let here = subst (λ (r : Role). IsListed steps (step_of c.args.block r)) c.in-Entry.is at in
+    c.take_number-in_slot.ensures.backed steps (c.take_number-in_dir.ensures.backed steps back (number_here steps c.args.block (Entry c.in-Entry.dir c.in-Entry.slot) Directory c.in-Entry.dir here refl))
+    (number_here steps c.args.block (Entry c.in-Entry.dir c.in-Entry.slot) Slot c.in-Entry.slot here refl)
 
 pub returns-in-Data-clause-covered : goal.returns-in-Data-clause-covered
 returns-in-Data-clause-covered c = λ e steps back.

@@ -2,7 +2,7 @@ use Rattle.std.proofs.Common.{◌≡◌, [], not, true, sym, ap, ◌∙◌, subs
 use Rattle.std.specs.Prelude.{is_some}
 use Rattle.std.specs.FinMap.{FinMap, insert}
 use Rattle.std.specs.Ordering.{nat_cmp}
-use Rattle.std.proofs.lemmas.Bool.{true≢false}
+use Rattle.std.proofs.lemmas.Bool.{true≢false, not-true}
 use Rattle.ados_name.specs.Name.{IsName}
 use Rattle.ados_model.specs.Tree.Content.{Directory}
 use Rattle.ados_model.specs.Stands.{Stands}
@@ -14,11 +14,11 @@ use Rattle.ados_model.specs.declared.results.Results.{Results}
 use Rattle.ados_model.specs.Session.{Session, IsFreeNumber, with_lock, HandlerState}
 use Rattle.ados_model.specs.declared.holds.LockHold.{LockHold}
 use Rattle.ados_model.specs.Reads.{lacks}
-use Rattle.ados_volume.proofs.FreeBlock.{can_make_new, new_key, none_free_lacks, not_lacking}
+use Rattle.ados_volume.proofs.FreeBlock.{can_make_new, new_key, none_free_lacks}
 use Rattle.ados_handler.specs.steps.Methods.{MethodMeans}
 use Rattle.ados_handler.proofs.Leaving.{leaves_rest}
 use Rattle.ados_handler.proofs.MakingDirectory.{create_dir_means, create_dir_passes, create_dir_sound}
-use Rattle.ados_handler.proofs.Moving.{no_memory_gives, refused_gives}
+use Rattle.ados_handler.proofs.Meant.{no_memory_gives, refused_gives}
 use Rattle.ados_handler.proofs.Placed.{place_refused}
 use Rattle.ados_handler.proofs.handler.Handler.create_dir.Goals as goal
 
@@ -57,7 +57,7 @@ returns-then-is_err c =
     let alive = sym (ap (λ (h : HandlerState). h.session.died) c.self.view_is) ∙ c.if-self.false in
     let place = sym (c.placed.ensures.place t stood) ∙ c.in-Ok.is in
     let none = ap is_some (sym (c.child.ensures.child t opened)) ∙ sym c.is_some.ensures ∙ c.if-is_some.false in
-    let room = not_lacking (lacks t 1) (sym (c.has_room.ensures t stands) ∙ c.if-not-has_room.false) in
+    let room = not-true (lacks t 1) (sym (c.has_room.ensures t stands) ∙ c.if-not-has_room.false) in
     let held : ◌≡◌ {A = HandlerState} (record { image = c.child.new.self.image; was_validated = c.child.new.self.was_validated; session = record { locks = c.reserve.new.self.held; handles = c.self-2.inside.handles.held; died = c.self-2.inside.died } }) (record { image = c.self-2.inside.volume.image; was_validated = c.self-2.inside.volume.was_validated; session = record { locks = c.self-2.inside.locks.held; handles = c.self-2.inside.handles.held; died = c.self-2.inside.died } }) = λ i. record { image = (c.child.ensures.same i).image; was_validated = (c.child.ensures.same i).was_validated; session = record { locks = c.reserve.ensures.held i; handles = c.self-2.inside.handles.held; died = c.self-2.inside.died } } in
     no_memory_gives c.args.self.now _ (CreateDir c.args.lock c.args.path.now) c.args.now c.refused-then-is_err.result t stood (held ∙ same)
     (create_dir_passes t c.args.self.now.session c.in-Ok.found c.args.lock c.args.path.now alive place none room) refl c.refused-then-is_err.ensures
@@ -76,7 +76,7 @@ returns c =
     let alive = sym (ap (λ (h : HandlerState). h.session.died) c.self.view_is) ∙ c.if-self.false in
     let place = sym (c.placed.ensures.place t stood) ∙ c.in-Ok.is in
     let none = ap is_some (sym (c.child.ensures.child t opened)) ∙ sym c.is_some.ensures ∙ c.if-is_some.false in
-    let room = not_lacking (lacks t 1) (sym (c.has_room.ensures t stands) ∙ c.if-not-has_room.false) in
+    let room = not-true (lacks t 1) (sym (c.has_room.ensures t stands) ∙ c.if-not-has_room.false) in
     let fresh = new_key c.child.new.self.image t stands key c.in-Ok-create.ensures.done.0 in
     let held : Session = record { locks = c.self-2.inside.locks.held; handles = c.self-2.inside.handles.held; died = c.self-2.inside.died } in
     let kept : held ≡ s = ap (λ (h : HandlerState). h.session) same in

@@ -1,20 +1,14 @@
 use Rattle.std.proofs.Common.{◌≡◌, pos, false, None, sym, ap, ◌∙◌, subst, refl, rules}
 use Rattle.ados_model.specs.Stands.{Stands}
-use Rattle.ados_change.specs.NewBlocks.{KeepsRest}
-use Rattle.ados_model.specs.Change.{removed}
 use Rattle.ados_model.specs.Packet.{error_number}
 use Rattle.ados_model.specs.declared.packet.Packet.TheVariants.{DeleteObject}
 use Rattle.ados_model.specs.declared.results.Results.{Results}
 use Rattle.ados_model.specs.declared.answer.Body.TheVariants.{Empty}
-use Rattle.ados_model.specs.Session.{Session, is_held, HandlerState}
+use Rattle.ados_model.specs.Session.{is_held, HandlerState}
 use Rattle.ados_volume.proofs.Refusing.{can_remove, none_refuses}
-use Rattle.ados_handler.specs.Gives.{IsSoundHandler}
-use Rattle.ados_handler.specs.steps.Methods.{MethodMeans}
 use Rattle.ados_handler.specs.steps.Moves.{remove_refusal, remove_refusals}
-use Rattle.ados_handler.proofs.Leaving.{leaves_rest}
-use Rattle.ados_handler.proofs.Meant.{sound_after}
-use Rattle.ados_handler.proofs.Deleting.{delete_means, delete_refusal}
-use Rattle.ados_handler.proofs.Moving.{refused_gives}
+use Rattle.ados_handler.proofs.Meant.{edit_gives, refused_gives, sound_on}
+use Rattle.ados_handler.proofs.Deleting.{delete_edits, delete_refusal}
 use Rattle.ados_handler.proofs.Unlisting.{delete_keeps}
 use Rattle.ados_handler.proofs.handler.Handler.delete_object.Goals as goal
 
@@ -43,30 +37,15 @@ pub returns : goal.returns
 returns c =
     let same = c.self-2.view_is ∙ c.walked.ensures.same in
     let t = c.self-2.invariant.tree in
-    let old = c.args.self.now in
-    let key = c.in-Ok.key in
+    let s = c.args.self.now.session in
     let opened = c.self-2.invariant.stands in
     let stood = subst (λ (h : HandlerState). Stands h.image t) same opened in
     let between = subst (λ (h : HandlerState). Stands h.image t) c.self-2.view_is opened in
     let alive = sym (ap (λ (h : HandlerState). h.session.died) c.self.view_is) ∙ c.if-self.false in
-    let walk = sym (c.walked.ensures.walk t stood) ∙ c.in-Ok.is in
     let none : c.remove_refusal.result ≡ None = c.in_default.is in
-    let free = ap (λ (h : HandlerState). remove_refusal t h.session key) (sym c.walked.ensures.same) ∙ sym (c.remove_refusal.ensures t between) ∙ none in
-    let held : Session = record { locks = c.self-2.inside.locks.held; handles = c.self-2.inside.handles.held; died = c.self-2.inside.died } in
-    let kept : held ≡ old.session = ap (λ (h : HandlerState). h.session) same in
-    record {
-      old_tree = t;
-      new_tree = removed c.args.now key t;
-      stood = stood;
-      stands = c.remove.ensures.stands t opened;
-      means = subst (λ (r : Results). MethodMeans t old.session (DeleteObject c.args.lock c.args.path.now) c.args.now (removed c.args.now key t) held r) (sym c.done.ensures)
-          (delete_means t old.session c.args.lock c.args.path.now key alive walk c.args.now held free kept);
-      leaves = leaves_rest t old (DeleteObject c.args.lock c.args.path.now) _ c.done.result (subst (λ (h : HandlerState). KeepsRest h.image c.remove.new.self.image) same c.remove.ensures.keeps) (ap (λ (r : Results). r.res2) c.done.ensures) refl;
-      validated = c.remove.ensures.validated ∙ ap (λ (h : HandlerState). h.was_validated) same;
-    }
+    let free = ap (λ (h : HandlerState). remove_refusal t h.session c.in-Ok.key) (sym c.walked.ensures.same) ∙ sym (c.remove_refusal.ensures t between) ∙ none in
+    let edit = delete_edits t s c.args.lock c.args.path.now c.in-Ok.key alive (sym (c.walked.ensures.walk t stood) ∙ c.in-Ok.is) c.args.now free in
+    edit_gives c.args.self.now _ same edit refl opened c.remove.new.self (c.remove.ensures.stands t opened) c.remove.ensures.keeps c.remove.ensures.validated c.done.result c.done.ensures
 
 pub invariant_of-self : goal.invariant_of-self
-invariant_of-self c =
-    let same = c.self-2.view_is ∙ c.walked.ensures.same in
-    sound_after c.args.self.now _ (DeleteObject c.args.lock c.args.path.now) c.args.now c.done.result (delete_keeps c.args.lock c.args.path.now)
-    (subst (λ (h : HandlerState). IsSoundHandler h.image h.session) same c.self-2.invariant) (returns c)
+invariant_of-self c = sound_on (c.self-2.view_is ∙ c.walked.ensures.same) (returns c) (delete_keeps c.args.lock c.args.path.now) c.self-2.invariant

@@ -4,7 +4,7 @@ use Rattle.ados_model.specs.Stands.{Stands}
 use Rattle.ados_model.specs.declared.packet.Packet.TheVariants.{ExamineNext}
 use Rattle.ados_model.specs.Session.{HandlerState}
 use Rattle.ados_handler.specs.steps.Methods.{MethodMeans}
-use Rattle.ados_handler.proofs.Leaving.{leaves_all}
+use Rattle.ados_handler.proofs.Meant.{stays_gives}
 use Rattle.ados_volume.proofs.Listed.{next_node}
 use Rattle.ados_handler.proofs.NextEntry.{next_means}
 use Rattle.ados_handler.proofs.handler.Handler.examine_next.Goals as goal
@@ -26,15 +26,8 @@ returns c =
     let first = sym (c.entry_after.ensures.next t stood) ∙ c.in-Entry.is in
     let found = next_node t stands.proper c.in-Some.dir c.args.key c.in-Entry.next first in
     record {
-      gives = λ now. record {
-        old_tree = t;
-        new_tree = t;
-        stood = stood;
-        stands = now_stands;
-        means = subst (λ (h : HandlerState). MethodMeans t c.args.self.now.session (ExamineNext c.args.lock c.args.key) now t h.session c.done.result) (sym same)
-            (next_means t c.args.self.now.session c.args.lock c.in-Some.dir c.args.key alive (sym (c.in-Some.ensures.object t stood)) (sym (c.if-is_file.ensures.file t opened))
-            c.in-Entry.next found.0 c.examine.result now c.done.result first found.1 (c.examine.ensures t found.0 stands found.1) c.done.ensures);
-        leaves = leaves_all t c.args.self.now (ExamineNext c.args.lock c.args.key) c.entry_after.new.self c.done.result (ap (λ (h : HandlerState). h.image) same);
-        validated = ap (λ (h : HandlerState). h.was_validated) same;
-      };
+      gives = λ now. stays_gives c.args.self.now c.entry_after.new.self (ExamineNext c.args.lock c.args.key) now c.done.result t stood same
+          (subst (λ (h : HandlerState). MethodMeans t c.args.self.now.session (ExamineNext c.args.lock c.args.key) now t h.session c.done.result) (sym same)
+          (next_means t c.args.self.now.session c.args.lock c.in-Some.dir c.args.key alive (sym (c.in-Some.ensures.object t stood)) (sym (c.if-is_file.ensures.file t opened))
+          c.in-Entry.next found.0 c.examine.result now c.done.result first found.1 (c.examine.ensures t found.0 stands found.1) c.done.ensures));
     }

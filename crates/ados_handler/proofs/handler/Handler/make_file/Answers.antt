@@ -1,12 +1,12 @@
 use Rattle.std.proofs.Common.{rules, ◌≡◌, false, sym, ap, ◌∙◌, subst}
+use Rattle.std.proofs.lemmas.Bool.{true≢false, not-true}
 use Rattle.ados_name.specs.Name.{IsName}
 use Rattle.ados_model.specs.Stands.{Stands}
 use Rattle.ados_model.specs.Reads.{lacks}
 use Rattle.ados_model.specs.Session.{HandlerState}
-use Rattle.ados_volume.proofs.FreeBlock.{none_free_lacks, not_lacking}
+use Rattle.ados_volume.proofs.FreeBlock.{none_free_lacks}
 use Rattle.ados_volume.proofs.Refusing.{can_make_in}
 use Rattle.ados_handler.specs.steps.Opening.{BringsHandle}
-use Rattle.ados_handler.proofs.Holding.{true_false}
 use Rattle.ados_handler.proofs.MakingFile.{made_opens, made_sound}
 use Rattle.ados_handler.proofs.handler.Handler.make_file.Goals as goal
 
@@ -18,8 +18,8 @@ create-requires c =
 pub unreachable-requires : goal.unreachable-requires
 unreachable-requires c =
     let sound = c.self.invariant in
-    let room : lacks sound.tree 1 ≡ false = not_lacking _ (sym (c.has_room.ensures sound.tree (subst (λ (h : HandlerState). Stands h.image sound.tree) c.self.view_is sound.stands)) ∙ c.if-not-has_room.false) in
-    true_false (sym (none_free_lacks _ sound.tree sound.stands c.in_default.ensures.done.0) ∙ room)
+    let room : lacks sound.tree 1 ≡ false = not-true _ (sym (c.has_room.ensures sound.tree (subst (λ (h : HandlerState). Stands h.image sound.tree) c.self.view_is sound.stands)) ∙ c.if-not-has_room.false) in
+    true≢false (sym (none_free_lacks _ sound.tree sound.stands c.in_default.ensures.done.0) ∙ room)
 
 pub invariant_of-self-2 : goal.invariant_of-self-2
 invariant_of-self-2 c =
@@ -30,7 +30,7 @@ invariant_of-self-2 c =
 pub returns : goal.returns
 returns c =
     let sound = c.self.invariant in
-    let room : lacks sound.tree 1 ≡ false = not_lacking _ (sym (c.has_room.ensures sound.tree (subst (λ (h : HandlerState). Stands h.image sound.tree) c.self.view_is sound.stands)) ∙ c.if-not-has_room.false) in
+    let room : lacks sound.tree 1 ≡ false = not-true _ (sym (c.has_room.ensures sound.tree (subst (λ (h : HandlerState). Stands h.image sound.tree) c.self.view_is sound.stands)) ∙ c.if-not-has_room.false) in
     let brings : BringsHandle c.in-Ok.key c.args.exclusive c.reserve.new.self.held c.opened.new.handles.held c.opened.result = search rules in
     made_opens _ _ c.args.dir c.args.name c.args.now c.in-Ok.key c.in-Ok.ensures.done.0 _ c.in-Ok.ensures.done.1 c.args.exclusive _ _ _ brings c.reserve.ensures.held c.args.self.now _ c.self.view_is
     sound.tree sound.stands room c.create.ensures.keeps _ c.create.ensures.validated

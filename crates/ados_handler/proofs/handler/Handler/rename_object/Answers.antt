@@ -1,23 +1,16 @@
 use Rattle.std.proofs.Common.{◌≡◌, pos, None, rules, sym, ap, ◌∙◌, subst, refl}
 use Rattle.ados_name.specs.Name.{IsName}
-use Rattle.ados_model.specs.Tree.{Tree}
 use Rattle.ados_model.specs.Stands.{Stands}
-use Rattle.ados_change.specs.NewBlocks.{KeepsRest}
-use Rattle.ados_model.specs.Change.{renamed}
 use Rattle.ados_model.specs.Packet.{error_number}
-use Rattle.ados_model.specs.declared.packet.Packet.{Packet}
 use Rattle.ados_model.specs.declared.packet.Packet.TheVariants.{RenameObject}
 use Rattle.ados_model.specs.declared.results.Results.{Results}
 use Rattle.ados_model.specs.declared.answer.Body.TheVariants.{Empty}
-use Rattle.ados_model.specs.Session.{Session, HandlerState, is_held_exclusively}
+use Rattle.ados_model.specs.Session.{HandlerState, is_held_exclusively}
 use Rattle.ados_volume.proofs.Refusing.{can_move, none_refuses}
-use Rattle.ados_handler.specs.Gives.{IsSoundHandler}
-use Rattle.ados_handler.specs.steps.Methods.{MethodMeans}
 use Rattle.ados_handler.specs.steps.Moves.{move_refusal, move_refusals}
 use Rattle.ados_handler.proofs.Unlisting.{rename_keeps}
-use Rattle.ados_handler.proofs.Leaving.{leaves_rest}
-use Rattle.ados_handler.proofs.Meant.{sound_after}
-use Rattle.ados_handler.proofs.Moving.{move_refused, refused_gives, rename_object_means, source_refused}
+use Rattle.ados_handler.proofs.Meant.{edit_gives, refused_gives, sound_on}
+use Rattle.ados_handler.proofs.Moving.{move_refused, rename_object_edits, source_refused}
 use Rattle.ados_handler.proofs.handler.Handler.rename_object.Goals as goal
 
 pub returns-in-Err : goal.returns-in-Err
@@ -57,32 +50,21 @@ rename-requires c = λ t stands.
 
 pub returns : goal.returns
 returns c =
-    let t = c.self.invariant.tree in
-    let old = c.args.self.now in
-    let packet : Packet = RenameObject c.args.from_lock c.args.from.now c.args.to_lock c.args.to.now in
-    let moved : Tree = renamed c.args.now c.in-Ok.found.0 c.in-Ok.found.1.0 c.in-Ok.found.1.1 t in
-    let stood : Stands old.image t = subst (λ (h : HandlerState). Stands h.image t) c.self.view_is c.self.invariant.stands in
-    let alive = sym (ap (λ (h : HandlerState). h.session.died) c.self.view_is) ∙ c.if-self.false in
     let first = c.source_and_place.ensures.same in
     let same = c.self-2.view_is ∙ c.move_refusal.ensures.same ∙ first in
+    let t = c.self-2.invariant.tree in
+    let s = c.args.self.now.session in
+    let opened = c.self-2.invariant.stands in
+    let stood = subst (λ (h : HandlerState). Stands h.image t) same opened in
+    let between = subst (λ (h : HandlerState). Stands h.image t) (c.self-2.view_is ∙ c.move_refusal.ensures.same) opened in
+    let alive = sym (ap (λ (h : HandlerState). h.session.died) c.self.view_is) ∙ c.if-self.false in
     let found = sym (c.source_and_place.ensures.found t stood) ∙ c.in-Ok.is in
-    let between : Stands c.source_and_place.new.self.image t = subst (λ (h : HandlerState). Stands h.image t) (sym first) stood in
     let none : c.move_refusal.result ≡ None = c.in_default.is in
     let free = ap (λ (h : HandlerState). move_refusal t h.session c.in-Ok.found.0 c.in-Ok.found.1.0 c.in-Ok.found.1.1) (sym first) ∙ sym (c.move_refusal.ensures.refusal t between) ∙ none in
-    let held : Session = record { locks = c.self-2.inside.locks.held; handles = c.self-2.inside.handles.held; died = c.self-2.inside.died } in
-    let kept : held ≡ old.session = ap (λ (h : HandlerState). h.session) same in
-    record {
-      old_tree = t;
-      new_tree = moved;
-      stood = stood;
-      stands = c.rename.ensures.stands t (subst (λ (h : HandlerState). Stands h.image t) (sym same) stood);
-      means = subst (λ (r : Results). MethodMeans t old.session packet c.args.now moved held r) (sym c.done.ensures)
-          (rename_object_means t old.session c.args.from_lock c.args.from.now c.args.to_lock c.args.to.now alive c.in-Ok.found.0 c.in-Ok.found.1 found c.args.now held free kept);
-      leaves = leaves_rest t old packet _ c.done.result (subst (λ (h : HandlerState). KeepsRest h.image c.rename.new.self.image) same c.rename.ensures.keeps) (ap (λ (r : Results). r.res2) c.done.ensures) refl;
-      validated = c.rename.ensures.validated ∙ ap (λ (h : HandlerState). h.was_validated) same;
-    }
+    let edit = rename_object_edits t s c.args.from_lock c.args.from.now c.args.to_lock c.args.to.now alive c.in-Ok.found.0 c.in-Ok.found.1 found c.args.now free in
+    edit_gives c.args.self.now _ same edit refl opened c.rename.new.self (c.rename.ensures.stands t opened) c.rename.ensures.keeps c.rename.ensures.validated c.done.result c.done.ensures
 
 pub invariant_of-self : goal.invariant_of-self
 invariant_of-self c =
-    sound_after c.args.self.now _ (RenameObject c.args.from_lock c.args.from.now c.args.to_lock c.args.to.now) c.args.now c.done.result (rename_keeps c.args.from_lock c.args.from.now c.args.to_lock c.args.to.now c.bytes.ensures.valid)
-    (subst (λ (h : HandlerState). IsSoundHandler h.image h.session) c.self.view_is c.self.invariant) (returns c)
+    sound_on (c.self-2.view_is ∙ c.move_refusal.ensures.same ∙ c.source_and_place.ensures.same) (returns c)
+    (rename_keeps c.args.from_lock c.args.from.now c.args.to_lock c.args.to.now c.bytes.ensures.valid) c.self-2.invariant

@@ -1,41 +1,21 @@
-use Rattle.std.proofs.Common.{◌≡◌, ◌≢◌, sym, ap, ◌∙◌, subst, refl}
+use Rattle.std.proofs.Common.{◌≡◌, ◌≢◌, refl, sym, ap, ◌∙◌, subst}
 use Rattle.ados_model.specs.Tree.{root}
 use Rattle.ados_model.specs.Stands.{Stands}
-use Rattle.ados_change.specs.NewBlocks.{KeepsRest}
-use Rattle.ados_model.specs.Edits.{with_date}
-use Rattle.ados_model.specs.declared.packet.Packet.TheVariants.{SetDate}
-use Rattle.ados_model.specs.declared.results.Results.{Results}
-use Rattle.ados_model.specs.Session.{Session, HandlerState}
-use Rattle.ados_handler.specs.Gives.{IsSoundHandler}
-use Rattle.ados_handler.specs.steps.Methods.{MethodMeans}
+use Rattle.ados_model.specs.Session.{HandlerState}
+use Rattle.ados_handler.proofs.Meant.{edit_gives, set_date_edits, sound_on}
 use Rattle.ados_handler.proofs.Telling.{set_date_keeps}
-use Rattle.ados_handler.proofs.Leaving.{leaves_rest}
-use Rattle.ados_handler.proofs.Meant.{set_date_means, sound_after}
 use Rattle.ados_handler.proofs.handler.Handler.set_date.Goals as goal
 
 pub returns : goal.returns
 returns c =
     let same = c.self-2.view_is ∙ c.walked.ensures.same in
     let t = c.self-2.invariant.tree in
-    let stood = subst (λ (h : HandlerState). Stands h.image t) same c.self-2.invariant.stands in
+    let opened = c.self-2.invariant.stands in
+    let stood = subst (λ (h : HandlerState). Stands h.image t) same opened in
     let alive = sym (ap (λ (h : HandlerState). h.session.died) c.self.view_is) ∙ c.if-self.false in
-    let walk = sym (c.walked.ensures.walk t stood) ∙ c.in-Ok.is in
-    let other : c.in-Ok.key ≢ root t = λ e. c.if-key-root.false (e ∙ sym (c.root.ensures.root t c.self-2.invariant.stands)) in
-    let held : Session = record { locks = c.self-2.inside.locks.held; handles = c.self-2.inside.handles.held; died = c.self-2.inside.died } in
-    let kept : held ≡ c.args.self.now.session = ap (λ (h : HandlerState). h.session) same in
-    record {
-      old_tree = t;
-      new_tree = with_date c.args.now c.in-Ok.key c.args.date t;
-      stood = stood;
-      stands = c.set_date.ensures.stands t c.self-2.invariant.stands;
-      means = subst (λ (r : Results). MethodMeans t c.args.self.now.session (SetDate c.args.lock c.args.path.now c.args.date) c.args.now (with_date c.args.now c.in-Ok.key c.args.date t) held r) (sym c.done.ensures)
-          (set_date_means t c.args.self.now.session held c.args.lock c.args.path.now c.args.now c.in-Ok.key alive walk other kept c.args.date);
-      leaves = leaves_rest t c.args.self.now (SetDate c.args.lock c.args.path.now c.args.date) _ c.done.result (subst (λ (h : HandlerState). KeepsRest h.image c.set_date.new.self.image) same c.set_date.ensures.keeps) (ap (λ (r : Results). r.res2) c.done.ensures) refl;
-      validated = c.set_date.ensures.validated ∙ ap (λ (h : HandlerState). h.was_validated) same;
-    }
+    let other : c.in-Ok.key ≢ root t = λ e. c.if-key-root.false (e ∙ sym (c.root.ensures.root t opened)) in
+    let edit = set_date_edits t c.args.self.now.session c.args.lock c.args.path.now c.args.now c.in-Ok.key alive (sym (c.walked.ensures.walk t stood) ∙ c.in-Ok.is) other c.args.date in
+    edit_gives c.args.self.now _ same edit refl opened c.set_date.new.self (c.set_date.ensures.stands t opened) c.set_date.ensures.keeps c.set_date.ensures.validated c.done.result c.done.ensures
 
 pub invariant_of-self : goal.invariant_of-self
-invariant_of-self c =
-    let same = c.self-2.view_is ∙ c.walked.ensures.same in
-    sound_after c.args.self.now _ (SetDate c.args.lock c.args.path.now c.args.date) c.args.now c.done.result (set_date_keeps c.args.lock c.args.path.now c.args.date)
-    (subst (λ (h : HandlerState). IsSoundHandler h.image h.session) same c.self-2.invariant) (returns c)
+invariant_of-self c = sound_on (c.self-2.view_is ∙ c.walked.ensures.same) (returns c) (set_date_keeps c.args.lock c.args.path.now c.args.date) c.self-2.invariant

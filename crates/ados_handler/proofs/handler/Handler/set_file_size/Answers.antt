@@ -2,12 +2,10 @@ use Rattle.std.proofs.Common.{ℤ, w32, sym, ap, ap₂, ◌∙◌, subst}
 use Rattle.std.proofs.lemmas.Int.{to_z-of_z}
 use Rattle.ados_name.specs.Name.{denies_write}
 use Rattle.ados_model.specs.Stands.{Stands}
-use Rattle.ados_model.specs.declared.packet.Packet.TheVariants.{SetFileSize}
 use Rattle.ados_model.specs.Session.{Session, HandlerState}
 use Rattle.ados_model.specs.Objects.{is_bad_target, target_number}
 use Rattle.ados_model.specs.Reads.{seek_target}
-use Rattle.ados_handler.specs.Gives.{IsSoundHandler}
-use Rattle.ados_handler.proofs.Meant.{sound_after}
+use Rattle.ados_handler.proofs.Meant.{sound_on}
 use Rattle.ados_handler.proofs.Rewriting.{set_file_size_keeps}
 use Rattle.ados_handler.proofs.Resizing.{bad_gives, full_gives, sized_gives}
 use Rattle.ados_handler.proofs.handler.Handler.set_file_size.Goals as goal
@@ -54,6 +52,4 @@ returns c =
     (λ i. record { locks = c.self.inside.locks.held; handles = c.keep_within.ensures i; died = c.self.inside.died }) c.done.ensures
 
 pub invariant_of-self-2 : goal.invariant_of-self-2
-invariant_of-self-2 c =
-    sound_after c.args.self.now _ (SetFileSize c.args.handle c.args.offset c.args.mode) c.args.now c.done.result (set_file_size_keeps c.args.handle c.args.offset c.args.mode)
-    (subst (λ (h : HandlerState). IsSoundHandler h.image h.session) c.self.view_is c.self.invariant) (returns c)
+invariant_of-self-2 c = sound_on c.self.view_is (returns c) (set_file_size_keeps c.args.handle c.args.offset c.args.mode) c.self.invariant

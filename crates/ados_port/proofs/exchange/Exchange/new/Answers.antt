@@ -1,6 +1,6 @@
 use Rattle.std.proofs.Common.{[], ◌∷◌, ◌++◌, map, slice_get, replicate, arith, sym, ap, ◌∙◌, inl, inr}
 use Rattle.std.proofs.lemmas.List.{map-append, replicate-append-replicate}
-use Rattle.ados_port.proofs.Kept.{slice_get-push_cases}
+use Rattle.ados_port.proofs.Histories.{slice_get-push_at}
 use Rattle.ados_port.proofs.Views.{client_view}
 use Rattle.ados_port.proofs.exchange.Exchange.new.Goals as goal
 
@@ -14,8 +14,8 @@ loop-number-preserved g c = record {
       ∙ ap (λ v. replicate c.loop-number._number (record { accepted = 0; taken = 0; untaken = [] }) ++ v ∷ [])
       (λ i. record { accepted = c.new.ensures.accepted i; taken = c.new.ensures.taken i; untaken = c.new.ensures.replies i })
       ∙ replicate-append-replicate c.loop-number._number 1 _;
-  none_waits = λ i k at_i. elim (slice_get-push_cases c.loop-number.list.items c.new.result i k (ap (λ l. slice_get l i) (sym c.push_reserved.ensures.items) ∙ at_i)) [
-    | inl e ↦ c.loop-number.invariant.none_waits i k e
-    | inr e ↦ ap (λ w. w.waiting) e ∙ c.new.ensures.waiting
+  none_waits = λ i k at_i. elim (slice_get-push_at c.loop-number.list.items c.new.result i k (ap (λ l. slice_get l i) (sym c.push_reserved.ensures.items) ∙ at_i)) [
+    | inl e ↦ c.loop-number.invariant.none_waits i k e.1
+    | inr e ↦ ap (λ w. w.waiting) e.1 ∙ c.new.ensures.waiting
   ];
 }

@@ -8,10 +8,10 @@ use Rattle.ados_volume.proofs.volume.Volume.read.Goals as goal
 
 pub read_near-requires-clause-readable : goal.read_near-requires-clause-readable
 read_near-requires-clause-readable c =
-    readable c.self.inside.image c.args.key (file_writable c.self.inside.image c.args.key c.self.invariant.0.0.0.0 (subst (λ (w : Shown). HasFileKey w.image c.args.key) (sym c.self.view_is) c.requires)).lawful
+    readable c.self.inside.image c.args.key (file_writable c.self.inside.image c.args.key c.self.invariant.tree (subst (λ (w : Shown). HasFileKey w.image c.args.key) (sym c.self.view_is) c.requires)).lawful
 
 pub read_near-requires-clause-near : goal.read_near-requires-clause-near
-read_near-requires-clause-near c = c.of.ensures c.self.inside.image c.self.invariant.1
+read_near-requires-clause-near c = c.of.ensures c.self.inside.image c.self.invariant.known
 
 pub returns-clause-count : goal.returns-clause-count
 returns-clause-count c = λ t s.

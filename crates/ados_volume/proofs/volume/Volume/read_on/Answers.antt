@@ -4,25 +4,15 @@ use Rattle.ados_model.specs.Keys.{HasFileKey}
 use Rattle.ados_model.specs.Stands.{Stands}
 use Rattle.ados_change.proofs.Renewed.{bytes_in, file_writable}
 use Rattle.ados_volume.specs.Shown.{Shown}
+use Rattle.ados_volume.proofs.Staying.{with_places}
 use Rattle.ados_volume.proofs.volume.Volume.read_on.Goals as goal
-
-pub place_at-place-requires-clause-readable : goal.place_at-place-requires-clause-readable
-place_at-place-requires-clause-readable c =
-    readable c.self.inside.image c.args.key (file_writable c.self.inside.image c.args.key c.self.invariant.0.0.0.0 (subst (λ (w : Shown). HasFileKey w.image c.args.key) (sym c.self.view_is) c.requires)).lawful
-
-pub place_at-place-requires-clause-near : goal.place_at-place-requires-clause-near
-place_at-place-requires-clause-near c = c.of.ensures c.self.inside.image c.self.invariant.1
 
 pub read_near-requires-clause-readable : goal.read_near-requires-clause-readable
 read_near-requires-clause-readable c =
-    readable c.self.inside.image c.args.key (file_writable c.self.inside.image c.args.key c.self.invariant.0.0.0.0 (subst (λ (w : Shown). HasFileKey w.image c.args.key) (sym c.self.view_is) c.requires)).lawful
+    readable c.self.inside.image c.args.key (file_writable c.self.inside.image c.args.key c.self.invariant.tree (subst (λ (w : Shown). HasFileKey w.image c.args.key) (sym c.self.view_is) c.requires)).lawful
 
 pub invariant_of-self : goal.invariant_of-self
-invariant_of-self c = (
-  c.self.invariant.0,
-  c.keep.ensures c.self.inside.image
-      (record { is_file = subst (λ (w : Shown). HasFileKey w.image c.args.key) (sym c.self.view_is) c.requires; place_is = c.place_at-place.ensures.place }) c.self.invariant.1,
-)
+invariant_of-self c = with_places c.self.invariant _ c.at-place.ensures.known
 
 pub returns-clause-count : goal.returns-clause-count
 returns-clause-count c = λ t s.

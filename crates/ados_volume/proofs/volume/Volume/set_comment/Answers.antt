@@ -1,26 +1,17 @@
 use Rattle.std.proofs.Common.{◌+◌, length, refl, sym, subst}
 use Rattle.adf_block.specs.declared.layout.TheConstants.{COMMENT_BYTE}
 use Rattle.ados_model.specs.Stands.{Stands}
-use Rattle.ados_model.specs.Edits.{with_comment}
 use Rattle.ados_volume.specs.Shown.{Shown}
-use Rattle.ados_volume.proofs.Bounds.{below_restamped}
-use Rattle.ados_volume.proofs.Children.{all_carried, changed_stay}
-use Rattle.ados_volume.proofs.Known.{changed_last, known_carried}
+use Rattle.ados_volume.proofs.Staying.{restamped_sound}
 use Rattle.ados_volume.proofs.volume.Volume.set_comment.Goals as goal
 
 pub invariant_of-self : goal.invariant_of-self
 invariant_of-self c =
-    let t = c.self.invariant.0.0.0.0.0 in
-    let s = c.self.invariant.0.0.0.0.1 in (
-      (
-        all_carried c.self.inside.image c.set_comment.new.image t (with_comment c.args.moment c.args.key c.args.comment t) s (c.set_comment.ensures.stands t s)
-            c.self.inside.names.pairs.entries c.self.invariant.0.0.0.1 c.self.inside.told.entries.entries c.self.invariant.0.0.1
-            (changed_stay t c.args.key (λ node. record node { comment = c.args.comment }) (λ a e. refl) (λ dir a m e. refl)),
-        below_restamped c.self.inside.image c.set_comment.new.image t s c.args.key COMMENT_BYTE (COMMENT_BYTE + 1 + length c.args.comment) (c.requires t (subst (λ (shown : Shown). Stands shown.image t) c.self.view_is s)).0 c.set_comment.ensures.rest c.set_comment.ensures.keeps c.self.inside.free_from c.self.invariant.0.1,
-      ),
-      known_carried c.self.inside.image c.set_comment.new.image c.set_comment.ensures.keeps t (with_comment c.args.moment c.args.key c.args.comment t) s (c.set_comment.ensures.stands t s) refl
-          c.self.inside.places.places.entries c.self.invariant.1 (changed_last t c.args.key (λ node. record node { comment = c.args.comment }) (λ a. refl)),
-    )
+    let t = c.self.invariant.tree.0 in
+    let s = c.self.invariant.tree.1 in
+    let entry = c.requires t (subst (λ (shown : Shown). Stands shown.image t) c.self.view_is s) in
+    restamped_sound c.self.invariant c.set_comment.new.image c.args.moment c.args.key COMMENT_BYTE (COMMENT_BYTE + 1 + length c.args.comment) (λ node. record node { comment = c.args.comment }) (λ a. refl) (λ dir a m e. refl)
+    entry.0 c.set_comment.ensures.rest c.set_comment.ensures.keeps (c.set_comment.ensures.stands t s)
 
 pub returns-clause-stands : goal.returns-clause-stands
 returns-clause-stands c = λ t s. c.set_comment.ensures.stands t (subst (λ (shown : Shown). Stands shown.image t) (sym c.self.view_is) s)

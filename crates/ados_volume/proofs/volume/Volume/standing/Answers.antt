@@ -5,4 +5,10 @@ use Rattle.ados_volume.proofs.Kept.{none_listed}
 use Rattle.ados_volume.proofs.volume.Volume.standing.Goals as goal
 
 pub invariant_of-result : goal.invariant_of-result
-invariant_of-result c = ((((c.requires.stands, none c.args.image c.args.names.pairs.entries c.requires.no_names), none_listed c.args.image c.args.told.entries.entries c.requires.no_entries), below_boot c.args.image), none_known c.args.image c.args.places.places.entries c.requires.no_places)
+invariant_of-result c = record {
+  tree = c.requires.stands;
+  children = none c.args.image c.args.names.pairs.entries c.requires.no_names;
+  listed = none_listed c.args.image c.args.told.entries.entries c.requires.no_entries;
+  known = none_known c.args.image c.args.places.places.entries c.requires.no_places;
+  bound = below_boot c.args.image;
+}

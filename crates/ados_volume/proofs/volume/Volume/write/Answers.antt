@@ -1,54 +1,39 @@
-use Rattle.std.proofs.Common.{ℕ, List, sym, subst}
-use Rattle.ados_map.specs.Pages.{NoneFreeBelow}
-use Rattle.ados_data.proofs.Places.{readable}
-use Rattle.ados_model.specs.Tree.{Tree}
+use Rattle.std.proofs.Common.{ℕ, ◌==◌, List, length, sym, ap, ◌∙◌, subst, eqb-true}
+use Rattle.std.proofs.lemmas.Bool.{both_ways}
+use Rattle.ados_change.proofs.Keeping.{same_keeps}
 use Rattle.ados_model.specs.Stands.{Stands}
-use Rattle.ados_model.specs.Change.{written}
 use Rattle.ados_change.specs.Renewed.{Writes}
 use Rattle.ados_volume.specs.Refused.{RefusesWrite}
 use Rattle.ados_volume.specs.Shown.{Shown}
-use Rattle.ados_model.specs.Keys.{HasFileKey}
-use Rattle.ados_change.proofs.Renewed.{file_writable}
-use Rattle.ados_volume.specs.steps.Cache.{AreChildren}
-use Rattle.ados_volume.specs.steps.Listed.{AreListed}
-use Rattle.ados_volume.specs.steps.Places.{AreKnown}
-use Rattle.ados_volume.proofs.Children.{all_carried}
-use Rattle.ados_volume.proofs.Refilled.{refuses, still_shown, written_stay}
-use Rattle.ados_volume.proofs.Known.{known_carried, written_format, written_lasts}
+use Rattle.ados_volume.proofs.Known.{written_format, written_lasts}
+use Rattle.ados_volume.proofs.Refilled.{refuses, still_shown, written_none, written_stay}
+use Rattle.ados_volume.proofs.Staying.{files_sound, unchanged_sound}
 use Rattle.ados_volume.proofs.volume.Volume.write.Goals as goal
 
-pub place_at-place-requires-clause-readable : goal.place_at-place-requires-clause-readable
-place_at-place-requires-clause-readable c =
-    let key = subst (λ (w : Shown). HasFileKey w.image c.args.key) (sym c.self.view_is) c.requires.file in
-    readable c.self.inside.image c.args.key (file_writable c.self.inside.image c.args.key c.self.invariant.0.0.0.0 key).lawful
+pub returns-then-is_empty-clause-done : goal.returns-then-is_empty-clause-done
+returns-then-is_empty-clause-done c =
+    written_none c.args.self.now.image c.args.moment c.args.key c.args.pos c.requires.start c.args.bytes.now (eqb-true (length c.args.bytes.now) 0 (sym c.is_empty.ensures ∙ c.if-is_empty.true))
 
-pub place_at-place-requires-clause-near : goal.place_at-place-requires-clause-near
-place_at-place-requires-clause-near c = c.of.ensures c.self.inside.image c.self.invariant.1
+pub returns-then-is_empty-clause-keeps : goal.returns-then-is_empty-clause-keeps
+returns-then-is_empty-clause-keeps c = same_keeps c.args.self.now.image
+
+pub returns-clause-none : goal.returns-clause-none
+returns-clause-none c = λ none. absurd (both_ways _ (sym c.is_empty.ensures ∙ c.if-is_empty.false) (ap (λ (bytes : List ℕ). length bytes == 0) none))
+
+pub returns-in_err-self-inside-clause-none : goal.returns-in_err-self-inside-clause-none
+returns-in_err-self-inside-clause-none c = λ none. absurd (both_ways _ (sym c.is_empty.ensures ∙ c.if-is_empty.false) (ap (λ (bytes : List ℕ). length bytes == 0) none))
 
 pub invariant_of-self-2 : goal.invariant_of-self-2
 invariant_of-self-2 c =
-    let t = c.self.invariant.0.0.0.0.0 in
-    let s = c.self.invariant.0.0.0.0.1 in
-    let shown = subst (λ (w : Shown). Stands w.image t) c.self.view_is s in (
-      (
-        all_carried c.self.inside.image c.write.new.image t (written c.args.moment c.args.key c.args.pos c.args.bytes.now t) s (c.in_ok-self-inside.ensures.done t s).1
-            c.self.inside.names.pairs.entries c.self.invariant.0.0.0.1 c.self.inside.told.entries.entries c.self.invariant.0.0.1
-            (written_stay t c.args.key (c.requires.file t shown) c.args.moment c.args.pos c.args.bytes.now),
-        c.in_ok-self-inside.ensures.below,
-      ),
-      known_carried c.self.inside.image c.write.new.image c.write.ensures.keeps t (written c.args.moment c.args.key c.args.pos c.args.bytes.now t) s (c.in_ok-self-inside.ensures.done t s).1 (written_format t c.args.moment c.args.key c.args.pos c.args.bytes.now)
-          c.keep.new.self.places.entries
-          (c.keep.ensures c.self.inside.image (record { is_file = subst (λ (w : Shown). HasFileKey w.image c.args.key) (sym c.self.view_is) c.requires.file; place_is = c.place_at-place.ensures.place }) c.self.invariant.1)
-          (written_lasts t c.args.moment c.args.key c.args.pos c.args.bytes.now (c.requires.start t shown)),
-    )
+    let t = c.self.invariant.tree.0 in
+    let s = c.self.invariant.tree.1 in
+    let shown = subst (λ (w : Shown). Stands w.image t) c.self.view_is s in
+    files_sound c.self.invariant c.write.new.image _ (c.in_ok-self-inside.ensures.done t s).1
+    (written_stay t c.args.key (c.requires.file t shown) c.args.moment c.args.pos c.args.bytes.now) (written_format t c.args.moment c.args.key c.args.pos c.args.bytes.now)
+    c.write.ensures.keeps (written_lasts t c.args.moment c.args.key c.args.pos c.args.bytes.now (c.requires.start t shown)) _ c.at-place.ensures.known _ c.in_ok-self-inside.ensures.below
 
 pub invariant_of-self : goal.invariant_of-self
-invariant_of-self c = (
-  subst (λ (image : List ℕ). ((((x : Tree) × Stands image x) × AreChildren image c.self.inside.names.pairs.entries) × AreListed image c.self.inside.told.entries.entries) × NoneFreeBelow image c.self.inside.free_from)
-      (sym c.in_err-self-inside.ensures.done.0) c.self.invariant.0,
-  subst (λ (image : List ℕ). AreKnown image c.keep.new.self.places.entries) (sym c.in_err-self-inside.ensures.done.0)
-      (c.keep.ensures c.self.inside.image (record { is_file = subst (λ (w : Shown). HasFileKey w.image c.args.key) (sym c.self.view_is) c.requires.file; place_is = c.place_at-place.ensures.place }) c.self.invariant.1),
-)
+invariant_of-self c = unchanged_sound c.self.invariant _ c.in_err-self-inside.ensures.done.0 _ c.at-place.ensures.known
 
 pub returns-clause-done : goal.returns-clause-done
 returns-clause-done c = λ t s. c.in_ok-self-inside.ensures.done t (subst (λ (w : Shown). Stands w.image t) (sym c.self.view_is) s)

@@ -1,8 +1,8 @@
 use Rattle.std.proofs.Common.{ap, sym, subst, ◌∙◌, ◌++◌, ◌∷◌, []}
 use Rattle.port_ends.specs.steps.Sending.{EachHasRoom, SameLooks, UsesOne}
 use Rattle.port_ends.specs.Ends.{OfClients}
-use Rattle.port_history.specs.History.{Serving}
-use Rattle.port_history.specs.Lawful.{packets_of}
+use Rattle.port_ends.specs.History.{Serving}
+use Rattle.port_ends.specs.Lawful.{packets_of}
 use Rattle.port_ends.proofs.Handling.{packets_snoc, replies_step, serves_one}
 use Rattle.port_ends.proofs.Eachs.{sends_looks, sends_one}
 use Rattle.port_ends.proofs.Packets.{of_clients_snoc}

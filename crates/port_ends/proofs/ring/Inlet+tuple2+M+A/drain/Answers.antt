@@ -1,6 +1,6 @@
 use Rattle.std.proofs.Common.{arith, ◌∙◌, ap, sym, ◌++◌, ◌+◌, ◌≡◌, length}
 use Rattle.rtrb.specs.Ring.{known_items}
-use Rattle.port_history.specs.Lawful.{numbered}
+use Rattle.port_ends.specs.Lawful.{numbered}
 use Rattle.port_ends.specs.Gathering.{answers}
 use Rattle.port_ends.proofs.Drains.{drained, same_rest, length-numbered}
 use Rattle.port_ends.proofs.ring.Inlet+tuple2+M+A.drain.Goals as goal

@@ -1,0 +1,6 @@
+use Rattle.std.proofs.Common.{◌≡◌, ◌++◌, map, take}
+use Rattle.adf_block.specs.BootText.{letter}
+use Rattle.adf_block.proofs.hex.push_letters.Given as goal
+
+abbrev pub invariant-loop-byte : goal.invariant-loop-byte
+invariant-loop-byte l = l.text.items ≡ l.fn.text.items ++ map letter (take l.byte-index l.bytes)

@@ -1,8 +1,0 @@
-use Rattle.std.proofs.Common.{ap}
-use Rattle.std.specs.Prelude.{option_copied}
-use Rattle.adf_boot.proofs.Booting.{booted}
-use Rattle.adf_boot.proofs.boot.boot_image.Goals as goal
-
-pub returns-else-code-gt-BOOT_BYTES : goal.returns-else-code-gt-BOOT_BYTES
-returns-else-code-gt-BOOT_BYTES c =
-    booted (option_copied c.args.code) c.in-Some.code.now c.args.image.now c.install.new.image _ (ap option_copied c.in-Some.is) c.if-code-gt-BOOT_BYTES.false c.install.ensures

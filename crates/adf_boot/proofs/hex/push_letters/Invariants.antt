@@ -1,6 +1,0 @@
-use Rattle.std.proofs.Common.{◌≡◌, ◌++◌, map, take}
-use Rattle.adf_boot.specs.Shown.{letter}
-use Rattle.adf_boot.proofs.hex.push_letters.Given as goal
-
-abbrev pub invariant-loop-byte : goal.invariant-loop-byte
-invariant-loop-byte l = l.text.items ≡ l.fn.text.items ++ map letter (take l.byte-index l.bytes)

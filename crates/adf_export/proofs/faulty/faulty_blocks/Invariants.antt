@@ -1,8 +1,0 @@
-use Rattle.std.proofs.Common.{take}
-use Rattle.std.specs.List.{AllZip}
-use Rattle.adf_export.specs.Faulty.{IsFaultyBlock}
-use Rattle.adf_export.proofs.faulty.faulty_blocks.Given as goal
-
--- what is told of the blocks before this one
-abbrev pub invariant-loop-place : goal.invariant-loop-place
-invariant-loop-place l = AllZip (IsFaultyBlock l.image l.found.more) (take l.place l.blocks) l.told.items

@@ -1,8 +1,0 @@
-use Rattle.std.proofs.Common.{◌≡◌, ◌++◌, take}
-use Rattle.std.specs.Prelude.{flat_map}
-use Rattle.adf_export.specs.Faulty.{fault_line}
-use Rattle.adf_export.proofs.faulty_lines.push_faults.Given as goal
-
--- the lines of the faults before this one
-abbrev pub invariant-loop-fault : goal.invariant-loop-fault
-invariant-loop-fault l = l.text.items ≡ l.fn.text.items ++ flat_map fault_line (take l.fault-index l.faults)

@@ -1,7 +1,0 @@
-use Rattle.std.proofs.Common.{◌≡◌, take}
-use Rattle.std.specs.Prelude.{flat_map}
-use Rattle.adf_export.proofs.forms.lines.Given as goal
-
--- the lines of the blocks before this one
-abbrev pub invariant-loop-block : goal.invariant-loop-block
-invariant-loop-block g l = l.text.items ≡ flat_map (g.T.Tell.lines_of l.blocks) (take l.block-index l.told)

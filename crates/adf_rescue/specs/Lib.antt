@@ -1,0 +1,5 @@
+-- What is saved of a damaged image, and deleted entries. Definitions for steps are in `steps`.
+pub mod Rescue
+pub mod RescueObject
+pub mod Undelete
+pub mod steps

@@ -1,0 +1,4 @@
+-- Lemmas about owned blocks, the faults of a block, and a loop over a `zip`.
+pub mod Belonging
+pub mod FaultsThere
+mod Zipped

@@ -1,0 +1,8 @@
+use Rattle.std.proofs.Common.{◌≡◌, ◌++◌, take}
+use Rattle.std.specs.Prelude.{flat_map}
+use Rattle.adf_where.specs.Faulty.{block_line, place_words}
+use Rattle.adf_where.proofs.faulty_lines.push_places.Given as goal
+
+-- the lines of the places before this one
+abbrev pub invariant-loop-place : goal.invariant-loop-place
+invariant-loop-place l = l.text.items ≡ l.fn.text.items ++ flat_map (λ place. block_line l.blocks l.told.block (place_words place)) (take l.place-index l.told.places.items)

@@ -1,0 +1,14 @@
+use Rattle.std.proofs.Common.{◌≡◌, ap, ◌∙◌}
+use Rattle.std.proofs.lemmas.Result.{IfOk-weaker}
+use Rattle.ados_model.specs.Stands.{Stands}
+use Rattle.ados_model.specs.Tree.{Tree}
+use Rattle.adf_where.specs.Where.{IsWhereOf, own_from}
+use Rattle.adf_text.specs.Ranges.{ranges}
+use Rattle.adf_where.proofs.own_blocks.where_path_text.Goals as goal
+
+pub returns : goal.returns
+returns c =
+    let blocks = c.deref-2.ensures.value ∙ c.in_ok-blocks.ensures ∙ ap (own_from c.args.key 0) c.deref.ensures.value in
+    IfOk-weaker c.ranges_text.result (λ text. text.items ≡ ranges c.deref-2.result.now)
+    (λ text. (t : Tree) → Stands c.args.volume.now.image t → IsWhereOf c.args.volume.now.image t c.args.key text.items)
+    (λ text is t s. (c.in_ok-owners.owners.items, c.in_ok-owners.ensures t s, is ∙ ap ranges blocks)) c.ranges_text.ensures

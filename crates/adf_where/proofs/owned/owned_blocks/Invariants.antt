@@ -1,0 +1,9 @@
+use Rattle.std.proofs.Common.{map, take}
+use Rattle.ados_model.specs.Stands.{Stands}
+use Rattle.ados_model.specs.Tree.{Tree}
+use Rattle.adf_where.specs.Where.{AreTold, seen}
+use Rattle.adf_where.proofs.owned.owned_blocks.Given as goal
+
+-- what is told of the blocks before this one
+abbrev pub invariant-loop-block : goal.invariant-loop-block
+invariant-loop-block l = (t : Tree) → Stands l.volume.image t → AreTold t l.owners (take l.block-index l.blocks) (map seen l.told.items)

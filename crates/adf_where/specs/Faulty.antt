@@ -1,0 +1,132 @@
+-- What is told of blocks of a refused image: the places that name them, and their faults.
+use Rattle.std.specs.Prelude.{◌≡◌, ℕ, ◌-◌, ◌==◌, nat_lt, Bool, false, if◌then◌else◌, List, [], ◌∷◌, ◌++◌, length, All, AllPairs, Contains, flat_map, codes, decimal, Option, Some, None}
+use Rattle.std.specs.Option.{option_map_or}
+use Rattle.std.specs.List.{AllZip}
+use Rattle.json.specs.Token.{Token, begin_object, boolean, end_object, key, number, string}
+use Rattle.adf_block.specs.Image.{block_count}
+use Rattle.adf_block.specs.declared.layout.TheConstants.{BOOT_BLOCKS, FIRST_PAGE, FIRST_POINTER}
+use Rattle.ados_faults.specs.Listed.{ListsEach, ListsFaults, StandsBefore, fault_of}
+use Rattle.ados_faults.specs.declared.listing.AllFaults.{AllFaults}
+use Rattle.ados_model.specs.declared.fault.FaultKind.{FaultKind}
+use Rattle.ados_model.specs.declared.fault.VolumeFault.{VolumeFault}
+use Rattle.ados_model.specs.Faults.{Shows, root_of}
+use Rattle.ados_mend.specs.declared.naming.Naming.{Naming}
+use Rattle.ados_mend.specs.declared.naming.Naming.TheVariants.{Entry, NextEntry, Extension, Data, Page}
+use Rattle.ados_mend.specs.declared.naming.Place.{Place}
+use Rattle.ados_mend.specs.Places.{AreAllPlaces}
+use Rattle.adf_archive.specs.Words.{kind_word}
+use Rattle.adf_words.specs.declared.block_word.BlockWord.{BlockWord}
+use Rattle.adf_where.specs.declared.faulty.FaultyBlock.{FaultyBlock}
+use Rattle.adf_where.specs.Where.{AreNamed, array_of, place_text, place_tokens, told_as}
+
+-- these are faults that an image shows, in order, and all of them unless there may be more
+pub record AreFound (image : List ℕ) (found : AllFaults) : Type 0 where
+  pub most : ℕ
+  pub lists : ListsFaults image most found.faults.items
+  pub each : ListsEach image found.more found.faults.items
+
+-- the image shows this fault at this block
+pub record IsFaultAt (image : List ℕ) (block : ℕ) (fault : VolumeFault) : Type 0 where
+  pub at : fault.block ≡ block
+  pub shown : Shows image fault.kind fault.block
+
+-- these are faults that the image shows at the block, in order, each once: all of them, unless there may be more
+pub record AreFaultsAt (image : List ℕ) (block : ℕ) (more : Bool) (faults : List VolumeFault) : Type 0 where
+  pub in_order : AllPairs StandsBefore faults
+  pub shown : All (IsFaultAt image block) faults
+  pub all : more ≡ false → (kind : FaultKind) → Shows image kind block → Contains faults (fault_of kind block)
+
+-- a block of the image with all places that name it, and with its faults
+pub record IsFaultyBlock (image : List ℕ) (more : Bool) (block : ℕ) (told : FaultyBlock) : Type 0 where
+  pub block_is : told.block ≡ block
+  pub more_is : told.more ≡ more
+  pub root : told.is_root ≡ (block == root_of image)
+  pub places : AreAllPlaces image block told.places.items
+  pub faults : AreFaultsAt image block more told.faults.items
+
+-- `of block N`
+abbrev pub of_block : ℕ → List ℕ
+of_block block = codes " of block " ++ decimal block
+
+-- what a place makes of the block that it names, and of which block it is
+abbrev pub naming_words : Naming → Place → List ℕ
+naming_words Entry place = codes "entry" ++ (of_block place.holder ++ (codes ", long " ++ decimal place.long))
+naming_words NextEntry place = codes "next entry" ++ of_block place.holder
+naming_words Extension place = codes "extension" ++ of_block place.holder
+naming_words Data place = codes "data " ++ (decimal (FIRST_POINTER - place.long) ++ of_block place.holder)
+naming_words Page place = codes "bitmap block " ++ (decimal (place.long - FIRST_PAGE) ++ of_block place.holder)
+
+abbrev pub place_words : Place → List ℕ
+place_words place = naming_words place.naming place
+
+-- what is said of a block before its places: what it always is, or that nothing names it
+abbrev pub first_words : FaultyBlock → Option (List ℕ)
+first_words told =
+    if nat_lt told.block BOOT_BLOCKS then Some (codes "boot block")
+    else (if told.is_root then Some (codes "root") else (if length told.places.items == 0 then Some (codes "named by nothing") else None))
+
+-- a line of a block
+abbrev pub block_line : ℕ → ℕ → List ℕ → List ℕ
+block_line blocks block words = place_text blocks block ++ (words ++ codes "\n")
+
+abbrev pub first_line : ℕ → FaultyBlock → List ℕ
+first_line blocks told = option_map_or (block_line blocks told.block) (first_words told) []
+
+-- a line for each place
+abbrev pub place_lines : ℕ → FaultyBlock → List ℕ
+place_lines blocks told = flat_map (λ place. block_line blocks told.block (place_words place)) told.places.items
+
+-- `BLOCK  fault KIND`
+abbrev pub fault_line : VolumeFault → List ℕ
+fault_line fault = decimal fault.block ++ (codes "  fault " ++ (kind_word fault.kind ++ codes "\n"))
+
+-- `BLOCK  more`, if there may be more faults
+abbrev pub more_line : Bool → ℕ → List ℕ
+more_line more block = if more then decimal block ++ codes "  more\n" else []
+
+-- the lines of a block
+abbrev pub block_lines : ℕ → FaultyBlock → List ℕ
+block_lines blocks told = first_line blocks told ++ (place_lines blocks told ++ (flat_map fault_line told.faults.items ++ more_line told.more told.block))
+
+-- what a place makes of the block that it names, as one word
+abbrev pub naming_word : Naming → List ℕ
+naming_word Entry = codes "entry"
+naming_word NextEntry = codes "next"
+naming_word Extension = codes "extension"
+naming_word Data = codes "data"
+naming_word Page = codes "bitmap"
+
+-- the object of a place
+abbrev pub place_object : Place → List Token
+place_object place =
+    begin_object ∷ key (codes "block") ∷ number (decimal place.holder) ∷ key (codes "long") ∷ number (decimal place.long)
+    ∷ key (codes "role") ∷ string (naming_word place.naming) ∷ end_object ∷ []
+
+-- a fault, as one word
+abbrev pub fault_word : VolumeFault → List Token
+fault_word fault = string (kind_word fault.kind) ∷ []
+
+-- the members for the places and for the faults of a block
+abbrev pub places_tokens : List Place → List Token
+places_tokens places = key (codes "places") ∷ array_of place_object places
+
+abbrev pub faults_tokens : List VolumeFault → List Token
+faults_tokens faults = key (codes "faults") ∷ array_of fault_word faults
+
+-- the object of a block
+abbrev pub faulty_tokens : ℕ → FaultyBlock → List Token
+faulty_tokens blocks told =
+    begin_object ∷ place_tokens blocks told.block ++ (places_tokens told.places.items ++ (faults_tokens told.faults.items ++ key (codes "more") ∷ boolean told.more ∷ end_object ∷ []))
+
+-- what is told of blocks in one of the forms
+abbrev pub faulty_of : Bool → ℕ → List FaultyBlock → List ℕ
+faulty_of json blocks told = told_as json (faulty_tokens blocks) (block_lines blocks) told
+
+-- the text tells of the blocks that these arguments name in the image
+pub record IsFaultyWhere (json : Bool) (image : List ℕ) (words : List BlockWord) (text : List ℕ) : Type 0 where
+  pub blocks : List ℕ
+  pub named : AreNamed (block_count image) words blocks
+  pub more : Bool
+  pub told : List FaultyBlock
+  pub are_told : AllZip (IsFaultyBlock image more) blocks told
+  pub text_is : text ≡ faulty_of json (block_count image) told

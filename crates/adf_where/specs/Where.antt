@@ -1,0 +1,213 @@
+-- Who owns a block, and the blocks of an entry.
+use Rattle.std.specs.Prelude.{◌≡◌, ⊤, ℕ, ◌+◌, ◌*◌, ◌-◌, ◌/◌, ◌%◌, ◌==◌, ◌&&◌, nat_lt, min, Bool, false, if◌then◌else◌, List, [], ◌∷◌, ◌++◌, flat_map, map, take, slice_get, codes, decimal, Option, Some, None, option_map}
+use Rattle.std.specs.Option.{option_map_or}
+use Rattle.std.specs.String.{string_bytes}
+use Rattle.json.specs.Token.{Token, begin_array, begin_object, end_array, end_object, key, number, string}
+use Rattle.json.specs.Print.{print}
+use Rattle.ados_model.specs.Tree.{Tree, data_size, size_of}
+use Rattle.ados_volume.specs.declared.owner.Owner.{Owner}
+use Rattle.ados_volume.specs.declared.owner.Owner.TheVariants.{Boot, Root, Page, Directory, File, Data, Extension, Lost, Free}
+use Rattle.ados_volume.specs.Owners.{AreOwners}
+use Rattle.adf_text.specs.Letters.{letters}
+use Rattle.adf_text.specs.Plain.{plain}
+use Rattle.adf_words.specs.declared.block_word.BlockWord.{BlockWord}
+use Rattle.adf_words.specs.declared.block_word.BlockWord.TheVariants.{Number, Sector}
+use Rattle.adf_words.specs.declared.floppy.TheConstants.{DOUBLE_TRACK, HEADS, HIGH_DENSITY, HIGH_TRACK}
+use Rattle.adf_record.specs.Members.{number_token, string_token}
+use Rattle.adf_where.specs.declared.owned.OwnedBlock.{OwnedBlock}
+use Rattle.adf_where.specs.declared.owned.Span.{Span}
+use Rattle.adf_where.specs.declared.where_fault.WhereFault.{WhereFault}
+use Rattle.adf_where.specs.declared.where_fault.WhereFault.TheVariants.{Memory, NoBlock}
+use Rattle.adf_text.specs.Ranges.{ranges}
+use Rattle.adf_export.specs.Listing.{path_of}
+
+-- the sectors in a track of a disk with so many blocks
+abbrev pub track : ℕ → ℕ
+track blocks = if blocks == HIGH_DENSITY then HIGH_TRACK else DOUBLE_TRACK
+
+-- the number of a block, if a volume with so many blocks has it
+abbrev pub inside : ℕ → ℕ → Option ℕ
+inside blocks block = if nat_lt block blocks then Some block else None
+
+-- the block that an argument names in a volume with so many blocks: tracks follow one another, that of head 0 before that
+-- of head 1, and cylinder after cylinder
+abbrev pub named : ℕ → BlockWord → Option ℕ
+named blocks (Number block) = inside blocks block
+named blocks (Sector cylinder head sector) =
+    if nat_lt head HEADS && nat_lt sector (track blocks) then inside blocks (track blocks * (HEADS * cylinder + head) + sector) else None
+
+-- these arguments name these blocks
+abbrev pub AreNamed : ℕ → List BlockWord → List ℕ → Type 0
+AreNamed blocks words found = map (named blocks) words ≡ map Some found
+
+-- the argument is the first that names no block, or memory ran out
+abbrev pub IsWhereFault : ℕ → List BlockWord → WhereFault → Type 0
+IsWhereFault blocks words (NoBlock word) =
+    (n : ℕ) × (before : List ℕ) × (slice_get words n ≡ Some word) × (named blocks word ≡ None) × AreNamed blocks (take n words) before
+IsWhereFault blocks words Memory = ⊤
+
+-- the entry that a block with this owner belongs to, if it belongs to one
+abbrev pub entry_of : ℕ → Owner → Option ℕ
+entry_of block Directory = Some block
+entry_of block File = Some block
+entry_of block (Data file k) = Some file
+entry_of block (Extension file k) = Some file
+entry_of block owner = None
+
+-- the path of an entry in letters
+abbrev pub entry_path : Tree → Option ℕ → Option (List ℕ)
+entry_path t entry = option_map (λ entry. letters (path_of t entry)) entry
+
+-- the bytes of its file that are in a data block
+abbrev pub span_of : Tree → Owner → Option Span
+span_of t (Data file k) =
+    Some (record { first = data_size t.format * k; last = min (data_size t.format * k + data_size t.format) (size_of t file) - 1 })
+span_of t owner = None
+
+-- what is told of a block
+pub record Told : Type 0 where
+  pub block : ℕ
+  pub owner : Owner
+  pub path : Option (List ℕ)
+  pub span : Option Span
+
+-- what is told of a block with this owner
+abbrev pub told_of : Tree → ℕ → Owner → Told
+told_of t block owner = record { block = block; owner = owner; path = entry_path t (entry_of block owner); span = span_of t owner }
+
+-- what is told of a block, by the owners of all blocks
+abbrev pub told_at : Tree → List Owner → ℕ → Option Told
+told_at t owners block = option_map (told_of t block) (slice_get owners block)
+
+-- this is told of these blocks
+abbrev pub AreTold : Tree → List Owner → List ℕ → List Told → Type 0
+AreTold t owners blocks told = map (told_at t owners) blocks ≡ map Some told
+
+-- a block with its owner in memory, as what is told of it
+abbrev pub seen : OwnedBlock → Told
+seen owned = record { block = owned.block; owner = owned.owner; path = option_map string_bytes owned.path; span = owned.span }
+
+-- the place of a block on a disk with so many blocks: its cylinder, its head and its sector, each from 0
+abbrev pub cylinder_of : ℕ → ℕ → ℕ
+cylinder_of blocks block = block / (HEADS * track blocks)
+
+abbrev pub head_of : ℕ → ℕ → ℕ
+head_of blocks block = block / track blocks % HEADS
+
+abbrev pub sector_of : ℕ → ℕ → ℕ
+sector_of blocks block = block % track blocks
+
+-- the line of a block up to its owner
+abbrev pub place_text : ℕ → ℕ → List ℕ
+place_text blocks block =
+    decimal block ++ (codes "  cyl " ++ (decimal (cylinder_of blocks block) ++ (codes " head " ++ (decimal (head_of blocks block)
+    ++ (codes " sector " ++ (decimal (sector_of blocks block) ++ codes "  "))))))
+
+-- what the block is, up to the path of its entry
+abbrev pub owner_text : Owner → List ℕ
+owner_text Boot = codes "boot block"
+owner_text Root = codes "root"
+owner_text (Page i) = codes "bitmap block " ++ decimal i
+owner_text Directory = codes "header of "
+owner_text File = codes "header of "
+owner_text (Data file k) = codes "data " ++ (decimal k ++ codes " of ")
+owner_text (Extension file k) = codes "extension " ++ (decimal k ++ codes " of ")
+owner_text Lost = codes "lost"
+owner_text Free = codes "free"
+
+-- the path, with escapes for control characters
+abbrev pub path_text : Option (List ℕ) → List ℕ
+path_text path = option_map_or (plain false) path []
+
+-- the slash behind the path of a directory
+abbrev pub slash : Owner → List ℕ
+slash Directory = codes "/"
+slash owner = []
+
+-- the bytes in a data block
+abbrev pub bytes_text : Span → List ℕ
+bytes_text span = codes ", bytes " ++ (decimal span.first ++ (codes " to " ++ decimal span.last))
+
+abbrev pub span_text : Option Span → List ℕ
+span_text span = option_map_or bytes_text span []
+
+-- the line of a block
+abbrev pub where_line : ℕ → Told → List ℕ
+where_line blocks told =
+    place_text blocks told.block ++ owner_text told.owner ++ path_text told.path ++ slash told.owner ++ span_text told.span ++ codes "\n"
+
+-- what the block is, as one word
+abbrev pub owner_word : Owner → List ℕ
+owner_word Boot = codes "boot"
+owner_word Root = codes "root"
+owner_word (Page i) = codes "bitmap"
+owner_word Directory = codes "directory"
+owner_word File = codes "file"
+owner_word (Data file k) = codes "data"
+owner_word (Extension file k) = codes "extension"
+owner_word Lost = codes "lost"
+owner_word Free = codes "free"
+
+-- the position of the block among those of its kind, from 0
+abbrev pub position_of : Owner → Option ℕ
+position_of (Page i) = Some i
+position_of (Data file k) = Some k
+position_of (Extension file k) = Some k
+position_of owner = None
+
+-- the members for the place of a block
+abbrev pub place_tokens : ℕ → ℕ → List Token
+place_tokens blocks block =
+    key (codes "block") ∷ number (decimal block) ∷ key (codes "cylinder") ∷ number (decimal (cylinder_of blocks block))
+    ∷ key (codes "head") ∷ number (decimal (head_of blocks block)) ∷ key (codes "sector") ∷ number (decimal (sector_of blocks block)) ∷ []
+
+-- the members for its owner
+abbrev pub owner_tokens : Told → List Token
+owner_tokens told =
+    key (codes "owner") ∷ string (owner_word told.owner) ∷ key (codes "path") ∷ string_token told.path
+    ∷ key (codes "number") ∷ number_token (position_of told.owner)
+    ∷ key (codes "first") ∷ number_token (option_map (λ span. span.first) told.span)
+    ∷ key (codes "last") ∷ number_token (option_map (λ span. span.last) told.span) ∷ []
+
+-- the object of a block
+abbrev pub told_tokens : ℕ → Told → List Token
+told_tokens blocks told = begin_object ∷ place_tokens blocks told.block ++ owner_tokens told ++ end_object ∷ []
+
+-- an array of these elements
+abbrev pub array_of : {A : Type 0} → (A → List Token) → List A → List Token
+array_of tokens elements = begin_array ∷ flat_map tokens elements ++ end_array ∷ []
+
+-- what is told of blocks in one of the forms: an array on a line of its own, or the lines of each block
+abbrev pub told_as : {A : Type 0} → Bool → (A → List Token) → (A → List ℕ) → List A → List ℕ
+told_as json tokens lines told = if json then print (array_of tokens told) ++ codes "\n" else flat_map lines told
+
+abbrev pub where_of : Bool → ℕ → List Told → List ℕ
+where_of json blocks told = told_as json (told_tokens blocks) (where_line blocks) told
+
+-- the text tells of the blocks that these arguments name in the volume with this image and this tree
+pub record IsWhere (json : Bool) (image : List ℕ) (t : Tree) (words : List BlockWord) (text : List ℕ) : Type 0 where
+  pub blocks : List ℕ
+  pub named : AreNamed t.blocks words blocks
+  pub owners : List Owner
+  pub owned : AreOwners image t owners
+  pub told : List Told
+  pub are_told : AreTold t owners blocks told
+  pub text_is : text ≡ where_of json t.blocks told
+
+-- a block with this owner belongs to the file or directory with this key; the root is its own
+abbrev pub belongs : ℕ → ℕ → Owner → Bool
+belongs entry block Root = block == entry
+belongs entry block Directory = block == entry
+belongs entry block File = block == entry
+belongs entry block (Data file k) = file == entry
+belongs entry block (Extension file k) = file == entry
+belongs entry block owner = false
+
+-- the blocks of a file or directory, in order: those from this block on
+abbrev pub own_from : ℕ → ℕ → List Owner → List ℕ
+own_from entry block [] = []
+own_from entry block (owner ∷ owners) = (if belongs entry block owner then block ∷ [] else []) ++ own_from entry (block + 1) owners
+
+-- the text is all blocks of a file or directory, as ranges
+abbrev pub IsWhereOf : List ℕ → Tree → ℕ → List ℕ → Type 0
+IsWhereOf image t entry text = (owners : List Owner) × AreOwners image t owners × (text ≡ ranges (own_from entry 0 owners))

@@ -1,0 +1,20 @@
+//! Who owns a block, and which blocks an entry has: of a volume, and every place that names a block of an image that is refused.
+#![tactic(auto)]
+
+mod faulty;
+mod faulty_lines;
+mod faulty_objects;
+mod faulty_where;
+mod forms;
+mod own_blocks;
+mod owned;
+mod places;
+mod where_blocks;
+mod where_fault;
+mod where_lines;
+mod where_objects;
+
+pub use faulty_where::faulty_where_text;
+pub use own_blocks::where_path_text;
+pub use where_blocks::where_text;
+pub use where_fault::WhereFault;

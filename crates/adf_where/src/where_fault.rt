@@ -1,0 +1,23 @@
+//! Why nothing is told of blocks.
+use adf_words::BlockWord;
+use std::alloc::AllocError;
+
+/// Why nothing is told of blocks.
+#[derive(Clone, Copy)]
+pub enum WhereFault {
+    /// The first argument that names no block of the volume.
+    NoBlock(BlockWord),
+    /// Out of memory.
+    Memory,
+}
+
+impl From<AllocError> for WhereFault {
+    ghost use Rattle.std.specs.Prelude.{◌≡◌};
+    ghost use Rattle.adf_where.specs.declared.where_fault.WhereFault.TheVariants.{Memory};
+
+    ghost from_gives = { λ _ fault. fault ≡ Memory };
+
+    fn from(_error: AllocError) -> WhereFault {
+        WhereFault::Memory
+    }
+}

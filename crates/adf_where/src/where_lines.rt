@@ -1,0 +1,89 @@
+//! The lines of blocks with their owners.
+ghost use Rattle.std.specs.Prelude.{◌≡◌, ◌++◌, IfOk, OnOk, option_map};
+ghost use Rattle.std.specs.String.{string_bytes};
+ghost use Rattle.adf_where.specs.Where.{owner_text, path_text, place_text, slash, span_text};
+
+use crate::forms::Tell;
+use crate::owned::{OwnedBlock, Span};
+use crate::places::{cylinder_of, head_of, sector_of};
+use adf_text::push_plain;
+use ados_volume::Owner;
+use std::alloc::{AllocError, Global};
+
+impl Tell for OwnedBlock {
+    ghost use Rattle.adf_where.specs.Where.{seen, where_line};
+
+    ghost lines_of = { λ blocks owned. where_line blocks (seen owned) };
+
+    /// Appends the line of a block.
+    fn push_lines(&self, alloc: Global, text: &mut Vec<u8>, blocks: u32) -> Result<(), AllocError> {
+        let place = place_text(alloc, blocks, self.block)?;
+        let owner = owner_text(alloc, self.owner)?;
+        text.extend_from_slice(place.as_bytes())?;
+        text.extend_from_slice(owner.as_bytes())?;
+        push_path(text, &self.path)?;
+        text.extend_from_slice(slash(self.owner).as_bytes())?;
+        push_span(alloc, text, self.span)?;
+        text.push(b'\n')?;
+        Ok(())
+    }
+}
+
+/// The line of a block up to its owner.
+pub(crate) fn place_text(alloc: Global, blocks: u32, block: u32) -> Result<String, AllocError>
+    ensures { IfOk result (λ text. string_bytes text ≡ place_text blocks block) }
+{
+    format!(in alloc;
+        "{block}  cyl {} head {} sector {}  ",
+        cylinder_of(blocks, block),
+        head_of(blocks, block),
+        sector_of(blocks, block)
+    )
+}
+
+/// What a block is, up to the path of its entry.
+fn owner_text(alloc: Global, owner: Owner) -> Result<String, AllocError>
+    ensures { IfOk result (λ text. string_bytes text ≡ owner_text owner) }
+{
+    match owner {
+        Owner::Boot => String::from_str(alloc, "boot block"),
+        Owner::Root => String::from_str(alloc, "root"),
+        Owner::Page(i) => format!(in alloc; "bitmap block {i}"),
+        Owner::Directory | Owner::File => String::from_str(alloc, "header of "),
+        Owner::Data(_, k) => format!(in alloc; "data {k} of "),
+        Owner::Extension(_, k) => format!(in alloc; "extension {k} of "),
+        Owner::Lost => String::from_str(alloc, "lost"),
+        Owner::Free => String::from_str(alloc, "free"),
+    }
+}
+
+/// Appends a path, with escapes for control characters.
+fn push_path(text: &mut Vec<u8>, path: &Option<String>) -> Result<(), AllocError>
+    ensures { OnOk result (text.new.items ≡ text.old.items ++ path_text (option_map string_bytes path.now)) }
+{
+    match path {
+        Some(path) => push_plain(text, path.as_str()),
+        None => Ok(()),
+    }
+}
+
+/// The slash behind the path of a directory.
+fn slash(owner: Owner) -> &'static str
+    ensures { result.now ≡ slash owner }
+{
+    match owner {
+        Owner::Directory => "/",
+        _ => "",
+    }
+}
+
+/// Appends the bytes in a data block.
+fn push_span(alloc: Global, text: &mut Vec<u8>, span: Option<Span>) -> Result<(), AllocError>
+    ensures { OnOk result (text.new.items ≡ text.old.items ++ span_text span) }
+{
+    let Some(span) = span else {
+        return Ok(());
+    };
+    let bytes = format!(in alloc; ", bytes {} to {}", span.first, span.last)?;
+    text.extend_from_slice(bytes.as_bytes())
+}

@@ -1,0 +1,113 @@
+//! The JSON objects of blocks with their owners.
+ghost use Rattle.std.specs.Prelude.{◌≡◌, ◌++◌, ◌∷◌, [], OnOk, codes, option_map};
+ghost use Rattle.std.specs.String.{string_bytes};
+ghost use Rattle.json.specs.Token.{key};
+ghost use Rattle.adf_record.specs.Members.{string_token};
+ghost use Rattle.adf_where.specs.Where.{owner_tokens, owner_word, place_tokens, position_of, seen};
+
+use crate::forms::Put;
+use crate::owned::{OwnedBlock, Span};
+use crate::places::{cylinder_of, head_of, sector_of};
+use adf_record::{put_number, put_text};
+use ados_volume::Owner;
+use json::Writer;
+use std::alloc::AllocError;
+
+impl Put for OwnedBlock {
+    ghost use Rattle.adf_where.specs.Where.{seen, told_tokens};
+
+    ghost tokens_of = { λ blocks owned. told_tokens blocks (seen owned) };
+
+    /// Writes the object of a block.
+    fn put(&self, writer: &mut Writer, blocks: u32) -> Result<(), AllocError> {
+        writer.begin_object()?;
+        put_place(writer, blocks, self.block)?;
+        put_owner(writer, self)?;
+        writer.end_object()
+    }
+}
+
+/// Writes the number of a block and its place on the disk.
+pub(crate) fn put_place(writer: &mut Writer, blocks: u32, block: u32) -> Result<(), AllocError>
+    ensures before { writer.new.before ≡ writer.old.before }
+    ensures tokens { OnOk result (writer.new.tokens ≡ writer.old.tokens ++ place_tokens blocks block) }
+{
+    put_number(writer, "block", Some(u64::from(block)))?;
+    put_number(
+        writer,
+        "cylinder",
+        Some(u64::from(cylinder_of(blocks, block))),
+    )?;
+    put_number(writer, "head", Some(u64::from(head_of(blocks, block))))?;
+    put_number(writer, "sector", Some(u64::from(sector_of(blocks, block))))
+}
+
+/// Writes what a block is.
+fn put_owner(writer: &mut Writer, owned: &OwnedBlock) -> Result<(), AllocError>
+    ensures before { writer.new.before ≡ writer.old.before }
+    ensures tokens { OnOk result (writer.new.tokens ≡ writer.old.tokens ++ owner_tokens (seen owned.now)) }
+{
+    put_text(writer, "owner", Some(owner_word(owned.owner)))?;
+    put_path(writer, &owned.path)?;
+    put_number(writer, "number", position_of(owned.owner))?;
+    put_number(writer, "first", first_of(owned.span))?;
+    put_number(writer, "last", last_of(owned.span))
+}
+
+/// Writes a path, or null.
+fn put_path(writer: &mut Writer, path: &Option<String>) -> Result<(), AllocError>
+    ensures before { writer.new.before ≡ writer.old.before }
+    ensures tokens { OnOk result (writer.new.tokens ≡ writer.old.tokens ++ key (codes "path") ∷ string_token (option_map string_bytes path.now) ∷ []) }
+{
+    match path {
+        Some(path) => put_text(writer, "path", Some(path.as_str())),
+        None => put_text(writer, "path", None),
+    }
+}
+
+/// What a block is, as one word.
+fn owner_word(owner: Owner) -> &'static str
+    ensures { result.now ≡ owner_word owner }
+{
+    match owner {
+        Owner::Boot => "boot",
+        Owner::Root => "root",
+        Owner::Page(_) => "bitmap",
+        Owner::Directory => "directory",
+        Owner::File => "file",
+        Owner::Data(_, _) => "data",
+        Owner::Extension(_, _) => "extension",
+        Owner::Lost => "lost",
+        Owner::Free => "free",
+    }
+}
+
+/// The position of a block among those of its kind, from 0.
+fn position_of(owner: Owner) -> Option<u64>
+    ensures { result ≡ position_of owner }
+{
+    match owner {
+        Owner::Page(k) | Owner::Data(_, k) | Owner::Extension(_, k) => Some(u64::from(k)),
+        _ => None,
+    }
+}
+
+/// The first byte in a data block.
+fn first_of(span: Option<Span>) -> Option<u64>
+    ensures { result ≡ option_map (λ bytes. bytes.first) span }
+{
+    match span {
+        Some(span) => Some(span.first),
+        None => None,
+    }
+}
+
+/// The last byte in a data block.
+fn last_of(span: Option<Span>) -> Option<u64>
+    ensures { result ≡ option_map (λ bytes. bytes.last) span }
+{
+    match span {
+        Some(span) => Some(span.last),
+        None => None,
+    }
+}

@@ -1,0 +1,12 @@
+use Rattle.std.proofs.Common.{ℕ, List, slice_index, sym, ap, ◌∙◌, arith}
+use Rattle.adf_block.specs.Image.{byte_at}
+use Rattle.adf_block.proofs.Blocks.{byte-bytes_at}
+use Rattle.ados_check.specs.Kept.{seen}
+use Rattle.ados_check.specs.Source.{SourceView}
+use Rattle.ados_check.proofs.source.Source.kind_byte.Goals as goal
+
+pub returns-in-Sketch : goal.returns-in-Sketch
+returns-in-Sketch c =
+    ap (λ (bytes : List ℕ). slice_index bytes 3) c.boot.ensures
+    ∙ byte-bytes_at c.in-Sketch.sketch.now 0 0 4 3 (omega arith)
+    ∙ ap (λ (s : SourceView). byte_at s.bytes 0 3) (ap seen (sym c.in-Sketch.is) ∙ c.self.view_is)
