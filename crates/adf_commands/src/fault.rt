@@ -8,13 +8,13 @@ use crate::refusal::{Detail, DosRefusal, Refusal, Room};
 use adf_archive::ArchiveFault;
 use adf_export::{BundleOutFault, OutFault, PrintFault, UndeleteFault};
 use adf_host::{HoldFault, ReadReason, ReplaceFault, why_unreadable};
-use adf_import::{BundleInFault, InFault};
+use adf_import::InFault;
 use adf_io::InputFault;
 use adf_record::Grouped;
 use adf_words::Refused;
 use ados_mend::NotValidated;
 use ados_model::DosError;
-use ados_run::{RunFault, ScriptsFault};
+use ados_run::ScriptsFault;
 use ados_volume::VolumeFault;
 use host_trees::WriteFault;
 use std::alloc::{AllocError, Global};
@@ -67,10 +67,8 @@ pub enum CommandFault<'a> {
     Added(InFault),
     #[error("{0}")]
     BundleOut(BundleOutFault),
-    #[error("{0}")]
-    BundleIn(BundleInFault),
     #[error("'{0}' is not written: {1}")]
-    OtherVolume(&'a str, BundleInFault),
+    OtherVolume(&'a str, InFault),
     #[error("a thread cannot be made")]
     Thread,
     #[error("a client ran out of tries")]
@@ -100,9 +98,8 @@ impl Drop for CommandFault<'_> {
             CommandFault::Dos(_refusal) => {}
             CommandFault::Undelete(_fault) => {}
             CommandFault::Extracted(_fault) => {}
-            CommandFault::Added(_fault) => {}
+            CommandFault::Added(_fault) | CommandFault::OtherVolume(_, _fault) => {}
             CommandFault::BundleOut(_fault) => {}
-            CommandFault::BundleIn(_fault) | CommandFault::OtherVolume(_, _fault) => {}
             CommandFault::Read(_, _)
             | CommandFault::Endless(_)
             | CommandFault::Write(_, _)
@@ -137,15 +134,10 @@ impl<'a> CommandFault<'a> {
     }
 
     /// The fault of a bundle that does not become the volume of an image file.
-    pub(crate) fn of_bundle(fault: BundleInFault, file: &'a str) -> CommandFault<'a> {
+    pub(crate) fn of_bundle(fault: InFault, file: &'a str) -> CommandFault<'a> {
         match fault {
-            BundleInFault::Put(fault) => CommandFault::from(fault),
-            BundleInFault::Memory => CommandFault::Memory,
-            BundleInFault::NotEmpty => CommandFault::OtherVolume(file, BundleInFault::NotEmpty),
-            BundleInFault::OtherVolume { kind, blocks } => {
-                CommandFault::OtherVolume(file, BundleInFault::OtherVolume { kind, blocks })
-            }
-            other => CommandFault::BundleIn(other),
+            InFault::NotEmpty | InFault::OtherVolume { .. } => CommandFault::OtherVolume(file, fault),
+            other => CommandFault::from(other),
         }
     }
 
@@ -325,19 +317,6 @@ impl From<VolumeFault> for CommandFault<'_> {
         match Refusal::of_volume(fault) {
             Some(refusal) => CommandFault::Refused(refusal),
             None => CommandFault::Memory,
-        }
-    }
-}
-
-impl From<RunFault> for CommandFault<'_> {
-    ghost use Rattle.adf_commands.specs.Faults.{IsToldRun};
-
-    ghost from_gives = { λ fault told. IsToldRun fault told };
-
-    fn from(fault: RunFault) -> Self {
-        match fault {
-            RunFault::Rejected(rejected) => CommandFault::from(rejected.fault),
-            RunFault::NoMemory(_) => CommandFault::Memory,
         }
     }
 }

@@ -1,7 +1,6 @@
 //! The commands on image files: their effects on files and volumes, their output, and their faults.
 #![tactic(auto)]
 
-mod archive;
 mod blank;
 mod blocks;
 mod boot;
@@ -10,7 +9,6 @@ mod changing;
 mod deleted;
 mod explaining;
 mod fault;
-mod faulty_line;
 mod images;
 mod info;
 mod jobs;
@@ -21,13 +19,11 @@ mod query;
 mod refusal;
 mod rescue;
 mod screen;
-mod script_lines;
 mod serving;
 mod validate;
 
 pub use adf_import::StandardInput;
 pub use fault::CommandFault;
-pub use faulty_line::{last_number, tell_faulty_line};
 pub use info::FIRST_MOMENT;
 pub use jobs::run_job;
 pub use output::status_of;

@@ -43,12 +43,6 @@ module _ (t : Tree) (proper : Proper t) (top : ℕ) (force : Bool) (keys : List 
         | inr c ↦ true≢false (sym told ∙ none_passes keys (denies t force) each d.1.0 c)
       ]
 
--- an entry that denies the deletion shows that it is denied
-pub shown_denied : (image : List ℕ) (key : ℕ) (force : Bool) (found : Option ℕ) → IsDeniedEntry image key force found → is_some found ≡ true
-    → (t : Tree) → Stands image t → IsDenied t key force
-shown_denied image key force None denied some t s = absurd (false≢true some)
-shown_denied image key force (Some entry) denied some t s = let d = denied.1 t s in (d.unforced, (entry, d.under, d.denied))
-
 pub shown_allowed : (image : List ℕ) (key : ℕ) (force : Bool) (found : Option ℕ) → IsDeniedEntry image key force found → is_some found ≡ false
     → (t : Tree) → Stands image t → ¬ IsDenied t key force
 shown_allowed image key force None denied none t s = denied t s

@@ -1,5 +1,5 @@
 -- A file that is overwritten and then cut has exactly the new bytes.
-use Rattle.std.proofs.Common.{◌≡◌, ◌≢◌, ℕ, ◌+◌, ◌<◌, ◌≤◌, inl, inr, Bool, true, false, nat_lt, if◌then◌else◌, List, [], ◌∷◌, length, take, drop, Option, Some, None, IsSome, is_some, option_map, refl, sym, ap, ◌∙◌, subst, arith, ltb-false, le-ltb, lt-ltb}
+use Rattle.std.proofs.Common.{◌≡◌, ◌≢◌, ℕ, ◌+◌, ◌<◌, ◌≤◌, inl, inr, Bool, true, false, nat_lt, if◌then◌else◌, List, [], ◌∷◌, length, take, drop, Some, IsSome, is_some, option_map, refl, sym, ap, ◌∙◌, subst, arith, ltb-false, le-ltb, lt-ltb}
 use Rattle.std.proofs.lemmas.Bool.{cases_eq}
 use Rattle.std.proofs.lemmas.List.{take_all}
 use Rattle.std.proofs.Math.Seq.{take-append_seam}
@@ -165,14 +165,6 @@ filled_is t moment key file old is =
     described_same t (cut_back moment key (length file.bytes.now) (written moment key 0 file.bytes.now t)) (rewritten moment key file.bytes.now t) moment key file file.bytes.now
     (holds_put t moment key old file.bytes.now is)
     (holds_more t t key old (holds_its_own t key old is) moment file.bytes.now)
-
--- an entry stays an entry after a change of its node
-pub entry_changed : (t : Tree) (key : ℕ) (f : Node → Node) → IsEntry key t → IsEntry key (changed key f t)
-entry_changed t key f is = (ap is_some (nodes_here key (option_map f (t.nodes key)) t) ∙ go (t.nodes key) is.0, is.1)
-  where
-    go : (o : Option Node) → IsSome o → IsSome (option_map f o)
-    go (Some node) there = refl
-    go None there = there
 
 -- a fact about the tree of a changed image
 pub after_change : (P : Tree → Type 0) (change : Tree → Tree) (old new : List ℕ) (t : Tree) → Stands old t → ((v : Tree) → Stands old v → Stands new (change v)) → P (change t) → (u : Tree) → Stands new u → P u

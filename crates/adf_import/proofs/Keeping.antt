@@ -9,12 +9,12 @@ use Rattle.ados_model.specs.Tree.Content.{Directory, File}
 use Rattle.ados_model.specs.Keys.{HasTree}
 use Rattle.ados_model.specs.Stands.{Stands}
 use Rattle.ados_model.specs.Change.{changed, enter, made, rewritten, stamped, with_node}
-use Rattle.ados_model.specs.Edits.{new_node, with_comment, with_date, with_protection}
+use Rattle.ados_model.specs.Edits.{new_node, with_comment, with_protection}
 use Rattle.ados_model.proofs.Nodes.{content_in}
 use Rattle.ados_change.specs.Conditions.{IsDirectoryKey}
 use Rattle.ados_change.proofs.Changed.{nodes_here, nodes_other, relisted}
 use Rattle.adf_import.specs.declared.new_file.NewFile.{NewFile}
-use Rattle.adf_import.specs.Changes.{filled}
+use Rattle.adf_import.specs.Changes.{described, filled}
 use Rattle.adf_import.proofs.Filling.{IsEntry, after_change}
 use Rattle.adf_import.specs.Put.{KeepsKeys}
 
@@ -71,36 +71,23 @@ keeps_stamped t u moment h = record { blocks = h.blocks; node = h.node; director
 
 -- ---- the metadata of an entry
 
-module _ (t : Tree) (moment : Date3) (key : ℕ) where
-  pub keeps_protection : (bits : ℕ) → Keeps t (with_protection moment key bits t)
-  keeps_protection bits =
-      keeps_stamped t (changed key (λ node. record node { protection = bits }) t) moment (keeps_changed t key (λ node. record node { protection = bits }) (λ node at keys is. (keys, is)))
+keeps_edited : (t : Tree) (moment : Date3) (key : ℕ) (f : Node → Node) → ((node : Node) → (f node).content ≡ node.content) → Keeps t (stamped moment (changed key f t))
+keeps_edited t moment key f same = keeps_stamped t (changed key f t) moment (keeps_changed t key f (λ node at keys is. (keys, same node ∙ is)))
 
-  keeps_comment : (comment : List ℕ) → Keeps t (with_comment moment key comment t)
-  keeps_comment comment =
-      keeps_stamped t (changed key (λ node. record node { comment = comment }) t) moment (keeps_changed t key (λ node. record node { comment = comment }) (λ node at keys is. (keys, is)))
-
-  keeps_date : (date : Date3) → Keeps t (with_date moment key date t)
-  keeps_date date =
-      keeps_stamped t (changed key (λ node. record node { date = date }) t) moment (keeps_changed t key (λ node. record node { date = date }) (λ node at keys is. (keys, is)))
-
-pub keeps_noted : (t : Tree) (moment : Date3) (key bits : ℕ) (comment : List ℕ) → Keeps t (with_comment moment key comment (with_protection moment key bits t))
-keeps_noted t moment key bits comment =
-    let first = with_protection moment key bits t in
-    keeps_more t first (with_comment moment key comment first) (keeps_protection t moment key bits) (keeps_comment first moment key comment)
-
-pub keeps_told : (t : Tree) (moment : Date3) (key bits : ℕ) (comment : List ℕ) (date : Date3)
-    → Keeps t (with_date moment key date (with_comment moment key comment (with_protection moment key bits t)))
-keeps_told t moment key bits comment date =
-    let second = with_comment moment key comment (with_protection moment key bits t) in
-    keeps_more t second (with_date moment key date second) (keeps_noted t moment key bits comment) (keeps_date second moment key date)
+pub keeps_described : (t : Tree) (moment : Date3) (key : ℕ) (file : NewFile) → Keeps t (described moment key file t)
+keeps_described t moment key file =
+    let bits = with_protection moment key file.protection.0 t in
+    let text = with_comment moment key file.comment bits in
+    keeps_more t bits (described moment key file t) (keeps_edited t moment key (λ (node : Node). record node { protection = file.protection.0 }) (λ node. refl))
+    (keeps_more bits text (described moment key file t) (keeps_edited bits moment key (λ (node : Node). record node { comment = file.comment }) (λ node. refl))
+    (keeps_edited text moment key (λ (node : Node). record node { date = file.date }) (λ node. refl)))
 
 -- ---- files that are filled
 
 pub keeps_filled : (t : Tree) (moment : Date3) (key : ℕ) (file : NewFile) (old : List ℕ) → content_at t key ≡ Some (File old) → Keeps t (filled moment key file t)
 keeps_filled t moment key file old is =
     let wrote = rewritten moment key file.bytes.now t in
-    keeps_more t wrote (filled moment key file t) (keeps_rewritten file.bytes.now) (keeps_told wrote moment key file.protection.0 file.comment file.date)
+    keeps_more t wrote (filled moment key file t) (keeps_rewritten file.bytes.now) (keeps_described wrote moment key file)
   where
     no_directory : (node : Node) → t.nodes key ≡ Some node → (keys : List ℕ) → node.content ≡ Directory keys → ⊥
     no_directory node at keys holds =
@@ -163,6 +150,11 @@ keeps_keys old new change has stands keeps =
           let was = is has.0 has.1 in
           after_change (IsEntry key) change old new has.0 has.1 stands (kept.node key was.0, λ e. was.1 (e ∙ ap root_key kept.blocks)) u r;
     }
+
+-- an edit of the metadata of a node
+pub keys_edited : (old new : List ℕ) (moment : Date3) (key : ℕ) (f : Node → Node) → HasTree old → ((t : Tree) → Stands old t → Stands new (stamped moment (changed key f t)))
+    → ((node : Node) → (f node).content ≡ node.content) → KeepsKeys old new
+keys_edited old new moment key f has stands same = keeps_keys old new (λ t. stamped moment (changed key f t)) has stands (λ t s. keeps_edited t moment key f same)
 
 pub keeps_same : (image : List ℕ) → KeepsKeys image image
 keeps_same image = record { directory = λ key is. is; entry = λ key is. is }

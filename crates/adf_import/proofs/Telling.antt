@@ -10,7 +10,7 @@ use Rattle.adf_import.specs.Commands.{EndsMove, EndsProtect, EndsWithoutBits, Is
 use Rattle.adf_import.specs.Turns.{EndsAt, ReadsFirst}
 use Rattle.adf_import.specs.Words.{IsBitsFault}
 use Rattle.adf_import.specs.declared.fault.InFault.{InFault}
-use Rattle.adf_import.specs.declared.fault.InFault.TheVariants.{Bits, Host, HostName, Letter, Memory, NoRoom, Note, Read, Refused, Source, Twins}
+use Rattle.adf_import.specs.declared.fault.InFault.TheVariants.{Bits, Memory}
 use Rattle.adf_import.specs.declared.paths.MoveFault.{MoveFault}
 use Rattle.adf_import.specs.declared.paths.MoveFault.TheVariants.{New, Old}
 use Rattle.adf_import.proofs.Turning.{told_apart, was_read}
@@ -43,15 +43,7 @@ nothing_said (Some x) = tt
 
 -- an argument without protection bits
 pub no_bits : (moment : Date3) (path bits : List ℕ) (volume : Shown) (fault : InFault) → IsBitsFault bits fault → ReadsFirst (path ∷ bits ∷ []) (EndsProtect moment path bits) volume volume (Err fault)
-no_bits moment path bits volume (Refused told) is = absurd is
-no_bits moment path bits volume (NoRoom room needed free) is = absurd is
-no_bits moment path bits volume (Letter text) is = absurd is
 no_bits moment path bits volume (Bits text) is =
     subst (λ (o : Option (Form × List ℕ)). MatchOption o (EndsWithoutBits bits volume volume (Err (Bits text))) (λ w. EndsAt (Protects moment (chars path) w) path volume volume (Err (Bits text)))) (sym is.1) (refl, is.0)
-no_bits moment path bits volume (Host fault) is = absurd is
-no_bits moment path bits volume (Read file reason) is = absurd is
-no_bits moment path bits volume (HostName file name why) is = absurd is
-no_bits moment path bits volume (Twins file other) is = absurd is
-no_bits moment path bits volume (Note file fault) is = absurd is
-no_bits moment path bits volume (Source why) is = absurd is
 no_bits moment path bits volume Memory is = nothing_said (protect_word (chars bits))
+no_bits moment path bits volume fault is = absurd is

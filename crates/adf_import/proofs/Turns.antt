@@ -8,10 +8,6 @@ use Rattle.ados_volume.specs.Shown.{Shown}
 use Rattle.adf_import.specs.InTurn.{KeepsInTurn, KeepsOutside}
 use Rattle.adf_import.specs.InTurn.KeepsInTurn.{none, one_more}
 
--- an unchanged volume
-pub kept_as_it_was : (old new : Shown) → new ≡ old → KeepsRest old.image new.image
-kept_as_it_was old new same = subst (λ (v : Shown). KeepsRest old.image v.image) (sym same) (same_keeps old.image)
-
 -- a change of an unchanged volume
 pub kept_looked : (old looked new : Shown) → looked ≡ old → KeepsRest looked.image new.image → KeepsRest old.image new.image
 kept_looked old looked new same keeps = subst (λ (v : Shown). KeepsRest v.image new.image) same keeps

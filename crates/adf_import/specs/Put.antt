@@ -6,9 +6,7 @@ use Rattle.ados_model.specs.declared.dos_error.DosError.TheVariants.{ObjectExist
 use Rattle.ados_model.specs.Tree.{Tree, free}
 use Rattle.ados_model.specs.Tree.Content.{Directory}
 use Rattle.ados_model.specs.Change.{made, child_of, is_file}
-use Rattle.ados_model.specs.Edits.{with_comment, with_date, with_protection}
 use Rattle.ados_model.specs.Keys.{HasDirectory, HasEntryKey}
-use Rattle.adf_text.specs.declared.uaem.Uaem.{Uaem}
 use Rattle.adf_import.specs.declared.new_file.NewFile.{NewFile}
 use Rattle.adf_import.specs.declared.new_file.NotPut.{NotPut}
 use Rattle.adf_import.specs.declared.new_file.NotPut.TheVariants.{Refused}
@@ -42,10 +40,6 @@ entered moment dir name key t = option_map_or (λ there. t) (child_of t dir name
 -- the child with this name: none if the directory is new, else that directory
 abbrev pub child_before : Entered → Option ℕ
 child_before e = if e.is_new then None else Some e.key
-
--- a directory gets the metadata of a note
-abbrev pub noted : Date3 → ℕ → Uaem → Tree → Tree
-noted moment key note t = with_date moment key note.date (with_comment moment key note.comment (with_protection moment key note.protect.0 t))
 
 -- the directories and entries of the old image are directories and entries of the new one
 pub record KeepsKeys (old new : List ℕ) : Type 0 where

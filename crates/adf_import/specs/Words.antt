@@ -3,15 +3,10 @@ use Rattle.std.specs.Prelude.{◌≡◌, ℕ, List, All, Contains, None, ⊤}
 use Rattle.std.specs.Str.{chars}
 use Rattle.std.specs.String.{string_bytes}
 use Rattle.ados_model.specs.declared.dos_error.DosError.{DosError}
-use Rattle.adf_text.specs.Letters.{IsByte, letters}
+use Rattle.adf_text.specs.Letters.{IsByte}
 use Rattle.adf_text.specs.ProtectWords.{protect_word}
 use Rattle.adf_import.specs.declared.fault.InFault.{InFault}
 use Rattle.adf_import.specs.declared.fault.InFault.TheVariants.{Bits, Letter, Memory, Refused}
-use Rattle.adf_import.specs.declared.words.Word.{Word}
-
--- the bytes are those of the argument's letters
-abbrev pub IsSpelled : Word → Type 0
-IsSpelled word = letters word.bytes.items ≡ word.text.now
 
 -- a text with a letter past U+00FF
 abbrev pub IsForeign : List ℕ → Type 0

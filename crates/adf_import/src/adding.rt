@@ -2,21 +2,18 @@
 
 ghost use Rattle.std.specs.Prelude.{OnOk};
 ghost use Rattle.ados_model.specs.Keys.{HasDirectory};
-ghost use Rattle.adf_import.specs.Progress.{Advances, IsReady};
 ghost use Rattle.adf_import.specs.Put.{KeepsKeys};
 
 use crate::fault::{InFault, refused};
-use crate::host_files::{entry_name, noted_of, read_host};
-use crate::item::{Content, How, Item, put_bytes, put_directory};
+use crate::host_files::{entry_name, read_entry};
+use crate::item::{How, Item, put_item};
 use crate::paths::directory_at;
 use crate::progress::Progress;
 use crate::words::Word;
 use adf_block::layout::BLOCK_BYTES;
-use ados_data::blocks_of;
 use ados_model::DosError;
-use ados_name::Name;
 use ados_volume::Volume;
-use host_trees::{HostEntry, HostKind, PassedOver, host_tree};
+use host_trees::{HostEntry, PassedOver, host_tree};
 use std::alloc::Global;
 use std::rt::Files;
 
@@ -72,8 +69,15 @@ fn put_entries<R: Files>(
         if let Some(place) = progress.place_of(volume.child(dir, &name)) {
             return Err(twins(alloc, entry, entries.get(place)));
         }
-        let placed = Placed { entry, dir, name };
-        put_entry(rt, alloc, volume, placed, how, &mut progress)?;
+        let given = read_entry(rt, alloc, entry, most_bytes(volume))?;
+        let item = Item {
+            path: entry.path.as_str(),
+            dir,
+            name,
+            noted: given.noted,
+        };
+        let content = given.content(volume);
+        put_item(alloc, volume, &item, content, how, &mut progress)?;
     }
     progress.note_directories(volume, how.moment);
     Ok(())
@@ -91,54 +95,7 @@ fn twins(alloc: Global, entry: &HostEntry, other: Option<&HostEntry>) -> InFault
     }
 }
 
-/// A file or directory of the host, its directory on the volume, and its name there.
-#[derive(Clone, Copy)]
-struct Placed<'a> {
-    entry: &'a HostEntry,
-    dir: u32,
-    name: Name,
-}
-
-/// Puts one file or directory.
-///
-/// Errors, with its path: those of putting it.
-fn put_entry<R: Files>(
-    rt: &R,
-    alloc: Global,
-    volume: &mut Volume,
-    placed: Placed<'_>,
-    how: How,
-    progress: &mut Progress,
-) -> Result<(), InFault>
-    requires { IsReady volume.old.image placed.dir progress.old }
-    ensures { OnOk result (Advances volume.old.image volume.new.image progress.new) }
-{
-    let Placed { entry, dir, name } = placed;
-    let item = Item {
-        path: entry.path.as_str(),
-        dir,
-        name,
-        noted: noted_of(rt, alloc, entry)?,
-    };
-    let HostKind::File { length } = entry.kind else {
-        put_directory(alloc, volume, &item, how, progress)?;
-        return Ok(());
-    };
-    let bytes = read_host(rt, alloc, item.path, most_bytes(volume))?;
-    let content = Content {
-        bytes: bytes.as_slice(),
-        more: unread_blocks(volume, &bytes, length),
-    };
-    put_bytes(alloc, volume, &item, content, how, progress)
-}
-
 /// The most bytes read of a file: one more than the volume has, which is too many.
 pub(crate) fn most_bytes(volume: &Volume) -> usize {
     volume.image().blocks() as usize * BLOCK_BYTES as usize + 1
-}
-
-/// The number of blocks that a file of this length needs in addition to those for the bytes read.
-pub(crate) fn unread_blocks(volume: &Volume, bytes: &[u8], length: u64) -> u64 {
-    let format = volume.image().format();
-    blocks_of(format, length).saturating_sub(blocks_of(format, bytes.len() as u64))
 }

@@ -1,14 +1,12 @@
 //! The volume of a bundle.
-ghost use Rattle.std.specs.Prelude.{IfOk, IsTrue, OnOk, map};
+ghost use Rattle.std.specs.Prelude.{IfOk, IsTrue, map};
 ghost use Rattle.ados_model.specs.Stands.{Stands};
 ghost use Rattle.ados_model.specs.Tree.{Tree};
 ghost use Rattle.adf_record.specs.Bundle.{AreBundleOf, AreContentsOf};
-ghost use Rattle.adf_import.specs.Progress.{Advances, IsReady};
 
-use crate::bundle_fault::BundleInFault;
 use crate::bundle_files::host_path;
 use crate::fault::{InFault, refused};
-use crate::item::{Content, How, Item, put_bytes, put_directory};
+use crate::item::{Content, How, Item, put_item};
 use crate::paths::directory_at;
 use crate::progress::Progress;
 use adf_block::layout::{CHECKSUM, DATE};
@@ -31,17 +29,17 @@ pub fn volume_of_bundle(
     bundle: &Bundle,
     contents: &[Vec<u8>],
     directory: &str,
-) -> Result<Volume, BundleInFault>
+) -> Result<Volume, InFault>
     ensures bundle { IfOk result (λ volume. (t : Tree) → Stands volume.image t → AreBundleOf volume.image t bundle.now) }
     ensures contents { IfOk result (λ volume. (t : Tree) → Stands volume.image t → AreContentsOf t (map (λ bytes. bytes.items) contents.now)) }
 {
     let image = image_of(alloc, bundle, contents, directory)?;
     let Ok(volume) = check(alloc, image) else {
-        return Err(BundleInFault::Memory);
+        return Err(InFault::Memory);
     };
     let made = is_made(alloc, &volume, bundle, contents)?;
     if !made {
-        return Err(BundleInFault::Unlike);
+        return Err(InFault::Unlike);
     }
     Ok(volume)
 }
@@ -71,10 +69,10 @@ fn image_of(
     bundle: &Bundle,
     contents: &[Vec<u8>],
     directory: &str,
-) -> Result<Image, BundleInFault> {
+) -> Result<Image, InFault> {
     let head = bundle.head;
     if !size_ok(head.blocks) {
-        return Err(BundleInFault::Unlike);
+        return Err(InFault::Unlike);
     }
     let mut volume = blank(alloc, head.format, head.blocks, head.label, head.created)?;
     put_entries(alloc, &mut volume, bundle, contents, directory)?;
@@ -82,7 +80,7 @@ fn image_of(
     let mut image = volume.into_image();
     date_root(&mut image, head.root_date);
     if restore_boot(&mut image, &bundle.boot).is_err() {
-        return Err(BundleInFault::Unlike);
+        return Err(InFault::Unlike);
     }
     Ok(image)
 }
@@ -97,17 +95,22 @@ fn date_root(image: &mut Image, date: Date3) {
 
 /// Puts all entries of a bundle into a volume. Metadata of directories is set last, because each entry put into a
 /// directory sets its date.
+///
+/// Error: 203 if two entries have one name.
 fn put_entries(
     alloc: Global,
     volume: &mut Volume,
     bundle: &Bundle,
     contents: &[Vec<u8>],
     directory: &str,
-) -> Result<(), BundleInFault> {
+) -> Result<(), InFault> {
     let Ok(top) = directory_at(volume, b"") else {
-        return Err(BundleInFault::Unlike);
+        return Err(InFault::Unlike);
     };
-    let moment = bundle.head.changed;
+    let how = How {
+        force: false,
+        moment: bundle.head.changed,
+    };
     let mut progress = Progress::new(alloc, bundle.head.blocks)?;
     for (place, entry) in bundle.entries.iter().enumerate() {
         let path = host_path(alloc, directory, &bundle.entries, entry)?;
@@ -117,45 +120,19 @@ fn put_entries(
             name: entry.name,
             noted: noted_of(entry),
         };
-        let bytes = match entry.size {
-            Some(_) => contents.get(place),
-            None => None,
+        let content = match (entry.size, contents.get(place)) {
+            (Some(_), Some(bytes)) => Some(Content {
+                bytes: bytes.as_slice(),
+                more: 0,
+            }),
+            _ => None,
         };
-        put_entry(alloc, volume, &item, bytes, moment, &mut progress)?;
+        if !put_item(alloc, volume, &item, content, how, &mut progress)? {
+            return Err(refused(alloc, item.path, DosError::ObjectExists));
+        }
     }
-    progress.note_directories(volume, moment);
+    progress.note_directories(volume, how.moment);
     Ok(())
-}
-
-/// Puts a file with these bytes, or makes a directory, which has none.
-///
-/// Error: 203 if an entry has the name.
-fn put_entry(
-    alloc: Global,
-    volume: &mut Volume,
-    item: &Item<'_>,
-    bytes: Option<&Vec<u8>>,
-    moment: Date3,
-    progress: &mut Progress,
-) -> Result<(), InFault>
-    requires { IsReady volume.old.image item.now.dir progress.old }
-    ensures { OnOk result (Advances volume.old.image volume.new.image progress.new) }
-{
-    let how = How {
-        force: false,
-        moment,
-    };
-    if let Some(bytes) = bytes {
-        let content = Content {
-            bytes: bytes.as_slice(),
-            more: 0,
-        };
-        return put_bytes(alloc, volume, item, content, how, progress);
-    }
-    if put_directory(alloc, volume, item, how, progress)? {
-        return Ok(());
-    }
-    Err(refused(alloc, item.path, DosError::ObjectExists))
 }
 
 /// The metadata of an entry.

@@ -1,10 +1,9 @@
 //! Paths that are changed one after the other.
 
-ghost use Rattle.std.specs.Prelude.{◌∷◌, [], All, map};
+ghost use Rattle.std.specs.Prelude.{◌∷◌, [], map};
 ghost use Rattle.std.specs.Str.{chars};
 ghost use Rattle.adf_import.specs.Commands.{Does};
 ghost use Rattle.adf_import.specs.Turns.{EndsAt, EndsInTurn, ReadsFirst};
-ghost use Rattle.adf_import.specs.Words.{IsSpelled};
 
 use crate::fault::InFault;
 use crate::paths::{EntryChange, change_at, relabel_as};
@@ -47,7 +46,6 @@ fn change_words(
     each: Each<'_>,
     moment: Date3,
 ) -> Result<(), InFault>
-    requires { All IsSpelled words.now }
     ensures { EndsInTurn (Does moment each.entry) (map (λ word. word.text.now) words.now) volume.old volume.new result }
 {
     for word in words {
@@ -82,7 +80,6 @@ pub(crate) fn change_word(
     each: Each<'_>,
     moment: Date3,
 ) -> Result<(), InFault>
-    requires { IsSpelled word.now }
     ensures { EndsAt (Does moment each.entry (chars word.now.text.now)) word.now.text.now volume.old volume.new result }
 {
     match change_path(alloc, volume, word.bytes(), each, moment) {

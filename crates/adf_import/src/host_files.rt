@@ -1,12 +1,15 @@
 //! What is read of host files: their names, their bytes and their notes.
 
 use crate::fault::{InFault, NoteFault, refused};
+use crate::item::Content;
 use crate::name_why::NameWhy;
 use adf_io::{InputFault, read_bounded};
+use ados_data::blocks_of;
 use adf_text::{LettersFault, Uaem, UaemFault, host_name_bytes, read_uaem};
 use ados_model::DosError;
 use ados_name::{Comment, Date3, Name, Protect};
-use host_trees::{HostEntry, why_unreadable};
+use ados_volume::Volume;
+use host_trees::{HostEntry, HostKind, why_unreadable};
 use std::alloc::Global;
 use std::fs;
 use std::rt::Files;
@@ -42,11 +45,7 @@ const MOST_NOTED: usize = 4_096;
 
 /// The metadata of a file or directory of the host: from its note, or else its time stamp, no protection bits and no
 /// comment.
-pub(crate) fn noted_of<R: Files>(
-    rt: &R,
-    alloc: Global,
-    entry: &HostEntry,
-) -> Result<Uaem, InFault> {
+fn noted_of<R: Files>(rt: &R, alloc: Global, entry: &HostEntry) -> Result<Uaem, InFault> {
     let Some(note) = &entry.note else {
         return Ok(without_note(entry.date));
     };
@@ -62,6 +61,57 @@ pub(crate) fn noted_of<R: Files>(
             fault: NoteFault(fault),
         }),
     }
+}
+
+/// A file or directory of the host as it was read: its metadata, the first bytes of a file, and its length, which a directory
+/// has not.
+#[derive(Drop)]
+pub(crate) struct Given {
+    pub noted: Uaem,
+    pub bytes: Vec<u8>,
+    pub length: Option<u64>,
+}
+
+impl Given {
+    /// The content of a file. A directory has none.
+    pub fn content(&self, volume: &Volume) -> Option<Content<'_>> {
+        match self.length {
+            Some(_) => Some(Content {
+                bytes: self.bytes.as_slice(),
+                more: self.unread_blocks(volume),
+            }),
+            None => None,
+        }
+    }
+
+    /// The number of blocks that a file needs in addition to those for the bytes read.
+    pub fn unread_blocks(&self, volume: &Volume) -> u64 {
+        let format = volume.image().format();
+        let all = blocks_of(format, self.length.unwrap_or(0));
+        all.saturating_sub(blocks_of(format, self.bytes.len() as u64))
+    }
+}
+
+/// Reads a file or directory of the host with its metadata, and at most this many bytes of a file.
+pub(crate) fn read_entry<R: Files>(
+    rt: &R,
+    alloc: Global,
+    entry: &HostEntry,
+    most: usize,
+) -> Result<Given, InFault> {
+    let noted = noted_of(rt, alloc, entry)?;
+    let HostKind::File { length } = entry.kind else {
+        return Ok(Given {
+            noted,
+            bytes: Vec::new(alloc),
+            length: None,
+        });
+    };
+    Ok(Given {
+        noted,
+        bytes: read_host(rt, alloc, entry.path.as_str(), most)?,
+        length: Some(length),
+    })
 }
 
 /// The metadata of a file without a note: this date, no protection bits and no comment.

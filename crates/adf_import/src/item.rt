@@ -35,8 +35,34 @@ pub(crate) struct Content<'a> {
     pub more: u64,
 }
 
+/// Puts a file with this content, or makes a directory, which has none. Returns false for a directory that was there: it is
+/// used, and keeps its metadata.
+pub(crate) fn put_item(
+    alloc: Global,
+    volume: &mut Volume,
+    item: &Item<'_>,
+    content: Option<Content<'_>>,
+    how: How,
+    progress: &mut Progress,
+) -> Result<bool, InFault>
+    requires { IsReady volume.old.image item.now.dir progress.old }
+    ensures { OnOk result (Advances volume.old.image volume.new.image progress.new) }
+{
+    let Some(content) = content else {
+        return put_directory(alloc, volume, item, how, progress);
+    };
+    let file = noted_file(content.bytes, &item.noted);
+    match put_file(volume, item.dir, item.name, &file, how.force, how.moment) {
+        Ok(key) => {
+            progress.push(key, item.dir)?;
+            Ok(true)
+        }
+        Err(fault) => Err(not_put(alloc, item.path, fault, content.more)),
+    }
+}
+
 /// Makes a directory, or uses the existing one. Returns whether it is new.
-pub(crate) fn put_directory(
+fn put_directory(
     alloc: Global,
     volume: &mut Volume,
     item: &Item<'_>,
@@ -56,28 +82,6 @@ pub(crate) fn put_directory(
     }
     progress.push(entered.key, entered.key)?;
     Ok(false)
-}
-
-/// Puts a file.
-pub(crate) fn put_bytes(
-    alloc: Global,
-    volume: &mut Volume,
-    item: &Item<'_>,
-    content: Content<'_>,
-    how: How,
-    progress: &mut Progress,
-) -> Result<(), InFault>
-    requires { IsReady volume.old.image item.now.dir progress.old }
-    ensures { OnOk result (Advances volume.old.image volume.new.image progress.new) }
-{
-    let file = noted_file(content.bytes, &item.noted);
-    match put_file(volume, item.dir, item.name, &file, how.force, how.moment) {
-        Ok(key) => {
-            progress.push(key, item.dir)?;
-            Ok(())
-        }
-        Err(fault) => Err(not_put(alloc, item.path, fault, content.more)),
-    }
 }
 
 /// Why a file or directory was not put, with this path. `more` is the number of blocks for bytes that were not read.

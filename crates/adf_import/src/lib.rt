@@ -3,7 +3,6 @@
 #![tactic(auto)]
 
 mod adding;
-mod bundle_fault;
 mod bundle_files;
 mod bundle_in;
 mod bundle_put;
@@ -27,7 +26,6 @@ mod single;
 mod ways;
 mod words;
 
-pub use bundle_fault::BundleInFault;
 pub use bundle_in::add_bundle;
 pub use bundle_put::volume_of_bundle;
 pub use change::change_volume;

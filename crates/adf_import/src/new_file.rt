@@ -10,6 +10,7 @@ ghost use Rattle.ados_change.specs.NewBlocks.{KeepsRest};
 ghost use Rattle.ados_model.specs.Objects.{protection_of};
 ghost use Rattle.adf_import.specs.Changes.{Changes, added, described, filled};
 ghost use Rattle.adf_import.specs.InTurn.{KeepsInTurn};
+ghost use Rattle.adf_import.specs.Put.{KeepsKeys};
 ghost use Rattle.adf_import.specs.Refusals.{add_refusal, more_blocks, replace_refusal};
 ghost use Rattle.adf_import.specs.steps.CutBack.{cut_back};
 ghost use Rattle.adf_import.specs.declared.new_file.NotPut.TheVariants.{NoRoom};
@@ -154,10 +155,11 @@ fn cut_behind(volume: &mut Volume, key: u32, size: usize, moment: Date3)
     volume.cut(key, size as u32, moment);
 }
 
-/// Sets the metadata of a file.
-fn describe(volume: &mut Volume, key: u32, file: &NewFile<'_>, moment: Date3)
+/// Sets the metadata of a file or a directory.
+pub(crate) fn describe(volume: &mut Volume, key: u32, file: &NewFile<'_>, moment: Date3)
     requires { HasEntryKey volume.old.image key }
     ensures stands { (t : Tree) → Stands volume.old.image t → Stands volume.new.image (described moment key file.now t) }
+    ensures keys { KeepsKeys volume.old.image volume.new.image }
     ensures keeps { KeepsInTurn volume.old.image volume.new.image }
     ensures validated { volume.new.was_validated ≡ volume.old.was_validated }
 {

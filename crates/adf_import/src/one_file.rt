@@ -8,20 +8,19 @@ ghost use Rattle.ados_model.specs.Tree.{Tree};
 ghost use Rattle.adf_import.specs.Commands.{PutsAs, PutsIn};
 ghost use Rattle.adf_import.specs.Paths.{directory_at};
 
-use crate::adding::{most_bytes, unread_blocks};
+use crate::adding::most_bytes;
 use crate::fault::{InFault, SourceFault};
-use crate::host_files::{noted_of, read_host, without_note};
+use crate::host_files::{Given, read_entry, without_note};
 use crate::item::{How, not_put};
 use crate::paths::directory_at;
 use crate::put::{noted_file, put_file};
 use crate::words::Word;
 use adf_io::{InputFault, read_bounded};
-use adf_text::Uaem;
 use adf_words::Source;
 use ados_model::DosError;
 use ados_name::{Date3, Name};
 use ados_volume::Volume;
-use host_trees::{HostEntry, HostKind, host_tree};
+use host_trees::{HostKind, host_tree};
 use std::alloc::Global;
 use std::fs;
 use std::io::Read;
@@ -110,14 +109,6 @@ fn name_of(alloc: Global, text: &str) -> Result<Name, InFault>
     }
 }
 
-/// A file as it was read: its first bytes, how many it has, and its metadata.
-#[derive(Drop)]
-struct Given {
-    bytes: Vec<u8>,
-    length: u64,
-    noted: Uaem,
-}
-
 /// Puts a file at a place. A refusal has the name as it was given.
 fn put_given(
     alloc: Global,
@@ -134,7 +125,7 @@ fn put_given(
     match put_file(volume, place.dir, place.name, &file, how.force, how.moment) {
         Ok(_) => Ok(()),
         Err(fault) => {
-            let more = unread_blocks(volume, &given.bytes, given.length);
+            let more = given.unread_blocks(volume);
             Err(not_put(alloc, called, fault, more))
         }
     }
@@ -163,7 +154,7 @@ fn read_input<R: StandardInput>(
 ) -> Result<Given, InFault> {
     match rt.standard_input(alloc, most) {
         Ok(bytes) => Ok(Given {
-            length: bytes.len() as u64,
+            length: Some(bytes.len() as u64),
             bytes,
             noted: without_note(moment),
         }),
@@ -178,27 +169,13 @@ fn read_file<R: Files>(rt: &R, alloc: Global, path: &str, most: usize) -> Result
         return Err(not_one_file(alloc, path));
     }
     let tree = host_tree(rt, alloc, &[path])?;
-    match tree.entries.as_slice() {
-        [entry] => read_entry(rt, alloc, entry, most),
-        _ => Err(not_one_file(alloc, path)),
-    }
-}
-
-/// Reads a file of the host, with its metadata.
-fn read_entry<R: Files>(
-    rt: &R,
-    alloc: Global,
-    entry: &HostEntry,
-    most: usize,
-) -> Result<Given, InFault> {
-    let HostKind::File { length } = entry.kind else {
-        return Err(not_one_file(alloc, entry.path.as_str()));
+    let [entry] = tree.entries.as_slice() else {
+        return Err(not_one_file(alloc, path));
     };
-    Ok(Given {
-        noted: noted_of(rt, alloc, entry)?,
-        bytes: read_host(rt, alloc, entry.path.as_str(), most)?,
-        length,
-    })
+    match entry.kind {
+        HostKind::File { .. } => read_entry(rt, alloc, entry, most),
+        _ => Err(not_one_file(alloc, entry.path.as_str())),
+    }
 }
 
 /// The fault of a path to no regular file.

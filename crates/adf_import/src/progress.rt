@@ -5,7 +5,8 @@ ghost use Rattle.ados_model.specs.Keys.{HasEntryKey};
 ghost use Rattle.adf_import.specs.Progress.{IsProgress, IsReady};
 ghost use Rattle.adf_import.specs.Put.{KeepsKeys};
 
-use crate::put::note_directory;
+use crate::new_file::describe;
+use crate::put::noted_file;
 use adf_text::Uaem;
 use ados_name::Date3;
 use ados_volume::Volume;
@@ -94,7 +95,8 @@ impl Progress {
         ensures { KeepsKeys volume.old.image volume.new.image }
     {
         for made in self.made.iter() {
-            note_directory(volume, made.key, &made.noted, moment);
+            let note = noted_file(&[], &made.noted);
+            describe(volume, made.key, &note, moment);
         }
     }
 }

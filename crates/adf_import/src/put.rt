@@ -7,7 +7,7 @@ ghost use Rattle.ados_model.specs.Stands.{Stands};
 ghost use Rattle.ados_model.specs.Change.{made, child_of};
 ghost use Rattle.ados_model.specs.Keys.{HasDirectory, HasEntryKey};
 ghost use Rattle.adf_import.specs.Changes.{Changes};
-ghost use Rattle.adf_import.specs.Put.{KeepsKeys, child_before, enter_refusal, entered, new_refusal, noted, put, put_refusal};
+ghost use Rattle.adf_import.specs.Put.{KeepsKeys, child_before, enter_refusal, entered, new_refusal, put, put_refusal};
 
 use crate::entries::make_directory;
 use crate::new_file::{NewFile, NotPut, add_file, replace_file};
@@ -120,16 +120,4 @@ fn new_directory(
         }),
         Err(error) => Err(NotPut::Refused(error)),
     }
-}
-
-/// Sets the metadata of a directory after everything was put into it.
-pub(crate) fn note_directory(volume: &mut Volume, key: u32, note: &Uaem, moment: Date3)
-    requires { HasEntryKey volume.old.image key }
-    ensures noted { (t : Tree) → Stands volume.old.image t → Stands volume.new.image (noted moment key note.now t) }
-    ensures keeps { KeepsKeys volume.old.image volume.new.image }
-{
-    prove!(volume.image().blocks() >= 16);
-    volume.set_protect(key, note.protect, moment);
-    volume.set_comment(key, note.comment, moment);
-    volume.set_date(key, note.date, moment);
 }

@@ -1,10 +1,10 @@
 //! Arguments as bytes of an Amiga's text.
 
-ghost use Rattle.std.specs.Prelude.{◌≡◌, IfErr, IfOk, Some, All, map};
+ghost use Rattle.std.specs.Prelude.{◌≡◌, IfErr, IfOk, Some, map};
 ghost use Rattle.std.specs.Str.{chars};
 ghost use Rattle.adf_text.specs.Letters.{letters};
 ghost use Rattle.adf_text.specs.ProtectWords.{protect_word};
-ghost use Rattle.adf_import.specs.Words.{IsBitsFault, IsLetterFault, IsLetterFaultIn, IsRefusal, IsSpelled};
+ghost use Rattle.adf_import.specs.Words.{IsBitsFault, IsLetterFault, IsLetterFaultIn, IsRefusal};
 
 use crate::fault::{InFault, refused};
 use adf_text::{LettersFault, ProtectWord, letter_bytes, letters_come_back, protect_word};
@@ -16,13 +16,13 @@ use std::alloc::Global;
 pub(crate) struct Word<'a> {
     text: &'a str,
     bytes: Vec<u8>,
+    ghost spelled: { letters bytes.items ≡ text.now },
 }
 
 impl<'a> Word<'a> {
     /// An argument without a letter past U+00FF.
     pub fn new(alloc: Global, text: &'a str) -> Result<Word<'a>, InFault>
         ensures same { IfOk result (λ word. word.text.now ≡ text.now) }
-        ensures spelled { IfOk result IsSpelled }
         ensures fault { IfErr result (IsLetterFault text.now) }
     {
         match letter_bytes(alloc, text) {
@@ -36,7 +36,6 @@ impl<'a> Word<'a> {
 
     /// The bytes of its letters.
     pub fn bytes(&self) -> &[u8]
-        requires { IsSpelled self.now }
         ensures { result.now ≡ chars self.now.text.now }
     {
         are_bytes_of(self.bytes.as_slice(), self.text);
@@ -52,7 +51,6 @@ impl<'a> Word<'a> {
 
     /// The argument as a word for protection bits.
     pub fn protection(&self, alloc: Global) -> Result<ProtectWord<'_>, InFault>
-        requires { IsSpelled self.now }
         ensures word { IfOk result (λ word. protect_word (chars self.now.text.now) ≡ Some (word.form, word.letters.now)) }
         ensures fault { IfErr result (IsBitsFault self.now.text.now) }
     {
@@ -74,7 +72,6 @@ fn are_bytes_of(bytes: &[u8], text: &str)
 /// Arguments without a letter past U+00FF.
 pub(crate) fn words_of<'a>(alloc: Global, texts: &[&'a str]) -> Result<Vec<Word<'a>>, InFault>
     ensures texts { IfOk result (λ words. map (λ word. word.text.now) words.items ≡ map (λ text. text.now) texts.now) }
-    ensures spelled { IfOk result (λ words. All IsSpelled words.items) }
     ensures fault { IfErr result (IsLetterFaultIn (map (λ text. text.now) texts.now)) }
 {
     let mut words = Vec::new(alloc);

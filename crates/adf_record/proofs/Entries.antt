@@ -1,6 +1,7 @@
 -- The entries of a bundle, one after the other.
-use Rattle.std.proofs.Common.{◌≡◌, ℕ, ◌+◌, ◌<◌, None, List, [], ◌∷◌, ◌++◌, length, get_or, take, All, sym, ap, ◌∙◌, subst}
+use Rattle.std.proofs.Common.{◌≡◌, ℕ, ◌+◌, ◌<◌, None, List, [], ◌∷◌, ◌++◌, length, get_or, take, All, sym, ap, ◌∙◌}
 use Rattle.std.proofs.lemmas.List.{take_more}
+use Rattle.std.proofs.lemmas.Slice.Zip.{all_zipped_more}
 use Rattle.ados_model.specs.Keys.{HasKey}
 use Rattle.ados_model.specs.Stands.{Stands}
 use Rattle.ados_model.specs.Tree.{Tree, entries, root}
@@ -9,25 +10,13 @@ use Rattle.ados_volume.specs.Below.{AreBelow}
 use Rattle.ados_volume.proofs.AllBelow.{there_below}
 use Rattle.adf_record.specs.declared.bundle.BundleEntry.{BundleEntry}
 use Rattle.adf_record.specs.Bundle.{AreEntriesOf, IsEntryOf}
-use Rattle.adf_record.specs.Bundle.AreEntriesOf.{none as no_entries, one_more}
 
-module _ (t : Tree) where
-  pub told_none : AreEntriesOf t [] []
-  told_none = no_entries
-
-  told_append : (es fs : List Below) (xs ys : List BundleEntry) → AreEntriesOf t es xs → AreEntriesOf t fs ys → AreEntriesOf t (es ++ fs) (xs ++ ys)
-  told_append [] fs [] ys no_entries b = b
-  told_append [] fs (_ ∷ _) ys a b = elim a [ ]
-  told_append (e ∷ es) fs [] ys a b = elim a [ ]
-  told_append (e ∷ es) fs (x ∷ xs) ys (one_more is rest) b = one_more is (told_append es fs xs ys rest b)
-
-  -- one more entry
-  pub told_more : (found : List Below) (i : ℕ) (e : Below) → i < length found → e ≡ get_or found i e → (old new : List BundleEntry) (x : BundleEntry)
-      → AreEntriesOf t (take i found) old → new ≡ old ++ x ∷ [] → IsEntryOf t e x → AreEntriesOf t (take (i + 1) found) new
-  told_more found i e inside is old new x a grown own =
-      let last : take (i + 1) found ≡ take i found ++ e ∷ [] = take_more found i e inside ∙ ap (λ (f : Below). take i found ++ f ∷ []) (sym is) in
-      subst (AreEntriesOf t (take (i + 1) found)) (sym grown)
-      (subst (λ (es : List Below). AreEntriesOf t es (old ++ x ∷ [])) (sym last) (told_append (take i found) (e ∷ []) old (x ∷ []) a (one_more own no_entries)))
+-- one more entry
+pub told_more : (t : Tree) (found : List Below) (i : ℕ) (e : Below) → i < length found → e ≡ get_or found i e → (old new : List BundleEntry) (x : BundleEntry)
+    → AreEntriesOf t (take i found) old → new ≡ old ++ x ∷ [] → IsEntryOf t e x → AreEntriesOf t (take (i + 1) found) new
+told_more t found i e inside is old new x a grown own =
+    let last : take (i + 1) found ≡ take i found ++ e ∷ [] = take_more found i e inside ∙ ap (λ (f : Below). take i found ++ f ∷ []) (sym is) in
+    rw (last, grown) (all_zipped_more (IsEntryOf t) (take i found) old e x a own)
 
 -- all entries below the root of an image are in it
 pub all_there : (image : List ℕ) (found : List Below) → ((t : Tree) → Stands image t → AreBelow t None 0 (entries t (root t)) found) → All (λ e. HasKey image e.key) found

@@ -1,5 +1,6 @@
 -- A volume as a value that has no block numbers.
-use Rattle.std.specs.Prelude.{◌≡◌, ℕ, List, [], ◌∷◌, length, map, Option, None, Some}
+use Rattle.std.specs.Prelude.{◌≡◌, ℕ, List, length, map, Option, None, Some}
+use Rattle.std.specs.List.{AllZip}
 use Rattle.adf_boot.specs.Code.{boot_bytes}
 use Rattle.ados_model.specs.Tree.{Content, Node, Tree, bytes_of, entries, root}
 use Rattle.ados_model.specs.Tree.Content.{Directory, File}
@@ -37,10 +38,8 @@ pub record IsEntryOf (t : Tree) (found : Below) (entry : BundleEntry) : Type 0 w
   pub comment : entry.comment ≡ node.comment
 
 -- one entry for each node, in their order
-pub data AreEntriesOf (t : Tree) : List Below → List BundleEntry → Type 0 where
-  none : AreEntriesOf t [] []
-  one_more : {found : Below} {all : List Below} {entry : BundleEntry} {entries : List BundleEntry}
-      → IsEntryOf t found entry → AreEntriesOf t all entries → AreEntriesOf t (found ∷ all) (entry ∷ entries)
+abbrev pub AreEntriesOf : Tree → List Below → List BundleEntry → Type 0
+AreEntriesOf t = AllZip (IsEntryOf t)
 
 -- the bundle of a tree and of its image's boot blocks: all entries below the root in their order, each directory directly
 -- before its own

@@ -1,6 +1,4 @@
 //! Why a text is not the description of a bundle.
-ghost use Rattle.std.specs.Prelude.{◌≡◌, None};
-
 use std::alloc::{AllocError, AllocFailed};
 use std::fmt::{Display, Formatter};
 use std::{error, fmt};
@@ -53,16 +51,20 @@ impl Display for BundleFault {
 impl error::Error for BundleFault {}
 
 impl BundleFault {
-    /// A fault that is about no entry.
-    pub(crate) fn of_volume(why: BundleWhy) -> BundleFault
-        ensures { result ≡ record { entry = None; why = why } }
-    {
-        BundleFault { entry: None, why }
-    }
-
     /// Whether memory ran out.
     pub fn is_memory(&self) -> bool {
         matches!(self.why, BundleWhy::Memory)
+    }
+}
+
+/// A fault that is about no entry.
+impl From<BundleWhy> for BundleFault {
+    ghost use Rattle.std.specs.Prelude.{◌≡◌, None};
+
+    ghost from_gives = { λ why fault. fault ≡ record { entry = None; why = why } };
+
+    fn from(why: BundleWhy) -> BundleFault {
+        BundleFault { entry: None, why }
     }
 }
 
@@ -73,7 +75,7 @@ impl From<AllocError> for BundleFault {
     ghost from_gives = { λ _ fault. fault ≡ no_memory };
 
     fn from(_error: AllocError) -> BundleFault {
-        BundleFault::of_volume(BundleWhy::Memory)
+        BundleFault::from(BundleWhy::Memory)
     }
 }
 
@@ -84,7 +86,7 @@ impl<T: Drop> From<AllocFailed<T>> for BundleFault {
     ghost from_gives = { λ _ fault. fault ≡ no_memory };
 
     fn from(_error: AllocFailed<T>) -> BundleFault {
-        BundleFault::of_volume(BundleWhy::Memory)
+        BundleFault::from(BundleWhy::Memory)
     }
 }
 

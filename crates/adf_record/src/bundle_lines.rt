@@ -67,7 +67,7 @@ fn push_line(text: &mut Vec<u8>, separator: &str, line: &[u8]) -> Result<(), Bun
     text.extend_from_slice(separator.as_bytes())?;
     text.extend_from_slice(line)?;
     if text.len() > MOST_BUNDLE_BYTES - END.len() {
-        return Err(BundleFault::of_volume(BundleWhy::Long));
+        return Err(BundleFault::from(BundleWhy::Long));
     }
     Ok(())
 }

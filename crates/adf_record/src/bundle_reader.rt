@@ -34,20 +34,17 @@ struct Members {
 /// The bundle that a text describes: a JSON object with each member once, in any order, and no other.
 pub fn read_bundle(alloc: Global, text: &[u8]) -> Result<Bundle, BundleFault> {
     if text.len() > MOST_BUNDLE_BYTES {
-        return Err(BundleFault::of_volume(BundleWhy::Long));
+        return Err(BundleFault::from(BundleWhy::Long));
     }
     let Ok(text) = from_utf8(text) else {
-        return Err(BundleFault::of_volume(BundleWhy::NotText));
+        return Err(BundleFault::from(BundleWhy::NotText));
     };
     let mut scratch = Scratch::new(alloc);
     let Ok(mut reader) = Reader::new(text, &mut scratch) else {
-        return Err(BundleFault::of_volume(BundleWhy::Memory));
+        return Err(BundleFault::from(BundleWhy::Memory));
     };
     let members = read_members(alloc, &mut reader)?;
-    match finished(members) {
-        Ok(bundle) => Ok(bundle),
-        Err(why) => Err(BundleFault::of_volume(why)),
-    }
+    Ok(finished(members)?)
 }
 
 /// The members of the one object of a text.
@@ -82,7 +79,7 @@ fn read_members(alloc: Global, reader: &mut Reader<'_>) -> Result<Members, Bundl
 
 /// The fault of a text that is no JSON of a bundle from here on.
 fn not_json(reader: &Reader<'_>) -> BundleFault {
-    BundleFault::of_volume(BundleWhy::NotJson(reader.offset()))
+    BundleFault::from(BundleWhy::NotJson(reader.offset()))
 }
 
 impl Members {
@@ -93,17 +90,14 @@ impl Members {
         reader: &mut Reader<'_>,
         key: &str,
     ) -> Result<(), BundleFault> {
-        if key == "entries" {
-            if self.entries.is_some() {
-                return Err(BundleFault::of_volume(BundleWhy::Twice("entries")));
-            }
-            self.entries = Some(read_entries(alloc, reader)?);
-            return Ok(());
+        if key != "entries" {
+            return Ok(self.read_fact(alloc, reader, key)?);
         }
-        match self.read_fact(alloc, reader, key) {
-            Ok(()) => Ok(()),
-            Err(why) => Err(BundleFault::of_volume(why)),
+        if self.entries.is_some() {
+            return Err(BundleFault::from(BundleWhy::Twice("entries")));
         }
+        self.entries = Some(read_entries(alloc, reader)?);
+        Ok(())
     }
 
     /// Reads the value of a member other than the entries.
@@ -118,28 +112,8 @@ impl Members {
             "blocks" => set(&mut self.blocks, "blocks", number_of(reader, "blocks")?),
             "label" => set(&mut self.label, "label", label_of(alloc, reader)?),
             "boot" => set(&mut self.boot, "boot", boot_of(alloc, reader)?),
-            _ => self.read_date(alloc, reader, key),
-        }
-    }
-
-    /// Reads the value of a date.
-    fn read_date(
-        &mut self,
-        alloc: Global,
-        reader: &mut Reader<'_>,
-        key: &str,
-    ) -> Result<(), BundleWhy> {
-        match key {
-            "created" => set(
-                &mut self.created,
-                "created",
-                date_of(alloc, reader, "created")?,
-            ),
-            "changed" => set(
-                &mut self.changed,
-                "changed",
-                date_of(alloc, reader, "changed")?,
-            ),
+            "created" => set(&mut self.created, "created", date_of(alloc, reader, "created")?),
+            "changed" => set(&mut self.changed, "changed", date_of(alloc, reader, "changed")?),
             "root" => set(&mut self.root, "root", date_of(alloc, reader, "root")?),
             other => Err(BundleWhy::Unknown(String::from_str(alloc, other)?)),
         }
@@ -163,7 +137,7 @@ pub(crate) fn set<T: Drop>(
 fn read_entries(alloc: Global, reader: &mut Reader<'_>) -> Result<Vec<BundleEntry>, BundleFault> {
     let mut tree = BundleTree::new(alloc);
     if !matches!(reader.next(), Some(Token::BeginArray)) {
-        return Err(BundleFault::of_volume(BundleWhy::Wrong {
+        return Err(BundleFault::from(BundleWhy::Wrong {
             member: "entries",
             wanted: "a list of objects",
         }));
@@ -179,7 +153,7 @@ fn read_entries(alloc: Global, reader: &mut Reader<'_>) -> Result<Vec<BundleEntr
             });
         }
     }
-    Err(BundleFault::of_volume(BundleWhy::Many))
+    Err(BundleFault::from(BundleWhy::Many))
 }
 
 /// The bundle of the members.

@@ -18,100 +18,105 @@ fn value_of<'a>(reader: &mut Reader<'a>) -> Result<Token<'a>, BundleWhy> {
     }
 }
 
-/// A text.
-fn text_of<'a>(
-    reader: &mut Reader<'a>,
+/// A member, and what its value has to be.
+#[derive(Clone, Copy)]
+struct Wanted {
     member: &'static str,
     wanted: &'static str,
-) -> Result<&'a str, BundleWhy> {
-    match value_of(reader)? {
-        Token::String(text) => Ok(text),
-        _ => Err(BundleWhy::Wrong { member, wanted }),
-    }
 }
 
-/// The bytes of a text's letters.
-fn bytes_of(
-    alloc: Global,
-    reader: &mut Reader<'_>,
-    member: &'static str,
-    wanted: &'static str,
-) -> Result<Vec<u8>, BundleWhy> {
-    let text = text_of(reader, member, wanted)?;
-    match letter_bytes(alloc, text) {
-        Ok(bytes) => Ok(bytes),
-        Err(LettersFault::NoByte { .. }) => Err(BundleWhy::Wrong { member, wanted }),
-        Err(LettersFault::Memory) => Err(BundleWhy::Memory),
+impl Wanted {
+    /// The fault of another value.
+    fn wrong(self) -> BundleWhy {
+        BundleWhy::Wrong {
+            member: self.member,
+            wanted: self.wanted,
+        }
+    }
+
+    /// A text.
+    fn text<'a>(self, reader: &mut Reader<'a>) -> Result<&'a str, BundleWhy> {
+        match value_of(reader)? {
+            Token::String(text) => Ok(text),
+            _ => Err(self.wrong()),
+        }
+    }
+
+    /// The bytes of a text's letters.
+    fn bytes(self, alloc: Global, reader: &mut Reader<'_>) -> Result<Vec<u8>, BundleWhy> {
+        match letter_bytes(alloc, self.text(reader)?) {
+            Ok(bytes) => Ok(bytes),
+            Err(LettersFault::NoByte { .. }) => Err(self.wrong()),
+            Err(LettersFault::Memory) => Err(BundleWhy::Memory),
+        }
     }
 }
 
 /// The kind of a volume.
 pub(crate) fn kind_of(reader: &mut Reader<'_>) -> Result<Format, BundleWhy> {
-    let wanted = "\"OFS\" or \"FFS\"";
-    match text_of(reader, "kind", wanted)? {
+    let wanted = Wanted {
+        member: "kind",
+        wanted: "\"OFS\" or \"FFS\"",
+    };
+    match wanted.text(reader)? {
         "OFS" => Ok(Format::Ofs),
         "FFS" => Ok(Format::Ffs),
-        _ => Err(BundleWhy::Wrong {
-            member: "kind",
-            wanted,
-        }),
+        _ => Err(wanted.wrong()),
     }
 }
 
 /// The name of a volume.
 pub(crate) fn label_of(alloc: Global, reader: &mut Reader<'_>) -> Result<Name, BundleWhy> {
-    let wanted = "1 to 30 letters up to U+00FF without `/` and `:`";
-    let bytes = bytes_of(alloc, reader, "label", wanted)?;
-    match Name::new(&bytes) {
-        Ok(name) => Ok(name),
-        Err(_) => Err(BundleWhy::Wrong {
-            member: "label",
-            wanted,
-        }),
-    }
+    let wanted = Wanted {
+        member: "label",
+        wanted: "1 to 30 letters up to U+00FF without `/` and `:`",
+    };
+    let bytes = wanted.bytes(alloc, reader)?;
+    Name::new(&bytes).map_err(|_| wanted.wrong())
 }
 
 /// A path, as the bytes of its letters.
 pub(crate) fn path_of(alloc: Global, reader: &mut Reader<'_>) -> Result<Vec<u8>, BundleWhy> {
-    bytes_of(alloc, reader, "path", "a text of letters up to U+00FF")
+    let wanted = Wanted {
+        member: "path",
+        wanted: "a text of letters up to U+00FF",
+    };
+    wanted.bytes(alloc, reader)
 }
 
 /// A comment.
 pub(crate) fn comment_of(alloc: Global, reader: &mut Reader<'_>) -> Result<Comment, BundleWhy> {
-    let wanted = "at most 79 letters up to U+00FF";
-    let bytes = bytes_of(alloc, reader, "comment", wanted)?;
-    match Comment::new(&bytes) {
-        Ok(comment) => Ok(comment),
-        Err(_) => Err(BundleWhy::Wrong {
-            member: "comment",
-            wanted,
-        }),
-    }
+    let wanted = Wanted {
+        member: "comment",
+        wanted: "at most 79 letters up to U+00FF",
+    };
+    let bytes = wanted.bytes(alloc, reader)?;
+    Comment::new(&bytes).map_err(|_| wanted.wrong())
 }
 
 /// Whether an entry is a directory.
 pub(crate) fn is_directory_of(reader: &mut Reader<'_>) -> Result<bool, BundleWhy> {
-    let wanted = "\"file\" or \"directory\"";
-    match text_of(reader, "type", wanted)? {
+    let wanted = Wanted {
+        member: "type",
+        wanted: "\"file\" or \"directory\"",
+    };
+    match wanted.text(reader)? {
         "file" => Ok(false),
         "directory" => Ok(true),
-        _ => Err(BundleWhy::Wrong {
-            member: "type",
-            wanted,
-        }),
+        _ => Err(wanted.wrong()),
     }
 }
 
 /// A number of 32 bits.
 pub(crate) fn number_of(reader: &mut Reader<'_>, member: &'static str) -> Result<u32, BundleWhy> {
-    let wanted = "a whole number from 0 to 4,294,967,295";
-    let Token::Number(text) = value_of(reader)? else {
-        return Err(BundleWhy::Wrong { member, wanted });
+    let wanted = Wanted {
+        member,
+        wanted: "a whole number from 0 to 4,294,967,295",
     };
-    match text.parse::<u32>() {
-        Ok(number) => Ok(number),
-        Err(_) => Err(BundleWhy::Wrong { member, wanted }),
-    }
+    let Token::Number(text) = value_of(reader)? else {
+        return Err(wanted.wrong());
+    };
+    text.parse::<u32>().map_err(|_| wanted.wrong())
 }
 
 /// A date.
@@ -120,29 +125,28 @@ pub(crate) fn date_of(
     reader: &mut Reader<'_>,
     member: &'static str,
 ) -> Result<Date3, BundleWhy> {
-    let wanted = "a date, as \"1990-01-31 12:00:00.00\" or \"raw DAYS MINUTES TICKS\"";
-    let text = text_of(reader, member, wanted)?;
-    match date_of_text(alloc, text.as_bytes())? {
-        Some(date) => Ok(date),
-        None => Err(BundleWhy::Wrong { member, wanted }),
-    }
+    let wanted = Wanted {
+        member,
+        wanted: "a date, as \"1990-01-31 12:00:00.00\" or \"raw DAYS MINUTES TICKS\"",
+    };
+    let text = wanted.text(reader)?;
+    date_of_text(alloc, text.as_bytes())?.ok_or(wanted.wrong())
 }
 
 /// The bytes of a boot block. Zeros at their end may be left out.
 pub(crate) fn boot_of(alloc: Global, reader: &mut Reader<'_>) -> Result<Vec<u8>, BundleWhy> {
-    let wanted = "at most 1,024 bytes as hexadecimal digits";
-    let wrong = BundleWhy::Wrong {
+    let wanted = Wanted {
         member: "boot",
-        wanted,
+        wanted: "at most 1,024 bytes as hexadecimal digits",
     };
-    let text = text_of(reader, "boot", wanted)?;
+    let text = wanted.text(reader)?;
     if text.len() > 2 * BOOT_BYTES {
-        return Err(wrong);
+        return Err(wanted.wrong());
     }
     let mut bytes = match hex::decode(alloc, text.as_bytes()) {
         Ok(bytes) => bytes,
         Err(hex::FromHexError::OutOfMemory) => return Err(BundleWhy::Memory),
-        Err(_) => return Err(wrong),
+        Err(_) => return Err(wanted.wrong()),
     };
     bytes.resize(BOOT_BYTES, 0)?;
     Ok(bytes)

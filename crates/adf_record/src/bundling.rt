@@ -43,7 +43,7 @@ fn head_of(volume: &Volume) -> BundleHead
 }
 
 /// The date at this long of the root.
-fn root_date(volume: &Volume, at: u32) -> Date3
+pub(crate) fn root_date(volume: &Volume, at: u32) -> Date3
     requires { at ≤ 125 }
     ensures { (t : Tree) → Stands volume.now.image t → result ≡ date_at volume.now.image (root t) at }
 {

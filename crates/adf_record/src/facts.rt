@@ -1,14 +1,13 @@
 //! What a person wants to know of a volume.
-ghost use Rattle.std.specs.Prelude.{◌≡◌, ◌+◌, ◌<◌, IfOk};
-ghost use Rattle.adf_block.specs.Image.{block_count, root_key};
-ghost use Rattle.adf_block.specs.declared.layout.TheConstants.{BLOCK_LONGS};
+ghost use Rattle.std.specs.Prelude.{IfOk};
 ghost use Rattle.ados_model.specs.Tree.{Tree};
-ghost use Rattle.ados_model.specs.Stands.{Stands, date_at};
+ghost use Rattle.ados_model.specs.Stands.{Stands};
 ghost use Rattle.adf_record.specs.Facts.{AreFacts};
 
+use crate::bundling::root_date;
 use crate::counts::{Counts, counts_of};
 use adf_block::layout::{CREATION_DATE, DISK_DATE};
-use adf_block::{Format, Image};
+use adf_block::Format;
 use adf_boot::{BootCode, boot_code};
 use ados_name::{Date3, Name};
 use ados_volume::{Volume, free_blocks};
@@ -47,22 +46,8 @@ pub fn facts_of(alloc: Global, volume: &Volume) -> Result<Facts, AllocError>
         counts,
         used: volume.info().used,
         free: free_blocks(volume),
-        created: root_date(image, CREATION_DATE),
-        changed: root_date(image, DISK_DATE),
+        created: root_date(volume, CREATION_DATE),
+        changed: root_date(volume, DISK_DATE),
         boot: boot_code(image),
     })
-}
-
-/// The date whose first long is this long of the root.
-fn root_date(image: &Image, first: u32) -> Date3
-    requires { first + 2 < BLOCK_LONGS }
-    ensures { result ≡ date_at image.now (root_key (block_count image.now)) first }
-{
-    prove!(image.blocks() >= 16);
-    let root = image.root();
-    Date3 {
-        days: image.long(root, first),
-        minutes: image.long(root, first + 1),
-        ticks: image.long(root, first + 2),
-    }
 }

@@ -3,7 +3,6 @@ ghost use Rattle.std.specs.Prelude.{◌≡◌, ◌↔◌, IsTrue};
 ghost use Rattle.adf_record.specs.Bundle.{AreSame};
 
 use crate::bundle::{Bundle, BundleEntry, BundleHead};
-use ados_name::Date3;
 
 /// Whether two bundles are equal: in every field, and in the order of the entries.
 pub fn same_bundle(one: &Bundle, other: &Bundle) -> bool
@@ -21,16 +20,9 @@ fn same_head(one: &BundleHead, other: &BundleHead) -> bool
     one.format == other.format
         && one.blocks == other.blocks
         && one.label.bytes() == other.label.bytes()
-        && same_date(one.created, other.created)
-        && same_date(one.changed, other.changed)
-        && same_date(one.root_date, other.root_date)
-}
-
-/// Whether two dates are equal.
-fn same_date(one: Date3, other: Date3) -> bool
-    ensures { IsTrue result ↔ (one ≡ other) }
-{
-    one.days == other.days && one.minutes == other.minutes && one.ticks == other.ticks
+        && one.created == other.created
+        && one.changed == other.changed
+        && one.root_date == other.root_date
 }
 
 /// Whether two lists of entries are equal.
@@ -52,32 +44,10 @@ fn same_entries(one: &[BundleEntry], other: &[BundleEntry]) -> bool
 fn same_entry(one: &BundleEntry, other: &BundleEntry) -> bool
     ensures { IsTrue result ↔ (one.now ≡ other.now) }
 {
-    same_place(one.above, other.above)
+    one.above == other.above
         && one.name.bytes() == other.name.bytes()
-        && same_size(one.size, other.size)
+        && one.size == other.size
         && one.protection.0 == other.protection.0
-        && same_date(one.date, other.date)
+        && one.date == other.date
         && one.comment.bytes() == other.comment.bytes()
-}
-
-/// Whether two positions are equal.
-fn same_place(one: Option<usize>, other: Option<usize>) -> bool
-    ensures { IsTrue result ↔ (one ≡ other) }
-{
-    match (one, other) {
-        (None, None) => true,
-        (Some(one), Some(other)) => one == other,
-        (None, Some(_)) | (Some(_), None) => false,
-    }
-}
-
-/// Whether two sizes are equal.
-fn same_size(one: Option<u32>, other: Option<u32>) -> bool
-    ensures { IsTrue result ↔ (one ≡ other) }
-{
-    match (one, other) {
-        (None, None) => true,
-        (Some(one), Some(other)) => one == other,
-        (None, Some(_)) | (Some(_), None) => false,
-    }
 }

@@ -8,17 +8,17 @@ use Rattle.adf_import.proofs.adding.put_entries.Goals as goal
 pub child-requires : goal.child-requires
 child-requires g c = (c.directory-dir.ensures c.loop-entry.volume.image c.loop-entry.invariant.ready).dir
 
-pub put_entry-requires : goal.put_entry-requires
-put_entry-requires g c =
+pub put_item-requires : goal.put_item-requires
+put_item-requires g c =
     subst (λ (v : Shown). IsReady v.image c.directory-dir.result c.loop-entry.progress) (sym c.child.ensures.same) (c.directory-dir.ensures c.loop-entry.volume.image c.loop-entry.invariant.ready)
 
 pub loop-entry-preserved : goal.loop-entry-preserved
 loop-entry-preserved g c =
-    let kept : KeepsKeys c.loop-entry.volume.image c.put_entry.new.volume.image =
-    subst (λ (v : Shown). KeepsKeys v.image c.put_entry.new.volume.image) c.child.ensures.same c.in_ok-put_entry.ensures.keeps in
+    let kept : KeepsKeys c.loop-entry.volume.image c.put_item.new.volume.image =
+    subst (λ (v : Shown). KeepsKeys v.image c.put_item.new.volume.image) c.child.ensures.same c.in_ok-put_item.ensures.keeps in
     record {
-      ready = record { dir = kept.directory c.args.top c.loop-entry.invariant.ready.dir; progress = c.in_ok-put_entry.ensures.progress };
-      keeps = keeps_both c.args.volume.now.image c.loop-entry.volume.image c.put_entry.new.volume.image c.loop-entry.invariant.keeps kept;
+      ready = record { dir = kept.directory c.args.top c.loop-entry.invariant.ready.dir; progress = c.in_ok-put_item.ensures.progress };
+      keeps = keeps_both c.args.volume.now.image c.loop-entry.volume.image c.put_item.new.volume.image c.loop-entry.invariant.keeps kept;
     }
 
 pub returns : goal.returns

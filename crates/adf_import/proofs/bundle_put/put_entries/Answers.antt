@@ -9,5 +9,5 @@ loop-place-init c = record {
   progress = c.in_ok-progress.ensures c.directory_at.new.volume.image;
 }
 
-pub put_entry-requires : goal.put_entry-requires
-put_entry-requires c = c.directory.ensures c.loop-place.volume.image c.loop-place.invariant
+pub put_item-requires : goal.put_item-requires
+put_item-requires c = c.directory.ensures c.loop-place.volume.image c.loop-place.invariant

@@ -1,27 +1,29 @@
+use Rattle.std.proofs.Common.{refl}
 use Rattle.ados_model.specs.Tree.{Node}
-use Rattle.ados_model.specs.Edits.{with_comment, with_protection}
-use Rattle.adf_import.proofs.Filling.{IsEntry, after_change, entry_changed}
+use Rattle.adf_import.specs.Changes.{described}
+use Rattle.adf_import.proofs.Keeping.{keeps_described, keeps_keys, keys_edited}
 use Rattle.adf_import.specs.InTurn.KeepsInTurn.{none, one_more}
 use Rattle.adf_import.proofs.new_file.describe.Goals as goal
 
 pub set_comment-requires : goal.set_comment-requires
 set_comment-requires c =
-    let t = c.image.ensures.stands.0 in
-    let s = c.image.ensures.stands.1 in
-    after_change (IsEntry c.args.key) (with_protection c.args.moment c.args.key c.args.file.now.protection.0) c.args.volume.now.image c.set_protect.new.self.image t s c.set_protect.ensures.stands
-    (entry_changed t c.args.key (λ (node : Node). record node { protection = c.args.file.now.protection.0 }) (c.requires t s))
+    (keys_edited c.args.volume.now.image c.set_protect.new.self.image c.args.moment c.args.key (λ (node : Node). record node { protection = c.args.file.now.protection.0 })
+    c.image.ensures.stands c.set_protect.ensures.stands (λ node. refl)).entry c.args.key c.requires
 
 pub set_date-requires : goal.set_date-requires
 set_date-requires c =
-    let t = c.image.ensures.stands.0 in
-    let s = c.image.ensures.stands.1 in
-    let u = with_protection c.args.moment c.args.key c.args.file.now.protection.0 t in
-    after_change (IsEntry c.args.key) (with_comment c.args.moment c.args.key c.args.file.now.comment) c.set_protect.new.self.image c.set_comment.new.self.image u (c.set_protect.ensures.stands t s) c.set_comment.ensures.stands
-    (entry_changed u c.args.key (λ (node : Node). record node { comment = c.args.file.now.comment })
-    (entry_changed t c.args.key (λ (node : Node). record node { protection = c.args.file.now.protection.0 }) (c.requires t s)))
+    let bits = keys_edited c.args.volume.now.image c.set_protect.new.self.image c.args.moment c.args.key (λ (node : Node). record node { protection = c.args.file.now.protection.0 })
+    c.image.ensures.stands c.set_protect.ensures.stands (λ node. refl) in
+    (keys_edited c.set_protect.new.self.image c.set_comment.new.self.image c.args.moment c.args.key (λ (node : Node). record node { comment = c.args.file.now.comment })
+    (_, c.set_protect.ensures.stands c.image.ensures.stands.0 c.image.ensures.stands.1) c.set_comment.ensures.stands (λ node. refl)).entry c.args.key (bits.entry c.args.key c.requires)
 
 pub returns-clause-stands : goal.returns-clause-stands
 returns-clause-stands c = λ t s. c.set_date.ensures.stands _ (c.set_comment.ensures.stands _ (c.set_protect.ensures.stands t s))
+
+pub returns-clause-keys : goal.returns-clause-keys
+returns-clause-keys c =
+    keeps_keys c.args.volume.now.image c.set_date.new.self.image (described c.args.moment c.args.key c.args.file.now) c.image.ensures.stands
+    (λ t s. c.set_date.ensures.stands _ (c.set_comment.ensures.stands _ (c.set_protect.ensures.stands t s))) (λ t s. keeps_described t c.args.moment c.args.key c.args.file.now)
 
 pub returns-clause-keeps : goal.returns-clause-keeps
 returns-clause-keeps c =

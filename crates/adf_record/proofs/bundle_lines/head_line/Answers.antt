@@ -31,19 +31,7 @@ returns c =
       c.format_word.ensures,
     ) refl in
     let before : c.begin_array.new.self.before ≡ [] =
-    rw (
-      c.in_ok-begin_array.ensures.room.0,
-      c.in_ok-key.ensures.room.0,
-      c.put_text-2.ensures.before,
-      c.put_date-3.ensures.before,
-      c.put_date-2.ensures.before,
-      c.put_date.ensures.before,
-      c.put_letters.ensures.before,
-      c.put_number.ensures.before,
-      c.put_text.ensures.before,
-      c.in_ok-begin_object.ensures.room.0,
-      c.new-writer.ensures.before,
-    ) c.new.ensures.items in (
+    cc (c.in_ok-begin_array.ensures.room.0, c.in_ok-key.ensures.room.0, c.in_ok-begin_object.ensures.room.0, c.new-writer.ensures.before, c.new.ensures.items) in (
       created.0,
       changed.0,
       root.0,

@@ -2,7 +2,7 @@ use Rattle.std.proofs.Common.{◌≡◌, ℕ, ◌<◌, None, [], List, length, g
 use Rattle.std.proofs.lemmas.List.{get_or_default, take_all}
 use Rattle.ados_volume.specs.declared.below.Below.{Below}
 use Rattle.adf_record.specs.Bundle.{AreEntriesOf}
-use Rattle.adf_record.proofs.Entries.{told_more, told_none}
+use Rattle.adf_record.proofs.Entries.{told_more}
 use Rattle.adf_record.proofs.bundling.entries_of.Goals as goal
 
 -- the object of a turn
@@ -16,7 +16,7 @@ is_there : (found : List Below) (i : ℕ) → i < length found → object_at fou
 is_there found i inside = get_or_default found i no_object (object_at found i) inside
 
 pub loop-entry-init : goal.loop-entry-init
-loop-entry-init c = λ t s. subst (AreEntriesOf t []) (sym c.new-entries.ensures.items) (told_none t)
+loop-entry-init c = λ t s. subst (AreEntriesOf t []) (sym c.new-entries.ensures.items) tt
 
 pub loop-entry-preserved : goal.loop-entry-preserved
 loop-entry-preserved c = λ t s.

@@ -1,11 +1,10 @@
 use Rattle.std.proofs.Common.{◌≡◌, ℕ, List, ap, sym, ◌∙◌, subst}
 use Rattle.adf_block.specs.Fields.{format_of}
-use Rattle.adf_block.specs.Image.{block_count, root_key}
+use Rattle.adf_block.specs.Image.{block_count}
 use Rattle.ados_model.specs.declared.answer.DiskInfo.{DiskInfo}
 use Rattle.ados_model.specs.declared.answer.FileInfo.{FileInfo}
 use Rattle.ados_model.specs.Tree.{name_of, root}
 use Rattle.ados_model.specs.Parts.{name_in}
-use Rattle.ados_model.specs.Stands.{date_at}
 use Rattle.ados_model.proofs.Nodes.{some_in}
 use Rattle.ados_model.proofs.Standing.{count_same}
 use Rattle.ados_change.proofs.Writable.{format_is}
@@ -18,8 +17,6 @@ returns c = λ t s.
     let same = c.image-image.ensures.same in
     let root_is : c.root.result ≡ root t = c.root.ensures.root t s in
     let n = some_in (t.nodes c.root.result) (c.root.ensures.key t s) in
-    let date : (first : ℕ) → date_at c.image-image.result.now (root_key (block_count c.image-image.result.now)) first ≡ date_at image (root t) first =
-    λ first. ap (λ (bytes : List ℕ). date_at bytes (root_key (block_count bytes)) first) same ∙ ap (λ (b : ℕ). date_at image (root_key b) first) (count_same image t s) in
     record {
       label = ap (λ (info : FileInfo). info.name) (c.examine.ensures t n.0 s n.1) ∙ sym (ap name_in n.1) ∙ ap (name_of t) root_is;
       format = c.format.ensures ∙ ap format_of same ∙ format_is image t s;
@@ -28,7 +25,7 @@ returns c = λ t s.
       counts = c.in_ok-counts.ensures t s;
       used = ap (λ (info : DiskInfo). info.used) (c.info.ensures t s);
       unused = c.free_blocks.ensures t s;
-      created = c.root_date.ensures ∙ date 121 ∙ s.root_fields.creation_date;
-      changed = c.root_date-2.ensures ∙ date 118 ∙ s.root_fields.disk_date;
+      created = c.root_date.ensures t s ∙ s.root_fields.creation_date;
+      changed = c.root_date-2.ensures t s ∙ s.root_fields.disk_date;
       boot = subst (λ (bytes : List ℕ). IsBootCode bytes c.boot_code.result) same c.boot_code.ensures;
     }

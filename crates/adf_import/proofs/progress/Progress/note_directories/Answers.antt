@@ -6,7 +6,7 @@ use Rattle.adf_import.proofs.progress.Progress.note_directories.Goals as goal
 
 pub loop-made-preserved : goal.loop-made-preserved
 loop-made-preserved c = record {
-  made = All-weaker (λ (made : Made). HasEntryKey c.loop-made.volume.image made.key) (λ (made : Made). HasEntryKey c.note_directory.new.volume.image made.key) (λ made is. c.note_directory.ensures.keeps.entry made.key is)
+  made = All-weaker (λ (made : Made). HasEntryKey c.loop-made.volume.image made.key) (λ (made : Made). HasEntryKey c.describe.new.volume.image made.key) (λ made is. c.describe.ensures.keys.entry made.key is)
       c.args.self.made.items c.loop-made.invariant.made;
-  keeps = keeps_both c.args.volume.now.image c.loop-made.volume.image c.note_directory.new.volume.image c.loop-made.invariant.keeps c.note_directory.ensures.keeps;
+  keeps = keeps_both c.args.volume.now.image c.loop-made.volume.image c.describe.new.volume.image c.loop-made.invariant.keeps c.describe.ensures.keys;
 }

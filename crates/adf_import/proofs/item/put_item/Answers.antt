@@ -1,5 +1,5 @@
 use Rattle.adf_import.proofs.Advancing.{ready_kept}
-use Rattle.adf_import.proofs.item.put_bytes.Goals as goal
+use Rattle.adf_import.proofs.item.put_item.Goals as goal
 
 pub returns-in_ok-push-in-Ok : goal.returns-in_ok-push-in-Ok
 returns-in_ok-push-in-Ok c =
