@@ -1,29 +1,14 @@
 -- A rewritten file leaves all bytes outside fields untouched.
-use Rattle.std.proofs.Common.{◌≡◌, ℕ, ◌+◌, ◌-◌, ◌*◌, ◌/◌, ◌<◌, ◌≤◌, inl, inr, min, List, length, slice_index, Some, refl, sym, ap, ◌∙◌, subst, arith, eq-eqb}
-use Rattle.std.proofs.lemmas.Bool.{ne_eqb, cases_eq, cases_lt, false≢true}
-use Rattle.adf_block.specs.declared.layout.Format.{Format}
-use Rattle.adf_block.specs.declared.layout.Format.TheVariants.{Ofs, Ffs}
-use Rattle.adf_block.specs.Image.{byte_at, bytes_at, has_free_bit}
-use Rattle.adf_block.specs.Fields.{pointer_count, held_count, file_size, secondary_type, format_of}
-use Rattle.adf_block.specs.declared.layout.TheConstants.{FILE_TYPE}
-use Rattle.adf_block.proofs.Blocks.{boot_same}
-use Rattle.ados_model.specs.Stands.{HasFile, Layout, Stands, type_of}
-use Rattle.ados_data.specs.Unnamed.{KeepsUnnamed, IsPointerField, IsHeaderField, data_end}
-use Rattle.ados_model.specs.Tree.{Node, Tree}
-use Rattle.ados_model.specs.Tree.Content.{File}
-use Rattle.ados_model.specs.declared.role.Role.{Role}
-use Rattle.ados_model.specs.declared.role.Role.TheVariants as roles
-use Rattle.ados_model.specs.Faults.{IsFile, IsOfs}
-use Rattle.ados_model.specs.Kept.{Kept, IsField, Alike, KeepsFirstData}
-use Rattle.ados_model.specs.Kept.IsField.{page_longs, file_longs, extension_longs, ofs_data_longs, ofs_data, ffs_data}
+use Rattle.std.proofs.Common.{◌≡◌, ℕ, ◌+◌, ◌-◌, ◌*◌, ◌/◌, ◌<◌, ◌≤◌, inl, inr, min, List, length, slice_index, Some, refl, sym, ap, ◌∙◌, subst, arith, eq-eqb, ◌⊎◌, take, drop}
+use Rattle.ados_change.proofs.Common.{ne_eqb, cases_eq, cases_lt, false≢true, Format, Ofs, Ffs, byte_at, bytes_at, has_free_bit, pointer_count, held_count, file_size, secondary_type, format_of, FILE_TYPE, boot_same, HasFile, Layout, Stands, type_of, KeepsUnnamed, IsPointerField, IsHeaderField, data_end, Node, Tree, File, Role, IsFile, IsOfs, Kept, IsField, Alike, KeepsFirstData, page_longs, file_longs, extension_longs, ofs_data_longs, ofs_data, ffs_data, StandsAt, reached_stands, serves_at, duty_of, root_at, entry_at, get_or-take, get_or_past, Duty, pointers_of, IsFileNode, slice_get-index}
 use Rattle.ados_change.proofs.Keeping.{header_stays}
-use Rattle.ados_model.proofs.Standing.{StandsAt, reached_stands, serves_at, duty_of, root_at, entry_at}
 use Rattle.ados_change.proofs.Writable.{named_used}
 use Rattle.ados_change.proofs.Contents.{refilled, holding, here}
 use Rattle.ados_change.proofs.Relaid.{IsRewritten, relaid, data_here, data_there, extensions_here, extensions_there}
-use Rattle.ados_change.proofs.FirstData.{keeps_first}
 use Rattle.ados_change.proofs.Unchanged.{long_as}
 use Rattle.ados_change.proofs.Refilled.{boot_stays, key_stays, root_stays, data_stays, extension_stays, stands_after, layout_after}
+use Rattle.ados_model.proofs.FileBlocks.{pointers_are}
+use Rattle.ados_model.specs.declared.role.Role.TheVariants as roles
 
 -- ---- fields
 
@@ -45,7 +30,7 @@ module _ (image : List ℕ) (b : ℕ) where
   extension_field f i (inr (inr (inr z))) = extension_longs (3, (125, 127), omega arith, refl, (omega (arith, z), omega (arith, z)))
 
 -- a byte outside the fields of an OFS data block is after its data
-pub data_field : (image : List ℕ) (b f i : ℕ) → IsOfs image → ¬ IsField image b (roles.Data f) i → 24 + held_count image b ≤ i
+data_field : (image : List ℕ) (b f i : ℕ) → IsOfs image → ¬ IsField image b (roles.Data f) i → 24 + held_count image b ≤ i
 data_field image b f i ofs n = elim (cases_lt i 24) [
   | inl l ↦ absurd (n (ofs_data_longs ofs (0, (0, 5), omega arith, refl, (omega arith, omega (arith, l)))))
   | inr l ↦ elim (cases_lt i (24 + held_count image b)) [
@@ -55,7 +40,7 @@ data_field image b f i ofs n = elim (cases_lt i 24) [
 ]
 
 -- OFS by the byte after `DOS`
-pub is_ofs : (image : List ℕ) → format_of image ≡ Ofs → IsOfs image
+is_ofs : (image : List ℕ) → format_of image ≡ Ofs → IsOfs image
 is_ofs image e = go (byte_at image 0 3) refl e
   where
     go : (n : ℕ) → byte_at image 0 3 ≡ n → format_of image ≡ Ofs → byte_at image 0 3 ≡ 0
@@ -64,8 +49,14 @@ is_ofs image e = go (byte_at image 0 3) refl e
       | inr m ↦ absurd (let other : Format.Ffs ≡ Ofs = sym (rw (ne_eqb (byte_at image 0 3) 0 m) refl) ∙ e in cc other)
     ]
 
-pub is_ffs : (image : List ℕ) → format_of image ≡ Ffs → ¬ IsOfs image
+is_ffs : (image : List ℕ) → format_of image ≡ Ffs → ¬ IsOfs image
 is_ffs image e z = let other : Format.Ofs ≡ Ffs = sym (rw (eq-eqb (byte_at image 0 3) 0 z) refl) ∙ e in cc other
+
+-- the first data block of a file is the first pointer of its header
+first_pointer : (image : List ℕ) (t : Tree) (s : Stands image t) (file : ℕ) → IsFileNode image t s file → slice_index (pointers_of image file) 0 ≡ slice_index (s.layout.file_data file) 0
+first_pointer image t s file f =
+    let all : drop (72 * 0) (s.layout.file_data file) ≡ s.layout.file_data file = refl in
+    ap (λ (xs : List ℕ). slice_index xs 0) (pointers_are image t.format file (s.layout.file_data file) (s.layout.extensions file) f.bytes (s.files file f.node f.bytes f.at f.content) 0 (omega arith) ∙ ap (take 72) all) ∙ get_or-take 72 (s.layout.file_data file) 0 0 (omega arith)
 
 module _ (old new : List ℕ) (t : Tree) (s : Stands old t) (file : ℕ) (node : Node) (bytes : List ℕ) (found : t.nodes file ≡ Some node) (is_file : node.content ≡ File bytes)
     (blocks' extensions' bytes' : List ℕ) (h : IsRewritten old file (s.layout.file_data file) (s.layout.extensions file) new blocks' extensions' bytes')
@@ -103,7 +94,7 @@ module _ (old new : List ℕ) (t : Tree) (s : Stands old t) (file : ℕ) (node :
   -- ---- data blocks
 
   -- a byte of a block outside all fields is after the file's bytes in it
-  behind_bytes : (j f block i : ℕ) → j < length blocks' → slice_index blocks' j ≡ block → ¬ IsField new block (roles.Data f) i → data_end (format_of old) (file_size new file) j ≤ i
+  pub behind_bytes : (j f block i : ℕ) → j < length blocks' → slice_index blocks' j ≡ block → ¬ IsField new block (roles.Data f) i → data_end (format_of old) (file_size new file) j ≤ i
   behind_bytes j f block i l e n = go (format_of old) refl
     where
       go : (g : Format) → format_of old ≡ g → data_end g (file_size new file) j ≤ i
@@ -165,12 +156,54 @@ module _ (old new : List ℕ) (t : Tree) (s : Stands old t) (file : ℕ) (node :
   block_kept k k' block i (roles.Extension f) (roles.Extension f') l m m' alike n = extension_kept k k' f f' block i l m m' n
   block_kept k k' block i _ _ l m m' alike n = absurd alike
 
+  -- ---- the first data block in the header
+
+  first_old : slice_index (pointers_of old file) 0 ≡ slice_index (s.layout.file_data file) 0
+  first_old = first_pointer old t s file (record { node = node; bytes = bytes; at = found; content = is_file })
+
+  first_new : slice_index (pointers_of new file) 0 ≡ slice_index blocks' 0
+  first_new =
+      first_pointer new (refilled file bytes' t) after file (record { node = holding bytes' node; bytes = bytes'; at = here t file node bytes bytes' found is_file; content = refl })
+      ∙ ap (λ (l : Layout). slice_index (l.file_data file) 0) layout_is
+      ∙ ap (λ (xs : List ℕ). slice_index xs 0) (data_here s.layout file blocks' extensions')
+
+  -- the long is unchanged if the first data block is; a new first block, or none, is written
+  keeps_first : KeepsFirstData old new file
+  keeps_first = elim (cases_eq (length (s.layout.file_data file)) 0) [
+    | inl none ↦
+        let past = get_or_past (s.layout.file_data file) 0 0 (omega (arith, none)) in
+        elim (cases_eq (length blocks') 0) [
+          | inl still ↦ unchanged (inl (none, still)) (get_or_past blocks' 0 0 (omega (arith, still)) ∙ sym past)
+          | inr some ↦ record {
+            same = λ e. let inside = h.writable.lawful.places.data_inside 0 (omega (arith, some)) in let zero = sym first_new ∙ e ∙ first_old ∙ past in absurd (omega (arith, inside.0, zero));
+            other = λ n. keeps.first_taken none (omega (arith, some)) ∙ sym first_new;
+          }
+        ]
+    | inr some ↦ elim (cases_eq (length blocks') 0) [
+      | inl gone ↦
+          let past = get_or_past blocks' 0 0 (omega (arith, gone)) in
+          record {
+            same = λ e.
+                let inside = s.fits.inside (slice_index (s.layout.file_data file) 0) (Duty.Data file 0) (slice_get-index (s.layout.file_data file) 0 (omega (arith, some))) in
+                let zero = sym first_old ∙ sym e ∙ first_new ∙ past in
+                absurd (omega (arith, inside.0, zero));
+            other = λ n. keeps.first_given (omega (arith, some)) gone ∙ sym past ∙ sym first_new;
+          }
+      | inr still ↦ unchanged (inr (omega (arith, some), omega (arith, still))) (elim (h.data_from 0 (omega (arith, still))) [ inl same ↦ same.1 | inr free ↦ absurd (omega (arith, some, free.0)) ])
+    ]
+  ]
+    where
+      unchanged : ((length (s.layout.file_data file) ≡ 0) × (length blocks' ≡ 0)) ⊎ ((0 < length (s.layout.file_data file)) × (0 < length blocks')) → slice_index blocks' 0 ≡ slice_index (s.layout.file_data file) 0 → KeepsFirstData old new file
+      unchanged c same = record { same = λ _. keeps.first_kept c; other = λ n. absurd (n (first_new ∙ same ∙ sym first_old)) }
+
+  -- ---- all together
+
   boot_kept : bytes_at new 0 0 1024 ≡ bytes_at old 0 0 1024
   boot_kept = boot_same old new h.leaves.same_length (λ b i l m. (boot_stays old new t s file node bytes found is_file blocks' extensions' bytes' h b l).bytes i m (λ z. z))
 
   first_kept : (b : ℕ) → IsFile old b → KeepsFirstData old new b
   first_kept b f = elim (cases_eq b file) [
-    | inl same ↦ subst (KeepsFirstData old new) (sym same) (keeps_first old new t s file node bytes found is_file blocks' extensions' bytes' h keeps)
+    | inl same ↦ subst (KeepsFirstData old new) (sym same) keeps_first
     | inr other ↦
         let at = reached_stands old t s f.reached in
         let e = entry_at old t s f.dir f.slot_of_chain at.0 b at.1 in

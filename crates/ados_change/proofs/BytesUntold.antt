@@ -1,22 +1,6 @@
 -- A rewritten file leaves untouched what no tree determines.
 use Rattle.std.proofs.Common.{◌≡◌, ◌≢◌, ℕ, zero, suc, ◌+◌, ◌-◌, ◌*◌, ◌/◌, ◌%◌, ◌<◌, ◌≤◌, inl, inr, List, length, slice_index, Some, option_map, refl, sym, ap, ap₂, ◌∙◌, subst, arith}
-use Rattle.std.proofs.lemmas.Bool.{cases_eq, cases_lt}
-use Rattle.std.proofs.lemmas.List.{ext_get_or}
-use Rattle.adf_block.specs.declared.layout.Format.{Format}
-use Rattle.adf_block.specs.declared.layout.Format.TheVariants.{Ofs, Ffs}
-use Rattle.adf_block.specs.Image.{byte_at, long}
-use Rattle.adf_block.specs.Fields.{file_size, format_of}
-use Rattle.adf_block.specs.Whole.{IsImage}
-use Rattle.adf_block.proofs.Longs.{long-same}
-use Rattle.ados_model.specs.Tree.{data_size, data_start, data_count, extension_count, Node, Tree, content_at}
-use Rattle.ados_model.specs.Stands.{HasFile, HasOfsData, Layout, Stands}
-use Rattle.ados_model.specs.File.{file_byte, IsLawful, data_blocks, extension_blocks}
-use Rattle.ados_data.specs.Unnamed.{KeepsUnnamed, data_end}
-use Rattle.ados_data.proofs.Chains.{next_of}
-use Rattle.ados_data.proofs.Spelled.{data_blocks_are, extension_blocks_are}
-use Rattle.ados_model.specs.Tree.Content.{File}
-use Rattle.ados_model.specs.Keys.{HasFileKey}
-use Rattle.ados_change.specs.Untold.{AgreeInFront, HasFileBytes, IsBehindEnd, KeepsData, KeepsFileEnd, KeepsUntold}
+use Rattle.ados_change.proofs.Common.{cases_eq, cases_lt, ext_get_or, Format, Ofs, Ffs, byte_at, long, file_size, format_of, IsImage, long-same, data_size, data_start, data_count, extension_count, Node, Tree, content_at, HasFile, HasOfsData, Layout, Stands, file_byte, IsLawful, data_blocks, extension_blocks, KeepsUnnamed, data_end, next_of, data_blocks_are, extension_blocks_are, File, HasFileKey, AgreeInFront, HasFileBytes, IsBehindEnd, KeepsData, KeepsFileEnd, KeepsUntold}
 use Rattle.ados_change.proofs.FilesStay.{end_of_data, file_of_key}
 use Rattle.ados_change.proofs.Writable.{data_is, extensions_is, is_lawful}
 use Rattle.ados_change.proofs.Contents.{refilled, here, there}

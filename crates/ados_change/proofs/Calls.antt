@@ -1,12 +1,6 @@
 -- The calls on a file's data rewrite the file.
 use Rattle.std.proofs.Common.{◌≡◌, ℕ, zero, suc, ◌<◌, ◌≤◌, ◌⊎◌, inl, inr, true, List, ◌∷◌, length, take, slice_index, sym, ap, ◌∙◌, arith}
-use Rattle.std.proofs.lemmas.Bool.{false≢true, cases_lt}
-use Rattle.std.proofs.lemmas.List.{get_or-take, length-take}
-use Rattle.adf_block.specs.Image.{IsInside, block_count, has_free_bit}
-use Rattle.adf_block.specs.Fields.{format_of}
-use Rattle.ados_model.specs.File.{data_blocks, extension_blocks, contents}
-use Rattle.ados_data.specs.Changing.{WritableFile}
-use Rattle.ados_data.specs.Others.{LeavesOthers}
+use Rattle.ados_change.proofs.Common.{false≢true, cases_lt, get_or-take, length-take, IsInside, block_count, has_free_bit, format_of, data_blocks, extension_blocks, contents, WritableFile, LeavesOthers}
 use Rattle.ados_data.specs.Growth.{GrowsFile}
 use Rattle.ados_change.proofs.Relaid.{ComesFrom, GoesTo, IsIn, IsRewritten}
 use Rattle.ados_data.proofs.Grown.{front_at}

@@ -1,24 +1,11 @@
 -- Each change of a field: how it changes the node's block, and the tree that the image then represents.
-use Rattle.std.proofs.Common.{◌≡◌, ◌≢◌, ℕ, ◌+◌, ◌<◌, ◌≤◌, ◌⊎◌, inl, inr, ◌==◌, List, length, Some, option_map, refl, sym, ap, ◌∙◌, subst, arith, eq-eqb, if◌then◌else◌}
-use Rattle.std.proofs.lemmas.Bool.{cases_eq, ne_eqb}
-use Rattle.adf_block.specs.Image.{block_sum, HasText}
-use Rattle.adf_block.specs.Fields.{protection}
-use Rattle.adf_block.specs.declared.layout.TheConstants.{COMMENT_BYTE, NAME_BYTE}
-use Rattle.adf_block.specs.Frame.{SameBut}
-use Rattle.adf_block.proofs.Frames.{same_weaken}
-use Rattle.ados_name.specs.declared.stamp.Date3.{Date3}
-use Rattle.ados_name.specs.Name.{IsName, IsComment}
-use Rattle.ados_model.specs.Tree.{Node, Tree, Proper, IsRoot, root}
-use Rattle.ados_model.specs.Stands.{HasEntry, Stands, date_at}
-use Rattle.ados_model.specs.Change.{changed, stamped, with_node}
-use Rattle.ados_change.specs.NewBlocks.{KeepsRest}
-use Rattle.ados_model.proofs.Nodes.{root_or_parent}
-use Rattle.ados_change.specs.Places.{Summed, Restamped}
+use Rattle.std.proofs.Common.{if◌then◌else◌, ◌≡◌, ◌≢◌, ℕ, ◌+◌, ◌<◌, ◌≤◌, ◌⊎◌, inl, inr, ◌==◌, List, length, Some, option_map, refl, sym, ap, ◌∙◌, subst, arith, eq-eqb}
+use Rattle.ados_change.proofs.Common.{cases_eq, ne_eqb, block_sum, HasText, protection, COMMENT_BYTE, NAME_BYTE, SameBut, same_weaken, Date3, IsName, IsComment, Node, Tree, Proper, IsRoot, root, HasEntry, Stands, date_at, changed, stamped, with_node, KeepsRest, root_or_parent, Summed, Restamped}
 use Rattle.ados_change.proofs.Retells.{retold, Retells}
 use Rattle.ados_change.proofs.Retold.{Telling, Tells, stands_retold}
 use Rattle.ados_change.proofs.FieldsKept.{IsTold, keeps_fields, telling_told, telling_written}
-use Rattle.ados_change.proofs.EntriesKept.{IsPlain, IsWritten}
-use Rattle.ados_change.proofs.EntriesKept.IsWritten.{of_node}
+use Rattle.ados_change.specs.steps.Footprint.{IsPlain, IsWritten}
+use Rattle.ados_change.specs.steps.Footprint.IsWritten.{of_node}
 use Rattle.ados_change.proofs.Summing.{text_beside, long_beside, date_beside}
 
 -- bytes low to high - 1 of the key's block may differ between the two nodes

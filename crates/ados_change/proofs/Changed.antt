@@ -1,13 +1,6 @@
 -- The nodes of a changed tree.
 use Rattle.std.proofs.Common.{◌≡◌, ◌≢◌, ℕ, ◌⊎◌, inl, inr, List, Option, Some, None, is_some, IsSome, option_map, option_and_then, refl, sym, ap, ◌∙◌, subst, eq-eqb}
-use Rattle.std.proofs.lemmas.Bool.{ne_eqb, cases_eq}
-use Rattle.ados_name.specs.Name.{slot}
-use Rattle.ados_name.specs.declared.stamp.Date3.{Date3}
-use Rattle.ados_model.specs.Tree.{Content, Node, Tree, entries, entries_in, name_of, parent_of}
-use Rattle.ados_model.specs.Parts.{name_in}
-use Rattle.ados_model.specs.Tree.Content.{Directory}
-use Rattle.ados_model.specs.Change.{with_node, changed, enter, listed, made}
-use Rattle.ados_model.specs.Edits.{new_node}
+use Rattle.ados_change.proofs.Common.{ne_eqb, cases_eq, slot, Date3, Content, Node, Tree, entries, entries_in, name_of, parent_of, name_in, Directory, with_node, changed, enter, listed, made, new_node}
 
 pub nodes_here : (key : ℕ) (o : Option Node) (t : Tree) → (with_node key o t).nodes key ≡ o
 nodes_here key o t = rw (eq-eqb key key refl) refl
@@ -21,6 +14,11 @@ changed_keeps p f key t same k = elim (cases_eq k key) [
   | inl e ↦ ap (λ (i : ℕ). p ((changed key f t).nodes i)) e ∙ ap p (nodes_here key (option_map f (t.nodes key)) t) ∙ same (t.nodes key) ∙ ap (λ (i : ℕ). p (t.nodes i)) (sym e)
   | inr n ↦ ap p (nodes_other key (option_map f (t.nodes key)) t k n)
 ]
+
+-- what holds of each node holds of an absent one
+pub each_keeps : {X : Type 0} (p : Option Node → X) (f : Node → Node) → ((a : Node) → p (Some (f a)) ≡ p (Some a)) → (o : Option Node) → p (option_map f o) ≡ p o
+each_keeps p f same None = refl
+each_keeps p f same (Some a) = same a
 
 -- the node that a node of the changed tree comes from
 pub record Was (f : Node → Node) (key : ℕ) (t : Tree) (k : ℕ) (node : Node) : Type 0 where
@@ -49,33 +47,32 @@ was_with P f key t k node keeps w h = elim (w.how) [
 abbrev pub relisted : Date3 → List ℕ → Node → Node
 relisted moment keys node = record node { content = Directory keys; date = moment }
 
+-- the parent of a node
+abbrev pub parent_field : Option Node → Option ℕ
+parent_field o = option_and_then (λ node. node.parent) o
+
 module _ (moment : Date3) (dir : ℕ) (keys : List ℕ) (t : Tree) where
   pub listed_names : (k : ℕ) → name_of (listed moment dir keys t) k ≡ name_of t k
-  listed_names k = changed_keeps name_in (relisted moment keys) dir t go k
-    where
-      go : (o : Option Node) → name_in (option_map (relisted moment keys) o) ≡ name_in o
-      go None = refl
-      go (Some a) = refl
+  listed_names = changed_keeps name_in (relisted moment keys) dir t (each_keeps name_in (relisted moment keys) (λ a. refl))
 
   pub listed_parents : (k : ℕ) → parent_of (listed moment dir keys t) k ≡ parent_of t k
-  listed_parents k = changed_keeps (option_and_then (λ node. node.parent)) (relisted moment keys) dir t go k
-    where
-      go : (o : Option Node) → option_and_then (λ node. node.parent) (option_map (relisted moment keys) o) ≡ option_and_then (λ node. node.parent) o
-      go None = refl
-      go (Some a) = refl
+  listed_parents = changed_keeps parent_field (relisted moment keys) dir t (each_keeps parent_field (relisted moment keys) (λ a. refl))
 
   pub listed_some : (k : ℕ) → is_some ((listed moment dir keys t).nodes k) ≡ is_some (t.nodes k)
-  listed_some k = changed_keeps is_some (relisted moment keys) dir t go k
-    where
-      go : (o : Option Node) → is_some (option_map (relisted moment keys) o) ≡ is_some o
-      go None = refl
-      go (Some a) = refl
+  listed_some = changed_keeps is_some (relisted moment keys) dir t (each_keeps is_some (relisted moment keys) (λ a. refl))
 
   pub listed_here : (a : Node) → t.nodes dir ≡ Some a → entries (listed moment dir keys t) dir ≡ keys
   listed_here a e = ap (λ (o : Option Node). entries_in (option_map (λ node. node.content) o)) (nodes_here dir (option_map (relisted moment keys) (t.nodes dir)) t ∙ ap (option_map (relisted moment keys)) e)
 
   pub listed_other : (d : ℕ) → d ≢ dir → entries (listed moment dir keys t) d ≡ entries t d
   listed_other d n = ap (λ (o : Option Node). entries_in (option_map (λ node. node.content) o)) (nodes_other dir (option_map (relisted moment keys) (t.nodes dir)) t d n)
+
+  -- a property of the new list and of all other lists
+  pub each_list : (P : ℕ → List ℕ → Type 0) (a : Node) → t.nodes dir ≡ Some a → P dir keys → ((d : ℕ) → d ≢ dir → P d (entries t d)) → (d : ℕ) → P d (entries (listed moment dir keys t) d)
+  each_list P a e here there d = elim (cases_eq d dir) [
+    | inl same ↦ subst (λ (i : ℕ). P i (entries (listed moment dir keys t) i)) (sym same) (subst (P dir) (sym (listed_here a e)) here)
+    | inr other ↦ subst (P d) (sym (listed_other d other)) (there d other)
+  ]
 
 -- the keys of a directory after an insertion
 abbrev with_key : ℕ → ℕ → Tree → List ℕ

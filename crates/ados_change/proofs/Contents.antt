@@ -1,12 +1,6 @@
 -- The tree with other bytes in a file.
 use Rattle.std.proofs.Common.{◌≡◌, ◌≢◌, ℕ, ◌⊎◌, inl, inr, List, length, Option, Some, option_map, option_and_then, refl, sym, ap, ◌∙◌, subst, eq-eqb}
-use Rattle.std.proofs.lemmas.Bool.{ne_eqb, cases_eq}
-use Rattle.ados_name.specs.Name.{IsName, IsComment}
-use Rattle.ados_model.specs.Tree.{Content, Node, Tree, Proper, root, entries_in, entries, size_of, name_of, parent_of}
-use Rattle.ados_model.specs.Parts.{size_in, name_in}
-use Rattle.ados_model.specs.Tree.Content.{Directory, File}
-use Rattle.ados_model.specs.Stands.{in_slot}
-use Rattle.ados_model.specs.Change.{changed}
+use Rattle.ados_change.proofs.Common.{ne_eqb, cases_eq, IsName, IsComment, Content, Node, Tree, Proper, root, entries_in, entries, size_of, name_of, parent_of, size_in, name_in, Directory, File, in_slot, changed}
 use Rattle.ados_change.proofs.SameLists.{proper_alike, slots_alike}
 
 -- the node with these bytes

@@ -1,56 +1,37 @@
--- The steps that make an entry.
-use Rattle.std.proofs.Common.{◌≡◌, ◌≢◌, ℕ, ◌+◌, ◌*◌, ◌/◌, ◌<◌, inl, inr, List, false, Some, refl, sym, ap, ◌∙◌, subst, arith}
-use Rattle.std.proofs.lemmas.Bool.{cases_eq}
-use Rattle.adf_block.specs.Frame.{OnlyBlock, SameBut}
-use Rattle.adf_block.specs.Image.{IsInside, block_count, has_free_bit, root_key}
-use Rattle.adf_block.specs.Whole.{HasFreeBit}
-use Rattle.adf_block.proofs.Frames.{same_count, same_trans}
-use Rattle.ados_map.specs.Changes.{MapPlace, BitChanged}
-use Rattle.ados_map.specs.Pages.{IsLowestFree, NoneFreeBelow, page_of, pages_of}
-use Rattle.ados_name.specs.declared.stamp.Date3.{Date3}
-use Rattle.ados_chain.proofs.Changes.{slot_at-small}
-use Rattle.ados_chain.specs.Chains.{LawfulChains, slot_at}
-use Rattle.ados_chain.specs.Relinks.{CanInsert, InsertsLast, link_block, link_long}
-use Rattle.ados_map.proofs.MarkLemmas.{bit_of_inside}
-use Rattle.ados_model.specs.Faults.{InImage}
-use Rattle.ados_model.specs.Change.{made, with_node}
-use Rattle.ados_model.specs.Edits.{new_node}
-use Rattle.ados_model.specs.Stands.{Stands, Duty, HasDuty, in_slot}
-use Rattle.ados_model.specs.Tree.{Node, Tree, root}
-use Rattle.ados_model.specs.Parts.{IsUnused, size_in}
-use Rattle.ados_change.specs.NewBlocks.{KeepsRest, TakesLowest}
-use Rattle.ados_change.specs.Untold.{KeepsPastEnd}
+-- The steps that make an entry: a free block is allocated and filled, and the entry is listed. The image represents the
+-- tree with it.
+use Rattle.std.proofs.Common.{◌≡◌, ◌≢◌, ℕ, ◌+◌, ◌*◌, ◌/◌, ◌<◌, inl, inr, List, false, Some, refl, sym, ap, ◌∙◌, subst, arith, zero, suc, ◌-◌, ◌≤◌, ◌⊎◌, min, ◌∷◌, length, slice_index, Contains, []}
+use Rattle.ados_change.proofs.Common.{cases_eq, OnlyBlock, SameBut, IsInside, block_count, has_free_bit, root_key, HasFreeBit, same_count, same_trans, MapPlace, BitChanged, IsLowestFree, NoneFreeBelow, page_of, pages_of, Date3, slot_at-small, LawfulChains, slot_at, CanInsert, InsertsLast, link_block, link_long, bit_of_inside, InImage, made, with_node, new_node, Stands, Duty, HasDuty, in_slot, Node, Tree, root, IsUnused, size_in, KeepsRest, TakesLowest, KeepsPastEnd, CanMake, IsEmpty, content_of, IsNewEntry, Dated, get_or_default, nil_from_length, Format, Ofs, Ffs, Chained, block_sum, bytes_at, long, table_entry, NEXT_IN_CHAIN, InBlock, other_block_sum, same_sum, page_block, data_count, extension_count, Content, size_of, HasFile, HasNode, HasEntry, Directory, File, entered, slice_get-index, IsNewField}
+use Rattle.ados_change.proofs.Making.{zero_long, no_duty, unused}
+use Rattle.ados_change.proofs.Frame.{at_root, dated_count}
 use Rattle.ados_change.proofs.FilesStay.{past_end_trans}
 use Rattle.ados_change.specs.declared.node_kind.NodeKind.{NodeKind}
-use Rattle.ados_change.specs.declared.node_kind.NodeKind.TheVariants as kinds
-use Rattle.ados_change.specs.Conditions.{CanMake, IsEmpty}
-use Rattle.ados_change.specs.Kinds.{content_of}
-use Rattle.ados_change.specs.steps.Making.{IsNewEntry}
-use Rattle.ados_change.specs.Places.{Summed}
-use Rattle.ados_change.specs.steps.Writes.{Dated}
 use Rattle.ados_change.proofs.Changed.{made_here, nodes_here, nodes_other}
 use Rattle.ados_change.proofs.FirstFree.{AtLink, dated_there, linked_there, stamped_there, takes_key}
-use Rattle.ados_change.proofs.Lawful.{lawful_chains, page_is, page_within}
+use Rattle.ados_change.proofs.Lawful.{lawful_chains, page_is, page_within, count}
+use Rattle.ados_change.specs.steps.Footprint.{IsChanged, IsPage, IsWritten}
 use Rattle.ados_change.proofs.Writable.{lawful_pages}
-use Rattle.ados_change.proofs.EntriesKept.{IsChanged, IsPage, IsWritten, changed_kept, page_changed, written_changed}
+use Rattle.ados_change.proofs.EntriesKept.{changed_kept, page_changed, written_changed}
 use Rattle.ados_change.proofs.KeptSteps.{IsKnown, dated_kept, filled_kept, linked_kept, marked_kept, stamped_kept}
-use Rattle.ados_change.proofs.Listing.{can_insert, place_behind}
-use Rattle.ados_change.proofs.Loose.{Loose, proper_is_loose}
-use Rattle.ados_change.proofs.Making.{begun_spells, made_spells, made_stands, no_duty, unused}
-use Rattle.ados_change.proofs.ProperChanges.{IsDirectoryNode, begun_is_loose, dir_not_key, directory_at}
+use Rattle.ados_change.proofs.Listing.{can_insert, place_behind, entered_spells, stamped_spells}
+use Rattle.ados_change.proofs.Loose.{Loose, proper_is_loose, unused_is_loose}
+use Rattle.ados_change.proofs.ProperChanges.{IsDirectoryNode, begun_is_loose, dir_not_key, directory_at, entered_proper, made_is_proper}
 use Rattle.ados_change.proofs.Relisted.{IsLinkPlace}
-use Rattle.ados_change.proofs.Spells.{Spells, spells}
+use Rattle.ados_change.proofs.Spells.{Spells, spells, stands}
 use Rattle.ados_change.proofs.EntriesUntold.{HasPages, IsOffMap, bit_past_end, freed_stays, off_marks, off_past_end, old_pages, pages_after, untold_kept, written_off}
+use Rattle.ados_data.proofs.Marks.{mark_kept}
+use Rattle.ados_change.proofs.Remarked.{IsAlone, Remarks, remarked}
+use Rattle.ados_change.specs.declared.node_kind.NodeKind.TheVariants as kinds
 
--- the disk date is written into the root
-pub at_root : (old new : List ℕ) (t : Tree) (moment : Date3) → block_count old ≡ t.blocks → Dated (root_key (block_count old)) 118 moment old new → Dated (root t) 118 moment old new
-at_root old new t moment count h = subst (λ (n : ℕ). Dated (root_key n) 118 moment old new) count h
-
-pub dated_count : (b i : ℕ) (moment : Date3) (old new : List ℕ) → Dated b i moment old new → block_count new ≡ block_count old
-dated_count b i moment old new h = same_count (Summed b (4 * i) (4 * i + 12)) old new h.rest
+no_text : (image : List ℕ) (b : ℕ) → bytes_at image b 329 0 ≡ []
+unfolding bytes_at
+no_text image b = refl
 
 module _ (old m1 m2 : List ℕ) (t : Tree) (st : Stands old t) (moment : Date3) (dir key : ℕ) (name : List ℕ) (kind : NodeKind) (can : CanMake t dir name)
     (low : IsLowestFree old key) (taken : BitChanged old key false m1) (filled : OnlyBlock key m1 m2) (entry : IsNewEntry m2 key dir name (content_of kind) moment) where
+  abbrev new : Node
+  new = new_node moment dir name (content_of kind)
+
   no_contents : IsEmpty (content_of kind) × (size_in (Some (content_of kind)) ≡ 0)
   no_contents = go kind
     where
@@ -61,11 +42,150 @@ module _ (old m1 m2 : List ℕ) (t : Tree) (st : Stands old t) (moment : Date3) 
   fresh : IsUnused t key
   fresh = unused old t st key low
 
+  s : Spells old t st.layout
+  s = spells old t st
+
+  first_loose : Loose t key
+  first_loose = unused_is_loose t key st.proper fresh.no_node
+
+  no_duties : (duty : Duty) → ¬ HasDuty t st.layout key duty
+  no_duties = no_duty old t st.layout s key fresh.inside low.free
+
+  alone : IsAlone t st.layout key (Some new)
+  alone = record {
+    inside = fresh.inside;
+    only = λ duty m. absurd (no_duties duty m);
+    same_list = let none = fresh.no_node in rw none no_contents.0;
+    size_after = no_contents.1;
+    size_before = let none = fresh.no_node in rw none refl;
+  }
+
+  small : block_count old ≤ 101602
+  small = omega (arith, st.whole, st.proper.size.1)
+
+  page_there : (p : ℕ) → p < pages_of old → page_block old p ≡ slice_index st.layout.pages p
+  page_there p m = page_is old t st.layout key s first_loose p (page_within old t st.layout key s first_loose p m)
+
+  key_no_page : (p : ℕ) → p < pages_of old → page_block old p ≢ key
+  key_no_page p m e =
+      no_duties (Duty.Page p) (slice_get-index st.layout.pages p (page_within old t st.layout key s first_loose p m) ∙ ap Some (sym (page_there p m) ∙ e))
+
+  own_page : page_of key < pages_of old
+  own_page = omega (arith, low.inside.0, low.inside.1)
+
+  -- ---- the mark
+
+  mark_end : KeepsPastEnd old m1
+  mark_end = bit_past_end old t st old m1 key false (old_pages old t st) (lawful_pages old t st) low.inside taken
+
+  count_m1 : block_count m1 ≡ block_count old
+  count_m1 = same_count (MapPlace old key) old m1 taken.rest
+
+  marked_map : HasPages old t st m1
+  marked_map = pages_after old t st old m1 count_m1 mark_end (old_pages old t st)
+
+  mark_after : (b : ℕ) → IsInside t.blocks b → has_free_bit m2 b ≡ has_free_bit m1 b
+  mark_after b i =
+      mark_kept (InBlock key) m1 m2 filled (omega (arith, count_m1, small))
+      (λ k e. first_loose.not_root (sym e ∙ ap root_key (count_m1 ∙ count old t st.layout key s first_loose)))
+      (λ p k m e. let q : p < pages_of old = omega (arith, m, count_m1) in key_no_page p q (sym (mark_end.pages p q) ∙ e))
+      b (bit_of_inside m1 b (i.0, omega (arith, i.1, count_m1, st.whole)))
+
+  remarks : Remarks old t st.layout key (Some new) m2
+  remarks = record {
+    change = record {
+      same_length = filled.same_length ∙ taken.rest.same_length;
+      same_byte = λ b i m n. filled.same_byte b i m (λ e. n (inr e)) ∙ taken.rest.same_byte b i m (λ w. n (inl (page_of key, page_within old t st.layout key s first_loose (page_of key) own_page, sym (page_there (page_of key) own_page) ∙ sym w.0)));
+    };
+    bit = mark_after key fresh.inside ∙ taken.bit;
+    others = λ b i n. mark_after b i ∙ taken.others b (bit_of_inside old b (i.0, omega (arith, i.1, st.whole))) n;
+    sums = λ page m. page_sum page m;
+  }
+    where
+      page_sum : (page : ℕ) → Contains st.layout.pages page → block_sum m2 page ≡ 0
+      page_sum page m =
+          let at : slice_index st.layout.pages m.0 ≡ page = get_or_default st.layout.pages m.0 0 page m.1 ∙ m.2 in
+          let within : m.0 < pages_of old = omega (arith, m.1, st.fits.pages, count old t st.layout key s first_loose) in
+          let here : page_block old m.0 ≡ page = page_there m.0 within ∙ at in
+          let other : page ≢ key = λ e. key_no_page m.0 within (here ∙ e) in
+          other_block_sum key m1 m2 filled page other ∙ elim (cases_eq (page_block old (page_of key)) page) [
+            | inl e ↦ ap (block_sum m1) (sym e) ∙ taken.sum ∙ ap (block_sum old) e ∙ st.pages page m
+            | inr n ↦ same_sum (MapPlace old key) old m1 taken.rest page (λ k o w. n (sym w.0)) ∙ st.pages page m
+          ]
+
+  -- ---- the bytes of the block
+
+  -- bytes outside the fields of a new entry
+  zero_at : (i : ℕ) → ((2 ≤ i) × (i < 5)) ⊎ (((6 ≤ i) × (i < 105)) ⊎ ((i ≡ 124) ⊎ (i ≡ 126))) → long m2 key i ≡ 0
+  zero_at i o = zero_long m2 key i (λ k p q. entry.zeros k (omega (arith, o, q)) (λ f. let short = can.valid.short in omega (arith, p, q, o, f, short)))
+
+  no_blocks : st.layout.file_data key ≡ []
+  no_blocks =
+      let size : size_of t key ≡ 0 = alone.size_before in
+      nil_from_length (st.layout.file_data key) (st.fits.file_data key ∙ ap (data_count t.format) size ∙ none t.format)
+    where
+      none : (f : Format) → data_count f 0 ≡ 0
+      none Ofs = refl
+      none Ffs = refl
+
+  no_extensions : st.layout.extensions key ≡ []
+  no_extensions = nil_from_length (st.layout.extensions key) (st.fits.extensions key ∙ ap (λ (xs : List ℕ). extension_count (length xs)) no_blocks)
+
+  node_here : (a : Node) → Some new ≡ Some a → HasNode m2 key a
+  node_here a e =
+      let same : new ≡ a = cc e in
+      subst (HasNode m2 key) same (record { primary = entry.primary; sum = entry.summed; name = entry.named; date = entry.date })
+
+  entry_here : (a : Node) (d : ℕ) → Some new ≡ Some a → a.parent ≡ Some d → HasEntry m2 key a d
+  entry_here a d e p =
+      let same : new ≡ a = cc e in
+      let dirs : dir ≡ d = let q : Some dir ≡ Some d = ap (λ (n : Node). n.parent) same ∙ p in cc q in
+      subst (λ (n : Node). HasEntry m2 key n d) same (subst (HasEntry m2 key new) dirs (record {
+        key_field = entry.key_field;
+        protection_field = zero_at 80 (inr (inl (omega arith, omega arith)));
+        comment = record { counted = entry.zeros 328 (omega arith) no_comment; follows = no_text m2 key };
+        parent = entry.parent;
+        secondary = entry.secondary;
+      }))
+    where
+      no_comment : ¬ IsNewField (length name) 328
+      no_comment f = omega (arith, f)
+
+  slots_here : (a : Node) (keys : List ℕ) (q : ℕ) → Some new ≡ Some a → a.content ≡ Directory keys → q < 72 → Chained m2 NEXT_IN_CHAIN (table_entry m2 key q) (in_slot t key q)
+  slots_here a keys q e c m = subst (Chained m2 NEXT_IN_CHAIN (table_entry m2 key q)) (sym (no_entries q)) (zero_at (6 + q) (inr (inl (omega arith, omega (arith, m)))))
+    where
+      no_entries : (q : ℕ) → in_slot t key q ≡ []
+      no_entries q = let none = fresh.no_node in rw none refl
+
+  file_here : (a : Node) (bytes : List ℕ) → Some new ≡ Some a → a.content ≡ File bytes → HasFile m2 t.format key (st.layout.file_data key) (st.layout.extensions key) bytes
+  file_here a bytes e c =
+      let same : new ≡ a = cc e in
+      let short : length bytes ≡ 0 = ap (λ (d : Content). size_in (Some d)) (sym c ∙ ap (λ (n : Node). n.content) (sym same)) ∙ no_contents.1 in
+      let none : bytes ≡ [] = nil_from_length bytes short in
+      subst (λ (bs : List ℕ). HasFile m2 t.format key (st.layout.file_data key) (st.layout.extensions key) bs) (sym none)
+      (subst (λ (xs : List ℕ). HasFile m2 t.format key xs (st.layout.extensions key) []) (sym no_blocks)
+      (subst (λ (xs : List ℕ). HasFile m2 t.format key [] xs []) (sym no_extensions) (record {
+        size = zero_at 81 (inr (inl (omega arith, omega arith)));
+        chain = zero_at 126 (inr (inr (inr refl)));
+        extension = λ i m. absurd (omega (arith, m));
+        counts = λ i m. first_count i m;
+        pointers = λ i m. absurd (omega (arith, m));
+        contents = λ i m. absurd (omega (arith, m));
+        ofs_chain = λ o. zero_at 4 (inl (omega arith, omega arith));
+        ofs_data = λ o i m. absurd (omega (arith, m));
+      })))
+    where
+      first_count : (i : ℕ) → i ≤ 0 → long m2 (slice_index (key ∷ []) i) 2 ≡ min 72 (0 - 72 * i)
+      first_count zero m = zero_at 2 (inl (omega arith, omega arith))
+      first_count (suc i) m = absurd (omega (arith, m))
+
+  -- ---- the tree with the new node
+
   abbrev begun : Tree
-  begun = with_node key (Some (new_node moment dir name (content_of kind))) t
+  begun = with_node key (Some new) t
 
   spelled : Spells m2 begun st.layout
-  spelled = begun_spells old m1 m2 t st moment dir key name (content_of kind) can fresh no_contents.0 no_contents.1 low taken filled entry
+  spelled = remarked old m2 t st.layout key (Some new) s first_loose alone remarks node_here entry_here slots_here file_here
 
   loose : Loose begun key
   loose = begun_is_loose t moment dir key name (content_of kind) st.proper can fresh no_contents.0
@@ -76,17 +196,14 @@ module _ (old m1 m2 : List ℕ) (t : Tree) (st : Stands old t) (moment : Date3) 
   apart : dir ≢ key
   apart = dir_not_key t moment dir key name (content_of kind) st.proper can fresh no_contents.0
 
+  not_dir : key ≢ dir
+  not_dir e = apart (sym e)
+
   dir_node : begun.nodes dir ≡ Some directory.node
-  dir_node = nodes_other key (Some (new_node moment dir name (content_of kind))) t dir apart ∙ directory.at
+  dir_node = nodes_other key (Some new) t dir apart ∙ directory.at
 
   pub insertable : CanInsert m2 dir key
-  insertable = can_insert m2 m2 m2 begun st.layout key spelled loose dir directory.node directory.keys dir_node directory.content (new_node moment dir name (content_of kind)) (nodes_here key (Some (new_node moment dir name (content_of kind))) t) (λ e. apart (sym e))
-
-  chains : LawfulChains m2 dir (in_slot begun dir)
-  chains = lawful_chains m2 begun st.layout key spelled loose dir directory.node directory.keys dir_node directory.content
-
-  count_m2 : block_count m2 ≡ t.blocks
-  count_m2 = omega (arith, spelled.whole)
+  insertable = can_insert m2 m2 m2 begun st.layout key spelled loose dir directory.node directory.keys dir_node directory.content new (nodes_here key (Some new) t) not_dir
 
   abbrev slot_key : ℕ
   slot_key = slot_at m2 key
@@ -96,30 +213,25 @@ module _ (old m1 m2 : List ℕ) (t : Tree) (st : Stands old t) (moment : Date3) 
 
   module _ (m3 : List ℕ) (inserts : (chains : ℕ → List ℕ) → LawfulChains m2 dir chains → InsertsLast dir key chains m2 m3) where
     inserted : InsertsLast dir key (in_slot begun dir) m2 m3
-    inserted = inserts (in_slot begun dir) chains
+    inserted = inserts (in_slot begun dir) (lawful_chains m2 begun st.layout key spelled loose dir directory.node directory.keys dir_node directory.content)
 
     pub room : dir < block_count m3
     room = inserted.lawful.inside.1
 
-    count_m3 : block_count m3 ≡ t.blocks
-    count_m3 = same_count _ m2 m3 inserted.relinks.rest ∙ count_m2
-
     module _ (m4 m5 : List ℕ) (dated : Dated dir 105 moment m3 m4) (stamp : Dated (root_key (block_count m4)) 118 moment m4 m5) where
-      pub created : Stands m5 (made moment dir key name (content_of kind) t)
-      created =
-          made_stands old m1 m2 t st moment dir key name (content_of kind) can fresh no_contents.0 no_contents.1 low taken filled entry m3 m4 m5 inserted dated
-          (at_root m4 m5 t moment (dated_count dir 105 moment m3 m4 dated ∙ count_m3) stamp)
-
       restamped : Dated (root t) 118 moment m4 m5
-      restamped = at_root m4 m5 t moment (dated_count dir 105 moment m3 m4 dated ∙ count_m3) stamp
+      restamped = at_root m4 m5 t moment (dated_count dir 105 moment m3 m4 dated ∙ same_count _ m2 m3 inserted.relinks.rest ∙ omega (arith, spelled.whole)) stamp
 
       after : Spells m5 (made moment dir key name (content_of kind) t) st.layout
-      after = made_spells old m1 m2 t st moment dir key name (content_of kind) can fresh no_contents.0 no_contents.1 low taken filled entry m3 m4 m5 inserted dated restamped
+      after =
+          let listed = entered_spells m2 m3 m4 begun st.layout key spelled loose dir directory.node directory.keys dir_node directory.content new (nodes_here key (Some new) t) not_dir inserted moment dated in
+          let proper = proper_is_loose (entered moment dir key begun) (entered_proper t moment dir key name (content_of kind) st.proper can fresh no_contents.0) in
+          stamped_spells m4 m5 (entered moment dir key begun) st.layout 0 listed proper moment restamped
+
+      pub created : Stands m5 (made moment dir key name (content_of kind) t)
+      created = stands m5 (made moment dir key name (content_of kind) t) st.layout (made_is_proper t moment dir key name (content_of kind) st.proper can fresh no_contents.0) after
 
       -- ---- what is written
-
-      no_duties : (duty : Duty) → ¬ HasDuty t st.layout key duty
-      no_duties = no_duty old t st.layout (spells old t st) key fresh.inside low.free
 
       in_use : ¬ HasFreeBit m5 key
       in_use free = after.marked_free key fresh.inside free (Duty.Key, made_here moment dir key name (content_of kind) t)
@@ -127,18 +239,11 @@ module _ (old m1 m2 : List ℕ) (t : Tree) (st : Stands old t) (moment : Date3) 
       known : (k : ℕ) (x : Node) → begun.nodes k ≡ Some x → k ≢ root t → IsKnown old t st m5 k
       known k x e n = elim (cases_eq k key) [
         | inl same ↦ subst (IsKnown old t st m5) (sym same) (inr (fresh.inside.0, in_use, no_duties))
-        | inr other ↦ inl (x, sym (nodes_other key (Some (new_node moment dir name (content_of kind))) t k other) ∙ e, n)
+        | inr other ↦ inl (x, sym (nodes_other key (Some new) t k other) ∙ e, n)
       ]
 
-      own_page : page_of key < pages_of old
-      own_page = omega (arith, low.inside.0, low.inside.1)
-
       marked : SameBut (λ b i. IsPage old t st b) old m1
-      marked =
-          let whole = proper_is_loose t st.proper in
-          let within = page_within old t st.layout 0 (spells old t st) whole (page_of key) own_page in
-          let page = page_is old t st.layout 0 (spells old t st) whole (page_of key) within in
-          marked_kept old t st m5 key (page_of key) false old m1 within (sym page) taken
+      marked = marked_kept old t st m5 key (page_of key) false old m1 (page_within old t st.layout key s first_loose (page_of key) own_page) (sym (page_there (page_of key) own_page)) taken
 
       -- no bitmap block is written after the mark
       beside_map : SameBut (IsWritten old t st m5) m1 m5
@@ -155,19 +260,7 @@ module _ (old m1 m2 : List ℕ) (t : Tree) (st : Stands old t) (moment : Date3) 
       created_changed : SameBut (IsChanged old t st m5) old m5
       created_changed = same_trans (IsChanged old t st m5) old m1 m5 (page_changed old t st m5 old m1 marked) (written_changed old t st m5 m1 m5 beside_map)
 
-      no_root : key ≢ root t
-      no_root e = cc (sym fresh.no_node ∙ ap t.nodes e ∙ st.proper.root_node.1)
-
       -- ---- the bitmap
-
-      mark_end : KeepsPastEnd old m1
-      mark_end = bit_past_end old t st old m1 key false (old_pages old t st) (lawful_pages old t st) low.inside taken
-
-      count_m1 : block_count m1 ≡ block_count old
-      count_m1 = same_count (MapPlace old key) old m1 taken.rest
-
-      marked_map : HasPages old t st m1
-      marked_map = pages_after old t st old m1 count_m1 mark_end (old_pages old t st)
 
       off_map : SameBut (IsOffMap old t st) m1 m5
       off_map = written_off old t st m5 m1 m5 beside_map
@@ -180,10 +273,10 @@ module _ (old m1 m2 : List ℕ) (t : Tree) (st : Stands old t) (moment : Date3) 
           takes_key m2 m5 key dir name (content_of kind) moment entry
           (same_trans (AtLink key) m2 m4 m5
           (same_trans (AtLink key) m2 m3 m4
-          (linked_there key dir t apart no_root begun (link_block dir (in_slot begun dir slot_key)) (link_long (6 + slot_key) (in_slot begun dir slot_key)) key link_at m2 m3 inserted.relinks)
-          (dated_there key dir t apart no_root moment m3 m4 dated))
-          (stamped_there key dir t apart no_root moment m4 m5 restamped))
-          old t low no_root other_mark created
+          (linked_there key dir t apart loose.not_root begun (link_block dir (in_slot begun dir slot_key)) (link_long (6 + slot_key) (in_slot begun dir slot_key)) key link_at m2 m3 inserted.relinks)
+          (dated_there key dir t apart loose.not_root moment m3 m4 dated))
+          (stamped_there key dir t apart loose.not_root moment m4 m5 restamped))
+          old t low loose.not_root other_mark created
 
       pub created_keeps : KeepsRest old m5
       created_keeps = record {

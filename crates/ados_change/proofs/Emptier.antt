@@ -1,34 +1,18 @@
 -- A file is emptied before its removal; a directory has nothing to empty.
-use Rattle.std.proofs.Common.{◌≡◌, ◌≢◌, ℕ, ◌/◌, ◌<◌, inl, inr, List, take, Option, Some, None, option_map, option_and_then, refl, sym, ap, ◌∙◌, subst, arith}
-use Rattle.adf_block.specs.Frame.{OnlyBlock}
-use Rattle.adf_block.specs.Image.{block_count, byte_at, has_free_bit}
-use Rattle.adf_block.specs.Whole.{HasFreeBit}
-use Rattle.adf_block.specs.Fields.{secondary_type}
-use Rattle.adf_block.specs.declared.layout.TheConstants.{FILE_TYPE}
-use Rattle.std.proofs.lemmas.Bool.{cases_eq}
-use Rattle.ados_name.specs.declared.stamp.Date3.{Date3}
-use Rattle.ados_model.specs.Change.{changed, left, removed}
-use Rattle.ados_model.specs.Edits.{shortened}
-use Rattle.ados_name.specs.Name.{without_archive}
-use Rattle.ados_model.specs.Stands.{Stands, type_of}
-use Rattle.ados_model.specs.Tree.{Content, Node, Tree, bytes_of, content_at, entries_in, size_of}
-use Rattle.ados_model.specs.Parts.{size_in}
-use Rattle.ados_model.specs.Tree.Content.{Directory, File}
-use Rattle.ados_model.specs.Faults.{InImage}
-use Rattle.ados_model.specs.Keys.{HasFileKey}
-use Rattle.ados_change.specs.Untold.{HasFileBytes, KeepsUntold}
+use Rattle.std.proofs.Common.{◌≡◌, ◌≢◌, ℕ, zero, suc, ◌+◌, ◌*◌, ◌/◌, ◌<◌, ◌≤◌, inl, inr, List, ◌∷◌, length, slice_index, take, Option, Some, None, option_map, option_and_then, refl, sym, ap, ◌∙◌, subst, arith, []}
+use Rattle.ados_change.proofs.Common.{cases_lt, nil_from_length, Format, Ofs, Ffs, data_count, extension_count, data_blocks, extension_blocks, IsBeside, root_key, page_count, page_block, pages_of, root_is, count_same, Duty, HasDuty, root, NAME_BYTE, COMMENT_BYTE, SameBut, IsDiskStamp, OnlyBlock, block_count, byte_at, has_free_bit, HasFreeBit, secondary_type, FILE_TYPE, cases_eq, Date3, changed, left, removed, shortened, without_archive, Stands, type_of, Content, Node, Tree, bytes_of, content_at, entries_in, size_of, size_in, Directory, File, InImage, HasFileKey, HasFileBytes, KeepsUntold, KeepsBlock, KeepsRest, TakesNone, directory_node, parent_in, one_tree, CanRemove, get_or_past, root_of}
+use Rattle.ados_model.proofs.Counting.{slice_get-back}
+use Rattle.ados_change.specs.steps.Footprint.{IsChanged, IsPage, IsPlain, IsWritten}
+use Rattle.ados_change.specs.steps.Footprint.IsWritten.{of_none, of_node, of_name, of_comment}
+use Rattle.ados_change.proofs.EntriesKept.{changed_kept}
+use Rattle.ados_change.proofs.Writable.{data_is, extensions_is, page_serves}
 use Rattle.ados_change.proofs.FilesStay.{has_bytes, untold_trans}
-use Rattle.ados_model.specs.Kept.{Kept}
-use Rattle.ados_change.specs.NewBlocks.{KeepsBlock, KeepsRest, TakesNone}
 use Rattle.ados_change.proofs.Keeping.{none_taken}
-use Rattle.ados_model.proofs.Nodes.{directory_node, parent_in}
-use Rattle.ados_model.proofs.OneTree.{one_tree}
-use Rattle.ados_change.specs.Conditions.{CanRemove}
-use Rattle.ados_change.specs.steps.Emptied.{Empties, GivesBack, IsEmptied}
+use Rattle.ados_change.specs.steps.Emptied.{Empties, GivesBack, IsEmptied, WritesOnlyEntry}
 use Rattle.ados_change.proofs.Changed.{nodes_here, nodes_other, relisted}
 use Rattle.ados_change.proofs.Emptying.{removed_same}
 use Rattle.ados_change.proofs.Loose.{left_is, not_own_parent, kept as remaining}
-use Rattle.ados_change.proofs.Unreached.{kept_still, marks_stay, stands_still, untold_still}
+use Rattle.ados_change.proofs.Unreached.{marks_stay, stands_still, untold_still}
 
 module _ (old : List ℕ) (t : Tree) (st : Stands old t) (key : ℕ) (can : CanRemove t key) where
   abbrev entry : (a : Node) × (t.nodes key ≡ Some a) × (a.parent ≡ Some can.dir)
@@ -77,6 +61,19 @@ module _ (old : List ℕ) (t : Tree) (st : Stands old t) (key : ℕ) (can : CanR
       same = removed_same t key can.dir moment shorter (λ a. refl) can.listed (not_own_parent t st.proper key can.dir can.listed moment);
     }
 
+    -- a file without bytes has no blocks, so a block beside the entry is beside its lists
+    pub beside_none : (mid : List ℕ) → Stands mid (shortened moment key 0 t) → (b : ℕ) → IsBeside old key [] [] b → IsBeside old key (data_blocks mid key) (extension_blocks mid key) b
+    beside_none mid s b n =
+        let u = shortened moment key 0 t in
+        let blocks = nil_from_length (s.layout.file_data key) (s.fits.file_data key ∙ ap (data_count t.format) cut_to_nothing.no_bytes ∙ none t.format) in
+        let lists = nil_from_length (s.layout.extensions key) (s.fits.extensions key ∙ ap (λ (xs : List ℕ). extension_count (length xs)) blocks) in
+        subst (λ (xs : List ℕ). IsBeside old key xs (extension_blocks mid key) b) (sym (data_is mid u s key (shorter entry.0) (take 0 (bytes_of t key)) cut_node refl ∙ blocks))
+        (subst (λ (xs : List ℕ). IsBeside old key [] xs b) (sym (extensions_is mid u s key (shorter entry.0) (take 0 (bytes_of t key)) cut_node refl ∙ lists)) n)
+      where
+        none : (f : Format) → data_count f 0 ≡ 0
+        none Ofs = refl
+        none Ffs = refl
+
 -- the image represents only this tree, so a fact about one of its trees is a fact about each
 module _ (moment : Date3) (key : ℕ) (old mid : List ℕ) (t : Tree) (st : Stands old t) (empties : Empties moment key old mid) where
   abbrev emptied : (u : Tree) × Stands mid u × IsEmptied moment key t u
@@ -91,14 +88,32 @@ module _ (moment : Date3) (key : ℕ) (old mid : List ℕ) (t : Tree) (st : Stan
   pub taken_away : (new : List ℕ) → ((v : Tree) → Stands mid v → Stands new (removed moment key v)) → Stands new (removed moment key t)
   taken_away new gone = subst (Stands new) emptied.2.same (gone emptied.0 emptied.1)
 
+-- bytes outside the image are 0
+outside_same : (old new : List ℕ) (blocks : ℕ) → length old ≡ 512 * blocks → length new ≡ length old → (b i : ℕ) → block_count old ≤ b → byte_at new b i ≡ byte_at old b i
+unfolding byte_at
+outside_same old new blocks whole same b i past = get_or_past new (512 * b + i) 0 (omega (arith, whole, same, past)) ∙ sym (get_or_past old (512 * b + i) 0 (omega (arith, whole, past)))
+
 -- emptying an entry, removing it and writing the old bytes into its block again
-module _ (moment : Date3) (key : ℕ) (old mid away new : List ℕ) (t : Tree) (st : Stands old t) (can : CanRemove t key) (empties : KeepsRest old mid) (none : TakesNone old mid) (kept : Kept old away)
-    (gives : GivesBack key mid away) (gone : Stands away (removed moment key t)) (back : OnlyBlock key away new) where
+module _ (moment : Date3) (key : ℕ) (old mid away new : List ℕ) (t : Tree) (st : Stands old t) (can : CanRemove t key) (empties : KeepsRest old mid) (none : TakesNone old mid) (emptied : Empties moment key old mid)
+    (footprint : (u : Tree) (s : Stands mid u) → SameBut (IsChanged mid u s away) mid away) (gives : GivesBack key mid away) (gone : Stands away (removed moment key t)) (back : OnlyBlock key away new) where
+  -- the tree with the entry emptied
+  abbrev between : (u : Tree) × Stands mid u × IsEmptied moment key t u
+  between = emptied t st
+
+  last : SameBut (IsChanged mid between.0 between.1 away) mid away
+  last = footprint between.0 between.1
+
+  count_mid : block_count mid ≡ block_count old
+  count_mid = ap (λ (n : ℕ). n / 512) empties.kept.size
+
+  count_away : block_count away ≡ block_count old
+  count_away = ap (λ (n : ℕ). n / 512) last.same_length ∙ count_mid
+
   in_mid : (b : ℕ) → InImage old b → InImage mid b
-  in_mid b i = (i.0, omega (arith, i.1, ap (λ (n : ℕ). n / 512) empties.kept.size))
+  in_mid b i = (i.0, omega (arith, i.1, count_mid))
 
   in_away : (b : ℕ) → InImage old b → InImage away b
-  in_away b i = (i.0, omega (arith, i.1, ap (λ (n : ℕ). n / 512) kept.size))
+  in_away b i = (i.0, omega (arith, i.1, count_away))
 
   key_in_away : InImage away key
   key_in_away = let n = entry old t st key can in let i = st.proper.inside key n.0 n.1 in in_away key (i.0, omega (arith, i.1, st.whole))
@@ -112,8 +127,66 @@ module _ (moment : Date3) (key : ℕ) (old mid away new : List ℕ) (t : Tree) (
   pub takes_none : TakesNone old new
   takes_none b i free = mark b i ∙ gives.none b (in_mid b i) (none b i free)
 
-  -- all other files have the same bytes
-  module _ (emptied : Empties moment key old mid) (untold : KeepsUntold mid away) where
+  module _ (untold : KeepsUntold mid away) (only : WritesOnlyEntry key old mid) (dead : KeepsBlock key old new) where
+    -- ---- what is written
+
+    same_root : root between.0 ≡ root t
+    same_root = ap root_key (omega (arith, st.whole, between.1.whole, empties.kept.size))
+
+    -- a bitmap block is still the same
+    page_was : (b : ℕ) → IsPage mid between.0 between.1 b → IsPage old t st b
+    page_was b p =
+        let at = slice_get-back between.1.layout.pages p.0 b p.1 in
+        let now : p.0 < pages_of mid = omega (arith, at.0, between.1.fits.pages, ap page_count (count_same mid between.0 between.1)) in
+        let then : p.0 < pages_of old = omega (arith, now, ap page_count count_mid) in
+        let same : page_block mid p.0 ≡ b = cc (page_serves mid between.0 between.1 p.0 now, p.1) in
+        (p.0, subst (λ (c : ℕ). HasDuty t st.layout c (Duty.Page p.0)) (sym (empties.untold.past_end.pages p.0 then) ∙ same) (page_serves old t st p.0 then))
+
+    -- what the removal writes outside the entry's block is in the footprint of the whole change
+    carried : (b i : ℕ) → b < block_count old → b ≢ key → IsChanged mid between.0 between.1 away b i → IsChanged old t st new b i
+    carried b i inside n (inl p) = inl (page_was b p)
+    carried b i inside n (inr (of_none l used unnamed)) =
+        let named = between.1.marked_used b (l, omega (arith, inside, st.whole, between.1.whole, empties.kept.size)) (λ f. used (gives.none b (in_mid b (l, inside)) f)) in
+        absurd (unnamed named.0 named.1)
+    carried b i inside n (inr (of_node a e p)) = inr (of_node a (sym (between.2.others b n) ∙ e) (subst (λ (r : ℕ). IsPlain r b a (i / 4)) same_root p))
+    carried b i inside n (inr (of_name a e text short)) = inr (of_name a (sym (between.2.others b n) ∙ e) (text.0, omega (arith, text.1, back.same_byte b NAME_BYTE (omega arith) n)) short)
+    carried b i inside n (inr (of_comment a e o text short)) =
+        inr (of_comment a (sym (between.2.others b n) ∙ e) (λ r. o (r ∙ sym same_root)) (text.0, omega (arith, text.1, back.same_byte b COMMENT_BYTE (omega arith) n)) short)
+
+    -- the disk date in the root
+    dated : (b i : ℕ) → (b ≡ root_of old) × IsDiskStamp (i / 4) → IsWritten old t st new b i
+    dated b i (e, f) =
+        let here = e ∙ root_is old t st in
+        of_node st.proper.root_node.0 (ap t.nodes here ∙ st.proper.root_node.1) (elim f [ inl sum ↦ IsPlain.sum sum | inr disk ↦ IsPlain.disk here disk.0 (omega (arith, disk.1)) ])
+
+    beside : (b i : ℕ) → b < block_count old → b ≢ key → ¬ IsChanged old t st new b i → IsBeside old key [] [] b
+    beside b i inside n free = record {
+      inside = inside;
+      beside_pages = λ p l e. free (inl (p, subst (λ (c : ℕ). HasDuty t st.layout c (Duty.Page p)) (sym e) (page_serves old t st p l)));
+      beside_headers = headers;
+      beside_data = λ q l. absurd (omega (arith, l));
+    }
+      where
+        headers : (q : ℕ) → q ≤ 0 → b ≢ slice_index (key ∷ []) q
+        headers zero l e = n e
+        headers (suc q) l e = omega (arith, l)
+
+    whole_change : SameBut (IsChanged old t st new) old new
+    whole_change = record {
+      same_length = back.same_length ∙ last.same_length ∙ empties.kept.size;
+      same_byte = λ b i l free. elim (cases_eq b key) [
+        | inl e ↦ subst (λ (c : ℕ). byte_at new c i ≡ byte_at old c i) (sym e) (dead i l)
+        | inr n ↦ elim (cases_lt b (block_count old)) [
+          | inl inside ↦
+              back.same_byte b i l n ∙ last.same_byte b i l (λ w. free (carried b i inside n w))
+              ∙ only b i l (beside b i inside n free) (λ w. free (inr (dated b i w)))
+          | inr past ↦ outside_same old new t.blocks st.whole (back.same_length ∙ last.same_length ∙ empties.kept.size) b i past
+        ]
+      ];
+    }
+
+    -- ---- all other files have the same bytes
+
     not_key : (file : ℕ) (image : List ℕ) → Stands image (removed moment key t) → HasFileKey image file → file ≢ key
     not_key file image stood is e =
         let none : content_at (removed moment key t) file ≡ None = ap (content_at (removed moment key t)) e ∙ ap (option_map (λ (a : Node). a.content)) (nodes_here key None (left moment key t)) in
@@ -122,11 +195,10 @@ module _ (moment : Date3) (key : ℕ) (old mid away new : List ℕ) (t : Tree) (
 
     in_between : (file : ℕ) (bytes : List ℕ) → HasFileKey away file → HasFileBytes old file bytes → HasFileBytes mid file bytes
     in_between file bytes is was =
-        let between = emptied t st in
         has_bytes mid between.0 between.1 file bytes (ap (option_map (λ (a : Node). a.content)) (between.2.others file (not_key file away gone is)) ∙ was t st)
 
     untold_gone : KeepsUntold old away
-    untold_gone = untold_trans old mid away t st (ap (λ (n : ℕ). n / 512) empties.kept.size) in_between empties.untold untold
+    untold_gone = untold_trans old mid away t st count_mid in_between empties.untold untold
 
     not_dir : (file : ℕ) (bytes : List ℕ) → content_at t file ≡ Some (File bytes) → file ≢ can.dir
     not_dir file bytes was e =
@@ -142,15 +214,15 @@ module _ (moment : Date3) (key : ℕ) (old mid away new : List ℕ) (t : Tree) (
         ∙ nodes_other can.dir (option_map (relisted moment (remaining t st.proper key can.dir can.listed moment)) (t.nodes can.dir)) t file (not_dir file bytes (was t st)) in
         has_bytes away (removed moment key t) gone file bytes (ap (option_map (λ (a : Node). a.content)) node ∙ was t st)
 
-    pub keeps_away : KeepsBlock key old new → KeepsRest old new
-    keeps_away dead = record {
-      kept = kept_still away new (removed moment key t) gone key key_in_away gives.free back old kept;
+    pub keeps_away : KeepsRest old new
+    keeps_away = record {
+      kept = changed_kept old new t st whole_change;
       lowest = none_taken old new takes_none;
       freed = λ b inside free i l. elim (cases_eq b key) [
-        | inl e ↦ ap (λ (c : ℕ). byte_at new c i) e ∙ dead i l ∙ ap (λ (c : ℕ). byte_at old c i) (sym e)
+        | inl e ↦ subst (λ (c : ℕ). byte_at new c i ≡ byte_at old c i) (sym e) (dead i l)
         | inr other ↦
             let was : HasFreeBit away b = sym (mark b inside) ∙ free in
             back.same_byte b i l other ∙ gives.freed b (in_mid b inside) other was i l ∙ empties.freed b inside (gives.given b (in_mid b inside) other was) i l
       ];
-      untold = untold_trans old away new t st (ap (λ (n : ℕ). n / 512) kept.size) afterwards untold_gone (untold_still away new (removed moment key t) gone key key_in_away gives.free back);
+      untold = untold_trans old away new t st count_away afterwards untold_gone (untold_still away new (removed moment key t) gone key key_in_away gives.free back);
     }

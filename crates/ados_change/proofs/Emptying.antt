@@ -1,22 +1,15 @@
 -- After its removal, the contents of an entry make no difference.
 use Rattle.std.proofs.Common.{◌≡◌, ◌≢◌, ℕ, inl, inr, ◌==◌, not, List, filter, Option, Some, None, option_map, option_and_then, refl, sym, ap, ap₂, ◌∙◌}
 use Rattle.std.specs.Option.{option_map_or}
-use Rattle.std.proofs.lemmas.Bool.{cases_eq}
-use Rattle.ados_name.specs.declared.stamp.Date3.{Date3}
-use Rattle.ados_model.specs.Change.{changed, left, listed, removed, stamped, with_node}
-use Rattle.ados_model.specs.Tree.{Node, Tree, entries, entries_in, parent_of}
-use Rattle.ados_change.proofs.Changed.{nodes_here, nodes_other, changed_keeps, relisted}
+use Rattle.ados_change.proofs.Common.{cases_eq, Date3, changed, left, listed, removed, stamped, with_node, Node, Tree, entries, entries_in, parent_of}
+use Rattle.ados_change.proofs.Changed.{nodes_here, nodes_other, changed_keeps, each_keeps, parent_field, relisted}
 
 module _ (t : Tree) (key dir : ℕ) (moment : Date3) (f : Node → Node) (keeps : (a : Node) → (f a).parent ≡ a.parent) (below : parent_of t key ≡ Some dir) (apart : dir ≢ key) where
   abbrev u : Tree
   u = stamped moment (changed key f t)
 
   parent_same : parent_of u key ≡ parent_of t key
-  parent_same = changed_keeps (option_and_then (λ node. node.parent)) f key t go key
-    where
-      go : (o : Option Node) → option_and_then (λ node. node.parent) (option_map f o) ≡ option_and_then (λ node. node.parent) o
-      go None = refl
-      go (Some a) = keeps a
+  parent_same = changed_keeps parent_field f key t (each_keeps parent_field f keeps) key
 
   node_other : (k : ℕ) → k ≢ key → u.nodes k ≡ t.nodes k
   node_other k n = nodes_other key (option_map f (t.nodes key)) t k n

@@ -1,12 +1,8 @@
 -- A key inserted into a list, and one removed from it.
 use Rattle.std.proofs.Common.{◌≡◌, ◌≢◌, ℕ, suc, ◌<◌, ◌≤◌, ◌⊎◌, inl, inr, Bool, true, false, cond, nat_le, ◌==◌, not, List, [], ◌∷◌, ◌++◌, filter, AllPairs, Contains, refl, sym, ap, ap₂, ◌∙◌, subst, arith, eq-eqb}
 use Rattle.std.specs.List.{list_any}
-use Rattle.std.proofs.lemmas.Bool.{ne_eqb, cases_eq, cases_lt, le-leb, lt-leb}
-use Rattle.std.proofs.lemmas.List.Elements.{Contains-get_or}
-use Rattle.std.proofs.lemmas.List.Kept.{AllPairs-cons}
-use Rattle.ados_model.proofs.KeyLists.{Contains-here, Contains-later, Contains-cases, Contains-nil, Once, Once-head, Once-tail, is_not}
+use Rattle.ados_change.proofs.Common.{ne_eqb, cases_eq, cases_lt, le-leb, lt-leb, Contains-get_or, AllPairs-cons, Contains-here, Contains-later, Contains-cases, Contains-nil, Once, Once-head, Once-tail, is_not, enter}
 use Rattle.ados_model.proofs.Lists.{AllPairs-tail}
-use Rattle.ados_model.specs.Change.{enter}
 
 -- one more element in front, related to each of the others
 pub AllPairs-more : (R : ℕ → ℕ → Type 0) (x : ℕ) (xs : List ℕ) → ((y : ℕ) → Contains xs y → R x y) → AllPairs R xs → AllPairs R (x ∷ xs)

@@ -1,50 +1,12 @@
 -- A change of fields or of entries leaves all bytes outside fields untouched.
 use Rattle.std.proofs.Common.{◌≡◌, ◌≢◌, ℕ, ◌+◌, ◌-◌, ◌/◌, ◌<◌, ◌≤◌, ◌⊎◌, inl, inr, List, length, Some, None, refl, sym, ap, ◌∙◌, subst, arith}
-use Rattle.adf_block.specs.Image.{byte_at, bytes_at, long}
-use Rattle.adf_block.specs.Whole.{HasFreeBit}
-use Rattle.adf_block.specs.Fields.{secondary_type}
-use Rattle.adf_block.specs.declared.layout.TheConstants.{COMMENT_BYTE, NAME_BYTE}
-use Rattle.adf_block.specs.Frame.{SameBut}
-use Rattle.adf_block.proofs.Frames.{same_long, same_weaken}
-use Rattle.adf_block.proofs.Blocks.{boot_same}
+use Rattle.ados_change.proofs.Common.{byte_at, bytes_at, long, secondary_type, COMMENT_BYTE, NAME_BYTE, SameBut, same_long, same_weaken, boot_same, Content, Node, Tree, root, Directory, File, Duty, HasDuty, Stands, type_of, Role, IsFile, Kept, KeepsFirstData, IsField, Alike, InText, root_longs, root_name, page_longs, directory_longs, file_longs, entry_name, entry_comment, extension_longs, ofs_data_longs, ofs_data, ffs_data, root_or_parent, StandsAt, IsFileNode, file_at, reached_stands, serves_at, duty_of, root_at, entry_at}
 use Rattle.ados_change.specs.Behind.{KeepsBehindName}
-use Rattle.ados_model.specs.Tree.{Content, Node, Tree, root}
-use Rattle.ados_model.specs.Tree.Content.{Directory, File}
-use Rattle.ados_model.specs.Stands.{Duty, HasDuty, Stands, type_of}
-use Rattle.ados_model.specs.declared.role.Role.{Role}
+use Rattle.ados_change.specs.steps.Footprint.{IsChanged, IsPage, IsPlain, IsWritten}
+use Rattle.ados_change.specs.steps.Footprint.IsPlain.{sum, table, bits, date, disk, link}
+use Rattle.ados_change.specs.steps.Footprint.IsWritten.{of_none, of_node, of_name, of_comment}
 use Rattle.ados_model.specs.declared.role.Role.TheVariants as roles
-use Rattle.ados_model.specs.Faults.{IsFile}
-use Rattle.ados_model.specs.Kept.{Kept, KeepsFirstData, IsField, Alike, InText}
-use Rattle.ados_model.specs.Kept.IsField.{root_longs, root_name, page_longs, directory_longs, file_longs, entry_name, entry_comment, extension_longs, ofs_data_longs, ofs_data, ffs_data}
 use Rattle.ados_change.proofs.Keeping.{header_stays}
-use Rattle.ados_model.proofs.Nodes.{root_or_parent}
-use Rattle.ados_model.proofs.Standing.{StandsAt, IsFileNode, file_at, reached_stands, serves_at, duty_of, root_at, entry_at}
-
--- a bitmap block
-abbrev pub IsPage : (old : List ℕ) (t : Tree) → Stands old t → ℕ → Type 0
-IsPage old t st b = (p : ℕ) × HasDuty t st.layout b (Duty.Page p)
-
--- a long in the block of a node that is a field in each role: the checksum, a directory's hash table, an entry's
--- protection, the date, the root's disk date, an entry's next-in-chain and parent
-pub data IsPlain (t : Tree) (b : ℕ) (node : Node) (j : ℕ) : Type 0 where
-  sum : j ≡ 5 → IsPlain t b node j
-  table : (keys : List ℕ) → node.content ≡ Directory keys → 6 ≤ j → j < 78 → IsPlain t b node j
-  bits : b ≢ root t → j ≡ 80 → IsPlain t b node j
-  date : 105 ≤ j → j < 108 → IsPlain t b node j
-  disk : b ≡ root t → 118 ≤ j → j < 121 → IsPlain t b node j
-  link : b ≢ root t → 124 ≤ j → j < 126 → IsPlain t b node j
-
--- the footprint of a change, apart from bitmap blocks: byte i of block b is in a block newly in use, in such a long, in
--- a new name, or in the new comment of an entry
-pub data IsWritten (old : List ℕ) (t : Tree) (st : Stands old t) (new : List ℕ) (b i : ℕ) : Type 0 where
-  of_none : 2 ≤ b → ¬ HasFreeBit new b → ((duty : Duty) → ¬ HasDuty t st.layout b duty) → IsWritten old t st new b i
-  of_node : (node : Node) → t.nodes b ≡ Some node → IsPlain t b node (i / 4) → IsWritten old t st new b i
-  of_name : (node : Node) → t.nodes b ≡ Some node → InText new b NAME_BYTE i → i ≤ NAME_BYTE + 30 → IsWritten old t st new b i
-  of_comment : (node : Node) → t.nodes b ≡ Some node → b ≢ root t → InText new b COMMENT_BYTE i → i < COMMENT_BYTE + 80 → IsWritten old t st new b i
-
--- the whole footprint
-abbrev pub IsChanged : (old : List ℕ) (t : Tree) → Stands old t → List ℕ → ℕ → ℕ → Type 0
-IsChanged old t st new b i = IsPage old t st b ⊎ IsWritten old t st new b i
 
 module _ (old : List ℕ) (t : Tree) (st : Stands old t) (new : List ℕ) where
   pub page_changed : (m m' : List ℕ) → SameBut (λ b i. IsPage old t st b) m m' → SameBut (IsChanged old t st new) m m'
@@ -77,7 +39,7 @@ alike_field _ _ alike f = absurd alike
 -- ---- a byte of the footprint is in a field
 
 module _ (old : List ℕ) (t : Tree) (st : Stands old t) (new : List ℕ) where
-  root_field : (i : ℕ) (a : Node) → IsPlain t (root t) a (i / 4) → IsField new (root t) roles.Root i
+  root_field : (i : ℕ) (a : Node) → IsPlain (root t) (root t) a (i / 4) → IsField new (root t) roles.Root i
   root_field i a (sum e) = root_longs (2, (5, 78), omega arith, refl, (omega (arith, e), omega (arith, e)))
   root_field i a (table keys c m n) = root_longs (2, (5, 78), omega arith, refl, (omega (arith, m), omega (arith, n)))
   root_field i a (bits n e) = absurd (n refl)
@@ -85,10 +47,10 @@ module _ (old : List ℕ) (t : Tree) (st : Stands old t) (new : List ℕ) where
   root_field i a (disk e m n) = root_longs (5, (118, 123), omega arith, refl, (omega (arith, m), omega (arith, n)))
   root_field i a (link n m o) = absurd (n refl)
 
-  entry_field : (b i dir q : ℕ) (a : Node) → b ≢ root t → secondary_type new b ≡ type_of a.content → IsPlain t b a (i / 4) → IsField new b (roles.Entry dir q) i
+  entry_field : (b i dir q : ℕ) (a : Node) → b ≢ root t → secondary_type new b ≡ type_of a.content → IsPlain (root t) b a (i / 4) → IsField new b (roles.Entry dir q) i
   entry_field b i dir q a n e p = go a.content refl e p
     where
-      go : (c : Content) → a.content ≡ c → secondary_type new b ≡ type_of c → IsPlain t b a (i / 4) → IsField new b (roles.Entry dir q) i
+      go : (c : Content) → a.content ≡ c → secondary_type new b ≡ type_of c → IsPlain (root t) b a (i / 4) → IsField new b (roles.Entry dir q) i
       go (Directory keys) d e (sum f) = directory_longs e (1, (5, 77), omega arith, refl, (omega (arith, f), omega (arith, f)))
       go (Directory keys) d e (table ks c m o) = directory_longs e (1, (5, 77), omega arith, refl, (omega (arith, m), omega (arith, o)))
       go (Directory keys) d e (bits m f) = directory_longs e (2, (80, 80), omega arith, refl, (omega (arith, f), omega (arith, f)))
@@ -103,11 +65,11 @@ module _ (old : List ℕ) (t : Tree) (st : Stands old t) (new : List ℕ) where
       go (File bytes) d e (link f m o) = file_longs e (5, (124, 127), omega arith, refl, (omega (arith, m), omega (arith, o)))
 
   -- a reached block of a node is the root or an entry
-  node_field : (b i k : ℕ) (role : Role) (a : Node) → (b ≢ root t → secondary_type new b ≡ type_of a.content) → t.nodes b ≡ Some a → IsPlain t b a (i / 4) → StandsAt old t st role k b → duty_of old t st role k ≡ Duty.Key → IsField new b role i
+  node_field : (b i k : ℕ) (role : Role) (a : Node) → (b ≢ root t → secondary_type new b ≡ type_of a.content) → t.nodes b ≡ Some a → IsPlain (root t) b a (i / 4) → StandsAt old t st role k b → duty_of old t st role k ≡ Duty.Key → IsField new b role i
   node_field b i k roles.Root a typed e p at d = let here = root_at old t st k b at in by_root here
     where
       by_root : b ≡ root t → IsField new b roles.Root i
-      by_root r = subst (λ (x : ℕ). IsField new x roles.Root i) (sym r) (root_field i a (subst (λ (x : ℕ). IsPlain t x a (i / 4)) r p))
+      by_root r = subst (λ (x : ℕ). IsField new x roles.Root i) (sym r) (root_field i a (subst (λ (x : ℕ). IsPlain (root t) x a (i / 4)) r p))
   node_field b i k (roles.Entry dir q) a typed e p at d =
       let n = entry_at old t st dir q k b at in
       let no_root : b ≢ root t = λ r.
@@ -116,16 +78,11 @@ module _ (old : List ℕ) (t : Tree) (st : Stands old t) (new : List ℕ) where
       let none : n.node.parent ≡ None = ap (λ (x : Node). x.parent) one ∙ st.proper.root_node.2.no_parent in
       cc (none, n.parent) in
       entry_field b i dir q a no_root (typed no_root) p
-  node_field b i k roles.Page a typed e p at d = absurd (cc d)
-  node_field b i k (roles.Data file) a typed e p at d = absurd (cc d)
-  node_field b i k (roles.Extension file) a typed e p at d = absurd (cc d)
+  node_field b i k _ a typed e p at d = absurd (cc d)
 
   page_field : (b i k p : ℕ) (role : Role) → i < 512 → duty_of old t st role k ≡ Duty.Page p → IsField new b role i
-  page_field b i k p roles.Root m d = absurd (cc d)
   page_field b i k p roles.Page m d = page_longs (0, (0, 127), omega arith, refl, (omega arith, omega (arith, m)))
-  page_field b i k p (roles.Entry dir q) m d = absurd (cc d)
-  page_field b i k p (roles.Data file) m d = absurd (cc d)
-  page_field b i k p (roles.Extension file) m d = absurd (cc d)
+  page_field b i k p _ m d = absurd (cc d)
 
   -- a text of a node: a name, or the comment of an entry
   text_field : (b i k : ℕ) (role : Role) → InText new b NAME_BYTE i ⊎ ((b ≢ root t) × InText new b COMMENT_BYTE i) → StandsAt old t st role k b → duty_of old t st role k ≡ Duty.Key → IsField new b role i
@@ -133,9 +90,7 @@ module _ (old : List ℕ) (t : Tree) (st : Stands old t) (new : List ℕ) where
   text_field b i k roles.Root (inr comment) at d = absurd (comment.0 (root_at old t st k b at))
   text_field b i k (roles.Entry dir q) (inl name) at d = entry_name name
   text_field b i k (roles.Entry dir q) (inr comment) at d = entry_comment comment.1
-  text_field b i k roles.Page text at d = absurd (cc d)
-  text_field b i k (roles.Data file) text at d = absurd (cc d)
-  text_field b i k (roles.Extension file) text at d = absurd (cc d)
+  text_field b i k _ text at d = absurd (cc d)
 
   -- the whole footprint is in fields, by the type that the block has afterwards
   pub changed_field : (b i k : ℕ) (role : Role) → ((a : Node) → t.nodes b ≡ Some a → b ≢ root t → secondary_type new b ≡ type_of a.content) → i < 512 → StandsAt old t st role k b → IsChanged old t st new b i → IsField new b role i
@@ -166,7 +121,7 @@ module _ (old new : List ℕ) (t : Tree) (st : Stands old t) (h : SameBut (IsCha
   boot_kept = boot_same old new h.same_length (λ b i l m. h.same_byte b i m (not_boot b i l))
 
   -- a byte of a node's block outside such longs, its comment and its name is not changed
-  node_unchanged : (b i : ℕ) (a : Node) → t.nodes b ≡ Some a → ((x : Node) → ¬ IsPlain t b x (i / 4)) → COMMENT_BYTE + 80 ≤ i → (InText new b NAME_BYTE i → i ≤ NAME_BYTE + 30 → ⊥) → ¬ IsChanged old t st new b i
+  node_unchanged : (b i : ℕ) (a : Node) → t.nodes b ≡ Some a → ((x : Node) → ¬ IsPlain (root t) b x (i / 4)) → COMMENT_BYTE + 80 ≤ i → (InText new b NAME_BYTE i → i ≤ NAME_BYTE + 30 → ⊥) → ¬ IsChanged old t st new b i
   node_unchanged b i a at plain behind name (inl p) = let duty : Duty.Page p.0 ≡ Duty.Key = st.fits.one_duty b (Duty.Page p.0) Duty.Key p.1 (rw at refl) in cc duty
   node_unchanged b i a at plain behind name (inr (of_none two used none)) = none Duty.Key (rw at refl)
   node_unchanged b i a at plain behind name (inr (of_node x e p)) = plain x p
@@ -177,7 +132,7 @@ module _ (old new : List ℕ) (t : Tree) (st : Stands old t) (h : SameBut (IsCha
   pub behind_name : (key : ℕ) (a : Node) → t.nodes key ≡ Some a → (name : List ℕ) → byte_at new key NAME_BYTE ≡ length name → KeepsBehindName key name old new
   behind_name key a at name counted i above within = h.same_byte key i (omega (arith, within)) (node_unchanged key i a at plain (omega (arith, above)) (λ text short. omega (arith, text.1, counted, above)))
     where
-      plain : (x : Node) → IsPlain t key x (i / 4) → ⊥
+      plain : (x : Node) → IsPlain (root t) key x (i / 4) → ⊥
       plain x (sum e) = omega (arith, e, above)
       plain x (table keys c m n) = omega (arith, n, above)
       plain x (bits n e) = omega (arith, e, above)
@@ -189,7 +144,7 @@ module _ (old new : List ℕ) (t : Tree) (st : Stands old t) (h : SameBut (IsCha
   type_stays : (b : ℕ) (a : Node) → t.nodes b ≡ Some a → secondary_type new b ≡ secondary_type old b
   type_stays b a at = same_long (IsChanged old t st new) old new h b 127 (omega arith) (λ k e. node_unchanged b k a at (plain k e) (omega (arith, e)) (λ text short. omega (arith, e, short)))
     where
-      plain : (k : ℕ) → k / 4 ≡ 127 → (x : Node) → IsPlain t b x (k / 4) → ⊥
+      plain : (k : ℕ) → k / 4 ≡ 127 → (x : Node) → IsPlain (root t) b x (k / 4) → ⊥
       plain k f x (sum e) = omega (arith, e, f)
       plain k f x (table keys c m n) = omega (arith, n, f)
       plain k f x (bits n e) = omega (arith, e, f)
@@ -208,7 +163,7 @@ module _ (old new : List ℕ) (t : Tree) (st : Stands old t) (h : SameBut (IsCha
   front_unchanged b i f l n (inr (of_comment a e m text short)) = omega (arith, l, text.0)
   front_unchanged b i f l n (inr (of_node a e p)) = go p
     where
-      go : IsPlain t b a (i / 4) → ⊥
+      go : IsPlain (root t) b a (i / 4) → ⊥
       go (sum d) = n d
       go (table keys c from below) =
           let same : a ≡ f.node = cc (e, f.at) in

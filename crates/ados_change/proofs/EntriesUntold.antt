@@ -1,26 +1,15 @@
 -- A change of entries leaves untouched what no tree determines, step by step: the bitmap past the volume's end, and
 -- the data blocks of files.
 use Rattle.std.proofs.Common.{◌≡◌, ℕ, ◌+◌, ◌/◌, ◌<◌, ◌≤◌, ◌⊎◌, inl, inr, Bool, List, refl, sym, ap, ◌∙◌, subst, arith}
-use Rattle.adf_block.specs.Frame.{SameBut}
-use Rattle.adf_block.specs.Image.{IsInside, block_count, has_free_bit, page_count, long, root_key}
-use Rattle.adf_block.proofs.Frames.{same_count, same_long, same_weaken}
-use Rattle.adf_block.specs.Whole.{HasFreeBit}
-use Rattle.ados_map.specs.Changes.{MapPlace, BitChanged}
-use Rattle.ados_map.specs.Pages.{HasBit, LawfulPages, page_block, page_of, pages_of}
-use Rattle.ados_map.proofs.MarkLemmas.{bit_of_inside, mark_kept}
+use Rattle.ados_change.proofs.Common.{SameBut, IsInside, block_count, has_free_bit, page_count, long, root_key, same_count, same_long, same_weaken, HasFreeBit, MapPlace, BitChanged, HasBit, LawfulPages, page_block, page_of, pages_of, bit_of_inside, Tree, Proper, root, Duty, HasDuty, Layout, Stands, InImage, HasFileKey, KeepsBlock, KeepsFreed, KeepsData, KeepsPastEnd, KeepsUntold, data_at, count_same}
+use Rattle.ados_map.proofs.MarkLemmas.{mark_kept}
 use Rattle.ados_data.proofs.Marks.{page_kept}
-use Rattle.ados_model.specs.Tree.{Tree, Proper, root}
-use Rattle.ados_model.specs.Stands.{Duty, HasDuty, Layout, Stands}
-use Rattle.ados_model.specs.Faults.{InImage}
-use Rattle.ados_model.specs.Keys.{HasFileKey}
-use Rattle.ados_change.specs.NewBlocks.{KeepsBlock, KeepsFreed}
-use Rattle.ados_change.specs.Untold.{KeepsData, KeepsPastEnd, KeepsUntold, data_at}
 use Rattle.ados_change.proofs.FilesStay.{data_serves, file_of_key, files_stay}
-use Rattle.ados_model.proofs.Standing.{count_same}
 use Rattle.ados_change.proofs.Writable.{data_is, extensions_is, page_serves}
-use Rattle.ados_change.proofs.EntriesKept.{IsChanged, IsPage, IsWritten, unwritten, written_changed}
-use Rattle.ados_change.proofs.EntriesKept.IsWritten.{of_none, of_node, of_name, of_comment}
-use Rattle.ados_change.proofs.EntriesKept.IsPlain.{sum, table, bits, date, disk, link}
+use Rattle.ados_change.specs.steps.Footprint.{IsChanged, IsPage, IsWritten}
+use Rattle.ados_change.proofs.EntriesKept.{unwritten, written_changed}
+use Rattle.ados_change.specs.steps.Footprint.IsWritten.{of_none, of_node, of_name, of_comment}
+use Rattle.ados_change.specs.steps.Footprint.IsPlain.{sum, table, bits, date, disk, link}
 use Rattle.ados_change.proofs.Spells.{Spells, layout_is, stands}
 
 -- ---- the bitmap

@@ -1,19 +1,10 @@
 -- A change of fields in blocks of keys leaves all bytes outside fields and the bitmap untouched.
 use Rattle.std.proofs.Common.{◌≡◌, ◌≢◌, ℕ, ◌-◌, ◌/◌, ◌<◌, ◌≤◌, ◌⊎◌, inl, inr, List, Some, refl, sym, ◌∙◌, arith}
-use Rattle.adf_block.specs.Image.{byte_at, long, HasText}
-use Rattle.adf_block.specs.Fields.{format_of}
-use Rattle.adf_block.specs.declared.layout.TheConstants.{COMMENT_BYTE, NAME_BYTE}
-use Rattle.adf_block.specs.Frame.{SameBut}
-use Rattle.adf_block.proofs.Frames.{same_long, same_weaken}
-use Rattle.ados_name.specs.Name.{IsName, IsComment}
-use Rattle.ados_model.specs.Tree.{Node, Tree, root}
-use Rattle.ados_model.specs.Stands.{Duty, Stands}
-use Rattle.ados_model.specs.Keys.{HasFileKey}
-use Rattle.ados_change.specs.NewBlocks.{KeepsRest}
-use Rattle.ados_change.specs.Untold.{KeepsData, data_at}
-use Rattle.ados_change.proofs.EntriesKept.{IsWritten, changed_kept, unwritten, written_changed}
-use Rattle.ados_change.proofs.EntriesKept.IsWritten.{of_node, of_name, of_comment}
-use Rattle.ados_change.proofs.EntriesKept.IsPlain.{sum, bits, date, disk}
+use Rattle.ados_change.proofs.Common.{byte_at, long, HasText, format_of, COMMENT_BYTE, NAME_BYTE, SameBut, same_long, same_weaken, IsName, IsComment, Node, Tree, root, Duty, Stands, HasFileKey, KeepsRest, KeepsData, data_at}
+use Rattle.ados_change.specs.steps.Footprint.{IsWritten}
+use Rattle.ados_change.proofs.EntriesKept.{changed_kept, unwritten, written_changed}
+use Rattle.ados_change.specs.steps.Footprint.IsWritten.{of_node, of_name, of_comment}
+use Rattle.ados_change.specs.steps.Footprint.IsPlain.{sum, bits, date, disk}
 use Rattle.ados_change.proofs.EntriesUntold.{keeps_freed, marks_stay, past_end}
 use Rattle.ados_change.proofs.FilesStay.{data_blocks_stay, data_serves, extension_blocks_stay, file_of_key, files_stay}
 use Rattle.ados_change.proofs.Keeping.{none_taken}

@@ -2,19 +2,7 @@
 use Rattle.std.proofs.Common.{◌≡◌, ℕ, zero, suc, ◌+◌, ◌-◌, ◌/◌, ◌%◌, ◌<◌, List, length, map, slice_index, Some, refl, sym, ap, ap₂, ◌∙◌, subst, arith}
 use Rattle.std.specs.List.{range_with_len}
 use Rattle.std.proofs.lemmas.List.FromFn.{length-map-range_with_len, get_or-map-range_with_len}
-use Rattle.adf_block.specs.Image.{block_count, page_count, byte_at, long}
-use Rattle.adf_block.specs.Fields.{file_size, format_of}
-use Rattle.ados_map.specs.Pages.{pages_of}
-use Rattle.ados_model.specs.Tree.{data_count, extension_count, Tree, content_at}
-use Rattle.ados_model.specs.File.{pointer_block, data_block, data_blocks, extension_blocks}
-use Rattle.ados_data.proofs.Spelled.{listed_is}
-use Rattle.ados_model.specs.Tree.Content.{File}
-use Rattle.ados_model.specs.Stands.{Duty, HasDuty, Stands}
-use Rattle.ados_model.specs.Keys.{HasFileKey}
-use Rattle.ados_change.specs.Untold.{HasData, HasFileBytes, KeepsData, KeepsFileEnd, KeepsPastEnd, KeepsUntold, data_at}
-use Rattle.ados_model.proofs.Nodes.{content_in}
-use Rattle.ados_model.proofs.OneTree.{one_tree}
-use Rattle.ados_model.proofs.Standing.{IsFileNode, slice_get-index}
+use Rattle.ados_change.proofs.Common.{block_count, page_count, byte_at, long, file_size, format_of, pages_of, data_count, extension_count, Tree, content_at, pointer_block, data_block, data_blocks, extension_blocks, listed_is, File, Duty, HasDuty, Stands, HasFileKey, HasData, HasFileBytes, KeepsData, KeepsFileEnd, KeepsPastEnd, KeepsUntold, data_at, content_in, one_tree, IsFileNode, slice_get-index}
 use Rattle.ados_change.proofs.Writable.{data_is, extensions_is}
 
 -- ---- lists whose links are unchanged

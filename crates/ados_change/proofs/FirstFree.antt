@@ -1,30 +1,9 @@
 -- A new entry gets the lowest free block, and its bytes outside fields are 0.
 use Rattle.std.proofs.Common.{◌≡◌, ◌≢◌, ℕ, ◌+◌, ◌*◌, ◌/◌, ◌<◌, ◌≤◌, ◌⊎◌, inl, inr, nat_le, cond, List, [], length, slice_index, refl, sym, ap, ◌∙◌, subst, arith}
-use Rattle.std.proofs.lemmas.Bool.{cases_eq, cases_lt, cases_order, false≢true}
-use Rattle.adf_block.specs.declared.layout.TheConstants.{FILE_TYPE, NAME_BYTE, NEXT_IN_CHAIN}
-use Rattle.adf_block.specs.Image.{byte_at, has_free_bit, long}
-use Rattle.adf_block.specs.Whole.{HasFreeBit}
-use Rattle.adf_block.specs.Fields.{secondary_type}
-use Rattle.adf_block.specs.Frame.{SameBut}
-use Rattle.adf_block.proofs.Frames.{same_long, same_weaken}
-use Rattle.ados_chain.specs.Relinks.{AtLinks, Relinks}
-use Rattle.ados_map.specs.Pages.{IsLowestFree}
-use Rattle.ados_name.specs.declared.stamp.Date3.{Date3}
-use Rattle.ados_model.specs.Change.{made}
-use Rattle.ados_model.specs.Faults.{InImage, Reached, first_pointers}
-use Rattle.ados_model.specs.Kept.{IsField, NamesFirstData}
-use Rattle.ados_model.specs.Kept.IsField.{directory_longs, file_longs, entry_name}
-use Rattle.ados_model.specs.Stands.{Duty, HasDuty, Stands, type_of}
+use Rattle.ados_change.proofs.Common.{cases_eq, cases_lt, cases_order, false≢true, FILE_TYPE, NAME_BYTE, NEXT_IN_CHAIN, byte_at, has_free_bit, long, HasFreeBit, secondary_type, SameBut, same_long, same_weaken, AtLinks, Relinks, IsLowestFree, Date3, made, InImage, Reached, first_pointers, IsField, NamesFirstData, directory_longs, file_longs, entry_name, Duty, HasDuty, Stands, type_of, IsTaken, TakesLowest, Content, Tree, root, Directory, File, Role, StandsAt, duty_of, reached_stands, root_at, serves_at, IsNewEntry, IsNewField, Dated}
 use Rattle.ados_change.proofs.Frame.{AtDate, AtLongs, dated_longs}
-use Rattle.ados_change.specs.NewBlocks.{IsTaken, TakesLowest}
-use Rattle.ados_model.specs.Tree.{Content, Tree, root}
-use Rattle.ados_model.specs.Tree.Content.{Directory, File}
-use Rattle.ados_model.specs.declared.role.Role.{Role}
 use Rattle.ados_model.specs.declared.role.Role.TheVariants as roles
 use Rattle.ados_change.proofs.FilesStay.{data_serves, extension_serves, file_of_key}
-use Rattle.ados_model.proofs.Standing.{StandsAt, duty_of, reached_stands, root_at, serves_at}
-use Rattle.ados_change.specs.steps.Making.{IsNewEntry, IsNewField}
-use Rattle.ados_change.specs.steps.Writes.{Dated}
 use Rattle.ados_change.proofs.Changed.{made_here}
 use Rattle.ados_change.proofs.Making.{zero_long}
 use Rattle.ados_change.proofs.Relisted.{IsLinkPlace}
@@ -157,9 +136,7 @@ module _ (filled new : List ℕ) (key dir : ℕ) (name : List ℕ) (content : Co
         go : (role : Role) (k : ℕ) → StandsAt new u after role k key → ¬ IsField new key role i → duty_of new u after role k ≡ Duty.Key → byte_at new key i ≡ 0
         go roles.Root k at n e = absurd (no_root (root_at new u after k key at))
         go (roles.Entry d s) k at n e = zero_else d s i l n
-        go roles.Page k at n e = absurd (cc e)
-        go (roles.Data file) k at n e = absurd (cc e)
-        go (roles.Extension file) k at n e = absurd (cc e)
+        go _ k at n e = absurd (cc e)
 
     pub takes_key : TakesLowest old new
     takes_key = record {

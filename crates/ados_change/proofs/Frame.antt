@@ -1,13 +1,6 @@
 -- What is unchanged when only some bytes or longs of an image change.
 use Rattle.std.proofs.Common.{◌≡◌, ℕ, ◌+◌, ◌*◌, ◌/◌, ◌<◌, ◌≤◌, ◌⊎◌, inl, inr, List, length, ◌∙◌, subst, arith}
-use Rattle.adf_block.specs.Image.{HasText, bytes_at, long, block_sum}
-use Rattle.adf_block.specs.declared.layout.TheConstants.{CHECKSUM}
-use Rattle.adf_block.specs.Frame.{SameBut}
-use Rattle.adf_block.proofs.Frames.{same_long, same_bytes_at, same_sum, same_weaken}
-use Rattle.ados_model.specs.Stands.{date_at}
-use Rattle.ados_name.specs.declared.stamp.Date3.{Date3}
-use Rattle.ados_change.specs.Places.{Summed}
-use Rattle.ados_change.specs.steps.Writes.{Dated}
+use Rattle.ados_change.proofs.Common.{block_count, root_key, same_count, Tree, root, HasText, bytes_at, long, block_sum, CHECKSUM, SameBut, same_long, same_bytes_at, same_sum, same_weaken, date_at, Date3, Summed, Dated}
 
 -- a text is unchanged if none of its bytes changes
 pub text_kept : (At : ℕ → ℕ → Type 0) (old new : List ℕ) → SameBut At old new → (b i : ℕ) (text : List ℕ) → i + length text < 512 → ((k : ℕ) → i ≤ k → k < i + 1 + length text → ¬ At b k) → HasText old b i text → HasText new b i text
@@ -36,6 +29,13 @@ AtDate block i b j = (b ≡ block) × ((j ≡ CHECKSUM) ⊎ ((i ≤ j) × (j < i
 pub dated_longs : (block i : ℕ) (moment : Date3) (old new : List ℕ) → Dated block i moment old new → SameBut (AtLongs (AtDate block i)) old new
 dated_longs block i moment old new r =
     same_weaken (Summed block (4 * i) (4 * i + 12)) (AtLongs (AtDate block i)) old new (λ b k w. elim w [ inl x ↦ (x.0, inr (omega (arith, x.1), omega (arith, x.2))) | inr x ↦ (x.0, inl x.1) ]) r.rest
+
+pub dated_count : (block i : ℕ) (moment : Date3) (old new : List ℕ) → Dated block i moment old new → block_count new ≡ block_count old
+dated_count block i moment old new h = same_count (Summed block (4 * i) (4 * i + 12)) old new h.rest
+
+-- the disk date is written into the root
+pub at_root : (old new : List ℕ) (t : Tree) (moment : Date3) → block_count old ≡ t.blocks → Dated (root_key (block_count old)) 118 moment old new → Dated (root t) 118 moment old new
+at_root old new t moment count h = subst (λ (n : ℕ). Dated (root_key n) 118 moment old new) count h
 
 module _ (At : ℕ → ℕ → Type 0) (old new : List ℕ) (change : SameBut (AtLongs At) old new) where
   pub long-kept : (b i : ℕ) → i < 128 → ¬ At b i → long new b i ≡ long old b i

@@ -1,11 +1,6 @@
 -- What is unchanged when nothing changes, and in headers with unchanged pointers.
-use Rattle.std.proofs.Common.{◌≡◌, ℕ, zero, suc, ◌-◌, ◌<◌, ◌≤◌, nat_le, Bool, true, false, cond, List, [], ◌∷◌, ◌++◌, slice_index, refl, sym, ap, ap₂, ◌∙◌, arith}
-use Rattle.std.proofs.lemmas.Bool.{leb-true}
-use Rattle.adf_block.specs.Image.{long}
-use Rattle.adf_block.specs.Fields.{pointer_count}
-use Rattle.ados_model.specs.Faults.{first_pointers, pointers_of}
-use Rattle.ados_model.specs.Kept.{KeepsFirstData, first_data}
-use Rattle.ados_change.specs.NewBlocks.{KeepsRest, TakesLowest, TakesNone}
+use Rattle.std.proofs.Common.{◌≡◌, ℕ, zero, suc, ◌-◌, ◌<◌, ◌≤◌, nat_le, Bool, true, false, cond, List, ◌∷◌, ◌++◌, slice_index, refl, sym, ap, ap₂, ◌∙◌, arith, []}
+use Rattle.ados_change.proofs.Common.{leb-true, long, pointer_count, first_pointers, pointers_of, KeepsFirstData, first_data, KeepsRest, TakesLowest, TakesNone}
 use Rattle.ados_change.proofs.FilesStay.{same_untold}
 
 -- ---- the first data block
@@ -32,10 +27,6 @@ module _ (old new : List ℕ) (b : ℕ) (count : pointer_count new b ≡ pointer
 -- the header's facts survive an earlier step that leaves its first data block and that long unchanged
 pub keeps_first_since : (old mid new : List ℕ) (b : ℕ) → first_data mid b ≡ first_data old b → long mid b 4 ≡ long old b 4 → KeepsFirstData mid new b → KeepsFirstData old new b
 keeps_first_since old mid new b firsts longs k = record { same = λ e. k.same (e ∙ sym firsts) ∙ longs; other = λ n. k.other (λ e. n (e ∙ firsts)) }
-
--- and such a step afterwards
-pub keeps_first_until : (old mid new : List ℕ) (b : ℕ) → first_data new b ≡ first_data mid b → long new b 4 ≡ long mid b 4 → KeepsFirstData old mid b → KeepsFirstData old new b
-keeps_first_until old mid new b firsts longs k = record { same = λ e. longs ∙ k.same (sym firsts ∙ e); other = λ n. longs ∙ k.other (λ e. n (firsts ∙ e)) ∙ sym firsts }
 
 -- ---- no block is allocated, and nothing changes
 

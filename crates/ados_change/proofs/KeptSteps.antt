@@ -1,23 +1,10 @@
 -- Each step of a change of entries writes only fields.
 use Rattle.std.proofs.Common.{◌≡◌, ◌≢◌, ℕ, ◌/◌, ◌<◌, ◌≤◌, ◌⊎◌, inl, inr, Bool, List, length, slice_index, Some, sym, ap, ◌∙◌, subst, arith}
-use Rattle.adf_block.specs.declared.layout.TheConstants.{NAME_BYTE, NEXT_IN_CHAIN}
-use Rattle.adf_block.specs.Frame.{InBlock, OnlyBlock, SameBut}
-use Rattle.adf_block.specs.Image.{byte_at}
-use Rattle.adf_block.specs.Whole.{HasFreeBit}
-use Rattle.adf_block.proofs.Frames.{same_weaken}
-use Rattle.ados_map.specs.Changes.{MapPlace, BitChanged}
-use Rattle.ados_map.specs.Pages.{page_block, page_of}
-use Rattle.ados_name.specs.declared.stamp.Date3.{Date3}
-use Rattle.ados_chain.specs.Relinks.{AtLinks, Relinks}
-use Rattle.ados_model.specs.Stands.{Duty, HasDuty, Stands}
-use Rattle.ados_model.proofs.Standing.{slice_get-index}
-use Rattle.ados_model.specs.Tree.{Node, Tree, root}
-use Rattle.ados_model.specs.Tree.Content.{Directory}
+use Rattle.ados_change.proofs.Common.{NAME_BYTE, NEXT_IN_CHAIN, InBlock, OnlyBlock, SameBut, byte_at, HasFreeBit, same_weaken, MapPlace, BitChanged, page_block, page_of, Date3, AtLinks, Relinks, Duty, HasDuty, Stands, slice_get-index, Node, Tree, root, Directory, AtTitle, Dated, Titled}
 use Rattle.ados_change.proofs.Frame.{AtDate, AtLongs, dated_longs}
-use Rattle.ados_change.specs.steps.Writes.{AtTitle, Dated, Titled}
-use Rattle.ados_change.proofs.EntriesKept.{IsPage, IsWritten}
-use Rattle.ados_change.proofs.EntriesKept.IsWritten.{of_none, of_node, of_name}
-use Rattle.ados_change.proofs.EntriesKept.IsPlain.{sum, table, date, disk, link}
+use Rattle.ados_change.specs.steps.Footprint.{IsPage, IsWritten}
+use Rattle.ados_change.specs.steps.Footprint.IsWritten.{of_none, of_node, of_name}
+use Rattle.ados_change.specs.steps.Footprint.IsPlain.{sum, table, date, disk, link}
 use Rattle.ados_change.proofs.Relisted.{IsLinkPlace}
 use Rattle.ados_change.proofs.Relisted.IsLinkPlace.{in_table, in_entry}
 

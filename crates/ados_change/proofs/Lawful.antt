@@ -1,17 +1,6 @@
 -- An image of a tree has lawful bitmap blocks and hash chains, even while one key is in no list.
 use Rattle.std.proofs.Common.{◌≡◌, ◌≢◌, ℕ, ◌+◌, ◌<◌, ◌==◌, List, length, slice_index, true, Contains, Some, None, refl, sym, ap, ◌∙◌, subst, arith, eqb-true}
-use Rattle.std.proofs.lemmas.List.Elements.{All-contains, filter_passes}
-use Rattle.std.proofs.lemmas.List.Kept.{AllPairs-filter}
-use Rattle.adf_block.specs.Image.{IsInside, block_count, long, root_key}
-use Rattle.adf_block.specs.declared.layout.TheConstants.{NAME_BYTE}
-use Rattle.ados_name.specs.Name.{slot, IsName}
-use Rattle.ados_map.specs.Pages.{LawfulPages, page_block, pages_of}
-use Rattle.ados_chain.specs.Chains.{LawfulChains, IsEntryBlock, InChains, name_at, slot_at}
-use Rattle.ados_model.specs.Tree.{Node, Tree, entries, name_of, parent_of, root}
-use Rattle.ados_model.specs.Tree.Content.{Directory}
-use Rattle.ados_model.specs.Stands.{Duty, Layout, HasDuty, in_slot}
-use Rattle.ados_model.proofs.Nodes.{parent_in}
-use Rattle.ados_model.proofs.Standing.{slice_get-index}
+use Rattle.ados_change.proofs.Common.{All-contains, filter_passes, AllPairs-filter, IsInside, block_count, long, root_key, NAME_BYTE, slot, IsName, LawfulPages, page_block, pages_of, LawfulChains, IsEntryBlock, InChains, name_at, slot_at, Node, Tree, entries, name_of, parent_of, root, Directory, Duty, Layout, HasDuty, in_slot, parent_in, slice_get-index}
 use Rattle.ados_change.proofs.Entering.{Contains-part}
 use Rattle.ados_change.proofs.Loose.{Loose, LeadsLoosely}
 use Rattle.ados_change.proofs.Loose.LeadsLoosely.{to_root, to_loose, to_parent}

@@ -1,5 +1,6 @@
 -- An image with changed fields, a rewritten file or changed hash chains represents the changed tree. First the fields,
 -- then the bytes of files, then lists of entries, each change by its steps.
+pub mod Common
 pub mod Texts
 pub mod SameLists
 pub mod Retells
@@ -13,7 +14,6 @@ pub mod Relaid
 pub mod OtherFiles
 pub mod Refilled
 pub mod Calls
-pub mod FirstData
 pub mod BytesKept
 pub mod NewBlocks
 pub mod SameBlock
@@ -34,7 +34,6 @@ pub mod Lawful
 pub mod Relisted
 pub mod Listing
 pub mod Making
-pub mod Removing
 pub mod Renaming
 pub mod Filled
 pub mod FirstFree
@@ -43,8 +42,7 @@ pub mod Renamed
 pub mod Removed
 pub mod EntriesKept
 pub mod KeptSteps
-pub mod Since
-pub mod Reaching
+pub mod Leaving
 pub mod EntriesUntold
 pub mod Unreached
 pub mod Emptying

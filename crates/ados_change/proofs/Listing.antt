@@ -1,25 +1,8 @@
 -- An entry inserted into a directory's hash chain or removed from it, and the tree of the image then.
 use Rattle.std.proofs.Common.{◌≡◌, ◌≢◌, ℕ, ◌+◌, ◌<◌, ◌≤◌, ◌⊎◌, inl, inr, List, ◌∷◌, filter, ◌==◌, Contains, Some, is_some, IsSome, refl, sym, ap, ◌∙◌, subst, arith, eq-eqb}
-use Rattle.std.proofs.lemmas.Bool.{cases_eq}
-use Rattle.std.proofs.lemmas.List.Elements.{Contains-append_left}
-use Rattle.adf_block.specs.Image.{block_sum, long, Chained}
-use Rattle.adf_block.specs.Fields.{table_entry}
-use Rattle.adf_block.specs.declared.layout.TheConstants.{NEXT_IN_CHAIN}
-use Rattle.ados_name.specs.declared.stamp.Date3.{Date3}
-use Rattle.ados_name.specs.Name.{slot}
-use Rattle.adf_block.specs.Frame.{SameBut}
-use Rattle.ados_chain.specs.Chains.{slot_at, with_last}
-use Rattle.ados_chain.specs.Relinks.{CanInsert, CanUnlink, InsertsLast, Unlinks, link_block, link_long}
-use Rattle.ados_chain.proofs.Changes.{slot_at-small}
+use Rattle.ados_change.proofs.Common.{cases_eq, Contains-append_left, block_sum, long, Chained, table_entry, NEXT_IN_CHAIN, Date3, slot, SameBut, slot_at, with_last, CanInsert, CanUnlink, InsertsLast, Unlinks, link_block, link_long, slot_at-small, is_not, Node, Tree, root, entries, name_of, parent_of, Directory, listed, entered, enter, stamped, Layout, in_slot, Dated, parent_in, Chained-kept}
 use Rattle.ados_chain.proofs.Kept.{inserted-others_kept, unlinked-others_kept}
-use Rattle.ados_model.proofs.KeyLists.{is_not}
-use Rattle.ados_model.specs.Tree.{Node, Tree, root, entries, name_of, parent_of}
-use Rattle.ados_model.specs.Tree.Content.{Directory}
-use Rattle.ados_model.specs.Change.{listed, entered, enter, stamped}
-use Rattle.ados_model.specs.Stands.{Layout, in_slot}
-use Rattle.ados_change.specs.steps.Writes.{Dated}
 use Rattle.ados_change.proofs.Frame.{AtDate, sum-kept, long-kept, AtLongs, dated_longs}
-use Rattle.ados_model.proofs.Nodes.{parent_in}
 use Rattle.ados_change.proofs.Entering.{Contains-passes}
 use Rattle.ados_change.proofs.Loose.{Loose}
 use Rattle.ados_change.proofs.Spells.{Spells}
@@ -29,7 +12,6 @@ use Rattle.ados_change.proofs.Relisted.{IsLinkPlace, link_place, relisted_spells
 use Rattle.ados_change.proofs.Relisted.IsLinkPlace.{in_table}
 use Rattle.ados_change.proofs.Reframed.{TellsOnly, node_stays, entry_stays, reframed}
 use Rattle.ados_change.proofs.Reframed.Telling.{sum, heading}
-use Rattle.ados_chain.proofs.Spelling.{Chained-kept}
 
 module _ (image : List ℕ) (t : Tree) (l : Layout) (loose_key : ℕ) (s : Spells image t l) (loose : Loose t loose_key) (dir : ℕ) (a : Node) (keys : List ℕ) (at : t.nodes dir ≡ Some a) (holds : a.content ≡ Directory keys) where
   -- the link after entries of a hash chain of the directory

@@ -1,22 +1,10 @@
 -- A tree with one key in no list: the state between the steps of a change.
 use Rattle.std.proofs.Common.{◌≡◌, ◌≢◌, ℕ, ◌≤◌, ◌⊎◌, inl, inr, ◌↔◌, ◌==◌, not, List, [], filter, map, slice_index_or, AllPairs, Contains, Option, Some, None, option_map, option_and_then, refl, sym, ap, ◌∙◌, subst, arith}
 use Rattle.std.specs.Option.{option_map_or}
-use Rattle.std.proofs.lemmas.Bool.{cases_eq}
-use Rattle.std.proofs.lemmas.List.Elements.{Contains-get_or}
-use Rattle.std.proofs.lemmas.List.Kept.{AllPairs-filter}
-use Rattle.adf_block.specs.Image.{IsInside}
-use Rattle.adf_block.specs.Whole.{IsSize}
-use Rattle.ados_name.specs.declared.stamp.Date3.{Date3}
-use Rattle.ados_name.specs.Name.{Same, slot, upper, IsName, IsComment}
-use Rattle.ados_model.proofs.KeyLists.{Contains-nil, Contains-filter, Once, is_not}
-use Rattle.ados_model.specs.Tree.{Node, Tree, Proper, LeadsToRoot, IsRoot, root, entries, entries_in, name_of, parent_of}
-use Rattle.ados_model.specs.Parts.{name_in}
-use Rattle.ados_model.specs.Tree.LeadsToRoot.{at_root, by_parent}
-use Rattle.ados_model.specs.Change.{with_node, listed, enter, entered, left, stamped}
-use Rattle.ados_model.proofs.Nodes.{entry_node, directory_node, parent_in}
+use Rattle.ados_change.proofs.Common.{cases_eq, Contains-get_or, AllPairs-filter, IsInside, IsSize, Date3, Same, slot, upper, IsName, IsComment, Contains-nil, Contains-filter, Once, is_not, Node, Tree, Proper, LeadsToRoot, IsRoot, root, entries, entries_in, name_of, parent_of, name_in, at_root, by_parent, with_node, listed, enter, entered, left, stamped, entry_node, directory_node, parent_in}
 use Rattle.ados_change.proofs.Entering.{Contains-enter, Contains-entered, Contains-enter_kept, Once-enter, Rises-enter, Contains-stays, Contains-left}
-use Rattle.ados_change.proofs.SameLists.{proper_alike}
-use Rattle.ados_change.proofs.Changed.{nodes_here, nodes_other, was, was_with, relisted, listed_names, listed_parents, listed_here, listed_other}
+use Rattle.ados_change.proofs.SameLists.{proper_alike, rising_alike}
+use Rattle.ados_change.proofs.Changed.{nodes_here, nodes_other, was, was_with, relisted, listed_names, listed_parents, listed_here, listed_other, each_list}
 
 -- the chain of parents leads from the key to the root, or to the loose key
 pub data LeadsLoosely (t : Tree) (loose : ℕ) : ℕ → Type 0 where
@@ -58,10 +46,6 @@ root_relisted moment dir keys t (node, at, is) = elim (cases_eq (root t) dir) [
   | inr n ↦ (node, nodes_other dir (option_map (relisted moment keys) (t.nodes dir)) t (root t) n ∙ at, is)
 ]
 
--- the order of slots, for unchanged names
-rising_kept : (names names' : ℕ → List ℕ) (keys : List ℕ) → ((k : ℕ) → names' k ≡ names k) → AllPairs (λ j k. slot (names j) ≤ slot (names k)) keys → AllPairs (λ j k. slot (names' j) ≤ slot (names' k)) keys
-rising_kept names names' keys same h = subst (λ (nm : ℕ → List ℕ). AllPairs (λ j k. slot (nm j) ≤ slot (nm k)) keys) (λ i k. sym (same k) i) h
-
 -- ---- a key leaves its list
 
 module _ (t : Tree) (proper : Proper t) (key from : ℕ) (below : parent_of t key ≡ Some from) (moment : Date3) where
@@ -82,9 +66,6 @@ module _ (t : Tree) (proper : Proper t) (key from : ℕ) (below : parent_of t ke
   unfolding directory
   directory_at = (directory_node t proper from key in_list).2
 
-  pub entries_from : entries l from ≡ kept
-  entries_from = listed_here moment from kept t directory directory_at
-
   pub entries_other : (d : ℕ) → d ≢ from → entries l d ≡ entries t d
   entries_other = listed_other moment from kept t
 
@@ -96,31 +77,17 @@ module _ (t : Tree) (proper : Proper t) (key from : ℕ) (below : parent_of t ke
 
   -- an element of a new list was in the old one
   pub was_listed : (d k : ℕ) → Contains (entries l d) k → Contains (entries t d) k × (k ≢ key)
-  was_listed d k m = elim (cases_eq d from) [
-    | inl e ↦
-        let n : Contains kept k = subst (λ (keys : List ℕ). Contains keys k) (ap (entries l) e ∙ entries_from) m in
-        (subst (λ (i : ℕ). Contains (entries t i) k) (sym e) (Contains-filter key (entries t from) k n), λ same. Contains-left key (entries t from) (subst (Contains kept) same n))
-    | inr o ↦
-        let n : Contains (entries t d) k = subst (λ (keys : List ℕ). Contains keys k) (entries_other d o) m in (
-          n,
-          λ same.
-              let there : parent_of t key ≡ Some d = ap (parent_of t) (sym same) ∙ (proper.listed d k).0 n in
-              o (cc (there, below)),
-        )
-  ]
+  was_listed d k =
+      each_list moment from kept t (λ d keys. Contains keys k → Contains (entries t d) k × (k ≢ key)) directory directory_at
+      (λ m. (Contains-filter key (entries t from) k m, λ same. Contains-left key (entries t from) (subst (Contains kept) same m)))
+      (λ d o m. (m, λ same. let there : parent_of t key ≡ Some d = ap (parent_of t) (sym same) ∙ (proper.listed d k).0 m in o (cc (there, below)))) d
 
   still_listed : (d k : ℕ) → Contains (entries t d) k → k ≢ key → Contains (entries l d) k
-  still_listed d k m n = elim (cases_eq d from) [
-    | inl e ↦ subst (λ (keys : List ℕ). Contains keys k) (sym (ap (entries l) e ∙ entries_from)) (Contains-stays key (entries t from) k (subst (λ (i : ℕ). Contains (entries t i) k) e m) n)
-    | inr o ↦ subst (λ (keys : List ℕ). Contains keys k) (sym (entries_other d o)) m
-  ]
+  still_listed d k = each_list moment from kept t (λ d keys. Contains (entries t d) k → k ≢ key → Contains keys k) directory directory_at (Contains-stays key (entries t from) k) (λ d o m n. m) d
 
   -- pairs of entries that are still there
   pairs_kept : (R : ℕ → ℕ → Type 0) (d : ℕ) → ((e : ℕ) → AllPairs R (entries t e)) → AllPairs R (entries l d)
-  pairs_kept R d h = elim (cases_eq d from) [
-    | inl e ↦ subst (AllPairs R) (sym (ap (entries l) e ∙ entries_from)) (AllPairs-filter R (is_not key) (entries t from) (h from))
-    | inr o ↦ subst (AllPairs R) (sym (entries_other d o)) (h d)
-  ]
+  pairs_kept R d h = each_list moment from kept t (λ d keys. AllPairs R keys) directory directory_at (AllPairs-filter R (is_not key) (entries t from) (h from)) (λ d o. h d) d
 
   pub key_not_root : key ≢ root t
   key_not_root e =
@@ -136,7 +103,7 @@ module _ (t : Tree) (proper : Proper t) (key from : ℕ) (below : parent_of t ke
     listed = λ d k. (λ m. let w = was_listed d k m in (w.1, parents_same k ∙ (proper.listed d k).0 w.0), λ h. still_listed d k ((proper.listed d k).1 (sym (parents_same k) ∙ h.1)) h.0);
     once = λ d. pairs_kept (λ j k. j ≢ k) d proper.once;
     unlike = λ d j k m n same. proper.unlike d j k (was_listed d j m).0 (was_listed d k n).0 (ap (map upper) (sym (names_same j)) ∙ same ∙ ap (map upper) (names_same k));
-    rising = λ d. rising_kept (name_of t) (name_of l) (entries l d) names_same (pairs_kept (λ j k. slot (name_of t j) ≤ slot (name_of t k)) d proper.rising);
+    rising = λ d. rising_alike (name_of t) (name_of l) (entries l d) (λ k m. names_same k) (pairs_kept (λ j k. slot (name_of t j) ≤ slot (name_of t k)) d proper.rising);
     rooted = λ k a e. let w = was (relisted moment kept) from t k a e in leads_loosely t l key refl parents_same k (proper.rooted k w.old w.at);
     name = λ k a e. let w = was (relisted moment kept) from t k a e in was_with (λ n. IsName n.name) (relisted moment kept) from t k a (λ n h. h) w (proper.name k w.old w.at);
     comment = λ k a e. let w = was (relisted moment kept) from t k a e in was_with (λ n. IsComment n.comment) (relisted moment kept) from t k a (λ n h. h) w (proper.comment k w.old w.at);
@@ -265,12 +232,7 @@ module _ (t : Tree) (key : ℕ) (loose : Loose t key) (o : Option Node) (same_li
       loose.unlike d j k p q (ap (map upper) (sym (name_other j (not_key d j p))) ∙ same ∙ ap (map upper) (name_other k (not_key d k q)))
 
   rising_with : (d : ℕ) → AllPairs (λ j k. slot (name_of w j) ≤ slot (name_of w k)) (entries w d)
-  rising_with d = subst (AllPairs (λ j k. slot (name_of w j) ≤ slot (name_of w k))) (sym (entries_with d)) (λ i j e l m.
-      let first = Contains-get_or (entries t d) i e (omega arith) in
-      let second = Contains-get_or (entries t d) j e m in
-      let low : name_of w (slice_index_or (entries t d) i e) ≡ name_of t (slice_index_or (entries t d) i e) = name_other _ (not_key d _ first) in
-      let high : name_of w (slice_index_or (entries t d) j e) ≡ name_of t (slice_index_or (entries t d) j e) = name_other _ (not_key d _ second) in
-      subst (λ (nm : List ℕ). slot nm ≤ slot (name_of w (slice_index_or (entries t d) j e))) (sym low) (subst (λ (nm : List ℕ). slot (name_of t (slice_index_or (entries t d) i e)) ≤ slot nm) (sym high) (loose.rising d i j e l m)))
+  rising_with d = subst (AllPairs (λ j k. slot (name_of w j) ≤ slot (name_of w k))) (sym (entries_with d)) (rising_alike (name_of t) (name_of w) (entries t d) (λ k m. name_other k (not_key d k m)) (loose.rising d))
 
   root_with : (node : Node) × (w.nodes (root t) ≡ Some node) × IsRoot node
   root_with = (loose.root_node.0, node_other (root t) (λ e. loose.not_root (sym e)) ∙ loose.root_node.1, loose.root_node.2)
@@ -319,12 +281,6 @@ module _ (t : Tree) (key dir : ℕ) (loose : Loose t key) (directory : Node) (at
   abbrev e : Tree
   e = entered moment dir key t
 
-  entries_into : entries e dir ≡ more
-  entries_into = listed_here moment dir more t directory at
-
-  entries_beside : (d : ℕ) → d ≢ dir → entries e d ≡ entries t d
-  entries_beside = listed_other moment dir more t
-
   names_stay : (k : ℕ) → name_of e k ≡ name_of t k
   names_stay = listed_names moment dir more t
 
@@ -332,35 +288,21 @@ module _ (t : Tree) (key dir : ℕ) (loose : Loose t key) (directory : Node) (at
   parents_stay = listed_parents moment dir more t
 
   listed_is : (d k : ℕ) → Contains (entries e d) k → ((d ≡ dir) × (key ≡ k)) ⊎ Contains (entries t d) k
-  listed_is d k m = elim (cases_eq d dir) [
-    | inl same ↦
-        elim (Contains-enter slot_of key (entries t dir) k (subst (λ (keys : List ℕ). Contains keys k) (ap (entries e) same ∙ entries_into) m)) [
-          | inl h ↦ inl (same, h)
-          | inr h ↦ inr (subst (λ (i : ℕ). Contains (entries t i) k) (sym same) h)
-        ]
-    | inr other ↦ inr (subst (λ (keys : List ℕ). Contains keys k) (entries_beside d other) m)
-  ]
+  listed_is d k =
+      each_list moment dir more t (λ d keys. Contains keys k → ((d ≡ dir) × (key ≡ k)) ⊎ Contains (entries t d) k) directory at
+      (λ m. elim (Contains-enter slot_of key (entries t dir) k m) [ inl h ↦ inl (refl, h) | inr h ↦ inr h ]) (λ d o m. inr m) d
 
   listed_kept : (d k : ℕ) → Contains (entries t d) k → Contains (entries e d) k
-  listed_kept d k m = elim (cases_eq d dir) [
-    | inl same ↦ subst (λ (keys : List ℕ). Contains keys k) (sym (ap (entries e) same ∙ entries_into)) (Contains-enter_kept slot_of key (entries t dir) k (subst (λ (i : ℕ). Contains (entries t i) k) same m))
-    | inr other ↦ subst (λ (keys : List ℕ). Contains keys k) (sym (entries_beside d other)) m
-  ]
+  listed_kept d k = each_list moment dir more t (λ d keys. Contains (entries t d) k → Contains keys k) directory at (Contains-enter_kept slot_of key (entries t dir) k) (λ d o m. m) d
 
   not_listed : (d : ℕ) → ¬ Contains (entries t d) key
   not_listed d m = ((loose.listed d key).0 m).0 refl
 
   once_into : (d : ℕ) → Once (entries e d)
-  once_into d = elim (cases_eq d dir) [
-    | inl same ↦ subst Once (sym (ap (entries e) same ∙ entries_into)) (Once-enter slot_of key (entries t dir) (loose.once dir) (not_listed dir))
-    | inr other ↦ subst Once (sym (entries_beside d other)) (loose.once d)
-  ]
+  once_into = each_list moment dir more t (λ d keys. Once keys) directory at (Once-enter slot_of key (entries t dir) (loose.once dir) (not_listed dir)) (λ d o. loose.once d)
 
   rising_into : (d : ℕ) → AllPairs (λ j k. slot_of j ≤ slot_of k) (entries e d)
-  rising_into d = elim (cases_eq d dir) [
-    | inl same ↦ subst (AllPairs (λ j k. slot_of j ≤ slot_of k)) (sym (ap (entries e) same ∙ entries_into)) (Rises-enter slot_of key (entries t dir) (loose.rising dir))
-    | inr other ↦ subst (AllPairs (λ j k. slot_of j ≤ slot_of k)) (sym (entries_beside d other)) (loose.rising d)
-  ]
+  rising_into = each_list moment dir more t (λ d keys. AllPairs (λ j k. slot_of j ≤ slot_of k) keys) directory at (Rises-enter slot_of key (entries t dir) (loose.rising dir)) (λ d o. loose.rising d)
 
   unlike_into : (d j k : ℕ) → Contains (entries e d) j → Contains (entries e d) k → Same (name_of t j) (name_of t k) → j ≡ k
   unlike_into d j k m n same = go (listed_is d j m) (listed_is d k n)
@@ -388,7 +330,7 @@ module _ (t : Tree) (key dir : ℕ) (loose : Loose t key) (directory : Node) (at
     listed = λ d k. (λ m. parents_stay k ∙ was_parent d k (listed_is d k m), λ h. is_listed d k (sym (parents_stay k) ∙ h));
     once = once_into;
     unlike = λ d j k m n same. unlike_into d j k m n (ap (map upper) (sym (names_stay j)) ∙ same ∙ ap (map upper) (names_stay k));
-    rising = λ d. rising_kept (name_of t) (name_of e) (entries e d) names_stay (rising_into d);
+    rising = λ d. rising_alike (name_of t) (name_of e) (entries e d) (λ k m. names_stay k) (rising_into d);
     rooted = λ k a h. let w = was (relisted moment more) dir t k a h in leads_into k (loose.rooted k w.old w.at);
     name = λ k a h. let w = was (relisted moment more) dir t k a h in was_with (λ n. IsName n.name) (relisted moment more) dir t k a (λ n h. h) w (loose.name k w.old w.at);
     comment = λ k a h. let w = was (relisted moment more) dir t k a h in was_with (λ n. IsComment n.comment) (relisted moment more) dir t k a (λ n h. h) w (loose.comment k w.old w.at);
@@ -403,7 +345,7 @@ module _ (t : Tree) (key dir : ℕ) (loose : Loose t key) (directory : Node) (at
         | inl same ↦
             let here : parent_of t key ≡ Some d = ap (parent_of t) (sym same) ∙ h in
             let dirs : dir ≡ d = cc (below, here) in
-            subst (λ (i : ℕ). Contains (entries e i) k) dirs (subst (λ (keys : List ℕ). Contains keys k) (sym entries_into) (subst (Contains more) (sym same) (Contains-entered slot_of key (entries t dir))))
+            subst (λ (i : ℕ). Contains (entries e i) k) dirs (subst (λ (keys : List ℕ). Contains keys k) (sym (listed_here moment dir more t directory at)) (subst (Contains more) (sym same) (Contains-entered slot_of key (entries t dir))))
         | inr other ↦ listed_kept d k ((loose.listed d k).1 (other, h))
       ]
 

@@ -1,33 +1,13 @@
 -- The new blocks of a rewritten file, and the bytes of its freed blocks.
 use Rattle.std.proofs.Common.{◌≡◌, ◌≢◌, ℕ, zero, suc, ◌-◌, ◌*◌, ◌/◌, ◌<◌, ◌≤◌, ◌⊎◌, inl, inr, min, true, false, List, ◌∷◌, length, slice_index, Some, refl, sym, ap, ◌∙◌, subst, arith}
-use Rattle.std.proofs.lemmas.Bool.{cases_order, false_from_ne_true, false≢true}
-use Rattle.adf_block.specs.declared.layout.Format.{Format}
-use Rattle.adf_block.specs.declared.layout.Format.TheVariants.{Ofs, Ffs}
-use Rattle.adf_block.specs.Image.{IsInside, block_count, byte_at, has_free_bit}
-use Rattle.adf_block.specs.Whole.{HasFreeBit}
-use Rattle.adf_block.specs.Fields.{pointer_count, held_count, file_size, format_of}
-use Rattle.ados_map.specs.Pages.{page_block}
-use Rattle.ados_model.specs.File.{data_blocks, extension_blocks}
-use Rattle.ados_data.specs.Others.{RisesBehind}
-use Rattle.ados_data.proofs.Spelled.{data_blocks_are, extension_blocks_are}
-use Rattle.ados_data.specs.Unnamed.{KeepsUnnamed, IsExtensionField, data_end}
-use Rattle.ados_model.specs.Tree.{Node, Tree}
-use Rattle.ados_model.specs.Tree.Content.{File}
-use Rattle.ados_model.specs.Stands.{Layout, Duty, HasDuty, Stands}
-use Rattle.ados_model.specs.declared.role.Role.{Role}
+use Rattle.ados_change.proofs.Common.{cases_order, false_from_ne_true, false≢true, Format, Ofs, Ffs, IsInside, block_count, byte_at, has_free_bit, HasFreeBit, pointer_count, held_count, file_size, format_of, page_block, data_blocks, extension_blocks, RisesBehind, data_blocks_are, extension_blocks_are, KeepsUnnamed, IsExtensionField, data_end, Node, Tree, File, Layout, Duty, HasDuty, Stands, Role, InImage, IsField, extension_longs, ffs_data, HasFileKey, IsTaken, TakenRise, TakesLowest, StandsAt, slice_get-index, reached_stands, serves_at, duty_of}
 use Rattle.ados_model.specs.declared.role.Role.TheVariants as roles
-use Rattle.ados_model.specs.Faults.{InImage}
-use Rattle.ados_model.specs.Kept.{IsField}
-use Rattle.ados_model.specs.Kept.IsField.{extension_longs, ffs_data}
-use Rattle.ados_model.specs.Keys.{HasFileKey}
-use Rattle.ados_change.specs.NewBlocks.{IsTaken, TakenRise, TakesLowest}
-use Rattle.ados_model.proofs.Standing.{StandsAt, slice_get-index, reached_stands, serves_at, duty_of}
 use Rattle.ados_change.proofs.FilesStay.{data_serves, extension_serves, file_of_key}
 use Rattle.ados_change.proofs.Writable.{key_serves, named_used, page_serves}
 use Rattle.ados_change.proofs.Contents.{refilled, stays}
 use Rattle.ados_change.proofs.Relaid.{IsIn, IsRewritten, relaid, serves_data, serves_extension}
 use Rattle.ados_change.proofs.Refilled.{stands_after, layout_after}
-use Rattle.ados_change.proofs.BytesKept.{extension_field as pointer_field, data_field, is_ofs, is_ffs}
+use Rattle.ados_change.proofs.BytesKept.{extension_field as pointer_field, behind_bytes}
 
 module _ (old new : List ℕ) (t : Tree) (s : Stands old t) (file : ℕ) (node : Node) (bytes : List ℕ) (found : t.nodes file ≡ Some node) (is_file : node.content ≡ File bytes)
     (blocks' extensions' bytes' : List ℕ) (h : IsRewritten old file (s.layout.file_data file) (s.layout.extensions file) new blocks' extensions' bytes')
@@ -79,23 +59,9 @@ module _ (old new : List ℕ) (t : Tree) (s : Stands old t) (file : ℕ) (node :
   zero_data : (role : Role) (k b i j : ℕ) → StandsAt new v after role k b → IsTaken old new b → (l : j < length blocks') → slice_index blocks' j ≡ b → i < 512 → ¬ IsField new b role i → byte_at new b i ≡ 0
   zero_data role k b i j m taken l e small n = go role m n (same_duty role k b (Duty.Data file j) m (serves_data old new t s file node bytes found is_file blocks' extensions' bytes' h j l ∙ ap Some e))
     where
-      behind : (f : ℕ) → ¬ IsField new b (roles.Data f) i → data_end (format_of old) (file_size new file) j ≤ i
-      behind f n = by_format (format_of old) refl
-        where
-          by_format : (g : Format) → format_of old ≡ g → data_end g (file_size new file) j ≤ i
-          by_format Ffs is = absurd (n (ffs_data (is_ffs new (h.format ∙ is))))
-          by_format Ofs is =
-              let a = data_field new b f i (is_ofs new (h.format ∙ is)) n in
-              let holds = h.writable.lawful.holds in
-              let held : held_count new b ≡ min 488 (length bytes' - 488 * j) = ap (held_count new) (sym e) ∙ (holds.ofs_data (h.format ∙ is) j l).held in
-              omega (arith, a, held, holds.size)
-
       go : (role : Role) → StandsAt new v after role k b → ¬ IsField new b role i → duty_of new v after role k ≡ Duty.Data file j → byte_at new b i ≡ 0
-      go (roles.Data f) m n d = ap (λ (c : ℕ). byte_at new c i) (sym e) ∙ keeps.new_data j i (new_data j b taken l e) l small (behind f n)
-      go roles.Root m n d = absurd (cc d)
-      go roles.Page m n d = absurd (cc d)
-      go (roles.Entry dir r) m n d = absurd (cc d)
-      go (roles.Extension f) m n d = absurd (cc d)
+      go (roles.Data f) m n d = ap (λ (c : ℕ). byte_at new c i) (sym e) ∙ keeps.new_data j i (new_data j b taken l e) l small (behind_bytes old new t s file node bytes found is_file blocks' extensions' bytes' h keeps j f b i l e n)
+      go _ m n d = absurd (cc d)
 
   -- the meaningful longs of an extension block are fields
   extension_field : (b f i : ℕ) → IsExtensionField (pointer_count new b) (i / 4) → IsField new b (roles.Extension f) i
@@ -112,10 +78,7 @@ module _ (old new : List ℕ) (t : Tree) (s : Stands old t) (file : ℕ) (node :
       go (roles.Extension f) m n d =
           let none : ¬ IsExtensionField (pointer_count new (slice_index extensions' q)) (i / 4) = λ w. n (extension_field b f i (subst (λ (c : ℕ). IsExtensionField (pointer_count new c) (i / 4)) e w)) in
           ap (λ (c : ℕ). byte_at new c i) (sym e) ∙ keeps.new_extension q i (new_extension q b taken l e) l small none
-      go roles.Root m n d = absurd (cc d)
-      go roles.Page m n d = absurd (cc d)
-      go (roles.Entry dir r) m n d = absurd (cc d)
-      go (roles.Data f) m n d = absurd (cc d)
+      go _ m n d = absurd (cc d)
 
   -- ---- their order
 

@@ -1,11 +1,6 @@
 -- A file with unchanged blocks is the same file.
 use Rattle.std.proofs.Common.{◌≡◌, ℕ, zero, suc, ◌+◌, ◌-◌, ◌*◌, ◌/◌, ◌%◌, ◌<◌, ◌≤◌, ◌⊎◌, inl, inr, List, ◌∷◌, length, slice_index, refl, sym, ◌∙◌, arith}
-use Rattle.adf_block.specs.declared.layout.Format.{Format}
-use Rattle.adf_block.specs.Image.{long}
-use Rattle.ados_model.specs.Tree.{data_size, data_start, data_count}
-use Rattle.ados_model.specs.Stands.{HasFile, HasExtension, HasOfsData}
-use Rattle.ados_model.specs.File.{file_byte}
-use Rattle.ados_data.proofs.Chains.{next_of, chained}
+use Rattle.ados_change.proofs.Common.{Format, long, data_size, data_start, data_count, HasFile, HasExtension, HasOfsData, file_byte, next_of, chained}
 use Rattle.ados_data.proofs.Sizes.{in_count, in_block}
 use Rattle.ados_change.proofs.Unchanged.{Stays, long_as, sum_stays}
 use Rattle.ados_model.proofs.FileFaults.{chain_head}

@@ -1,17 +1,6 @@
 -- Each change of entries turns a proper tree into a proper one.
 use Rattle.std.proofs.Common.{◌≡◌, ◌≢◌, ℕ, ◌<◌, inl, inr, List, [], map, Contains, Some, None, option_map, option_and_then, refl, sym, ap, ◌∙◌, subst, arith}
-use Rattle.std.proofs.lemmas.List.Elements.{All-nil}
-use Rattle.ados_name.specs.declared.stamp.Date3.{Date3}
-use Rattle.ados_name.specs.Name.{upper, IsName, IsComment}
-use Rattle.ados_model.proofs.KeyLists.{Contains-nil}
-use Rattle.ados_model.specs.Tree.{Content, Node, Tree, Proper, LeadsToRoot, entries, entries_in, name_of, parent_of}
-use Rattle.ados_model.specs.Parts.{name_in, IsUnused}
-use Rattle.ados_model.specs.Tree.Content.{Directory}
-use Rattle.ados_model.specs.Tree.LeadsToRoot.{at_root, by_parent}
-use Rattle.ados_model.specs.Change.{with_node, changed, entered, stamped}
-use Rattle.ados_model.specs.Edits.{new_node}
-use Rattle.ados_model.proofs.Nodes.{content_in, parent_in}
-use Rattle.ados_change.specs.Conditions.{CanMake, CanRename, IsDirectoryKey, IsEmpty, IsUnder}
+use Rattle.ados_change.proofs.Common.{All-nil, Date3, upper, IsName, IsComment, Contains-nil, Content, Node, Tree, Proper, LeadsToRoot, entries, entries_in, name_of, parent_of, name_in, IsUnused, Directory, at_root, by_parent, with_node, changed, entered, stamped, new_node, content_in, parent_in, CanMake, CanRename, IsDirectoryKey, IsEmpty, IsUnder}
 use Rattle.ados_change.specs.Conditions.IsUnder.{itself, by_parent as under_parent}
 use Rattle.ados_change.specs.Laws.{MadeIsProper, RemovedIsProper, RenamedIsProper}
 use Rattle.ados_change.proofs.Changed.{nodes_here, nodes_other, was, Was, relisted}
@@ -94,7 +83,7 @@ module _ (t : Tree) (moment : Date3) (key dir : ℕ) (name : List ℕ) (proper :
   pub out_is_loose : Loose out key
   out_is_loose = unlisted_is_loose t proper key can.from can.listed moment
 
-  pub entry : (a : Node) × (t.nodes key ≡ Some a) × (a.parent ≡ Some can.from)
+  abbrev pub entry : (a : Node) × (t.nodes key ≡ Some a) × (a.parent ≡ Some can.from)
   entry = parent_in (t.nodes key) can.from can.listed
 
   pub entry_out : out.nodes key ≡ Some entry.0

@@ -1,18 +1,6 @@
 -- An image with a rewritten file represents the tree in which the file has its new bytes.
 use Rattle.std.proofs.Common.{◌≡◌, ◌≢◌, ℕ, ◌+◌, ◌<◌, ◌⊎◌, inl, inr, List, length, slice_index, Contains, Some, refl, sym, ap, ◌∙◌, subst, arith}
-use Rattle.std.proofs.lemmas.Bool.{cases_eq}
-use Rattle.std.proofs.lemmas.List.{get_or_default}
-use Rattle.adf_block.specs.declared.layout.Format.{Format}
-use Rattle.adf_block.specs.Image.{page_count, long, block_sum, Chained, HasText}
-use Rattle.adf_block.specs.Fields.{table_entry}
-use Rattle.adf_block.specs.declared.layout.TheConstants.{COMMENT_BYTE, NAME_BYTE, NEXT_IN_CHAIN}
-use Rattle.ados_map.specs.Pages.{page_block, pages_of}
-use Rattle.ados_model.specs.Tree.{data_count, Content, Node, Tree, root}
-use Rattle.ados_model.specs.Stands.{HasFile, Duty, HasDuty, Stands, HasNode, HasEntry, HasRoot, type_of, in_slot}
-use Rattle.ados_data.specs.Others.{IsOther, IsDataField}
-use Rattle.ados_data.proofs.Chains.{next_of, chained}
-use Rattle.ados_model.specs.Tree.Content.{Directory, File}
-use Rattle.ados_model.proofs.Standing.{count_same, slice_get-index, entry_at}
+use Rattle.ados_change.proofs.Common.{cases_eq, get_or_default, Format, page_count, long, block_sum, Chained, HasText, table_entry, COMMENT_BYTE, NAME_BYTE, NEXT_IN_CHAIN, page_block, pages_of, data_count, Content, Node, Tree, root, HasFile, Duty, HasDuty, Stands, HasNode, HasEntry, HasRoot, type_of, in_slot, IsOther, IsDataField, next_of, chained, Directory, File, count_same, slice_get-index, entry_at}
 use Rattle.ados_change.proofs.Writable.{key_serves, page_serves, lawful_pages, is_lawful, format_is}
 use Rattle.ados_change.proofs.Contents.{refilled, Was, was, file_not_root, proper_after, slots_same}
 use Rattle.ados_change.proofs.Unchanged.{StaysBut, Stays, long_stays, text_stays, date_stays, long_as, bytes_as, date_as, node_as, entry_as}

@@ -1,18 +1,8 @@
 -- A change of longs in the blocks of keys turns an image of one tree into an image of another, if it does so for each
 -- node.
 use Rattle.std.proofs.Common.{◌≡◌, ◌≢◌, ℕ, ◌+◌, ◌-◌, ◌/◌, ◌%◌, ◌^◌, ◌<◌, ◌≤◌, ◌⊎◌, inl, inr, ◌==◌, List, length, slice_index, bit_and, not, Option, Some, is_some, IsSome, refl, sym, ap, ◌∙◌, arith}
-use Rattle.std.proofs.lemmas.List.{get_or_default}
-use Rattle.adf_block.specs.Image.{IsInside, has_free_bit, block_count, root_key, long, block_sum, Chained, HasText}
-use Rattle.adf_block.specs.Fields.{table_entry}
-use Rattle.adf_block.specs.declared.layout.TheConstants.{COMMENT_BYTE, NAME_BYTE, NEXT_IN_CHAIN}
-use Rattle.ados_name.specs.declared.stamp.Date3.{Date3}
-use Rattle.ados_name.specs.Name.{IsName, IsComment}
-use Rattle.ados_model.specs.Tree.{data_count, Node, Tree, root, size_of}
-use Rattle.ados_model.specs.Stands.{HasFile, Layout, Duty, HasDuty, date_at, HasNode, HasEntry, HasRoot, in_slot}
-use Rattle.ados_model.specs.Tree.Content.{Directory, File}
-use Rattle.adf_block.specs.Frame.{SameBut}
+use Rattle.ados_change.proofs.Common.{get_or_default, IsInside, has_free_bit, block_count, root_key, long, block_sum, Chained, HasText, table_entry, COMMENT_BYTE, NAME_BYTE, NEXT_IN_CHAIN, Date3, IsName, IsComment, data_count, Node, Tree, root, size_of, HasFile, Layout, Duty, HasDuty, date_at, HasNode, HasEntry, HasRoot, in_slot, Directory, File, SameBut, slice_get-index}
 use Rattle.ados_change.proofs.Frame.{AtLongs, long-kept, bytes-kept, sum-kept, text_kept, date_kept}
-use Rattle.ados_model.proofs.Standing.{slice_get-index}
 use Rattle.ados_change.proofs.Spells.{Spells, same_duty}
 use Rattle.ados_change.proofs.Unchanged.{Stays}
 use Rattle.ados_change.proofs.OtherFiles.{IsFileLong, file_stays}

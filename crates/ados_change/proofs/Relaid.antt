@@ -1,17 +1,6 @@
 -- The blocks of a tree after a file got other bytes in other blocks.
 use Rattle.std.proofs.Common.{◌≡◌, ◌≢◌, ℕ, zero, suc, ◌/◌, ◌<◌, ◌≤◌, ◌==◌, ◌⊎◌, inl, inr, Bool, true, false, cond, List, ◌∷◌, length, slice_index, slice_get, Option, Some, None, IsSome, refl, sym, ap, ◌∙◌, subst, arith, eq-eqb}
-use Rattle.std.proofs.lemmas.Bool.{ne_eqb, cases_eq, cases_order, false≢true}
-use Rattle.adf_block.specs.declared.layout.Format.{Format}
-use Rattle.adf_block.specs.Image.{IsInside, block_count, page_count, has_free_bit}
-use Rattle.adf_block.specs.Whole.{HasFreeBit}
-use Rattle.adf_block.specs.Fields.{format_of}
-use Rattle.ados_map.specs.Pages.{page_block, pages_of}
-use Rattle.ados_model.specs.Tree.{data_count, extension_count, Node, Tree, size_of}
-use Rattle.ados_data.specs.Changing.{IsWritable}
-use Rattle.ados_data.specs.Others.{IsOther, Leaves}
-use Rattle.ados_model.specs.Tree.Content.{File}
-use Rattle.ados_model.specs.Stands.{Layout, Fits, Duty, HasDuty, Named, Stands}
-use Rattle.ados_model.proofs.Standing.{count_same, slice_get-index}
+use Rattle.ados_change.proofs.Common.{ne_eqb, cases_eq, cases_order, false≢true, Format, IsInside, block_count, page_count, has_free_bit, HasFreeBit, format_of, page_block, pages_of, data_count, extension_count, Node, Tree, size_of, IsWritable, IsOther, Leaves, File, Layout, Fits, Duty, HasDuty, Named, Stands, count_same, slice_get-index}
 use Rattle.ados_model.proofs.Counting.{slice_get-back}
 use Rattle.ados_change.proofs.Writable.{inside, key_serves, named_used, page_serves, beside_pages, format_is}
 use Rattle.ados_change.proofs.Contents.{refilled, was, stays, size_here, size_there}
@@ -120,9 +109,7 @@ module _ (old new : List ℕ) (t : Tree) (s : Stands old t) (file : ℕ) (node :
       go (Some a) e m = let w = stays t file node bytes bytes' found is_file b a e in rw w.1 refl
 
   pub holds : (b : ℕ) (duty : Duty) → HasDuty u lay b duty → Holds b duty
-  holds b (Duty.Page i) m = as_before m (record { no_data = λ j z. cc z; no_extension = λ q z. cc z })
   holds b Duty.Key m = as_before (key_back b m) (record { no_data = λ j z. cc z; no_extension = λ q z. cc z })
-  holds b Duty.Lost m = as_before m (record { no_data = λ j z. cc z; no_extension = λ q z. cc z })
   holds b (Duty.Data f i) m = elim (cases_eq f file) [
     | inl e ↦
         let at = slice_get-back blocks' i b (ap (λ (xs : List ℕ). slice_get xs i) (sym (data_here s.layout file blocks' extensions')) ∙ ap (λ (g : ℕ). slice_get (lay.file_data g) i) (sym e) ∙ m) in
@@ -135,6 +122,7 @@ module _ (old new : List ℕ) (t : Tree) (s : Stands old t) (file : ℕ) (node :
         subst (λ (g : ℕ). Holds b (Duty.Extension g q)) (sym e) (as_extension at.0 at.1)
     | inr n ↦ as_before (ap (λ (xs : List ℕ). slice_get xs q) (sym (extensions_there s.layout file blocks' extensions' f n)) ∙ m) (record { no_data = λ j z. cc z; no_extension = λ j z. let same : f ≡ file = cc z in n same })
   ]
+  holds b duty m = as_before m (record { no_data = λ j z. cc z; no_extension = λ q z. cc z })
 
   pub serves_data : (i : ℕ) → i < length blocks' → HasDuty u lay (slice_index blocks' i) (Duty.Data file i)
   serves_data i l = ap (λ (xs : List ℕ). slice_get xs i) (data_here s.layout file blocks' extensions') ∙ slice_get-index blocks' i l
@@ -238,9 +226,7 @@ module _ (old new : List ℕ) (t : Tree) (s : Stands old t) (file : ℕ) (node :
         | inl e ↦ ap (has_free_bit new) e ∙ (h.writable.headers_used 0 (omega arith)).marked
         | inr n ↦ left Duty.Key m beside n (λ p z. cc z)
       ]
-      go (Duty.Data f i) m beside = left (Duty.Data f i) m beside (not_header b (Duty.Data f i) m (λ z. cc z)) (λ p z. cc z)
-      go (Duty.Extension f q) m beside = left (Duty.Extension f q) m beside (not_header b (Duty.Extension f q) m (λ z. cc z)) (λ p z. cc z)
-      go Duty.Lost m beside = left Duty.Lost m beside (not_header b Duty.Lost m (λ z. cc z)) (λ p z. cc z)
+      go d m beside = left d m beside (not_header b d m (λ z. cc z)) (λ p z. cc z)
 
   used_after : (b : ℕ) (duty : Duty) → Holds b duty → has_free_bit new b ≡ false
   used_after b duty (as_before m x) = used_before b duty m x
@@ -252,9 +238,7 @@ module _ (old new : List ℕ) (t : Tree) (s : Stands old t) (file : ℕ) (node :
 
   -- a block that is marked used has a use
   named_before : (b : ℕ) (duty : Duty) → HasDuty t s.layout b duty → has_free_bit new b ≡ false → Named u lay b
-  named_before b (Duty.Page p) m used = (Duty.Page p, m)
   named_before b Duty.Key m used = (Duty.Key, key_on b m)
-  named_before b Duty.Lost m used = (Duty.Lost, m)
   named_before b (Duty.Data f i) m used = elim (cases_eq f file) [
     | inr n ↦ (Duty.Data f i, ap (λ (xs : List ℕ). slice_get xs i) (data_there s.layout file blocks' extensions' f n) ∙ m)
     | inl e ↦
@@ -273,6 +257,7 @@ module _ (old new : List ℕ) (t : Tree) (s : Stands old t) (file : ℕ) (node :
           | inr free ↦ absurd (false≢true (sym used ∙ ap (has_free_bit new) (sym at.1) ∙ free))
         ]
   ]
+  named_before b duty m used = (duty, m)
 
   named_taken : (b : ℕ) → IsIn blocks' b ⊎ IsIn extensions' b → Named u lay b
   named_taken b (inl at) = (Duty.Data file at.0, serves_data at.0 at.1 ∙ ap Some at.2)

@@ -1,28 +1,13 @@
 -- A link of a hash chain and the date of its directory change: the image represents the tree with the directory's new
 -- list.
 use Rattle.std.proofs.Common.{◌≡◌, ◌≢◌, ℕ, ◌+◌, ◌/◌, ◌<◌, ◌≤◌, ◌⊎◌, inl, inr, List, [], ◌∷◌, Contains, Option, Some, None, is_some, IsSome, option_map, refl, sym, ap, ◌∙◌, subst, arith}
-use Rattle.std.proofs.lemmas.Bool.{cases_eq}
-use Rattle.adf_block.specs.Image.{block_sum, long, Chained}
-use Rattle.adf_block.specs.Fields.{table_entry}
-use Rattle.adf_block.specs.declared.layout.TheConstants.{NAME_BYTE, NEXT_IN_CHAIN}
-use Rattle.adf_block.specs.Frame.{SameBut}
-use Rattle.adf_block.proofs.Frames.{same_sum}
-use Rattle.ados_name.specs.declared.stamp.Date3.{Date3}
-use Rattle.ados_chain.specs.Relinks.{AtLinks, Relinks, link_block, link_long}
-use Rattle.ados_model.proofs.KeyLists.{Contains-here, Contains-later}
-use Rattle.ados_model.specs.Tree.{Content, Node, Tree, root}
-use Rattle.ados_model.specs.Parts.{size_in}
-use Rattle.ados_model.specs.Tree.Content.{Directory, File}
-use Rattle.ados_model.specs.Change.{listed}
-use Rattle.ados_model.specs.Stands.{date_at, Layout, HasNode, HasEntry, type_of, in_slot}
-use Rattle.ados_change.specs.steps.Writes.{Dated}
+use Rattle.ados_change.proofs.Common.{cases_eq, block_sum, long, Chained, table_entry, NAME_BYTE, NEXT_IN_CHAIN, SameBut, same_sum, Date3, AtLinks, Relinks, link_block, link_long, Contains-here, Contains-later, Content, Node, Tree, root, size_in, Directory, File, listed, date_at, Layout, HasNode, HasEntry, type_of, in_slot, Dated, Chained-kept}
 use Rattle.ados_change.proofs.Frame.{AtLongs, AtDate, long-kept, sum-kept, dated_longs}
-use Rattle.ados_change.proofs.Changed.{nodes_here, nodes_other, changed_keeps, was, relisted}
+use Rattle.ados_change.proofs.Changed.{nodes_here, nodes_other, changed_keeps, each_keeps, was, relisted}
 use Rattle.ados_change.proofs.Loose.{Loose}
 use Rattle.ados_change.proofs.Spells.{Spells}
 use Rattle.ados_change.proofs.Reframed.{TellsOnly, Telling, SameFiles, first_kept, text_stays, date_stays, entry_stays, reframed}
 use Rattle.ados_change.proofs.Reframed.Telling.{sum, table, heading, linking}
-use Rattle.ados_chain.proofs.Spelling.{Chained-kept}
 
 -- where a link of a directory's hash chains may be: in its hash table, or in an entry
 pub data IsLinkPlace (t : Tree) (dir b i : ℕ) : Type 0 where
@@ -194,7 +179,7 @@ module _ (old mid new : List ℕ) (t : Tree) (l : Layout) (loose_key : ℕ) (s :
 
     same_files : SameFiles t u.nodes
     same_files = record {
-      same_keys = changed_keeps is_some (relisted moment list) dir t some_same;
+      same_keys = changed_keeps is_some (relisted moment list) dir t (each_keeps is_some (relisted moment list) (λ b. refl));
       was_file = λ k b bytes e c.
           let w = was (relisted moment list) dir t k b e in
           elim (w.how) [
@@ -207,10 +192,6 @@ module _ (old mid new : List ℕ) (t : Tree) (l : Layout) (loose_key : ℕ) (s :
         | inr n ↦ ap (λ (n : Option Node). size_in (option_map (λ node. node.content) n)) (nodes_other dir (option_map (relisted moment list) (t.nodes dir)) t k n)
       ];
     }
-      where
-        some_same : (o : Option Node) → is_some (option_map (relisted moment list) o) ≡ is_some o
-        some_same None = refl
-        some_same (Some b) = refl
 
     chains_after : (d : ℕ) (b : Node) (ks : List ℕ) (q : ℕ) → u.nodes d ≡ Some b → b.content ≡ Directory ks → q < 72 → Chained new NEXT_IN_CHAIN (table_entry new d q) (in_slot u d q)
     chains_after d b ks q e c m =

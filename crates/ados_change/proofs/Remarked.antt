@@ -1,28 +1,14 @@
 -- A block allocated for a new node, or freed by one: the rest of the image is unchanged.
 use Rattle.std.proofs.Common.{◌≡◌, ◌≢◌, ℕ, ◌+◌, ◌-◌, ◌/◌, ◌<◌, ◌⊎◌, inl, inr, Bool, true, false, ◌==◌, List, length, slice_index, Contains, not, Option, Some, is_some, option_map, refl, sym, ap, ◌∙◌, subst, arith}
-use Rattle.std.proofs.lemmas.Bool.{cases_eq}
-use Rattle.adf_block.specs.Image.{IsInside, has_free_bit, block_sum, Chained}
-use Rattle.adf_block.specs.Whole.{HasFreeBit}
-use Rattle.adf_block.specs.Fields.{table_entry}
-use Rattle.adf_block.specs.declared.layout.TheConstants.{NEXT_IN_CHAIN}
-use Rattle.ados_name.specs.Name.{slot}
-use Rattle.ados_model.specs.Tree.{data_count, Node, Tree, root, entries, entries_in, size_of, name_of}
-use Rattle.ados_model.specs.Parts.{size_in}
-use Rattle.ados_model.specs.Stands.{HasFile, Layout, Fits, Duty, HasDuty, Named, HasNode, HasEntry, HasRoot, in_slot}
-use Rattle.ados_model.specs.Tree.Content.{Directory, File}
-use Rattle.ados_model.specs.Change.{with_node}
-use Rattle.adf_block.specs.Frame.{SameBut}
+use Rattle.ados_change.proofs.Common.{cases_eq, IsInside, has_free_bit, block_sum, Chained, HasFreeBit, table_entry, NEXT_IN_CHAIN, slot, data_count, Node, Tree, root, entries, entries_in, size_of, name_of, size_in, HasFile, Layout, Fits, Duty, HasDuty, Named, HasNode, HasEntry, HasRoot, in_slot, Directory, File, with_node, SameBut, slice_get-index, parent_in, Chained-kept}
 use Rattle.ados_change.proofs.Frame.{AtLongs}
 use Rattle.ados_change.proofs.Unchanged.{Stays, long_as, bytes_as, date_as, node_as, entry_as}
 use Rattle.ados_change.proofs.OtherFiles.{file_stays}
-use Rattle.ados_model.proofs.Standing.{slice_get-index}
-use Rattle.ados_model.proofs.Nodes.{parent_in}
 use Rattle.ados_change.proofs.Entering.{Contains-part}
 use Rattle.ados_change.proofs.Changed.{nodes_here, nodes_other}
 use Rattle.ados_change.proofs.Loose.{Loose}
 use Rattle.ados_change.proofs.Slots.{slots_beside}
 use Rattle.ados_change.proofs.Spells.{Spells, same_duty}
-use Rattle.ados_chain.proofs.Spelling.{Chained-kept}
 
 -- a bitmap block
 abbrev pub IsPage : Layout → ℕ → Type 0
@@ -124,11 +110,8 @@ module _ (old new : List ℕ) (t : Tree) (l : Layout) (key : ℕ) (o : Option No
   serves_new b duty n m = same_duty t w l b (ap is_some (nodes_other key o t b n)) refl duty m
 
   serves_here : (duty : Duty) → HasDuty w l key duty → (duty ≡ Duty.Key) × (is_some o ≡ true)
-  serves_here (Duty.Page i) m = absurd (let e = alone.only (Duty.Page i) m in cc e)
   serves_here Duty.Key m = (refl, ap is_some (sym (nodes_here key o t)) ∙ m)
-  serves_here (Duty.Data file i) m = absurd (let e = alone.only (Duty.Data file i) m in cc e)
-  serves_here (Duty.Extension file i) m = absurd (let e = alone.only (Duty.Extension file i) m in cc e)
-  serves_here Duty.Lost m = absurd (let e = alone.only Duty.Lost m in cc e)
+  serves_here duty m = absurd (let e = alone.only duty m in cc e)
 
   size_stays : (file : ℕ) → size_of w file ≡ size_of t file
   size_stays file = elim (cases_eq file key) [

@@ -1,31 +1,13 @@
--- An entry moved, possibly under a new name: the image represents the tree with the entry moved.
-use Rattle.std.proofs.Common.{◌≡◌, ◌≢◌, ℕ, ◌+◌, ◌/◌, ◌<◌, ◌≤◌, ◌⊎◌, inl, inr, List, length, Contains, Option, Some, None, is_some, IsSome, option_map, refl, sym, ap, ◌∙◌, subst, arith}
-use Rattle.adf_block.specs.Image.{block_sum, long, Chained, HasText}
-use Rattle.adf_block.specs.Fields.{table_entry, parent_key}
-use Rattle.adf_block.specs.declared.layout.TheConstants.{COMMENT_BYTE, NAME_BYTE, NEXT_IN_CHAIN}
-use Rattle.adf_block.proofs.Frames.{same_weaken}
-use Rattle.ados_name.specs.declared.stamp.Date3.{Date3}
-use Rattle.ados_name.specs.Name.{IsName}
-use Rattle.ados_chain.specs.Relinks.{CanInsert, CanUnlink, InsertsLast, Unlinks}
-use Rattle.ados_model.specs.Tree.{Node, Tree, root, entries}
-use Rattle.ados_model.specs.Parts.{size_in}
-use Rattle.ados_model.specs.Tree.Content.{Directory}
-use Rattle.ados_model.specs.Change.{changed, entered, renamed, stamped}
-use Rattle.ados_model.specs.Stands.{Layout, Stands, HasNode, HasEntry, in_slot}
-use Rattle.ados_model.proofs.Nodes.{directory_node}
-use Rattle.ados_change.specs.Conditions.{CanRename}
-use Rattle.adf_block.specs.Frame.{SameBut}
-use Rattle.ados_change.specs.steps.Writes.{AtTitle, Dated, Titled}
+-- An entry in no list gets another name and directory: the image represents the tree with them.
+use Rattle.std.proofs.Common.{◌≡◌, ◌≢◌, ℕ, ◌+◌, ◌/◌, ◌<◌, ◌≤◌, ◌⊎◌, inl, inr, List, length, Option, Some, None, is_some, IsSome, option_map, refl, sym, ap, ◌∙◌, subst, arith}
+use Rattle.ados_change.proofs.Common.{block_sum, long, Chained, HasText, table_entry, parent_key, COMMENT_BYTE, NAME_BYTE, NEXT_IN_CHAIN, same_weaken, IsName, Node, Tree, root, entries, size_in, Directory, changed, Layout, HasNode, HasEntry, in_slot, SameBut, AtTitle, Titled, Chained-kept}
 use Rattle.ados_change.proofs.Frame.{AtLongs, sum-kept, long-kept}
-use Rattle.ados_change.proofs.Changed.{changed_keeps, was}
-use Rattle.ados_change.proofs.Loose.{Loose, in_list, left_is, proper_is_loose}
-use Rattle.ados_change.proofs.ProperChanges.{named, out, out_is_loose, entry, entry_out, moved, moved_here, moved_is_loose, moved_entered_proper, dir_is_other, into_directory, renamed_is_proper}
+use Rattle.ados_change.proofs.Changed.{changed_keeps, each_keeps, was}
+use Rattle.ados_change.proofs.Loose.{Loose}
 use Rattle.ados_change.proofs.Slots.{slots_beside}
-use Rattle.ados_change.proofs.Spells.{Spells, spells, stands}
+use Rattle.ados_change.proofs.Spells.{Spells}
 use Rattle.ados_change.proofs.Reframed.{TellsOnly, first_kept, last_kept, text_stays, date_stays, node_stays, entry_stays, reframed}
 use Rattle.ados_change.proofs.Reframed.Telling.{sum, heading, linking}
-use Rattle.ados_change.proofs.Listing.{can_unlink, can_insert, left_spells, entered_spells, stamped_spells}
-use Rattle.ados_chain.proofs.Spelling.{Chained-kept}
 
 -- the longs of an entry's name, directory and checksum
 abbrev pub AtTitleLongs : ℕ → ℕ → ℕ → Type 0
@@ -68,13 +50,8 @@ module _ (old new : List ℕ) (t : Tree) (lay : Layout) (key dir : ℕ) (name : 
   apart : (b j : ℕ) → b ≢ key → ¬ W b j
   apart b j n w = n w.0
 
-  same_content : (o : Option Node) → option_map (λ node. node.content) (option_map titled o) ≡ option_map (λ node. node.content) o
-  same_content None = refl
-  same_content (Some a) = refl
-
-  some_same : (o : Option Node) → is_some (option_map titled o) ≡ is_some o
-  some_same None = refl
-  some_same (Some a) = refl
+  abbrev size_at : Option Node → ℕ
+  size_at o = size_in (option_map (λ node. node.content) o)
 
   slots_same : (d q : ℕ) → in_slot u d q ≡ in_slot t d q
   slots_same d q = slots_beside t key loose (option_map titled (t.nodes key)) (rw at refl) d q
@@ -117,9 +94,9 @@ module _ (old new : List ℕ) (t : Tree) (lay : Layout) (key dir : ℕ) (name : 
   titled_spells =
       reframed old new t lay s root_some size W tells change u.nodes t.disk_date
       (record {
-        same_keys = changed_keeps is_some titled key t some_same;
+        same_keys = changed_keeps is_some titled key t (each_keeps is_some titled (λ a. refl));
         was_file = λ k a bytes e c. let w = was titled key t k a e in (w.old, w.at, elim (w.how) [ inl h ↦ ap (λ (n : Node). n.content) (sym h.1) ∙ c | inr h ↦ ap (λ (n : Node). n.content) (sym h.1) ∙ c ]);
-        same_size = λ d k. changed_keeps (λ (o : Option Node). size_in (option_map (λ node. node.content) o)) titled key t (λ o. ap size_in (same_content o)) k;
+        same_size = λ d k. changed_keeps size_at titled key t (each_keeps size_at titled (λ a. refl)) k;
       })
       (date_stays old new t lay s root_some size W tells change (root t) 118 (omega arith) (λ j p q. apart (root t) j (λ e. loose.not_root (sym e))) ∙ s.root_fields.disk_date)
       node_after (λ k d a e p. entry_after k d a e p)
@@ -130,59 +107,3 @@ module _ (old new : List ℕ) (t : Tree) (lay : Layout) (key dir : ℕ) (name : 
       subst (λ (xs : List ℕ). Chained new NEXT_IN_CHAIN (table_entry new d q) xs) (sym (slots_same d q))
       (subst (λ (first : ℕ). Chained new NEXT_IN_CHAIN first (in_slot t d q)) (sym (link d (6 + q) (omega (arith, m)) (omega arith) (inl (omega (arith, m)))))
       (Chained-kept old new NEXT_IN_CHAIN (table_entry old d q) (in_slot t d q) (λ b n. link b 124 (omega arith) (omega arith) (inr (inl (omega arith, omega arith)))) (s.chains d w.old keys q w.at directory m))))
-
--- ---- the whole move
-
-module _ (old : List ℕ) (t : Tree) (st : Stands old t) (moment : Date3) (key dir : ℕ) (name : List ℕ) (can : CanRename t key dir name) where
-  pub s : Spells old t st.layout
-  s = spells old t st
-
-  pub whole_loose : Loose t 0
-  whole_loose = proper_is_loose t st.proper
-
-  in_dir : Contains (entries t can.from) key
-  in_dir = in_list t st.proper key can.from can.listed moment
-
-  pub directory : (a : Node) × (keys : List ℕ) × (t.nodes can.from ≡ Some a) × (a.content ≡ Directory keys)
-  directory = directory_node t st.proper can.from key in_dir
-
-  abbrev pub the_entry : (a : Node) × (t.nodes key ≡ Some a) × (a.parent ≡ Some can.from)
-  the_entry = entry t moment key dir name st.proper can
-
-  pub moves_link : CanUnlink old can.from key
-  moves_link = can_unlink old t st.layout 0 s whole_loose can.from directory.0 directory.1 directory.2 directory.3 key in_dir
-
-  abbrev pub gone : Tree
-  gone = out t moment key dir name st.proper can
-
-  gone_loose : Loose gone key
-  gone_loose = out_is_loose t moment key dir name st.proper can
-
-  abbrev pub there : Tree
-  there = moved t moment key dir name st.proper can
-
-  pub there_loose : Loose there key
-  there_loose = moved_is_loose t moment key dir name st.proper can
-
-  module _ (m1 m2 m3 : List ℕ) (unlinks : Unlinks can.from key (in_slot t can.from) old m1) (redated : Dated can.from 105 moment m1 m2) (retitled : Titled key dir name m2 m3) where
-    pub gone_spells : Spells m2 gone st.layout
-    gone_spells = left_spells old m1 m2 t st.layout 0 s whole_loose can.from directory.0 directory.1 directory.2 directory.3 key the_entry.0 the_entry.1 the_entry.2 unlinks moment redated
-
-    pub there_spells : Spells m3 there st.layout
-    there_spells = titled_spells m2 m3 gone st.layout key dir name gone_spells gone_loose the_entry.0 can.from (entry_out t moment key dir name st.proper can) the_entry.2 can.valid retitled
-
-    pub goal_directory : (b : Node) × (keys : List ℕ) × (there.nodes dir ≡ Some b) × (b.content ≡ Directory keys)
-    goal_directory = into_directory t moment key dir name st.proper can
-
-    pub moves_in : CanInsert m3 dir key
-    moves_in = can_insert m3 m3 m3 there st.layout key there_spells there_loose dir goal_directory.0 goal_directory.1 goal_directory.2 goal_directory.3 (named t moment key dir name st.proper can the_entry.0) (moved_here t moment key dir name st.proper can) (λ e. dir_is_other t moment key dir name st.proper can (sym e))
-
-    module _ (m4 m5 m6 : List ℕ) (inserts : InsertsLast dir key (in_slot there dir) m3 m4) (dated : Dated dir 105 moment m4 m5) (restamped : Dated (root t) 118 moment m5 m6) where
-      pub renamed_spells : Spells m6 (renamed moment key dir name t) st.layout
-      renamed_spells =
-          let entered_so = entered_spells m3 m4 m5 there st.layout key there_spells there_loose dir goal_directory.0 goal_directory.1 goal_directory.2 goal_directory.3 (named t moment key dir name st.proper can the_entry.0) (moved_here t moment key dir name st.proper can) (λ e. dir_is_other t moment key dir name st.proper can (sym e)) inserts moment dated in
-          let whole = stamped_spells m5 m6 (entered moment dir key there) st.layout 0 entered_so (proper_is_loose (entered moment dir key there) (moved_entered_proper t moment key dir name st.proper can)) moment restamped in
-          subst (λ (u : Tree). Spells m6 (stamped moment (entered moment dir key (changed key (λ node. record node { name = name; parent = Some dir }) u))) st.layout) (sym (left_is t st.proper key can.from can.listed moment)) whole
-
-      pub renamed_stands : Stands m6 (renamed moment key dir name t)
-      renamed_stands = stands m6 (renamed moment key dir name t) st.layout (renamed_is_proper t moment key dir name st.proper can) renamed_spells

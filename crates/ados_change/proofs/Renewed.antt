@@ -1,36 +1,14 @@
 -- A file that gets its time stamp and is then rewritten: consequences for the tree and the image.
-use Rattle.std.proofs.Common.{◌≡◌, ◌≢◌, ℕ, ◌+◌, ◌/◌, ◌<◌, ◌≤◌, inl, inr, true, false, List, [], length, Option, Some, None, option_map, refl, sym, ap, ap₂, ◌∙◌, subst, arith, eq-eqb}
-use Rattle.std.proofs.lemmas.Bool.{ne_eqb, cases_eq, lt-ltb, ltb-true, false≢true}
-use Rattle.adf_block.specs.Whole.{IsImage, free_bit_count}
-use Rattle.adf_block.specs.Image.{IsInside, block_count, byte_at, long, has_free_bit}
-use Rattle.adf_block.specs.Fields.{secondary_type, format_of}
-use Rattle.adf_block.specs.Frame.{SameBut}
-use Rattle.adf_block.specs.declared.layout.TheConstants.{FILE_TYPE}
-use Rattle.adf_block.proofs.Frames.{same_count}
-use Rattle.adf_block.proofs.Longs.{long-same}
-use Rattle.ados_name.specs.declared.stamp.Date3.{Date3}
-use Rattle.ados_map.specs.Pages.{NoneFreeBelow}
+use Rattle.std.proofs.Common.{◌≡◌, ◌≢◌, ℕ, ◌+◌, ◌/◌, ◌<◌, ◌≤◌, inl, inr, true, false, List, length, Option, Some, None, option_map, refl, sym, ap, ap₂, ◌∙◌, subst, arith, eq-eqb, []}
+use Rattle.ados_change.proofs.Common.{ne_eqb, cases_eq, lt-ltb, ltb-true, false≢true, IsImage, free_bit_count, IsInside, block_count, byte_at, long, has_free_bit, secondary_type, format_of, SameBut, FILE_TYPE, same_count, long-same, Date3, NoneFreeBelow, block_cost, Content, Node, Tree, root, free, content_at, size_of, bytes_of, data_blocks, extension_blocks, contents, HasFree, WritableFile, IsDataField, RisesBehind, IsBeside, KeepsUnnamed, pages_of, page_count, File, Duty, Stands, HasFileKey, HasTree, rewritten, without_archive, KeepsRest, root_is, IsFileNode, one_tree, AtStamps, IsFileStamp, touched, IsStamped, NeedsMore}
 use Rattle.ados_data.proofs.Bounds.{below_stays}
-use Rattle.ados_model.specs.Tree.{block_cost, Content, Node, Tree, root, free, content_at, size_of, bytes_of, bytes_in as bytes_held}
-use Rattle.ados_model.specs.File.{data_blocks, extension_blocks, contents}
-use Rattle.ados_data.specs.Changing.{HasFree, WritableFile}
-use Rattle.ados_data.specs.Others.{IsDataField, RisesBehind}
+use Rattle.ados_model.specs.Tree.{bytes_in as bytes_held}
 use Rattle.ados_data.specs.declared.place.Place.{Place}
 use Rattle.ados_data.specs.Place.{IsAmong, IsPlace}
-use Rattle.ados_data.specs.Unnamed.{KeepsUnnamed}
-use Rattle.ados_model.specs.Tree.Content.{File}
-use Rattle.ados_model.specs.Stands.{Duty, Stands}
-use Rattle.ados_model.specs.Keys.{HasFileKey, HasTree}
-use Rattle.ados_model.specs.Change.{rewritten}
-use Rattle.ados_name.specs.Name.{without_archive}
-use Rattle.ados_change.specs.NewBlocks.{KeepsRest}
 use Rattle.ados_change.proofs.FilesStay.{file_of_key, has_bytes, untold_trans}
-use Rattle.ados_model.proofs.Standing.{root_is, IsFileNode}
 use Rattle.ados_model.proofs.Counting.{free_bits_count}
-use Rattle.ados_model.proofs.OneTree.{one_tree}
-use Rattle.ados_change.specs.Stamps.{AtStamps, IsFileStamp, touched}
-use Rattle.ados_change.specs.Renewed.{IsStamped, NeedsMore}
 use Rattle.ados_change.proofs.Writable.{inside, key_serves, writable, data_is, extensions_is, bytes_is, format_is}
+use Rattle.ados_change.proofs.Changed.{each_keeps}
 use Rattle.ados_change.proofs.Contents.{refilled, holding, file_not_root}
 use Rattle.ados_change.proofs.Relaid.{IsRewritten}
 use Rattle.ados_change.proofs.Refilled.{stands_after}
@@ -112,11 +90,7 @@ is_rewritten moment bytes file t = λ i. record {
 
 module _ (moment : Date3) (old mid : List ℕ) (file : ℕ) (tree : HasTree old) (key : HasFileKey old file) (h : IsStamped moment old file mid) where
   touched_content : (t : Tree) → content_at (touched moment file t) file ≡ content_at t file
-  touched_content t = rw (eq-eqb file file refl) (go (t.nodes file))
-    where
-      go : (o : Option Node) → option_map (λ (node : Node). node.content) (option_map (touch moment) o) ≡ option_map (λ (node : Node). node.content) o
-      go None = refl
-      go (Some a) = refl
+  touched_content t = rw (eq-eqb file file refl) (each_keeps (option_map (λ (node : Node). node.content)) (touch moment) (λ a. refl) (t.nodes file))
 
   -- the content of every node is the same
   touched_contents : (t : Tree) (k : ℕ) → content_at (touched moment file t) k ≡ content_at t k
@@ -160,6 +134,20 @@ module _ (moment : Date3) (old mid : List ℕ) (file : ℕ) (tree : HasTree old)
 
   pub below_mid : (from : ℕ) → NoneFreeBelow old from → NoneFreeBelow mid from
   below_mid from = below_stays old mid from (same_count (AtStamps (root tree.0) file) old mid rest) (λ b i used. marks_mid b i ∙ used)
+
+  -- a block beside the file is still beside it
+  pub beside_mid : (blocks extensions : List ℕ) (b : ℕ) → IsBeside old file blocks extensions b → IsBeside mid file blocks extensions b
+  beside_mid blocks extensions b n =
+      let count = same_count (AtStamps (root tree.0) file) old mid rest in
+      let past = (stamps_keep old mid tree.0 tree.1 file node.node node.at file_is_no_root rest).untold.past_end in
+      record {
+        inside = omega (arith, n.inside, count);
+        beside_pages = λ p l e.
+            let before : p < pages_of old = omega (arith, l, ap page_count count) in
+            n.beside_pages p before (e ∙ past.pages p before);
+        beside_headers = n.beside_headers;
+        beside_data = n.beside_data;
+      }
 
   -- the file's bytes are the same, and equally many blocks are free
   pub same_contents : contents mid file ≡ contents old file

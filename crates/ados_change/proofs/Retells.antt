@@ -1,13 +1,6 @@
 -- A tree with one node replaced: the parts that the lists of entries depend on are unchanged.
 use Rattle.std.proofs.Common.{◌≡◌, ◌≢◌, ℕ, inl, inr, [], Contains, Option, Some, None, is_some, option_map, option_and_then, refl, sym, ap, ◌∙◌, subst, eq-eqb}
-use Rattle.std.proofs.lemmas.Bool.{ne_eqb, cases_eq}
-use Rattle.ados_name.specs.declared.stamp.Date3.{Date3}
-use Rattle.ados_name.specs.Name.{IsName, IsComment}
-use Rattle.ados_model.specs.Tree.{Node, Tree, Proper, IsRoot, root, content_at, entries_in, entries, name_of, parent_of}
-use Rattle.ados_model.specs.Parts.{name_in}
-use Rattle.ados_model.specs.Stands.{in_slot}
-use Rattle.ados_model.specs.Change.{stamped, with_node}
-use Rattle.ados_model.proofs.Nodes.{entry_node}
+use Rattle.ados_change.proofs.Common.{ne_eqb, cases_eq, Date3, IsName, IsComment, Node, Tree, Proper, IsRoot, root, content_at, entries_in, entries, name_of, parent_of, name_in, in_slot, stamped, with_node, entry_node}
 use Rattle.ados_change.proofs.SameLists.{proper_alike, slots_alike}
 
 -- the tree with this node at a key, and this disk date

@@ -1,16 +1,6 @@
 -- An image with a changed block of one key represents the tree with that key's new node.
 use Rattle.std.proofs.Common.{◌≡◌, ◌≢◌, ℕ, ◌+◌, ◌/◌, ◌<◌, ◌≤◌, ◌⊎◌, inl, inr, List, length, Some, is_some, IsSome, sym, ap, ◌∙◌, subst, arith}
-use Rattle.std.proofs.lemmas.Bool.{cases_eq}
-use Rattle.adf_block.specs.Image.{long, block_sum, HasText, Chained}
-use Rattle.adf_block.specs.Fields.{protection, table_entry}
-use Rattle.adf_block.specs.declared.layout.TheConstants.{COMMENT_BYTE, NAME_BYTE, NEXT_IN_CHAIN}
-use Rattle.adf_block.specs.Frame.{SameBut}
-use Rattle.adf_block.proofs.Frames.{same_weaken}
-use Rattle.ados_name.specs.declared.stamp.Date3.{Date3}
-use Rattle.ados_model.specs.Stands.{Stands, HasNode, HasEntry, type_of, date_at, in_slot}
-use Rattle.ados_model.specs.Tree.{Node, Tree, root}
-use Rattle.ados_model.specs.Parts.{size_in}
-use Rattle.ados_chain.proofs.Spelling.{Chained-kept}
+use Rattle.ados_change.proofs.Common.{cases_eq, long, block_sum, HasText, Chained, protection, table_entry, COMMENT_BYTE, NAME_BYTE, NEXT_IN_CHAIN, SameBut, same_weaken, Date3, Stands, HasNode, HasEntry, type_of, date_at, in_slot, Node, Tree, root, size_in, Chained-kept}
 use Rattle.ados_change.proofs.Frame.{AtLongs, long-kept, sum-kept}
 use Rattle.ados_change.proofs.Spells.{spells, stands}
 use Rattle.ados_change.proofs.Reframed.{TellsOnly, first_kept, date_stays, node_stays, entry_stays, reframed}

@@ -1,9 +1,6 @@
 -- A block with a right checksum before and after has the same checksum if all its other bytes are unchanged.
 use Rattle.std.proofs.Common.{◌≡◌, ◌≢◌, ℕ, ◌+◌, ◌*◌, ◌/◌, ◌%◌, ◌^◌, ◌<◌, inl, inr, List, sym, ap, ◌∙◌, arith}
-use Rattle.std.proofs.lemmas.Bool.{cases_eq}
-use Rattle.adf_block.specs.Whole.{IsImage}
-use Rattle.adf_block.specs.Image.{byte_at, long, block_sum, total}
-use Rattle.adf_block.proofs.Longs.{byte_at-below, long-below, long-bytes}
+use Rattle.ados_change.proofs.Common.{cases_eq, IsImage, byte_at, long, block_sum, total, byte_at-below, long-below, long-bytes}
 use Rattle.adf_block.proofs.Totals.{total-one}
 
 -- two right sums that differ in one long only do not differ

@@ -1,12 +1,14 @@
 -- A tree with other nodes, but with the same parents, lists and names in lists.
 use Rattle.std.proofs.Common.{◌≡◌, ◌≢◌, ℕ, ◌≤◌, ◌==◌, List, map, filter, slice_index_or, AllPairs, Contains, Option, Some, sym, ap, ◌∙◌, subst, arith}
-use Rattle.std.proofs.lemmas.List.Elements.{Contains-get_or}
-use Rattle.ados_name.specs.declared.stamp.Date3.{Date3}
-use Rattle.ados_name.specs.Name.{upper, slot, IsName, IsComment}
-use Rattle.ados_model.specs.Tree.{Node, Tree, Proper, IsRoot, LeadsToRoot, root, entries, name_of, parent_of}
-use Rattle.ados_model.specs.Tree.LeadsToRoot.{at_root, by_parent}
-use Rattle.ados_model.specs.Stands.{in_slot}
+use Rattle.ados_change.proofs.Common.{Contains-get_or, Date3, upper, slot, IsName, IsComment, Node, Tree, Proper, IsRoot, LeadsToRoot, root, entries, name_of, parent_of, at_root, by_parent, in_slot}
 use Rattle.ados_change.proofs.Entering.{filter_same}
+
+-- the order of slots, if the names in the list are the same
+pub rising_alike : (names names' : ℕ → List ℕ) (keys : List ℕ) → ((k : ℕ) → Contains keys k → names' k ≡ names k) → AllPairs (λ j k. slot (names j) ≤ slot (names k)) keys → AllPairs (λ j k. slot (names' j) ≤ slot (names' k)) keys
+rising_alike names names' keys same h i j e l m =
+    let first = ap slot (same (slice_index_or keys i e) (Contains-get_or keys i e (omega arith))) in
+    let second = ap slot (same (slice_index_or keys j e) (Contains-get_or keys j e m)) in
+    omega (arith, first, second, h i j e l m)
 
 module _ (t : Tree) (nodes : ℕ → Option Node) (d : Date3) where
   abbrev u : Tree
@@ -41,14 +43,8 @@ module _ (t : Tree) (nodes : ℕ → Option Node) (d : Date3) where
           let b = was_listed dir j c in
           let n = was_listed dir k m in
           p.unlike dir j k b n (ap (map upper) (sym (names dir j b)) ∙ same ∙ ap (map upper) (names dir k n));
-      rising = λ dir. subst (AllPairs (λ j k. slot (name_of u j) ≤ slot (name_of u k))) (sym (lists dir)) (rises dir);
+      rising = λ dir. subst (AllPairs (λ j k. slot (name_of u j) ≤ slot (name_of u k))) (sym (lists dir)) (rising_alike (name_of t) (name_of u) (entries t dir) (names dir) (p.rising dir));
       rooted = λ k a e. let w = was k a e in leads_on k (p.rooted k w.0 w.1);
       name = name;
       comment = comment;
     }
-      where
-        rises : (dir : ℕ) → AllPairs (λ j k. slot (name_of u j) ≤ slot (name_of u k)) (entries t dir)
-        rises dir i j e l m =
-            let first = ap slot (names dir (slice_index_or (entries t dir) i e) (Contains-get_or (entries t dir) i e (omega arith))) in
-            let second = ap slot (names dir (slice_index_or (entries t dir) j e) (Contains-get_or (entries t dir) j e m)) in
-            omega (arith, first, second, p.rising dir i j e l m)

@@ -1,13 +1,6 @@
 -- The hash chains of a directory whose list changes.
 use Rattle.std.proofs.Common.{◌≡◌, ◌≢◌, ℕ, ◌≤◌, inl, inr, ◌==◌, List, [], ◌∷◌, ◌++◌, filter, AllPairs, Option, Some, option_map, refl, sym, ap, ◌∙◌, subst, eq-eqb}
-use Rattle.std.proofs.lemmas.Bool.{ne_eqb, cases_eq}
-use Rattle.ados_name.specs.declared.stamp.Date3.{Date3}
-use Rattle.ados_name.specs.Name.{slot}
-use Rattle.ados_chain.specs.Chains.{with_last, without}
-use Rattle.ados_model.proofs.KeyLists.{is_not}
-use Rattle.ados_model.specs.Tree.{Node, Tree, entries, entries_in, name_of}
-use Rattle.ados_model.specs.Change.{with_node, listed, entered, enter}
-use Rattle.ados_model.specs.Stands.{in_slot}
+use Rattle.ados_change.proofs.Common.{ne_eqb, cases_eq, Date3, slot, with_last, without, is_not, Node, Tree, entries, entries_in, name_of, with_node, listed, entered, enter, in_slot}
 use Rattle.ados_change.proofs.Entering.{part-enter, part-enter_other, filter-swap, filter_same}
 use Rattle.ados_change.proofs.Loose.{Loose, entries_with, name_other, not_key}
 use Rattle.ados_change.proofs.Changed.{listed_names, listed_here, listed_other}

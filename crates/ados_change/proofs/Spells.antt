@@ -1,12 +1,6 @@
 -- An image that has the blocks of a tree. It represents the tree if that is proper.
 use Rattle.std.proofs.Common.{◌≡◌, ℕ, ◌*◌, ◌<◌, List, [], ◌∷◌, length, Some, is_some, Contains, refl, ◌∙◌}
-use Rattle.adf_block.specs.Image.{bytes_at, block_sum, IsInside, Chained}
-use Rattle.adf_block.specs.Whole.{HasFreeBit}
-use Rattle.adf_block.specs.Fields.{table_entry}
-use Rattle.adf_block.specs.declared.layout.TheConstants.{NEXT_IN_CHAIN}
-use Rattle.ados_model.specs.Stands.{HasFile, Layout, Duty, HasDuty, Fits, Named, Stands, HasNode, HasEntry, HasRoot, format_byte, in_slot}
-use Rattle.ados_model.specs.Tree.{Node, Tree, Proper}
-use Rattle.ados_model.specs.Tree.Content.{Directory, File}
+use Rattle.ados_change.proofs.Common.{bytes_at, block_sum, IsInside, Chained, HasFreeBit, table_entry, NEXT_IN_CHAIN, HasFile, Layout, Duty, HasDuty, Fits, Named, Stands, HasNode, HasEntry, HasRoot, format_byte, in_slot, Node, Tree, Proper, Directory, File}
 
 -- everything that an image which represents a tree has, except that the tree is proper
 pub record Spells (image : List ℕ) (t : Tree) (l : Layout) : Type 0 where
@@ -63,8 +57,6 @@ layout_is image t l proper s = refl
 
 -- a block has the same uses in a tree with the same keys and lost blocks
 pub same_duty : (t u : Tree) (l : Layout) (b : ℕ) → is_some (u.nodes b) ≡ is_some (t.nodes b) → is_some (u.lost b) ≡ is_some (t.lost b) → (duty : Duty) → HasDuty t l b duty → HasDuty u l b duty
-same_duty t u l b key lost (Duty.Page i) m = m
 same_duty t u l b key lost Duty.Key m = key ∙ m
-same_duty t u l b key lost (Duty.Data file i) m = m
-same_duty t u l b key lost (Duty.Extension file i) m = m
 same_duty t u l b key lost Duty.Lost m = lost ∙ m
+same_duty t u l b key lost duty m = m

@@ -1,31 +1,16 @@
 -- An image with the time stamp of a change written into it: everything else is unchanged.
 use Rattle.std.proofs.Common.{◌≡◌, ◌≢◌, ℕ, ◌+◌, ◌-◌, ◌/◌, ◌<◌, ◌≤◌, ◌⊎◌, inl, inr, Bool, cond, List, Some, refl, sym, ap, ◌∙◌, subst, arith}
-use Rattle.adf_block.specs.Image.{block_count, root_key, page_count, IsInside, byte_at, long, has_free_bit, total}
-use Rattle.adf_block.specs.Fields.{secondary_type, format_of}
-use Rattle.adf_block.specs.Whole.{free_bit_count}
-use Rattle.adf_block.specs.declared.layout.TheConstants.{FILE_TYPE}
-use Rattle.adf_block.specs.Frame.{SameBut}
-use Rattle.adf_block.proofs.Frames.{same_long, same_count, same_weaken}
+use Rattle.ados_change.proofs.Common.{block_count, root_key, page_count, IsInside, byte_at, long, has_free_bit, total, pointer_count, secondary_type, format_of, free_bit_count, FILE_TYPE, SameBut, same_long, same_count, same_weaken, Node, Tree, root, File, Stands, type_of, Role, IsFile, Reached, root_page, root_slot, directory_slot, next_entry, header_pointer, first_extension, extension_pointer, further_extension, start, Kept, IsField, Alike, IsTaken, KeepsRest, TakesLowest, root_or_parent, count_same, reached_stands, root_at, IsFileStamp, IsDiskStamp, AtStamps}
 use Rattle.adf_block.proofs.Totals.{total-same}
-use Rattle.ados_model.specs.Tree.{Node, Tree, root}
-use Rattle.ados_model.specs.Tree.Content.{File}
-use Rattle.ados_model.specs.Stands.{Stands, type_of}
-use Rattle.ados_model.specs.declared.role.Role.{Role}
 use Rattle.ados_model.specs.declared.role.Role.TheVariants as roles
-use Rattle.ados_model.specs.Faults.{IsPlace, IsFile, Reached}
-use Rattle.ados_model.specs.Faults.IsPlace.{root_page, root_slot, directory_slot, next_entry, header_pointer, first_extension, extension_pointer, further_extension}
-use Rattle.ados_model.specs.Faults.Reached.{start, named}
-use Rattle.ados_model.specs.Kept.{Kept, IsField, Alike}
-use Rattle.ados_change.specs.NewBlocks.{IsTaken, KeepsRest, TakesLowest}
-use Rattle.ados_change.proofs.EntriesKept.{IsPlain as Field, IsWritten, alike_field, changed_field}
-use Rattle.ados_change.proofs.EntriesKept.IsWritten.{of_node}
+use Rattle.ados_model.specs.Faults.{IsPlace}
+use Rattle.ados_model.specs.Faults.Reached.{named}
+use Rattle.ados_change.specs.steps.Footprint.{IsPlain as Field, IsWritten}
+use Rattle.ados_change.proofs.EntriesKept.{alike_field, changed_field}
+use Rattle.ados_change.specs.steps.Footprint.IsWritten.{of_node}
 use Rattle.ados_change.proofs.EntriesUntold.{marks_stay}
 use Rattle.ados_change.proofs.FieldsKept.{IsTold, keeps_fields}
-use Rattle.ados_change.proofs.Since.{HasSameExtent, place_was}
 use Rattle.ados_change.proofs.Keeping.{first_stays, keeps_first_since}
-use Rattle.ados_model.proofs.Nodes.{root_or_parent}
-use Rattle.ados_model.proofs.Standing.{count_same, reached_stands, root_at}
-use Rattle.ados_change.specs.Stamps.{IsFileStamp, IsDiskStamp, AtStamps}
 
 -- a long that is no time stamp, neither of a file nor of the root
 data IsPlain (j : ℕ) : Type 0 where
@@ -50,13 +35,13 @@ module _ (old new : List ℕ) (t : Tree) (s : Stands old t) (file : ℕ) (node :
   stamps_written : (last : List ℕ) (b i : ℕ) → AtStamps (root t) file b i → IsWritten old t s last b i
   stamps_written last b i (inl (e, w)) = of_node node (ap t.nodes e ∙ found) (of_file w)
     where
-      of_file : IsFileStamp (i / 4) → Field t b node (i / 4)
+      of_file : IsFileStamp (i / 4) → Field (root t) b node (i / 4)
       of_file (inl f) = Field.sum f
       of_file (inr (inl f)) = Field.bits (λ r. not_root (sym e ∙ r)) f
       of_file (inr (inr f)) = Field.date f.0 (omega (arith, f.1))
   stamps_written last b i (inr (e, w)) = of_node s.proper.root_node.0 (ap t.nodes e ∙ s.proper.root_node.1) (of_root w)
     where
-      of_root : IsDiskStamp (i / 4) → Field t b s.proper.root_node.0 (i / 4)
+      of_root : IsDiskStamp (i / 4) → Field (root t) b s.proper.root_node.0 (i / 4)
       of_root (inl f) = Field.sum f
       of_root (inr f) = Field.disk e f.0 (omega (arith, f.1))
 
@@ -82,34 +67,33 @@ module _ (old new : List ℕ) (t : Tree) (s : Stands old t) (file : ℕ) (node :
 
   -- ---- what is reached, and its fields
 
-  extent : (b : ℕ) → HasSameExtent new old b
-  extent b = record {
-    secondary = sym (plain_long b 127 (omega arith) (back (omega arith)));
-    pointers = sym (plain_long b 2 (omega arith) (front (omega arith)));
-    held = sym (plain_long b 3 (omega arith) (front (omega arith)));
-    comment = sym (plain_byte b 328 (omega arith) (texts (omega arith) (omega arith)));
-    name = sym (plain_byte b 432 (omega arith) (name (omega arith) (omega arith)));
-  }
+  type_same : (b : ℕ) → secondary_type new b ≡ secondary_type old b
+  type_same b = plain_long b 127 (omega arith) (back (omega arith))
 
-  place_stays : {b i : ℕ} {role next : Role} → Reached old b role → IsPlace old b role i next → long new b i ≡ long old b i
-  place_stays {b = b} r (root_page {i = i} l) =
+  pointers : (b : ℕ) → pointer_count new b ≡ pointer_count old b
+  pointers b = plain_long b 2 (omega arith) (front (omega arith))
+
+  -- a place is still a place, with the same long
+  place_moves : {b i : ℕ} {role next : Role} → Reached old b role → IsPlace old b role i next → (long new b i ≡ long old b i) × IsPlace new b role i next
+  place_moves {b = b} r (root_page {i = i} l) =
       let at = reached_stands old t s r in
       let is = root_at old t s at.0 b at.1 in
-      ap (λ (c : ℕ). long new c (79 + i)) is ∙ page_long i l ∙ ap (λ (c : ℕ). long old c (79 + i)) (sym is)
-  place_stays {b = b} r (root_slot {s = q} l n) = plain_long b (6 + q) (omega (arith, l)) (table (omega arith) (omega (arith, l)))
-  place_stays {b = b} r (directory_slot {s = q} e l n) = plain_long b (6 + q) (omega (arith, l)) (table (omega arith) (omega (arith, l)))
-  place_stays {b = b} r (next_entry n) = plain_long b 124 (omega arith) (back (omega arith))
-  place_stays {b = b} r (header_pointer {i = i} e p) = plain_long b (77 - i) (omega arith) (table (omega (arith, p.0, p.1)) (omega arith))
-  place_stays {b = b} r (first_extension e n) = plain_long b 126 (omega arith) (back (omega arith))
-  place_stays {b = b} r (extension_pointer {i = i} p) = plain_long b (77 - i) (omega arith) (table (omega (arith, p.0, p.1)) (omega arith))
-  place_stays {b = b} r (further_extension n) = plain_long b 126 (omega arith) (back (omega arith))
+      (ap (λ (c : ℕ). long new c (79 + i)) is ∙ page_long i l ∙ ap (λ (c : ℕ). long old c (79 + i)) (sym is), root_page (subst (λ (n : ℕ). i < page_count n) (sym count) l))
+  place_moves {b = b} r (root_slot {s = q} l n) = let same = plain_long b (6 + q) (omega (arith, l)) (table (omega arith) (omega (arith, l))) in (same, root_slot l (λ z. n (sym same ∙ z)))
+  place_moves {b = b} r (directory_slot {s = q} e l n) = let same = plain_long b (6 + q) (omega (arith, l)) (table (omega arith) (omega (arith, l))) in (same, directory_slot (type_same b ∙ e) l (λ z. n (sym same ∙ z)))
+  place_moves {b = b} r (next_entry n) = let same = plain_long b 124 (omega arith) (back (omega arith)) in (same, next_entry (λ z. n (sym same ∙ z)))
+  place_moves {b = b} r (header_pointer {i = i} e p) = (plain_long b (77 - i) (omega arith) (table (omega (arith, p.0, p.1)) (omega arith)), header_pointer (type_same b ∙ e) (subst (λ (n : ℕ). (i < n) × (n ≤ 72)) (sym (pointers b)) p))
+  place_moves {b = b} r (first_extension e n) = let same = plain_long b 126 (omega arith) (back (omega arith)) in (same, first_extension (type_same b ∙ e) (λ z. n (sym same ∙ z)))
+  place_moves {b = b} r (extension_pointer {i = i} p) = (plain_long b (77 - i) (omega arith) (table (omega (arith, p.0, p.1)) (omega arith)), extension_pointer (subst (λ (n : ℕ). (i < n) × (n ≤ 72)) (sym (pointers b)) p))
+  place_moves {b = b} r (further_extension n) = let same = plain_long b 126 (omega arith) (back (omega arith)) in (same, further_extension (λ z. n (sym same ∙ z)))
 
   pub reached_moves : {b : ℕ} {role : Role} → Reached old b role → Reached new b role
   reached_moves start = subst (λ (b : ℕ). Reached new b roles.Root) (ap root_key count) start
   reached_moves (named {block = b} {i = i} {role = role} {next = next} r p inside) =
-      let link = place_stays r p in
+      let moves = place_moves r p in
+      let link = moves.0 in
       let within : IsInside (block_count new) (long new b i) = (omega (arith, inside.0, link), omega (arith, inside.1, link, count)) in
-      subst (λ (c : ℕ). Reached new c next) link (named (reached_moves r) (place_was new old (sym count) (extent b) (sym link) p) within)
+      subst (λ (c : ℕ). Reached new c next) link (named (reached_moves r) moves.1 within)
 
   -- the file is still a file
   pub type_stamped : (bytes : List ℕ) → node.content ≡ File bytes → secondary_type new file ≡ FILE_TYPE
@@ -138,7 +122,7 @@ module _ (old new : List ℕ) (t : Tree) (s : Stands old t) (file : ℕ) (node :
     others = λ b i role role' l r r' alike n.
         g.others b i role role' l (reached_moves r) r' alike n ∙ h.same_byte b i l (λ w. n (stamp_field bytes is last typed b i role role' l r alike w));
     first = λ b f f'.
-        let moved : IsFile new b = record { dir = f.dir; slot_of_chain = f.slot_of_chain; reached = reached_moves f.reached; secondary = plain_long b 127 (omega arith) (back (omega arith)) ∙ f.secondary } in
+        let moved : IsFile new b = record { dir = f.dir; slot_of_chain = f.slot_of_chain; reached = reached_moves f.reached; secondary = type_same b ∙ f.secondary } in
         let firsts = first_stays old new b (plain_long b 2 (omega arith) (front (omega arith))) (λ i l. plain_long b (77 - i) (omega arith) (table (omega (arith, l)) (omega arith))) in
         keeps_first_since old new last b firsts (plain_long b 4 (omega arith) (front (omega arith))) (g.first b moved f');
   }

@@ -1,23 +1,6 @@
 -- The time stamp of a change, in three steps.
 use Rattle.std.proofs.Common.{◌≡◌, ℕ, inl, inr, List, [], Option, Some, None, IsSome, option_map, refl, sym, ap, ◌∙◌, subst, arith, eq-eqb}
-use Rattle.std.proofs.lemmas.Bool.{ne_eqb, cases_eq}
-use Rattle.adf_block.specs.Image.{root_key, long}
-use Rattle.adf_block.specs.Frame.{SameBut}
-use Rattle.adf_block.proofs.Frames.{same_trans, same_weaken, same_count}
-use Rattle.ados_name.specs.declared.stamp.Date3.{Date3}
-use Rattle.ados_model.specs.Tree.{Node, Tree, root}
-use Rattle.ados_model.specs.Keys.{HasFileKey, HasEntryKey, HasKey, HasTree}
-use Rattle.ados_model.specs.Stands.{Stands}
-use Rattle.ados_model.specs.Faults.{root_of}
-use Rattle.ados_model.specs.Change.{stamped}
-use Rattle.ados_name.specs.Name.{without_archive}
-use Rattle.ados_model.proofs.Nodes.{root_or_parent}
-use Rattle.ados_model.proofs.Standing.{root_is, IsFileNode}
-use Rattle.ados_model.proofs.OneTree.{one_tree}
-use Rattle.ados_change.specs.Places.{Summed}
-use Rattle.ados_change.specs.FieldTold.{dated, protected}
-use Rattle.ados_change.specs.Stamps.{AtStamps, touched}
-use Rattle.ados_change.specs.Renewed.{IsStamped}
+use Rattle.ados_change.proofs.Common.{ne_eqb, cases_eq, root_key, long, SameBut, same_trans, same_weaken, same_count, Date3, Node, Tree, root, HasFileKey, HasEntryKey, HasKey, HasTree, Stands, root_of, stamped, without_archive, root_or_parent, root_is, IsFileNode, one_tree, Summed, dated, protected, AtStamps, touched, IsStamped}
 use Rattle.ados_change.proofs.Contents.{file_not_root}
 use Rattle.ados_change.proofs.FilesStay.{file_of_key}
 

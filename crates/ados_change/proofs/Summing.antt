@@ -1,12 +1,7 @@
 -- What is unchanged when bytes after a block's checksum change, and the checksum with them.
 use Rattle.std.proofs.Common.{◌≡◌, ℕ, ◌+◌, ◌*◌, ◌<◌, ◌≤◌, ◌⊎◌, inl, inr, List, length, ap, subst, arith}
-use Rattle.adf_block.specs.Image.{root_key, long, HasText}
-use Rattle.adf_block.specs.Frame.{SameBut, AtLong}
-use Rattle.adf_block.proofs.Frames.{same_trans, same_weaken, same_count, same_long}
-use Rattle.ados_model.specs.Stands.{date_at}
-use Rattle.ados_model.specs.Faults.{root_of}
+use Rattle.ados_change.proofs.Common.{root_key, long, HasText, SameBut, AtLong, same_trans, same_weaken, same_count, same_long, date_at, root_of, Summed, Restamped}
 use Rattle.ados_change.proofs.Frame.{text_kept, date_kept}
-use Rattle.ados_change.specs.Places.{Summed, Restamped}
 
 module _ (key low high : ℕ) (old new : List ℕ) (h : SameBut (Summed key low high) old new) where
   beside : (b i n k : ℕ) → 24 ≤ i → (i + n ≤ low) ⊎ (high ≤ i) → i ≤ k → k < i + n → ¬ Summed key low high b k

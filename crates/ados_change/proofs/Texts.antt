@@ -1,10 +1,6 @@
 -- A text after its length.
 use Rattle.std.proofs.Common.{◌≡◌, ℕ, ◌+◌, ◌<◌, ◌≤◌, List, length, slice_index, sym, ap, ◌∙◌, arith}
-use Rattle.std.proofs.lemmas.List.{ext_get_or}
-use Rattle.adf_block.specs.Image.{block_count, byte_at, bytes_at, HasText}
-use Rattle.adf_block.specs.Frame.{SameBut, Within}
-use Rattle.adf_block.proofs.Blocks.{byte-bytes_at}
-use Rattle.adf_block.proofs.Frames.{same_count}
+use Rattle.ados_change.proofs.Common.{ext_get_or, block_count, byte_at, bytes_at, HasText, SameBut, Within, byte-bytes_at, same_count}
 use Rattle.ados_data.proofs.Reading.{length-bytes_at}
 
 -- bytes of a block, written one by one

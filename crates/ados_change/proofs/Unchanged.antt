@@ -1,13 +1,6 @@
 -- What is unchanged in a block some of whose bytes are.
 use Rattle.std.proofs.Common.{◌≡◌, ◌≢◌, ℕ, ◌+◌, ◌/◌, ◌<◌, ◌≤◌, ◌⊎◌, inl, inr, List, length, refl, ap, ◌∙◌, subst, sym, arith}
-use Rattle.std.proofs.lemmas.Bool.{cases_eq}
-use Rattle.adf_block.specs.Image.{byte_at, bytes_at, long, block_sum, HasText}
-use Rattle.adf_block.proofs.Longs.{long-same}
-use Rattle.adf_block.proofs.Frames.{same_bytes_at, same_sum}
-use Rattle.adf_block.specs.declared.layout.TheConstants.{COMMENT_BYTE, NAME_BYTE}
-use Rattle.ados_name.specs.Name.{IsName, IsComment}
-use Rattle.ados_model.specs.Stands.{HasNode, HasEntry, date_at}
-use Rattle.ados_model.specs.Tree.{Node}
+use Rattle.ados_change.proofs.Common.{cases_eq, byte_at, bytes_at, long, block_sum, HasText, long-same, same_bytes_at, same_sum, COMMENT_BYTE, NAME_BYTE, IsName, IsComment, HasNode, HasEntry, date_at, Node}
 
 -- the bytes of a block are unchanged, except in some longs
 pub record StaysBut (changed : ℕ → Type 0) (old new : List ℕ) (block : ℕ) : Type 0 where

@@ -1,19 +1,6 @@
 -- An image that represents a tree has lawful bitmap blocks, and each of its files can be changed.
 use Rattle.std.proofs.Common.{◌≡◌, ◌≢◌, ℕ, zero, suc, ◌+◌, ◌<◌, ◌≤◌, ◌==◌, true, false, List, ◌∷◌, length, slice_index, Some, refl, sym, ap, ◌∙◌, subst, arith, eq-eqb, ne_eqb}
-use Rattle.std.proofs.lemmas.Bool.{false_from_ne_true}
-use Rattle.adf_block.specs.declared.layout.Format.{Format}
-use Rattle.adf_block.specs.declared.layout.Format.TheVariants.{Ofs, Ffs}
-use Rattle.adf_block.specs.Image.{IsInside, block_count, byte_at, root_key, long, has_free_bit}
-use Rattle.adf_block.specs.Fields.{format_of}
-use Rattle.adf_block.proofs.Blocks.{byte-bytes_at}
-use Rattle.ados_map.specs.Pages.{LawfulPages, page_block, pages_of}
-use Rattle.ados_model.specs.Tree.{data_count, Content, Node, Tree, size_of}
-use Rattle.ados_model.specs.Stands.{HasFile, Duty, HasDuty, Stands, format_byte}
-use Rattle.ados_model.specs.File.{IsLawful, AreApart, data_blocks, extension_blocks, contents}
-use Rattle.ados_data.specs.Changing.{IsInUse, LawfulMap, IsWritable, WritableFile}
-use Rattle.ados_data.proofs.Spelled.{data_blocks_are, extension_blocks_are, contents_are}
-use Rattle.ados_model.specs.Tree.Content.{Directory, File}
-use Rattle.ados_model.proofs.Standing.{count_same, root_is, slice_get-index}
+use Rattle.ados_change.proofs.Common.{false_from_ne_true, Format, Ofs, Ffs, IsInside, block_count, byte_at, root_key, long, has_free_bit, format_of, byte-bytes_at, LawfulPages, page_block, pages_of, data_count, Content, Node, Tree, size_of, HasFile, Duty, HasDuty, Stands, format_byte, IsLawful, AreApart, data_blocks, extension_blocks, contents, IsInUse, LawfulMap, IsWritable, WritableFile, data_blocks_are, extension_blocks_are, contents_are, Directory, File, count_same, root_is, slice_get-index}
 
 module _ (image : List ℕ) (t : Tree) (s : Stands image t) where
   pub inside : (block : ℕ) (duty : Duty) → HasDuty t s.layout block duty → IsInside (block_count image) block

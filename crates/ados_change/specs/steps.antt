@@ -2,4 +2,5 @@
 -- entry emptied before its removal.
 pub mod Making
 pub mod Writes
+pub mod Footprint
 pub mod Emptied

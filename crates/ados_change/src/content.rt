@@ -8,7 +8,7 @@ ghost use Rattle.ados_model.specs.Stands.{Stands};
 ghost use Rattle.ados_model.specs.Keys.{HasFileKey, HasTree};
 ghost use Rattle.ados_model.specs.Edits.{shortened};
 ghost use Rattle.ados_change.specs.NewBlocks.{KeepsRest, TakesNone};
-ghost use Rattle.ados_change.specs.Cuts.{KeepsHeader};
+ghost use Rattle.ados_change.specs.Cuts.{KeepsBeside, KeepsHeader};
 ghost use Rattle.ados_change.specs.Renewed.{Grows, StaysUngrown, StaysUnwritten, Writes};
 
 use crate::space::{has_room, size_of};
@@ -64,6 +64,7 @@ pub fn cut(image: &mut Image, file: u32, size: u32, moment: Date3)
     ensures keeps { KeepsRest image.old image.new }
     ensures none { TakesNone image.old image.new }
     ensures header { KeepsHeader file image.old image.new }
+    ensures others { KeepsBeside file image.old image.new }
 {
     stamp(image, file, moment);
     prove!(image.blocks() >= 16);

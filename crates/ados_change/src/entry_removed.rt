@@ -1,14 +1,15 @@
 //! An entry is removed.
 
-ghost use Rattle.std.specs.Prelude.{◌≡◌, ℕ, List};
+ghost use Rattle.std.specs.Prelude.{◌≡◌};
+ghost use Rattle.adf_block.specs.Frame.{SameBut};
 ghost use Rattle.ados_model.specs.Change.{removed};
-ghost use Rattle.ados_model.specs.Kept.{Kept};
 ghost use Rattle.ados_change.specs.NewBlocks.{KeepsBlock, KeepsRest, TakesNone};
 ghost use Rattle.ados_model.specs.Stands.{Stands};
 ghost use Rattle.ados_model.specs.Tree.{Tree, size_of};
 ghost use Rattle.ados_change.specs.Untold.{KeepsUntold};
 ghost use Rattle.ados_change.specs.Conditions.{CanRemove};
-ghost use Rattle.ados_change.specs.steps.Emptied.{Empties, GivesBack};
+ghost use Rattle.ados_change.specs.steps.Emptied.{Empties, GivesBack, WritesOnlyEntry};
+ghost use Rattle.ados_change.specs.steps.Footprint.{IsChanged};
 
 use crate::block::{stamp, touch};
 use crate::content::cut;
@@ -42,6 +43,7 @@ fn empty(image: &mut Image, key: u32, moment: Date3)
     ensures empties { Empties moment key image.old image.new }
     ensures keeps { KeepsRest image.old image.new }
     ensures none { TakesNone image.old image.new }
+    ensures only { WritesOnlyEntry key image.old image.new }
 {
     if image.long(key, SECONDARY_TYPE) != FILE_TYPE {
         return;
@@ -49,14 +51,14 @@ fn empty(image: &mut Image, key: u32, moment: Date3)
     cut(image, key, 0, moment);
 }
 
-/// Removes an entry without contents: a directory without entries, or a file without bytes. It leaves untouched what
-/// an earlier change left untouched.
+/// Removes an entry without contents: a directory without entries, or a file without bytes. It writes bitmap blocks
+/// and fields only.
 fn remove_empty(image: &mut Image, key: u32, moment: Date3)
     requires tree { (t : Tree) × Stands image.old t }
     requires can { (t : Tree) → Stands image.old t → CanRemove t key }
     requires empty { (t : Tree) → Stands image.old t → size_of t key ≡ 0 }
     ensures stands { (t : Tree) → Stands image.old t → Stands image.new (removed moment key t) }
-    ensures kept { (first : List ℕ) → Kept first image.old → Kept first image.new }
+    ensures changed { (t : Tree) (st : Stands image.old t) → SameBut (IsChanged image.old t st image.new) image.old image.new }
     ensures gives { GivesBack key image.old image.new }
     ensures untold { KeepsUntold image.old image.new }
 {

@@ -1,6 +1,5 @@
 use Rattle.std.proofs.Common.{List, ℕ, sym, subst}
-use Rattle.ados_name.specs.Name.{IsName}
-use Rattle.ados_change.specs.steps.Writes.{Titled}
+use Rattle.ados_change.proofs.Common.{IsName, Titled}
 use Rattle.ados_change.proofs.Filled.{titled}
 use Rattle.ados_change.proofs.block.put_title.Goals as goal
 

@@ -1,14 +1,8 @@
-use Rattle.std.proofs.Common.{◌≡◌, ℕ, List, length, take, ap, ◌∙◌, sym, subst, arith}
-use Rattle.std.proofs.lemmas.Bool.{false≢true}
-use Rattle.std.proofs.lemmas.List.{length-take}
-use Rattle.ados_model.specs.Tree.{data_count, extension_count, bytes_of}
-use Rattle.adf_block.specs.Fields.{format_of}
-use Rattle.ados_model.specs.File.{data_blocks, extension_blocks, contents}
-use Rattle.ados_model.specs.Stands.{Stands}
-use Rattle.ados_model.specs.Change.{rewritten}
+use Rattle.std.proofs.Common.{◌≡◌, ℕ, inl, inr, List, length, take, ap, ◌∙◌, sym, subst, arith}
+use Rattle.ados_change.proofs.Common.{false≢true, length-take, data_count, extension_count, bytes_of, format_of, data_blocks, extension_blocks, contents, Stands, rewritten}
 use Rattle.ados_change.proofs.Calls.{of_cut}
 use Rattle.ados_change.proofs.Relaid.{IsRewritten}
-use Rattle.ados_change.proofs.Renewed.{bytes_in, size_in, mid_writable, same_contents, header_stamped, stands_rewritten, keeps_rest, inside_mid, marks_mid}
+use Rattle.ados_change.proofs.Renewed.{bytes_in, size_in, mid_writable, same_contents, header_stamped, stands_rewritten, keeps_rest, inside_mid, marks_mid, beside_mid}
 use Rattle.ados_change.proofs.content.cut.Goals as goal
 
 pub cut-requires-clause-writable : goal.cut-requires-clause-writable
@@ -51,3 +45,9 @@ returns-clause-none c = λ b inside free.
 pub returns-clause-header : goal.returns-clause-header
 returns-clause-header c = λ k l fields stamps.
     c.cut.ensures.header k l fields ∙ header_stamped c.args.moment c.args.image.now c.stamp.new.image c.args.file c.requires.tree c.requires.file c.stamp.ensures k l stamps
+
+pub returns-clause-others : goal.returns-clause-others
+returns-clause-others c = λ b i l beside apart.
+    c.cut.ensures.keeps.others b i l
+    (beside_mid c.args.moment c.args.image.now c.stamp.new.image c.args.file c.requires.tree c.requires.file c.stamp.ensures (data_blocks c.cut.new.image c.args.file) (extension_blocks c.cut.new.image c.args.file) b beside)
+    ∙ c.stamp.ensures.rest.same_byte b i l (λ w. elim w [ inl header ↦ beside.beside_headers 0 (omega arith) header.0 | inr disk ↦ apart disk ])

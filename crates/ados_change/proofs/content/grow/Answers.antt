@@ -1,8 +1,5 @@
 use Rattle.std.proofs.Common.{◌≡◌, ◌≢◌, ℕ, ◌-◌, ◌++◌, List, length, replicate, ap, ◌∙◌, subst, refl, arith}
-use Rattle.ados_model.specs.Tree.{bytes_of}
-use Rattle.ados_model.specs.File.{data_blocks, extension_blocks, contents}
-use Rattle.ados_model.specs.Stands.{Stands}
-use Rattle.ados_model.specs.Change.{rewritten}
+use Rattle.ados_change.proofs.Common.{bytes_of, data_blocks, extension_blocks, contents, Stands, rewritten}
 use Rattle.ados_change.proofs.Calls.{of_gains}
 use Rattle.ados_change.proofs.Relaid.{IsRewritten}
 use Rattle.ados_change.proofs.Renewed.{bytes_in, size_in, room_enough, lacks_room, mid_writable, below_mid, same_contents, same_place, same_room, stands_rewritten, keeps_rest}

@@ -1,13 +1,5 @@
 use Rattle.std.proofs.Common.{◌≡◌, ◌≢◌, ℕ, ◌+◌, ◌≤◌, max, List, [], ◌∷◌, length, ap, ◌∙◌, sym, subst, refl, arith, eqb-true}
-use Rattle.std.proofs.lemmas.Bool.{eqb-false, ltb-true}
-use Rattle.ados_name.specs.declared.stamp.Date3.{Date3}
-use Rattle.ados_model.specs.Tree.{block_cost, Tree, bytes_of, size_of}
-use Rattle.ados_model.specs.File.{data_blocks, extension_blocks, contents}
-use Rattle.ados_model.specs.Change.{rewritten, written}
-use Rattle.ados_model.specs.Edits.{overlaid}
-use Rattle.ados_data.specs.Changing.{HasFree}
-use Rattle.ados_model.specs.Stands.{Stands}
-use Rattle.ados_change.specs.Renewed.{NeedsMore}
+use Rattle.ados_change.proofs.Common.{eqb-false, ltb-true, Date3, block_cost, Tree, bytes_of, size_of, data_blocks, extension_blocks, contents, rewritten, written, overlaid, HasFree, Stands, NeedsMore}
 use Rattle.ados_change.proofs.Calls.{of_gains}
 use Rattle.ados_change.proofs.Relaid.{IsRewritten}
 use Rattle.ados_change.proofs.Renewed.{bytes_in, size_in, room_enough, lacks_room, mid_writable, below_mid, same_contents, same_place, same_room, stands_rewritten, keeps_rest}

@@ -1,9 +1,7 @@
-use Rattle.std.proofs.Common.{◌≡◌, ◌≢◌, sym, ◌∙◌}
-use Rattle.adf_block.specs.declared.layout.TheConstants.{FILE_TYPE}
-use Rattle.adf_block.specs.Fields.{secondary_type}
-use Rattle.ados_model.specs.Edits.{shortened}
+use Rattle.std.proofs.Common.{◌≡◌, ◌≢◌, refl, sym, ◌∙◌}
+use Rattle.ados_change.proofs.Common.{FILE_TYPE, secondary_type, shortened}
 use Rattle.ados_change.proofs.Keeping.{same_keeps}
-use Rattle.ados_change.proofs.Emptier.{cut_to_nothing, is_file, kept_as_is, key_inside}
+use Rattle.ados_change.proofs.Emptier.{beside_none, cut_to_nothing, is_file, kept_as_is, key_inside}
 use Rattle.ados_change.proofs.entry_removed.empty.Goals as goal
 
 pub long-requires-clause-block : goal.long-requires-clause-block
@@ -24,3 +22,12 @@ returns-clause-empties c = λ t s. (shortened c.args.moment c.args.key 0 t, c.cu
 
 pub returns-then-long-clause-keeps : goal.returns-then-long-clause-keeps
 returns-then-long-clause-keeps c = same_keeps c.args.image.now
+
+pub returns-then-long-clause-only : goal.returns-then-long-clause-only
+returns-then-long-clause-only c = λ b i l beside apart. refl
+
+pub returns-clause-only : goal.returns-clause-only
+returns-clause-only c = λ b i l beside apart.
+    let t = c.requires.tree.0 in
+    let s = c.requires.tree.1 in
+    c.cut.ensures.others b i l (beside_none c.args.image.now t s c.args.key (c.requires.can t s) c.args.moment c.cut.new.image (c.cut.ensures.stands t s) b beside) apart

@@ -1,8 +1,5 @@
 use Rattle.std.proofs.Common.{◌≡◌, ℕ, ◌+◌, ◌/◌, List, length, slice_index, sym, ap, ◌∙◌, arith}
-use Rattle.adf_block.specs.Frame.{InBlock, OnlyBlock}
-use Rattle.adf_block.specs.Image.{byte_at}
-use Rattle.adf_block.proofs.Blocks.{byte-bytes_at}
-use Rattle.adf_block.proofs.Frames.{same_weaken}
+use Rattle.ados_change.proofs.Common.{InBlock, OnlyBlock, byte_at, byte-bytes_at, same_weaken}
 use Rattle.ados_change.proofs.Emptier.{each_can, each_empty, keeps_away, key_inside, stands_away, taken_away, takes_none}
 use Rattle.ados_change.proofs.entry_removed.remove.Goals as goal
 
@@ -21,8 +18,9 @@ remove_empty-requires-clause-empty c = each_empty c.args.moment c.args.key c.arg
 pub put_bytes-requires-clause-inside : goal.put_bytes-requires-clause-inside
 put_bytes-requires-clause-inside c =
     let inside = key_inside c.args.image.now c.requires.tree.0 c.requires.tree.1 c.args.key (c.requires.can c.requires.tree.0 c.requires.tree.1) in
-    let kept = c.remove_empty.ensures.kept c.args.image.now c.empty.ensures.keeps.kept in
-    omega (arith, inside, ap (λ (n : ℕ). n / 512) kept.size)
+    let between = c.empty.ensures.empties c.requires.tree.0 c.requires.tree.1 in
+    let size = (c.remove_empty.ensures.changed between.0 between.1).same_length ∙ c.empty.ensures.keeps.kept.size in
+    omega (arith, inside, ap (λ (n : ℕ). n / 512) size)
 
 -- only the entry's own block is written again
 written_back : (c : goal.After-put_bytes) → OnlyBlock c.args.key c.remove_empty.new.image c.put_bytes.new.self
@@ -39,7 +37,7 @@ returns-clause-dead c = λ i l.
 pub returns-clause-stands : goal.returns-clause-stands
 returns-clause-stands c = λ t s.
     stands_away c.args.moment c.args.key c.args.image.now c.empty.new.image c.remove_empty.new.image c.put_bytes.new.self t s (c.requires.can t s) c.empty.ensures.keeps c.empty.ensures.none
-    (c.remove_empty.ensures.kept c.args.image.now c.empty.ensures.keeps.kept) c.remove_empty.ensures.gives
+    c.empty.ensures.empties c.remove_empty.ensures.changed c.remove_empty.ensures.gives
     (taken_away c.args.moment c.args.key c.args.image.now c.empty.new.image t s c.empty.ensures.empties c.remove_empty.new.image c.remove_empty.ensures.stands) (written_back c)
 
 pub returns-clause-keeps : goal.returns-clause-keeps
@@ -47,14 +45,14 @@ returns-clause-keeps c =
     let t = c.requires.tree.0 in
     let st = c.requires.tree.1 in
     keeps_away c.args.moment c.args.key c.args.image.now c.empty.new.image c.remove_empty.new.image c.put_bytes.new.self t st (c.requires.can t st) c.empty.ensures.keeps c.empty.ensures.none
-    (c.remove_empty.ensures.kept c.args.image.now c.empty.ensures.keeps.kept) c.remove_empty.ensures.gives
+    c.empty.ensures.empties c.remove_empty.ensures.changed c.remove_empty.ensures.gives
     (taken_away c.args.moment c.args.key c.args.image.now c.empty.new.image t st c.empty.ensures.empties c.remove_empty.new.image c.remove_empty.ensures.stands) (written_back c)
-    c.empty.ensures.empties c.remove_empty.ensures.untold (returns-clause-dead c)
+    c.remove_empty.ensures.untold c.empty.ensures.only (returns-clause-dead c)
 
 pub returns-clause-none : goal.returns-clause-none
 returns-clause-none c =
     let t = c.requires.tree.0 in
     let st = c.requires.tree.1 in
     takes_none c.args.moment c.args.key c.args.image.now c.empty.new.image c.remove_empty.new.image c.put_bytes.new.self t st (c.requires.can t st) c.empty.ensures.keeps c.empty.ensures.none
-    (c.remove_empty.ensures.kept c.args.image.now c.empty.ensures.keeps.kept) c.remove_empty.ensures.gives
+    c.empty.ensures.empties c.remove_empty.ensures.changed c.remove_empty.ensures.gives
     (taken_away c.args.moment c.args.key c.args.image.now c.empty.new.image t st c.empty.ensures.empties c.remove_empty.new.image c.remove_empty.ensures.stands) (written_back c)

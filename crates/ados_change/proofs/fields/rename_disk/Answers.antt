@@ -1,9 +1,5 @@
 use Rattle.std.proofs.Common.{ℕ, ◌+◌, length, refl, subst}
-use Rattle.adf_block.specs.Frame.{SameBut}
-use Rattle.ados_model.specs.Tree.{root}
-use Rattle.ados_model.specs.Faults.{root_of}
-use Rattle.ados_model.proofs.Standing.{root_is}
-use Rattle.ados_change.specs.Places.{Restamped}
+use Rattle.ados_change.proofs.Common.{SameBut, root, root_of, root_is, Restamped}
 use Rattle.ados_change.specs.FieldTold.{named}
 use Rattle.ados_change.proofs.Summing.{restamped}
 use Rattle.ados_change.proofs.Cases.{name_case, changed_node, keeps_restamped}

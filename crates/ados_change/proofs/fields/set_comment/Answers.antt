@@ -1,8 +1,5 @@
 use Rattle.std.proofs.Common.{◌+◌, length}
-use Rattle.ados_model.specs.Faults.{root_of}
-use Rattle.ados_model.proofs.Nodes.{some_in}
-use Rattle.ados_model.proofs.Standing.{root_is}
-use Rattle.ados_change.specs.FieldTold.{commented}
+use Rattle.ados_change.proofs.Common.{root_of, some_in, root_is, commented}
 use Rattle.ados_change.proofs.Summing.{restamped}
 use Rattle.ados_change.proofs.Cases.{comment_case, changed_node, keeps_restamped}
 use Rattle.ados_change.proofs.fields.set_comment.Goals as goal

@@ -1,7 +1,4 @@
-use Rattle.ados_model.specs.Faults.{root_of}
-use Rattle.ados_model.proofs.Nodes.{some_in}
-use Rattle.ados_model.proofs.Standing.{root_is}
-use Rattle.ados_change.specs.FieldTold.{dated}
+use Rattle.ados_change.proofs.Common.{root_of, some_in, root_is, dated}
 use Rattle.ados_change.proofs.Summing.{restamped}
 use Rattle.ados_change.proofs.Cases.{date_case, keeps_restamped}
 use Rattle.ados_change.proofs.fields.set_date.Goals as goal

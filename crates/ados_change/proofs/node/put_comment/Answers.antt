@@ -1,8 +1,5 @@
 use Rattle.std.proofs.Common.{◌+◌, List, ℕ, length, subst}
-use Rattle.adf_block.specs.Image.{HasText}
-use Rattle.adf_block.specs.Frame.{SameBut}
-use Rattle.ados_model.proofs.Nodes.{some_in}
-use Rattle.ados_change.specs.Places.{Summed}
+use Rattle.ados_change.proofs.Common.{HasText, SameBut, some_in, Summed}
 use Rattle.ados_change.proofs.Cases.{commented_stands}
 use Rattle.ados_change.proofs.node.put_comment.Goals as goal
 

@@ -1,9 +1,5 @@
 use Rattle.std.proofs.Common.{ℕ, ◌+◌, List, length, refl, ap, sym, subst, ◌∙◌}
-use Rattle.adf_block.specs.Image.{block_sum, HasText}
-use Rattle.adf_block.specs.Frame.{SameBut}
-use Rattle.ados_model.specs.Tree.{root}
-use Rattle.ados_model.proofs.Standing.{root_is}
-use Rattle.ados_change.specs.Places.{Summed}
+use Rattle.ados_change.proofs.Common.{block_sum, HasText, SameBut, root, root_is, Summed}
 use Rattle.ados_change.proofs.Cases.{named_stands}
 use Rattle.ados_change.proofs.node.put_disk_name.Goals as goal
 

@@ -1,8 +1,5 @@
 use Rattle.std.proofs.Common.{inl, inr, ◌∙◌, arith}
-use Rattle.adf_block.specs.Frame.{AtTwoLongs}
-use Rattle.adf_block.proofs.Frames.{same_weaken}
-use Rattle.ados_model.proofs.Nodes.{some_in}
-use Rattle.ados_change.specs.Places.{Summed}
+use Rattle.ados_change.proofs.Common.{AtTwoLongs, same_weaken, some_in, Summed}
 use Rattle.ados_change.proofs.Cases.{protected_stands}
 use Rattle.ados_change.proofs.node.put_protection.Goals as goal
 

@@ -1,10 +1,5 @@
 use Rattle.std.proofs.Common.{ℕ, refl, ap, sym, subst, ◌∙◌}
-use Rattle.adf_block.specs.Image.{block_sum}
-use Rattle.adf_block.specs.Frame.{SameBut}
-use Rattle.ados_model.specs.Tree.{root}
-use Rattle.ados_model.specs.Stands.{date_at}
-use Rattle.ados_model.proofs.Standing.{root_is}
-use Rattle.ados_change.specs.Places.{Summed}
+use Rattle.ados_change.proofs.Common.{block_sum, SameBut, root, date_at, root_is, Summed}
 use Rattle.ados_change.proofs.Cases.{stamped_stands}
 use Rattle.ados_change.proofs.node.stamp_disk.Goals as goal
 

@@ -1,7 +1,5 @@
 use Rattle.std.proofs.Common.{◌≡◌, Bool, true, false, MatchBool, length, sym, ap, ap₂, ◌∙◌, arith}
-use Rattle.ados_model.specs.Tree.{block_cost}
-use Rattle.adf_block.specs.Fields.{format_of}
-use Rattle.ados_model.specs.File.{contents}
+use Rattle.ados_change.proofs.Common.{block_cost, format_of, contents}
 use Rattle.ados_change.proofs.Writable.{lawful_pages}
 use Rattle.ados_change.proofs.Renewed.{size_in}
 use Rattle.ados_change.proofs.space.has_room.Goals as goal

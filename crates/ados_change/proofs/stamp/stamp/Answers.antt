@@ -1,6 +1,5 @@
 use Rattle.std.proofs.Common.{◌≡◌, ◌∙◌, ap}
-use Rattle.adf_block.specs.Image.{long}
-use Rattle.ados_name.specs.Name.{without_archive}
+use Rattle.ados_change.proofs.Common.{long, without_archive}
 use Rattle.ados_change.proofs.Renewed.{file_inside}
 use Rattle.ados_change.proofs.Stamping.{entry_key, first_tree, first_key, second_tree, is_stamped}
 use Rattle.ados_change.proofs.stamp.stamp.Goals as goal
