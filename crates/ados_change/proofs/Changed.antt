@@ -8,6 +8,10 @@ nodes_here key o t = rw (eq-eqb key key refl) refl
 pub nodes_other : (key : ℕ) (o : Option Node) (t : Tree) (k : ℕ) → k ≢ key → (with_node key o t).nodes k ≡ t.nodes k
 nodes_other key o t k n = rw (ne_eqb k key n) refl
 
+-- trees that differ in no node are equal
+pub same_nodes : (t : Tree) (nodes nodes' : ℕ → Option Node) → ((k : ℕ) → nodes k ≡ nodes' k) → record t { nodes = nodes } ≡ record t { nodes = nodes' }
+same_nodes t nodes nodes' same = λ i. record t { nodes = λ k. same k i }
+
 -- what a change of a node leaves untouched
 pub changed_keeps : {X : Type 0} (p : Option Node → X) (f : Node → Node) (key : ℕ) (t : Tree) → ((o : Option Node) → p (option_map f o) ≡ p o) → (k : ℕ) → p ((changed key f t).nodes k) ≡ p (t.nodes k)
 changed_keeps p f key t same k = elim (cases_eq k key) [

@@ -1,7 +1,7 @@
 -- The steps that make an entry: a free block is allocated and filled, and the entry is listed. The image represents the
 -- tree with it.
-use Rattle.std.proofs.Common.{◌≡◌, ◌≢◌, ℕ, ◌+◌, ◌*◌, ◌/◌, ◌<◌, inl, inr, List, false, Some, refl, sym, ap, ◌∙◌, subst, arith, zero, suc, ◌-◌, ◌≤◌, ◌⊎◌, min, ◌∷◌, length, slice_index, Contains, []}
-use Rattle.ados_change.proofs.Common.{cases_eq, OnlyBlock, SameBut, IsInside, block_count, has_free_bit, root_key, HasFreeBit, same_count, same_trans, MapPlace, BitChanged, IsLowestFree, NoneFreeBelow, page_of, pages_of, Date3, slot_at-small, LawfulChains, slot_at, CanInsert, InsertsLast, link_block, link_long, bit_of_inside, InImage, made, with_node, new_node, Stands, Duty, HasDuty, in_slot, Node, Tree, root, IsUnused, size_in, KeepsRest, TakesLowest, KeepsPastEnd, CanMake, IsEmpty, content_of, IsNewEntry, Dated, get_or_default, nil_from_length, Format, Ofs, Ffs, Chained, block_sum, bytes_at, long, table_entry, NEXT_IN_CHAIN, InBlock, other_block_sum, same_sum, page_block, data_count, extension_count, Content, size_of, HasFile, HasNode, HasEntry, Directory, File, entered, slice_get-index, IsNewField}
+use Rattle.std.proofs.Common.{◌≡◌, ◌≢◌, ℕ, ◌+◌, ◌*◌, ◌/◌, ◌<◌, inl, inr, List, false, Some, refl, sym, ap, ◌∙◌, subst, arith, zero, suc, ◌-◌, ◌≤◌, ◌⊎◌, min, ◌∷◌, length, slice_index, []}
+use Rattle.ados_change.proofs.Common.{cases_eq, OnlyBlock, SameBut, IsInside, block_count, has_free_bit, root_key, HasFreeBit, same_count, same_trans, MapPlace, BitChanged, IsLowestFree, NoneFreeBelow, page_of, pages_of, Date3, slot_at-small, LawfulChains, slot_at, CanInsert, InsertsLast, link_block, link_long, bit_of_inside, InImage, made, with_node, new_node, Stands, Duty, HasDuty, in_slot, Node, Tree, root, IsUnused, size_in, KeepsRest, TakesLowest, KeepsPastEnd, CanMake, IsEmpty, content_of, IsNewEntry, Dated, nil_from_length, Format, Ofs, Ffs, Chained, bytes_at, long, table_entry, NEXT_IN_CHAIN, InBlock, page_block, data_count, extension_count, Content, size_of, HasFile, HasNode, HasEntry, Directory, File, entered, slice_get-index, IsNewField}
 use Rattle.ados_change.proofs.Making.{zero_long, no_duty, unused}
 use Rattle.ados_change.proofs.Frame.{at_root, dated_count}
 use Rattle.ados_change.proofs.FilesStay.{past_end_trans}
@@ -20,7 +20,7 @@ use Rattle.ados_change.proofs.Relisted.{IsLinkPlace}
 use Rattle.ados_change.proofs.Spells.{Spells, spells, stands}
 use Rattle.ados_change.proofs.EntriesUntold.{HasPages, IsOffMap, bit_past_end, freed_stays, off_marks, off_past_end, old_pages, pages_after, untold_kept, written_off}
 use Rattle.ados_data.proofs.Marks.{mark_kept}
-use Rattle.ados_change.proofs.Remarked.{IsAlone, Remarks, remarked}
+use Rattle.ados_change.proofs.Remarked.{IsAlone, Remarks, filled_remarks, marked_remarks, remarked}
 use Rattle.ados_change.specs.declared.node_kind.NodeKind.TheVariants as kinds
 
 no_text : (image : List ℕ) (b : ℕ) → bytes_at image b 329 0 ≡ []
@@ -66,9 +66,8 @@ module _ (old m1 m2 : List ℕ) (t : Tree) (st : Stands old t) (moment : Date3) 
   page_there : (p : ℕ) → p < pages_of old → page_block old p ≡ slice_index st.layout.pages p
   page_there p m = page_is old t st.layout key s first_loose p (page_within old t st.layout key s first_loose p m)
 
-  key_no_page : (p : ℕ) → p < pages_of old → page_block old p ≢ key
-  key_no_page p m e =
-      no_duties (Duty.Page p) (slice_get-index st.layout.pages p (page_within old t st.layout key s first_loose p m) ∙ ap Some (sym (page_there p m) ∙ e))
+  key_no_page : (p : ℕ) → p < length st.layout.pages → slice_index st.layout.pages p ≢ key
+  key_no_page p m e = no_duties (Duty.Page p) (slice_get-index st.layout.pages p m ∙ ap Some e)
 
   own_page : page_of key < pages_of old
   own_page = omega (arith, low.inside.0, low.inside.1)
@@ -88,30 +87,11 @@ module _ (old m1 m2 : List ℕ) (t : Tree) (st : Stands old t) (moment : Date3) 
   mark_after b i =
       mark_kept (InBlock key) m1 m2 filled (omega (arith, count_m1, small))
       (λ k e. first_loose.not_root (sym e ∙ ap root_key (count_m1 ∙ count old t st.layout key s first_loose)))
-      (λ p k m e. let q : p < pages_of old = omega (arith, m, count_m1) in key_no_page p q (sym (mark_end.pages p q) ∙ e))
+      (λ p k m e. let q : p < pages_of old = omega (arith, m, count_m1) in key_no_page p (page_within old t st.layout key s first_loose p q) (sym (page_there p q) ∙ sym (mark_end.pages p q) ∙ e))
       b (bit_of_inside m1 b (i.0, omega (arith, i.1, count_m1, st.whole)))
 
   remarks : Remarks old t st.layout key (Some new) m2
-  remarks = record {
-    change = record {
-      same_length = filled.same_length ∙ taken.rest.same_length;
-      same_byte = λ b i m n. filled.same_byte b i m (λ e. n (inr e)) ∙ taken.rest.same_byte b i m (λ w. n (inl (page_of key, page_within old t st.layout key s first_loose (page_of key) own_page, sym (page_there (page_of key) own_page) ∙ sym w.0)));
-    };
-    bit = mark_after key fresh.inside ∙ taken.bit;
-    others = λ b i n. mark_after b i ∙ taken.others b (bit_of_inside old b (i.0, omega (arith, i.1, st.whole))) n;
-    sums = λ page m. page_sum page m;
-  }
-    where
-      page_sum : (page : ℕ) → Contains st.layout.pages page → block_sum m2 page ≡ 0
-      page_sum page m =
-          let at : slice_index st.layout.pages m.0 ≡ page = get_or_default st.layout.pages m.0 0 page m.1 ∙ m.2 in
-          let within : m.0 < pages_of old = omega (arith, m.1, st.fits.pages, count old t st.layout key s first_loose) in
-          let here : page_block old m.0 ≡ page = page_there m.0 within ∙ at in
-          let other : page ≢ key = λ e. key_no_page m.0 within (here ∙ e) in
-          other_block_sum key m1 m2 filled page other ∙ elim (cases_eq (page_block old (page_of key)) page) [
-            | inl e ↦ ap (block_sum m1) (sym e) ∙ taken.sum ∙ ap (block_sum old) e ∙ st.pages page m
-            | inr n ↦ same_sum (MapPlace old key) old m1 taken.rest page (λ k o w. n (sym w.0)) ∙ st.pages page m
-          ]
+  remarks = filled_remarks old m1 m2 t st.layout key (Some new) key_no_page mark_after fresh.inside (marked_remarks old m1 t st.layout key s first_loose fresh.inside (Some new) taken) filled
 
   -- ---- the bytes of the block
 

@@ -1,7 +1,8 @@
 -- A key inserted into a list, and one removed from it.
 use Rattle.std.proofs.Common.{◌≡◌, ◌≢◌, ℕ, suc, ◌<◌, ◌≤◌, ◌⊎◌, inl, inr, Bool, true, false, cond, nat_le, ◌==◌, not, List, [], ◌∷◌, ◌++◌, filter, AllPairs, Contains, refl, sym, ap, ap₂, ◌∙◌, subst, arith, eq-eqb}
 use Rattle.std.specs.List.{list_any}
-use Rattle.ados_change.proofs.Common.{ne_eqb, cases_eq, cases_lt, le-leb, lt-leb, Contains-get_or, AllPairs-cons, Contains-here, Contains-later, Contains-cases, Contains-nil, Once, Once-head, Once-tail, is_not, enter}
+use Rattle.std.proofs.lemmas.List.Elements.{All-filter, All-contains_itself}
+use Rattle.ados_change.proofs.Common.{All-contains, filter_passes, ne_eqb, cases_eq, cases_lt, le-leb, lt-leb, Contains-get_or, AllPairs-cons, Contains-here, Contains-later, Contains-cases, Contains-nil, Once, Once-head, Once-tail, is_not, enter}
 use Rattle.ados_model.proofs.Lists.{AllPairs-tail}
 
 -- one more element in front, related to each of the others
@@ -133,12 +134,7 @@ filter_same p q (x ∷ xs) h =
     ap₂ (λ (b : Bool) (ys : List ℕ). cond b (x ∷ ys) ys) (h x (Contains-here x xs)) (filter_same p q xs (λ y m. h y (Contains-later x xs y m)))
 
 pub Contains-part : (p : ℕ → Bool) (xs : List ℕ) (x : ℕ) → Contains (filter p xs) x → Contains xs x
-Contains-part p [] x m = m
-Contains-part p (y ∷ ys) x m = go (p y) (Contains-part p ys x) m
-  where
-    go : (b : Bool) → (Contains (filter p ys) x → Contains ys x) → Contains (cond b (y ∷ filter p ys) (filter p ys)) x → Contains (y ∷ ys) x
-    go true below m = elim (Contains-cases y (filter p ys) x m) [ inl e ↦ subst (λ (z : ℕ). Contains (y ∷ ys) z) e (Contains-here y ys) | inr n ↦ Contains-later y ys x (below n) ]
-    go false below m = Contains-later y ys x (below m)
+Contains-part p xs x m = All-contains (Contains xs) (filter p xs) x (All-filter p (Contains xs) xs (All-contains_itself xs)) m
 
 pub Contains-passes : (p : ℕ → Bool) (xs : List ℕ) (x : ℕ) → Contains xs x → p x ≡ true → Contains (filter p xs) x
 Contains-passes p [] x m e = m
@@ -165,8 +161,6 @@ pub Contains-stays : (key : ℕ) (xs : List ℕ) (x : ℕ) → Contains xs x →
 Contains-stays key xs x m n = Contains-passes (is_not key) xs x m (ap not (ne_eqb x key n))
 
 pub Contains-left : (key : ℕ) (xs : List ℕ) → ¬ Contains (filter (is_not key) xs) key
-Contains-left key [] m = Contains-nil key m
-Contains-left key (x ∷ xs) m = elim (cases_eq x key) [
-  | inl e ↦ Contains-left key xs (rw (eq-eqb x key e) at m)
-  | inr n ↦ elim (Contains-cases x (filter (is_not key) xs) key (rw (ne_eqb x key n) at m)) [ inl e ↦ n e | inr r ↦ Contains-left key xs r ]
-]
+Contains-left key xs m =
+    let passes : is_not key key ≡ true = All-contains (λ k. is_not key k ≡ true) (filter (is_not key) xs) key (filter_passes (is_not key) xs) m in
+    cc (passes, ap not (eq-eqb key key refl))

@@ -1,6 +1,7 @@
 -- A change of fields or of entries leaves all bytes outside fields untouched.
 use Rattle.std.proofs.Common.{◌≡◌, ◌≢◌, ℕ, ◌+◌, ◌-◌, ◌/◌, ◌<◌, ◌≤◌, ◌⊎◌, inl, inr, List, length, Some, None, refl, sym, ap, ◌∙◌, subst, arith}
-use Rattle.ados_change.proofs.Common.{byte_at, bytes_at, long, secondary_type, COMMENT_BYTE, NAME_BYTE, SameBut, same_long, same_weaken, boot_same, Content, Node, Tree, root, Directory, File, Duty, HasDuty, Stands, type_of, Role, IsFile, Kept, KeepsFirstData, IsField, Alike, InText, root_longs, root_name, page_longs, directory_longs, file_longs, entry_name, entry_comment, extension_longs, ofs_data_longs, ofs_data, ffs_data, root_or_parent, StandsAt, IsFileNode, file_at, reached_stands, serves_at, duty_of, root_at, entry_at}
+use Rattle.ados_change.proofs.Common.{InLongs, pointer_count, byte_at, bytes_at, long, secondary_type, COMMENT_BYTE, NAME_BYTE, SameBut, same_long, same_weaken, boot_same, Content, Node, Tree, root, Directory, File, Duty, HasDuty, Stands, type_of, Role, IsFile, Kept, KeepsFirstData, IsField, Alike, InText, root_longs, root_name, page_longs, directory_longs, file_longs, entry_name, entry_comment, extension_longs, ofs_data_longs, ofs_data, ffs_data, root_or_parent, StandsAt, IsFileNode, file_at, reached_stands, serves_at, duty_of, root_at, entry_at}
+use Rattle.ados_model.specs.Kept.{directory_runs, file_runs}
 use Rattle.ados_change.specs.Behind.{KeepsBehindName}
 use Rattle.ados_change.specs.steps.Footprint.{IsChanged, IsPage, IsPlain, IsWritten}
 use Rattle.ados_change.specs.steps.Footprint.IsPlain.{sum, table, bits, date, disk, link}
@@ -36,6 +37,11 @@ alike_field (roles.Data file) (roles.Data file') alike (ffs_data n) = ffs_data n
 alike_field (roles.Extension file) (roles.Extension file') alike (extension_longs m) = extension_longs m
 alike_field _ _ alike f = absurd alike
 
+-- a byte of a field of directories and of files is a byte of a field of an entry
+pub entry_longs : {image : List ℕ} {b dir s i : ℕ} (c : Content) → secondary_type image b ≡ type_of c → InLongs directory_runs i → InLongs (file_runs (pointer_count image b)) i → IsField image b (roles.Entry dir s) i
+entry_longs (Directory keys) e d f = directory_longs e d
+entry_longs (File bytes) e d f = file_longs e f
+
 -- ---- a byte of the footprint is in a field
 
 module _ (old : List ℕ) (t : Tree) (st : Stands old t) (new : List ℕ) where
@@ -48,21 +54,12 @@ module _ (old : List ℕ) (t : Tree) (st : Stands old t) (new : List ℕ) where
   root_field i a (link n m o) = absurd (n refl)
 
   entry_field : (b i dir q : ℕ) (a : Node) → b ≢ root t → secondary_type new b ≡ type_of a.content → IsPlain (root t) b a (i / 4) → IsField new b (roles.Entry dir q) i
-  entry_field b i dir q a n e p = go a.content refl e p
-    where
-      go : (c : Content) → a.content ≡ c → secondary_type new b ≡ type_of c → IsPlain (root t) b a (i / 4) → IsField new b (roles.Entry dir q) i
-      go (Directory keys) d e (sum f) = directory_longs e (1, (5, 77), omega arith, refl, (omega (arith, f), omega (arith, f)))
-      go (Directory keys) d e (table ks c m o) = directory_longs e (1, (5, 77), omega arith, refl, (omega (arith, m), omega (arith, o)))
-      go (Directory keys) d e (bits m f) = directory_longs e (2, (80, 80), omega arith, refl, (omega (arith, f), omega (arith, f)))
-      go (Directory keys) d e (date m o) = directory_longs e (3, (105, 107), omega arith, refl, (omega (arith, m), omega (arith, o)))
-      go (Directory keys) d e (disk f m o) = absurd (n f)
-      go (Directory keys) d e (link f m o) = directory_longs e (4, (124, 125), omega arith, refl, (omega (arith, m), omega (arith, o)))
-      go (File bytes) d e (sum f) = file_longs e (1, (4, 5), omega arith, refl, (omega (arith, f), omega (arith, f)))
-      go (File bytes) d e (table ks c m o) = absurd (let there : Directory ks ≡ File bytes = sym c ∙ d in cc there)
-      go (File bytes) d e (bits m f) = file_longs e (3, (80, 81), omega arith, refl, (omega (arith, f), omega (arith, f)))
-      go (File bytes) d e (date m o) = file_longs e (4, (105, 107), omega arith, refl, (omega (arith, m), omega (arith, o)))
-      go (File bytes) d e (disk f m o) = absurd (n f)
-      go (File bytes) d e (link f m o) = file_longs e (5, (124, 127), omega arith, refl, (omega (arith, m), omega (arith, o)))
+  entry_field b i dir q a n e (sum f) = entry_longs a.content e (1, (5, 77), omega arith, refl, (omega (arith, f), omega (arith, f))) (1, (4, 5), omega arith, refl, (omega (arith, f), omega (arith, f)))
+  entry_field b i dir q a n e (table keys c m o) = directory_longs (e ∙ ap type_of c) (1, (5, 77), omega arith, refl, (omega (arith, m), omega (arith, o)))
+  entry_field b i dir q a n e (bits m f) = entry_longs a.content e (2, (80, 80), omega arith, refl, (omega (arith, f), omega (arith, f))) (3, (80, 81), omega arith, refl, (omega (arith, f), omega (arith, f)))
+  entry_field b i dir q a n e (date m o) = entry_longs a.content e (3, (105, 107), omega arith, refl, (omega (arith, m), omega (arith, o))) (4, (105, 107), omega arith, refl, (omega (arith, m), omega (arith, o)))
+  entry_field b i dir q a n e (disk f m o) = absurd (n f)
+  entry_field b i dir q a n e (link f m o) = entry_longs a.content e (4, (124, 125), omega arith, refl, (omega (arith, m), omega (arith, o))) (5, (124, 127), omega arith, refl, (omega (arith, m), omega (arith, o)))
 
   -- a reached block of a node is the root or an entry
   node_field : (b i k : ℕ) (role : Role) (a : Node) → (b ≢ root t → secondary_type new b ≡ type_of a.content) → t.nodes b ≡ Some a → IsPlain (root t) b a (i / 4) → StandsAt old t st role k b → duty_of old t st role k ≡ Duty.Key → IsField new b role i

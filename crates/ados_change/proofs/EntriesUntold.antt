@@ -129,8 +129,7 @@ module _ (old new : List ℕ) (t u : Tree) (st : Stands old t) (after : Spells n
     untold_beside past = files_stay old new past data_stays
 
   pub untold_kept : SameBut (IsChanged old t st new) old new → KeepsPastEnd old new → KeepsUntold old new
-  untold_kept h = untold_beside (IsChanged old t st new) h data_unchanged
-    where
-      data_unchanged : (b i file q : ℕ) → HasDuty t st.layout b (Duty.Data file q) → ¬ IsChanged old t st new b i
-      data_unchanged b i file q m (inl p) = let duty = st.fits.one_duty b (Duty.Page p.0) (Duty.Data file q) p.1 m in cc duty
-      data_unchanged b i file q m (inr w) = unwritten old t st new b i (Duty.Data file q) m (λ z. cc z) w
+  untold_kept h = untold_beside (IsChanged old t st new) h (λ b i file q m w. elim w [
+    | inl p ↦ let duty = st.fits.one_duty b (Duty.Page p.0) (Duty.Data file q) p.1 m in cc duty
+    | inr w ↦ unwritten old t st new b i (Duty.Data file q) m (λ z. cc z) w
+  ])

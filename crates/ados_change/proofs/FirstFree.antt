@@ -1,8 +1,9 @@
 -- A new entry gets the lowest free block, and its bytes outside fields are 0.
-use Rattle.std.proofs.Common.{◌≡◌, ◌≢◌, ℕ, ◌+◌, ◌*◌, ◌/◌, ◌<◌, ◌≤◌, ◌⊎◌, inl, inr, nat_le, cond, List, [], length, slice_index, refl, sym, ap, ◌∙◌, subst, arith}
-use Rattle.ados_change.proofs.Common.{cases_eq, cases_lt, cases_order, false≢true, FILE_TYPE, NAME_BYTE, NEXT_IN_CHAIN, byte_at, has_free_bit, long, HasFreeBit, secondary_type, SameBut, same_long, same_weaken, AtLinks, Relinks, IsLowestFree, Date3, made, InImage, Reached, first_pointers, IsField, NamesFirstData, directory_longs, file_longs, entry_name, Duty, HasDuty, Stands, type_of, IsTaken, TakesLowest, Content, Tree, root, Directory, File, Role, StandsAt, duty_of, reached_stands, root_at, serves_at, IsNewEntry, IsNewField, Dated}
+use Rattle.std.proofs.Common.{◌≡◌, ◌≢◌, ℕ, ◌/◌, ◌<◌, ◌⊎◌, inl, inr, nat_le, cond, List, [], length, slice_index, refl, sym, ap, ◌∙◌, subst, arith}
+use Rattle.ados_change.proofs.Common.{cases_eq, cases_lt, cases_order, false≢true, NAME_BYTE, NEXT_IN_CHAIN, byte_at, has_free_bit, long, HasFreeBit, secondary_type, SameBut, same_long, same_weaken, AtLinks, Relinks, IsLowestFree, Date3, made, InImage, Reached, first_pointers, IsField, NamesFirstData, entry_name, Duty, HasDuty, Stands, type_of, IsTaken, TakesLowest, Content, Tree, root, Role, StandsAt, duty_of, reached_stands, root_at, serves_at, IsNewEntry, IsNewField, Dated}
 use Rattle.ados_change.proofs.Frame.{AtDate, AtLongs, dated_longs}
 use Rattle.ados_model.specs.declared.role.Role.TheVariants as roles
+use Rattle.ados_change.proofs.EntriesKept.{entry_longs}
 use Rattle.ados_change.proofs.FilesStay.{data_serves, extension_serves, file_of_key}
 use Rattle.ados_change.proofs.Changed.{made_here}
 use Rattle.ados_change.proofs.Making.{zero_long}
@@ -37,71 +38,31 @@ module _ (key dir : ℕ) (t : Tree) (apart : dir ≢ key) (no_root : key ≢ roo
 
 module _ (filled new : List ℕ) (key dir : ℕ) (name : List ℕ) (content : Content) (moment : Date3) (entry : IsNewEntry filled key dir name content moment) (h : SameBut (AtLink key) filled new) where
   type_is : secondary_type new key ≡ type_of content
-  type_is = same_long (AtLink key) filled new h key 127 (omega arith) (λ k e w. other k e w) ∙ entry.secondary
-    where
-      other : (k : ℕ) → k / 4 ≡ 127 → ¬ AtLink key key k
-      other k e (inl n) = n refl
-      other k e (inr w) = omega (arith, e, w)
+  type_is = same_long (AtLink key) filled new h key 127 (omega arith) (λ k e w. elim w [ inl n ↦ n refl | inr f ↦ omega (arith, e, f) ]) ∙ entry.secondary
 
   counted : byte_at new key NAME_BYTE ≡ length name
-  counted = h.same_byte key NAME_BYTE (omega arith) other ∙ entry.named.counted
-    where
-      other : ¬ AtLink key key 432
-      other (inl n) = n refl
-      other (inr w) = omega (arith, w)
+  counted = h.same_byte key NAME_BYTE (omega arith) (λ w. elim w [ inl n ↦ n refl | inr f ↦ omega (arith, f) ]) ∙ entry.named.counted
 
   -- the bytes that a new entry fills are in fields, as are its checksum and next-in-chain long
   new_field : (d s i : ℕ) → IsNewField (length name) i ⊎ ((i / 4 ≡ 5) ⊎ (i / 4 ≡ NEXT_IN_CHAIN)) → IsField new key (roles.Entry d s) i
-  new_field d s i f = go content type_is
-    where
-      text : 432 ≤ i → i < 433 + length name → IsField new key (roles.Entry d s) i
-      text l m = entry_name (l, omega (arith, m, counted))
-
-      of_directory : secondary_type new key ≡ 2 → IsNewField (length name) i ⊎ ((i / 4 ≡ 5) ⊎ (i / 4 ≡ NEXT_IN_CHAIN)) → IsField new key (roles.Entry d s) i
-      of_directory e (inl (inl z)) = directory_longs e (0, (0, 1), omega arith, refl, (omega arith, omega (arith, z)))
-      of_directory e (inl (inr (inl z))) = directory_longs e (1, (5, 77), omega arith, refl, (omega (arith, z), omega (arith, z)))
-      of_directory e (inl (inr (inr (inl z)))) = elim (cases_lt i 432) [
-        | inl l ↦ directory_longs e (3, (105, 107), omega arith, refl, (omega (arith, z.0), omega (arith, l)))
-        | inr l ↦ text l z.1
-      ]
-      of_directory e (inl (inr (inr (inr (inl z))))) = directory_longs e (4, (124, 125), omega arith, refl, (omega (arith, z), omega (arith, z)))
-      of_directory e (inl (inr (inr (inr (inr z))))) = directory_longs e (5, (127, 127), omega arith, refl, (omega (arith, z), omega (arith, z)))
-      of_directory e (inr (inl z)) = directory_longs e (1, (5, 77), omega arith, refl, (omega (arith, z), omega (arith, z)))
-      of_directory e (inr (inr z)) = directory_longs e (4, (124, 125), omega arith, refl, (omega (arith, z), omega (arith, z)))
-
-      of_file : secondary_type new key ≡ FILE_TYPE → IsNewField (length name) i ⊎ ((i / 4 ≡ 5) ⊎ (i / 4 ≡ NEXT_IN_CHAIN)) → IsField new key (roles.Entry d s) i
-      of_file e (inl (inl z)) = file_longs e (0, (0, 2), omega arith, refl, (omega arith, omega (arith, z)))
-      of_file e (inl (inr (inl z))) = file_longs e (1, (4, 5), omega arith, refl, (omega (arith, z), omega (arith, z)))
-      of_file e (inl (inr (inr (inl z)))) = elim (cases_lt i 432) [
-        | inl l ↦ file_longs e (4, (105, 107), omega arith, refl, (omega (arith, z.0), omega (arith, l)))
-        | inr l ↦ text l z.1
-      ]
-      of_file e (inl (inr (inr (inr (inl z))))) = file_longs e (5, (124, 127), omega arith, refl, (omega (arith, z), omega (arith, z)))
-      of_file e (inl (inr (inr (inr (inr z))))) = file_longs e (5, (124, 127), omega arith, refl, (omega (arith, z), omega (arith, z)))
-      of_file e (inr (inl z)) = file_longs e (1, (4, 5), omega arith, refl, (omega (arith, z), omega (arith, z)))
-      of_file e (inr (inr z)) = file_longs e (5, (124, 127), omega arith, refl, (omega (arith, z), omega (arith, z)))
-
-      go : (c : Content) → secondary_type new key ≡ type_of c → IsField new key (roles.Entry d s) i
-      go (Directory keys) e = of_directory e f
-      go (File bytes) e = of_file e f
+  new_field d s i (inl (inl z)) = entry_longs content type_is (0, (0, 1), omega arith, refl, (omega arith, omega (arith, z))) (0, (0, 2), omega arith, refl, (omega arith, omega (arith, z)))
+  new_field d s i (inl (inr (inl z))) = entry_longs content type_is (1, (5, 77), omega arith, refl, (omega (arith, z), omega (arith, z))) (1, (4, 5), omega arith, refl, (omega (arith, z), omega (arith, z)))
+  new_field d s i (inl (inr (inr (inl z)))) = elim (cases_lt i 432) [
+    | inl l ↦ entry_longs content type_is (3, (105, 107), omega arith, refl, (omega (arith, z.0), omega (arith, l))) (4, (105, 107), omega arith, refl, (omega (arith, z.0), omega (arith, l)))
+    | inr l ↦ entry_name (l, omega (arith, z.1, counted))
+  ]
+  new_field d s i (inl (inr (inr (inr (inl z))))) = entry_longs content type_is (4, (124, 125), omega arith, refl, (omega (arith, z), omega (arith, z))) (5, (124, 127), omega arith, refl, (omega (arith, z), omega (arith, z)))
+  new_field d s i (inl (inr (inr (inr (inr z))))) = entry_longs content type_is (5, (127, 127), omega arith, refl, (omega (arith, z), omega (arith, z))) (5, (124, 127), omega arith, refl, (omega (arith, z), omega (arith, z)))
+  new_field d s i (inr (inl z)) = entry_longs content type_is (1, (5, 77), omega arith, refl, (omega (arith, z), omega (arith, z))) (1, (4, 5), omega arith, refl, (omega (arith, z), omega (arith, z)))
+  new_field d s i (inr (inr z)) = entry_longs content type_is (4, (124, 125), omega arith, refl, (omega (arith, z), omega (arith, z))) (5, (124, 127), omega arith, refl, (omega (arith, z), omega (arith, z)))
 
   zero_else : (d s i : ℕ) → i < 512 → ¬ IsField new key (roles.Entry d s) i → byte_at new key i ≡ 0
-  zero_else d s i l n = h.same_byte key i l other ∙ entry.zeros i l (λ f. n (new_field d s i (inl f)))
-    where
-      other : ¬ AtLink key key i
-      other (inl m) = m refl
-      other (inr w) = n (new_field d s i (inr w))
+  zero_else d s i l n = h.same_byte key i l (λ w. elim w [ inl m ↦ m refl | inr f ↦ n (new_field d s i (inr f)) ]) ∙ entry.zeros i l (λ f. n (new_field d s i (inl f)))
 
   -- it has no first data block
   zero_at : (j : ℕ) → (j ≡ 2) ⊎ (j ≡ 4) → long new key j ≡ 0
-  zero_at j o = zero_long new key j (λ k p q. h.same_byte key k (omega (arith, o, q)) (other k p q) ∙ entry.zeros k (omega (arith, o, q)) (no_field k p q))
-    where
-      other : (k : ℕ) → 4 * j ≤ k → k < 4 * j + 4 → ¬ AtLink key key k
-      other k p q (inl m) = m refl
-      other k p q (inr w) = omega (arith, o, p, q, w)
-
-      no_field : (k : ℕ) → 4 * j ≤ k → k < 4 * j + 4 → ¬ IsNewField (length name) k
-      no_field k p q f = omega (arith, o, p, q, f)
+  zero_at j o =
+      zero_long new key j (λ k p q. h.same_byte key k (omega (arith, o, q)) (λ w. elim w [ inl m ↦ m refl | inr f ↦ omega (arith, o, p, q, f) ]) ∙ entry.zeros k (omega (arith, o, q)) (λ f. omega (arith, o, p, q, f)))
 
   names_none : NamesFirstData new key
   names_none = zero_at 4 (inr refl) ∙ sym (ap (λ (n : ℕ). slice_index (cond (nat_le n 72) (first_pointers new key n) []) 0) (zero_at 2 (inl refl)))

@@ -39,18 +39,13 @@ module _ (old : List ℕ) (t : Tree) (st : Stands old t) (new : List ℕ) where
       within c i (inr (inr w)) = subst (λ (x : ℕ). At x i) (sym w.0) (known_link key i of_key (inr w.1))
 
   pub dated_kept : (dir : ℕ) (d : Node) → t.nodes dir ≡ Some d → (moment : Date3) (m m' : List ℕ) → Dated dir 105 moment m m' → SameBut At m m'
-  dated_kept dir d at moment m m' r = same_weaken (AtLongs (AtDate dir 105)) At m m' within (dated_longs dir 105 moment m m' r)
-    where
-      within : (c i : ℕ) → AtLongs (AtDate dir 105) c i → At c i
-      within c i (e, inl f) = of_node d (ap t.nodes e ∙ at) (sum f)
-      within c i (e, inr f) = of_node d (ap t.nodes e ∙ at) (date f.0 f.1)
+  dated_kept dir d at moment m m' r =
+      same_weaken (AtLongs (AtDate dir 105)) At m m' (λ c i w. of_node d (ap t.nodes w.0 ∙ at) (elim (w.1) [ inl f ↦ sum f | inr f ↦ date f.0 f.1 ])) (dated_longs dir 105 moment m m' r)
 
   pub stamped_kept : (moment : Date3) (m m' : List ℕ) → Dated (root t) 118 moment m m' → SameBut At m m'
-  stamped_kept moment m m' r = same_weaken (AtLongs (AtDate (root t) 118)) At m m' within (dated_longs (root t) 118 moment m m' r)
-    where
-      within : (c i : ℕ) → AtLongs (AtDate (root t) 118) c i → At c i
-      within c i (e, inl f) = of_node st.proper.root_node.0 (ap t.nodes e ∙ st.proper.root_node.1) (sum f)
-      within c i (e, inr f) = of_node st.proper.root_node.0 (ap t.nodes e ∙ st.proper.root_node.1) (disk e f.0 f.1)
+  stamped_kept moment m m' r =
+      same_weaken (AtLongs (AtDate (root t) 118)) At m m' (λ c i w. of_node st.proper.root_node.0 (ap t.nodes w.0 ∙ st.proper.root_node.1) (elim (w.1) [ inl f ↦ sum f | inr f ↦ disk w.0 f.0 f.1 ]))
+      (dated_longs (root t) 118 moment m m' r)
 
   pub marked_kept : (key p : ℕ) (free : Bool) (m m' : List ℕ) → p < length st.layout.pages → slice_index st.layout.pages p ≡ page_block m (page_of key) → BitChanged m key free m' → SameBut (λ b i. IsPage old t st b) m m'
   marked_kept key p free m m' l e r = same_weaken (MapPlace m key) (λ b i. IsPage old t st b) m m' (λ c i w. (p, slice_get-index st.layout.pages p l ∙ ap Some (e ∙ sym w.0))) r.rest

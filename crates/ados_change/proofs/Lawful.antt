@@ -26,7 +26,7 @@ module _ (image : List ℕ) (t : Tree) (l : Layout) (key : ℕ) (s : Spells imag
   pub page_within : (p : ℕ) → p < pages_of image → p < length l.pages
   page_within p m = omega (arith, m, s.fits.pages, count)
 
-  page_serves : (p : ℕ) → p < pages_of image → HasDuty t l (page_block image p) (Duty.Page p)
+  pub page_serves : (p : ℕ) → p < pages_of image → HasDuty t l (page_block image p) (Duty.Page p)
   page_serves p m = slice_get-index l.pages p (page_within p m) ∙ ap Some (sym (page_is p (page_within p m)))
 
   pub lawful_pages : LawfulPages image

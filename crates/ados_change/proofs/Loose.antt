@@ -1,7 +1,7 @@
 -- A tree with one key in no list: the state between the steps of a change.
-use Rattle.std.proofs.Common.{◌≡◌, ◌≢◌, ℕ, ◌≤◌, ◌⊎◌, inl, inr, ◌↔◌, ◌==◌, not, List, [], filter, map, slice_index_or, AllPairs, Contains, Option, Some, None, option_map, option_and_then, refl, sym, ap, ◌∙◌, subst, arith}
+use Rattle.std.proofs.Common.{◌≡◌, ◌≢◌, ℕ, ◌≤◌, ◌⊎◌, inl, inr, ◌↔◌, ◌==◌, not, List, [], filter, map, AllPairs, Contains, Option, Some, None, option_map, option_and_then, refl, sym, ap, ◌∙◌, subst, arith}
 use Rattle.std.specs.Option.{option_map_or}
-use Rattle.ados_change.proofs.Common.{cases_eq, Contains-get_or, AllPairs-filter, IsInside, IsSize, Date3, Same, slot, upper, IsName, IsComment, Contains-nil, Contains-filter, Once, is_not, Node, Tree, Proper, LeadsToRoot, IsRoot, root, entries, entries_in, name_of, parent_of, name_in, at_root, by_parent, with_node, listed, enter, entered, left, stamped, entry_node, directory_node, parent_in}
+use Rattle.ados_change.proofs.Common.{cases_eq, AllPairs-filter, IsInside, IsSize, Date3, Same, slot, upper, IsName, IsComment, Contains-nil, Contains-filter, Once, is_not, Node, Tree, Proper, LeadsToRoot, IsRoot, root, entries, entries_in, name_of, parent_of, name_in, at_root, by_parent, with_node, listed, enter, entered, left, stamped, entry_node, directory_node, parent_in}
 use Rattle.ados_change.proofs.Entering.{Contains-enter, Contains-entered, Contains-enter_kept, Once-enter, Rises-enter, Contains-stays, Contains-left}
 use Rattle.ados_change.proofs.SameLists.{proper_alike, rising_alike}
 use Rattle.ados_change.proofs.Changed.{nodes_here, nodes_other, was, was_with, relisted, listed_names, listed_parents, listed_here, listed_other, each_list}
@@ -15,11 +15,7 @@ pub data LeadsLoosely (t : Tree) (loose : ℕ) : ℕ → Type 0 where
 -- a path to the root of a tree, in a tree with the same parents
 leads_loosely : (t u : Tree) (loose : ℕ) → root u ≡ root t → ((k : ℕ) → parent_of u k ≡ parent_of t k) → (k : ℕ) → LeadsToRoot t k → LeadsLoosely u loose k
 leads_loosely t u loose same parents k (at_root e) = to_root (e ∙ sym same)
-leads_loosely t u loose same parents k (by_parent {dir = d} p rest) = go (leads_loosely t u loose same parents d rest) (cases_eq k loose)
-  where
-    go : LeadsLoosely u loose d → (k ≡ loose) ⊎ (k ≡ loose → ⊥) → LeadsLoosely u loose k
-    go below (inl e) = to_loose e
-    go below (inr n) = to_parent n (parents k ∙ p) below
+leads_loosely t u loose same parents k (by_parent {dir = d} p rest) = elim (cases_eq k loose) [ inl e ↦ to_loose e | inr n ↦ to_parent n (parents k ∙ p) (leads_loosely t u loose same parents d rest) ]
 
 -- one tree with its lists in order, except that the loose key is in no list; it may be a node or not
 pub record Loose (t : Tree) (loose : ℕ) : Type 0 where

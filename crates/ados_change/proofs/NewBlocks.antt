@@ -1,6 +1,6 @@
 -- The new blocks of a rewritten file, and the bytes of its freed blocks.
-use Rattle.std.proofs.Common.{◌≡◌, ◌≢◌, ℕ, zero, suc, ◌-◌, ◌*◌, ◌/◌, ◌<◌, ◌≤◌, ◌⊎◌, inl, inr, min, true, false, List, ◌∷◌, length, slice_index, Some, refl, sym, ap, ◌∙◌, subst, arith}
-use Rattle.ados_change.proofs.Common.{cases_order, false_from_ne_true, false≢true, Format, Ofs, Ffs, IsInside, block_count, byte_at, has_free_bit, HasFreeBit, pointer_count, held_count, file_size, format_of, page_block, data_blocks, extension_blocks, RisesBehind, data_blocks_are, extension_blocks_are, KeepsUnnamed, IsExtensionField, data_end, Node, Tree, File, Layout, Duty, HasDuty, Stands, Role, InImage, IsField, extension_longs, ffs_data, HasFileKey, IsTaken, TakenRise, TakesLowest, StandsAt, slice_get-index, reached_stands, serves_at, duty_of}
+use Rattle.std.proofs.Common.{◌≡◌, ◌≢◌, ℕ, zero, suc, ◌/◌, ◌<◌, ◌≤◌, ◌⊎◌, inl, inr, true, false, List, ◌∷◌, length, slice_index, Some, refl, sym, ap, ◌∙◌, subst, arith}
+use Rattle.ados_change.proofs.Common.{cases_order, false_from_ne_true, false≢true, IsInside, block_count, byte_at, has_free_bit, HasFreeBit, pointer_count, page_block, data_blocks, extension_blocks, RisesBehind, data_blocks_are, extension_blocks_are, KeepsUnnamed, IsExtensionField, Node, Tree, File, Layout, Duty, HasDuty, Stands, Role, InImage, IsField, extension_longs, HasFileKey, IsTaken, TakenRise, TakesLowest, StandsAt, slice_get-index, reached_stands, serves_at, duty_of}
 use Rattle.ados_model.specs.declared.role.Role.TheVariants as roles
 use Rattle.ados_change.proofs.FilesStay.{data_serves, extension_serves, file_of_key}
 use Rattle.ados_change.proofs.Writable.{key_serves, named_used, page_serves}

@@ -1,9 +1,9 @@
 -- An image with a rewritten file represents the tree in which the file has its new bytes.
 use Rattle.std.proofs.Common.{◌≡◌, ◌≢◌, ℕ, ◌+◌, ◌<◌, ◌⊎◌, inl, inr, List, length, slice_index, Contains, Some, refl, sym, ap, ◌∙◌, subst, arith}
-use Rattle.ados_change.proofs.Common.{cases_eq, get_or_default, Format, page_count, long, block_sum, Chained, HasText, table_entry, COMMENT_BYTE, NAME_BYTE, NEXT_IN_CHAIN, page_block, pages_of, data_count, Content, Node, Tree, root, HasFile, Duty, HasDuty, Stands, HasNode, HasEntry, HasRoot, type_of, in_slot, IsOther, IsDataField, next_of, chained, Directory, File, count_same, slice_get-index, entry_at}
+use Rattle.ados_change.proofs.Common.{cases_eq, get_or_default, Format, page_count, long, block_sum, Chained, HasText, table_entry, COMMENT_BYTE, NAME_BYTE, NEXT_IN_CHAIN, page_block, pages_of, data_count, Content, Node, Tree, root, HasFile, Duty, HasDuty, Stands, HasNode, HasEntry, type_of, in_slot, IsOther, IsDataField, next_of, chained, Directory, File, count_same, slice_get-index, entry_at}
 use Rattle.ados_change.proofs.Writable.{key_serves, page_serves, lawful_pages, is_lawful, format_is}
 use Rattle.ados_change.proofs.Contents.{refilled, Was, was, file_not_root, proper_after, slots_same}
-use Rattle.ados_change.proofs.Unchanged.{StaysBut, Stays, long_stays, text_stays, date_stays, long_as, bytes_as, date_as, node_as, entry_as}
+use Rattle.ados_change.proofs.Unchanged.{StaysBut, Stays, long_stays, text_stays, date_stays, long_as, bytes_as, node_as, entry_as, root_as}
 use Rattle.ados_change.proofs.Relaid.{IsRewritten, relaid, data_there, data_here, extensions_there, extensions_here, not_header, other, fits_after, marked_free_after, marked_used_after}
 use Rattle.ados_change.proofs.OtherFiles.{file_stays}
 use Rattle.ados_model.proofs.FileFaults.{chain_head}
@@ -133,22 +133,6 @@ module _ (old new : List ℕ) (t : Tree) (s : Stands old t) (file : ℕ) (node :
         secondary = n.secondary ∙ same_type k a w;
       }
 
-  -- ---- the root
-
-  root_after : HasRoot new v (relaid s.layout file blocks' extensions')
-  root_after =
-      let r = s.root_fields in
-      let stays = long_as old new (root t) root_stays in
-      record {
-        table_size = stays 3 (omega arith) ∙ r.table_size;
-        valid = stays 78 (omega arith) ∙ r.valid;
-        pages = λ i l. stays (79 + i) (omega (arith, l, s.fits.pages, s.proper.size.1)) ∙ r.pages i l;
-        disk_date = date_as old new (root t) root_stays 118 (omega arith) ∙ r.disk_date;
-        creation_date = date_as old new (root t) root_stays 121 (omega arith) ∙ r.creation_date;
-        parent = stays 125 (omega arith) ∙ r.parent;
-        secondary = stays 127 (omega arith) ∙ r.secondary;
-      }
-
   -- ---- hash chains
 
   link_stays : (k : ℕ) (a : Node) → t.nodes k ≡ Some a → long new k NEXT_IN_CHAIN ≡ long old k NEXT_IN_CHAIN
@@ -219,7 +203,9 @@ module _ (old new : List ℕ) (t : Tree) (s : Stands old t) (file : ℕ) (node :
     fits = fits_after old new t s file node bytes found is_file blocks' extensions' bytes' h;
     whole = h.leaves.same_length ∙ s.whole;
     boot = bytes_as old new 0 (boot_stays 0 (omega arith)) 0 4 (omega arith) ∙ s.boot;
-    root_fields = root_after;
+    root_fields =
+        let lay = relaid s.layout file blocks' extensions' in
+        root_as old new t s.layout v.nodes lay.file_data lay.extensions (omega (arith, s.fits.pages, s.proper.size.1)) root_stays s.root_fields;
     nodes = node_after;
     entries = entry_after;
     pages = page_after;

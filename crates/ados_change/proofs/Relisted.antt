@@ -1,7 +1,7 @@
 -- A link of a hash chain and the date of its directory change: the image represents the tree with the directory's new
 -- list.
 use Rattle.std.proofs.Common.{◌≡◌, ◌≢◌, ℕ, ◌+◌, ◌/◌, ◌<◌, ◌≤◌, ◌⊎◌, inl, inr, List, [], ◌∷◌, Contains, Option, Some, None, is_some, IsSome, option_map, refl, sym, ap, ◌∙◌, subst, arith}
-use Rattle.ados_change.proofs.Common.{cases_eq, block_sum, long, Chained, table_entry, NAME_BYTE, NEXT_IN_CHAIN, SameBut, same_sum, Date3, AtLinks, Relinks, link_block, link_long, Contains-here, Contains-later, Content, Node, Tree, root, size_in, Directory, File, listed, date_at, Layout, HasNode, HasEntry, type_of, in_slot, Dated, Chained-kept}
+use Rattle.ados_change.proofs.Common.{same_trans, same_weaken, cases_eq, block_sum, long, Chained, table_entry, NAME_BYTE, NEXT_IN_CHAIN, SameBut, same_sum, Date3, AtLinks, Relinks, link_block, link_long, Contains-here, Contains-later, Content, Node, Tree, root, size_in, Directory, File, listed, date_at, Layout, HasNode, HasEntry, type_of, in_slot, Dated, Chained-kept}
 use Rattle.ados_change.proofs.Frame.{AtLongs, AtDate, long-kept, sum-kept, dated_longs}
 use Rattle.ados_change.proofs.Changed.{nodes_here, nodes_other, changed_keeps, each_keeps, was, relisted}
 use Rattle.ados_change.proofs.Loose.{Loose}
@@ -21,35 +21,20 @@ link_place t dir b i (k ∷ ks) at entry =
     let n = entry k (Contains-here k ks) in
     link_place t dir k NEXT_IN_CHAIN ks (in_entry n.0 n.1 n.2 refl) (λ j m. entry j (Contains-later k ks j m))
 
--- the longs of both changes
-pub data Wrote (b0 i0 key dir : ℕ) (b j : ℕ) : Type 0 where
-  link : b ≡ b0 → j ≡ i0 → Wrote b0 i0 key dir b j
-  link_sum : b ≡ b0 → j ≡ 5 → Wrote b0 i0 key dir b j
-  key_link : b ≡ key → j ≡ NEXT_IN_CHAIN → Wrote b0 i0 key dir b j
-  key_sum : b ≡ key → j ≡ 5 → Wrote b0 i0 key dir b j
-  dated : b ≡ dir → 105 ≤ j → j < 108 → Wrote b0 i0 key dir b j
-  dated_sum : b ≡ dir → j ≡ 5 → Wrote b0 i0 key dir b j
-
 module _ (old mid new : List ℕ) (t : Tree) (l : Layout) (loose_key : ℕ) (s : Spells old t l) (loose : Loose t loose_key)
     (dir : ℕ) (a : Node) (keys : List ℕ) (at : t.nodes dir ≡ Some a) (holds : a.content ≡ Directory keys)
     (key : ℕ) (node : Node) (at_key : t.nodes key ≡ Some node) (no_root : key ≢ root t)
     (b0 i0 next : ℕ) (place : IsLinkPlace t dir b0 i0) (relinks : Relinks b0 i0 next key old mid)
     (moment : Date3) (redated : Dated dir 105 moment mid new) where
+  -- the longs of both changes
   abbrev W : ℕ → ℕ → Type 0
-  W b j = Wrote b0 i0 key dir b j
+  W b j = ((((b ≡ b0) × (j ≡ i0)) ⊎ ((b ≡ b0) × (j ≡ 5))) ⊎ (((b ≡ key) × (j ≡ NEXT_IN_CHAIN)) ⊎ ((b ≡ key) × (j ≡ 5)))) ⊎ AtDate dir 105 b j
 
   redate : SameBut (AtLongs (AtDate dir 105)) mid new
   redate = dated_longs dir 105 moment mid new redated
 
   change : SameBut (AtLongs W) old new
-  change = record {
-    same_length = redate.same_length ∙ relinks.rest.same_length;
-    same_byte = λ b i m n. redate.same_byte b i m (λ w. elim (w.1) [ inl e ↦ n (dated_sum w.0 e) | inr e ↦ n (dated w.0 e.0 e.1) ])
-        ∙ relinks.rest.same_byte b i m (λ w. elim w [
-          | inl x ↦ elim x [ inl y ↦ n (link y.0 y.1) | inr y ↦ n (link_sum y.0 y.1) ]
-          | inr x ↦ elim x [ inl y ↦ n (key_link y.0 y.1) | inr y ↦ n (key_sum y.0 y.1) ]
-        ]);
-  }
+  change = same_trans (AtLongs W) old mid new (same_weaken (AtLinks b0 i0 key) (AtLongs W) old mid (λ b i w. inl w) relinks.rest) (same_weaken (AtLongs (AtDate dir 105)) (AtLongs W) mid new (λ b i w. inr w) redate)
 
   no_file : (b : ℕ) → b ≡ dir → (c : Node) (bytes : List ℕ) → t.nodes b ≡ Some c → c.content ≡ File bytes → ⊥
   no_file b e c bytes f g =
@@ -65,24 +50,24 @@ module _ (old mid new : List ℕ) (t : Tree) (l : Layout) (loose_key : ℕ) (s :
       linked (in_entry n f m e) = ap is_some f
 
       of_key : (b j : ℕ) → W b j → IsSome (t.nodes b)
-      of_key b j (link e f) = ap is_some (ap t.nodes e) ∙ linked place
-      of_key b j (link_sum e f) = ap is_some (ap t.nodes e) ∙ linked place
-      of_key b j (key_link e f) = ap is_some (ap t.nodes e ∙ at_key)
-      of_key b j (key_sum e f) = ap is_some (ap t.nodes e ∙ at_key)
-      of_key b j (dated e f g) = ap is_some (ap t.nodes e ∙ at)
-      of_key b j (dated_sum e f) = ap is_some (ap t.nodes e ∙ at)
+      of_key b j (inl (inl (inl (e, f)))) = ap is_some (ap t.nodes e) ∙ linked place
+      of_key b j (inl (inl (inr (e, f)))) = ap is_some (ap t.nodes e) ∙ linked place
+      of_key b j (inl (inr (inl (e, f)))) = ap is_some (ap t.nodes e ∙ at_key)
+      of_key b j (inl (inr (inr (e, f)))) = ap is_some (ap t.nodes e ∙ at_key)
+      of_key b j (inr (e, inr (f, g))) = ap is_some (ap t.nodes e ∙ at)
+      of_key b j (inr (e, inl f)) = ap is_some (ap t.nodes e ∙ at)
 
       placed : (b j : ℕ) → b ≡ b0 → j ≡ i0 → IsLinkPlace t dir b0 i0 → Telling t b j
       placed b j e f (in_table d m n) = table (no_file b (e ∙ d)) (omega (arith, f, m)) (omega (arith, f, n))
       placed b j e f (in_entry n g m d) = linking (λ r. m (sym e ∙ r)) (omega (arith, f, d)) (omega (arith, f, d))
 
       telling : (b j : ℕ) → W b j → Telling t b j
-      telling b j (link e f) = placed b j e f place
-      telling b j (link_sum e f) = sum f
-      telling b j (key_link e f) = linking (λ r. no_root (sym e ∙ r)) (omega (arith, f)) (omega (arith, f))
-      telling b j (key_sum e f) = sum f
-      telling b j (dated e f g) = heading f (omega (arith, g))
-      telling b j (dated_sum e f) = sum f
+      telling b j (inl (inl (inl (e, f)))) = placed b j e f place
+      telling b j (inl (inl (inr (e, f)))) = sum f
+      telling b j (inl (inr (inl (e, f)))) = linking (λ r. no_root (sym e ∙ r)) (omega (arith, f)) (omega (arith, f))
+      telling b j (inl (inr (inr (e, f)))) = sum f
+      telling b j (inr (e, inr (f, g))) = heading f (omega (arith, g))
+      telling b j (inr (e, inl f)) = sum f
 
   root_some : IsSome (t.nodes (root t))
   root_some = ap is_some loose.root_node.1
@@ -98,27 +83,27 @@ module _ (old mid new : List ℕ) (t : Tree) (l : Layout) (loose_key : ℕ) (s :
       apart i (inl m) e = elim o [ inl x ↦ omega (arith, x.0, e, m) | inr (inl x) ↦ omega (arith, x.0, e, m) | inr (inr x) ↦ omega (arith, x, e, m) ]
       apart i (inr m) e = elim o [ inl x ↦ omega (arith, x.1, e, m) | inr (inl x) ↦ omega (arith, x.1, e, m) | inr (inr x) ↦ omega (arith, x, e, m) ]
 
-      go : IsLinkPlace t dir b0 i0 → Wrote b0 i0 key dir b j → ⊥
-      go (in_table d m n) (link e f) = apart i0 (inl n) f
-      go (in_entry n g m d) (link e f) = apart i0 (inr d) f
-      go p (link_sum e f) = apart 5 (inl (omega arith)) f
-      go p (key_link e f) = apart 124 (inr refl) f
-      go p (key_sum e f) = apart 5 (inl (omega arith)) f
-      go p (dated e f g) = elim o [ inl x ↦ omega (arith, x.1, f) | inr (inl x) ↦ omega (arith, x.0, g) | inr (inr x) ↦ omega (arith, x, g) ]
-      go p (dated_sum e f) = apart 5 (inl (omega arith)) f
+      go : IsLinkPlace t dir b0 i0 → W b j → ⊥
+      go (in_table d m n) (inl (inl (inl (e, f)))) = apart i0 (inl n) f
+      go (in_entry n g m d) (inl (inl (inl (e, f)))) = apart i0 (inr d) f
+      go p (inl (inl (inr (e, f)))) = apart 5 (inl (omega arith)) f
+      go p (inl (inr (inl (e, f)))) = apart 124 (inr refl) f
+      go p (inl (inr (inr (e, f)))) = apart 5 (inl (omega arith)) f
+      go p (inr (e, inr (f, g))) = elim o [ inl x ↦ omega (arith, x.1, f) | inr (inl x) ↦ omega (arith, x.0, g) | inr (inr x) ↦ omega (arith, x, g) ]
+      go p (inr (e, inl f)) = apart 5 (inl (omega arith)) f
 
   -- only the directory's date is written
   undated : (b j : ℕ) → b ≢ dir → 105 ≤ j → j < 108 → ¬ W b j
   undated b j n p q w = go place w
     where
-      go : IsLinkPlace t dir b0 i0 → Wrote b0 i0 key dir b j → ⊥
-      go (in_table d m o) (link e f) = omega (arith, f, o, p)
-      go (in_entry o g m d) (link e f) = omega (arith, f, d, q)
-      go x (link_sum e f) = omega (arith, f, p)
-      go x (key_link e f) = omega (arith, f, q)
-      go x (key_sum e f) = omega (arith, f, p)
-      go x (dated e f g) = n e
-      go x (dated_sum e f) = omega (arith, f, p)
+      go : IsLinkPlace t dir b0 i0 → W b j → ⊥
+      go (in_table d m o) (inl (inl (inl (e, f)))) = omega (arith, f, o, p)
+      go (in_entry o g m d) (inl (inl (inl (e, f)))) = omega (arith, f, d, q)
+      go x (inl (inl (inr (e, f)))) = omega (arith, f, p)
+      go x (inl (inr (inl (e, f)))) = omega (arith, f, q)
+      go x (inl (inr (inr (e, f)))) = omega (arith, f, p)
+      go x (inr (e, inr (f, g))) = n e
+      go x (inr (e, inl f)) = omega (arith, f, p)
 
   sum_after : (k : ℕ) → block_sum old k ≡ 0 → block_sum new k ≡ 0
   sum_after k was = elim (cases_eq k dir) [

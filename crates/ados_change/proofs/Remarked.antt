@@ -1,12 +1,13 @@
 -- A block allocated for a new node, or freed by one: the rest of the image is unchanged.
-use Rattle.std.proofs.Common.{◌≡◌, ◌≢◌, ℕ, ◌+◌, ◌-◌, ◌/◌, ◌<◌, ◌⊎◌, inl, inr, Bool, true, false, ◌==◌, List, length, slice_index, Contains, not, Option, Some, is_some, option_map, refl, sym, ap, ◌∙◌, subst, arith}
-use Rattle.ados_change.proofs.Common.{cases_eq, IsInside, has_free_bit, block_sum, Chained, HasFreeBit, table_entry, NEXT_IN_CHAIN, slot, data_count, Node, Tree, root, entries, entries_in, size_of, name_of, size_in, HasFile, Layout, Fits, Duty, HasDuty, Named, HasNode, HasEntry, HasRoot, in_slot, Directory, File, with_node, SameBut, slice_get-index, parent_in, Chained-kept}
+use Rattle.std.proofs.Common.{◌≡◌, ◌≢◌, ℕ, ◌+◌, ◌/◌, ◌<◌, ◌⊎◌, inl, inr, Bool, true, false, ◌==◌, List, length, slice_index, Contains, not, Option, Some, is_some, option_map, refl, sym, ap, ◌∙◌, subst, arith}
+use Rattle.ados_change.proofs.Common.{BitChanged, MapPlace, page_block, page_of, pages_of, bit_of_inside, same_sum, OnlyBlock, other_block_sum, get_or_default, cases_eq, IsInside, has_free_bit, block_sum, Chained, HasFreeBit, table_entry, NEXT_IN_CHAIN, slot, data_count, Node, Tree, root, entries, entries_in, size_of, name_of, size_in, HasFile, Layout, Fits, Duty, HasDuty, Named, HasNode, HasEntry, in_slot, Directory, File, with_node, SameBut, slice_get-index, parent_in, Chained-kept}
 use Rattle.ados_change.proofs.Frame.{AtLongs}
-use Rattle.ados_change.proofs.Unchanged.{Stays, long_as, bytes_as, date_as, node_as, entry_as}
+use Rattle.ados_change.proofs.Unchanged.{Stays, long_as, bytes_as, node_as, entry_as, root_as}
 use Rattle.ados_change.proofs.OtherFiles.{file_stays}
 use Rattle.ados_change.proofs.Entering.{Contains-part}
 use Rattle.ados_change.proofs.Changed.{nodes_here, nodes_other}
 use Rattle.ados_change.proofs.Loose.{Loose}
+use Rattle.ados_change.proofs.Lawful.{count, page_is, page_within}
 use Rattle.ados_change.proofs.Slots.{slots_beside}
 use Rattle.ados_change.proofs.Spells.{Spells, same_duty}
 
@@ -24,6 +25,35 @@ pub record Remarks (old : List ℕ) (t : Tree) (l : Layout) (key : ℕ) (o : Opt
   pub bit : has_free_bit new key ≡ not (is_some o)
   pub others : (b : ℕ) → IsInside t.blocks b → b ≢ key → has_free_bit new b ≡ has_free_bit old b
   pub sums : (page : ℕ) → Contains l.pages page → block_sum new page ≡ 0
+
+-- one bit was changed: the key's block may have another node
+module _ (old new : List ℕ) (t : Tree) (lay : Layout) (key : ℕ) (s : Spells old t lay) (loose : Loose t key) (inside : IsInside t.blocks key) (o : Option Node) (marked : BitChanged old key (not (is_some o)) new) where
+  own_page : page_of key < pages_of old
+  own_page = omega (arith, inside.0, inside.1, count old t lay key s loose)
+
+  pub marked_remarks : Remarks old t lay key o new
+  marked_remarks = record {
+    change = record {
+      same_length = marked.rest.same_length;
+      same_byte = λ b i m n. marked.rest.same_byte b i m (λ w. n (inl (page_of key, page_within old t lay key s loose (page_of key) own_page, sym (page_is old t lay key s loose (page_of key) (page_within old t lay key s loose (page_of key) own_page)) ∙ sym w.0)));
+    };
+    bit = marked.bit;
+    others = λ b i n. marked.others b (bit_of_inside old b (i.0, omega (arith, i.1, s.whole))) n;
+    sums = λ page m. elim (cases_eq (page_block old (page_of key)) page) [
+      | inl e ↦ ap (block_sum new) (sym e) ∙ marked.sum ∙ ap (block_sum old) e ∙ s.pages page m
+      | inr n ↦ same_sum (MapPlace old key) old new marked.rest page (λ k o w. n (sym w.0)) ∙ s.pages page m
+    ];
+  }
+
+-- the key's block was then filled, without effect on the bitmap
+pub filled_remarks : (old mid new : List ℕ) (t : Tree) (l : Layout) (key : ℕ) (o : Option Node) → ((p : ℕ) → p < length l.pages → slice_index l.pages p ≢ key) → ((b : ℕ) → IsInside t.blocks b → has_free_bit new b ≡ has_free_bit mid b) → IsInside t.blocks key
+    → Remarks old t l key o mid → OnlyBlock key mid new → Remarks old t l key o new
+filled_remarks old mid new t l key o no_page marks inside r filled = record {
+  change = record { same_length = filled.same_length ∙ r.change.same_length; same_byte = λ b i m n. filled.same_byte b i m (λ e. n (inr e)) ∙ r.change.same_byte b i m n };
+  bit = marks key inside ∙ r.bit;
+  others = λ b i n. marks b i ∙ r.others b i n;
+  sums = λ page m. other_block_sum key mid new filled page (λ e. no_page m.0 m.1 (get_or_default l.pages m.0 0 page m.1 ∙ m.2 ∙ e)) ∙ r.sums page m;
+}
 
 -- a node whose only block is that of its key
 pub record IsAlone (t : Tree) (l : Layout) (key : ℕ) (o : Option Node) : Type 0 where
@@ -77,20 +107,6 @@ module _ (old new : List ℕ) (t : Tree) (l : Layout) (key : ℕ) (o : Option No
       file_stays old new t.format file (l.file_data file) (l.extensions file) bytes (λ j o. long_as old new file (stays file n) j (omega (arith, o)))
       (λ q m. list_stays _ (Duty.Extension file q) (slice_get-index (l.extensions file) q m) (λ p z. cc z) (λ z. cc z)) (λ i m. list_stays _ (Duty.Data file i) (slice_get-index (l.file_data file) i m) (λ p z. cc z) (λ z. cc z))
       (omega (arith, s.fits.extensions file)) (s.fits.file_data file ∙ ap (data_count t.format) held) (s.files file a bytes e c)
-
-  root_stays : HasRoot new w l
-  root_stays =
-      let g = s.root_fields in
-      let still = long_as old new (root t) (stays (root t) root_beside) in
-      record {
-        table_size = still 3 (omega arith) ∙ g.table_size;
-        valid = still 78 (omega arith) ∙ g.valid;
-        pages = λ i m. still (79 + i) (omega (arith, m, s.fits.pages, loose.size.1)) ∙ g.pages i m;
-        disk_date = date_as old new (root t) (stays (root t) root_beside) 118 (omega arith) ∙ g.disk_date;
-        creation_date = date_as old new (root t) (stays (root t) root_beside) 121 (omega arith) ∙ g.creation_date;
-        parent = still 125 (omega arith) ∙ g.parent;
-        secondary = still 127 (omega arith) ∙ g.secondary;
-      }
 
   node_at : (k : ℕ) (a : Node) → w.nodes k ≡ Some a → ((k ≡ key) × (o ≡ Some a)) ⊎ ((k ≢ key) × (t.nodes k ≡ Some a))
   node_at k a e = elim (cases_eq k key) [
@@ -192,7 +208,7 @@ module _ (old new : List ℕ) (t : Tree) (l : Layout) (key : ℕ) (o : Option No
       fits = fits_after;
       whole = r.change.same_length ∙ s.whole;
       boot = bytes_as old new 0 (stays 0 boot_beside) 0 4 (omega arith) ∙ s.boot;
-      root_fields = root_stays;
+      root_fields = root_as old new t l w.nodes l.file_data l.extensions (omega (arith, s.fits.pages, loose.size.1)) (stays (root t) root_beside) s.root_fields;
       nodes = node_after;
       entries = entry_after;
       pages = r.sums;

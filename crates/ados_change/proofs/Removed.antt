@@ -1,11 +1,11 @@
 -- The steps that remove an entry without contents: the image represents the tree without it.
-use Rattle.std.proofs.Common.{◌≡◌, ◌≢◌, ℕ, ◌<◌, inl, inr, true, List, length, slice_index, sym, ap, ◌∙◌, subst, arith, not, Option, None, is_some, option_map, refl, []}
-use Rattle.ados_change.proofs.Common.{cases_eq, block_count, has_free_bit, root_key, IsInside, HasFreeBit, parent_key, SameBut, same_count, same_trans, MapPlace, BitChanged, LawfulPages, page_block, page_of, pages_of, Date3, LawfulChains, Unlinks, removed, Stands, bit_of_inside, InImage, KeepsPastEnd, KeepsUntold, Node, Tree, root, size_of, CanRemove, Dated, block_sum, same_sum, Proper, entries, size_in, with_node, stamped, Duty, Layout}
+use Rattle.std.proofs.Common.{◌≡◌, ◌≢◌, ℕ, ◌<◌, inl, inr, true, List, length, slice_index, sym, ap, ◌∙◌, subst, arith, Option, None, option_map, refl, []}
+use Rattle.ados_change.proofs.Common.{cases_eq, block_count, has_free_bit, root_key, IsInside, HasFreeBit, parent_key, SameBut, same_count, same_trans, MapPlace, BitChanged, LawfulPages, page_block, page_of, Date3, LawfulChains, Unlinks, removed, Stands, bit_of_inside, InImage, KeepsPastEnd, KeepsUntold, Node, Tree, root, size_of, CanRemove, Dated, Proper, entries, size_in, with_node, stamped, Duty}
 use Rattle.ados_change.proofs.Leaving.{in_tree, key_inside, out, out_is_loose, out_entry, count_out, out_spells, out_written}
 use Rattle.ados_change.proofs.Frame.{at_root}
 use Rattle.ados_change.proofs.FilesStay.{past_end_trans}
 use Rattle.ados_change.specs.steps.Emptied.{GivesBack}
-use Rattle.ados_change.proofs.Lawful.{page_is, page_within, count, lawful_pages}
+use Rattle.ados_change.proofs.Lawful.{page_is, page_within, lawful_pages}
 use Rattle.ados_change.specs.steps.Footprint.{IsChanged, IsPage, IsWritten}
 use Rattle.ados_change.proofs.EntriesKept.{page_changed, written_changed}
 use Rattle.ados_change.proofs.KeptSteps.{marked_kept, stamped_kept}
@@ -13,26 +13,7 @@ use Rattle.ados_change.proofs.Listing.{stamped_spells}
 use Rattle.ados_change.proofs.Loose.{Loose, left_is, not_own_parent, node_kept, entries_other, without_is_proper, proper_is_loose, stamped_is_proper}
 use Rattle.ados_change.proofs.EntriesUntold.{HasPages, IsOffMap, bit_past_end, freed_stays, marks_stay, off_marks, off_past_end, old_pages, pages_after, past_end, untold_kept, written_off}
 use Rattle.ados_change.proofs.Spells.{Spells, stands}
-use Rattle.ados_change.proofs.Remarked.{IsAlone, Remarks, remarked}
-
--- one bit was changed: the key's block may have another node
-module _ (old new : List ℕ) (t : Tree) (lay : Layout) (key : ℕ) (s : Spells old t lay) (loose : Loose t key) (inside : IsInside t.blocks key) (o : Option Node) (marked : BitChanged old key (not (is_some o)) new) where
-  own_page : page_of key < pages_of old
-  own_page = omega (arith, inside.0, inside.1, count old t lay key s loose)
-
-  marked_remarks : Remarks old t lay key o new
-  marked_remarks = record {
-    change = record {
-      same_length = marked.rest.same_length;
-      same_byte = λ b i m n. marked.rest.same_byte b i m (λ w. n (inl (page_of key, page_within old t lay key s loose (page_of key) own_page, sym (page_is old t lay key s loose (page_of key) (page_within old t lay key s loose (page_of key) own_page)) ∙ sym w.0)));
-    };
-    bit = marked.bit;
-    others = λ b i n. marked.others b (bit_of_inside old b (i.0, omega (arith, i.1, s.whole))) n;
-    sums = λ page m. elim (cases_eq (page_block old (page_of key)) page) [
-      | inl e ↦ ap (block_sum new) (sym e) ∙ marked.sum ∙ ap (block_sum old) e ∙ s.pages page m
-      | inr n ↦ same_sum (MapPlace old key) old new marked.rest page (λ k o w. n (sym w.0)) ∙ s.pages page m
-    ];
-  }
+use Rattle.ados_change.proofs.Remarked.{IsAlone, marked_remarks, remarked}
 
 module _ (old : List ℕ) (t : Tree) (st : Stands old t) (moment : Date3) (key : ℕ) (can : CanRemove t key) (no_bytes : size_of t key ≡ 0) (from : ℕ) (from_is : from ≡ parent_key old key)
     (m1 : List ℕ) (unlinks : (chains : ℕ → List ℕ) → LawfulChains old from chains → Unlinks from key chains old m1) (m2 : List ℕ) (touched : Dated from 105 moment m1 m2) where

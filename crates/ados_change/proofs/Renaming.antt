@@ -1,5 +1,5 @@
 -- An entry in no list gets another name and directory: the image represents the tree with them.
-use Rattle.std.proofs.Common.{◌≡◌, ◌≢◌, ℕ, ◌+◌, ◌/◌, ◌<◌, ◌≤◌, ◌⊎◌, inl, inr, List, length, Option, Some, None, is_some, IsSome, option_map, refl, sym, ap, ◌∙◌, subst, arith}
+use Rattle.std.proofs.Common.{◌≡◌, ◌≢◌, ℕ, ◌+◌, ◌/◌, ◌<◌, ◌≤◌, ◌⊎◌, inl, inr, List, length, Option, Some, is_some, IsSome, option_map, refl, sym, ap, ◌∙◌, subst, arith}
 use Rattle.ados_change.proofs.Common.{block_sum, long, Chained, HasText, table_entry, parent_key, COMMENT_BYTE, NAME_BYTE, NEXT_IN_CHAIN, same_weaken, IsName, Node, Tree, root, entries, size_in, Directory, changed, Layout, HasNode, HasEntry, in_slot, SameBut, AtTitle, Titled, Chained-kept}
 use Rattle.ados_change.proofs.Frame.{AtLongs, sum-kept, long-kept}
 use Rattle.ados_change.proofs.Changed.{changed_keeps, each_keeps, was}

@@ -1,6 +1,6 @@
 -- A file that gets its time stamp and is then rewritten: consequences for the tree and the image.
 use Rattle.std.proofs.Common.{◌≡◌, ◌≢◌, ℕ, ◌+◌, ◌/◌, ◌<◌, ◌≤◌, inl, inr, true, false, List, length, Option, Some, None, option_map, refl, sym, ap, ap₂, ◌∙◌, subst, arith, eq-eqb, []}
-use Rattle.ados_change.proofs.Common.{ne_eqb, cases_eq, lt-ltb, ltb-true, false≢true, IsImage, free_bit_count, IsInside, block_count, byte_at, long, has_free_bit, secondary_type, format_of, SameBut, FILE_TYPE, same_count, long-same, Date3, NoneFreeBelow, block_cost, Content, Node, Tree, root, free, content_at, size_of, bytes_of, data_blocks, extension_blocks, contents, HasFree, WritableFile, IsDataField, RisesBehind, IsBeside, KeepsUnnamed, pages_of, page_count, File, Duty, Stands, HasFileKey, HasTree, rewritten, without_archive, KeepsRest, root_is, IsFileNode, one_tree, AtStamps, IsFileStamp, touched, IsStamped, NeedsMore}
+use Rattle.ados_change.proofs.Common.{ne_eqb, stamped, cases_eq, lt-ltb, ltb-true, false≢true, IsImage, free_bit_count, IsInside, block_count, byte_at, long, has_free_bit, secondary_type, format_of, SameBut, FILE_TYPE, same_count, long-same, Date3, NoneFreeBelow, block_cost, Content, Node, Tree, root, free, content_at, size_of, bytes_of, data_blocks, extension_blocks, contents, HasFree, WritableFile, IsDataField, RisesBehind, IsBeside, KeepsUnnamed, pages_of, page_count, File, Duty, Stands, HasFileKey, HasTree, rewritten, without_archive, KeepsRest, root_is, IsFileNode, one_tree, AtStamps, IsFileStamp, touched, IsStamped, NeedsMore}
 use Rattle.ados_data.proofs.Bounds.{below_stays}
 use Rattle.ados_model.specs.Tree.{bytes_in as bytes_held}
 use Rattle.ados_data.specs.declared.place.Place.{Place}
@@ -8,7 +8,7 @@ use Rattle.ados_data.specs.Place.{IsAmong, IsPlace}
 use Rattle.ados_change.proofs.FilesStay.{file_of_key, has_bytes, untold_trans}
 use Rattle.ados_model.proofs.Counting.{free_bits_count}
 use Rattle.ados_change.proofs.Writable.{inside, key_serves, writable, data_is, extensions_is, bytes_is, format_is}
-use Rattle.ados_change.proofs.Changed.{each_keeps}
+use Rattle.ados_change.proofs.Changed.{each_keeps, same_nodes}
 use Rattle.ados_change.proofs.Contents.{refilled, holding, file_not_root}
 use Rattle.ados_change.proofs.Relaid.{IsRewritten}
 use Rattle.ados_change.proofs.Refilled.{stands_after}
@@ -77,14 +77,7 @@ same_node moment bytes file k t = elim (cases_eq k file) [
     go (Some a) = refl
 
 pub is_rewritten : (moment : Date3) (bytes : List ℕ) (file : ℕ) (t : Tree) → refilled file bytes (touched moment file t) ≡ rewritten moment file bytes t
-is_rewritten moment bytes file t = λ i. record {
-  blocks = t.blocks;
-  format = t.format;
-  disk_date = moment;
-  creation_date = t.creation_date;
-  nodes = λ k. same_node moment bytes file k t i;
-  lost = t.lost;
-}
+is_rewritten moment bytes file t = same_nodes (stamped moment t) (refilled file bytes (touched moment file t)).nodes (rewritten moment file bytes t).nodes (λ k. same_node moment bytes file k t)
 
 -- ---- after the time stamp
 

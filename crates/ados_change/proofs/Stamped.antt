@@ -33,17 +33,8 @@ module _ (old new : List ℕ) (t : Tree) (s : Stands old t) (file : ℕ) (node :
 
   -- time stamps are in the footprint of a change
   stamps_written : (last : List ℕ) (b i : ℕ) → AtStamps (root t) file b i → IsWritten old t s last b i
-  stamps_written last b i (inl (e, w)) = of_node node (ap t.nodes e ∙ found) (of_file w)
-    where
-      of_file : IsFileStamp (i / 4) → Field (root t) b node (i / 4)
-      of_file (inl f) = Field.sum f
-      of_file (inr (inl f)) = Field.bits (λ r. not_root (sym e ∙ r)) f
-      of_file (inr (inr f)) = Field.date f.0 (omega (arith, f.1))
-  stamps_written last b i (inr (e, w)) = of_node s.proper.root_node.0 (ap t.nodes e ∙ s.proper.root_node.1) (of_root w)
-    where
-      of_root : IsDiskStamp (i / 4) → Field (root t) b s.proper.root_node.0 (i / 4)
-      of_root (inl f) = Field.sum f
-      of_root (inr f) = Field.disk e f.0 (omega (arith, f.1))
+  stamps_written last b i (inl (e, w)) = of_node node (ap t.nodes e ∙ found) (elim w [ inl f ↦ Field.sum f | inr (inl f) ↦ Field.bits (λ r. not_root (sym e ∙ r)) f | inr (inr f) ↦ Field.date f.0 (omega (arith, f.1)) ])
+  stamps_written last b i (inr (e, w)) = of_node s.proper.root_node.0 (ap t.nodes e ∙ s.proper.root_node.1) (elim w [ inl f ↦ Field.sum f | inr f ↦ Field.disk e f.0 (omega (arith, f.1)) ])
 
   unchanged : (b i k : ℕ) → IsPlain i → k / 4 ≡ i → ¬ AtStamps (root t) file b k
   unchanged b i k p e (inl w) = plain i p (inl (subst IsFileStamp e w.1))

@@ -1,6 +1,7 @@
 -- The time stamp of a change, in three steps.
 use Rattle.std.proofs.Common.{◌≡◌, ℕ, inl, inr, List, [], Option, Some, None, IsSome, option_map, refl, sym, ap, ◌∙◌, subst, arith, eq-eqb}
 use Rattle.ados_change.proofs.Common.{ne_eqb, cases_eq, root_key, long, SameBut, same_trans, same_weaken, same_count, Date3, Node, Tree, root, HasFileKey, HasEntryKey, HasKey, HasTree, Stands, root_of, stamped, without_archive, root_or_parent, root_is, IsFileNode, one_tree, Summed, dated, protected, AtStamps, touched, IsStamped}
+use Rattle.ados_change.proofs.Changed.{same_nodes}
 use Rattle.ados_change.proofs.Contents.{file_not_root}
 use Rattle.ados_change.proofs.FilesStay.{file_of_key}
 
@@ -31,21 +32,10 @@ module _ (moment : Date3) (bits file : ℕ) (t : Tree) (node : Node) (at : t.nod
   ]
 
   pub is_touched : stamped moment (dated file moment (protected file bits t)) ≡ touched moment file t
-  is_touched = λ i. record {
-    blocks = t.blocks;
-    format = t.format;
-    disk_date = moment;
-    creation_date = t.creation_date;
-    nodes = λ k. same_node k i;
-    lost = t.lost;
-  }
+  is_touched = same_nodes (stamped moment t) (stamped moment (dated file moment (protected file bits t))).nodes (touched moment file t).nodes same_node
 
 module _ (moment : Date3) (bits file : ℕ) (old first : List ℕ) (tree : HasTree old) (key : HasFileKey old file)
-    (cleared : bits ≡ without_archive (long old file 80))
     (first_stands : (t : Tree) → Stands old t → Stands first (protected file bits t)) (first_rest : SameBut (Summed file 320 324) old first) where
-  pub first_tree : HasTree first
-  first_tree = (protected file bits tree.0, first_stands tree.0 tree.1)
-
   -- the node after the first step
   first_node : (o : Option Node) (a : Node) → o ≡ Some a → IsSome (option_map (with_bits bits) o)
   first_node None a e = absurd (cc e)
@@ -58,47 +48,34 @@ module _ (moment : Date3) (bits file : ℕ) (old first : List ℕ) (tree : HasTr
       let some : IsSome ((protected file bits tree.0).nodes file) = rw (eq-eqb file file refl) (first_node (tree.0.nodes file) f.node f.at) in
       subst (λ (u : Tree). IsSome (u.nodes file)) same some
 
-  module _ (second : List ℕ) (second_stands : (t : Tree) → Stands first t → Stands second (dated file moment t)) (second_rest : SameBut (Summed file 420 432) first second) where
-    pub second_tree : HasTree second
-    second_tree = (dated file moment (protected file bits tree.0), second_stands (protected file bits tree.0) (first_stands tree.0 tree.1))
+  module _ (second : List ℕ) (second_stands : (t : Tree) → Stands first t → Stands second (dated file moment t)) (second_rest : SameBut (Summed file 420 432) first second)
+      (new : List ℕ) (third_stands : (t : Tree) → Stands second t → Stands new (stamped moment t)) (third_rest : SameBut (Summed (root_of second) 472 484) second new) (cleared : bits ≡ without_archive (long old file 80)) where
+    abbrev r : ℕ
+    r = root tree.0
 
-    module _ (new : List ℕ) (third_stands : (t : Tree) → Stands second t → Stands new (stamped moment t)) (third_rest : SameBut (Summed (root_of second) 472 484) second new) where
-      abbrev r : ℕ
-      r = root tree.0
+    first_same : SameBut (AtStamps r file) old first
+    first_same = same_weaken (Summed file 320 324) (AtStamps r file) old first (λ c k w. inl (elim w [ inl x ↦ (x.0, inr (inl (omega (arith, x.1, x.2)))) | inr x ↦ (x.0, inl x.1) ])) first_rest
 
-      first_same : SameBut (AtStamps r file) old first
-      first_same = same_weaken (Summed file 320 324) (AtStamps r file) old first go first_rest
-        where
-          go : (c k : ℕ) → Summed file 320 324 c k → AtStamps r file c k
-          go c k (inl w) = inl (w.0, inr (inl (omega (arith, w.1, w.2))))
-          go c k (inr w) = inl (w.0, inl w.1)
+    second_same : SameBut (AtStamps r file) first second
+    second_same = same_weaken (Summed file 420 432) (AtStamps r file) first second (λ c k w. inl (elim w [ inl x ↦ (x.0, inr (inr (omega (arith, x.1), omega (arith, x.2)))) | inr x ↦ (x.0, inl x.1) ])) second_rest
 
-      second_same : SameBut (AtStamps r file) first second
-      second_same = same_weaken (Summed file 420 432) (AtStamps r file) first second go second_rest
-        where
-          go : (c k : ℕ) → Summed file 420 432 c k → AtStamps r file c k
-          go c k (inl w) = inl (w.0, inr (inr (omega (arith, w.1), omega (arith, w.2))))
-          go c k (inr w) = inl (w.0, inl w.1)
+    root_second : root_of second ≡ r
+    root_second = ap root_key (same_count (Summed file 420 432) first second second_rest ∙ same_count (Summed file 320 324) old first first_rest) ∙ root_is old tree.0 tree.1
 
-      root_second : root_of second ≡ r
-      root_second = ap root_key (same_count (Summed file 420 432) first second second_rest ∙ same_count (Summed file 320 324) old first first_rest) ∙ root_is old tree.0 tree.1
+    third_same : SameBut (AtStamps r file) second new
+    third_same =
+        same_weaken (Summed (root_of second) 472 484) (AtStamps r file) second new
+        (λ c k w. inr (elim w [ inl x ↦ (x.0 ∙ root_second, inr (omega (arith, x.1), omega (arith, x.2))) | inr x ↦ (x.0 ∙ root_second, inl x.1) ])) third_rest
 
-      third_same : SameBut (AtStamps r file) second new
-      third_same = same_weaken (Summed (root_of second) 472 484) (AtStamps r file) second new go third_rest
-        where
-          go : (c k : ℕ) → Summed (root_of second) 472 484 c k → AtStamps r file c k
-          go c k (inl w) = inr (w.0 ∙ root_second, inr (omega (arith, w.1), omega (arith, w.2)))
-          go c k (inr w) = inr (w.0 ∙ root_second, inl w.1)
+    all_same : SameBut (AtStamps r file) old new
+    all_same = same_trans (AtStamps r file) old first new first_same (same_trans (AtStamps r file) first second new second_same third_same)
 
-      all_same : SameBut (AtStamps r file) old new
-      all_same = same_trans (AtStamps r file) old first new first_same (same_trans (AtStamps r file) first second new second_same third_same)
-
-      pub is_stamped : IsStamped moment old file new
-      is_stamped = record {
-        stands = λ t s.
-            let f = file_of_key old t s file key in
-            let is : bits ≡ without_archive f.node.protection = cleared ∙ ap without_archive (bits_field old t s file f) in
-            subst (Stands new) (is_touched moment bits file t f.node f.at is)
-            (third_stands (dated file moment (protected file bits t)) (second_stands (protected file bits t) (first_stands t s)));
-        rest = subst (λ (n : ℕ). SameBut (AtStamps n file) old new) (sym (root_is old tree.0 tree.1)) all_same;
-      }
+    pub is_stamped : IsStamped moment old file new
+    is_stamped = record {
+      stands = λ t s.
+          let f = file_of_key old t s file key in
+          let is : bits ≡ without_archive f.node.protection = cleared ∙ ap without_archive (bits_field old t s file f) in
+          subst (Stands new) (is_touched moment bits file t f.node f.at is)
+          (third_stands (dated file moment (protected file bits t)) (second_stands (protected file bits t) (first_stands t s)));
+      rest = subst (λ (n : ℕ). SameBut (AtStamps n file) old new) (sym (root_is old tree.0 tree.1)) all_same;
+    }

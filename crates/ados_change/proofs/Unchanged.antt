@@ -1,6 +1,6 @@
 -- What is unchanged in a block some of whose bytes are.
-use Rattle.std.proofs.Common.{◌≡◌, ◌≢◌, ℕ, ◌+◌, ◌/◌, ◌<◌, ◌≤◌, ◌⊎◌, inl, inr, List, length, refl, ap, ◌∙◌, subst, sym, arith}
-use Rattle.ados_change.proofs.Common.{cases_eq, byte_at, bytes_at, long, block_sum, HasText, long-same, same_bytes_at, same_sum, COMMENT_BYTE, NAME_BYTE, IsName, IsComment, HasNode, HasEntry, date_at, Node}
+use Rattle.std.proofs.Common.{◌≡◌, ◌≢◌, ℕ, ◌+◌, ◌/◌, ◌<◌, ◌≤◌, ◌⊎◌, inl, inr, List, length, Option, refl, ap, ◌∙◌, subst, sym, arith}
+use Rattle.ados_change.proofs.Common.{cases_eq, byte_at, bytes_at, long, block_sum, HasText, long-same, same_bytes_at, same_sum, COMMENT_BYTE, NAME_BYTE, IsName, IsComment, HasNode, HasEntry, date_at, HasRoot, Layout, Node, Tree, root}
 
 -- the bytes of a block are unchanged, except in some longs
 pub record StaysBut (changed : ℕ → Type 0) (old new : List ℕ) (block : ℕ) : Type 0 where
@@ -82,3 +82,16 @@ module _ (old new : List ℕ) (block : ℕ) (h : Stays old new block) where
     parent = long_as 125 (omega arith) ∙ n.parent;
     secondary = long_as 127 (omega arith) ∙ n.secondary;
   }
+
+-- an unchanged root is the root of a tree with other nodes, in a layout with the same bitmap blocks
+pub root_as : (old new : List ℕ) (t : Tree) (l : Layout) (nodes : ℕ → Option Node) (blocks lists : ℕ → List ℕ) → length l.pages ≤ 25 → Stays old new (root t) → HasRoot old t l
+    → HasRoot new (record t { nodes = nodes }) (record { pages = l.pages; file_data = blocks; extensions = lists })
+root_as old new t l nodes blocks lists few stays r = record {
+  table_size = long_as old new (root t) stays 3 (omega arith) ∙ r.table_size;
+  valid = long_as old new (root t) stays 78 (omega arith) ∙ r.valid;
+  pages = λ i m. long_as old new (root t) stays (79 + i) (omega (arith, m, few)) ∙ r.pages i m;
+  disk_date = date_as old new (root t) stays 118 (omega arith) ∙ r.disk_date;
+  creation_date = date_as old new (root t) stays 121 (omega arith) ∙ r.creation_date;
+  parent = long_as old new (root t) stays 125 (omega arith) ∙ r.parent;
+  secondary = long_as old new (root t) stays 127 (omega arith) ∙ r.secondary;
+}

@@ -1,12 +1,11 @@
 -- A block that is marked free gets other bytes: the image represents the same tree.
-use Rattle.std.proofs.Common.{◌≡◌, ◌≢◌, ℕ, inl, inr, List, Option, Some, None, option_map, refl, sym, ap, ◌∙◌, subst, arith}
-use Rattle.ados_change.proofs.Common.{cases_eq, get_or_default, InBlock, OnlyBlock, SameBut, IsInside, block_count, has_free_bit, HasFreeBit, other_block_sum, same_count, same_weaken, page_block, bit_of_inside, with_node, InImage, size_in, Duty, HasDuty, Stands, Node, Tree, entries_in, count_same, slice_get-index, KeepsPastEnd, KeepsUntold}
+use Rattle.std.proofs.Common.{◌≡◌, ◌≢◌, ℕ, ◌<◌, inl, inr, List, length, slice_index, Option, Some, None, option_map, refl, sym, ap, ◌∙◌, subst, arith}
+use Rattle.ados_change.proofs.Common.{cases_eq, InBlock, OnlyBlock, SameBut, IsInside, block_count, has_free_bit, HasFreeBit, same_count, same_weaken, page_block, bit_of_inside, with_node, InImage, size_in, Duty, HasDuty, Stands, Node, Tree, entries_in, count_same, slice_get-index, KeepsPastEnd, KeepsUntold}
 use Rattle.ados_map.proofs.MarkLemmas.{mark_kept}
-use Rattle.ados_change.proofs.Frame.{AtLongs}
 use Rattle.ados_change.proofs.Changed.{nodes_here, nodes_other}
 use Rattle.ados_change.proofs.EntriesUntold.{IsOffMap, off_past_end, old_pages, untold_beside}
 use Rattle.ados_change.proofs.Loose.{unused_is_loose}
-use Rattle.ados_change.proofs.Remarked.{InPageOr, IsAlone, Remarks, remarked}
+use Rattle.ados_change.proofs.Remarked.{IsAlone, Remarks, filled_remarks, remarked}
 use Rattle.ados_change.proofs.Spells.{Spells, spells, stands}
 use Rattle.ados_change.proofs.Writable.{key_serves}
 
@@ -55,14 +54,9 @@ module _ (old new : List ℕ) (t : Tree) (st : Stands old t) (key : ℕ) (inside
   }
 
   remarks : Remarks old t st.layout key None new
-  remarks = record {
-    change = same_weaken (InBlock key) (AtLongs (InPageOr st.layout key)) old new (λ b i e. inr e) only;
-    bit = marks_stay key inside ∙ free;
-    others = λ b i n. marks_stay b (i.0, omega (arith, i.1, count_same old t st));
-    sums = λ page m.
-        let serves = slice_get-index st.layout.pages m.0 m.1 ∙ ap Some (get_or_default st.layout.pages m.0 0 page m.1 ∙ m.2) in
-        other_block_sum key old new only page (apart page (Duty.Page m.0) serves) ∙ st.pages page m;
-  }
+  remarks =
+      filled_remarks old old new t st.layout key None (λ p m e. apart (slice_index st.layout.pages p) (Duty.Page p) (slice_get-index st.layout.pages p m) e) (λ b i. marks_stay b (i.0, omega (arith, i.1, count_same old t st))) in_tree
+      (record { change = record { same_length = refl; same_byte = λ b i m n. refl }; bit = free; others = λ b i n. refl; sums = st.pages }) only
 
   same_node : (k : ℕ) → (with_node key None t).nodes k ≡ t.nodes k
   same_node k = elim (cases_eq k key) [

@@ -1,6 +1,9 @@
 -- An image that represents a tree has lawful bitmap blocks, and each of its files can be changed.
-use Rattle.std.proofs.Common.{◌≡◌, ◌≢◌, ℕ, zero, suc, ◌+◌, ◌<◌, ◌≤◌, ◌==◌, true, false, List, ◌∷◌, length, slice_index, Some, refl, sym, ap, ◌∙◌, subst, arith, eq-eqb, ne_eqb}
-use Rattle.ados_change.proofs.Common.{false_from_ne_true, Format, Ofs, Ffs, IsInside, block_count, byte_at, root_key, long, has_free_bit, format_of, byte-bytes_at, LawfulPages, page_block, pages_of, data_count, Content, Node, Tree, size_of, HasFile, Duty, HasDuty, Stands, format_byte, IsLawful, AreApart, data_blocks, extension_blocks, contents, IsInUse, LawfulMap, IsWritable, WritableFile, data_blocks_are, extension_blocks_are, contents_are, Directory, File, count_same, root_is, slice_get-index}
+use Rattle.std.proofs.Common.{◌≡◌, ◌≢◌, ℕ, zero, suc, ◌<◌, ◌≤◌, ◌==◌, true, false, List, ◌∷◌, length, slice_index, Some, refl, sym, ap, ◌∙◌, subst, arith, eq-eqb, ne_eqb}
+use Rattle.ados_change.proofs.Common.{false_from_ne_true, Format, Ofs, Ffs, IsInside, block_count, byte_at, root_key, has_free_bit, format_of, byte-bytes_at, LawfulPages, page_block, pages_of, data_count, Content, Node, Tree, size_of, HasFile, Duty, HasDuty, Stands, format_byte, IsLawful, AreApart, data_blocks, extension_blocks, contents, IsInUse, LawfulMap, IsWritable, WritableFile, data_blocks_are, extension_blocks_are, contents_are, Directory, File, count_same, root_is, slice_get-index}
+use Rattle.ados_change.proofs.Lawful.{lawful_pages as lawful_by, page_serves as page_named}
+use Rattle.ados_change.proofs.Loose.{proper_is_loose}
+use Rattle.ados_change.proofs.Spells.{spells}
 
 module _ (image : List ℕ) (t : Tree) (s : Stands image t) where
   pub inside : (block : ℕ) (duty : Duty) → HasDuty t s.layout block duty → IsInside (block_count image) block
@@ -18,14 +21,8 @@ module _ (image : List ℕ) (t : Tree) (s : Stands image t) where
 
   -- ---- bitmap blocks
 
-  page_is : (p : ℕ) → p < length s.layout.pages → page_block image p ≡ slice_index s.layout.pages p
-  page_is p l = ap (λ (b : ℕ). long image b (79 + p)) (root_is image t s) ∙ s.root_fields.pages p l
-
-  page_within : (p : ℕ) → p < pages_of image → p < length s.layout.pages
-  page_within p l = omega (arith, l, s.fits.pages, count_same image t s)
-
   pub page_serves : (p : ℕ) → p < pages_of image → HasDuty t s.layout (page_block image p) (Duty.Page p)
-  page_serves p l = slice_get-index s.layout.pages p (page_within p l) ∙ ap Some (sym (page_is p (page_within p l)))
+  page_serves = page_named image t s.layout 0 (spells image t s) (proper_is_loose t s.proper)
 
   -- a block with another use is no bitmap block
   pub beside_pages : (block : ℕ) (duty : Duty) → HasDuty t s.layout block duty → ((p : ℕ) → duty ≢ Duty.Page p) → (p : ℕ) → p < pages_of image → block ≢ page_block image p
@@ -33,14 +30,7 @@ module _ (image : List ℕ) (t : Tree) (s : Stands image t) where
       other p (s.fits.one_duty block duty (Duty.Page p) h (page_serves p l ∙ ap Some (sym e)))
 
   pub lawful_pages : LawfulPages image
-  lawful_pages = record {
-    inside = λ p l. inside (page_block image p) (Duty.Page p) (page_serves p l);
-    apart = λ p q l m e.
-        let also : HasDuty t s.layout (page_block image p) (Duty.Page q) = page_serves q m ∙ ap Some (sym e) in
-        let same = s.fits.one_duty (page_block image p) (Duty.Page p) (Duty.Page q) (page_serves p l) also in
-        cc same;
-    beside_root = λ p l e. beside_pages _ Duty.Key root_serves (λ q z. cc z) p l (sym e);
-  }
+  lawful_pages = lawful_by image t s.layout 0 (spells image t s) (proper_is_loose t s.proper)
 
   pub lawful_map : LawfulMap image
   lawful_map = record {
