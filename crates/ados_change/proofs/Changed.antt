@@ -62,7 +62,7 @@ module _ (moment : Date3) (dir : ℕ) (keys : List ℕ) (t : Tree) where
   pub listed_parents : (k : ℕ) → parent_of (listed moment dir keys t) k ≡ parent_of t k
   listed_parents = changed_keeps parent_field (relisted moment keys) dir t (each_keeps parent_field (relisted moment keys) (λ a. refl))
 
-  pub listed_some : (k : ℕ) → is_some ((listed moment dir keys t).nodes k) ≡ is_some (t.nodes k)
+  listed_some : (k : ℕ) → is_some ((listed moment dir keys t).nodes k) ≡ is_some (t.nodes k)
   listed_some = changed_keeps is_some (relisted moment keys) dir t (each_keeps is_some (relisted moment keys) (λ a. refl))
 
   pub listed_here : (a : Node) → t.nodes dir ≡ Some a → entries (listed moment dir keys t) dir ≡ keys

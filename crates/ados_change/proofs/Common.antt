@@ -1,6 +1,6 @@
 -- The names that most of these proofs cite, passed on from one place. Declares nothing.
 pub use Rattle.adf_block.proofs.Blocks.{boot_same, byte-bytes_at}
-pub use Rattle.adf_block.proofs.Frames.{other_block_long, other_block_sum, other_long, same_bytes_at, same_count, same_long, same_sum, same_trans, same_weaken}
+pub use Rattle.adf_block.proofs.Frames.{other_block_sum, other_long, same_bytes_at, same_count, same_long, same_sum, same_trans, same_weaken}
 pub use Rattle.adf_block.proofs.Longs.{byte_at-below, long-below, long-bytes, long-same}
 pub use Rattle.adf_block.specs.Fields.{file_size, format_of, held_count, parent_key, pointer_count, protection, secondary_type, table_entry}
 pub use Rattle.adf_block.specs.Frame.{AtLong, AtTwoLongs, InBlock, OnlyBlock, OnlyLong, SameBut, Within}
@@ -11,7 +11,7 @@ pub use Rattle.adf_block.specs.declared.layout.Format.{Format}
 pub use Rattle.adf_block.specs.declared.layout.Format.TheVariants.{Ffs, Ofs}
 pub use Rattle.adf_block.specs.declared.layout.TheConstants.{CHECKSUM, COMMENT_BYTE, FILE_TYPE, NAME_BYTE, NEXT_IN_CHAIN}
 pub use Rattle.ados_chain.proofs.Changes.{slot_at-small}
-pub use Rattle.ados_chain.proofs.Spelling.{Chained-behind, Chained-kept}
+pub use Rattle.ados_chain.proofs.Spelling.{Chained-kept}
 pub use Rattle.ados_chain.specs.Chains.{InChains, IsEntryBlock, LawfulChains, name_at, slot_at, with_last, without}
 pub use Rattle.ados_chain.specs.Relinks.{AtLinks, CanInsert, CanUnlink, InsertsLast, Relinks, Unlinks, link_block, link_long}
 pub use Rattle.ados_change.specs.Conditions.{CanMake, CanRemove, CanRename, IsDirectoryKey, IsEmpty, IsUnder}

@@ -57,7 +57,7 @@ module _ (old : List ℕ) (t : Tree) (st : Stands old t) (moment : Date3) (key d
     unlinkable = subst (λ (f : ℕ). CanUnlink old f key) (sym is_from) (can_unlink old t st.layout 0 s whole_loose dir directory.0 directory.1 directory.2 directory.3 key in_dir)
 
     module _ (m1 : List ℕ) (unlinks : (chains : ℕ → List ℕ) → LawfulChains old from chains → Unlinks from key chains old m1) where
-      pub unlinked : Unlinks dir key (in_slot t dir) old m1
+      unlinked : Unlinks dir key (in_slot t dir) old m1
       unlinked = subst (λ (f : ℕ). (chains : ℕ → List ℕ) → LawfulChains old f chains → Unlinks f key chains old m1) is_from unlinks (in_slot t dir) chains
 
       pub from_inside : from < block_count m1
@@ -70,7 +70,7 @@ module _ (old : List ℕ) (t : Tree) (st : Stands old t) (moment : Date3) (key d
           (λ k m. subst (λ (xs : List ℕ). Contains xs k) (sym unlinked.split) (Contains-append_left unlinked.front (key ∷ unlinked.back) k m))
 
       module _ (m2 : List ℕ) (touched : Dated from 105 moment m1 m2) where
-        pub dated_from : Dated dir 105 moment m1 m2
+        dated_from : Dated dir 105 moment m1 m2
         dated_from = subst (λ (f : ℕ). Dated f 105 moment m1 m2) is_from touched
 
         pub count_out : block_count m2 ≡ t.blocks

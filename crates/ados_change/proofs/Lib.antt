@@ -15,7 +15,6 @@ pub mod OtherFiles
 pub mod Refilled
 pub mod Calls
 pub mod BytesKept
-pub mod NewBlocks
 pub mod SameBlock
 pub mod BytesUntold
 pub mod Stamped

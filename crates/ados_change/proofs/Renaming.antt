@@ -1,6 +1,6 @@
 -- An entry in no list gets another name and directory: the image represents the tree with them.
 use Rattle.std.proofs.Common.{◌≡◌, ◌≢◌, ℕ, ◌+◌, ◌/◌, ◌<◌, ◌≤◌, ◌⊎◌, inl, inr, List, length, Option, Some, is_some, IsSome, option_map, refl, sym, ap, ◌∙◌, subst, arith}
-use Rattle.ados_change.proofs.Common.{block_sum, long, Chained, HasText, table_entry, parent_key, COMMENT_BYTE, NAME_BYTE, NEXT_IN_CHAIN, same_weaken, IsName, Node, Tree, root, entries, size_in, Directory, changed, Layout, HasNode, HasEntry, in_slot, SameBut, AtTitle, Titled, Chained-kept}
+use Rattle.ados_change.proofs.Common.{block_sum, long, Chained, HasText, table_entry, parent_key, COMMENT_BYTE, NAME_BYTE, NEXT_IN_CHAIN, same_weaken, IsName, Node, Tree, root, size_in, Directory, changed, Layout, HasNode, HasEntry, in_slot, SameBut, AtTitle, Titled, Chained-kept}
 use Rattle.ados_change.proofs.Frame.{AtLongs, sum-kept, long-kept}
 use Rattle.ados_change.proofs.Changed.{changed_keeps, each_keeps, was}
 use Rattle.ados_change.proofs.Loose.{Loose}
@@ -10,7 +10,7 @@ use Rattle.ados_change.proofs.Reframed.{TellsOnly, first_kept, last_kept, text_s
 use Rattle.ados_change.proofs.Reframed.Telling.{sum, heading, linking}
 
 -- the longs of an entry's name, directory and checksum
-abbrev pub AtTitleLongs : ℕ → ℕ → ℕ → Type 0
+abbrev AtTitleLongs : ℕ → ℕ → ℕ → Type 0
 AtTitleLongs key b j = (b ≡ key) × ((j ≡ 5) ⊎ (((108 ≤ j) × (j < 116)) ⊎ (j ≡ 125)))
 
 module _ (old new : List ℕ) (t : Tree) (lay : Layout) (key dir : ℕ) (name : List ℕ) (s : Spells old t lay) (loose : Loose t key) (entry : Node) (from : ℕ) (at : t.nodes key ≡ Some entry) (below : entry.parent ≡ Some from) (valid : IsName name) (r : Titled key dir name old new) where
@@ -39,13 +39,7 @@ module _ (old new : List ℕ) (t : Tree) (lay : Layout) (key dir : ℕ) (name : 
   root_some = ap is_some loose.root_node.1
 
   free : (b j : ℕ) → j ≢ 5 → (j < 108) ⊎ (((116 ≤ j) × (j < 125)) ⊎ (125 < j)) → ¬ W b j
-  free b j n o w = elim (w.1) [
-    | inl e ↦ n e
-    | inr x ↦ elim x [
-      | inl y ↦ elim o [ inl z ↦ omega (arith, y.0, z) | inr (inl z) ↦ omega (arith, y.1, z.0) | inr (inr z) ↦ omega (arith, y.1, z) ]
-      | inr e ↦ elim o [ inl z ↦ omega (arith, e, z) | inr (inl z) ↦ omega (arith, e, z.1) | inr (inr z) ↦ omega (arith, e, z) ]
-    ]
-  ]
+  free b j n o w = omega (arith, n, o, w.1)
 
   apart : (b j : ℕ) → b ≢ key → ¬ W b j
   apart b j n w = n w.0

@@ -12,8 +12,7 @@ use Rattle.ados_change.proofs.Changed.{each_keeps, same_nodes}
 use Rattle.ados_change.proofs.Contents.{refilled, holding, file_not_root}
 use Rattle.ados_change.proofs.Relaid.{IsRewritten}
 use Rattle.ados_change.proofs.Refilled.{stands_after}
-use Rattle.ados_change.proofs.BytesKept.{kept}
-use Rattle.ados_change.proofs.NewBlocks.{takes_lowest, freed_stays, key_used}
+use Rattle.ados_change.proofs.BytesKept.{kept, takes_lowest, freed_stays, key_used}
 use Rattle.ados_change.proofs.Stamped.{kept_before, type_stamped, count_marked, lowest_before, marks_same, format_same, stamps_keep}
 use Rattle.ados_change.proofs.BytesUntold.{untold_kept}
 

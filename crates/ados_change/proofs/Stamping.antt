@@ -31,7 +31,7 @@ module _ (moment : Date3) (bits file : ℕ) (t : Tree) (node : Node) (at : t.nod
     | inr n ↦ rw (ne_eqb k file n) refl
   ]
 
-  pub is_touched : stamped moment (dated file moment (protected file bits t)) ≡ touched moment file t
+  is_touched : stamped moment (dated file moment (protected file bits t)) ≡ touched moment file t
   is_touched = same_nodes (stamped moment t) (stamped moment (dated file moment (protected file bits t))).nodes (touched moment file t).nodes same_node
 
 module _ (moment : Date3) (bits file : ℕ) (old first : List ℕ) (tree : HasTree old) (key : HasFileKey old file)

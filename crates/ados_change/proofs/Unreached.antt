@@ -1,5 +1,5 @@
 -- A block that is marked free gets other bytes: the image represents the same tree.
-use Rattle.std.proofs.Common.{◌≡◌, ◌≢◌, ℕ, ◌<◌, inl, inr, List, length, slice_index, Option, Some, None, option_map, refl, sym, ap, ◌∙◌, subst, arith}
+use Rattle.std.proofs.Common.{◌≡◌, ◌≢◌, ℕ, inl, inr, List, slice_index, Option, Some, None, option_map, refl, sym, ap, ◌∙◌, subst, arith}
 use Rattle.ados_change.proofs.Common.{cases_eq, InBlock, OnlyBlock, SameBut, IsInside, block_count, has_free_bit, HasFreeBit, same_count, same_weaken, page_block, bit_of_inside, with_node, InImage, size_in, Duty, HasDuty, Stands, Node, Tree, entries_in, count_same, slice_get-index, KeepsPastEnd, KeepsUntold}
 use Rattle.ados_map.proofs.MarkLemmas.{mark_kept}
 use Rattle.ados_change.proofs.Changed.{nodes_here, nodes_other}

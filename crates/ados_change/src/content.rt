@@ -55,7 +55,8 @@ pub fn write(
     Ok(bound)
 }
 
-/// Cuts a file to `size` bytes. The bytes of freed blocks are unchanged.
+/// Cuts a file to `size` bytes. The bytes of freed blocks are unchanged, and so are all other blocks but the bitmap and
+/// the disk date.
 pub fn cut(image: &mut Image, file: u32, size: u32, moment: Date3)
     requires tree { HasTree image.old }
     requires file { HasFileKey image.old file }

@@ -1,4 +1,4 @@
-use Rattle.std.proofs.Common.{◌≡◌, ◌≢◌, refl, sym, ◌∙◌}
+use Rattle.std.proofs.Common.{◌≡◌, ◌≢◌, sym, ◌∙◌}
 use Rattle.ados_change.proofs.Common.{FILE_TYPE, secondary_type, shortened}
 use Rattle.ados_change.proofs.Keeping.{same_keeps}
 use Rattle.ados_change.proofs.Emptier.{beside_none, cut_to_nothing, is_file, kept_as_is, key_inside}
@@ -22,9 +22,6 @@ returns-clause-empties c = λ t s. (shortened c.args.moment c.args.key 0 t, c.cu
 
 pub returns-then-long-clause-keeps : goal.returns-then-long-clause-keeps
 returns-then-long-clause-keeps c = same_keeps c.args.image.now
-
-pub returns-then-long-clause-only : goal.returns-then-long-clause-only
-returns-then-long-clause-only c = λ b i l beside apart. refl
 
 pub returns-clause-only : goal.returns-clause-only
 returns-clause-only c = λ b i l beside apart.
