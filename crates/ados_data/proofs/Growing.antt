@@ -13,7 +13,7 @@ use Rattle.ados_model.specs.File.{AreApart}
 use Rattle.ados_data.specs.Changing.{IsInUse}
 use Rattle.ados_data.specs.steps.Blocks.{IsExtended, IsLengthened, AtLink}
 use Rattle.ados_data.proofs.Lists.{head_pushed_before, head_pushed_last, pushed_before, pushed_last, apart_extended, apart_longer}
-use Rattle.ados_data.proofs.GrowthSteps.{KeepsHolder, untouched_holder, untouched_data, skeleton_extended, skeleton_longer}
+use Rattle.ados_data.proofs.Skeleton.{KeepsHolder, untouched_holder, untouched_data, skeleton_extended, skeleton_longer}
 use Rattle.ados_data.proofs.Standing.{Standing, Owned, blocks_stay, format_kept, map_stays, use_stays}
 
 -- ---- an extension block

@@ -14,7 +14,7 @@ use Rattle.ados_model.specs.File.{AreApart}
 use Rattle.ados_data.specs.Changing.{IsInUse}
 use Rattle.ados_data.specs.steps.Blocks.{IsResized, AtEnd}
 use Rattle.ados_data.proofs.Lists.{head_taken, taken_before, apart_taken}
-use Rattle.ados_data.proofs.GrowthSteps.{KeepsHolder, untouched_holder, untouched_data, skeleton_resized}
+use Rattle.ados_data.proofs.Skeleton.{KeepsHolder, untouched_holder, untouched_data, skeleton_resized}
 use Rattle.ados_data.proofs.Standing.{Standing, Owned, blocks_stay, format_kept, map_stays, use_stays}
 
 module _ (old new : List ℕ) (format : Format) (file : ℕ) (blocks extensions : List ℕ) (size d e size' : ℕ) (s : Standing old format file blocks extensions size)
