@@ -21,8 +21,7 @@ use Rattle.ados_data.specs.Others.{Leaves, Gains}
 use Rattle.ados_data.specs.Growth.{GrowsFile}
 use Rattle.ados_data.proofs.Composing.{grows_to}
 use Rattle.ados_data.proofs.Leaving.{leaves_same, leaves_both, leaves_taken, leaves_extended, leaves_longer, leaves_resized, beside_gains, gains_same, gains_both, gains_taken, gains_kept}
-use Rattle.ados_data.proofs.Growing.{extended_owned, longer_owned, stands_extended, stands_longer, extended_byte, longer_byte, longer_new_byte}
-use Rattle.ados_data.proofs.Resizing.{stands_resized, resized_byte, resized_owned}
+use Rattle.ados_data.proofs.Growing.{extended_owned, longer_owned, stands_extended, stands_longer, extended_byte, longer_byte, longer_new_byte, stands_resized, resized_byte, resized_owned}
 use Rattle.ados_data.specs.Unnamed.{KeepsUnnamed}
 use Rattle.ados_data.proofs.Grown.{Grown, grown_of, keeps_same, keeps_both}
 use Rattle.ados_data.proofs.Longer.{keeps_extended, keeps_longer}

@@ -30,7 +30,7 @@ use Rattle.ados_data.proofs.CutKeeping.{AtEnds, header_uncut, keeps_cut}
 use Rattle.ados_data.proofs.Sizes.{fewer_blocks, some_blocks, ofs_count, in_block, behind_start, in_count}
 use Rattle.ados_data.proofs.Spelled.{link_of, data_blocks_are, extension_blocks_are, contents_are}
 use Rattle.ados_data.proofs.Places.{header_is, data_is, holder_of}
-use Rattle.ados_data.proofs.Resizing.{Resized, resized_owned, stands_resized, resized_byte, header_long, later_long}
+use Rattle.ados_data.proofs.Growing.{Resized, resized_owned, stands_resized, resized_byte, resized_long, later_long}
 
 module _ (old : List ℕ) (b : ℕ) (new : List ℕ) (m : BitChanged old b true new) (pages : LawfulPages new) (ok : IsSize (block_count old)) (map : LawfulMap old) (inside : IsInside (block_count old) b) (used : IsInUse old b) where
   page_within : page_of b < pages_of old
@@ -364,7 +364,7 @@ module _ {old : List ℕ} {file size d : ℕ} (w : IsCuttable old file size d) w
           pointer_kept : (j : ℕ) → d ≤ j → j < length blocks → long new (slice_index (file ∷ extensions) (j / 72)) (FIRST_POINTER - j % 72) ≡ long old (slice_index (file ∷ extensions) (j / 72)) (FIRST_POINTER - j % 72)
           pointer_kept j l k = elim (cases_lt (extension_count d) (j / 72)) [
             | inl m ↦ later_long old new format file blocks extensions (length (contents old file)) d (extension_count d) size s0 y' few fewer (j / 72) (FIRST_POINTER - j % 72) (omega arith) m (rows j k)
-            | inr m ↦ header_long old new format file blocks extensions (length (contents old file)) d (extension_count d) size s0 y' few fewer (j / 72) (FIRST_POINTER - j % 72) (omega arith) m (λ z. (omega arith, omega arith)) (omega arith) (omega arith) (omega arith)
+            | inr m ↦ resized_long old new format file blocks extensions (length (contents old file)) d (extension_count d) size s0 y' few fewer (j / 72) (FIRST_POINTER - j % 72) (omega arith) m (λ z. (omega arith, omega arith)) (omega arith) (omega arith) (omega arith)
           ]
 
   -- all blocks are freed

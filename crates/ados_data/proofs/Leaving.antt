@@ -16,8 +16,7 @@ use Rattle.ados_data.proofs.Lists.{head_pushed_before, head_pushed_last, pushed_
 use Rattle.ados_data.proofs.Untouched.{untouched_sum}
 use Rattle.ados_data.specs.Others.{IsOther, IsDataField, Leaves, IsOwn, Gains, RisesBehind, WasFree, LeavesOthers}
 use Rattle.ados_data.proofs.Grown.{front_length, front_at, front_header}
-use Rattle.ados_data.proofs.Growing.{extended_owned, Lengthened, longer_owned}
-use Rattle.ados_data.proofs.Resizing.{Resized, resized_owned}
+use Rattle.ados_data.proofs.Growing.{extended_owned, Lengthened, longer_owned, Resized, resized_owned}
 use Rattle.ados_data.proofs.Standing.{Owned, Standing, pages_free, pages_same, pages_stay, marks_stay, beside_new, untaken}
 use Rattle.ados_map.proofs.MarkLemmas.{bit_of_inside}
 

@@ -23,7 +23,7 @@ use Rattle.ados_data.proofs.Reading.{length-bytes_at}
 use Rattle.ados_data.specs.Growth.{GrowsFile}
 use Rattle.ados_data.proofs.Composing.{grows_to}
 use Rattle.ados_data.proofs.Leaving.{leaves_resized, gains_same, gains_kept}
-use Rattle.ados_data.proofs.Resizing.{stands_resized, resized_byte, resized_owned}
+use Rattle.ados_data.proofs.Growing.{stands_resized, resized_byte, resized_owned}
 use Rattle.ados_data.proofs.Spelled.{data_blocks_are, extension_blocks_are, contents_are}
 use Rattle.ados_data.proofs.Grown.{keeps_resized}
 

@@ -11,7 +11,6 @@ pub mod Bounds
 pub mod Marks
 pub mod Standing
 pub mod Growing
-pub mod Resizing
 pub mod Fitting
 pub mod Appending
 pub mod Overlaid

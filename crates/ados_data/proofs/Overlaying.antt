@@ -4,11 +4,11 @@ use Rattle.std.proofs.lemmas.Bool.{cases_lt, cases_eq}
 use Rattle.std.proofs.lemmas.List.{take_all, length-take, length-drop}
 use Rattle.adf_block.specs.declared.layout.TheConstants.{FILE_SIZE, FIRST_POINTER, NEXT_EXTENSION}
 use Rattle.adf_block.specs.declared.layout.Format.{Format}
-use Rattle.adf_block.specs.declared.layout.Format.TheVariants.{Ofs}
+use Rattle.adf_block.specs.declared.layout.Format.TheVariants.{Ofs, Ffs}
 use Rattle.adf_block.specs.Image.{byte_at, long, block_sum, block_count, IsInside}
 use Rattle.adf_block.specs.Whole.{IsSize, IsImage}
 use Rattle.adf_block.specs.Fields.{format_of}
-use Rattle.adf_block.specs.Frame.{SameBut}
+use Rattle.adf_block.specs.Frame.{SameBut, Within, OnlyLong}
 use Rattle.adf_block.proofs.Frames.{same_long, same_sum, same_count}
 use Rattle.ados_model.specs.Tree.{block_cost, data_count, data_size, data_start}
 use Rattle.ados_model.specs.File.{AreApart, data_blocks, extension_blocks, contents, file_byte, LawfulFile, pointer_block}
@@ -189,6 +189,33 @@ pub record IsWritten (format : Format) (block low : ℕ) (ys old new : List ℕ)
   pub put : (k : ℕ) → k < length ys → byte_at new block (low + k) ≡ slice_index ys k
   pub sum : format ≡ Ofs → block_sum new block ≡ 0
   pub rest : SameBut (AtData format block low (low + length ys)) old new
+
+-- in OFS the checksum of the block is set anew; in FFS nothing changes
+abbrev pub IsSettled : Format → ℕ → List ℕ → List ℕ → Type 0
+IsSettled format block old new =
+    ((format ≡ Ofs) × (image : List ℕ) × (new ≡ image) × (block_sum image block ≡ 0) × OnlyLong block 5 old image) ⊎ ((format ≡ Ffs) × (new ≡ old))
+
+-- the bytes, and then the checksum
+pub written_settled : {format : Format} {block : ℕ} (low : ℕ) (ys : List ℕ) {old mid new : List ℕ} → (format ≡ Ofs → 24 ≤ low) → low + length ys ≤ 512 → ((k : ℕ) → k < length ys → byte_at mid block (low + k) ≡ slice_index ys k) → SameBut (Within block low (low + length ys)) old mid
+    → IsSettled format block mid new → IsWritten format block low ys old new
+written_settled {format} {block} low ys {old} {mid} behind room put first (inl (is, image, e, sum, second)) = subst (IsWritten format block low ys old) (sym e) (record {
+  put = λ k l. second.same_byte block (low + k) (omega arith) (λ at. omega (arith, at.1, behind is)) ∙ put k l;
+  sum = λ f. sum;
+  rest = record {
+    same_length = second.same_length ∙ first.same_length;
+    same_byte = λ c k l un. second.same_byte c k l (λ at. un (at.0, inr (is, at.1))) ∙ first.same_byte c k l (λ at. un (at.0, inl (at.1, at.2)));
+  };
+})
+written_settled {format} {block} low ys {old} {mid} behind room put first (inr (is, e)) = subst (IsWritten format block low ys old) (sym e) (record {
+  put = put;
+  sum = λ f. let no : Ffs ≡ Ofs = sym is ∙ f in cc;
+  rest = record { same_length = first.same_length; same_byte = λ c k l un. first.same_byte c k l (λ at. un (at.0, inl (at.1, at.2))) };
+})
+
+-- the data of an OFS block follow its fields
+pub past_fields : (format : Format) (n : ℕ) → format ≡ Ofs → 24 ≤ data_start format + n
+past_fields Ofs n e = omega arith
+past_fields Ffs n e = cc
 
 -- a turn of the walk: `done` of all bytes are written, and the next part is in the block of byte pos + done
 pub record IsTurn (init i0 : List ℕ) (format : Format) (file pos : ℕ) (all : List ℕ) (done part room holder : ℕ) : Type 0 where
