@@ -1,7 +1,7 @@
 -- One more data block: first with room for its pointer, then attached, then with the new size.
 use Rattle.std.proofs.Common.{◌≡◌, ◌≢◌, ℕ, suc, ◌+◌, ◌-◌, ◌*◌, ◌/◌, ◌%◌, ◌<◌, ◌≤◌, ◌⊎◌, inl, inr, List, [], ◌∷◌, ◌++◌, length, replicate, take, slice_index, refl, sym, ap, ap₂, ◌∙◌, subst, arith}
 use Rattle.std.proofs.lemmas.Bool.{cases_lt, cases_eq}
-use Rattle.std.proofs.lemmas.List.{length_push}
+use Rattle.std.proofs.lemmas.List.{length_push, length-append, length-replicate, get_or-replicate, get_or_append_left, get_or-append_right, take_all, take_at}
 use Rattle.adf_block.specs.declared.layout.Format.{Format}
 use Rattle.adf_block.specs.declared.layout.Format.TheVariants.{Ofs}
 use Rattle.adf_block.specs.Image.{byte_at, block_count, IsInside}
@@ -9,28 +9,22 @@ use Rattle.adf_block.specs.Whole.{IsSize, free_bit_count}
 use Rattle.adf_block.specs.Fields.{format_of}
 use Rattle.ados_model.specs.Tree.{block_cost, data_count, extension_count, data_size, data_start}
 use Rattle.ados_model.specs.File.{file_byte, data_blocks, extension_blocks, contents}
-use Rattle.ados_data.specs.Changing.{IsInUse, IsWritable}
-use Rattle.ados_data.specs.steps.Blocks.{IsNewBlock, IsExtended, IsLengthened, IsResized}
-use Rattle.std.proofs.lemmas.List.{length-append, length-replicate, get_or-replicate, get_or_append_left, get_or-append_right}
+use Rattle.ados_data.specs.Changing.{IsInUse, IsWritable, WritableFile}
+use Rattle.ados_data.specs.steps.Blocks.{IsNewBlock, IsExtended, IsLengthened, IsResized, HasPointerRoom}
 use Rattle.ados_data.specs.declared.grow.End.{End}
-use Rattle.ados_data.specs.Changing.{WritableFile}
 use Rattle.ados_data.specs.steps.FileEnd.{IsEnd}
 use Rattle.ados_data.proofs.Sizes.{one_more_block, one_more_cost, below_count, at_count, in_block, behind_start}
 use Rattle.ados_data.proofs.Spelled.{data_blocks_are, extension_blocks_are, contents_are}
 use Rattle.ados_data.proofs.Lists.{head_pushed_before, head_pushed_last, pushed_before, pushed_last}
-use Rattle.std.proofs.lemmas.List.{take_all, take_at}
-use Rattle.ados_data.specs.steps.Blocks.{HasPointerRoom}
 use Rattle.ados_data.proofs.Standing.{Standing, marks_stay, count_stays, standing_of, writable_of, stands_beside_new, new_inside, new_in_use, header_beside_new, data_beside_new, untouched_new, same_blocks}
 use Rattle.ados_data.specs.Others.{Leaves, Gains}
 use Rattle.ados_data.specs.Growth.{GrowsFile}
 use Rattle.ados_data.proofs.Composing.{grows_to}
 use Rattle.ados_data.proofs.Leaving.{leaves_same, leaves_both, leaves_taken, leaves_extended, leaves_longer, leaves_resized, beside_gains, gains_same, gains_both, gains_taken, gains_kept}
-use Rattle.ados_data.proofs.Growing.{extended_owned, longer_owned, stands_extended, stands_longer, extended_byte, longer_byte, longer_new_byte}
-use Rattle.ados_data.proofs.Resizing.{stands_resized, resized_byte, resized_owned}
+use Rattle.ados_data.proofs.Growing.{extended_owned, longer_owned, stands_extended, stands_longer, extended_byte, longer_byte, longer_new_byte, stands_resized, resized_byte, resized_owned}
 use Rattle.ados_data.specs.Unnamed.{KeepsUnnamed}
 use Rattle.ados_data.proofs.Grown.{Grown, grown_of, keeps_same, keeps_both}
-use Rattle.ados_data.proofs.Gained.{keeps_extended}
-use Rattle.ados_data.proofs.Longer.{keeps_longer}
+use Rattle.ados_data.proofs.Longer.{keeps_extended, keeps_longer}
 
 -- a file with room for one more pointer
 pub record Roomy (old : List ℕ) (format : Format) (file : ℕ) (blocks was : List ℕ) (size holder : ℕ) (new : List ℕ) : Type 0 where
@@ -242,7 +236,7 @@ module _ (i0 i1 i2 i3 i4 : List ℕ) (format : Format) (file : ℕ) (blocks was 
 
 -- ---- the premises of the calls
 
-module _ (i0 i1 i2 : List ℕ) (format : Format) (file : ℕ) (blocks was : List ℕ) (size holder b : ℕ) (r : Roomy i0 format file blocks was size holder i1) (n : IsNewBlock i1 b i2) where
+module _ {i0 i1 i2 : List ℕ} {format : Format} {file : ℕ} {blocks was : List ℕ} {size holder b : ℕ} (r : Roomy i0 format file blocks was size holder i1) (n : IsNewBlock i1 b i2) where
   blocks_same : block_count i2 ≡ block_count i1
   blocks_same = same_blocks i1 b i2 n r.stands.size_ok r.stands.map
 
@@ -264,17 +258,17 @@ module _ (i0 i1 i2 : List ℕ) (format : Format) (file : ℕ) (blocks was : List
 
 -- ---- the contract of a call
 
-module _ (i0 : List ℕ) (format : Format) (file : ℕ) (end : End) (w : WritableFile i0 file) (ok : IsSize (block_count i0)) (f : format ≡ format_of i0) (e : IsEnd i0 file end) where
+module _ {i0 : List ℕ} {format : Format} {file : ℕ} {end : End} (w : WritableFile i0 file) (ok : IsSize (block_count i0)) (f : format ≡ format_of i0) (e : IsEnd i0 file end) where
   pub stands_first : Standing i0 format file (data_blocks i0 file) (extension_blocks i0 file) (length (contents i0 file))
   stands_first = subst (λ (t : Format). Standing i0 t file (data_blocks i0 file) (extension_blocks i0 file) (length (contents i0 file))) (sym f) (standing_of i0 file (data_blocks i0 file) (extension_blocks i0 file) (contents i0 file) ok w)
 
-  pub room_of : (holder : ℕ) (i1 : List ℕ) → HasPointerRoom i0 file end.holder end.count holder i1 → Roomy i0 format file (data_blocks i0 file) (extension_blocks i0 file) (length (contents i0 file)) holder i1
-  room_of holder i1 h =
+  pub room_of : {holder : ℕ} {i1 : List ℕ} → HasPointerRoom i0 file end.holder end.count holder i1 → Roomy i0 format file (data_blocks i0 file) (extension_blocks i0 file) (length (contents i0 file)) holder i1
+  room_of {holder} {i1} h =
       roomy i0 format file (data_blocks i0 file) (extension_blocks i0 file) (length (contents i0 file)) holder i1 stands_first w.lawful.extensions_fit
       (subst (λ (c : ℕ). HasPointerRoom i0 file (slice_index (file ∷ extension_blocks i0 file) (length (extension_blocks i0 file))) c holder i1) e.counted
       (subst (λ (c : ℕ). HasPointerRoom i0 file c end.count holder i1) e.holder_is h))
 
-  module _ (size' holder b : ℕ) (new : List ℕ) (a : Appended i0 format file (data_blocks i0 file) (extension_blocks i0 file) b holder size' new) (full : length (contents i0 file) ≡ data_size format * end.count) (over : data_size format * end.count < size') (within : size' ≤ data_size format * (end.count + 1)) where
+  module _ {size' holder b : ℕ} {new : List ℕ} (a : Appended i0 format file (data_blocks i0 file) (extension_blocks i0 file) b holder size' new) (full : length (contents i0 file) ≡ data_size format * end.count) (over : data_size format * end.count < size') (within : size' ≤ data_size format * (end.count + 1)) where
     abbrev grown : List ℕ
     grown = contents i0 file ++ replicate (size' - length (contents i0 file)) 0
 
@@ -323,12 +317,12 @@ pub record IsAppended (old : List ℕ) (format : Format) (file : ℕ) (end : End
   pub end_is : IsEnd new file (record { count = end.count + 1; holder = holder; last = b })
   pub bytes : contents new file ≡ contents old file ++ replicate (size - length (contents old file)) 0
 
-module _ (i0 : List ℕ) (format : Format) (file : ℕ) (end : End) (w : WritableFile i0 file) (ok : IsSize (block_count i0)) (f : format ≡ format_of i0) (e : IsEnd i0 file end)
-    (size : ℕ) (i1 i2 i3 i4 : List ℕ) (holder b : ℕ) (h : HasPointerRoom i0 file end.holder end.count holder i1) (n : IsNewBlock i1 b i2) (x : IsLengthened i2 format file holder end.last end.count b i3) (y : IsResized i3 format file holder b (end.count + 1) size i4)
+module _ {i0 : List ℕ} {format : Format} {file : ℕ} {end : End} (w : WritableFile i0 file) (ok : IsSize (block_count i0)) (f : format ≡ format_of i0) (e : IsEnd i0 file end)
+    {size : ℕ} {i1 i2 i3 i4 : List ℕ} {holder b : ℕ} (h : HasPointerRoom i0 file end.holder end.count holder i1) (n : IsNewBlock i1 b i2) (x : IsLengthened i2 format file holder end.last end.count b i3) (y : IsResized i3 format file holder b (end.count + 1) size i4)
     (full : length (contents i0 file) ≡ data_size format * end.count) (over : data_size format * end.count < size) (within : size ≤ data_size format * (end.count + 1)) where
   result : Appended i0 format file (data_blocks i0 file) (extension_blocks i0 file) b holder size i4
   result =
-      appended i0 i1 i2 i3 i4 format file (data_blocks i0 file) (extension_blocks i0 file) (length (contents i0 file)) size holder b (room_of i0 format file end w ok f e holder i1 h) n
+      appended i0 i1 i2 i3 i4 format file (data_blocks i0 file) (extension_blocks i0 file) (length (contents i0 file)) size holder b (room_of w ok f e h) n
       (subst (λ (c : ℕ). IsLengthened i2 format file holder (slice_index (data_blocks i0 file) (length (data_blocks i0 file) - 1)) c b i3) e.counted
       (subst (λ (c : ℕ). IsLengthened i2 format file holder c end.count b i3) e.last_is x))
       (subst (λ (c : ℕ). IsResized i3 format file holder b (c + 1) size i4) e.counted y)
@@ -338,12 +332,12 @@ module _ (i0 : List ℕ) (format : Format) (file : ℕ) (end : End) (w : Writabl
 
   pub appended_call : IsAppended i0 format file end size holder b i4
   appended_call =
-      let written = writable_new i0 format file end w ok f e size holder b i4 result full over within in
+      let written = writable_new w ok f e result full over within in
       record {
         grown = grows_to i0 i4 file size (data_blocks i0 file ++ b ∷ []) result.extensions (contents i0 file ++ replicate (size - length (contents i0 file)) 0) written
-            (size_is i0 format file end w ok f e size holder b i4 result full over within) (omega (arith, full, over)) (result.stands.format_is ∙ f)
+            (size_is w ok f e result full over within) (omega (arith, full, over)) (result.stands.format_is ∙ f)
             (omega (arith, result.count, e.counted, one_more_cost format end.count size over within, ap (λ (t : Format). block_cost t size) f, ap₂ block_cost f (sym full)))
             result.leaves result.gains (take_at (data_blocks i0 file) (b ∷ []) (length (data_blocks i0 file)) refl) result.front result.keeps;
-        end_is = end_is i0 format file end w ok f e size holder b i4 result full over within;
+        end_is = end_is w ok f e result full over within;
         bytes = contents_are i4 file (data_blocks i0 file ++ b ∷ []) result.extensions (contents i0 file ++ replicate (size - length (contents i0 file)) 0) written.lawful;
       }

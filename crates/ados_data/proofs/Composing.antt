@@ -12,11 +12,10 @@ use Rattle.ados_data.specs.Unnamed.{KeepsUnnamed}
 use Rattle.ados_data.specs.Growth.{GrowsFile}
 use Rattle.ados_data.proofs.Bounds.{below_stays}
 use Rattle.ados_data.proofs.Grown.{Grown, front_both, grown_of, keeps_both}
-use Rattle.ados_data.proofs.Leaving.{beside_gains, gains_both, leaves_both}
+use Rattle.ados_data.proofs.Leaving.{beside_gains, gains_both, leaves_both, summed_after}
 use Rattle.ados_data.proofs.Skeleton.{skeleton_of}
 use Rattle.ados_data.proofs.Spelled.{contents_are, data_blocks_are, extension_blocks_are}
 use Rattle.ados_data.proofs.Standing.{writable_file}
-use Rattle.ados_data.proofs.Summed.{summed_after}
 
 -- the file has these blocks and bytes afterwards
 pub grows_to : (old new : List ℕ) (file size : ℕ) (blocks extensions bytes : List ℕ) → IsWritable new file blocks extensions bytes → length bytes ≡ size → length (contents old file) ≤ size → format_of new ≡ format_of old → PaysFor old file size new → LeavesOthers old file new

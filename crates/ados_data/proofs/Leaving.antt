@@ -1,24 +1,22 @@
--- What the steps of a change leave untouched.
+-- What the steps of a change leave untouched, and the checksums after it.
 use Rattle.std.proofs.Common.{◌≡◌, ◌≢◌, ℕ, suc, ◌-◌, ◌/◌, ◌<◌, ◌≤◌, ◌⊎◌, inl, inr, true, false, List, [], ◌∷◌, ◌++◌, length, take, slice_index, refl, sym, ap, ◌∙◌, subst, arith}
-use Rattle.std.proofs.lemmas.Bool.{cases_Bool, cases_lt, cases_eq, cases_order, false≢true}
+use Rattle.std.proofs.lemmas.Bool.{cases_Bool, cases_lt, cases_eq, cases_order, false≢true, true_from_ne_false}
 use Rattle.std.proofs.lemmas.List.{length_push}
 use Rattle.adf_block.specs.declared.layout.TheConstants.{NEXT_EXTENSION}
 use Rattle.adf_block.specs.declared.layout.Format.{Format}
-use Rattle.adf_block.specs.Image.{block_sum, block_count, has_free_bit, IsInside}
+use Rattle.adf_block.specs.Image.{block_sum, block_count, has_free_bit, IsInside, page_count}
 use Rattle.adf_block.specs.Whole.{IsSize}
 use Rattle.adf_block.proofs.Frames.{same_sum}
 use Rattle.ados_map.specs.Pages.{pages_of, page_block, page_of, HasBit}
 use Rattle.ados_map.specs.Changes.{MapPlace}
 use Rattle.ados_data.specs.steps.Edits.{AtField, AtExtensionFields}
-use Rattle.ados_data.specs.Changing.{IsInUse, LawfulMap}
+use Rattle.ados_data.specs.Changing.{IsInUse, LawfulMap, WritableFile, SummedFile}
 use Rattle.ados_data.specs.steps.Blocks.{IsNewBlock, IsExtended, IsLengthened, IsResized}
 use Rattle.ados_data.proofs.Lists.{head_pushed_before, head_pushed_last, pushed_before, pushed_last}
 use Rattle.ados_data.proofs.Untouched.{untouched_sum}
-use Rattle.std.proofs.lemmas.Bool.{true_from_ne_false}
-use Rattle.ados_data.specs.Others.{IsOther, IsDataField, Leaves, IsOwn, Gains, RisesBehind, WasFree}
+use Rattle.ados_data.specs.Others.{IsOther, IsDataField, Leaves, IsOwn, Gains, RisesBehind, WasFree, LeavesOthers}
 use Rattle.ados_data.proofs.Grown.{front_length, front_at, front_header}
-use Rattle.ados_data.proofs.Growing.{extended_owned, Lengthened, longer_owned}
-use Rattle.ados_data.proofs.Resizing.{Resized, resized_owned}
+use Rattle.ados_data.proofs.Growing.{extended_owned, Lengthened, longer_owned, Resized, resized_owned}
 use Rattle.ados_data.proofs.Standing.{Owned, Standing, pages_free, pages_same, pages_stay, marks_stay, beside_new, untaken}
 use Rattle.ados_map.proofs.MarkLemmas.{bit_of_inside}
 
@@ -291,3 +289,16 @@ gains_kept old new new' file blocks extensions blocks' extensions' counts same g
   data_rises = g.data_rises;
   extensions_rise = g.extensions_rise;
 }
+
+-- right checksums stay right if those of the bitmap and the header do, and the file is lawful afterwards
+pub summed_after : (old new : List ℕ) (file : ℕ) → WritableFile new file → LeavesOthers old file new → SummedFile old file → SummedFile new file
+summed_after old new file w l s =
+    let count : block_count new ≡ block_count old = ap (λ (n : ℕ). n / 512) l.same_length in
+    record {
+      pages = λ p lt.
+          let below : p < pages_of old = omega (arith, lt, ap page_count count) in
+          ap (block_sum new) (l.pages p below) ∙ l.page_sums p below (s.pages p below);
+      header = l.header_sum s.header;
+      extension = λ q lt. (w.lawful.holds.extension q lt).sum;
+      ofs_data = λ ofs i lt. (w.lawful.holds.ofs_data ofs i lt).sum;
+    }

@@ -18,14 +18,14 @@ use Rattle.ados_data.specs.declared.grow.End.{End}
 use Rattle.ados_data.specs.Changing.{WritableFile}
 use Rattle.ados_data.specs.steps.FileEnd.{IsEnd, IsLonger}
 use Rattle.ados_data.proofs.Sizes.{few_bytes, whole_block, in_block, behind_start, filled_size, filled_place, in_count, more_blocks}
-use Rattle.ados_data.proofs.LongerBytes.{longer_filled}
+use Rattle.ados_data.proofs.Overlaid.{longer_filled}
 use Rattle.ados_data.proofs.Reading.{length-bytes_at}
 use Rattle.ados_data.specs.Growth.{GrowsFile}
 use Rattle.ados_data.proofs.Composing.{grows_to}
 use Rattle.ados_data.proofs.Leaving.{leaves_resized, gains_same, gains_kept}
-use Rattle.ados_data.proofs.Resizing.{stands_resized, resized_byte, resized_owned}
+use Rattle.ados_data.proofs.Growing.{stands_resized, resized_byte, resized_owned}
 use Rattle.ados_data.proofs.Spelled.{data_blocks_are, extension_blocks_are, contents_are}
-use Rattle.ados_data.proofs.Within.{keeps_resized}
+use Rattle.ados_data.proofs.Grown.{keeps_resized}
 
 -- the file got the bytes after its end in its last data block, and has the same end
 pub record IsFilled (old : List ℕ) (format : Format) (file : ℕ) (end : End) (size : ℕ) (new : List ℕ) : Type 0 where
@@ -139,7 +139,7 @@ module _ (i0 i1 : List ℕ) (format : Format) (file : ℕ) (end : End) (part : �
       }
 
 -- the same with the numbers of a call
-module _ (i0 i1 : List ℕ) (format : Format) (file : ℕ) (end : End) (part size room : ℕ) (w : WritableFile i0 file) (ok : IsSize (block_count i0)) (f : format ≡ format_of i0) (e : IsEnd i0 file end)
+module _ {i0 i1 : List ℕ} {format : Format} {file : ℕ} {end : End} {part size room : ℕ} (w : WritableFile i0 file) (ok : IsSize (block_count i0)) (f : format ≡ format_of i0) (e : IsEnd i0 file end)
     (room_is : room ≡ data_size format) (size_is : size ≡ long i0 file FILE_SIZE) (started : size % room ≢ 0) (fits : part ≤ room - size % room)
     (y : IsResized i0 format file end.holder end.last end.count (size + part) i1) where
   size_here : size ≡ length (contents i0 file)
@@ -160,7 +160,7 @@ module _ (i0 i1 : List ℕ) (format : Format) (file : ℕ) (end : End) (part siz
 
 -- ---- the premises of the calls
 
-module _ (i0 : List ℕ) (file : ℕ) (end : End) (w : WritableFile i0 file) (e : IsEnd i0 file end) where
+module _ {i0 : List ℕ} {file : ℕ} {end : End} (w : WritableFile i0 file) (e : IsEnd i0 file end) where
   pub end_apart : 0 < end.count → (end.last ≢ end.holder) × (end.last ≢ file)
   end_apart l = (
     (λ z. w.lawful.places.apart (length (extension_blocks i0 file)) (length (data_blocks i0 file) - 1) (omega arith) (omega (arith, l, e.counted)) (sym e.holder_is ∙ sym z ∙ e.last_is)),

@@ -1,22 +1,89 @@
--- A file that gets a data block leaves all other bytes untouched.
-use Rattle.std.proofs.Common.{◌≡◌, ◌≢◌, ℕ, suc, ◌+◌, ◌-◌, ◌*◌, ◌/◌, ◌%◌, ◌<◌, ◌≤◌, ◌⊎◌, inl, inr, List, [], ◌∷◌, ◌++◌, length, slice_index, refl, sym, ap, ◌∙◌, subst, arith}
+-- A file that gets an extension block or a data block leaves all other bytes untouched.
+use Rattle.std.proofs.Common.{◌≡◌, ℕ, suc, ◌/◌, ◌<◌, ◌≤◌, ◌⊎◌, inl, inr, List, [], ◌∷◌, ◌++◌, length, slice_index, refl, sym, ap, ◌∙◌, subst, arith, ◌≢◌, ◌+◌, ◌-◌, ◌*◌, ◌%◌}
 use Rattle.std.proofs.lemmas.List.{length_push}
 use Rattle.adf_block.specs.declared.layout.Format.{Format}
-use Rattle.adf_block.specs.declared.layout.Format.TheVariants.{Ofs}
 use Rattle.adf_block.specs.Image.{byte_at, long}
 use Rattle.adf_block.specs.Fields.{pointer_count, file_size, format_of}
-use Rattle.adf_block.specs.declared.layout.TheConstants.{POINTER_COUNT, FIRST_POINTER, FILE_SIZE, NEXT_EXTENSION, NEXT_DATA}
+use Rattle.adf_block.specs.declared.layout.TheConstants.{NEXT_EXTENSION, POINTER_COUNT, FIRST_POINTER, FILE_SIZE, NEXT_DATA}
 use Rattle.adf_block.specs.Frame.{SameBut}
 use Rattle.adf_block.proofs.Frames.{same_long, same_trans, same_weaken}
 use Rattle.ados_map.specs.Pages.{pages_of, page_of}
 use Rattle.ados_map.specs.Changes.{MapPlace}
-use Rattle.ados_data.specs.steps.Edits.{AtField, AtFields, AtDataFields}
-use Rattle.ados_data.specs.steps.Blocks.{IsNewBlock, IsLengthened, IsResized, AtLink, AtEnd}
-use Rattle.ados_data.specs.Unnamed.{IsPointerField, IsHeaderField, data_end, IsBeside, KeepsUnnamed}
-use Rattle.ados_data.proofs.Lists.{pushed_before, pushed_last}
+use Rattle.ados_data.specs.steps.Edits.{AtField, AtExtensionFields, AtFields, AtDataFields}
+use Rattle.ados_data.specs.steps.Blocks.{IsNewBlock, IsExtended, IsLengthened, IsResized, AtLink, AtEnd}
+use Rattle.ados_data.specs.Unnamed.{IsPointerField, IsExtensionField, IsBeside, KeepsUnnamed, IsHeaderField, data_end}
+use Rattle.ados_data.proofs.Lists.{head_pushed_before, head_pushed_last, pushed_before, pushed_last}
 use Rattle.ados_data.proofs.Standing.{Standing, untaken, header_beside_new, data_beside_new}
+use Rattle.adf_block.specs.declared.layout.Format.TheVariants.{Ofs}
 use Rattle.ados_data.proofs.Grown.{more_pointers, more_header}
 use Rattle.ados_data.proofs.CutKeeping.{behind_fields}
+
+module _ (old mid new : List ℕ) (format : Format) (file : ℕ) (blocks extensions : List ℕ) (size e : ℕ) (s : Standing old format file blocks extensions size) (n : IsNewBlock old e mid) (x : IsExtended mid file (slice_index (file ∷ extensions) (length extensions)) e new) where
+  abbrev Extending : ℕ → ℕ → Type 0
+  Extending c k = (MapPlace old e c k ⊎ (c ≡ e)) ⊎ (AtExtensionFields e c k ⊎ AtField (slice_index (file ∷ extensions) (length extensions)) NEXT_EXTENSION c k)
+
+  extended_rest : SameBut Extending old new
+  extended_rest =
+      same_trans Extending old mid new (same_weaken (λ c k. MapPlace old e c k ⊎ (c ≡ e)) Extending old mid (λ c k at. inl at) n.rest)
+      (same_weaken (λ c k. AtExtensionFields e c k ⊎ AtField (slice_index (file ∷ extensions) (length extensions)) NEXT_EXTENSION c k) Extending mid new (λ c k at. inr at) x.rest)
+
+  extended_within : page_of e < pages_of old
+  extended_within = omega (arith, n.lowest.inside.0, n.lowest.inside.1)
+
+  -- the changes in an old pointer block
+  extended_header : (q k : ℕ) → q ≤ length extensions → Extending (slice_index (file ∷ extensions) q) k → (k / 4 ≡ NEXT_EXTENSION) ⊎ (k / 4 ≡ 5)
+  extended_header q k l (inl at) = absurd (untaken old e mid n s.size_ok s.map (slice_index (file ∷ extensions) q) k (s.headers_used q l) at)
+  extended_header q k l (inr (inl at)) = absurd (header_beside_new old e mid n s.size_ok s.map format file blocks extensions size s q l at.0)
+  extended_header q k l (inr (inr at)) = at.1
+
+  extended_data : (i k : ℕ) → i < length blocks → ¬ Extending (slice_index blocks i) k
+  extended_data i k l (inl at) = untaken old e mid n s.size_ok s.map (slice_index blocks i) k (s.data_used i l) at
+  extended_data i k l (inr (inl at)) = data_beside_new old e mid n s.size_ok s.map format file blocks extensions size s i l at.0
+  extended_data i k l (inr (inr at)) = s.places.apart (length extensions) i (omega arith) l (sym at.0)
+
+  beside_extension : (c k : ℕ) → IsBeside old file blocks (extensions ++ e ∷ []) c → ¬ Extending c k
+  beside_extension c k o (inl (inl at)) = o.beside_pages (page_of e) extended_within at.0
+  beside_extension c k o (inl (inr z)) = o.beside_headers (suc (length extensions)) (omega (arith, length_push extensions e)) (z ∙ sym (head_pushed_last file extensions e (suc (length extensions)) refl))
+  beside_extension c k o (inr (inl at)) = o.beside_headers (suc (length extensions)) (omega (arith, length_push extensions e)) (at.0 ∙ sym (head_pushed_last file extensions e (suc (length extensions)) refl))
+  beside_extension c k o (inr (inr at)) = o.beside_headers (length extensions) (omega (arith, length_push extensions e)) (at.0 ∙ sym (head_pushed_before file extensions e (length extensions) (omega arith)))
+
+  pointer_field : (count j : ℕ) → (j ≡ NEXT_EXTENSION) ⊎ (j ≡ 5) → IsPointerField count j
+  pointer_field count j (inl z) = inr (inr (inr z))
+  pointer_field count j (inr z) = inr (inl z)
+
+  -- the changes in the new one, which was empty
+  extended_new : (k : ℕ) → (AtExtensionFields e e k ⊎ AtField (slice_index (file ∷ extensions) (length extensions)) NEXT_EXTENSION e k) → IsExtensionField (pointer_count new e) (k / 4)
+  extended_new k (inl (at, inl z)) = inr (inl z)
+  extended_new k (inl (at, inr (inl z))) = inr (inr (inl z))
+  extended_new k (inl (at, inr (inr (inl z)))) = inl (inr (inl z))
+  extended_new k (inl (at, inr (inr (inr (inl z))))) = inr (inr (inr (inl z)))
+  extended_new k (inl (at, inr (inr (inr (inr z))))) = inr (inr (inr (inr z)))
+  extended_new k (inr (at, z)) = inl (pointer_field (pointer_count new e) (k / 4) z)
+
+  no_first : (k : ℕ) → k / 4 ≡ 4 → ¬ Extending file k
+  no_first k z at = elim (extended_header 0 k (omega arith) at) [ inl w ↦ omega (arith, z, w) | inr w ↦ omega (arith, z, w) ]
+
+  pub first_extended : long new file 4 ≡ long old file 4
+  first_extended = same_long Extending old new extended_rest file 4 (omega arith) no_first
+
+  pub keeps_extended : KeepsUnnamed old file blocks extensions new blocks (extensions ++ e ∷ [])
+  keeps_extended = record {
+    others = λ c k l o. extended_rest.same_byte c k l (beside_extension c k o);
+    header = λ k l f. extended_rest.same_byte file k l (λ at. f (inl (pointer_field (pointer_count new file) (k / 4) (extended_header 0 k (omega arith) at))));
+    extension = λ q k l m r f.
+        let here : slice_index (extensions ++ e ∷ []) q ≡ slice_index extensions q = pushed_before extensions e q l in
+        extended_rest.same_byte (slice_index (extensions ++ e ∷ []) q) k r (λ at. f (pointer_field (pointer_count new (slice_index (extensions ++ e ∷ []) q)) (k / 4) (extended_header (suc q) k (omega arith) (subst (λ (c : ℕ). Extending c k) here at))));
+    slack = λ i k l m r d. extended_rest.same_byte (slice_index blocks i) k r (extended_data i k l);
+    new_extension = λ q k l m r f.
+        let here : slice_index (extensions ++ e ∷ []) q ≡ e = pushed_last extensions e q (omega (arith, l, m, length_push extensions e)) in
+        ap (λ (c : ℕ). byte_at new c k) here
+        ∙ x.rest.same_byte e k r (λ at. subst (λ (c : ℕ). ¬ IsExtensionField (pointer_count new c) (k / 4)) here f (extended_new k at))
+        ∙ n.empty k r;
+    new_data = λ i k l m r d. absurd (omega (arith, l, m));
+    first_taken = λ z l. absurd (omega (arith, z, l));
+    first_given = λ l z. absurd (omega (arith, z, l));
+    first_kept = λ w. first_extended;
+  }
 
 module _ (i1 i2 i3 i4 : List ℕ) (format : Format) (file : ℕ) (blocks extensions : List ℕ) (size b size' : ℕ) (s : Standing i1 format file blocks extensions size) (n : IsNewBlock i1 b i2)
     (x : IsLengthened i2 format file (slice_index (file ∷ extensions) (length extensions)) (slice_index blocks (length blocks - 1)) (length blocks) b i3) (y : IsResized i3 format file (slice_index (file ∷ extensions) (length extensions)) b (length blocks + 1) size' i4)

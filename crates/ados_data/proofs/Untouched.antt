@@ -1,10 +1,14 @@
--- Blocks that a change leaves untouched, or all but some longs of them.
-use Rattle.std.proofs.Common.{◌≡◌, ℕ, ◌%◌, ◌^◌, ◌<◌, List, ap, ◌∙◌, arith}
+-- Blocks that a change leaves untouched, or all but some longs of them, and blocks without contents.
+use Rattle.std.proofs.Common.{◌≡◌, ℕ, ◌%◌, ◌^◌, ◌<◌, List, ap, ◌∙◌, arith, ◌≢◌, ◌+◌, ◌*◌, inl, inr, sym, ◌⊎◌}
 use Rattle.adf_block.specs.declared.layout.TheConstants.{SECONDARY_TYPE, PARENT}
 use Rattle.adf_block.specs.Image.{byte_at, long, block_sum}
-use Rattle.adf_block.proofs.Longs.{long-same}
+use Rattle.adf_block.proofs.Longs.{long-same, long-bytes}
 use Rattle.adf_block.proofs.Totals.{total-same}
 use Rattle.ados_model.specs.Stands.{HasExtension}
+use Rattle.std.proofs.lemmas.Bool.{cases_eq}
+use Rattle.adf_block.specs.Frame.{SameBut}
+use Rattle.adf_block.proofs.Frames.{same_long, same_sum}
+use Rattle.ados_data.specs.steps.Edits.{AtField}
 
 -- each byte of the block is unchanged
 abbrev pub Untouched : List ℕ → List ℕ → ℕ → Type 0
@@ -26,3 +30,26 @@ extension_kept old new file c a b d e s h = record {
   parent = d ∙ h.parent;
   secondary = e ∙ h.secondary;
 }
+
+-- another long
+pub beside_field : {old new : List ℕ} (b i : ℕ) → SameBut (AtField b i) old new → (c n : ℕ) → n < 128 → (c ≡ b → (n ≢ i) × (n ≢ 5)) → long new c n ≡ long old c n
+beside_field {old} {new} b i h c n l apart =
+    same_long (AtField b i) old new h c n l (λ k e at. let no = apart at.0 in elim at.1 [ inl x ↦ no.0 (sym e ∙ x) | inr x ↦ no.1 (sym e ∙ x) ])
+
+-- the sum of each block, if that of the block is unchanged
+pub sum_field : {old new : List ℕ} (b i : ℕ) → SameBut (AtField b i) old new → block_sum new b ≡ block_sum old b → (c : ℕ) → block_sum new c ≡ block_sum old c
+sum_field {old} {new} b i h same c = elim (cases_eq c b) [
+  | inl e ↦ ap (block_sum new) e ∙ same ∙ ap (block_sum old) (sym e)
+  | inr ne ↦ same_sum (AtField b i) old new h c (λ k l at. ne at.0)
+]
+
+-- one of two fields is one of three
+pub wider_field : {A B C : Type 0} → A ⊎ B → A ⊎ (C ⊎ B)
+wider_field (inl x) = inl x
+wider_field (inr x) = inr (inr x)
+
+-- a long of an empty block
+pub empty_long : (image : List ℕ) (b : ℕ) → ((k : ℕ) → k < 512 → byte_at image b k ≡ 0) → (i : ℕ) → i < 128 → long image b i ≡ 0
+empty_long image b h i l =
+    long-bytes image b i
+    ∙ omega (arith, h (4 * i + 0) (omega arith), h (4 * i + 1) (omega arith), h (4 * i + 2) (omega arith), h (4 * i + 3) (omega arith))

@@ -1,35 +1,18 @@
-//! Edits of fields in one block. The checksum follows each edit: a right one stays right.
+//! The fields of a new block.
 
-ghost use Rattle.std.specs.Prelude.{◌≡◌, ◌≢◌, ◌<◌};
+ghost use Rattle.std.specs.Prelude.{◌≡◌, ◌<◌};
 ghost use Rattle.adf_block.specs.Image.{block_count, block_sum, long};
 ghost use Rattle.adf_block.specs.Fields.{primary_type, own_key, sequence_number, held_count};
 ghost use Rattle.adf_block.specs.Frame.{SameBut};
-ghost use Rattle.adf_block.specs.declared.layout.TheConstants.{BLOCK_LONGS, NEXT_DATA};
+ghost use Rattle.adf_block.specs.declared.layout.TheConstants.{NEXT_DATA};
 ghost use Rattle.ados_model.specs.Stands.{HasExtension};
-ghost use Rattle.ados_data.specs.steps.Edits.{AtFields, AtExtensionFields, AtDataFields};
+ghost use Rattle.ados_data.specs.steps.Edits.{AtExtensionFields, AtDataFields};
 
 use adf_block::layout::{
     CHECKSUM, DATA_TYPE, FILE_TYPE, LIST_TYPE, OWN_KEY, PARENT, PRIMARY_TYPE, SECONDARY_TYPE,
     SEQUENCE,
 };
 use adf_block::{Format, Image};
-
-/// Sets longs `i` and `j` of block `b`.
-pub fn set_fields(image: &mut Image, b: u32, i: u32, v: u32, j: u32, w: u32)
-    requires block { b < block_count image.old }
-    requires place { i < BLOCK_LONGS }
-    requires other_place { j < BLOCK_LONGS }
-    requires apart { i ≢ j }
-    requires not_sum { i ≢ CHECKSUM }
-    requires other_not_sum { j ≢ CHECKSUM }
-    ensures set { long image.new b i ≡ v }
-    ensures other_set { long image.new b j ≡ w }
-    ensures sum { block_sum image.old b ≡ 0 → block_sum image.new b ≡ 0 }
-    ensures rest { SameBut (AtFields b i j) image.old image.new }
-{
-    image.set_summed(b, i, v, CHECKSUM);
-    image.set_summed(b, j, w, CHECKSUM);
-}
 
 /// Makes the empty block `b` an extension block of a file, without pointers.
 pub fn make_extension(image: &mut Image, b: u32, file: u32)
@@ -47,8 +30,7 @@ pub fn make_extension(image: &mut Image, b: u32, file: u32)
 /// Makes the empty block `b` a data block of a file with this sequence number, from 1. It holds no data yet. In FFS it
 /// has no fields.
 pub fn make_data(image: &mut Image, format: Format, b: u32, file: u32, sequence: u32)
-    requires inside { b < block_count image.old }
-    requires settled { block_sum image.old b ≡ 0 }
+    requires { b < block_count image.old }
     ensures primary { format ≡ Format.Ofs → primary_type image.new b ≡ DATA_TYPE }
     ensures header { format ≡ Format.Ofs → own_key image.new b ≡ file }
     ensures sequence { format ≡ Format.Ofs → sequence_number image.new b ≡ sequence }
@@ -58,7 +40,9 @@ pub fn make_data(image: &mut Image, format: Format, b: u32, file: u32, sequence:
     ensures rest { SameBut (AtDataFields format b) image.old image.new }
 {
     if format == Format::Ofs {
-        set_fields(image, b, PRIMARY_TYPE, DATA_TYPE, OWN_KEY, file);
-        image.set_summed(b, SEQUENCE, sequence, CHECKSUM);
+        image.set_long(b, PRIMARY_TYPE, DATA_TYPE);
+        image.set_long(b, OWN_KEY, file);
+        image.set_long(b, SEQUENCE, sequence);
+        image.settle(b, CHECKSUM);
     }
 }

@@ -75,9 +75,7 @@ fn fill_last(image: &mut Image, format: Format, file: u32, end: End, size: u32) 
     }
     let part = (room - from).min((size - old) as usize);
     let reached = old + part as u32;
-    resize(
-        image, format, file, end.holder, end.last, end.count, reached,
-    );
+    resize(image, format, file, end, reached);
     reached
 }
 
@@ -100,14 +98,14 @@ fn append(image: &mut Image, format: Format, file: u32, end: End, size: u32, fro
     prove!(image.blocks() <= MOST_BLOCKS);
     let holder = pointer_room(image, file, end.holder, end.count, from);
     let last = new_block(image, from);
-    attach_data(image, format, file, holder, end.last, end.count, last);
-    let count = end.count + 1;
-    resize(image, format, file, holder, last, count, size);
-    End {
-        count,
+    attach_data(image, format, file, End { holder, ..end }, last);
+    let longer = End {
+        count: end.count + 1,
         holder,
         last,
-    }
+    };
+    resize(image, format, file, longer, size);
+    longer
 }
 
 /// Makes a file longer, to `size` bytes.

@@ -8,7 +8,6 @@ mod edit;
 mod fields;
 mod grow;
 mod place;
-mod put;
 mod read;
 mod resize;
 mod shorten;

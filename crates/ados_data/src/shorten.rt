@@ -14,6 +14,7 @@ ghost use Rattle.ados_data.specs.steps.Giving.{IsEntered};
 
 use crate::cost::{data_count, extension_count};
 use crate::fields::data_block;
+use crate::grow::End;
 use crate::place::{Place, pointer_block};
 use crate::resize::resize;
 use adf_block::Image;
@@ -58,7 +59,12 @@ pub fn cut(image: &mut Image, file: u32, size: u32)
     let holder = pointer_block(image, file, Place::header(file), extension_count(count));
     let next = image.long(holder, NEXT_EXTENSION);
     let last = data_block(image, holder, count.saturating_sub(1));
-    resize(image, format, file, holder, last, count as u32, size);
+    let end = End {
+        count: count as u32,
+        holder,
+        last,
+    };
+    resize(image, format, file, end, size);
     let mut cursor = Cursor { holder, next };
     for i in count..all {
         cursor = enter(image, cursor, i);

@@ -8,15 +8,14 @@ ghost use Rattle.ados_data.specs.Changing.{HasFree, WritableFile};
 ghost use Rattle.ados_data.specs.Growth.{GrowsFile};
 ghost use Rattle.ados_data.specs.Place.{IsPlace};
 
-use crate::cost::data_size;
+use crate::cost::{data_size, data_start};
 use crate::fields::data_block;
 use crate::grow::lengthen;
 use crate::place::{Place, pointer_block};
-use crate::put::put_data;
-use adf_block::Image;
 use adf_block::layout::{
-    BOOT_BLOCKS, FFS_ROOM, FILE_SIZE, MOST_BLOCKS, NEXT_EXTENSION, TABLE_LONGS,
+    BOOT_BLOCKS, CHECKSUM, FFS_ROOM, FILE_SIZE, MOST_BLOCKS, NEXT_EXTENSION, TABLE_LONGS,
 };
+use adf_block::{Format, Image};
 
 /// The most data bytes of a data block.
 const ROOM: usize = FFS_ROOM as usize;
@@ -35,6 +34,7 @@ fn overlay(image: &mut Image, file: u32, near: Place, pos: u64, bytes: &[u8])
     }
     let format = image.format();
     let room = data_size(format);
+    let start = data_start(format);
     let mut holder = pointer_block(image, file, near, pos / room as u64 / TABLE_LONGS as u64);
     let mut done = 0;
     while done < bytes.len() {
@@ -42,7 +42,11 @@ fn overlay(image: &mut Image, file: u32, near: Place, pos: u64, bytes: &[u8])
         let from = (at % room as u64) as usize;
         let part = (room - from).min(bytes.len() - done);
         let block = data_block(image, holder, at / room as u64);
-        put_data(image, format, block, from, &bytes[done..done + part]);
+        image.put_bytes(block, start + from, &bytes[done..done + part]);
+        match format {
+            Format::Ofs => image.settle(block, CHECKSUM),
+            Format::Ffs => {}
+        }
         done += part;
         if (at + part as u64) % (TABLE_LONGS as u64 * room as u64) == 0 {
             holder = image.long(holder, NEXT_EXTENSION);

@@ -1,75 +1,66 @@
-use Rattle.std.proofs.Common.{◌≡◌, ◌≢◌, ◌<◌, ◌-◌, ◌%◌, inl, inr, ℕ, sym, ap, ◌∙◌, arith}
-use Rattle.std.proofs.lemmas.Bool.{cases_eq}
+use Rattle.std.proofs.Common.{◌≢◌, ◌<◌, ◌-◌, ◌%◌, inl, inr, ℕ, sym, ◌∙◌, arith}
 use Rattle.adf_block.specs.declared.layout.TheConstants.{FIRST_POINTER}
-use Rattle.adf_block.specs.Image.{block_sum}
 use Rattle.adf_block.proofs.Frames.{same_long, same_sum}
 use Rattle.ados_data.specs.steps.Edits.{AtDataFields}
 use Rattle.ados_data.specs.steps.Blocks.{AtLink}
-use Rattle.ados_data.proofs.Beside.{beside_field, beside_fields, sum_beside_field, sum_beside_fields, empty_long, empty_sum}
+use Rattle.ados_data.proofs.Untouched.{beside_field, sum_field, empty_long, wider_field}
 use Rattle.ados_data.proofs.attach.attach_data.Goals as goal
-use Rattle.ados_data.proofs.attach.attach_data.Goals.{then-count-eq0, else-count-eq0}
-
-pub make_data-requires-clause-settled : goal.make_data-requires-clause-settled
-make_data-requires-clause-settled c = empty_sum c.args.image.now c.args.b c.requires.empty
+use Rattle.ados_data.proofs.attach.attach_data.Goals.{then-end-eq0, else-end-eq0}
 
 pub returns : goal.returns
 returns c =
-    -- the new block, with its fields set
-    let link_free = λ (n : ℕ) (l : n < 128). same_long (AtLink c.args.format c.args.count c.args.last) c.make_data.new.image c.link_data.new.image c.link_data.ensures.rest c.args.b n l (λ k e at. (c.requires.last_apart at.1).2 (sym at.2.0)) in
-    let other = λ (n : ℕ) (l : n < 128).
-    beside_field c.args.file 4 c.set_fields.new.image c.set_summed.new.self c.set_summed.ensures.rest c.args.b n l (λ z. absurd (c.requires.apart.1 z))
-    ∙ beside_fields c.args.holder (FIRST_POINTER - c.args.count % 72) 2 c.link_data.new.image c.set_fields.new.image c.set_fields.ensures.rest c.args.b n l (λ z. absurd (c.requires.apart.0 z))
-    ∙ link_free n l in
-    -- the sums before and after the pointer block's fields were set
-    let before = λ (x : ℕ) (ne : x ≢ c.args.b) (free : 0 < c.args.count → c.args.last ≢ x).
-    same_sum (AtLink c.args.format c.args.count c.args.last) c.make_data.new.image c.link_data.new.image c.link_data.ensures.rest x (λ k l at. free at.1 (sym at.2.0))
+    let end = c.args.end in
+    let p = FIRST_POINTER - c.args.end.count % 72 in
+    -- the longs and sums of blocks beside the pointer block and the header, since the link was set
+    let later = λ (x n : ℕ) (l : n < 128) (a : x ≢ end.holder) (f : x ≢ c.args.file).
+    beside_field c.args.file 4 c.set_summed-3.ensures.rest x n l (λ e. absurd (f e))
+    ∙ beside_field end.holder 2 c.set_summed-2.ensures.rest x n l (λ e. absurd (a e))
+    ∙ beside_field end.holder p c.set_summed.ensures.rest x n l (λ e. absurd (a e)) in
+    let sums = λ (x : ℕ).
+    sum_field c.args.file 4 c.set_summed-3.ensures.rest c.set_summed-3.ensures.sum x
+    ∙ sum_field end.holder 2 c.set_summed-2.ensures.rest c.set_summed-2.ensures.sum x
+    ∙ sum_field end.holder p c.set_summed.ensures.rest c.set_summed.ensures.sum x in
+    -- the sums before
+    let before = λ (x : ℕ) (ne : x ≢ c.args.b) (free : 0 < end.count → end.last ≢ x).
+    same_sum (AtLink c.args.format end.count end.last) c.make_data.new.image c.link_data.new.image c.link_data.ensures.rest x (λ k l at. free at.1 (sym at.2.0))
     ∙ same_sum (AtDataFields c.args.format c.args.b) c.args.image.now c.make_data.new.image c.make_data.ensures.rest x (λ k l at. ne at.1) in
-    let at_holder = λ (z : block_sum c.args.image.now c.args.holder ≡ 0).
-    c.set_fields.ensures.sum (before c.args.holder (λ e. c.requires.apart.0 (sym e)) (λ l. (c.requires.last_apart l).0) ∙ z) in
+    -- the new block, with its fields set
+    let other = λ (n : ℕ) (l : n < 128).
+    later c.args.b n l c.requires.apart.0 c.requires.apart.1
+    ∙ same_long (AtLink c.args.format end.count end.last) c.make_data.new.image c.link_data.new.image c.link_data.ensures.rest c.args.b n l (λ k e at. (c.requires.last_apart at.1).2 (sym at.2.0)) in
     record {
-      pointer = beside_field c.args.file 4 c.set_fields.new.image c.set_summed.new.self c.set_summed.ensures.rest c.args.holder (FIRST_POINTER - c.args.count % 72) (omega arith) (λ z. (omega arith, omega arith)) ∙ c.set_fields.ensures.set;
-      counted = beside_field c.args.file 4 c.set_fields.new.image c.set_summed.new.self c.set_summed.ensures.rest c.args.holder 2 (omega arith) (λ z. (omega arith, omega arith)) ∙ c.set_fields.ensures.other_set;
-      holder_sum = λ z. elim (cases_eq c.args.holder c.args.file) [
-        | inl e ↦ ap (block_sum c.set_summed.new.self) e ∙ c.set_summed.ensures.sum ∙ ap (block_sum c.set_fields.new.image) (sym e) ∙ at_holder z
-        | inr n ↦ sum_beside_field c.args.file 4 c.set_fields.new.image c.set_summed.new.self c.set_summed.ensures.rest c.args.holder n ∙ at_holder z
+      pointer = beside_field c.args.file 4 c.set_summed-3.ensures.rest end.holder p (omega arith) (λ z. (omega arith, omega arith)) ∙ beside_field end.holder 2 c.set_summed-2.ensures.rest end.holder p (omega arith) (λ z. (omega arith, omega arith)) ∙ c.set_summed.ensures.long;
+      counted = beside_field c.args.file 4 c.set_summed-3.ensures.rest end.holder 2 (omega arith) (λ z. (omega arith, omega arith)) ∙ c.set_summed-2.ensures.long;
+      holder_sum = λ z. sums end.holder ∙ before end.holder (λ e. c.requires.apart.0 (sym e)) (λ l. (c.requires.last_apart l).0) ∙ z;
+      new_first = λ z. elim c.if-end-eq0.branch [
+        | then-end-eq0 w ↦ c.set_summed-3.ensures.long ∙ w.first-is
+        | else-end-eq0 w ↦ absurd (w.if-end-eq0.false z)
       ];
-      new_first = λ z. elim c.if-count-eq0.branch [
-        | then-count-eq0 w ↦ c.set_summed.ensures.long ∙ w.first-is
-        | else-count-eq0 w ↦ absurd (w.if-count-eq0.false z)
-      ];
-      first = λ l. elim c.if-count-eq0.branch [
-        | then-count-eq0 w ↦ absurd (omega (arith, l, w.if-count-eq0.true))
-        | else-count-eq0 w ↦ c.set_summed.ensures.long ∙ w.first-is ∙ w.long-first.ensures
-            ∙ beside_fields c.args.holder (FIRST_POINTER - c.args.count % 72) 2 c.link_data.new.image c.set_fields.new.image c.set_fields.ensures.rest c.args.file 4 (omega arith) (λ e. (omega arith, omega arith, omega arith))
-            ∙ same_long (AtLink c.args.format c.args.count c.args.last) c.make_data.new.image c.link_data.new.image c.link_data.ensures.rest c.args.file 4 (omega arith) (λ k e at. (c.requires.last_apart l).1 (sym at.2.0))
+      first = λ l. elim c.if-end-eq0.branch [
+        | then-end-eq0 w ↦ absurd (omega (arith, l, w.if-end-eq0.true))
+        | else-end-eq0 w ↦ c.set_summed-3.ensures.long ∙ w.first-is ∙ w.long-first.ensures
+            ∙ beside_field end.holder 2 c.set_summed-2.ensures.rest c.args.file 4 (omega arith) (λ e. (omega arith, omega arith))
+            ∙ beside_field end.holder p c.set_summed.ensures.rest c.args.file 4 (omega arith) (λ e. (omega arith, omega arith))
+            ∙ same_long (AtLink c.args.format end.count end.last) c.make_data.new.image c.link_data.new.image c.link_data.ensures.rest c.args.file 4 (omega arith) (λ k e at. (c.requires.last_apart l).1 (sym at.2.0))
             ∙ same_long (AtDataFields c.args.format c.args.b) c.args.image.now c.make_data.new.image c.make_data.ensures.rest c.args.file 4 (omega arith) (λ k e at. c.requires.apart.1 (sym at.1))
       ];
-      file_sum = λ z. c.set_summed.ensures.sum ∙ elim (cases_eq c.args.holder c.args.file) [
-        | inl e ↦ ap (block_sum c.set_fields.new.image) (sym e) ∙ at_holder (ap (block_sum c.args.image.now) e ∙ z)
-        | inr n ↦ sum_beside_fields c.args.holder (FIRST_POINTER - c.args.count % 72) 2 c.link_data.new.image c.set_fields.new.image c.set_fields.ensures.rest c.args.file (λ e. n (sym e))
-            ∙ before c.args.file (λ e. c.requires.apart.1 (sym e)) (λ l. (c.requires.last_apart l).1) ∙ z
-      ];
-      link = λ f l.
-          beside_field c.args.file 4 c.set_fields.new.image c.set_summed.new.self c.set_summed.ensures.rest c.args.last 4 (omega arith) (λ e. absurd ((c.requires.last_apart l).1 e))
-          ∙ beside_fields c.args.holder (FIRST_POINTER - c.args.count % 72) 2 c.link_data.new.image c.set_fields.new.image c.set_fields.ensures.rest c.args.last 4 (omega arith) (λ e. absurd ((c.requires.last_apart l).0 e))
-          ∙ c.link_data.ensures.link f l;
+      file_sum = λ z. sums c.args.file ∙ before c.args.file (λ e. c.requires.apart.1 (sym e)) (λ l. (c.requires.last_apart l).1) ∙ z;
+      link = λ f l. later end.last 4 (omega arith) (c.requires.last_apart l).0 (c.requires.last_apart l).1 ∙ c.link_data.ensures.link f l;
       last_sum = λ f l z.
-          sum_beside_field c.args.file 4 c.set_fields.new.image c.set_summed.new.self c.set_summed.ensures.rest c.args.last (c.requires.last_apart l).1
-          ∙ sum_beside_fields c.args.holder (FIRST_POINTER - c.args.count % 72) 2 c.link_data.new.image c.set_fields.new.image c.set_fields.ensures.rest c.args.last (c.requires.last_apart l).0
-          ∙ c.link_data.ensures.sum f l
-          (same_sum (AtDataFields c.args.format c.args.b) c.args.image.now c.make_data.new.image c.make_data.ensures.rest c.args.last (λ k m at. (c.requires.last_apart l).2 at.1) ∙ z);
+          sums end.last
+          ∙ c.link_data.ensures.sum f l (same_sum (AtDataFields c.args.format c.args.b) c.args.image.now c.make_data.new.image c.make_data.ensures.rest end.last (λ k m at. (c.requires.last_apart l).2 at.1) ∙ z);
       primary = λ f. other 0 (omega arith) ∙ c.make_data.ensures.primary f;
       header = λ f. other 1 (omega arith) ∙ c.make_data.ensures.header f;
       sequence = λ f. other 2 (omega arith) ∙ c.make_data.ensures.sequence f;
       held = other 3 (omega arith) ∙ c.make_data.ensures.held ∙ empty_long c.args.image.now c.args.b c.requires.empty 3 (omega arith);
       next = other 4 (omega arith) ∙ c.make_data.ensures.next ∙ empty_long c.args.image.now c.args.b c.requires.empty 4 (omega arith);
       sum = λ f.
-          sum_beside_field c.args.file 4 c.set_fields.new.image c.set_summed.new.self c.set_summed.ensures.rest c.args.b c.requires.apart.1
-          ∙ sum_beside_fields c.args.holder (FIRST_POINTER - c.args.count % 72) 2 c.link_data.new.image c.set_fields.new.image c.set_fields.ensures.rest c.args.b c.requires.apart.0
-          ∙ same_sum (AtLink c.args.format c.args.count c.args.last) c.make_data.new.image c.link_data.new.image c.link_data.ensures.rest c.args.b (λ k l at. (c.requires.last_apart at.1).2 (sym at.2.0))
+          sums c.args.b
+          ∙ same_sum (AtLink c.args.format end.count end.last) c.make_data.new.image c.link_data.new.image c.link_data.ensures.rest c.args.b (λ k l at. (c.requires.last_apart at.1).2 (sym at.2.0))
           ∙ c.make_data.ensures.sum f;
       rest = record {
-        same_length = c.set_summed.ensures.rest.same_length ∙ c.set_fields.ensures.rest.same_length ∙ c.link_data.ensures.rest.same_length ∙ c.make_data.ensures.rest.same_length;
-        same_byte = λ b k l un. c.set_summed.ensures.rest.same_byte b k l (λ x. un (inr (inr (inr x)))) ∙ c.set_fields.ensures.rest.same_byte b k l (λ x. un (inr (inr (inl x)))) ∙ c.link_data.ensures.rest.same_byte b k l (λ x. un (inr (inl x))) ∙ c.make_data.ensures.rest.same_byte b k l (λ x. un (inl x));
+        same_length = c.set_summed-3.ensures.rest.same_length ∙ c.set_summed-2.ensures.rest.same_length ∙ c.set_summed.ensures.rest.same_length ∙ c.link_data.ensures.rest.same_length ∙ c.make_data.ensures.rest.same_length;
+        same_byte = λ b k l un. c.set_summed-3.ensures.rest.same_byte b k l (λ x. un (inr (inr (inr x)))) ∙ c.set_summed-2.ensures.rest.same_byte b k l (λ x. un (inr (inr (inl (x.0, inr x.1)))))
+            ∙ c.set_summed.ensures.rest.same_byte b k l (λ x. un (inr (inr (inl (x.0, wider_field x.1))))) ∙ c.link_data.ensures.rest.same_byte b k l (λ x. un (inr (inl x))) ∙ c.make_data.ensures.rest.same_byte b k l (λ x. un (inl x));
       };
     }

@@ -2,17 +2,16 @@ use Rattle.std.proofs.Common.{◌≡◌, ◌≢◌, ◌<◌, ◌/◌, ◌⊎◌,
 use Rattle.adf_block.specs.declared.layout.TheConstants.{SECONDARY_TYPE, PARENT, NEXT_EXTENSION}
 use Rattle.adf_block.proofs.Frames.{same_long, same_sum}
 use Rattle.ados_data.specs.steps.Edits.{AtExtensionFields}
-use Rattle.ados_data.proofs.Beside.{beside_field, sum_beside_field, empty_long}
-use Rattle.ados_data.proofs.Untouched.{extension_kept}
+use Rattle.ados_data.proofs.Untouched.{beside_field, sum_field, empty_long, extension_kept}
 use Rattle.ados_data.proofs.attach.attach_extension.Goals as goal
 
 pub returns : goal.returns
 returns c =
-    let other = λ (n : ℕ) (l : n < 128). beside_field c.args.holder NEXT_EXTENSION c.make_extension.new.image c.set_summed.new.self c.set_summed.ensures.rest c.args.e n l (λ z. absurd (c.requires.apart z)) in
+    let other = λ (n : ℕ) (l : n < 128). beside_field c.args.holder NEXT_EXTENSION c.set_summed.ensures.rest c.args.e n l (λ z. absurd (c.requires.apart z)) in
     record {
       fields = extension_kept c.make_extension.new.image c.set_summed.new.self c.args.file c.args.e
           (other 0 (omega arith)) (other 1 (omega arith)) (other PARENT (omega arith)) (other SECONDARY_TYPE (omega arith))
-          (sum_beside_field c.args.holder NEXT_EXTENSION c.make_extension.new.image c.set_summed.new.self c.set_summed.ensures.rest c.args.e c.requires.apart ∙ c.make_extension.ensures.fields.sum)
+          (sum_field c.args.holder NEXT_EXTENSION c.set_summed.ensures.rest c.set_summed.ensures.sum c.args.e ∙ c.make_extension.ensures.fields.sum)
           c.make_extension.ensures.fields;
       no_pointers = other 2 (omega arith) ∙ same_long (AtExtensionFields c.args.e) c.args.image.now c.make_extension.new.image c.make_extension.ensures.rest c.args.e 2 (omega arith) (λ k m at. not_these k 2 m (omega arith) (omega arith) (omega arith) (omega arith) (omega arith) at.1)
           ∙ empty_long c.args.image.now c.args.e c.requires.empty 2 (omega arith);

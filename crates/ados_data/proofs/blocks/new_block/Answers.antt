@@ -1,6 +1,6 @@
 use Rattle.std.proofs.Common.{arith}
-use Rattle.ados_data.proofs.Counts.{none_counted}
-use Rattle.ados_data.proofs.Taking.{new_block_taken}
+use Rattle.ados_data.proofs.Marks.{none_counted}
+use Rattle.ados_data.proofs.Standing.{new_block_taken}
 use Rattle.ados_data.proofs.blocks.new_block.Goals as goal
 
 pub unreachable-requires : goal.unreachable-requires

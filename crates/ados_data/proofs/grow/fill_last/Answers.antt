@@ -1,4 +1,5 @@
-use Rattle.std.proofs.Common.{arith}
+use Rattle.std.proofs.Common.{subst, arith}
+use Rattle.adf_block.specs.Whole.{IsSize}
 use Rattle.ados_data.proofs.Lengthening.{filled_call, end_apart}
 use Rattle.ados_data.proofs.grow.fill_last.Goals as goal
 
@@ -6,13 +7,13 @@ pub resize-requires-clause-file : goal.resize-requires-clause-file
 resize-requires-clause-file c = omega (arith, c.requires.writable.lawful.places.headers_inside 0 (omega arith))
 
 pub resize-requires-clause-apart : goal.resize-requires-clause-apart
-resize-requires-clause-apart c = end_apart c.args.image.now c.args.file c.args.end c.requires.writable c.requires.end
+resize-requires-clause-apart c = end_apart c.requires.writable c.requires.end
 
 pub returns-clause-grown : goal.returns-clause-grown
-returns-clause-grown c = (filled_call c.args.image.now c.resize.new.image c.args.format c.args.file c.args.end c.min-part.result c.long-old.result c.data_size-room.result c.requires.writable (omega (arith, c.blocks-2.ensures.count, c.blocks-2.ensures.size), omega (arith, c.blocks-2.ensures.count, c.blocks-2.ensures.size)) c.requires.format c.requires.end c.data_size-room.ensures c.long-old.ensures c.if-from-eq0.false (omega (arith, c.min-part.ensures)) c.resize.ensures).grown
+returns-clause-grown c = (filled_call c.requires.writable (subst IsSize c.blocks-2.ensures.count c.blocks-2.ensures.size) c.requires.format c.requires.end c.data_size-room.ensures c.long-old.ensures c.if-from-eq0.false (omega (arith, c.min-part.ensures)) c.resize.ensures).grown
 
 pub returns-clause-end : goal.returns-clause-end
-returns-clause-end c = (filled_call c.args.image.now c.resize.new.image c.args.format c.args.file c.args.end c.min-part.result c.long-old.result c.data_size-room.result c.requires.writable (omega (arith, c.blocks-2.ensures.count, c.blocks-2.ensures.size), omega (arith, c.blocks-2.ensures.count, c.blocks-2.ensures.size)) c.requires.format c.requires.end c.data_size-room.ensures c.long-old.ensures c.if-from-eq0.false (omega (arith, c.min-part.ensures)) c.resize.ensures).end_is
+returns-clause-end c = (filled_call c.requires.writable (subst IsSize c.blocks-2.ensures.count c.blocks-2.ensures.size) c.requires.format c.requires.end c.data_size-room.ensures c.long-old.ensures c.if-from-eq0.false (omega (arith, c.min-part.ensures)) c.resize.ensures).end_is
 
 pub returns-clause-bytes : goal.returns-clause-bytes
-returns-clause-bytes c = (filled_call c.args.image.now c.resize.new.image c.args.format c.args.file c.args.end c.min-part.result c.long-old.result c.data_size-room.result c.requires.writable (omega (arith, c.blocks-2.ensures.count, c.blocks-2.ensures.size), omega (arith, c.blocks-2.ensures.count, c.blocks-2.ensures.size)) c.requires.format c.requires.end c.data_size-room.ensures c.long-old.ensures c.if-from-eq0.false (omega (arith, c.min-part.ensures)) c.resize.ensures).bytes
+returns-clause-bytes c = (filled_call c.requires.writable (subst IsSize c.blocks-2.ensures.count c.blocks-2.ensures.size) c.requires.format c.requires.end c.data_size-room.ensures c.long-old.ensures c.if-from-eq0.false (omega (arith, c.min-part.ensures)) c.resize.ensures).bytes

@@ -7,7 +7,7 @@ use Rattle.ados_data.specs.Growth.{GrowsFile}
 use Rattle.ados_data.specs.steps.FileEnd.{IsLonger}
 use Rattle.ados_data.proofs.Bounds.{below_taken}
 use Rattle.ados_data.proofs.Composing.{grows_both, below_grown}
-use Rattle.ados_data.proofs.LongerBytes.{longer_zeros}
+use Rattle.ados_data.proofs.Overlaid.{longer_zeros}
 use Rattle.ados_data.proofs.grow.lengthen.Goals as goal
 
 pub long-requires-clause-block : goal.long-requires-clause-block

@@ -1,8 +1,7 @@
 use Rattle.std.proofs.Common.{◌≤◌, ◌/◌, ℕ, length, min, ap, ap₂, ◌∙◌, arith}
 use Rattle.ados_model.specs.Tree.{data_size}
 use Rattle.ados_model.specs.File.{extension_blocks}
-use Rattle.ados_data.proofs.Placed.{last_place}
-use Rattle.ados_data.proofs.Places.{header_is}
+use Rattle.ados_data.proofs.Places.{last_place, header_is}
 use Rattle.ados_data.proofs.place.place_at.Goals as goal
 
 pub pointer_block-block-requires-clause-within : goal.pointer_block-block-requires-clause-within

@@ -1,4 +1,4 @@
-use Rattle.ados_data.proofs.Placed.{placed}
+use Rattle.ados_data.proofs.Places.{placed}
 use Rattle.ados_data.proofs.place.pointer_block.Goals as goal
 
 pub loop-passed-init : goal.loop-passed-init

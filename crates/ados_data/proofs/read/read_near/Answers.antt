@@ -6,7 +6,7 @@ use Rattle.adf_block.specs.Fields.{format_of}
 use Rattle.ados_model.specs.Tree.{data_size, data_start}
 use Rattle.ados_model.specs.File.{extension_blocks, pointer_block, contents}
 use Rattle.ados_data.proofs.Places.{size_is, byte_within, holder_of}
-use Rattle.ados_data.proofs.Walking.{holder_inside, block_inside, block_is, on_to_next, on_in_same, part_copied}
+use Rattle.ados_data.proofs.Reading.{holder_inside, block_inside, block_is, on_to_next, on_in_same, part_copied}
 use Rattle.ados_data.proofs.Sizes.{few_bytes, part_bounds}
 use Rattle.ados_data.proofs.read.read_near.Goals as goal
 

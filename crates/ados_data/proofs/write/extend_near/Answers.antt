@@ -4,7 +4,7 @@ use Rattle.ados_model.specs.Tree.{data_size}
 use Rattle.ados_model.specs.File.{contents}
 use Rattle.ados_model.specs.Edits.{overlaid}
 use Rattle.ados_data.proofs.Composing.{grows_over, below_grown}
-use Rattle.ados_data.proofs.LongerBytes.{zeroed_longer}
+use Rattle.ados_data.proofs.Overlaid.{zeroed_longer}
 use Rattle.ados_data.proofs.write.extend_near.Goals as goal
 
 pub long-old-requires-clause-block : goal.long-old-requires-clause-block

@@ -1,7 +1,30 @@
-use Rattle.std.proofs.Common.{◌≡◌, ◌+◌, ◌-◌, ℕ, take, drop, ap, arith}
+use Rattle.std.proofs.Common.{◌≡◌, ◌≤◌, ◌+◌, ◌-◌, ◌/◌, ◌%◌, inl, inr, ℕ, List, take, drop, ap, subst, arith}
+use Rattle.std.proofs.lemmas.List.{length-take}
+use Rattle.ados_model.specs.Tree.{data_start}
 use Rattle.ados_data.proofs.Places.{readable}
-use Rattle.ados_data.proofs.Overlaying.{size_below, bounds, holder_is_inside, block_is_inside, written_more, size_kept, grown_on, holder_inside_new, holder_next, holder_same}
+use Rattle.ados_data.proofs.Overlaying.{IsWritten, IsSettled, IsTurn, written_settled, past_fields, size_below, bounds, holder_is_inside, block_is_inside, written_more, size_kept, grown_on, holder_inside_new, holder_next, holder_same}
+use Rattle.ados_data.proofs.Sizes.{whole_block}
 use Rattle.ados_data.proofs.write.overlay.Goals as goal
+use Rattle.ados_data.proofs.write.overlay.Goals.{After-min-part, After-put_bytes, in-Ofs, in-Ffs}
+
+-- the turn of the walk, with its part of the bytes
+turn : (c : After-min-part) → IsTurn c.args.image.now c.loop-done.image c.format-format.result c.args.file c.args.pos c.args.bytes.now c.loop-done.done c.min-part.result c.data_size-room.result c.loop-done.holder
+turn c =
+    record { grown = c.loop-done.invariant.grown; size_ok = c.loop-done.invariant.size_ok; format_is = c.format-format.ensures; room_is = c.data_size-room.ensures; fits = c.requires.within; left = c.loop-done-test.true; written = c.loop-done.invariant.written; part_is = c.min-part.ensures; holder_is = c.loop-done.invariant.holder c.loop-done-test.true }
+
+part : (c : After-min-part) → take (c.loop-done.done + c.min-part.result - c.loop-done.done) (drop c.loop-done.done c.args.bytes.now) ≡ take c.min-part.result (drop c.loop-done.done c.args.bytes.now)
+part c = let here : c.loop-done.done + c.min-part.result - c.loop-done.done ≡ c.min-part.result = omega arith in ap (λ (n : ℕ). take n (drop c.loop-done.done c.args.bytes.now)) here
+
+-- the part is in its data block
+written : (c : After-put_bytes) → (c.args.pos + c.loop-done.done) % c.data_size-room.result + c.min-part.result ≤ c.data_size-room.result → {new : List ℕ} → IsSettled c.format-format.result c.data_block-block.result c.put_bytes.new.self new
+    → IsWritten c.format-format.result c.data_block-block.result (data_start c.format-format.result + (c.args.pos + c.loop-done.done) % c.data_size-room.result) (take (c.loop-done.done + c.min-part.result - c.loop-done.done) (drop c.loop-done.done c.args.bytes.now)) c.loop-done.image new
+written c fits {new} settled =
+    let from = (c.args.pos + c.loop-done.done) % c.data_size-room.result in
+    let ys = take (c.loop-done.done + c.min-part.result - c.loop-done.done) (drop c.loop-done.done c.args.bytes.now) in
+    let count = length-take (c.loop-done.done + c.min-part.result - c.loop-done.done) (drop c.loop-done.done c.args.bytes.now) in
+    subst (λ (n : ℕ). IsWritten c.format-format.result c.data_block-block.result (n + from) ys c.loop-done.image new) c.data_start-start.ensures
+    (written_settled (c.data_start-start.result + from) ys (λ e. omega (arith, c.data_start-start.ensures, past_fields c.format-format.result from e)) (omega (arith, c.data_start-start.ensures, c.data_size-room.ensures, whole_block c.format-format.result, count, fits))
+    c.put_bytes.ensures.put c.put_bytes.ensures.rest settled)
 
 pub overflow_add-at : goal.overflow_add-at
 overflow_add-at c = omega (arith, c.requires.within, c.loop-done-test.true, size_below c.args.image.now c.args.file c.requires.writable.lawful c.blocks-2.ensures.image)
@@ -10,35 +33,41 @@ pub pointer_block-holder-requires-clause-readable : goal.pointer_block-holder-re
 pointer_block-holder-requires-clause-readable c = readable c.args.image.now c.args.file c.requires.writable.lawful
 
 pub data_block-block-requires : goal.data_block-block-requires
-data_block-block-requires c = holder_is_inside c.args.image.now c.loop-done.image c.format-format.result c.args.file c.args.pos c.args.bytes.now c.loop-done.done c.min-part.result c.data_size-room.result c.loop-done.holder c.loop-done.invariant.grown c.loop-done.invariant.size_ok c.format-format.ensures c.data_size-room.ensures c.requires.within c.loop-done-test.true c.loop-done.invariant.written c.min-part.ensures (c.loop-done.invariant.holder c.loop-done-test.true)
+data_block-block-requires c = holder_is_inside (turn (goal.at.data_block-block-requires c).After-min-part)
 
-pub put_data-requires-clause-inside : goal.put_data-requires-clause-inside
-put_data-requires-clause-inside c = block_is_inside c.args.image.now c.loop-done.image c.format-format.result c.args.file c.args.pos c.args.bytes.now c.loop-done.done c.min-part.result c.data_size-room.result c.loop-done.holder c.loop-done.invariant.grown c.loop-done.invariant.size_ok c.format-format.ensures c.data_size-room.ensures c.requires.within c.loop-done-test.true c.loop-done.invariant.written c.min-part.ensures (c.loop-done.invariant.holder c.loop-done-test.true) c.data_block-block.result c.data_block-block.ensures
+pub put_bytes-requires-clause-inside : goal.put_bytes-requires-clause-inside
+put_bytes-requires-clause-inside c = block_is_inside (turn (goal.at.put_bytes-requires-clause-inside c).After-min-part) c.data_block-block.ensures
+
+pub put_bytes-requires-clause-room : goal.put_bytes-requires-clause-room
+put_bytes-requires-clause-room c =
+    omega (arith, c.data_start-start.ensures, c.data_size-room.ensures, whole_block c.format-format.result, bounds (turn (goal.at.put_bytes-requires-clause-room c).After-min-part), length-take (c.loop-done.done + c.min-part.result - c.loop-done.done) (drop c.loop-done.done c.args.bytes.now))
+
+pub settle-requires-clause-block : goal.settle-requires-clause-block
+settle-requires-clause-block c = omega (arith, block_is_inside (turn (goal.at.settle-requires-clause-block c).After-min-part) c.data_block-block.ensures, ap (λ (n : ℕ). n / 512) c.put_bytes.ensures.rest.same_length)
 
 pub overflow_add-at-in-loop-done : goal.overflow_add-at-in-loop-done
-overflow_add-at-in-loop-done c = omega (arith, c.requires.within, bounds c.args.image.now c.loop-done.image c.format-format.result c.args.file c.args.pos c.args.bytes.now c.loop-done.done c.min-part.result c.data_size-room.result c.loop-done.holder c.loop-done.invariant.grown c.loop-done.invariant.size_ok c.format-format.ensures c.data_size-room.ensures c.requires.within c.loop-done-test.true c.loop-done.invariant.written c.min-part.ensures (c.loop-done.invariant.holder c.loop-done-test.true), size_below c.args.image.now c.args.file c.requires.writable.lawful c.blocks-2.ensures.image)
+overflow_add-at-in-loop-done c = omega (arith, c.requires.within, bounds (turn (goal.at.overflow_add-at-in-loop-done c).After-min-part), size_below c.args.image.now c.args.file c.requires.writable.lawful c.blocks-2.ensures.image)
 
 pub long-holder-requires-clause-block : goal.long-holder-requires-clause-block
-long-holder-requires-clause-block c = let part : c.loop-done.done + c.min-part.result - c.loop-done.done ≡ c.min-part.result = omega arith in holder_inside_new c.args.image.now c.loop-done.image c.format-format.result c.args.file c.args.pos c.args.bytes.now c.loop-done.done c.min-part.result c.data_size-room.result c.loop-done.holder c.loop-done.invariant.grown c.loop-done.invariant.size_ok c.format-format.ensures c.data_size-room.ensures c.requires.within c.loop-done-test.true c.loop-done.invariant.written c.min-part.ensures (c.loop-done.invariant.holder c.loop-done-test.true) c.data_block-block.result c.data_block-block.ensures c.put_data.new.image (take (c.loop-done.done + c.min-part.result - c.loop-done.done) (drop c.loop-done.done c.args.bytes.now)) (ap (λ (n : ℕ). take n (drop c.loop-done.done c.args.bytes.now)) part) c.put_data.ensures.put c.put_data.ensures.sum c.put_data.ensures.rest
+long-holder-requires-clause-block c =
+    let settled : IsSettled c.format-format.result c.data_block-block.result c.put_bytes.new.self c.match-format.image =
+    elim c.match-format.branch [ in-Ofs w ↦ inl (w.in-Ofs.is, w.settle.new.self, w.image-is, w.settle.ensures.sum, w.settle.ensures.rest) | in-Ffs w ↦ inr (w.in-Ffs.is, w.image-is) ] in
+    holder_inside_new (turn (goal.at.long-holder-requires-clause-block c).After-min-part) c.data_block-block.ensures (part (goal.at.long-holder-requires-clause-block c).After-min-part) (written (goal.at.long-holder-requires-clause-block c).After-put_bytes (bounds (turn (goal.at.long-holder-requires-clause-block c).After-min-part)).1 settled)
 
 pub loop-done-preserved-then-at-part-eq0 : goal.loop-done-preserved-then-at-part-eq0
 loop-done-preserved-then-at-part-eq0 c =
-    let part : c.loop-done.done + c.min-part.result - c.loop-done.done ≡ c.min-part.result = omega arith in
-    record {
-      below = (bounds c.args.image.now c.loop-done.image c.format-format.result c.args.file c.args.pos c.args.bytes.now c.loop-done.done c.min-part.result c.data_size-room.result c.loop-done.holder c.loop-done.invariant.grown c.loop-done.invariant.size_ok c.format-format.ensures c.data_size-room.ensures c.requires.within c.loop-done-test.true c.loop-done.invariant.written c.min-part.ensures (c.loop-done.invariant.holder c.loop-done-test.true)).2;
-      grown = grown_on c.args.image.now c.loop-done.image c.format-format.result c.args.file c.args.pos c.args.bytes.now c.loop-done.done c.min-part.result c.data_size-room.result c.loop-done.holder c.loop-done.invariant.grown c.loop-done.invariant.size_ok c.format-format.ensures c.data_size-room.ensures c.requires.within c.loop-done-test.true c.loop-done.invariant.written c.min-part.ensures (c.loop-done.invariant.holder c.loop-done-test.true) c.data_block-block.result c.data_block-block.ensures c.put_data.new.image (take (c.loop-done.done + c.min-part.result - c.loop-done.done) (drop c.loop-done.done c.args.bytes.now)) (ap (λ (n : ℕ). take n (drop c.loop-done.done c.args.bytes.now)) part) c.put_data.ensures.put c.put_data.ensures.sum c.put_data.ensures.rest c.requires.writable;
-      size_ok = size_kept c.args.image.now c.loop-done.image c.format-format.result c.args.file c.args.pos c.args.bytes.now c.loop-done.done c.min-part.result c.data_size-room.result c.loop-done.holder c.loop-done.invariant.grown c.loop-done.invariant.size_ok c.format-format.ensures c.data_size-room.ensures c.requires.within c.loop-done-test.true c.loop-done.invariant.written c.min-part.ensures (c.loop-done.invariant.holder c.loop-done-test.true) c.data_block-block.result c.data_block-block.ensures c.put_data.new.image (take (c.loop-done.done + c.min-part.result - c.loop-done.done) (drop c.loop-done.done c.args.bytes.now)) (ap (λ (n : ℕ). take n (drop c.loop-done.done c.args.bytes.now)) part) c.put_data.ensures.put c.put_data.ensures.sum c.put_data.ensures.rest;
-      written = written_more c.args.image.now c.loop-done.image c.format-format.result c.args.file c.args.pos c.args.bytes.now c.loop-done.done c.min-part.result c.data_size-room.result c.loop-done.holder c.loop-done.invariant.grown c.loop-done.invariant.size_ok c.format-format.ensures c.data_size-room.ensures c.requires.within c.loop-done-test.true c.loop-done.invariant.written c.min-part.ensures (c.loop-done.invariant.holder c.loop-done-test.true) c.data_block-block.result c.data_block-block.ensures c.put_data.new.image (take (c.loop-done.done + c.min-part.result - c.loop-done.done) (drop c.loop-done.done c.args.bytes.now)) (ap (λ (n : ℕ). take n (drop c.loop-done.done c.args.bytes.now)) part) c.put_data.ensures.put c.put_data.ensures.sum c.put_data.ensures.rest;
-      holder = λ l. holder_next c.args.image.now c.loop-done.image c.format-format.result c.args.file c.args.pos c.args.bytes.now c.loop-done.done c.min-part.result c.data_size-room.result c.loop-done.holder c.loop-done.invariant.grown c.loop-done.invariant.size_ok c.format-format.ensures c.data_size-room.ensures c.requires.within c.loop-done-test.true c.loop-done.invariant.written c.min-part.ensures (c.loop-done.invariant.holder c.loop-done-test.true) c.data_block-block.result c.data_block-block.ensures c.put_data.new.image (take (c.loop-done.done + c.min-part.result - c.loop-done.done) (drop c.loop-done.done c.args.bytes.now)) (ap (λ (n : ℕ). take n (drop c.loop-done.done c.args.bytes.now)) part) c.put_data.ensures.put c.put_data.ensures.sum c.put_data.ensures.rest c.long-holder.result c.if-at-part-eq0.true c.long-holder.ensures;
-    }
+    let t = turn (goal.at.loop-done-preserved-then-at-part-eq0 c).After-min-part in
+    let is = part (goal.at.loop-done-preserved-then-at-part-eq0 c).After-min-part in
+    let settled : IsSettled c.format-format.result c.data_block-block.result c.put_bytes.new.self c.match-format.image =
+    elim c.match-format.branch [ in-Ofs w ↦ inl (w.in-Ofs.is, w.settle.new.self, w.image-is, w.settle.ensures.sum, w.settle.ensures.rest) | in-Ffs w ↦ inr (w.in-Ffs.is, w.image-is) ] in
+    let w = written (goal.at.loop-done-preserved-then-at-part-eq0 c).After-put_bytes (bounds t).1 settled in
+    record { below = (bounds t).2; grown = grown_on t c.data_block-block.ensures is w c.requires.writable; size_ok = size_kept t c.data_block-block.ensures is w; written = written_more t c.data_block-block.ensures is w; holder = λ l. holder_next t c.data_block-block.ensures is w c.if-at-part-eq0.true c.long-holder.ensures }
 
 pub loop-done-preserved : goal.loop-done-preserved
 loop-done-preserved c =
-    let part : c.loop-done.done + c.min-part.result - c.loop-done.done ≡ c.min-part.result = omega arith in
-    record {
-      below = (bounds c.args.image.now c.loop-done.image c.format-format.result c.args.file c.args.pos c.args.bytes.now c.loop-done.done c.min-part.result c.data_size-room.result c.loop-done.holder c.loop-done.invariant.grown c.loop-done.invariant.size_ok c.format-format.ensures c.data_size-room.ensures c.requires.within c.loop-done-test.true c.loop-done.invariant.written c.min-part.ensures (c.loop-done.invariant.holder c.loop-done-test.true)).2;
-      grown = grown_on c.args.image.now c.loop-done.image c.format-format.result c.args.file c.args.pos c.args.bytes.now c.loop-done.done c.min-part.result c.data_size-room.result c.loop-done.holder c.loop-done.invariant.grown c.loop-done.invariant.size_ok c.format-format.ensures c.data_size-room.ensures c.requires.within c.loop-done-test.true c.loop-done.invariant.written c.min-part.ensures (c.loop-done.invariant.holder c.loop-done-test.true) c.data_block-block.result c.data_block-block.ensures c.put_data.new.image (take (c.loop-done.done + c.min-part.result - c.loop-done.done) (drop c.loop-done.done c.args.bytes.now)) (ap (λ (n : ℕ). take n (drop c.loop-done.done c.args.bytes.now)) part) c.put_data.ensures.put c.put_data.ensures.sum c.put_data.ensures.rest c.requires.writable;
-      size_ok = size_kept c.args.image.now c.loop-done.image c.format-format.result c.args.file c.args.pos c.args.bytes.now c.loop-done.done c.min-part.result c.data_size-room.result c.loop-done.holder c.loop-done.invariant.grown c.loop-done.invariant.size_ok c.format-format.ensures c.data_size-room.ensures c.requires.within c.loop-done-test.true c.loop-done.invariant.written c.min-part.ensures (c.loop-done.invariant.holder c.loop-done-test.true) c.data_block-block.result c.data_block-block.ensures c.put_data.new.image (take (c.loop-done.done + c.min-part.result - c.loop-done.done) (drop c.loop-done.done c.args.bytes.now)) (ap (λ (n : ℕ). take n (drop c.loop-done.done c.args.bytes.now)) part) c.put_data.ensures.put c.put_data.ensures.sum c.put_data.ensures.rest;
-      written = written_more c.args.image.now c.loop-done.image c.format-format.result c.args.file c.args.pos c.args.bytes.now c.loop-done.done c.min-part.result c.data_size-room.result c.loop-done.holder c.loop-done.invariant.grown c.loop-done.invariant.size_ok c.format-format.ensures c.data_size-room.ensures c.requires.within c.loop-done-test.true c.loop-done.invariant.written c.min-part.ensures (c.loop-done.invariant.holder c.loop-done-test.true) c.data_block-block.result c.data_block-block.ensures c.put_data.new.image (take (c.loop-done.done + c.min-part.result - c.loop-done.done) (drop c.loop-done.done c.args.bytes.now)) (ap (λ (n : ℕ). take n (drop c.loop-done.done c.args.bytes.now)) part) c.put_data.ensures.put c.put_data.ensures.sum c.put_data.ensures.rest;
-      holder = λ l. holder_same c.args.image.now c.loop-done.image c.format-format.result c.args.file c.args.pos c.args.bytes.now c.loop-done.done c.min-part.result c.data_size-room.result c.loop-done.holder c.loop-done.invariant.grown c.loop-done.invariant.size_ok c.format-format.ensures c.data_size-room.ensures c.requires.within c.loop-done-test.true c.loop-done.invariant.written c.min-part.ensures (c.loop-done.invariant.holder c.loop-done-test.true) c.data_block-block.result c.data_block-block.ensures c.put_data.new.image (take (c.loop-done.done + c.min-part.result - c.loop-done.done) (drop c.loop-done.done c.args.bytes.now)) (ap (λ (n : ℕ). take n (drop c.loop-done.done c.args.bytes.now)) part) c.put_data.ensures.put c.put_data.ensures.sum c.put_data.ensures.rest c.if-at-part-eq0.false;
-    }
+    let t = turn (goal.at.loop-done-preserved c).After-min-part in
+    let is = part (goal.at.loop-done-preserved c).After-min-part in
+    let settled : IsSettled c.format-format.result c.data_block-block.result c.put_bytes.new.self c.match-format.image =
+    elim c.match-format.branch [ in-Ofs w ↦ inl (w.in-Ofs.is, w.settle.new.self, w.image-is, w.settle.ensures.sum, w.settle.ensures.rest) | in-Ffs w ↦ inr (w.in-Ffs.is, w.image-is) ] in
+    let w = written (goal.at.loop-done-preserved c).After-put_bytes (bounds t).1 settled in
+    record { below = (bounds t).2; grown = grown_on t c.data_block-block.ensures is w c.requires.writable; size_ok = size_kept t c.data_block-block.ensures is w; written = written_more t c.data_block-block.ensures is w; holder = λ l. holder_same t c.data_block-block.ensures is w c.if-at-part-eq0.false }

@@ -4,9 +4,8 @@ use Rattle.ados_model.specs.File.{contents}
 use Rattle.ados_data.specs.Growth.{GrowsFile}
 use Rattle.ados_data.proofs.Composing.{grows_over, below_grown}
 use Rattle.ados_data.proofs.Fitting.{size_fits}
-use Rattle.ados_data.proofs.LongerBytes.{overlaid_longer}
-use Rattle.ados_data.proofs.Overlaid.{overlaid_zeros}
-use Rattle.ados_data.proofs.Placed.{among_more}
+use Rattle.ados_data.proofs.Overlaid.{overlaid_longer, overlaid_zeros}
+use Rattle.ados_data.proofs.Places.{among_more}
 use Rattle.ados_data.proofs.write.write_near.Goals as goal
 
 pub overflow_cast-size : goal.overflow_cast-size
