@@ -6,7 +6,7 @@ use Rattle.adf_block.specs.Image.{block_count, long, block_sum}
 use Rattle.adf_block.specs.declared.layout.TheConstants.{COMMENT_BYTE, NAME_BYTE}
 use Rattle.adf_block.specs.Frame.{SameBut}
 use Rattle.ados_name.specs.Name.{Same, slot}
-use Rattle.ados_model.specs.Stands.{HasExtension, format_byte}
+use Rattle.ados_model.specs.Stands.{format_byte}
 use Rattle.ados_model.specs.declared.role.Role.{Role}
 use Rattle.ados_model.specs.declared.role.Role.TheVariants.{Root, Page, Entry, Data, Extension}
 use Rattle.ados_model.specs.Faults.{InImage, IsPlace, Reached, root_of}
@@ -15,7 +15,7 @@ use Rattle.ados_model.specs.Rebuilt.{IsOfBitmap}
 use Rattle.ados_check.specs.declared.mark.Mark.{Mark}
 use Rattle.ados_check.specs.Marks.{mark_at, AreReached, IsChecked, IsMarkedEntry, IsSound, IsSoundRoot, IsSoundEntry, IsSoundData}
 use Rattle.ados_check.proofs.Roles.{reached_marked, root_role}
-use Rattle.ados_check.proofs.Untouched.{place_moves, IsPlaceLong, place_long, count_same, root_same, IsUntouched, boot_untouched, untouched, long_kept, byte_kept, bytes_kept, sum_kept, root_longs, format_same, longs_kept, name_same, name_valid, root_name_valid}
+use Rattle.ados_check.proofs.Untouched.{place_moves, IsPlaceLong, place_long, count_same, root_same, IsUntouched, boot_untouched, untouched, long_kept, byte_kept, bytes_kept, sum_kept, root_longs, format_same, longs_kept, name_same, name_valid, root_name_valid, extension_kept}
 use Rattle.ados_check.proofs.FilesKept.{sound_file_kept}
 
 module _ (old new : List ℕ) (marks : List (Option Mark)) (im : IsImage old) (c : IsChecked old marks) (same : SameBut (IsOfBitmap old) old new)
@@ -101,15 +101,6 @@ module _ (old new : List ℕ) (marks : List (Option Mark)) (im : IsImage old) (c
     sum = sum_kept old new marks im c.reached same block free ∙ h.sum;
   }
 
-  sound_extension : (block file : ℕ) → Free block → HasExtension old file block → HasExtension new file block
-  sound_extension block file free h = record {
-    primary = kept block 0 free (omega arith) ∙ h.primary;
-    key_field = kept block 1 free (omega arith) ∙ h.key_field;
-    sum = sum_kept old new marks im c.reached same block free ∙ h.sum;
-    parent = kept block 125 free (omega arith) ∙ h.parent;
-    secondary = kept block 127 free (omega arith) ∙ h.secondary;
-  }
-
   sound_new : (block : ℕ) (m : Mark) → mark_at marks block ≡ Some m → IsSound new block m.role
   sound_new block m e = go m.role refl (c.reached.sound block m e)
     where
@@ -121,7 +112,7 @@ module _ (old new : List ℕ) (marks : List (Option Mark)) (im : IsImage old) (c
       go Page is h = page_sums block (subst (Reached old block) is (c.reached.reached block m e))
       go (Entry dir s) is h = sound_entry block dir s (free (λ z. cc (is, z)) (λ z. cc (is, z))) h
       go (Data file) is h = λ ofs. sound_data block file (free (λ z. cc (is, z)) (λ z. cc (is, z))) (h (sym (byte_kept old new marks im c.reached same 0 3 (boot_untouched old new marks im c.reached same) (omega arith)) ∙ ofs))
-      go (Extension file) is h = sound_extension block file (free (λ z. cc (is, z)) (λ z. cc (is, z))) h
+      go (Extension file) is h = extension_kept old new marks im c.reached same block file (free (λ z. cc (is, z)) (λ z. cc (is, z))) h
 
   -- ---- the marks
 

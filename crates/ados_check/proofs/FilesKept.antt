@@ -8,7 +8,7 @@ use Rattle.adf_block.specs.Fields.{file_size, format_of}
 use Rattle.adf_block.specs.declared.layout.TheConstants.{NEXT_EXTENSION, NEXT_DATA}
 use Rattle.adf_block.specs.Frame.{SameBut}
 use Rattle.ados_model.specs.Tree.{data_size, data_start, data_count}
-use Rattle.ados_model.specs.Stands.{HasExtension, HasOfsData, HasFile}
+use Rattle.ados_model.specs.Stands.{HasOfsData, HasFile}
 use Rattle.ados_model.specs.File.{file_byte, AreApart, IsLawful, data_blocks, extension_blocks, contents}
 use Rattle.ados_data.proofs.Spelled.{lawful_file}
 use Rattle.ados_model.specs.declared.role.Role.TheVariants as roles
@@ -18,7 +18,7 @@ use Rattle.ados_check.specs.Marks.{mark_at, IsChecked, IsSoundFile}
 use Rattle.ados_check.proofs.Paths.{mark_of}
 use Rattle.ados_check.proofs.Roles.{IsMarkedFile, marked_inside}
 use Rattle.ados_check.proofs.RolePlaces.{length-data_blocks, length-extension_blocks, length-contents, sound_file, StandsAt, marked_at, one_place, holder_of, long_of, holder_within, different_headers}
-use Rattle.ados_check.proofs.Untouched.{count_same, IsUntouched, untouched, long_kept, byte_kept, sum_kept, format_same}
+use Rattle.ados_check.proofs.Untouched.{count_same, IsUntouched, untouched, long_kept, byte_kept, sum_kept, format_same, extension_kept}
 
 -- a linked list with unchanged links
 chained_moves : (old new : List ℕ) (link first : ℕ) (xs : List ℕ) → ((i : ℕ) → i < length xs → long new (slice_index xs i) link ≡ long old (slice_index xs i) link) → Chained old link first xs → Chained new link first xs
@@ -66,15 +66,6 @@ module _ (old new : List ℕ) (marks : List (Option Mark)) (im : IsImage old) (c
   h : IsSoundFile old file
   h = sound_file old marks im c file f
 
-  extension_kept : (block : ℕ) → Free block → HasExtension old file block → HasExtension new file block
-  extension_kept block free e = record {
-    primary = kept block 0 free (omega arith) ∙ e.primary;
-    key_field = kept block 1 free (omega arith) ∙ e.key_field;
-    sum = sum_kept old new marks im c.reached same block free ∙ e.sum;
-    parent = kept block 125 free (omega arith) ∙ e.parent;
-    secondary = kept block 127 free (omega arith) ∙ e.secondary;
-  }
-
   ofs_data_kept : (size i block : ℕ) → Free block → HasOfsData old file size i block → HasOfsData new file size i block
   ofs_data_kept size i block free e = record {
     primary = kept block 0 free (omega arith) ∙ e.primary;
@@ -94,7 +85,7 @@ module _ (old new : List ℕ) (marks : List (Option Mark)) (im : IsImage old) (c
     size = kept file 81 header_free (omega arith) ∙ h.size;
     chain = subst (λ (first : ℕ). Chained new NEXT_EXTENSION first (extension_blocks old file)) (sym (kept file 126 header_free (omega arith)))
         (chained_moves old new NEXT_EXTENSION (long old file NEXT_EXTENSION) (extension_blocks old file) (λ i l. kept _ 126 (extension_free i l) (omega arith)) h.chain);
-    extension = λ i l. extension_kept _ (extension_free i l) (h.extension i l);
+    extension = λ i l. extension_kept old new marks im c.reached same _ file (extension_free i l) (h.extension i l);
     counts = λ i l. kept _ 2 (headers_free i l) (omega arith) ∙ h.counts i l;
     pointers = λ i l. kept _ (77 - i % 72) (headers_free (i / 72) (holder_within old marks im c file i l)) (omega arith) ∙ h.pointers i l;
     contents = λ k l. h.contents k l ∙ sym (content_kept (format_of old) k (length-data_blocks old file) (omega (arith, l, h.size)));

@@ -1,5 +1,5 @@
 -- A reached block that is marked free is a fault of the bitmap.
-use Rattle.std.proofs.Common.{◌≡◌, ℕ, suc, ◌<◌, List, ◌∷◌, get_or, true, false, Option, Some, None, is_some, refl, sym, ap, ◌∙◌, arith}
+use Rattle.std.proofs.Common.{◌≡◌, ℕ, ◌<◌, List, get_or, true, false, Option, Some, None, is_some, sym, ap, ◌∙◌, arith}
 use Rattle.std.proofs.lemmas.Bool.{false≢true}
 use Rattle.adf_block.specs.Whole.{IsImage, HasFreeBit}
 use Rattle.ados_map.specs.Pages.{LawfulPages, page_block, page_of, pages_of}
@@ -9,11 +9,7 @@ use Rattle.ados_check.specs.BitmapTold.{IsFree}
 use Rattle.ados_check.specs.declared.mark.Mark.{Mark}
 use Rattle.ados_check.specs.Marks.{mark_at, IsChecked}
 use Rattle.ados_check.proofs.Roles.{marked_inside}
-use Rattle.ados_check.proofs.MarkLemmas.{some_is}
-
-pub mark_got : (marks : List (Option Mark)) (block : ℕ) → mark_at marks block ≡ get_or marks block None
-mark_got (m ∷ ms) (suc block) = mark_got ms block
-mark_got _ _ = refl
+use Rattle.ados_check.proofs.MarkLemmas.{mark_got, some_is}
 
 -- a cell with a mark
 pub marked_by : (marks : List (Option Mark)) (block : ℕ) → is_some (get_or marks block None) ≡ true → (mark : Mark) × (mark_at marks block ≡ Some mark)

@@ -1,14 +1,11 @@
 -- The marks and the pending blocks when one cell changes.
-use Rattle.std.proofs.Common.{◌≡◌, ◌≢◌, ℕ, ◌+◌, ◌-◌, ◌<◌, ◌≤◌, ◌⊎◌, inl, inr, List, [], ◌∷◌, ◌++◌, length, get_or, AllPairs, Contains, replicate, Option, None, Some, is_some, true, false, cond, refl, sym, ap, ◌∙◌, arith}
-use Rattle.std.specs.List.{slice_get}
-use Rattle.std.specs.Option.{option_and_then}
+use Rattle.std.proofs.Common.{◌≡◌, ◌≢◌, ℕ, suc, ◌+◌, ◌-◌, ◌<◌, ◌≤◌, ◌⊎◌, inl, inr, List, [], ◌∷◌, ◌++◌, length, get_or, AllPairs, Contains, replicate, Option, None, Some, is_some, true, false, cond, refl, sym, ap, ◌∙◌, arith}
 use Rattle.std.proofs.Math.ListN.{set}
-use Rattle.std.proofs.lemmas.List.{get_or-set_same, get_or-set_other, get_or-replicate, length-replicate, length-set, length-append, get_or_append_left, get_or-append_right}
+use Rattle.std.proofs.lemmas.List.{get_or_default, get_or_past, get_or-set_same, get_or-set_other, get_or-replicate, length-replicate, length-set, length-append, get_or_append_left, get_or-append_right}
 use Rattle.std.proofs.lemmas.List.Sums.{sum_by-set}
 use Rattle.std.proofs.lemmas.List.Folds.{sum_by-replicate}
 use Rattle.std.proofs.lemmas.List.Elements.{Contains-append_cases, Contains-append_left, Contains-append_right}
 use Rattle.std.proofs.lemmas.List.Quantifiers.{all_pairs_push}
-use Rattle.std.proofs.lemmas.Option.{slice_get-get_or, slice_get_past}
 use Rattle.std.proofs.lemmas.Bool.{cases_lt}
 use Rattle.ados_check.specs.declared.mark.Mark.{Mark}
 use Rattle.ados_check.specs.Marks.{mark_at}
@@ -23,18 +20,16 @@ pub record IsMarkedMore (marks new : List (Option Mark)) (block : ℕ) (mark : M
   pub others : (other : ℕ) → other ≢ block → mark_at new other ≡ mark_at marks other
   pub fewer : unmarked new + 1 ≡ unmarked marks
 
-joined : (o : Option (Option Mark)) (x : Option Mark) → o ≡ Some x → option_and_then (λ mark. mark) o ≡ x
-joined o x e = ap (option_and_then (λ (mark : Option Mark). mark)) e
-
 -- the mark of a block is the element at its number
-pub mark_read : (marks : List (Option Mark)) (block : ℕ) (x : Option Mark) → block < length marks → x ≡ get_or marks block x → mark_at marks block ≡ x
-mark_read marks block x l e = joined (slice_get marks block) x (slice_get-get_or marks block x l ∙ ap (λ (y : Option Mark). Some y) (sym e))
+pub mark_got : (marks : List (Option Mark)) (block : ℕ) → mark_at marks block ≡ get_or marks block None
+mark_got (m ∷ ms) (suc block) = mark_got ms block
+mark_got _ _ = refl
 
-pub mark_get_or : (marks : List (Option Mark)) (block : ℕ) (d : Option Mark) → block < length marks → mark_at marks block ≡ get_or marks block d
-mark_get_or marks block d l = joined (slice_get marks block) (get_or marks block d) (slice_get-get_or marks block d l)
+pub mark_read : (marks : List (Option Mark)) (block : ℕ) (x : Option Mark) → block < length marks → x ≡ get_or marks block x → mark_at marks block ≡ x
+mark_read marks block x l e = mark_got marks block ∙ get_or_default marks block None x l ∙ sym e
 
 past : (marks : List (Option Mark)) (block : ℕ) → length marks ≤ block → mark_at marks block ≡ None
-past marks block l = ap (option_and_then (λ (mark : Option Mark). mark)) (slice_get_past marks block l)
+past marks block l = mark_got marks block ∙ get_or_past marks block None l
 
 pub marked_within : (marks : List (Option Mark)) (block : ℕ) (mark : Mark) → mark_at marks block ≡ Some mark → block < length marks
 marked_within marks block mark e = elim (cases_lt block (length marks)) [
@@ -44,16 +39,12 @@ marked_within marks block mark e = elim (cases_lt block (length marks)) [
 
 pub marked_more : (marks : List (Option Mark)) (block : ℕ) (mark : Mark) → block < length marks → mark_at marks block ≡ None → IsMarkedMore marks (set marks block (Some mark)) block mark
 marked_more marks block mark l none =
-    let same : length (set marks block (Some mark)) ≡ length marks = length-set marks block (Some mark) in
-    let was : get_or marks block None ≡ None = sym (mark_get_or marks block None l) ∙ none in
+    let was : get_or marks block None ≡ None = sym (mark_got marks block) ∙ none in
     record {
-      same_size = same;
+      same_size = length-set marks block (Some mark);
       was = none;
-      is = mark_get_or (set marks block (Some mark)) block None (omega arith) ∙ get_or-set_same marks block (Some mark) None l;
-      others = λ other ne. elim (cases_lt other (length marks)) [
-        | inl inside ↦ mark_get_or (set marks block (Some mark)) other None (omega arith) ∙ get_or-set_other marks block other (Some mark) None ne ∙ sym (mark_get_or marks other None inside)
-        | inr outside ↦ past (set marks block (Some mark)) other (omega arith) ∙ sym (past marks other outside)
-      ];
+      is = mark_got (set marks block (Some mark)) block ∙ get_or-set_same marks block (Some mark) None l;
+      others = λ other ne. mark_got (set marks block (Some mark)) other ∙ get_or-set_other marks block other (Some mark) None ne ∙ sym (mark_got marks other);
       fewer =
           let count = sum_by-set (λ (m : Option Mark). cond (is_some m) 0 1) marks block (Some mark) None l in
           let cell : Option Mark → ℕ = λ m. cond (is_some m) 0 1 in
@@ -73,12 +64,9 @@ pushed_has_old pending block other h = Contains-append_left pending (block ∷ [
 pub pushed_has_new : (pending : List ℕ) (block : ℕ) → Contains (pending ++ block ∷ []) block
 pushed_has_new pending block = Contains-append_right pending (block ∷ []) block (0, omega arith, refl)
 
-same_default : (xs : List ℕ) (k a b : ℕ) → k < length xs → get_or xs k a ≡ get_or xs k b
-same_default xs k a b l = let e : Some (get_or xs k a) ≡ Some (get_or xs k b) = sym (slice_get-get_or xs k a l) ∙ slice_get-get_or xs k b l in cc e
-
 pub once_pushed : (pending : List ℕ) (block : ℕ) → AllPairs (λ a b. a ≢ b) pending → ¬ Contains pending block → AllPairs (λ a b. a ≢ b) (pending ++ block ∷ [])
 once_pushed pending block once not_in =
-    all_pairs_push (λ (a b : ℕ). a ≢ b) pending block once (λ k d l e. not_in (k, l, same_default pending k block d l ∙ e))
+    all_pairs_push (λ (a b : ℕ). a ≢ b) pending block once (λ k d l e. not_in (k, l, get_or_default pending k block d l ∙ e))
 
 pub once_rest : (rest : List ℕ) (block : ℕ) → AllPairs (λ a b. a ≢ b) (rest ++ block ∷ []) → AllPairs (λ a b. a ≢ b) rest
 once_rest rest block once i j d lt l e =
@@ -94,7 +82,7 @@ last_not_in_rest rest block once (k, l, e) =
 -- no marks
 pub none_marked : (n block : ℕ) → mark_at (replicate n None) block ≡ None
 none_marked n block = elim (cases_lt block n) [
-  | inl l ↦ mark_get_or (replicate n None) block None (omega (arith, length-replicate {A = Option Mark} n None)) ∙ get_or-replicate n block None None l
+  | inl l ↦ mark_got (replicate n None) block ∙ get_or-replicate n block None None l
   | inr l ↦ past (replicate n None) block (omega (arith, length-replicate {A = Option Mark} n None))
 ]
 

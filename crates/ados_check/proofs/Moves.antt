@@ -13,10 +13,11 @@ use Rattle.ados_model.specs.Faults.HasBadPointer.{outside}
 use Rattle.ados_model.specs.Faults.{Reached}
 use Rattle.ados_check.specs.declared.mark.Mark.{Mark}
 use Rattle.ados_check.specs.Marks.{mark_at, IsSound}
-use Rattle.ados_check.specs.steps.Reaching.{root_mark, ArePending, IsBetween, IsInHand, IsLeft}
+use Rattle.ados_check.specs.steps.Reaching.{root_mark, unmarked, work, ArePending, IsBetween, IsInHand, IsLeft}
 use Rattle.ados_check.proofs.MarkLemmas.{IsMarkedMore, marked_more, in_pushed, pushed_has_old, pushed_has_new, once_pushed, once_rest, last_not_in_rest, none_marked, all_unmarked}
+use Rattle.ados_check.proofs.Paths.{mark_of}
 use Rattle.ados_check.proofs.PlaceLemmas.{place_within}
-use Rattle.ados_check.proofs.ReachMoves.{mark_of, in_hand, with_left, gone_through}
+use Rattle.ados_check.proofs.ReachMoves.{in_hand, with_left, gone_through}
 
 -- a marked block is not the one without a mark
 fresh : (marks : List (Option Mark)) (block other : ℕ) (mark : Mark) → mark_at marks block ≡ None → mark_at marks other ≡ Some mark → other ≢ block
@@ -126,6 +127,15 @@ took_at image marks pending pushed hand i role next block e h place only within 
     let moved = took image marks (set marks (long image hand i) (Some (mark_of next hand i))) pending hand i role next h place only inside (subst (λ (b : ℕ). IsSound image b next) e sound) more in
     subst (λ (xs : List ℕ). IsInHand image (set marks block (Some (mark_of next hand i))) xs hand role (i + 1)) (sym added)
     (subst (λ (b : ℕ). IsInHand image (set marks b (Some (mark_of next hand i))) (pending ++ b ∷ []) hand role (i + 1)) (sym e) moved)
+
+-- what is left to do after a mark
+pub marked_less : (marks : List (Option Mark)) (block : ℕ) (mark : Mark) → block < length marks → mark_at marks block ≡ None → unmarked (set marks block (Some mark)) + 1 ≡ unmarked marks
+marked_less marks block mark l none = (marked_more marks block mark l none).fewer
+
+pub took_less : (marks : List (Option Mark)) (pending pushed : List ℕ) (block : ℕ) (mark : Mark) → block < length marks → mark_at marks block ≡ None → pushed ≡ pending ++ block ∷ [] → work (set marks block (Some mark)) pushed ≤ work marks pending
+took_less marks pending pushed block mark l none added =
+    let pushed_one : length pushed ≡ length pending + 1 = ap length added ∙ length-append pending (block ∷ []) in
+    omega (arith, marked_less marks block mark l none, pushed_one)
 
 -- a block whose role has no places need not be pending
 not_waiting : (image : List ℕ) (marks : List (Option Mark)) (pending : List ℕ) (block hand from : ℕ) (role : Role) (mark : Mark) → mark_at marks block ≡ Some mark → ((i : ℕ) (next : Role) → ¬ IsPlace image block mark.role i next)

@@ -9,10 +9,7 @@ use Rattle.ados_check.specs.declared.mark.Mark.{Mark}
 use Rattle.ados_check.specs.Marks.{mark_at, IsSound}
 use Rattle.ados_check.specs.steps.Reaching.{root_mark, IsNoted, AreReachedBut}
 use Rattle.ados_check.proofs.MarkLemmas.{IsMarkedMore}
-
--- the mark by a place
-abbrev pub mark_of : Role → ℕ → ℕ → Mark
-mark_of next holder i = record { role = next; holder = holder; long = i }
+use Rattle.ados_check.proofs.Paths.{mark_of}
 
 -- a place of the visited block, under its other names
 pub in_hand : (image : List ℕ) (marks : List (Option Mark)) (hand i block j : ℕ) (m mark : Mark) (next : Role) → mark_at marks hand ≡ Some m → mark_at marks block ≡ Some mark → block ≡ hand → j ≡ i → IsPlace image block mark.role j next → IsPlace image hand m.role i next

@@ -16,6 +16,7 @@ use Rattle.ados_model.proofs.Lists.{joined}
 use Rattle.ados_model.proofs.Nodes.{parent_in, content_in, directory_in}
 use Rattle.ados_check.specs.declared.mark.Mark.{Mark}
 use Rattle.ados_check.specs.Marks.{mark_at, IsChecked, IsSound, IsSoundEntry}
+use Rattle.ados_check.proofs.MarkLemmas.{none_is}
 use Rattle.ados_check.proofs.Paths.{mark_of}
 use Rattle.ados_check.proofs.Roles.{IsMarkedDirectory, as_root, as_entry, IsMarkedFile, root_role}
 use Rattle.ados_check.proofs.RolePlaces.{chain_of}
@@ -182,10 +183,6 @@ module _ (image : List ℕ) (marks : List (Option Mark)) where
     pub unmarked : mark_at marks block ≡ None
     pub used : has_free_bit image block ≡ false
 
-  none_marked : (o : Option Mark) → is_some o ≡ false → o ≡ None
-  none_marked None e = refl
-  none_marked (Some m) e = absurd (cc e)
-
   lost_means : (block : ℕ) → is_lost image marks block ≡ true → IsLost block
   unfolding is_lost
   lost_means block e =
@@ -194,7 +191,7 @@ module _ (image : List ℕ) (marks : List (Option Mark)) where
       let three = and_parts _ _ two.1 in
       record {
         inside = (leb-true 2 block one.0, ltb-true block (block_count image) two.0);
-        unmarked = none_marked _ (not-true _ three.0);
+        unmarked = none_is _ (not-true _ three.0);
         used = not-true _ three.1;
       }
 

@@ -12,6 +12,7 @@ use Rattle.ados_model.specs.declared.role.Role.TheVariants.{Root, Page}
 use Rattle.ados_model.specs.Faults.{IsPlace, IsPointer, Reached, root_of}
 use Rattle.ados_model.specs.Faults.IsPlace.{root_page, root_slot, directory_slot, next_entry, header_pointer, first_extension, extension_pointer, further_extension}
 use Rattle.ados_model.specs.Rebuilt.{IsOfBitmap}
+use Rattle.ados_model.specs.Stands.{HasExtension}
 use Rattle.ados_check.specs.declared.mark.Mark.{Mark}
 use Rattle.ados_check.specs.Marks.{mark_at, AreReached, HasValidName}
 use Rattle.ados_check.proofs.Roles.{one_role, reached_inside, root_role}
@@ -117,49 +118,45 @@ module _ (old new : List ℕ) (marks : List (Option Mark)) (im : IsImage old) (r
 
   -- ---- names
 
-  -- a text with unchanged bytes
-  text_kept : (block i : ℕ) → byte_at new block i ≡ byte_at old block i → bytes_at new block (i + 1) (byte_at old block i) ≡ bytes_at old block (i + 1) (byte_at old block i) → text_at new block i ≡ text_at old block i
-  text_kept block i count bytes = ap (bytes_at new block (i + 1)) count ∙ bytes
+  -- no byte of the name belongs to the bitmap
+  abbrev IsNameFree : ℕ → Type 0
+  IsNameFree block = (k : ℕ) → NAME_BYTE ≤ k → ¬ IsOfBitmap old block k
 
-  has_text : (block i : ℕ) → byte_at new block i ≡ byte_at old block i → bytes_at new block (i + 1) (byte_at old block i) ≡ bytes_at old block (i + 1) (byte_at old block i) → HasText old block i (text_at old block i) → HasText new block i (text_at old block i)
-  has_text block i count bytes h = record {
-    counted = count ∙ h.counted;
-    follows = ap (bytes_at new block (i + 1)) (sym h.counted) ∙ bytes;
-  }
+  name_kept : (block : ℕ) → IsNameFree block → HasValidName old block
+      → (byte_at new block NAME_BYTE ≡ byte_at old block NAME_BYTE) × (bytes_at new block (NAME_BYTE + 1) (byte_at old block NAME_BYTE) ≡ text_at old block NAME_BYTE)
+  name_kept block free h = (
+    same.same_byte block NAME_BYTE (omega arith) (free NAME_BYTE (omega arith)),
+    same_bytes_at (IsOfBitmap old) old new same block (NAME_BYTE + 1) (byte_at old block NAME_BYTE) (omega (arith, h.text.counted, h.valid.short)) (λ k from below. free k (omega (arith, from))),
+  )
 
-  record IsNameKept (block : ℕ) : Type 0 where
-    pub byte : byte_at new block NAME_BYTE ≡ byte_at old block NAME_BYTE
-    pub bytes : bytes_at new block (NAME_BYTE + 1) (byte_at old block NAME_BYTE) ≡ bytes_at old block (NAME_BYTE + 1) (byte_at old block NAME_BYTE)
+  same_name : (block : ℕ) → IsNameFree block → HasValidName old block → text_at new block NAME_BYTE ≡ text_at old block NAME_BYTE
+  same_name block free h = let kept = name_kept block free h in ap (bytes_at new block (NAME_BYTE + 1)) kept.0 ∙ kept.1
 
-  short_name : (block : ℕ) → HasValidName old block → byte_at old block NAME_BYTE ≤ 30
-  short_name block h = omega (arith, h.text.counted, h.valid.short)
-
-  name_kept : (block : ℕ) → IsUntouched block → HasValidName old block → IsNameKept block
-  name_kept block free h =
-      let short = short_name block h in
-      record { byte = byte_kept block NAME_BYTE free (omega arith); bytes = bytes_kept block (NAME_BYTE + 1) (byte_at old block NAME_BYTE) free (omega (arith, short)) }
-
-  root_name_kept : HasValidName old (root_of old) → IsNameKept (root_of old)
-  root_name_kept h =
-      let short = short_name (root_of old) h in
+  valid_name : (block : ℕ) → IsNameFree block → HasValidName old block → HasValidName new block
+  valid_name block free h =
+      let kept = name_kept block free h in
+      let text = sym (same_name block free h) in
       record {
-        byte = same.same_byte (root_of old) NAME_BYTE (omega arith) (root_untouched NAME_BYTE (λ z. omega (arith, z)) (λ z. omega (arith, z)));
-        bytes = same_bytes_at (IsOfBitmap old) old new same (root_of old) (NAME_BYTE + 1) (byte_at old (root_of old) NAME_BYTE) (omega (arith, short)) (λ k from below. root_untouched k (λ z. omega (arith, z, from)) (λ z. omega (arith, z, from)));
-      }
-
-  valid_name : (block : ℕ) → IsNameKept block → HasValidName old block → HasValidName new block
-  valid_name block kept h =
-      let text = text_kept block NAME_BYTE kept.byte kept.bytes in
-      record {
-        text = subst (HasText new block NAME_BYTE) (sym text) (has_text block NAME_BYTE kept.byte kept.bytes h.text);
-        valid = subst IsName (sym text) h.valid;
+        text = subst (HasText new block NAME_BYTE) text (record { counted = kept.0 ∙ h.text.counted; follows = ap (bytes_at new block (NAME_BYTE + 1)) (sym h.text.counted) ∙ kept.1 });
+        valid = subst IsName text h.valid;
       }
 
   pub name_same : (block : ℕ) → IsUntouched block → HasValidName old block → text_at new block NAME_BYTE ≡ text_at old block NAME_BYTE
-  name_same block free h = let kept = name_kept block free h in text_kept block NAME_BYTE kept.byte kept.bytes
+  name_same block free = same_name block (λ k from. free k)
 
   pub name_valid : (block : ℕ) → IsUntouched block → HasValidName old block → HasValidName new block
-  name_valid block free h = valid_name block (name_kept block free h) h
+  name_valid block free = valid_name block (λ k from. free k)
 
   pub root_name_valid : HasValidName old (root_of old) → HasValidName new (root_of old)
-  root_name_valid h = valid_name (root_of old) (root_name_kept h) h
+  root_name_valid = valid_name (root_of old) (λ k from. root_untouched k (λ z. omega (arith, z, from)) (λ z. omega (arith, z, from)))
+
+  -- ---- blocks of a file
+
+  pub extension_kept : (block file : ℕ) → IsUntouched block → HasExtension old file block → HasExtension new file block
+  extension_kept block file free e = record {
+    primary = long_kept block 0 free (omega arith) ∙ e.primary;
+    key_field = long_kept block 1 free (omega arith) ∙ e.key_field;
+    sum = sum_kept block free ∙ e.sum;
+    parent = long_kept block 125 free (omega arith) ∙ e.parent;
+    secondary = long_kept block 127 free (omega arith) ∙ e.secondary;
+  }

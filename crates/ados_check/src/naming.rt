@@ -1,7 +1,7 @@
 //! The name of a root or entry, valid or not.
 ghost use Rattle.std.specs.Prelude.{◌≡◌, ◌↔◌, ◌<◌, ◌≤◌, IsTrue, length};
 ghost use Rattle.adf_block.specs.Image.{block_count};
-ghost use Rattle.adf_block.specs.Whole.{IsImage, text_at};
+ghost use Rattle.adf_block.specs.Whole.{IsImage};
 ghost use Rattle.ados_name.specs.Name.{hash};
 ghost use Rattle.ados_model.specs.Faults.{HasBadName, HasName, HasShortName};
 ghost use Rattle.ados_check.specs.PlacesTold.{TellsAll};
@@ -22,7 +22,7 @@ pub(crate) fn has_bad_name(source: &Source<'_>, block: u32) -> bool
     if !has_short_name(source, block) {
         return true;
     }
-    match Name::new(short_text(source, block)) {
+    match Name::new(source.short_text(block)) {
         Ok(_) => false,
         Err(_) => true,
     }
@@ -54,30 +54,13 @@ pub fn upper_name(source: &Source<'_>, block: u32) -> [u8; 31]
     name
 }
 
-/// The bytes of a name of at most 30 bytes.
-fn short_text<'b>(source: &'b Source<'_>, block: u32) -> &'b [u8]
-    requires inside { block < block_count source.now.bytes }
-    requires told { TellsAll source.now block }
-    requires short { HasShortName source.now.bytes block }
-    ensures text { result.now ≡ text_at source.now.bytes block NAME_BYTE }
-    ensures short { HasShortName source.now.bytes block }
-    ensures few { length result.now ≤ 30 }
-{
-    let length = usize::from(source.byte(block, NAME_BYTE));
-    let start = NAME_BYTE as usize + 1;
-    &source.block(block)[start..start + length]
-}
-
 /// Whether the entry is in the hash chain of another slot than its name's.
 pub(crate) fn is_of_other_slot(source: &Source<'_>, block: u32, chain: u32) -> bool
     requires inside { block < block_count source.now.bytes }
     requires told { TellsAll source.now block }
     ensures { IsTrue result ↔ IsOfOtherSlot source.now.bytes block chain }
 {
-    if !has_short_name(source, block) {
-        return false;
-    }
-    hash_of(short_text(source, block)) % TABLE_LONGS != chain
+    has_short_name(source, block) && hash_of(source.short_text(block)) % TABLE_LONGS != chain
 }
 
 /// The hash of a name, valid or not.

@@ -35,9 +35,12 @@ pub(crate) const NO_MEMORY: VolumeFault = VolumeFault {
 pub fn reach(alloc: Global, source: &Source<'_>) -> Result<Vec<Option<Mark>>, VolumeFault>
     ensures { MatchResult result (λ marks. AreReached source.now.bytes marks.items) (λ fault. IsRefusal source.now.bytes fault) }
 {
+    prove!(source.blocks() >= 16);
     let mut progress = Progress::start(alloc, source)?;
     while let Some((block, role)) = progress.next(source) {
-        progress.go_through(source, block, role)?;
+        let from = table_from(source, block, role);
+        progress.pass_all(source, block, role, from, TABLE_END)?;
+        progress.pass_all(source, block, role, fields_from(role), SECONDARY_TYPE)?;
     }
     Ok(progress.marks)
 }
@@ -85,88 +88,53 @@ impl Progress {
         }
     }
 
-    /// Visits the places of this block.
-    fn go_through(&mut self, source: &Source<'_>, block: u32, role: Role) -> Result<(), VolumeFault>
-        requires hand { IsInHand source.now.bytes self.old.marks.items self.old.pending.items block role FIRST_SLOT }
-        requires capacity { block_count source.now.bytes ≤ vec_capacity self.old.pending }
-        ensures between { IfOk result (λ _. IsBetween source.now.bytes self.new.marks.items self.new.pending.items) }
-        ensures work { IfOk result (λ _. work self.new.marks.items self.new.pending.items ≤ work self.old.marks.items self.old.pending.items) }
-        ensures capacity { vec_capacity self.new.pending ≡ vec_capacity self.old.pending }
-        ensures shown { IfErr result (λ fault. Shows source.now.bytes fault.kind fault.block) }
-    {
-        prove!(source.blocks() >= 16);
-        let from = table_from(source, block, role);
-        self.pass_all(source, block, role, from, TABLE_END)?;
-        self.pass_all(source, block, role, fields_from(role), SECONDARY_TYPE)?;
-        Ok(())
-    }
-
-    /// Visits the longs in a part of this block.
+    /// Visits the longs in a part of a block. If a long is a place, the block that it names is checked and marked. That
+    /// block becomes pending if it can name others itself.
     fn pass_all(
         &mut self,
         source: &Source<'_>,
-        block: u32,
+        holder: u32,
         role: Role,
         from: u32,
         to: u32,
     ) -> Result<(), VolumeFault>
-        requires hand { IsInHand source.now.bytes self.old.marks.items self.old.pending.items block role from }
+        requires hand { IsInHand source.now.bytes self.old.marks.items self.old.pending.items holder role from }
         requires part { from ≤ to }
         requires longs { to ≤ SECONDARY_TYPE }
         requires capacity { block_count source.now.bytes ≤ vec_capacity self.old.pending }
-        ensures hand { IfOk result (λ _. IsInHand source.now.bytes self.new.marks.items self.new.pending.items block role to) }
+        ensures hand { IfOk result (λ _. IsInHand source.now.bytes self.new.marks.items self.new.pending.items holder role to) }
         ensures work { IfOk result (λ _. work self.new.marks.items self.new.pending.items ≤ work self.old.marks.items self.old.pending.items) }
         ensures capacity { vec_capacity self.new.pending ≡ vec_capacity self.old.pending }
         ensures shown { IfErr result (λ fault. Shows source.now.bytes fault.kind fault.block) }
     {
         for i in from..to {
-            self.pass(source, block, role, i)?;
-        }
-        Ok(())
-    }
-
-    /// Visits one long. If it is a place, the block that it names is checked and marked. That block becomes pending if
-    /// it can name others itself.
-    fn pass(
-        &mut self,
-        source: &Source<'_>,
-        holder: u32,
-        role: Role,
-        i: u32,
-    ) -> Result<(), VolumeFault>
-        requires hand { IsInHand source.now.bytes self.old.marks.items self.old.pending.items holder role i }
-        requires long { i < SECONDARY_TYPE }
-        requires capacity { block_count source.now.bytes ≤ vec_capacity self.old.pending }
-        ensures hand { IfOk result (λ _. IsInHand source.now.bytes self.new.marks.items self.new.pending.items holder role (i + 1)) }
-        ensures work { IfOk result (λ _. work self.new.marks.items self.new.pending.items ≤ work self.old.marks.items self.old.pending.items) }
-        ensures capacity { vec_capacity self.new.pending ≡ vec_capacity self.old.pending }
-        ensures shown { IfErr result (λ fault. Shows source.now.bytes fault.kind fault.block) }
-    {
-        let Some(next) = place_role(source, holder, role, i) else {
-            return Ok(());
-        };
-        let block = source.long(holder, i);
-        if !source.contains(block) {
-            return Err(VolumeFault {
-                kind: FaultKind::BadPointer,
-                block: holder,
+            let Some(next) = place_role(source, holder, role, i) else {
+                continue;
+            };
+            let block = source.long(holder, i);
+            if !source.contains(block) {
+                return Err(VolumeFault {
+                    kind: FaultKind::BadPointer,
+                    block: holder,
+                });
+            }
+            if self.marks[block as usize].is_some() {
+                return Err(VolumeFault {
+                    kind: FaultKind::BlockUsedTwice,
+                    block,
+                });
+            }
+            if let Err(kind) = look(source, block, next) {
+                return Err(VolumeFault { kind, block });
+            }
+            self.marks[block as usize] = Some(Mark {
+                role: next,
+                holder,
+                long: i,
             });
-        }
-        if self.marks[block as usize].is_some() {
-            return Err(VolumeFault {
-                kind: FaultKind::BlockUsedTwice,
-                block,
-            });
-        }
-        if let Err(kind) = look(source, block, next) {
-            return Err(VolumeFault { kind, block });
-        }
-        self.marks[block as usize] = Some(Mark {
-            role: next,
-            holder,
-            long: i,
-        });
-        if has_places(next) {
+            if !has_places(next) {
+                continue;
+            }
             self.pending.push_reserved(block);
         }
         Ok(())

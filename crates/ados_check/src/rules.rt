@@ -4,9 +4,8 @@ ghost use Rattle.std.specs.Prelude.{◌≡◌, ◌<◌, ◌↔◌, IsTrue, slice
 ghost use Rattle.adf_block.specs.Image.{block_count};
 ghost use Rattle.ados_check.specs.Marks.{HasEntryType};
 ghost use Rattle.ados_check.specs.PlacesTold.{TellsAll};
-ghost use Rattle.ados_check.specs.Rules.{HasBadDataField, HasBadEntryField, HasBadExtensionField, HasBadField, HasBadRootField, HasBadSumAs, HasBadTypeAs, HasNoType, HasOtherCount, HasOtherFirst, TellsFields, TellsTypes, kind_of};
-ghost use Rattle.ados_model.specs.Faults.{HasFileType, HasLinkType, HasName, Reached, pointers_of};
-ghost use Rattle.ados_model.specs.declared.role.Role.TheVariants.{Data};
+ghost use Rattle.ados_check.specs.Rules.{HasBadField, HasBadSumAs, HasBadTypeAs, HasNoType, HasOtherCount, HasOtherFirst, TellsFields, TellsTypes, kind_of};
+ghost use Rattle.ados_model.specs.Faults.{HasFileType, HasLinkType, Reached, pointers_of};
 
 use crate::naming::{has_bad_name, is_of_other_slot};
 use crate::source::Source;
@@ -116,77 +115,36 @@ pub fn has_bad_field(source: &Source<'_>, block: u32, role: Role, rule: FieldRul
     ensures { IsTrue result ↔ HasBadField source.now.bytes block role rule }
 {
     match role {
-        Role::Root => has_bad_root_field(source, block, rule),
+        Role::Root => match rule {
+            FieldRule::Parent => source.long(block, PARENT) != 0,
+            FieldRule::Name => has_bad_name(source, block),
+            _ => false,
+        },
         Role::Page => false,
-        Role::Entry(dir, slot) => has_bad_entry_field(source, block, dir, slot, rule),
-        Role::Data(file) => has_bad_data_field(source, block, file, rule),
-        Role::Extension(file) => has_bad_extension_field(source, block, file, rule),
-    }
-}
-
-fn has_bad_root_field(source: &Source<'_>, block: u32, rule: FieldRule) -> bool
-    requires inside { block < block_count source.now.bytes }
-    requires named { HasName source.now.bytes block }
-    requires told { TellsAll source.now block }
-    ensures { IsTrue result ↔ HasBadRootField source.now.bytes block rule }
-{
-    match rule {
-        FieldRule::Parent => source.long(block, PARENT) != 0,
-        FieldRule::Name => has_bad_name(source, block),
-        _ => false,
-    }
-}
-
-fn has_bad_entry_field(
-    source: &Source<'_>,
-    block: u32,
-    dir: u32,
-    slot: u32,
-    rule: FieldRule,
-) -> bool
-    requires inside { block < block_count source.now.bytes }
-    requires named { HasName source.now.bytes block }
-    requires told { TellsAll source.now block }
-    ensures { IsTrue result ↔ HasBadEntryField source.now.bytes block dir slot rule }
-{
-    match rule {
-        FieldRule::NoLink => has_link_type(source, block),
-        FieldRule::OwnKey => source.long(block, OWN_KEY) != block,
-        FieldRule::Parent => source.long(block, PARENT) != dir,
-        FieldRule::Name => has_bad_name(source, block),
-        FieldRule::Chain => is_of_other_slot(source, block, slot),
-        FieldRule::Comment => {
-            has_entry_type(source, block) && source.byte(block, COMMENT_BYTE) > 79
-        }
-        FieldRule::PointerCount => is_file(source, block) && has_other_count(source, block),
-        FieldRule::FirstData => is_file(source, block) && has_other_first(source, block),
-    }
-}
-
-/// Whether a field of a data block breaks a rule. Only in OFS has it fields.
-fn has_bad_data_field(source: &Source<'_>, block: u32, file: u32, rule: FieldRule) -> bool
-    requires inside { block < block_count source.now.bytes }
-    requires told { TellsTypes source.now block (Data file) }
-    ensures { IsTrue result ↔ HasBadDataField source.now.bytes block file rule }
-{
-    match rule {
-        FieldRule::Parent => source.kind_byte() == 0 && source.long(block, OWN_KEY) != file,
-        _ => false,
-    }
-}
-
-fn has_bad_extension_field(source: &Source<'_>, block: u32, file: u32, rule: FieldRule) -> bool
-    requires inside { block < block_count source.now.bytes }
-    requires told { TellsAll source.now block }
-    ensures { IsTrue result ↔ HasBadExtensionField source.now.bytes block file rule }
-{
-    match rule {
-        FieldRule::OwnKey => source.long(block, OWN_KEY) != block,
-        FieldRule::Parent => source.long(block, PARENT) != file,
-        FieldRule::PointerCount => {
-            source.long(block, POINTER_COUNT) == 0 || has_other_count(source, block)
-        }
-        _ => false,
+        Role::Entry(dir, slot) => match rule {
+            FieldRule::NoLink => has_link_type(source, block),
+            FieldRule::OwnKey => source.long(block, OWN_KEY) != block,
+            FieldRule::Parent => source.long(block, PARENT) != dir,
+            FieldRule::Name => has_bad_name(source, block),
+            FieldRule::Chain => is_of_other_slot(source, block, slot),
+            FieldRule::Comment => {
+                has_entry_type(source, block) && source.byte(block, COMMENT_BYTE) > 79
+            }
+            FieldRule::PointerCount => is_file(source, block) && has_other_count(source, block),
+            FieldRule::FirstData => is_file(source, block) && has_other_first(source, block),
+        },
+        Role::Data(file) => match rule {
+            FieldRule::Parent => source.kind_byte() == 0 && source.long(block, OWN_KEY) != file,
+            _ => false,
+        },
+        Role::Extension(file) => match rule {
+            FieldRule::OwnKey => source.long(block, OWN_KEY) != block,
+            FieldRule::Parent => source.long(block, PARENT) != file,
+            FieldRule::PointerCount => {
+                source.long(block, POINTER_COUNT) == 0 || has_other_count(source, block)
+            }
+            _ => false,
+        },
     }
 }
 

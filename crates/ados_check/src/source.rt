@@ -1,15 +1,16 @@
 //! The blocks that a check reads: those of an image, or of a sketch.
 
-ghost use Rattle.std.specs.Prelude.{◌≡◌, ◌≢◌, ◌<◌, ◌*◌, ◌/◌, ◌↔◌, IsTrue, length, MatchBool, true, false};
+ghost use Rattle.std.specs.Prelude.{◌≡◌, ◌≢◌, ◌<◌, ◌*◌, ◌/◌, ◌≤◌, ◌↔◌, IsTrue, length, MatchBool, true, false};
 ghost use Rattle.adf_block.specs.declared.layout.TheConstants.{BLOCK_BYTES, BLOCK_LONGS};
-ghost use Rattle.adf_block.specs.Whole.{IsImage, IsSize};
-ghost use Rattle.adf_block.specs.Image.{block_count, block_sum, bytes_at, byte_at, long, root_key};
-ghost use Rattle.ados_model.specs.Faults.{InImage};
+ghost use Rattle.adf_block.specs.Whole.{IsImage, IsSize, text_at};
+ghost use Rattle.adf_block.specs.Image.{block_count, block_sum, byte_at, long, root_key};
+ghost use Rattle.ados_model.specs.Faults.{HasShortName, InImage};
+ghost use Rattle.ados_check.specs.PlacesTold.{TellsAll};
 ghost use Rattle.ados_check.specs.Source.{Tells};
 
 use crate::sketch::Sketch;
 use adf_block::Image;
-use adf_block::layout::{BOOT_BLOCKS, KIND_BYTE};
+use adf_block::layout::{BOOT_BLOCKS, KIND_BYTE, NAME_BYTE};
 use std::marker::Model;
 
 /// What the blocks are read from.
@@ -134,16 +135,20 @@ impl<'a> Source<'a> {
         }
     }
 
-    /// The 512 bytes of block `b`.
-    pub fn block(&self, b: u32) -> &[u8]
+    /// The bytes of the name in block `b`, which has at most 30.
+    pub(crate) fn short_text(&self, b: u32) -> &[u8]
         requires inside { b < block_count self.now.bytes }
-        requires told { Tells self.now b 127 }
-        ensures bytes { result.now ≡ bytes_at self.now.bytes b 0 BLOCK_BYTES }
-        ensures length { length result.now ≡ BLOCK_BYTES }
+        requires told { TellsAll self.now b }
+        requires short { HasShortName self.now.bytes b }
+        ensures text { result.now ≡ text_at self.now.bytes b NAME_BYTE }
+        ensures short { HasShortName self.now.bytes b }
+        ensures few { length result.now ≤ 30 }
     {
+        let length = usize::from(self.byte(b, NAME_BYTE));
+        let start = NAME_BYTE as usize + 1;
         match &self.kept {
-            Kept::Whole(image) => image.block(b),
-            Kept::Sketch(sketch) => sketch.block(b),
+            Kept::Whole(image) => &image.block(b)[start..start + length],
+            Kept::Sketch(sketch) => &sketch.block(b)[start..start + length],
         }
     }
 }
