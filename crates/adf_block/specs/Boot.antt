@@ -1,7 +1,8 @@
 -- The boot blocks: the DOS type of the disk, and the checksum of its boot code.
 use Rattle.std.specs.Prelude.{◌≡◌, ◌≢◌, ℕ, ◌+◌, ◌-◌, ◌*◌, ◌/◌, ◌%◌, ◌^◌, ◌==◌, List, if◌then◌else◌}
 use Rattle.adf_block.specs.Image.{byte_at, long, total}
-use Rattle.adf_block.specs.declared.layout.TheConstants.{BOOT_BLOCKS, BLOCK_LONGS, KIND_BYTE, BOOT_CHECKSUM}
+use Rattle.adf_block.specs.declared.layout.TheConstants.{BOOT_BLOCKS, BLOCK_LONGS}
+use Rattle.adf_block.specs.declared.beside.TheConstants.{KIND_BYTE, BOOT_CHECKSUM}
 use Rattle.adf_block.specs.declared.boot.BootKind.{BootKind}
 use Rattle.adf_block.specs.declared.boot.BootKind.TheVariants.{Ofs, Ffs, OtherDos, NotDos}
 

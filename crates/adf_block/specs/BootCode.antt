@@ -1,6 +1,7 @@
 -- What a boot block is.
 use Rattle.std.specs.Prelude.{◌≡◌, ℕ, ◌*◌, ◌<◌, ◌≤◌, List, [], length, slice_index, take}
-use Rattle.adf_block.specs.declared.layout.TheConstants.{BOOT_BLOCKS, BLOCK_BYTES, BOOT_CHECKSUM}
+use Rattle.adf_block.specs.declared.layout.TheConstants.{BOOT_BLOCKS, BLOCK_BYTES}
+use Rattle.adf_block.specs.declared.beside.TheConstants.{BOOT_CHECKSUM}
 use Rattle.adf_block.specs.Image.{long}
 use Rattle.adf_block.specs.Boot.{boot_sum}
 use Rattle.adf_block.specs.declared.standard.TheConstants.{STANDARD_BOOT}

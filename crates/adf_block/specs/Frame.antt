@@ -1,5 +1,5 @@
 -- What a change of an image leaves untouched.
-use Rattle.std.specs.Prelude.{◌≡◌, ◌⊎◌, ℕ, ◌/◌, ◌<◌, ◌≤◌, List, length}
+use Rattle.std.specs.Prelude.{◌≡◌, ◌⊎◌, ℕ, ◌*◌, ◌/◌, ◌<◌, ◌≤◌, List, length}
 use Rattle.adf_block.specs.Image.{byte_at}
 use Rattle.adf_block.specs.declared.layout.TheConstants.{BLOCK_BYTES}
 
@@ -8,6 +8,10 @@ use Rattle.adf_block.specs.declared.layout.TheConstants.{BLOCK_BYTES}
 pub record SameBut (changed : ℕ → ℕ → Type 0) (old new : List ℕ) : Type 0 where
   pub same_length : length new ≡ length old
   pub same_byte : (b i : ℕ) → i < BLOCK_BYTES → ¬ changed b i → byte_at new b i ≡ byte_at old b i
+
+-- the first byte of long i of a block
+abbrev pub long_byte : ℕ → ℕ
+long_byte i = 4 * i
 
 -- the bytes of long i of block b
 abbrev pub AtLong : ℕ → ℕ → ℕ → ℕ → Type 0

@@ -1,6 +1,7 @@
 -- The boot block of an image.
 use Rattle.std.specs.Prelude.{◌≡◌, ℕ, ◌+◌, ◌*◌, ◌<◌, ◌≤◌, List, [], length, slice_index, Option, Some, None, Result, MatchResult}
-use Rattle.adf_block.specs.declared.layout.TheConstants.{BOOT_BLOCKS, BLOCK_BYTES, BOOT_CHECKSUM}
+use Rattle.adf_block.specs.declared.layout.TheConstants.{BOOT_BLOCKS, BLOCK_BYTES}
+use Rattle.adf_block.specs.declared.beside.TheConstants.{BOOT_CHECKSUM}
 use Rattle.adf_block.specs.Image.{byte_at, long}
 use Rattle.adf_block.specs.Boot.{boot_sum}
 use Rattle.adf_block.specs.Frame.{SameBut}

@@ -20,10 +20,6 @@ page_count n = (n - BOOT_BLOCKS + (PAGE_BITS - 1)) / PAGE_BITS
 abbrev pub IsInside : ℕ → ℕ → Type 0
 IsInside n b = (BOOT_BLOCKS ≤ b) × (b < n)
 
--- the first byte of long i of a block
-abbrev pub long_byte : ℕ → ℕ
-long_byte i = 4 * i
-
 -- byte i of block b
 unfoldable pub byte_at : List ℕ → ℕ → ℕ → ℕ
 byte_at image b i = slice_index image (BLOCK_BYTES * b + i)
@@ -34,7 +30,7 @@ bytes_at image b i n = take n (drop (BLOCK_BYTES * b + i) image)
 
 -- long i of block b, big-endian
 unfoldable pub long : List ℕ → ℕ → ℕ → ℕ
-long image b i = big_number 4 (drop (BLOCK_BYTES * b + long_byte i) image)
+long image b i = big_number 4 (drop (BLOCK_BYTES * b + 4 * i) image)
 
 -- f 0 + .. + f (n - 1)
 abbrev pub total : (ℕ → ℕ) → ℕ → ℕ

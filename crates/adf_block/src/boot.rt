@@ -6,8 +6,9 @@ ghost use Rattle.adf_block.specs.Fields.{format_of};
 ghost use Rattle.adf_block.specs.Boot.{HasKind, boot_long, boot_sum, carried_sum};
 
 use crate::Format;
+use crate::beside::{BOOT_CHECKSUM, KIND_BYTE};
 use crate::floppy::Image;
-use crate::layout::{BLOCK_LONGS, BOOT_BLOCKS, BOOT_CHECKSUM, KIND_BYTE};
+use crate::layout::{BLOCK_LONGS, BOOT_BLOCKS};
 
 /// The DOS type of a disk: the first four bytes of its image.
 #[derive(Clone, Copy, PartialEq, Eq)]

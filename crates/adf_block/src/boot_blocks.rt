@@ -8,8 +8,9 @@ ghost use Rattle.adf_block.specs.HasBoot.{Boots, HasBoot, HoldsCode, Restores};
 ghost use Rattle.adf_block.specs.BootCode.{IsBootCode};
 
 use crate::Image;
+use crate::beside::{BOOT_CHECKSUM, KIND};
 use crate::code::{BOOT_BYTES, BootCode};
-use crate::layout::{BLOCK_BYTES, BOOT_CHECKSUM, KIND};
+use crate::layout::BLOCK_BYTES;
 use crate::standard::STANDARD_BOOT;
 use thiserror::Error;
 

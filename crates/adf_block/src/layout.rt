@@ -1,15 +1,13 @@
 //! The position of each field in a block, the numbers for types and sizes, and the two file systems. Each number of
-//! the disk is defined here once (AmigaDOS Technical Reference).
+//! the disk is defined once, here or in `beside` (AmigaDOS Technical Reference).
 //! A block has 512 bytes, or 128 big-endian longs. A constant is the index of a long in its block unless its text
-//! names another unit. Code, contracts and definitions all cite these constants.
+//! names another unit.
 
 /// The layout of data blocks.
 #[derive(Clone, Copy, PartialEq, Eq)]
 pub enum Format {
-    /// The old file system: a header of 24 bytes, then 488 bytes of data.
-    Ofs,
-    /// The fast file system: 512 bytes of data.
-    Ffs,
+    Ofs, // The old file system: a header of 24 bytes, then 488 bytes of data.
+    Ffs, // The fast file system: 512 bytes of data.
 }
 
 // The volume.
@@ -24,21 +22,11 @@ pub const BLOCK_BYTES: u32 = 512;
 /// Longs in a block.
 pub const BLOCK_LONGS: u32 = 128;
 
-// The boot blocks.
-/// The kind of the disk: the bytes `DOS` and one more.
-pub const KIND: u32 = 0;
-/// The byte after `DOS`: 0 is the old file system, 1 the fast one.
-pub const KIND_BYTE: u32 = 3;
-/// The checksum of the boot blocks.
-pub const BOOT_CHECKSUM: u32 = 1;
-
 // Blocks of any type but bitmap blocks and FFS data blocks.
 /// The primary type: `HEADER_TYPE`, `DATA_TYPE` or `LIST_TYPE`.
 pub const PRIMARY_TYPE: u32 = 0;
 /// The block's own number. In an OFS data block it is that of the file header.
 pub const OWN_KEY: u32 = 1;
-/// The checksum.
-pub const CHECKSUM: u32 = 5;
 /// The secondary type: `ROOT_TYPE`, `DIRECTORY_TYPE`, `FILE_TYPE` or a link type; in an extension block `FILE_TYPE`.
 pub const SECONDARY_TYPE: u32 = 127;
 
@@ -54,12 +42,6 @@ pub const ROOT_TYPE: u32 = 1;
 pub const DIRECTORY_TYPE: u32 = 2;
 /// The secondary type of a file, -3.
 pub const FILE_TYPE: u32 = 0xffff_fffd;
-/// The secondary type of a soft link.
-pub const SOFT_LINK_TYPE: u32 = 3;
-/// The secondary type of a hard link to a directory.
-pub const DIRECTORY_LINK_TYPE: u32 = 4;
-/// The secondary type of a hard link to a file, -4.
-pub const FILE_LINK_TYPE: u32 = 0xffff_fffc;
 
 // The table of a root or directory, and that of a file header or extension block.
 /// Longs in a table: the slots of a directory, or the data pointers of a file.
@@ -80,10 +62,6 @@ pub const BITMAP_FLAG: u32 = 78;
 pub const BITMAP_VALID: u32 = 0xffff_ffff;
 /// The first pointer to a bitmap block.
 pub const FIRST_PAGE: u32 = 79;
-/// The number of pointers to bitmap blocks in a root.
-pub const PAGE_LONGS: u32 = 25;
-/// The bitmap extension block, with pointers to more bitmap blocks.
-pub const BITMAP_EXTENSION: u32 = 104;
 /// The first of three longs: the time stamp of the last change of the disk.
 pub const DISK_DATE: u32 = 118;
 /// The first of three longs: the time stamp of the volume's creation.
@@ -122,8 +100,6 @@ pub const OFS_ROOM: u32 = 488;
 pub const FFS_ROOM: u32 = 512;
 
 // Bitmap blocks.
-/// The checksum of a bitmap block.
-pub const PAGE_CHECKSUM: u32 = 0;
 /// The first long with bits.
 pub const FIRST_MAP_LONG: u32 = 1;
 /// The number of longs with bits in a bitmap block.

@@ -1,6 +1,7 @@
 //! An Amiga floppy image: blocks of 512 bytes, each of 128 big-endian longs, with their checksums and the boot blocks.
 #![tactic(auto)]
 
+pub mod beside;
 mod boot;
 mod boot_blocks;
 mod code;

@@ -13,7 +13,8 @@ use Rattle.ados_model.specs.Tree.{Content, Node, Tree, root, name_of, size_of, d
 use Rattle.ados_model.specs.Tree.Content.{Directory, File}
 use Rattle.adf_block.specs.declared.layout.TheConstants.{FILE_TYPE, COMMENT_BYTE, NAME_BYTE}
 use Rattle.adf_block.specs.Whole.{text_at}
-use Rattle.ados_model.specs.Stands.{Duty, HasDuty, Stands, HasNode, HasEntry, format_byte, kind_bytes, type_of, HasFile, HasExtension, HasOfsData}
+use Rattle.ados_model.specs.Stands.{Duty, HasDuty, Stands, HasNode, HasEntry, format_byte, type_of, HasFile, HasExtension, HasOfsData}
+use Rattle.ados_model.specs.Phrases.{kind_bytes}
 use Rattle.ados_model.specs.Faults
 use Rattle.ados_model.specs.declared.role.Role.{Role}
 use Rattle.ados_model.specs.declared.role.Role.TheVariants as roles

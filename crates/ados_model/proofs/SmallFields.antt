@@ -10,7 +10,8 @@ use Rattle.adf_block.specs.declared.layout.TheConstants.{TABLE_LONGS, FIRST_SLOT
 use Rattle.adf_block.proofs.Blocks.{long-bytes_at}
 use Rattle.adf_block.proofs.Totals.{total-same}
 use Rattle.ados_name.specs.Name.{slot, hash}
-use Rattle.ados_model.specs.Stands.{HasFile, HasOfsData, HasNode, HasEntry, HasRoot, kind_bytes}
+use Rattle.ados_model.specs.Stands.{HasFile, HasOfsData, HasNode, HasEntry, HasRoot}
+use Rattle.ados_model.specs.Phrases.{kind_bytes}
 use Rattle.ados_model.proofs.Blocks.{number}
 use Rattle.ados_model.specs.Small.{small, letters, hello, tree, image}
 use Rattle.ados_model.proofs.SmallBelow.{all_below, equal_below, equal_up_to}

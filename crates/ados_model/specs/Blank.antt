@@ -8,7 +8,8 @@ use Rattle.ados_name.specs.declared.stamp.Date3.{Date3}
 use Rattle.ados_model.specs.Tree.{Node, Tree}
 use Rattle.ados_model.specs.Tree.Content.{Directory}
 use Rattle.adf_block.specs.declared.layout.TheConstants.{BOOT_BLOCKS, BLOCK_BYTES, HEADER_TYPE, ROOT_TYPE, TABLE_LONGS, TABLE_SIZE, BITMAP_FLAG, BITMAP_VALID, FIRST_PAGE, DISK_DATE, CREATION_DATE, DATE, NAME_BYTE, PAGE_BITS}
-use Rattle.ados_model.specs.Stands.{kind_bytes, date_at}
+use Rattle.ados_model.specs.Stands.{date_at}
+use Rattle.ados_model.specs.Phrases.{kind_bytes}
 use Rattle.ados_model.specs.declared.role.Role.TheVariants.{Root}
 use Rattle.ados_model.specs.Kept.{IsField}
 

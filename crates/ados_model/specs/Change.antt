@@ -3,11 +3,9 @@ use Rattle.std.specs.Prelude.{ℕ, nat_lt, Bool, true, false, ◌==◌, ◌||◌
 use Rattle.std.specs.List.{list_any}
 use Rattle.std.specs.Option.{option_map_or}
 use Rattle.ados_name.specs.Name.{upper, Step, is_from_root, steps, front, last_name, slot, without_archive, Step.ToParent, Step.ToChild}
-use Rattle.ados_name.specs.declared.stamp.Date3.{Date3}
-use Rattle.ados_model.specs.Tree.{Content, Tree, root, content_at, entries, name_of, parent_of, behind, Node, bytes_of, Content.File, Content.Directory}
-use Rattle.ados_model.specs.declared.dos_error.WalkFault.{WalkFault}
-use Rattle.ados_model.specs.declared.dos_error.WalkFault.TheVariants.{DirectoryNotFound, ObjectNotFound, WrongType}
-use Rattle.ados_model.specs.declared.dos_error.PlaceFault.{PlaceFault}
+use Rattle.ados_model.specs.Tree.{Date3, Content, Tree, root, content_at, entries, name_of, parent_of, behind, Node, bytes_of, Content.File, Content.Directory}
+pub use Rattle.ados_model.specs.declared.dos_error.WalkFault.{WalkFault, TheVariants.DirectoryNotFound, TheVariants.ObjectNotFound, TheVariants.WrongType}
+pub use Rattle.ados_model.specs.declared.dos_error.PlaceFault.{PlaceFault}
 use Rattle.ados_model.specs.declared.dos_error.PlaceFault.TheVariants as faults
 
 -- there is a node, and it is a file

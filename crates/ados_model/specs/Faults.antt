@@ -11,7 +11,8 @@ use Rattle.ados_model.specs.declared.fault.FaultKind.TheVariants.{NotADosDisk, U
 use Rattle.ados_model.specs.Packet.{error_number}
 use Rattle.ados_model.specs.declared.dos_error.DosError.TheVariants as errors
 use Rattle.ados_model.specs.Tree.{data_count}
-use Rattle.adf_block.specs.declared.layout.TheConstants.{BOOT_BLOCKS, KIND_BYTE, HEADER_TYPE, DATA_TYPE, LIST_TYPE, ROOT_TYPE, DIRECTORY_TYPE, FILE_TYPE, SOFT_LINK_TYPE, DIRECTORY_LINK_TYPE, FILE_LINK_TYPE, TABLE_LONGS, TABLE_SIZE, FIRST_SLOT, FIRST_POINTER, BITMAP_FLAG, BITMAP_VALID, FIRST_PAGE, COMMENT_BYTE, NAME_BYTE, NEXT_IN_CHAIN, NEXT_EXTENSION, NEXT_DATA, OFS_ROOM, PAGE_BITS}
+use Rattle.adf_block.specs.declared.layout.TheConstants.{BOOT_BLOCKS, HEADER_TYPE, DATA_TYPE, LIST_TYPE, ROOT_TYPE, DIRECTORY_TYPE, FILE_TYPE, TABLE_LONGS, TABLE_SIZE, FIRST_SLOT, FIRST_POINTER, BITMAP_FLAG, BITMAP_VALID, FIRST_PAGE, COMMENT_BYTE, NAME_BYTE, NEXT_IN_CHAIN, NEXT_EXTENSION, NEXT_DATA, OFS_ROOM, PAGE_BITS}
+use Rattle.adf_block.specs.declared.beside.TheConstants.{KIND_BYTE, SOFT_LINK_TYPE, DIRECTORY_LINK_TYPE, FILE_LINK_TYPE}
 
 -- the block number of the root
 abbrev pub root_of : List ℕ → ℕ

@@ -2,7 +2,8 @@
 use Rattle.std.specs.Prelude.{◌≡◌, ◌≢◌, ℕ, ◌+◌, ◌-◌, ◌*◌, ◌<◌, ◌≤◌, ⊤, List, [], ◌∷◌, length, slice_index, Any}
 use Rattle.adf_block.specs.Image.{block_count, page_count, byte_at, bytes_at, long}
 use Rattle.adf_block.specs.Fields.{pointer_count, held_count, secondary_type}
-use Rattle.adf_block.specs.declared.layout.TheConstants.{BOOT_BLOCKS, BLOCK_BYTES, PRIMARY_TYPE, OWN_KEY, CHECKSUM, SECONDARY_TYPE, DIRECTORY_TYPE, FILE_TYPE, TABLE_LONGS, TABLE_SIZE, FIRST_SLOT, POINTER_COUNT, FIRST_POINTER, BITMAP_FLAG, FIRST_PAGE, DISK_DATE, CREATION_DATE, PROTECTION, FILE_SIZE, COMMENT_BYTE, DATE, NAME_BYTE, NEXT_IN_CHAIN, PARENT, NEXT_DATA, OFS_DATA_BYTE, PAGE_CHECKSUM, FIRST_MAP_LONG, MAP_LONGS}
+use Rattle.adf_block.specs.declared.layout.TheConstants.{BOOT_BLOCKS, BLOCK_BYTES, PRIMARY_TYPE, OWN_KEY, SECONDARY_TYPE, DIRECTORY_TYPE, FILE_TYPE, TABLE_LONGS, TABLE_SIZE, FIRST_SLOT, POINTER_COUNT, FIRST_POINTER, BITMAP_FLAG, FIRST_PAGE, DISK_DATE, CREATION_DATE, PROTECTION, FILE_SIZE, COMMENT_BYTE, DATE, NAME_BYTE, NEXT_IN_CHAIN, PARENT, NEXT_DATA, OFS_DATA_BYTE, FIRST_MAP_LONG, MAP_LONGS}
+use Rattle.adf_block.specs.declared.beside.TheConstants.{CHECKSUM, PAGE_CHECKSUM}
 use Rattle.ados_model.specs.declared.role.Role.{Role}
 use Rattle.ados_model.specs.Faults.{Reached, IsFile, IsOfs, pointers_of}
 use Rattle.ados_model.specs.declared.role.Role.TheVariants.{Root, Page, Entry, Data, Extension}

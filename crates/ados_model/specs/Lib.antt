@@ -18,6 +18,7 @@ pub mod Resolved
 pub mod Refusals
 pub mod Success
 pub mod Meaning
+pub mod Phrases
 pub mod DiskDate
 pub mod Faults
 pub mod Rebuilt

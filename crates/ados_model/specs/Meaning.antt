@@ -1,14 +1,7 @@
 -- The meaning of a packet: it is refused with the first refusal that holds, and served if none holds.
 use Rattle.std.specs.Prelude.{◌≡◌, ◌⊎◌, ℕ, ℤ, pos, negsuc, Bool, true, false, not, ◌&&◌, ◌||◌, ◌==◌, is_some, IsTrue, MatchOption}
-use Rattle.ados_name.specs.declared.stamp.Date3.{Date3}
-use Rattle.ados_model.specs.Tree.{Tree, parent_of}
-use Rattle.ados_model.specs.declared.dos_error.DosError.{DosError}
-use Rattle.ados_model.specs.declared.dos_error.DosError.TheVariants.{DeviceNotMounted, NoFreeStore}
-use Rattle.ados_model.specs.Packet.{error_number, action_of, refused_answer}
-use Rattle.ados_model.specs.declared.packet.TheConstants.{NO_LOCK}
-use Rattle.ados_model.specs.declared.packet.Packet.{Packet}
-use Rattle.ados_model.specs.declared.packet.Packet.TheVariants.{LocateObject, CopyDir, CreateDir, Parent, FindUpdate, FindInput, FindOutput}
-use Rattle.ados_model.specs.declared.answer.Answer.{Answer}
+use Rattle.ados_model.specs.Tree.{Date3, Tree, parent_of}
+use Rattle.ados_model.specs.Packet.{NO_LOCK, Packet, LocateObject, CopyDir, CreateDir, Parent, FindUpdate, FindInput, FindOutput, Answer, DosError, DeviceNotMounted, NoFreeStore, error_number, action_of, refused_answer}
 use Rattle.ados_model.specs.Session.{Session}
 use Rattle.ados_model.specs.Objects.{lock_key}
 use Rattle.ados_model.specs.Refusals.{refusal}
@@ -37,16 +30,12 @@ pub record IsServed (t : Tree) (s : Session) (packet : Packet) (now : Date3) (ne
   pub action : answer.action ≡ action_of packet
   pub res2 : answer.res2 ≡ pos 0
 
--- a packet that no refusal excludes is served, or refused with `NoFreeStore` if it would make a lock or a handle
-abbrev pub ServedOrNoMemory : Tree → Session → Packet → Date3 → Tree → Session → Answer → Type 0
-ServedOrNoMemory t s packet now new_tree new_session answer =
-    IsServed t s packet now new_tree new_session answer
-    ⊎ (IsTrue (makes_hold t s packet) × IsRefused t s packet NoFreeStore new_tree new_session answer)
-
--- with a time stamp, a packet turns a tree and a session into new ones and gives this answer
+-- what a packet does at a time stamp: the first refusal, or else it is served, or gets no memory for a lock or a handle
 abbrev pub Meaning : Tree → Session → Packet → Date3 → Tree → Session → Answer → Type 0
 Meaning t s packet now new_tree new_session answer =
-    MatchOption (refusal t s packet) (ServedOrNoMemory t s packet now new_tree new_session answer)
+    MatchOption (refusal t s packet)
+    (IsServed t s packet now new_tree new_session answer
+    ⊎ (IsTrue (makes_hold t s packet) × IsRefused t s packet NoFreeStore new_tree new_session answer))
     (λ error. IsRefused t s packet error new_tree new_session answer)
 
 -- tests of a result: it is this number, and it is DOSTRUE

@@ -4,21 +4,15 @@ use Rattle.std.specs.List.{list_any}
 use Rattle.std.specs.Option.{option_map_or}
 use Rattle.std.specs.Result.{result_unwrap_or}
 use Rattle.std.specs.FinMap as numbered
-use Rattle.adf_block.specs.declared.layout.Format.{Format}
 use Rattle.adf_block.specs.declared.layout.TheConstants.{BOOT_BLOCKS}
-use Rattle.ados_model.specs.Tree.{Node, Tree, root, free, parent_of, size_of, Content, cost_in, bytes_in, data_size, Content.Directory, Content.File}
-use Rattle.ados_model.specs.Change.{child_of, place, walk}
-use Rattle.ados_model.specs.declared.dos_error.WalkFault.{WalkFault}
+use Rattle.ados_model.specs.Tree.{Format, Node, Tree, root, free, parent_of, size_of, Content, cost_in, bytes_in, data_size, Content.Directory, Content.File}
+use Rattle.ados_model.specs.Change.{WalkFault, PlaceFault, child_of, place, walk}
 use Rattle.ados_model.specs.declared.dos_error.WalkFault.TheVariants as walks
-use Rattle.ados_model.specs.declared.dos_error.PlaceFault.{PlaceFault}
 use Rattle.ados_model.specs.declared.dos_error.PlaceFault.TheVariants as places
-use Rattle.ados_model.specs.declared.dos_error.DosError.{DosError}
-use Rattle.ados_model.specs.declared.dos_error.DosError.TheVariants.{DirectoryNotFound, InvalidComponentName, ObjectNotFound, ObjectWrongType}
-use Rattle.ados_model.specs.declared.packet.TheConstants.{NO_LOCK}
+use Rattle.ados_model.specs.Packet.{NO_LOCK, DosError, DirectoryNotFound, InvalidComponentName, ObjectNotFound, ObjectWrongType}
 use Rattle.ados_model.specs.Session.{Session, handle_key, handle_position}
-use Rattle.ados_model.specs.declared.answer.FileInfo.{FileInfo}
 use Rattle.ados_model.specs.Stands.{format_byte}
-use Rattle.ados_model.specs.declared.answer.DiskInfo.{DiskInfo}
+use Rattle.ados_model.specs.declared.answer.{FileInfo.FileInfo, DiskInfo.DiskInfo}
 
 -- the errors of a walk, and of a place
 abbrev pub walk_error : WalkFault → DosError
@@ -43,18 +37,15 @@ found t s lock path = walk t (lock_key t s lock) path
 abbrev pub object : Tree → Session → ℕ → List ℕ → ℕ
 object t s lock path = result_unwrap_or (found t s lock path) 0
 
--- the place that a path from a lock names, and its directory and name
+-- the place that a path from a lock names, with its directory and its name
 abbrev pub placed : Tree → Session → ℕ → List ℕ → Result (ℕ × List ℕ) PlaceFault
 placed t s lock path = place t (lock_key t s lock) path
 
-abbrev pub spot : Tree → Session → ℕ → List ℕ → ℕ × List ℕ
-spot t s lock path = result_unwrap_or (placed t s lock path) (0, [])
-
 abbrev pub spot_directory : Tree → Session → ℕ → List ℕ → ℕ
-spot_directory t s lock path = (spot t s lock path).0
+spot_directory t s lock path = (result_unwrap_or (placed t s lock path) (0, [])).0
 
 abbrev pub spot_name : Tree → Session → ℕ → List ℕ → List ℕ
-spot_name t s lock path = (spot t s lock path).1
+spot_name t s lock path = (result_unwrap_or (placed t s lock path) (0, [])).1
 
 -- the entry that has that name there already
 abbrev pub standing : Tree → Session → ℕ → List ℕ → Option ℕ

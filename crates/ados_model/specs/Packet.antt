@@ -1,11 +1,10 @@
 -- The numbers of errors and of actions (AmigaDOS Technical Reference), the first result of a refusal, and what it returns.
 use Rattle.std.specs.Prelude.{ℕ, ℤ, pos, negsuc}
-use Rattle.ados_model.specs.declared.dos_error.DosError.{DosError}
-use Rattle.ados_model.specs.declared.dos_error.DosError.TheVariants.{NoFreeStore, ObjectInUse, ObjectExists, DirectoryNotFound, ObjectNotFound, ActionNotKnown, InvalidComponentName, InvalidLock, ObjectWrongType, DirectoryNotEmpty, DeviceNotMounted, SeekError, CommentTooBig, DiskFull, DeleteProtected, WriteProtected, ReadProtected, NotADosDisk, NoMoreEntries}
-use Rattle.ados_model.specs.declared.packet.Packet.{Packet}
-use Rattle.ados_model.specs.declared.packet.Packet.TheVariants.{Die, LocateObject, RenameDisk, FreeLock, DeleteObject, RenameObject, CopyDir, SetProtect, CreateDir, ExamineObject, ExamineNext, DiskInfo, Info, SetComment, Parent, SetDate, SameLock, Read, Write, FindUpdate, FindInput, FindOutput, End, Seek, SetFileSize, Other}
-use Rattle.ados_model.specs.declared.answer.Answer.{Answer}
-use Rattle.ados_model.specs.declared.answer.Body.{Body}
+pub use Rattle.ados_model.specs.declared.dos_error.DosError.{DosError}
+pub use Rattle.ados_model.specs.declared.dos_error.DosError.TheVariants.{NoFreeStore, ObjectInUse, ObjectExists, DirectoryNotFound, ObjectNotFound, ActionNotKnown, InvalidComponentName, InvalidLock, ObjectWrongType, DirectoryNotEmpty, DeviceNotMounted, SeekError, CommentTooBig, DiskFull, DeleteProtected, WriteProtected, ReadProtected, NotADosDisk, NoMoreEntries}
+pub use Rattle.ados_model.specs.declared.packet.{TheConstants.NO_LOCK, Packet.Packet}
+pub use Rattle.ados_model.specs.declared.packet.Packet.TheVariants.{Die, LocateObject, RenameDisk, FreeLock, DeleteObject, RenameObject, CopyDir, SetProtect, CreateDir, ExamineObject, ExamineNext, DiskInfo, Info, SetComment, Parent, SetDate, SameLock, Read, Write, FindUpdate, FindInput, FindOutput, End, Seek, SetFileSize, Other}
+pub use Rattle.ados_model.specs.declared.answer.{Answer.Answer, Body.Body}
 use Rattle.ados_model.specs.declared.answer.Body.TheVariants as body
 
 -- the number of an error

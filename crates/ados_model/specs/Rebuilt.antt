@@ -2,7 +2,8 @@
 use Rattle.std.specs.Prelude.{◌≡◌, ℕ, ◌+◌, ◌*◌, ◌/◌, ◌<◌, ◌≤◌, ◌⊎◌, List}
 use Rattle.adf_block.specs.Image.{block_count, page_count, long, block_sum}
 use Rattle.adf_block.specs.Whole.{HasFreeBit}
-use Rattle.adf_block.specs.declared.layout.TheConstants.{BOOT_BLOCKS, CHECKSUM, BITMAP_FLAG, BITMAP_VALID, PAGE_BITS}
+use Rattle.adf_block.specs.declared.layout.TheConstants.{BOOT_BLOCKS, BITMAP_FLAG, BITMAP_VALID, PAGE_BITS}
+use Rattle.adf_block.specs.declared.beside.TheConstants.{CHECKSUM}
 use Rattle.adf_block.specs.Frame.{SameBut}
 use Rattle.ados_model.specs.declared.role.Role.{Role}
 use Rattle.ados_model.specs.declared.role.Role.TheVariants as roles

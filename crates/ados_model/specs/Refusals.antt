@@ -1,19 +1,17 @@
--- The refusals of each packet. All rows have them in this order: the handler has died, an unknown action, a lock or handle
--- that is not held, the walk or the place, the name or the comment, the type, the two of EXAMINE_NEXT, what exists, what is
--- in use, what is not empty, the protection, the position, the free space, the memory. `DeviceNotMounted` comes before each
--- row (`refusal`), and `NoFreeStore` after it (`Meaning`).
+-- The refusals of each packet. All rows have them in this order: the handler has died (`refusal`), an unknown action, a lock or
+-- handle that is not held, the walk or the place, the name or the comment, the type, the two of EXAMINE_NEXT, what exists, what
+-- is in use, what is not empty, the protection, the position, the free space, the memory (`Meaning`).
 use Rattle.std.specs.Prelude.{ℕ, ◌+◌, Bool, true, false, not, ◌&&◌, ◌||◌, ◌==◌, nat_le, nat_lt, max, if◌then◌else◌, List, [], ◌∷◌, length, Option, None, Some, is_some, is_none, option_map}
 use Rattle.std.specs.List.{list_any}
 use Rattle.std.specs.Option.{option_map_or}
 use Rattle.std.specs.Result.{result_err}
+use Rattle.std.specs.FinMap as numbered
 use Rattle.ados_name.specs.Name.{is_separator, denies_delete, denies_write, denies_read}
 use Rattle.ados_model.specs.Tree.{Tree, root, entries, parent_of, size_of, free, needs_more}
 use Rattle.ados_model.specs.Change.{is_file, entries_after}
-use Rattle.ados_model.specs.declared.dos_error.DosError.{DosError}
-use Rattle.ados_model.specs.declared.dos_error.DosError.TheVariants.{ActionNotKnown, CommentTooBig, DeleteProtected, DeviceNotMounted, DirectoryNotEmpty, DiskFull, InvalidComponentName, InvalidLock, NoMoreEntries, ObjectExists, ObjectInUse, ObjectNotFound, ObjectWrongType, ReadProtected, SeekError, WriteProtected}
-use Rattle.ados_model.specs.declared.packet.Packet.{Packet}
-use Rattle.ados_model.specs.declared.packet.Packet.TheVariants.{Die, LocateObject, RenameDisk, FreeLock, DeleteObject, RenameObject, CopyDir, SetProtect, CreateDir, ExamineObject, ExamineNext, DiskInfo, Info, SetComment, Parent, SetDate, SameLock, Read, Write, FindUpdate, FindInput, FindOutput, End, Seek, SetFileSize, Other}
-use Rattle.ados_model.specs.Session.{Session, holds, is_held, is_held_exclusively, is_in_use, is_lock, is_exclusive_lock, is_handle, handle_key, handle_position}
+use Rattle.ados_model.specs.Packet.{DosError, ActionNotKnown, CommentTooBig, DeleteProtected, DeviceNotMounted, DirectoryNotEmpty, DiskFull, InvalidComponentName, InvalidLock, NoMoreEntries, ObjectExists, ObjectInUse, ObjectNotFound, ObjectWrongType, ReadProtected, SeekError, WriteProtected}
+use Rattle.ados_model.specs.Packet.{Packet, Die, LocateObject, RenameDisk, FreeLock, DeleteObject, RenameObject, CopyDir, SetProtect, CreateDir, ExamineObject, ExamineNext, DiskInfo, Info, SetComment, Parent, SetDate, SameLock, Read, Write, FindUpdate, FindInput, FindOutput, End, Seek, SetFileSize, Other}
+use Rattle.ados_model.specs.Session.{Session, holds, is_held, is_held_exclusively, is_in_use, is_lock, is_exclusive_lock, handle_key, handle_position}
 use Rattle.ados_model.specs.Objects.{walk_error, place_error, lock_key, found, object, placed, spot_directory, standing, protection_of, is_under, is_exclusive_mode, handle_target, is_bad_target, target_number}
 
 -- this error if the condition holds
@@ -35,12 +33,9 @@ abbrev pub is_empty : List ℕ → Bool
 is_empty [] = true
 is_empty (x ∷ xs) = false
 
--- the text has 1 to 30 bytes without `/` and `:`, and the text is short enough for a comment
+-- the text has 1 to 30 bytes without `/` and `:`
 abbrev pub is_name : List ℕ → Bool
 is_name text = not (length text == 0 || nat_lt 30 (length text) || list_any is_separator text)
-
-abbrev pub is_comment : List ℕ → Bool
-is_comment text = nat_le (length text) 79
 
 -- the entry there is a directory
 abbrev pub is_directory_there : Tree → Option ℕ → Bool
@@ -56,7 +51,7 @@ module _ (t : Tree) (s : Session) where
   unknown_lock lock = refuse InvalidLock (not (is_lock s lock))
 
   abbrev unknown_handle : ℕ → Option DosError
-  unknown_handle handle = refuse InvalidLock (not (is_handle s handle))
+  unknown_handle handle = refuse InvalidLock (not (numbered.contains_key s.handles handle))
 
   -- the refusal by the walk of a path from a lock
   abbrev walk_refusal : ℕ → List ℕ → Option DosError
@@ -108,7 +103,7 @@ module _ (t : Tree) (s : Session) where
   refusals (Info lock) = unknown_lock lock ∷ []
   refusals (SetComment lock path comment) =
       unknown_lock lock ∷ walk_refusal lock path
-      ∷ refuse CommentTooBig (not (is_comment comment))
+      ∷ refuse CommentTooBig (not (nat_le (length comment) 79))
       ∷ refuse ObjectWrongType (object t s lock path == root t) ∷ []
   refusals (Parent lock) =
       unknown_lock lock ∷ refuse ObjectInUse (is_some_and (λ dir. is_held_exclusively s dir) (parent_of t (lock_key t s lock))) ∷ []

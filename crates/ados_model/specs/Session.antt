@@ -5,8 +5,7 @@ use Rattle.std.specs.Option.{option_map_or}
 use Rattle.std.specs.Ordering.{nat_cmp}
 use Rattle.std.specs.FinMap as numbered
 use Rattle.ados_model.specs.declared.packet.TheConstants.{NO_LOCK}
-use Rattle.ados_model.specs.declared.holds.LockHold.{LockHold}
-use Rattle.ados_model.specs.declared.holds.HandleHold.{HandleHold}
+use Rattle.ados_model.specs.declared.holds.{LockHold.LockHold, HandleHold.HandleHold}
 
 -- the locks by their numbers and the handles by theirs, and whether the handler has died
 pub record Session : Type 0 where
@@ -41,10 +40,6 @@ is_lock s lock = (lock == NO_LOCK) || numbered.contains_key s.locks lock
 abbrev pub is_exclusive_lock : Session → ℕ → Bool
 is_exclusive_lock s lock = if lock == NO_LOCK then false else option_map_or (λ l. l.exclusive) (numbered.get s.locks lock) false
 
--- the numbers of all handles
-abbrev pub is_handle : Session → ℕ → Bool
-is_handle s handle = numbered.contains_key s.handles handle
-
 -- the file of a handle, and its position
 abbrev pub handle_key : Session → ℕ → ℕ
 handle_key s handle = option_map_or (λ h. h.key) (numbered.get s.handles handle) 0
@@ -75,13 +70,11 @@ abbrev pub at_position : ℕ → ℕ → Session → Session
 at_position handle position s =
     record s { handles = option_map_or (λ h. numbered.insert s.handles handle (record h { position = position })) (numbered.get s.handles handle) s.handles }
 
--- a handle of the file past this size is moved to it; any other handle stays
-abbrev pub within : ℕ → ℕ → HandleHold → HandleHold
-within key size h = if (h.key == key) && nat_lt size h.position then record h { position = size } else h
-
 -- each handle of the file past this size is moved to it
 abbrev pub positions_within : ℕ → ℕ → Session → Session
-positions_within key size s = record s { handles = numbered.from_entries (map (λ e. (e.0, within key size e.1)) (numbered.entries s.handles)) }
+positions_within key size s =
+    let within : HandleHold → HandleHold = λ h. if (h.key == key) && nat_lt size h.position then record h { position = size } else h in
+    record s { handles = numbered.from_entries (map (λ e. (e.0, within e.1)) (numbered.entries s.handles)) }
 
 -- the image of its volume, whether `check` rebuilt the bitmap, and the holds
 pub record HandlerState : Type 0 where

@@ -2,11 +2,8 @@
 use Rattle.std.specs.Prelude.{◌≡◌, ℕ, List, length, slice_get, Some, IsSome, IsTrue, ◌+◌, ◌-◌, ◌*◌, ◌/◌, ◌%◌, ◌<◌, ◌≤◌, min, ◌∷◌, slice_index, ◌==◌, [], filter, Contains}
 use Rattle.adf_block.specs.declared.layout.TheConstants.{BLOCK_BYTES, PRIMARY_TYPE, OWN_KEY, SECONDARY_TYPE, HEADER_TYPE, DATA_TYPE, LIST_TYPE, ROOT_TYPE, DIRECTORY_TYPE, FILE_TYPE, TABLE_LONGS, TABLE_SIZE, FIRST_SLOT, POINTER_COUNT, FIRST_POINTER, BITMAP_FLAG, BITMAP_VALID, FIRST_PAGE, DISK_DATE, CREATION_DATE, PROTECTION, FILE_SIZE, COMMENT_BYTE, DATE, NAME_BYTE, NEXT_IN_CHAIN, PARENT, NEXT_EXTENSION, SEQUENCE, HELD, NEXT_DATA, OFS_ROOM}
 use Rattle.adf_block.specs.Image.{page_count, IsInside, long, byte_at, block_sum, Chained, bytes_at, has_free_bit, HasText}
-use Rattle.adf_block.specs.declared.layout.Format.{Format}
-use Rattle.adf_block.specs.declared.layout.Format.TheVariants.{Ofs, Ffs}
-use Rattle.ados_name.specs.declared.stamp.Date3.{Date3}
 use Rattle.ados_name.specs.Name.{slot}
-use Rattle.ados_model.specs.Tree.{data_count, extension_count, Tree, size_of, data_size, data_start, Content, Node, Proper, root, entries, name_of, Content.Directory, Content.File}
+use Rattle.ados_model.specs.Tree.{Format, Ofs, Ffs, Date3, data_count, extension_count, Tree, size_of, data_size, data_start, Content, Node, Proper, root, entries, name_of, Content.Directory, Content.File}
 
 -- the bitmap blocks, and the data blocks and extension blocks of each file, in order
 pub record Layout : Type 0 where
@@ -63,8 +60,7 @@ pub record HasOfsData (image : List ℕ) (file size i block : ℕ) : Type 0 wher
   pub held : long image block HELD ≡ min OFS_ROOM (size - OFS_ROOM * i)
   pub sum : block_sum image block ≡ 0
 
--- a file; its pointer blocks are the header and the extension blocks, and each but the last has 72 pointers; each data block
--- but the last is full
+-- a file: its pointer blocks are its header and its extension blocks; all but the last are full, and so are its data blocks
 pub record HasFile (image : List ℕ) (format : Format) (file : ℕ) (blocks extensions bytes : List ℕ) : Type 0 where
   pub size : long image file FILE_SIZE ≡ length bytes
   pub chain : Chained image NEXT_EXTENSION (long image file NEXT_EXTENSION) extensions
@@ -79,10 +75,6 @@ pub record HasFile (image : List ℕ) (format : Format) (file : ℕ) (blocks ext
 abbrev pub format_byte : Format → ℕ
 format_byte Ofs = 0
 format_byte Ffs = 1
-
--- the first four bytes of a volume: `DOS` and the byte of the format
-abbrev pub kind_bytes : Format → List ℕ
-kind_bytes format = 68 ∷ 79 ∷ 83 ∷ format_byte format ∷ []
 
 -- the secondary type for the content of a node
 abbrev pub type_of : Content → ℕ
@@ -124,8 +116,8 @@ pub record Stands (image : List ℕ) (t : Tree) : Type 0 where
   pub layout : Layout
   pub fits : Fits t layout
   pub whole : length image ≡ BLOCK_BYTES * t.blocks
-  -- the fields of each block in use, by its use
-  pub boot : bytes_at image 0 0 4 ≡ kind_bytes t.format
+  -- the volume starts with `DOS` and the byte of its format; then the fields of each block in use, by its use
+  pub boot : bytes_at image 0 0 4 ≡ 68 ∷ 79 ∷ 83 ∷ format_byte t.format ∷ []
   pub root_fields : HasRoot image t layout
   pub nodes : (key : ℕ) (node : Node) → t.nodes key ≡ Some node → HasNode image key node
   pub entries : (key dir : ℕ) (node : Node) → t.nodes key ≡ Some node → node.parent ≡ Some dir → HasEntry image key node dir

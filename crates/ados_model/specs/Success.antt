@@ -1,17 +1,11 @@
 -- The effect of each packet that is not refused.
-use Rattle.std.specs.Prelude.{◌≡◌, ℕ, ◌+◌, ◌-◌, ℤ, pos, Bool, true, false, ◌==◌, nat_lt, if◌then◌else◌, List, [], ◌∷◌, ◌++◌, take, drop, length, replicate, None, Some, MatchOption}
-use Rattle.std.specs.Bool.{MatchBool}
+use Rattle.std.specs.Prelude.{◌≡◌, ℕ, ◌+◌, ◌-◌, ℤ, pos, Bool, true, false, ◌==◌, nat_lt, if◌then◌else◌, List, [], ◌∷◌, ◌++◌, take, drop, length, replicate, None, Some, MatchOption, MatchBool}
 use Rattle.adf_block.specs.Image.{IsInside}
-use Rattle.ados_name.specs.declared.stamp.Date3.{Date3}
-use Rattle.ados_model.specs.Tree.{Node, Tree, root, bytes_of, parent_of, size_of, Content.Directory, Content.File}
+use Rattle.ados_model.specs.Tree.{Date3, Node, Tree, root, bytes_of, parent_of, size_of, Content.Directory, Content.File}
 use Rattle.ados_model.specs.Change.{changed, entries_after, made, removed, renamed, rewritten, stamped, written}
 use Rattle.ados_model.specs.Objects.{file_info, disk_info, lock_key, object, spot_directory, spot_name, standing, is_exclusive_mode, handle_target, target_number}
-use Rattle.ados_model.specs.Packet.{dos_true, dos_false}
-use Rattle.ados_model.specs.declared.packet.TheConstants.{NO_LOCK}
-use Rattle.ados_model.specs.declared.packet.Packet.{Packet}
-use Rattle.ados_model.specs.declared.packet.Packet.TheVariants.{Die, LocateObject, RenameDisk, FreeLock, DeleteObject, RenameObject, CopyDir, SetProtect, CreateDir, ExamineObject, ExamineNext, DiskInfo, Info, SetComment, Parent, SetDate, SameLock, Read, Write, FindUpdate, FindInput, FindOutput, End, Seek, SetFileSize, Other}
-use Rattle.ados_model.specs.declared.answer.Body.{Body}
-use Rattle.ados_model.specs.declared.answer.Body.TheVariants.{Empty, Buffer, Handle, Entry, Disk}
+use Rattle.ados_model.specs.Packet.{NO_LOCK, Packet, Die, LocateObject, RenameDisk, FreeLock, DeleteObject, RenameObject, CopyDir, SetProtect, CreateDir, ExamineObject, ExamineNext, DiskInfo, Info, SetComment, Parent, SetDate, SameLock, Read, Write, FindUpdate, FindInput, FindOutput, End, Seek, SetFileSize, Other, dos_true, dos_false}
+use Rattle.ados_model.specs.declared.answer.Body.{Body, TheVariants.Empty, TheVariants.Buffer, TheVariants.Handle, TheVariants.Entry, TheVariants.Disk}
 use Rattle.ados_model.specs.Session.{Session, IsFreeNumber, with_lock, without_lock, with_handle, without_handle, at_position, positions_within, handle_key, handle_position}
 
 -- the result of a served packet: the tree, the session, the first result and the body

@@ -2,10 +2,9 @@
 use Rattle.std.specs.Prelude.{ℕ, ◌+◌, ◌-◌, ◌/◌, ◌==◌, if◌then◌else◌, List, [], ◌∷◌, Option, Some, None, ◌≡◌, ◌≢◌, ◌≤◌, ◌↔◌, length, Contains, AllPairs, is_some, option_map, option_and_then, cond, Bool, nat_lt}
 use Rattle.std.specs.Option.{option_map_or}
 use Rattle.adf_block.specs.declared.layout.TheConstants.{FEWEST_BLOCKS, MOST_BLOCKS, BOOT_BLOCKS, TABLE_LONGS, OFS_DATA_BYTE, OFS_ROOM, FFS_ROOM}
-use Rattle.adf_block.specs.declared.layout.Format.{Format}
-use Rattle.adf_block.specs.declared.layout.Format.TheVariants.{Ofs, Ffs}
+pub use Rattle.adf_block.specs.declared.layout.Format.{Format, TheVariants.Ofs, TheVariants.Ffs}
 use Rattle.adf_block.specs.Image.{root_key, page_count, IsInside, total}
-use Rattle.ados_name.specs.declared.stamp.Date3.{Date3}
+pub use Rattle.ados_name.specs.declared.stamp.Date3.{Date3}
 use Rattle.ados_name.specs.Name.{Same, slot, IsName, IsComment}
 
 -- bytes of a file in one data block

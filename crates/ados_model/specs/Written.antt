@@ -2,7 +2,7 @@
 use Rattle.std.specs.Prelude.{ℕ, List, [], ◌∷◌, length, replicate, fold, flat_map}
 use Rattle.std.specs.Int.{bytes_high_first}
 use Rattle.adf_block.specs.declared.layout.TheConstants.{BLOCK_BYTES}
-use Rattle.adf_block.specs.Image.{long_byte}
+use Rattle.adf_block.specs.Frame.{long_byte}
 use Rattle.ados_name.specs.declared.stamp.Date3.{Date3}
 use Rattle.ados_model.specs.Edits.{overlaid}
 

@@ -71,8 +71,7 @@ pub data Step : Type 0 where
 abbrev pub is_from_root : List ℕ → Bool
 is_from_root path = list_any is_colon path
 
--- the parts are split at slashes; a part that is not empty is a step to a child, an empty part before a slash is a
--- step to the parent, and an empty last part is no step
+-- parts between slashes: one that is not empty is a step to a child, an empty one to the parent, an empty last one none
 abbrev pub steps_of_parts : List (List ℕ) → List Step
 steps_of_parts [] = []
 steps_of_parts ([] ∷ []) = []

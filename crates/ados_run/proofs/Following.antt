@@ -15,8 +15,8 @@ use Rattle.ados_model.specs.Meaning.{Meaning}
 use Rattle.ados_model.specs.Session.{HandlerState}
 use Rattle.ados_handler.specs.Gives.{HandlerGives}
 use Rattle.ados_run.specs.TreePort.{TreeState, means, tree_died, with_tree}
-use Rattle.ados_run.specs.Runs.{handler_died, BothSides, port_beside}
-use Rattle.ados_run.specs.TreeLists.{both_died, handlers_of, beside}
+use Rattle.ados_run.specs.Runs.{BothSides, port_beside}
+use Rattle.ados_run.specs.TreeLists.{both_died, handlers_of, beside, handler_died}
 use Rattle.ados_run.specs.Keeping.{ServesBoth}
 use Rattle.ados_run.specs.Laws.{EachSideIsAHistory, EachSideIsLawful, HistoriesFollowTrees, ListsFollowTrees}
 

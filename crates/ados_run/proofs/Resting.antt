@@ -12,10 +12,12 @@ use Rattle.ados_model.specs.declared.answer.Answer.{Answer}
 use Rattle.ados_model.specs.declared.dos_error.DosError.TheVariants.{DeviceNotMounted}
 use Rattle.ados_model.specs.Session.{Session, HandlerState}
 use Rattle.ados_model.specs.Refusals.{first_refusal, refuse, refusals}
-use Rattle.ados_model.specs.Meaning.{Meaning, IsRefused, ServedOrNoMemory, is_closing, is_number}
+use Rattle.ados_model.specs.Meaning.{Meaning, IsRefused, is_closing, is_number}
+use Rattle.ados_model.specs.Phrases.{ServedOrNoMemory}
 use Rattle.ados_handler.specs.Gives.{HandlerGives}
 use Rattle.ados_handler.specs.steps.Closes.{serves_closing}
-use Rattle.ados_run.specs.Runs.{handler_died, handler_after, RestsAfter}
+use Rattle.ados_run.specs.Runs.{handler_after, RestsAfter}
+use Rattle.ados_run.specs.TreeLists.{handler_died}
 use Rattle.ados_run.specs.Opened.{IsTooLate}
 use Rattle.ados_run.specs.Laws.{DeadHandlersRest}
 

@@ -14,8 +14,8 @@ use Rattle.ados_model.specs.declared.answer.Answer.{Answer}
 use Rattle.ados_model.specs.Session.{opening_session, HandlerState}
 use Rattle.ados_handler.specs.Gives.{HandlerGives}
 use Rattle.ados_handler.specs.steps.Closes.{serves_dead}
-use Rattle.ados_run.specs.Runs.{handler_died, BothSides, FollowsTree, handler_over, port_beside}
-use Rattle.ados_run.specs.TreeLists.{both_died, beside, handlers_of}
+use Rattle.ados_run.specs.Runs.{BothSides, FollowsTree, handler_over, port_beside}
+use Rattle.ados_run.specs.TreeLists.{both_died, beside, handlers_of, handler_died}
 use Rattle.ados_run.specs.Opened.{SaysValid, port_over}
 use Rattle.ados_run.specs.Keeping.{KeepsVolume, ServesBoth}
 use Rattle.ados_run.proofs.Following.{handlers_run, histories_follow_trees}

@@ -23,8 +23,8 @@ use Rattle.ados_handler.specs.Gives.{HandlerGives}
 use Rattle.adf_script.specs.declared.ending.ClientEnding.{ClientEnding}
 use Rattle.adf_script.specs.Spoken.{Spoken}
 use Rattle.ados_run.specs.Scripts.{Tells, EachTells}
-use Rattle.ados_run.specs.Runs.{handler_died, handler_over}
-use Rattle.ados_run.specs.TreeLists.{both_died, beside, handlers_of, ListsFollowTree}
+use Rattle.ados_run.specs.Runs.{handler_over}
+use Rattle.ados_run.specs.TreeLists.{both_died, beside, handlers_of, ListsFollowTree, handler_died}
 use Rattle.ados_run.specs.ServesVolume.{EachSpeaks}
 use Rattle.ados_run.specs.Keeping.{KeepsServed, ServesBoth}
 use Rattle.ados_run.proofs.Closed.{spoken_closed}

@@ -11,8 +11,8 @@ use Rattle.ados_model.specs.declared.packet.Packet.{Packet}
 use Rattle.ados_model.specs.Session.{HandlerState}
 use Rattle.ados_handler.specs.Gives.{HandlerGives}
 use Rattle.adf_script.specs.Ran.{LinesAreOneRun}
-use Rattle.ados_run.specs.Runs.{HandlerPort, PacketOutcomes, PacketSteps, handler_died, FollowsTree, RestsOnceDead}
-use Rattle.ados_run.specs.TreeLists.{ServedPackets, PacketLists, ListsFollowTree}
+use Rattle.ados_run.specs.Runs.{HandlerPort, PacketOutcomes, PacketSteps, FollowsTree, RestsOnceDead}
+use Rattle.ados_run.specs.TreeLists.{ServedPackets, PacketLists, ListsFollowTree, handler_died}
 use Rattle.ados_run.specs.TreePort.{means, over_tree, tree_died, with_tree}
 use Rattle.ados_run.specs.Keeping.{ServesBoth}
 

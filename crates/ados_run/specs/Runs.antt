@@ -1,20 +1,13 @@
--- The result of a run of port steps over an image: the headline. Before it stand the port of a handler, the handler side by
--- side with the tree that its image represents, in one history of both, and packets after a handler's death.
+-- The headline: the result of a run of port steps over an image. First its terms: a handler beside its tree, and its death.
 use Rattle.std.specs.Prelude.{Bool, List, ◌≡◌, ℕ, map, ◌+◌, true, take, drop, slice_get, Some, All}
 use Rattle.adf_block.specs.Image.{block_count, long, root_key}
 use Rattle.adf_block.specs.declared.layout.TheConstants.{BITMAP_FLAG, BITMAP_VALID}
-use Rattle.ados_name.specs.declared.stamp.Date3.{Date3}
-use Rattle.ados_model.specs.Tree.{Tree}
-use Rattle.ados_model.specs.declared.packet.Packet.{Packet}
-use Rattle.ados_model.specs.declared.answer.Answer.{Answer}
+use Rattle.ados_model.specs.Tree.{Tree, Date3}
 use Rattle.ados_model.specs.Meaning.{Meaning, is_closing}
 use Rattle.ados_model.specs.Session.{HandlerState, opening_session}
 use Rattle.ados_model.specs.Stands.{Stands}
-use Rattle.ados_model.specs.Packet.{refused_answer}
-use Rattle.ados_model.specs.declared.dos_error.DosError.TheVariants.{DeviceNotMounted}
-use Rattle.ados_port.specs.History.{PortState, Serving, ServerMeaning, PortHistory, last_server, opening_port, ClosedOnceDead}
-use Rattle.ados_port.specs.Step.{Step}
-use Rattle.ados_port.specs.Outcome.{Outcome}
+use Rattle.ados_model.specs.Packet.{Packet, Answer, DeviceNotMounted, refused_answer}
+use Rattle.ados_port.specs.History.{Step, Outcome, PortState, Serving, ServerMeaning, PortHistory, last_server, opening_port, ClosedOnceDead}
 
 -- a port with a handler as its server
 abbrev pub HandlerPort : Type 0
@@ -26,10 +19,6 @@ PacketSteps = List (Step Packet Date3)
 
 abbrev pub PacketOutcomes : Type 0
 PacketOutcomes = List (Outcome Packet Answer)
-
--- whether a handler has died
-abbrev pub handler_died : HandlerState → Bool
-handler_died handler = handler.session.died
 
 -- a handler, and the tree of its image
 pub record BothSides : Type 0 where
@@ -52,7 +41,7 @@ handler_over image was_validated = record { image = image; was_validated = was_v
 -- from this tree, the steps had these outcomes; tree and image changed together, and the last image represents the last tree
 pub record FollowsTree (together : ServerMeaning BothSides Packet Date3 Answer) (t : Tree) (opening : HandlerPort) (steps : PacketSteps) (outcomes : PacketOutcomes) (closing : HandlerPort) : Type 0 where
   pub last_tree : Tree
-  pub history : PortHistory together (λ (both : BothSides). handler_died both.handler) (port_beside t opening) steps outcomes (port_beside last_tree closing)
+  pub history : PortHistory together (λ (both : BothSides). both.handler.session.died) (port_beside t opening) steps outcomes (port_beside last_tree closing)
   pub stands : Stands closing.server.image last_tree
   pub validated : closing.server.was_validated ≡ opening.server.was_validated
 
@@ -69,7 +58,7 @@ module _ (opening : HandlerState) (served : List (Serving Packet Date3 Answer)) 
 
   -- the handler rests after its death, so after each answer that closes
   pub record RestsOnceDead : Type 0 where
-    pub dead : (count : ℕ) → handler_died (handler_after count) ≡ true → RestsAfter count
+    pub dead : (count : ℕ) → (handler_after count).session.died ≡ true → RestsAfter count
     pub closing : (place : ℕ) (s : Serving Packet Date3 Answer) → slice_get served place ≡ Some s → is_closing s.answer ≡ true → RestsAfter (place + 1)
 
 -- The image, or that image with a new bitmap if its root says that the bitmap is not valid, represents exactly one

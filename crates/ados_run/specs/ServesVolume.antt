@@ -12,8 +12,8 @@ use Rattle.ados_model.specs.declared.answer.Answer.{Answer}
 use Rattle.ados_model.specs.Session.{HandlerState}
 use Rattle.adf_script.specs.declared.ending.ClientEnding.{ClientEnding}
 use Rattle.adf_script.specs.Spoken.{Spoken}
-use Rattle.ados_run.specs.TreeLists.{PacketLists, ListsFollowTree, ServedPackets, beside, handlers_of, both_died}
-use Rattle.ados_run.specs.Runs.{handler_died, BothSides, MeansBoth, handler_over, RestsOnceDead}
+use Rattle.ados_run.specs.TreeLists.{PacketLists, ListsFollowTree, ServedPackets, beside, handlers_of, both_died, handler_died}
+use Rattle.ados_run.specs.Runs.{BothSides, MeansBoth, handler_over, RestsOnceDead}
 
 -- the bytes of each script
 abbrev pub scripts_of : {G : Type 0} → List (Vec ℕ Global × G) → List (List ℕ)

@@ -8,7 +8,11 @@ use Rattle.ados_model.specs.Session.{HandlerState}
 use Rattle.ados_model.specs.Stands.{Stands}
 use Rattle.ados_port.specs.Lawful.{ClientLists, Lawful}
 use Rattle.ados_port.specs.History.{ServerMeaning, Serving}
-use Rattle.ados_run.specs.Runs.{BothSides, handler_died}
+use Rattle.ados_run.specs.Runs.{BothSides}
+
+-- whether a handler has died
+abbrev pub handler_died : HandlerState → Bool
+handler_died handler = handler.session.died
 
 -- whether the handler of these has died
 abbrev pub both_died : BothSides → Bool

@@ -1,6 +1,7 @@
 -- A dead server stays dead, and its port stays closed.
 use Rattle.std.proofs.Common.{◌≡◌, ℕ, zero, suc, ◌+◌, ◌≤◌, Bool, true, List, [], ◌∷◌, take, drop, slice_get, Some, arith, subst, MatchOption, refl, sym, ap, ◌∙◌}
-use Rattle.port_ends.specs.History.{ClientState, PortState, client_state, Serving, Run, last_server, Event, events_of, client_now, PutFits, server_by, served_count, PortHistory, ClosedOnceDead, PutsAreClosed}
+use Rattle.port_ends.specs.History.{ClientState, PortState, client_state, Serving, Run, last_server, Event, events_of, client_now, PutFits, server_by, served_count, PortHistory, ClosedOnceDead}
+use Rattle.port_ends.specs.Gives.{PutsAreClosed}
 use Rattle.port_ends.specs.Lawful.{served_by}
 use Rattle.port_ends.specs.declared.step.Step.{Step}
 use Rattle.port_ends.specs.declared.step.Step.TheVariants.{Put}

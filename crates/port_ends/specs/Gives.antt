@@ -1,5 +1,5 @@
 -- The effect of one step on a port.
-use Rattle.std.specs.Prelude.{◌≡◌, ◌⊎◌, ℕ, ◌+◌, ◌-◌, Bool, List, [], ◌∷◌, ◌++◌, slice_set, Some, None, MatchOption, drop}
+use Rattle.std.specs.Prelude.{◌≡◌, ◌⊎◌, ℕ, ◌+◌, ◌-◌, Bool, List, [], ◌∷◌, ◌++◌, slice_get, slice_set, Some, None, MatchOption, drop}
 use Rattle.std.specs.Bool.{MatchBool}
 use Rattle.port_ends.specs.History.{ClientState, PortState, client_state, ServerMeaning, Event, served_count, queue}
 use Rattle.port_ends.specs.declared.step.Step.{Step}
@@ -53,3 +53,10 @@ StepGives gives has_died old (Take client) outcome new = TakeGives old client ou
 -- the waiting packets are all packets of the port without as many first ones as these events served
 abbrev pub FirstAreServed : {S Q M A : Type 0} → PortState S Q A → List (Event Q M A) → PortState S Q A → Type 0
 FirstAreServed opening events closing = closing.waiting ≡ drop (served_count events) (queue opening events)
+
+-- each put by a client of the port was refused as closed, with its packet
+abbrev pub PutsAreClosed : {S Q M A : Type 0} → PortState S Q A → List (Event Q M A) → Type 0
+PutsAreClosed {S} {Q} {M} {A} opening events =
+    (i client : ℕ) (packet : Q) (outcome : Outcome Q A) (c : ClientState A)
+    → slice_get events i ≡ Some (record { step = Put client packet; outcome = outcome })
+    → client_state opening.clients client ≡ Some c → outcome ≡ Refused (Closed packet)

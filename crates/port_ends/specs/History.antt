@@ -1,14 +1,9 @@
--- A port, the packets that its server has served, and the history of the port, defined by counts of the events before each
--- step. A put appends its packet to the port's list and a serve removes the first one, as PutMsg and GetMsg do (ROM Kernel
--- Manual, message ports). The last definitions are of a port after its server's death.
-use Rattle.std.specs.Prelude.{ℕ, ◌-◌, ◌==◌, if◌then◌else◌, List, [], slice_get, replicate, Option, option_map, None, ◌≡◌, ◌∷◌, map, filter, ◌⊎◌, ◌+◌, Bool, ◌++◌, length, take, drop, Some, MatchOption, true}
-use Rattle.std.specs.Bool.{MatchBool}
-use Rattle.std.specs.List.{filter_map}
-use Rattle.port_ends.specs.declared.step.Step.{Step}
+-- A port, the packets that its server has served, and its history, by counts of the events before each step. A put appends
+-- its packet and a serve removes the first one, as PutMsg and GetMsg do (ROM Kernel Manual, message ports).
+use Rattle.std.specs.Prelude.{ℕ, ◌-◌, ◌==◌, if◌then◌else◌, List, [], slice_get, replicate, Option, option_map, None, ◌≡◌, ◌∷◌, map, filter, ◌⊎◌, ◌+◌, Bool, ◌++◌, length, take, drop, Some, MatchOption, MatchBool, true, filter_map}
+pub use Rattle.port_ends.specs.declared.step.{Step.Step, Outcome.Outcome, Reply.Reply}
 use Rattle.port_ends.specs.declared.step.Step.TheVariants.{Put, Serve, Take}
 use Rattle.port_ends.specs.declared.step.PutRefused.TheVariants.{Closed, NoRoom}
-use Rattle.port_ends.specs.declared.step.Reply.{Reply}
-use Rattle.port_ends.specs.declared.step.Outcome.{Outcome}
 use Rattle.port_ends.specs.declared.step.Outcome.TheVariants.{Accepted, Refused, Served, Idle, Taken, Nothing, NoClient}
 
 -- a client: the number of its accepted packets and of its replies taken, and its replies not taken yet
@@ -50,8 +45,7 @@ ServerMeaning S Q M A = S → Q → M → S → A → Type 0
 abbrev pub Run : {S Q M A : Type 0} → ServerMeaning S Q M A → S → List (Serving Q M A) → List S → Type 0
 Run gives old [] [] = Unit {0}
 Run gives old (s ∷ served) (new ∷ servers) = gives old s.packet s.moment new s.answer × Run gives new served servers
-Run gives old [] (new ∷ servers) = ⊥
-Run gives old (s ∷ served) [] = ⊥
+Run gives old _ _ = ⊥
 
 -- the last of these servers, or the opening one if there are none
 abbrev pub last_server : {S : Type 0} → S → List S → S
@@ -65,9 +59,8 @@ pub record Event (Q M A : Type 0) : Type 0 where
 
 -- each step with its outcome
 abbrev pub events_of : {Q M A : Type 0} → List (Step Q M) → List (Outcome Q A) → List (Event Q M A)
-events_of [] outcomes = []
-events_of (step ∷ steps) [] = []
 events_of (step ∷ steps) (outcome ∷ outcomes) = record { step = step; outcome = outcome } ∷ events_of steps outcomes
+events_of _ _ = []
 
 module _ {Q M A : Type 0} where
   -- the packet that a step added to the port, with its client
@@ -163,17 +156,12 @@ pub record PortHistory {S Q M A : Type 0} (gives : ServerMeaning S Q M A) (has_d
   pub closing_clients : (number : ℕ) → client_state closing.clients number
       ≡ option_map (client_now served (events_of steps outcomes) number) (client_state opening.clients number)
 
--- each put by a client of the port was refused as closed, with its packet
-abbrev pub PutsAreClosed : {S Q M A : Type 0} → PortState S Q A → List (Event Q M A) → Type 0
-PutsAreClosed {S} {Q} {M} {A} opening events =
-    (i client : ℕ) (packet : Q) (outcome : Outcome Q A) (c : ClientState A)
-    → slice_get events i ≡ Some (record { step = Put client packet; outcome = outcome })
-    → client_state opening.clients client ≡ Some c → outcome ≡ Refused (Closed packet)
-
--- after any number of steps that leave the server dead, each later put was refused as closed
+-- after any steps that leave the server dead, each later put by a client was refused as closed, with its packet
 abbrev pub ClosedOnceDead : {S Q M A : Type 0} {gives : ServerMeaning S Q M A} {has_died : S → Bool}
     {opening : PortState S Q A} {steps : List (Step Q M)} {outcomes : List (Outcome Q A)} {closing : PortState S Q A}
     → PortHistory gives has_died opening steps outcomes closing → Type 0
-ClosedOnceDead {has_died = has_died} {opening = opening} {steps = steps} {outcomes = outcomes} history =
+ClosedOnceDead {Q = Q} {A = A} {has_died = has_died} {opening = opening} {steps = steps} {outcomes = outcomes} history =
     (count : ℕ) → has_died (server_by (take count (events_of steps outcomes)) opening.server history.servers) ≡ true
-    → PutsAreClosed opening (drop count (events_of steps outcomes))
+    → (i client : ℕ) (packet : Q) (outcome : Outcome Q A) (c : ClientState A)
+    → slice_get (drop count (events_of steps outcomes)) i ≡ Some (record { step = Put client packet; outcome = outcome })
+    → client_state opening.clients client ≡ Some c → outcome ≡ Refused (Closed packet)

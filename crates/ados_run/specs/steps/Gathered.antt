@@ -10,7 +10,7 @@ use Rattle.ados_port.specs.Ends.{ClientView, CloseMeansDeath, HandlerView}
 use Rattle.ados_port.specs.Gathering.{all_lists}
 use Rattle.ados_model.specs.Session.{HandlerState}
 use Rattle.ados_handler.specs.Gives.{HandlerGives}
-use Rattle.ados_run.specs.Runs.{handler_died}
+use Rattle.ados_run.specs.TreeLists.{handler_died}
 
 -- the lists of these ends, with replies not taken and packets not answered, are one history that ends at the handler;
 -- if an end knows that the port is closed, the handler has died
