@@ -6,7 +6,8 @@ use Rattle.ados_name.specs.declared.stamp.Date3.{Date3}
 use Rattle.ados_model.specs.Tree.{Tree}
 use Rattle.ados_model.specs.Stands.{Stands}
 use Rattle.ados_model.specs.DiskDate.{sets_disk_date}
-use Rattle.ados_model.specs.Meaning.{IsRefused, ServedOrNoMemory}
+use Rattle.ados_model.specs.Meaning.{IsRefused}
+use Rattle.ados_model.specs.Phrases.{ServedOrNoMemory}
 use Rattle.ados_model.specs.Packet.{error_number}
 use Rattle.ados_model.specs.Refusals.{refusal}
 use Rattle.ados_model.specs.Session.{HandlerState}

@@ -15,7 +15,7 @@ use Rattle.ados_port.specs.Step.{Step}
 use Rattle.ados_model.specs.Session.{HandlerState}
 use Rattle.ados_handler.specs.Gives.{HandlerGives}
 use Rattle.ados_model.specs.Meaning.{IsServed}
-use Rattle.ados_run.specs.Runs.{handler_died}
+use Rattle.ados_run.specs.TreeLists.{handler_died}
 use Rattle.ados_run.specs.Opened.{port_over}
 use Rattle.ados_run.specs.Keeping.{KeepsVolume}
 use Rattle.ados_run.proofs.Following.{each_side_is_a_history}

@@ -1,7 +1,7 @@
 -- The text for an answer to DISK_INFO, and for the boot blocks.
 use Rattle.std.specs.Prelude.{ℕ, ◌==◌, if◌then◌else◌, List, ◌++◌, codes}
 use Rattle.adf_block.specs.Image.{long}
-use Rattle.adf_block.specs.declared.layout.TheConstants.{BOOT_CHECKSUM}
+use Rattle.adf_block.specs.declared.beside.TheConstants.{BOOT_CHECKSUM}
 use Rattle.adf_block.specs.Boot.{boot_sum}
 use Rattle.ados_model.specs.declared.answer.Answer.{Answer}
 use Rattle.adf_script.specs.Text.{line, results}

@@ -9,7 +9,8 @@ use Rattle.ados_model.specs.Change.{is_file, place, walk_steps}
 use Rattle.ados_model.specs.declared.dos_error.WalkFault.TheVariants.{ObjectNotFound}
 use Rattle.ados_volume.specs.Shown.{Shown}
 use Rattle.ados_model.specs.Resolved.{place_result, walk_result}
-use Rattle.ados_model.specs.Refusals.{first_refusal, is_comment, is_name, refuse}
+use Rattle.ados_model.specs.Refusals.{first_refusal, is_name, refuse}
+use Rattle.ados_model.specs.Phrases.{is_comment}
 use Rattle.adf_import.specs.Refusals.{move_refusal}
 use Rattle.adf_import.specs.declared.paths.MoveFault.{MoveFault}
 use Rattle.adf_import.specs.declared.paths.MoveFault.TheVariants.{Old, New}

@@ -2,7 +2,8 @@
 ghost use Rattle.adf_salvage.specs.Salvaged.{IsReadAs};
 
 use crate::header::{is_file, is_sound_header};
-use adf_block::layout::{DATA_TYPE, KIND, OWN_KEY, PRIMARY_TYPE};
+use adf_block::beside::KIND;
+use adf_block::layout::{DATA_TYPE, OWN_KEY, PRIMARY_TYPE};
 use adf_block::{BootKind, Image};
 
 /// `DOS`, 0: OFS, as a long.

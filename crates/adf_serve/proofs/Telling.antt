@@ -11,7 +11,7 @@ use Rattle.ados_model.specs.declared.answer.Answer.{Answer}
 use Rattle.ados_model.specs.Session.{Session, opening_session, HandlerState}
 use Rattle.ados_handler.specs.Gives.{HandlerGives}
 use Rattle.ados_run.specs.TreePort.{means, tree_died, over_tree}
-use Rattle.ados_run.specs.Runs.{handler_died}
+use Rattle.ados_run.specs.TreeLists.{handler_died}
 use Rattle.ados_run.proofs.Following.{each_side_is_a_history, histories_follow_trees}
 use Rattle.adf_script.specs.Lines.{kept_lines, is_too_long}
 use Rattle.adf_script.specs.Streams.{ReadsAndWrites}

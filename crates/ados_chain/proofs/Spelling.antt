@@ -2,7 +2,8 @@
 use Rattle.std.proofs.Common.{◌≡◌, ◌≢◌, ℕ, zero, suc, ◌<◌, ◌≤◌, ◌⊎◌, inl, cond, ◌==◌, List, [], ◌∷◌, ◌++◌, length, Contains, refl, sym, ap, ap₂, ◌∙◌, subst, arith}
 use Rattle.std.proofs.lemmas.Bool.{ne_eqb}
 use Rattle.adf_block.specs.Image.{long, Chained}
-use Rattle.adf_block.specs.declared.layout.TheConstants.{CHECKSUM, NEXT_IN_CHAIN}
+use Rattle.adf_block.specs.declared.layout.TheConstants.{NEXT_IN_CHAIN}
+use Rattle.adf_block.specs.declared.beside.TheConstants.{CHECKSUM}
 use Rattle.ados_chain.specs.Relinks.{link_block, link_long}
 use Rattle.ados_model.proofs.KeyLists.{Once, Once-tail, Once-head, Contains-here, Contains-later}
 

@@ -1,7 +1,8 @@
 -- A change of a hash chain: one link of it, and the link in the entry that is inserted or removed.
 use Rattle.std.specs.Prelude.{◌≡◌, ℕ, ◌+◌, ◌⊎◌, List, [], ◌∷◌, ◌++◌}
 use Rattle.adf_block.specs.Image.{block_sum, long}
-use Rattle.adf_block.specs.declared.layout.TheConstants.{CHECKSUM, FIRST_SLOT, NEXT_IN_CHAIN}
+use Rattle.adf_block.specs.declared.layout.TheConstants.{FIRST_SLOT, NEXT_IN_CHAIN}
+use Rattle.adf_block.specs.declared.beside.TheConstants.{CHECKSUM}
 use Rattle.adf_block.specs.Frame.{SameBut, AtLong}
 use Rattle.ados_chain.specs.Chains.{LawfulChains, IsEntryBlock, InChains, slot_at, with_last, without}
 

@@ -9,7 +9,8 @@ ghost use Rattle.ados_chain.specs.Relinks.{Relinks};
 ghost use Rattle.ados_chain.specs.Links.{LeadsTo, IsLink};
 
 use adf_block::Image;
-use adf_block::layout::{CHECKSUM, FIRST_SLOT, NEXT_IN_CHAIN};
+use adf_block::beside::CHECKSUM;
+use adf_block::layout::{FIRST_SLOT, NEXT_IN_CHAIN};
 
 /// A long that holds the next key of a hash chain, or 0 at its end. It is in the hash table of a directory, or it is
 /// an entry's next-in-chain long.

@@ -9,7 +9,8 @@ pub use Rattle.adf_block.specs.Image.{Chained, HasText, IsInside, block_count, l
 pub use Rattle.adf_block.specs.Whole.{HasFreeBit, IsImage, IsSize, free_bit_count}
 pub use Rattle.adf_block.specs.declared.layout.Format.{Format}
 pub use Rattle.adf_block.specs.declared.layout.Format.TheVariants.{Ffs, Ofs}
-pub use Rattle.adf_block.specs.declared.layout.TheConstants.{CHECKSUM, COMMENT_BYTE, FILE_TYPE, NAME_BYTE, NEXT_IN_CHAIN}
+pub use Rattle.adf_block.specs.declared.layout.TheConstants.{COMMENT_BYTE, FILE_TYPE, NAME_BYTE, NEXT_IN_CHAIN}
+pub use Rattle.adf_block.specs.declared.beside.TheConstants.{CHECKSUM}
 pub use Rattle.ados_chain.proofs.Changes.{slot_at-small}
 pub use Rattle.ados_chain.proofs.Spelling.{Chained-kept}
 pub use Rattle.ados_chain.specs.Chains.{InChains, IsEntryBlock, LawfulChains, name_at, slot_at, with_last, without}

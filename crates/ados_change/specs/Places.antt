@@ -1,8 +1,8 @@
 -- The bytes of a block that an edit may change.
 use Rattle.std.specs.Prelude.{ℕ, ◌+◌, ◌⊎◌, List}
-use Rattle.adf_block.specs.declared.layout.TheConstants.{CHECKSUM, DISK_DATE}
-use Rattle.adf_block.specs.Image.{long_byte}
-use Rattle.adf_block.specs.Frame.{AtLong, SameBut, Within}
+use Rattle.adf_block.specs.declared.layout.TheConstants.{DISK_DATE}
+use Rattle.adf_block.specs.declared.beside.TheConstants.{CHECKSUM}
+use Rattle.adf_block.specs.Frame.{AtLong, SameBut, Within, long_byte}
 use Rattle.ados_model.specs.Faults.{root_of}
 
 -- bytes low to high - 1 of block b, and its checksum

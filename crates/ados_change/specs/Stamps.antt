@@ -1,6 +1,7 @@
 -- Where the time stamp of a change is written.
 use Rattle.std.specs.Prelude.{◌≡◌, ℕ, ◌+◌, ◌/◌, ◌≤◌, ◌⊎◌}
-use Rattle.adf_block.specs.declared.layout.TheConstants.{CHECKSUM, DISK_DATE, PROTECTION, DATE}
+use Rattle.adf_block.specs.declared.layout.TheConstants.{DISK_DATE, PROTECTION, DATE}
+use Rattle.adf_block.specs.declared.beside.TheConstants.{CHECKSUM}
 use Rattle.ados_name.specs.declared.stamp.Date3.{Date3}
 use Rattle.ados_model.specs.Tree.{Tree}
 use Rattle.ados_model.specs.Change.{changed, stamped}

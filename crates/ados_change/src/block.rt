@@ -13,9 +13,9 @@ use crate::edit::{put_date, put_text};
 use crate::node_kind::NodeKind;
 use crate::settled::settle_date;
 use adf_block::Image;
+use adf_block::beside::CHECKSUM;
 use adf_block::layout::{
-    CHECKSUM, DATE, DISK_DATE, HEADER_TYPE, NAME_BYTE, OWN_KEY, PARENT, PRIMARY_TYPE,
-    SECONDARY_TYPE,
+    DATE, DISK_DATE, HEADER_TYPE, NAME_BYTE, OWN_KEY, PARENT, PRIMARY_TYPE, SECONDARY_TYPE,
 };
 use ados_name::{Date3, Name};
 

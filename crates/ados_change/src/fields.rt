@@ -2,7 +2,7 @@
 
 ghost use Rattle.std.specs.Prelude.{◌+◌, length};
 ghost use Rattle.adf_block.specs.declared.layout.TheConstants.{PROTECTION, COMMENT_BYTE, DATE, NAME_BYTE};
-ghost use Rattle.adf_block.specs.Image.{long_byte};
+ghost use Rattle.adf_block.specs.Frame.{long_byte};
 ghost use Rattle.ados_model.specs.Tree.{Tree};
 ghost use Rattle.ados_model.specs.Stands.{Stands};
 ghost use Rattle.ados_model.specs.Keys.{HasEntryKey, HasTree};

@@ -1,8 +1,7 @@
 //! One field of one node, and the disk date.
 
 ghost use Rattle.std.specs.Prelude.{◌+◌, length};
-ghost use Rattle.adf_block.specs.Image.{long_byte};
-ghost use Rattle.adf_block.specs.Frame.{SameBut};
+ghost use Rattle.adf_block.specs.Frame.{SameBut, long_byte};
 ghost use Rattle.ados_model.specs.Tree.{Tree};
 ghost use Rattle.ados_model.specs.Stands.{Stands};
 ghost use Rattle.ados_model.specs.Keys.{HasEntryKey, HasKey, HasTree};
@@ -13,7 +12,8 @@ ghost use Rattle.ados_change.specs.FieldTold.{commented, dated, named, protected
 
 use crate::settled::{settle_date, settle_text};
 use adf_block::Image;
-use adf_block::layout::{CHECKSUM, COMMENT_BYTE, DATE, DISK_DATE, NAME_BYTE, PROTECTION};
+use adf_block::beside::CHECKSUM;
+use adf_block::layout::{COMMENT_BYTE, DATE, DISK_DATE, NAME_BYTE, PROTECTION};
 use ados_name::{Comment, Date3, Name, Protect};
 
 /// Sets the protection bits of a directory or file.

@@ -1,16 +1,16 @@
 //! Fields written into a block whose checksum is long 5. A right checksum stays right.
 
 ghost use Rattle.std.specs.Prelude.{◌≡◌, ◌<◌, ◌≤◌, ◌+◌, ◌*◌, length};
-ghost use Rattle.adf_block.specs.Image.{long_byte, block_count, block_sum, HasText};
+ghost use Rattle.adf_block.specs.Image.{block_count, block_sum, HasText};
 ghost use Rattle.adf_block.specs.declared.layout.TheConstants.{BLOCK_BYTES, BLOCK_LONGS};
-ghost use Rattle.adf_block.specs.Frame.{SameBut};
+ghost use Rattle.adf_block.specs.Frame.{SameBut, long_byte};
 ghost use Rattle.adf_block.specs.Whole.{IsImage};
 ghost use Rattle.ados_model.specs.Stands.{date_at};
 ghost use Rattle.ados_change.specs.Places.{Summed};
 
 use crate::edit::put_text;
 use adf_block::Image;
-use adf_block::layout::CHECKSUM;
+use adf_block::beside::CHECKSUM;
 use ados_name::Date3;
 
 /// Writes a text into block `b`: its length at byte `at`, then its bytes. Bytes after the text are unchanged.

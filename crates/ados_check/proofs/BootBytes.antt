@@ -5,7 +5,8 @@ use Rattle.adf_block.specs.Fields.{format_of}
 use Rattle.adf_block.specs.Boot.{IsDos}
 use Rattle.adf_block.specs.declared.layout.Format.TheVariants.{Ofs, Ffs}
 use Rattle.adf_block.proofs.Blocks.{byte-bytes_at}
-use Rattle.ados_model.specs.Stands.{format_byte, kind_bytes}
+use Rattle.ados_model.specs.Stands.{format_byte}
+use Rattle.ados_model.specs.Phrases.{kind_bytes}
 
 module _ (image : List ℕ) (kind : ℕ) (is : bytes_at image 0 0 4 ≡ 68 ∷ 79 ∷ 83 ∷ kind ∷ []) where
   byte : (k : ℕ) → k < 4 → byte_at image 0 k ≡ slice_index (68 ∷ 79 ∷ 83 ∷ kind ∷ []) k

@@ -2,7 +2,8 @@
 use Rattle.std.specs.Prelude.{◌≡◌, ℕ, List, map, Option, Some, is_some}
 use Rattle.adf_block.specs.Whole.{HasFreeBit}
 use Rattle.adf_block.specs.Image.{long, block_sum}
-use Rattle.adf_block.specs.declared.layout.TheConstants.{CHECKSUM, BITMAP_FLAG, BITMAP_VALID}
+use Rattle.adf_block.specs.declared.layout.TheConstants.{BITMAP_FLAG, BITMAP_VALID}
+use Rattle.adf_block.specs.declared.beside.TheConstants.{CHECKSUM}
 use Rattle.adf_block.specs.Frame.{OnlyLong}
 use Rattle.ados_map.specs.Changes.{PagesRebuilt}
 use Rattle.ados_model.specs.Faults.{root_of}

@@ -5,7 +5,8 @@ use Rattle.adf_block.specs.Fields.{primary_type, own_key, parent_key, secondary_
 use Rattle.adf_block.specs.declared.layout.TheConstants.{HEADER_TYPE, DATA_TYPE, ROOT_TYPE, FILE_TYPE, TABLE_LONGS, TABLE_SIZE, COMMENT_BYTE, NAME_BYTE}
 use Rattle.adf_block.specs.Whole.{text_at}
 use Rattle.ados_name.specs.Name.{Same, slot, IsName}
-use Rattle.ados_model.specs.Stands.{HasExtension, HasFile, kind_bytes}
+use Rattle.ados_model.specs.Stands.{HasExtension, HasFile}
+use Rattle.ados_model.specs.Phrases.{kind_bytes}
 use Rattle.ados_model.specs.File.{data_blocks, extension_blocks, contents}
 use Rattle.ados_model.specs.declared.role.Role.{Role}
 use Rattle.ados_model.specs.declared.role.Role.TheVariants.{Root, Page, Entry, Data, Extension}

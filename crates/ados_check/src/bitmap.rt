@@ -13,9 +13,10 @@ ghost use Rattle.ados_check.specs.BitmapTold.{IsFree, TellsBitmap};
 use crate::mark::Mark;
 use crate::source::Source;
 use adf_block::Image;
+use adf_block::beside::CHECKSUM;
 use adf_block::layout::{
-    BITMAP_FLAG, BITMAP_VALID, BOOT_BLOCKS, CHECKSUM, FIRST_MAP_LONG, FIRST_PAGE, LONG_BITS,
-    MOST_BLOCKS, PAGE_BITS,
+    BITMAP_FLAG, BITMAP_VALID, BOOT_BLOCKS, FIRST_MAP_LONG, FIRST_PAGE, LONG_BITS, MOST_BLOCKS,
+    PAGE_BITS,
 };
 use ados_map::rebuild;
 use std::alloc::{AllocError, Global};

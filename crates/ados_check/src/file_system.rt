@@ -2,7 +2,7 @@
 ghost use Rattle.std.specs.Prelude.{◌≡◌, MatchResult};
 ghost use Rattle.adf_block.specs.Image.{bytes_at};
 ghost use Rattle.adf_block.specs.Fields.{format_of};
-ghost use Rattle.ados_model.specs.Stands.{kind_bytes};
+ghost use Rattle.ados_model.specs.Phrases.{kind_bytes};
 ghost use Rattle.ados_model.specs.Faults.{Shows};
 
 use adf_block::{BootKind, Image};

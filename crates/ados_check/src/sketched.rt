@@ -5,7 +5,7 @@ ghost use Rattle.adf_block.specs.Image.{block_count, bytes_at};
 ghost use Rattle.adf_block.specs.Whole.{IsSize};
 ghost use Rattle.adf_block.specs.Fields.{format_of};
 ghost use Rattle.ados_model.specs.Accepted.{Accepts};
-ghost use Rattle.ados_model.specs.Stands.{kind_bytes};
+ghost use Rattle.ados_model.specs.Phrases.{kind_bytes};
 ghost use Rattle.ados_check.specs.Marks.{IsChecked};
 ghost use Rattle.ados_check.specs.BitmapTold.{TellsBitmap};
 

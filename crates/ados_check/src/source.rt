@@ -10,7 +10,8 @@ ghost use Rattle.ados_check.specs.Source.{Tells};
 
 use crate::sketch::Sketch;
 use adf_block::Image;
-use adf_block::layout::{BOOT_BLOCKS, KIND_BYTE, NAME_BYTE};
+use adf_block::beside::KIND_BYTE;
+use adf_block::layout::{BOOT_BLOCKS, NAME_BYTE};
 use std::marker::Model;
 
 /// What the blocks are read from.

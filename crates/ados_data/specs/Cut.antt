@@ -1,6 +1,7 @@
 -- The blocks of a file after it was cut.
 use Rattle.std.specs.Prelude.{◌≡◌, ℕ, ◌/◌, ◌<◌, ◌≤◌, ◌⊎◌, List, length, slice_index, true}
-use Rattle.adf_block.specs.declared.layout.TheConstants.{BLOCK_BYTES, CHECKSUM, POINTER_COUNT, FILE_SIZE, NEXT_EXTENSION, NEXT_DATA, OFS_DATA_BYTE}
+use Rattle.adf_block.specs.declared.layout.TheConstants.{BLOCK_BYTES, POINTER_COUNT, FILE_SIZE, NEXT_EXTENSION, NEXT_DATA, OFS_DATA_BYTE}
+use Rattle.adf_block.specs.declared.beside.TheConstants.{CHECKSUM}
 use Rattle.adf_block.specs.declared.layout.Format.TheVariants.{Ofs}
 use Rattle.adf_block.specs.Image.{has_free_bit}
 use Rattle.adf_block.specs.Fields.{format_of}

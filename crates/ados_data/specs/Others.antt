@@ -1,6 +1,7 @@
 -- What a call on a file leaves untouched in other blocks.
 use Rattle.std.specs.Prelude.{◌≡◌, ◌≢◌, ℕ, ◌/◌, ◌<◌, ◌≤◌, ◌⊎◌, List, ◌∷◌, length, slice_index, false, true}
-use Rattle.adf_block.specs.declared.layout.TheConstants.{BOOT_BLOCKS, BLOCK_BYTES, CHECKSUM, FIRST_SLOT, POINTER_COUNT, FIRST_POINTER, FILE_SIZE, NEXT_EXTENSION, NEXT_DATA}
+use Rattle.adf_block.specs.declared.layout.TheConstants.{BOOT_BLOCKS, BLOCK_BYTES, FIRST_SLOT, POINTER_COUNT, FIRST_POINTER, FILE_SIZE, NEXT_EXTENSION, NEXT_DATA}
+use Rattle.adf_block.specs.declared.beside.TheConstants.{CHECKSUM}
 use Rattle.adf_block.specs.Image.{byte_at, block_sum, block_count, has_free_bit, IsInside}
 use Rattle.ados_map.specs.Pages.{pages_of, page_block, HasBit}
 use Rattle.ados_model.specs.File.{data_blocks, extension_blocks}

@@ -3,7 +3,8 @@ use Rattle.std.specs.Prelude.{◌≡◌, ◌≢◌, ℕ, ◌+◌, ◌-◌, ◌*�
 use Rattle.adf_block.specs.declared.layout.Format.{Format}
 use Rattle.adf_block.specs.Image.{byte_at, long, block_count}
 use Rattle.adf_block.specs.Fields.{pointer_count, file_size, format_of}
-use Rattle.adf_block.specs.declared.layout.TheConstants.{BLOCK_BYTES, PRIMARY_TYPE, OWN_KEY, CHECKSUM, SECONDARY_TYPE, POINTER_COUNT, FIRST_POINTER, FILE_SIZE, PARENT, NEXT_EXTENSION, NEXT_DATA}
+use Rattle.adf_block.specs.declared.layout.TheConstants.{BLOCK_BYTES, PRIMARY_TYPE, OWN_KEY, SECONDARY_TYPE, POINTER_COUNT, FIRST_POINTER, FILE_SIZE, PARENT, NEXT_EXTENSION, NEXT_DATA}
+use Rattle.adf_block.specs.declared.beside.TheConstants.{CHECKSUM}
 use Rattle.ados_map.specs.Pages.{pages_of, page_block}
 use Rattle.ados_model.specs.Tree.{data_size, data_start}
 use Rattle.ados_model.specs.File.{data_blocks, extension_blocks}

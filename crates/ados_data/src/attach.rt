@@ -8,9 +8,8 @@ ghost use Rattle.ados_data.specs.steps.Blocks.{AtLink, IsExtended, IsLengthened}
 
 use crate::edit::{make_data, make_extension};
 use crate::grow::End;
-use adf_block::layout::{
-    CHECKSUM, FIRST_POINTER, NEXT_DATA, NEXT_EXTENSION, POINTER_COUNT, TABLE_LONGS,
-};
+use adf_block::beside::CHECKSUM;
+use adf_block::layout::{FIRST_POINTER, NEXT_DATA, NEXT_EXTENSION, POINTER_COUNT, TABLE_LONGS};
 use adf_block::{Format, Image};
 
 /// Makes the empty block `e` an extension block of a file. It follows `holder`, the last pointer block.

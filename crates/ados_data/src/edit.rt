@@ -8,9 +8,9 @@ ghost use Rattle.adf_block.specs.declared.layout.TheConstants.{NEXT_DATA};
 ghost use Rattle.ados_model.specs.Stands.{HasExtension};
 ghost use Rattle.ados_data.specs.steps.Edits.{AtExtensionFields, AtDataFields};
 
+use adf_block::beside::CHECKSUM;
 use adf_block::layout::{
-    CHECKSUM, DATA_TYPE, FILE_TYPE, LIST_TYPE, OWN_KEY, PARENT, PRIMARY_TYPE, SECONDARY_TYPE,
-    SEQUENCE,
+    DATA_TYPE, FILE_TYPE, LIST_TYPE, OWN_KEY, PARENT, PRIMARY_TYPE, SECONDARY_TYPE, SEQUENCE,
 };
 use adf_block::{Format, Image};
 

@@ -7,8 +7,9 @@ ghost use Rattle.adf_block.specs.Frame.{SameBut};
 ghost use Rattle.ados_data.specs.steps.Blocks.{AtEnd, IsResized};
 
 use crate::grow::End;
+use adf_block::beside::CHECKSUM;
 use adf_block::layout::{
-    CHECKSUM, FILE_SIZE, HELD, NEXT_DATA, NEXT_EXTENSION, OFS_ROOM, POINTER_COUNT, TABLE_LONGS,
+    FILE_SIZE, HELD, NEXT_DATA, NEXT_EXTENSION, OFS_ROOM, POINTER_COUNT, TABLE_LONGS,
 };
 use adf_block::{Format, Image};
 

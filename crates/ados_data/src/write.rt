@@ -12,8 +12,9 @@ use crate::cost::{data_size, data_start};
 use crate::fields::data_block;
 use crate::grow::lengthen;
 use crate::place::{Place, pointer_block};
+use adf_block::beside::CHECKSUM;
 use adf_block::layout::{
-    BOOT_BLOCKS, CHECKSUM, FFS_ROOM, FILE_SIZE, MOST_BLOCKS, NEXT_EXTENSION, TABLE_LONGS,
+    BOOT_BLOCKS, FFS_ROOM, FILE_SIZE, MOST_BLOCKS, NEXT_EXTENSION, TABLE_LONGS,
 };
 use adf_block::{Format, Image};
 

@@ -6,7 +6,8 @@ use Rattle.std.specs.Prelude.{◌≡◌, ◌≢◌, ℕ, zero, suc, ◌+◌, ◌
 use Rattle.std.specs.Option.{option_and_then, option_or, unwrap_or}
 use Rattle.adf_block.specs.Image.{block_count, block_sum, byte_at, long}
 use Rattle.adf_block.specs.Fields.{held_count, pointer, pointer_count, secondary_type}
-use Rattle.adf_block.specs.declared.layout.TheConstants.{BLOCK_LONGS, BOOT_BLOCKS, KIND, KIND_BYTE, PAGE_CHECKSUM, CHECKSUM, PRIMARY_TYPE, HEADER_TYPE, DATA_TYPE, LIST_TYPE, ROOT_TYPE, FILE_TYPE, TABLE_SIZE, TABLE_LONGS, SECONDARY_TYPE, OWN_KEY, PARENT, NEXT_DATA, NEXT_EXTENSION, FIRST_POINTER, NAME_BYTE, COMMENT_BYTE, POINTER_COUNT, HELD, OFS_ROOM, FILE_SIZE, SEQUENCE}
+use Rattle.adf_block.specs.declared.layout.TheConstants.{BLOCK_LONGS, BOOT_BLOCKS, PRIMARY_TYPE, HEADER_TYPE, DATA_TYPE, LIST_TYPE, ROOT_TYPE, FILE_TYPE, TABLE_SIZE, TABLE_LONGS, SECONDARY_TYPE, OWN_KEY, PARENT, NEXT_DATA, NEXT_EXTENSION, FIRST_POINTER, NAME_BYTE, COMMENT_BYTE, POINTER_COUNT, HELD, OFS_ROOM, FILE_SIZE, SEQUENCE}
+use Rattle.adf_block.specs.declared.beside.TheConstants.{KIND, KIND_BYTE, PAGE_CHECKSUM, CHECKSUM}
 use Rattle.ados_check.specs.Marks.{HasEntryType, mark_at}
 use Rattle.ados_check.specs.Rules.{HasNoType, HasOtherCount}
 use Rattle.ados_check.specs.declared.mark.Mark.{Mark}

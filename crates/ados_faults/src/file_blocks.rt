@@ -9,9 +9,8 @@ ghost use Rattle.ados_faults.specs.steps.FileNotes.{AreHeld, IsHeld};
 use crate::bits::is_inside;
 use crate::blocks::Blocks;
 use adf_block::Image;
-use adf_block::layout::{
-    FIRST_POINTER, HELD, KIND_BYTE, NEXT_EXTENSION, POINTER_COUNT, TABLE_LONGS,
-};
+use adf_block::beside::KIND_BYTE;
+use adf_block::layout::{FIRST_POINTER, HELD, NEXT_EXTENSION, POINTER_COUNT, TABLE_LONGS};
 use std::alloc::{AllocError, Global};
 
 /// Lists the header of a file and the blocks along its links, each once.

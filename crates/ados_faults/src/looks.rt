@@ -12,7 +12,7 @@ use crate::kinds::other_kind;
 use crate::notes::Notes;
 use crate::walk::Step;
 use adf_block::Image;
-use adf_block::layout::KIND_BYTE;
+use adf_block::beside::KIND_BYTE;
 use ados_check::{
     FIELD_RULES, FieldRule, POINTER_RULES, Source, has_bad_field, has_bad_sum, has_bad_type,
 };

@@ -9,6 +9,7 @@ ghost use Rattle.ados_faults.specs.Values.{HasFields, HasWrongName, IsWrongAt, e
 use crate::bits::is_inside;
 use crate::marked::mark_at;
 use adf_block::Image;
+use adf_block::beside::*;
 use adf_block::layout::*;
 use ados_check::{
     Mark, Source, first_pointer, has_entry_type, has_link_type, has_no_type, has_other_count,

@@ -10,7 +10,8 @@ use crate::kinds::other_kind;
 use crate::marked::mark_at;
 use crate::rights::{is_wrong_at, right_at};
 use adf_block::Image;
-use adf_block::layout::{BLOCK_LONGS, KIND, KIND_BYTE};
+use adf_block::beside::{KIND, KIND_BYTE};
+use adf_block::layout::BLOCK_LONGS;
 use ados_check::Mark;
 use ados_model::{Role, VolumeFault};
 

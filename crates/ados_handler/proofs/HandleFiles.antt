@@ -18,7 +18,8 @@ use Rattle.ados_model.specs.declared.dos_error.DosError.TheVariants.{DeviceNotMo
 use Rattle.ados_model.specs.declared.packet.Packet.{Packet}
 use Rattle.ados_model.specs.declared.results.Results.{Results}
 use Rattle.ados_volume.specs.Shown.{Shown}
-use Rattle.ados_model.specs.Session.{Session, is_handle, handle_key, handle_position, HandlerState}
+use Rattle.ados_model.specs.Session.{Session, handle_key, handle_position, HandlerState}
+use Rattle.ados_model.specs.Phrases.{is_handle}
 use Rattle.ados_model.specs.declared.holds.HandleHold.{HandleHold}
 use Rattle.ados_handler.specs.Keeps.{HasPathTexts}
 use Rattle.ados_handler.specs.Gives.{IsSoundHandler}

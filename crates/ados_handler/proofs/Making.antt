@@ -20,7 +20,8 @@ use Rattle.ados_change.proofs.ProperChanges.{directory_at, dir_not_key, made_is_
 use Rattle.ados_model.specs.declared.dos_error.DosError.TheVariants.{DeviceNotMounted, InvalidLock, ObjectExists, ObjectInUse, ObjectWrongType}
 use Rattle.ados_model.specs.declared.packet.Packet.TheVariants.{CreateDir, FindUpdate, FindOutput}
 use Rattle.ados_model.specs.Session.{Session, is_in_use, is_lock}
-use Rattle.ados_model.specs.Objects.{lock_key, place_error, placed, spot, spot_directory, spot_name, standing}
+use Rattle.ados_model.specs.Objects.{lock_key, place_error, placed, spot_directory, spot_name, standing}
+use Rattle.ados_model.specs.Phrases.{spot}
 use Rattle.ados_model.specs.Refusals.{refuse, refusals, is_some_and, is_directory_there}
 use Rattle.ados_model.specs.Success.{After, GivesHandle, GivesLock, IsNewKey, MakesFile}
 use Rattle.ados_volume.proofs.Refusing.{no_child_new, none_refuses, none_there, not_refused}

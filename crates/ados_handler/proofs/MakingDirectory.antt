@@ -14,7 +14,7 @@ use Rattle.ados_model.specs.declared.answer.Body.TheVariants.{Empty}
 use Rattle.ados_model.specs.Session.{Session, IsFreeNumber, with_lock}
 use Rattle.ados_volume.proofs.Refusing.{passed}
 use Rattle.ados_handler.specs.ProperSession.{IsProperSession}
-use Rattle.ados_model.specs.Objects.{spot}
+use Rattle.ados_model.specs.Phrases.{spot}
 use Rattle.ados_model.specs.Reads.{lacks}
 use Rattle.ados_model.specs.Resolved.{placed_at}
 use Rattle.ados_model.specs.Refusals.{first_refusal, refusal, refusals, refuse}

@@ -20,12 +20,13 @@ use Rattle.ados_model.specs.declared.answer.Body.TheVariants.{Empty}
 use Rattle.ados_model.specs.Session.{Session, is_lock, HandlerState}
 use Rattle.ados_model.specs.Objects.{found, object, walk_error}
 use Rattle.ados_model.specs.Resolved.{walk_result, walked}
-use Rattle.ados_model.specs.Refusals.{is_comment, first_refusal, refusal, refusals, refuse}
+use Rattle.ados_model.specs.Refusals.{first_refusal, refusal, refusals, refuse}
+use Rattle.ados_model.specs.Phrases.{is_comment, ServedOrNoMemory}
 use Rattle.ados_model.specs.Success.{Success, after}
 use Rattle.ados_model.specs.DiskDate.{sets_disk_date}
 use Rattle.ados_model.specs.Stands.{Stands}
 use Rattle.ados_model.specs.declared.answer.Answer.{Answer}
-use Rattle.ados_model.specs.Meaning.{IsRefused, IsServed, ServedOrNoMemory, makes_hold}
+use Rattle.ados_model.specs.Meaning.{IsRefused, IsServed, makes_hold}
 use Rattle.ados_handler.specs.ProperSession.{IsProperSession}
 use Rattle.ados_handler.specs.Keeps.{KeepsProper}
 use Rattle.ados_change.specs.NewBlocks.{KeepsRest}

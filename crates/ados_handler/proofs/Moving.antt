@@ -14,7 +14,8 @@ use Rattle.ados_model.specs.declared.packet.Packet.{Packet}
 use Rattle.ados_model.specs.declared.packet.Packet.TheVariants.{RenameObject}
 use Rattle.ados_model.specs.declared.answer.Body.TheVariants.{Empty}
 use Rattle.ados_model.specs.Session.{Session, is_lock}
-use Rattle.ados_model.specs.Objects.{found, object, place_error, placed, spot, walk_error}
+use Rattle.ados_model.specs.Objects.{found, object, place_error, placed, walk_error}
+use Rattle.ados_model.specs.Phrases.{spot}
 use Rattle.ados_model.specs.Resolved.{place_result, walk_result}
 use Rattle.ados_model.specs.Refusals.{first_refusal, refusal, refusals, refuse}
 use Rattle.ados_handler.specs.steps.Moves.{both, move_refusal, move_refusals, source_and_place}

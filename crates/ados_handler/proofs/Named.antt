@@ -9,7 +9,8 @@ use Rattle.std.proofs.Common.{◌⊎◌, inl, inr}
 use Rattle.std.proofs.lemmas.Bool.{cases_eq, eq-eqb, false_from_ne_true, true≢false, leb-true, not-true}
 use Rattle.ados_name.specs.Name.{is_separator, IsComment, IsName, IsNameByte, last_name}
 use Rattle.ados_name.specs.Path.{IsPathText}
-use Rattle.ados_model.specs.Refusals.{is_name, is_comment}
+use Rattle.ados_model.specs.Refusals.{is_name}
+use Rattle.ados_model.specs.Phrases.{is_comment}
 use Rattle.ados_name.proofs.NameLemmas.{name_byte}
 
 -- 1 to 30 bytes without a separator are a name

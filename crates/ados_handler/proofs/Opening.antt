@@ -20,7 +20,8 @@ use Rattle.ados_model.specs.Objects.{object}
 use Rattle.ados_model.specs.Resolved.{walked}
 use Rattle.ados_model.specs.Refusals.{first_refusal, refusal, refuse, refusals}
 use Rattle.ados_model.specs.Success.{After, after, GivesHandle, Success}
-use Rattle.ados_model.specs.Meaning.{IsRefused, ServedOrNoMemory, makes_hold}
+use Rattle.ados_model.specs.Meaning.{IsRefused, makes_hold}
+use Rattle.ados_model.specs.Phrases.{ServedOrNoMemory}
 use Rattle.ados_model.specs.DiskDate.{sets_disk_date}
 use Rattle.ados_handler.specs.ProperSession.{IsProperSession}
 use Rattle.ados_handler.specs.steps.Methods.{MethodGives, MethodMeans, answer_to}

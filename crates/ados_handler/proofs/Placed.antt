@@ -7,7 +7,8 @@ use Rattle.ados_model.specs.declared.dos_error.DosError.{DosError}
 use Rattle.ados_model.specs.declared.dos_error.DosError.TheVariants.{DeviceNotMounted, InvalidLock}
 use Rattle.ados_model.specs.declared.packet.Packet.{Packet}
 use Rattle.ados_model.specs.Session.{Session, is_lock}
-use Rattle.ados_model.specs.Objects.{place_error, placed, spot}
+use Rattle.ados_model.specs.Objects.{place_error, placed}
+use Rattle.ados_model.specs.Phrases.{spot}
 use Rattle.ados_model.specs.Resolved.{place_result, placed_at}
 use Rattle.ados_model.specs.Refusals.{first_refusal, refusal, refusals, refuse}
 

@@ -23,7 +23,8 @@ use Rattle.ados_model.specs.Objects.{walk_error, lock_key, found, object, is_exc
 use Rattle.ados_model.specs.Reads.{seek_target}
 use Rattle.ados_model.specs.Refusals.{refuse, refusal, refusals, is_some_and}
 use Rattle.ados_model.specs.Success.{After, after, Success, GivesLock, GivesHandle}
-use Rattle.ados_model.specs.Meaning.{IsRefused, ServedOrNoMemory}
+use Rattle.ados_model.specs.Meaning.{IsRefused}
+use Rattle.ados_model.specs.Phrases.{ServedOrNoMemory}
 use Rattle.ados_volume.proofs.Refusing.{none_refuses, not_refused}
 use Rattle.ados_handler.specs.ProperSession.{HoldNumber, hold_at, IsProperSession}
 use Rattle.ados_handler.specs.ProperSession.HoldNumber.{ByLock, ByHandle}

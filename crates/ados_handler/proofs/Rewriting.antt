@@ -21,7 +21,8 @@ use Rattle.ados_change.proofs.Renewed.{is_rewritten}
 use Rattle.ados_change.proofs.Changed.{nodes_other}
 use Rattle.ados_model.specs.declared.dos_error.DosError.TheVariants.{DeviceNotMounted, InvalidLock}
 use Rattle.ados_model.specs.declared.packet.Packet.TheVariants.{Write, SetFileSize}
-use Rattle.ados_model.specs.Session.{Session, at_position, handle_key, handle_position, is_handle, positions_within, within}
+use Rattle.ados_model.specs.Session.{Session, at_position, handle_key, handle_position, positions_within}
+use Rattle.ados_model.specs.Phrases.{is_handle, within}
 use Rattle.ados_model.specs.declared.holds.HandleHold.{HandleHold}
 use Rattle.ados_model.specs.Objects.{handle_target, target_number}
 use Rattle.ados_model.specs.Refusals.{refuse, refusals}

@@ -13,7 +13,8 @@ use Rattle.ados_model.specs.declared.dos_error.DosError.TheVariants.{DeleteProte
 use Rattle.ados_model.specs.declared.packet.Packet.TheVariants.{FindOutput, FindUpdate}
 use Rattle.ados_model.specs.declared.results.Results.{Results}
 use Rattle.ados_model.specs.Session.{Session, is_in_use, is_lock, HandlerState}
-use Rattle.ados_model.specs.Objects.{place_error, placed, protection_of, spot, spot_directory, spot_name, standing}
+use Rattle.ados_model.specs.Objects.{place_error, placed, protection_of, spot_directory, spot_name, standing}
+use Rattle.ados_model.specs.Phrases.{spot}
 use Rattle.ados_model.specs.Resolved.{placed_at}
 use Rattle.ados_model.specs.Refusals.{first_refusal, has_no_room, is_directory_there, is_some_and, refuse}
 use Rattle.ados_model.specs.Success.{After, GivesHandle, MakesFile}

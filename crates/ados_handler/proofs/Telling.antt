@@ -15,7 +15,8 @@ use Rattle.ados_model.specs.declared.dos_error.DosError.TheVariants.{CommentTooB
 use Rattle.ados_model.specs.declared.packet.Packet.TheVariants.{SetProtect, SetComment, SetDate, RenameDisk}
 use Rattle.ados_model.specs.Session.{Session, is_lock}
 use Rattle.ados_model.specs.Objects.{walk_error, object, found}
-use Rattle.ados_model.specs.Refusals.{refuse, refusals, is_name, is_comment}
+use Rattle.ados_model.specs.Refusals.{refuse, refusals, is_name}
+use Rattle.ados_model.specs.Phrases.{is_comment}
 use Rattle.ados_model.specs.Success.{After}
 use Rattle.ados_volume.proofs.Refusing.{none_refuses, not_refused}
 use Rattle.ados_handler.specs.ProperSession.{IsProperSession}

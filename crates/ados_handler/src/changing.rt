@@ -4,7 +4,8 @@ ghost use Rattle.std.specs.Prelude.{◌≡◌};
 ghost use Rattle.ados_model.specs.Tree.{Tree};
 ghost use Rattle.ados_model.specs.Stands.{Stands};
 ghost use Rattle.ados_model.specs.Keys.{HasKey, HasTree};
-ghost use Rattle.ados_model.specs.Refusals.{is_comment as is_comment_text, is_name as is_name_text};
+ghost use Rattle.ados_model.specs.Refusals.{is_name as is_name_text};
+ghost use Rattle.ados_model.specs.Phrases.{is_comment as is_comment_text};
 ghost use Rattle.ados_handler.specs.Writes.{would_write};
 ghost use Rattle.ados_handler.specs.steps.Allowed.{can_empty, can_make, can_move, can_output, can_resize, can_write, leads_to_entry, removes};
 

@@ -2,7 +2,7 @@
 
 ghost use Rattle.std.specs.Prelude.{◌≡◌, map, true};
 ghost use Rattle.std.specs.FinMap as numbered;
-ghost use Rattle.ados_model.specs.Session.{within};
+ghost use Rattle.ados_model.specs.Phrases.{within};
 
 use crate::table::Table;
 use ados_model::HandleHold;

@@ -2,7 +2,8 @@
 use Rattle.std.proofs.Common.{◌≡◌, ◌≢◌, ℕ, ◌+◌, ◌-◌, ◌*◌, ◌/◌, ◌%◌, ◌<◌, ◌≤◌, inl, inr, Bool, cond, List, arith, ap, sym, ◌∙◌}
 use Rattle.std.specs.Int.{bit_at}
 use Rattle.std.proofs.lemmas.Bool.{cases_lt}
-use Rattle.adf_block.specs.declared.layout.TheConstants.{BOOT_BLOCKS, PAGE_LONGS, MAP_LONGS, LONG_BITS, PAGE_BITS}
+use Rattle.adf_block.specs.declared.layout.TheConstants.{BOOT_BLOCKS, MAP_LONGS, LONG_BITS, PAGE_BITS}
+use Rattle.adf_block.specs.declared.beside.TheConstants.{PAGE_LONGS}
 use Rattle.adf_block.specs.Image.{long, block_count, block_sum}
 use Rattle.adf_block.specs.Frame.{SameBut, InBlock, OnlyBlock}
 use Rattle.adf_block.proofs.Frames.{same_trans, same_weaken, other_block_long, other_block_sum}

@@ -2,7 +2,8 @@
 use Rattle.std.proofs.Common.{◌≡◌, ◌≢◌, ℕ, ◌+◌, ◌-◌, ◌/◌, ◌%◌, ◌<◌, ◌≤◌, ◌⊎◌, inl, inr, Bool, List, arith, ap, ap₂, sym, ◌∙◌}
 use Rattle.std.proofs.lemmas.Bool.{cases_eq}
 use Rattle.std.specs.Int.{bit_at}
-use Rattle.adf_block.specs.declared.layout.TheConstants.{FIRST_PAGE, PAGE_LONGS, BITMAP_EXTENSION}
+use Rattle.adf_block.specs.declared.layout.TheConstants.{FIRST_PAGE}
+use Rattle.adf_block.specs.declared.beside.TheConstants.{PAGE_LONGS, BITMAP_EXTENSION}
 use Rattle.adf_block.specs.Image.{long, block_count, block_sum, root_key, page_count, IsInside}
 use Rattle.adf_block.specs.Frame.{SameBut}
 use Rattle.adf_block.proofs.Frames.{same_count, same_long}

@@ -1,6 +1,6 @@
 -- Changes of the bitmap.
 use Rattle.std.specs.Prelude.{◌≡◌, ◌≢◌, ◌⊎◌, ℕ, ◌/◌, ◌<◌, List, Bool, false, Option, MatchOption}
-use Rattle.adf_block.specs.declared.layout.TheConstants.{PAGE_CHECKSUM}
+use Rattle.adf_block.specs.declared.beside.TheConstants.{PAGE_CHECKSUM}
 use Rattle.adf_block.specs.Image.{block_sum, has_free_bit}
 use Rattle.adf_block.specs.Frame.{SameBut}
 use Rattle.ados_map.specs.Bits.{is_unnamed}

@@ -1,7 +1,7 @@
 //! One bitmap block, and one long of it.
 
 ghost use Rattle.std.specs.Prelude.{◌≡◌, ◌<◌, ◌+◌, ◌*◌};
-ghost use Rattle.adf_block.specs.declared.layout.TheConstants.{PAGE_LONGS};
+ghost use Rattle.adf_block.specs.declared.beside.TheConstants.{PAGE_LONGS};
 ghost use Rattle.adf_block.specs.Image.{IsInside, block_count};
 ghost use Rattle.adf_block.specs.Whole.{IsSize};
 ghost use Rattle.ados_map.specs.Pages.{LawfulPages, page_block, pages_of};

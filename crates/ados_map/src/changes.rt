@@ -9,7 +9,8 @@ ghost use Rattle.ados_map.specs.Changes.{BitChanged, SummedPages, TakesFirst};
 use crate::bits::{page_at, with_bit};
 use crate::reading::first_free;
 use adf_block::Image;
-use adf_block::layout::{BOOT_BLOCKS, FIRST_MAP_LONG, LONG_BITS, PAGE_BITS, PAGE_CHECKSUM};
+use adf_block::beside::PAGE_CHECKSUM;
+use adf_block::layout::{BOOT_BLOCKS, FIRST_MAP_LONG, LONG_BITS, PAGE_BITS};
 
 /// Marks the lowest free block used and returns it, or `None` if no block is free. The bytes of the block do not
 /// change.

@@ -1,7 +1,7 @@
 //! Rebuilding of the whole bitmap.
 
 ghost use Rattle.std.specs.Prelude.{◌≡◌, ◌<◌, ◌+◌, ◌*◌, ℕ, length};
-ghost use Rattle.adf_block.specs.declared.layout.TheConstants.{PAGE_LONGS};
+ghost use Rattle.adf_block.specs.declared.beside.TheConstants.{PAGE_LONGS};
 ghost use Rattle.adf_block.specs.Whole.{IsImage};
 ghost use Rattle.adf_block.specs.Image.{block_count, block_sum, long};
 ghost use Rattle.adf_block.specs.Frame.{OnlyBlock};
@@ -10,7 +10,8 @@ ghost use Rattle.ados_map.specs.Bits.{IsUnnamedBits};
 ghost use Rattle.ados_map.specs.Changes.{PagesRebuilt};
 
 use crate::bits::{page_at, unnamed_bits};
-use adf_block::layout::{FIRST_MAP_LONG, MAP_LONGS, PAGE_CHECKSUM};
+use adf_block::beside::PAGE_CHECKSUM;
+use adf_block::layout::{FIRST_MAP_LONG, MAP_LONGS};
 use adf_block::{Image, page_count};
 
 /// Marks a block free exactly if it is not named. `named` has one truth value for each block, boot blocks included.

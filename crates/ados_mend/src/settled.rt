@@ -14,7 +14,8 @@ ghost use Rattle.ados_model.specs.Rebuilt.{HasValidBitmap};
 
 use crate::answer::NotValidated;
 use crate::laws::lawful_pages;
-use adf_block::layout::{BITMAP_FLAG, CHECKSUM, FIRST_PAGE, MOST_BLOCKS, PAGE_CHECKSUM};
+use adf_block::beside::{CHECKSUM, PAGE_CHECKSUM};
+use adf_block::layout::{BITMAP_FLAG, FIRST_PAGE, MOST_BLOCKS};
 use adf_block::{Image, page_count};
 use ados_check::check_image;
 use ados_model::FaultKind;

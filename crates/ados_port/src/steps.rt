@@ -1,7 +1,7 @@
 //! Runs a list of steps at an exchange.
 ghost use Rattle.std.specs.Prelude.{◌≡◌, true, IfOk, MatchResult};
-ghost use Rattle.port_ends.specs.History.{PortHistory, events_of, PutsAreClosed};
-ghost use Rattle.port_ends.specs.Gives.{FirstAreServed};
+ghost use Rattle.port_ends.specs.History.{PortHistory, events_of};
+ghost use Rattle.port_ends.specs.Gives.{FirstAreServed, PutsAreClosed};
 ghost use Rattle.ados_port.specs.Refused.{HandsBack};
 
 use crate::exchange::Exchange;

@@ -2,11 +2,11 @@
 
 ghost use Rattle.std.specs.Prelude.{◌≡◌, ◌<◌, ◌+◌, ◌*◌, ℕ, length, IfOk, false};
 ghost use Rattle.adf_block.specs.Whole.{IsSize};
-ghost use Rattle.adf_block.specs.Image.{long_byte, block_count, byte_at, bytes_at, long, page_count, root_key};
-ghost use Rattle.adf_block.specs.declared.layout.TheConstants.{KIND_BYTE};
-ghost use Rattle.adf_block.specs.Frame.{OnlyBlock, SameBut, Within};
+ghost use Rattle.adf_block.specs.Image.{block_count, byte_at, bytes_at, long, page_count, root_key};
+ghost use Rattle.adf_block.specs.declared.beside.TheConstants.{KIND_BYTE};
+ghost use Rattle.adf_block.specs.Frame.{OnlyBlock, SameBut, Within, long_byte};
 ghost use Rattle.ados_name.specs.Name.{IsName};
-ghost use Rattle.ados_model.specs.Stands.{kind_bytes};
+ghost use Rattle.ados_model.specs.Phrases.{kind_bytes};
 ghost use Rattle.ados_model.specs.Blank.{IsBlank};
 ghost use Rattle.ados_volume.specs.steps.BlankParts.{IsBlankRoot, NamesBlank};
 
@@ -14,8 +14,9 @@ use crate::cache::NameCache;
 use crate::places::PlaceCache;
 use crate::told::ToldCache;
 use crate::volume::Volume;
+use adf_block::beside::CHECKSUM;
 use adf_block::layout::{
-    BITMAP_FLAG, BITMAP_VALID, BLOCK_BYTES, CHECKSUM, CREATION_DATE, DATE, DISK_DATE, FIRST_PAGE,
+    BITMAP_FLAG, BITMAP_VALID, BLOCK_BYTES, CREATION_DATE, DATE, DISK_DATE, FIRST_PAGE,
     HEADER_TYPE, NAME_BYTE, PRIMARY_TYPE, ROOT_TYPE, SECONDARY_TYPE, TABLE_LONGS, TABLE_SIZE,
 };
 use adf_block::{Format, Image, page_count};

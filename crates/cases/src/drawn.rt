@@ -5,6 +5,7 @@ ghost use Rattle.adf_block.specs.Whole.{IsSize};
 use crate::fixtures::blank_image;
 use crate::rows::{cut, long_of};
 use adf_block::Image;
+use adf_block::beside::*;
 use adf_block::layout::*;
 use ados_volume::{Volume, check};
 use std::alloc::Global;

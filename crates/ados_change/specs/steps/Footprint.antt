@@ -1,7 +1,8 @@
 -- The bytes that a change of fields or of entries writes.
 use Rattle.std.specs.Prelude.{◌≡◌, ◌≢◌, ℕ, ◌+◌, ◌/◌, ◌<◌, ◌≤◌, ◌⊎◌, List, Some}
 use Rattle.adf_block.specs.Whole.{HasFreeBit}
-use Rattle.adf_block.specs.declared.layout.TheConstants.{BOOT_BLOCKS, CHECKSUM, FIRST_SLOT, TABLE_LONGS, PROTECTION, COMMENT_BYTE, DATE, NAME_BYTE, DISK_DATE, NEXT_IN_CHAIN, PARENT}
+use Rattle.adf_block.specs.declared.layout.TheConstants.{BOOT_BLOCKS, FIRST_SLOT, TABLE_LONGS, PROTECTION, COMMENT_BYTE, DATE, NAME_BYTE, DISK_DATE, NEXT_IN_CHAIN, PARENT}
+use Rattle.adf_block.specs.declared.beside.TheConstants.{CHECKSUM}
 use Rattle.ados_model.specs.Kept.{InText}
 use Rattle.ados_model.specs.Stands.{Duty, HasDuty, Stands}
 use Rattle.ados_model.specs.Tree.{Node, Tree, root}

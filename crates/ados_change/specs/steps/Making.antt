@@ -1,8 +1,10 @@
 -- The block of a new entry.
 use Rattle.std.specs.Prelude.{◌≡◌, ◌⊎◌, ℕ, ◌+◌, ◌/◌, ◌<◌, ◌≤◌, List, length}
-use Rattle.adf_block.specs.Image.{long_byte, byte_at, block_sum, HasText}
+use Rattle.adf_block.specs.Image.{byte_at, block_sum, HasText}
+use Rattle.adf_block.specs.Frame.{long_byte}
 use Rattle.adf_block.specs.Fields.{primary_type, own_key, parent_key, secondary_type}
-use Rattle.adf_block.specs.declared.layout.TheConstants.{BLOCK_BYTES, OWN_KEY, CHECKSUM, SECONDARY_TYPE, HEADER_TYPE, DATE, NAME_BYTE, PARENT}
+use Rattle.adf_block.specs.declared.layout.TheConstants.{BLOCK_BYTES, OWN_KEY, SECONDARY_TYPE, HEADER_TYPE, DATE, NAME_BYTE, PARENT}
+use Rattle.adf_block.specs.declared.beside.TheConstants.{CHECKSUM}
 use Rattle.ados_name.specs.declared.stamp.Date3.{Date3}
 use Rattle.ados_model.specs.Stands.{date_at, type_of}
 use Rattle.ados_model.specs.Tree.{Content}

@@ -2,7 +2,8 @@
 use Rattle.std.specs.Prelude.{◌≡◌, ◌⊎◌, ℕ, ◌+◌, ◌*◌, ◌/◌, ◌<◌, ◌≤◌, List, length}
 use Rattle.adf_block.specs.Image.{block_sum, HasText}
 use Rattle.adf_block.specs.Fields.{parent_key}
-use Rattle.adf_block.specs.declared.layout.TheConstants.{CHECKSUM, NAME_BYTE, PARENT}
+use Rattle.adf_block.specs.declared.layout.TheConstants.{NAME_BYTE, PARENT}
+use Rattle.adf_block.specs.declared.beside.TheConstants.{CHECKSUM}
 use Rattle.adf_block.specs.Frame.{SameBut}
 use Rattle.ados_name.specs.declared.stamp.Date3.{Date3}
 use Rattle.ados_model.specs.Stands.{date_at}

@@ -1,6 +1,7 @@
 -- Which bytes of a block an edit of its fields may change.
 use Rattle.std.specs.Prelude.{◌≡◌, ℕ, ◌/◌, ◌⊎◌, ◌<◌, ◌≤◌}
-use Rattle.adf_block.specs.declared.layout.TheConstants.{PRIMARY_TYPE, OWN_KEY, CHECKSUM, SECONDARY_TYPE, PARENT, OFS_DATA_BYTE}
+use Rattle.adf_block.specs.declared.layout.TheConstants.{PRIMARY_TYPE, OWN_KEY, SECONDARY_TYPE, PARENT, OFS_DATA_BYTE}
+use Rattle.adf_block.specs.declared.beside.TheConstants.{CHECKSUM}
 use Rattle.adf_block.specs.Frame.{AtTwoLongs}
 use Rattle.adf_block.specs.declared.layout.Format.{Format}
 use Rattle.adf_block.specs.declared.layout.Format.TheVariants.{Ofs}

@@ -21,7 +21,8 @@ use Rattle.ados_model.specs.Session.{Session, HandlerState}
 use Rattle.ados_model.specs.Objects.{walk_error, place_error, found, placed}
 use Rattle.ados_model.specs.Refusals.{refuse, first_refusal, refusal, refusals}
 use Rattle.ados_model.specs.Success.{after, Success}
-use Rattle.ados_model.specs.Meaning.{IsRefused, ServedOrNoMemory, is_closing, is_number, is_dos_true}
+use Rattle.ados_model.specs.Meaning.{IsRefused, is_closing, is_number, is_dos_true}
+use Rattle.ados_model.specs.Phrases.{ServedOrNoMemory}
 use Rattle.ados_handler.specs.Closing.{ClosingIsDead, DeadStays}
 use Rattle.ados_handler.specs.Gives.{HandlerGives}
 

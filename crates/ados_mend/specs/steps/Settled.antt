@@ -1,6 +1,7 @@
 -- The image that the check mends, and the bitmap blocks of the images.
 use Rattle.std.specs.Prelude.{◌≡◌, ◌⊎◌, ℕ, ◌/◌, ◌<◌, List}
-use Rattle.adf_block.specs.declared.layout.TheConstants.{BITMAP_FLAG, CHECKSUM}
+use Rattle.adf_block.specs.declared.layout.TheConstants.{BITMAP_FLAG}
+use Rattle.adf_block.specs.declared.beside.TheConstants.{CHECKSUM}
 use Rattle.adf_block.specs.Frame.{SameBut}
 use Rattle.adf_block.specs.Image.{block_count, block_sum}
 use Rattle.ados_map.specs.Pages.{LawfulPages, page_block, pages_of}

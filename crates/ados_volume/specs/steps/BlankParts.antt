@@ -1,8 +1,10 @@
 -- The root of a blank volume, and the blocks in use.
 use Rattle.std.specs.Prelude.{◌≡◌, ℕ, ◌+◌, ◌*◌, ◌<◌, ◌≤◌, ◌⊎◌, List, Bool, true, false, length}
-use Rattle.adf_block.specs.Image.{long_byte, root_key, page_count, byte_at, long, block_sum, HasText}
+use Rattle.adf_block.specs.Image.{root_key, page_count, byte_at, long, block_sum, HasText}
+use Rattle.adf_block.specs.Frame.{long_byte}
 use Rattle.adf_block.specs.Fields.{primary_type, table_entry, parent_key, secondary_type}
-use Rattle.adf_block.specs.declared.layout.TheConstants.{BLOCK_BYTES, PRIMARY_TYPE, CHECKSUM, SECONDARY_TYPE, HEADER_TYPE, ROOT_TYPE, TABLE_LONGS, TABLE_SIZE, BITMAP_FLAG, BITMAP_VALID, FIRST_PAGE, DISK_DATE, CREATION_DATE, DATE, NAME_BYTE}
+use Rattle.adf_block.specs.declared.layout.TheConstants.{BLOCK_BYTES, PRIMARY_TYPE, SECONDARY_TYPE, HEADER_TYPE, ROOT_TYPE, TABLE_LONGS, TABLE_SIZE, BITMAP_FLAG, BITMAP_VALID, FIRST_PAGE, DISK_DATE, CREATION_DATE, DATE, NAME_BYTE}
+use Rattle.adf_block.specs.declared.beside.TheConstants.{CHECKSUM}
 use Rattle.ados_name.specs.declared.stamp.Date3.{Date3}
 use Rattle.ados_model.specs.Stands.{date_at}
 use Rattle.ados_map.specs.Bits.{is_unnamed}

@@ -1,5 +1,6 @@
 use Rattle.std.proofs.Common.{◌<◌, inl, inr, ◌∙◌, arith}
-use Rattle.adf_block.specs.declared.layout.TheConstants.{CHECKSUM, NEXT_IN_CHAIN}
+use Rattle.adf_block.specs.declared.layout.TheConstants.{NEXT_IN_CHAIN}
+use Rattle.adf_block.specs.declared.beside.TheConstants.{CHECKSUM}
 use Rattle.adf_block.specs.Frame.{AtLong}
 use Rattle.adf_block.proofs.Frames.{same_trans, same_weaken, other_block_sum, block_from_long}
 use Rattle.ados_chain.specs.Relinks.{AtLinks}

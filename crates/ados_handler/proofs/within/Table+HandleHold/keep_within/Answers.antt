@@ -1,6 +1,6 @@
 use Rattle.std.proofs.Common.{rules, map, refl, ap, ◌∙◌}
 use Rattle.std.specs.FinMap as numbered
-use Rattle.ados_model.specs.Session.{within}
+use Rattle.ados_model.specs.Phrases.{within}
 use Rattle.ados_handler.proofs.Resizing.{all_changed, numbers_changed}
 use Rattle.ados_handler.proofs.within.Table+HandleHold.keep_within.Goals as goal
 

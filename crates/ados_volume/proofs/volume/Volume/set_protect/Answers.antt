@@ -1,6 +1,6 @@
 use Rattle.std.proofs.Common.{◌+◌, refl, sym, subst}
 use Rattle.adf_block.specs.declared.layout.TheConstants.{PROTECTION}
-use Rattle.adf_block.specs.Image.{long_byte}
+use Rattle.adf_block.specs.Frame.{long_byte}
 use Rattle.ados_model.specs.Stands.{Stands}
 use Rattle.ados_volume.specs.Shown.{Shown}
 use Rattle.ados_volume.proofs.Staying.{restamped_sound}
