@@ -1,6 +1,7 @@
 -- A checked image is accepted, as it is or with a rebuilt bitmap.
-use Rattle.std.proofs.Common.{◌≡◌, ℕ, zero, suc, ◌+◌, ◌-◌, ◌*◌, ◌/◌, ◌%◌, ◌<◌, ◌≤◌, inl, inr, true, false, not, List, [], ◌∷◌, length, map, slice_index_or, Option, Some, None, is_some, refl, sym, ap, ◌∙◌, subst, arith}
+use Rattle.std.proofs.Common.{◌≡◌, ℕ, ◌+◌, ◌-◌, ◌*◌, ◌/◌, ◌%◌, ◌<◌, ◌≤◌, inl, inr, true, false, not, List, length, map, Option, Some, None, is_some, refl, sym, ap, ◌∙◌, subst, arith}
 use Rattle.std.proofs.lemmas.Bool.{false≢true}
+use Rattle.std.proofs.lemmas.List.{get_or-map, get_or_past, length-map}
 use Rattle.adf_block.specs.Whole.{IsImage, HasFreeBit}
 use Rattle.adf_block.specs.Image.{has_free_bit, block_count, page_count, root_key, long, block_sum}
 use Rattle.adf_block.specs.Frame.{SameBut, AtLong, InBlock, OnlyBlock}
@@ -19,6 +20,7 @@ use Rattle.ados_model.proofs.NoFaults.{faults_have_no_tree}
 use Rattle.ados_check.specs.declared.mark.Mark.{Mark}
 use Rattle.ados_check.specs.Marks.{mark_at, IsChecked}
 use Rattle.ados_check.specs.Laws.{AreInUse, IsMended}
+use Rattle.ados_check.proofs.MarkLemmas.{mark_got}
 use Rattle.ados_check.proofs.Paths.{mark_of}
 use Rattle.ados_check.proofs.Roles.{reached_marked, marked_inside}
 use Rattle.ados_check.proofs.RolePlaces.{length-pages_of, page-at, reached_stands}
@@ -73,24 +75,14 @@ checked_is_accepted image marks im c valid used =
 
 -- ---- which blocks are in use
 
-named_is : (marks : List (Option Mark)) (k : ℕ) → k < length marks → slice_index_or (map is_some marks) k true ≡ is_some (mark_at marks k)
-named_is [] k l = absurd (omega arith)
-named_is (m ∷ ms) zero l = refl
-named_is (m ∷ ms) (suc k) l = named_is ms k (omega arith)
-
-named_past : (marks : List (Option Mark)) (k : ℕ) → length marks ≤ k → slice_index_or (map is_some marks) k true ≡ true
-named_past [] k l = refl
-named_past (m ∷ ms) zero l = absurd (omega arith)
-named_past (m ∷ ms) (suc k) l = named_past ms k (omega arith)
-
 -- a block of the volume is out of use if it is not marked
 unnamed_is : (marks : List (Option Mark)) (k : ℕ) → k < length marks → is_unnamed (map is_some marks) k ≡ not (is_some (mark_at marks k))
 unfolding is_unnamed
-unnamed_is marks k l = ap not (named_is marks k l)
+unnamed_is marks k l = ap not (get_or-map is_some marks k None true l ∙ ap is_some (sym (mark_got marks k)))
 
 unnamed_past : (marks : List (Option Mark)) (k : ℕ) → length marks ≤ k → is_unnamed (map is_some marks) k ≡ false
 unfolding is_unnamed
-unnamed_past marks k l = ap not (named_past marks k l)
+unnamed_past marks k l = ap not (get_or_past (map is_some marks) k true (omega (arith, l, length-map marks is_some)))
 
 -- the bit of a block in two images with the same bitmap block and the same long in it
 free_agrees : (old new : List ℕ) (b page : ℕ) → long old (root_of old) (79 + (b - 2) / 4064) ≡ page → long new (root_of new) (79 + (b - 2) / 4064) ≡ page

@@ -6,7 +6,7 @@ use Rattle.adf_block.specs.Image.{byte_at, long, block_sum}
 use Rattle.adf_block.proofs.Longs.{long-bytes, long-same}
 use Rattle.adf_block.proofs.Totals.{total-same}
 use Rattle.ados_check.specs.Keeping.{AreKept, StandsAt, kept_length, start_of}
-use Rattle.ados_check.proofs.KeptLengths.{at_most}
+use Rattle.ados_check.proofs.KeptLengths.{within}
 
 -- a byte of the old blocks
 old_byte : (image block : List ℕ) (b k : ℕ) → 512 * b + k < length image → byte_at (image ++ block) b k ≡ byte_at image b k
@@ -48,7 +48,7 @@ stands_still kept more image block n b start whole lt stands =
       within = omega (arith, same, stands.within, length-append kept more);
       same = λ k below.
           let inside : k < kept_length image b = omega (arith, same, below) in
-          let few : kept_length image b ≤ 512 = at_most image b in
+          let few : kept_length image b ≤ 512 = (within image b).1 in
           get_or_append_left kept more 0 (start + k) (omega (arith, stands.within, inside))
           ∙ stands.same k inside
           ∙ sym (old_byte image block b k (omega (arith, whole, lt, inside, few)));
@@ -108,7 +108,7 @@ pub added_some : (starts : List (Option ℕ)) (kept image block : List ℕ) → 
     → AreKept starts kept image → AreKept (starts ++ Some (length kept) ∷ []) (kept ++ take (kept_length block 0) block) (image ++ block)
 added_some starts kept image block size small zero are =
     let n = length starts in
-    let few = at_most block 0 in
+    let few = (within block 0).1 in
     let taken : length (take (kept_length block 0) block) ≡ kept_length block 0 = omega (arith, few, size, length-take (kept_length block 0) block) in
     let same = same_length (image ++ block) block n 0 (new_long image block n 0 are.whole) in
     added starts kept (take (kept_length block 0) block) image block (Some (length kept)) size small (omega (arith, few, taken)) are (record {

@@ -1,5 +1,5 @@
 -- The header and the extension blocks of a file whose blocks are reached.
-use Rattle.std.proofs.Common.{◌≡◌, ◌≢◌, ℕ, zero, suc, ◌<◌, ◌≤◌, ◌⊎◌, inl, inr, List, length, map, slice_index, refl, sym, ap, ◌∙◌, subst, arith}
+use Rattle.std.proofs.Common.{◌≡◌, ◌≢◌, ℕ, zero, suc, ◌<◌, ◌≤◌, ◌⊎◌, inl, inr, List, length, map, slice_index, slice_index_or, refl, sym, ap, ◌∙◌, subst, arith}
 use Rattle.std.specs.List.{range_with_len}
 use Rattle.std.proofs.lemmas.Bool.{cases_lt, cases_order}
 use Rattle.std.proofs.lemmas.List.FromFn.{length-map-range_with_len, get_or-map-range_with_len}
@@ -16,6 +16,18 @@ use Rattle.ados_check.specs.steps.Files.{HasCount, HasPointersAs, IsReachedEntry
 use Rattle.ados_check.specs.steps.Files.HasPointersAs.{header, extension}
 use Rattle.ados_check.proofs.Counting.{AreDifferent, different_few}
 use Rattle.ados_check.proofs.Ruling.{stable}
+
+-- the first pointer blocks of a file
+unfoldable pub headers_upto : List ℕ → ℕ → ℕ → List ℕ
+headers_upto image file n = map (pointer_block image file) (range_with_len 0 n)
+
+pub length-headers_upto : (image : List ℕ) (file n : ℕ) → length (headers_upto image file n) ≡ n
+unfolding headers_upto
+length-headers_upto image file n = length-map-range_with_len (pointer_block image file) 0 n
+
+pub header-at : (image : List ℕ) (file n q d : ℕ) → q < n → slice_index_or (headers_upto image file n) q d ≡ pointer_block image file q
+unfolding headers_upto
+header-at image file n q d l = get_or-map-range_with_len (pointer_block image file) 0 n q q d l (omega arith)
 
 module _ (image : List ℕ) (file : ℕ) (r : IsReachedFile image file) where
   pub header_inside : (q : ℕ) → q ≤ r.extensions → pointer_block image file q < block_count image
@@ -35,36 +47,25 @@ module _ (image : List ℕ) (file : ℕ) (r : IsReachedFile image file) where
           let last : q ≡ r.extensions = omega arith in
           absurd (h q (omega arith) (ap (λ (k : ℕ). pointer_block image file (suc k)) last ∙ r.ends))
 
-  headers : List ℕ
-  headers = map (pointer_block image file) (range_with_len 0 (suc r.extensions))
-
-  length-headers : length headers ≡ suc r.extensions
-  unfolding headers
-  length-headers = length-map-range_with_len (pointer_block image file) 0 (suc r.extensions)
-
-  header-at : (q : ℕ) → q < suc r.extensions → slice_index headers q ≡ pointer_block image file q
-  unfolding headers
-  header-at q l = get_or-map-range_with_len (pointer_block image file) 0 (suc r.extensions) q q 0 l (omega arith)
-
-  different : AreDifferent headers
+  different : AreDifferent (headers_upto image file (suc r.extensions))
   different i j l m e =
-      let k : i < suc r.extensions = omega (arith, l, length-headers) in
-      let n : j < suc r.extensions = omega (arith, m, length-headers) in
-      let same : pointer_block image file i ≡ pointer_block image file j = sym (header-at i k) ∙ e ∙ header-at j n in
+      let size = length-headers_upto image file (suc r.extensions) in
+      let same : pointer_block image file i ≡ pointer_block image file j =
+      sym (header-at image file (suc r.extensions) i 0 (omega (arith, l, size))) ∙ e ∙ header-at image file (suc r.extensions) j 0 (omega (arith, m, size)) in
       elim (cases_order i j) [
         | inl here ↦ here
-        | inr (inl below) ↦ absurd (r.once i j below (omega arith) same)
-        | inr (inr above) ↦ absurd (r.once j i above (omega arith) (sym same))
+        | inr (inl below) ↦ absurd (r.once i j below (omega (arith, m, size)) same)
+        | inr (inr above) ↦ absurd (r.once j i above (omega (arith, l, size)) (sym same))
       ]
 
   -- a file has fewer extension blocks than the image has blocks
   pub few_extensions : r.extensions < block_count image
   few_extensions =
-      let below : (i : ℕ) → i < length headers → slice_index headers i < block_count image = λ i l.
-      let k : i < suc r.extensions = omega (arith, l, length-headers) in
-      omega (arith, header-at i k, header_inside i (omega arith)) in
-      let few = different_few (block_count image) headers below different in
-      omega (arith, few, length-headers)
+      let size = length-headers_upto image file (suc r.extensions) in
+      let below : (i : ℕ) → i < length (headers_upto image file (suc r.extensions)) → slice_index (headers_upto image file (suc r.extensions)) i < block_count image = λ i l.
+      omega (arith, header-at image file (suc r.extensions) i 0 (omega (arith, l, size)), header_inside i (omega (arith, l, size))) in
+      let few = different_few (block_count image) (headers_upto image file (suc r.extensions)) below different in
+      omega (arith, few, size)
 
 -- ---- the header as an entry, and the extension blocks
 

@@ -10,18 +10,10 @@ of_data image block is = rw is refl
 pub of_other : (image : List ℕ) (block : ℕ) → primary_type image block ≢ DATA_TYPE → kept_length image block ≡ 512
 of_other image block other = rw (ne_eqb (primary_type image block) DATA_TYPE other) refl
 
--- at most a whole block
-pub at_most : (image : List ℕ) (block : ℕ) → kept_length image block ≤ 512
-at_most image block = by_type (primary_type image block == DATA_TYPE)
+-- at least a header, and at most a whole block
+pub within : (image : List ℕ) (block : ℕ) → (24 ≤ kept_length image block) × (kept_length image block ≤ 512)
+within image block = by_type (primary_type image block == DATA_TYPE)
   where
-    by_type : (is : Bool) → (if is then 24 else 512) ≤ 512
-    by_type true = omega arith
-    by_type false = omega arith
-
--- at least a header
-pub at_least : (image : List ℕ) (block : ℕ) → 24 ≤ kept_length image block
-at_least image block = by_type (primary_type image block == DATA_TYPE)
-  where
-    by_type : (is : Bool) → 24 ≤ (if is then 24 else 512)
-    by_type true = omega arith
-    by_type false = omega arith
+    by_type : (is : Bool) → (24 ≤ (if is then 24 else 512)) × ((if is then 24 else 512) ≤ 512)
+    by_type true = (omega arith, omega arith)
+    by_type false = (omega arith, omega arith)

@@ -1,5 +1,5 @@
 -- The data blocks in a file's pointers, if its counts are right.
-use Rattle.std.proofs.Common.{◌≡◌, ℕ, suc, ◌+◌, ◌-◌, ◌*◌, ◌/◌, ◌%◌, ◌<◌, ◌≤◌, ◌⊎◌, inl, inr, min, List, length, take, drop, map, slice_index, slice_index_or, sym, ap, ap₂, ◌∙◌, subst, arith, le-leb}
+use Rattle.std.proofs.Common.{◌≡◌, ℕ, suc, ◌+◌, ◌-◌, ◌*◌, ◌/◌, ◌%◌, ◌<◌, ◌≤◌, ◌⊎◌, inl, inr, min, List, length, take, drop, map, slice_index, sym, ap, ap₂, ◌∙◌, subst, arith, le-leb}
 use Rattle.std.specs.List.{range_with_len}
 use Rattle.std.proofs.lemmas.Bool.{cases_lt}
 use Rattle.std.proofs.lemmas.List.{ext_get_or, length-take, length-drop, get_or-take, get_or-drop}
@@ -10,7 +10,7 @@ use Rattle.adf_block.specs.declared.layout.TheConstants.{NEXT_EXTENSION}
 use Rattle.ados_model.specs.File.{pointer_block, data_block}
 use Rattle.ados_model.specs.Faults.{InImage, IsPointer, LinkedOnce, first_pointers, pointers_of, AreDataBlocks}
 use Rattle.ados_check.specs.steps.Files.{IsReachedFile, HasCounts}
-use Rattle.ados_check.proofs.Headers.{within, not_zero}
+use Rattle.ados_check.proofs.Headers.{within, not_zero, headers_upto, length-headers_upto, header-at}
 use Rattle.ados_model.proofs.FileBlocks.{length-first_pointers, first_pointers-at, chunks}
 
 -- ---- the blocks of a file
@@ -26,18 +26,6 @@ length-blocks_upto image file count = length-map-range_with_len (data_block imag
 pub block-at : (image : List ℕ) (file count i : ℕ) → i < count → slice_index (blocks_upto image file count) i ≡ data_block image file i
 unfolding blocks_upto
 block-at image file count i l = get_or-map-range_with_len (data_block image file) 0 count i i 0 l (omega arith)
-
--- the first pointer blocks of a file
-unfoldable headers_upto : List ℕ → ℕ → ℕ → List ℕ
-headers_upto image file n = map (pointer_block image file) (range_with_len 0 n)
-
-length-headers_upto : (image : List ℕ) (file n : ℕ) → length (headers_upto image file n) ≡ n
-unfolding headers_upto
-length-headers_upto image file n = length-map-range_with_len (pointer_block image file) 0 n
-
-header-at : (image : List ℕ) (file n q d : ℕ) → q < n → slice_index_or (headers_upto image file n) q d ≡ pointer_block image file q
-unfolding headers_upto
-header-at image file n q d l = get_or-map-range_with_len (pointer_block image file) 0 n q q d l (omega arith)
 
 module _ (image : List ℕ) (file count : ℕ) (r : IsReachedFile image file) (h : HasCounts image file count) where
   pub same_extensions : h.extensions ≡ r.extensions
@@ -59,7 +47,6 @@ module _ (image : List ℕ) (file count : ℕ) (r : IsReachedFile image file) (h
 
   linked : LinkedOnce image NEXT_EXTENSION file (headers_upto image file (suc h.extensions))
   linked =
-      let n = suc h.extensions in
       let size = length-headers_upto image file (suc h.extensions) in
       record {
         not_empty = omega (arith, size);

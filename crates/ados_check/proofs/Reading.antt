@@ -7,7 +7,7 @@ use Rattle.adf_block.proofs.Longs.{long-bytes}
 use Rattle.adf_block.proofs.Blocks.{byte-bytes_at}
 use Rattle.ados_check.specs.Keeping.{AreKept, HasBoot, StandsAt, kept_length, start_of}
 use Rattle.ados_check.specs.Source.{IsKept}
-use Rattle.ados_check.proofs.KeptLengths.{of_other, at_least}
+use Rattle.ados_check.proofs.KeptLengths.{of_other, within}
 
 -- a long of a list that is one block
 pub first_long : (block : List ℕ) (i : ℕ) → big_number 4 (drop (4 * i) block) ≡ long block 0 i
@@ -24,7 +24,7 @@ stands_at starts kept image b start x are inside read is =
 -- the long is among the kept bytes
 room : (image : List ℕ) (b i : ℕ) → IsKept image b i → i < 128 → 4 * i + 4 ≤ kept_length image b
 room image b i is small = elim is.1 [
-  | inl header ↦ omega (arith, header, at_least image b)
+  | inl header ↦ omega (arith, header, (within image b).0)
   | inr other ↦ omega (arith, small, of_other image b other)
 ]
 

@@ -75,13 +75,9 @@ module _ (image : List ℕ) (marks : List (Option Mark)) (im : IsImage image) (c
     at_place : (role : Role) (k : ℕ) → StandsAt image marks im c role k block → duty ≡ duty_of role k → DutyView block duty
     of_lost : IsLost image marks block → duty ≡ Duty.Lost → DutyView block duty
 
-  some_node : (o : Option Node) → IsSome o → (a : Node) × (o ≡ Some a)
-  some_node None h = absurd (false≢true h)
-  some_node (Some a) h = (a, refl)
-
-  some_bytes : (o : Option (List ℕ)) → IsSome o → (bytes : List ℕ) × (o ≡ Some bytes)
-  some_bytes None h = absurd (false≢true h)
-  some_bytes (Some bytes) h = (bytes, refl)
+  some_of : {A : Type 0} (o : Option A) → IsSome o → (a : A) × (o ≡ Some a)
+  some_of None h = absurd (false≢true h)
+  some_of (Some a) h = (a, refl)
 
   key_view : (block : ℕ) (a : Node) → NodeView image marks block a → DutyView block Duty.Key
   key_view block a (the_root m e is same) =
@@ -113,10 +109,10 @@ module _ (image : List ℕ) (marks : List (Option Mark)) (im : IsImage image) (c
   duty_view block (Duty.Page i) h =
       let back = slice_get-back (pages_of image) i block h in
       at_place roles.Page i (record { within = back.0; here = back.1; holder = tt }) refl
-  duty_view block Duty.Key h = let n = some_node (t.nodes block) h in key_view block n.0 (node_view image marks block n.0 n.1)
+  duty_view block Duty.Key h = let n = some_of (t.nodes block) h in key_view block n.0 (node_view image marks block n.0 n.1)
   duty_view block (Duty.Data file i) h = data_view block file i (content_at t file) refl h
   duty_view block (Duty.Extension file i) h = extension_view block file i (content_at t file) refl h
-  duty_view block Duty.Lost h = let n = some_bytes (t.lost block) h in of_lost (lost_view image marks block n.0 n.1).0 refl
+  duty_view block Duty.Lost h = let n = some_of (t.lost block) h in of_lost (lost_view image marks block n.0 n.1).0 refl
 
   -- a block at a position is marked, a lost one is not
   place_not_lost : (block : ℕ) (role : Role) (k : ℕ) → StandsAt image marks im c role k block → IsLost image marks block → ⊥

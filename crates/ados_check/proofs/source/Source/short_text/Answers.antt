@@ -1,4 +1,4 @@
-use Rattle.std.proofs.Common.{◌≡◌, ℕ, List, sym, ap, ◌∙◌, arith}
+use Rattle.std.proofs.Common.{◌≡◌, sym, ap, ◌∙◌, arith}
 use Rattle.adf_block.specs.Image.{byte_at, bytes_at}
 use Rattle.ados_check.specs.Kept.{seen}
 use Rattle.ados_check.specs.Source.{SourceView}
