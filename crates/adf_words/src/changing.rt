@@ -51,13 +51,28 @@ pub(crate) fn validate_job<'a>(arguments: &Arguments<'a, '_>) -> Result<ImageJob
 fn change_of<'a>(name: &str, arguments: &Arguments<'a, '_>) -> Result<Change<'a>, WordsFault> {
     match name {
         "add" => add(arguments),
-        "mkdir" => make_directories(arguments),
-        "delete" => delete(arguments),
-        "rename" => rename(arguments),
+        "mkdir" => Ok(Change::MakeDirectories {
+            paths: arguments.paths()?,
+            parents: arguments.flag("parents"),
+        }),
+        "delete" => Ok(Change::Delete {
+            paths: arguments.paths()?,
+            all: arguments.flag("all"),
+            force: arguments.flag("force"),
+        }),
+        "rename" => Ok(Change::Rename {
+            old: arguments.letters("OLD")?,
+            new: arguments.letters("NEW")?,
+        }),
         "protect" => protect(arguments),
         "date" => date(arguments),
-        "comment" => comment(arguments),
-        "relabel" => relabel(arguments),
+        "comment" => Ok(Change::Comment {
+            path: arguments.letters("PATH")?,
+            text: arguments.letters("TEXT")?,
+        }),
+        "relabel" => Ok(Change::Relabel {
+            name: arguments.letters("NAME")?,
+        }),
         _ => Err(WordsFault::wrong(
             arguments.alloc,
             format_args!("error: unrecognized subcommand '{name}'"),
@@ -137,31 +152,6 @@ fn source_of<'a>(file: &'a str) -> Source<'a>
     Source::File(file)
 }
 
-/// The change of `mkdir`.
-fn make_directories<'a>(arguments: &Arguments<'a, '_>) -> Result<Change<'a>, WordsFault> {
-    Ok(Change::MakeDirectories {
-        paths: arguments.paths()?,
-        parents: arguments.flag("parents"),
-    })
-}
-
-/// The change of `delete`.
-fn delete<'a>(arguments: &Arguments<'a, '_>) -> Result<Change<'a>, WordsFault> {
-    Ok(Change::Delete {
-        paths: arguments.paths()?,
-        all: arguments.flag("all"),
-        force: arguments.flag("force"),
-    })
-}
-
-/// The change of `rename`.
-fn rename<'a>(arguments: &Arguments<'a, '_>) -> Result<Change<'a>, WordsFault> {
-    Ok(Change::Rename {
-        old: arguments.letters("OLD")?,
-        new: arguments.letters("NEW")?,
-    })
-}
-
 /// The change of `protect`.
 fn protect<'a>(arguments: &Arguments<'a, '_>) -> Result<Change<'a>, WordsFault>
     ensures { IfOk result (IsProtectOf (found_of arguments.now.words.now)) }
@@ -179,20 +169,5 @@ fn date<'a>(arguments: &Arguments<'a, '_>) -> Result<Change<'a>, WordsFault>
     Ok(Change::Date {
         path: arguments.letters("PATH")?,
         date: moment_word(arguments.alloc, "<WHEN>", arguments.word("WHEN")?)?,
-    })
-}
-
-/// The change of `comment`.
-fn comment<'a>(arguments: &Arguments<'a, '_>) -> Result<Change<'a>, WordsFault> {
-    Ok(Change::Comment {
-        path: arguments.letters("PATH")?,
-        text: arguments.letters("TEXT")?,
-    })
-}
-
-/// The change of `relabel`.
-fn relabel<'a>(arguments: &Arguments<'a, '_>) -> Result<Change<'a>, WordsFault> {
-    Ok(Change::Relabel {
-        name: arguments.letters("NAME")?,
     })
 }

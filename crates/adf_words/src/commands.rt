@@ -56,12 +56,7 @@ fn with_commands<'a>(
 
 /// Whether one of these rows has this name.
 fn is_name(name: &str, rows: &[CommandRow]) -> bool {
-    for row in rows {
-        if row.name == name {
-            return true;
-        }
-    }
-    false
+    rows.iter().any(|row| row.name == name)
 }
 
 /// The command of a row.

@@ -19,10 +19,8 @@ const USUAL: usize = 1_024;
 pub fn given_words<E: Env>(rt: &E, alloc: Global) -> Result<Vec<String>, WordsFault> {
     let mut buffer = vec![in alloc; 0u8; USUAL]?;
     let mut words = Vec::new(alloc);
-    match add_words(rt, alloc, &mut buffer, &mut words) {
-        Ok(()) => Ok(words),
-        Err(fault) => Err(fault),
-    }
+    add_words(rt, alloc, &mut buffer, &mut words)?;
+    Ok(words)
 }
 
 /// Appends the arguments after the program's name.

@@ -10,9 +10,7 @@ use crate::floppy::{DOUBLE_DENSITY, HIGH_DENSITY};
 use crate::image_file::ImageFile;
 use crate::job::{ImageJob, Job, ServeJob};
 use crate::letters::letters_of;
-use crate::taking::{
-    check_job, extract_job, list_job, map_job, print_job, show_job, undelete_job, where_job,
-};
+use crate::taking::{check_job, extract_job, list_job, map_job, show_job, undelete_job, where_job};
 use adf_block::Format;
 use clap::ArgMatches;
 use std::alloc::Global;
@@ -56,13 +54,21 @@ fn named_job<'a>(alloc: Global, matches: &ArgMatches<'a>) -> Result<ImageJob<'a>
 fn job_of<'a>(name: &str, arguments: &Arguments<'a, '_>) -> Result<ImageJob<'a>, WordsFault> {
     match name {
         "blank" => blank_job(arguments),
-        "info" => info_job(arguments),
+        "info" => Ok(ImageJob::Info {
+            file: ImageFile {
+                path: arguments.word("FILE")?,
+                blocks: arguments.first_blocks()?,
+            },
+        }),
         "show" => show_job(arguments),
         "map" => map_job(arguments),
         "where" => where_job(arguments),
         "check" => check_job(arguments),
         "list" => list_job(arguments),
-        "print" => print_job(arguments),
+        "print" => Ok(ImageJob::Print {
+            image: arguments.image()?,
+            path: arguments.letters("PATH")?,
+        }),
         "extract" => extract_job(arguments),
         "undelete" => undelete_job(arguments),
         "validate" => validate_job(arguments),
@@ -108,16 +114,6 @@ fn format_of(arguments: &Arguments<'_, '_>) -> Format {
     } else {
         Format::Ofs
     }
-}
-
-/// The job of `info`.
-fn info_job<'a>(arguments: &Arguments<'a, '_>) -> Result<ImageJob<'a>, WordsFault> {
-    Ok(ImageJob::Info {
-        file: ImageFile {
-            path: arguments.word("FILE")?,
-            blocks: arguments.first_blocks()?,
-        },
-    })
 }
 
 /// The job of `serve`.

@@ -141,14 +141,6 @@ fn form_of(long: bool, json: bool, letters: bool) -> ListForm
     }
 }
 
-/// The job of `print`.
-pub(crate) fn print_job<'a>(arguments: &Arguments<'a, '_>) -> Result<ImageJob<'a>, WordsFault> {
-    Ok(ImageJob::Print {
-        image: arguments.image()?,
-        path: arguments.letters("PATH")?,
-    })
-}
-
 /// The job of `extract`.
 pub(crate) fn extract_job<'a>(arguments: &Arguments<'a, '_>) -> Result<ImageJob<'a>, WordsFault>
     ensures { IfOk result (IsExtractOf (found_of arguments.now.words.now)) }
