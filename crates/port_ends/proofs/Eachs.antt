@@ -9,7 +9,7 @@ use Rattle.std.proofs.lemmas.List.Sums.{sum_by-set, sum_by_push, sum_by-cons}
 use Rattle.port_ends.specs.History.{packets_by}
 use Rattle.port_ends.specs.steps.Rule.{total}
 use Rattle.port_ends.specs.Rings.{OutView, Each, EachLooked, EachOffers, EachOffersFirst, EachStaysPosted, Offers, OffersFirst, StaysPosted, all_of, waiting_count}
-use Rattle.port_ends.specs.steps.Sending.{EachGetsRoom, EachHasRoom, GetsRoom, SameLooks, SendsTo, UsesOne}
+use Rattle.port_ends.specs.steps.Sending.{EachGetsRoom, EachHasRoom, GetsRoom, SendsTo, UsesOne}
 use Rattle.port_ends.proofs.Packets.{put_lists, same_number, other_number}
 
 same_or_not : (k i : ℕ) → (k ≡ i) ⊎ (k ≢ i)
@@ -114,26 +114,14 @@ module _ {T : Type 0} where
   pub each_offers_room : (xs ys zs : List (OutView T)) → EachOffers xs ys → EachGetsRoom ys zs → EachOffers xs zs
   each_offers_room xs ys zs h g = each_then (λ _ o p. Offers o p) (λ _ o p. GetsRoom o p) (λ _ o p. Offers o p) (λ _ a b c. offers_room a b c) xs ys zs h g
 
-  offers_first : (a b c : OutView T) → Offers a b → StaysPosted b c → c.looks ≡ b.looks → OffersFirst a c
-  offers_first a b c h s l =
-      let f = h.1.1 in
-      (h.1.0, s.1.0, l ∙ f.0, s.1.1 ∙ ap (λ l. l ++ s.1.0) f.1)
+  -- replies that are offered come before everything that is sent later
+  pub offers_first : (xs ys : List (OutView T)) → EachOffers xs ys → EachOffersFirst xs ys
+  offers_first xs ys h = (h.0, λ k o e. let a = h.1 k o e in let f = a.2.1.1 in (a.0, a.1, (a.2.1.0, [], f.0, f.1 ∙ sym (append-nil (o.posted ++ take a.2.1.0 o.waiting)))))
 
-  each_both : (R P : ℕ → OutView T → OutView T → Type 0) (xs ys : List (OutView T)) → Each R xs ys → Each P xs ys → Each (λ k o p. R k o p × P k o p) xs ys
-  each_both R P xs ys h g = (
-    h.0,
-    λ k o e.
-        let a = h.1 k o e in
-        let b = g.1 k o e in
-        let same : b.0 ≡ a.0 = let x = a.1 in let y = b.1 in cc in
-        (a.0, a.1, (a.2, subst (λ (q : OutView T). P k o q) same b.2)),
-  )
-
-  -- replies offered first come before everything posted later
-  pub each_offers_first : (xs ys zs : List (OutView T)) → EachOffers xs ys → EachStaysPosted ys zs → SameLooks ys zs → EachOffersFirst xs zs
-  each_offers_first xs ys zs h s l =
-      each_then (λ _ o p. Offers o p) (λ _ o p. StaysPosted o p × (p.looks ≡ o.looks)) (λ _ o p. OffersFirst o p) (λ _ a b c f g. offers_first a b c f g.0 g.1) xs ys zs h
-      (each_both (λ _ o p. StaysPosted o p) (λ _ o p. p.looks ≡ o.looks) ys zs s l)
+  pub first_sends : (client : ℕ) (x : T) (xs ys zs : List (OutView T)) → EachOffersFirst xs ys → Each (SendsTo client x) ys zs → EachOffersFirst xs zs
+  first_sends client x xs ys zs h s =
+      each_then (λ _ o p. OffersFirst o p) (λ k o p. SendsTo client x k o p) (λ _ o p. OffersFirst o p)
+      (λ k a b c f g. (f.0, f.1 ++ g.0.1.0, g.3 ∙ f.2, g.0.1.1 ∙ (ap (λ l. l ++ g.0.1.0) f.3 ∙ append_assoc (a.posted ++ take f.0 a.waiting) f.1 g.0.1.0))) xs ys zs h s
 
   pub looked_none : (xs : List (OutView T)) → EachLooked 0 xs xs
   looked_none xs = each_refl (λ _ o p. length o.looks + 0 ≤ length p.looks) (λ _ o. omega arith) xs
@@ -145,12 +133,6 @@ module _ {T : Type 0} where
 
   pub looked_less : (few times : ℕ) (xs ys : List (OutView T)) → few ≤ times → EachLooked times xs ys → EachLooked few xs ys
   looked_less few times xs ys l h = (h.0, λ k o e. let b = h.1 k o e in (b.0, b.1, omega (arith, l, b.2)))
-
-  pub same_looks_refl : (xs : List (OutView T)) → SameLooks xs xs
-  same_looks_refl xs = each_refl (λ _ o p. p.looks ≡ o.looks) (λ _ _. refl) xs
-
-  pub same_looks : (xs ys zs : List (OutView T)) → SameLooks xs ys → SameLooks ys zs → SameLooks xs zs
-  same_looks xs ys zs h g = each_then (λ _ o p. p.looks ≡ o.looks) (λ _ o p. p.looks ≡ o.looks) (λ _ o p. p.looks ≡ o.looks) (λ _ _ _ _ e f. f ∙ e) xs ys zs h g
 
   posts_all : (a b : OutView T) → Posts a b → all_of b ≡ all_of a
   posts_all a b h = rw h.2 (append_assoc a.posted h.0 b.waiting) ∙ ap (λ l. a.posted ++ l) (sym h.1)
@@ -207,9 +189,6 @@ module _ {T : Type 0} where
 
   pub sends_one : (client : ℕ) (x : T) (xs ys : List (OutView T)) → Each (SendsTo client x) xs ys → UsesOne xs ys
   sends_one client x xs ys h = (h.0, λ k o e. let a = h.1 k o e in (a.0, a.1, a.2.2))
-
-  pub sends_looks : (client : ℕ) (x : T) (xs ys : List (OutView T)) → Each (SendsTo client x) xs ys → SameLooks xs ys
-  sends_looks client x xs ys h = (h.0, λ k o e. let a = h.1 k o e in (a.0, a.1, a.2.3))
 
   pub room_step : (n m : ℕ) (xs ys : List (OutView T)) → m + 1 ≤ n → UsesOne xs ys → EachHasRoom n xs → EachHasRoom m ys
   room_step n m xs ys less h room k p at =

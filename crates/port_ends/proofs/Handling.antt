@@ -7,7 +7,7 @@ use mathlib.Core.Logic.{dite}
 use Rattle.port_ends.specs.History.{Serving, packets_by}
 use Rattle.port_ends.specs.Lawful.{packets_of}
 use Rattle.port_ends.proofs.Moves.{get_end}
-use Rattle.port_ends.proofs.Packets.{packets_by_append, packets_by_here, packets_by_past, same_number, other_number, lists_total, put_lists}
+use Rattle.port_ends.proofs.Packets.{packets_by_append, packets_by_here, packets_by_past, same_number, other_number, lists_total, put_lists, of_clients_snoc}
 use Rattle.port_ends.proofs.Runs.{meaning_none, meaning_one, meaning_append, all_at_append}
 use Rattle.port_ends.proofs.Eachs.{before, sends_stays, each_stays, each_stays_refl, each_posts_stays, each_offers_posts, EachPosts, waiting_few}
 use Rattle.port_ends.specs.Rings.{OutView, Each, EachOffers, all_of, waiting_count}
@@ -17,7 +17,8 @@ use Rattle.port_ends.specs.Ends.{OfClients}
 use Rattle.port_ends.specs.steps.Rule.{total}
 use Rattle.port_ends.specs.Ends.{replies_to, HandlerView, ClientView, IsEndOf, AreEnds, Serves}
 use Rattle.port_ends.specs.steps.QueueEnds.{TakeView}
-use Rattle.port_ends.specs.steps.Views.{handler_view}
+use Rattle.port_ends.specs.steps.QueueCalls.{TakesPacket}
+use Rattle.port_ends.specs.steps.Views.{Agree, handler_view}
 
 module _ {Q M A : Type 0} where
   replies_snoc : (k : ℕ) (xs : List (Serving Q M A)) (x : Serving Q M A)
@@ -30,10 +31,7 @@ module _ {Q M A : Type 0} where
       (λ (e : x.client ≡ k). rw (same_number x.client k e) (all ∙ ap (λ l. replies_to k xs ++ l) (packets_by_here (x.client, (x.moment, x.answer)) k [] e)))
       (λ (n : x.client ≢ k). rw (other_number x.client k n) (all ∙ (ap (λ l. replies_to k xs ++ l) (packets_by_past (x.client, (x.moment, x.answer)) k [] n) ∙ append-nil (replies_to k xs))))
 
-  pub packets_snoc : (xs : List (Serving Q M A)) (x : Serving Q M A) → packets_of (xs ++ x ∷ []) ≡ packets_of xs ++ (x.client, x.packet) ∷ []
-  packets_snoc xs x = map-append (λ (y : Serving Q M A). (y.client, y.packet)) xs (x ∷ [])
-
-  pub replies_step : (served served' : List (Serving Q M A)) (x : Serving Q M A) (os os' : List (OutView (M × A)))
+  replies_step : (served served' : List (Serving Q M A)) (x : Serving Q M A) (os os' : List (OutView (M × A)))
       → served' ≡ served ++ x ∷ []
       → Each (SendsTo x.client (x.moment, x.answer)) os os'
       → ((k : ℕ) (o : OutView (M × A)) → slice_get os k ≡ Some o → all_of o ≡ replies_to (k + 1) served)
@@ -105,21 +103,34 @@ module _ {S Q M A : Type 0} where
   pub serves_offers : (gives : S → Q → M → S → A → Type 0) (m : M) (a b : HandlerView S Q M A) (os : List (OutView (M × A))) → b ≡ record a { outlets = os } → EachOffers a.outlets os → Serves gives m a [] b
   serves_offers gives m a b os is offers = serves_posts gives m a b os is (each_offers_posts a.outlets os offers)
 
+  pub only_outlets : (a b c : HandlerView S Q M A) → b ≡ record a { outlets = b.outlets } → c ≡ record b { outlets = c.outlets } → c ≡ record a { outlets = c.outlets }
+  only_outlets a b c f g = g ∙ ap (λ (v : HandlerView S Q M A). record v { outlets = c.outlets }) f
+
   -- one packet was served, and its reply was sent
-  pub serves_one : (gives : S → Q → M → S → A → Type 0) (q q' : TakeView Q) (d d' : DeskView S Q M A) (os os' : List (OutView (M × A))) (h : HandlerView S Q M A) (x : Serving Q M A)
-      → handler_view q d os ≡ h → q'.port ≡ q.port → d'.opening ≡ d.opening → d'.mark ≡ d.mark → d'.served ≡ d.served ++ x ∷ [] → gives d.server x.packet x.moment d'.server x.answer
-      → Each (SendsTo x.client (x.moment, x.answer)) os os' → Serves gives x.moment h (x ∷ []) (handler_view q' d' os')
-  serves_one gives q q' d d' os os' h x is port opening mark served meaning sends =
-      subst (λ (v : HandlerView S Q M A). Serves gives x.moment v (x ∷ []) (handler_view q' d' os')) is
-      (record {
-        port = port;
-        mark = mark;
-        opening = opening;
-        served_more = served;
-        moments = (refl, tt);
-        run = meaning_one gives d.server d'.server x meaning;
-        rings = sends_stays x.client (x.moment, x.answer) os os' sends;
-      })
+  pub serves_one : (gives : S → Q → M → S → A → Type 0) (q q' : TakeView Q) (d d' : DeskView S Q M A) (os os' : List (OutView (M × A))) (x : Serving Q M A)
+      → q'.port ≡ q.port → d'.opening ≡ d.opening → d'.mark ≡ d.mark → d'.served ≡ d.served ++ x ∷ [] → gives d.server x.packet x.moment d'.server x.answer
+      → Each (SendsTo x.client (x.moment, x.answer)) os os' → Serves gives x.moment (handler_view q d os) (x ∷ []) (handler_view q' d' os')
+  serves_one gives q q' d d' os os' x port opening mark served meaning sends = record {
+    port = port;
+    mark = mark;
+    opening = opening;
+    served_more = served;
+    moments = (refl, tt);
+    run = meaning_one gives d.server d'.server x meaning;
+    rings = sends_stays x.client (x.moment, x.answer) os os' sends;
+  }
+
+  -- the parts still belong together after a packet was taken and served, and its reply was sent
+  pub agree_step : (q q' : TakeView Q) (d d' : DeskView S Q M A) (os os' : List (OutView (M × A))) (x : Serving Q M A)
+      → TakesPacket q q' (x.client, x.packet) → d'.served ≡ d.served ++ x ∷ [] → Each (SendsTo x.client (x.moment, x.answer)) os os' → Agree q d os → Agree q' d' os'
+  agree_step q q' d d' os os' x took served sends h = (
+    ap packets_of served
+        ∙ (map-append (λ (y : Serving Q M A). (y.client, y.packet)) d.served (x ∷ []) ∙ (ap (λ l. l ++ (x.client, x.packet) ∷ []) h.0 ∙ sym (ap (λ (v : TakeView Q). v.taken) took.0))),
+    ap (λ (v : TakeView Q). v.known) took.0 ∙ h.1,
+    sends.0 ∙ (h.2 ∙ sym (ap (λ (v : TakeView Q). v.clients) took.0)),
+    replies_step d.served d'.served x os os' served sends h.3,
+    subst (λ (v : TakeView Q). OfClients v.clients v.taken) (sym took.0) (of_clients_snoc q.clients x.client q.taken x.packet took.1 took.2 h.4),
+  )
 
   pub added_view : (q q' : TakeView Q) (d : DeskView S Q M A) (os os' : List (OutView (M × A))) (o : OutView (M × A)) (h : HandlerView S Q M A)
       → handler_view q d os ≡ h → q' ≡ record q { clients = q.clients + 1 } → os' ≡ os ++ o ∷ [] → handler_view q' d os' ≡ record h { outlets = h.outlets ++ o ∷ [] }

@@ -1,11 +1,10 @@
 //! The handler's end of a port.
-ghost use Rattle.std.specs.Prelude.{◌≡◌, ◌<◌, ◌≤◌, ◌^◌, ◌∷◌, [], length, false, IfOk, OnOk, OnErr, IsTrue, IsFalse, MatchResult, Some, slice_get};
-ghost use Rattle.port_ends.specs.History.{Serving};
+ghost use Rattle.std.specs.Prelude.{◌≡◌, ◌<◌, ◌≤◌, ◌^◌, [], length, false, IfOk, OnOk, OnErr, IsTrue, MatchResult, Some, slice_get};
 ghost use Rattle.port_ends.specs.Rings.{EachLooked, EachOffers, EachOffersFirst, waiting_count};
-ghost use Rattle.port_ends.specs.steps.Sending.{EachGetsRoom, EachHasRoom, SameLooks, UsesOne};
+ghost use Rattle.port_ends.specs.steps.Sending.{EachGetsRoom, EachHasRoom};
 ghost use Rattle.port_ends.specs.steps.HandlerEnds.{AddsClientEnd, Heard, IsQueueOf};
 ghost use Rattle.port_ends.specs.steps.Rooms.{HasUntaken};
-ghost use Rattle.port_ends.specs.Ends.{HandlerView, IsNew, IsSound, Serves};
+ghost use Rattle.port_ends.specs.Ends.{HandlerView, IsNew, IsSound};
 ghost use Rattle.port_ends.specs.Batches.{ServesSome, ServesSoMany, OnlyOffers, EndsAs, empty_batches};
 
 use crate::Server;
@@ -46,20 +45,14 @@ pub struct HandlerEnd<S: Server> {
 }
 
 impl<S: Server> Model for HandlerEnd<S> {
-    ghost use Rattle.std.specs.Prelude.{◌≡◌, ◌+◌, [], ℕ, length, Some, slice_get};
-    ghost use Rattle.port_ends.specs.Lawful.{packets_of};
-    ghost use Rattle.port_ends.specs.Rings.{all_of};
-    ghost use Rattle.port_ends.specs.Ends.{OfClients};
-    ghost use Rattle.port_ends.specs.Ends.{HandlerView, replies_to};
-    ghost use Rattle.port_ends.specs.steps.Views.{handler_view};
+    ghost use Rattle.port_ends.specs.Ends.{HandlerView};
+    ghost use Rattle.port_ends.specs.steps.Views.{Agree, handler_view};
 
     ghost Value = { HandlerView S S.Request S.Moment S.Reply };
 
     ghost view = { λ h. handler_view h.queue h.desk h.outlets.items };
 
-    ghost invariant = { λ h. (packets_of h.desk.served ≡ h.queue.taken) × (h.queue.known ≡ []) × (length h.outlets.items ≡ h.queue.clients)
-        × ((k : ℕ) (o : _) → slice_get h.outlets.items k ≡ Some o → all_of o ≡ replies_to (k + 1) h.desk.served)
-        × OfClients h.queue.clients h.queue.taken };
+    ghost invariant = { λ h. Agree h.queue h.desk h.outlets.items };
 }
 
 impl<S: Server> HandlerEnd<S> {
@@ -110,7 +103,18 @@ impl<S: Server> HandlerEnd<S> {
         if room.is_err() {
             return Err(ServeFault::NoMemory);
         }
-        let served = self.serve_up_to(rt, moment, limit);
+        let mut served = 0;
+        for _ in 0..limit {
+            if self.desk.count() == u64::MAX {
+                break;
+            }
+            let Some((client, packet)) = self.queue.take(rt) else {
+                break;
+            };
+            let answer = self.desk.serve(client, packet, moment);
+            send_to(&mut self.outlets, client, (moment, answer));
+            served += 1;
+        }
         self.tell_death();
         self.witness();
         Ok(served)
@@ -189,25 +193,6 @@ impl<S: Server> HandlerEnd<S> {
         }
     }
 
-    // Takes one packet, serves it and sends its reply.
-    fn serve_one<R: Wait>(&mut self, rt: &R, moment: S::Moment) -> bool
-        requires { EachHasRoom 1 self.old.outlets }
-        ensures served { IsTrue result → (x : Serving S.Request S.Moment S.Reply) × Serves S.gives moment self.old (x ∷ []) self.new }
-        ensures idle { IsFalse result → self.new ≡ self.old }
-        ensures room { UsesOne self.old.outlets self.new.outlets }
-        ensures looks { SameLooks self.old.outlets self.new.outlets }
-    {
-        if self.desk.count() == u64::MAX {
-            return false;
-        }
-        let Some((client, packet)) = self.queue.take(rt) else {
-            return false;
-        };
-        let answer = self.desk.serve(client, packet, moment);
-        send_to(&mut self.outlets, client, (moment, answer));
-        true
-    }
-
     // Reserves room for this many more replies to each client.
     fn reserve(&mut self, more: usize) -> Result<(), AllocError>
         ensures same { self.new ≡ record self.old { outlets = self.new.outlets } }
@@ -215,23 +200,6 @@ impl<S: Server> HandlerEnd<S> {
         ensures room { OnOk result (EachHasRoom more self.new.outlets) }
     {
         reserve_all(&mut self.outlets, more)
-    }
-
-    // Serves at most `limit` packets.
-    fn serve_up_to<R: Wait>(&mut self, rt: &R, moment: S::Moment, limit: usize) -> usize
-        requires { EachHasRoom limit self.old.outlets }
-        ensures few { result ≤ limit }
-        ensures served { ServesSoMany S.gives moment self.old result self.new }
-        ensures looks { SameLooks self.old.outlets self.new.outlets }
-    {
-        let mut served = 0;
-        for _ in 0..limit {
-            if !self.serve_one(rt, moment) {
-                break;
-            }
-            served += 1;
-        }
-        served
     }
 
     // The handler's end of a port with no client yet. A refusal hands the server back.

@@ -22,10 +22,6 @@ EachHasRoom {T} n os = (k : ℕ) (o : OutView T) → slice_get os k ≡ Some o �
 abbrev pub UsesOne : {T : Type 0} → List (OutView T) → List (OutView T) → Type 0
 UsesOne old new = Each (λ _ o p. o.room ≤ p.room + 1) old new
 
--- no ring was looked at for waiting replies
-abbrev pub SameLooks : {T : Type 0} → List (OutView T) → List (OutView T) → Type 0
-SameLooks old new = Each (λ _ o p. p.looks ≡ o.looks) old new
-
 -- the room for waiting replies may have grown, and nothing else changed
 abbrev pub GetsRoom : {T : Type 0} → OutView T → OutView T → Type 0
 GetsRoom old new = (new ≡ record old { room = new.room }) × (old.room ≤ new.room)

@@ -1,7 +1,8 @@
 -- The visible state of a client's end and of the handler's end, composed from their parts.
-use Rattle.std.specs.Prelude.{◌||◌, Bool, List}
-use Rattle.port_ends.specs.Rings.{OutView}
-use Rattle.port_ends.specs.Ends.{ClientView, HandlerView}
+use Rattle.std.specs.Prelude.{◌≡◌, ◌+◌, ◌||◌, ℕ, Bool, List, [], length, Some, slice_get}
+use Rattle.port_ends.specs.Lawful.{packets_of}
+use Rattle.port_ends.specs.Rings.{OutView, all_of}
+use Rattle.port_ends.specs.Ends.{ClientView, HandlerView, OfClients, replies_to}
 use Rattle.port_ends.specs.steps.ClosingMark.{CloseView}
 use Rattle.port_ends.specs.steps.QueueEnds.{PutView, TakeView}
 use Rattle.port_ends.specs.steps.Sending.{InView}
@@ -31,3 +32,11 @@ handler_view queue desk outlets = record {
   outlets = outlets;
   knows = desk.knows;
 }
+
+-- these parts belong together: the taken packets, each of a client, are those that were served, no client is gathered,
+-- and each client has an outlet, with the replies to its packets
+abbrev pub Agree : {S Q M A : Type 0} → TakeView Q → DeskView S Q M A → List (OutView (M × A)) → Type 0
+Agree {M = M} {A = A} queue desk outlets =
+    (packets_of desk.served ≡ queue.taken) × (queue.known ≡ []) × (length outlets ≡ queue.clients)
+    × ((k : ℕ) (o : OutView (M × A)) → slice_get outlets k ≡ Some o → all_of o ≡ replies_to (k + 1) desk.served)
+    × OfClients queue.clients queue.taken

@@ -1,16 +1,39 @@
-use Rattle.port_ends.proofs.Eachs.{each_gets_posts, each_offers_first, each_offers_room}
-use Rattle.port_ends.proofs.Handling.{serves_more, serves_offers, serves_posts}
+use Rattle.std.proofs.Common.{◌∙◌, ◌++◌, ◌∷◌, [], arith, ap, sym, subst, ℕ, ◌+◌, length-append, refl, rules}
+use Rattle.port_ends.specs.Rings.{EachOffersFirst}
+use Rattle.port_ends.specs.steps.Sending.{EachHasRoom}
+use Rattle.port_ends.specs.Ends.{Serves}
+use Rattle.port_ends.specs.History.{Serving}
+use Rattle.port_ends.proofs.Eachs.{each_offers_room, first_sends, has_room_less, offers_first, room_step, sends_one}
+use Rattle.port_ends.proofs.Handling.{agree_step, only_outlets, serves_more, serves_offers, serves_one}
 use Rattle.port_ends.proofs.handler.HandlerEnd.serve_batch.Goals as goal
 
-pub returns-clause-ok : goal.returns-clause-ok
-returns-clause-ok g c =
+pub loop-init : goal.loop-init
+loop-init g c =
     let S = g.S.Server.gives in
     let p = c.post_waiting.ensures in
     let r = c.reserve-room.ensures in
-    let s = c.serve_up_to-served.ensures in
-    (s.few, (s.served.0, s.served.1, serves_more S _ _ _ _ _ _ (serves_more S _ _ _ _ _ _ (serves_offers S _ _ _ _ p.same p.offers) (serves_posts S _ _ _ _ r.same (each_gets_posts _ _ r.same_outlets))) s.served.2))
+    let offers = each_offers_room _ _ _ p.offers r.same_outlets in
+    let none = serves_offers S c.args.moment c.args.self.now c.reserve-room.new.self _ (only_outlets c.args.self.now c.post_waiting.new.self c.reserve-room.new.self p.same r.same) offers in
+    record {
+      agree = c.self.invariant;
+      room = has_room_less _ _ _ (omega arith) (subst (λ v. EachHasRoom c.args.limit v.outlets) (sym c.self.view_is) (let room = r.room in search rules));
+      count = omega arith;
+      served = ([], refl, subst (λ v. Serves S c.args.moment c.args.self.now [] v) (sym c.self.view_is) none);
+      first = subst (λ v. EachOffersFirst c.args.self.now.outlets v.outlets) (sym c.self.view_is) (offers_first _ _ offers);
+    }
 
-pub returns-clause-first : goal.returns-clause-first
-returns-clause-first g c =
-    let s = c.serve_up_to-served.ensures in
-    each_offers_first _ _ _ (each_offers_room _ _ _ c.post_waiting.ensures.offers c.reserve-room.ensures.same_outlets) s.served.2.rings s.looks
+pub loop-preserved : goal.loop-preserved
+loop-preserved g c =
+    let x : Serving g.row.S-Request.Denot g.row.S-Moment.Denot g.row.S-Reply.Denot = record { client = c.in-Some.client; packet = c.in-Some.packet; moment = c.args.moment; answer = c.serve-answer.result } in
+    let old = c.loop.self-inside in
+    let h = c.loop.invariant in
+    let took = c.in-Some.ensures.took in
+    let e = c.serve-answer.ensures in
+    let one = serves_one g.S.Server.gives old.queue c.take.new.self old.desk c.serve-answer.new.self old.outlets.items _ x (ap (λ q. q.port) took.0) e.kept.0 e.kept.1 e.served e.meaning c.send_to.ensures in
+    record {
+      agree = agree_step old.queue c.take.new.self old.desk c.serve-answer.new.self old.outlets.items _ x took e.served c.send_to.ensures h.agree;
+      room = room_step _ _ _ _ (omega (arith, c.loop-test.true)) (sends_one _ _ _ _ c.send_to.ensures) h.room;
+      count = omega (arith, h.count);
+      served = (h.served.0 ++ x ∷ [], length-append h.served.0 (x ∷ []) ∙ ap (λ (k : ℕ). k + 1) h.served.1, serves_more g.S.Server.gives _ _ _ _ _ _ h.served.2 one);
+      first = first_sends _ _ _ _ _ h.first c.send_to.ensures;
+    }
