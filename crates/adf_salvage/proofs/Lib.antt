@@ -1,6 +1,7 @@
 -- A file with right parts is sound, and a sound file has right parts.
 pub mod SoundParts
 pub mod OwnBlocks
+pub mod Copying
 pub mod Leaving
 pub mod Claiming
 pub mod Growing

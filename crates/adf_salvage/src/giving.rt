@@ -1,6 +1,8 @@
 //! The blocks given to files that are not whole, each to one.
 ghost use Rattle.std.specs.Prelude.{◌≡◌, ◌<◌, ◌≤◌, ◌*◌, ℕ, List, length, IfOk, IfSome, IsTrue, OnOk};
+ghost use Rattle.adf_block.specs.Fields.{format_of};
 ghost use Rattle.adf_block.specs.Image.{block_count};
+ghost use Rattle.ados_model.specs.Tree.{data_start};
 ghost use Rattle.adf_salvage.specs.steps.Giving.{IsGiving, IsOpen};
 
 use crate::data::is_own_data;
@@ -225,7 +227,8 @@ fn mark_volume(image: &Image, given: &mut [bool])
 
 /// The byte of a data block where its data starts: 24 in OFS, 0 in FFS.
 pub(crate) fn data_start(image: &Image) -> usize
-    ensures { result ≤ 24 }
+    ensures start { result ≡ data_start (format_of image.now) }
+    ensures small { result ≤ 24 }
 {
     match image.format() {
         Format::Ofs => OFS_DATA_BYTE as usize,

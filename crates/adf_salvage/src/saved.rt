@@ -6,12 +6,12 @@ ghost use Rattle.adf_salvage.specs.declared.salvaged.Salvaged.{Salvaged as Entry
 ghost use Rattle.adf_salvage.specs.Saved.{HasBytes, IsAt, size_of};
 ghost use Rattle.adf_salvage.specs.steps.Keeping.{IsKept};
 
-use crate::giving::Piece;
+use crate::giving::{BLOCK, Piece, data_start};
+use crate::holders::data_needed;
 use crate::pieces::pieced;
 use crate::salvaged::{Salvaged, State};
 use adf_block::Image;
-use adf_block::layout::FILE_SIZE;
-use ados_data::read_at;
+use adf_block::layout::{FILE_SIZE, FIRST_POINTER, NEXT_EXTENSION, TABLE_LONGS};
 use std::alloc::{AllocError, Global};
 use std::marker::Model;
 
@@ -116,14 +116,23 @@ impl Salvage {
     }
 }
 
-/// All bytes of a file.
+/// All bytes of a file, copied block by block into memory that is not filled with zeros before.
 fn whole_bytes(alloc: Global, image: &Image, file: u32) -> Result<Vec<u8>, AllocError>
     requires inside { file < block_count image.now }
     requires lawful { LawfulFile image.now file }
     ensures { IfOk result (λ bytes. bytes.items ≡ contents image.now file) }
 {
     let size = image.long(file, FILE_SIZE) as usize;
-    let mut bytes = vec![in alloc; 0_u8; size]?;
-    read_at(image, file, 0, bytes.as_mut_slice());
+    let start = data_start(image);
+    let mut bytes = Vec::with_capacity(alloc, size)?;
+    let mut holder = file;
+    for i in 0..data_needed(image, file) {
+        let block = image.long(holder, FIRST_POINTER - i % TABLE_LONGS);
+        let behind = BLOCK.min(start + (size - bytes.len()));
+        bytes.extend_from_slice(&image.block(block)[start..behind])?;
+        if (i + 1) % TABLE_LONGS == 0 {
+            holder = image.long(holder, NEXT_EXTENSION);
+        }
+    }
     Ok(bytes)
 }

@@ -1,0 +1,11 @@
+use Rattle.std.proofs.Common.{◌≡◌, ◌*◌, ◌/◌, length, min, take}
+use Rattle.adf_block.specs.Fields.{format_of}
+use Rattle.ados_model.specs.File.{contents, pointer_block}
+use Rattle.ados_model.specs.Tree.{data_size}
+use Rattle.adf_salvage.proofs.saved.whole_bytes.Given as goal
+
+abbrev pub invariant-loop-i : goal.invariant-loop-i
+invariant-loop-i l = record {
+  holder : l.holder ≡ pointer_block l.image l.file (l.i / 72);
+  bytes : l.bytes.items ≡ take (min (data_size (format_of l.image) * l.i) l.size) (contents l.image l.file);
+}
