@@ -1,14 +1,6 @@
 -- Everything below a directory: no key is below itself or occurs twice, so there are fewer keys than blocks.
 use Rattle.std.proofs.Common.{◌≡◌, ◌≢◌, ℕ, zero, suc, ◌+◌, ◌<◌, ◌≤◌, inl, inr, List, [], ◌∷◌, ◌++◌, length, Contains, Some, refl, sym, ap, ◌∙◌, subst, arith}
-use Rattle.std.specs.List.{flat_map}
-use Rattle.ados_model.proofs.KeyLists.{Once, Contains-cases, Contains-nil, length-once, Once-cons}
-use Rattle.ados_model.specs.Tree.{Node, Tree, Proper, LeadsToRoot, name_of, parent_of}
-use Rattle.ados_model.specs.Tree.LeadsToRoot.{by_parent}
-use Rattle.ados_model.proofs.Nodes.{parent_in}
-use Rattle.adf_export.specs.Listing.{below, front, listing}
-use Rattle.adf_words.specs.declared.query.ListOrder.{ListOrder}
-use Rattle.adf_export.specs.Ordered.{ordered}
-use Rattle.adf_export.specs.steps.Levels.{with_below}
+use Rattle.adf_export.proofs.Common.{flat_map, Once, Contains-cases, Contains-nil, length-once, Once-cons, Node, Tree, Proper, LeadsToRoot, name_of, parent_of, by_parent, parent_in, below, front, listing, ListOrder, ordered, with_below}
 use Rattle.adf_export.proofs.Sorting.{ordered_has, ordered_once}
 use Rattle.adf_export.proofs.Lists.{Once-joined, in_joined, length-joined}
 use Rattle.ados_change.specs.Conditions.{IsUnder}

@@ -1,12 +1,7 @@
 -- The items and sources for some entries, then for one more.
 use Rattle.std.proofs.Common.{◌≡◌, ℕ, ◌+◌, ◌<◌, Bool, List, [], ◌∷◌, ◌++◌, length, get_or, take, flat_map, sym, ap, ◌∙◌, subst, append_assoc}
 use Rattle.std.proofs.lemmas.Grind.{flat_map-append}
-use Rattle.std.proofs.lemmas.List.{append-nil, take_more}
-use Rattle.ados_model.specs.Tree.{Tree}
-use Rattle.host_trees.specs.declared.items.HostItem.{HostItem}
-use Rattle.ados_volume.specs.declared.below.Below.{Below}
-use Rattle.adf_export.specs.declared.entry.Source.{Source}
-use Rattle.adf_export.specs.Items.{EachGoesOut, GoesOut, sources_of}
+use Rattle.adf_export.proofs.Common.{append-nil, take_more, Tree, HostItem, Below, Source, EachGoesOut, GoesOut, sources_of}
 use Rattle.adf_export.specs.Items.EachGoesOut.{none, entry}
 
 module _ (t : Tree) (notes : Bool) where

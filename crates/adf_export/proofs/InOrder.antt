@@ -1,11 +1,6 @@
 -- The texts of entries, one after the other.
 use Rattle.std.proofs.Common.{◌≡◌, ℕ, List, [], ◌∷◌, ◌++◌, Some, append_assoc, append-nil, refl, sym, ap, ◌∙◌, subst}
-use Rattle.ados_model.specs.Tree.{Node, Tree}
-use Rattle.ados_model.specs.Objects.{file_info}
-use Rattle.ados_volume.specs.Located.{Located}
-use Rattle.adf_words.specs.declared.query.ListForm.{ListForm}
-use Rattle.adf_export.specs.Listing.{AreEntries, IsEntry}
-use Rattle.adf_export.specs.steps.Levels.{entry_at}
+use Rattle.adf_export.proofs.Common.{Node, Tree, file_info, Located, ListForm, AreEntries, IsEntry, entry_at}
 
 pub entries_append : (t : Tree) (s : ListForm) (xs ys : List Located) (a b : List ℕ) → AreEntries t s xs a → AreEntries t s ys b → AreEntries t s (xs ++ ys) (a ++ b)
 entries_append t s [] ys a b none more = subst (λ (l : List ℕ). AreEntries t s ys (l ++ b)) (sym none) more

@@ -1,17 +1,7 @@
 -- What is left of the open directories, and what is left after one step.
 use Rattle.std.proofs.Common.{◌≡◌, ℕ, zero, suc, ◌+◌, ◌-◌, ◌*◌, ◌<◌, inl, inr, Bool, true, false, List, [], ◌∷◌, ◌++◌, length, take, Contains, Some, length-append, append_assoc, append-nil, refl, sym, ap, ap₂, ◌∙◌, subst, arith}
-use Rattle.std.specs.List.{flat_map}
-use Rattle.std.proofs.lemmas.List.{same_from_push, length_push, take_at}
-use Rattle.ados_model.proofs.KeyLists.{Contains-cases, Contains-here, Contains-later, Contains-nil}
-use Rattle.ados_model.specs.Tree.{Node, Tree, Proper, LeadsToRoot, content_at, name_of, parent_of}
-use Rattle.ados_model.specs.Tree.LeadsToRoot.{by_parent}
-use Rattle.adf_export.specs.declared.listing.Level.{Level}
-use Rattle.ados_volume.specs.Located.{Located}
-use Rattle.adf_export.specs.Listing.{below, listed}
+use Rattle.adf_export.proofs.Common.{flat_map, same_from_push, length_push, take_at, Contains-cases, Contains-here, Contains-later, Contains-nil, Node, Tree, Proper, LeadsToRoot, content_at, name_of, parent_of, by_parent, Level, Located, below, listed, ListOrder, ordered, IsOpen, IsLeft, IsSoFar, entry_at, first_keys, first_path, to_list, with_below, work}
 use Rattle.ados_model.specs.Change.{is_file}
-use Rattle.adf_words.specs.declared.query.ListOrder.{ListOrder}
-use Rattle.adf_export.specs.Ordered.{ordered}
-use Rattle.adf_export.specs.steps.Levels.{IsOpen, IsLeft, IsSoFar, entry_at, first_keys, first_path, to_list, with_below, work}
 use Rattle.adf_export.specs.steps.Levels.IsLeft.{none, more}
 use Rattle.adf_export.proofs.Below.{listing_short, parent_of_entry}
 use Rattle.adf_export.proofs.Files.{file_above, keys_if, listed_if, no_entries_in, path_if}

@@ -1,8 +1,6 @@
 -- Levels that are popped and pushed.
 use Rattle.std.proofs.Common.{◌≡◌, ℕ, List, [], ◌∷◌, ◌++◌, Option, Some, IfSome, option_to_list, subst}
-use Rattle.std.proofs.lemmas.List.Elements.{All-nil, All-pop, All-push, All-same}
-use Rattle.adf_export.specs.declared.listing.Level.{Level}
-use Rattle.adf_export.specs.steps.Levels.{HaveKeys, HasKeys}
+use Rattle.adf_export.proofs.Common.{All-nil, All-pop, All-push, All-same, Level, HaveKeys, HasKeys}
 
 module _ (image : List ℕ) where
   Listed : Level → Type 0

@@ -1,4 +1,5 @@
 -- Lemmas about the listing of a directory, the lines of its entries, and entries that become files of the host.
+pub mod Common
 pub mod Levels
 pub mod Lists
 pub mod Sorting

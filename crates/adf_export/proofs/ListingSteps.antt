@@ -1,14 +1,6 @@
 -- The result of one step of a listing.
 use Rattle.std.proofs.Common.{◌≡◌, ℕ, ◌<◌, true, List, [], ◌∷◌, ◌++◌, Some, append-nil, refl, sym, ◌∙◌, subst}
-use Rattle.ados_model.specs.Tree.{Node, Tree}
-use Rattle.ados_model.specs.Objects.{file_info}
-use Rattle.adf_export.specs.declared.listing.Listing.{Listing}
-use Rattle.ados_volume.specs.Located.{Located}
-use Rattle.adf_words.specs.declared.query.ListForm.{ListForm}
-use Rattle.adf_words.specs.declared.query.ListOrder.{ListOrder}
-use Rattle.adf_export.specs.Listing.{IsEntry}
-use Rattle.adf_export.specs.steps.Levels.{IsSoFar, entry_at, work}
-use Rattle.adf_export.specs.steps.Going.{GoesOn}
+use Rattle.adf_export.proofs.Common.{Node, Tree, file_info, Listing, Located, ListForm, ListOrder, IsEntry, IsSoFar, entry_at, work, GoesOn}
 use Rattle.adf_export.proofs.Left.{Lists}
 use Rattle.adf_export.proofs.InOrder.{entry_alone}
 

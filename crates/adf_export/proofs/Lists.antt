@@ -1,8 +1,6 @@
 -- Lists without duplicates, and concatenated lists.
 use Rattle.std.proofs.Common.{◌≡◌, ◌≢◌, ℕ, ◌+◌, inl, inr, List, [], ◌∷◌, length, Contains, length-append, refl, sym, ap₂, ◌∙◌, subst}
-use Rattle.std.specs.List.{flat_map}
-use Rattle.std.proofs.lemmas.List.Elements.{Contains-append_cases}
-use Rattle.ados_model.proofs.KeyLists.{Once, Once-head, Once-tail, Contains-here, Contains-later, Contains-nil, Once-append}
+use Rattle.adf_export.proofs.Common.{flat_map, Contains-append_cases, Once, Once-head, Once-tail, Contains-here, Contains-later, Contains-nil, Once-append}
 
 -- an element of a concatenation is in one of its lists
 pub in_joined : (f : ℕ → List ℕ) (xs : List ℕ) (y : ℕ) → Contains (flat_map f xs) y → (x : ℕ) × Contains xs x × Contains (f x) y

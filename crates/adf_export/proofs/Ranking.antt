@@ -1,21 +1,18 @@
 -- Entries sorted by their ranks.
 use Rattle.std.proofs.Common.{◌≡◌, ℕ, suc, ◌+◌, ◌<◌, List, [], ◌∷◌, ◌++◌, Contains, length, get_or, take, drop, drop-cons, take-append-drop, refl, sym, ap, ap₂, ◌∙◌, subst}
-use Rattle.std.specs.Prelude.{if◌then◌else◌, map}
+use Rattle.std.specs.Prelude.{if◌then◌else◌}
 use Rattle.std.specs.Ordering.{is_lt, match_ordering, nat_cmp, ordering_then}
 use Rattle.std.specs.Cmp.Lexicographic.{slice_cmp}
 use Rattle.std.specs.declared.cmp.Ordering.{Ordering}
 use Rattle.std.specs.declared.cmp.Ordering.TheVariants.{Less, Equal, Greater}
 use Rattle.std.specs.FinMap.{nat_cmp-IsAntisymmetric}
 use Rattle.std.specs.BTreeMap.{insert_entry}
+use Rattle.adf_export.proofs.Common.{map, Once, Once-before, Contains-here, Contains-later, Tree, name_of, ListOrder, compared, comes_before, sorted, weight_of, IsRank, AreRanked, rank_cmp}
 use Rattle.ados_name.specs.Name.{upper}
 use Rattle.std.proofs.lemmas.List.Sums.{fold_more}
-use Rattle.ados_model.proofs.KeyLists.{Once, Once-before, Contains-here, Contains-later}
-use Rattle.ados_model.specs.Tree.{Tree, name_of}
-use Rattle.adf_words.specs.declared.query.ListOrder.{ListOrder}
 use Rattle.adf_export.specs.declared.order.Rank.{Rank}
-use Rattle.adf_export.specs.Ordered.{compared, comes_before, placed, sorted, weight_of}
+use Rattle.adf_export.specs.Ordered.{placed}
 use Rattle.adf_export.proofs.Sorting.{sorted_has}
-use Rattle.adf_export.specs.steps.Ranked.{IsRank, AreRanked, rank_cmp}
 
 then_equal : (a b : Ordering) → ordering_then a b ≡ Equal → b ≡ Equal
 then_equal Less b e = cc e

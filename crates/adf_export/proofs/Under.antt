@@ -1,19 +1,10 @@
 -- Entries of objects, each with everything below it.
 use Rattle.std.proofs.Common.{◌≡◌, ◌≢◌, ℕ, suc, ◌+◌, ◌<◌, ◌≤◌, Bool, true, false, ◌==◌, if◌then◌else◌, Option, None, Some, IfSome, List, [], ◌∷◌, ◌++◌, length, flat_map, take, get_or, All, Contains, IsSome, is_some, sym, ap, ◌∙◌, subst, arith, append_assoc, length-append, eq-eqb}
-use Rattle.std.proofs.lemmas.Bool.{ne_eqb}
 use Rattle.std.proofs.lemmas.Grind.{flat_map-append}
-use Rattle.std.proofs.lemmas.List.{append-nil, take_more}
-use Rattle.std.proofs.lemmas.List.Elements.{All-append, All-cons, All-head, All-nil, All-tail}
-use Rattle.ados_model.proofs.KeyLists.{Contains-here, Contains-later}
-use Rattle.ados_model.specs.Keys.{HasKey}
-use Rattle.ados_model.specs.Stands.{Stands}
-use Rattle.ados_model.specs.Tree.{Proper, Tree, entries, root}
-use Rattle.ados_model.proofs.Nodes.{entry_node}
-use Rattle.ados_volume.specs.declared.below.Below.{Below}
-use Rattle.ados_volume.specs.Below.{AreBelow, HasGrown, placed}
+use Rattle.adf_export.proofs.Common.{ne_eqb, append-nil, take_more, All-append, All-cons, All-head, All-nil, All-tail, Contains-here, Contains-later, HasKey, Stands, Proper, Tree, entries, root, entry_node, Below, AreBelow, HasGrown, Note, HasSource, sources_of, tops}
+use Rattle.ados_volume.specs.Below.{placed}
 use Rattle.ados_volume.specs.Below.AreBelow.{none, entry}
-use Rattle.adf_export.specs.declared.entry.Source.TheVariants.{Entry, Note}
-use Rattle.adf_export.specs.Items.{HasSource, sources_of, tops}
+use Rattle.adf_export.specs.declared.entry.Source.TheVariants.{Entry}
 
 -- what is true of all elements
 all_of : (P : ℕ → Type 0) (xs : List ℕ) → ((x : ℕ) → Contains xs x → P x) → All P xs

@@ -1,17 +1,7 @@
 -- A listing written so far.
 use Rattle.std.proofs.Common.{◌≡◌, ℕ, ◌+◌, ◌*◌, ◌≤◌, Bool, true, false, List, [], ◌++◌, Option, append_assoc, append-nil, refl, sym, ap, ◌∙◌, subst, arith}
-use Rattle.std.specs.Io.KnownBytes.{Appends}
 use Rattle.std.proofs.KnownBytes.{Appends-nil}
-use Rattle.std.proofs.lemmas.List.{nil_from_length}
-use Rattle.ados_model.specs.Tree.{Tree}
-use Rattle.adf_export.specs.declared.listing.Listing.{Listing}
-use Rattle.adf_io.specs.Prefix.{Passes, Writes, WritesFront, WritesFrontOf}
-use Rattle.ados_volume.specs.Located.{Located}
-use Rattle.adf_words.specs.declared.query.ListForm.{ListForm}
-use Rattle.adf_words.specs.declared.query.ListOrder.{ListOrder}
-use Rattle.adf_export.specs.Listing.{AreEntries, BeginsList, BeginsListing, IsList, IsListing, listed, head}
-use Rattle.adf_export.specs.steps.Levels.{IsSoFar, work}
-use Rattle.adf_export.specs.steps.Going.{GoesOn, Starts}
+use Rattle.adf_export.proofs.Common.{Appends, nil_from_length, Tree, Listing, Passes, Writes, WritesFront, WritesFrontOf, Located, ListForm, ListOrder, AreEntries, BeginsList, BeginsListing, IsList, IsListing, listed, head, IsSoFar, work, GoesOn, Starts}
 use Rattle.adf_export.proofs.InOrder.{entries_append}
 use Rattle.adf_io.proofs.Telling.{IsBegun, begun_with, told_all, told_front, told_more, told_part, told_passed}
 

@@ -1,9 +1,6 @@
 -- The extension blocks above a block, one at a time.
 use Rattle.std.proofs.Common.{◌≡◌, ℕ, suc, ◌+◌, ◌-◌, ◌<◌, Bool, true, if◌then◌else◌, List, Option, Some, None, refl, ap, ◌∙◌, arith}
-use Rattle.std.specs.Option.{option_and_then, option_map}
-use Rattle.ados_check.specs.Marks.{mark_at}
-use Rattle.ados_check.specs.declared.mark.Mark.{Mark}
-use Rattle.ados_faults.specs.Values.{extensions_to, is_extension}
+use Rattle.ados_faults.proofs.Common.{option_and_then, option_map, mark_at, Mark, extensions_to, is_extension}
 
 -- as far as p extension blocks lead
 abbrev IsOn : List (Option Mark) → ℕ → ℕ → ℕ → ℕ → Type 0

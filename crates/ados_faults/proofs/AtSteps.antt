@@ -1,34 +1,11 @@
 -- Each fault that an image shows is noted at a step of the walk, or shows only further.
 use Rattle.std.proofs.Common.{◌≡◌, ◌≢◌, ℕ, ◌+◌, ◌<◌, ◌⊎◌, List, Bool, length, get_or, None, Some, inl, inr, refl, sym, ◌∙◌, subst}
-use Rattle.std.specs.List.{slice_get}
-use Rattle.std.proofs.lemmas.Option.{none-some, slice_get-get_or, slice_get_within, unwrap_or-slice_get}
-use Rattle.adf_block.specs.Whole.{text_at}
-use Rattle.adf_block.specs.Image.{block_sum}
-use Rattle.adf_block.specs.Fields.{own_key, parent_key}
-use Rattle.adf_block.specs.declared.layout.TheConstants.{NAME_BYTE}
+use Rattle.ados_faults.proofs.Common.{slice_get, none-some, slice_get-get_or, slice_get_within, unwrap_or-slice_get, text_at, block_sum, own_key, parent_key, NAME_BYTE, FaultKind, NotADosDisk, UnsupportedKind, BadSum, BadType, BadOwnKey, BadParent, BadPointer, BlockUsedTwice, WrongChain, BadName, DuplicateName, BadComment, BadCount, BadSequence, LinkEntry, MarkedFree, NoMemory, Role, Root, Page, Entry, Data, Extension, HasName, HasSum, Reached, Shows, root_of, BreaksRule, kind_of_data, Sequence, TooFew, TooMany, Link, HasBadField, HasBadTypeAs, HasOtherCount, kind_of, NoLink, OwnKey, Parent, Name, Chain, Comment, PointerCount, FirstData, IsOtherKind, Step, AreLookedAt, IsLookedAt, AreStillNoted, IsNoted, cell_of, Part, Directory, Slot, DataFile, ExtensionFile, AreCovered, IsListed, number_of, step_of, AreOutsideNoted, AreTwiceNoted, IsMarkedFree, only_root}
 use Rattle.ados_name.specs.Name.{slot}
-use Rattle.ados_model.specs.declared.fault.FaultKind.{FaultKind}
-use Rattle.ados_model.specs.declared.fault.FaultKind.TheVariants.{NotADosDisk, UnsupportedKind, BadSum, BadType, BadOwnKey, BadParent, BadPointer, BlockUsedTwice, WrongChain, BadName, DuplicateName, BadComment, BadCount, BadSequence, LinkEntry, MarkedFree, NoMemory}
-use Rattle.ados_model.specs.declared.role.Role.{Role}
-use Rattle.ados_model.specs.declared.role.Role.TheVariants.{Root, Page, Entry, Data, Extension}
 use Rattle.ados_model.specs.Faults
-use Rattle.ados_model.specs.Faults.{HasName, HasSum, Reached, Shows, root_of}
-use Rattle.ados_check.specs.DataRules.{BreaksRule, kind_of_data}
 use Rattle.ados_check.specs.declared.data_rules.DataRule.{DataRule}
-use Rattle.ados_check.specs.declared.data_rules.DataRule.TheVariants.{Sequence, TooFew, TooMany, Link}
-use Rattle.ados_check.specs.Rules.{HasBadField, HasBadTypeAs, HasOtherCount, kind_of}
 use Rattle.ados_check.specs.declared.rules.FieldRule.{FieldRule}
-use Rattle.ados_check.specs.declared.rules.FieldRule.TheVariants.{NoLink, OwnKey, Parent, Name, Chain, Comment, PointerCount, FirstData}
-use Rattle.ados_faults.specs.Listed.{IsOtherKind}
-use Rattle.ados_faults.specs.declared.walk.Step.{Step}
-use Rattle.ados_faults.specs.steps.Looks.{AreLookedAt, IsLookedAt}
-use Rattle.ados_faults.specs.steps.Noted.{AreStillNoted, IsNoted, cell_of}
-use Rattle.ados_faults.specs.declared.roles.Part.{Part}
-use Rattle.ados_faults.specs.declared.roles.Part.TheVariants.{Directory, Slot, DataFile, ExtensionFile}
-use Rattle.ados_faults.specs.steps.Roles.{AreCovered, IsListed, number_of, step_of}
-use Rattle.ados_faults.specs.steps.Walked.{AreOutsideNoted, AreTwiceNoted, IsMarkedFree}
 use Rattle.ados_faults.proofs.Covering.{data_listed, data_role, directory_role, entry_listed, extension_listed, extension_role, other_number, page_listed, slot_role}
-use Rattle.ados_check.proofs.Roles.{only_root}
 
 has_name : (image : List ℕ) (block : ℕ) → Faults.HasBadName image block → HasName image block
 has_name image block (Faults.HasBadName.empty h e) = h

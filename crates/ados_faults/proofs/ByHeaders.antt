@@ -1,27 +1,13 @@
 -- The data blocks of a file, by the blocks whose pointers name them.
 use Rattle.std.proofs.Common.{◌≡◌, ◌≢◌, ℕ, ◌+◌, ◌-◌, ◌*◌, ◌^◌, ◌<◌, ◌≤◌, min, ◌==◌, inl, inr, Bool, true, false, List, [], ◌∷◌, ◌++◌, length, take, drop, flat_map, slice_index, get_or, replicate, set, Option, Some, None, refl, sym, ap, ◌∙◌, subst, arith, length-set, get_or-set_same, get_or-set_other}
-use Rattle.std.specs.List.{All, slice_get}
-use Rattle.std.specs.Option.{is_some}
-use Rattle.std.proofs.lemmas.Bool.{cases_eq, cases_lt, eqb-false, eqb-true, false≢true, le-ltb, lt-leb, lt-ltb, or_cases, or_parts}
 use Rattle.std.proofs.lemmas.Grind.{flat_map-append}
-use Rattle.std.proofs.lemmas.List.{append-nil, drop_more, get_or_append_left, get_or-append-add, get_or_default, get_or_push, take_more, length-append, length-replicate, length_push, take-append-drop}
-use Rattle.std.proofs.lemmas.List.Elements.{All-append}
 use Rattle.std.proofs.lemmas.List.Sums.{sum_by-append}
-use Rattle.std.proofs.lemmas.Option.{get_or_from_slice_get, none-some, same_Some, slice_get-get_or, slice_get_within}
-use Rattle.adf_block.specs.Image.{block_count}
-use Rattle.adf_block.specs.Fields.{held_count, pointer, pointer_count, sequence_number}
-use Rattle.ados_model.specs.declared.fault.FaultKind.TheVariants.{BadSequence}
-use Rattle.ados_model.specs.Faults.{InImage, pointers_of}
+use Rattle.ados_faults.proofs.Common.{All, slice_get, is_some, cases_eq, cases_lt, eqb-false, eqb-true, false≢true, le-ltb, lt-leb, lt-ltb, or_cases, or_parts, append-nil, drop_more, get_or_append_left, get_or-append-add, get_or_default, get_or_push, take_more, length-append, length-replicate, length_push, take-append-drop, All-append, get_or_from_slice_get, none-some, same_Some, slice_get-get_or, slice_get_within, block_count, held_count, pointer, pointer_count, sequence_number, BadSequence, InImage, pointers_of, BreaksRule, kind_of_data, Sequence, AreHeaders, IsPiece, first_in, next_in, AreAllSeen, AreHeld, ArePlacesNoted, IsHeaderSeen, IsHeld, IsOneNoted, IsPieceNoted, IsPlaceNoted, is_known, AreStillNoted, cell_of, IsNoted}
 use Rattle.ados_model.proofs.FileBlocks.{first_pointers-at, length-first_pointers}
-use Rattle.ados_check.specs.DataRules.{BreaksRule, kind_of_data}
 use Rattle.ados_check.specs.declared.data_rules.DataRule.{DataRule}
-use Rattle.ados_check.specs.declared.data_rules.DataRule.TheVariants.{Sequence}
 use Rattle.ados_check.proofs.Pointers.{pointers_are}
 use Rattle.ados_faults.specs.declared.pieces.Piece.{Piece}
 use Rattle.ados_faults.specs.declared.pieces.Seen.{Seen}
-use Rattle.ados_faults.specs.steps.Chain.{AreHeaders, IsPiece, first_in, next_in}
-use Rattle.ados_faults.specs.steps.FileNotes.{AreAllSeen, AreHeld, ArePlacesNoted, IsHeaderSeen, IsHeld, IsOneNoted, IsPieceNoted, IsPlaceNoted, is_known}
-use Rattle.ados_faults.specs.steps.Noted.{AreStillNoted, cell_of, IsNoted}
 use Rattle.ados_faults.proofs.FileNotes.{placed_on}
 use Rattle.ados_faults.proofs.Firsts.{same_there}
 

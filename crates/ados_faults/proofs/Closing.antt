@@ -1,35 +1,9 @@
 -- Marks and steps of a walk; that each block a marked one names is marked in the end, and that the steps cover each
 -- role in which a block is reached.
 use Rattle.std.proofs.Common.{◌≡◌, ◌≢◌, ℕ, ◌+◌, ◌-◌, ◌<◌, ◌≤◌, ◌⊎◌, inl, inr, Bool, List, [], ◌∷◌, ◌++◌, length, Some, None, set, refl, sym, ap, ◌∙◌, subst, arith}
-use Rattle.std.specs.List.{All, slice_get}
-use Rattle.std.proofs.lemmas.Bool.{cases_eq, cases_lt}
-use Rattle.std.proofs.lemmas.List.{length_push, get_or_push, get_or_append_left}
-use Rattle.std.proofs.lemmas.List.Elements.{All-push}
-use Rattle.std.proofs.lemmas.Option.{same_Some, slice_get-get_or, slice_get_within}
-use Rattle.adf_block.specs.Whole.{IsImage}
-use Rattle.adf_block.specs.Image.{block_count, long, page_count}
-use Rattle.adf_block.specs.declared.layout.TheConstants.{FIRST_POINTER, NEXT_IN_CHAIN, NEXT_EXTENSION}
-use Rattle.ados_model.specs.declared.role.Role.{Role}
-use Rattle.ados_model.specs.declared.role.Role.TheVariants.{Root, Page, Entry, Data, Extension}
-use Rattle.ados_model.specs.declared.fault.FaultKind.TheVariants.{BadPointer, BlockUsedTwice}
-use Rattle.ados_model.specs.Faults.{InImage, IsPlace, IsUsedTwice, LeadsInside, PlaceNames, Reached, root_of}
-use Rattle.ados_model.specs.Faults.IsPlace.{root_page, root_slot, directory_slot, next_entry, header_pointer, first_extension, extension_pointer, further_extension}
-use Rattle.ados_model.specs.Faults.IsUsedTwice.{two_holders, two_longs, root_named}
-use Rattle.ados_model.specs.Faults.Reached.{start, named}
-use Rattle.ados_check.specs.declared.mark.Mark.{Mark}
-use Rattle.ados_check.specs.Marks.{mark_at}
-use Rattle.ados_check.proofs.MarkLemmas.{IsMarkedMore, marked_more}
+use Rattle.ados_faults.proofs.Common.{All, slice_get, cases_eq, cases_lt, length_push, get_or_push, get_or_append_left, All-push, same_Some, slice_get-get_or, slice_get_within, IsImage, block_count, long, page_count, FIRST_POINTER, NEXT_IN_CHAIN, NEXT_EXTENSION, Role, Root, Page, Entry, Data, Extension, BadPointer, BlockUsedTwice, InImage, IsPlace, IsUsedTwice, LeadsInside, PlaceNames, Reached, root_of, root_page, root_slot, directory_slot, next_entry, header_pointer, first_extension, extension_pointer, further_extension, two_holders, two_longs, root_named, start, named, Mark, mark_at, IsMarkedMore, marked_more, place_not_root, Part, Directory, Slot, DataFile, ExtensionFile, Taken, Step, AreClosed, IsMarked, IsNamedAs, Marks, root_mark, IsNoted, cell_of, AreBacked, AreCovered, AreCoveredBy, IsCovered, IsListed, number_of, root_step, step_of, AreKept, AreOutsideNoted, AreTwiceNoted, AreVisited, IsMarkedBy, IsMetBy, IsPassed, IsStep, IsVisited, IsWalked}
 use Rattle.ados_check.proofs.PlaceLemmas.{place_within}
-use Rattle.ados_check.proofs.Roles.{place_not_root}
-use Rattle.ados_faults.specs.declared.roles.Part.{Part}
-use Rattle.ados_faults.specs.declared.roles.Part.TheVariants.{Directory, Slot, DataFile, ExtensionFile}
-use Rattle.ados_faults.specs.declared.roles.Taken.{Taken}
-use Rattle.ados_faults.specs.declared.walk.Step.{Step}
 use Rattle.ados_faults.specs.declared.walk.Walk.{Walk}
-use Rattle.ados_faults.specs.Listed.{AreClosed, IsMarked, IsNamedAs, Marks, root_mark}
-use Rattle.ados_faults.specs.steps.Noted.{IsNoted, cell_of}
-use Rattle.ados_faults.specs.steps.Roles.{AreBacked, AreCovered, AreCoveredBy, IsCovered, IsListed, number_of, root_step, step_of}
-use Rattle.ados_faults.specs.steps.Walked.{AreKept, AreOutsideNoted, AreTwiceNoted, AreVisited, IsMarkedBy, IsMetBy, IsPassed, IsStep, IsVisited, IsWalked}
 use Rattle.ados_faults.proofs.Covering.{backed_on, carried, covered_on, data_covered, directory_role, entry_covered, entry_listed, extension_covered, extension_listed, extension_role, none_of_root, slot_role}
 use Rattle.ados_faults.proofs.Firsts.{one_more}
 use Rattle.ados_faults.proofs.Insides.{root_inside}

@@ -1,25 +1,7 @@
 -- A block found for the second time.
 use Rattle.std.proofs.Common.{◌≡◌, ◌≢◌, ℕ, ◌*◌, ◌<◌, ◌⊎◌, inl, inr, Bool, List, [], ◌∷◌, length, replicate, Option, Some, None, set, sym, ap, ◌∙◌, subst, arith, length-set}
-use Rattle.std.specs.List.{All, slice_get}
-use Rattle.std.proofs.lemmas.Bool.{cases_order}
-use Rattle.std.proofs.lemmas.List.{length-replicate}
-use Rattle.std.proofs.lemmas.List.Elements.{All-push}
-use Rattle.adf_block.specs.Whole.{IsImage}
-use Rattle.adf_block.specs.Image.{block_count}
-use Rattle.ados_model.specs.declared.role.Role.TheVariants.{Root}
-use Rattle.ados_model.specs.Faults.{InImage, IsUsedTwice, PlaceNames, Reached, root_of}
-use Rattle.ados_model.specs.Faults.Reached.{start}
-use Rattle.ados_model.specs.Faults.IsUsedTwice.{two_holders, two_longs, root_named}
-use Rattle.ados_check.specs.declared.mark.Mark.{Mark}
-use Rattle.ados_check.specs.Marks.{mark_at}
-use Rattle.ados_check.proofs.MarkLemmas.{IsMarkedMore, marked_more, none_marked}
-use Rattle.ados_faults.specs.declared.roles.Taken.{Taken}
+use Rattle.ados_faults.proofs.Common.{All, slice_get, cases_order, length-replicate, All-push, IsImage, block_count, Root, InImage, IsUsedTwice, PlaceNames, Reached, root_of, start, two_holders, two_longs, root_named, Mark, mark_at, IsMarkedMore, marked_more, none_marked, Taken, Step, IsNamedAs, root_mark, AreNoted, AreBacked, root_step, IsMet, IsStep, IsWalked}
 use Rattle.ados_faults.specs.declared.roles.Taken.TheVariants.{Nothing}
-use Rattle.ados_faults.specs.declared.walk.Step.{Step}
-use Rattle.ados_faults.specs.Listed.{IsNamedAs, root_mark}
-use Rattle.ados_faults.specs.steps.Noted.{AreNoted}
-use Rattle.ados_faults.specs.steps.Roles.{AreBacked, root_step}
-use Rattle.ados_faults.specs.steps.Walked.{IsMet, IsStep, IsWalked}
 use Rattle.ados_faults.proofs.Covering.{none_backed}
 use Rattle.ados_faults.proofs.Insides.{root_inside}
 

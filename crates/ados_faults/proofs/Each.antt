@@ -1,18 +1,9 @@
 -- Each fault that an image shows is noted: at a step, in a directory, or at a file.
 use Rattle.std.proofs.Common.{ℕ, ◌+◌, List, Bool, inl, inr, sym, subst, arith}
-use Rattle.std.specs.List.{slice_get}
-use Rattle.adf_block.specs.Whole.{IsImage}
-use Rattle.ados_model.specs.declared.fault.FaultKind.{FaultKind}
-use Rattle.ados_model.specs.declared.fault.FaultKind.TheVariants.{DuplicateName, BadCount}
+use Rattle.ados_faults.proofs.Common.{slice_get, IsImage, FaultKind, DuplicateName, BadCount, Shows, kind_of_data, IsOtherKind, AreAllFilesNoted, IsFileNoted, IsPlaceNoted, AreDuplicatesNoted, AreStillNoted, IsNoted, cell_of}
 use Rattle.ados_model.specs.Faults
-use Rattle.ados_model.specs.Faults.{Shows}
-use Rattle.ados_check.specs.DataRules.{kind_of_data}
 use Rattle.ados_check.proofs.NameLemmas.{length_text}
 use Rattle.ados_check.proofs.UpperNames.{upper_names_equal}
-use Rattle.ados_faults.specs.Listed.{IsOtherKind}
-use Rattle.ados_faults.specs.steps.FileNotes.{AreAllFilesNoted, IsFileNoted, IsPlaceNoted}
-use Rattle.ados_faults.specs.steps.Named.{AreDuplicatesNoted}
-use Rattle.ados_faults.specs.steps.Noted.{AreStillNoted, IsNoted, cell_of}
 use Rattle.ados_faults.proofs.AtSteps.{AreStepsNoted, ShowsFurther, noted_or_further}
 use Rattle.ados_faults.proofs.Insides.{reached_inside}
 

@@ -1,21 +1,6 @@
 -- Lists of blocks with a cell for each block: those of a type, and the entries of a directory.
 use Rattle.std.proofs.Common.{◌≡◌, ◌≢◌, ℕ, ◌+◌, ◌<◌, ◌≤◌, inl, inr, Bool, true, false, List, [], ◌∷◌, ◌++◌, length, get_or, slice_index, replicate, Some, set, refl, sym, ap, ◌∙◌, subst, arith, length-set, get_or-set_same, get_or-set_other}
-use Rattle.std.specs.List.{All, Contains}
-use Rattle.std.proofs.lemmas.Bool.{cases_eq, cases_lt, false≢true}
-use Rattle.std.proofs.lemmas.Option.{slice_get_within}
-use Rattle.std.proofs.lemmas.List.{get_or_append_left, get_or_default, length-replicate}
-use Rattle.std.proofs.lemmas.List.Elements.{All-pop, All-push, Contains-append_left, Contains-push, Contains-push_cases}
-use Rattle.adf_block.specs.Image.{block_count, long}
-use Rattle.adf_block.specs.declared.layout.TheConstants.{FIRST_SLOT, NEXT_IN_CHAIN, TABLE_LONGS}
-use Rattle.ados_model.specs.declared.role.Role.{Role}
-use Rattle.ados_model.specs.declared.role.Role.TheVariants.{Root, Entry}
-use Rattle.ados_model.specs.Faults.{InImage, IsPlace, LeadsInside, Reached, root_of}
-use Rattle.ados_model.specs.Faults.IsPlace.{root_page, root_slot, directory_slot, next_entry, header_pointer, first_extension, extension_pointer, further_extension}
-use Rattle.ados_model.specs.Faults.Reached.{start, named}
-use Rattle.ados_faults.specs.steps.Blocks.{AreEntriesOf, AreMet, AreNextMet, AreSlotsMet, AreTypesMet, HasTypeAs, HoldsEntries, IsEntryIn, IsGrown, IsOfType}
-use Rattle.ados_faults.specs.declared.walk.Step.{Step}
-use Rattle.ados_faults.specs.steps.Roles.{AreCovered, IsListed, step_of}
-use Rattle.ados_check.proofs.Roles.{only_root}
+use Rattle.ados_faults.proofs.Common.{All, Contains, cases_eq, cases_lt, false≢true, slice_get_within, get_or_append_left, get_or_default, length-replicate, All-pop, All-push, Contains-append_left, Contains-push, Contains-push_cases, block_count, long, FIRST_SLOT, NEXT_IN_CHAIN, TABLE_LONGS, Role, Root, Entry, InImage, IsPlace, LeadsInside, Reached, root_of, root_page, root_slot, directory_slot, next_entry, header_pointer, first_extension, extension_pointer, further_extension, start, named, AreEntriesOf, AreMet, AreNextMet, AreSlotsMet, AreTypesMet, HasTypeAs, HoldsEntries, IsEntryIn, IsGrown, IsOfType, Step, AreCovered, IsListed, step_of, only_root}
 use Rattle.ados_faults.proofs.Covering.{entry_listed}
 use Rattle.ados_faults.proofs.Firsts.{each_same}
 

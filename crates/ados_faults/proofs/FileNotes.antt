@@ -1,13 +1,6 @@
 -- What files show stays noted, and is noted file by file.
 use Rattle.std.proofs.Common.{◌≡◌, ℕ, ◌+◌, inl, inr, List, Bool, Option, get_or, ◌∙◌, subst, arith}
-use Rattle.std.specs.List.{slice_get}
-use Rattle.ados_check.specs.DataRules.{kind_of_data}
-use Rattle.ados_model.specs.declared.fault.FaultKind.TheVariants.{BadCount}
-use Rattle.ados_model.specs.Faults.{AreDataBlocks, IsFile}
-use Rattle.adf_block.specs.declared.layout.TheConstants.{FILE_TYPE}
-use Rattle.ados_faults.specs.steps.Blocks.{IsOfType}
-use Rattle.ados_faults.specs.steps.FileNotes.{AreBlocksNoted, ArePlacesNoted, IsFileNoted, IsPlaceNoted}
-use Rattle.ados_faults.specs.steps.Noted.{AreStillNoted, cell_of}
+use Rattle.ados_faults.proofs.Common.{slice_get, kind_of_data, BadCount, AreDataBlocks, IsFile, FILE_TYPE, IsOfType, AreBlocksNoted, ArePlacesNoted, IsFileNoted, IsPlaceNoted, AreStillNoted, cell_of}
 use Rattle.ados_faults.proofs.SameBlocks.{same_blocks}
 
 module _ (image : List ℕ) (cells later : List Bool) (on : AreStillNoted cells later) where

@@ -1,11 +1,7 @@
 -- Reached blocks are inside the image; the blocks that places name are reached.
 use Rattle.std.proofs.Common.{◌≡◌, ℕ, ◌<◌, List, sym, subst, arith}
-use Rattle.adf_block.specs.Whole.{IsImage}
-use Rattle.adf_block.specs.Image.{block_count, long}
-use Rattle.ados_model.specs.declared.role.Role.{Role}
+use Rattle.ados_faults.proofs.Common.{IsImage, block_count, long, Role, InImage, IsPlace, Reached, root_of, start, named}
 use Rattle.ados_model.specs.Faults
-use Rattle.ados_model.specs.Faults.{InImage, IsPlace, Reached, root_of}
-use Rattle.ados_model.specs.Faults.Reached.{start, named}
 
 module _ (image : List ℕ) (im : IsImage image) where
   pub root_inside : InImage image (root_of image)

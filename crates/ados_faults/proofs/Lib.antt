@@ -1,4 +1,5 @@
 -- Lemmas about cells, places and files past their faults.
+pub mod Common
 pub mod Cells
 pub mod Firsts
 pub mod Insides

@@ -1,13 +1,6 @@
 -- The blocks along links, one more at a time.
 use Rattle.std.proofs.Common.{◌≡◌, ◌≢◌, ℕ, ◌+◌, ◌-◌, ◌<◌, ◌≤◌, inl, inr, List, [], ◌∷◌, ◌++◌, length, get_or, slice_index, refl, sym, ap, ◌∙◌, subst, arith}
-use Rattle.std.specs.List.{Contains}
-use Rattle.std.proofs.lemmas.Bool.{cases_lt}
-use Rattle.std.proofs.lemmas.List.{get_or_default, length_push, get_or_push, get_or_append_left}
-use Rattle.std.proofs.lemmas.List.Elements.{All-push}
-use Rattle.std.proofs.lemmas.List.Quantifiers.{all_pairs_push}
-use Rattle.adf_block.specs.Image.{block_count, long}
-use Rattle.ados_model.specs.Faults.{InImage, LinkedOnce, LeadOn, FurtherAreInside, last_link}
-use Rattle.ados_faults.specs.steps.Chain.{IsChain}
+use Rattle.ados_faults.proofs.Common.{Contains, cases_lt, get_or_default, length_push, get_or_push, get_or_append_left, All-push, all_pairs_push, block_count, long, InImage, LinkedOnce, LeadOn, FurtherAreInside, last_link, IsChain}
 use Rattle.ados_model.proofs.KeyLists.{length-once}
 
 -- only the first block

@@ -1,17 +1,8 @@
 -- The rules that a block breaks in each role, noted one by one.
 use Rattle.std.proofs.Common.{◌≡◌, ℕ, ◌+◌, List, All, Bool, Some, arith}
-use Rattle.std.specs.List.{slice_get}
-use Rattle.ados_check.specs.Rules.{kind_of}
+use Rattle.ados_faults.proofs.Common.{slice_get, kind_of, NoLink, OwnKey, Parent, Name, Chain, Comment, PointerCount, FirstData, BadSum, BadType, MarkedFree, Role, Data, IsOfs, Step, AreLookedAt, AreWrongsNoted, IsFieldNoted, IsLookedAt, AreStillNoted, cell_of}
 use Rattle.ados_check.specs.declared.rules.FieldRule.{FieldRule}
-use Rattle.ados_check.specs.declared.rules.FieldRule.TheVariants.{NoLink, OwnKey, Parent, Name, Chain, Comment, PointerCount, FirstData}
 use Rattle.ados_check.specs.declared.rules.TheConstants.{FIELD_RULES, POINTER_RULES}
-use Rattle.ados_model.specs.declared.fault.FaultKind.TheVariants.{BadSum, BadType, MarkedFree}
-use Rattle.ados_model.specs.declared.role.Role.{Role}
-use Rattle.ados_model.specs.declared.role.Role.TheVariants.{Data}
-use Rattle.ados_model.specs.Faults.{IsOfs}
-use Rattle.ados_faults.specs.declared.walk.Step.{Step}
-use Rattle.ados_faults.specs.steps.Looks.{AreLookedAt, AreWrongsNoted, IsFieldNoted, IsLookedAt}
-use Rattle.ados_faults.specs.steps.Noted.{AreStillNoted, cell_of}
 use Rattle.ados_faults.proofs.Firsts.{one_more}
 
 -- each rule is in one of the two lists

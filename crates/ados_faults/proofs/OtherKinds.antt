@@ -1,14 +1,10 @@
 -- The kind of a disk, by its first four bytes.
 use Rattle.std.proofs.Common.{◌≡◌, ℕ, ◌<◌, ◌≤◌, ◌⊎◌, inl, inr, List, length, refl, subst, arith}
+use Rattle.ados_faults.proofs.Common.{byte_at, FaultKind, NotADosDisk, UnsupportedKind, Shows, IsOtherKind, ShowsOtherKind}
 use Rattle.adf_block.specs.Boot.{HasKind, IsDos}
-use Rattle.adf_block.specs.Image.{byte_at}
 use Rattle.adf_block.specs.declared.boot.BootKind.{BootKind}
 use Rattle.adf_block.specs.declared.boot.BootKind.TheVariants.{Ofs, Ffs, OtherDos, NotDos}
 use Rattle.ados_check.proofs.KindLemmas.{is_dos, not_dos}
-use Rattle.ados_model.specs.declared.fault.FaultKind.{FaultKind}
-use Rattle.ados_model.specs.declared.fault.FaultKind.TheVariants.{NotADosDisk, UnsupportedKind}
-use Rattle.ados_model.specs.Faults.{Shows}
-use Rattle.ados_faults.specs.Listed.{IsOtherKind, ShowsOtherKind}
 
 supported : (image : List ℕ) (k : BootKind) → HasKind image k → (k ≡ Ofs) ⊎ (k ≡ Ffs) → IsDos image × (byte_at image 0 3 ≤ 1)
 supported image Ofs has is = (has.0, omega (arith, has.1))

@@ -1,18 +1,8 @@
 -- Pairs of a block and a role, one more at a time.
 use Rattle.std.proofs.Common.{◌≡◌, ◌≢◌, ℕ, ◌*◌, ◌≤◌, inl, inr, Bool, true, false, List, [], ◌∷◌, ◌++◌, length, get_or, cond, refl, sym, ◌∙◌, subst, arith}
-use Rattle.std.specs.BTreeMap.{is_at}
 use Rattle.std.specs.BTreeSet.{BTreeSet, contains}
-use Rattle.std.proofs.lemmas.Bool.{false≢true}
-use Rattle.std.proofs.lemmas.List.Quantifiers.{all_pairs_push}
-use Rattle.std.proofs.lemmas.Option.{slice_get-get_or, slice_get_within}
-use Rattle.adf_block.specs.Image.{block_count}
-use Rattle.ados_model.specs.declared.role.Role.{Role}
-use Rattle.ados_model.specs.Faults.{InImage, Reached}
+use Rattle.ados_faults.proofs.Common.{is_at, false≢true, all_pairs_push, slice_get-get_or, slice_get_within, block_count, Role, InImage, Reached, Step, IsTangled, ArePairs, key_cmp, key_for, step_of}
 use Rattle.ados_faults.specs.declared.tangled.StepKey.{StepKey}
-use Rattle.ados_faults.specs.declared.walk.Step.{Step}
-use Rattle.ados_faults.specs.Listed.{IsTangled}
-use Rattle.ados_faults.specs.steps.Pairs.{ArePairs, key_cmp, key_for}
-use Rattle.ados_faults.specs.steps.Roles.{step_of}
 use Rattle.ados_faults.proofs.Closing.{all_steps, pushed_cases}
 
 pub no_pairs : (image : List ℕ) (known : BTreeSet StepKey) → ArePairs image [] known

@@ -1,23 +1,7 @@
 -- A root that is reached in another role is named by a place, and so is one that is a data block of a file.
 use Rattle.std.proofs.Common.{◌≡◌, ℕ, zero, suc, ◌+◌, ◌<◌, ◌⊎◌, inl, inr, Bool, List, [], ◌∷◌, length, slice_index, Contains, refl, sym, ap, ◌∙◌, subst, arith, add-one}
-use Rattle.std.specs.List.{flat_map}
-use Rattle.std.proofs.lemmas.Bool.{cases_lt}
-use Rattle.std.proofs.lemmas.List.{get_or_default}
-use Rattle.std.proofs.lemmas.List.Elements.{Contains-append_cases, Contains-get_or}
-use Rattle.adf_block.specs.Image.{long}
-use Rattle.adf_block.specs.Whole.{IsImage}
-use Rattle.adf_block.specs.Fields.{pointer, pointer_count}
-use Rattle.adf_block.specs.declared.layout.TheConstants.{NEXT_EXTENSION}
-use Rattle.ados_model.specs.declared.fault.FaultKind.{FaultKind}
-use Rattle.ados_model.specs.declared.fault.FaultKind.TheVariants.{BlockUsedTwice}
-use Rattle.ados_model.specs.declared.role.Role.{Role}
-use Rattle.ados_model.specs.declared.role.Role.TheVariants.{Root, Entry, Data, Extension}
-use Rattle.ados_model.specs.Faults.{InImage, IsDataAt, IsFile, IsUsedTwice, LinkedOnce, Reached, Shows, pointers_of, root_of}
-use Rattle.ados_model.specs.Faults.IsPlace.{header_pointer, first_extension, extension_pointer, further_extension}
-use Rattle.ados_model.specs.Faults.IsUsedTwice.{root_named}
-use Rattle.ados_model.specs.Faults.Reached.{start, named}
+use Rattle.ados_faults.proofs.Common.{flat_map, cases_lt, get_or_default, Contains-append_cases, Contains-get_or, long, IsImage, pointer, pointer_count, NEXT_EXTENSION, FaultKind, BlockUsedTwice, Role, Root, Entry, Data, Extension, InImage, IsDataAt, IsFile, IsUsedTwice, LinkedOnce, Reached, Shows, pointers_of, root_of, header_pointer, first_extension, extension_pointer, further_extension, root_named, start, named, IsNoted, cell_of}
 use Rattle.ados_model.proofs.KeyLists.{Contains-here, Contains-later, Contains-nil}
-use Rattle.ados_faults.specs.steps.Noted.{IsNoted, cell_of}
 use Rattle.ados_faults.proofs.AtSteps.{AreStepsNoted, ShowsFurther, noted_or_further}
 use Rattle.ados_faults.proofs.Insides.{root_inside}
 use Rattle.ados_faults.proofs.ByHeaders.{pointer_at, pointers_few, pointers_none}

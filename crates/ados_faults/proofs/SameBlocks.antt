@@ -1,11 +1,6 @@
 -- A file has one list of data blocks.
 use Rattle.std.proofs.Common.{◌≡◌, ℕ, zero, suc, ◌+◌, ◌-◌, ◌<◌, inl, inr, List, length, slice_index, get_or, sym, ap, ◌∙◌, subst, arith}
-use Rattle.std.specs.List.{Contains, flat_map}
-use Rattle.std.proofs.lemmas.Bool.{cases_order}
-use Rattle.std.proofs.lemmas.List.{get_or_default, same_lists}
-use Rattle.adf_block.specs.Image.{long}
-use Rattle.adf_block.specs.declared.layout.TheConstants.{NEXT_EXTENSION}
-use Rattle.ados_model.specs.Faults.{AreDataBlocks, InImage, LinkedOnce, last_link, pointers_of}
+use Rattle.ados_faults.proofs.Common.{Contains, flat_map, cases_order, get_or_default, same_lists, long, NEXT_EXTENSION, AreDataBlocks, InImage, LinkedOnce, last_link, pointers_of}
 
 module _ (image : List ℕ) (link first : ℕ) where
   -- two lists along the same links agree, as far as both go

@@ -1,27 +1,13 @@
 -- Entries of one directory whose names are equal in upper case have the same name, and are noted.
 use Rattle.std.proofs.Common.{◌≡◌, ◌≢◌, ℕ, ◌-◌, ◌<◌, ◌≤◌, inl, inr, Bool, true, cond, List, [], ◌∷◌, ◌++◌, length, take, drop, map, replicate, get_or, slice_index, set, Option, Some, None, refl, sym, ap, ap₂, ◌∙◌, subst, arith, ◌+◌, length-set, get_or-set_same, get_or-set_other}
-use Rattle.std.specs.List.{slice_get}
-use Rattle.std.specs.Option.{option_and_then}
 use Rattle.std.specs.FinMap.{nat_cmp-IsAntisymmetric, slice_cmp-IsAntisymmetric}
-use Rattle.std.specs.BTreeMap.{BTreeMap, get, is_at}
 use Rattle.std.specs.Map.{lookup}
-use Rattle.std.proofs.lemmas.Bool.{cases_Bool, cases_eq, cases_lt}
-use Rattle.std.proofs.lemmas.Option.{get_or_from_slice_get, none-some, same_Some, slice_get-get_or, slice_get_past, slice_get_within}
-use Rattle.std.proofs.lemmas.List.{get_or_append_left, get_or_push, length-map, length-replicate, length_push, take_at}
-use Rattle.adf_block.specs.Whole.{IsImage, text_at}
-use Rattle.adf_block.specs.Image.{block_count, byte_at}
-use Rattle.adf_block.specs.declared.layout.TheConstants.{DIRECTORY_TYPE, NAME_BYTE}
+use Rattle.ados_faults.proofs.Common.{slice_get, option_and_then, BTreeMap, get, is_at, cases_Bool, cases_eq, cases_lt, get_or_from_slice_get, none-some, same_Some, slice_get-get_or, slice_get_past, slice_get_within, get_or_append_left, get_or_push, length-map, length-replicate, length_push, take_at, IsImage, text_at, block_count, byte_at, DIRECTORY_TYPE, NAME_BYTE, Entry, DuplicateName, HasDuplicateName, HasShortName, Reached, AreEntriesOf, HoldsEntries, IsEntryIn, IsOfType, AreDuplicatesNoted, AreFirstMet, AreFirstNames, AreKnown, AreNamesKept, AreNamesMet, AreNamesNoted, AreStillKnown, HasNameOf, IsFirstName, IsNameMet, name_cmp, named_in, named_of, AreStillNoted, IsNoted, cell_of}
 use Rattle.ados_name.specs.Name.{Same, upper}
-use Rattle.ados_model.specs.declared.role.Role.TheVariants.{Entry}
-use Rattle.ados_model.specs.declared.fault.FaultKind.TheVariants.{DuplicateName}
-use Rattle.ados_model.specs.Faults.{HasDuplicateName, HasShortName, Reached}
 use Rattle.ados_check.proofs.Entered.{is_equal}
 use Rattle.ados_check.proofs.Texts.{length-bytes_at}
 use Rattle.ados_check.specs.Entries.{upper_name}
 use Rattle.ados_faults.specs.declared.names.Named.{Named}
-use Rattle.ados_faults.specs.steps.Blocks.{AreEntriesOf, HoldsEntries, IsEntryIn, IsOfType}
-use Rattle.ados_faults.specs.steps.Named.{AreDuplicatesNoted, AreFirstMet, AreFirstNames, AreKnown, AreNamesKept, AreNamesMet, AreNamesNoted, AreStillKnown, HasNameOf, IsFirstName, IsNameMet, name_cmp, named_in, named_of}
-use Rattle.ados_faults.specs.steps.Noted.{AreStillNoted, IsNoted, cell_of}
 use Rattle.ados_faults.proofs.Enumerated.{dir_of}
 use Rattle.ados_faults.proofs.Firsts.{one_more, same_there}
 use Rattle.ados_faults.proofs.Insides.{reached_inside}

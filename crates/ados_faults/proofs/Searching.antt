@@ -1,11 +1,8 @@
 -- What a search says of the list of its faults.
 use Rattle.std.proofs.Common.{◌≡◌, ℕ, ◌<◌, ◌≤◌, ◌||◌, inl, inr, Bool, true, false, List, [], ◌∷◌, All, Contains, length, refl, sym, ap, ◌∙◌, subst, arith}
-use Rattle.std.proofs.lemmas.Bool.{cases_Bool}
+use Rattle.ados_faults.proofs.Common.{cases_Bool, Shows, AreFirstFaults, IsTangled, ListsFaults, ShowsMoreThan, TellsMore, IsFull, ListsNoted}
 use Rattle.ados_model.specs.Accepted.{ShowsNoFault}
 use Rattle.ados_model.specs.declared.fault.VolumeFault.{VolumeFault}
-use Rattle.ados_model.specs.Faults.{Shows}
-use Rattle.ados_faults.specs.Listed.{AreFirstFaults, IsTangled, ListsFaults, ShowsMoreThan, TellsMore}
-use Rattle.ados_faults.specs.steps.Noted.{IsFull, ListsNoted}
 use Rattle.ados_faults.specs.steps.Searched.{IsSearched}
 use Rattle.ados_faults.proofs.Cells.{first_faults}
 

@@ -1,13 +1,6 @@
 -- What a change of the tree must preserve for an object so that the holds on it stay proper.
 use Rattle.std.proofs.Common.{◌≡◌, ◌≢◌, ℕ, ◌≤◌, inl, inr, Bool, true, Option, Some, None, IsSome, option_map, refl, sym, ap, ◌∙◌, subst, arith}
-use Rattle.std.proofs.lemmas.Bool.{cases_eq}
-use Rattle.ados_model.specs.Tree.{Content, Node, Tree}
-use Rattle.ados_model.specs.Parts.{size_in}
-use Rattle.ados_model.specs.Change.{holds_file, changed, with_node}
-use Rattle.ados_change.proofs.Changed.{nodes_here, nodes_other}
-use Rattle.ados_model.specs.Session.{Session}
-use Rattle.ados_handler.specs.ProperSession.{HoldNumber, hold_at, IsProperSession}
-use Rattle.ados_handler.specs.ProperSession.HoldNumber.{ByHandle}
+use Rattle.ados_handler.proofs.Common.{cases_eq, Content, Node, Tree, size_in, holds_file, changed, with_node, nodes_here, nodes_other, Session, HoldNumber, hold_at, IsProperSession, ByHandle}
 
 -- the content of a node, if there is one
 abbrev content_in : Option Node → Option Content

@@ -1,19 +1,6 @@
 -- DELETE_OBJECT.
 use Rattle.std.proofs.Common.{◌≡◌, ℕ, false, List, [], None, Ok, sym, ap, ◌∙◌}
-use Rattle.ados_name.specs.declared.stamp.Date3.{Date3}
-use Rattle.ados_model.specs.Tree.{Tree}
-use Rattle.ados_model.specs.Change.{removed}
-use Rattle.ados_model.specs.Objects.{object}
-use Rattle.ados_model.specs.declared.dos_error.DosError.TheVariants.{DeviceNotMounted}
-use Rattle.ados_model.specs.Packet.{dos_true}
-use Rattle.ados_model.specs.declared.packet.Packet.TheVariants.{DeleteObject}
-use Rattle.ados_model.specs.declared.answer.Body.TheVariants.{Empty}
-use Rattle.ados_model.specs.Session.{Session}
-use Rattle.ados_model.specs.Resolved.{walked}
-use Rattle.ados_model.specs.Refusals.{refusal, refusals}
-use Rattle.ados_model.specs.Success.{after}
-use Rattle.ados_volume.proofs.Refusing.{passed}
-use Rattle.ados_handler.specs.steps.Moves.{remove_refusal, remove_refusals}
+use Rattle.ados_handler.proofs.Common.{Date3, Tree, removed, object, DeviceNotMounted, dos_true, DeleteObject, Empty, Session, walked, refusal, refusals, after, passed, remove_refusal, remove_refusals}
 use Rattle.ados_handler.proofs.Meant.{IsEdit, walked_on}
 
 module _ (t : Tree) (s : Session) (lock : ℕ) (path : List ℕ) (key : ℕ) (alive : s.died ≡ false) (walk : walked t s lock path ≡ Ok key) where

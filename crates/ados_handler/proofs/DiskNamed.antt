@@ -1,21 +1,10 @@
 -- RENAME_DISK with a valid name.
 use Rattle.std.proofs.Common.{◌≡◌, ℕ, Bool, false, true, cond, nat_lt, not, ◌==◌, List, [], ◌∷◌, length, None, Some, refl}
 use Rattle.std.specs.Prelude.{◌||◌}
-use Rattle.std.specs.List.{list_any}
-use Rattle.ados_name.specs.declared.stamp.Date3.{Date3}
+use Rattle.ados_handler.proofs.Common.{list_any, Date3, IsName, is_separator, first_fault, Tree, disk_renamed, DeviceNotMounted, InvalidComponentName, RenameDisk, Empty, Session, first_refusal, is_name, refusal, refuse, is_named}
 use Rattle.ados_name.specs.declared.NameFault.{NameFault}
 use Rattle.ados_name.specs.declared.NameFault.TheVariants as faults
-use Rattle.ados_name.specs.Name.{IsName, is_separator}
-use Rattle.ados_name.specs.Fault.{first_fault}
-use Rattle.ados_model.specs.Tree.{Tree}
-use Rattle.ados_model.specs.Edits.{disk_renamed}
-use Rattle.ados_model.specs.declared.dos_error.DosError.TheVariants.{DeviceNotMounted, InvalidComponentName}
-use Rattle.ados_model.specs.declared.packet.Packet.TheVariants.{RenameDisk}
-use Rattle.ados_model.specs.declared.answer.Body.TheVariants.{Empty}
-use Rattle.ados_model.specs.Session.{Session}
-use Rattle.ados_model.specs.Refusals.{first_refusal, is_name, refusal, refuse}
 use Rattle.ados_handler.proofs.Meant.{IsEdit}
-use Rattle.ados_volume.proofs.Refusing.{is_named}
 
 pub rename_disk_edits : (t : Tree) (s : Session) (name : List ℕ) (now : Date3) → s.died ≡ false → IsName name → IsEdit t (disk_renamed now name t) s (RenameDisk name) now
 rename_disk_edits t s name now alive is = record {

@@ -1,24 +1,6 @@
 -- A file emptied for a handle.
 use Rattle.std.proofs.Common.{◌≡◌, ◌≢◌, ℕ, Bool, true, false, not, List, [], ◌∷◌, Some, None, is_some, refl, ap, ◌∙◌, subst}
-use Rattle.std.specs.Ordering.{nat_cmp}
-use Rattle.std.specs.FinMap.{FinMap}
-use Rattle.ados_name.specs.declared.stamp.Date3.{Date3}
-use Rattle.ados_name.specs.Name.{denies_delete, denies_write}
-use Rattle.ados_model.specs.Tree.{Tree, Proper}
-use Rattle.ados_model.specs.Stands.{Stands}
-use Rattle.ados_change.specs.NewBlocks.{KeepsRest}
-use Rattle.ados_model.specs.Change.{is_file, rewritten}
-use Rattle.ados_model.specs.Edits.{shortened}
-use Rattle.ados_model.specs.declared.dos_error.DosError.TheVariants.{DeleteProtected, ObjectInUse, ObjectWrongType, WriteProtected}
-use Rattle.ados_model.specs.declared.results.Results.{Results}
-use Rattle.ados_model.specs.declared.holds.HandleHold.{HandleHold}
-use Rattle.ados_model.specs.Session.{Session, is_in_use, HandlerState}
-use Rattle.ados_model.specs.Objects.{protection_of}
-use Rattle.ados_model.specs.Refusals.{first_refusal, refuse}
-use Rattle.ados_model.specs.Success.{GivesHandle}
-use Rattle.ados_handler.specs.ProperSession.{HoldNumber, hold_at, IsProperSession}
-use Rattle.ados_handler.specs.Gives.{IsSoundHandler}
-use Rattle.ados_handler.specs.steps.Opening.{BringsHandle, Opens, empty_refusals}
+use Rattle.ados_handler.proofs.Common.{nat_cmp, FinMap, Date3, denies_delete, denies_write, Tree, Proper, Stands, KeepsRest, is_file, rewritten, shortened, DeleteProtected, ObjectInUse, ObjectWrongType, WriteProtected, Results, HandleHold, Session, is_in_use, HandlerState, protection_of, first_refusal, refuse, GivesHandle, HoldNumber, hold_at, IsProperSession, IsSoundHandler, BringsHandle, Opens, empty_refusals}
 use Rattle.ados_handler.proofs.Holding.{not_held}
 use Rattle.ados_handler.proofs.Carrying.{carried_session}
 use Rattle.ados_handler.proofs.Rewriting.{file_node, rewritten_here, rewritten_is_file, rewritten_other}

@@ -1,30 +1,7 @@
 -- The file of a handle.
 use Rattle.std.proofs.Common.{◌≡◌, ℕ, ◌≤◌, Bool, true, false, not, List, ◌∷◌, Option, Some, None, is_some, option_map, refl, sym, ap, ap₂, ◌∙◌, subst}
-use Rattle.std.specs.Option.{option_map_or}
-use Rattle.std.specs.Prelude.{IfSome}
-use Rattle.std.specs.Ordering.{nat_cmp}
-use Rattle.std.specs.FinMap.{FinMap, get}
-use Rattle.ados_name.specs.declared.stamp.Date3.{Date3}
-use Rattle.ados_model.specs.Tree.{Content, Node, Tree, size_of}
-use Rattle.ados_model.specs.Parts.{size_in}
-use Rattle.ados_model.specs.Tree.Content.{File}
-use Rattle.ados_model.specs.Stands.{Stands}
-use Rattle.ados_model.specs.Change.{is_file}
-use Rattle.ados_model.specs.Keys.{HasFileKey, HasKey}
-use Rattle.ados_model.proofs.OneTree.{one_tree}
-use Rattle.ados_model.proofs.Nodes.{content_in, some_in}
-use Rattle.ados_model.specs.declared.dos_error.DosError.{DosError}
-use Rattle.ados_model.specs.declared.dos_error.DosError.TheVariants.{DeviceNotMounted, InvalidLock}
-use Rattle.ados_model.specs.declared.packet.Packet.{Packet}
-use Rattle.ados_model.specs.declared.results.Results.{Results}
-use Rattle.ados_volume.specs.Shown.{Shown}
-use Rattle.ados_model.specs.Session.{Session, handle_key, handle_position, HandlerState}
-use Rattle.ados_model.specs.Phrases.{is_handle}
-use Rattle.ados_model.specs.declared.holds.HandleHold.{HandleHold}
-use Rattle.ados_handler.specs.Keeps.{HasPathTexts}
-use Rattle.ados_handler.specs.Gives.{IsSoundHandler}
-use Rattle.ados_handler.specs.steps.Methods.{MethodGives, MethodMeans}
-use Rattle.ados_model.specs.Refusals.{first_refusal, refuse}
+use Rattle.std.specs.FinMap.{get}
+use Rattle.ados_handler.proofs.Common.{option_map_or, IfSome, nat_cmp, FinMap, Date3, Content, Node, Tree, size_of, size_in, File, Stands, is_file, HasFileKey, HasKey, one_tree, content_in, some_in, DosError, DeviceNotMounted, InvalidLock, Packet, Results, Shown, Session, handle_key, handle_position, HandlerState, is_handle, HandleHold, HasPathTexts, IsSoundHandler, MethodGives, MethodMeans, first_refusal, refuse}
 use Rattle.ados_handler.proofs.Rewriting.{file_node}
 use Rattle.ados_handler.proofs.ImageKept.{meaning_keeps_proper}
 use Rattle.ados_handler.proofs.Leaving.{leaves_all}

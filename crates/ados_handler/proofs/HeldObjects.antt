@@ -2,9 +2,8 @@
 use Rattle.std.proofs.Common.{◌≡◌, ℕ, Bool, true, false, List, [], ◌∷◌, map, refl, sym, ap, ◌∙◌}
 use Rattle.std.specs.Prelude.{◌||◌}
 use Rattle.std.specs.FinMap as numbered
-use Rattle.std.specs.List.{list_any}
 use Rattle.std.proofs.lemmas.List.Folds.{list_any-append}
-use Rattle.ados_model.specs.Session.{Session, holds}
+use Rattle.ados_handler.proofs.Common.{list_any, Session, holds}
 
 any_map : {X Y : Type 0} (f : X → Y) (passes : Y → Bool) (xs : List X) → list_any passes (map f xs) ≡ list_any (λ x. passes (f x)) xs
 any_map f passes [] = refl

@@ -1,21 +1,9 @@
 -- A new hold, a freed hold and a moved handle keep a session proper.
 use Rattle.std.proofs.Common.{◌≡◌, ◌≢◌, ◌⊎◌, ℕ, ◌≤◌, Bool, true, false, cond, List, [], ◌∷◌, ◌++◌, map, nat_eq, Some, None, refl, sym, ap, ◌∙◌, inl, inr, arith, subst, eq-eqb}
-use Rattle.std.specs.Prelude.{Option, ◌&&◌, ◌||◌, IsSome, is_some}
-use Rattle.std.specs.List.{list_any}
+use Rattle.std.specs.Prelude.{◌&&◌, ◌||◌}
 use Rattle.std.specs.Option.{option_map}
-use Rattle.std.specs.Ordering.{nat_cmp, eq_by_cmp}
-use Rattle.std.specs.Cmp.{nat_cmp_total}
-use Rattle.std.specs.FinMap.{FinMap, get, insert, remove, entries, find, get-entries, get-insert, get-remove}
-use Rattle.std.proofs.lemmas.Option.{none-some, same_Some}
-use Rattle.std.proofs.lemmas.Bool.Decides.{eqb_tells, nat_tests}
-use Rattle.std.proofs.lemmas.Bool.{true≢false, or_parts}
-use Rattle.ados_model.specs.Tree.{Tree, size_of}
-use Rattle.ados_model.specs.Change.{is_file}
-use Rattle.ados_model.specs.Session.{Session, holds, is_held, is_held_exclusively, is_in_use, with_lock, without_lock, with_handle, without_handle}
-use Rattle.ados_model.specs.declared.holds.LockHold.{LockHold}
-use Rattle.ados_model.specs.declared.holds.HandleHold.{HandleHold}
-use Rattle.ados_handler.specs.ProperSession.{HoldNumber, hold_at, IsProperSession}
-use Rattle.ados_handler.specs.ProperSession.HoldNumber.{ByLock, ByHandle}
+use Rattle.std.specs.FinMap.{get, entries}
+use Rattle.ados_handler.proofs.Common.{Option, IsSome, is_some, list_any, nat_cmp, eq_by_cmp, nat_cmp_total, FinMap, insert, remove, find, get-entries, get-insert, get-remove, none-some, same_Some, eqb_tells, nat_tests, true≢false, or_parts, Tree, size_of, is_file, Session, holds, is_held, is_held_exclusively, is_in_use, with_lock, without_lock, with_handle, without_handle, LockHold, HandleHold, HoldNumber, hold_at, IsProperSession, ByLock, ByHandle}
 
 tied : (q k : ℕ) → q ≡ k → eq_by_cmp nat_cmp q k ≡ true
 tied q k e = grind (arith, nat_tests)

@@ -1,7 +1,5 @@
 -- The meaning of packets keeps tree and session proper.
-use Rattle.ados_model.specs.Packet.{dos_true}
-use Rattle.ados_model.specs.declared.packet.Packet.TheVariants.{Die, LocateObject, RenameDisk, FreeLock, DeleteObject, RenameObject, CopyDir, SetProtect, CreateDir, ExamineObject, ExamineNext, DiskInfo, Info, SetComment, Parent, SetDate, SameLock, Read, Write, FindUpdate, FindInput, FindOutput, End, Seek, SetFileSize, Other}
-use Rattle.ados_handler.specs.Keeps.{MeaningKeepsProper}
+use Rattle.ados_handler.proofs.Common.{dos_true, Die, LocateObject, RenameDisk, FreeLock, DeleteObject, RenameObject, CopyDir, SetProtect, CreateDir, ExamineObject, ExamineNext, DiskInfo, Info, SetComment, Parent, SetDate, SameLock, Read, Write, FindUpdate, FindInput, FindOutput, End, Seek, SetFileSize, Other, MeaningKeepsProper}
 use Rattle.ados_handler.proofs.Reading.{by_success, same, die, free_lock, copy, locate, find_input, parent, end, read, seek}
 use Rattle.ados_handler.proofs.Telling.{set_protect_keeps, set_comment_keeps, set_date_keeps, rename_disk_keeps}
 use Rattle.ados_handler.proofs.Rewriting.{write_keeps, set_file_size_keeps}

@@ -1,15 +1,7 @@
 -- What packets leave untouched in the image.
 use Rattle.std.proofs.Common.{◌≡◌, pos, true, inl, inr, sym, ◌∙◌, subst}
-use Rattle.std.proofs.lemmas.Bool.{true≢false}
-use Rattle.ados_model.specs.Tree.{Tree}
-use Rattle.ados_change.specs.NewBlocks.{KeepsRest}
+use Rattle.ados_handler.proofs.Common.{true≢false, Tree, KeepsRest, Packet, Results, sets_disk_date, HandlerState, LeavesImage, answer_to}
 use Rattle.ados_change.proofs.Keeping.{same_keeps}
-use Rattle.ados_model.specs.declared.packet.Packet.{Packet}
-use Rattle.ados_model.specs.declared.results.Results.{Results}
-use Rattle.ados_model.specs.DiskDate.{sets_disk_date}
-use Rattle.ados_model.specs.Session.{HandlerState}
-use Rattle.ados_handler.specs.Gives.{LeavesImage}
-use Rattle.ados_handler.specs.steps.Methods.{answer_to}
 
 module _ (t : Tree) (old : HandlerState) (packet : Packet) (new : HandlerState) (results : Results) where
   -- no byte changes

@@ -1,4 +1,5 @@
 -- Lemmas about the handler: its holds, its look-ups, the meaning of each packet, and proper sessions.
+pub mod Common
 pub mod Holding
 pub mod Walked
 pub mod Reading

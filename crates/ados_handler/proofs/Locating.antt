@@ -1,12 +1,6 @@
 -- One more lock on an object that is not in use.
 use Rattle.std.proofs.Common.{◌≡◌, ℕ, List, Bool, false, sym, subst}
-use Rattle.std.specs.Ordering.{nat_cmp}
-use Rattle.std.specs.FinMap.{FinMap, insert}
-use Rattle.ados_model.specs.Keys.{HasKey}
-use Rattle.ados_model.specs.declared.holds.LockHold.{LockHold}
-use Rattle.ados_model.specs.Session.{Session, is_in_use}
-use Rattle.ados_handler.specs.ProperSession.{IsProperSession}
-use Rattle.ados_handler.specs.Gives.{IsSoundHandler}
+use Rattle.ados_handler.proofs.Common.{nat_cmp, FinMap, insert, HasKey, LockHold, Session, is_in_use, IsProperSession, IsSoundHandler}
 use Rattle.ados_handler.proofs.Holding.{not_in_use, proper_with_lock}
 
 -- the handler is still sound

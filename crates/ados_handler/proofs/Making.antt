@@ -1,35 +1,12 @@
 -- Packets that make an entry, or find the existing file, keep tree and session proper.
 use Rattle.std.proofs.Common.{◌≡◌, ◌≢◌, ℕ, inl, inr, Bool, true, false, cond, nat_lt, ◌==◌, List, [], ◌∷◌, length, Option, Some, None, Result, Ok, Err, IsSome, is_some, option_map, MatchOption, refl, sym, ap, ◌∙◌, subst, arith}
 use Rattle.std.specs.Prelude.{◌||◌}
-use Rattle.std.specs.Result.{result_err}
-use Rattle.std.proofs.lemmas.Bool.{cases_eq, false≢true, true≢false, not-false}
-use Rattle.ados_name.specs.declared.stamp.Date3.{Date3}
-use Rattle.ados_name.specs.Name.{IsName, front, last_name, steps}
-use Rattle.ados_name.specs.Path.{IsPathText}
-use Rattle.ados_model.specs.Tree.{Content, Node, Tree, Proper}
-use Rattle.ados_model.specs.Parts.{IsUnused, size_in}
-use Rattle.ados_model.specs.Tree.Content.{Directory, File}
-use Rattle.ados_model.specs.Change.{child_of, holds_file, is_file, place_in, start_of, walk_steps, listed, made, rewritten, with_node}
-use Rattle.ados_model.specs.Edits.{new_node}
-use Rattle.ados_model.specs.declared.dos_error.WalkFault.{WalkFault}
+use Rattle.ados_handler.proofs.Common.{result_err, cases_eq, false≢true, true≢false, not-false, Date3, IsName, front, last_name, steps, IsPathText, Content, Node, Tree, Proper, IsUnused, size_in, Directory, File, child_of, holds_file, is_file, place_in, start_of, walk_steps, listed, made, rewritten, with_node, new_node, WalkFault, CanMake, IsDirectoryKey, IsEmpty, nodes_here, nodes_other, relisted, DeviceNotMounted, InvalidLock, ObjectExists, ObjectInUse, ObjectWrongType, CreateDir, FindUpdate, FindOutput, Session, is_in_use, is_lock, lock_key, place_error, placed, spot_directory, spot_name, standing, spot, refuse, refusals, is_some_and, is_directory_there, After, GivesHandle, GivesLock, IsNewKey, MakesFile, no_child_new, none_refuses, none_there, not_refused, HoldNumber, hold_at, IsProperSession, KeepsProper, child_is_key}
 use Rattle.ados_model.specs.declared.dos_error.WalkFault.TheVariants.{DirectoryNotFound}
 use Rattle.ados_model.specs.declared.dos_error.PlaceFault.TheVariants as faults
-use Rattle.ados_change.specs.Conditions.{CanMake, IsDirectoryKey, IsEmpty}
-use Rattle.ados_change.proofs.Changed.{nodes_here, nodes_other, relisted}
 use Rattle.ados_change.proofs.ProperChanges.{directory_at, dir_not_key, made_is_proper}
-use Rattle.ados_model.specs.declared.dos_error.DosError.TheVariants.{DeviceNotMounted, InvalidLock, ObjectExists, ObjectInUse, ObjectWrongType}
-use Rattle.ados_model.specs.declared.packet.Packet.TheVariants.{CreateDir, FindUpdate, FindOutput}
-use Rattle.ados_model.specs.Session.{Session, is_in_use, is_lock}
-use Rattle.ados_model.specs.Objects.{lock_key, place_error, placed, spot_directory, spot_name, standing}
-use Rattle.ados_model.specs.Phrases.{spot}
-use Rattle.ados_model.specs.Refusals.{refuse, refusals, is_some_and, is_directory_there}
-use Rattle.ados_model.specs.Success.{After, GivesHandle, GivesLock, IsNewKey, MakesFile}
-use Rattle.ados_volume.proofs.Refusing.{no_child_new, none_refuses, none_there, not_refused}
-use Rattle.ados_handler.specs.ProperSession.{HoldNumber, hold_at, IsProperSession}
-use Rattle.ados_handler.specs.Keeps.{KeepsProper}
 use Rattle.ados_handler.proofs.Holding.{IsFree, not_in_use, not_held, proper_with_handle, proper_with_lock}
 use Rattle.ados_handler.proofs.Walked.{no_error, start_is_key, walk_key}
-use Rattle.ados_volume.proofs.Walking.{child_is_key}
 use Rattle.ados_handler.proofs.Reading.{IsProperAfter, same_after, by_success}
 use Rattle.ados_handler.proofs.Carrying.{Carried, carried_beside, carried_changed, carried_new, carried_on, carried_session}
 use Rattle.ados_handler.proofs.Named.{last_is_name}

@@ -1,26 +1,6 @@
 -- CREATE_DIR.
 use Rattle.std.proofs.Common.{◌≡◌, ℕ, pos, true, false, List, [], ◌∷◌, Option, None, Ok, refl, sym, ap, ◌∙◌}
-use Rattle.std.specs.Prelude.{is_some}
-use Rattle.ados_name.specs.declared.stamp.Date3.{Date3}
-use Rattle.ados_model.specs.Tree.{Tree, Proper}
-use Rattle.ados_model.specs.Tree.Content.{Directory}
-use Rattle.ados_model.specs.Stands.{Stands}
-use Rattle.ados_model.specs.Change.{child_of, made}
-use Rattle.ados_change.specs.Conditions.{CanMake}
-use Rattle.ados_model.specs.declared.dos_error.DosError.{DosError}
-use Rattle.ados_model.specs.declared.dos_error.DosError.TheVariants.{DeviceNotMounted, DiskFull, ObjectExists}
-use Rattle.ados_model.specs.declared.packet.Packet.TheVariants.{CreateDir}
-use Rattle.ados_model.specs.declared.answer.Body.TheVariants.{Empty}
-use Rattle.ados_model.specs.Session.{Session, IsFreeNumber, with_lock}
-use Rattle.ados_volume.proofs.Refusing.{passed}
-use Rattle.ados_handler.specs.ProperSession.{IsProperSession}
-use Rattle.ados_model.specs.Phrases.{spot}
-use Rattle.ados_model.specs.Reads.{lacks}
-use Rattle.ados_model.specs.Resolved.{placed_at}
-use Rattle.ados_model.specs.Refusals.{first_refusal, refusal, refusals, refuse}
-use Rattle.ados_model.specs.Success.{GivesLock, IsNewKey, after}
-use Rattle.ados_handler.specs.Gives.{IsSoundHandler}
-use Rattle.ados_handler.specs.steps.Methods.{MethodMeans}
+use Rattle.ados_handler.proofs.Common.{is_some, Date3, Tree, Proper, Directory, Stands, child_of, made, CanMake, DosError, DeviceNotMounted, DiskFull, ObjectExists, CreateDir, Empty, Session, IsFreeNumber, with_lock, passed, IsProperSession, spot, lacks, placed_at, first_refusal, refusal, refusals, refuse, GivesLock, IsNewKey, after, IsSoundHandler, MethodMeans}
 use Rattle.ados_handler.proofs.Making.{made_lock}
 use Rattle.ados_handler.proofs.Meant.{counted, served_means}
 use Rattle.ados_handler.proofs.Placed.{placed_on}

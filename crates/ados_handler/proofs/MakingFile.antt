@@ -1,25 +1,7 @@
 -- A file made for a handle, if a block is free.
 use Rattle.std.proofs.Common.{◌≡◌, ℕ, Bool, false, List, [], ◌∷◌, refl, ap, subst}
-use Rattle.std.specs.Ordering.{nat_cmp}
-use Rattle.std.specs.FinMap.{FinMap}
+use Rattle.ados_handler.proofs.Common.{nat_cmp, FinMap, Date3, made, KeepsRest, Stands, Tree, File, CanMake, DiskFull, Results, HandleHold, Session, HandlerState, lacks, first_refusal, refuse, MakesFile, new_key, IsSoundHandler, BringsHandle, Opens, make_refusals}
 use Rattle.ados_map.specs.Pages.{IsLowestFree}
-use Rattle.ados_name.specs.declared.stamp.Date3.{Date3}
-use Rattle.ados_model.specs.Change.{made}
-use Rattle.ados_change.specs.NewBlocks.{KeepsRest}
-use Rattle.ados_model.specs.Stands.{Stands}
-use Rattle.ados_model.specs.Tree.{Tree}
-use Rattle.ados_model.specs.Tree.Content.{File}
-use Rattle.ados_change.specs.Conditions.{CanMake}
-use Rattle.ados_model.specs.declared.dos_error.DosError.TheVariants.{DiskFull}
-use Rattle.ados_model.specs.declared.results.Results.{Results}
-use Rattle.ados_model.specs.declared.holds.HandleHold.{HandleHold}
-use Rattle.ados_model.specs.Session.{Session, HandlerState}
-use Rattle.ados_model.specs.Reads.{lacks}
-use Rattle.ados_model.specs.Refusals.{first_refusal, refuse}
-use Rattle.ados_model.specs.Success.{MakesFile}
-use Rattle.ados_volume.proofs.FreeBlock.{new_key}
-use Rattle.ados_handler.specs.Gives.{IsSoundHandler}
-use Rattle.ados_handler.specs.steps.Opening.{BringsHandle, Opens, make_refusals}
 use Rattle.ados_handler.proofs.Making.{made_handle}
 use Rattle.ados_handler.proofs.Opening.{done_opens, gives_handle}
 

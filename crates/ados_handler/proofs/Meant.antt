@@ -1,38 +1,7 @@
 -- The meaning of a packet if none of its refusals holds, and soundness of the handler after it.
 use Rattle.std.proofs.Common.{◌≡◌, ◌≢◌, ℕ, pos, Bool, true, false, cond, not, ◌==◌, List, [], ◌∷◌, Option, Some, None, Result, Ok, Err, MatchOption, option_map, inl, inr, refl, sym, ap, ◌∙◌, subst}
-use Rattle.std.specs.Result.{result_err, result_unwrap_or}
-use Rattle.std.specs.Prelude.{IsTrue, length}
-use Rattle.std.proofs.lemmas.Bool.{le-leb, ne_eqb}
-use Rattle.ados_name.specs.declared.stamp.Date3.{Date3}
-use Rattle.ados_name.specs.Name.{IsComment}
-use Rattle.ados_model.specs.Tree.{Tree, root}
-use Rattle.ados_model.specs.Edits.{with_comment, with_date, with_protection}
-use Rattle.ados_model.specs.declared.dos_error.WalkFault.{WalkFault}
-use Rattle.ados_model.proofs.OneTree.{one_tree}
-use Rattle.ados_model.specs.declared.dos_error.DosError.{DosError}
-use Rattle.ados_model.specs.declared.dos_error.DosError.TheVariants.{CommentTooBig, DeviceNotMounted, InvalidLock, NoFreeStore, ObjectWrongType}
-use Rattle.ados_model.specs.Packet.{dos_true, error_number, failure_of, handed_back}
-use Rattle.ados_model.specs.declared.packet.Packet.{Packet}
-use Rattle.ados_model.specs.declared.packet.Packet.TheVariants.{SetComment, SetDate, SetProtect}
-use Rattle.ados_model.specs.declared.results.Results.{Results}
-use Rattle.ados_model.specs.declared.answer.Body.{Body}
-use Rattle.ados_model.specs.declared.answer.Body.TheVariants.{Empty}
-use Rattle.ados_model.specs.Session.{Session, is_lock, HandlerState}
-use Rattle.ados_model.specs.Objects.{found, object, walk_error}
-use Rattle.ados_model.specs.Resolved.{walk_result, walked}
-use Rattle.ados_model.specs.Refusals.{first_refusal, refusal, refusals, refuse}
-use Rattle.ados_model.specs.Phrases.{is_comment, ServedOrNoMemory}
-use Rattle.ados_model.specs.Success.{Success, after}
-use Rattle.ados_model.specs.DiskDate.{sets_disk_date}
-use Rattle.ados_model.specs.Stands.{Stands}
+use Rattle.ados_handler.proofs.Common.{result_err, result_unwrap_or, IsTrue, length, le-leb, ne_eqb, Date3, IsComment, Tree, root, with_comment, with_date, with_protection, WalkFault, one_tree, DosError, CommentTooBig, DeviceNotMounted, InvalidLock, NoFreeStore, ObjectWrongType, dos_true, error_number, failure_of, handed_back, Packet, SetComment, SetDate, SetProtect, Results, Body, Empty, Session, is_lock, HandlerState, found, object, walk_error, walk_result, walked, first_refusal, refusal, refusals, refuse, is_comment, ServedOrNoMemory, Success, after, sets_disk_date, Stands, IsRefused, IsServed, makes_hold, IsProperSession, KeepsProper, KeepsRest, Shown, HandlerGives, IsSoundHandler, MethodGives, MethodMeans, answer_to}
 use Rattle.ados_model.specs.declared.answer.Answer.{Answer}
-use Rattle.ados_model.specs.Meaning.{IsRefused, IsServed, makes_hold}
-use Rattle.ados_handler.specs.ProperSession.{IsProperSession}
-use Rattle.ados_handler.specs.Keeps.{KeepsProper}
-use Rattle.ados_change.specs.NewBlocks.{KeepsRest}
-use Rattle.ados_volume.specs.Shown.{Shown}
-use Rattle.ados_handler.specs.Gives.{HandlerGives, IsSoundHandler}
-use Rattle.ados_handler.specs.steps.Methods.{MethodGives, MethodMeans, answer_to}
 use Rattle.ados_handler.proofs.Leaving.{leaves_all, leaves_rest}
 
 -- the results of success, and of success with a number

@@ -1,12 +1,9 @@
 -- A handle of the table gets another position.
 use Rattle.std.proofs.Common.{◌≡◌, ◌≢◌, ℕ, ◌+◌, ◌-◌, Option, Some, None, is_some, sym, ap, ◌∙◌, arith}
-use Rattle.std.specs.Option.{option_map_or}
-use Rattle.std.specs.Ordering.{nat_cmp}
 use Rattle.std.specs.FinMap as numbered
-use Rattle.slab.specs.Slab.{Slab, get, with_value}
+use Rattle.ados_handler.proofs.Common.{option_map_or, nat_cmp, Slab, with_value, HandleHold, numbered_from_one}
+use Rattle.slab.specs.Slab.{get}
 use Rattle.slab.proofs.SlabLemmas.{Updates-with_value}
-use Rattle.ados_model.specs.declared.holds.HandleHold.{HandleHold}
-use Rattle.ados_handler.specs.steps.Table.{numbered_from_one}
 use Rattle.ados_handler.proofs.Tables.{get_suc, update_inserts}
 
 -- the handles with the one under this number, if any, moved to this position

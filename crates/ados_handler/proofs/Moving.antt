@@ -1,25 +1,7 @@
 -- RENAME_OBJECT: the refusals in the order of the code, and its meaning if none holds.
 use Rattle.std.proofs.Common.{◌≡◌, ℕ, Bool, true, false, cond, not, List, [], ◌∷◌, Some, None, Result, Ok, Err, option_map, sym, ap, ◌∙◌}
 use Rattle.std.specs.Prelude.{◌&&◌}
-use Rattle.std.specs.Result.{result_err, result_unwrap_or}
-use Rattle.ados_name.specs.declared.stamp.Date3.{Date3}
-use Rattle.ados_model.specs.Tree.{Tree}
-use Rattle.ados_model.specs.Change.{renamed}
-use Rattle.ados_model.specs.declared.dos_error.WalkFault.{WalkFault}
-use Rattle.ados_model.specs.declared.dos_error.PlaceFault.{PlaceFault}
-use Rattle.ados_model.specs.declared.dos_error.DosError.{DosError}
-use Rattle.ados_model.specs.declared.dos_error.DosError.TheVariants.{DeviceNotMounted, InvalidLock}
-use Rattle.ados_model.specs.Packet.{dos_true}
-use Rattle.ados_model.specs.declared.packet.Packet.{Packet}
-use Rattle.ados_model.specs.declared.packet.Packet.TheVariants.{RenameObject}
-use Rattle.ados_model.specs.declared.answer.Body.TheVariants.{Empty}
-use Rattle.ados_model.specs.Session.{Session, is_lock}
-use Rattle.ados_model.specs.Objects.{found, object, place_error, placed, walk_error}
-use Rattle.ados_model.specs.Phrases.{spot}
-use Rattle.ados_model.specs.Resolved.{place_result, walk_result}
-use Rattle.ados_model.specs.Refusals.{first_refusal, refusal, refusals, refuse}
-use Rattle.ados_handler.specs.steps.Moves.{both, move_refusal, move_refusals, source_and_place}
-use Rattle.ados_model.specs.Success.{after}
+use Rattle.ados_handler.proofs.Common.{result_err, result_unwrap_or, Date3, Tree, renamed, WalkFault, PlaceFault, DosError, DeviceNotMounted, InvalidLock, dos_true, Packet, RenameObject, Empty, Session, is_lock, found, object, place_error, placed, walk_error, spot, place_result, walk_result, first_refusal, refusal, refusals, refuse, both, move_refusal, move_refusals, source_and_place, after}
 use Rattle.ados_handler.proofs.Meant.{IsEdit}
 
 module _ (t : Tree) (s : Session) (from_lock : ℕ) (from : List ℕ) (to_lock : ℕ) (to : List ℕ) (alive : s.died ≡ false) where

@@ -1,16 +1,11 @@
 -- The texts of packets that are names or comments.
 use Rattle.std.proofs.Common.{◌≡◌, ◌≢◌, ℕ, zero, suc, ◌+◌, ◌-◌, ◌<◌, ◌≤◌, ◌==◌, Bool, true, false, nat_lt, not, List, length, drop, get_or, All, refl, sym, ap, subst, ◌∙◌, arith, get_or-drop, length-drop, ltb-false}
 use Rattle.std.specs.Prelude.{◌||◌}
-use Rattle.std.specs.List.{list_any, suffix_len}
 use Rattle.std.proofs.lemmas.List.Folds.{list_any_none, list_any_at}
 use Rattle.std.proofs.lemmas.List.Elements.{All-drop, All-from_get_or, All-get_or}
 use Rattle.std.proofs.lemmas.List.Sums.{suffix_len_is}
 use Rattle.std.proofs.Common.{◌⊎◌, inl, inr}
-use Rattle.std.proofs.lemmas.Bool.{cases_eq, eq-eqb, false_from_ne_true, true≢false, leb-true, not-true}
-use Rattle.ados_name.specs.Name.{is_separator, IsComment, IsName, IsNameByte, last_name}
-use Rattle.ados_name.specs.Path.{IsPathText}
-use Rattle.ados_model.specs.Refusals.{is_name}
-use Rattle.ados_model.specs.Phrases.{is_comment}
+use Rattle.ados_handler.proofs.Common.{list_any, suffix_len, cases_eq, eq-eqb, false_from_ne_true, true≢false, leb-true, not-true, is_separator, IsComment, IsName, IsNameByte, last_name, IsPathText, is_name, is_comment}
 use Rattle.ados_name.proofs.NameLemmas.{name_byte}
 
 -- 1 to 30 bytes without a separator are a name

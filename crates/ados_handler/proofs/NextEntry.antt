@@ -1,26 +1,14 @@
 -- EXAMINE_NEXT.
 use Rattle.std.proofs.Common.{◌≡◌, ℕ, Bool, true, false, cond, not, ◌==◌, [], ◌∷◌, Option, Some, None, refl, sym, ap, ◌∙◌, subst}
-use Rattle.std.specs.Prelude.{◌||◌, is_none, is_some, option_map}
-use Rattle.std.specs.Option.{option_map_or}
+use Rattle.std.specs.Prelude.{◌||◌, option_map}
 use Rattle.std.specs.FinMap.{get}
-use Rattle.std.proofs.lemmas.Option.{none-some}
-use Rattle.ados_name.specs.declared.stamp.Date3.{Date3}
+use Rattle.ados_handler.proofs.Common.{is_none, is_some, option_map_or, none-some, Date3, Node, Tree, root, is_file, entries_after, file_info, lock_key, DeviceNotMounted, InvalidLock, NoMoreEntries, ObjectWrongType, ExamineNext, Results, LockHold, Session, is_lock, lock_object, first_refusal, is_empty, is_some_and, refusal, refuse, MethodMeans}
 use Rattle.ados_chain.specs.Look.{first_left}
 use Rattle.ados_chain.specs.declared.read.Next.TheVariants.{Entry}
 use Rattle.ados_chain.proofs.Order.{first-entry}
-use Rattle.ados_model.specs.Tree.{Node, Tree, root}
-use Rattle.ados_model.specs.Change.{is_file, entries_after}
-use Rattle.ados_model.specs.Objects.{file_info, lock_key}
-use Rattle.ados_model.specs.declared.dos_error.DosError.TheVariants.{DeviceNotMounted, InvalidLock, NoMoreEntries, ObjectNotFound, ObjectWrongType}
+use Rattle.ados_model.specs.declared.dos_error.DosError.TheVariants.{ObjectNotFound}
 use Rattle.ados_model.specs.declared.answer.FileInfo.{FileInfo}
-use Rattle.ados_model.specs.declared.packet.Packet.TheVariants.{ExamineNext}
-use Rattle.ados_model.specs.declared.results.Results.{Results}
 use Rattle.ados_model.specs.declared.answer.Body.TheVariants as body
-use Rattle.ados_model.specs.declared.holds.LockHold.{LockHold}
-use Rattle.ados_model.specs.Session.{Session, is_lock}
-use Rattle.ados_model.specs.Resolved.{lock_object}
-use Rattle.ados_model.specs.Refusals.{first_refusal, is_empty, is_some_and, refusal, refuse}
-use Rattle.ados_handler.specs.steps.Methods.{MethodMeans}
 use Rattle.ados_handler.proofs.Meant.{done, served_means}
 
 -- a lock with an object is held, and is on that object

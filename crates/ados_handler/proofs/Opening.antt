@@ -1,31 +1,6 @@
 -- The results of a packet that opens a file; and FINDINPUT.
 use Rattle.std.proofs.Common.{◌≡◌, ℕ, pos, Bool, true, false, List, ◌∷◌, Option, Some, None, IsSome, Ok, MatchOption, ◌⊎◌, inl, inr, refl, sym, ap, ◌∙◌, subst}
-use Rattle.std.specs.Prelude.{IsTrue}
-use Rattle.std.specs.Ordering.{nat_cmp}
-use Rattle.std.specs.FinMap.{FinMap, insert}
-use Rattle.ados_name.specs.declared.stamp.Date3.{Date3}
-use Rattle.ados_model.specs.Tree.{Tree}
-use Rattle.ados_model.specs.Stands.{Stands}
-use Rattle.ados_model.specs.Change.{is_file}
-use Rattle.ados_model.specs.declared.dos_error.DosError.{DosError}
-use Rattle.ados_model.specs.declared.dos_error.DosError.TheVariants.{DeviceNotMounted, NoFreeStore}
-use Rattle.ados_model.specs.Packet.{error_number, dos_false, failure_of, handed_back}
-use Rattle.ados_model.specs.declared.packet.Packet.{Packet}
-use Rattle.ados_model.specs.declared.packet.Packet.TheVariants.{FindInput}
-use Rattle.ados_model.specs.declared.results.Results.{Results}
-use Rattle.ados_model.specs.declared.answer.Body.TheVariants.{Empty}
-use Rattle.ados_model.specs.declared.holds.HandleHold.{HandleHold}
-use Rattle.ados_model.specs.Session.{Session, IsFreeNumber, is_in_use, HandlerState}
-use Rattle.ados_model.specs.Objects.{object}
-use Rattle.ados_model.specs.Resolved.{walked}
-use Rattle.ados_model.specs.Refusals.{first_refusal, refusal, refuse, refusals}
-use Rattle.ados_model.specs.Success.{After, after, GivesHandle, Success}
-use Rattle.ados_model.specs.Meaning.{IsRefused, makes_hold}
-use Rattle.ados_model.specs.Phrases.{ServedOrNoMemory}
-use Rattle.ados_model.specs.DiskDate.{sets_disk_date}
-use Rattle.ados_handler.specs.ProperSession.{IsProperSession}
-use Rattle.ados_handler.specs.steps.Methods.{MethodGives, MethodMeans, answer_to}
-use Rattle.ados_handler.specs.steps.Opening.{BringsHandle, IsOpened, IsUnopened, Opens, open_refusals}
+use Rattle.ados_handler.proofs.Common.{IsTrue, nat_cmp, FinMap, insert, Date3, Tree, Stands, is_file, DosError, DeviceNotMounted, NoFreeStore, error_number, dos_false, failure_of, handed_back, Packet, FindInput, Results, Empty, HandleHold, Session, IsFreeNumber, is_in_use, HandlerState, object, walked, first_refusal, refusal, refuse, refusals, After, after, GivesHandle, Success, IsRefused, makes_hold, ServedOrNoMemory, sets_disk_date, IsProperSession, MethodGives, MethodMeans, answer_to, BringsHandle, IsOpened, IsUnopened, Opens, open_refusals}
 use Rattle.ados_handler.proofs.Holding.{not_in_use, proper_with_handle}
 use Rattle.ados_handler.proofs.Meant.{walked_on, meaning_by, stays_gives}
 

@@ -1,16 +1,6 @@
 -- The places of packets.
 use Rattle.std.proofs.Common.{◌≡◌, ℕ, Bool, true, false, cond, not, List, [], ◌∷◌, Option, Some, Result, Ok, Err, option_map, refl, ap, ◌∙◌}
-use Rattle.std.specs.Result.{result_err, result_unwrap_or}
-use Rattle.ados_model.specs.Tree.{Tree}
-use Rattle.ados_model.specs.declared.dos_error.PlaceFault.{PlaceFault}
-use Rattle.ados_model.specs.declared.dos_error.DosError.{DosError}
-use Rattle.ados_model.specs.declared.dos_error.DosError.TheVariants.{DeviceNotMounted, InvalidLock}
-use Rattle.ados_model.specs.declared.packet.Packet.{Packet}
-use Rattle.ados_model.specs.Session.{Session, is_lock}
-use Rattle.ados_model.specs.Objects.{place_error, placed}
-use Rattle.ados_model.specs.Phrases.{spot}
-use Rattle.ados_model.specs.Resolved.{place_result, placed_at}
-use Rattle.ados_model.specs.Refusals.{first_refusal, refusal, refusals, refuse}
+use Rattle.ados_handler.proofs.Common.{result_err, result_unwrap_or, Tree, PlaceFault, DosError, DeviceNotMounted, InvalidLock, Packet, Session, is_lock, place_error, placed, spot, place_result, placed_at, first_refusal, refusal, refusals, refuse}
 
 -- a path with a place is not refused
 pub placed_on : (t : Tree) (s : Session) (lock : ℕ) (path : List ℕ) (there : ℕ × List ℕ) (more : List (Option DosError)) → placed_at t s lock path ≡ Ok there

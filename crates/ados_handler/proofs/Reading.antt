@@ -1,37 +1,11 @@
 -- Packets that change no tree keep tree and session proper.
 use Rattle.std.proofs.Common.{◌≡◌, ℕ, ◌+◌, ◌≤◌, ℤ, pos, negsuc, Bool, true, false, cond, not, List, ◌∷◌, length, take, drop, nat_eq, Some, None, refl, sym, ap, inl, inr, arith, subst, MatchOption, length-take, length-drop}
-use Rattle.std.specs.Prelude.{Option, ◌||◌, is_some, IsSome, int_le, option_map}
+use Rattle.std.specs.Prelude.{◌||◌, option_map}
 use Rattle.std.specs.Bool.{MatchBool}
-use Rattle.std.specs.Option.{option_map_or}
-use Rattle.std.specs.FinMap.{get, insert}
-use Rattle.std.proofs.lemmas.Bool.{leb-true, true≢false, not-false, and_parts}
-use Rattle.ados_name.specs.declared.stamp.Date3.{Date3}
-use Rattle.ados_model.specs.Tree.{Content, Tree, Proper, root, bytes_in, bytes_of, content_at, parent_of, size_of}
-use Rattle.ados_model.specs.Parts.{size_in}
-use Rattle.ados_model.specs.Tree.Content.{Directory, File}
-use Rattle.ados_model.specs.Change.{is_file}
-use Rattle.ados_model.specs.declared.dos_error.DosError.{DosError}
-use Rattle.ados_model.specs.declared.dos_error.DosError.TheVariants.{DeviceNotMounted, InvalidLock, NoFreeStore, ObjectInUse, ObjectWrongType, SeekError}
-use Rattle.ados_model.specs.declared.packet.Packet.{Packet}
-use Rattle.ados_model.specs.declared.packet.Packet.TheVariants.{Die, LocateObject, FreeLock, CopyDir, Parent, Read, FindInput, End, Seek}
-use Rattle.ados_model.specs.declared.answer.Body.{Body}
-use Rattle.ados_model.specs.declared.answer.Body.TheVariants.{Empty}
-use Rattle.ados_model.specs.Session.{Session, is_lock, is_held_exclusively, without_lock, at_position, handle_key, handle_position}
-use Rattle.ados_model.specs.declared.holds.LockHold.{LockHold}
-use Rattle.ados_model.specs.declared.holds.HandleHold.{HandleHold}
-use Rattle.ados_model.specs.Objects.{walk_error, lock_key, found, object, is_exclusive_mode, is_bad_target, target_number}
-use Rattle.ados_model.specs.Reads.{seek_target}
-use Rattle.ados_model.specs.Refusals.{refuse, refusal, refusals, is_some_and}
-use Rattle.ados_model.specs.Success.{After, after, Success, GivesLock, GivesHandle}
-use Rattle.ados_model.specs.Meaning.{IsRefused}
-use Rattle.ados_model.specs.Phrases.{ServedOrNoMemory}
-use Rattle.ados_volume.proofs.Refusing.{none_refuses, not_refused}
-use Rattle.ados_handler.specs.ProperSession.{HoldNumber, hold_at, IsProperSession}
-use Rattle.ados_handler.specs.ProperSession.HoldNumber.{ByLock, ByHandle}
-use Rattle.ados_handler.specs.Keeps.{KeepsProper}
+use Rattle.std.specs.FinMap.{get}
+use Rattle.ados_handler.proofs.Common.{Option, is_some, IsSome, int_le, option_map_or, insert, leb-true, true≢false, not-false, and_parts, Date3, Content, Tree, Proper, root, bytes_in, bytes_of, content_at, parent_of, size_of, size_in, Directory, File, is_file, DosError, DeviceNotMounted, InvalidLock, NoFreeStore, ObjectInUse, ObjectWrongType, SeekError, Packet, Die, LocateObject, FreeLock, CopyDir, Parent, Read, FindInput, End, Seek, Body, Empty, Session, is_lock, is_held_exclusively, without_lock, at_position, handle_key, handle_position, LockHold, HandleHold, walk_error, lock_key, found, object, is_exclusive_mode, is_bad_target, target_number, seek_target, refuse, refusal, refusals, is_some_and, After, after, Success, GivesLock, GivesHandle, IsRefused, ServedOrNoMemory, none_refuses, not_refused, HoldNumber, hold_at, IsProperSession, ByLock, ByHandle, KeepsProper, parent_is_key}
 use Rattle.ados_handler.proofs.Holding.{proper_with_lock, proper_with_handle, proper_without_lock, proper_without_handle, proper_moved, shared_free, IsFree, not_in_use}
 use Rattle.ados_handler.proofs.Walked.{found_is_key, no_error}
-use Rattle.ados_volume.proofs.Walking.{parent_is_key}
 
 -- the number of a file's bytes is its size
 pub size_is : (c : Option Content) → length (bytes_in c) ≡ size_in c

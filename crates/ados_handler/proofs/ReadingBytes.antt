@@ -1,24 +1,7 @@
 -- The meaning of READ if it is not refused.
 use Rattle.std.proofs.Common.{◌≡◌, ℕ, ◌+◌, ◌-◌, ◌≤◌, min, pos, Bool, false, List, [], ◌∷◌, ◌++◌, length, take, drop, Some, None, refl, sym, ap, ap₂, ◌∙◌, subst, arith, length-append, length-take, length-drop}
-use Rattle.std.specs.Ordering.{nat_cmp}
-use Rattle.std.specs.FinMap.{FinMap, get}
-use Rattle.std.proofs.lemmas.List.{take_min}
-use Rattle.ados_name.specs.declared.stamp.Date3.{Date3}
-use Rattle.ados_name.specs.Name.{denies_read}
-use Rattle.ados_model.specs.Tree.{Tree, bytes_of, content_at, size_of}
-use Rattle.ados_model.specs.Stands.{Stands}
-use Rattle.ados_model.specs.declared.dos_error.DosError.TheVariants.{ReadProtected}
-use Rattle.ados_model.specs.declared.packet.Packet.TheVariants.{Read}
-use Rattle.ados_model.specs.declared.results.Results.{Results}
-use Rattle.ados_model.specs.declared.answer.Body.TheVariants.{Buffer}
-use Rattle.ados_volume.specs.Shown.{Shown}
-use Rattle.ados_model.specs.Session.{Session, at_position, handle_key, HandlerState}
-use Rattle.ados_model.specs.declared.holds.HandleHold.{HandleHold}
-use Rattle.ados_model.specs.Objects.{protection_of}
-use Rattle.ados_model.specs.Reads.{bytes_read}
-use Rattle.ados_model.specs.Refusals.{first_refusal, refuse, refusal}
-use Rattle.ados_model.specs.Success.{after}
-use Rattle.ados_handler.specs.steps.Methods.{MethodGives, MethodMeans}
+use Rattle.std.specs.FinMap.{get}
+use Rattle.ados_handler.proofs.Common.{nat_cmp, FinMap, take_min, Date3, denies_read, Tree, bytes_of, content_at, size_of, Stands, ReadProtected, Read, Results, Buffer, Shown, Session, at_position, handle_key, HandlerState, HandleHold, protection_of, bytes_read, first_refusal, refuse, refusal, after, MethodGives, MethodMeans}
 use Rattle.ados_handler.proofs.HandleFiles.{key_is, position_is, opened_on, gives_moved}
 use Rattle.ados_handler.proofs.Reading.{size_is}
 use Rattle.ados_handler.proofs.Sizes.{size_small}

@@ -1,21 +1,9 @@
 -- Examples of refusals, computed from the definitions.
-use Rattle.std.specs.Prelude.{◌≡◌, ℕ, ◌==◌, if◌then◌else◌, List, [], ◌∷◌, pos, negsuc, codes, refl, replicate, Option, Some, None, true, ◌++◌, map}
+use Rattle.std.specs.Prelude.{◌≡◌, ◌==◌, if◌then◌else◌, ◌∷◌, ◌++◌}
 use Rattle.std.proofs.Common.{ap₂, sym, ◌∙◌}
-use Rattle.std.specs.Ordering.{nat_cmp}
 use Rattle.std.specs.FinMap as numbered
-use Rattle.std.proofs.lemmas.List.{nil_from_length}
-use Rattle.adf_block.specs.declared.layout.Format.TheVariants.{Ffs}
-use Rattle.ados_name.specs.Name.{steps, steps_along, last_name, front}
-use Rattle.ados_model.specs.Tree.{Content, Node, Tree}
-use Rattle.ados_model.specs.Tree.Content.{Directory, File}
-use Rattle.ados_model.specs.declared.dos_error.DosError.{DosError}
-use Rattle.ados_model.specs.declared.dos_error.DosError.TheVariants.{ActionNotKnown, CommentTooBig, DeleteProtected, DeviceNotMounted, DirectoryNotFound, InvalidComponentName, NoMoreEntries, ObjectExists, ObjectInUse, ObjectNotFound, ObjectWrongType}
-use Rattle.ados_model.specs.declared.packet.Packet.{Packet}
-use Rattle.ados_model.specs.declared.packet.Packet.TheVariants.{LocateObject, RenameDisk, DeleteObject, RenameObject, CreateDir, SetComment, ExamineNext, FindInput, FindOutput, Other}
-use Rattle.ados_model.specs.Session.{holds, opening_session}
-use Rattle.ados_model.specs.declared.holds.LockHold.{LockHold}
-use Rattle.ados_model.specs.declared.holds.HandleHold.{HandleHold}
-use Rattle.ados_model.specs.Refusals.{refusal}
+use Rattle.ados_handler.proofs.Common.{ℕ, List, [], pos, negsuc, codes, refl, replicate, Option, Some, None, true, map, nat_cmp, nil_from_length, Ffs, steps, steps_along, last_name, front, Content, Node, Tree, Directory, File, DosError, ActionNotKnown, CommentTooBig, DeleteProtected, DeviceNotMounted, InvalidComponentName, NoMoreEntries, ObjectExists, ObjectInUse, ObjectWrongType, Packet, LocateObject, RenameDisk, DeleteObject, RenameObject, CreateDir, SetComment, ExamineNext, FindInput, FindOutput, Other, holds, opening_session, LockHold, HandleHold, refusal}
+use Rattle.ados_model.specs.declared.dos_error.DosError.TheVariants.{DirectoryNotFound, ObjectNotFound}
 use Rattle.ados_model.proofs.WorkedWalks.{moment}
 
 abbrev node : List ℕ → Option ℕ → ℕ → Content → Node

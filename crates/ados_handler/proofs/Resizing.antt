@@ -1,36 +1,11 @@
 -- SET_FILE_SIZE.
 use Rattle.std.proofs.Common.{◌≡◌, MutBor, ℕ, ◌+◌, ◌-◌, ◌/◌, ◌<◌, ◌≤◌, ℤ, pos, Bool, true, false, cond, List, [], ◌∷◌, Option, Some, None, Result, Ok, Err, MatchResult, inl, inr, refl, sym, ap, ap₂, ◌∙◌, subst, arith, nat_lt, eq-eqb}
-use Rattle.std.specs.Prelude.{map, option_map}
-use Rattle.std.specs.Ordering.{nat_cmp}
-use Rattle.std.specs.Cmp.{nat_cmp_total}
+use Rattle.std.specs.Prelude.{option_map}
 use Rattle.std.specs.FinMap as numbered
-use Rattle.std.specs.FinMap.{get, find, nat_cmp-IsAntisymmetric, get-from_sorted, get-from_entries, entries-from_sorted, same_map}
-use Rattle.std.proofs.lemmas.Bool.{eqb-true, false_from_ne_true, le-ltb, lt-ltb, ne_eqb, not-false}
-use Rattle.slab.specs.Slab.{Slab, RetainsFrom, entries_from}
+use Rattle.std.specs.FinMap.{get}
+use Rattle.ados_handler.proofs.Common.{map, nat_cmp, nat_cmp_total, find, nat_cmp-IsAntisymmetric, get-from_sorted, get-from_entries, entries-from_sorted, same_map, eqb-true, false_from_ne_true, le-ltb, lt-ltb, ne_eqb, not-false, Slab, RetainsFrom, entries_from, Ofs, Ffs, block_cost, Tree, free, size_of, needs_more, Date3, denies_write, Stands, KeepsRest, grown, shortened, DosError, DiskFull, SeekError, WriteProtected, error_number, dos_true, Packet, SetFileSize, Results, Empty, HandleHold, handle_key, positions_within, HandlerState, numbered_from_one, handle_target, is_bad_target, protection_of, target_number, seek_target, first_refusal, refusal, refuse, after, resized, MethodGives}
 use Rattle.adf_block.specs.declared.layout.Format.{Format}
-use Rattle.adf_block.specs.declared.layout.Format.TheVariants.{Ofs, Ffs}
-use Rattle.ados_model.specs.Tree.{block_cost, Tree, free, size_of, needs_more}
-use Rattle.ados_name.specs.declared.stamp.Date3.{Date3}
-use Rattle.ados_name.specs.Name.{denies_write}
-use Rattle.ados_model.specs.Stands.{Stands}
-use Rattle.ados_change.specs.NewBlocks.{KeepsRest}
-use Rattle.ados_model.specs.Edits.{grown, shortened}
 use Rattle.ados_change.specs.Renewed.{NeedsMore}
-use Rattle.ados_model.specs.declared.dos_error.DosError.{DosError}
-use Rattle.ados_model.specs.declared.dos_error.DosError.TheVariants.{DiskFull, SeekError, WriteProtected}
-use Rattle.ados_model.specs.Packet.{error_number, dos_true}
-use Rattle.ados_model.specs.declared.packet.Packet.{Packet}
-use Rattle.ados_model.specs.declared.packet.Packet.TheVariants.{SetFileSize}
-use Rattle.ados_model.specs.declared.results.Results.{Results}
-use Rattle.ados_model.specs.declared.answer.Body.TheVariants.{Empty}
-use Rattle.ados_model.specs.declared.holds.HandleHold.{HandleHold}
-use Rattle.ados_model.specs.Session.{handle_key, positions_within, HandlerState}
-use Rattle.ados_handler.specs.steps.Table.{numbered_from_one}
-use Rattle.ados_model.specs.Objects.{handle_target, is_bad_target, protection_of, target_number}
-use Rattle.ados_model.specs.Reads.{seek_target}
-use Rattle.ados_model.specs.Refusals.{first_refusal, refusal, refuse}
-use Rattle.ados_model.specs.Success.{after, resized}
-use Rattle.ados_handler.specs.steps.Methods.{MethodGives}
 use Rattle.ados_handler.proofs.Meant.{done, refused_gives, served_means}
 use Rattle.ados_handler.proofs.HandleFiles.{key_is, opened_on, position_is}
 use Rattle.ados_handler.proofs.Tables.{sorted_entries}

@@ -1,36 +1,12 @@
 -- Packets that change the bytes of a file keep tree and session proper.
 use Rattle.std.proofs.Common.{◌≡◌, ◌≢◌, ℕ, ◌+◌, ◌-◌, ◌≤◌, inl, inr, Bool, true, false, cond, nat_eq, nat_lt, List, [], ◌∷◌, ◌++◌, length, take, drop, replicate, map, Option, Some, None, IsSome, is_some, option_map, refl, sym, ap, ◌∙◌, subst, arith, eq-eqb, length-append, length-take, length-drop, ltb-false, ltb-true, eqb-true}
-use Rattle.std.specs.Prelude.{ℤ, ◌&&◌}
-use Rattle.std.specs.Ordering.{nat_cmp, eq_by_cmp}
-use Rattle.std.specs.Cmp.{nat_cmp_total}
-use Rattle.std.specs.Option.{option_map_or}
-use Rattle.std.specs.FinMap.{get, find, entries, get-entries, get-from_entries}
-use Rattle.std.proofs.lemmas.List.{length-replicate}
-use Rattle.std.proofs.lemmas.Bool.{cases_eq, false≢true, true≢false, not-false}
-use Rattle.ados_name.specs.declared.stamp.Date3.{Date3}
-use Rattle.ados_model.specs.Tree.{Content, Node, Tree, Proper, root, bytes_in, bytes_of, size_of}
-use Rattle.ados_model.specs.Parts.{size_in}
-use Rattle.ados_model.specs.Tree.Content.{Directory, File}
-use Rattle.ados_model.specs.Change.{is_file, holds_file, rewritten, written}
-use Rattle.ados_model.specs.Edits.{grown, overlaid, shortened}
-use Rattle.ados_name.specs.Name.{without_archive}
+use Rattle.std.specs.Prelude.{◌&&◌}
+use Rattle.std.specs.FinMap.{get, entries}
+use Rattle.ados_handler.proofs.Common.{ℤ, nat_cmp, eq_by_cmp, nat_cmp_total, option_map_or, find, get-entries, get-from_entries, length-replicate, cases_eq, false≢true, true≢false, not-false, Date3, Content, Node, Tree, Proper, root, bytes_in, bytes_of, size_of, size_in, Directory, File, is_file, holds_file, rewritten, written, grown, overlaid, shortened, without_archive, nodes_other, DeviceNotMounted, InvalidLock, Write, SetFileSize, Session, at_position, handle_key, handle_position, positions_within, is_handle, within, HandleHold, handle_target, target_number, refuse, refusals, After, resized, none_refuses, not_refused, HoldNumber, hold_at, IsProperSession, ByLock, ByHandle, KeepsProper}
 use Rattle.ados_change.proofs.Cases.{changed_node}
 use Rattle.ados_change.specs.Stamps.{touched}
 use Rattle.ados_change.proofs.Contents.{file_not_root, proper_after as refilled_proper}
 use Rattle.ados_change.proofs.Renewed.{is_rewritten}
-use Rattle.ados_change.proofs.Changed.{nodes_other}
-use Rattle.ados_model.specs.declared.dos_error.DosError.TheVariants.{DeviceNotMounted, InvalidLock}
-use Rattle.ados_model.specs.declared.packet.Packet.TheVariants.{Write, SetFileSize}
-use Rattle.ados_model.specs.Session.{Session, at_position, handle_key, handle_position, positions_within}
-use Rattle.ados_model.specs.Phrases.{is_handle, within}
-use Rattle.ados_model.specs.declared.holds.HandleHold.{HandleHold}
-use Rattle.ados_model.specs.Objects.{handle_target, target_number}
-use Rattle.ados_model.specs.Refusals.{refuse, refusals}
-use Rattle.ados_model.specs.Success.{After, resized}
-use Rattle.ados_volume.proofs.Refusing.{none_refuses, not_refused}
-use Rattle.ados_handler.specs.ProperSession.{HoldNumber, hold_at, IsProperSession}
-use Rattle.ados_handler.specs.ProperSession.HoldNumber.{ByLock, ByHandle}
-use Rattle.ados_handler.specs.Keeps.{KeepsProper}
 use Rattle.ados_handler.proofs.Holding.{option_map_some}
 use Rattle.ados_handler.proofs.Reading.{same_after, by_success, moved, size_is}
 use Rattle.ados_handler.proofs.Carrying.{Carried, carried_changed, carried_same, carried_session}

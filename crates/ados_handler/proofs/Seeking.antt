@@ -1,22 +1,7 @@
 -- The meaning of SEEK if it is not refused.
 use Rattle.std.proofs.Common.{◌≡◌, ℕ, ℤ, pos, Bool, false, [], ◌∷◌, Option, Some, None, refl, sym, ap, ap₂, ◌∙◌, subst}
-use Rattle.std.specs.Ordering.{nat_cmp}
-use Rattle.std.specs.FinMap.{FinMap, get}
-use Rattle.ados_name.specs.declared.stamp.Date3.{Date3}
-use Rattle.ados_model.specs.Tree.{Tree, size_of}
-use Rattle.ados_model.specs.Stands.{Stands}
-use Rattle.ados_model.specs.declared.dos_error.DosError.TheVariants.{SeekError}
-use Rattle.ados_model.specs.declared.packet.Packet.{Packet}
-use Rattle.ados_model.specs.declared.packet.Packet.TheVariants.{Seek}
-use Rattle.ados_model.specs.declared.results.Results.{Results}
-use Rattle.ados_model.specs.declared.answer.Body.TheVariants.{Empty}
-use Rattle.ados_model.specs.Session.{Session, at_position, handle_key, HandlerState}
-use Rattle.ados_model.specs.declared.holds.HandleHold.{HandleHold}
-use Rattle.ados_model.specs.Objects.{handle_target, is_bad_target, target_number}
-use Rattle.ados_model.specs.Reads.{seek_target}
-use Rattle.ados_model.specs.Refusals.{first_refusal, refuse, refusal}
-use Rattle.ados_model.specs.Success.{after}
-use Rattle.ados_handler.specs.steps.Methods.{MethodGives, MethodMeans}
+use Rattle.std.specs.FinMap.{get}
+use Rattle.ados_handler.proofs.Common.{nat_cmp, FinMap, Date3, Tree, size_of, Stands, SeekError, Packet, Seek, Results, Empty, Session, at_position, handle_key, HandlerState, HandleHold, handle_target, is_bad_target, target_number, seek_target, first_refusal, refuse, refusal, after, MethodGives, MethodMeans}
 use Rattle.ados_handler.proofs.HandleFiles.{key_is, position_is, opened_on, gives_moved}
 use Rattle.ados_handler.proofs.Meant.{counted, served_means}
 

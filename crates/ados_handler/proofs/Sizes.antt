@@ -1,13 +1,9 @@
 -- A file has at most as many data blocks as the volume has blocks, so its size is below 2^31.
 use Rattle.std.proofs.Common.{◌≡◌, ◌≢◌, ℕ, ◌<◌, ◌≤◌, List, length, slice_index, Some, sym, ap, ◌∙◌, subst, arith}
-use Rattle.std.proofs.lemmas.Bool.Decides.{Decides-eqb}
-use Rattle.std.proofs.lemmas.List.{get_or_default}
 use Rattle.std.proofs.lemmas.Map.Made.{IsDistinct-from_AllPairs}
 use Rattle.std.proofs.lemmas.Map.Steps.{length-le_from_distinct_below}
+use Rattle.ados_handler.proofs.Common.{Decides-eqb, get_or_default, Ofs, Ffs, data_count, Tree, size_of, Duty, Stands}
 use Rattle.adf_block.specs.declared.layout.Format.{Format}
-use Rattle.adf_block.specs.declared.layout.Format.TheVariants.{Ofs, Ffs}
-use Rattle.ados_model.specs.Tree.{data_count, Tree, size_of}
-use Rattle.ados_model.specs.Stands.{Duty, Stands}
 use Rattle.ados_model.proofs.Standing.{slice_get-index}
 use Rattle.ados_model.proofs.KeyLists.{below_bound}
 

@@ -1,19 +1,8 @@
 -- What keeps a handler sound: its image represents a tree, and its holds are proper for that tree.
 use Rattle.std.proofs.Common.{◌≡◌, ℕ, Bool, Some, None, false, sym, ap, ◌∙◌, subst, List}
-use Rattle.std.specs.Prelude.{IsSome, option_map}
-use Rattle.std.specs.Ordering.{nat_cmp}
-use Rattle.std.specs.FinMap.{FinMap, empty, get, get-empty, insert, remove}
-use Rattle.std.proofs.lemmas.Option.{none-some}
-use Rattle.ados_model.specs.Tree.{Tree}
-use Rattle.ados_model.specs.Stands.{Stands}
-use Rattle.ados_model.specs.Keys.{HasKey}
-use Rattle.ados_model.proofs.OneTree.{one_tree}
-use Rattle.ados_model.specs.Session.{Session, opening_session}
-use Rattle.ados_model.specs.declared.holds.LockHold.{LockHold}
-use Rattle.ados_model.specs.declared.holds.HandleHold.{HandleHold}
-use Rattle.ados_handler.specs.ProperSession.{HoldNumber, hold_at, IsProperSession}
-use Rattle.ados_handler.specs.ProperSession.HoldNumber.{ByLock, ByHandle}
-use Rattle.ados_handler.specs.Gives.{IsSoundHandler}
+use Rattle.std.specs.Prelude.{option_map}
+use Rattle.std.specs.FinMap.{get}
+use Rattle.ados_handler.proofs.Common.{IsSome, nat_cmp, FinMap, empty, get-empty, insert, remove, none-some, Tree, Stands, HasKey, one_tree, Session, opening_session, LockHold, HandleHold, HoldNumber, hold_at, IsProperSession, ByLock, ByHandle, IsSoundHandler}
 use Rattle.ados_handler.proofs.Holding.{proper_with_lock, proper_without_lock, proper_without_handle, shared_free}
 
 -- nothing is held at first

@@ -1,26 +1,6 @@
 -- FINDUPDATE and FINDOUTPUT at the place of their path.
 use Rattle.std.proofs.Common.{◌≡◌, ℕ, Bool, true, false, not, List, [], ◌∷◌, ◌++◌, Option, Some, None, Ok, MatchOption, option_map, refl, sym, ap, ◌∙◌, subst}
-use Rattle.std.specs.Prelude.{is_none}
-use Rattle.std.specs.Result.{result_err}
-use Rattle.std.proofs.lemmas.Bool.{true≢false}
-use Rattle.ados_name.specs.declared.stamp.Date3.{Date3}
-use Rattle.ados_model.specs.Tree.{Tree}
-use Rattle.ados_model.specs.Stands.{Stands}
-use Rattle.ados_model.specs.Change.{rewritten, child_of}
-use Rattle.ados_name.specs.Name.{denies_delete, denies_write}
-use Rattle.ados_model.specs.declared.dos_error.DosError.{DosError}
-use Rattle.ados_model.specs.declared.dos_error.DosError.TheVariants.{DeleteProtected, DeviceNotMounted, DiskFull, InvalidLock, ObjectInUse, ObjectWrongType, WriteProtected}
-use Rattle.ados_model.specs.declared.packet.Packet.TheVariants.{FindOutput, FindUpdate}
-use Rattle.ados_model.specs.declared.results.Results.{Results}
-use Rattle.ados_model.specs.Session.{Session, is_in_use, is_lock, HandlerState}
-use Rattle.ados_model.specs.Objects.{place_error, placed, protection_of, spot_directory, spot_name, standing}
-use Rattle.ados_model.specs.Phrases.{spot}
-use Rattle.ados_model.specs.Resolved.{placed_at}
-use Rattle.ados_model.specs.Refusals.{first_refusal, has_no_room, is_directory_there, is_some_and, refuse}
-use Rattle.ados_model.specs.Success.{After, GivesHandle, MakesFile}
-use Rattle.ados_handler.specs.steps.Methods.{MethodGives}
-use Rattle.ados_handler.specs.steps.Opening.{Opens, empty_refusals, make_refusals, open_refusals}
-use Rattle.ados_volume.specs.Shown.{Shown}
+use Rattle.ados_handler.proofs.Common.{is_none, result_err, true≢false, Date3, Tree, Stands, rewritten, child_of, denies_delete, denies_write, DosError, DeleteProtected, DeviceNotMounted, DiskFull, InvalidLock, ObjectInUse, ObjectWrongType, WriteProtected, FindOutput, FindUpdate, Results, Session, is_in_use, is_lock, HandlerState, place_error, placed, protection_of, spot_directory, spot_name, standing, spot, placed_at, first_refusal, has_no_room, is_directory_there, is_some_and, refuse, After, GivesHandle, MakesFile, MethodGives, Opens, empty_refusals, make_refusals, open_refusals, Shown}
 use Rattle.ados_handler.proofs.Opening.{opening_gives}
 use Rattle.ados_handler.proofs.Placed.{placed_on}
 

@@ -1,24 +1,10 @@
 -- Examples of served packets, computed from the definitions.
-use Rattle.std.specs.Prelude.{◌≡◌, ℕ, ◌==◌, if◌then◌else◌, List, [], ◌∷◌, pos, negsuc, codes, refl, Bool, true, false, Some, None}
+use Rattle.std.specs.Prelude.{◌≡◌, ◌==◌, if◌then◌else◌, ◌∷◌}
 use Rattle.std.proofs.Common.{◌∙◌, lit≤}
-use Rattle.std.specs.Ordering.{nat_cmp}
-use Rattle.std.specs.Cmp.{nat_cmp_total}
 use Rattle.std.specs.FinMap as numbered
-use Rattle.adf_block.specs.declared.layout.Format.TheVariants.{Ffs}
-use Rattle.ados_name.specs.declared.stamp.Date3.{Date3}
-use Rattle.ados_name.specs.Name.{steps, steps_along, last_name, front}
-use Rattle.ados_model.specs.Tree.{Node, Tree}
-use Rattle.ados_model.specs.Tree.Content.{Directory, File}
-use Rattle.ados_model.specs.Packet.{action_of, dos_true}
-use Rattle.ados_model.specs.declared.packet.Packet.{Packet}
-use Rattle.ados_model.specs.declared.packet.Packet.TheVariants.{Die, LocateObject, SetProtect, ExamineNext, DiskInfo, SameLock, Read, Write, Seek}
+use Rattle.ados_handler.proofs.Common.{ℕ, List, [], pos, negsuc, codes, refl, Bool, true, false, Some, None, nat_cmp, nat_cmp_total, Ffs, Date3, steps, steps_along, last_name, front, Node, Tree, Directory, File, action_of, dos_true, Packet, Die, LocateObject, SetProtect, ExamineNext, DiskInfo, SameLock, Read, Write, Seek, Body, Empty, Buffer, Disk, HandleHold, Session, opening_session, after, Meaning}
 use Rattle.ados_model.specs.declared.answer.Answer.{Answer}
-use Rattle.ados_model.specs.declared.answer.Body.{Body}
-use Rattle.ados_model.specs.declared.answer.Body.TheVariants.{Empty, Buffer, Entry, Disk}
-use Rattle.ados_model.specs.declared.holds.HandleHold.{HandleHold}
-use Rattle.ados_model.specs.Session.{Session, opening_session}
-use Rattle.ados_model.specs.Success.{after}
-use Rattle.ados_model.specs.Meaning.{Meaning}
+use Rattle.ados_model.specs.declared.answer.Body.TheVariants.{Entry}
 use Rattle.ados_handler.proofs.Meant.{served_means}
 use Rattle.ados_handler.proofs.RefusalRows.{no_holds}
 

@@ -1,16 +1,11 @@
 -- The values of a slab under numbers from 1.
 use Rattle.std.proofs.Common.{◌≡◌, ◌≢◌, ℕ, zero, suc, ◌+◌, ◌-◌, ◌<◌, Bool, true, false, cond, List, [], ◌∷◌, map, get_or, Some, None, refl, sym, ap, ◌∙◌, inl, inr, arith, add-zero}
-use Rattle.std.specs.Prelude.{Option, ◌&&◌, T}
-use Rattle.std.specs.Ordering.{nat_cmp, eq_by_cmp, is_lt}
-use Rattle.std.specs.Cmp.{nat_cmp_total}
+use Rattle.std.specs.Prelude.{◌&&◌}
 use Rattle.std.specs.FinMap as numbered
-use Rattle.std.specs.FinMap.{nat_cmp-IsAntisymmetric, find, is_sorted, get-from_sorted, entries-from_sorted, get-empty, get-insert, get-remove, same_map}
 use Rattle.std.specs.FinMap.Entries.{below_all}
-use Rattle.std.proofs.lemmas.Bool.Decides.{nat_tests, eqb_tells}
-use Rattle.std.specs.Prelude.{length, filter, is_some}
 use Rattle.std.proofs.lemmas.List.Sums.{length-filter}
-use Rattle.slab.specs.Slab.{Slab, get, entries_from, slab_len, Updates}
-use Rattle.ados_handler.specs.steps.Table.{numbered_from_one}
+use Rattle.ados_handler.proofs.Common.{Option, T, nat_cmp, eq_by_cmp, is_lt, nat_cmp_total, nat_cmp-IsAntisymmetric, find, is_sorted, get-from_sorted, entries-from_sorted, get-empty, get-insert, get-remove, same_map, nat_tests, eqb_tells, length, filter, is_some, Slab, entries_from, slab_len, Updates, numbered_from_one}
+use Rattle.slab.specs.Slab.{get}
 use Rattle.ados_handler.proofs.Holding.{number_tells}
 
 is_below : (i j : ℕ) → i < j → T (is_lt (nat_cmp i j))

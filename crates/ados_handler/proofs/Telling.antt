@@ -1,26 +1,10 @@
 -- Packets that set an object's metadata keep tree and session proper.
 use Rattle.std.proofs.Common.{◌≡◌, ◌≢◌, ℕ, true, false, inl, inr, List, Option, Some, None, option_map, refl, sym, ap, ◌∙◌, subst, eq-eqb}
 use Rattle.std.specs.Prelude.{◌∷◌, ◌==◌}
-use Rattle.std.specs.Result.{result_err}
-use Rattle.std.proofs.lemmas.Bool.{cases_eq, true≢false, not-false}
-use Rattle.ados_name.specs.declared.stamp.Date3.{Date3}
-use Rattle.ados_name.specs.Path.{IsPathText}
-use Rattle.ados_model.specs.Tree.{Node, Tree, Proper, root}
-use Rattle.ados_model.specs.Change.{changed, stamped, with_node}
-use Rattle.ados_model.proofs.Nodes.{some_in}
+use Rattle.ados_handler.proofs.Common.{result_err, cases_eq, true≢false, not-false, Date3, IsPathText, Node, Tree, Proper, root, changed, stamped, with_node, some_in, CommentTooBig, DeviceNotMounted, InvalidComponentName, InvalidLock, ObjectWrongType, SetProtect, SetComment, SetDate, RenameDisk, Session, is_lock, walk_error, object, found, refuse, refusals, is_name, is_comment, After, none_refuses, not_refused, IsProperSession, KeepsProper}
 use Rattle.ados_change.proofs.Retells.{Retells, proper_after}
 use Rattle.ados_change.proofs.Cases.{bits_case, comment_case, date_case, name_case}
 use Rattle.ados_change.proofs.Loose.{stamped_is_proper}
-use Rattle.ados_model.specs.declared.dos_error.DosError.TheVariants.{CommentTooBig, DeviceNotMounted, InvalidComponentName, InvalidLock, ObjectWrongType}
-use Rattle.ados_model.specs.declared.packet.Packet.TheVariants.{SetProtect, SetComment, SetDate, RenameDisk}
-use Rattle.ados_model.specs.Session.{Session, is_lock}
-use Rattle.ados_model.specs.Objects.{walk_error, object, found}
-use Rattle.ados_model.specs.Refusals.{refuse, refusals, is_name}
-use Rattle.ados_model.specs.Phrases.{is_comment}
-use Rattle.ados_model.specs.Success.{After}
-use Rattle.ados_volume.proofs.Refusing.{none_refuses, not_refused}
-use Rattle.ados_handler.specs.ProperSession.{IsProperSession}
-use Rattle.ados_handler.specs.Keeps.{KeepsProper}
 use Rattle.ados_handler.proofs.Named.{text_is_name, text_is_comment}
 use Rattle.ados_handler.proofs.Walked.{root_is_key, found_is_key, no_error}
 use Rattle.ados_handler.proofs.Reading.{IsProperAfter, by_success}

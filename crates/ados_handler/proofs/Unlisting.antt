@@ -1,22 +1,10 @@
 -- Packets that remove an entry from its directory's list keep tree and session proper.
 use Rattle.std.proofs.Common.{◌≡◌, ◌≢◌, ℕ, Bool, false, not, ◌==◌, List, ◌∷◌, filter, Option, Some, None, is_some, option_map, refl, sym, ap, ◌∙◌, subst}
-use Rattle.std.proofs.lemmas.Bool.{not-false}
-use Rattle.ados_name.specs.declared.stamp.Date3.{Date3}
-use Rattle.ados_name.specs.Path.{IsPathText}
-use Rattle.ados_model.specs.Tree.{Node, Tree, Proper, entries, parent_of}
-use Rattle.ados_model.specs.Change.{changed, left, removed, renamed, with_node}
-use Rattle.ados_model.proofs.Nodes.{directory_node}
-use Rattle.ados_change.specs.Conditions.{CanRename, IsDirectoryKey}
+use Rattle.ados_handler.proofs.Common.{not-false, Date3, IsPathText, Node, Tree, Proper, parent_of, changed, left, removed, renamed, with_node, directory_node, CanRename, IsDirectoryKey, DeviceNotMounted, InvalidLock, ObjectInUse, DeleteObject, RenameObject, is_held, is_held_exclusively, is_lock, object, spot_directory, spot_name, refuse, refusals, can_remove, none_refuses, not_refused, HoldNumber, hold_at, KeepsProper}
+use Rattle.ados_model.specs.Tree.{entries}
 use Rattle.ados_change.proofs.Loose.{left_is}
 use Rattle.ados_change.proofs.ProperChanges.{into_directory, removed_is_proper, renamed_is_proper}
-use Rattle.ados_model.specs.declared.dos_error.DosError.TheVariants.{DeviceNotMounted, InvalidLock, ObjectInUse}
-use Rattle.ados_model.specs.declared.packet.Packet.TheVariants.{DeleteObject, RenameObject}
-use Rattle.ados_model.specs.Session.{is_held, is_held_exclusively, is_lock}
-use Rattle.ados_model.specs.Objects.{object, spot_directory, spot_name}
-use Rattle.ados_model.specs.Refusals.{refuse, refusals}
-use Rattle.ados_volume.proofs.Refusing.{can_move, can_remove, none_refuses, not_refused}
-use Rattle.ados_handler.specs.ProperSession.{HoldNumber, hold_at}
-use Rattle.ados_handler.specs.Keeps.{KeepsProper}
+use Rattle.ados_volume.proofs.Refusing.{can_move}
 use Rattle.ados_handler.proofs.Holding.{not_held}
 use Rattle.ados_handler.proofs.Reading.{same_after, by_success}
 use Rattle.ados_handler.proofs.Carrying.{Carried, carried_beside, carried_changed, carried_content, carried_on, carried_session}

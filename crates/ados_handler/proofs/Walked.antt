@@ -1,20 +1,9 @@
 -- The walks of packets end at nodes.
 use Rattle.std.proofs.Common.{◌≡◌, ℕ, Bool, true, false, cond, List, [], ◌∷◌, nat_eq, Option, Some, None, Result, Ok, Err, IsSome, is_some, refl, sym, ap, ◌∙◌}
 use Rattle.std.specs.Prelude.{◌||◌, option_map}
-use Rattle.std.specs.Option.{option_map_or}
-use Rattle.std.specs.Result.{result_err, result_unwrap_or}
 use Rattle.std.specs.FinMap.{get}
-use Rattle.ados_name.specs.Name.{Step, is_from_root, steps}
-use Rattle.ados_model.specs.Tree.{Tree, Proper, root}
-use Rattle.ados_model.specs.Change.{and_then, missing_before, start_of, step_from, walk_steps}
-use Rattle.ados_model.specs.declared.dos_error.WalkFault.{WalkFault}
+use Rattle.ados_handler.proofs.Common.{option_map_or, result_err, result_unwrap_or, Step, is_from_root, steps, Tree, Proper, root, and_then, missing_before, start_of, step_from, walk_steps, WalkFault, step_key, Session, is_lock, LockHold, lock_key, found, IsProperSession, ByLock}
 use Rattle.ados_model.specs.declared.dos_error.WalkFault.TheVariants.{ObjectNotFound}
-use Rattle.ados_volume.proofs.Walking.{step_key}
-use Rattle.ados_model.specs.Session.{Session, is_lock}
-use Rattle.ados_model.specs.declared.holds.LockHold.{LockHold}
-use Rattle.ados_model.specs.Objects.{lock_key, found}
-use Rattle.ados_handler.specs.ProperSession.{IsProperSession}
-use Rattle.ados_handler.specs.ProperSession.HoldNumber.{ByLock}
 
 -- a result without an error has its value
 pub no_error : {A E D : Type 0} (number : E → D) (r : Result A E) (d : A) → option_map number (result_err r) ≡ None → r ≡ Ok (result_unwrap_or r d)

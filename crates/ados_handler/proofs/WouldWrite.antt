@@ -1,30 +1,12 @@
 -- The packets that would change the disk, by what objects, places and handles allow.
 use Rattle.std.proofs.Common.{◌≡◌, ◌≢◌, ℕ, ◌+◌, ℤ, Bool, true, false, cond, not, nat_lt, List, [], ◌∷◌, length, max, Option, Some, None, Result, Ok, Err, option_map, refl, sym, ap, ◌∙◌, arith, lt-ltb}
-use Rattle.std.proofs.lemmas.Bool.{eq-eqb, true≢false, and_right}
-use Rattle.std.specs.Prelude.{◌&&◌, ◌==◌, is_none, is_some}
-use Rattle.std.specs.Option.{option_map_or}
-use Rattle.std.specs.Result.{result_err, result_unwrap_or}
+use Rattle.std.specs.Prelude.{◌&&◌, ◌==◌}
 use Rattle.std.specs.FinMap.{get}
-use Rattle.ados_name.specs.Name.{denies_delete, denies_write}
-use Rattle.ados_model.specs.Tree.{Tree, entries, free, needs_more, root, size_of}
-use Rattle.ados_model.specs.Change.{child_of, is_file}
-use Rattle.ados_model.specs.declared.dos_error.WalkFault.{WalkFault}
+use Rattle.ados_handler.proofs.Common.{eq-eqb, true≢false, and_right, is_none, is_some, option_map_or, result_err, result_unwrap_or, denies_delete, denies_write, Tree, free, needs_more, root, size_of, child_of, is_file, WalkFault, PlaceFault, DosError, DeleteProtected, DeviceNotMounted, DirectoryNotEmpty, DiskFull, InvalidLock, ObjectExists, ObjectInUse, ObjectWrongType, SeekError, WriteProtected, Packet, DeleteObject, RenameObject, CreateDir, Write, FindUpdate, FindOutput, SetFileSize, HandleHold, Session, is_held, is_held_exclusively, is_in_use, is_lock, handle_key, handle_position, handle_target, is_bad_target, is_under, place_error, placed, protection_of, target_number, walk_error, found, seek_target, place_result, walk_result, first_refusal, has_no_room, is_directory_there, is_empty, is_some_and, refusals, refuse, sets_disk_date, both, move_refusal, move_refusals, remove_refusals}
+use Rattle.ados_model.specs.Tree.{entries}
 use Rattle.ados_model.specs.declared.dos_error.WalkFault.TheVariants as walks
-use Rattle.ados_model.specs.declared.dos_error.PlaceFault.{PlaceFault}
 use Rattle.ados_model.specs.declared.dos_error.PlaceFault.TheVariants as places
-use Rattle.ados_model.specs.declared.dos_error.DosError.{DosError}
-use Rattle.ados_model.specs.declared.dos_error.DosError.TheVariants.{DeleteProtected, DeviceNotMounted, DirectoryNotEmpty, DiskFull, InvalidLock, ObjectExists, ObjectInUse, ObjectWrongType, SeekError, WriteProtected}
-use Rattle.ados_model.specs.declared.packet.Packet.{Packet}
-use Rattle.ados_model.specs.declared.packet.Packet.TheVariants.{DeleteObject, RenameObject, CreateDir, Write, FindUpdate, FindOutput, SetFileSize}
-use Rattle.ados_model.specs.declared.holds.HandleHold.{HandleHold}
-use Rattle.ados_model.specs.Session.{Session, is_held, is_held_exclusively, is_in_use, is_lock, handle_key, handle_position}
-use Rattle.ados_model.specs.Objects.{handle_target, is_bad_target, is_under, place_error, placed, protection_of, target_number, walk_error, found}
-use Rattle.ados_model.specs.Reads.{seek_target}
-use Rattle.ados_model.specs.Resolved.{place_result, walk_result}
-use Rattle.ados_model.specs.Refusals.{first_refusal, has_no_room, is_directory_there, is_empty, is_some_and, refusals, refuse}
-use Rattle.ados_model.specs.DiskDate.{sets_disk_date}
 use Rattle.ados_handler.specs.Writes.{lacks_space_at_most, would_write}
-use Rattle.ados_handler.specs.steps.Moves.{both, move_refusal, move_refusals, remove_refusals}
 use Rattle.ados_handler.specs.steps.Allowed.{can_empty, can_make, can_move, can_output, can_resize, can_write, ok_and, removes}
 
 -- the list has no refusal but that of a full disk

@@ -1,29 +1,8 @@
 -- The meaning of WRITE if it is not refused.
 use Rattle.std.proofs.Common.{◌≡◌, ℕ, ◌+◌, ◌-◌, ◌≤◌, pos, Bool, true, false, List, [], ◌∷◌, ◌++◌, length, take, drop, Some, None, inl, inr, refl, sym, ap, ap₂, ◌∙◌, subst, arith, length-take, length-append, ltb-false}
-use Rattle.std.specs.Prelude.{max}
-use Rattle.std.specs.Ordering.{nat_cmp}
-use Rattle.std.specs.FinMap.{FinMap, get}
-use Rattle.std.proofs.lemmas.Bool.{false_from_ne_true}
-use Rattle.std.proofs.lemmas.List.{nil_from_length}
-use Rattle.ados_model.specs.Tree.{Tree, Proper, bytes_of, content_at, size_of, needs_more}
-use Rattle.ados_name.specs.declared.stamp.Date3.{Date3}
-use Rattle.ados_name.specs.Name.{denies_write}
-use Rattle.ados_change.specs.NewBlocks.{KeepsRest}
-use Rattle.ados_model.specs.Stands.{Stands}
-use Rattle.ados_model.specs.Change.{is_file, written}
-use Rattle.ados_model.specs.Edits.{overlaid}
+use Rattle.std.specs.FinMap.{get}
+use Rattle.ados_handler.proofs.Common.{max, nat_cmp, FinMap, false_from_ne_true, nil_from_length, Tree, Proper, bytes_of, content_at, size_of, needs_more, Date3, denies_write, KeepsRest, Stands, is_file, written, overlaid, DiskFull, WriteProtected, Write, Results, Buffer, Session, at_position, handle_key, handle_position, HandlerState, HandleHold, protection_of, first_refusal, refuse, refusal, after, LeavesImage, MethodGives, MethodMeans, answer_to}
 use Rattle.ados_change.specs.Renewed.{NeedsMore}
-use Rattle.ados_model.specs.declared.dos_error.DosError.TheVariants.{DiskFull, WriteProtected}
-use Rattle.ados_model.specs.declared.packet.Packet.TheVariants.{Write}
-use Rattle.ados_model.specs.declared.results.Results.{Results}
-use Rattle.ados_model.specs.declared.answer.Body.TheVariants.{Buffer}
-use Rattle.ados_model.specs.Session.{Session, at_position, handle_key, handle_position, HandlerState}
-use Rattle.ados_model.specs.declared.holds.HandleHold.{HandleHold}
-use Rattle.ados_model.specs.Objects.{protection_of}
-use Rattle.ados_model.specs.Refusals.{first_refusal, refuse, refusal}
-use Rattle.ados_model.specs.Success.{after}
-use Rattle.ados_handler.specs.Gives.{LeavesImage}
-use Rattle.ados_handler.specs.steps.Methods.{MethodGives, MethodMeans, answer_to}
 use Rattle.ados_handler.proofs.Reading.{size_is}
 use Rattle.ados_handler.proofs.Rewriting.{file_node, rewritten_size}
 use Rattle.ados_handler.proofs.HandleFiles.{key_is, position_is, opened_on}

@@ -1,14 +1,10 @@
 -- The marks of all kinds of blocks together: exactly those that are accounted for.
 use Rattle.std.proofs.Common.{◌≡◌, ℕ, ◌<◌, ◌⊎◌, inl, inr, Bool, true, false, MatchBool, List, length, refl, sym, ◌∙◌, subst, arith}
-use Rattle.adf_block.specs.Image.{block_count}
-use Rattle.ados_model.specs.Faults.{root_of}
+use Rattle.ados_mend.proofs.Common.{block_count, root_of, BelongsTo, HasExtensionBlock, IsAccounted, IsPage, Adds, AreAccounted, HasNoMarks, IsDamagedFile, IsMarked, IsOfDamaged, IsOwn, IsOwnIn, IsPieceBlock, OfOne, mark_at}
 use Rattle.adf_salvage.specs.declared.salvaged.State.{State}
 use Rattle.adf_salvage.specs.declared.salvaged.State.TheVariants.{Broken, Directory, Doubtful, DoubtfulDirectory, Lost, Whole}
 use Rattle.adf_salvage.specs.Salvaged.{Saved}
-use Rattle.ados_mend.specs.Account.{BelongsTo, HasExtensionBlock, IsAccounted}
 use Rattle.ados_mend.specs.Account.IsAccounted.{of_bitmap, of_entry, of_piece, of_root}
-use Rattle.ados_mend.specs.Mendable.{IsPage}
-use Rattle.ados_mend.specs.steps.Accounting.{Adds, AreAccounted, HasNoMarks, IsDamagedFile, IsMarked, IsOfDamaged, IsOwn, IsOwnIn, IsPieceBlock, OfOne, mark_at}
 
 -- a block belongs to an entry by its own blocks, or by the extension blocks of a file that is not whole
 own_belongs : (image : List ℕ) (header block : ℕ) (state : State) → IsOwnIn image header state block → BelongsTo image header state block

@@ -1,23 +1,8 @@
 -- The mended image is the old one with a new bitmap.
 use Rattle.std.proofs.Common.{◌≡◌, ℕ, ◌+◌, ◌-◌, ◌/◌, ◌<◌, ◌≤◌, Bool, true, false, List, ap, ◌∙◌, arith}
-use Rattle.std.proofs.lemmas.List.{get_or_default}
-use Rattle.adf_block.specs.Frame.{SameBut}
-use Rattle.adf_block.specs.Image.{block_count, block_sum, long, root_key}
-use Rattle.adf_block.specs.Whole.{HasFreeBit}
-use Rattle.adf_block.proofs.Frames.{same_trans, same_weaken}
-use Rattle.ados_map.specs.Pages.{LawfulPages}
-use Rattle.ados_model.specs.declared.fault.FaultKind.TheVariants.{MarkedFree}
-use Rattle.ados_model.specs.declared.role.Role.{Role}
+use Rattle.ados_mend.proofs.Common.{get_or_default, SameBut, block_count, block_sum, long, root_key, HasFreeBit, same_trans, same_weaken, LawfulPages, MarkedFree, Role, Accepts, HasNoLost, InImage, Reached, root_of, HasValidBitmap, IsOfBitmap, Rebuilt, Stands, Tree, root, reached_stands, root_is, ShowsOnlyMendable, IsValidated, without_lost}
 use Rattle.ados_model.specs.declared.role.Role.TheVariants as roles
-use Rattle.ados_model.specs.Accepted.{Accepts, HasNoLost}
-use Rattle.ados_model.specs.Faults.{InImage, Reached, root_of}
-use Rattle.ados_model.specs.Rebuilt.{HasValidBitmap, IsOfBitmap, Rebuilt}
-use Rattle.ados_model.specs.Stands.{Stands}
-use Rattle.ados_model.specs.Tree.{Tree, root}
 use Rattle.ados_model.proofs.NoFaults.{faults_have_no_tree}
-use Rattle.ados_model.proofs.Standing.{reached_stands, root_is}
-use Rattle.ados_mend.specs.Mendable.{ShowsOnlyMendable}
-use Rattle.ados_mend.specs.Validated.{IsValidated, without_lost}
 use Rattle.ados_mend.proofs.Carry.{reached_a, reached_b}
 use Rattle.ados_mend.proofs.PageFaults.{mendable_pages}
 use Rattle.ados_mend.proofs.Stay.{same_tree}

@@ -1,19 +1,10 @@
 -- In an image that shows only faults which a new bitmap mends, no bitmap block is reached in another role, and so is not
 -- the root.
 use Rattle.std.proofs.Common.{◌≡◌, ◌≢◌, ℕ, ◌+◌, ◌/◌, inl, inr, List, refl, subst, arith}
-use Rattle.std.proofs.lemmas.Bool.{cases_eq}
-use Rattle.adf_block.specs.Image.{long}
-use Rattle.ados_model.specs.declared.fault.FaultKind.TheVariants.{BlockUsedTwice}
-use Rattle.ados_model.specs.declared.role.Role.{Role}
-use Rattle.ados_model.specs.declared.role.Role.TheVariants.{Page, Root}
-use Rattle.ados_model.specs.Faults.{IsPlace, IsUsedTwice, PlaceNames, Reached, root_of}
-use Rattle.ados_model.specs.Faults.IsPlace.{root_page}
-use Rattle.ados_model.specs.Faults.IsUsedTwice.{root_named, two_holders, two_longs}
-use Rattle.ados_model.specs.Faults.Reached.{named, start}
-use Rattle.ados_model.specs.Rebuilt.{IsOfBitmap}
+use Rattle.ados_mend.proofs.Common.{cases_eq, long, BlockUsedTwice, Role, Root, IsPlace, IsUsedTwice, PlaceNames, Reached, root_of, root_page, root_named, two_holders, two_longs, named, start, IsOfBitmap, IsPage, ShowsOnlyMendable}
+use Rattle.ados_model.specs.declared.role.Role.TheVariants.{Page}
 use Rattle.ados_check.proofs.PlaceLemmas.{of_root}
 use Rattle.ados_check.proofs.PlaceLemmas.OfRoot.{of_page, of_slot}
-use Rattle.ados_mend.specs.Mendable.{IsPage, ShowsOnlyMendable}
 use Rattle.ados_mend.proofs.PageFaults.{mendable_pages, not_shown}
 use Rattle.ados_mend.proofs.PageRoles.{page_of_reached}
 

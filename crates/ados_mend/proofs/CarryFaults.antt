@@ -1,19 +1,9 @@
 -- An image that shows only faults which a new bitmap mends shows none when its bitmap is settled: each fault of the
 -- settled image but of the bitmap is one of the old image.
 use Rattle.std.proofs.Common.{◌≡◌, ◌≢◌, ℕ, zero, suc, ◌+◌, ◌-◌, ◌<◌, ◌≤◌, ◌==◌, inl, inr, Bool, true, not, ◌&&◌, nat_lt, List, [], ◌∷◌, ◌++◌, length, flat_map, sum_by, slice_index, Contains, refl, sym, ap, ap₂, ◌∙◌, subst, arith}
-use Rattle.std.proofs.lemmas.Bool.{and_parts, cases_lt, eqb-false, lt-leb, ltb-true, not-true}
-use Rattle.std.proofs.lemmas.List.Elements.{All-from_get_or, All-get_or}
 use Rattle.std.proofs.lemmas.List.Sums.{sum_by-cons}
-use Rattle.adf_block.specs.Fields.{format_of, held_count, pointer_count}
-use Rattle.adf_block.specs.Image.{block_count, block_sum, byte_at, bytes_at, long}
-use Rattle.adf_block.specs.Whole.{IsImage, text_at}
-use Rattle.adf_block.specs.declared.layout.TheConstants.{COMMENT_BYTE, NAME_BYTE, NEXT_EXTENSION}
-use Rattle.adf_block.proofs.Frames.{same_bytes_at, same_sum}
-use Rattle.ados_model.specs.declared.fault.FaultKind.TheVariants.{BadComment, BadCount, BadName, BadOwnKey, BadParent, BadPointer, BadSequence, BadSum, BadType, BlockUsedTwice, DuplicateName, LinkEntry, MarkedFree, NoMemory, NotADosDisk, UnsupportedKind, WrongChain}
-use Rattle.ados_model.specs.declared.role.Role.{Role}
-use Rattle.ados_model.specs.declared.role.Role.TheVariants.{Data, Entry, Extension, Page, Root}
-use Rattle.ados_model.specs.Accepted.{ShowsNoFault}
-use Rattle.ados_model.specs.Faults.{AreDataBlocks, HasBadComment, HasBadCount, HasBadName, HasBadOwnKey, HasBadParent, HasBadPointer, HasBadSequence, HasBadSum, HasBadType, HasDuplicateName, HasName, HasPointers, HasShortName, HasSum, HoldsOtherSize, InImage, IsContinued, IsDataAt, IsDirectory, IsEntry, IsFile, IsInWrongChain, IsInnerData, IsLinkType, IsOfs, IsPlace, IsUsedTwice, LinkedOnce, PlaceNames, Reached, first_pointers, last_link, pointers_of, root_of}
+use Rattle.ados_mend.proofs.Common.{and_parts, cases_lt, eqb-false, lt-leb, ltb-true, not-true, All-from_get_or, All-get_or, format_of, held_count, pointer_count, block_count, block_sum, byte_at, bytes_at, long, IsImage, text_at, COMMENT_BYTE, NAME_BYTE, NEXT_EXTENSION, same_bytes_at, same_sum, BadComment, BadCount, BadName, BadOwnKey, BadParent, BadPointer, BadSequence, BadSum, BadType, BlockUsedTwice, DuplicateName, LinkEntry, MarkedFree, NoMemory, NotADosDisk, UnsupportedKind, WrongChain, Role, Root, ShowsNoFault, AreDataBlocks, HasBadComment, HasBadCount, HasBadName, HasBadOwnKey, HasBadParent, HasBadPointer, HasBadSequence, HasBadSum, HasBadType, HasDuplicateName, HasName, HasPointers, HasShortName, HasSum, HoldsOtherSize, InImage, IsContinued, IsDataAt, IsDirectory, IsEntry, IsFile, IsInWrongChain, IsInnerData, IsLinkType, IsOfs, IsPlace, IsUsedTwice, LinkedOnce, PlaceNames, Reached, first_pointers, last_link, pointers_of, root_of, first_extension, further_extension, root_named, two_holders, two_longs, named, start, IsOfBitmap, data_count, reached_inside, root_inside, ShowsOnlyMendable, IsSettled, only_root}
+use Rattle.ados_model.specs.declared.role.Role.TheVariants.{Data, Entry, Extension, Page}
 use Rattle.ados_model.specs.Faults.HasBadComment.{directory_comment, file_comment}
 use Rattle.ados_model.specs.Faults.HasBadCount.{held_none, held_not_full, held_over, no_pointer, not_full, over, wrong_size, wrong_sum}
 use Rattle.ados_model.specs.Faults.HasBadName.{colon, empty, long_name, slash}
@@ -23,21 +13,12 @@ use Rattle.ados_model.specs.Faults.HasBadPointer.{first_data, further_data, outs
 use Rattle.ados_model.specs.Faults.HasBadType.{data_primary, entry_primary, entry_secondary, extension_primary, extension_secondary, root_primary, root_secondary, root_table}
 use Rattle.ados_model.specs.Faults.HasName.{entry_name, root_name}
 use Rattle.ados_model.specs.Faults.HasPointers.{extension_pointers, file_pointers}
-use Rattle.ados_model.specs.Faults.IsPlace.{first_extension, further_extension}
-use Rattle.ados_model.specs.Faults.IsUsedTwice.{root_named, two_holders, two_longs}
-use Rattle.ados_model.specs.Faults.Reached.{named, start}
-use Rattle.ados_model.specs.Rebuilt.{IsOfBitmap}
-use Rattle.ados_model.specs.Tree.{data_count}
 use Rattle.ados_check.proofs.Pointers.{pointers_are}
 use Rattle.ados_check.proofs.Untouched.{HasSameLongs}
-use Rattle.ados_faults.proofs.Insides.{reached_inside, root_inside}
 use Rattle.ados_faults.proofs.Rooted.{data_reached}
-use Rattle.ados_mend.specs.Mendable.{ShowsOnlyMendable}
-use Rattle.ados_mend.specs.steps.Settled.{IsSettled}
 use Rattle.ados_mend.proofs.BesidePages.{apart, beside, not_page}
 use Rattle.ados_mend.proofs.Carry.{count, inside_a, longs, place_a, reached_a, root_same}
 use Rattle.ados_mend.proofs.PageFaults.{not_shown}
-use Rattle.ados_check.proofs.Roles.{only_root}
 use Rattle.ados_mend.proofs.PageRoles.{page_of_reached}
 
 -- two functions that agree on a list

@@ -1,17 +1,7 @@
 -- A block that the new bitmap marks free is no bitmap block and not the root, so no byte of it changed.
 use Rattle.std.proofs.Common.{◌≡◌, ℕ, ◌+◌, ◌*◌, ◌<◌, ◌≤◌, inl, inr, List, length, drop, min, sym, ap, ◌∙◌, subst, arith}
-use Rattle.std.proofs.lemmas.List.{length-drop, length-take}
-use Rattle.adf_block.specs.Frame.{SameBut}
-use Rattle.adf_block.specs.Image.{block_count, byte_at, bytes_at, long}
-use Rattle.adf_block.specs.Whole.{text_at}
-use Rattle.adf_block.specs.declared.layout.TheConstants.{COMMENT_BYTE, NAME_BYTE}
-use Rattle.adf_block.proofs.Frames.{same_bytes_at, same_count, same_long, same_sum}
-use Rattle.adf_salvage.specs.Sound.{IsSoundHeader}
+use Rattle.ados_mend.proofs.Common.{length-drop, length-take, SameBut, block_count, byte_at, bytes_at, long, text_at, COMMENT_BYTE, NAME_BYTE, same_bytes_at, same_count, same_long, same_sum, IsSoundHeader, Reached, start, IsOfBitmap, FreedHeadersStay}
 use Rattle.ados_model.specs.declared.role.Role.TheVariants as roles
-use Rattle.ados_model.specs.Faults.{Reached}
-use Rattle.ados_model.specs.Faults.Reached.{start}
-use Rattle.ados_model.specs.Rebuilt.{IsOfBitmap}
-use Rattle.ados_mend.specs.steps.Cautious.{FreedHeadersStay}
 use Rattle.ados_mend.proofs.Widened.{turned}
 
 -- a sound header whose bytes are the same in another image

@@ -1,10 +1,7 @@
 -- The kept longs of the bitmap blocks.
 use Rattle.std.proofs.Common.{◌≡◌, ℕ, ◌+◌, ◌*◌, ◌/◌, ◌%◌, ◌<◌, ◌≤◌, List, [], ◌∷◌, ◌++◌, length, map, slice_index_or, sym, ap, ap₂, ◌∙◌, arith}
-use Rattle.std.specs.List.{range_with_len}
 use Rattle.std.proofs.lemmas.List.FromFn.{get_or-map-range_with_len, length-map-range_with_len, map-range_with_len_more}
-use Rattle.adf_block.specs.Image.{long}
-use Rattle.ados_map.specs.Pages.{page_block, pages_of}
-use Rattle.ados_mend.specs.steps.Kept.{AreKeptLongs, page_long}
+use Rattle.ados_mend.proofs.Common.{range_with_len, long, page_block, pages_of, AreKeptLongs, page_long}
 
 module _ (image longs : List ℕ) (kept : AreKeptLongs image longs) where
   pub kept_length : length longs ≡ 128 * pages_of image

@@ -1,4 +1,5 @@
 -- The bitmap blocks of an image, what stays when only the bitmap changes, the image with a new bitmap; the marks of the account; and the places that name blocks.
+pub mod Common
 pub mod PageFaults
 pub mod PageRoles
 pub mod BesidePages

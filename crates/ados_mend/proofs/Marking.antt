@@ -1,11 +1,7 @@
 -- Marks of blocks, set one by one and kind by kind.
 use Rattle.std.proofs.Common.{◌≡◌, ◌≢◌, ℕ, ◌+◌, ◌<◌, ◌⊎◌, inl, inr, Bool, true, false, List, [], ◌∷◌, ◌++◌, take, length, get_or, get_or-set_same, get_or-set_other, Contains, refl, sym, ap, ◌∙◌, subst, arith}
 use Rattle.std.proofs.Math.ListN.{set}
-use Rattle.std.proofs.lemmas.Bool.{cases_eq}
-use Rattle.std.proofs.lemmas.List.{take_more}
-use Rattle.std.proofs.lemmas.List.Elements.{Contains-push, Contains-push_cases, Contains-append_left}
-use Rattle.ados_map.specs.Pages.{page_block}
-use Rattle.ados_mend.specs.steps.Accounting.{Adds, IsMarked, OfOne, mark_at}
+use Rattle.ados_mend.proofs.Common.{cases_eq, take_more, Contains-push, Contains-push_cases, Contains-append_left, page_block, Adds, IsMarked, OfOne, mark_at}
 
 module _ (marks : List Bool) (block : ℕ) (inside : block < length marks) where
   pub now_marked : mark_at (set marks block true) block ≡ true

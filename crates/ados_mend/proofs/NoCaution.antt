@@ -1,12 +1,9 @@
 -- If all bitmap blocks are safe and no header is lost, nothing is lost.
 use Rattle.std.proofs.Common.{◌≡◌, ℕ, Bool, true, false, List, Option, Some, None, MatchOption, refl, sym, ap, ◌∙◌, subst, arith}
-use Rattle.adf_block.specs.Image.{block_sum, has_free_bit}
-use Rattle.adf_block.specs.Whole.{HasFreeBit}
+use Rattle.ados_mend.proofs.Common.{block_sum, has_free_bit, HasFreeBit, IsValidated, AreSafePages, HasNoLostHeader}
 use Rattle.ados_mend.specs.declared.caution.Caution.{Caution}
 use Rattle.ados_mend.specs.declared.caution.Caution.TheVariants.{Differs, LooksLike, LostHeader}
 use Rattle.ados_mend.specs.Cautions.{HasLook, HasNoCaution, IsCaution, IsLostBlock, changed_bits}
-use Rattle.ados_mend.specs.Validated.{IsValidated}
-use Rattle.ados_mend.specs.steps.Cautious.{AreSafePages, HasNoLostHeader}
 
 module _ (old new : List ℕ) (v : IsValidated old new) (safe : AreSafePages old new) where
   -- the new image marks a lost block free

@@ -1,16 +1,7 @@
 -- The blocks that a file names, data block by data block.
 use Rattle.std.proofs.Common.{◌≡◌, ℕ, zero, suc, ◌+◌, ◌-◌, ◌*◌, ◌/◌, ◌%◌, ◌<◌, ◌≤◌, ◌⊎◌, inl, inr, Bool, List, ◌∷◌, length, Contains, sym, ap, ◌∙◌, subst, arith}
-use Rattle.std.proofs.lemmas.Bool.{cases_eq}
-use Rattle.std.proofs.lemmas.List.{get_or_default}
-use Rattle.std.proofs.lemmas.List.Elements.{Contains-append_cases, Contains-append_left, Contains-append_right}
-use Rattle.adf_block.specs.Image.{block_count, long}
-use Rattle.adf_block.specs.Fields.{file_size, format_of}
-use Rattle.adf_block.specs.declared.layout.TheConstants.{NEXT_EXTENSION}
-use Rattle.ados_model.specs.File.{ReadableFile, data_block, data_blocks, extension_blocks, pointer_block}
-use Rattle.ados_model.specs.Tree.{data_count}
+use Rattle.ados_mend.proofs.Common.{cases_eq, get_or_default, Contains-append_cases, Contains-append_left, Contains-append_right, block_count, long, file_size, format_of, NEXT_EXTENSION, ReadableFile, data_block, data_blocks, extension_blocks, pointer_block, data_count, Names, Adds}
 use Rattle.ados_data.proofs.Places.{data_counted, data_is, extensions_counted, header_is, holder_of, size_is}
-use Rattle.adf_salvage.specs.Sound.{Names}
-use Rattle.ados_mend.specs.steps.Accounting.{Adds}
 use Rattle.ados_mend.proofs.Marking.{adds_as, adds_both}
 
 -- one of the first data blocks of a file, or the block with the pointer to it

@@ -1,18 +1,9 @@
 -- The bitmap blocks of an image that shows only faults which a new bitmap mends.
 use Rattle.std.proofs.Common.{◌≡◌, ℕ, ◌+◌, ◌<◌, ◌⊎◌, inl, inr, Bool, true, false, List, refl, sym, ap, ◌∙◌, arith}
-use Rattle.std.proofs.lemmas.Bool.{cases_eq, cases_lt}
-use Rattle.adf_block.specs.Image.{IsInside, block_count}
-use Rattle.ados_map.specs.Pages.{LawfulPages, page_block, pages_of}
+use Rattle.ados_mend.proofs.Common.{cases_eq, cases_lt, IsInside, block_count, LawfulPages, page_block, pages_of, BadPointer, BadSum, BlockUsedTwice, MarkedFree, Root, InImage, PlaceNames, Shows, root_of, root_page, root_named, two_longs, start, ShowsOnlyMendable, MendableHasPages}
 use Rattle.ados_model.specs.declared.fault.FaultKind.{FaultKind}
-use Rattle.ados_model.specs.declared.fault.FaultKind.TheVariants.{BadPointer, BadSum, BlockUsedTwice, MarkedFree}
-use Rattle.ados_model.specs.declared.role.Role.TheVariants.{Page, Root}
-use Rattle.ados_model.specs.Faults.{InImage, PlaceNames, Shows, root_of}
+use Rattle.ados_model.specs.declared.role.Role.TheVariants.{Page}
 use Rattle.ados_model.specs.Faults.HasBadPointer.{outside}
-use Rattle.ados_model.specs.Faults.IsPlace.{root_page}
-use Rattle.ados_model.specs.Faults.IsUsedTwice.{root_named, two_longs}
-use Rattle.ados_model.specs.Faults.Reached.{start}
-use Rattle.ados_mend.specs.Mendable.{ShowsOnlyMendable}
-use Rattle.ados_mend.specs.steps.Settled.{MendableHasPages}
 
 inside_or_not : (n b : ℕ) → IsInside n b ⊎ ¬ IsInside n b
 inside_or_not n b = elim (cases_lt b 2) [

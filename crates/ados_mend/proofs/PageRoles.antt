@@ -1,14 +1,7 @@
 -- The reached bitmap blocks are those that the root names.
 use Rattle.std.proofs.Common.{◌≡◌, ℕ, ◌+◌, ◌<◌, List, refl, sym, ap₂, subst}
-use Rattle.adf_block.specs.Image.{block_count, long, page_count}
-use Rattle.ados_map.specs.Pages.{LawfulPages}
-use Rattle.ados_model.specs.declared.role.Role.{Role}
-use Rattle.ados_model.specs.declared.role.Role.TheVariants.{Page, Root}
-use Rattle.ados_model.specs.Faults.{IsPlace, Reached, root_of}
-use Rattle.ados_model.specs.Faults.IsPlace.{directory_slot, extension_pointer, first_extension, further_extension, header_pointer, next_entry, root_page, root_slot}
-use Rattle.ados_model.specs.Faults.Reached.{named, start}
-use Rattle.ados_check.proofs.Roles.{only_root}
-use Rattle.ados_mend.specs.Mendable.{IsPage}
+use Rattle.ados_mend.proofs.Common.{block_count, long, page_count, LawfulPages, Role, Root, IsPlace, Reached, root_of, directory_slot, extension_pointer, first_extension, further_extension, header_pointer, next_entry, root_page, root_slot, named, start, only_root, IsPage}
+use Rattle.ados_model.specs.declared.role.Role.TheVariants.{Page}
 
 -- a place that names a bitmap block
 record PageLong (image : List ℕ) (i : ℕ) (role : Role) : Type 0 where

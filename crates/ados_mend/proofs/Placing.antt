@@ -1,23 +1,10 @@
 -- The places that name a block, found one by one.
 use Rattle.std.proofs.Common.{◌≡◌, ◌≢◌, ℕ, ◌+◌, ◌*◌, ◌<◌, ◌≤◌, inl, inr, Bool, true, false, MatchBool, List, [], ◌∷◌, ◌++◌, Contains, refl, sym, ap, ◌∙◌, subst, arith}
 use Rattle.std.specs.Prelude.{◌==◌, if◌then◌else◌}
-use Rattle.std.proofs.lemmas.Bool.{cases_lt}
-use Rattle.std.proofs.lemmas.List.Elements.{All-push, Contains-append_left, Contains-push}
 use Rattle.std.proofs.lemmas.List.Quantifiers.{all_pairs_push}
-use Rattle.adf_block.specs.Image.{block_count, long}
-use Rattle.adf_block.specs.Whole.{IsImage}
-use Rattle.ados_check.proofs.PlaceLemmas.{place_within}
-use Rattle.ados_faults.proofs.Insides.{reached_inside}
-use Rattle.ados_model.specs.declared.role.Role.{Role}
-use Rattle.ados_model.specs.Faults.{IsPlace, Reached}
-use Rattle.ados_model.specs.Faults.IsPlace.{root_page, root_slot, directory_slot, next_entry, header_pointer, first_extension, extension_pointer, further_extension}
+use Rattle.ados_mend.proofs.Common.{cases_lt, All-push, Contains-append_left, Contains-push, block_count, long, IsImage, place_within, reached_inside, Role, IsPlace, Reached, root_page, root_slot, directory_slot, next_entry, header_pointer, first_extension, extension_pointer, further_extension, Place, AreAllPlaces, Gives, IsPlaceOfReached, NamesBlock, position, rank, mark_at, ArePlacesBelow, IsGivenIn, AreCells, form}
 use Rattle.ados_mend.specs.declared.naming.Naming.{Naming}
 use Rattle.ados_mend.specs.declared.naming.Naming.TheVariants.{Entry, NextEntry, Extension, Data, Page}
-use Rattle.ados_mend.specs.declared.naming.Place.{Place}
-use Rattle.ados_mend.specs.Places.{AreAllPlaces, Gives, IsPlaceOfReached, NamesBlock, position, rank}
-use Rattle.ados_mend.specs.steps.Accounting.{mark_at}
-use Rattle.ados_mend.specs.steps.Placing.{ArePlacesBelow, IsGivenIn}
-use Rattle.ados_mend.specs.steps.Reaching.{AreCells, form}
 use Rattle.ados_mend.proofs.Reaching.{few_pages, form_small, same_place}
 
 -- ---- the order of places

@@ -1,25 +1,10 @@
 -- Reached blocks while a walk finds them, and that it finds all.
 use Rattle.std.proofs.Common.{◌≡◌, ℕ, ◌+◌, ◌*◌, ◌-◌, ◌<◌, ◌≤◌, inl, inr, Bool, true, false, List, [], ◌∷◌, ◌++◌, length, get_or, Some, set, refl, sym, ap, ap₂, ◌∙◌, subst, arith}
-use Rattle.std.specs.List.{slice_get}
-use Rattle.std.proofs.lemmas.Bool.{cases_lt}
-use Rattle.std.proofs.lemmas.List.{length_push, get_or_push, get_or_append_left}
-use Rattle.std.proofs.lemmas.Option.{same_Some, slice_get-get_or, slice_get_within}
-use Rattle.adf_block.specs.declared.layout.TheConstants.{FIRST_PAGE, FIRST_POINTER, FIRST_SLOT, NEXT_EXTENSION, NEXT_IN_CHAIN}
-use Rattle.adf_block.specs.Image.{block_count, long, page_count}
-use Rattle.adf_block.specs.Whole.{IsImage}
-use Rattle.ados_faults.proofs.Insides.{root_inside}
-use Rattle.ados_check.proofs.PlaceLemmas.{place_within}
-use Rattle.ados_model.specs.declared.role.Role.{Role}
-use Rattle.ados_model.specs.declared.role.Role.TheVariants.{Root, Page, Entry, Data, Extension}
-use Rattle.ados_model.specs.Faults.{InImage, IsPlace, LeadsInside, Reached, root_of}
-use Rattle.ados_model.specs.Faults.IsPlace.{root_page, root_slot, directory_slot, next_entry, header_pointer, first_extension, extension_pointer, further_extension}
-use Rattle.ados_model.specs.Faults.Reached.{named, start}
-use Rattle.ados_mend.specs.Account.{IsReached}
+use Rattle.ados_mend.proofs.Common.{slice_get, cases_lt, length_push, get_or_push, get_or_append_left, same_Some, slice_get-get_or, slice_get_within, FIRST_PAGE, FIRST_POINTER, FIRST_SLOT, NEXT_EXTENSION, NEXT_IN_CHAIN, block_count, long, page_count, IsImage, root_inside, place_within, Role, Root, InImage, IsPlace, LeadsInside, Reached, root_of, root_page, root_slot, directory_slot, next_entry, header_pointer, first_extension, extension_pointer, further_extension, named, start, IsReached, naming_of, IsMarked, mark_at, unmarked, AreCells, AreKept, AreVisited, AreWalked, IsPassed, IsStep, form}
+use Rattle.ados_model.specs.declared.role.Role.TheVariants.{Page, Entry, Data, Extension}
 use Rattle.ados_mend.specs.declared.reached.Step.{Step}
 use Rattle.ados_mend.specs.declared.reached.Walk.{Walk}
-use Rattle.ados_mend.specs.Places.{naming_of}
-use Rattle.ados_mend.specs.steps.Accounting.{IsMarked, mark_at, unmarked}
-use Rattle.ados_mend.specs.steps.Reaching.{AreCells, AreKept, AreVisited, AreWalked, IsPassed, IsStep, cell, form}
+use Rattle.ados_mend.specs.steps.Reaching.{cell}
 use Rattle.ados_mend.proofs.Marking.{still_marked}
 use Rattle.ados_mend.proofs.Walking.{fewer_unmarked}
 

@@ -1,21 +1,12 @@
 -- The bitmap of a checked image is written from its marks, once its root says that it is not valid.
 use Rattle.std.proofs.Common.{◌≡◌, ℕ, ◌≤◌, inr, true, List, Option, refl, ◌∙◌, subst, arith}
-use Rattle.adf_block.specs.Frame.{SameBut}
-use Rattle.adf_block.specs.Image.{block_count, block_sum}
-use Rattle.adf_block.specs.Whole.{IsImage}
-use Rattle.adf_block.proofs.Frames.{same_sum, same_weaken}
+use Rattle.ados_mend.proofs.Common.{SameBut, block_count, block_sum, IsImage, same_sum, same_weaken, Reached, root_of, HasValidBitmap, IsOfBitmap, reached_marked, ShowsOnlyMendable, IsValidated, IsRootMark}
 use Rattle.ados_model.specs.declared.role.Role.TheVariants.{Page}
-use Rattle.ados_model.specs.Faults.{Reached, root_of}
-use Rattle.ados_model.specs.Rebuilt.{HasValidBitmap, IsOfBitmap}
 use Rattle.ados_check.specs.declared.mark.Mark.{Mark}
 use Rattle.ados_check.specs.Laws.{IsMended}
 use Rattle.ados_check.specs.Marks.{IsChecked, IsSound}
 use Rattle.ados_check.proofs.Accepted.{lawful_pages, mended_is_accepted}
 use Rattle.ados_check.proofs.Carried.{is_checked}
-use Rattle.ados_check.proofs.Roles.{reached_marked}
-use Rattle.ados_mend.specs.Mendable.{ShowsOnlyMendable}
-use Rattle.ados_mend.specs.Validated.{IsValidated}
-use Rattle.ados_mend.specs.steps.Settled.{IsRootMark}
 use Rattle.ados_mend.proofs.Anew.{anew}
 use Rattle.ados_mend.proofs.PageRoles.{page_of_reached}
 

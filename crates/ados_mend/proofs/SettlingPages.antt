@@ -1,14 +1,7 @@
 -- The bitmap blocks settled one after another, then the root's flag and checksum.
 use Rattle.std.proofs.Common.{◌≡◌, ℕ, ◌+◌, ◌<◌, inl, inr, List, sym, ap, ◌∙◌, arith}
-use Rattle.adf_block.specs.Frame.{OnlyLong, SameBut}
-use Rattle.adf_block.specs.Image.{block_count, block_sum, long, root_key}
-use Rattle.std.proofs.lemmas.Bool.{cases_lt}
-use Rattle.adf_block.proofs.Frames.{other_long, same_count, same_long, same_sum, same_trans, same_weaken}
+use Rattle.ados_mend.proofs.Common.{OnlyLong, SameBut, block_count, block_sum, long, root_key, cases_lt, other_long, same_count, same_long, same_sum, same_trans, same_weaken, LawfulPages, page_block, pages_of, root_of, HasValidBitmap, IsOfBitmap, HaveSums, IsRootMark, IsSettled}
 use Rattle.ados_map.specs.Changes.{InPages}
-use Rattle.ados_map.specs.Pages.{LawfulPages, page_block, pages_of}
-use Rattle.ados_model.specs.Faults.{root_of}
-use Rattle.ados_model.specs.Rebuilt.{HasValidBitmap, IsOfBitmap}
-use Rattle.ados_mend.specs.steps.Settled.{HaveSums, IsRootMark, IsSettled}
 use Rattle.ados_mend.proofs.PageRoles.{reached_of_page}
 
 module _ (old mid : List ℕ) (pages : LawfulPages old) (same : SameBut (InPages old) old mid) where

@@ -2,32 +2,15 @@
 -- has right checksums, a valid bitmap and no used block that is marked free, it represents the same tree with lost
 -- blocks.
 use Rattle.std.proofs.Common.{◌≡◌, ◌≢◌, ℕ, zero, suc, ◌+◌, ◌-◌, ◌/◌, ◌%◌, ◌<◌, ◌≤◌, ◌⊎◌, inl, inr, Bool, true, false, not, ◌&&◌, nat_le, nat_lt, if◌then◌else◌, List, ◌∷◌, length, slice_index, Option, Some, None, refl, sym, ap, ◌∙◌, subst, arith}
-use Rattle.std.proofs.lemmas.Bool.{and_parts, cases_Bool, cases_eq, cases_lt, false≢true, leb-true, le-leb, lt-ltb, ltb-true, not-true}
-use Rattle.std.proofs.lemmas.List.{get_or_default, get_or_past}
+use Rattle.ados_mend.proofs.Common.{and_parts, cases_Bool, cases_eq, cases_lt, false≢true, leb-true, le-leb, lt-ltb, ltb-true, not-true, get_or_default, get_or_past, COMMENT_BYTE, NAME_BYTE, NEXT_DATA, NEXT_EXTENSION, NEXT_IN_CHAIN, table_entry, SameBut, Chained, HasText, IsInside, block_count, block_sum, bytes_at, has_free_bit, long, page_count, HasFreeBit, same_bytes_at, same_long, same_sum, HasNoLost, InImage, Reached, root_of, root_page, named, start, file_byte, HasValidBitmap, IsOfBitmap, Duty, Fits, HasDuty, HasEntry, HasFile, HasNode, HasOfsData, HasRoot, Layout, Named, Stands, date_at, in_slot, LeadsToRoot, Node, Proper, Tree, root, StandsAt, count_same, reached_stands, root_is, serves_at, slice_get-index, without_lost}
 use Rattle.adf_block.specs.declared.layout.Format.{Format}
 use Rattle.adf_block.specs.declared.layout.Format.TheVariants.{Ffs, Ofs}
-use Rattle.adf_block.specs.declared.layout.TheConstants.{COMMENT_BYTE, NAME_BYTE, NEXT_DATA, NEXT_EXTENSION, NEXT_IN_CHAIN}
-use Rattle.adf_block.specs.Fields.{table_entry}
-use Rattle.adf_block.specs.Frame.{SameBut}
-use Rattle.adf_block.specs.Image.{Chained, HasText, IsInside, block_count, block_sum, bytes_at, has_free_bit, long, page_count}
-use Rattle.adf_block.specs.Whole.{HasFreeBit}
-use Rattle.adf_block.proofs.Frames.{same_bytes_at, same_long, same_sum}
 use Rattle.ados_data.proofs.Chains.{chained, next_of}
 use Rattle.ados_data.proofs.Reading.{length-bytes_at}
 use Rattle.ados_model.specs.declared.role.Role.TheVariants as roles
-use Rattle.ados_model.specs.Accepted.{HasNoLost}
-use Rattle.ados_model.specs.Faults.{InImage, Reached, root_of}
-use Rattle.ados_model.specs.Faults.IsPlace.{root_page}
-use Rattle.ados_model.specs.Faults.Reached.{named, start}
-use Rattle.ados_model.specs.File.{file_byte}
-use Rattle.ados_model.specs.Rebuilt.{HasValidBitmap, IsOfBitmap}
-use Rattle.ados_model.specs.Stands.{Duty, Fits, HasDuty, HasEntry, HasFile, HasNode, HasOfsData, HasRoot, Layout, Named, Stands, date_at, in_slot}
-use Rattle.ados_model.specs.Tree.{LeadsToRoot, Node, Proper, Tree, root}
 use Rattle.ados_model.specs.Tree.LeadsToRoot.{at_root, by_parent}
 use Rattle.ados_model.proofs.FileFaults.{chain_head}
 use Rattle.ados_model.proofs.OneTree.{one_tree}
-use Rattle.ados_model.proofs.Standing.{StandsAt, count_same, reached_stands, root_is, serves_at, slice_get-index}
-use Rattle.ados_mend.specs.Validated.{without_lost}
 
 module _ (a b : List ℕ) (u : Tree) (s : Stands a u) (same : SameBut (IsOfBitmap a) a b) where
   abbrev l : Layout

@@ -1,13 +1,9 @@
 -- The extension blocks of a file while they are marked, one by one.
 use Rattle.std.proofs.Common.{◌≡◌, ℕ, zero, suc, ◌<◌, ◌⊎◌, inl, inr, Bool, true, false, List, [], ◌∷◌, length, length-set, sym, ap, ◌∙◌, subst, arith}
 use Rattle.std.proofs.Math.ListN.{set}
-use Rattle.adf_block.specs.Image.{block_count}
-use Rattle.adf_block.specs.Fields.{parent_key}
-use Rattle.ados_model.specs.Faults.{InImage}
+use Rattle.ados_mend.proofs.Common.{block_count, parent_key, InImage, HasExtensionBlock, IsNextExtension, Adds, AreClosed, AreMarkedAfter, IsDamagedFile, IsMarked, IsNewAfter, IsOfDamaged, mark_at, unmarked}
 use Rattle.adf_salvage.specs.declared.salvaged.Salvaged.{Salvaged}
-use Rattle.ados_mend.specs.Account.{HasExtensionBlock, IsNextExtension}
 use Rattle.ados_mend.specs.Account.HasExtensionBlock.{first, further}
-use Rattle.ados_mend.specs.steps.Accounting.{Adds, AreClosed, AreMarkedAfter, IsDamagedFile, IsMarked, IsNewAfter, IsOfDamaged, mark_at, unmarked}
 use Rattle.ados_mend.proofs.Marking.{adds_none, marked_before, now_marked, still_marked}
 
 -- a mark is set

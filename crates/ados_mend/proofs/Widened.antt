@@ -1,13 +1,6 @@
 -- Two images that differ only in the bitmap of one have the same bitmap blocks.
 use Rattle.std.proofs.Common.{◌≡◌, ℕ, ◌+◌, ◌/◌, ◌<◌, ◌≤◌, inl, inr, List, refl, sym, ap, ◌∙◌, arith}
-use Rattle.adf_block.specs.Frame.{SameBut}
-use Rattle.adf_block.specs.Image.{block_count, long, root_key}
-use Rattle.adf_block.proofs.Frames.{same_count, same_long}
-use Rattle.ados_map.specs.Pages.{LawfulPages, page_block, pages_of}
-use Rattle.ados_model.specs.Faults.{root_of}
-use Rattle.ados_model.specs.Rebuilt.{IsOfBitmap}
-use Rattle.ados_model.proofs.Standing.{count_same}
-use Rattle.ados_mend.specs.steps.Settled.{ValidatedHasPages}
+use Rattle.ados_mend.proofs.Common.{SameBut, block_count, long, root_key, same_count, same_long, LawfulPages, page_block, pages_of, root_of, IsOfBitmap, count_same, ValidatedHasPages}
 use Rattle.ados_mend.proofs.PageFaults.{mendable_pages}
 use Rattle.ados_mend.proofs.PageRoles.{page_of_reached, reached_of_page}
 

@@ -1,18 +1,8 @@
 -- A text says that the port is closed only if the server has died, if the end knows it only then.
 use Rattle.std.proofs.Common.{◌≡◌, ℕ, ◌+◌, inl, inr, ⊎_elim, Bool, true, false, List, [], ◌++◌, length}
-use Rattle.std.specs.Prelude.{IsTrue}
 use Rattle.std.specs.Bool.{MatchBool}
-use Rattle.ados_model.specs.declared.packet.Packet.{Packet}
-use Rattle.ados_model.specs.declared.answer.Answer.{Answer}
-use Rattle.ados_port.specs.Lawful.{numbered}
-use Rattle.ados_port.specs.Reply.{Reply}
-use Rattle.adf_script.specs.declared.ending.ClientEnding.{ClientEnding}
-use Rattle.adf_script.specs.declared.ending.ClientEnding.TheVariants.{Done, Script, Tries}
-use Rattle.adf_script.specs.Lines.{kept_lines, is_too_long}
+use Rattle.ados_run.proofs.Common.{IsTrue, Packet, Answer, numbered, Reply, ClientEnding, Done, Script, Tries, kept_lines, is_too_long, reply_lines, closed_line, fault_line, ArePackets, NextPuts, NoneIsLeft, SpokenEnd, Spoken}
 use Rattle.adf_script.specs.Values.{answer_values}
-use Rattle.adf_script.specs.Text.{reply_lines, closed_line, fault_line}
-use Rattle.adf_script.specs.Packets.{ArePackets, NextPuts, NoneIsLeft}
-use Rattle.adf_script.specs.Spoken.{SpokenEnd, Spoken}
 
 end_closed : (client : ℕ) (lines : List (ℕ × List ℕ)) (answers : List Answer) (puts : ℕ) (knows died : Bool) (text : List ℕ) (ending : ClientEnding) → (knows ≡ true → died ≡ true)
     → SpokenEnd client lines answers puts knows text ending → SpokenEnd client lines answers puts died text ending

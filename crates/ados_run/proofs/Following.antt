@@ -1,23 +1,8 @@
 -- A history of a handler's port is one of its tree, side by side.
 use Rattle.std.proofs.Common.{◌≡◌, ℕ, Bool, List, [], ◌∷◌, map, take, refl, sym, ap, ◌∙◌, subst}
-use Rattle.std.proofs.lemmas.List.{take-map}
-use Rattle.ados_name.specs.declared.stamp.Date3.{Date3}
-use Rattle.ados_model.specs.Tree.{Tree}
-use Rattle.ados_model.specs.Stands.{Stands}
-use Rattle.ados_model.proofs.OneTree.{one_tree}
-use Rattle.ados_port.specs.History.{PortState, Event, PortHistory, Serving, Run, last_server, events_of, served_count, OutcomeFits}
-use Rattle.ados_port.specs.Lawful.{served_by, Lawful}
-use Rattle.ados_port.specs.Step.{Step}
-use Rattle.ados_port.specs.Outcome.{Outcome}
-use Rattle.ados_model.specs.declared.packet.Packet.{Packet}
-use Rattle.ados_model.specs.declared.answer.Answer.{Answer}
+use Rattle.ados_run.proofs.Common.{take-map, Date3, Tree, Stands, one_tree, PortState, Event, PortHistory, Serving, Run, last_server, events_of, served_count, OutcomeFits, served_by, Lawful, Step, Outcome, Packet, Answer, HandlerState, HandlerGives, BothSides, port_beside, both_died, handlers_of, beside, handler_died, ServesBoth}
 use Rattle.ados_model.specs.Meaning.{Meaning}
-use Rattle.ados_model.specs.Session.{HandlerState}
-use Rattle.ados_handler.specs.Gives.{HandlerGives}
 use Rattle.ados_run.specs.TreePort.{TreeState, means, tree_died, with_tree}
-use Rattle.ados_run.specs.Runs.{BothSides, port_beside}
-use Rattle.ados_run.specs.TreeLists.{both_died, handlers_of, beside, handler_died}
-use Rattle.ados_run.specs.Keeping.{ServesBoth}
 use Rattle.ados_run.specs.Laws.{EachSideIsAHistory, EachSideIsLawful, HistoriesFollowTrees, ListsFollowTrees}
 
 -- servers, each seen as another

@@ -1,14 +1,7 @@
 -- The output of the clients, from the results of their threads.
 use Rattle.std.proofs.Common.{◌≡◌, ℕ, zero, suc, List, [], ◌∷◌, length, map, Some, slice_get, refl, sym, ap, subst, ◌∙◌}
-use Rattle.std.proofs.lemmas.List.{length-map}
-use Rattle.std.proofs.lemmas.Option.{none-some}
-use Rattle.ados_model.specs.declared.packet.Packet.{Packet}
-use Rattle.ados_model.specs.declared.answer.Answer.{Answer}
-use Rattle.ados_port.specs.Ends.{ClientView}
+use Rattle.ados_run.proofs.Common.{length-map, none-some, Packet, Answer, ClientView, Grown, EachDid, ClientEnding, IsUnused, AreUnused, Tells, EachTells}
 use Rattle.ados_port.proofs.Gathers.{get_map}
-use Rattle.ados_port.specs.Grown.{Grown, EachDid}
-use Rattle.adf_script.specs.declared.ending.ClientEnding.{ClientEnding}
-use Rattle.ados_run.specs.Scripts.{IsUnused, AreUnused, Tells, EachTells}
 
 -- an element of a mapped list comes from an element of the list
 get_map_back : {X Y : Type 0} (f : X → Y) (xs : List X) (k : ℕ) (y : Y) → slice_get (map f xs) k ≡ Some y → (x : X) × (slice_get xs k ≡ Some x) × (f x ≡ y)

@@ -1,24 +1,13 @@
 -- After a handler's death each packet is refused and nothing changes.
 use Rattle.std.proofs.Common.{◌≡◌, ◌≢◌, ℕ, zero, suc, ◌+◌, pos, Bool, true, false, List, [], ◌∷◌, take, drop, slice_get, Some, MatchOption, arith, refl, sym, ap, ◌∙◌, subst, inl}
-use Rattle.std.specs.Prelude.{All}
 use Rattle.std.proofs.lemmas.List.Elements.{All-nil, All-cons}
-use Rattle.std.proofs.lemmas.Option.{none-some, same_Some}
 use Rattle.std.proofs.lemmas.Bool.{true≢false}
-use Rattle.ados_name.specs.declared.stamp.Date3.{Date3}
-use Rattle.ados_model.specs.Tree.{Tree}
-use Rattle.ados_port.specs.History.{Serving, Run, last_server}
-use Rattle.ados_model.specs.declared.packet.Packet.{Packet}
-use Rattle.ados_model.specs.declared.answer.Answer.{Answer}
+use Rattle.ados_run.proofs.Common.{All, none-some, same_Some, Date3, Tree, Serving, Run, last_server, Packet, Answer, Session, HandlerState, HandlerGives, handler_after, RestsAfter, handler_died, IsTooLate}
 use Rattle.ados_model.specs.declared.dos_error.DosError.TheVariants.{DeviceNotMounted}
-use Rattle.ados_model.specs.Session.{Session, HandlerState}
 use Rattle.ados_model.specs.Refusals.{first_refusal, refuse, refusals}
 use Rattle.ados_model.specs.Meaning.{Meaning, IsRefused, is_closing, is_number}
 use Rattle.ados_model.specs.Phrases.{ServedOrNoMemory}
-use Rattle.ados_handler.specs.Gives.{HandlerGives}
 use Rattle.ados_handler.specs.steps.Closes.{serves_closing}
-use Rattle.ados_run.specs.Runs.{handler_after, RestsAfter}
-use Rattle.ados_run.specs.TreeLists.{handler_died}
-use Rattle.ados_run.specs.Opened.{IsTooLate}
 use Rattle.ados_run.specs.Laws.{DeadHandlersRest}
 
 -- after death each packet is refused

@@ -1,23 +1,9 @@
 -- A run over the volume from `check`.
 use Rattle.std.proofs.Common.{◌≡◌, ℕ, Bool, true, false, List, ap, ◌∙◌, subst}
-use Rattle.ados_name.specs.declared.stamp.Date3.{Date3}
-use Rattle.ados_model.specs.Tree.{Tree}
-use Rattle.ados_model.specs.Stands.{Stands}
+use Rattle.ados_run.proofs.Common.{Date3, Tree, Stands, one_tree, PortState, opening_port, PortHistory, Step, Outcome, Packet, Answer, opening_session, HandlerState, HandlerGives, BothSides, FollowsTree, handler_over, port_beside, both_died, beside, handlers_of, handler_died, SaysValid, port_over, KeepsVolume, ServesBoth}
 use Rattle.ados_model.specs.Accepted.{Accepts}
-use Rattle.ados_model.proofs.OneTree.{one_tree}
-use Rattle.ados_port.specs.History.{PortState, opening_port, PortHistory}
-use Rattle.ados_port.specs.Step.{Step}
-use Rattle.ados_port.specs.Outcome.{Outcome}
 use Rattle.ados_port.proofs.Closing.{closed_after_death}
-use Rattle.ados_model.specs.declared.packet.Packet.{Packet}
-use Rattle.ados_model.specs.declared.answer.Answer.{Answer}
-use Rattle.ados_model.specs.Session.{opening_session, HandlerState}
-use Rattle.ados_handler.specs.Gives.{HandlerGives}
 use Rattle.ados_handler.specs.steps.Closes.{serves_dead}
-use Rattle.ados_run.specs.Runs.{BothSides, FollowsTree, handler_over, port_beside}
-use Rattle.ados_run.specs.TreeLists.{both_died, beside, handlers_of, handler_died}
-use Rattle.ados_run.specs.Opened.{SaysValid, port_over}
-use Rattle.ados_run.specs.Keeping.{KeepsVolume, ServesBoth}
 use Rattle.ados_run.proofs.Following.{handlers_run, histories_follow_trees}
 use Rattle.ados_run.proofs.Resting.{dead_handlers_rest}
 

@@ -1,26 +1,12 @@
 -- The output of a client's script so far, line by line.
 use Rattle.std.proofs.Common.{◌≡◌, ℕ, ◌+◌, inl, inr, Bool, true, false, List, [], ◌∷◌, ◌++◌, length, refl, sym, ap, subst, ◌∙◌, arith, length-append}
-use Rattle.std.specs.Prelude.{Option}
 use Rattle.std.specs.Bool.{MatchBool}
-use Rattle.std.proofs.lemmas.List.{map-append}
-use Rattle.ados_model.specs.declared.packet.Packet.{Packet}
-use Rattle.ados_model.specs.declared.answer.Answer.{Answer}
-use Rattle.ados_port.specs.Lawful.{numbered}
-use Rattle.ados_port.specs.Reply.{Reply}
-use Rattle.ados_port.specs.Ends.{ClientView}
+use Rattle.ados_run.proofs.Common.{Option, map-append, Packet, Answer, numbered, Reply, ClientView, ClientEnding, Done, Script, Tries, kept_lines, is_too_long, reply_line, reply_lines, closed_line, fault_line, no_reply_line, no_room_line, ArePackets, NextPuts, NextIsFaulty, SpokenEnd, Spoken, Replied, StoppedBy, stop_line, stop_ending, Tells}
 use Rattle.ados_port.specs.Gathering.{answers as answers_of}
-use Rattle.adf_script.specs.declared.ending.ClientEnding.{ClientEnding}
-use Rattle.adf_script.specs.declared.ending.ClientEnding.TheVariants.{Done, Script, Tries}
-use Rattle.adf_script.specs.Lines.{kept_lines, is_too_long}
 use Rattle.adf_script.specs.Values.{answer_value, answer_values}
-use Rattle.adf_script.specs.Text.{reply_line, reply_lines, closed_line, fault_line, no_reply_line, no_room_line}
-use Rattle.adf_script.specs.Packets.{ArePackets, NextPuts, NextIsFaulty}
-use Rattle.adf_script.specs.Spoken.{SpokenEnd, Spoken}
 use Rattle.adf_script.proofs.Pushing.{reply_lines-push, packets-push, packets-answered}
 use Rattle.ados_run.specs.declared.asking.Stopped.{Stopped}
 use Rattle.ados_run.specs.declared.asking.Stopped.TheVariants.{Closed, NoRoom, NoReply}
-use Rattle.ados_run.specs.Asking.{Replied, StoppedBy, stop_line, stop_ending}
-use Rattle.ados_run.specs.Scripts.{Tells}
 
 module _ (client : ℕ) (script : List ℕ) where
   -- after this many replies with these values: these packets were put, answered with these answers, and this text was

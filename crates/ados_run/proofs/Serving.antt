@@ -1,32 +1,12 @@
 -- Scripts over the volume of a handler, from the lists of the port's ends.
 use Rattle.std.proofs.Common.{◌≡◌, ℕ, zero, suc, ◌+◌, ◌<◌, ◌≤◌, Bool, List, [], ◌∷◌, ◌++◌, length, map, get_or, Some, None, slice_get, arith, refl, sym, ap, ◌∙◌, subst, ⊎_elim}
-use Rattle.std.specs.Prelude.{Vec}
 use Rattle.std.specs.declared.alloc.Global.{Global}
-use Rattle.std.proofs.lemmas.List.{length-map}
-use Rattle.std.proofs.lemmas.Option.{slice_get_within, slice_get_cases}
+use Rattle.ados_run.proofs.Common.{Vec, length-map, slice_get_within, slice_get_cases, Date3, Tree, Stands, one_tree, ClientLists, Lawful, Serving, Reply, ClientView, HandlerView, AreEnds, CloseMeansDeath, IsNew, Serves, Packet, Answer, opening_session, HandlerState, HandlerGives, ClientEnding, Spoken, Tells, EachTells, handler_over, both_died, beside, handlers_of, ListsFollowTree, handler_died, KeepsServed, ServesBoth}
 use mathlib.Core.List.{map-map}
-use Rattle.ados_name.specs.declared.stamp.Date3.{Date3}
-use Rattle.ados_model.specs.Tree.{Tree}
-use Rattle.ados_model.specs.Stands.{Stands}
-use Rattle.ados_model.proofs.OneTree.{one_tree}
-use Rattle.ados_port.specs.Lawful.{ClientLists, Lawful}
-use Rattle.ados_port.specs.History.{Serving}
-use Rattle.ados_port.specs.Reply.{Reply}
-use Rattle.ados_port.specs.Ends.{ClientView, HandlerView, AreEnds, CloseMeansDeath, IsNew, Serves}
 use Rattle.ados_port.specs.Gathering.{all_lists, lists_of}
 use Rattle.ados_port.proofs.Gathers.{get_map}
 use Rattle.ados_port.proofs.Replayed.{lists_have_a_history}
-use Rattle.ados_model.specs.declared.packet.Packet.{Packet}
-use Rattle.ados_model.specs.declared.answer.Answer.{Answer}
-use Rattle.ados_model.specs.Session.{opening_session, HandlerState}
-use Rattle.ados_handler.specs.Gives.{HandlerGives}
-use Rattle.adf_script.specs.declared.ending.ClientEnding.{ClientEnding}
-use Rattle.adf_script.specs.Spoken.{Spoken}
-use Rattle.ados_run.specs.Scripts.{Tells, EachTells}
-use Rattle.ados_run.specs.Runs.{handler_over}
-use Rattle.ados_run.specs.TreeLists.{both_died, beside, handlers_of, ListsFollowTree, handler_died}
 use Rattle.ados_run.specs.ServesVolume.{EachSpeaks}
-use Rattle.ados_run.specs.Keeping.{KeepsServed, ServesBoth}
 use Rattle.ados_run.proofs.Closed.{spoken_closed}
 use Rattle.ados_run.proofs.Following.{handlers_run, lists_follow_trees}
 use Rattle.ados_run.proofs.Resting.{dead_handlers_rest}

@@ -1,19 +1,7 @@
 -- A packet served in one way was served in each way that follows from it, by the same servers.
 use Rattle.std.proofs.Common.{ℕ, Bool, List, [], ◌∷◌, length}
-use Rattle.ados_name.specs.declared.stamp.Date3.{Date3}
-use Rattle.ados_port.specs.History.{PortState, opening_port, PortHistory, Serving, ServerMeaning, Run}
-use Rattle.ados_port.specs.Step.{Step}
-use Rattle.ados_port.specs.Outcome.{Outcome}
-use Rattle.ados_port.specs.Lawful.{ClientLists, Lawful}
-use Rattle.ados_model.specs.declared.packet.Packet.{Packet}
-use Rattle.ados_model.specs.declared.answer.Answer.{Answer}
-use Rattle.ados_model.specs.Session.{HandlerState}
-use Rattle.adf_script.specs.declared.ending.ClientEnding.{ClientEnding}
-use Rattle.ados_run.specs.Runs.{HandlerPort, PacketOutcomes, PacketSteps, BothSides, MeansBoth, handler_over, port_beside, RunsVolume, RunsWith}
-use Rattle.ados_run.specs.TreeLists.{both_died, beside}
-use Rattle.ados_run.specs.Opened.{port_over}
+use Rattle.ados_run.proofs.Common.{Date3, PortState, opening_port, PortHistory, Serving, ServerMeaning, Run, Step, Outcome, ClientLists, Lawful, Packet, Answer, HandlerState, ClientEnding, HandlerPort, PacketOutcomes, PacketSteps, BothSides, MeansBoth, handler_over, port_beside, RunsVolume, RunsWith, both_died, beside, port_over, ServesBoth}
 use Rattle.ados_run.specs.ServesVolume.{ServesVolume, ServesWith}
-use Rattle.ados_run.specs.Keeping.{ServesBoth}
 
 module _ {S Q M A : Type 0} (gives also : ServerMeaning S Q M A)
     (weaker : (old : S) (packet : Q) (moment : M) (new : S) (answer : A) → gives old packet moment new answer → also old packet moment new answer) where

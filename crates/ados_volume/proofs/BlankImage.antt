@@ -1,21 +1,11 @@
 -- An image of zeros with the kind, a blank root and its bitmap blocks is a blank image.
 use Rattle.std.proofs.Common.{◌≡◌, ℕ, ◌+◌, ◌-◌, ◌*◌, ◌<◌, ◌≤◌, ◌⊎◌, inl, inr, Bool, true, false, List, [], ◌∷◌, length, replicate, slice_index, refl, sym, ap, ◌∙◌, arith, zero-add}
-use Rattle.std.proofs.lemmas.Bool.{cases_lt, false≢true}
-use Rattle.std.proofs.lemmas.List.{get_or-replicate}
-use Rattle.adf_block.specs.declared.layout.Format.{Format}
-use Rattle.adf_block.specs.Image.{IsInside, block_count, byte_at, bytes_at, long, block_sum, root_key, page_count, has_free_bit, HasText}
-use Rattle.adf_block.specs.Whole.{IsSize}
-use Rattle.adf_block.specs.Frame.{SameBut, InBlock, OnlyBlock, Within}
-use Rattle.adf_block.proofs.Frames.{same_count, same_long, same_bytes_at, same_sum}
-use Rattle.ados_name.specs.declared.stamp.Date3.{Date3}
-use Rattle.ados_map.specs.Pages.{page_block, pages_of, HasBit}
+use Rattle.ados_volume.proofs.Common.{cases_lt, false≢true, get_or-replicate, Format, IsInside, block_count, byte_at, bytes_at, long, block_sum, root_key, page_count, has_free_bit, HasText, IsSize, SameBut, InBlock, OnlyBlock, Within, same_count, same_long, same_bytes_at, same_sum, Date3, page_block, pages_of, HasBit, date_at, format_byte, IsBlankRoot, IsBetweenFields, NamesBlank}
 use Rattle.ados_map.specs.Bits.{is_unnamed}
 use Rattle.ados_map.specs.Changes.{InPages, PagesRebuilt}
 use Rattle.ados_model.specs.declared.role.Role.TheVariants.{Root}
-use Rattle.ados_model.specs.Stands.{date_at, format_byte}
 use Rattle.ados_model.specs.Kept.{IsField}
 use Rattle.ados_model.specs.Blank.{IsBlank}
-use Rattle.ados_volume.specs.steps.BlankParts.{IsBlankRoot, IsBetweenFields, NamesBlank}
 use Rattle.ados_change.proofs.Texts.{bytes_put}
 
 -- the bitmap blocks after a blank root are lawful

@@ -1,10 +1,7 @@
 -- The blocks in use in a blank volume.
 use Rattle.std.proofs.Common.{◌≡◌, ℕ, ◌+◌, ◌<◌, ◌≤◌, inl, inr, Bool, true, false, not, ◌&&◌, nat_le, nat_lt, List, length, slice_index_or, refl, ap, ◌∙◌, arith, lt-ltb, le-ltb, le-leb}
-use Rattle.std.proofs.lemmas.Bool.{lt-leb}
-use Rattle.std.proofs.lemmas.List.{get_or_past}
-use Rattle.adf_block.specs.Image.{root_key, page_count}
+use Rattle.ados_volume.proofs.Common.{lt-leb, get_or_past, root_key, page_count, NamesBlank}
 use Rattle.ados_map.specs.Bits.{is_unnamed}
-use Rattle.ados_volume.specs.steps.BlankParts.{NamesBlank}
 
 pub names_blank : (n last : ℕ) (named : List Bool) → 16 ≤ n → last ≡ root_key n + 1 + page_count n → length named ≡ n
     → ((k : ℕ) → k < n → slice_index_or named k true ≡ (nat_le (root_key n) k && nat_lt k last)) → NamesBlank n named

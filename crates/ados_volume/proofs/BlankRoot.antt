@@ -1,13 +1,7 @@
 -- The fields of a blank root, written one after the other.
 use Rattle.std.proofs.Common.{◌≡◌, ◌≢◌, ℕ, ◌+◌, ◌-◌, ◌*◌, ◌/◌, ◌^◌, ◌<◌, ◌≤◌, ◌⊎◌, inl, inr, List, length, refl, sym, ap, ◌∙◌, subst, arith}
-use Rattle.adf_block.specs.Image.{byte_at, long, block_sum, root_key, page_count, HasText}
-use Rattle.adf_block.specs.Frame.{SameBut, AtLong, OnlyLong, Within}
-use Rattle.std.proofs.lemmas.Bool.{cases_lt, cases_eq}
-use Rattle.adf_block.proofs.Frames.{same_weaken, same_long, same_bytes_at}
+use Rattle.ados_volume.proofs.Common.{byte_at, long, block_sum, root_key, page_count, HasText, SameBut, AtLong, OnlyLong, Within, cases_lt, cases_eq, same_weaken, same_long, same_bytes_at, Date3, date_at, IsBlankRoot, HasBlankFields, IsBetweenFields}
 use Rattle.adf_block.proofs.Longs.{long-bytes}
-use Rattle.ados_name.specs.declared.stamp.Date3.{Date3}
-use Rattle.ados_model.specs.Stands.{date_at}
-use Rattle.ados_volume.specs.steps.BlankParts.{IsBlankRoot, HasBlankFields, IsBetweenFields}
 
 -- a long is four bytes
 pub within_long : (b i : ℕ) (old new : List ℕ) → OnlyLong b i old new → SameBut (Within b (4 * i) (4 * i + 4)) old new

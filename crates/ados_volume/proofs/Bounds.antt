@@ -1,18 +1,9 @@
 -- A bound below which no block is free, after a change.
 use Rattle.std.proofs.Common.{◌≡◌, ℕ, ◌/◌, ◌<◌, Bool, true, false, inl, inr, List, length, IsSome, refl, sym, ap, ◌∙◌, arith}
-use Rattle.std.proofs.lemmas.Bool.{false≢true}
-use Rattle.adf_block.specs.Image.{IsInside, block_count, has_free_bit}
-use Rattle.adf_block.specs.Whole.{HasFreeBit}
-use Rattle.adf_block.proofs.Frames.{same_count}
-use Rattle.ados_map.specs.Pages.{NoneFreeBelow, page_block, pages_of}
+use Rattle.ados_volume.proofs.Common.{false≢true, IsInside, block_count, has_free_bit, HasFreeBit, same_count, NoneFreeBelow, page_block, pages_of, Tree, Duty, Stands, KeepsRest, beside_pages, root_serves, OnlyRestamped, Restamped}
 use Rattle.ados_map.proofs.MarkLemmas.{bit_of_inside, mark_kept}
 use Rattle.ados_data.proofs.Bounds.{below_stays}
-use Rattle.ados_model.specs.Tree.{Tree}
-use Rattle.ados_model.specs.Stands.{Duty, Stands}
 use Rattle.ados_model.specs.Faults.{root_of}
-use Rattle.ados_change.specs.NewBlocks.{KeepsRest}
-use Rattle.ados_change.proofs.Writable.{beside_pages, root_serves}
-use Rattle.ados_change.specs.Places.{OnlyRestamped, Restamped}
 
 -- the boot blocks have no bit
 pub below_boot : (image : List ℕ) → NoneFreeBelow image 2

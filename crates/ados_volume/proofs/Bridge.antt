@@ -1,16 +1,8 @@
 -- In an image that represents a tree, the hash chains of its directories are lawful.
 use Rattle.std.proofs.Common.{◌≡◌, ◌≢◌, ℕ, ◌<◌, ◌==◌, List, Contains, Some, None, sym, ap, ◌∙◌, subst}
-use Rattle.std.proofs.lemmas.List.{get_or_default}
 use Rattle.std.proofs.lemmas.List.Kept.{AllPairs-filter}
-use Rattle.adf_block.specs.declared.layout.TheConstants.{NAME_BYTE}
-use Rattle.ados_name.specs.Name.{slot, IsName}
-use Rattle.ados_chain.specs.Chains.{LawfulChains, IsEntryBlock, name_at}
-use Rattle.ados_change.proofs.Writable.{inside, key_serves}
-use Rattle.ados_model.specs.Tree.{Node, Tree, LeadsToRoot, entries, name_of, parent_of}
+use Rattle.ados_volume.proofs.Common.{get_or_default, NAME_BYTE, slot, IsName, LawfulChains, IsEntryBlock, name_at, inside, key_serves, Node, Tree, LeadsToRoot, entries, name_of, parent_of, at_root, by_parent, Duty, Stands, in_slot, root_is, entry_at, IsEntryNode}
 use Rattle.ados_model.specs.Tree.Content.{Directory}
-use Rattle.ados_model.specs.Tree.LeadsToRoot.{at_root, by_parent}
-use Rattle.ados_model.specs.Stands.{Duty, Stands, in_slot}
-use Rattle.ados_model.proofs.Standing.{root_is, entry_at, IsEntryNode}
 use Rattle.ados_model.proofs.NoFaults.{text_is}
 
 module _ (image : List ℕ) (t : Tree) (s : Stands image t) where

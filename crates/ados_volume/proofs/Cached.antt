@@ -1,22 +1,10 @@
 -- The results of the cache of children, and its contents.
 use Rattle.std.proofs.Common.{◌≡◌, ℕ, zero, suc, ◌-◌, Bool, true, ◌==◌, ◌&&◌, inl, inr, List, [], ◌∷◌, ◌++◌, map, length, take, drop, replicate, find, Contains, Option, Some, None, Result, OnOk, OnErr, IfSome, bytes_eq, refl, sym, ap, ap₂, ◌∙◌, subst, eq-eqb, arith}
-use Rattle.std.specs.Map.{lookup, remove_entry, keys_of}
-use Rattle.std.specs.List.{IsDistinct}
-use Rattle.std.proofs.lemmas.Bool.{and_parts, and_from, eqb-true}
 use Rattle.std.specs.Char.{to_ascii_uppercase}
 use Rattle.std.proofs.lemmas.Bool.Decides.{nat_tests}
-use Rattle.std.proofs.lemmas.List.{length-map, map-append, take_at, drop-replicate}
-use Rattle.std.proofs.lemmas.Slice.Eq.{bytes_eq-Decides}
-use Rattle.lru.specs.LruCache.{LruCache, lru_cache, promoted, put_entries}
-use Rattle.lru.proofs.CallerLemmas.{Contains-promoted, Contains-remove_entry}
-use Rattle.ados_name.specs.Name.{upper, Same}
+use Rattle.ados_volume.proofs.Common.{lookup, remove_entry, keys_of, IsDistinct, and_parts, and_from, eqb-true, length-map, map-append, take_at, drop-replicate, bytes_eq-Decides, LruCache, lru_cache, promoted, put_entries, Contains-promoted, Contains-remove_entry, upper, Same, Tree, entries, name_of, Stands, child_of, Sought, Seeks, HasPair, Adds, AddsNone, TakesOut, AreChildren}
 use Rattle.lru.proofs.Splits.{Contains-nil}
-use Rattle.ados_model.specs.Tree.{Tree, entries, name_of}
-use Rattle.ados_model.specs.Stands.{Stands}
-use Rattle.ados_model.specs.Change.{child_of}
-use Rattle.ados_volume.specs.declared.cache.Sought.{Sought}
 use Rattle.ados_volume.proofs.Pairs.{found_pair, gone, put_pair}
-use Rattle.ados_volume.specs.steps.Cache.{Seeks, HasPair, Adds, AddsNone, TakesOut, AreChildren}
 
 -- how keys of the cache are compared
 abbrev pub same_sought : Sought → Sought → Bool

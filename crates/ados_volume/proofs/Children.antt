@@ -1,16 +1,6 @@
 -- Cached children after a change of the tree.
 use Rattle.std.proofs.Common.{◌≡◌, ℕ, inl, inr, List, map, Contains, Option, Some, None, option_map, refl, sym, ap, ◌∙◌, subst, eq-eqb}
-use Rattle.std.proofs.lemmas.Bool.{ne_eqb, cases_eq}
-use Rattle.std.proofs.lemmas.Slice.Eq.{bytes_eq-Decides}
-use Rattle.ados_name.specs.Name.{upper, Same}
-use Rattle.ados_model.specs.Tree.{Node, Tree, entries, entries_in, name_of}
-use Rattle.ados_model.specs.Parts.{name_in}
-use Rattle.ados_model.specs.Stands.{Stands}
-use Rattle.ados_model.specs.Change.{child_of, changed}
-use Rattle.ados_model.proofs.OneTree.{one_tree}
-use Rattle.ados_volume.specs.declared.cache.Sought.{Sought}
-use Rattle.ados_volume.specs.steps.Cache.{HasPair, AreChildren}
-use Rattle.ados_volume.specs.steps.Listed.{AreListed}
+use Rattle.ados_volume.proofs.Common.{ne_eqb, cases_eq, bytes_eq-Decides, upper, Same, Node, Tree, entries, entries_in, name_of, name_in, Stands, child_of, changed, one_tree, Sought, HasPair, AreChildren, AreListed}
 use Rattle.ados_volume.proofs.Looking.{is_child}
 use Rattle.ados_volume.proofs.Walking.{find-is}
 

@@ -1,11 +1,7 @@
 -- A walk up from directory to directory, and whether it meets a key.
 use Rattle.std.proofs.Common.{◌≡◌, ◌≢◌, ℕ, zero, suc, ◌==◌, Bool, true, false, [], Some, None, ap}
 use Rattle.std.specs.Prelude.{◌||◌}
-use Rattle.std.specs.List.{list_any}
-use Rattle.std.specs.Option.{option_map_or}
-use Rattle.std.proofs.lemmas.Bool.{eq-eqb, ne_eqb}
-use Rattle.ados_model.specs.Tree.{Tree, parent_of}
-use Rattle.ados_model.specs.Objects.{upward}
+use Rattle.ados_volume.proofs.Common.{list_any, option_map_or, eq-eqb, ne_eqb, Tree, parent_of, upward}
 
 -- the key is `above`, or n steps up meet it
 abbrev pub meets : Tree → ℕ → ℕ → ℕ → Bool

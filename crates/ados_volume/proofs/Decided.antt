@@ -1,10 +1,7 @@
 -- The result of `check` decides.
 use Rattle.std.proofs.Common.{ℕ, Bool, true, false, inl, inr, List, Ok, Err, refl}
-use Rattle.std.proofs.lemmas.Bool.{false≢true}
+use Rattle.ados_volume.proofs.Common.{false≢true, Stands, Tree, one_tree}
 use Rattle.ados_model.specs.Accepted.{Accepts, ShowsNoFault}
-use Rattle.ados_model.specs.Stands.{Stands}
-use Rattle.ados_model.specs.Tree.{Tree}
-use Rattle.ados_model.proofs.OneTree.{one_tree}
 use Rattle.ados_volume.specs.Checked.{StandsForOne, CheckDecides}
 
 stands_for_one : (image : List ℕ) (t : Tree) → Stands image t → StandsForOne image

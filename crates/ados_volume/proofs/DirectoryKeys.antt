@@ -1,15 +1,6 @@
 -- The progress of a walk over one directory.
 use Rattle.std.proofs.Common.{◌≡◌, ◌≢◌, ℕ, ◌<◌, ◌≤◌, inl, inr, List, [], ◌∷◌, ◌++◌, length, Contains, Some, sym, ap, ◌∙◌, subst, arith, append_assoc, length-append}
-use Rattle.std.proofs.lemmas.Option.{same_Some}
-use Rattle.std.proofs.lemmas.List.Elements.{Contains-append_right}
-use Rattle.ados_model.specs.Tree.{behind, Tree, Proper, entries, parent_of}
-use Rattle.ados_chain.specs.Look.{first_left}
-use Rattle.ados_chain.specs.declared.read.Next.TheVariants.{Entry}
-use Rattle.ados_model.proofs.KeyLists.{Once, Once-before, Contains-cases, Contains-here, length-once}
-use Rattle.ados_chain.proofs.Order.{behind-found, first-entry}
-use Rattle.ados_model.specs.Change.{entries_after}
-use Rattle.ados_model.proofs.Nodes.{entry_node}
-use Rattle.ados_change.specs.Conditions.IsUnder.{itself}
+use Rattle.ados_volume.proofs.Common.{same_Some, Contains-append_right, behind, Tree, Proper, entries, parent_of, first_left, Entry, Once, Once-before, Contains-cases, Contains-here, length-once, behind-found, first-entry, entries_after, entry_node, itself}
 use Rattle.ados_volume.proofs.Loops.{no_loop}
 
 -- these keys of a directory were listed, and those after the last of them are left

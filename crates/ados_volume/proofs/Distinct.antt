@@ -1,8 +1,7 @@
 -- Lists without duplicates.
 use Rattle.std.proofs.Common.{◌≡◌, ℕ, inl, inr, List, [], ◌∷◌, ◌++◌, reverse, Contains, sym, subst, arith}
-use Rattle.std.proofs.lemmas.List.{reverse-append}
-use Rattle.std.proofs.lemmas.List.Elements.{Contains-append_cases}
-use Rattle.ados_model.proofs.KeyLists.{Once, Once-tail, Once-head, Contains-cases, Contains-here, Contains-later, Contains-nil, Once-append}
+use Rattle.ados_volume.proofs.Common.{reverse-append, Contains-append_cases, Once, Once-tail, Once-head, Contains-cases, Contains-here, Contains-later, Once-append}
+use Rattle.ados_model.proofs.KeyLists.{Contains-nil}
 
 pub Once-nil : Once []
 Once-nil i j d l m = absurd (omega arith)

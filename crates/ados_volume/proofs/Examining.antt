@@ -1,17 +1,7 @@
 -- The description of a node by its block.
 use Rattle.std.proofs.Common.{◌≡◌, ◌≢◌, ℕ, ◌+◌, ◌-◌, ◌*◌, ◌≤◌, inl, inr, true, false, List, length, take, drop, Option, Some, pos, negsuc, refl, sym, ap, ◌∙◌, arith}
-use Rattle.std.proofs.lemmas.Bool.{false≢true, true≢false}
-use Rattle.std.proofs.lemmas.List.{drop-drop, drop-take, take-take}
-use Rattle.adf_block.specs.declared.layout.Format.{Format}
-use Rattle.adf_block.specs.Image.{block_count, bytes_at, root_key}
-use Rattle.ados_model.specs.Tree.{data_count, extension_count, Content, Node, Tree, cost_in}
-use Rattle.ados_model.specs.Parts.{size_in}
+use Rattle.ados_volume.proofs.Common.{false≢true, true≢false, drop-drop, drop-take, take-take, Format, block_count, bytes_at, root_key, data_count, extension_count, Content, Node, Tree, cost_in, size_in, Stands, HasEntry, is_file, holds_file, root_or_parent, root_is, entry_type}
 use Rattle.ados_model.specs.Tree.Content.{Directory, File}
-use Rattle.ados_model.specs.Stands.{Stands, HasEntry}
-use Rattle.ados_model.specs.Change.{is_file, holds_file}
-use Rattle.ados_model.proofs.Nodes.{root_or_parent}
-use Rattle.ados_model.proofs.Standing.{root_is}
-use Rattle.ados_model.specs.Objects.{entry_type}
 
 -- bytes of a block, from the list of all its bytes
 pub part_of_block : (image : List ℕ) (b i n : ℕ) (xs : List ℕ) → xs ≡ bytes_at image b 0 512 → i + n ≤ 512 → take n (drop i xs) ≡ bytes_at image b i n

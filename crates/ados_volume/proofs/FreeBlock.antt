@@ -1,14 +1,7 @@
 -- Free space for one more entry, and its key.
 use Rattle.std.proofs.Common.{◌≡◌, ℕ, ◌+◌, ◌-◌, Bool, true, false, cond, nat_lt, List, Some, None, Option, is_some, refl, sym, ap, ◌∙◌, arith}
-use Rattle.adf_block.specs.Image.{block_count, has_free_bit}
-use Rattle.ados_map.specs.Pages.{IsLowestFree, NoneFree}
-use Rattle.ados_name.specs.Name.{IsName}
-use Rattle.ados_model.specs.Tree.{Tree}
-use Rattle.ados_model.specs.Stands.{Stands, Duty}
-use Rattle.ados_model.specs.Change.{child_of}
-use Rattle.ados_model.proofs.Counting.{free_bits_count}
+use Rattle.ados_volume.proofs.Common.{block_count, has_free_bit, IsLowestFree, NoneFree, IsName, Tree, Stands, Duty, child_of, free_bits_count, CanMake, IsDirectoryKey}
 use Rattle.ados_model.proofs.Totals.{total-zero}
-use Rattle.ados_change.specs.Conditions.{CanMake, IsDirectoryKey}
 use Rattle.ados_change.proofs.Making.{unused}
 use Rattle.ados_model.specs.Reads.{lacks}
 use Rattle.ados_model.specs.Success.{IsNewKey}

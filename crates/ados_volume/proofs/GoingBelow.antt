@@ -1,14 +1,8 @@
 -- The progress of a walk over everything below a directory.
 use Rattle.std.proofs.Common.{◌≡◌, ◌≢◌, ℕ, suc, ◌+◌, ◌<◌, Option, Some, inl, inr, List, [], ◌∷◌, ◌++◌, length, map, reverse, Contains, IsSome, is_some, refl, sym, ap, ◌∙◌, subst, arith, append_assoc, length-append}
-use Rattle.std.proofs.lemmas.List.{append-nil, map-append, reverse-append, reverse-reverse}
-use Rattle.std.proofs.lemmas.List.Elements.{Contains-append_cases, Contains-append_left, Contains-append_right}
-use Rattle.ados_model.proofs.KeyLists.{Once, Once-before, Once-front, Contains-cases, Contains-here, Contains-later, Contains-nil, length-once, Once-append}
-use Rattle.ados_model.specs.Tree.{Tree, Proper, entries, parent_of}
-use Rattle.ados_model.proofs.Nodes.{parent_in}
-use Rattle.ados_change.specs.Conditions.{IsUnder}
-use Rattle.ados_change.specs.Conditions.IsUnder.{itself, by_parent as under_parent}
-use Rattle.ados_volume.specs.declared.below.Below.{Below}
-use Rattle.ados_volume.specs.Below.{AreBelow, HasGrown, placed}
+use Rattle.ados_volume.proofs.Common.{append-nil, map-append, reverse-append, reverse-reverse, Contains-append_cases, Contains-append_left, Contains-append_right, Once, Once-before, Once-front, Contains-cases, Contains-here, Contains-later, length-once, Once-append, Tree, Proper, entries, parent_of, parent_in, IsUnder, itself, Below, AreBelow, HasGrown, placed}
+use Rattle.ados_model.proofs.KeyLists.{Contains-nil}
+use Rattle.ados_change.specs.Conditions.IsUnder.{by_parent as under_parent}
 use Rattle.ados_volume.proofs.Loops.{no_loop}
 use Rattle.ados_volume.proofs.Distinct.{Once-nil, Once-one, Once-reverse, Contains-one, Contains-reverse}
 use Rattle.ados_volume.proofs.Waiting.{Following, inside, parted}

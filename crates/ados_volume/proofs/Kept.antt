@@ -1,15 +1,8 @@
 -- The results and contents of the caches of places and of listed entries.
 use Rattle.std.proofs.Common.{◌≡◌, ℕ, nat_eq, ◌==◌, inl, inr, List, [], Contains, Option, Some, Result, OnOk, OnErr, IsTrue, refl, sym, subst, eq-eqb, eqb-true}
-use Rattle.std.specs.Map.{lookup, remove_entry, keys_of}
-use Rattle.std.specs.List.{IsDistinct}
-use Rattle.lru.specs.LruCache.{LruCache, lru_cache, put_entries}
-use Rattle.lru.proofs.CallerLemmas.{Contains-remove_entry}
+use Rattle.ados_volume.proofs.Common.{lookup, remove_entry, keys_of, IsDistinct, LruCache, lru_cache, put_entries, Contains-remove_entry, Place, IsPlace, AreKnown, Drops, AreListed}
 use Rattle.lru.proofs.Splits.{Contains-nil}
-use Rattle.ados_data.specs.declared.place.Place.{Place}
 use Rattle.ados_volume.proofs.Pairs.{found_pair, gone, put_pair}
-use Rattle.ados_data.specs.Place.{IsPlace}
-use Rattle.ados_volume.specs.steps.Places.{AreKnown, Drops}
-use Rattle.ados_volume.specs.steps.Listed.{AreListed}
 
 -- a found place is one in the file
 pub found_place : (pairs : List (ℕ × Place)) (file : ℕ) (place : Place) → lookup (λ k. file == k) pairs ≡ Some place → (image : List ℕ) → AreKnown image pairs → IsPlace image file place

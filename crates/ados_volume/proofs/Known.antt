@@ -1,28 +1,11 @@
 -- Cached places in files after a change.
 use Rattle.std.proofs.Common.{◌≡◌, ◌≢◌, ℕ, zero, suc, ◌+◌, ◌-◌, ◌≤◌, inl, inr, List, [], ◌∷◌, ◌++◌, length, take, drop, replicate, slice_index, Contains, Option, Some, None, option_map, refl, sym, ap, ap₂, ◌∙◌, subst, arith, eq-eqb}
-use Rattle.std.proofs.lemmas.Bool.{ne_eqb, cases_eq}
-use Rattle.std.proofs.lemmas.List.{length-append, length-take, length-drop}
+use Rattle.ados_volume.proofs.Common.{ne_eqb, cases_eq, length-append, length-take, length-drop, Format, Ofs, Ffs, Date3, data_count, extension_count, Content, Node, Tree, content_at, bytes_of, size_of, size_in, Place, LawfulFile, extension_blocks, IsAmong, HasFileKey, Stands, changed, rewritten, written, grown, overlaid, without_archive, KeepsRest, one_tree, format_is, file_writable, AreKnown, Drops, IsKnown}
 use Rattle.lru.proofs.Splits.{Contains-nil}
-use Rattle.adf_block.specs.declared.layout.Format.{Format}
-use Rattle.adf_block.specs.declared.layout.Format.TheVariants.{Ofs, Ffs}
-use Rattle.ados_name.specs.declared.stamp.Date3.{Date3}
-use Rattle.ados_model.specs.Tree.{data_count, extension_count, Content, Node, Tree, content_at, bytes_in as bytes_held, bytes_of, size_of}
-use Rattle.ados_model.specs.Parts.{size_in}
-use Rattle.ados_data.specs.declared.place.Place.{Place}
-use Rattle.ados_model.specs.File.{LawfulFile, extension_blocks}
-use Rattle.ados_data.specs.Place.{IsAmong}
+use Rattle.ados_model.specs.Tree.{bytes_in as bytes_held}
 use Rattle.ados_model.specs.Tree.Content.{File}
-use Rattle.ados_model.specs.Keys.{HasFileKey}
-use Rattle.ados_model.specs.Stands.{Stands}
-use Rattle.ados_model.specs.Change.{changed, rewritten, written}
-use Rattle.ados_model.specs.Edits.{grown, overlaid}
-use Rattle.ados_name.specs.Name.{without_archive}
-use Rattle.ados_change.specs.NewBlocks.{KeepsRest}
 use Rattle.ados_change.specs.Untold.{AgreeInFront}
-use Rattle.ados_model.proofs.OneTree.{one_tree}
-use Rattle.ados_change.proofs.Writable.{format_is}
-use Rattle.ados_change.proofs.Renewed.{bytes_in, file_writable}
-use Rattle.ados_volume.specs.steps.Places.{AreKnown, Drops, IsKnown}
+use Rattle.ados_change.proofs.Renewed.{bytes_in}
 
 -- a file with at least as many bytes has at least as many extension blocks
 more_extensions : (format : Format) (m n : ℕ) → m ≤ n → extension_count (data_count format m) ≤ extension_count (data_count format n)

@@ -1,5 +1,6 @@
 -- `check` decides; blank images; the description of a tree by its image; the caches through each change; the bound of
 -- free blocks; everything below a directory; and the owners of blocks.
+pub mod Common
 pub mod Decided
 pub mod BlankRoot
 pub mod BlankMarks

@@ -1,13 +1,6 @@
 -- The next entry of a directory after a key is a node.
 use Rattle.std.proofs.Common.{◌≡◌, ℕ, List, Some, refl, sym}
-use Rattle.ados_chain.specs.Look.{first_left}
-use Rattle.ados_chain.specs.declared.read.Next.TheVariants.{Entry}
-use Rattle.ados_chain.proofs.Order.{behind-later, first-entry}
-use Rattle.ados_model.specs.Tree.{Node, Tree, Proper, entries}
-use Rattle.ados_model.specs.Change.{entries_after}
-use Rattle.ados_model.specs.Stands.{Stands}
-use Rattle.ados_model.specs.Keys.{HasKey}
-use Rattle.ados_model.proofs.Nodes.{entry_node}
+use Rattle.ados_volume.proofs.Common.{first_left, Entry, behind-later, first-entry, Node, Tree, Proper, entries, entries_after, Stands, HasKey, entry_node}
 
 -- the entry after a key has a node
 pub next_node : (t : Tree) → Proper t → (dir key next : ℕ) → first_left (entries_after t dir key) ≡ Entry next → (node : Node) × (t.nodes next ≡ Some node)

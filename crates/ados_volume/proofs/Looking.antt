@@ -1,25 +1,11 @@
 -- The tree, in terms of the hash chains, files and longs of its image.
 use Rattle.std.proofs.Common.{◌≡◌, ℕ, zero, suc, ◌+◌, inl, inr, Bool, true, false, nat_eq, ◌==◌, List, [], ◌∷◌, ◌++◌, map, find, Contains, Option, Some, None, IsSome, bytes_eq, refl, sym, ap, ◌∙◌, subst, arith, eq-eqb, zero-add}
-use Rattle.std.proofs.lemmas.Bool.{false≢true}
-use Rattle.std.proofs.lemmas.List.{append-nil}
-use Rattle.std.proofs.lemmas.List.Elements.{Contains-append_right}
-use Rattle.std.proofs.lemmas.Slice.Eq.{bytes_eq-Decides}
-use Rattle.ados_name.specs.Name.{upper, slot, Same}
+use Rattle.ados_volume.proofs.Common.{false≢true, append-nil, Contains-append_right, bytes_eq-Decides, upper, slot, Same, long, FILE_TYPE, InChains, LawfulChains, name_at, chains_from, entries_of, behind, Content, Node, Tree, root, content_at, entries, name_of, FindsNamed, first_left, Contains-here, Contains-later, Contains-cases, Entry, behind-later, chains_from-split, entry-in_chains, first-entry, Stands, type_of, in_slot, child_of, is_file, holds_file, entries_after, some_in, content_in, entry_node, entries_by_slot, root_or_parent}
 use Rattle.ados_name.specs.Path.{SameNameSameSlot}
-use Rattle.adf_block.specs.Image.{long}
-use Rattle.adf_block.specs.declared.layout.TheConstants.{FILE_TYPE}
-use Rattle.ados_chain.specs.Chains.{InChains, LawfulChains, name_at, chains_from, entries_of}
-use Rattle.ados_model.specs.Tree.{behind, Content, Node, Tree, root, content_at, entries, name_of}
-use Rattle.ados_chain.specs.Look.{FindsNamed, first_left}
-use Rattle.ados_model.proofs.KeyLists.{Contains-here, Contains-later, Contains-cases, Contains-nil}
+use Rattle.ados_model.proofs.KeyLists.{Contains-nil}
 use Rattle.ados_chain.proofs.Found.{listed_same}
-use Rattle.ados_chain.specs.declared.read.Next.TheVariants.{Entry}
-use Rattle.ados_chain.proofs.Order.{behind-later, chains_from-split, entry-in_chains, first-entry}
 use Rattle.ados_model.specs.Tree.Content.{Directory, File}
-use Rattle.ados_model.specs.Stands.{Stands, type_of, in_slot}
-use Rattle.ados_model.specs.Change.{child_of, is_file, holds_file, entries_after}
 use Rattle.ados_model.proofs.Lists.{joined}
-use Rattle.ados_model.proofs.Nodes.{some_in, content_in, entry_node, entries_by_slot, root_or_parent}
 use Rattle.ados_volume.proofs.Bridge.{lawful_chains, name_is}
 use Rattle.ados_change.proofs.Entering.{Contains-part, Contains-passes}
 

@@ -1,10 +1,7 @@
 -- No object is below an object that it holds.
 use Rattle.std.proofs.Common.{◌≡◌, ℕ, Some, None, refl, sym, ap, ◌∙◌, subst}
-use Rattle.std.specs.Prelude.{option_and_then}
-use Rattle.ados_model.specs.Tree.{Tree, Proper, LeadsToRoot, parent_of, root}
-use Rattle.ados_model.specs.Tree.LeadsToRoot.{at_root, by_parent}
-use Rattle.ados_change.specs.Conditions.{IsUnder}
-use Rattle.ados_change.specs.Conditions.IsUnder.{itself, by_parent as under_parent}
+use Rattle.ados_volume.proofs.Common.{option_and_then, Tree, Proper, LeadsToRoot, parent_of, root, at_root, by_parent, IsUnder, itself}
+use Rattle.ados_change.specs.Conditions.IsUnder.{by_parent as under_parent}
 
 module _ (t : Tree) (proper : Proper t) where
   pub no_parent : (key dir : ℕ) → key ≡ root t → parent_of t key ≡ Some dir → ⊥

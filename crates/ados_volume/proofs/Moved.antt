@@ -1,17 +1,8 @@
 -- Cached children after an entry is made, removed or moved.
 use Rattle.std.proofs.Common.{◌≡◌, ◌≢◌, ℕ, inl, inr, List, [], filter, not, ◌==◌, Contains, Option, Some, None, IsSome, is_some, option_map, refl, sym, ap, ◌∙◌, subst}
-use Rattle.std.specs.Option.{option_map_or}
-use Rattle.std.proofs.lemmas.Bool.{cases_eq}
+use Rattle.ados_volume.proofs.Common.{option_map_or, cases_eq, Date3, Same, slot, Content, Node, Tree, Proper, content_at, entries, entries_in, name_of, parent_of, name_in, Stands, child_of, with_node, changed, listed, enter, entered, left, made, removed, renamed, new_node, content_in, directory_in, entry_node, parent_in}
 use Rattle.ados_model.proofs.KeyLists.{Contains-nil}
-use Rattle.ados_name.specs.declared.stamp.Date3.{Date3}
-use Rattle.ados_name.specs.Name.{Same, slot}
-use Rattle.ados_model.specs.Tree.{Content, Node, Tree, Proper, content_at, entries, entries_in, name_of, parent_of}
-use Rattle.ados_model.specs.Parts.{name_in}
 use Rattle.ados_model.specs.Tree.Content.{Directory}
-use Rattle.ados_model.specs.Stands.{Stands}
-use Rattle.ados_model.specs.Change.{child_of, with_node, changed, listed, enter, entered, left, made, removed, renamed}
-use Rattle.ados_model.specs.Edits.{new_node}
-use Rattle.ados_model.proofs.Nodes.{content_in, directory_in, entry_node, parent_in}
 use Rattle.ados_change.proofs.Changed.{nodes_other, changed_keeps, listed_names, listed_here, listed_other}
 use Rattle.ados_change.proofs.Entering.{Contains-enter_kept, Contains-stays}
 use Rattle.ados_volume.proofs.Children.{Stays, AllStay, child_there}

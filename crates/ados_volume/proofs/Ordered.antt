@@ -1,14 +1,8 @@
 -- From which keys a directory can be listed further.
 use Rattle.std.proofs.Common.{◌≡◌, ◌≢◌, ℕ, inl, inr, Bool, true, false, cond, ◌==◌, List, [], ◌∷◌, Contains, Some, IsSome, refl, sym, ◌∙◌, subst, eq-eqb, eqb-true}
-use Rattle.std.proofs.lemmas.Bool.{false≢true}
-use Rattle.ados_model.specs.Tree.{behind, Tree, entries}
-use Rattle.ados_chain.specs.Look.{first_left}
-use Rattle.ados_chain.specs.declared.read.Next.TheVariants.{Entry}
-use Rattle.ados_model.proofs.KeyLists.{Contains-here, Contains-later, Contains-cases, Contains-nil}
-use Rattle.ados_model.specs.Stands.{Stands}
-use Rattle.ados_model.specs.Change.{entries_after}
+use Rattle.ados_volume.proofs.Common.{false≢true, behind, Tree, entries, first_left, Entry, Contains-here, Contains-later, Contains-cases, Stands, entries_after, IsListed}
+use Rattle.ados_model.proofs.KeyLists.{Contains-nil}
 use Rattle.ados_volume.specs.Order.{IsPlaceIn}
-use Rattle.ados_volume.specs.steps.Listed.{IsListed}
 use Rattle.ados_volume.proofs.Looking.{next_listed}
 
 -- a key in the list is followed by something, or by the end

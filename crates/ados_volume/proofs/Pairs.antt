@@ -1,11 +1,7 @@
 -- The pairs of a cache by its calls, for keys that are equal exactly if their comparison says so.
 use Rattle.std.proofs.Common.{◌≡◌, Bool, true, false, ◌⊎◌, inl, inr, List, [], ◌∷◌, Contains, Option, Some, Result, Ok, Err, OnOk, OnErr, refl, sym, ap, ◌∙◌, subst}
-use Rattle.std.specs.Map.{lookup, remove_entry, keys_of}
-use Rattle.std.specs.List.{AllByRecursion, IsDistinct}
-use Rattle.std.proofs.lemmas.Bool.{false≢true}
-use Rattle.lru.specs.LruCache.{LruCache, lru_cache, put_entries}
-use Rattle.lru.proofs.CallerLemmas.{Contains-lookup, Contains-put_entries}
-use Rattle.lru.proofs.Splits.{Contains-nil, Contains-cons}
+use Rattle.ados_volume.proofs.Common.{lookup, remove_entry, keys_of, AllByRecursion, IsDistinct, false≢true, LruCache, lru_cache, put_entries, Contains-lookup, Contains-put_entries, Contains-cons}
+use Rattle.lru.proofs.Splits.{Contains-nil}
 
 module _ {K V : Type 0} (eq : K → K → Bool) (same : (a b : K) → eq a b ≡ true → a ≡ b) (itself : (a : K) → eq a a ≡ true) where
   -- a found value belongs to a pair

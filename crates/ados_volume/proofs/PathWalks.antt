@@ -1,10 +1,7 @@
 -- The progress of a walk along a path.
 use Rattle.std.proofs.Common.{◌≡◌, ℕ, Bool, true, false, if◌then◌else◌, List, [], ◌∷◌, ◌++◌, Option, Some, None, Result, Ok, Err, sym, ap, ◌∙◌, append_assoc}
-use Rattle.std.specs.Prelude.{ok_or}
-use Rattle.ados_name.specs.Name.{Step}
+use Rattle.ados_volume.proofs.Common.{ok_or, Step, Tree, and_then, child_of, is_file, missing_before, step_from, walk_steps}
 use Rattle.ados_name.specs.Name.Step.{ToParent, ToChild}
-use Rattle.ados_model.specs.Tree.{Tree}
-use Rattle.ados_model.specs.Change.{and_then, child_of, is_file, missing_before, step_from, walk_steps}
 use Rattle.ados_model.specs.declared.dos_error.WalkFault.{WalkFault}
 use Rattle.ados_model.specs.declared.dos_error.WalkFault.TheVariants.{WrongType}
 use Rattle.ados_volume.specs.Paths.{FailsAt}

@@ -1,16 +1,7 @@
 -- Cached children after a change of a file's bytes, and what contracts see of it.
 use Rattle.std.proofs.Common.{◌≡◌, ℕ, ◌+◌, ◌≤◌, Bool, List, [], ◌∷◌, length, Some, Result, Ok, Err, IsErrAnd, MatchResult, option_map, refl, sym, ap, ◌∙◌, arith}
-use Rattle.std.specs.Prelude.{max}
-use Rattle.std.proofs.lemmas.Bool.{ltb-true}
-use Rattle.ados_name.specs.declared.stamp.Date3.{Date3}
-use Rattle.ados_model.specs.Tree.{Node, Tree, block_cost, content_at, entries_in, bytes_of, size_of}
+use Rattle.ados_volume.proofs.Common.{max, ltb-true, Date3, Node, Tree, block_cost, content_at, entries_in, bytes_of, size_of, Stands, rewritten, written, Writes, overlaid, without_archive, Shown}
 use Rattle.ados_model.specs.Tree.Content.{File}
-use Rattle.ados_model.specs.Stands.{Stands}
-use Rattle.ados_model.specs.Change.{rewritten, written}
-use Rattle.ados_change.specs.Renewed.{Writes}
-use Rattle.ados_model.specs.Edits.{overlaid}
-use Rattle.ados_name.specs.Name.{without_archive}
-use Rattle.ados_volume.specs.Shown.{Shown}
 use Rattle.ados_volume.proofs.Children.{AllStay, changed_stay}
 
 module _ (t : Tree) (key : ℕ) (file : (bytes : List ℕ) × (content_at t key ≡ Some (File bytes))) (moment : Date3) where

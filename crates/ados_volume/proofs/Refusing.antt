@@ -1,24 +1,12 @@
 -- Lists of refusals. An entry that none of them excludes can be made, removed or moved.
 use Rattle.std.proofs.Common.{◌≡◌, ◌≢◌, ℕ, inl, inr, Bool, true, false, cond, not, nat_eq, ◌==◌, List, [], ◌∷◌, length, map, Contains, Option, Some, None, IsSome, is_some, refl, sym, ap, ◌∙◌, subst, arith, eq-eqb, eqb-true}
-use Rattle.std.specs.Prelude.{find}
-use Rattle.std.specs.List.{list_any}
-use Rattle.std.proofs.lemmas.Bool.{le-ltb, ne_eqb, not-false, true≢false}
-use Rattle.std.proofs.lemmas.List.Elements.{All-from_get_or, All-get_or}
 use Rattle.std.proofs.lemmas.List.Folds.{list_any_none}
-use Rattle.std.proofs.lemmas.Option.{none-some}
-use Rattle.std.proofs.lemmas.Slice.Eq.{bytes_eq-Decides}
-use Rattle.ados_name.specs.Name.{IsName, IsNameByte, Same, is_separator, upper}
+use Rattle.ados_volume.proofs.Common.{find, list_any, le-ltb, ne_eqb, not-false, true≢false, All-from_get_or, All-get_or, none-some, bytes_eq-Decides, IsName, IsNameByte, Same, is_separator, upper, Node, Tree, Proper, entries, name_of, parent_of, root, child_of, HasDirectory, Stands, Contains-cases, content_in, root_or_parent, some_in, CanMake, CanRemove, CanRename, IsDirectoryKey, IsNewName}
 use Rattle.ados_name.proofs.NameLemmas.{no_separator}
-use Rattle.ados_model.specs.Tree.{Node, Tree, Proper, entries, name_of, parent_of, root}
-use Rattle.ados_model.specs.Change.{child_of}
-use Rattle.ados_model.specs.Keys.{HasDirectory}
-use Rattle.ados_model.specs.Stands.{Stands}
-use Rattle.ados_model.proofs.KeyLists.{Contains-cases, Contains-nil}
-use Rattle.ados_model.proofs.Nodes.{content_in, root_or_parent, some_in}
+use Rattle.ados_model.proofs.KeyLists.{Contains-nil}
 use Rattle.ados_model.specs.declared.dos_error.DosError.{DosError}
 use Rattle.ados_model.specs.declared.dos_error.DosError.TheVariants.{DirectoryNotEmpty, ObjectExists, ObjectInUse, ObjectWrongType}
 use Rattle.ados_model.specs.Refusals.{first_refusal, is_empty, is_name, is_some_and, refuse}
-use Rattle.ados_change.specs.Conditions.{CanMake, CanRemove, CanRename, IsDirectoryKey, IsNewName}
 use Rattle.ados_volume.specs.Refusals.{move_refusals, remove_refusals}
 use Rattle.ados_volume.proofs.Children.{child_there}
 use Rattle.ados_volume.proofs.Under.{under_is_told}

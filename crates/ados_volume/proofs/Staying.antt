@@ -1,17 +1,6 @@
 -- A volume is still sound after a change.
 use Rattle.std.proofs.Common.{◌≡◌, ◌≢◌, ℕ, List, [], Contains, Some, IsSome, refl, sym, ap, ◌∙◌, subst}
-use Rattle.ados_name.specs.declared.stamp.Date3.{Date3}
-use Rattle.ados_data.specs.declared.place.Place.{Place}
-use Rattle.ados_map.specs.Pages.{NoneFreeBelow}
-use Rattle.ados_model.specs.Tree.{Content, Node, Tree, entries, entries_in}
-use Rattle.ados_model.specs.Stands.{Stands}
-use Rattle.ados_model.specs.Change.{changed, stamped}
-use Rattle.ados_change.specs.NewBlocks.{KeepsRest}
-use Rattle.ados_change.specs.Places.{OnlyRestamped}
-use Rattle.ados_volume.specs.declared.cache.Sought.{Sought}
-use Rattle.ados_volume.specs.steps.Cache.{AreChildren, Forgets}
-use Rattle.ados_volume.specs.steps.Listed.{AreListed}
-use Rattle.ados_volume.specs.steps.Places.{AreKnown}
+use Rattle.ados_volume.proofs.Common.{Date3, Place, NoneFreeBelow, Content, Node, Tree, entries, entries_in, Stands, changed, stamped, KeepsRest, OnlyRestamped, Sought, AreChildren, Forgets, AreListed, AreKnown}
 use Rattle.ados_volume.specs.steps.SoundVolume.{IsSoundVolume}
 use Rattle.ados_volume.proofs.Bounds.{below_restamped}
 use Rattle.ados_volume.proofs.Children.{AllStay, Stays, carried, changed_stay, told_stay}

@@ -1,20 +1,13 @@
 -- A key is below another if a chain of parents leads to that. `is_under` finds this within as many steps as there are
 -- blocks.
 use Rattle.std.proofs.Common.{◌≡◌, ◌≢◌, ℕ, zero, suc, ◌+◌, ◌<◌, ◌≤◌, inl, inr, true, ◌==◌, List, [], ◌∷◌, length, Contains, Option, None, refl, sym, ap, ◌∙◌, subst, arith, eq-eqb, eqb-true}
-use Rattle.std.specs.Prelude.{◌↔◌, IsSome, IsTrue, option_and_then}
-use Rattle.std.specs.List.{list_any}
-use Rattle.std.specs.Option.{option_map_or}
-use Rattle.std.proofs.lemmas.List.Elements.{Contains-get_or}
+use Rattle.std.specs.Prelude.{◌↔◌}
 use Rattle.std.proofs.lemmas.List.Folds.{list_any_at}
 use Rattle.std.proofs.lemmas.List.Kept.{AllPairs-cons}
 use Rattle.std.proofs.lemmas.Map.Views.{Contains-from_any}
-use Rattle.ados_model.proofs.KeyLists.{Once, Contains-cases, Contains-here, Contains-later, Contains-nil, length-once}
-use Rattle.ados_model.specs.Tree.{Tree, Proper, LeadsToRoot, parent_of}
-use Rattle.ados_model.specs.Tree.LeadsToRoot.{at_root, by_parent}
-use Rattle.ados_model.proofs.Nodes.{parent_in, some_in}
-use Rattle.ados_change.specs.Conditions.{IsUnder}
-use Rattle.ados_change.specs.Conditions.IsUnder.{itself, by_parent as under_parent}
-use Rattle.ados_model.specs.Objects.{is_under, upward}
+use Rattle.ados_volume.proofs.Common.{IsSome, IsTrue, option_and_then, list_any, option_map_or, Contains-get_or, Once, Contains-cases, Contains-here, Contains-later, length-once, Tree, Proper, LeadsToRoot, parent_of, at_root, by_parent, parent_in, some_in, IsUnder, itself, is_under, upward}
+use Rattle.ados_model.proofs.KeyLists.{Contains-nil}
+use Rattle.ados_change.specs.Conditions.IsUnder.{by_parent as under_parent}
 use Rattle.ados_volume.proofs.Loops.{no_loop, no_parent}
 
 module _ (t : Tree) (proper : Proper t) where

@@ -1,8 +1,6 @@
 -- The walk over waiting entries visits exactly everything below.
 use Rattle.std.proofs.Common.{◌≡◌, ℕ, zero, suc, ◌+◌, ◌≤◌, Option, Some, List, [], ◌∷◌, ◌++◌, map, length, refl, sym, ap, ◌∙◌, subst, arith, append_assoc, length-append}
-use Rattle.ados_model.specs.Tree.{Tree, entries}
-use Rattle.ados_volume.specs.declared.below.Below.{Below}
-use Rattle.ados_volume.specs.Below.{AreBelow, placed}
+use Rattle.ados_volume.proofs.Common.{Tree, entries, Below, AreBelow, placed}
 use Rattle.ados_volume.specs.Below.AreBelow.{none, entry}
 
 -- the entries of an entry at a position

@@ -1,17 +1,9 @@
 -- Steps from node to node.
 use Rattle.std.proofs.Common.{◌≡◌, ◌≢◌, ℕ, inl, inr, Bool, true, false, cond, List, [], ◌∷◌, find, Contains, Option, Some, None, IsSome, is_some, Ok, Err, refl, sym, ap, ◌∙◌, subst}
-use Rattle.std.specs.Prelude.{ok_or}
-use Rattle.adf_block.specs.Image.{long, block_count, root_key}
-use Rattle.ados_name.specs.Name.{IsName, Same, Step}
+use Rattle.ados_volume.proofs.Common.{ok_or, long, block_count, root_key, IsName, Same, Step, Contains-here, Contains-later, Tree, Proper, entries, name_of, parent_of, Stands, child_of, is_file, step_from, some_in, entry_node, directory_node, root_or_parent, root_is}
 use Rattle.ados_name.specs.Name.Step.{ToParent, ToChild}
-use Rattle.ados_model.proofs.KeyLists.{Contains-here, Contains-later}
-use Rattle.ados_model.specs.Tree.{Tree, Proper, entries, name_of, parent_of}
-use Rattle.ados_model.specs.Stands.{Stands}
-use Rattle.ados_model.specs.Change.{child_of, is_file, step_from}
 use Rattle.ados_model.specs.declared.dos_error.WalkFault.{WalkFault}
 use Rattle.ados_model.specs.declared.dos_error.WalkFault.TheVariants.{ObjectNotFound, WrongType}
-use Rattle.ados_model.proofs.Nodes.{some_in, entry_node, directory_node, root_or_parent}
-use Rattle.ados_model.proofs.Standing.{root_is}
 use Rattle.ados_volume.proofs.Looking.{no_child}
 
 -- the result of `find` is an element that passes

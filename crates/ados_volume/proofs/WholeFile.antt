@@ -1,8 +1,7 @@
 -- A read of a file into a buffer of its size returns all of it.
 use Rattle.std.proofs.Common.{◌≡◌, ℕ, ◌-◌, List, [], ◌++◌, length, take, drop, min, ap, ap₂, ◌∙◌, arith}
-use Rattle.std.proofs.Math.ListN.{drop_of_length-le}
 use Rattle.std.proofs.Math.Seq.{take-length}
-use Rattle.std.proofs.lemmas.List.{append-nil}
+use Rattle.ados_volume.proofs.Common.{drop_of_length-le, append-nil}
 
 pub read_whole : (file old new : List ℕ) (n size : ℕ) → length old ≡ size → size ≡ length file → n ≡ min (length old) (length file - 0) → new ≡ take n (drop 0 file) ++ drop n old → new ≡ file
 read_whole file old new n size room whole count is =

@@ -1,12 +1,6 @@
-use Rattle.ados_model.specs.declared.answer.FileInfo.{FileInfo}
 use Rattle.std.proofs.Common.{subst}
-use Rattle.ados_model.proofs.Nodes.{some_in}
-use Rattle.ados_model.specs.Stands.{Stands}
-use Rattle.ados_model.specs.Tree.{Tree}
+use Rattle.adf_export.proofs.Common.{FileInfo, some_in, Stands, Tree, Note, AreBytesOf, noted, IfOk-weaker}
 use Rattle.adf_text.specs.Uaem.{IsLineOf}
-use Rattle.adf_export.specs.declared.entry.Source.TheVariants.{Note}
-use Rattle.adf_export.specs.Items.{AreBytesOf, noted}
-use Rattle.std.proofs.lemmas.Result.{IfOk-weaker}
 use Rattle.adf_export.proofs.bytes.note_bytes.Goals as goal
 
 pub returns : goal.returns

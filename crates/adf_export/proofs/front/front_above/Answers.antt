@@ -1,7 +1,6 @@
 use Rattle.std.proofs.Common.{ℕ, [], Option, sym, ap, ◌∙◌}
 use Rattle.std.specs.Option.{option_map_or}
-use Rattle.std.proofs.lemmas.Result.{IfOk-weaker}
-use Rattle.adf_export.specs.Listing.{front}
+use Rattle.adf_export.proofs.Common.{IfOk-weaker, front}
 use Rattle.adf_export.proofs.front.front_above.Goals as goal
 
 pub returns-in-Some : goal.returns-in-Some

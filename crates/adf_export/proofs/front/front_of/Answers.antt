@@ -1,7 +1,5 @@
 use Rattle.std.proofs.Common.{ℕ, List, [], ◌∷◌, ◌++◌, Option, IfSome, sym, ap, ◌∙◌, subst}
-use Rattle.std.proofs.lemmas.List.Elements.{All-pop}
-use Rattle.ados_model.specs.Keys.{HasKey}
-use Rattle.adf_export.specs.steps.Fronting.{names_down}
+use Rattle.adf_export.proofs.Common.{All-pop, HasKey, names_down}
 use Rattle.adf_export.proofs.Fronting.{names_popped}
 use Rattle.adf_export.proofs.front.front_of.Goals as goal
 

@@ -1,9 +1,5 @@
 use Rattle.std.proofs.Common.{◌≡◌, ◌++◌, All, vec_len}
-use Rattle.ados_model.specs.Keys.{HasKey}
-use Rattle.ados_model.specs.Stands.{Stands}
-use Rattle.ados_model.specs.Tree.{Tree}
-use Rattle.adf_export.specs.Listing.{front}
-use Rattle.adf_export.specs.steps.Fronting.{names_down}
+use Rattle.adf_export.proofs.Common.{HasKey, Stands, Tree, front, names_down}
 use Rattle.adf_export.proofs.front.front_of.Given as goal
 
 -- the text, followed by the names of the remaining directories

@@ -1,9 +1,5 @@
 use Rattle.std.proofs.Common.{◌≡◌, ◌-◌, ◌++◌, All}
-use Rattle.ados_model.specs.Keys.{HasKey}
-use Rattle.ados_model.specs.Stands.{Stands}
-use Rattle.ados_model.specs.Tree.{Tree}
-use Rattle.adf_export.specs.Listing.{front}
-use Rattle.adf_export.specs.steps.Fronting.{names_down}
+use Rattle.adf_export.proofs.Common.{HasKey, Stands, Tree, front, names_down}
 use Rattle.adf_export.proofs.front.keys_up.Given as goal
 
 -- the names of the directories so far follow those of the ones above

@@ -1,7 +1,5 @@
 use Rattle.std.proofs.Common.{ℕ, ◌++◌, List, [], ◌∷◌, ap, ap₂, ◌∙◌}
-use Rattle.std.specs.Prelude.{codes}
-use Rattle.ados_model.specs.Tree.{name_of}
-use Rattle.adf_export.specs.Listing.{shown}
+use Rattle.adf_export.proofs.Common.{codes, name_of, shown}
 use Rattle.adf_export.proofs.head.volume_line.Goals as goal
 
 pub returns : goal.returns

@@ -1,6 +1,5 @@
 use Rattle.std.proofs.Common.{◌++◌, OnErr, List, ℕ, ap₂, ◌∙◌, subst}
-use Rattle.adf_io.specs.Prefix.{WritesFront}
-use Rattle.adf_io.proofs.Outcomes.{at_any_err}
+use Rattle.adf_export.proofs.Common.{WritesFront, at_any_err}
 use Rattle.adf_io.proofs.Prefixes.{writes_nothing}
 use Rattle.adf_export.proofs.info.write_info.Goals as goal
 

@@ -1,10 +1,5 @@
 use Rattle.std.proofs.Common.{◌≡◌, None, length, flat_map, All, sym, subst, arith}
-use Rattle.ados_model.specs.Stands.{Stands}
-use Rattle.ados_model.specs.Tree.{Tree}
-use Rattle.ados_volume.specs.Below.{AreBelow}
-use Rattle.adf_export.specs.Items.{AllGoOut, EachGoesOut, HasSource, sources_of, tops}
-use Rattle.std.proofs.lemmas.Result.{IfOk-weaker}
-use Rattle.adf_io.proofs.Outcomes.{if_ok_both}
+use Rattle.adf_export.proofs.Common.{Stands, Tree, AreBelow, AllGoOut, EachGoesOut, HasSource, sources_of, tops, IfOk-weaker, if_ok_both}
 use Rattle.adf_export.proofs.Under.{all_before, found_there, sources_there}
 use Rattle.adf_export.proofs.items.all_outgoing.Goals as goal
 

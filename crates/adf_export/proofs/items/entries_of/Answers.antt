@@ -1,7 +1,5 @@
 use Rattle.std.proofs.Common.{ℕ, List, [], None, flat_map, sym, subst, arith}
-use Rattle.std.proofs.lemmas.List.{take_all}
-use Rattle.ados_volume.specs.Below.{AreBelow}
-use Rattle.adf_export.specs.Items.{tops}
+use Rattle.adf_export.proofs.Common.{take_all, AreBelow, tops}
 use Rattle.adf_export.proofs.Under.{below_none, object_more}
 use Rattle.adf_export.proofs.items.entries_of.Goals as goal
 

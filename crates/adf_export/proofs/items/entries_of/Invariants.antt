@@ -1,8 +1,5 @@
 use Rattle.std.proofs.Common.{None, flat_map, take}
-use Rattle.ados_model.specs.Tree.{Tree}
-use Rattle.ados_model.specs.Stands.{Stands}
-use Rattle.ados_volume.specs.Below.{AreBelow}
-use Rattle.adf_export.specs.Items.{tops}
+use Rattle.adf_export.proofs.Common.{Tree, Stands, AreBelow, tops}
 use Rattle.adf_export.proofs.items.entries_of.Given as goal
 
 -- the entries of the objects before this one are there

@@ -1,7 +1,5 @@
 use Rattle.std.proofs.Common.{◌≡◌, ℕ, ◌<◌, None, [], List, length, get_or, flat_map, sym, subst, arith, ap, ◌∙◌}
-use Rattle.std.proofs.lemmas.List.{get_or_default, take_all}
-use Rattle.ados_volume.specs.declared.below.Below.{Below}
-use Rattle.adf_export.specs.Items.{EachGoesOut, sources_of}
+use Rattle.adf_export.proofs.Common.{get_or_default, take_all, Below, EachGoesOut, sources_of}
 use Rattle.adf_export.proofs.Going.{each_more, each_none, sources_more}
 use Rattle.adf_export.proofs.items.items_of.Goals as goal
 

@@ -1,7 +1,5 @@
 use Rattle.std.proofs.Common.{◌≡◌, flat_map, take}
-use Rattle.ados_model.specs.Tree.{Tree}
-use Rattle.ados_model.specs.Stands.{Stands}
-use Rattle.adf_export.specs.Items.{EachGoesOut, sources_of}
+use Rattle.adf_export.proofs.Common.{Tree, Stands, EachGoesOut, sources_of}
 use Rattle.adf_export.proofs.items.items_of.Given as goal
 
 -- the items and sources for the entries before this one are there

@@ -1,6 +1,5 @@
 use Rattle.std.proofs.Common.{sym, ap, ◌∙◌}
-use Rattle.ados_model.specs.declared.answer.FileInfo.{FileInfo}
-use Rattle.ados_model.proofs.Nodes.{some_in}
+use Rattle.adf_export.proofs.Common.{FileInfo, some_in}
 use Rattle.adf_export.proofs.Directories.{told_directory}
 use Rattle.adf_export.proofs.keys.describe.Goals as goal
 

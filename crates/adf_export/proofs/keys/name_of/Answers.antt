@@ -1,7 +1,5 @@
 use Rattle.std.proofs.Common.{ap, sym, ◌∙◌}
-use Rattle.ados_model.specs.declared.answer.FileInfo.{FileInfo}
-use Rattle.ados_model.specs.Parts.{name_in}
-use Rattle.ados_model.proofs.Nodes.{some_in}
+use Rattle.adf_export.proofs.Common.{FileInfo, name_in, some_in}
 use Rattle.adf_export.proofs.keys.name_of.Goals as goal
 
 pub returns : goal.returns

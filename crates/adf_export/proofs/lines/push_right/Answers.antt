@@ -1,6 +1,5 @@
 use Rattle.std.proofs.Common.{ℕ, ◌++◌, List, length, drop, append_assoc, ap, ◌∙◌}
-use Rattle.std.specs.Prelude.{codes}
-use Rattle.std.proofs.lemmas.List.{take_rest}
+use Rattle.adf_export.proofs.Common.{codes, take_rest}
 use Rattle.adf_export.proofs.Padding.{blanks}
 use Rattle.adf_export.proofs.lines.push_right.Goals as goal
 

@@ -1,6 +1,4 @@
-use Rattle.ados_model.specs.Stands.{Stands}
-use Rattle.ados_model.specs.Tree.{Tree}
-use Rattle.adf_export.specs.steps.Levels.{HaveKeys}
+use Rattle.adf_export.proofs.Common.{Stands, Tree, HaveKeys}
 use Rattle.adf_export.proofs.Written.{IsWritten}
 use Rattle.adf_export.proofs.listing.write_list.Given as goal
 

@@ -1,7 +1,6 @@
 use Rattle.std.proofs.Common.{ℕ, ◌++◌, [], ◌∷◌, List, append_assoc, ap₂, ◌∙◌}
-use Rattle.std.proofs.lemmas.Result.{on_ok_weaker}
+use Rattle.adf_export.proofs.Common.{on_ok_weaker, PushesDate}
 use Rattle.adf_record.specs.Second.{PushesSecond, to_second}
-use Rattle.adf_export.specs.steps.Going.{PushesDate}
 use Rattle.adf_export.proofs.long.push_date.Goals as goal
 
 pub returns : goal.returns

@@ -1,7 +1,6 @@
 use Rattle.std.proofs.Common.{◌-◌, vec_len}
+use Rattle.adf_export.proofs.Common.{Tree, Stands}
 use Rattle.adf_block.specs.Image.{block_count}
-use Rattle.ados_model.specs.Tree.{Tree}
-use Rattle.ados_model.specs.Stands.{Stands}
 use Rattle.ados_volume.proofs.DirectoryKeys.{IsListed}
 use Rattle.adf_export.proofs.order.keys_in.Given as goal
 

@@ -1,9 +1,6 @@
 use Rattle.std.proofs.Common.{◌≡◌, refl, sym, ap, ◌∙◌, subst}
-use Rattle.ados_model.proofs.KeyLists.{Once}
-use Rattle.ados_model.specs.Stands.{Stands}
-use Rattle.ados_model.specs.Tree.{Tree}
+use Rattle.adf_export.proofs.Common.{Once, Stands, Tree, comes_before, ordered, sorted}
 use Rattle.adf_words.specs.declared.query.ListOrder.TheVariants.{Disk}
-use Rattle.adf_export.specs.Ordered.{comes_before, ordered, sorted}
 use Rattle.adf_export.proofs.Sorting.{keys_there, ordered_disk, ordered_other}
 use Rattle.adf_export.proofs.order.ordered_keys.Goals as goal
 

@@ -1,12 +1,7 @@
 use Rattle.std.proofs.Common.{[], Option, map, refl, sym, ap, ◌∙◌}
 use Rattle.std.specs.Option.{option_map_or}
+use Rattle.adf_export.proofs.Common.{some_in, file_info, name_in, Node, FileInfo, weight}
 use Rattle.ados_name.specs.Name.{upper}
-use Rattle.ados_model.proofs.Nodes.{some_in}
-use Rattle.ados_model.specs.Objects.{file_info}
-use Rattle.ados_model.specs.Parts.{name_in}
-use Rattle.ados_model.specs.Tree.{Node}
-use Rattle.ados_model.specs.declared.answer.FileInfo.{FileInfo}
-use Rattle.adf_export.specs.Ordered.{weight}
 use Rattle.adf_export.proofs.order.rank_of.Goals as goal
 
 pub returns : goal.returns

@@ -1,8 +1,6 @@
 use Rattle.std.proofs.Common.{◌≡◌, ℕ, ◌+◌, List, take, arith, sym, ap, ◌∙◌, subst}
-use Rattle.std.proofs.lemmas.List.{take_all}
-use Rattle.adf_export.specs.Ordered.{comes_before, sorted}
+use Rattle.adf_export.proofs.Common.{take_all, comes_before, sorted, AreRanked}
 use Rattle.adf_export.specs.declared.order.Rank.{Rank}
-use Rattle.adf_export.specs.steps.Ranked.{AreRanked}
 use Rattle.adf_export.proofs.Ranking.{ranked_keys, ranked_none, ranked_on}
 use Rattle.adf_export.proofs.order.sorted_keys.Goals as goal
 

@@ -1,8 +1,5 @@
 use Rattle.std.proofs.Common.{take}
-use Rattle.ados_model.specs.Tree.{Tree}
-use Rattle.ados_model.specs.Stands.{Stands}
-use Rattle.adf_export.specs.Ordered.{comes_before, sorted}
-use Rattle.adf_export.specs.steps.Ranked.{AreRanked}
+use Rattle.adf_export.proofs.Common.{Tree, Stands, comes_before, sorted, AreRanked}
 use Rattle.adf_export.proofs.order.sorted_keys.Given as goal
 
 -- the keys before this one are in order, each with its rank

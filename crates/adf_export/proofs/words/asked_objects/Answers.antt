@@ -1,9 +1,6 @@
 use Rattle.std.proofs.Common.{map, sym, ◌∙◌}
-use Rattle.ados_model.specs.Tree.{Tree}
-use Rattle.ados_model.specs.Stands.{Stands}
-use Rattle.adf_export.specs.Words.{AreAsked, LeadTo}
+use Rattle.adf_export.proofs.Common.{Tree, Stands, AreAsked, LeadTo, IfOk-weaker}
 use Rattle.adf_export.proofs.Leading.{asked_some, text_of}
-use Rattle.std.proofs.lemmas.Result.{IfOk-weaker}
 use Rattle.adf_export.proofs.words.asked_objects.Goals as goal
 
 pub returns-clause-asked : goal.returns-clause-asked

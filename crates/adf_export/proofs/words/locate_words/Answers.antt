@@ -1,9 +1,6 @@
 use Rattle.std.proofs.Common.{◌+◌, All, map, take, sym, ◌∙◌, subst, arith}
-use Rattle.std.proofs.lemmas.List.Elements.{All-push}
-use Rattle.ados_model.specs.Stands.{Stands}
-use Rattle.ados_model.specs.Keys.{HasKey}
+use Rattle.adf_export.proofs.Common.{All-push, Stands, HasKey, LeadTo}
 use Rattle.ados_volume.specs.Shown.{Shown}
-use Rattle.adf_export.specs.Words.{LeadTo}
 use Rattle.adf_export.proofs.Leading.{lead_more, no_word, some_fault, text_of}
 use Rattle.adf_export.proofs.words.locate_words.Goals as goal
 

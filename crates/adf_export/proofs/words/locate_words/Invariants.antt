@@ -1,8 +1,5 @@
 use Rattle.std.proofs.Common.{◌≡◌, All, map, take}
-use Rattle.ados_model.specs.Tree.{Tree}
-use Rattle.ados_model.specs.Stands.{Stands}
-use Rattle.ados_model.specs.Keys.{HasKey}
-use Rattle.adf_export.specs.Words.{LeadTo}
+use Rattle.adf_export.proofs.Common.{Tree, Stands, HasKey, LeadTo}
 use Rattle.adf_export.proofs.words.locate_words.Given as goal
 
 -- the arguments before this one lead to these objects

@@ -1,6 +1,5 @@
 use Rattle.std.proofs.Common.{sym, subst, arith}
-use Rattle.std.specs.List.{All}
-use Rattle.ados_faults.specs.steps.Blocks.{IsEntryIn}
+use Rattle.ados_faults.proofs.Common.{All, IsEntryIn}
 use Rattle.ados_faults.proofs.entries.list_entries.Goals as goal
 
 pub meet_slots-requires-clause-entries : goal.meet_slots-requires-clause-entries

@@ -1,10 +1,5 @@
 use Rattle.std.proofs.Common.{◌≡◌, ◌<◌, ℕ, length, slice_index, sym, subst, arith, ◌∙◌}
-use Rattle.std.specs.List.{Contains}
-use Rattle.std.proofs.lemmas.List.{get_or_default}
-use Rattle.adf_block.specs.Image.{long}
-use Rattle.adf_block.specs.declared.layout.TheConstants.{NEXT_IN_CHAIN}
-use Rattle.ados_model.specs.Faults.{InImage}
-use Rattle.ados_faults.specs.steps.Blocks.{IsEntryIn, IsGrown}
+use Rattle.ados_faults.proofs.Common.{Contains, get_or_default, long, NEXT_IN_CHAIN, InImage, IsEntryIn, IsGrown}
 use Rattle.ados_faults.proofs.Enumerated.{all_entries, grown_all, next_is_entry, next_more, slots_on}
 use Rattle.ados_faults.proofs.entries.meet_chains.Goals as goal
 

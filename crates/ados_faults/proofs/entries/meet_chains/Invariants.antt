@@ -1,6 +1,5 @@
 use Rattle.std.proofs.Common.{◌-◌, ◌^◌}
-use Rattle.std.specs.List.{All}
-use Rattle.ados_faults.specs.steps.Blocks.{AreMet, AreNextMet, AreSlotsMet, IsEntryIn}
+use Rattle.ados_faults.proofs.Common.{All, AreMet, AreNextMet, AreSlotsMet, IsEntryIn}
 use Rattle.ados_faults.proofs.entries.meet_chains.Given as goal
 
 abbrev pub invariant-loop-i : goal.invariant-loop-i

@@ -1,9 +1,5 @@
 use Rattle.std.proofs.Common.{◌≡◌, ◌+◌, ℕ, sym, subst, arith}
-use Rattle.std.specs.List.{Contains}
-use Rattle.adf_block.specs.Image.{long}
-use Rattle.adf_block.specs.declared.layout.TheConstants.{FIRST_SLOT}
-use Rattle.ados_model.specs.Faults.{InImage}
-use Rattle.ados_faults.specs.steps.Blocks.{IsEntryIn, IsGrown}
+use Rattle.ados_faults.proofs.Common.{Contains, long, FIRST_SLOT, InImage, IsEntryIn, IsGrown}
 use Rattle.ados_faults.proofs.Enumerated.{grown_all, slot_entry, slots_more}
 use Rattle.ados_faults.proofs.entries.meet_slots.Goals as goal
 

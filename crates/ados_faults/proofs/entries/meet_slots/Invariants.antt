@@ -1,5 +1,4 @@
-use Rattle.std.specs.List.{All}
-use Rattle.ados_faults.specs.steps.Blocks.{AreMet, AreSlotsMet, IsEntryIn}
+use Rattle.ados_faults.proofs.Common.{All, AreMet, AreSlotsMet, IsEntryIn}
 use Rattle.ados_faults.proofs.entries.meet_slots.Given as goal
 
 abbrev pub invariant-loop-i : goal.invariant-loop-i

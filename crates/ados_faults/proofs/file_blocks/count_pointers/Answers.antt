@@ -1,6 +1,5 @@
 use Rattle.std.proofs.Common.{List, ℕ, length, flat_map, ap, arith, ◌∙◌}
-use Rattle.std.proofs.lemmas.List.{take_all}
-use Rattle.ados_model.specs.Faults.{pointers_of}
+use Rattle.ados_faults.proofs.Common.{take_all, pointers_of}
 use Rattle.ados_faults.proofs.ByHeaders.{length_before}
 use Rattle.ados_faults.proofs.file_blocks.count_pointers.Goals as goal
 

@@ -1,10 +1,5 @@
 use Rattle.std.proofs.Common.{inl, inr, ℕ, List, length, slice_index, sym, ap, ◌∙◌, subst, arith}
-use Rattle.std.specs.List.{Contains}
-use Rattle.std.proofs.lemmas.Bool.{cases_Bool}
-use Rattle.std.proofs.lemmas.List.{length_push}
-use Rattle.adf_block.specs.declared.layout.TheConstants.{NEXT_EXTENSION}
-use Rattle.ados_model.specs.Faults.{LinkedOnce}
-use Rattle.ados_faults.specs.steps.Chain.{IsChain}
+use Rattle.ados_faults.proofs.Common.{Contains, cases_Bool, length_push, NEXT_EXTENSION, LinkedOnce, IsChain}
 use Rattle.ados_faults.proofs.Linking.{chain_whole, chain_more, head_kept, last_next}
 use Rattle.ados_faults.proofs.file_blocks.go_on.Goals as goal
 

@@ -1,7 +1,5 @@
 use Rattle.std.proofs.Common.{◌≡◌, ◌-◌, ◌^◌, ◌<◌, ℕ, min, take, slice_index}
-use Rattle.std.specs.List.{sum_by}
-use Rattle.adf_block.specs.Fields.{held_count}
-use Rattle.ados_model.specs.Faults.{InImage, pointers_of}
+use Rattle.ados_faults.proofs.Common.{sum_by, held_count, InImage, pointers_of}
 use Rattle.ados_faults.proofs.file_blocks.held_by.Given as goal
 
 abbrev pub invariant-loop-i : goal.invariant-loop-i

@@ -1,6 +1,5 @@
 use Rattle.std.proofs.Common.{◌+◌, ℕ, List, Option, length, sym, ap, arith, ◌∙◌}
-use Rattle.std.specs.List.{slice_get}
-use Rattle.std.proofs.lemmas.List.{length_push}
+use Rattle.ados_faults.proofs.Common.{slice_get, length_push}
 use Rattle.ados_faults.proofs.ByHeaders.{held_more}
 use Rattle.ados_faults.proofs.file_blocks.held_in_ofs.Goals as goal
 

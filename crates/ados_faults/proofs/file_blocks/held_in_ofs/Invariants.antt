@@ -1,7 +1,5 @@
 use Rattle.std.proofs.Common.{◌≡◌, ℕ, Option, Some, length}
-use Rattle.std.specs.List.{slice_get}
-use Rattle.ados_model.specs.Faults.{pointers_of}
-use Rattle.ados_faults.specs.steps.FileNotes.{IsHeld}
+use Rattle.ados_faults.proofs.Common.{slice_get, pointers_of, IsHeld}
 use Rattle.ados_faults.proofs.file_blocks.held_in_ofs.Given as goal
 
 abbrev pub invariant-loop-header : goal.invariant-loop-header

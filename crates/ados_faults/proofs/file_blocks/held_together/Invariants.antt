@@ -1,6 +1,5 @@
 use Rattle.std.proofs.Common.{Some, take, flat_map}
-use Rattle.ados_model.specs.Faults.{pointers_of}
-use Rattle.ados_faults.specs.steps.FileNotes.{IsHeld}
+use Rattle.ados_faults.proofs.Common.{pointers_of, IsHeld}
 use Rattle.ados_faults.proofs.file_blocks.held_together.Given as goal
 
 abbrev pub invariant-loop-header : goal.invariant-loop-header

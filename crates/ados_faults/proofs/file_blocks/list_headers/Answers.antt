@@ -1,8 +1,5 @@
 use Rattle.std.proofs.Common.{◌≤◌, ℕ, List, length, slice_index, sym, ap, subst, arith, ◌∙◌}
-use Rattle.adf_block.specs.Image.{block_count}
-use Rattle.adf_block.specs.declared.layout.TheConstants.{NEXT_EXTENSION}
-use Rattle.ados_model.specs.Faults.{LinkedOnce}
-use Rattle.ados_faults.specs.steps.Chain.{IsChain}
+use Rattle.ados_faults.proofs.Common.{block_count, NEXT_EXTENSION, LinkedOnce, IsChain}
 use Rattle.ados_faults.proofs.Enumerated.{only_one}
 use Rattle.ados_faults.proofs.Linking.{chain_few, chain_start}
 use Rattle.ados_faults.proofs.file_blocks.list_headers.Goals as goal

@@ -1,7 +1,5 @@
 use Rattle.std.proofs.Common.{◌≡◌, ◌+◌, length, slice_index}
-use Rattle.adf_block.specs.declared.layout.TheConstants.{NEXT_EXTENSION}
-use Rattle.ados_faults.specs.steps.Blocks.{AreMet}
-use Rattle.ados_faults.specs.steps.Chain.{IsChain}
+use Rattle.ados_faults.proofs.Common.{NEXT_EXTENSION, AreMet, IsChain}
 use Rattle.ados_faults.proofs.file_blocks.list_headers.Given as goal
 
 abbrev pub invariant-loop-passed : goal.invariant-loop-passed

@@ -1,7 +1,6 @@
 use Rattle.std.proofs.Common.{◌≢◌, sym, subst, arith}
-use Rattle.adf_block.specs.Fields.{file_size}
+use Rattle.ados_faults.proofs.Common.{file_size, SourceView}
 use Rattle.adf_block.proofs.Longs.{long-below}
-use Rattle.ados_check.specs.Source.{SourceView}
 use Rattle.ados_faults.proofs.files.holds_other_size.Goals as goal
 
 pub returns-in-Some : goal.returns-in-Some

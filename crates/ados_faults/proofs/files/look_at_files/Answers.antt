@@ -1,10 +1,5 @@
 use Rattle.std.proofs.Common.{rules, inr, List, ℕ, length, drop, get_or, sym, subst, arith}
-use Rattle.std.specs.List.{All, Contains}
-use Rattle.std.proofs.lemmas.List.{take_at}
-use Rattle.std.proofs.lemmas.Option.{slice_get-get_or}
-use Rattle.adf_block.specs.declared.layout.TheConstants.{FILE_TYPE}
-use Rattle.ados_faults.specs.steps.Blocks.{IsOfType}
-use Rattle.ados_faults.specs.steps.FileNotes.{AreAllSeen, IsFileNoted}
+use Rattle.ados_faults.proofs.Common.{All, Contains, take_at, slice_get-get_or, FILE_TYPE, IsOfType, AreAllSeen, IsFileNoted}
 use Rattle.ados_faults.proofs.ByHeaders.{none_seen}
 use Rattle.ados_faults.proofs.Cells.{noted_on}
 use Rattle.ados_faults.proofs.FileNotes.{file_of, file_on}

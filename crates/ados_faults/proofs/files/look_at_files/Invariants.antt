@@ -1,8 +1,5 @@
 use Rattle.std.proofs.Common.{◌≡◌, ◌<◌, ℕ, Some}
-use Rattle.std.specs.List.{slice_get}
-use Rattle.ados_faults.specs.steps.Blocks.{AreMet}
-use Rattle.ados_faults.specs.steps.FileNotes.{AreAllSeen, IsFileNoted}
-use Rattle.ados_faults.specs.steps.Noted.{AreNoted, AreStillNoted}
+use Rattle.ados_faults.proofs.Common.{slice_get, AreMet, AreAllSeen, IsFileNoted, AreNoted, AreStillNoted}
 use Rattle.ados_faults.proofs.files.look_at_files.Given as goal
 
 abbrev pub invariant-loop-file : goal.invariant-loop-file

@@ -1,10 +1,7 @@
 use Rattle.std.proofs.Common.{sym, subst, ◌∙◌}
-use Rattle.std.proofs.lemmas.List.Elements.{All-weaker}
-use Rattle.ados_check.specs.Rules.{HasBadSumAs, HasBadTypeAs}
-use Rattle.ados_check.specs.Source.{SourceView}
+use Rattle.ados_faults.proofs.Common.{All-weaker, HasBadSumAs, HasBadTypeAs, SourceView, AreWrongsNoted, IsFieldNoted}
 use Rattle.ados_check.specs.declared.rules.TheConstants.{FIELD_RULES}
 use Rattle.ados_check.proofs.Ruling.{type_shows}
-use Rattle.ados_faults.specs.steps.Looks.{AreWrongsNoted, IsFieldNoted}
 use Rattle.ados_faults.proofs.Cells.{noted_on}
 use Rattle.ados_faults.proofs.Looking.{bare_noted, fields_noted}
 use Rattle.ados_faults.proofs.looks.look.Goals as goal

@@ -1,9 +1,5 @@
 use Rattle.std.proofs.Common.{get_or}
-use Rattle.std.proofs.lemmas.Option.{slice_get-get_or}
-use Rattle.ados_model.specs.declared.fault.FaultKind.TheVariants.{MarkedFree}
-use Rattle.ados_model.specs.declared.role.Role.TheVariants.{Root}
-use Rattle.ados_faults.specs.steps.Noted.{cell_of}
-use Rattle.ados_faults.specs.steps.Roles.{step_of}
+use Rattle.ados_faults.proofs.Common.{slice_get-get_or, MarkedFree, Root, cell_of, step_of}
 use Rattle.ados_faults.proofs.Cells.{noted_on}
 use Rattle.ados_faults.proofs.Looking.{looked_more, looked_none}
 use Rattle.ados_faults.proofs.looks.look_at_all.Goals as goal

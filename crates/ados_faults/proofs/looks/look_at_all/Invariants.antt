@@ -1,5 +1,4 @@
-use Rattle.ados_faults.specs.steps.Looks.{AreLookedAt}
-use Rattle.ados_faults.specs.steps.Noted.{AreNoted, AreStillNoted}
+use Rattle.ados_faults.proofs.Common.{AreLookedAt, AreNoted, AreStillNoted}
 use Rattle.ados_faults.proofs.looks.look_at_all.Given as goal
 
 abbrev pub invariant-loop-step : goal.invariant-loop-step

@@ -1,13 +1,6 @@
 use Rattle.std.proofs.Common.{get_or, sym, subst}
-use Rattle.std.proofs.lemmas.List.Elements.{All-more, All-weaker}
-use Rattle.ados_check.specs.Rules.{HasBadField}
-use Rattle.ados_check.specs.Source.{SourceView}
-use Rattle.ados_check.specs.declared.rules.FieldRule.TheVariants.{NoLink}
+use Rattle.ados_faults.proofs.Common.{All-more, All-weaker, HasBadField, SourceView, NoLink, FaultKind, Shows, IsFieldNoted, IsNoted, cell_of}
 use Rattle.ados_check.proofs.Ruling.{field_shows}
-use Rattle.ados_model.specs.declared.fault.FaultKind.{FaultKind}
-use Rattle.ados_model.specs.Faults.{Shows}
-use Rattle.ados_faults.specs.steps.Looks.{IsFieldNoted}
-use Rattle.ados_faults.specs.steps.Noted.{IsNoted, cell_of}
 use Rattle.ados_faults.proofs.Cells.{noted_on}
 use Rattle.ados_faults.proofs.looks.look_at_fields.Goals as goal
 

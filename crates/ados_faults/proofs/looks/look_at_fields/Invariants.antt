@@ -1,6 +1,5 @@
 use Rattle.std.proofs.Common.{All, take}
-use Rattle.ados_faults.specs.steps.Looks.{IsFieldNoted}
-use Rattle.ados_faults.specs.steps.Noted.{AreNoted, AreStillNoted}
+use Rattle.ados_faults.proofs.Common.{IsFieldNoted, AreNoted, AreStillNoted}
 use Rattle.ados_faults.proofs.looks.look_at_fields.Given as goal
 
 abbrev pub invariant-loop-rule : goal.invariant-loop-rule

@@ -1,9 +1,6 @@
 use Rattle.std.proofs.Common.{sym, ap, refl, ◌∙◌, subst}
-use Rattle.std.specs.BTreeMap.{get}
+use Rattle.ados_faults.proofs.Common.{get, SourceView, HasShortName, name_cmp}
 use Rattle.ados_check.specs.Entries.{upper_name}
-use Rattle.ados_check.specs.Source.{SourceView}
-use Rattle.ados_model.specs.Faults.{HasShortName}
-use Rattle.ados_faults.specs.steps.Named.{name_cmp}
 use Rattle.ados_faults.proofs.Sameness.{known_more, known_stay}
 use Rattle.ados_faults.proofs.names.first_with_name.Goals as goal
 

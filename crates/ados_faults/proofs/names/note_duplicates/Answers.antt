@@ -1,10 +1,5 @@
 use Rattle.std.proofs.Common.{rules, List, ℕ, length, drop, get_or, sym, subst, arith}
-use Rattle.std.specs.List.{All, Contains}
-use Rattle.std.proofs.lemmas.List.{take_at}
-use Rattle.std.proofs.lemmas.Option.{slice_get-get_or}
-use Rattle.adf_block.specs.declared.layout.TheConstants.{DIRECTORY_TYPE}
-use Rattle.ados_faults.specs.steps.Blocks.{IsOfType}
-use Rattle.ados_faults.specs.steps.Named.{AreNamesMet, AreNamesNoted}
+use Rattle.ados_faults.proofs.Common.{All, Contains, take_at, slice_get-get_or, DIRECTORY_TYPE, IsOfType, AreNamesMet, AreNamesNoted}
 use Rattle.ados_faults.proofs.Cells.{noted_on}
 use Rattle.ados_faults.proofs.Firsts.{all_firsts, one_more}
 use Rattle.ados_faults.proofs.Sameness.{all_duplicates, duplicates_on, holder_of, names_none}

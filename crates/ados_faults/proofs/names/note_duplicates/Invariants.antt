@@ -1,8 +1,5 @@
 use Rattle.std.proofs.Common.{◌≡◌, ◌<◌, ℕ, Some}
-use Rattle.std.specs.List.{slice_get}
-use Rattle.ados_faults.specs.steps.Blocks.{AreMet}
-use Rattle.ados_faults.specs.steps.Named.{AreNamesMet, AreNamesNoted}
-use Rattle.ados_faults.specs.steps.Noted.{AreNoted, AreStillNoted}
+use Rattle.ados_faults.proofs.Common.{slice_get, AreMet, AreNamesMet, AreNamesNoted, AreNoted, AreStillNoted}
 use Rattle.ados_faults.proofs.names.note_duplicates.Given as goal
 
 abbrev pub invariant-loop-dir : goal.invariant-loop-dir

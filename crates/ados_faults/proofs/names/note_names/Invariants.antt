@@ -1,5 +1,4 @@
-use Rattle.ados_faults.specs.steps.Named.{AreFirstMet, AreNamesMet}
-use Rattle.ados_faults.specs.steps.Noted.{AreNoted, AreStillNoted}
+use Rattle.ados_faults.proofs.Common.{AreFirstMet, AreNamesMet, AreNoted, AreStillNoted}
 use Rattle.ados_faults.proofs.names.note_names.Given as goal
 
 abbrev pub invariant-loop-entry : goal.invariant-loop-entry

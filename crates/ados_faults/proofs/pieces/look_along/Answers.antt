@@ -1,11 +1,6 @@
 use Rattle.std.proofs.Common.{◌≡◌, ◌+◌, ◌-◌, ◌^◌, ◌<◌, ℕ, List, length, take, flat_map, slice_index, refl, sym, ap, subst, arith, ◌∙◌}
-use Rattle.std.proofs.lemmas.List.{length-take-le, take_all}
-use Rattle.std.proofs.lemmas.Option.{slice_get_past}
-use Rattle.ados_model.specs.Faults.{pointers_of}
-use Rattle.std.specs.List.{slice_get}
+use Rattle.ados_faults.proofs.Common.{length-take-le, take_all, slice_get_past, pointers_of, slice_get, IsPiece, ArePlacesNoted}
 use Rattle.ados_faults.specs.declared.pieces.Piece.{Piece}
-use Rattle.ados_faults.specs.steps.Chain.{IsPiece}
-use Rattle.ados_faults.specs.steps.FileNotes.{ArePlacesNoted}
 use Rattle.ados_faults.proofs.Cells.{noted_on}
 use Rattle.ados_faults.proofs.ByHeaders.{first_there, flat_few, length_before, piece_of, places_back}
 use Rattle.ados_faults.proofs.pieces.look_along.Goals as goal

@@ -1,8 +1,5 @@
 use Rattle.std.proofs.Common.{◌≡◌, ◌-◌, length, take, flat_map}
-use Rattle.std.specs.List.{slice_get}
-use Rattle.ados_model.specs.Faults.{pointers_of}
-use Rattle.ados_faults.specs.steps.FileNotes.{AreAllSeen, ArePlacesNoted}
-use Rattle.ados_faults.specs.steps.Noted.{AreNoted, AreStillNoted}
+use Rattle.ados_faults.proofs.Common.{slice_get, pointers_of, AreAllSeen, ArePlacesNoted, AreNoted, AreStillNoted}
 use Rattle.ados_faults.proofs.pieces.look_along.Given as goal
 
 abbrev pub invariant-loop-passed : goal.invariant-loop-passed

@@ -1,6 +1,5 @@
 use Rattle.std.proofs.Common.{◌<◌, ℕ}
-use Rattle.ados_faults.specs.steps.FileNotes.{IsOneNoted}
-use Rattle.ados_faults.specs.steps.Noted.{AreNoted, AreStillNoted}
+use Rattle.ados_faults.proofs.Common.{IsOneNoted, AreNoted, AreStillNoted}
 use Rattle.ados_faults.proofs.pieces.look_at_all_in.Given as goal
 
 abbrev pub invariant-loop-i : goal.invariant-loop-i

@@ -1,7 +1,5 @@
 use Rattle.std.proofs.Common.{◌≡◌, ◌+◌, ℕ, Option, slice_index, sym, ap, subst, arith, ◌∙◌}
-use Rattle.std.specs.List.{slice_get}
-use Rattle.ados_model.specs.Faults.{InImage, pointers_of}
-use Rattle.ados_faults.specs.steps.FileNotes.{IsPlaceNoted}
+use Rattle.ados_faults.proofs.Common.{slice_get, InImage, pointers_of, IsPlaceNoted}
 use Rattle.ados_faults.proofs.ByHeaders.{next_there, pointer_at}
 use Rattle.ados_faults.proofs.pieces.look_at_one.Goals as goal
 

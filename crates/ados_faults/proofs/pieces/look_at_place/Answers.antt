@@ -1,16 +1,7 @@
 use Rattle.std.proofs.Common.{get_or, sym, subst, arith}
-use Rattle.std.proofs.lemmas.List.{take_all}
-use Rattle.std.proofs.lemmas.List.Elements.{All-more, All-weaker}
-use Rattle.std.specs.List.{All}
-use Rattle.ados_check.specs.DataRules.{BreaksRule}
-use Rattle.ados_check.specs.Source.{SourceView}
-use Rattle.ados_check.specs.declared.data_rules.DataRule.TheVariants.{Sequence}
+use Rattle.ados_faults.proofs.Common.{take_all, All-more, All-weaker, All, BreaksRule, SourceView, Sequence, FaultKind, Shows, IsRuleNoted, IsNoted, cell_of}
 use Rattle.ados_check.specs.declared.data_rules.TheConstants.{DATA_RULES}
 use Rattle.ados_check.proofs.DataRuling.{data_shows, each_rule}
-use Rattle.ados_model.specs.declared.fault.FaultKind.{FaultKind}
-use Rattle.ados_model.specs.Faults.{Shows}
-use Rattle.ados_faults.specs.steps.FileNotes.{IsRuleNoted}
-use Rattle.ados_faults.specs.steps.Noted.{IsNoted, cell_of}
 use Rattle.ados_faults.proofs.Cells.{noted_on}
 use Rattle.ados_faults.proofs.pieces.look_at_place.Goals as goal
 

@@ -1,6 +1,5 @@
 use Rattle.std.proofs.Common.{◌<◌, ap, sym, ◌∙◌, arith}
-use Rattle.adf_block.specs.Image.{block_count}
-use Rattle.ados_faults.specs.Values.{is_extension}
+use Rattle.ados_faults.proofs.Common.{block_count, is_extension}
 use Rattle.ados_faults.proofs.Above.{one_on}
 use Rattle.ados_faults.proofs.rights.extensions_to.Goals as goal
 

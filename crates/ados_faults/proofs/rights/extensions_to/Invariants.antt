@@ -1,7 +1,5 @@
 use Rattle.std.proofs.Common.{◌≡◌, ◌+◌, ◌-◌}
-use Rattle.std.specs.Option.{option_map}
-use Rattle.adf_block.specs.Image.{block_count}
-use Rattle.ados_faults.specs.Values.{extensions_to}
+use Rattle.ados_faults.proofs.Common.{option_map, block_count, extensions_to}
 use Rattle.ados_faults.proofs.rights.extensions_to.Given as goal
 
 abbrev pub invariant-loop-passed : goal.invariant-loop-passed

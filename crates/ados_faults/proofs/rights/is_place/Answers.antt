@@ -1,6 +1,5 @@
 use Rattle.std.proofs.Common.{◌≡◌, Some, None, refl, sym, subst, ◌∙◌}
-use Rattle.ados_check.specs.Source.{SourceView}
-use Rattle.ados_model.specs.Faults.{IsPlace}
+use Rattle.ados_faults.proofs.Common.{SourceView, IsPlace}
 use Rattle.ados_faults.proofs.rights.is_place.Goals as goal
 
 pub returns-in-Some : goal.returns-in-Some

@@ -1,7 +1,5 @@
 use Rattle.std.proofs.Common.{List, length, subst}
-use Rattle.ados_faults.specs.declared.walk.Step.{Step}
-use Rattle.ados_faults.specs.steps.Looks.{AreLookedAt}
-use Rattle.ados_faults.specs.steps.Noted.{AreStillNoted}
+use Rattle.ados_faults.proofs.Common.{Step, AreLookedAt, AreStillNoted}
 use Rattle.ados_faults.proofs.AtSteps.{AreStepsNoted, free_noted}
 use Rattle.ados_faults.proofs.Cells.{noted_on}
 use Rattle.ados_faults.proofs.Each.{each_noted}

@@ -1,9 +1,5 @@
 use Rattle.std.proofs.Common.{ℕ, List, sym, subst, arith}
-use Rattle.ados_model.specs.declared.role.Role.TheVariants.{Root}
-use Rattle.ados_model.specs.Faults.{InImage, Reached}
-use Rattle.ados_model.specs.Faults.Reached.{start}
-use Rattle.ados_faults.specs.declared.walk.Step.{Step}
-use Rattle.ados_faults.specs.steps.Pairs.{ArePairs}
+use Rattle.ados_faults.proofs.Common.{Root, InImage, Reached, start, Step, ArePairs}
 use Rattle.ados_faults.proofs.Insides.{root_inside}
 use Rattle.ados_faults.proofs.Pairing.{no_pairs, tangled}
 use Rattle.ados_faults.proofs.tangled.is_tangled.Goals as goal

@@ -1,7 +1,5 @@
 use Rattle.std.proofs.Common.{inl, inr, sym, subst, ◌∙◌}
-use Rattle.ados_model.specs.Faults.{Reached}
-use Rattle.ados_faults.specs.steps.Blocks.{IsOfType}
-use Rattle.ados_check.proofs.Roles.{only_root}
+use Rattle.ados_faults.proofs.Common.{Reached, IsOfType, only_root}
 use Rattle.ados_faults.proofs.Enumerated.{grown_all}
 use Rattle.ados_faults.proofs.typed.add_step.Goals as goal
 use Rattle.ados_faults.proofs.typed.add_step.Goals.{in-Root, in-Entry}

@@ -1,10 +1,5 @@
 use Rattle.std.proofs.Common.{get_or, sym, subst, arith}
-use Rattle.std.specs.List.{All, Contains}
-use Rattle.std.proofs.lemmas.Option.{slice_get-get_or}
-use Rattle.ados_model.specs.declared.role.Role.TheVariants.{Root}
-use Rattle.ados_faults.specs.declared.walk.Step.{Step}
-use Rattle.ados_faults.specs.steps.Blocks.{HasTypeAs, IsOfType}
-use Rattle.ados_faults.specs.steps.Roles.{step_of}
+use Rattle.ados_faults.proofs.Common.{All, Contains, slice_get-get_or, Root, Step, HasTypeAs, IsOfType, step_of}
 use Rattle.ados_faults.proofs.Enumerated.{all_of_type, grown_contains}
 use Rattle.ados_faults.proofs.Firsts.{one_more}
 use Rattle.ados_faults.proofs.typed.blocks_of_type.Goals as goal

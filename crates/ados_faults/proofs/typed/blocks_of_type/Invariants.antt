@@ -1,5 +1,4 @@
-use Rattle.std.specs.List.{All}
-use Rattle.ados_faults.specs.steps.Blocks.{AreMet, AreTypesMet, IsOfType}
+use Rattle.ados_faults.proofs.Common.{All, AreMet, AreTypesMet, IsOfType}
 use Rattle.ados_faults.proofs.typed.blocks_of_type.Given as goal
 
 abbrev pub invariant-loop-step : goal.invariant-loop-step

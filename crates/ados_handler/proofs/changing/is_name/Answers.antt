@@ -1,7 +1,5 @@
 use Rattle.std.proofs.Common.{refl, sym, ap, ◌∙◌, subst}
-use Rattle.ados_name.specs.Name.{IsName}
-use Rattle.ados_name.specs.Fault.{first_fault}
-use Rattle.ados_volume.proofs.Refusing.{is_named}
+use Rattle.ados_handler.proofs.Common.{IsName, first_fault, is_named}
 use Rattle.ados_handler.proofs.DiskNamed.{unnamed}
 use Rattle.ados_handler.proofs.changing.is_name.Goals as goal
 

@@ -1,9 +1,7 @@
 use Rattle.std.proofs.Common.{◌≡◌, ℕ, ◌⊎◌, List, subst}
-use Rattle.ados_model.specs.Faults.{root_of}
+use Rattle.ados_mend.proofs.Common.{root_of, IsPage, Adds, HasNoMarks, IsOfDamaged, IsOwn, IsPieceBlock, OfOne}
 use Rattle.adf_salvage.specs.declared.giving.Piece.{Piece}
 use Rattle.adf_salvage.specs.declared.salvaged.Salvaged.{Salvaged}
-use Rattle.ados_mend.specs.Mendable.{IsPage}
-use Rattle.ados_mend.specs.steps.Accounting.{Adds, HasNoMarks, IsOfDamaged, IsOwn, IsPieceBlock, OfOne}
 use Rattle.ados_mend.proofs.AllKinds.{all_accounted}
 use Rattle.ados_mend.proofs.accounted.accounted_marks.Goals as goal
 

@@ -1,6 +1,5 @@
 use Rattle.std.proofs.Common.{◌≡◌, ℕ, ◌+◌, ◌-◌, ◌/◌, ◌%◌, length, ap, ◌∙◌, arith}
-use Rattle.adf_block.specs.Fields.{pointer}
-use Rattle.ados_model.specs.File.{data_blocks, pointer_block}
+use Rattle.ados_mend.proofs.Common.{pointer, data_blocks, pointer_block}
 use Rattle.ados_data.proofs.Places.{readable}
 use Rattle.ados_mend.proofs.OwnBlocks.{file_all, file_more, needed_is}
 use Rattle.ados_mend.proofs.accounted.mark_file.Goals as goal

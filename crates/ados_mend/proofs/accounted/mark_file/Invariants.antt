@@ -1,6 +1,5 @@
 use Rattle.std.proofs.Common.{◌≡◌, ◌-◌, ◌/◌}
-use Rattle.ados_model.specs.File.{pointer_block}
-use Rattle.ados_mend.specs.steps.Accounting.{Adds}
+use Rattle.ados_mend.proofs.Common.{pointer_block, Adds}
 use Rattle.ados_mend.proofs.OwnBlocks.{IsOfFile}
 use Rattle.ados_mend.proofs.accounted.mark_file.Given as goal
 

@@ -1,11 +1,8 @@
 use Rattle.std.proofs.Common.{◌≡◌, ℕ, Bool, List, ◌++◌, codes, sym, ap, ap₂, ◌∙◌}
-use Rattle.std.proofs.lemmas.Result.{IfOk-weaker}
+use Rattle.ados_mend.proofs.Common.{IfOk-weaker, Stands, Tree, IsMap, map_of, map_page, object_tokens, owner_letters}
 use Rattle.json.specs.Print.{print}
-use Rattle.ados_model.specs.Stands.{Stands}
-use Rattle.ados_model.specs.Tree.{Tree}
 use Rattle.ados_volume.specs.declared.owner.Owner.{Owner}
 use Rattle.adf_text.specs.Letters.{letters}
-use Rattle.ados_mend.specs.BlockMap.{IsMap, map_of, map_page, object_tokens, owner_letters}
 use Rattle.ados_mend.proofs.block_map.map_text.Goals as goal
 
 pub returns-then-json : goal.returns-then-json

@@ -1,6 +1,5 @@
 use Rattle.std.proofs.Common.{◌≡◌, ◌++◌, take}
-use Rattle.std.specs.Prelude.{flat_map}
-use Rattle.ados_mend.specs.BlockMap.{meaning_line}
+use Rattle.ados_mend.proofs.Common.{flat_map, meaning_line}
 use Rattle.ados_mend.proofs.block_map.push_meanings.Given as goal
 
 -- the lines of the kinds before this one

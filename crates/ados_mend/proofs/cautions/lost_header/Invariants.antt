@@ -1,6 +1,5 @@
 use Rattle.std.proofs.Common.{ℕ, ◌<◌, ◌≤◌}
-use Rattle.adf_block.specs.Whole.{HasFreeBit}
-use Rattle.adf_salvage.specs.Sound.{IsSoundHeader}
+use Rattle.ados_mend.proofs.Common.{HasFreeBit, IsSoundHeader}
 use Rattle.ados_mend.proofs.cautions.lost_header.Given as goal
 
 abbrev pub invariant-loop-block : goal.invariant-loop-block

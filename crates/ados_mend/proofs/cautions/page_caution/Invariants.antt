@@ -1,6 +1,5 @@
 use Rattle.std.proofs.Common.{ℕ, ◌<◌}
-use Rattle.ados_map.specs.Pages.{page_block}
-use Rattle.ados_mend.specs.steps.Cautious.{IsSafePage}
+use Rattle.ados_mend.proofs.Common.{page_block, IsSafePage}
 use Rattle.ados_mend.proofs.cautions.page_caution.Given as goal
 
 abbrev pub invariant-loop-p : goal.invariant-loop-p

@@ -1,10 +1,7 @@
 use Rattle.std.proofs.Common.{List, [], ◌∷◌, ◌++◌, codes}
-use Rattle.std.specs.Prelude.{flat_map}
-use Rattle.std.specs.List.{enumerate_from}
-use Rattle.std.proofs.lemmas.Result.{on_ok_weaker}
+use Rattle.ados_mend.proofs.Common.{flat_map, enumerate_from, on_ok_weaker, header_tokens}
 use Rattle.json.specs.Token.{Token, begin_array, begin_object, end_array, end_object, key, string}
 use Rattle.adf_record.proofs.Tokens.{behind}
-use Rattle.ados_mend.specs.BlockMap.{header_tokens}
 use Rattle.ados_mend.proofs.map_object.put_object.Goals as goal
 
 pub returns-clause-tokens : goal.returns-clause-tokens

@@ -1,9 +1,7 @@
 use Rattle.std.proofs.Common.{inl, inr, All, Contains, subst}
-use Rattle.std.proofs.lemmas.Bool.{cases_Bool}
-use Rattle.std.proofs.lemmas.List.Elements.{All-contains}
+use Rattle.ados_mend.proofs.Common.{cases_Bool, All-contains, IsMendable}
 use Rattle.ados_model.specs.declared.fault.VolumeFault.{VolumeFault}
 use Rattle.ados_faults.specs.Listed.{fault_of}
-use Rattle.ados_mend.specs.Mendable.{IsMendable}
 use Rattle.ados_mend.proofs.mendable.refuse_other_faults.Goals as goal
 
 pub returns : goal.returns

@@ -1,9 +1,5 @@
 use Rattle.std.proofs.Common.{◌≡◌, ◌+◌, ◌<◌, List, length, get_or, take, Vec, Global, sym, ◌∙◌, subst}
-use Rattle.std.specs.Prelude.{Contains}
-use Rattle.std.specs.List.{AllZip}
-use Rattle.std.proofs.lemmas.Option.{MatchOption-at_some}
-use Rattle.ados_mend.specs.declared.naming.Place.{Place}
-use Rattle.ados_mend.specs.steps.Placing.{IsListOf}
+use Rattle.ados_mend.proofs.Common.{Contains, AllZip, MatchOption-at_some, Place, IsListOf}
 use Rattle.ados_mend.proofs.PlaceLists.{zip_more}
 use Rattle.ados_mend.proofs.places.lists_of.Goals as goal
 

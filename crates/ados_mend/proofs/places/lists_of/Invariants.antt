@@ -1,6 +1,5 @@
 use Rattle.std.proofs.Common.{take}
-use Rattle.std.specs.List.{AllZip}
-use Rattle.ados_mend.specs.steps.Placing.{IsListOf}
+use Rattle.ados_mend.proofs.Common.{AllZip, IsListOf}
 use Rattle.ados_mend.proofs.places.lists_of.Given as goal
 
 -- the lists of the blocks before this one

@@ -1,11 +1,5 @@
 use Rattle.std.proofs.Common.{ℕ, ◌≤◌, List, ◌∙◌, sym, ap, subst, refl, length, Vec, Global}
-use Rattle.std.specs.Prelude.{All, Contains}
-use Rattle.std.specs.List.{AllZip}
-use Rattle.std.proofs.lemmas.Result.{IfOk-weaker}
-use Rattle.adf_block.specs.Image.{block_count}
-use Rattle.ados_mend.specs.declared.naming.Place.{Place}
-use Rattle.ados_mend.specs.Places.{AreAllPlacesOfEach}
-use Rattle.ados_mend.specs.steps.Placing.{IsListOf}
+use Rattle.ados_mend.proofs.Common.{All, Contains, AllZip, IfOk-weaker, block_count, Place, AreAllPlacesOfEach, IsListOf}
 use Rattle.ados_mend.proofs.PlaceLists.{each_listed, lists_begin}
 use Rattle.ados_mend.proofs.places.places_of.Goals as goal
 

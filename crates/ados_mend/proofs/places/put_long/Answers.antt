@@ -1,6 +1,5 @@
 use Rattle.std.proofs.Common.{ℕ, refl, ◌∙◌, subst}
-use Rattle.std.proofs.lemmas.Result.{on_ok_weaker}
-use Rattle.std.specs.Prelude.{Contains}
+use Rattle.ados_mend.proofs.Common.{on_ok_weaker, Contains}
 use Rattle.ados_mend.proofs.PlaceLists.{lists_with_long, lists_without_long}
 use Rattle.ados_mend.proofs.places.put_long.Goals as goal
 

@@ -1,8 +1,5 @@
 use Rattle.std.proofs.Common.{◌≡◌, ◌+◌, ◌*◌, Vec, Global, ap, ◌∙◌, sym, subst, arith}
-use Rattle.adf_block.specs.Image.{long}
-use Rattle.ados_mend.specs.declared.naming.Place.{Place}
-use Rattle.ados_mend.specs.Places.{position}
-use Rattle.ados_mend.specs.steps.Placing.{ArePlacesBelow}
+use Rattle.ados_mend.proofs.Common.{long, Place, position, ArePlacesBelow}
 use Rattle.ados_mend.proofs.Placing.{place_added, place_skipped}
 use Rattle.ados_mend.proofs.places.put_namings.Goals as goal
 use Rattle.ados_mend.proofs.places.put_namings.Goals.{then-is_place+in_ok-push, else-is_place}

@@ -1,6 +1,5 @@
 use Rattle.std.proofs.Common.{◌+◌, ◌*◌}
-use Rattle.adf_block.specs.Image.{long}
-use Rattle.ados_mend.specs.steps.Placing.{ArePlacesBelow}
+use Rattle.ados_mend.proofs.Common.{long, ArePlacesBelow}
 use Rattle.ados_mend.proofs.places.put_namings.Given as goal
 
 abbrev pub invariant-loop-number : goal.invariant-loop-number

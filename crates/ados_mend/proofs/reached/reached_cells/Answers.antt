@@ -1,9 +1,5 @@
 use Rattle.std.proofs.Common.{◌≡◌, ℕ, ◌<◌, length, Some, refl, subst, arith}
-use Rattle.std.specs.List.{slice_get}
-use Rattle.std.proofs.lemmas.Option.{slice_get_read}
-use Rattle.ados_model.specs.declared.role.Role.TheVariants.{Root}
-use Rattle.ados_model.specs.Faults.{root_of}
-use Rattle.ados_mend.specs.steps.Accounting.{IsMarked}
+use Rattle.ados_mend.proofs.Common.{slice_get, slice_get_read, Root, root_of, IsMarked}
 use Rattle.ados_mend.specs.steps.Reaching.{cell}
 use Rattle.ados_mend.proofs.Reaching.{all_cells, root_step, visited_more}
 use Rattle.ados_mend.proofs.reached.reached_cells.Goals as goal

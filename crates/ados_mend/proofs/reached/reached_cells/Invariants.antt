@@ -1,8 +1,6 @@
 use Rattle.std.proofs.Common.{◌+◌, ◌-◌, length}
-use Rattle.ados_model.specs.declared.role.Role.TheVariants.{Root}
-use Rattle.ados_model.specs.Faults.{root_of}
-use Rattle.ados_mend.specs.steps.Accounting.{IsMarked, unmarked}
-use Rattle.ados_mend.specs.steps.Reaching.{AreVisited, AreWalked, cell}
+use Rattle.ados_mend.proofs.Common.{Root, root_of, IsMarked, unmarked, AreVisited, AreWalked}
+use Rattle.ados_mend.specs.steps.Reaching.{cell}
 use Rattle.ados_mend.proofs.reached.reached_cells.Given as goal
 
 abbrev pub invariant-loop-done : goal.invariant-loop-done

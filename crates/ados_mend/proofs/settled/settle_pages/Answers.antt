@@ -1,6 +1,5 @@
 use Rattle.std.proofs.Common.{ℕ, ◌+◌, ◌<◌, ap, ◌∙◌, arith}
-use Rattle.adf_block.specs.Image.{long}
-use Rattle.ados_map.specs.Pages.{pages_of}
+use Rattle.ados_mend.proofs.Common.{long, pages_of}
 use Rattle.ados_mend.proofs.SettlingPages.{page_within, settled_page, sums_more}
 use Rattle.ados_mend.proofs.settled.settle_pages.Goals as goal
 

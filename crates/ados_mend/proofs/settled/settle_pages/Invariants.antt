@@ -1,6 +1,5 @@
-use Rattle.adf_block.specs.Frame.{SameBut}
+use Rattle.ados_mend.proofs.Common.{SameBut, HaveSums}
 use Rattle.ados_map.specs.Changes.{InPages}
-use Rattle.ados_mend.specs.steps.Settled.{HaveSums}
 use Rattle.ados_mend.proofs.settled.settle_pages.Given as goal
 
 abbrev pub invariant-loop-p : goal.invariant-loop-p

@@ -1,6 +1,5 @@
 use Rattle.std.proofs.Common.{◌≡◌}
-use Rattle.ados_port.specs.Grown.{Grown}
-use Rattle.ados_run.specs.Asking.{Rests}
+use Rattle.ados_run.proofs.Common.{Grown, Rests}
 use Rattle.ados_run.proofs.asking.put_packet.Given as goal
 
 abbrev pub invariant-loop : goal.invariant-loop

@@ -1,6 +1,5 @@
 use Rattle.std.proofs.Common.{sym, subst}
-use Rattle.ados_port.specs.Ends.{AreEnds, IsNew}
-use Rattle.ados_run.specs.Scripts.{AreUnused}
+use Rattle.ados_run.proofs.Common.{AreEnds, IsNew, AreUnused}
 use Rattle.ados_run.proofs.Runs.{opening_handler}
 use Rattle.ados_run.proofs.serve.open_clients.Goals as goal
 

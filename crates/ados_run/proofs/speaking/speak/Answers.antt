@@ -1,12 +1,9 @@
 use Rattle.std.proofs.Common.{◌≡◌, ℕ, ◌+◌, List, ◌++◌, sym, ap, subst, ◌∙◌}
 use Rattle.std.proofs.lemmas.Result.{IfOk-weaker}
+use Rattle.ados_run.proofs.Common.{Script, fault_line, reply_line, NextPuts, NextIsFaulty, stop_line, stop_ending}
 use Rattle.ados_port.specs.Gathering.{answers}
 use Rattle.ados_port.proofs.Growth.{grown_more}
-use Rattle.adf_script.specs.declared.ending.ClientEnding.TheVariants.{Script}
 use Rattle.adf_script.specs.Next.{LinesView}
-use Rattle.adf_script.specs.Text.{fault_line, reply_line}
-use Rattle.adf_script.specs.Packets.{NextPuts, NextIsFaulty}
-use Rattle.ados_run.specs.Asking.{stop_line, stop_ending}
 use Rattle.ados_run.proofs.Said.{SaidBy, tells_by, said_fault, replies, stops}
 use Rattle.ados_run.proofs.speaking.speak.Goals as goal
 

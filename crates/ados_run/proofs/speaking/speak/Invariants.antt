@@ -1,7 +1,5 @@
 use Rattle.std.proofs.Common.{◌≡◌, ◌-◌, length}
-use Rattle.ados_port.specs.Grown.{Grown}
-use Rattle.adf_script.specs.Lines.{kept_lines}
-use Rattle.ados_run.specs.Scripts.{IsUnused}
+use Rattle.ados_run.proofs.Common.{Grown, kept_lines, IsUnused}
 use Rattle.ados_run.proofs.Said.{SaidBy}
 use Rattle.ados_run.proofs.speaking.speak.Given as goal
 

@@ -1,7 +1,5 @@
 use Rattle.std.proofs.Common.{◌≡◌, ◌≢◌, ℕ, None, List, [], ◌++◌, length, AllPairs, sym, ap, ◌∙◌, subst}
-use Rattle.ados_model.specs.Tree.{Tree, entries}
-use Rattle.ados_volume.specs.declared.below.Below.{Below}
-use Rattle.ados_volume.specs.Below.{AreBelow, HasGrown}
+use Rattle.ados_volume.proofs.Common.{Tree, entries, Below, AreBelow, HasGrown}
 use Rattle.ados_volume.proofs.GoingBelow.{keys_of}
 use Rattle.ados_volume.proofs.below.entries_below.Goals as goal
 

@@ -1,6 +1,5 @@
 use Rattle.std.proofs.Common.{◌∷◌, refl}
-use Rattle.ados_model.specs.Tree.{entries}
-use Rattle.ados_volume.specs.Below.{placed}
+use Rattle.ados_volume.proofs.Common.{entries, placed}
 use Rattle.ados_volume.proofs.Taking.{pushed_more, taken_more}
 use Rattle.ados_volume.proofs.below.push_entries.Goals as goal
 

@@ -1,7 +1,5 @@
 use Rattle.std.proofs.Common.{◌≡◌, ◌++◌, List, ℕ, map, reverse, vec_len}
-use Rattle.ados_model.specs.Tree.{Tree, entries}
-use Rattle.ados_model.specs.Stands.{Stands}
-use Rattle.ados_volume.specs.Below.{placed}
+use Rattle.ados_volume.proofs.Common.{Tree, entries, Stands, placed}
 use Rattle.ados_volume.proofs.below.push_entries.Given as goal
 
 -- the last keys were popped, and their entries are on the stack

@@ -1,8 +1,5 @@
 use Rattle.std.proofs.Common.{◌≡◌, ℕ, List, Bool, sym, ◌∙◌, subst, arith}
-use Rattle.adf_block.specs.Image.{block_count, root_key}
-use Rattle.adf_block.specs.Frame.{OnlyBlock}
-use Rattle.adf_block.proofs.Frames.{same_count}
-use Rattle.ados_volume.specs.steps.BlankParts.{IsBlankRoot, NamesBlank}
+use Rattle.ados_volume.proofs.Common.{block_count, root_key, OnlyBlock, same_count, IsBlankRoot, NamesBlank}
 use Rattle.ados_volume.proofs.BlankImage.{blank_is}
 use Rattle.ados_volume.proofs.blank_volume.blank_image.Goals as goal
 

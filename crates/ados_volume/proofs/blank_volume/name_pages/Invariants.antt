@@ -1,6 +1,5 @@
 use Rattle.std.proofs.Common.{◌≡◌, ◌<◌, ◌+◌, ◌*◌, ℕ}
-use Rattle.adf_block.specs.Image.{long}
-use Rattle.adf_block.specs.Frame.{SameBut, Within}
+use Rattle.ados_volume.proofs.Common.{long, SameBut, Within}
 use Rattle.ados_volume.proofs.blank_volume.name_pages.Given as goal
 
 abbrev pub invariant-loop-p : goal.invariant-loop-p

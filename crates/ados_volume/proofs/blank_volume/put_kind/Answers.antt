@@ -1,6 +1,5 @@
 use Rattle.std.proofs.Common.{ℕ, ◌∷◌, [], ap, sym, ◌∙◌, arith}
-use Rattle.ados_model.specs.Stands.{format_byte}
-use Rattle.adf_block.proofs.Frames.{same_count}
+use Rattle.ados_volume.proofs.Common.{format_byte, same_count}
 use Rattle.ados_change.proofs.Texts.{bytes_put}
 use Rattle.ados_volume.proofs.blank_volume.put_kind.Goals as goal
 use Rattle.ados_volume.proofs.blank_volume.put_kind.Goals.{in-Ofs, in-Ffs}

@@ -1,8 +1,5 @@
 use Rattle.std.proofs.Common.{◌≡◌, ℕ, ◌+◌, ◌*◌, ◌<◌, ◌≤◌, List, length, sym, ap, ◌∙◌, subst, arith}
-use Rattle.adf_block.specs.Image.{block_count, byte_at, page_count}
-use Rattle.adf_block.specs.Frame.{SameBut, Within}
-use Rattle.adf_block.proofs.Frames.{same_count}
-use Rattle.ados_volume.specs.steps.BlankParts.{IsBlankRoot}
+use Rattle.ados_volume.proofs.Common.{block_count, byte_at, page_count, SameBut, Within, same_count, IsBlankRoot}
 use Rattle.ados_volume.proofs.BlankRoot.{blank_root_is}
 use Rattle.ados_volume.proofs.blank_volume.put_root.Goals as goal
 

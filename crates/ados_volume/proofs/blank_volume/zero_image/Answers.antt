@@ -1,7 +1,5 @@
 use Rattle.std.proofs.Common.{◌≡◌, ◌+◌, ◌*◌, ℕ, List, replicate, slice_index, ap, ◌∙◌, inl, inr, arith}
-use Rattle.std.proofs.lemmas.Bool.{cases_lt}
-use Rattle.std.proofs.lemmas.List.{get_or-replicate, get_or_past, length-replicate}
-use Rattle.adf_block.specs.Image.{byte_at}
+use Rattle.ados_volume.proofs.Common.{cases_lt, get_or-replicate, get_or_past, length-replicate, byte_at}
 use Rattle.ados_volume.proofs.blank_volume.zero_image.Goals as goal
 
 zero_at : (n k : ℕ) → slice_index (replicate n 0) k ≡ 0

@@ -1,7 +1,5 @@
 use Rattle.std.proofs.Common.{◌≡◌, sym, ap, ◌∙◌}
-use Rattle.ados_model.specs.Tree.{name_of}
-use Rattle.ados_model.specs.Parts.{name_in}
-use Rattle.ados_model.proofs.Nodes.{some_in}
+use Rattle.ados_volume.proofs.Common.{name_of, name_in, some_in}
 use Rattle.ados_volume.proofs.Moved.{forgets, no_child_here}
 use Rattle.ados_volume.proofs.entries.forget.Goals as goal
 

@@ -1,6 +1,5 @@
 use Rattle.std.proofs.Common.{ℕ, ◌+◌, ap, ◌∙◌}
-use Rattle.ados_model.specs.Tree.{data_count, extension_count}
-use Rattle.ados_change.proofs.Writable.{format_is}
+use Rattle.ados_volume.proofs.Common.{data_count, extension_count, format_is}
 use Rattle.ados_volume.proofs.Examining.{file_is, file_cost_is}
 use Rattle.ados_volume.proofs.examine.cost_in.Goals as goal
 

@@ -1,8 +1,6 @@
 use Rattle.std.proofs.Common.{sym, ◌∙◌, subst, arith}
-use Rattle.std.proofs.lemmas.Bool.{false≢true}
-use Rattle.ados_name.specs.Name.{IsName}
+use Rattle.ados_volume.proofs.Common.{false≢true, IsName, some_in}
 use Rattle.ados_volume.proofs.Bridge.{name_is, name_valid}
-use Rattle.ados_model.proofs.Nodes.{some_in}
 use Rattle.ados_volume.proofs.examine.name_in.Goals as goal
 
 pub text_in-requires-clause-room : goal.text_in-requires-clause-room

@@ -1,16 +1,7 @@
 use Rattle.std.proofs.Common.{◌≡◌, ℕ, ◌+◌, ◌-◌, ◌≤◌, Bool, true, false, cond, List, sym, ◌∙◌, arith}
-use Rattle.adf_block.specs.declared.layout.Format.{Format}
-use Rattle.adf_block.specs.declared.layout.Format.TheVariants.{Ffs, Ofs}
+use Rattle.ados_volume.proofs.Common.{Format, Ffs, Ofs, block_count, has_free_bit, free_bit_count, Tree, data_size, Stands, format_byte, disk_info, count_same, free_bits_count, lawful_pages, format_is}
 use Rattle.adf_block.specs.Fields.{format_of}
-use Rattle.adf_block.specs.Image.{block_count, has_free_bit}
-use Rattle.adf_block.specs.Whole.{free_bit_count}
 use Rattle.adf_block.proofs.Totals.{total-bound}
-use Rattle.ados_model.specs.Tree.{Tree, data_size}
-use Rattle.ados_model.specs.Stands.{Stands, format_byte}
-use Rattle.ados_model.specs.Objects.{disk_info}
-use Rattle.ados_model.proofs.Standing.{count_same}
-use Rattle.ados_model.proofs.Counting.{free_bits_count}
-use Rattle.ados_change.proofs.Writable.{lawful_pages, format_is}
 use Rattle.ados_volume.proofs.info.info_of.Goals as goal
 
 pub count_free-requires : goal.count_free-requires

@@ -1,7 +1,5 @@
 use Rattle.std.proofs.Common.{ℕ, sym, ap, ◌∙◌}
-use Rattle.ados_chain.specs.Look.{first_left}
-use Rattle.ados_model.specs.Stands.{in_slot}
-use Rattle.ados_model.specs.Change.{entries_after}
+use Rattle.ados_volume.proofs.Common.{first_left, in_slot, entries_after}
 use Rattle.ados_volume.proofs.Looking.{chains_of, listed_in_chains, next_is}
 use Rattle.ados_volume.proofs.Ordered.{place_listed}
 use Rattle.ados_volume.proofs.look.next_at.Goals as goal

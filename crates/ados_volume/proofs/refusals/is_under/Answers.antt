@@ -1,7 +1,5 @@
 use Rattle.std.proofs.Common.{◌≡◌, ℕ, suc, ◌-◌, ◌+◌, arith, None, Some, sym, ap, ◌∙◌}
-use Rattle.adf_block.specs.Image.{block_count}
-use Rattle.ados_model.specs.Tree.{parent_of}
-use Rattle.ados_model.proofs.Standing.{count_same}
+use Rattle.ados_volume.proofs.Common.{block_count, parent_of, count_same}
 use Rattle.ados_volume.proofs.Climbing.{climbs, ends, meets, met}
 use Rattle.ados_volume.proofs.refusals.is_under.Goals as goal
 

@@ -1,8 +1,5 @@
 use Rattle.std.proofs.Common.{◌≡◌, ◌-◌}
-use Rattle.ados_model.specs.Tree.{Tree}
-use Rattle.ados_model.specs.Stands.{Stands}
-use Rattle.ados_model.specs.Keys.{HasKey}
-use Rattle.ados_model.specs.Objects.{is_under}
+use Rattle.ados_volume.proofs.Common.{Tree, Stands, HasKey, is_under}
 use Rattle.ados_volume.proofs.Climbing.{meets}
 use Rattle.ados_volume.proofs.refusals.is_under.Given as goal
 

@@ -1,8 +1,7 @@
 use Rattle.std.proofs.Common.{◌≡◌, Option, Some, length, is_some, sym, ap, ◌∙◌}
+use Rattle.ados_volume.proofs.Common.{Content, bytes_of, size_in, content_in}
 use Rattle.ados_model.specs.declared.answer.FileInfo.{FileInfo}
-use Rattle.ados_model.specs.Tree.{Content, bytes_in, bytes_of}
-use Rattle.ados_model.specs.Parts.{size_in}
-use Rattle.ados_model.proofs.Nodes.{content_in}
+use Rattle.ados_model.specs.Tree.{bytes_in}
 use Rattle.ados_volume.proofs.WholeFile.{read_whole, written_back}
 use Rattle.ados_volume.proofs.whole_file.read_file.Goals as goal
 

@@ -1,6 +1,5 @@
 use Rattle.std.proofs.Common.{refl, ap, ◌∙◌}
-use Rattle.ados_model.proofs.Nodes.{some_in}
-use Rattle.host_trees.specs.declared.items.HostItem.{HostItem}
+use Rattle.adf_export.proofs.Common.{some_in, HostItem}
 use Rattle.host_trees.specs.declared.items.ItemKind.TheVariants as kinds
 use Rattle.host_trees.specs.Notes.{note_of}
 use Rattle.adf_export.proofs.Entries.{alone, source_alone, source_with_note, with_note}

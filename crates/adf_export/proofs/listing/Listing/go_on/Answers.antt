@@ -1,11 +1,5 @@
 use Rattle.std.proofs.Common.{ℕ, ◌+◌, ◌++◌, List, [], ◌∷◌, drop, refl, sym, ap, ap₂, ◌∙◌, subst, arith}
-use Rattle.std.proofs.lemmas.Bool.{false≢true}
-use Rattle.ados_model.specs.Keys.{HasKey}
-use Rattle.ados_model.specs.declared.answer.FileInfo.{FileInfo}
-use Rattle.ados_model.specs.Parts.{name_in}
-use Rattle.adf_export.specs.declared.listing.Level.{Level}
-use Rattle.adf_export.specs.declared.listing.Listing.{Listing}
-use Rattle.adf_export.specs.Listing.{IsEntry}
+use Rattle.adf_export.proofs.Common.{false≢true, HasKey, FileInfo, name_in, Level, Listing, IsEntry}
 use Rattle.adf_export.proofs.Directories.{entry_in, told_file}
 use Rattle.adf_export.proofs.ListingSteps.{goes_to_entry, goes_up}
 use Rattle.adf_export.proofs.Left.{Takes, ends, next_inside, lists_file, lists_directory}

@@ -1,6 +1,5 @@
 use Rattle.std.proofs.Common.{◌++◌, List, [], ◌∷◌, ap, ◌∙◌, arith}
-use Rattle.ados_model.proofs.Nodes.{some_in}
-use Rattle.adf_export.specs.declared.listing.Level.{Level}
+use Rattle.adf_export.proofs.Common.{some_in, Level}
 use Rattle.adf_export.proofs.Left.{starts}
 use Rattle.adf_export.proofs.Levels.{none_are, pushed_are}
 use Rattle.adf_export.proofs.listing.Listing.start.Goals as goal

@@ -1,8 +1,5 @@
 use Rattle.std.proofs.Common.{◌<◌, ℕ, List, length, true, inl, inr, set, refl, sym, subst, arith, ◌∙◌}
-use Rattle.std.specs.List.{Contains}
-use Rattle.std.proofs.lemmas.Bool.{false≢true}
-use Rattle.std.proofs.lemmas.List.Elements.{Contains-push}
-use Rattle.ados_faults.specs.steps.Blocks.{AreMet}
+use Rattle.ados_faults.proofs.Common.{Contains, false≢true, Contains-push, AreMet}
 use Rattle.ados_faults.proofs.Enumerated.{cell_read, met_more}
 use Rattle.ados_faults.proofs.blocks.Blocks.add.Goals as goal
 

@@ -1,6 +1,5 @@
 use Rattle.std.proofs.Common.{◌≡◌, ◌<◌, ◌+◌, false, true, length, get_or, sym, subst, ◌∙◌, arith}
-use Rattle.std.proofs.lemmas.List.{get_or_default}
-use Rattle.ados_faults.specs.steps.Noted.{AreListed}
+use Rattle.ados_faults.proofs.Common.{get_or_default, AreListed}
 use Rattle.ados_faults.proofs.Cells.{all_listed, listed_full, listed_more, none_listed, set_within}
 use Rattle.ados_faults.proofs.notes.Notes.listed.Goals as goal
 

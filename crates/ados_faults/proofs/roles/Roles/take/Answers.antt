@@ -1,8 +1,5 @@
 use Rattle.std.proofs.Common.{refl, sym, subst}
-use Rattle.ados_model.specs.declared.role.Role.{Role}
-use Rattle.ados_model.specs.declared.role.Role.TheVariants.{Page, Entry, Data, Extension}
-use Rattle.ados_faults.specs.declared.roles.Part.TheVariants.{Bitmap, Directory, Slot, DataFile, ExtensionFile}
-use Rattle.ados_faults.specs.steps.Roles.{AreCoveredBy, IsListed, step_of}
+use Rattle.ados_faults.proofs.Common.{Role, Page, Entry, Data, Extension, Bitmap, Directory, Slot, DataFile, ExtensionFile, AreCoveredBy, IsListed, step_of}
 use Rattle.ados_faults.proofs.Covering.{data_covered, extension_covered, number_here, page_covered, root_covered}
 use Rattle.ados_faults.proofs.roles.Roles.take.Goals as goal
 

@@ -1,6 +1,5 @@
 use Rattle.std.proofs.Common.{◌<◌, ◌≡◌, None, Some, length, refl, arith, ◌∙◌}
-use Rattle.ados_check.specs.Marks.{mark_at}
-use Rattle.ados_check.proofs.MarkLemmas.{mark_read}
+use Rattle.ados_faults.proofs.Common.{mark_at, mark_read}
 use Rattle.ados_faults.proofs.Closing.{mark_stays, marked_by_it, marked_first, marked_here}
 use Rattle.ados_faults.proofs.Doubles.{used_twice}
 use Rattle.ados_faults.proofs.walk.Walk.mark.Goals as goal

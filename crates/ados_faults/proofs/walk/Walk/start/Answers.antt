@@ -1,6 +1,5 @@
 use Rattle.std.proofs.Common.{rules, List, [], ◌∷◌, ◌++◌, ap, ◌∙◌}
-use Rattle.ados_faults.specs.declared.walk.Step.{Step}
-use Rattle.ados_faults.specs.steps.Roles.{root_step}
+use Rattle.ados_faults.proofs.Common.{Step, root_step}
 use Rattle.ados_faults.proofs.Doubles.{started}
 use Rattle.ados_faults.proofs.walk.Walk.start.Goals as goal
 

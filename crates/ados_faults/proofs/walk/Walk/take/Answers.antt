@@ -1,8 +1,5 @@
 use Rattle.std.proofs.Common.{refl, arith, List, [], ◌∷◌, ◌++◌, sym, subst}
-use Rattle.ados_faults.specs.declared.roles.Taken.{Taken}
-use Rattle.ados_faults.specs.declared.walk.Step.{Step}
-use Rattle.ados_faults.specs.steps.Roles.{AreCoveredBy, step_of}
-use Rattle.ados_faults.specs.steps.Walked.{IsWalked}
+use Rattle.ados_faults.proofs.Common.{Taken, Step, AreCoveredBy, step_of, IsWalked}
 use Rattle.ados_faults.proofs.Closing.{backed_push, kept_push, pushed_there, took}
 use Rattle.ados_faults.proofs.Covering.{covered_here}
 use Rattle.ados_faults.proofs.walk.Walk.take.Goals as goal

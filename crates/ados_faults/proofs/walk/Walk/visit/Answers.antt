@@ -1,7 +1,5 @@
 use Rattle.std.proofs.Common.{ap, refl, sym, subst, ◌∙◌}
-use Rattle.std.proofs.lemmas.Bool.{false≢true}
-use Rattle.ados_check.specs.Source.{SourceView}
-use Rattle.ados_model.specs.Faults.{InImage, IsPlace}
+use Rattle.ados_faults.proofs.Common.{false≢true, SourceView, InImage, IsPlace}
 use Rattle.ados_model.specs.Faults.HasBadPointer.{outside}
 use Rattle.ados_faults.proofs.Insides.{named_at}
 use Rattle.ados_faults.proofs.walk.Walk.visit.Goals as goal

@@ -1,7 +1,5 @@
 use Rattle.std.proofs.Common.{◌≡◌, false, sym, ap, ◌∙◌, subst}
-use Rattle.std.specs.FinMap.{insert}
-use Rattle.ados_model.specs.Keys.{HasKey}
-use Rattle.ados_model.specs.Session.{is_in_use, HandlerState}
+use Rattle.ados_handler.proofs.Common.{insert, HasKey, is_in_use, HandlerState}
 use Rattle.ados_handler.proofs.Locating.{sound_locked}
 use Rattle.ados_handler.proofs.handler.Handler.bring_lock.Goals as goal
 

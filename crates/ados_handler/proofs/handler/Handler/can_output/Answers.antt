@@ -1,7 +1,5 @@
 use Rattle.std.proofs.Common.{sym, ◌∙◌, subst}
-use Rattle.ados_model.specs.Stands.{Stands}
-use Rattle.ados_volume.specs.Shown.{Shown}
-use Rattle.ados_volume.proofs.Walking.{child_is_key}
+use Rattle.ados_handler.proofs.Common.{Stands, Shown, child_is_key}
 use Rattle.ados_handler.proofs.handler.Handler.can_output.Goals as goal
 
 pub can_empty-requires : goal.can_empty-requires

@@ -1,6 +1,5 @@
 use Rattle.std.proofs.Common.{sym, ap, ◌∙◌}
-use Rattle.std.specs.Option.{option_copied}
-use Rattle.std.specs.FinMap.{insert}
+use Rattle.ados_handler.proofs.Common.{option_copied, insert}
 use Rattle.ados_handler.proofs.Sound.{sound_copied}
 use Rattle.ados_handler.proofs.handler.Handler.copy_dir.Goals as goal
 

@@ -1,21 +1,5 @@
 use Rattle.std.proofs.Common.{◌≡◌, [], not, true, sym, ap, ◌∙◌, subst, refl, rules}
-use Rattle.std.specs.Prelude.{is_some}
-use Rattle.std.specs.FinMap.{FinMap, insert}
-use Rattle.std.specs.Ordering.{nat_cmp}
-use Rattle.std.proofs.lemmas.Bool.{true≢false, not-true}
-use Rattle.ados_name.specs.Name.{IsName}
-use Rattle.ados_model.specs.Tree.Content.{Directory}
-use Rattle.ados_model.specs.Stands.{Stands}
-use Rattle.ados_change.specs.NewBlocks.{KeepsRest}
-use Rattle.ados_model.specs.Change.{made}
-use Rattle.ados_volume.specs.Shown.{Shown}
-use Rattle.ados_model.specs.declared.packet.Packet.TheVariants.{CreateDir}
-use Rattle.ados_model.specs.declared.results.Results.{Results}
-use Rattle.ados_model.specs.Session.{Session, IsFreeNumber, with_lock, HandlerState}
-use Rattle.ados_model.specs.declared.holds.LockHold.{LockHold}
-use Rattle.ados_model.specs.Reads.{lacks}
-use Rattle.ados_volume.proofs.FreeBlock.{can_make_new, new_key, none_free_lacks}
-use Rattle.ados_handler.specs.steps.Methods.{MethodMeans}
+use Rattle.ados_handler.proofs.Common.{is_some, FinMap, insert, nat_cmp, true≢false, not-true, IsName, Directory, Stands, KeepsRest, made, Shown, CreateDir, Results, Session, IsFreeNumber, with_lock, HandlerState, LockHold, lacks, can_make_new, new_key, none_free_lacks, MethodMeans}
 use Rattle.ados_handler.proofs.Leaving.{leaves_rest}
 use Rattle.ados_handler.proofs.MakingDirectory.{create_dir_means, create_dir_passes, create_dir_sound}
 use Rattle.ados_handler.proofs.Meant.{no_memory_gives, refused_gives}

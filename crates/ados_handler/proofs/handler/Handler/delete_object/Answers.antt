@@ -1,12 +1,5 @@
 use Rattle.std.proofs.Common.{◌≡◌, pos, false, None, sym, ap, ◌∙◌, subst, refl, rules}
-use Rattle.ados_model.specs.Stands.{Stands}
-use Rattle.ados_model.specs.Packet.{error_number}
-use Rattle.ados_model.specs.declared.packet.Packet.TheVariants.{DeleteObject}
-use Rattle.ados_model.specs.declared.results.Results.{Results}
-use Rattle.ados_model.specs.declared.answer.Body.TheVariants.{Empty}
-use Rattle.ados_model.specs.Session.{is_held, HandlerState}
-use Rattle.ados_volume.proofs.Refusing.{can_remove, none_refuses}
-use Rattle.ados_handler.specs.steps.Moves.{remove_refusal, remove_refusals}
+use Rattle.ados_handler.proofs.Common.{Stands, error_number, DeleteObject, Results, Empty, is_held, HandlerState, can_remove, none_refuses, remove_refusal, remove_refusals}
 use Rattle.ados_handler.proofs.Meant.{edit_gives, refused_gives, sound_on}
 use Rattle.ados_handler.proofs.Deleting.{delete_edits, delete_refusal}
 use Rattle.ados_handler.proofs.Unlisting.{delete_keeps}

@@ -1,6 +1,5 @@
 use Rattle.std.proofs.Common.{true, sym, ap, ◌∙◌, subst}
-use Rattle.ados_model.specs.Stands.{Stands}
-use Rattle.ados_model.specs.Session.{is_in_use, HandlerState}
+use Rattle.ados_handler.proofs.Common.{Stands, is_in_use, HandlerState}
 use Rattle.ados_handler.proofs.Emptying.{emptied_opens, emptied_sound}
 use Rattle.ados_handler.proofs.handler.Handler.empty_file.Goals as goal
 

@@ -1,9 +1,5 @@
 use Rattle.std.proofs.Common.{sym, ap, ◌∙◌, subst}
-use Rattle.std.specs.Prelude.{is_some}
-use Rattle.ados_model.specs.Stands.{Stands}
-use Rattle.ados_model.specs.declared.packet.Packet.TheVariants.{ExamineNext}
-use Rattle.ados_model.specs.Session.{HandlerState}
-use Rattle.ados_handler.specs.steps.Methods.{MethodMeans}
+use Rattle.ados_handler.proofs.Common.{is_some, Stands, ExamineNext, HandlerState, MethodMeans}
 use Rattle.ados_handler.proofs.Meant.{stays_gives}
 use Rattle.ados_volume.proofs.Listed.{next_node}
 use Rattle.ados_handler.proofs.NextEntry.{next_means}

@@ -1,6 +1,5 @@
 use Rattle.std.proofs.Common.{sym, subst}
-use Rattle.ados_model.specs.Keys.{HasFileKey}
-use Rattle.ados_model.specs.Session.{HandlerState}
+use Rattle.ados_handler.proofs.Common.{HasFileKey, HandlerState}
 use Rattle.ados_handler.proofs.HandleFiles.{file_is_key}
 use Rattle.ados_handler.proofs.handler.Handler.file_protection.Goals as goal
 

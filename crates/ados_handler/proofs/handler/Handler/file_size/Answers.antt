@@ -1,7 +1,5 @@
 use Rattle.std.proofs.Common.{arith, sym, subst}
-use Rattle.ados_model.specs.Keys.{HasFileKey}
-use Rattle.ados_model.specs.Stands.{Stands}
-use Rattle.ados_model.specs.Session.{HandlerState}
+use Rattle.ados_handler.proofs.Common.{HasFileKey, Stands, HandlerState}
 use Rattle.ados_handler.proofs.Sizes.{size_small}
 use Rattle.ados_handler.proofs.HandleFiles.{file_is_key, size_told}
 use Rattle.ados_handler.proofs.handler.Handler.file_size.Goals as goal

@@ -1,12 +1,8 @@
 use Rattle.std.proofs.Common.{refl, sym, ap, ◌∙◌, subst}
-use Rattle.ados_model.specs.Stands.{Stands}
-use Rattle.ados_volume.specs.Shown.{Shown}
-use Rattle.ados_model.specs.Session.{Session, HandlerState}
-use Rattle.ados_model.specs.declared.packet.Packet.TheVariants.{FindUpdate}
+use Rattle.ados_handler.proofs.Common.{Stands, Shown, Session, HandlerState, FindUpdate, child_is_key}
 use Rattle.ados_handler.proofs.Meant.{refused_gives}
 use Rattle.ados_handler.proofs.Placed.{place_refused}
 use Rattle.ados_handler.proofs.Spotted.{update_opens, update_makes}
-use Rattle.ados_volume.proofs.Walking.{child_is_key}
 use Rattle.ados_handler.proofs.handler.Handler.find_update.Goals as goal
 
 pub returns-in-Err : goal.returns-in-Err

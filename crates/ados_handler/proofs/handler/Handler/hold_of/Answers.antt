@@ -1,6 +1,5 @@
 use Rattle.std.proofs.Common.{rules, subst}
-use Rattle.ados_model.specs.Session.{HandlerState}
-use Rattle.ados_handler.specs.Gives.{IsSoundHandler}
+use Rattle.ados_handler.proofs.Common.{HandlerState, IsSoundHandler}
 use Rattle.ados_handler.proofs.HandleFiles.{file_of, within_of}
 use Rattle.ados_handler.proofs.handler.Handler.hold_of.Goals as goal
 

@@ -1,7 +1,5 @@
 use Rattle.std.proofs.Common.{ℕ, List, rules, sym, ap, ◌∙◌, subst}
-use Rattle.ados_model.specs.Stands.{Stands}
-use Rattle.ados_model.specs.declared.packet.Packet.TheVariants.{LocateObject}
-use Rattle.ados_model.specs.Session.{HandlerState}
+use Rattle.ados_handler.proofs.Common.{Stands, LocateObject, HandlerState}
 use Rattle.ados_handler.proofs.Leaving.{leaves_all}
 use Rattle.ados_handler.proofs.handler.Handler.locate_object.Goals as goal
 

@@ -1,12 +1,5 @@
 use Rattle.std.proofs.Common.{rules, ◌≡◌, false, sym, ap, ◌∙◌, subst}
-use Rattle.std.proofs.lemmas.Bool.{true≢false, not-true}
-use Rattle.ados_name.specs.Name.{IsName}
-use Rattle.ados_model.specs.Stands.{Stands}
-use Rattle.ados_model.specs.Reads.{lacks}
-use Rattle.ados_model.specs.Session.{HandlerState}
-use Rattle.ados_volume.proofs.FreeBlock.{none_free_lacks}
-use Rattle.ados_volume.proofs.Refusing.{can_make_in}
-use Rattle.ados_handler.specs.steps.Opening.{BringsHandle}
+use Rattle.ados_handler.proofs.Common.{true≢false, not-true, IsName, Stands, lacks, HandlerState, none_free_lacks, can_make_in, BringsHandle}
 use Rattle.ados_handler.proofs.MakingFile.{made_opens, made_sound}
 use Rattle.ados_handler.proofs.handler.Handler.make_file.Goals as goal
 

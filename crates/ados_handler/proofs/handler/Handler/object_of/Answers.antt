@@ -1,7 +1,5 @@
 use Rattle.std.proofs.Common.{sym, ap, ◌∙◌, subst}
-use Rattle.std.specs.Option.{option_copied}
-use Rattle.ados_model.specs.Keys.{HasKey}
-use Rattle.ados_model.specs.Session.{HandlerState}
+use Rattle.ados_handler.proofs.Common.{option_copied, HasKey, HandlerState}
 use Rattle.ados_handler.proofs.Sound.{sound_key}
 use Rattle.ados_handler.proofs.handler.Handler.object_of.Goals as goal
 

@@ -1,6 +1,5 @@
 use Rattle.std.proofs.Common.{false, sym, ap, ◌∙◌, subst}
-use Rattle.ados_model.specs.Keys.{HasKey}
-use Rattle.ados_model.specs.Session.{is_in_use, HandlerState}
+use Rattle.ados_handler.proofs.Common.{HasKey, is_in_use, HandlerState}
 use Rattle.ados_handler.proofs.Opening.{proper_opened}
 use Rattle.ados_handler.proofs.handler.Handler.open_file.Goals as goal
 

@@ -1,10 +1,5 @@
 use Rattle.std.proofs.Common.{length, sym, ap, ◌∙◌, subst, arith}
-use Rattle.std.proofs.lemmas.List.{with_items_is}
-use Rattle.ados_name.specs.Name.{denies_read}
-use Rattle.ados_model.specs.Tree.{bytes_of}
-use Rattle.ados_model.specs.Stands.{Stands}
-use Rattle.ados_model.specs.declared.packet.Packet.TheVariants.{Read}
-use Rattle.ados_model.specs.Session.{HandlerState}
+use Rattle.ados_handler.proofs.Common.{with_items_is, denies_read, bytes_of, Stands, Read, HandlerState}
 use Rattle.ados_handler.proofs.HandleFiles.{sound_read}
 use Rattle.ados_handler.proofs.ReadingBytes.{filled_length, read_ends, read_gives}
 use Rattle.ados_handler.proofs.handler.Handler.read.Goals as goal

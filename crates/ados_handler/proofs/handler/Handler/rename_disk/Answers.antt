@@ -1,11 +1,5 @@
 use Rattle.std.proofs.Common.{◌≡◌, ℕ, List, Some, refl, sym, ap, ◌∙◌, subst}
-use Rattle.ados_name.specs.Name.{IsName}
-use Rattle.ados_name.specs.Fault.{first_fault}
-use Rattle.ados_model.specs.Stands.{Stands}
-use Rattle.ados_model.specs.Edits.{disk_renamed}
-use Rattle.ados_model.specs.declared.dos_error.DosError.TheVariants.{InvalidComponentName}
-use Rattle.ados_model.specs.declared.packet.Packet.TheVariants.{RenameDisk}
-use Rattle.ados_model.specs.Session.{HandlerState}
+use Rattle.ados_handler.proofs.Common.{IsName, first_fault, Stands, disk_renamed, InvalidComponentName, RenameDisk, HandlerState}
 use Rattle.ados_handler.proofs.DiskNamed.{no_name_refused, rename_disk_edits}
 use Rattle.ados_handler.proofs.Meant.{edit_gives, refused_gives, sound_on}
 use Rattle.ados_handler.proofs.Telling.{rename_disk_keeps}

@@ -1,13 +1,6 @@
 use Rattle.std.proofs.Common.{◌≡◌, pos, None, rules, sym, ap, ◌∙◌, subst, refl}
-use Rattle.ados_name.specs.Name.{IsName}
-use Rattle.ados_model.specs.Stands.{Stands}
-use Rattle.ados_model.specs.Packet.{error_number}
-use Rattle.ados_model.specs.declared.packet.Packet.TheVariants.{RenameObject}
-use Rattle.ados_model.specs.declared.results.Results.{Results}
-use Rattle.ados_model.specs.declared.answer.Body.TheVariants.{Empty}
-use Rattle.ados_model.specs.Session.{HandlerState, is_held_exclusively}
-use Rattle.ados_volume.proofs.Refusing.{can_move, none_refuses}
-use Rattle.ados_handler.specs.steps.Moves.{move_refusal, move_refusals}
+use Rattle.ados_handler.proofs.Common.{IsName, Stands, error_number, RenameObject, Results, Empty, HandlerState, is_held_exclusively, none_refuses, move_refusal, move_refusals}
+use Rattle.ados_volume.proofs.Refusing.{can_move}
 use Rattle.ados_handler.proofs.Unlisting.{rename_keeps}
 use Rattle.ados_handler.proofs.Meant.{edit_gives, refused_gives, sound_on}
 use Rattle.ados_handler.proofs.Moving.{move_refused, rename_object_edits, source_refused}

@@ -1,10 +1,6 @@
 use Rattle.std.proofs.Common.{ℤ, w32, arith, sym, ap, ap₂, ◌∙◌, subst}
 use Rattle.std.proofs.lemmas.Int.{to_z-of_z}
-use Rattle.ados_model.specs.Stands.{Stands}
-use Rattle.ados_model.specs.declared.packet.Packet.TheVariants.{Seek}
-use Rattle.ados_model.specs.Objects.{is_bad_target, target_number}
-use Rattle.ados_model.specs.Reads.{seek_target}
-use Rattle.ados_model.specs.Session.{HandlerState}
+use Rattle.ados_handler.proofs.Common.{Stands, Seek, is_bad_target, target_number, seek_target, HandlerState}
 use Rattle.ados_handler.proofs.Sizes.{size_small}
 use Rattle.ados_handler.proofs.HandleFiles.{sound_moved}
 use Rattle.ados_handler.proofs.Seeking.{seek_gives}

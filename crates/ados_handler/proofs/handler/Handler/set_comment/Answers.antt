@@ -1,10 +1,5 @@
 use Rattle.std.proofs.Common.{◌≡◌, ◌≢◌, ℕ, List, rules, refl, sym, ap, ◌∙◌, subst}
-use Rattle.ados_name.specs.Name.{IsComment}
-use Rattle.ados_model.specs.Tree.{root}
-use Rattle.ados_model.specs.Stands.{Stands}
-use Rattle.ados_model.specs.Edits.{with_comment}
-use Rattle.ados_model.specs.declared.packet.Packet.TheVariants.{SetComment}
-use Rattle.ados_model.specs.Session.{HandlerState}
+use Rattle.ados_handler.proofs.Common.{IsComment, root, Stands, with_comment, SetComment, HandlerState}
 use Rattle.ados_handler.proofs.Meant.{edit_gives, set_comment_edits, sound_on, stays_gives}
 use Rattle.ados_handler.proofs.Telling.{set_comment_keeps}
 use Rattle.ados_handler.proofs.handler.Handler.set_comment.Goals as goal

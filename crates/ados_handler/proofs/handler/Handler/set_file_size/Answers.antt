@@ -1,10 +1,6 @@
 use Rattle.std.proofs.Common.{ℤ, w32, sym, ap, ap₂, ◌∙◌, subst}
 use Rattle.std.proofs.lemmas.Int.{to_z-of_z}
-use Rattle.ados_name.specs.Name.{denies_write}
-use Rattle.ados_model.specs.Stands.{Stands}
-use Rattle.ados_model.specs.Session.{Session, HandlerState}
-use Rattle.ados_model.specs.Objects.{is_bad_target, target_number}
-use Rattle.ados_model.specs.Reads.{seek_target}
+use Rattle.ados_handler.proofs.Common.{denies_write, Stands, Session, HandlerState, is_bad_target, target_number, seek_target}
 use Rattle.ados_handler.proofs.Meant.{sound_on}
 use Rattle.ados_handler.proofs.Rewriting.{set_file_size_keeps}
 use Rattle.ados_handler.proofs.Resizing.{bad_gives, full_gives, sized_gives}

@@ -1,7 +1,5 @@
 use Rattle.std.proofs.Common.{◌≡◌, ◌≢◌, refl, sym, ap, ◌∙◌, subst}
-use Rattle.ados_model.specs.Tree.{root}
-use Rattle.ados_model.specs.Stands.{Stands}
-use Rattle.ados_model.specs.Session.{HandlerState}
+use Rattle.ados_handler.proofs.Common.{root, Stands, HandlerState}
 use Rattle.ados_handler.proofs.Meant.{edit_gives, set_protect_edits, sound_on}
 use Rattle.ados_handler.proofs.Telling.{set_protect_keeps}
 use Rattle.ados_handler.proofs.handler.Handler.set_protect.Goals as goal

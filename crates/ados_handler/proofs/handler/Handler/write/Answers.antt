@@ -1,9 +1,5 @@
 use Rattle.std.proofs.Common.{sym, ap, ◌∙◌, subst, arith}
-use Rattle.ados_name.specs.Name.{denies_write}
-use Rattle.ados_model.specs.Stands.{Stands}
-use Rattle.ados_model.specs.Change.{holds_file}
-use Rattle.ados_volume.specs.Shown.{Shown}
-use Rattle.ados_model.specs.Session.{HandlerState}
+use Rattle.ados_handler.proofs.Common.{denies_write, Stands, holds_file, Shown, HandlerState}
 use Rattle.ados_handler.proofs.Meant.{sound_on}
 use Rattle.ados_handler.proofs.Rewriting.{write_keeps}
 use Rattle.ados_handler.proofs.WritingBytes.{write_gives, written_end}

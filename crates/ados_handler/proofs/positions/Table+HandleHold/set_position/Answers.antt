@@ -1,7 +1,6 @@
 use Rattle.std.proofs.Common.{sym, ap, ◌∙◌, refl}
-use Rattle.std.specs.Option.{option_copied_mut}
 use Rattle.std.specs.FinMap as numbered
-use Rattle.ados_handler.specs.steps.Table.{numbered_from_one}
+use Rattle.ados_handler.proofs.Common.{option_copied_mut, numbered_from_one}
 use Rattle.ados_handler.proofs.Tables.{get_suc, get_zero}
 use Rattle.ados_handler.proofs.MovedHandles.{moved_there, moved_nothing}
 use Rattle.ados_handler.proofs.positions.Table+HandleHold.set_position.Goals as goal

@@ -1,8 +1,7 @@
 use Rattle.std.proofs.Common.{◌≡◌, Bool, map}
 use Rattle.std.specs.Fn.{FnReturnsAt}
 use Rattle.std.specs.FinMap as numbered
-use Rattle.std.specs.List.{list_any}
-use Rattle.ados_handler.specs.steps.Table.{IsTestBy}
+use Rattle.ados_handler.proofs.Common.{list_any, IsTestBy}
 use Rattle.ados_handler.proofs.table.Table.any.Given as goal
 
 -- a test of the remaining values has the same result as a test of all values

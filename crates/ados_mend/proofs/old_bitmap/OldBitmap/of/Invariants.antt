@@ -1,6 +1,5 @@
 use Rattle.std.proofs.Common.{◌≡◌, map}
-use Rattle.std.specs.List.{range_with_len}
-use Rattle.ados_mend.specs.steps.Kept.{page_long}
+use Rattle.ados_mend.proofs.Common.{range_with_len, page_long}
 use Rattle.ados_mend.proofs.old_bitmap.OldBitmap.of.Given as goal
 
 abbrev pub invariant-loop-k : goal.invariant-loop-k

@@ -1,6 +1,5 @@
 use Rattle.std.proofs.Common.{◌≡◌, ℕ, ◌%◌, ◌^◌, ap, ◌∙◌, arith}
-use Rattle.adf_block.specs.Image.{total, long, block_sum}
-use Rattle.ados_map.specs.Pages.{page_block}
+use Rattle.ados_mend.proofs.Common.{total, long, block_sum, page_block}
 use Rattle.ados_mend.proofs.old_bitmap.OldBitmap.sum.Goals as goal
 
 pub returns : goal.returns

@@ -1,6 +1,5 @@
 use Rattle.std.proofs.Common.{◌≡◌, ◌%◌, ◌^◌}
-use Rattle.adf_block.specs.Image.{total, long}
-use Rattle.ados_map.specs.Pages.{page_block}
+use Rattle.ados_mend.proofs.Common.{total, long, page_block}
 use Rattle.ados_mend.proofs.old_bitmap.OldBitmap.sum.Given as goal
 
 abbrev pub invariant-loop-i : goal.invariant-loop-i

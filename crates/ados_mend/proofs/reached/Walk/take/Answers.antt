@@ -1,6 +1,5 @@
 use Rattle.std.proofs.Common.{◌≡◌, ◌+◌, ◌*◌, ◌<◌, false, length, refl, sym, ◌∙◌, arith}
-use Rattle.std.proofs.lemmas.List.{get_or_default}
-use Rattle.ados_mend.specs.steps.Accounting.{mark_at}
+use Rattle.ados_mend.proofs.Common.{get_or_default, mark_at}
 use Rattle.ados_mend.proofs.Reaching.{kept_more}
 use Rattle.ados_mend.proofs.reached.Walk.take.Goals as goal
 

@@ -1,9 +1,6 @@
 use Rattle.std.proofs.Common.{ℕ, refl, sym, ap₂, subst, arith}
-use Rattle.std.proofs.lemmas.Option.{none-some, same_Some}
+use Rattle.ados_mend.proofs.Common.{none-some, same_Some, InImage, IsPlace, Reached, named, IsMarked}
 use Rattle.ados_check.specs.Source.{SourceView}
-use Rattle.ados_model.specs.Faults.{InImage, IsPlace, Reached}
-use Rattle.ados_model.specs.Faults.Reached.{named}
-use Rattle.ados_mend.specs.steps.Accounting.{IsMarked}
 use Rattle.ados_mend.specs.steps.Reaching.{cell}
 use Rattle.ados_mend.proofs.reached.Walk.visit.Goals as goal
 

@@ -1,6 +1,4 @@
-use Rattle.ados_data.proofs.Places.{readable}
-use Rattle.ados_change.proofs.Renewed.{file_writable}
-use Rattle.ados_volume.specs.steps.Places.{IsKnown}
+use Rattle.ados_volume.proofs.Common.{readable, file_writable, IsKnown}
 use Rattle.ados_volume.proofs.Kept.{put_holds}
 use Rattle.ados_volume.proofs.places.PlaceCache.at.Goals as goal
 

@@ -1,10 +1,7 @@
 use Rattle.std.proofs.Common.{sym, subst}
-use Rattle.ados_map.specs.Pages.{IsLowestFree, NoneFree}
-use Rattle.ados_model.specs.Stands.{Stands}
+use Rattle.ados_volume.proofs.Common.{IsLowestFree, NoneFree, Stands, RefusesEntry, Shown}
 use Rattle.ados_change.specs.Kinds.{Makes, content_of}
 use Rattle.ados_change.proofs.Making.{unused}
-use Rattle.ados_volume.specs.Refused.{RefusesEntry}
-use Rattle.ados_volume.specs.Shown.{Shown}
 use Rattle.ados_volume.proofs.Known.{none_known}
 use Rattle.ados_volume.proofs.Moved.{made_stay}
 use Rattle.ados_volume.proofs.Refilled.{refuses, still_shown}

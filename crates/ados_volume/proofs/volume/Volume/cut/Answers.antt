@@ -1,7 +1,5 @@
 use Rattle.std.proofs.Common.{refl, sym, subst}
-use Rattle.ados_model.specs.Stands.{Stands}
-use Rattle.ados_model.specs.Edits.{shortened}
-use Rattle.ados_volume.specs.Shown.{Shown}
+use Rattle.ados_volume.proofs.Common.{Stands, shortened, Shown}
 use Rattle.ados_volume.proofs.Bounds.{below_boot}
 use Rattle.ados_volume.proofs.Known.{known_dropped, others_last}
 use Rattle.ados_volume.proofs.Refilled.{rewritten_stay}

@@ -1,8 +1,5 @@
 use Rattle.std.proofs.Common.{refl, sym, subst}
-use Rattle.ados_model.specs.Stands.{Stands}
-use Rattle.ados_change.specs.Renewed.{Grows}
-use Rattle.ados_volume.specs.Refused.{RefusesGrowth}
-use Rattle.ados_volume.specs.Shown.{Shown}
+use Rattle.ados_volume.proofs.Common.{Stands, Grows, RefusesGrowth, Shown}
 use Rattle.ados_volume.proofs.Known.{grown_lasts}
 use Rattle.ados_volume.proofs.Refilled.{refuses, rewritten_stay, still_shown}
 use Rattle.ados_volume.proofs.Staying.{files_sound, unchanged_sound}

@@ -1,6 +1,5 @@
 use Rattle.std.proofs.Common.{ℕ, List, sym, subst, ◌∙◌}
-use Rattle.ados_chain.specs.Chains.{LawfulChains}
-use Rattle.ados_model.specs.Stands.{in_slot}
+use Rattle.ados_volume.proofs.Common.{LawfulChains, in_slot}
 use Rattle.ados_volume.proofs.Looking.{chains_of, next_is}
 use Rattle.ados_volume.proofs.volume.Volume.next.Goals as goal
 

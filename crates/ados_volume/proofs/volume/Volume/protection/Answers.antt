@@ -1,7 +1,5 @@
 use Rattle.std.proofs.Common.{List, ℕ, sym, ap, ◌∙◌, subst}
-use Rattle.ados_model.proofs.Nodes.{some_in}
-use Rattle.ados_model.specs.Parts.{protection_in}
-use Rattle.ados_model.specs.Stands.{Stands}
+use Rattle.ados_volume.proofs.Common.{some_in, protection_in, Stands}
 use Rattle.ados_volume.proofs.volume.Volume.protection.Goals as goal
 
 pub returns : goal.returns

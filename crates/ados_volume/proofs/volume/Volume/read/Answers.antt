@@ -1,9 +1,6 @@
 use Rattle.std.proofs.Common.{ℕ, ◌-◌, ◌++◌, min, List, length, take, drop, sym, subst, ap, ◌∙◌}
-use Rattle.ados_data.proofs.Places.{readable}
-use Rattle.ados_model.specs.Keys.{HasFileKey}
-use Rattle.ados_model.specs.Stands.{Stands}
-use Rattle.ados_change.proofs.Renewed.{bytes_in, file_writable}
-use Rattle.ados_volume.specs.Shown.{Shown}
+use Rattle.ados_volume.proofs.Common.{readable, HasFileKey, Stands, file_writable, Shown}
+use Rattle.ados_change.proofs.Renewed.{bytes_in}
 use Rattle.ados_volume.proofs.volume.Volume.read.Goals as goal
 
 pub read_near-requires-clause-readable : goal.read_near-requires-clause-readable

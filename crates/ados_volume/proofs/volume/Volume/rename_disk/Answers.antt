@@ -1,11 +1,6 @@
 use Rattle.std.proofs.Common.{ℕ, ◌+◌, length, is_some, refl, sym, ap, subst}
-use Rattle.adf_block.specs.declared.layout.TheConstants.{NAME_BYTE}
-use Rattle.ados_model.specs.Tree.{root}
-use Rattle.ados_model.specs.Stands.{Stands}
-use Rattle.ados_model.proofs.Standing.{root_is}
-use Rattle.ados_change.specs.Places.{OnlyRestamped}
+use Rattle.ados_volume.proofs.Common.{NAME_BYTE, root, Stands, root_is, OnlyRestamped, Shown}
 use Rattle.ados_change.proofs.Retells.{entry_not_root}
-use Rattle.ados_volume.specs.Shown.{Shown}
 use Rattle.ados_volume.proofs.Staying.{restamped_sound}
 use Rattle.ados_volume.proofs.volume.Volume.rename_disk.Goals as goal
 

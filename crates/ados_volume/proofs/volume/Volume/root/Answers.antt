@@ -1,6 +1,5 @@
 use Rattle.std.proofs.Common.{◌≡◌, ℕ, List, ap, ◌∙◌}
-use Rattle.adf_block.specs.Image.{block_count, root_key}
-use Rattle.ados_model.proofs.Standing.{root_is}
+use Rattle.ados_volume.proofs.Common.{block_count, root_key, root_is}
 use Rattle.ados_volume.proofs.Looking.{root_directory, root_key_of}
 use Rattle.ados_volume.proofs.volume.Volume.root.Goals as goal
 

@@ -1,7 +1,5 @@
 use Rattle.std.proofs.Common.{◌+◌, length, refl, sym, subst}
-use Rattle.adf_block.specs.declared.layout.TheConstants.{COMMENT_BYTE}
-use Rattle.ados_model.specs.Stands.{Stands}
-use Rattle.ados_volume.specs.Shown.{Shown}
+use Rattle.ados_volume.proofs.Common.{COMMENT_BYTE, Stands, Shown}
 use Rattle.ados_volume.proofs.Staying.{restamped_sound}
 use Rattle.ados_volume.proofs.volume.Volume.set_comment.Goals as goal
 

@@ -1,8 +1,5 @@
 use Rattle.std.proofs.Common.{◌+◌, refl, sym, subst}
-use Rattle.adf_block.specs.declared.layout.TheConstants.{DATE}
-use Rattle.adf_block.specs.Frame.{long_byte}
-use Rattle.ados_model.specs.Stands.{Stands}
-use Rattle.ados_volume.specs.Shown.{Shown}
+use Rattle.ados_volume.proofs.Common.{DATE, long_byte, Stands, Shown}
 use Rattle.ados_volume.proofs.Staying.{restamped_sound}
 use Rattle.ados_volume.proofs.volume.Volume.set_date.Goals as goal
 

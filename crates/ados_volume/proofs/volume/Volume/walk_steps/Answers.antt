@@ -1,9 +1,6 @@
 use Rattle.std.proofs.Common.{◌≡◌, Ok, sym, ◌∙◌}
-use Rattle.ados_name.specs.Name.{steps}
+use Rattle.ados_volume.proofs.Common.{steps, Tree, Stands, step_from, missing_before}
 use Rattle.ados_name.specs.StepView.{step_of}
-use Rattle.ados_model.specs.Tree.{Tree}
-use Rattle.ados_model.specs.Stands.{Stands}
-use Rattle.ados_model.specs.Change.{step_from, missing_before}
 use Rattle.ados_volume.proofs.PathWalks.{comes_on, fails_here}
 use Rattle.ados_volume.proofs.Walking.{step_key}
 use Rattle.ados_volume.proofs.volume.Volume.walk_steps.Goals as goal

@@ -1,8 +1,5 @@
 use Rattle.std.proofs.Common.{◌≡◌}
-use Rattle.ados_name.specs.Name.{steps}
-use Rattle.ados_model.specs.Tree.{Tree}
-use Rattle.ados_model.specs.Stands.{Stands}
-use Rattle.ados_model.specs.Keys.{HasKey}
+use Rattle.ados_volume.proofs.Common.{steps, Tree, Stands, HasKey}
 use Rattle.ados_volume.proofs.PathWalks.{HasCome}
 use Rattle.ados_volume.proofs.volume.Volume.walk_steps.Given as goal
 

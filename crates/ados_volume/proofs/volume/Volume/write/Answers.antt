@@ -1,10 +1,6 @@
 use Rattle.std.proofs.Common.{ℕ, ◌==◌, List, length, sym, ap, ◌∙◌, subst, eqb-true}
-use Rattle.std.proofs.lemmas.Bool.{both_ways}
+use Rattle.ados_volume.proofs.Common.{both_ways, Stands, Writes, RefusesWrite, Shown}
 use Rattle.ados_change.proofs.Keeping.{same_keeps}
-use Rattle.ados_model.specs.Stands.{Stands}
-use Rattle.ados_change.specs.Renewed.{Writes}
-use Rattle.ados_volume.specs.Refused.{RefusesWrite}
-use Rattle.ados_volume.specs.Shown.{Shown}
 use Rattle.ados_volume.proofs.Known.{written_format, written_lasts}
 use Rattle.ados_volume.proofs.Refilled.{refuses, still_shown, written_none, written_stay}
 use Rattle.ados_volume.proofs.Staying.{files_sound, unchanged_sound}
