@@ -1,8 +1,8 @@
 -- The headers, one by one.
-use Rattle.std.proofs.Common.{◌≡◌, ◌≢◌, ℕ, ◌+◌, ◌<◌, ◌≤◌, inl, inr, Bool, true, false, MatchBool, All, AllPairs, List, [], ◌∷◌, ◌++◌, length, slice_index, get_or, get_or-set_same, get_or-set_other, length-set, Contains, refl, sym, ap, ◌∙◌, subst, append_assoc, arith}
+use Rattle.std.proofs.Common.{◌≡◌, ◌≢◌, ℕ, ◌+◌, ◌<◌, ◌≤◌, ◌↔◌, IsTrue, below_more, inl, inr, Bool, true, false, MatchBool, All, AllPairs, List, [], ◌∷◌, ◌++◌, length, slice_index, get_or, get_or-set_same, get_or-set_other, length-set, Contains, refl, sym, ap, ◌∙◌, subst, append_assoc, arith}
 use Rattle.std.proofs.Math.ListN.{set}
 use Rattle.std.proofs.lemmas.Bool.{cases_eq, cases_order}
-use Rattle.std.proofs.lemmas.List.{get_or_append_left, get_or_default, length-append}
+use Rattle.std.proofs.lemmas.List.{get_or_append_left, get_or_default, get_or_push, length-append}
 use Rattle.std.proofs.lemmas.List.Elements.{All-push, Contains-append_left, Contains-append_right}
 use Rattle.std.proofs.lemmas.List.Quantifiers.{all_pairs_push}
 use Rattle.adf_block.specs.Image.{block_count}
@@ -10,9 +10,19 @@ use Rattle.ados_check.proofs.Counting.{AreDifferent, different_few}
 use Rattle.adf_salvage.specs.declared.headers.Found.{Found}
 use Rattle.adf_salvage.specs.Doubtful.{IsHeader, IsNamedHeader, IsRoot, IsToldHeader, NamesEntries}
 use Rattle.adf_salvage.specs.Doubtful.NamesEntries.{of_root, of_sound, of_named}
+use Rattle.adf_salvage.specs.Sound.{IsSoundHeader}
 use Rattle.adf_salvage.specs.steps.Giving.{mark_at}
 use Rattle.adf_salvage.specs.steps.Heading.{AreFound, AreHeaders, AreSought, FindsMore, IsFound, IsSought}
 use Rattle.adf_salvage.proofs.Naming.{header_inside, header_names}
+
+-- one more block was looked at
+pub sound_more : (image : List ℕ) (n : ℕ) (marks more : List Bool) (mark : Bool) → length marks ≡ n → ((block : ℕ) → block < n → IsTrue (mark_at marks block) ↔ IsSoundHeader image block)
+    → more ≡ marks ++ mark ∷ [] → IsTrue mark ↔ IsSoundHeader image n → (block : ℕ) → block < n + 1 → IsTrue (mark_at more block) ↔ IsSoundHeader image block
+sound_more image n marks more mark size before grown here =
+    let P : ℕ → Type 0 = λ block. IsTrue (mark_at more block) ↔ IsSoundHeader image block in
+    below_more P n
+    (λ block l. subst (λ (b : Bool). IsTrue b ↔ IsSoundHeader image block) (sym (ap (λ (xs : List Bool). mark_at xs block) grown ∙ get_or_append_left marks (mark ∷ []) false block (omega (arith, l, size)))) (before block l))
+    (subst (λ (b : Bool). IsTrue b ↔ IsSoundHeader image n) (sym (ap (λ (xs : List Bool). mark_at xs n) grown ∙ get_or_push marks mark false n size)) here)
 
 -- more and more
 pub finds_on : (out image : List ℕ) (old mid new : Found) → FindsMore out image old mid → FindsMore out image mid new → FindsMore out image old new

@@ -3,9 +3,11 @@ ghost use Rattle.std.specs.Prelude.{◌≡◌, ◌+◌, ◌<◌, ℕ, length, Al
 ghost use Rattle.adf_block.specs.Image.{block_count};
 ghost use Rattle.adf_salvage.specs.Sound.{IsClaimant, own_blocks};
 ghost use Rattle.adf_salvage.specs.steps.Claims.{AreAllClaims, IsNoted, claim_at, with_claim};
+ghost use Rattle.adf_salvage.specs.steps.Heading.{AreSound};
 ghost use Rattle.adf_salvage.specs.steps.Parts.{AreUsersBelow};
 ghost use Rattle.adf_salvage.specs.declared.claims.Claim.TheVariants.{One as one};
 
+use crate::header::is_sound;
 use crate::intact::{no_users, own_blocks};
 use crate::left_out::LeftOut;
 use adf_block::Image;
@@ -35,19 +37,22 @@ impl Claim {
     }
 }
 
-/// For each block of an image, the sound files that claim it. Those that are left out claim none.
+/// For each block of an image, the sound files that claim it. Those that are left out claim none. `sound` marks the sound
+/// headers.
 pub(crate) fn claims(
     alloc: Global,
     image: &Image,
     left_out: &LeftOut,
+    sound: &[bool],
 ) -> Result<Vec<Claim>, AllocError>
+    requires { AreSound image.now sound.now }
     ensures { IfOk result (λ claims. AreAllClaims left_out.now image.now claims.items) }
 {
     let mut claims = vec![in alloc; Claim::Free; image.blocks() as usize]?;
     let mut users = no_users(alloc, image)?;
     prove!(image.blocks() >= 16);
     for file in BOOT_BLOCKS..image.blocks() {
-        if let Some(blocks) = claimed_blocks(alloc, image, left_out, file, &mut users)? {
+        if let Some(blocks) = claimed_blocks(alloc, image, left_out, sound, file, &mut users)? {
             note(&mut claims, file, &blocks);
         }
     }
@@ -60,15 +65,20 @@ pub(crate) fn claimed_blocks(
     alloc: Global,
     image: &Image,
     left_out: &LeftOut,
+    sound: &[bool],
     file: u32,
     users: &mut Vec<u32>,
 ) -> Result<Option<Vec<u32>>, AllocError>
     requires file { file < block_count image.now }
+    requires sound { AreSound image.now sound.now }
     requires users { AreUsersBelow image.now file users.old.items }
     ensures users { OnOk result (AreUsersBelow image.now (file + 1) users.new.items) }
     ensures own { IfOk result (λ found. MatchOption found (¬ IsClaimant left_out.now image.now file)
         (λ blocks. IsClaimant left_out.now image.now file × (blocks.items ≡ own_blocks image.now file))) }
 {
+    if !is_sound(sound, file) {
+        return Ok(None);
+    }
     if left_out.has(file) {
         return Ok(None);
     }

@@ -7,6 +7,8 @@ ghost use Rattle.ados_check.specs.Marks.{HasEntryType};
 ghost use Rattle.ados_model.specs.Faults.{HasDirectoryType, HasFileType};
 ghost use Rattle.adf_salvage.specs.Doubtful.{HasTable, IsPlaceIn, IsRoot, LooksLikeHeader};
 ghost use Rattle.adf_salvage.specs.Sound.{IsSoundHeader};
+ghost use Rattle.adf_salvage.specs.steps.Giving.{mark_at};
+ghost use Rattle.adf_salvage.specs.steps.Heading.{AreSound};
 
 use adf_block::Image;
 use adf_block::layout::{
@@ -25,6 +27,28 @@ pub fn is_sound_header(image: &Image, block: u32) -> bool
     looks_like_header(image, block)
         && image.sum(block) == 0
         && usize::from(image.byte(block, COMMENT_BYTE)) <= Comment::MAX_LEN
+}
+
+/// For each block of an image, whether it is a sound header. An image may be much larger than the processor's cache, so each
+/// block is looked at once, and further passes read these marks.
+pub(crate) fn sound_headers(alloc: Global, image: &Image) -> Result<Vec<bool>, AllocError>
+    ensures { IfOk result (λ sound. AreSound image.now sound.items) }
+{
+    let mut sound = Vec::with_capacity(alloc, image.blocks() as usize)?;
+    for block in 0..image.blocks() {
+        sound.push(is_sound_header(image, block))?;
+    }
+    Ok(sound)
+}
+
+/// Whether a block is a sound header, by the marks of all blocks.
+pub(crate) fn is_sound(sound: &[bool], block: u32) -> bool
+    ensures { result ≡ mark_at sound.now block }
+{
+    match sound.get(block as usize) {
+        Some(mark) => *mark,
+        None => false,
+    }
 }
 
 /// Whether a block has the types, the own number and the name of a header, whatever else is in it.

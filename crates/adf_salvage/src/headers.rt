@@ -3,9 +3,9 @@
 ghost use Rattle.std.specs.Prelude.{◌<◌, ◌↔◌, ℕ, List, length, IfOk, IsTrue, OnOk};
 ghost use Rattle.adf_block.specs.Image.{block_count};
 ghost use Rattle.adf_salvage.specs.Doubtful.{IsHeader, IsRoot, IsToldHeader, MayBeHeader, NamesEntries};
-ghost use Rattle.adf_salvage.specs.steps.Heading.{AreFound, AreHeaders, AreSought, FindsMore, IsFound, IsSought};
+ghost use Rattle.adf_salvage.specs.steps.Heading.{AreFound, AreHeaders, AreSought, AreSound, FindsMore, IsFound, IsSought};
 
-use crate::header::{dir_of_place, is_root, is_sound_header, looks_like_header};
+use crate::header::{dir_of_place, is_root, is_sound, looks_like_header};
 use crate::left_out::LeftOut;
 use adf_block::Image;
 use adf_block::layout::{BLOCK_LONGS, PARENT};
@@ -25,10 +25,12 @@ pub(crate) fn headers(
     alloc: Global,
     image: &Image,
     left_out: &LeftOut,
+    sound: &[bool],
 ) -> Result<Vec<bool>, AllocError>
+    requires { AreSound image.now sound.now }
     ensures { IfOk result (λ headers. AreHeaders left_out.now image.now headers.items) }
 {
-    let mut found = first_headers(alloc, image, left_out)?;
+    let mut found = first_headers(alloc, image, left_out, sound)?;
     let mut place = 0;
     while place < found.blocks.len() {
         let block = found.blocks[place];
@@ -39,12 +41,18 @@ pub(crate) fn headers(
 }
 
 /// All sound headers of an image that are not left out, and those that its root names.
-fn first_headers(alloc: Global, image: &Image, left_out: &LeftOut) -> Result<Found, AllocError>
+fn first_headers(
+    alloc: Global,
+    image: &Image,
+    left_out: &LeftOut,
+    sound: &[bool],
+) -> Result<Found, AllocError>
+    requires { AreSound image.now sound.now }
     ensures found { IfOk result (AreFound left_out.now image.now) }
     ensures sound { IfOk result (λ found. (block : ℕ) → IsToldHeader left_out.now image.now block → IsFound found.marks.items block) }
     ensures root { IfOk result (λ found. (block : ℕ) → IsRoot image.now block → AreSought left_out.now image.now found.marks.items block) }
 {
-    let mut found = all_sound(alloc, image, left_out)?;
+    let mut found = all_sound(alloc, image, left_out, sound)?;
     prove!(image.blocks() >= 16);
     let root = image.root();
     if !is_root(image, root) {
@@ -55,13 +63,19 @@ fn first_headers(alloc: Global, image: &Image, left_out: &LeftOut) -> Result<Fou
 }
 
 /// All sound headers of an image that are not left out.
-fn all_sound(alloc: Global, image: &Image, left_out: &LeftOut) -> Result<Found, AllocError>
+fn all_sound(
+    alloc: Global,
+    image: &Image,
+    left_out: &LeftOut,
+    sound: &[bool],
+) -> Result<Found, AllocError>
+    requires { AreSound image.now sound.now }
     ensures found { IfOk result (AreFound left_out.now image.now) }
     ensures all { IfOk result (λ found. (block : ℕ) → IsToldHeader left_out.now image.now block → IsFound found.marks.items block) }
 {
     let mut found = no_headers(alloc, image)?;
     for block in 0..image.blocks() {
-        if is_told_header(image, left_out, block) {
+        if is_told_header(left_out, sound, block) {
             found.note(block)?;
         }
     }
@@ -69,11 +83,10 @@ fn all_sound(alloc: Global, image: &Image, left_out: &LeftOut) -> Result<Found, 
 }
 
 /// Whether a block is a sound header, and not left out.
-fn is_told_header(image: &Image, left_out: &LeftOut, block: u32) -> bool
-    requires { block < block_count image.now }
-    ensures { IsTrue result ↔ IsToldHeader left_out.now image.now block }
+fn is_told_header(left_out: &LeftOut, sound: &[bool], block: u32) -> bool
+    ensures { (image : List ℕ) → AreSound image sound.now → block < block_count image → IsTrue result ↔ IsToldHeader left_out.now image block }
 {
-    is_sound_header(image, block) && !left_out.has(block)
+    is_sound(sound, block) && !left_out.has(block)
 }
 
 /// No headers.

@@ -58,6 +58,7 @@ pub(crate) fn named_blocks(
     let Some(mut blocks) = holders(alloc, image, file, needed)? else {
         return Ok(None);
     };
+    blocks.reserve(needed as usize)?;
     for i in 0..needed {
         let holder = blocks[(i / TABLE_LONGS) as usize];
         let block = image.long(holder, FIRST_POINTER - i % TABLE_LONGS);

@@ -3,7 +3,7 @@ ghost use Rattle.std.specs.Prelude.{◌≡◌, ◌<◌, ◌↔◌, IfOk, IsTrue,
 ghost use Rattle.adf_block.specs.Image.{block_count};
 ghost use Rattle.adf_salvage.specs.Deleted.{TellsTrust};
 ghost use Rattle.adf_salvage.specs.Doubtful.{IsHeader, NamesEntries};
-ghost use Rattle.adf_salvage.specs.steps.Heading.{AreKnown};
+ghost use Rattle.adf_salvage.specs.steps.Heading.{AreKnown, AreSound};
 
 use crate::claims::{Claim, claims};
 use crate::header::is_root;
@@ -28,20 +28,22 @@ pub(crate) struct Known {
 }
 
 impl Known {
-    /// What is known of the blocks of an image, where some headers are left out.
+    /// What is known of the blocks of an image, where some headers are left out. `sound` marks the sound headers.
     pub(crate) fn of(
         alloc: Global,
         image: Image,
         trusted: bool,
         left_out: LeftOut,
+        sound: &[bool],
     ) -> Result<Known, AllocError>
-        requires { TellsTrust image trusted }
+        requires trust { TellsTrust image trusted }
+        requires sound { AreSound image sound.now }
         ensures known { IfOk result AreKnown }
         ensures image { IfOk result (λ known. known.image ≡ image) }
         ensures left_out { IfOk result (λ known. known.left_out ≡ left_out) }
     {
-        let claims = claims(alloc, &image, &left_out)?;
-        let headers = headers(alloc, &image, &left_out)?;
+        let claims = claims(alloc, &image, &left_out, sound)?;
+        let headers = headers(alloc, &image, &left_out, sound)?;
         Ok(Known {
             alloc,
             image,

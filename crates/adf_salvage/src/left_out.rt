@@ -1,9 +1,10 @@
 //! The headers that are left out of a salvage.
-ghost use Rattle.std.specs.Prelude.{◌≡◌, ◌<◌, ℕ, List, [], true, All, Contains, IfOk, MatchBool};
+ghost use Rattle.std.specs.Prelude.{◌≡◌, ◌<◌, ℕ, List, [], true, All, Contains, IfOk, IfSome, MatchBool};
 ghost use Rattle.adf_block.specs.Image.{block_count};
 ghost use Rattle.ados_model.specs.Accepted.{Accepts};
 ghost use Rattle.adf_salvage.specs.Deleted.{IsTrustedBitmap, TellsTrust};
 ghost use Rattle.adf_salvage.specs.Salvaged.{AreDeleted};
+ghost use Rattle.adf_salvage.specs.steps.Heading.{AreSound};
 
 use crate::trust::{is_deleted, is_trusted, marks_of_faulty};
 use adf_block::Image;
@@ -33,15 +34,20 @@ impl Model for LeftOut {
     ghost invariant = { λ l. AreMarked l.marks.items l.headers.items };
 }
 
-/// The headers of the deleted entries of an image, and whether its bitmap is trusted.
-pub(crate) fn left_out_of(alloc: Global, image: &Image) -> Result<(LeftOut, bool), AllocError>
+/// The headers of the deleted entries of an image, and whether its bitmap is trusted. `sound` marks the sound headers.
+pub(crate) fn left_out_of(
+    alloc: Global,
+    image: &Image,
+    sound: &[bool],
+) -> Result<(LeftOut, bool), AllocError>
+    requires { AreSound image.now sound.now }
     ensures deleted { IfOk result (λ left. AreDeleted image.now left.0) }
     ensures trust { IfOk result (λ left. TellsTrust image.now left.1) }
 {
     if marks_of_faulty(alloc, image)?.is_none() {
         return Ok((LeftOut::none(alloc), false));
     }
-    let headers = deleted_headers(alloc, image)?;
+    let headers = deleted_headers(alloc, image, Some(sound))?;
     let left_out = LeftOut::of(alloc, image, headers)?;
     Ok((left_out, true))
 }
@@ -59,19 +65,25 @@ pub(crate) fn deleted_in(alloc: Global, volume: &Volume) -> Result<(Vec<u32>, bo
     if !is_trusted(volume.image(), &[]) {
         return Ok((Vec::new(alloc), false));
     }
-    let headers = deleted_headers(alloc, volume.image())?;
+    let headers = deleted_headers(alloc, volume.image(), None)?;
     Ok((headers, true))
 }
 
-/// The headers of the deleted entries of an image with a trusted bitmap.
-pub(crate) fn deleted_headers(alloc: Global, image: &Image) -> Result<Vec<u32>, AllocError>
-    requires { IsTrustedBitmap image.now }
+/// The headers of the deleted entries of an image with a trusted bitmap. `sound` marks the sound headers, if they are known.
+/// Otherwise only free blocks are looked at.
+pub(crate) fn deleted_headers(
+    alloc: Global,
+    image: &Image,
+    sound: Option<&[bool]>,
+) -> Result<Vec<u32>, AllocError>
+    requires trusted { IsTrustedBitmap image.now }
+    requires marks { IfSome sound (λ marks. AreSound image.now marks.now) }
     ensures { IfOk result (λ headers. AreDeleted image.now headers.items) }
 {
     prove!(image.blocks() >= 16);
     let mut headers = Vec::new(alloc);
     for block in BOOT_BLOCKS..image.blocks() {
-        if is_deleted(image, block) {
+        if is_deleted(image, sound, block) {
             headers.push(block)?;
         }
     }

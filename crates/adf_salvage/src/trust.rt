@@ -1,13 +1,16 @@
 //! Whether the bitmap of an image can be trusted, and which entries it says are deleted.
-ghost use Rattle.std.specs.Prelude.{◌≡◌, ◌≢◌, ◌<◌, ◌↔◌, ℕ, false, All, Contains, IfOk, IsTrue, MatchBool, MatchOption};
+ghost use Rattle.std.specs.Prelude.{◌≡◌, ◌≢◌, ◌<◌, ◌↔◌, ℕ, false, All, Contains, IfOk, IfSome, IsTrue, MatchBool, MatchOption};
+ghost use Rattle.adf_block.specs.Image.{block_count};
 ghost use Rattle.adf_block.specs.Whole.{IsImage};
 ghost use Rattle.ados_faults.specs.Listed.{ListsDoubts};
 ghost use Rattle.ados_map.specs.Pages.{page_block, pages_of};
 ghost use Rattle.ados_model.specs.Faults.{InImage, Shows};
 ghost use Rattle.adf_salvage.specs.Deleted.{AreTrustedPages, IsDeleted, IsTrustedBitmap, IsTrustedPage};
+ghost use Rattle.adf_salvage.specs.Sound.{IsSoundHeader};
 ghost use Rattle.adf_salvage.specs.steps.Deleting.{AreOfReached, IsDoubt, is_used};
+ghost use Rattle.adf_salvage.specs.steps.Heading.{AreSound};
 
-use crate::header::is_sound_header;
+use crate::header::{is_sound, is_sound_header};
 use adf_block::layout::{BITMAP_FLAG, BITMAP_VALID, BOOT_BLOCKS, FIRST_PAGE, MOST_BLOCKS};
 use adf_block::{Image, page_count};
 use ados_check::{Mark, faultless_marks};
@@ -125,14 +128,27 @@ fn page_at(image: &Image, p: u32) -> u32
     image.long(image.root(), FIRST_PAGE + p)
 }
 
-/// Whether a block is a deleted entry, by a trusted bitmap.
+/// Whether a block is a deleted entry, by a trusted bitmap. `sound` marks the sound headers, if they are known.
 #[tactic(auto, using(crate::proofs::Trusting::trusted_pages))]
-pub(crate) fn is_deleted(image: &Image, block: u32) -> bool
+pub(crate) fn is_deleted(image: &Image, sound: Option<&[bool]>, block: u32) -> bool
     requires inside { InImage image.now block }
     requires trusted { IsTrustedBitmap image.now }
+    requires marks { IfSome sound (λ marks. AreSound image.now marks.now) }
     ensures { MatchBool result (IsDeleted image.now block) (¬ IsDeleted image.now block) }
 {
-    is_free(image, block) && is_sound_header(image, block)
+    is_free(image, block) && is_sound_by(image, sound, block)
+}
+
+/// Whether a block is a sound header, by the marks of all blocks if there are some.
+fn is_sound_by(image: &Image, sound: Option<&[bool]>, block: u32) -> bool
+    requires inside { block < block_count image.now }
+    requires marks { IfSome sound (λ marks. AreSound image.now marks.now) }
+    ensures { IsTrue result ↔ IsSoundHeader image.now block }
+{
+    match sound {
+        Some(marks) => is_sound(marks, block),
+        None => is_sound_header(image, block),
+    }
 }
 
 /// Whether a block is one of the volume that is marked used.

@@ -11,6 +11,7 @@ ghost use Rattle.adf_salvage.specs.steps.Undeleting.{AreHeaders, HasEach};
 use crate::deleted::{Deleted, Recovery, all_deleted};
 use crate::gathered::Gathered;
 use crate::giving::Giving;
+use crate::header::sound_headers;
 use crate::known::Known;
 use crate::left_out::{LeftOut, deleted_headers};
 use crate::saved::Salvage;
@@ -49,12 +50,13 @@ pub fn undelete(alloc: Global, image: Image) -> Result<UndeletedEntries, AllocEr
     let Some(marks) = trusted_marks(alloc, &image)? else {
         return Ok(UndeletedEntries::NoTrustedBitmap);
     };
-    let headers = deleted_headers(alloc, &image)?;
+    let sound = sound_headers(alloc, &image)?;
+    let headers = deleted_headers(alloc, &image, Some(&sound))?;
     if headers.is_empty() {
         let gathered = Gathered::new(alloc, &image)?;
         return Ok(found(alloc, image, Vec::new(alloc), gathered));
     }
-    let known = Known::of(alloc, image, true, LeftOut::none(alloc))?;
+    let known = Known::of(alloc, image, true, LeftOut::none(alloc), &sound)?;
     let deleted = all_deleted(&known, &headers, &marks)?;
     let gathered = gathered_deleted(&known, &deleted)?;
     Ok(found(alloc, known.image, deleted, gathered))

@@ -1,13 +1,19 @@
 -- The headers of a damaged image while they are found.
-use Rattle.std.specs.Prelude.{◌≡◌, ◌≢◌, ℕ, ◌<◌, true, Bool, MatchBool, List, length, All, AllPairs, Contains, ◌++◌}
+use Rattle.std.specs.Prelude.{◌≡◌, ◌≢◌, ℕ, ◌<◌, ◌↔◌, true, Bool, IsTrue, MatchBool, List, length, All, AllPairs, Contains, ◌++◌}
 use Rattle.adf_block.specs.Image.{block_count, long}
 use Rattle.adf_block.specs.Fields.{parent_key}
 use Rattle.adf_salvage.specs.declared.headers.Found.{Found}
 use Rattle.adf_salvage.specs.declared.known.Known.{Known}
 use Rattle.adf_salvage.specs.Deleted.{TellsTrust}
 use Rattle.adf_salvage.specs.Doubtful.{IsHeader, IsPlaceIn, MayBeHeader}
+use Rattle.adf_salvage.specs.Sound.{IsSoundHeader}
 use Rattle.adf_salvage.specs.steps.Claims.{AreAllClaims}
 use Rattle.adf_salvage.specs.steps.Giving.{mark_at}
+
+-- for each block, whether it is a sound header
+pub record AreSound (image : List ℕ) (sound : List Bool) : Type 0 where
+  pub size : length sound ≡ block_count image
+  pub decided : (block : ℕ) → block < block_count image → IsTrue (mark_at sound block) ↔ IsSoundHeader image block
 
 -- the block is marked
 abbrev pub IsFound : List Bool → ℕ → Type 0

@@ -11,7 +11,7 @@ loop-block-init c = record { found = c.in_ok-found.ensures c.args.left_out.now; 
 pub loop-block-preserved : goal.loop-block-preserved
 loop-block-preserved c = elim c.if-is_told_header.branch [
   | then-is_told_header+in_ok-note w ↦
-      (let told = c.is_told_header.ensures.0 w.if-is_told_header.true in
+      (let told = (c.is_told_header.ensures c.args.image.now c.requires (omega arith)).0 w.if-is_told_header.true in
       let more = w.in_ok-note.ensures.more c.args.left_out.now c.args.image.now (inl told) c.loop-block.invariant.found in
       record {
         found = subst (λ (f : Found). AreFound c.args.left_out.now c.args.image.now f) (sym w.found-is) more.found;
@@ -25,6 +25,6 @@ loop-block-preserved c = elim c.if-is_told_header.branch [
     sound = λ b l.
         subst (λ (f : Found). IsToldHeader c.args.left_out.now c.args.image.now b → IsFound f.marks.items b) (sym w.found-is)
         (below_more (λ (k : ℕ). IsToldHeader c.args.left_out.now c.args.image.now k → IsFound c.loop-block.found.marks.items k) c.loop-block.block c.loop-block.invariant.sound
-        (λ is. absurd (cc (c.is_told_header.ensures.1 is, w.if-is_told_header.false))) b l);
+        (λ is. absurd (cc ((c.is_told_header.ensures c.args.image.now c.requires (omega arith)).1 is, w.if-is_told_header.false))) b l);
   }
 ]
