@@ -1,10 +1,6 @@
 -- The result of the check, in terms of the entries.
 use Rattle.std.proofs.Common.{ℕ, Bool, true, false, List, sym, ap, ◌∙◌, subst}
-use Rattle.adf_block.specs.Image.{long}
-use Rattle.adf_block.specs.declared.layout.TheConstants.{BITMAP_FLAG}
-use Rattle.ados_model.specs.Accepted.{Accepts}
-use Rattle.ados_model.specs.Stands.{Stands}
-use Rattle.ados_model.specs.Tree.{Tree}
+use Rattle.adf_salvage.proofs.Common.{long, BITMAP_FLAG, Accepts, Stands, Tree}
 use Rattle.ados_model.proofs.Standing.{root_is}
 
 -- an image that represents a tree is accepted with the same tree

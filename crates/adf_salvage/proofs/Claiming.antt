@@ -1,15 +1,7 @@
 -- The claims of the blocks, in terms of the sound files.
 use Rattle.std.proofs.Common.{◌≡◌, ◌≢◌, ne_eqb, ℕ, zero, suc, ◌+◌, ◌<◌, ◌==◌, inl, inr, Bool, true, false, MatchBool, All, List, [], ◌∷◌, ◌++◌, length, take, drop, get_or, Contains, refl, sym, ap, ◌∙◌, subst, arith}
-use Rattle.std.proofs.lemmas.Bool.{cases_lt, cases_eq, eq-eqb}
-use Rattle.std.proofs.Math.ListN.{drop_of_length-le}
 use Rattle.std.proofs.Math.Seq.{take-length}
-use Rattle.std.proofs.lemmas.List.{append-nil, get_or_default}
-use Rattle.std.proofs.lemmas.List.Elements.{Contains-append_cases, Contains-append_left, Contains-append_right}
-use Rattle.adf_block.specs.Image.{block_count}
-use Rattle.adf_salvage.specs.declared.claims.Claim.{Claim}
-use Rattle.adf_salvage.specs.declared.claims.Claim.TheVariants.{Free, One, Several}
-use Rattle.adf_salvage.specs.Sound.{IsClaimant, IsIntact, IsWhole, Names, own_blocks}
-use Rattle.adf_salvage.specs.steps.Claims.{AreClaims, IsClaim, IsNoted, claim_at, with_claim}
+use Rattle.adf_salvage.proofs.Common.{cases_lt, cases_eq, eq-eqb, drop_of_length-le, append-nil, get_or_default, Contains-append_cases, Contains-append_left, Contains-append_right, block_count, Claim, Free, One, Several, IsClaimant, IsIntact, IsWhole, Names, own_blocks, AreClaims, IsClaim, IsNoted, claim_at, with_claim}
 use Rattle.adf_salvage.proofs.SoundParts.{lawful_holders, lawful_data_blocks}
 use Rattle.adf_salvage.proofs.OwnBlocks.{own_inside}
 

@@ -1,17 +1,10 @@
 -- The bytes of a file, copied block by block.
 use Rattle.std.proofs.Common.{◌≡◌, ◌≢◌, ℕ, suc, ◌+◌, ◌-◌, ◌*◌, ◌/◌, ◌%◌, ◌<◌, ◌≤◌, ◌++◌, List, length, take, drop, min, sym, ap, ap₂, ◌∙◌, arith}
 use Rattle.std.proofs.Math.Seq.{take-add, take-length}
-use Rattle.std.proofs.lemmas.List.{take-take, length-take}
+use Rattle.adf_salvage.proofs.Common.{take-take, length-take, Ofs, Ffs, NEXT_EXTENSION, block_count, bytes_at, long, format_of, ReadableFile, contents, data_block, pointer_block, data_count, data_size, data_start, whole_block}
 use Rattle.adf_block.specs.declared.layout.Format.{Format}
-use Rattle.adf_block.specs.declared.layout.Format.TheVariants.{Ofs, Ffs}
-use Rattle.adf_block.specs.declared.layout.TheConstants.{NEXT_EXTENSION}
-use Rattle.adf_block.specs.Image.{block_count, bytes_at, long}
-use Rattle.adf_block.specs.Fields.{format_of}
-use Rattle.ados_model.specs.File.{ReadableFile, contents, data_block, pointer_block}
-use Rattle.ados_model.specs.Tree.{data_count, data_size, data_start}
 use Rattle.ados_data.proofs.Places.{data_counted, holder_of}
 use Rattle.ados_data.proofs.Reading.{data_of_block, part_is}
-use Rattle.ados_data.proofs.Sizes.{whole_block}
 
 -- data block i of a file of this size, and how much of it is the file's
 numbers : (format : Format) (i size part : ℕ) → i < data_count format size → part ≡ min (data_size format) (size - data_size format * i)

@@ -1,9 +1,7 @@
 -- The bytes of a broken file, block by block.
 use Rattle.std.proofs.Common.{◌≡◌, ℕ, ◌<◌, inl, inr, List, length, replicate, slice_index, Contains, sym, ap, ◌∙◌, subst, arith}
-use Rattle.std.proofs.lemmas.List.{get_or-replicate, length-replicate}
-use Rattle.adf_salvage.specs.declared.giving.Piece.{Piece}
+use Rattle.adf_salvage.proofs.Common.{get_or-replicate, length-replicate, Piece, IsPutAt}
 use Rattle.adf_salvage.specs.Saved.{IsOfGiven, IsPieced}
-use Rattle.adf_salvage.specs.steps.Keeping.{IsPutAt}
 
 module _ (image : List ℕ) (given : List Piece) (place count : ℕ) where
   pub pieced_none : (bytes : List ℕ) → bytes ≡ replicate count 0 → IsPieced image given place count bytes

@@ -1,9 +1,6 @@
 -- The blocks that are named as entries, block by block.
 use Rattle.std.proofs.Common.{ℕ, ◌<◌, ◌≤◌, List, Option, IsSome}
-use Rattle.adf_block.specs.Image.{block_count}
-use Rattle.adf_salvage.specs.declared.known.Known.{Known}
-use Rattle.adf_salvage.specs.Lost.{IsLost}
-use Rattle.adf_salvage.specs.steps.Gathering.{AreAllHeaders, AreFollowed, IsFollowed, KeepsMet, place_at}
+use Rattle.adf_salvage.proofs.Common.{block_count, Known, IsLost, AreAllHeaders, AreFollowed, IsFollowed, KeepsMet, place_at}
 use Rattle.adf_salvage.proofs.Naming.{names_inside}
 
 module _ (known : Known) (old new : List (Option ℕ)) (kept : KeepsMet old new) where

@@ -1,21 +1,7 @@
 -- The entries while they are gathered, one by one.
 use Rattle.std.proofs.Common.{◌≡◌, ◌≢◌, ℕ, ◌+◌, ◌*◌, ◌<◌, ◌≤◌, inl, inr, true, false, All, List, [], ◌∷◌, ◌++◌, length, slice_index, get_or-set_same, get_or-set_other, length-set, Contains, Option, None, Some, IsSome, is_some, refl, sym, ap, ◌∙◌, subst, arith}
-use Rattle.std.proofs.Math.ListN.{set}
-use Rattle.std.proofs.lemmas.Bool.{cases_lt, cases_eq}
-use Rattle.std.proofs.lemmas.List.{get_or_append_left, get_or_push, length-append, length-map, map-append}
-use Rattle.std.proofs.lemmas.List.Elements.{All-nil, All-push, Contains-append_left, Contains-append_right}
-use Rattle.adf_block.specs.Image.{block_count}
-use Rattle.adf_block.specs.Whole.{text_at}
-use Rattle.adf_block.specs.declared.layout.TheConstants.{NAME_BYTE}
+use Rattle.adf_salvage.proofs.Common.{set, cases_lt, cases_eq, get_or_append_left, get_or_push, length-append, length-map, map-append, All-nil, All-push, Contains-append_left, Contains-append_right, block_count, text_at, NAME_BYTE, Gathered, Known, Salvaged, Lost, IsLost, IsLostEntry, IsTold, broken_length, broken_total, headers_of, IsGiving, AreGathered, AreGatheredBy, GathersMore, place_at}
 use Rattle.ados_name.specs.Name.{IsName}
-use Rattle.adf_salvage.specs.declared.gathered.Gathered.{Gathered}
-use Rattle.adf_salvage.specs.declared.known.Known.{Known}
-use Rattle.adf_salvage.specs.declared.salvaged.Salvaged.{Salvaged}
-use Rattle.adf_salvage.specs.declared.salvaged.State.TheVariants.{Lost}
-use Rattle.adf_salvage.specs.Lost.{IsLost}
-use Rattle.adf_salvage.specs.Salvaged.{IsLostEntry, IsTold, broken_length, broken_total, headers_of}
-use Rattle.adf_salvage.specs.steps.Giving.{IsGiving}
-use Rattle.adf_salvage.specs.steps.Gathering.{AreGathered, AreGatheredBy, GathersMore, place_at}
 
 -- the bytes of broken files, with one more entry
 pub broken_more : (xs : List Salvaged) (e : Salvaged) → broken_total (xs ++ e ∷ []) ≡ broken_total xs + broken_length e.state

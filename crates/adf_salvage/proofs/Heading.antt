@@ -1,18 +1,9 @@
 -- The headers, one by one.
 use Rattle.std.proofs.Common.{◌≡◌, ◌≢◌, ℕ, ◌+◌, ◌<◌, ◌≤◌, ◌↔◌, IsTrue, below_more, inl, inr, Bool, true, false, MatchBool, All, AllPairs, List, [], ◌∷◌, ◌++◌, length, slice_index, get_or, get_or-set_same, get_or-set_other, length-set, Contains, refl, sym, ap, ◌∙◌, subst, append_assoc, arith}
-use Rattle.std.proofs.Math.ListN.{set}
-use Rattle.std.proofs.lemmas.Bool.{cases_eq, cases_order}
-use Rattle.std.proofs.lemmas.List.{get_or_append_left, get_or_default, get_or_push, length-append}
-use Rattle.std.proofs.lemmas.List.Elements.{All-push, Contains-append_left, Contains-append_right}
-use Rattle.std.proofs.lemmas.List.Quantifiers.{all_pairs_push}
-use Rattle.adf_block.specs.Image.{block_count}
+use Rattle.adf_salvage.proofs.Common.{set, cases_eq, cases_order, get_or_append_left, get_or_default, get_or_push, length-append, All-push, Contains-append_left, Contains-append_right, all_pairs_push, block_count, IsHeader, IsNamedHeader, IsRoot, IsToldHeader, NamesEntries, of_root, of_sound, of_named, IsSoundHeader, AreFound, AreHeaders, AreSought, FindsMore, IsFound, IsSought}
 use Rattle.ados_check.proofs.Counting.{AreDifferent, different_few}
 use Rattle.adf_salvage.specs.declared.headers.Found.{Found}
-use Rattle.adf_salvage.specs.Doubtful.{IsHeader, IsNamedHeader, IsRoot, IsToldHeader, NamesEntries}
-use Rattle.adf_salvage.specs.Doubtful.NamesEntries.{of_root, of_sound, of_named}
-use Rattle.adf_salvage.specs.Sound.{IsSoundHeader}
 use Rattle.adf_salvage.specs.steps.Giving.{mark_at}
-use Rattle.adf_salvage.specs.steps.Heading.{AreFound, AreHeaders, AreSought, FindsMore, IsFound, IsSought}
 use Rattle.adf_salvage.proofs.Naming.{header_inside, header_names}
 
 -- one more block was looked at

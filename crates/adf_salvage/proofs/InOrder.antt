@@ -1,8 +1,6 @@
 -- Blocks with a property, while they are listed in order.
 use Rattle.std.proofs.Common.{◌≡◌, ℕ, ◌+◌, ◌<◌, inl, inr, List, [], ◌∷◌, ◌++◌, All, AllPairs, Contains, sym, subst, arith}
-use Rattle.std.proofs.lemmas.Bool.{cases_lt}
-use Rattle.std.proofs.lemmas.List.Elements.{All-nil, All-push, Contains-append_left, Contains-push}
-use Rattle.std.proofs.lemmas.List.Quantifiers.{all_pairs_push}
+use Rattle.adf_salvage.proofs.Common.{cases_lt, All-nil, All-push, Contains-append_left, Contains-push, all_pairs_push}
 
 -- the blocks are exactly those below n with a property, in order
 pub record ListsBelow (P : ℕ → Type 0) (n : ℕ) (blocks : List ℕ) : Type 0 where

@@ -1,11 +1,7 @@
 -- Headers that are left out, one by one.
 use Rattle.std.proofs.Common.{◌≡◌, ℕ, zero, suc, ◌+◌, ◌<◌, inl, inr, Bool, true, false, MatchBool, All, List, [], ◌∷◌, ◌++◌, length, get_or, Contains, get_or-set_same, get_or-set_other, length-set, take, sym, ap, ◌∙◌, subst, arith}
-use Rattle.std.proofs.Math.ListN.{set}
-use Rattle.std.proofs.lemmas.Bool.{cases_eq}
-use Rattle.std.proofs.lemmas.List.Elements.{Contains-append_cases, Contains-append_left, Contains-append_right}
-use Rattle.std.proofs.lemmas.List.{take_more}
+use Rattle.adf_salvage.proofs.Common.{set, cases_eq, Contains-append_cases, Contains-append_left, Contains-append_right, take_more, AreMarked}
 use Rattle.adf_salvage.specs.steps.Giving.{mark_at}
-use Rattle.adf_salvage.specs.steps.Leaving.{AreMarked}
 
 -- no block is one of none
 pub none_contained : (block : ℕ) → ¬ Contains [] block

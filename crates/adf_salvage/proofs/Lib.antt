@@ -1,4 +1,5 @@
 -- A file with right parts is sound, and a sound file has right parts.
+pub mod Common
 pub mod SoundParts
 pub mod OwnBlocks
 pub mod Copying

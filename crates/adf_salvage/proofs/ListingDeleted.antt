@@ -1,10 +1,6 @@
 -- The deleted entries, each with what can be had back of it.
 use Rattle.std.proofs.Common.{◌≡◌, ℕ, ◌<◌, List, length, map, get_or, All, Contains, subst, arith}
-use Rattle.std.proofs.lemmas.List.{get_or-map, length-map}
-use Rattle.std.proofs.lemmas.List.Elements.{All-map}
-use Rattle.adf_salvage.specs.declared.deleted.Deleted.{Deleted}
-use Rattle.adf_salvage.specs.Deleted.{HasRecovery, IsDeleted, ListsDeleted}
-use Rattle.adf_salvage.specs.Salvaged.{AreDeleted}
+use Rattle.adf_salvage.proofs.Common.{get_or-map, length-map, All-map, Deleted, HasRecovery, IsDeleted, ListsDeleted, AreDeleted}
 
 -- entries with these headers in their order, and what can be had back of each
 pub lists_all : (image : List ℕ) (entries : List Deleted) → AreDeleted image (map (λ entry. entry.header) entries) → All (λ entry. HasRecovery image entry.header entry.recovery) entries → ListsDeleted image entries

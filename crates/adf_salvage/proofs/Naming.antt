@@ -1,9 +1,6 @@
 -- The blocks that can name entries.
 use Rattle.std.proofs.Common.{◌≡◌, ℕ, ◌<◌, ◌≤◌, ◌⊎◌, inl, inr, List, arith}
-use Rattle.adf_block.specs.Image.{block_count, long}
-use Rattle.adf_block.specs.Fields.{parent_key}
-use Rattle.adf_salvage.specs.Doubtful.{IsHeader, IsPlaceIn, IsRoot, LooksLikeHeader, MayBeHeader, NamesEntries}
-use Rattle.adf_salvage.specs.Doubtful.NamesEntries.{of_root, of_sound, of_named}
+use Rattle.adf_salvage.proofs.Common.{block_count, long, parent_key, IsHeader, IsPlaceIn, IsRoot, LooksLikeHeader, MayBeHeader, NamesEntries, of_root, of_sound, of_named}
 
 -- such a block is inside the image
 pub names_inside : (out image : List ℕ) {block : ℕ} → 2 ≤ block_count image → NamesEntries out image block → block < block_count image

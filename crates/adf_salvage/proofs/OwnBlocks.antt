@@ -1,18 +1,8 @@
 -- The blocks of a file, while they are gathered.
-use Rattle.std.proofs.lemmas.List.Elements.{All-from_get_or}
 use Rattle.std.proofs.Common.{All, Contains, ◌≡◌, ℕ, zero, suc, ◌+◌, ◌-◌, ◌/◌, ◌%◌, ◌<◌, ◌≤◌, inl, inr, Bool, true, false, MatchBool, List, [], ◌∷◌, ◌++◌, length, map, get_or, slice_index, refl, sym, ap, ◌∙◌, subst, arith}
 use Rattle.std.specs.List.{range_with_len}
-use Rattle.std.proofs.lemmas.Bool.{cases_lt}
-use Rattle.std.proofs.lemmas.List.{ext_get_or, append_assoc, get_or_append_left, get_or_default, length-append}
 use Rattle.std.proofs.lemmas.List.FromFn.{map-range_with_len_more}
-use Rattle.adf_block.specs.declared.layout.Format.TheVariants.{Ofs}
-use Rattle.adf_block.specs.Image.{block_count, long, IsInside}
-use Rattle.adf_block.specs.Fields.{format_of}
-use Rattle.adf_block.specs.declared.layout.TheConstants.{NEXT_DATA}
-use Rattle.ados_model.specs.File.{pointer_block, data_block, data_blocks, extension_blocks}
-use Rattle.ados_data.proofs.Sizes.{in_extensions}
-use Rattle.adf_salvage.specs.Sound.{IsIntact, own_blocks}
-use Rattle.adf_salvage.specs.steps.Parts.{AreUsersBelow, IsHolder, HasHolders, IsDataBlock, HasData, data_needed, extensions_needed, data_before}
+use Rattle.adf_salvage.proofs.Common.{All-from_get_or, cases_lt, ext_get_or, append_assoc, get_or_append_left, get_or_default, length-append, Ofs, block_count, long, IsInside, format_of, NEXT_DATA, pointer_block, data_block, data_blocks, extension_blocks, in_extensions, IsIntact, own_blocks, AreUsersBelow, IsHolder, HasHolders, IsDataBlock, HasData, data_needed, extensions_needed, data_before}
 use Rattle.adf_salvage.proofs.SoundParts.{length-extensions, header-is, length-own, own-header, own-data, data-at, lawful_holders, lawful_once}
 
 -- a result, by its meaning for true and for false

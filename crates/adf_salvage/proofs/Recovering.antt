@@ -1,16 +1,8 @@
 -- How much of a sound file can be had back, by its blocks and their claims.
 use Rattle.std.proofs.Common.{◌≡◌, ℕ, ◌<◌, inl, inr, Bool, true, false, cond, MatchBool, count_by, List, [], length, get_or, All, refl, sym, ap, ◌∙◌, subst, arith}
-use Rattle.std.proofs.lemmas.Bool.{cases_eq}
-use Rattle.std.proofs.lemmas.List.{get_or_default}
 use Rattle.std.proofs.lemmas.List.Sums.{get_or-le-sum_by}
-use Rattle.adf_block.specs.Image.{block_count, has_free_bit}
-use Rattle.adf_block.specs.Whole.{HasFreeBit}
+use Rattle.adf_salvage.proofs.Common.{cases_eq, get_or_default, block_count, has_free_bit, HasFreeBit, Claim, Free, One, Several, AreAllFree, HasCount, IsShared, IsUsed, IsClaimant, IsIntact, IsWhole, Names, own_blocks, AreAllClaims, IsClaim, claim_at}
 use Rattle.ados_model.specs.Faults.{InImage}
-use Rattle.adf_salvage.specs.declared.claims.Claim.{Claim}
-use Rattle.adf_salvage.specs.declared.claims.Claim.TheVariants.{Free, One, Several}
-use Rattle.adf_salvage.specs.Deleted.{AreAllFree, HasCount, IsShared, IsUsed}
-use Rattle.adf_salvage.specs.Sound.{IsClaimant, IsIntact, IsWhole, Names, own_blocks}
-use Rattle.adf_salvage.specs.steps.Claims.{AreAllClaims, IsClaim, claim_at}
 use Rattle.adf_salvage.specs.steps.Deleting.{is_several}
 use Rattle.adf_salvage.proofs.Claiming.{own_within}
 use Rattle.adf_salvage.proofs.Leaving.{none_contained}

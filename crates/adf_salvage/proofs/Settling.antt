@@ -1,18 +1,6 @@
 -- Files without a header are added to the entries.
 use Rattle.std.proofs.Common.{◌≡◌, ◌≢◌, ℕ, zero, suc, ◌+◌, ◌<◌, ◌≤◌, ◌⊎◌, inl, inr, All, AllPairs, List, [], ◌∷◌, ◌++◌, length, slice_index, get_or, Contains, Option, IsSome, is_some, sym, ap, ◌∙◌, subst, arith}
-use Rattle.std.proofs.Math.ListN.{set}
-use Rattle.std.proofs.lemmas.List.{get_or_default, get_or-map, map-append, map-set, set-get_or}
-use Rattle.std.proofs.lemmas.List.Elements.{All-push, All-set, Contains-append_cases, Contains-append_left}
-use Rattle.std.proofs.lemmas.List.Quantifiers.{all_pairs_push}
-use Rattle.adf_salvage.specs.declared.gathered.Gathered.{Gathered}
-use Rattle.adf_salvage.specs.declared.known.Known.{Known}
-use Rattle.adf_salvage.specs.declared.salvaged.Salvaged.{Salvaged}
-use Rattle.adf_salvage.specs.declared.salvaged.State.TheVariants.{Lost}
-use Rattle.adf_salvage.specs.Lost.{IsLost}
-use Rattle.adf_salvage.specs.Salvaged.{AreSalvaged, IsListed, IsLoose, broken_length, broken_total, headers_of}
-use Rattle.adf_salvage.specs.steps.Gathering.{AreAllHeaders, AreGatheredBy, place_at}
-use Rattle.adf_salvage.specs.steps.Giving.{IsGiving}
-use Rattle.adf_salvage.specs.steps.Settling.{AreSettled}
+use Rattle.adf_salvage.proofs.Common.{set, get_or_default, get_or-map, map-append, map-set, set-get_or, All-push, All-set, Contains-append_cases, Contains-append_left, all_pairs_push, Gathered, Known, Salvaged, Lost, IsLost, AreSalvaged, IsListed, IsLoose, broken_length, broken_total, headers_of, AreAllHeaders, AreGatheredBy, place_at, IsGiving, AreSettled}
 use Rattle.adf_salvage.proofs.Growing.{broken_more}
 use Rattle.adf_salvage.proofs.Saving.{all_salvaged}
 

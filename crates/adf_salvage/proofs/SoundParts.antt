@@ -1,22 +1,12 @@
 -- A file is lawful exactly if its pointer blocks and data blocks have the right fields for their positions and are
 -- distinct.
 use Rattle.std.proofs.Common.{◌≡◌, ℕ, zero, suc, ◌+◌, ◌-◌, ◌*◌, ◌/◌, ◌%◌, ◌<◌, ◌≤◌, inl, inr, min, List, ◌∷◌, length, slice_index, get_or-append-add, refl, sym, ap, ◌∙◌, subst, arith}
-use Rattle.std.proofs.lemmas.Bool.{cases_lt, cases_order}
-use Rattle.std.proofs.lemmas.List.{get_or_past, get_or_append_left, length-append}
 use Rattle.std.proofs.lemmas.List.FromFn.{length-map-range_with_len, get_or-map-range_with_len}
-use Rattle.adf_block.specs.declared.layout.Format.TheVariants.{Ofs}
-use Rattle.adf_block.specs.Image.{block_count, long, IsInside}
-use Rattle.adf_block.specs.Fields.{pointer, pointer_count, file_size, format_of}
-use Rattle.adf_block.specs.declared.layout.TheConstants.{NEXT_EXTENSION, NEXT_DATA}
-use Rattle.ados_model.specs.Tree.{data_count, extension_count}
-use Rattle.ados_model.specs.Stands.{HasExtension, HasOfsData}
-use Rattle.ados_model.specs.File.{file_byte, AreApart, LawfulFile, pointer_block, data_block, data_blocks, extension_blocks, contents}
+use Rattle.adf_salvage.proofs.Common.{cases_lt, cases_order, get_or_past, get_or_append_left, length-append, Ofs, block_count, long, IsInside, pointer, pointer_count, file_size, format_of, NEXT_EXTENSION, NEXT_DATA, data_count, extension_count, HasExtension, HasOfsData, file_byte, LawfulFile, pointer_block, data_block, data_blocks, extension_blocks, contents, in_extensions, own_blocks, HasHolders, HasData, AreOnce, data_needed, extensions_needed, data_before}
+use Rattle.ados_model.specs.File.{AreApart}
 use Rattle.ados_data.proofs.Chains.{chained, next_of}
 use Rattle.ados_data.proofs.Spelled.{link_of}
-use Rattle.ados_data.proofs.Sizes.{in_extensions}
 use Rattle.ados_check.proofs.Counting.{AreDifferent, different_few}
-use Rattle.adf_salvage.specs.Sound.{own_blocks}
-use Rattle.adf_salvage.specs.steps.Parts.{HasHolders, HasData, AreOnce, data_needed, extensions_needed, data_before}
 
 module _ (image : List ℕ) (file : ℕ) where
   pub length-data : length (data_blocks image file) ≡ data_needed image file

@@ -1,8 +1,6 @@
 -- Whether a bitmap can be trusted, by the faults of the image.
 use Rattle.std.proofs.Common.{◌≡◌, ℕ, ◌+◌, ◌-◌, ◌/◌, ◌<◌, inl, inr, Bool, true, false, MatchBool, List, [], get_or, All, Contains, Option, Some, refl, sym, ◌∙◌, subst, arith}
-use Rattle.std.proofs.lemmas.Bool.{cases_order}
-use Rattle.adf_block.specs.Image.{long}
-use Rattle.adf_block.specs.Whole.{IsImage}
+use Rattle.adf_salvage.proofs.Common.{cases_order, long, IsImage, ShowsNoFault, AreTrustedPages, IsTrustedBitmap}
 use Rattle.ados_check.specs.declared.mark.Mark.{Mark}
 use Rattle.ados_check.specs.Marks.{mark_at}
 use Rattle.ados_faults.specs.Listed.{AreMarks, ListsDoubts, fault_of, root_mark}
@@ -16,9 +14,7 @@ use Rattle.ados_model.specs.Faults.{InImage, IsReachedAndFree, PlaceNames, Reach
 use Rattle.ados_model.specs.Faults.IsPlace.{root_page}
 use Rattle.ados_model.specs.Faults.IsUsedTwice.{root_named}
 use Rattle.ados_model.specs.Faults.Reached.{named, start}
-use Rattle.ados_model.specs.Accepted.{ShowsNoFault}
 use Rattle.ados_model.specs.Rebuilt.{HasValidBitmap}
-use Rattle.adf_salvage.specs.Deleted.{AreTrustedPages, IsTrustedBitmap}
 use Rattle.adf_salvage.specs.steps.Deleting.{AreOfReached, IsDoubt}
 
 module _ (image : List ℕ) (pages : AreTrustedPages image) where

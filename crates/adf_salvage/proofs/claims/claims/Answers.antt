@@ -1,8 +1,5 @@
 use Rattle.std.proofs.Common.{◌≡◌, ℕ, ◌+◌, List, Vec, Global, length, sym, ap, ◌∙◌, subst, arith}
-use Rattle.adf_block.specs.Image.{block_count}
-use Rattle.adf_salvage.specs.declared.claims.Claim.{Claim}
-use Rattle.adf_salvage.specs.Sound.{own_blocks}
-use Rattle.adf_salvage.specs.steps.Claims.{AreClaims, IsNoted}
+use Rattle.adf_salvage.proofs.Common.{block_count, Claim, own_blocks, AreClaims, IsNoted}
 use Rattle.adf_salvage.proofs.Claiming.{claims_more, claims_same, all_within, refilled}
 use Rattle.adf_salvage.proofs.claims.claims.Goals as goal
 use Rattle.adf_salvage.proofs.claims.claims.Goals.{in-Some, in_default}

@@ -1,7 +1,5 @@
 use Rattle.std.proofs.Common.{◌≡◌, length}
-use Rattle.adf_block.specs.Image.{block_count}
-use Rattle.adf_salvage.specs.steps.Claims.{AreClaims}
-use Rattle.adf_salvage.specs.steps.Parts.{AreUsersBelow}
+use Rattle.adf_salvage.proofs.Common.{block_count, AreClaims, AreUsersBelow}
 use Rattle.adf_salvage.proofs.claims.claims.Given as goal
 
 abbrev pub invariant-loop-file : goal.invariant-loop-file

@@ -1,8 +1,5 @@
 use Rattle.std.proofs.Common.{◌≡◌, ℕ, ◌<◌, List, length, take, slice_index, get_or-set_same, get_or-set_other, length-set, sym, ap, ◌∙◌, subst, arith}
-use Rattle.std.proofs.Math.ListN.{set}
-use Rattle.std.proofs.lemmas.List.{get_or_default, take_all, take_more}
-use Rattle.adf_salvage.specs.declared.claims.Claim.TheVariants.{Free}
-use Rattle.adf_salvage.specs.steps.Claims.{IsNoted, claim_at, with_claim}
+use Rattle.adf_salvage.proofs.Common.{set, get_or_default, take_all, take_more, Free, IsNoted, claim_at, with_claim}
 use Rattle.adf_salvage.proofs.Claiming.{noted_more}
 use Rattle.adf_salvage.proofs.claims.note.Goals as goal
 

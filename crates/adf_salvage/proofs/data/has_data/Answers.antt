@@ -1,8 +1,5 @@
 use Rattle.std.proofs.Common.{◌≡◌, ◌<◌, ◌+◌, ◌-◌, ℕ, suc, length, slice_index, sym, ap, ◌∙◌, subst, arith, below_more}
-use Rattle.adf_block.specs.Image.{long}
-use Rattle.adf_block.specs.declared.layout.TheConstants.{NEXT_DATA}
-use Rattle.ados_model.specs.File.{data_block}
-use Rattle.adf_salvage.specs.steps.Parts.{HasData, IsDataBlock, data_needed, data_before}
+use Rattle.adf_salvage.proofs.Common.{long, NEXT_DATA, data_block, HasData, IsDataBlock, data_needed, data_before}
 use Rattle.adf_salvage.proofs.OwnBlocks.{file_below, before_below, decided, own_at, whole_data}
 use Rattle.adf_salvage.proofs.SoundParts.{length-own}
 use Rattle.adf_salvage.proofs.data.has_data.Goals as goal

@@ -1,6 +1,5 @@
 use Rattle.std.proofs.Common.{◌≡◌, ℕ, ◌<◌}
-use Rattle.ados_model.specs.File.{data_block}
-use Rattle.adf_salvage.specs.steps.Parts.{IsDataBlock, data_before}
+use Rattle.adf_salvage.proofs.Common.{data_block, IsDataBlock, data_before}
 use Rattle.adf_salvage.proofs.data.has_data.Given as goal
 
 abbrev pub invariant-loop-i : goal.invariant-loop-i

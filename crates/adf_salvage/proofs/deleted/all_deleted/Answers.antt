@@ -1,9 +1,5 @@
 use Rattle.std.proofs.Common.{ℕ, List, [], ◌∷◌, ◌++◌, All, map, slice_index, sym, ap, ◌∙◌, subst, arith}
-use Rattle.std.proofs.lemmas.List.{map-append, take_all, take_more}
-use Rattle.std.proofs.lemmas.List.Elements.{All-push}
-use Rattle.adf_salvage.specs.declared.deleted.Deleted.{Deleted}
-use Rattle.adf_salvage.specs.Deleted.{HasRecovery}
-use Rattle.adf_salvage.specs.Salvaged.{AreDeleted}
+use Rattle.adf_salvage.proofs.Common.{map-append, take_all, take_more, All-push, Deleted, HasRecovery, AreDeleted}
 use Rattle.adf_salvage.proofs.ListingDeleted.{lists_all}
 use Rattle.adf_salvage.proofs.deleted.all_deleted.Goals as goal
 

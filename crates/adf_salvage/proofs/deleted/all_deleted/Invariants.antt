@@ -1,6 +1,5 @@
 use Rattle.std.proofs.Common.{◌≡◌, ℕ, ◌<◌, ◌≤◌, All, map, take, slice_index}
-use Rattle.adf_salvage.specs.Deleted.{HasRecovery}
-use Rattle.adf_salvage.specs.steps.Parts.{AreUsersBelow}
+use Rattle.adf_salvage.proofs.Common.{HasRecovery, AreUsersBelow}
 use Rattle.adf_salvage.proofs.deleted.all_deleted.Given as goal
 
 -- the users of blocks are below each number behind the headers so far

@@ -1,7 +1,6 @@
 use Rattle.std.proofs.Common.{ℕ, below_more, inl, sym, subst, arith}
+use Rattle.adf_salvage.proofs.Common.{IsToldHeader, AreFound, IsFound}
 use Rattle.adf_salvage.specs.declared.headers.Found.{Found}
-use Rattle.adf_salvage.specs.Doubtful.{IsToldHeader}
-use Rattle.adf_salvage.specs.steps.Heading.{AreFound, IsFound}
 use Rattle.adf_salvage.proofs.headers.all_sound.Goals as goal
 use Rattle.adf_salvage.proofs.headers.all_sound.Goals.{then-is_told_header+in_ok-note, else-is_told_header}
 

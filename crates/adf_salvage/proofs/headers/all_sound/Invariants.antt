@@ -1,6 +1,5 @@
 use Rattle.std.proofs.Common.{ℕ, ◌<◌}
-use Rattle.adf_salvage.specs.Doubtful.{IsToldHeader}
-use Rattle.adf_salvage.specs.steps.Heading.{AreFound, IsFound}
+use Rattle.adf_salvage.proofs.Common.{IsToldHeader, AreFound, IsFound}
 use Rattle.adf_salvage.proofs.headers.all_sound.Given as goal
 
 abbrev pub invariant-loop-block : goal.invariant-loop-block

@@ -1,7 +1,5 @@
 use Rattle.std.proofs.Common.{ℕ, ◌-◌, ◌<◌, ◌≤◌, length, slice_index}
-use Rattle.adf_block.specs.Image.{block_count}
-use Rattle.adf_salvage.specs.Doubtful.{IsRoot, IsToldHeader}
-use Rattle.adf_salvage.specs.steps.Heading.{AreFound, AreSought, IsFound}
+use Rattle.adf_salvage.proofs.Common.{block_count, IsRoot, IsToldHeader, AreFound, AreSought, IsFound}
 use Rattle.adf_salvage.proofs.headers.headers.Given as goal
 
 abbrev pub invariant-loop-place : goal.invariant-loop-place

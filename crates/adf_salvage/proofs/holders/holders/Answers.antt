@@ -1,6 +1,5 @@
 use Rattle.std.proofs.Common.{◌≡◌, ◌≤◌, ℕ, List, Contains, suc, sym, ap, ◌∙◌, subst, arith}
-use Rattle.ados_model.specs.Tree.{extension_count}
-use Rattle.adf_salvage.specs.steps.Parts.{extensions_needed}
+use Rattle.adf_salvage.proofs.Common.{extension_count, extensions_needed}
 use Rattle.adf_salvage.proofs.OwnBlocks.{all_holders, not_again, not_ended, not_holder}
 use Rattle.adf_salvage.proofs.holders.holders.Goals as goal
 

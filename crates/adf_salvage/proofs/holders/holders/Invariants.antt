@@ -1,6 +1,5 @@
 use Rattle.std.proofs.Common.{◌≡◌, ℕ, ◌<◌, length, slice_index}
-use Rattle.ados_model.specs.File.{pointer_block}
-use Rattle.adf_salvage.specs.steps.Parts.{IsHolder}
+use Rattle.adf_salvage.proofs.Common.{pointer_block, IsHolder}
 use Rattle.adf_salvage.proofs.holders.holders.Given as goal
 
 abbrev pub invariant-loop-q : goal.invariant-loop-q

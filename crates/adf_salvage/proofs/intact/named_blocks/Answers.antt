@@ -1,6 +1,5 @@
 use Rattle.std.proofs.Common.{◌≡◌, ◌<◌, ◌/◌, arith}
-use Rattle.ados_data.proofs.Sizes.{in_extensions}
-use Rattle.adf_salvage.specs.steps.Parts.{data_needed}
+use Rattle.adf_salvage.proofs.Common.{in_extensions, data_needed}
 use Rattle.adf_salvage.proofs.OwnBlocks.{all_data, gathered_more, holder_below, holder_read, holder_there, named_block}
 use Rattle.adf_salvage.proofs.SoundParts.{lawful_few}
 use Rattle.adf_salvage.proofs.intact.named_blocks.Goals as goal

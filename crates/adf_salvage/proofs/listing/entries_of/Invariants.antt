@@ -1,8 +1,5 @@
 use Rattle.std.proofs.Common.{◌≡◌, All, map, take}
-use Rattle.ados_model.specs.Tree.{Tree}
-use Rattle.ados_model.specs.Stands.{Stands}
-use Rattle.adf_salvage.specs.Salvaged.{IsOfTree, located_of}
-use Rattle.adf_salvage.specs.steps.Keeping.{IsReadable}
+use Rattle.adf_salvage.proofs.Common.{Tree, Stands, IsOfTree, located_of, IsReadable}
 use Rattle.adf_salvage.proofs.listing.entries_of.Given as goal
 
 -- the entries before this one are described

@@ -1,14 +1,7 @@
 use Rattle.std.proofs.Common.{ℕ, ◌<◌, None, List, All, refl, sym, subst}
-use Rattle.std.proofs.lemmas.List.Elements.{All-nil}
-use Rattle.adf_block.specs.Image.{block_count}
-use Rattle.ados_model.specs.Accepted.{Accepts}
-use Rattle.ados_model.specs.Stands.{Stands}
-use Rattle.ados_model.specs.Tree.{entries}
+use Rattle.adf_salvage.proofs.Common.{All-nil, block_count, Accepts, Stands, entries, Piece, IsTrustedBitmap, IsReadable}
 use Rattle.ados_volume.specs.Below.{AreBelow}
 use Rattle.ados_volume.proofs.AllBelow.{there_below}
-use Rattle.adf_salvage.specs.declared.giving.Piece.{Piece}
-use Rattle.adf_salvage.specs.Deleted.{IsTrustedBitmap}
-use Rattle.adf_salvage.specs.steps.Keeping.{IsReadable}
 use Rattle.adf_salvage.proofs.Holding.{of_tree}
 use Rattle.adf_salvage.proofs.listing.volume_entries.Goals as goal
 

@@ -1,9 +1,6 @@
 use Rattle.std.proofs.Common.{◌≡◌, IfSome, MatchOption, Option, ◌+◌, true, false, sym, ap, ◌∙◌, subst, arith}
-use Rattle.std.proofs.lemmas.Result.{on_ok_weaker}
+use Rattle.adf_salvage.proofs.Common.{on_ok_weaker, State, IsLoose, broken_length, IsGiving}
 use Rattle.adf_salvage.specs.declared.giving.Giving.{Giving}
-use Rattle.adf_salvage.specs.declared.salvaged.State.{State}
-use Rattle.adf_salvage.specs.Salvaged.{IsLoose, broken_length}
-use Rattle.adf_salvage.specs.steps.Giving.{IsGiving}
 use Rattle.adf_salvage.proofs.Settling.{settles_more}
 use Rattle.adf_salvage.proofs.loose.add_file.Goals as goal
 

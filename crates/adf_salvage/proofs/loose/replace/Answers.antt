@@ -1,9 +1,5 @@
 use Rattle.std.proofs.Common.{◌≡◌, ℕ, ◌+◌, get_or, IfSome, MatchOption, Option, refl, sym, ap, ◌∙◌, subst}
-use Rattle.std.proofs.lemmas.List.{get_or_default}
-use Rattle.adf_salvage.specs.declared.salvaged.Salvaged.{Salvaged}
-use Rattle.adf_salvage.specs.declared.salvaged.State.{State}
-use Rattle.adf_salvage.specs.declared.salvaged.State.TheVariants.{Lost}
-use Rattle.adf_salvage.specs.Salvaged.{IsLoose, broken_length}
+use Rattle.adf_salvage.proofs.Common.{get_or_default, Salvaged, State, Lost, IsLoose, broken_length}
 use Rattle.adf_salvage.proofs.Settling.{settles_lost}
 use Rattle.adf_salvage.proofs.loose.replace.Goals as goal
 

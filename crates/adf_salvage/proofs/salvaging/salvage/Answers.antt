@@ -1,9 +1,6 @@
 use Rattle.std.proofs.Common.{inl, inr, List, ℕ, subst}
-use Rattle.std.proofs.lemmas.Result.{IfOk-weaker}
-use Rattle.ados_model.specs.Stands.{Stands}
-use Rattle.ados_model.specs.Tree.{Tree}
+use Rattle.adf_salvage.proofs.Common.{IfOk-weaker, Stands, Tree, AreOfTree, IsReadAs, Salvages, SavesRest, SavesTree}
 use Rattle.ados_model.proofs.NoFaults.{faults_have_no_tree}
-use Rattle.adf_salvage.specs.Salvaged.{AreOfTree, IsReadAs, Salvages, SavesRest, SavesTree}
 use Rattle.adf_salvage.proofs.Answering.{same_tree}
 use Rattle.adf_salvage.proofs.salvaging.salvage.Goals as goal
 

@@ -1,7 +1,5 @@
 use Rattle.std.proofs.Common.{◌≡◌, ◌*◌, ◌/◌, length, min, take}
-use Rattle.adf_block.specs.Fields.{format_of}
-use Rattle.ados_model.specs.File.{contents, pointer_block}
-use Rattle.ados_model.specs.Tree.{data_size}
+use Rattle.adf_salvage.proofs.Common.{format_of, contents, pointer_block, data_size}
 use Rattle.adf_salvage.proofs.saved.whole_bytes.Given as goal
 
 abbrev pub invariant-loop-i : goal.invariant-loop-i

@@ -1,7 +1,5 @@
 use Rattle.std.proofs.Common.{◌≡◌, ℕ, ◌<◌, length, slice_index_or}
-use Rattle.adf_block.specs.Image.{block_count}
-use Rattle.adf_salvage.specs.declared.deleted.Deleted.{Deleted}
-use Rattle.adf_salvage.specs.steps.Gathering.{AreGatheredBy}
+use Rattle.adf_salvage.proofs.Common.{block_count, Deleted, AreGatheredBy}
 use Rattle.adf_salvage.specs.steps.Undeleting.{IsThere}
 use Rattle.adf_salvage.proofs.undeleted.gathered_deleted.Given as goal
 

@@ -1,7 +1,5 @@
 use Rattle.std.proofs.Common.{◌≡◌, ℕ, ◌<◌, length, IsSome}
-use Rattle.adf_block.specs.Image.{block_count}
-use Rattle.adf_salvage.specs.Doubtful.{IsHeader}
-use Rattle.adf_salvage.specs.steps.Gathering.{AreGatheredBy, place_at}
+use Rattle.adf_salvage.proofs.Common.{block_count, IsHeader, AreGatheredBy, place_at}
 use Rattle.adf_salvage.proofs.unreached.add_unreached.Given as goal
 
 abbrev pub invariant-loop-block : goal.invariant-loop-block

@@ -1,6 +1,5 @@
 use Rattle.std.proofs.Common.{rules, ◌≡◌, length, sym, ◌∙◌, subst}
-use Rattle.adf_salvage.specs.declared.claims.Claim.TheVariants.{One}
-use Rattle.adf_salvage.specs.steps.Claims.{AreAllClaims, claim_at}
+use Rattle.adf_salvage.proofs.Common.{One, AreAllClaims, claim_at}
 use Rattle.adf_salvage.proofs.Claiming.{all_within, alone_claims, claimed_whole, whole_decided}
 use Rattle.adf_salvage.proofs.whole.is_whole.Goals as goal
 

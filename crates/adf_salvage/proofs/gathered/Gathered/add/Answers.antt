@@ -1,6 +1,5 @@
 use Rattle.std.proofs.Common.{inl, refl, ◌∙◌, ◌+◌, ap}
-use Rattle.adf_salvage.specs.Salvaged.{broken_length}
-use Rattle.adf_salvage.specs.declared.salvaged.State.{State}
+use Rattle.adf_salvage.proofs.Common.{broken_length, State}
 use Rattle.adf_salvage.proofs.Growing.{gathers_more}
 use Rattle.adf_salvage.proofs.Naming.{header_inside, header_looks}
 use Rattle.adf_salvage.proofs.gathered.Gathered.add.Goals as goal

@@ -1,6 +1,5 @@
 use Rattle.std.proofs.Common.{◌≡◌, ◌<◌, ◌≤◌, IfSome}
-use Rattle.adf_block.specs.Image.{block_count}
-use Rattle.adf_salvage.specs.steps.Giving.{IsGiving}
+use Rattle.adf_salvage.proofs.Common.{block_count, IsGiving}
 use Rattle.adf_salvage.proofs.giving.Giving.give.Given as goal
 
 abbrev pub invariant-loop-i : goal.invariant-loop-i

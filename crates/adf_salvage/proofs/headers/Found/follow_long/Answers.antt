@@ -1,7 +1,5 @@
 use Rattle.std.proofs.Common.{◌≡◌, ℕ, refl, sym, ◌∙◌, subst}
-use Rattle.std.proofs.lemmas.Result.{on_ok_weaker}
-use Rattle.adf_block.specs.Fields.{parent_key}
-use Rattle.adf_salvage.specs.Doubtful.{IsPlaceIn, MayBeHeader}
+use Rattle.adf_salvage.proofs.Common.{on_ok_weaker, parent_key, IsPlaceIn, MayBeHeader}
 use Rattle.adf_salvage.proofs.Naming.{named_header}
 use Rattle.adf_salvage.proofs.headers.Found.follow_long.Goals as goal
 use Rattle.adf_salvage.proofs.headers.Found.follow_long.Goals.{then-not-may_be_header-via-then-not-may_be_header, then-not-may_be_header-via-else-not-may_be_header+then-long-dir}

@@ -1,8 +1,5 @@
 use Rattle.std.proofs.Common.{◌≡◌, ℕ, List, ◌+◌, length, get_or, true, take, sym, ap, subst, arith}
-use Rattle.std.proofs.Math.ListN.{set}
-use Rattle.std.proofs.lemmas.List.{take_all}
-use Rattle.adf_block.specs.Image.{block_count}
-use Rattle.adf_salvage.specs.steps.Leaving.{AreMarked}
+use Rattle.adf_salvage.proofs.Common.{set, take_all, block_count, AreMarked}
 use Rattle.adf_salvage.proofs.Leaving.{marked_next}
 use Rattle.adf_salvage.proofs.left_out.LeftOut.of.Goals as goal
 

@@ -1,6 +1,5 @@
 use Rattle.std.proofs.Common.{◌≡◌, length, take}
-use Rattle.adf_block.specs.Image.{block_count}
-use Rattle.adf_salvage.specs.steps.Leaving.{AreMarked}
+use Rattle.adf_salvage.proofs.Common.{block_count, AreMarked}
 use Rattle.adf_salvage.proofs.left_out.LeftOut.of.Given as goal
 
 -- the headers before this one are marked
