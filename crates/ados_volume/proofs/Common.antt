@@ -63,7 +63,8 @@ pub use Rattle.std.proofs.lemmas.List.{append-nil, drop-drop, drop-replicate, dr
 pub use Rattle.std.proofs.lemmas.List.Elements.{All-from_get_or, All-get_or, Contains-append_cases, Contains-append_left, Contains-append_right, Contains-get_or}
 pub use Rattle.std.proofs.lemmas.Option.{get_or_from_slice_get, none-some, same_Some, slice_get-get_or, slice_get_within}
 pub use Rattle.std.proofs.lemmas.Slice.Eq.{bytes_eq-Decides}
-pub use Rattle.std.specs.List.{AllByRecursion, IsDistinct, list_any}
+unfoldable pub use Rattle.std.specs.List.{IsDistinct}
+pub use Rattle.std.specs.List.{AllByRecursion, list_any}
 pub use Rattle.std.specs.Map.{keys_of, lookup, remove_entry}
 pub use Rattle.std.specs.Option.{option_map_or}
 pub use Rattle.std.specs.Prelude.{IsSome, IsTrue, find, max, ok_or, option_and_then, slice_get}
