@@ -3,7 +3,7 @@ use Rattle.adf_import.specs.Commands.{Does}
 use Rattle.adf_import.specs.Turns.AreDone.{none}
 use Rattle.adf_import.specs.declared.words.Word.{Word}
 use Rattle.adf_import.proofs.Turning.{done_more, ends_here}
-use Rattle.adf_import.proofs.each.change_words.Goals as goal
+use Rattle.adf_import.proofs.each.change_each.Goals as goal
 
 abbrev text_in : Word → List ℕ
 text_in word = word.text.now

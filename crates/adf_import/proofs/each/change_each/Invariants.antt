@@ -1,7 +1,7 @@
 use Rattle.std.proofs.Common.{map, take}
 use Rattle.adf_import.specs.Commands.{Does}
 use Rattle.adf_import.specs.Turns.{AreDone, AtWord}
-use Rattle.adf_import.proofs.each.change_words.Given as goal
+use Rattle.adf_import.proofs.each.change_each.Given as goal
 
 -- the arguments before this one are done
 abbrev pub invariant-loop-word : goal.invariant-loop-word

@@ -3,7 +3,7 @@ use Rattle.ados_volume.specs.Shown.{Shown}
 use Rattle.adf_import.specs.Progress.{IsReady}
 use Rattle.adf_import.specs.Put.{KeepsKeys}
 use Rattle.adf_import.proofs.Keeping.{keeps_both}
-use Rattle.adf_import.proofs.adding.put_entries.Goals as goal
+use Rattle.adf_import.proofs.adding.add.Goals as goal
 
 pub child-requires : goal.child-requires
 child-requires g c = (c.directory-dir.ensures c.loop-entry.volume.image c.loop-entry.invariant.ready).dir
