@@ -89,19 +89,10 @@ replaced_is_file t key size force none = go (is_file t key) none
 -- ---- what is unchanged
 
 -- a new file keeps every directory and entry
-pub add_keeps : (refusal : Tree → Option NotPut) (moment : Date3) (dir : ℕ) (name : List ℕ) (file : NewFile) (old new : Shown) (r : Result ℕ NotPut) → HasTree old.image → HasDirectory old.image dir
-    → Changes refusal (λ key t. added moment dir key name file t) old new r → IfOk r (λ key. (t : Tree) → Stands old.image t → IsUnused t key) → OnOk r (KeepsKeys old.image new.image)
-add_keeps refusal moment dir name file old new (Ok key) has directory h unused =
-    keeps_keys old.image new.image (added moment dir key name file) has (λ t s. (h t s).1)
-    (λ t s. keeps_added t moment dir key name (File []) (directory t s) (unused t s).no_node file refl)
-add_keeps refusal moment dir name file old new (Err error) has directory h unused = tt
-
--- the same for a volume in which the name was looked up before
-pub add_keeps_from : (refusal : Tree → Option NotPut) (moment : Date3) (dir : ℕ) (name : List ℕ) (file : NewFile) (old looked new : Shown) (r : Result ℕ NotPut) → looked ≡ old → HasTree old.image → HasDirectory old.image dir
-    → Changes refusal (λ key t. added moment dir key name file t) looked new r → IfOk r (λ key. (t : Tree) → Stands looked.image t → IsUnused t key) → OnOk r (KeepsKeys old.image new.image)
-add_keeps_from refusal moment dir name file old looked new r same has directory h unused =
-    add_keeps refusal moment dir name file old new r has directory (subst (λ (v : Shown). Changes refusal (λ key t. added moment dir key name file t) v new r) same h)
-    (subst (λ (v : Shown). IfOk r (λ key. (t : Tree) → Stands v.image t → IsUnused t key)) same unused)
+pub add_keeps : (moment : Date3) (dir key : ℕ) (name : List ℕ) (file : NewFile) (old new : List ℕ) → HasTree old → HasDirectory old dir
+    → ((t : Tree) → Stands old t → Stands new (added moment dir key name file t)) → ((t : Tree) → Stands old t → IsUnused t key) → KeepsKeys old new
+add_keeps moment dir key name file old new has directory stands unused =
+    keeps_keys old new (added moment dir key name file) has stands (λ t s. keeps_added t moment dir key name (File []) (directory t s) (unused t s).no_node file refl)
 
 -- the bytes of a file
 file_content : (o : Option Content) → holds_file o ≡ true → (bytes : List ℕ) × (o ≡ Some (File bytes))
