@@ -5,7 +5,7 @@ ghost use Rattle.ados_model.specs.Tree.{Tree};
 ghost use Rattle.ados_model.specs.Stands.{Stands};
 ghost use Rattle.ados_model.specs.Keys.{HasDirectory, HasKey};
 ghost use Rattle.adf_import.specs.Commands.{ChangesEntry, Moves};
-ghost use Rattle.adf_import.specs.Paths.{directory_at, object_at};
+ghost use Rattle.adf_import.specs.Paths.{directory_at, move_fault, object_at};
 
 use crate::entries::{delete, move_entry};
 use crate::fields::{comment, protect, redate};
@@ -85,8 +85,17 @@ pub(crate) fn move_at(
     };
     match move_entry(volume, key, to.0, to.1, moment) {
         Ok(()) => Ok(()),
-        Err(DosError::ObjectExists) => Err(MoveFault::New(DosError::ObjectExists)),
-        Err(error) => Err(MoveFault::Old(error)),
+        Err(error) => Err(move_fault(error)),
+    }
+}
+
+/// The path that an error of a move is about. It is the new one if another entry has the name.
+fn move_fault(error: DosError) -> MoveFault
+    ensures { result ≡ move_fault error }
+{
+    match error {
+        DosError::ObjectExists => MoveFault::New(error),
+        _ => MoveFault::Old(error),
     }
 }
 

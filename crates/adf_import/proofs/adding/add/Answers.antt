@@ -12,7 +12,7 @@ loop-entry-init g c = record {
     dir = subst (λ (v : Shown). HasDirectory v.image c.in_ok-top.top) (sym c.directory.ensures.same) c.in_ok-top.ensures.directory;
     progress = c.in_ok-progress.ensures c.directory.new.volume.image;
   };
-  keeps = subst (λ (v : Shown). KeepsKeys c.args.volume.now.image v.image) (sym c.directory.ensures.same) (keeps_same c.args.volume.now.image);
+  keeps = keeps_same c.directory.new.volume.image;
 }
 
 pub child-requires : goal.child-requires
@@ -28,8 +28,10 @@ loop-entry-preserved g c =
     subst (λ (v : Shown). KeepsKeys v.image c.put_item.new.volume.image) c.child.ensures.same c.in_ok-put_item.ensures.keeps in
     record {
       ready = record { dir = kept.directory c.in_ok-top.top c.loop-entry.invariant.ready.dir; progress = c.in_ok-put_item.ensures.progress };
-      keeps = keeps_both c.args.volume.now.image c.loop-entry.volume.image c.put_item.new.volume.image c.loop-entry.invariant.keeps kept;
+      keeps = keeps_both c.directory.new.volume.image c.loop-entry.volume.image c.put_item.new.volume.image c.loop-entry.invariant.keeps kept;
     }
 
 pub returns : goal.returns
-returns g c = keeps_both c.args.volume.now.image c.loop-entry.volume.image c.note_directories.new.volume.image c.loop-entry.invariant.keeps c.note_directories.ensures
+returns g c =
+    subst (λ (v : Shown). KeepsKeys v.image c.note_directories.new.volume.image) c.directory.ensures.same
+    (keeps_both c.directory.new.volume.image c.loop-entry.volume.image c.note_directories.new.volume.image c.loop-entry.invariant.keeps c.note_directories.ensures)

@@ -1,4 +1,4 @@
-use Rattle.std.proofs.Common.{◌≡◌, ◌+◌, ◌≤◌, ℕ, Option, [], length, is_some, rules, Some, None, sym, ap, ◌∙◌, subst, le-ltb}
+use Rattle.std.proofs.Common.{◌≡◌, ◌+◌, ◌≤◌, ℕ, Option, [], length, is_some, rules, Some, None, false, sym, ap, ◌∙◌, subst, le-ltb}
 use Rattle.std.proofs.lemmas.Bool.{true≢false}
 use Rattle.ados_model.specs.Keys.{HasKey, HasTree}
 use Rattle.ados_model.specs.Tree.{block_cost, free as free_of, Tree}
