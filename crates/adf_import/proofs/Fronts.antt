@@ -1,12 +1,16 @@
 -- Directories on the way to a path, made one after the other.
-use Rattle.std.proofs.Common.{◌≡◌, ℕ, zero, suc, ◌+◌, ◌<◌, ◌≤◌, nat_lt, Bool, true, false, Result, Ok, Err, List, [], ◌∷◌, ◌++◌, length, take, if◌then◌else◌, refl, sym, ap, ◌∙◌, subst, arith}
+use Rattle.std.proofs.Common.{◌≡◌, ℕ, zero, suc, ◌+◌, ◌<◌, ◌≤◌, nat_lt, Bool, true, false, Result, Ok, Err, List, [], ◌∷◌, ◌++◌, length, take, if◌then◌else◌, refl, sym, ap, ◌∙◌, subst, inr, arith}
+use Rattle.std.specs.Prelude.{MatchResult}
 use Rattle.std.proofs.lemmas.Bool.{ltb-false, ltb-true}
 use Rattle.std.proofs.lemmas.List.{append-nil, append_assoc}
 use Rattle.ados_name.specs.declared.stamp.Date3.{Date3}
 use Rattle.ados_model.specs.declared.dos_error.DosError.{DosError}
 use Rattle.ados_model.specs.Keys.{HasTree}
+use Rattle.ados_model.specs.Stands.{Stands}
+use Rattle.ados_model.specs.Tree.{Tree}
 use Rattle.ados_volume.specs.Shown.{Shown}
-use Rattle.adf_import.specs.Commands.{MakesMissing}
+use Rattle.adf_import.specs.Commands.{Makes, MakesLast, MakesMissing, MakesWay}
+use Rattle.adf_import.specs.Paths.{directory_at}
 use Rattle.adf_import.specs.Turns.{AreDone, StopsAtPath}
 use Rattle.adf_import.specs.Turns.AreDone.{one_more}
 use Rattle.adf_import.specs.Ways.{ends_front, fronts, fronts_before}
@@ -66,3 +70,16 @@ module _ (moment : Date3) (path : List ℕ) (i : ℕ) (old between : Shown) (don
         done = done;
         refused = refused;
       }
+
+-- a directory that is not there is made
+pub last_made : (moment : Date3) (path : List ℕ) (between looked new : Shown) (error : DosError) (r : Result Unit DosError) → looked ≡ between
+    → ((t : Tree) → Stands between.image t → Err error ≡ directory_at path t) → Makes moment path looked new r → MakesLast moment path between new r
+last_made moment path between looked new error r same missing h = λ t s.
+    subst (λ (found : Result ℕ DosError). MatchResult found (λ (_ : ℕ). (new ≡ between) × (r ≡ Ok tt)) (λ (_ : DosError). Makes moment path between new r)) (missing t s)
+    (subst (λ (v : Shown). Makes moment path v new r) same h)
+
+-- behind those on the way the directory at the path is made
+pub way_made : (moment : Date3) (path : List ℕ) (old between new : Shown) (r : Result Unit DosError) → AreDone (MakesMissing moment) (fronts path) old between
+    → MakesLast moment path between new r → MakesWay moment path old new r
+way_made moment path old between new (Ok a) done last = (between, done, last)
+way_made moment path old between new (Err error) done last = inr (between, done, last)
