@@ -1,5 +1,5 @@
 -- A file that is put under a name into the directory at a path.
-use Rattle.std.proofs.Common.{◌≡◌, ℕ, Bool, None, Result, Ok, List, length, subst}
+use Rattle.std.proofs.Common.{◌≡◌, ℕ, Bool, None, Ok, List, length, subst}
 use Rattle.ados_name.specs.declared.stamp.Date3.{Date3}
 use Rattle.ados_model.specs.declared.dos_error.DosError.{DosError}
 use Rattle.ados_model.specs.Stands.{Stands}
