@@ -8,7 +8,7 @@ use crate::refusal::{Detail, DosRefusal, Refusal, Room};
 use adf_archive::ArchiveFault;
 use adf_export::{BundleOutFault, OutFault};
 use adf_host::{HoldFault, ReadReason, ReplaceFault, why_unreadable};
-use adf_import::{BundleInFault, InFault};
+use adf_import::InFault;
 use adf_io::{InputFault, PrintFault};
 use adf_record::Grouped;
 use adf_rescue::UndeleteFault;
@@ -68,10 +68,8 @@ pub enum CommandFault<'a> {
     Added(InFault),
     #[error("{0}")]
     BundleOut(BundleOutFault),
-    #[error("{0}")]
-    BundleIn(BundleInFault),
     #[error("'{0}' is not written: {1}")]
-    OtherVolume(&'a str, BundleInFault),
+    OtherVolume(&'a str, InFault),
     #[error("a thread cannot be made")]
     Thread,
     #[error("a client ran out of tries")]
@@ -103,7 +101,7 @@ impl Drop for CommandFault<'_> {
             CommandFault::Extracted(_fault) => {}
             CommandFault::Added(_fault) => {}
             CommandFault::BundleOut(_fault) => {}
-            CommandFault::BundleIn(_fault) | CommandFault::OtherVolume(_, _fault) => {}
+            CommandFault::OtherVolume(_, _fault) => {}
             CommandFault::Read(_, _)
             | CommandFault::Endless(_)
             | CommandFault::Write(_, _)
@@ -138,15 +136,10 @@ impl<'a> CommandFault<'a> {
     }
 
     /// The fault of a bundle that does not become the volume of an image file.
-    pub(crate) fn of_bundle(fault: BundleInFault, file: &'a str) -> CommandFault<'a> {
+    pub(crate) fn of_bundle(fault: InFault, file: &'a str) -> CommandFault<'a> {
         match fault {
-            BundleInFault::Put(fault) => CommandFault::from(fault),
-            BundleInFault::Memory => CommandFault::Memory,
-            BundleInFault::NotEmpty => CommandFault::OtherVolume(file, BundleInFault::NotEmpty),
-            BundleInFault::OtherVolume { kind, blocks } => {
-                CommandFault::OtherVolume(file, BundleInFault::OtherVolume { kind, blocks })
-            }
-            other => CommandFault::BundleIn(other),
+            InFault::NotEmpty | InFault::OtherVolume { .. } => CommandFault::OtherVolume(file, fault),
+            other => CommandFault::from(other),
         }
     }
 

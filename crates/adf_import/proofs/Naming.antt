@@ -1,6 +1,5 @@
 -- A file that is put under a name into the directory at a path.
-use Rattle.std.proofs.Common.{◌≡◌, ℕ, Bool, None, Result, Ok, Err, List, length, subst}
-use Rattle.std.specs.Prelude.{OnOk}
+use Rattle.std.proofs.Common.{◌≡◌, ℕ, Bool, None, Ok, List, length, subst}
 use Rattle.ados_name.specs.declared.stamp.Date3.{Date3}
 use Rattle.ados_model.specs.declared.dos_error.DosError.{DosError}
 use Rattle.ados_model.specs.Stands.{Stands}
@@ -9,7 +8,6 @@ use Rattle.ados_volume.specs.Shown.{Shown}
 use Rattle.adf_import.specs.Commands.{PutsAs, PutsIn}
 use Rattle.adf_import.specs.Paths.{directory_at}
 use Rattle.adf_import.specs.Put.{put, put_refusal}
-use Rattle.adf_import.specs.declared.fault.InFault.{InFault}
 use Rattle.adf_import.proofs.Finding.{at_found}
 
 module _ (moment : Date3) (to name : List ℕ) (force : Bool) (dir : ℕ) (old new : Shown) (found : (t : Tree) → Stands old.image t → directory_at to t ≡ Ok dir) where
@@ -22,7 +20,5 @@ module _ (moment : Date3) (to name : List ℕ) (force : Bool) (dir : ℕ) (old n
         (h.2 t s),
   )
 
-  pub put_as : (called : List ℕ) (looked : Shown) (r : Result Unit InFault) → looked ≡ old → called ≡ name → OnOk r (PutsIn moment dir called force looked new) → OnOk r (PutsAs moment to name force old new)
-  put_as called looked (Ok a) same is h =
-      named (subst (λ (n : List ℕ). PutsIn moment dir n force old new) is (subst (λ (v : Shown). PutsIn moment dir called force v new) same h))
-  put_as called looked (Err fault) same is h = tt
+  pub put_as : (called : List ℕ) (looked : Shown) → looked ≡ old → called ≡ name → PutsIn moment dir called force looked new → PutsAs moment to name force old new
+  put_as called looked same is h = named (subst (λ (n : List ℕ). PutsIn moment dir n force old new) is (subst (λ (v : Shown). PutsIn moment dir called force v new) same h))

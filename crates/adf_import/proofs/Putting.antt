@@ -1,6 +1,6 @@
 -- A file or directory put under a name: in place of the entry with the name, or new.
-use Rattle.std.proofs.Common.{◌≡◌, ℕ, Bool, false, true, not, if◌then◌else◌, List, [], ◌∷◌, Option, Some, None, Result, Ok, Err, refl, sym, ap, ◌∙◌, subst, is_some}
-use Rattle.std.specs.Prelude.{◌&&◌, OnOk, IfOk}
+use Rattle.std.proofs.Common.{◌≡◌, ℕ, Bool, false, true, not, if◌then◌else◌, List, [], ◌∷◌, Option, Some, None, refl, sym, ap, ◌∙◌, is_some}
+use Rattle.std.specs.Prelude.{◌&&◌}
 use Rattle.std.specs.Option.{option_map_or}
 use Rattle.std.proofs.lemmas.Bool.{true≢false}
 use Rattle.ados_name.specs.declared.stamp.Date3.{Date3}
@@ -13,16 +13,14 @@ use Rattle.ados_model.specs.Stands.{Stands}
 use Rattle.ados_model.specs.Keys.{HasDirectory, HasEntryKey, HasKey, HasTree}
 use Rattle.ados_model.specs.Change.{made, child_of, holds_file, is_file}
 use Rattle.ados_change.specs.Conditions.{IsDirectoryKey}
-use Rattle.ados_volume.specs.Shown.{Shown}
 use Rattle.ados_model.specs.Objects.{protection_of}
 use Rattle.ados_model.specs.Reads.{lacks}
 use Rattle.ados_model.specs.Refusals.{first_refusal, refuse}
 use Rattle.ados_volume.proofs.Walking.{child_is_key}
 use Rattle.ados_volume.proofs.Refusing.{passed}
 use Rattle.adf_import.specs.declared.new_file.NewFile.{NewFile}
-use Rattle.adf_import.specs.declared.new_file.NotPut.{NotPut}
 use Rattle.adf_import.specs.declared.new_file.NotPut.TheVariants.{NoRoom, Refused}
-use Rattle.adf_import.specs.Changes.{Changes, added, filled}
+use Rattle.adf_import.specs.Changes.{added, filled}
 use Rattle.adf_import.specs.Refusals.{add_refusal, make_refusal, more_blocks, or_no_room, replace_refusal}
 use Rattle.adf_import.proofs.Filling.{IsEntry, after_change}
 use Rattle.adf_import.specs.Put.{KeepsKeys, enter_refusal, entered, new_refusal, put, put_refusal}
@@ -89,19 +87,10 @@ replaced_is_file t key size force none = go (is_file t key) none
 -- ---- what is unchanged
 
 -- a new file keeps every directory and entry
-pub add_keeps : (refusal : Tree → Option NotPut) (moment : Date3) (dir : ℕ) (name : List ℕ) (file : NewFile) (old new : Shown) (r : Result ℕ NotPut) → HasTree old.image → HasDirectory old.image dir
-    → Changes refusal (λ key t. added moment dir key name file t) old new r → IfOk r (λ key. (t : Tree) → Stands old.image t → IsUnused t key) → OnOk r (KeepsKeys old.image new.image)
-add_keeps refusal moment dir name file old new (Ok key) has directory h unused =
-    keeps_keys old.image new.image (added moment dir key name file) has (λ t s. (h t s).1)
-    (λ t s. keeps_added t moment dir key name (File []) (directory t s) (unused t s).no_node file refl)
-add_keeps refusal moment dir name file old new (Err error) has directory h unused = tt
-
--- the same for a volume in which the name was looked up before
-pub add_keeps_from : (refusal : Tree → Option NotPut) (moment : Date3) (dir : ℕ) (name : List ℕ) (file : NewFile) (old looked new : Shown) (r : Result ℕ NotPut) → looked ≡ old → HasTree old.image → HasDirectory old.image dir
-    → Changes refusal (λ key t. added moment dir key name file t) looked new r → IfOk r (λ key. (t : Tree) → Stands looked.image t → IsUnused t key) → OnOk r (KeepsKeys old.image new.image)
-add_keeps_from refusal moment dir name file old looked new r same has directory h unused =
-    add_keeps refusal moment dir name file old new r has directory (subst (λ (v : Shown). Changes refusal (λ key t. added moment dir key name file t) v new r) same h)
-    (subst (λ (v : Shown). IfOk r (λ key. (t : Tree) → Stands v.image t → IsUnused t key)) same unused)
+pub add_keeps : (moment : Date3) (dir key : ℕ) (name : List ℕ) (file : NewFile) (old new : List ℕ) → HasTree old → HasDirectory old dir
+    → ((t : Tree) → Stands old t → Stands new (added moment dir key name file t)) → ((t : Tree) → Stands old t → IsUnused t key) → KeepsKeys old new
+add_keeps moment dir key name file old new has directory stands unused =
+    keeps_keys old new (added moment dir key name file) has stands (λ t s. keeps_added t moment dir key name (File []) (directory t s) (unused t s).no_node file refl)
 
 -- the bytes of a file
 file_content : (o : Option Content) → holds_file o ≡ true → (bytes : List ℕ) × (o ≡ Some (File bytes))

@@ -1,5 +1,5 @@
 -- The effect of each command that changes a volume.
-use Rattle.std.specs.Prelude.{◌≡◌, ◌∷◌, ◌⊎◌, ℕ, Bool, false, true, List, [], length, None, Result, Ok, Err, MatchBool, MatchOption, MatchResult, OnOk, map, take, unwrap_or, ⊤}
+use Rattle.std.specs.Prelude.{◌≡◌, ◌∷◌, ◌⊎◌, ℕ, Bool, false, true, List, [], length, None, Result, Ok, Err, MatchOption, MatchResult, OnOk, map, unwrap_or, ⊤}
 use Rattle.std.specs.Str.{chars}
 use Rattle.std.specs.String.{string_bytes}
 use Rattle.ados_name.specs.declared.stamp.Date3.{Date3}
@@ -21,7 +21,7 @@ use Rattle.adf_import.specs.Refusals.{delete_refusal, make_refusal, root_refusal
 use Rattle.adf_import.specs.Paths.{ChangesAt, comment_refusal, directory_at, entry_move_refusal, move_ends, object_at, place_at, relabel_refusal}
 use Rattle.adf_import.specs.Put.{KeepsKeys, put, put_refusal}
 use Rattle.adf_import.specs.Turns.{AreDone, EndsAt, EndsInTurn, ReadsFirst, StopsAtPath}
-use Rattle.adf_import.specs.Ways.{ends_front, fronts}
+use Rattle.adf_import.specs.Ways.{fronts}
 use Rattle.adf_import.specs.Words.{IsRefusal}
 use Rattle.adf_import.specs.declared.new_file.NewFile.{NewFile}
 use Rattle.adf_import.specs.declared.each.Each.{Each}
@@ -46,10 +46,6 @@ Makes moment path old new (Err error) = MakesAt moment path old new (Err error)
 abbrev pub MakesMissing : Date3 → List ℕ → Shown → Shown → Result Unit DosError → Type 0
 MakesMissing moment path old new result =
     (t : Tree) → Stands old.image t → MatchResult (object_at path t) (λ _. (new ≡ old) × (result ≡ Ok tt)) (λ _. Makes moment path old new result)
-
--- the path of a directory on the way ends before this byte, and it is made if it is missing; or nothing changes
-abbrev pub MakesFront : Date3 → List ℕ → ℕ → Shown → Shown → Result Unit DosError → Type 0
-MakesFront moment path i old new result = MatchBool (ends_front path i) (MakesMissing moment (take i path) old new result) ((new ≡ old) × (result ≡ Ok tt))
 
 -- a directory at a path stays; if there is none, one is made there
 abbrev pub MakesLast : Date3 → List ℕ → Shown → Shown → Result Unit DosError → Type 0

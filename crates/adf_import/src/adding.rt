@@ -1,13 +1,11 @@
 //! Files and directories of the host, put into a directory of a volume.
 
 ghost use Rattle.std.specs.Prelude.{OnOk};
-ghost use Rattle.ados_model.specs.Keys.{HasDirectory};
 ghost use Rattle.adf_import.specs.Put.{KeepsKeys};
 
 use crate::fault::{InFault, refused};
 use crate::host_files::{entry_name, read_entry};
 use crate::item::{How, Item, put_item};
-use crate::paths::directory_at;
 use crate::progress::Progress;
 use crate::words::Word;
 use adf_block::layout::BLOCK_BYTES;
@@ -19,7 +17,8 @@ use std::rt::Files;
 
 /// Puts files and directories of the host, with everything below them, into a directory. It returns what was skipped.
 ///
-/// An existing directory is used, and keeps its metadata.
+/// An existing directory is used, and keeps its metadata. That of new directories is set last, because each entry put into a
+/// directory sets its date.
 pub(crate) fn add<R: Files>(
     rt: &R,
     alloc: Global,
@@ -30,44 +29,15 @@ pub(crate) fn add<R: Files>(
 ) -> Result<Vec<PassedOver>, InFault>
     ensures { OnOk result (KeepsKeys volume.old.image volume.new.image) }
 {
-    let word = Word::new(alloc, to)?;
-    let top = match directory_at(volume, word.bytes()) {
-        Ok(top) => top,
-        Err(error) => return Err(word.refused(alloc, error)),
-    };
+    let top = Word::new(alloc, to)?.directory(alloc, volume)?;
     let tree = host_tree(rt, alloc, files)?;
-    refuse_names(alloc, tree.entries.as_slice())?;
-    put_entries(rt, alloc, volume, top, tree.entries.as_slice(), how)?;
-    Ok(tree.passed_over)
-}
-
-/// Refuses a file or directory whose name cannot be a name on a volume.
-fn refuse_names(alloc: Global, entries: &[HostEntry]) -> Result<(), InFault> {
-    for entry in entries {
-        entry_name(alloc, entry)?;
-    }
-    Ok(())
-}
-
-/// Puts files and directories, each into the directory that was made for its own, or into the top one. Metadata of new
-/// directories is set last, because each entry put into a directory sets its date.
-fn put_entries<R: Files>(
-    rt: &R,
-    alloc: Global,
-    volume: &mut Volume,
-    top: u32,
-    entries: &[HostEntry],
-    how: How,
-) -> Result<(), InFault>
-    requires { HasDirectory volume.old.image top }
-    ensures { OnOk result (KeepsKeys volume.old.image volume.new.image) }
-{
+    refuse_names(alloc, &tree.entries)?;
     let mut progress = Progress::new(alloc, volume.image().blocks())?;
-    for entry in entries {
+    for entry in tree.entries.iter() {
         let dir = progress.directory(entry.parent, top);
         let name = entry_name(alloc, entry)?;
         if let Some(place) = progress.place_of(volume.child(dir, &name)) {
-            return Err(twins(alloc, entry, entries.get(place)));
+            return Err(twins(alloc, entry, tree.entries.get(place)));
         }
         let given = read_entry(rt, alloc, entry, most_bytes(volume))?;
         let item = Item {
@@ -80,6 +50,14 @@ fn put_entries<R: Files>(
         put_item(alloc, volume, &item, content, how, &mut progress)?;
     }
     progress.note_directories(volume, how.moment);
+    Ok(tree.passed_over)
+}
+
+/// Refuses a file or directory whose name cannot be a name on a volume.
+fn refuse_names(alloc: Global, entries: &[HostEntry]) -> Result<(), InFault> {
+    for entry in entries {
+        entry_name(alloc, entry)?;
+    }
     Ok(())
 }
 

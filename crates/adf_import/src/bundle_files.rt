@@ -1,6 +1,5 @@
 //! The files of a bundle on the host.
 
-use crate::bundle_fault::BundleInFault;
 use crate::fault::InFault;
 use crate::host_files::{read_host, unread};
 use adf_block::layout::BLOCK_BYTES;
@@ -21,36 +20,24 @@ pub(crate) fn read_files<R: Files>(
     alloc: Global,
     bundle: &Bundle,
     directory: &str,
-) -> Result<Vec<Vec<u8>>, BundleInFault> {
+) -> Result<Vec<Vec<u8>>, InFault> {
     let top = format!(in alloc; "{directory}/files")?;
     refuse_no_directory(rt, alloc, top.as_str())?;
     let mut contents = Vec::new(alloc);
     let mut room = bundle.head.blocks as u64 * BLOCK_BYTES as u64;
     for entry in bundle.entries.iter() {
-        let bytes = read_entry(rt, alloc, bundle, directory, entry, room)?;
+        let path = host_path(alloc, directory, &bundle.entries, entry)?;
+        let bytes = match entry.size {
+            Some(size) => read_file(rt, alloc, path.as_str(), size, room)?,
+            None => {
+                refuse_no_directory(rt, alloc, path.as_str())?;
+                Vec::new(alloc)
+            }
+        };
         room = room.saturating_sub(bytes.len() as u64);
         contents.push(bytes)?;
     }
     Ok(contents)
-}
-
-/// The bytes of an entry, if there is so much room for them.
-fn read_entry<R: Files>(
-    rt: &R,
-    alloc: Global,
-    bundle: &Bundle,
-    directory: &str,
-    entry: &BundleEntry,
-    room: u64,
-) -> Result<Vec<u8>, BundleInFault> {
-    let path = host_path(alloc, directory, &bundle.entries, entry)?;
-    match entry.size {
-        Some(size) => read_file(rt, alloc, path.as_str(), size, room),
-        None => {
-            refuse_no_directory(rt, alloc, path.as_str())?;
-            Ok(Vec::new(alloc))
-        }
-    }
 }
 
 /// The bytes of a file with this size, if there is so much room.
@@ -60,13 +47,18 @@ fn read_file<R: Files>(
     path: &str,
     size: u32,
     room: u64,
-) -> Result<Vec<u8>, BundleInFault> {
+) -> Result<Vec<u8>, InFault> {
     let found = refuse_no_file(rt, alloc, path)?;
     if found != size as u64 {
         return Err(other_size(alloc, path, found, size));
     }
+    let block = BLOCK_BYTES as u64;
     if found > room {
-        return Err(no_room(alloc, path, found, room));
+        return Err(InFault::NoRoom {
+            path: String::from_str(alloc, path)?,
+            needed: found / block + 1,
+            free: u32::try_from(room / block).unwrap_or(u32::MAX),
+        });
     }
     let bytes = read_host(rt, alloc, path, size as usize + 1)?;
     if bytes.len() != size as usize {
@@ -80,43 +72,30 @@ pub(crate) fn refuse_no_file<R: Files>(
     rt: &R,
     alloc: Global,
     path: &str,
-) -> Result<u64, BundleInFault> {
+) -> Result<u64, InFault> {
     match fs::symlink_metadata(rt, path) {
         Ok(found) if found.is_file() => Ok(found.len()),
-        Ok(_) => Err(BundleInFault::NoFile(String::from_str(alloc, path)?)),
-        Err(_) => Err(BundleInFault::Put(unread(rt, alloc, path))),
+        Ok(_) => Err(InFault::NoFile(String::from_str(alloc, path)?)),
+        Err(_) => Err(unread(rt, alloc, path)),
     }
 }
 
 /// Refuses what stands in place of a directory of the host, a symbolic link too. A directory may be missing.
-fn refuse_no_directory<R: Files>(rt: &R, alloc: Global, path: &str) -> Result<(), BundleInFault> {
+fn refuse_no_directory<R: Files>(rt: &R, alloc: Global, path: &str) -> Result<(), InFault> {
     match fs::symlink_metadata(rt, path) {
         Ok(found) if !found.is_dir() => {
             let path = String::from_str(alloc, path)?;
-            Err(BundleInFault::NoDirectory(path))
+            Err(InFault::NoDirectory(path))
         }
         _ => Ok(()),
     }
 }
 
 /// The fault of a file whose size is not that of its entry.
-fn other_size(alloc: Global, path: &str, found: u64, told: u32) -> BundleInFault {
+fn other_size(alloc: Global, path: &str, found: u64, told: u32) -> InFault {
     match String::from_str(alloc, path) {
-        Ok(path) => BundleInFault::Size { path, found, told },
-        Err(_) => BundleInFault::Memory,
-    }
-}
-
-/// The fault of a file that is longer than all that is left of the volume.
-fn no_room(alloc: Global, path: &str, found: u64, room: u64) -> BundleInFault {
-    let block = BLOCK_BYTES as u64;
-    match String::from_str(alloc, path) {
-        Ok(path) => BundleInFault::Put(InFault::NoRoom {
-            path,
-            needed: found / block + 1,
-            free: u32::try_from(room / block).unwrap_or(u32::MAX),
-        }),
-        Err(_) => BundleInFault::Memory,
+        Ok(path) => InFault::Size { path, found, told },
+        Err(_) => InFault::Memory,
     }
 }
 
@@ -128,18 +107,12 @@ pub(crate) fn host_path(
     entry: &BundleEntry,
 ) -> Result<String, AllocError> {
     let mut path = format!(in alloc; "{directory}/files")?;
-    push_names(alloc, &mut path, &names_up(alloc, entries, entry)?)?;
-    Ok(path)
-}
-
-/// Appends the host names of these names to a path, the last name first.
-fn push_names(alloc: Global, path: &mut String, names: &[Name]) -> Result<(), AllocError> {
-    for name in names.iter().rev() {
+    for name in names_up(alloc, entries, entry)?.iter().rev() {
         let name = host_name(alloc, name)?;
         path.push('/')?;
         path.push_str(name.as_str())?;
     }
-    Ok(())
+    Ok(path)
 }
 
 /// The names of an entry and of the directories that it is in, its own first.

@@ -1,8 +1,8 @@
 //! A bundle read from a directory of the host, in place of an empty volume.
 
-use crate::bundle_fault::BundleInFault;
 use crate::bundle_files::{read_files, refuse_no_file};
 use crate::bundle_put::volume_of_bundle;
+use crate::fault::InFault;
 use crate::host_files::read_host;
 use adf_record::{Bundle, MOST_BUNDLE_BYTES, bundle_of, format_word, read_bundle};
 use ados_volume::Volume;
@@ -19,7 +19,7 @@ pub fn add_bundle<R: Files>(
     alloc: Global,
     old: &Volume,
     directory: &str,
-) -> Result<Volume, BundleInFault> {
+) -> Result<Volume, InFault> {
     let bundle = described(rt, alloc, directory)?;
     refuse_other(alloc, old, &bundle)?;
     let contents = read_files(rt, alloc, &bundle, directory)?;
@@ -27,28 +27,28 @@ pub fn add_bundle<R: Files>(
 }
 
 /// The bundle that a directory of the host describes.
-fn described<R: Files>(rt: &R, alloc: Global, directory: &str) -> Result<Bundle, BundleInFault> {
+fn described<R: Files>(rt: &R, alloc: Global, directory: &str) -> Result<Bundle, InFault> {
     let path = format!(in alloc; "{directory}/volume.json")?;
     refuse_no_file(rt, alloc, path.as_str())?;
     let text = read_host(rt, alloc, path.as_str(), MOST_BUNDLE_BYTES + 1)?;
     match read_bundle(alloc, &text) {
         Ok(bundle) => Ok(bundle),
-        Err(fault) if fault.is_memory() => Err(BundleInFault::Memory),
-        Err(fault) => Err(BundleInFault::Description { path, fault }),
+        Err(fault) if fault.is_memory() => Err(InFault::Memory),
+        Err(fault) => Err(InFault::Description { path, fault }),
     }
 }
 
 /// Refuses a volume that has entries, or another kind or size than a bundle.
-fn refuse_other(alloc: Global, old: &Volume, bundle: &Bundle) -> Result<(), BundleInFault> {
+fn refuse_other(alloc: Global, old: &Volume, bundle: &Bundle) -> Result<(), InFault> {
     let found = bundle_of(alloc, old)?;
     if !found.entries.is_empty() {
-        return Err(BundleInFault::NotEmpty);
+        return Err(InFault::NotEmpty);
     }
     let head = bundle.head;
     if found.head.format == head.format && found.head.blocks == head.blocks {
         return Ok(());
     }
-    Err(BundleInFault::OtherVolume {
+    Err(InFault::OtherVolume {
         kind: format_word(head.format),
         blocks: head.blocks,
     })

@@ -4,16 +4,15 @@ ghost use Rattle.ados_model.specs.Stands.{Stands};
 ghost use Rattle.ados_model.specs.Tree.{Tree};
 ghost use Rattle.adf_record.specs.Bundle.{AreBundleOf, AreContentsOf};
 
-use crate::bundle_fault::BundleInFault;
 use crate::bundle_files::host_path;
-use crate::fault::refused;
+use crate::fault::{InFault, refused};
 use crate::item::{Content, How, Item, put_item};
 use crate::paths::directory_at;
 use crate::progress::Progress;
 use adf_block::beside::CHECKSUM;
 use adf_block::layout::DATE;
 use adf_block::{Image, restore_boot, size_ok};
-use adf_record::{Bundle, BundleEntry, bundle_of, contents_of, same_bundle, same_contents};
+use adf_record::{Bundle, bundle_of, contents_of, same_bundle, same_contents};
 use adf_text::Uaem;
 use ados_change::put_date;
 use ados_model::DosError;
@@ -30,17 +29,17 @@ pub fn volume_of_bundle(
     bundle: &Bundle,
     contents: &[Vec<u8>],
     directory: &str,
-) -> Result<Volume, BundleInFault>
+) -> Result<Volume, InFault>
     ensures bundle { IfOk result (λ volume. (t : Tree) → Stands volume.image t → AreBundleOf volume.image t bundle.now) }
     ensures contents { IfOk result (λ volume. (t : Tree) → Stands volume.image t → AreContentsOf t (map (λ bytes. bytes.items) contents.now)) }
 {
     let image = image_of(alloc, bundle, contents, directory)?;
     let Ok(volume) = check(alloc, image) else {
-        return Err(BundleInFault::Memory);
+        return Err(InFault::Memory);
     };
     let made = is_made(alloc, &volume, bundle, contents)?;
     if !made {
-        return Err(BundleInFault::Unlike);
+        return Err(InFault::Unlike);
     }
     Ok(volume)
 }
@@ -70,10 +69,10 @@ fn image_of(
     bundle: &Bundle,
     contents: &[Vec<u8>],
     directory: &str,
-) -> Result<Image, BundleInFault> {
+) -> Result<Image, InFault> {
     let head = bundle.head;
     if !size_ok(head.blocks) {
-        return Err(BundleInFault::Unlike);
+        return Err(InFault::Unlike);
     }
     let mut volume = blank(alloc, head.format, head.blocks, head.label, head.created)?;
     put_entries(alloc, &mut volume, bundle, contents, directory)?;
@@ -81,7 +80,7 @@ fn image_of(
     let mut image = volume.into_image();
     date_root(&mut image, head.root_date);
     if restore_boot(&mut image, &bundle.boot).is_err() {
-        return Err(BundleInFault::Unlike);
+        return Err(InFault::Unlike);
     }
     Ok(image)
 }
@@ -104,9 +103,9 @@ fn put_entries(
     bundle: &Bundle,
     contents: &[Vec<u8>],
     directory: &str,
-) -> Result<(), BundleInFault> {
+) -> Result<(), InFault> {
     let Ok(top) = directory_at(volume, b"") else {
-        return Err(BundleInFault::Unlike);
+        return Err(InFault::Unlike);
     };
     let how = How {
         force: false,
@@ -119,7 +118,11 @@ fn put_entries(
             path: path.as_str(),
             dir: progress.directory(entry.above, top),
             name: entry.name,
-            noted: noted_of(entry),
+            noted: Uaem {
+                protect: entry.protection,
+                date: entry.date,
+                comment: entry.comment,
+            },
         };
         let content = match (entry.size, contents.get(place)) {
             (Some(_), Some(bytes)) => Some(Content {
@@ -129,18 +132,9 @@ fn put_entries(
             _ => None,
         };
         if !put_item(alloc, volume, &item, content, how, &mut progress)? {
-            return Err(BundleInFault::from(refused(alloc, item.path, DosError::ObjectExists)));
+            return Err(refused(alloc, item.path, DosError::ObjectExists));
         }
     }
     progress.note_directories(volume, how.moment);
     Ok(())
-}
-
-/// The metadata of an entry.
-fn noted_of(entry: &BundleEntry) -> Uaem {
-    Uaem {
-        protect: entry.protection,
-        date: entry.date,
-        comment: entry.comment,
-    }
 }

@@ -6,7 +6,8 @@ ghost use Rattle.adf_import.specs.Commands.{Does};
 ghost use Rattle.adf_import.specs.Turns.{EndsAt, EndsInTurn, ReadsFirst};
 
 use crate::fault::InFault;
-use crate::paths::{EntryChange, change_at, relabel_as};
+use crate::fields::relabel;
+use crate::paths::{EntryChange, change_at};
 use crate::ways::{make_one, make_way};
 use crate::words::{Word, words_of};
 use ados_model::DosError;
@@ -36,19 +37,7 @@ pub(crate) fn change_each(
     ensures { let words = map (λ word. word.now) paths.now in ReadsFirst words (EndsInTurn (Does moment each.entry) words) volume.old volume.new result }
 {
     let words = words_of(alloc, paths)?;
-    change_words(alloc, volume, words.as_slice(), each, moment)
-}
-
-fn change_words(
-    alloc: Global,
-    volume: &mut Volume,
-    words: &[Word<'_>],
-    each: Each<'_>,
-    moment: Date3,
-) -> Result<(), InFault>
-    ensures { EndsInTurn (Does moment each.entry) (map (λ word. word.text.now) words.now) volume.old volume.new result }
-{
-    for word in words {
+    for word in words.iter() {
         match change_word(alloc, volume, word, each, moment) {
             Ok(()) => {}
             Err(fault) => return Err(fault),
@@ -106,6 +95,6 @@ fn change_path(
             make_one(volume, path, moment)
         }
         Each::Entry(change) => change_at(alloc, volume, path, change, moment),
-        Each::Relabel => relabel_as(volume, path, moment),
+        Each::Relabel => relabel(volume, path, moment),
     }
 }

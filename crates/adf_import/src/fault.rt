@@ -3,6 +3,7 @@
 ghost use Rattle.adf_import.specs.Words.{IsRefusal};
 
 use crate::name_why::NameWhy;
+use adf_record::{BundleFault, Grouped};
 use adf_text::UaemFault;
 use adf_words::Refused;
 use ados_model::DosError;
@@ -61,6 +62,34 @@ pub enum InFault {
     /// There is no one file to put under a name.
     #[error("{0}")]
     Source(SourceFault),
+    /// The description of a bundle cannot be used.
+    #[error("'{path}' {fault}")]
+    Description {
+        path: String,
+        fault: BundleFault,
+    },
+    #[error("'{0}' is no regular file")]
+    NoFile(String),
+    #[error("'{0}' is a link or a file, and no directory")]
+    NoDirectory(String),
+    #[error("'{path}' has {} bytes, and the description says {}", Grouped(*.found), Grouped(u64::from(*.told)))]
+    Size {
+        path: String,
+        found: u64,
+        told: u32,
+    },
+    /// The image for a bundle has entries.
+    #[error("its volume is not empty, and a bundle makes a whole volume")]
+    NotEmpty,
+    /// The image for a bundle is of another kind, or has another number of blocks.
+    #[error("its volume is of another kind or size: the bundle needs {kind} with {} blocks", Grouped(u64::from(*.blocks)))]
+    OtherVolume {
+        kind: &'static str,
+        blocks: u32,
+    },
+    /// What was made is not what the bundle describes.
+    #[error("the description has entries in an order that no disk has")]
+    Unlike,
     #[error("there is not enough memory")]
     Memory,
 }

@@ -4,9 +4,9 @@ ghost use Rattle.std.specs.Prelude.{OnOk};
 ghost use Rattle.adf_import.specs.Progress.{Advances, IsReady};
 
 use crate::fault::{InFault, refused};
-use crate::new_file::NotPut;
+use crate::new_file::{NotPut, put_file};
 use crate::progress::Progress;
-use crate::put::{enter_directory, noted_file, put_file};
+use crate::put::{enter_directory, noted_file};
 use adf_text::Uaem;
 use ados_name::{Date3, Name};
 use ados_volume::Volume;

@@ -3,7 +3,6 @@
 #![tactic(auto)]
 
 mod adding;
-mod bundle_fault;
 mod bundle_files;
 mod bundle_in;
 mod bundle_put;
@@ -27,7 +26,6 @@ mod single;
 mod ways;
 mod words;
 
-pub use bundle_fault::BundleInFault;
 pub use bundle_in::add_bundle;
 pub use bundle_put::volume_of_bundle;
 pub use change::change_volume;
@@ -36,6 +34,6 @@ pub use fault::{InFault, NoteFault, SourceFault};
 pub use fields::{comment, protect, redate, relabel};
 pub use in_turn::outside_stays;
 pub use name_why::{NameWhy, wrong_name};
-pub use new_file::{NewFile, NotPut, add_file, replace_file};
+pub use new_file::{NewFile, NotPut, put_file, replace_file};
 pub use one_file::StandardInput;
 pub use prune::{delete_all, denied_entry};

@@ -1,17 +1,18 @@
 //! Files put into a volume: new ones, or in place of existing ones.
 
-ghost use Rattle.std.specs.Prelude.{◌≡◌, ◌<◌, ◌≤◌, ◌&&◌, not, length, IfOk, MatchResult};
+ghost use Rattle.std.specs.Prelude.{◌≡◌, ◌<◌, ◌≤◌, ◌&&◌, not, length, IfOk, None, OnOk, MatchResult};
 ghost use Rattle.ados_name.specs.Name.{denies_write};
 ghost use Rattle.ados_model.specs.Tree.{Tree, free};
 ghost use Rattle.ados_model.specs.Parts.{IsUnused};
+ghost use Rattle.ados_model.specs.Change.{child_of};
 ghost use Rattle.ados_model.specs.Stands.{Stands};
 ghost use Rattle.ados_model.specs.Keys.{HasDirectory, HasEntryKey, HasFileKey, HasKey};
 ghost use Rattle.ados_change.specs.NewBlocks.{KeepsRest};
 ghost use Rattle.ados_model.specs.Objects.{protection_of};
-ghost use Rattle.adf_import.specs.Changes.{Changes, added, described, filled};
+ghost use Rattle.adf_import.specs.Changes.{Changes, described, filled};
 ghost use Rattle.adf_import.specs.InTurn.{KeepsInTurn};
-ghost use Rattle.adf_import.specs.Put.{KeepsKeys};
-ghost use Rattle.adf_import.specs.Refusals.{add_refusal, more_blocks, replace_refusal};
+ghost use Rattle.adf_import.specs.Put.{KeepsKeys, put, put_refusal};
+ghost use Rattle.adf_import.specs.Refusals.{more_blocks, replace_refusal};
 ghost use Rattle.adf_import.specs.steps.CutBack.{cut_back};
 ghost use Rattle.adf_import.specs.declared.new_file.NotPut.TheVariants.{NoRoom};
 
@@ -38,26 +39,36 @@ pub enum NotPut {
     NoRoom { needed: u64, free: u32 },
 }
 
-/// Puts a new file into a directory and returns its key. The date of the directory and the disk date become `moment`.
+/// Puts a file into a directory and returns its key: a new file, or with `force` in place of the existing one. The date of
+/// the directory of a new file, and the disk date, become `moment`.
 ///
-/// Errors: 203 if an entry has the name, 221 if the file needs more blocks than are free. It allocates no memory.
-/// [`place`](ados_volume::place) has the errors of a path that names no place: 204, 205, 210 and 212.
-pub fn add_file(
+/// Errors: 203 if an entry has the name, with `force` those of [`replace_file`]; 221 if the file needs more blocks than are
+/// free. It allocates no memory. [`place`](ados_volume::place) has the errors of a path that names no place: 204, 205, 210
+/// and 212.
+pub fn put_file(
     volume: &mut Volume,
     dir: u32,
     name: Name,
     file: &NewFile<'_>,
+    force: bool,
     moment: Date3,
 ) -> Result<u32, NotPut>
     requires { HasDirectory volume.old.image dir }
-    ensures added { Changes (add_refusal dir name (length file.now.bytes.now)) (λ key t. added moment dir key name file.now t) volume.old volume.new result }
-    ensures unused { IfOk result (λ key. (t : Tree) → Stands volume.old.image t → IsUnused t key) }
+    ensures put { Changes (put_refusal dir name (length file.now.bytes.now) force) (λ key t. put moment dir name file.now key t) volume.old volume.new result }
+    ensures unused { IfOk result (λ key. (t : Tree) → Stands volume.old.image t → child_of t dir name ≡ None → IsUnused t key) }
+    ensures keys { OnOk result (KeepsKeys volume.old.image volume.new.image) }
     ensures keeps { KeepsInTurn volume.old.image volume.new.image }
     ensures validated { volume.new.was_validated ≡ volume.old.was_validated }
 {
     prove!(volume.image().blocks() >= 16);
-    if volume.child(dir, &name).is_some() {
-        return Err(NotPut::Refused(DosError::ObjectExists));
+    if let Some(key) = volume.child(dir, &name) {
+        if !force {
+            return Err(NotPut::Refused(DosError::ObjectExists));
+        }
+        return match replace_file(volume, key, file, false, moment) {
+            Ok(()) => Ok(key),
+            Err(refused) => Err(refused),
+        };
     }
     let needed = new_file_blocks(volume, file.bytes.len());
     if let Err(refused) = need_free(volume, needed) {

@@ -1,19 +1,15 @@
 //! One file of the host, or standard input, put into a directory under a name.
 
-ghost use Rattle.std.specs.Prelude.{◌≡◌, IfOk, OnOk, Ok};
+ghost use Rattle.std.specs.Prelude.{◌≡◌, IfOk, OnOk};
 ghost use Rattle.std.specs.Str.{chars};
-ghost use Rattle.ados_model.specs.Keys.{HasDirectory};
-ghost use Rattle.ados_model.specs.Stands.{Stands};
-ghost use Rattle.ados_model.specs.Tree.{Tree};
-ghost use Rattle.adf_import.specs.Commands.{PutsAs, PutsIn};
-ghost use Rattle.adf_import.specs.Paths.{directory_at};
+ghost use Rattle.adf_import.specs.Commands.{PutsAs};
 
 use crate::adding::most_bytes;
 use crate::fault::{InFault, SourceFault};
 use crate::host_files::{Given, read_entry, without_note};
 use crate::item::{How, not_put};
-use crate::paths::directory_at;
-use crate::put::{noted_file, put_file};
+use crate::new_file::put_file;
+use crate::put::noted_file;
 use crate::words::Word;
 use adf_io::{InputFault, read_bounded};
 use adf_words::Source;
@@ -67,32 +63,20 @@ pub(crate) fn add_as<R: Files + StandardInput>(
 ) -> Result<(), InFault>
     ensures { OnOk result (PutsAs how.moment (chars target.entry.to.now) (chars target.entry.name.now) how.force volume.old volume.new) }
 {
-    let place = place_of(alloc, volume, target)?;
-    let given = read_source(rt, alloc, source, most_bytes(volume), how.moment)?;
-    put_given(alloc, volume, &place, &given, target.name, how)
-}
-
-/// A directory of a volume, and a name.
-#[derive(Clone, Copy)]
-struct Place {
-    dir: u32,
-    name: Name,
-}
-
-/// The directory and the name of these arguments.
-///
-/// Errors: 204, 205 and 212 for the directory, 210 for a text that is not a name.
-fn place_of(alloc: Global, volume: &mut Volume, target: Target<'_>) -> Result<Place, InFault>
-    ensures found { IfOk result (λ place. (t : Tree) → Stands volume.old.image t → directory_at (chars target.entry.to.now) t ≡ Ok place.dir) }
-    ensures name { IfOk result (λ place. place.name ≡ chars target.entry.name.now) }
-    ensures directory { IfOk result (λ place. HasDirectory volume.old.image place.dir) }
-    ensures same { volume.new ≡ volume.old }
-{
     let to = Word::new(alloc, target.to)?;
     let name = name_of(alloc, target.name)?;
-    match directory_at(volume, to.bytes()) {
-        Ok(dir) => Ok(Place { dir, name }),
-        Err(error) => Err(to.refused(alloc, error)),
+    let dir = to.directory(alloc, volume)?;
+    let given = match source {
+        Source::File(path) => read_file(rt, alloc, path, most_bytes(volume))?,
+        Source::StandardInput => read_input(rt, alloc, most_bytes(volume), how.moment)?,
+    };
+    let file = noted_file(&given.bytes, &given.noted);
+    match put_file(volume, dir, name, &file, how.force, how.moment) {
+        Ok(_) => Ok(()),
+        Err(fault) => {
+            let more = given.unread_blocks(volume);
+            Err(not_put(alloc, target.name, fault, more))
+        }
     }
 }
 
@@ -109,43 +93,7 @@ fn name_of(alloc: Global, text: &str) -> Result<Name, InFault>
     }
 }
 
-/// Puts a file at a place. A refusal has the name as it was given.
-fn put_given(
-    alloc: Global,
-    volume: &mut Volume,
-    place: &Place,
-    given: &Given,
-    called: &str,
-    how: How,
-) -> Result<(), InFault>
-    requires { HasDirectory volume.old.image place.now.dir }
-    ensures { OnOk result (PutsIn how.moment place.now.dir place.now.name how.force volume.old volume.new) }
-{
-    let file = noted_file(&given.bytes, &given.noted);
-    match put_file(volume, place.dir, place.name, &file, how.force, how.moment) {
-        Ok(_) => Ok(()),
-        Err(fault) => {
-            let more = given.unread_blocks(volume);
-            Err(not_put(alloc, called, fault, more))
-        }
-    }
-}
-
-/// Reads a file, at most this many bytes of it. Standard input has the date `moment`.
-fn read_source<R: Files + StandardInput>(
-    rt: &R,
-    alloc: Global,
-    source: Source<'_>,
-    most: usize,
-    moment: Date3,
-) -> Result<Given, InFault> {
-    match source {
-        Source::File(path) => read_file(rt, alloc, path, most),
-        Source::StandardInput => read_input(rt, alloc, most, moment),
-    }
-}
-
-/// Reads standard input. What is more than `most` bytes is not read, so an input without an end does no harm.
+/// Reads standard input, which gets the date `moment`. What is more than `most` bytes is not read, so an input without an end does no harm.
 fn read_input<R: StandardInput>(
     rt: &R,
     alloc: Global,
@@ -169,12 +117,9 @@ fn read_file<R: Files>(rt: &R, alloc: Global, path: &str, most: usize) -> Result
         return Err(not_one_file(alloc, path));
     }
     let tree = host_tree(rt, alloc, &[path])?;
-    let [entry] = tree.entries.as_slice() else {
-        return Err(not_one_file(alloc, path));
-    };
-    match entry.kind {
-        HostKind::File { .. } => read_entry(rt, alloc, entry, most),
-        _ => Err(not_one_file(alloc, entry.path.as_str())),
+    match tree.entries.as_slice() {
+        [entry] if matches!(entry.kind, HostKind::File { .. }) => read_entry(rt, alloc, entry, most),
+        _ => Err(not_one_file(alloc, path)),
     }
 }
 

@@ -3,19 +3,16 @@
 ghost use Rattle.std.specs.Prelude.{◌≡◌, IfOk, Result, false, true};
 ghost use Rattle.ados_model.specs.Tree.{Tree};
 ghost use Rattle.ados_model.specs.Stands.{Stands};
-ghost use Rattle.ados_model.specs.Change.{renamed};
-ghost use Rattle.ados_model.specs.Edits.{with_comment};
 ghost use Rattle.ados_model.specs.Keys.{HasDirectory, HasKey};
-ghost use Rattle.adf_import.specs.Changes.{Changes};
-ghost use Rattle.adf_import.specs.Commands.{ChangesEntry, Moves, Relabels};
-ghost use Rattle.adf_import.specs.Paths.{comment_refusal, directory_at, entry_move_refusal, move_fault, object_at};
+ghost use Rattle.adf_import.specs.Commands.{ChangesEntry, Moves};
+ghost use Rattle.adf_import.specs.Paths.{directory_at, move_fault, object_at};
 
 use crate::entries::{delete, move_entry};
-use crate::fields::{comment, protect, redate, relabel};
+use crate::fields::{comment, protect, redate};
 use crate::prune::delete_all;
 use adf_text::ProtectWord;
 use ados_model::DosError;
-use ados_name::{Comment, Date3, Name};
+use ados_name::Date3;
 use ados_volume::{Volume, locate, place};
 use std::alloc::Global;
 
@@ -55,21 +52,8 @@ pub(crate) fn change_at(
             protect(volume, key, bits, moment)
         }
         EntryChange::Date(date) => redate(volume, key, date, moment),
-        EntryChange::Comment(text) => comment_by(volume, key, text, moment),
+        EntryChange::Comment(text) => comment(volume, key, text, moment),
     }
-}
-
-/// Sets the comment of an entry to a text.
-///
-/// Errors: 220 for more than 79 bytes, and 212 for the root.
-fn comment_by(volume: &mut Volume, key: u32, text: &[u8], moment: Date3) -> Result<(), DosError>
-    requires { HasKey volume.old.image key }
-    ensures { Changes (comment_refusal key text.now) (λ _ t. with_comment moment key text.now t) volume.old volume.new result }
-{
-    let Ok(text) = Comment::new(text) else {
-        return Err(DosError::CommentTooBig);
-    };
-    comment(volume, key, &text, moment)
 }
 
 /// Why an entry is not moved, and whether this is about its old or its new path.
@@ -95,23 +79,10 @@ pub(crate) fn move_at(
         Ok(key) => key,
         Err(error) => return Err(MoveFault::Old(error)),
     };
-    match place(volume, new) {
-        Ok(to) => move_found(volume, key, to, moment),
-        Err(error) => Err(MoveFault::New(error)),
-    }
-}
-
-/// Moves an entry into a directory under a name.
-fn move_found(
-    volume: &mut Volume,
-    key: u32,
-    to: (u32, Name),
-    moment: Date3,
-) -> Result<(), MoveFault>
-    requires key { HasKey volume.old.image key }
-    requires directory { HasDirectory volume.old.image to.0 }
-    ensures { Changes (entry_move_refusal (key, to)) (λ _ t. renamed moment key to.0 to.1 t) volume.old volume.new result }
-{
+    let to = match place(volume, new) {
+        Ok(to) => to,
+        Err(error) => return Err(MoveFault::New(error)),
+    };
     match move_entry(volume, key, to.0, to.1, moment) {
         Ok(()) => Ok(()),
         Err(error) => Err(move_fault(error)),
@@ -126,19 +97,6 @@ fn move_fault(error: DosError) -> MoveFault
         DosError::ObjectExists => MoveFault::New(error),
         _ => MoveFault::Old(error),
     }
-}
-
-/// Renames the volume.
-///
-/// Error: 210 for a text that is not a name.
-pub(crate) fn relabel_as(volume: &mut Volume, name: &[u8], moment: Date3) -> Result<(), DosError>
-    ensures { Relabels moment name.now volume.old volume.new result }
-{
-    let Ok(name) = Name::new(name) else {
-        return Err(DosError::InvalidComponentName);
-    };
-    relabel(volume, name, moment);
-    Ok(())
 }
 
 /// The directory at a path.

@@ -1,16 +1,16 @@
 //! One file or directory put into a directory.
 
-ghost use Rattle.std.specs.Prelude.{◌≡◌, [], length, None, IfOk, OnOk, IsTrue};
+ghost use Rattle.std.specs.Prelude.{◌≡◌, [], None, IfOk, OnOk, IsTrue};
 ghost use Rattle.ados_model.specs.Tree.{Tree};
 ghost use Rattle.ados_model.specs.Tree.Content.{Directory};
 ghost use Rattle.ados_model.specs.Stands.{Stands};
 ghost use Rattle.ados_model.specs.Change.{made, child_of};
 ghost use Rattle.ados_model.specs.Keys.{HasDirectory, HasEntryKey};
 ghost use Rattle.adf_import.specs.Changes.{Changes};
-ghost use Rattle.adf_import.specs.Put.{KeepsKeys, child_before, enter_refusal, entered, new_refusal, put, put_refusal};
+ghost use Rattle.adf_import.specs.Put.{KeepsKeys, child_before, enter_refusal, entered, new_refusal};
 
 use crate::entries::make_directory;
-use crate::new_file::{NewFile, NotPut, add_file, replace_file};
+use crate::new_file::{NewFile, NotPut};
 use adf_text::Uaem;
 use ados_model::DosError;
 use ados_name::{Date3, Name};
@@ -28,33 +28,6 @@ pub(crate) fn noted_file<'a>(bytes: &'a [u8], noted: &Uaem) -> NewFile<'a>
         date: noted.date,
         protection: noted.protect,
         comment: noted.comment,
-    }
-}
-
-/// Puts a file into a directory and returns its key: a new file, or with `force` in place of the existing one.
-///
-/// Errors: 203 if an entry has the name; with `force` 212 for a directory, and 222 and 223 if protection bits deny it;
-/// 221.
-pub(crate) fn put_file(
-    volume: &mut Volume,
-    dir: u32,
-    name: Name,
-    file: &NewFile<'_>,
-    force: bool,
-    moment: Date3,
-) -> Result<u32, NotPut>
-    requires { HasDirectory volume.old.image dir }
-    ensures put { Changes (put_refusal dir name (length file.now.bytes.now) force) (λ key t. put moment dir name file.now key t) volume.old volume.new result }
-    ensures keeps { OnOk result (KeepsKeys volume.old.image volume.new.image) }
-{
-    prove!(volume.image().blocks() >= 16);
-    match volume.child(dir, &name) {
-        None => add_file(volume, dir, name, file, moment),
-        Some(key) if force => match replace_file(volume, key, file, false, moment) {
-            Ok(()) => Ok(key),
-            Err(fault) => Err(fault),
-        },
-        Some(_) => Err(NotPut::Refused(DosError::ObjectExists)),
     }
 }
 

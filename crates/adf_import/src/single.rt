@@ -2,7 +2,7 @@
 
 ghost use Rattle.std.specs.Prelude.{◌∷◌, []};
 ghost use Rattle.std.specs.Str.{chars};
-ghost use Rattle.adf_import.specs.Commands.{Comments, EndsMove, EndsProtect, IsMoveRefusal};
+ghost use Rattle.adf_import.specs.Commands.{Comments, EndsMove, EndsProtect};
 ghost use Rattle.adf_import.specs.Turns.{EndsAt, ReadsFirst};
 
 use crate::each::{Each, change_word};
@@ -27,17 +27,8 @@ pub(crate) fn rename(
     let to = Word::new(alloc, new)?;
     match move_at(volume, from.bytes(), to.bytes(), moment) {
         Ok(()) => Ok(()),
-        Err(fault) => Err(refused_move(alloc, &from, &to, fault)),
-    }
-}
-
-/// The fault of a move, with the argument that it is about.
-fn refused_move(alloc: Global, from: &Word<'_>, to: &Word<'_>, fault: MoveFault) -> InFault
-    ensures { IsMoveRefusal from.now.text.now to.now.text.now fault result }
-{
-    match fault {
-        MoveFault::Old(error) => from.refused(alloc, error),
-        MoveFault::New(error) => to.refused(alloc, error),
+        Err(MoveFault::Old(error)) => Err(from.refused(alloc, error)),
+        Err(MoveFault::New(error)) => Err(to.refused(alloc, error)),
     }
 }
 

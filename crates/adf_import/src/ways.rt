@@ -1,8 +1,7 @@
 //! Directories that are made with those on the way to them.
 
 ghost use Rattle.std.specs.Prelude.{◌≡◌, ◌<◌, length};
-ghost use Rattle.ados_name.specs.Name.{is_from_root};
-ghost use Rattle.adf_import.specs.Commands.{Makes, MakesFront, MakesLast, MakesMissing, MakesWay};
+ghost use Rattle.adf_import.specs.Commands.{Makes, MakesMissing, MakesWay};
 ghost use Rattle.adf_import.specs.Turns.{EndsOneByOne};
 ghost use Rattle.adf_import.specs.Ways.{ends_front, fronts};
 
@@ -32,7 +31,10 @@ pub(crate) fn make_way(volume: &mut Volume, path: &[u8], moment: Date3) -> Resul
     ensures { MakesWay moment path.now volume.old volume.new result }
 {
     make_fronts(volume, path, moment)?;
-    make_last(volume, path, moment)
+    match directory_at(volume, path) {
+        Ok(_) => Ok(()),
+        Err(_) => make_one(volume, path, moment),
+    }
 }
 
 /// Makes each missing directory on the way to a path.
@@ -40,24 +42,15 @@ fn make_fronts(volume: &mut Volume, path: &[u8], moment: Date3) -> Result<(), Do
     ensures { EndsOneByOne (MakesMissing moment) (fronts path.now) volume.old volume.new result }
 {
     for at in 0..path.len() {
-        match make_front(volume, path, at, moment) {
-            Ok(()) => {}
-            Err(error) => return Err(error),
+        if ends_front(path, at) {
+            match make_missing(volume, &path[..at], moment) {
+                Ok(()) => {}
+                Err(error) => return Err(error),
+            }
+            prove!(volume.image().blocks() >= 16);
         }
-        prove!(volume.image().blocks() >= 16);
     }
     Ok(())
-}
-
-/// Makes the directory on the way whose path ends before this byte, if one does and it is missing.
-fn make_front(volume: &mut Volume, path: &[u8], at: usize, moment: Date3) -> Result<(), DosError>
-    requires { at < length path.now }
-    ensures { MakesFront moment path.now at volume.old volume.new result }
-{
-    if !ends_front(path, at) {
-        return Ok(());
-    }
-    make_missing(volume, &path[..at], moment)
 }
 
 /// Whether the path of a directory on the way ends before this byte: it is a `/` behind the volume's name.
@@ -65,14 +58,7 @@ fn ends_front(path: &[u8], at: usize) -> bool
     requires { at < length path.now }
     ensures { result ≡ ends_front path.now at }
 {
-    path[at] == b'/' && (names_volume(&path[..at]) || !names_volume(path))
-}
-
-/// Whether a path has the name of a volume.
-fn names_volume(path: &[u8]) -> bool
-    ensures { result ≡ is_from_root path.now }
-{
-    path.contains(&b':')
+    path[at] == b'/' && (path[..at].contains(&b':') || !path.contains(&b':'))
 }
 
 /// Makes a directory if there is no object at its path.
@@ -80,16 +66,6 @@ fn make_missing(volume: &mut Volume, path: &[u8], moment: Date3) -> Result<(), D
     ensures { MakesMissing moment path.now volume.old volume.new result }
 {
     match object_at(volume, path) {
-        Ok(_) => Ok(()),
-        Err(_) => make_one(volume, path, moment),
-    }
-}
-
-/// Makes a directory if there is none at its path.
-fn make_last(volume: &mut Volume, path: &[u8], moment: Date3) -> Result<(), DosError>
-    ensures { MakesLast moment path.now volume.old volume.new result }
-{
-    match directory_at(volume, path) {
         Ok(_) => Ok(()),
         Err(_) => make_one(volume, path, moment),
     }

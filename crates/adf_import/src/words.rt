@@ -1,14 +1,20 @@
 //! Arguments as bytes of an Amiga's text.
 
-ghost use Rattle.std.specs.Prelude.{◌≡◌, IfErr, IfOk, Some, map};
+ghost use Rattle.std.specs.Prelude.{◌≡◌, IfErr, IfOk, Ok, Some, map};
 ghost use Rattle.std.specs.Str.{chars};
+ghost use Rattle.ados_model.specs.Keys.{HasDirectory};
+ghost use Rattle.ados_model.specs.Stands.{Stands};
+ghost use Rattle.ados_model.specs.Tree.{Tree};
 ghost use Rattle.adf_text.specs.Letters.{letters};
 ghost use Rattle.adf_text.specs.ProtectWords.{protect_word};
+ghost use Rattle.adf_import.specs.Paths.{directory_at};
 ghost use Rattle.adf_import.specs.Words.{IsBitsFault, IsLetterFault, IsLetterFaultIn, IsRefusal};
 
 use crate::fault::{InFault, refused};
+use crate::paths::directory_at;
 use adf_text::{LettersFault, ProtectWord, letter_bytes, letters_come_back, protect_word};
 use ados_model::DosError;
+use ados_volume::Volume;
 use std::alloc::Global;
 
 /// An argument, and the bytes of its letters.
@@ -47,6 +53,20 @@ impl<'a> Word<'a> {
         ensures { IsRefusal error self.now.text.now result }
     {
         refused(alloc, self.text, error)
+    }
+
+    /// The directory at this path.
+    ///
+    /// Errors: those of a walk (204, 205, 212), and 212 for a file.
+    pub fn directory(&self, alloc: Global, volume: &mut Volume) -> Result<u32, InFault>
+        ensures found { IfOk result (λ dir. (t : Tree) → Stands volume.old.image t → directory_at (chars self.now.text.now) t ≡ Ok dir) }
+        ensures directory { IfOk result (HasDirectory volume.old.image) }
+        ensures same { volume.new ≡ volume.old }
+    {
+        match directory_at(volume, self.bytes()) {
+            Ok(dir) => Ok(dir),
+            Err(error) => Err(self.refused(alloc, error)),
+        }
     }
 
     /// The argument as a word for protection bits.

@@ -1,9 +1,11 @@
+use Rattle.std.proofs.Common.{◌≡◌, ℕ, List, Ok, subst}
 use Rattle.std.specs.Str.{chars}
+use Rattle.adf_import.specs.Paths.{directory_at}
 use Rattle.adf_import.proofs.Naming.{put_as}
 use Rattle.adf_import.proofs.one_file.add_as.Goals as goal
 
-pub returns : goal.returns
-returns g c =
-    let place = c.in_ok-place.place in
-    put_as c.args.how.moment (chars c.args.target.to.now) (chars c.args.target.name.now) c.args.how.force place.dir c.args.volume.now c.put_given.new.volume c.in_ok-place.ensures.found place.name
-    c.place_of.new.volume c.put_given.result c.in_ok-place.ensures.same c.in_ok-place.ensures.name c.put_given.ensures
+pub returns-in-Ok : goal.returns-in-Ok
+returns-in-Ok g c =
+    put_as c.args.how.moment (chars c.args.target.to.now) (chars c.args.target.name.now) c.args.how.force c.in_ok-dir.dir c.args.volume.now c.put_file.new.volume
+    (λ t s. subst (λ (path : List ℕ). directory_at (chars path) t ≡ Ok c.in_ok-dir.dir) c.in_ok-to.ensures.same (c.in_ok-dir.ensures.found t s))
+    c.in_ok-name.name c.directory.new.volume c.directory.ensures.same c.in_ok-name.ensures (c.noted_file-file.result, c.in-Ok.field-0, c.in-Ok.ensures.put)

@@ -42,7 +42,7 @@ returns-in-Date c =
 
 pub returns-in-Comment : goal.returns-in-Comment
 returns-in-Comment c =
-    let after = c.comment_by.new.volume in
-    subst (λ (change : EntryChange). ChangesEntry c.args.moment change c.args.path.now c.args.volume.now after c.comment_by.result) (sym c.in-Comment.is)
-    (object_changed (λ key. Changes (comment_refusal key c.in-Comment.text.now) (λ _ t. with_comment c.args.moment key c.in-Comment.text.now t)) c.args.path.now c.in_ok-key.key c.args.volume.now c.object_at.new.volume after c.comment_by.result
-    (λ t s. sym c.in_ok-key.was ∙ c.object_at.ensures.object t s) c.object_at.ensures.same c.comment_by.ensures)
+    let after = c.comment.new.volume in
+    subst (λ (change : EntryChange). ChangesEntry c.args.moment change c.args.path.now c.args.volume.now after c.comment.result) (sym c.in-Comment.is)
+    (object_changed (λ key. Changes (comment_refusal key c.in-Comment.text.now) (λ _ t. with_comment c.args.moment key c.in-Comment.text.now t)) c.args.path.now c.in_ok-key.key c.args.volume.now c.object_at.new.volume after c.comment.result
+    (λ t s. sym c.in_ok-key.was ∙ c.object_at.ensures.object t s) c.object_at.ensures.same c.comment.ensures.done)

@@ -1,10 +1,10 @@
 use Rattle.adf_import.specs.Progress.{IsReady}
 use Rattle.adf_import.specs.Put.{KeepsKeys}
-use Rattle.adf_import.proofs.adding.put_entries.Given as goal
+use Rattle.adf_import.proofs.adding.add.Given as goal
 
 -- every directory and entry is still one, and more can be put into the top directory
 abbrev pub invariant-loop-entry : goal.invariant-loop-entry
 invariant-loop-entry g l = record {
-  ready : IsReady l.volume.image l.fn.top l.progress;
+  ready : IsReady l.volume.image l.top l.progress;
   keeps : KeepsKeys l.initial.volume.image l.volume.image;
 }
