@@ -138,7 +138,9 @@ impl<'a> CommandFault<'a> {
     /// The fault of a bundle that does not become the volume of an image file.
     pub(crate) fn of_bundle(fault: InFault, file: &'a str) -> CommandFault<'a> {
         match fault {
-            InFault::NotEmpty | InFault::OtherVolume { .. } => CommandFault::OtherVolume(file, fault),
+            InFault::NotEmpty | InFault::OtherVolume { .. } => CommandFault::OtherVolume(
+                file, fault,
+            ),
             other => CommandFault::from(other),
         }
     }

@@ -68,11 +68,7 @@ fn read_file<R: Files>(
 }
 
 /// The length of a regular file of the host. Anything else is refused, a symbolic link too.
-pub(crate) fn refuse_no_file<R: Files>(
-    rt: &R,
-    alloc: Global,
-    path: &str,
-) -> Result<u64, InFault> {
+pub(crate) fn refuse_no_file<R: Files>(rt: &R, alloc: Global, path: &str) -> Result<u64, InFault> {
     match fs::symlink_metadata(rt, path) {
         Ok(found) if found.is_file() => Ok(found.len()),
         Ok(_) => Err(InFault::NoFile(String::from_str(alloc, path)?)),

@@ -118,7 +118,9 @@ fn read_file<R: Files>(rt: &R, alloc: Global, path: &str, most: usize) -> Result
     }
     let tree = host_tree(rt, alloc, &[path])?;
     match tree.entries.as_slice() {
-        [entry] if matches!(entry.kind, HostKind::File { .. }) => read_entry(rt, alloc, entry, most),
+        [entry] if matches!(entry.kind, HostKind::File { .. }) => read_entry(
+            rt, alloc, entry, most,
+        ),
         _ => Err(not_one_file(alloc, path)),
     }
 }

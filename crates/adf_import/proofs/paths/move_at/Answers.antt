@@ -25,6 +25,7 @@ returns-in-Err-move_entry c = λ t s.
     let key : object_at c.args.old.now t ≡ Ok c.in-Ok.key = sym (c.object_at.ensures.object t s) ∙ c.in-Ok.is in
     let to : place_at c.args.new.now t ≡ Ok c.in-Ok-place.to = sym (c.place.ensures.place t after) ∙ c.in-Ok-place.is in
     let refused = c.in-Err-move_entry.ensures.done in
-    at_found _ _ (move_ends c.args.old.now c.args.new.now t) (c.in-Ok.key, c.in-Ok-place.to) (λ i. both_ends (key i) (to i))
-    (refused.0 ∙ same,
-    λ u r. ap (λ (o : Option DosError). option_map move_fault o) (refused.1 u (subst (λ (v : Shown). Stands v.image u) (sym same) r)) ∙ ap (λ (f : MoveFault). Some f) (sym c.move_fault.ensures))
+    at_found _ _ (move_ends c.args.old.now c.args.new.now t) (c.in-Ok.key, c.in-Ok-place.to) (λ i. both_ends (key i) (to i)) (
+      refused.0 ∙ same,
+      λ u r. ap (λ (o : Option DosError). option_map move_fault o) (refused.1 u (subst (λ (v : Shown). Stands v.image u) (sym same) r)) ∙ ap (λ (f : MoveFault). Some f) (sym c.move_fault.ensures),
+    )

@@ -14,9 +14,9 @@ returns-in-Err c =
 
 pub loop-at-preserved : goal.loop-at-preserved
 loop-at-preserved c = elim c.if-ends_front.branch [
-    then-ends_front+in-Ok+else-prove w ↦
+  | then-ends_front+in-Ok+else-prove w ↦
       rw w.volume-is (front_more c.args.moment c.args.path.now c.loop-at.at c.args.volume.now c.loop-at.volume c.loop-at.invariant w.make_missing.new.volume
-          (sym c.ends_front.ensures ∙ w.if-ends_front.true) w.in-Ok.ensures w.image.ensures.stands)
+      (sym c.ends_front.ensures ∙ w.if-ends_front.true) w.in-Ok.ensures w.image.ensures.stands)
   | else-ends_front w ↦
       rw w.volume-is (front_none c.args.moment c.args.path.now c.loop-at.at c.args.volume.now c.loop-at.volume c.loop-at.invariant (sym c.ends_front.ensures ∙ w.if-ends_front.false))
-  ]
+]
