@@ -4,10 +4,10 @@ use Rattle.adf_block.specs.Image.{block_count, long, root_key}
 use Rattle.adf_block.specs.declared.layout.TheConstants.{BITMAP_FLAG, BITMAP_VALID}
 use Rattle.ados_model.specs.Tree.{Tree, Date3}
 use Rattle.ados_model.specs.Meaning.{Meaning, is_closing}
-use Rattle.ados_model.specs.Session.{HandlerState, opening_session}
-use Rattle.ados_model.specs.Stands.{Stands}
-use Rattle.ados_model.specs.Packet.{Packet, Answer, DeviceNotMounted, refused_answer}
-use Rattle.ados_port.specs.History.{Step, Outcome, PortState, Serving, ServerMeaning, PortHistory, last_server, opening_port, ClosedOnceDead}
+use Rattle.ados_model.specs.{Session.HandlerState, Session.opening_session, Stands.Stands, Packet.refused_answer}
+use Rattle.ados_model.specs.declared.{packet.Packet.Packet, answer.Answer.Answer, dos_error.DosError.TheVariants.DeviceNotMounted}
+use Rattle.ados_port.specs.{Step.Step, Outcome.Outcome}
+use Rattle.ados_port.specs.History.{PortState, Serving, ServerMeaning, PortHistory, last_server, opening_port, ClosedOnceDead}
 
 -- a port with a handler as its server
 abbrev pub HandlerPort : Type 0
