@@ -8,11 +8,10 @@ use Rattle.ados_model.specs.Faults.{Shows}
 use Rattle.ados_model.specs.Stands.{Stands}
 use Rattle.ados_model.specs.Tree.{Tree, bytes_of}
 use Rattle.ados_model.specs.declared.fault.FaultKind.TheVariants.{NoMemory}
+use Rattle.ados_model.specs.declared.answer.Answer.{Answer}
 use Rattle.ados_model.specs.declared.fault.VolumeFault.{VolumeFault}
-use Rattle.ados_run.specs.Refused.{IsRunFault}
-use Rattle.ados_run.specs.declared.run.RunFault.{RunFault}
-use Rattle.ados_run.specs.declared.run.RunFault.TheVariants as of_run
 use Rattle.adf_io.specs.Prefix.{Writes, WritesFront, WritesFrontOf}
+use Rattle.adf_export.specs.Info.{info_text}
 use Rattle.adf_export.specs.Listing.{BeginsList, IsList}
 use Rattle.adf_words.specs.declared.job.ImageJob.{ImageJob}
 use Rattle.adf_words.specs.declared.job.ImageJob.TheVariants.{Blank}
@@ -25,8 +24,8 @@ use Rattle.adf_commands.specs.declared.fault.CommandFault.TheVariants.{Dos, Extr
 use Rattle.adf_commands.specs.declared.look.Look.{Look}
 use Rattle.adf_commands.specs.declared.refusal.Refusal.{Refusal}
 use Rattle.adf_commands.specs.declared.refusal.DosRefusal.{DosRefusal}
-use Rattle.adf_commands.specs.Texts.{AreDeletedLines, AreEntryBlocks, AreOwnedBlocks, BeginsJobText, BeginsListOf, BeginsListText, IsJobText, IsListed, IsListOf, IsListText, shown_form, IsLook, IsLookText, IsPrintText}
-use Rattle.adf_commands.specs.Faults.{IsBlankFault, IsNoImage, IsNoImageRefusal, IsNoRefusal, IsRefusedFor, IsToldAs, IsToldOut, IsToldRun}
+use Rattle.adf_commands.specs.Texts.{AreDeletedLines, AreEntryBlocks, AreOwnedBlocks, BeginsJobText, BeginsListOf, BeginsListText, IsJobText, IsListed, IsListOf, IsListText, shown_form, IsLook, IsLookText, disk_answer, IsInfoText, IsPrintText}
+use Rattle.adf_commands.specs.Faults.{IsBlankFault, IsNoImage, IsNoImageRefusal, IsNoRefusal, IsRefusedFor, IsToldAs, IsToldOut}
 use Rattle.adf_commands.specs.Commands.{Does, DoesJob, Ending, EndsOff, LeavesOff, Prints, prints, Tells, TellsFault, TellsJob, TellsOf, TellsSome}
 use Rattle.adf_commands.specs.Commands.Prints.{OnlyFaults, OfBlocks, OfBytes, OfImages, OfRescue, Unsaid}
 use Rattle.std.proofs.lemmas.List.{append-nil}
@@ -57,22 +56,11 @@ refused_for image fault (Refused refusal) refused (no_want, line) = (fault.kind,
     shown (inr want) = absurd (no_want want.0)
 refused_for image fault told refused t = t.0
 
--- so is one that a run hands back
-pub refused_run : (image : List ℕ) (run : RunFault) (told : CommandFault) → IsRunFault image run → IsToldRun run told → IsRefusedFor image told
-refused_run image (of_run.Rejected rejected) told handed t = refused_for image rejected.fault told handed.1 t
-refused_run image (of_run.NoMemory accepted) told handed t = subst (λ (f : CommandFault). IsRefusedFor image f) (sym t) refl
-
 -- nothing is written for a refused image
 pub leaves_refused : (IsText : List ℕ → Type 0) (image : List ℕ) (w : Option (List ℕ)) (fault : CommandFault) → IsRefusedFor image fault → LeavesOff IsText image w w fault
 leaves_refused IsText image w (Refused refusal) h = (inr h, Keeps-refl w)
 leaves_refused IsText image w (Dos refusal) h = Keeps-refl w
 leaves_refused IsText image w fault h = inl (Keeps-refl w)
-
--- nothing is written if a run was not started
-pub tells_no_run : (IsText BeginsText : List ℕ → List ℕ → Type 0) (image : List ℕ) (w : Option (List ℕ)) (run : RunFault) (done : Ending) → IsRunFault image run
-    → IsErrAnd done (λ told. IsToldRun run told) → TellsOf IsText BeginsText image w w done
-tells_no_run IsText BeginsText image w run (Ok x) handed t = absurd t
-tells_no_run IsText BeginsText image w run (Err told) handed t = leaves_refused (BeginsText image) image w told (refused_run image run told handed t)
 
 -- a prefix of a text is written
 pub leaves_front : (IsText : List ℕ → Type 0) (image : List ℕ) (old new : Option (List ℕ)) (fault : CommandFault) → WritesFrontOf old new IsText → IsNoRefusal fault → LeavesOff IsText image old new fault
@@ -159,6 +147,10 @@ module _ (image : List ℕ) (was_validated : Bool) (checked : List ℕ) (a : Acc
   print_text word old new h =
       let s = accepted_tree image was_validated checked a in
       let w = h s.0 s.1 in (bytes_of s.0 w.0, w.3, (was_validated, checked, s.0, a, s.1, (w.0, w.1, w.2, refl)))
+
+  pub info_told : (answer : Answer) (shown : List ℕ) → ((t : Tree) → Stands checked t → answer ≡ disk_answer t) → shown ≡ checked → IsInfoText image (info_text answer shown)
+  info_told answer shown is same =
+      let s = accepted_tree image was_validated checked a in (was_validated, checked, s.0, a, s.1, ap₂ info_text (is s.0 s.1) same)
 
   pub looked : (look : Look) (text : List ℕ) → ((t : Tree) → Stands checked t → IsLook look was_validated checked t text) → IsLookText look image text
   looked look text is =

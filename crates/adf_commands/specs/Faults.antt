@@ -4,8 +4,6 @@ use Rattle.adf_block.specs.Whole.{IsSize}
 use Rattle.ados_name.specs.Name.{IsName}
 use Rattle.ados_model.specs.declared.fault.FaultKind.TheVariants.{NoMemory}
 use Rattle.ados_model.specs.declared.fault.VolumeFault.{VolumeFault}
-use Rattle.ados_run.specs.declared.run.RunFault.{RunFault}
-use Rattle.ados_run.specs.declared.run.RunFault.TheVariants.{Rejected, NoMemory as NoRun}
 use Rattle.adf_text.specs.Letters.{letters as letter_text}
 use Rattle.adf_export.specs.declared.fault.OutFault.{OutFault}
 use Rattle.adf_export.specs.declared.fault.OutFault.TheVariants as out
@@ -29,11 +27,6 @@ IsRefusedAs image fault = ⊤
 abbrev pub IsToldAs : VolumeFault → CommandFault → Type 0
 IsToldAs fault (Refused refusal) = (fault.kind ≢ NoMemory) × (refusal_line refusal ≡ refused_line (kind_word fault.kind) fault.block)
 IsToldAs fault told = (told ≡ Memory) × (fault.kind ≡ NoMemory)
-
--- a run's fault as that of a command
-abbrev pub IsToldRun : RunFault → CommandFault → Type 0
-IsToldRun (Rejected rejected) told = IsToldAs rejected.fault told
-IsToldRun (NoRun image) told = told ≡ Memory
 
 -- a fault other than the refusal of an image
 abbrev pub IsNoImageRefusal : CommandFault → Type 0

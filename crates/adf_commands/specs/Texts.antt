@@ -1,11 +1,9 @@
 -- The output of commands for an image, by its bytes.
-use Rattle.std.specs.Prelude.{◌≡◌, ℕ, pos, Bool, true, false, List, [], ◌∷◌, Option, Some, None, map, option_map}
+use Rattle.std.specs.Prelude.{◌≡◌, ℕ, pos, Bool, true, false, List, [], Option, Some, None, map, option_map}
 use Rattle.ados_name.specs.declared.stamp.Date3.{Date3}
 use Rattle.ados_model.specs.Packet.{dos_true}
 use Rattle.ados_model.specs.Actions.{action_number}
 use Rattle.ados_model.specs.declared.action.Action.TheVariants.{DiskInfo}
-use Rattle.ados_model.specs.declared.packet.Packet.{Packet}
-use Rattle.ados_model.specs.declared.packet.Packet.TheVariants as packets
 use Rattle.ados_model.specs.declared.answer.Answer.{Answer}
 use Rattle.ados_model.specs.declared.answer.Body.TheVariants.{Disk}
 use Rattle.ados_model.specs.Accepted.{Accepts}
@@ -13,9 +11,6 @@ use Rattle.ados_model.specs.Stands.{Stands}
 use Rattle.ados_model.specs.Tree.{Tree, bytes_of, root}
 use Rattle.ados_model.specs.Change.{is_file}
 use Rattle.ados_model.specs.Objects.{disk_info}
-use Rattle.ados_port.specs.Step.{Step}
-use Rattle.ados_port.specs.Step.TheVariants as steps
-use Rattle.ados_port.specs.Step.TheVariants.{Put, Take}
 use Rattle.adf_block.specs.BootText.{IsBootText}
 use Rattle.adf_export.specs.Info.{info_text}
 use Rattle.adf_export.specs.Listing.{BeginsList, IsList}
@@ -142,7 +137,3 @@ IsJobText job = λ bytes text. text ≡ []
 abbrev pub BeginsJobText : ImageJob → List ℕ → List ℕ → Type 0
 BeginsJobText (ListOf job) = BeginsListOf job
 BeginsJobText job = IsJobText job
-
--- a DISK_INFO of client 1, put, served at the first time stamp, and taken
-abbrev pub disk_info_steps : List (Step Packet Date3)
-disk_info_steps = Put 1 packets.DiskInfo ∷ steps.Serve first_moment ∷ Take 1 ∷ []

@@ -61,10 +61,13 @@ where
 /// Whether a change reads standard input. If that is closed, it is refused before a file is opened, because the image would get
 /// its number.
 fn reads_input(change: &Change<'_>) -> bool {
-    match change {
-        Change::AddAs { source, .. } => matches!(source, Source::StandardInput),
-        _ => false,
-    }
+    matches!(
+        change,
+        Change::AddAs {
+            source: Source::StandardInput,
+            ..
+        }
+    )
 }
 
 /// The given time stamp, or else that of the host's clock.

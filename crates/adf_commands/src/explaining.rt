@@ -44,7 +44,7 @@ fn plain(refused: Refused) -> DosRefusal {
 
 /// The refusal of a protected entry. It names an entry below the path if that is the one which is protected.
 fn denied(alloc: Global, volume: &mut Volume, change: &Change<'_>, refused: Refused) -> DosRefusal {
-    if !deletes_all(change) {
+    if !matches!(change, Change::Delete { all: true, .. }) {
         return plain(refused);
     }
     match denied_path(alloc, volume, refused.path.as_str()) {
@@ -53,14 +53,6 @@ fn denied(alloc: Global, volume: &mut Volume, change: &Change<'_>, refused: Refu
             path,
         }),
         None => plain(refused),
-    }
-}
-
-/// Whether a change deletes directories with everything below them.
-fn deletes_all(change: &Change<'_>) -> bool {
-    match change {
-        Change::Delete { all, .. } => *all,
-        _ => false,
     }
 }
 
@@ -86,36 +78,19 @@ fn denied_path(alloc: Global, volume: &mut Volume, word: &str) -> Option<String>
     }
 }
 
-/// The refusal of a name, with what is wrong with it.
+/// The refusal of a name, with what is wrong with it, or with a name in a path.
 fn misnamed(alloc: Global, change: &Change<'_>, refused: Refused) -> DosRefusal {
-    match name_detail(alloc, names_one(change), refused.path.as_str()) {
-        Some(detail) => DosRefusal { refused, detail },
-        None => plain(refused),
-    }
-}
-
-/// Whether the argument of a change is a name, and not a path.
-fn names_one(change: &Change<'_>) -> bool {
-    matches!(change, Change::Relabel { .. } | Change::AddAs { .. })
-}
-
-/// What is wrong with a name, or with a name in a path.
-fn name_detail(alloc: Global, is_name: bool, text: &str) -> Option<Detail> {
-    if is_name {
-        return detail_of(
-            alloc,
-            text,
-            NameWhy::of_text(text).unwrap_or(NameWhy::Empty),
-        );
-    }
-    let (name, why) = wrong_name(text);
-    detail_of(alloc, name, why)
-}
-
-/// What is wrong with this name.
-fn detail_of(alloc: Global, name: &str, why: NameWhy) -> Option<Detail> {
+    let text = refused.path.as_str();
+    let (name, why) = if matches!(change, Change::Relabel { .. } | Change::AddAs { .. }) {
+        (text, NameWhy::of_text(text).unwrap_or(NameWhy::Empty))
+    } else {
+        wrong_name(text)
+    };
     match String::from_str(alloc, name) {
-        Ok(name) => Some(Detail::Name { name, why }),
-        Err(_) => None,
+        Ok(name) => DosRefusal {
+            refused,
+            detail: Detail::Name { name, why },
+        },
+        Err(_) => plain(refused),
     }
 }

@@ -15,7 +15,7 @@ use adf_rescue::UndeleteFault;
 use adf_words::Refused;
 use ados_mend::NotValidated;
 use ados_model::DosError;
-use ados_run::{RunFault, ScriptsFault};
+use ados_run::ScriptsFault;
 use ados_volume::VolumeFault;
 use host_trees::WriteFault;
 use std::alloc::{AllocError, Global};
@@ -326,19 +326,6 @@ impl From<VolumeFault> for CommandFault<'_> {
         match Refusal::of_volume(fault) {
             Some(refusal) => CommandFault::Refused(refusal),
             None => CommandFault::Memory,
-        }
-    }
-}
-
-impl From<RunFault> for CommandFault<'_> {
-    ghost use Rattle.adf_commands.specs.Faults.{IsToldRun};
-
-    ghost from_gives = { λ fault told. IsToldRun fault told };
-
-    fn from(fault: RunFault) -> Self {
-        match fault {
-            RunFault::Rejected(rejected) => CommandFault::from(rejected.fault),
-            RunFault::NoMemory(_) => CommandFault::Memory,
         }
     }
 }

@@ -1,7 +1,6 @@
 //! The jobs on image files.
 ghost use Rattle.adf_commands.specs.Commands.{DoesJob, TellsJob};
 
-use crate::archive::check_images;
 use crate::blank::{NewVolume, make_blank};
 use crate::blocks::tell_where;
 use crate::boot::{change_boot, save_boot};
@@ -16,7 +15,7 @@ use crate::rescue::take_rescue;
 use crate::screen::Screen;
 use crate::serving::serve;
 use crate::validate::validate_file;
-use adf_archive::ReadImages;
+use adf_archive::{ReadImages, check_archive};
 use adf_import::StandardInput;
 use adf_words::{ImageFile, ImageJob};
 use std::alloc::Global;
@@ -127,7 +126,10 @@ where
         ImageJob::ShowBoot { image } => print_query(rt, alloc, *image, Query::Look(Look::Boot), screen.styled, writer),
         ImageJob::List(job) => print_query(rt, alloc, job.image, Query::List(job), screen.styled, writer),
         ImageJob::Print { image, path } => print_query(rt, alloc, *image, Query::Bytes(*path), screen.styled, writer),
-        ImageJob::Check(job) => check_images(rt, alloc, job, screen.progress, writer, faults),
+        ImageJob::Check(job) => match check_archive(rt, alloc, job, screen.progress, writer, faults) {
+            Ok(()) => Ok(()),
+            Err(fault) => Err(CommandFault::from(fault)),
+        },
         ImageJob::Extract(job) => take_out(rt, alloc, job),
         ImageJob::ExtractBundle { image, to } => take_bundle(rt, alloc, *image, *to),
         ImageJob::AddBundle { target, from } => put_bundle(rt, alloc, *target, *from),

@@ -1,7 +1,6 @@
 //! The commands on image files: their effects on files and volumes, their output, and their faults.
 #![tactic(auto)]
 
-mod archive;
 mod blank;
 mod blocks;
 mod boot;

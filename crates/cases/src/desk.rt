@@ -61,50 +61,30 @@ pub(crate) fn serve_rows<S: Telling, R: Abort>(
     holds(rt, !server.died(), "alive");
 }
 
-/// A directory `d` with a lock, and the file `f`. Also a file of one byte for each letter from `k` to `s`, without locks
-/// or handles.
+/// A directory `d` without a lock, and the file `f`.
 const ENTRIES: &str = "\
 mkdir 0 \"d\" = 1 0
 free 1 = -1 0
 output 0 \"f\" = -1 0
-end 1 = -1 0
-output 0 \"k\" = -1 0
-write 1 \"x\" = 1 0
-end 1 = -1 0
-output 0 \"l\" = -1 0
-write 1 \"x\" = 1 0
-end 1 = -1 0
-output 0 \"m\" = -1 0
-write 1 \"x\" = 1 0
-end 1 = -1 0
-output 0 \"n\" = -1 0
-write 1 \"x\" = 1 0
-end 1 = -1 0
-output 0 \"o\" = -1 0
-write 1 \"x\" = 1 0
-end 1 = -1 0
-output 0 \"p\" = -1 0
-write 1 \"x\" = 1 0
-end 1 = -1 0
-output 0 \"q\" = -1 0
-write 1 \"x\" = 1 0
-end 1 = -1 0
-output 0 \"r\" = -1 0
-write 1 \"x\" = 1 0
-end 1 = -1 0
-output 0 \"s\" = -1 0
-write 1 \"x\" = 1 0
-end 1 = -1 0
-locate 0 -2 \"d\" = 1 0";
+end 1 = -1 0";
 
-/// A line in which a letter replaces the `*`.
-fn with_letter(rt: &impl Abort, alloc: Global, line: &str, letter: &str) -> String {
+/// A file of one byte, without a handle. A letter replaces the `*`.
+const ONE_BYTE: &str = "\
+output 0 \"*\" = -1 0
+write 1 \"x\" = 1 0
+end 1 = -1 0";
+
+/// The names of the files of one byte, and those for which a packet is put.
+const LETTERS: &str = "k l m n o p q r s";
+
+/// Rows in which a letter replaces the `*`.
+fn with_letter(rt: &impl Abort, alloc: Global, rows: &str, letter: &str) -> String {
     let mut text = String::new(alloc);
-    match line.split_once('*') {
+    match rows.split_once('*') {
         Some((front, behind)) => {
             write!(text, "{front}{letter}{behind}").expect(rt, "error");
         }
-        None => text.push_str(line).expect(rt, "error"),
+        None => text.push_str(rows).expect(rt, "error"),
     }
     text
 }
@@ -127,6 +107,16 @@ fn expect_hold<S: Telling, R: Abort>(
     holds(rt, told.results.1 == 0, line);
 }
 
+/// Makes a directory `d` with a lock, the file `f`, and a file of one byte for each letter, without locks or handles.
+fn serve_entries<S: Telling, R: Abort>(rt: &R, alloc: Global, server: &mut S, moment: S::Moment) {
+    serve_rows(rt, alloc, server, moment, ENTRIES);
+    for letter in LETTERS.split(" ") {
+        let rows = with_letter(rt, alloc, ONE_BYTE, letter);
+        serve_rows(rt, alloc, server, moment, rows.as_str());
+    }
+    serve_rows(rt, alloc, server, moment, "locate 0 -2 \"d\" = 1 0");
+}
+
 /// The packet of a line is served nine times, so that the table of locks or handles grows.
 pub(crate) fn expect_holds<S: Telling, R: Abort>(
     rt: &R,
@@ -135,8 +125,8 @@ pub(crate) fn expect_holds<S: Telling, R: Abort>(
     moment: S::Moment,
     line: &str,
 ) {
-    serve_rows(rt, alloc, server, moment, ENTRIES);
-    for letter in "k l m n o p q r s".split(" ") {
+    serve_entries(rt, alloc, server, moment);
+    for letter in LETTERS.split(" ") {
         let line = with_letter(rt, alloc, line, letter);
         expect_hold(rt, alloc, server, moment, line.as_str());
     }

@@ -12,7 +12,7 @@ use crate::fixtures::{FLOPPY, START, blank_handler, blank_image, handler_of, wor
 use crate::names::DateTexts;
 use crate::rows::{expect_rows, holds};
 use crate::spoken::Telling;
-use crate::steps::{steps_of, stray};
+use crate::steps::{are_outcomes, steps_of};
 use adf_block::Image;
 use adf_block::layout::{CHECKSUM, FIRST_SLOT};
 use adf_script::{TryFault, run_script};
@@ -111,72 +111,31 @@ fn refused_validation(rt: HostRuntime) {
     expect_deep(&rt, rt.alloc(), volume.image(), VALID);
 }
 
-/// The outcomes of steps, and then their outcomes if one put or one lock was refused memory.
+/// Steps that put packets which make locks.
 const LOCKS: &str = "\
-put 2 locate 0 -2 \"\" = accepted 1
-serve = served
-take 2 = 1 1 0
-put 2 copy 1 = accepted 2
-serve = served
-take 2 = 2 2 0
-put 2 diskinfo = accepted 3
-serve = served
-take 2 = 3 -1 0 disk 82 1758 2
+put 2 locate 0 -2 \"\"
+serve
+take 2
+put 2 copy 1
+serve
+take 2
+put 2 diskinfo
+serve
+take 2";
 
-put 2 locate 0 -2 \"\" = no-room 8
-serve = idle
-take 2 = nothing
-put 2 copy 1 = accepted 1
-serve = served
-take 2 = 1 0 211
-put 2 diskinfo = accepted 2
-serve = served
-take 2 = 2 -1 0 disk 82 1758 2
-
-put 2 locate 0 -2 \"\" = accepted 1
-serve = served
-take 2 = 1 0 103
-put 2 copy 1 = accepted 2
-serve = served
-take 2 = 2 0 211
-put 2 diskinfo = accepted 3
-serve = served
-take 2 = 3 -1 0 disk 82 1758 2
-
-put 2 locate 0 -2 \"\" = accepted 1
-serve = served
-take 2 = 1 1 0
-put 2 copy 1 = no-room 19
-serve = idle
-take 2 = nothing
-put 2 diskinfo = accepted 2
-serve = served
-take 2 = 2 -1 0 disk 82 1758 2
-
-put 2 locate 0 -2 \"\" = accepted 1
-serve = served
-take 2 = 1 1 0
-put 2 copy 1 = accepted 2
-serve = served
-take 2 = 2 0 103
-put 2 diskinfo = accepted 3
-serve = served
-take 2 = 3 -1 0 disk 82 1758 2
-
-put 2 locate 0 -2 \"\" = accepted 1
-serve = served
-take 2 = 1 1 0
-put 2 copy 1 = accepted 2
-serve = served
-take 2 = 2 2 0
-put 2 diskinfo = no-room 25
-serve = idle
-take 2 = nothing";
+/// The outcomes of these steps, and then their outcomes if one put or one lock was refused memory.
+const WAYS: &str = "\
+accepted 1, served, 1 1 0, accepted 2, served, 2 2 0, accepted 3, served, 3 -1 0 disk 82 1758 2
+no-room 8, idle, nothing, accepted 1, served, 1 0 211, accepted 2, served, 2 -1 0 disk 82 1758 2
+accepted 1, served, 1 0 103, accepted 2, served, 2 0 211, accepted 3, served, 3 -1 0 disk 82 1758 2
+accepted 1, served, 1 1 0, no-room 19, idle, nothing, accepted 2, served, 2 -1 0 disk 82 1758 2
+accepted 1, served, 1 1 0, accepted 2, served, 2 0 103, accepted 3, served, 3 -1 0 disk 82 1758 2
+accepted 1, served, 1 1 0, accepted 2, served, 2 2 0, no-room 25, idle, nothing";
 
 /// A run's outcomes are those of one of the ways.
-fn expect_way<S: Telling + Drop, R: Abort>(rt: &R, ways: &str, done: &RunDone<S>) {
-    for way in ways.split("\n\n") {
-        if stray::<S>(way, &done.outcomes).is_none() {
+fn expect_way<S: Telling + Drop, R: Abort>(rt: &R, done: &RunDone<S>) {
+    for way in WAYS.lines() {
+        if are_outcomes::<S>(way, &done.outcomes) {
             return;
         }
     }
@@ -202,15 +161,10 @@ fn image_of(rt: &impl Abort, fault: RunFault) -> (Image, bool) {
 /// The image after the steps, whose outcomes are possible ones.
 fn left_by_locks<R: Abort>(rt: &R, alloc: Global) -> Image {
     let image = blank_image(rt, alloc, FLOPPY);
-    let (steps, _) = LOCKS.split_once("\n\n").unwrap_or((LOCKS, ""));
-    match run_volume(
-        alloc,
-        image,
-        2,
-        steps_of::<Handler, R>(rt, alloc, START, steps),
-    ) {
+    let steps = steps_of::<Handler, R>(rt, alloc, START, LOCKS);
+    match run_volume(alloc, image, 2, steps) {
         Ok(done) => {
-            expect_way::<Handler, R>(rt, LOCKS, &done);
+            expect_way::<Handler, R>(rt, &done);
             image_after(done)
         }
         Err(fault) => image_of(rt, fault).0,

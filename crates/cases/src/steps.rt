@@ -106,23 +106,29 @@ fn expect_outcomes<S: Telling, R: Abort>(
     case: &str,
     outcomes: &[Outcome<S::Request, S::Reply>],
 ) {
-    let stray = stray::<S>(case, outcomes).unwrap_or("");
-    holds(rt, stray.is_empty(), stray);
+    let mut rest = outcomes.iter();
+    for row in case.lines() {
+        let is_right = match rest.next() {
+            Some(outcome) => is_outcome::<S>(parts(row).1, outcome),
+            None => false,
+        };
+        holds(rt, is_right, row);
+    }
 }
 
-/// The first row with another outcome than it says.
-pub(crate) fn stray<'a, S: Telling>(
-    rows: &'a str,
+/// Whether a line has these outcomes, with commas between them.
+pub(crate) fn are_outcomes<S: Telling>(
+    line: &str,
     outcomes: &[Outcome<S::Request, S::Reply>],
-) -> Option<&'a str> {
+) -> bool {
     let mut rest = outcomes.iter();
-    for row in rows.lines() {
+    for text in line.split(", ") {
         match rest.next() {
-            Some(outcome) if is_outcome::<S>(parts(row).1, outcome) => {}
-            _ => return Some(row),
+            Some(outcome) if is_outcome::<S>(text, outcome) => {}
+            _ => return false,
         }
     }
-    None
+    rest.next().is_none()
 }
 
 /// Whether a step had this outcome: the accepted number, the action of the returned packet, or the number of the reply

@@ -1,18 +1,20 @@
-use Rattle.std.proofs.Common.{List, subst}
-use Rattle.ados_name.specs.declared.stamp.Date3.{Date3}
-use Rattle.ados_model.specs.declared.packet.Packet.{Packet}
-use Rattle.ados_port.specs.Step.{Step}
-use Rattle.ados_run.specs.Keeping.{KeepsVolume}
+use Rattle.ados_model.specs.Packet.{dos_true}
+use Rattle.ados_model.specs.declared.answer.Body.TheVariants.{Disk}
+use Rattle.std.specs.Prelude.{pos}
 use Rattle.adf_commands.specs.Texts.{IsInfoText}
-use Rattle.adf_commands.proofs.Printing.{tells_no_run}
+use Rattle.adf_commands.proofs.Printing.{info_told, leaves_front}
 use Rattle.adf_commands.proofs.info.tell_info.Goals as goal
 
-pub returns-in_err-done : goal.returns-in_err-done
-returns-in_err-done g c =
-    tells_no_run IsInfoText IsInfoText c.args.image _ c.in_err-done.field-0.0 _ c.in_err-done.ensures c.from_residual-in_err-done.ensures.1
+pub returns-in-Ok : goal.returns-in-Ok
+returns-in-Ok g c = (
+  _,
+  c.in-Ok.ensures.ok,
+  info_told c.args.image _ _ c.in_ok-volume.ensures _ _
+      (λ t s. λ i. record { action = c.number.ensures i; res1 = dos_true; res2 = pos 0; body = Disk (c.info.ensures t s i) }) c.image-image.ensures.same,
+)
 
-pub returns : goal.returns
-returns g c =
-    let done = c.in_ok-done.done in
-    let runs = subst (λ (steps : List (Step Packet Date3)). KeepsVolume c.args.image 1 steps done.outcomes.items done.exchange) c.in_ok-disk_info.ensures c.in_ok-done.ensures.1 in
-    c.tell_answer.ensures c.args.image runs
+pub returns-in-Err : goal.returns-in-Err
+returns-in-Err g c =
+    let text = info_told c.args.image _ _ c.in_ok-volume.ensures _ _
+    (λ t s. λ i. record { action = c.number.ensures i; res1 = dos_true; res2 = pos 0; body = Disk (c.info.ensures t s i) }) c.image-image.ensures.same in
+    leaves_front (IsInfoText c.args.image) c.args.image _ _ c.from.result (_, text, c.in-Err.ensures.front) c.from.ensures
