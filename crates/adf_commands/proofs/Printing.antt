@@ -26,10 +26,12 @@ use Rattle.adf_commands.specs.declared.refusal.Refusal.{Refusal}
 use Rattle.adf_commands.specs.declared.refusal.DosRefusal.{DosRefusal}
 use Rattle.adf_commands.specs.Texts.{AreDeletedLines, AreEntryBlocks, AreOwnedBlocks, BeginsJobText, BeginsListOf, BeginsListText, IsJobText, IsListed, IsListOf, IsListText, shown_form, IsLook, IsLookText, disk_answer, IsInfoText, IsPrintText}
 use Rattle.adf_commands.specs.Faults.{IsBlankFault, IsNoImage, IsNoImageRefusal, IsNoRefusal, IsRefusedFor, IsToldAs, IsToldOut}
-use Rattle.adf_commands.specs.Commands.{Does, DoesJob, Ending, EndsOff, LeavesOff, Prints, prints, Tells, TellsFault, TellsJob, TellsOf, TellsSome}
+use Rattle.adf_commands.specs.Commands.{Does, DoesJob, Ending, EndsJob, EndsOff, LeavesOff, Prints, prints, Tells, TellsFault, TellsJob, TellsOf, TellsSome}
 use Rattle.adf_commands.specs.Commands.Prints.{OnlyFaults, OfBlocks, OfBytes, OfImages, OfRescue, Unsaid}
 use Rattle.std.proofs.lemmas.List.{append-nil}
-use Rattle.adf_archive.specs.Archive.{told_in}
+use Rattle.adf_archive.specs.Archive.{TellsArchive, told_in}
+use Rattle.adf_archive.specs.declared.fault.ArchiveFault.{ArchiveFault}
+use Rattle.adf_archive.specs.declared.fault.ArchiveFault.TheVariants as archive
 use Rattle.adf_archive.specs.Words.{kind_word}
 use Rattle.adf_words.specs.declared.query.CheckJob.{CheckJob}
 use Rattle.adf_words.specs.declared.query.ListForm.{ListForm}
@@ -41,7 +43,7 @@ use Rattle.adf_rescue.specs.declared.undeleting.Undeletion.{Undeletion}
 use Rattle.adf_rescue.specs.Undelete.{IsUndeletion, key_of}
 use Rattle.adf_where.specs.Where.{IsWhere, IsWhereOf}
 use Rattle.adf_export.specs.Words.{LeadsTo}
-use Rattle.adf_commands.specs.Archives.{EndsArchive}
+use Rattle.adf_commands.specs.Archives.{EndsArchive, IsToldArchive}
 use Rattle.adf_commands.specs.Placed.{DoesWhere, IsBareLine, IsUnplaced, IsWhereText, MayEnd}
 use Rattle.adf_commands.specs.Reports.{DoesReport, TellsReport}
 use Rattle.adf_commands.specs.Rescues.{IsHostEnd, IsRescueText, IsSizeLine}
@@ -215,6 +217,13 @@ some_told f o x told e is = sym e ∙ ap (option_map f) is
 -- a text is a prefix of itself
 told_front : (old new : Option (List ℕ)) (text : List ℕ) → Appends old new text → WritesFront old new text
 told_front old new text told = (text, told, ([], sym (append-nil text)))
+
+-- the fault of a check of images, as that of the command
+pub archive_ends : (job : CheckJob) (old new : Option (List ℕ)) (fault : ArchiveFault) (told : CommandFault) → TellsArchive job old new (Err fault) → IsToldArchive fault told → EndsArchive job old new (Err told)
+archive_ends job old new archive.Refused told h same = subst (λ (f : CommandFault). EndsArchive job old new (Err f)) (sym same) h
+archive_ends job old new archive.NotChecked told h same = subst (λ (f : CommandFault). EndsArchive job old new (Err f)) (sym same) h
+archive_ends job old new archive.Output told h same = subst (λ (f : CommandFault). EndsArchive job old new (Err f)) (sym same) h
+archive_ends job old new archive.Memory told h same = subst (λ (f : CommandFault). EndsArchive job old new (Err f)) (sym same) h
 
 -- a check of images that ran out of memory
 archive_unsaid : (job : CheckJob) (old new : Option (List ℕ)) (fault : CommandFault) → EndsArchive job old new (Err fault) → EndsArchive job old new (Err Memory)
@@ -410,6 +419,7 @@ module _ (job : ImageJob) (old mid new : Option (List ℕ)) (line : List ℕ) wh
       told_dos (IsJobText job) (BeginsJobText job) old mid new (prints job) refusal h (subst (λ (l : List ℕ). Appends mid new l) same w)
   job_told fault tells h w = absurd (cc tells)
 
+  -- the line is written as far as the writer accepts it
   broken : (fault : CommandFault) → told_line fault ≡ Some line → DoesJob job old mid (Err fault) → WritesFront mid new line → TellsJob job old new (Err Output)
   broken (Refused refusal) tells h front =
       let same : line ≡ refusal_line refusal = cc tells in
@@ -419,19 +429,18 @@ module _ (job : ImageJob) (old mid new : Option (List ℕ)) (line : List ℕ) wh
       broken_dos (IsJobText job) (BeginsJobText job) old mid new (prints job) refusal h (subst (λ (l : List ℕ). WritesFront mid new l) same front)
   broken fault tells h front = absurd (cc tells)
 
-  -- the line is written as far as the writer accepts it
-  pub job_broken : (fault printed : CommandFault) (ended : Ending) → told_line fault ≡ Some line → DoesJob job old mid (Err fault)
-      → WritesFront mid new line → printed ≡ Output → IsErrAnd ended (λ told. told ≡ printed) → TellsJob job old new ended
-  job_broken fault printed (Ok x) tells h front output same = absurd same
-  job_broken fault printed (Err last) tells h front output is =
-      subst (λ (f : CommandFault). TellsJob job old new (Err f)) (sym (is ∙ output)) (broken fault tells h front)
+  pub job_broken : (fault last : CommandFault) → told_line fault ≡ Some line → DoesJob job old mid (Err fault) → WritesFront mid new line → last ≡ Output → TellsJob job old new (Err last)
+  job_broken fault last tells h front output = subst (λ (f : CommandFault). TellsJob job old new (Err f)) (sym output) (broken fault tells h front)
 
 -- a job whose fault has no line
 pub job_failed : (job : ImageJob) (old new : Option (List ℕ)) (fault : CommandFault) → DoesJob job old new (Err fault) → IsNoRefusal fault → TellsJob job old new (Err fault)
 job_failed job old new fault h plain = failed (IsJobText job) (BeginsJobText job) (prints job) old new fault h plain
 
 -- a job without memory for its line
-pub job_unsaid : (job : ImageJob) (old new : Option (List ℕ)) (fault : CommandFault) (ended : Ending) → DoesJob job old new (Err fault) → IsErrAnd ended (λ told. told ≡ Memory) → TellsJob job old new ended
-job_unsaid job old new fault (Ok x) h same = absurd same
-job_unsaid job old new fault (Err told) h same =
+pub job_unsaid : (job : ImageJob) (old new : Option (List ℕ)) (fault last : CommandFault) → DoesJob job old new (Err fault) → last ≡ Memory → TellsJob job old new (Err last)
+job_unsaid job old new fault last h same =
     subst (λ (f : CommandFault). TellsJob job old new (Err f)) (sym same) (unsaid (IsJobText job) (BeginsJobText job) (prints job) old new fault h)
+
+-- a job that succeeds
+pub job_done : (job : ImageJob) (old new : Option (List ℕ)) (x : Unit {0}) → DoesJob job old new (Ok x) → EndsJob job old new 0
+job_done job old new x h = (Ok x, done (IsJobText job) (BeginsJobText job) (prints job) old new x h, refl)

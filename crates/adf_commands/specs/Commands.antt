@@ -108,3 +108,7 @@ TellsJob job = Tells (prints job) (IsJobText job) (BeginsJobText job)
 abbrev pub exit_status : Ending → ℕ
 exit_status (Ok done) = 0
 exit_status (Err fault) = status_of fault
+
+-- a job ends with this output and this exit status
+abbrev pub EndsJob : ImageJob → Option (List ℕ) → Option (List ℕ) → ℕ → Type 0
+EndsJob job old new status = (done : Ending) × TellsJob job old new done × (status ≡ exit_status done)

@@ -6,8 +6,9 @@ ghost use Rattle.adf_commands.specs.Faults.{IsBlankFault, IsNamed, IsNameFault, 
 
 use crate::changing::given_or_now;
 use crate::fault::CommandFault;
-use crate::images::{hold_out, write_image};
+use crate::images::write_held;
 use adf_block::{Format, size_ok};
+use adf_host::hold_target;
 use adf_text::{LettersFault, letter_bytes};
 use ados_name::{Date3, Name};
 use ados_volume::{Volume, blank};
@@ -26,7 +27,7 @@ pub(crate) struct NewVolume<'a> {
     pub(crate) letters: bool,
 }
 
-/// Writes the image of a blank volume to a file.
+/// Writes the image of a blank volume in place of a file. An existing file is locked meanwhile.
 pub(crate) fn make_blank<'a, R: Files<File = File> + Clock>(
     rt: &R,
     alloc: Global,
@@ -37,7 +38,8 @@ pub(crate) fn make_blank<'a, R: Files<File = File> + Clock>(
 {
     let moment = given_or_now(rt, new.moment)?;
     let volume = blank_volume(alloc, new.format, new.blocks, new.name, new.letters, moment)?;
-    write_new(rt, alloc, &volume, file)
+    let held = hold_target(rt, file, None);
+    write_held(rt, alloc, volume.image(), &[], file, held)
 }
 
 /// A blank volume.
@@ -85,17 +87,4 @@ fn named<'a>(bytes: &[u8], word: &'a str) -> Result<Name, CommandFault<'a>>
         Ok(name) => Ok(name),
         Err(_) => Err(CommandFault::Name(word)),
     }
-}
-
-/// Writes the image of a new volume in place of a file. An existing file is locked meanwhile.
-fn write_new<'a, R: Files<File = File> + Clock>(
-    rt: &R,
-    alloc: Global,
-    volume: &Volume,
-    file: &'a str,
-) -> Result<(), CommandFault<'a>>
-    ensures { IfErr result IsNoRefusal }
-{
-    let held = hold_out(rt, file)?;
-    write_image(rt, alloc, volume.image(), &[], file, held.as_ref())
 }

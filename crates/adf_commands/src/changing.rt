@@ -5,7 +5,6 @@ ghost use Rattle.adf_commands.specs.Faults.{IsNoRefusal};
 use crate::explaining::explained;
 use crate::fault::CommandFault;
 use crate::images::{Work, accept};
-use adf_block::Image;
 use adf_import::{InFault, SourceFault, StandardInput, change_volume};
 use adf_text::print_line;
 use adf_words::{Change, ChangeJob, Source};
@@ -31,28 +30,12 @@ where
         return Err(CommandFault::Added(InFault::Source(SourceFault::Input)));
     }
     let (work, image) = Work::begin(rt, alloc, job.target)?;
-    let new = changed(rt, alloc, image, job, faults)?;
-    work.end(rt, alloc, &new)
-}
-
-/// The image after a change of its volume. It prints what was skipped on `faults`.
-fn changed<'a, R, F>(
-    rt: &R,
-    alloc: Global,
-    image: Image,
-    job: &ChangeJob<'a>,
-    faults: &mut F,
-) -> Result<Image, CommandFault<'a>>
-where
-    R: Files<File = File> + Clock + StandardInput,
-    F: Write,
-{
     let mut volume = accept(alloc, image)?;
     let moment = given_or_now(rt, job.moment)?;
     match change_volume(rt, alloc, &mut volume, &job.change, moment) {
         Ok(passed_over) => {
             tell_passed_over(&passed_over, faults);
-            Ok(volume.into_image())
+            work.end(rt, alloc, volume.image())
         }
         Err(fault) => Err(explained(alloc, &mut volume, &job.change, fault)),
     }

@@ -99,6 +99,23 @@ pub(crate) fn write_image<'a, R: Files<File = File>>(
     }
 }
 
+/// Writes an image, and then what is behind it, whole in place of a file that was locked for it, if it exists.
+pub(crate) fn write_held<'a, R: Files<File = File>>(
+    rt: &R,
+    alloc: Global,
+    image: &Image,
+    behind: &[u8],
+    file: &'a str,
+    held: Result<Option<HeldFile>, HoldFault>,
+) -> Result<(), CommandFault<'a>>
+    ensures { IfErr result IsNoRefusal }
+{
+    match held {
+        Ok(held) => write_image(rt, alloc, image, behind, file, held.as_ref()),
+        Err(fault) => Err(CommandFault::Held(file, fault)),
+    }
+}
+
 /// An image file that a command changes. It is locked, and so is the file to write, until this is dropped.
 pub(crate) struct Work<'a> {
     held: HeldFile,
@@ -215,18 +232,5 @@ fn refuse_precious<'a, R: Files<File = File>>(
             Err(CommandFault::Read(out, why_unreadable(rt, out)))
         }
         None => Ok(()),
-    }
-}
-
-/// Locks the file to write, if it exists.
-pub(crate) fn hold_out<'a, R: Files<File = File> + Clock>(
-    rt: &R,
-    out: &'a str,
-) -> Result<Option<HeldFile>, CommandFault<'a>>
-    ensures { IfErr result IsNoRefusal }
-{
-    match hold_target(rt, out, None) {
-        Ok(held) => Ok(held),
-        Err(fault) => Err(CommandFault::Held(out, fault)),
     }
 }

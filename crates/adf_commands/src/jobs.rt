@@ -1,5 +1,5 @@
 //! The jobs on image files.
-ghost use Rattle.adf_commands.specs.Commands.{DoesJob, TellsJob};
+ghost use Rattle.adf_commands.specs.Commands.{DoesJob};
 
 use crate::blank::{NewVolume, make_blank};
 use crate::blocks::tell_where;
@@ -9,7 +9,6 @@ use crate::changing::change;
 use crate::fault::CommandFault;
 use crate::look::Look;
 use crate::moving::take_out;
-use crate::output::tell;
 use crate::query::{Query, print_query};
 use crate::rescue::take_rescue;
 use crate::screen::Screen;
@@ -25,77 +24,10 @@ use std::rt::{Clock, Files};
 use std::sync::Wait;
 use std::thread::Threads;
 
-/// Does a job on image files. The output for an image and refusals go to the writer. Skipped files go to `faults`, and so does
-/// why an image is refused, and the progress of a check if `screen` says so.
+/// Does a job on image files, except for the line of a refusal ([`end_job`](crate::end_job)). The output for an image goes to the writer.
+/// Skipped files go to `faults`, and so does the progress of a check if `screen` says so.
 #[rattlefmt::skip]
 pub fn run_job<'a, R, W, F>(
-    rt: &R,
-    alloc: Global,
-    job: &ImageJob<'a>,
-    screen: Screen,
-    writer: &mut W,
-    faults: &mut F,
-) -> Result<(), CommandFault<'a>>
-where
-    R: Files<File = File> + Clock + Threads + Wait + ReadImages + StandardInput + Copy + Send + Sync + Drop + 'static,
-    W: Write,
-    F: Write,
-    ensures { TellsJob job.now (W.contents writer.old) (W.contents writer.new) result }
-{
-    let fault = match do_job(rt, alloc, job, screen, writer, faults) {
-        Ok(()) => return Ok(()),
-        Err(fault) => fault,
-    };
-    explain(rt, alloc, image_of(job), &fault, faults);
-    let line = fault.line(alloc)?;
-    let Some(text) = line else {
-        return Err(fault);
-    };
-    tell(writer, text.as_bytes())?;
-    Err(fault)
-}
-
-/// The image file that a job reads, if it is one.
-fn image_of<'a>(job: &ImageJob<'a>) -> Option<ImageFile<'a>> {
-    match job {
-        ImageJob::Blank { .. } | ImageJob::Check(_) => None,
-        ImageJob::Info { file } => Some(*file),
-        ImageJob::Show { image, .. }
-        | ImageJob::Map { image, .. }
-        | ImageJob::WherePath { image, .. }
-        | ImageJob::Print { image, .. }
-        | ImageJob::ExtractBundle { image, .. }
-        | ImageJob::SaveBoot { image, .. }
-        | ImageJob::ShowBoot { image } => Some(*image),
-        ImageJob::AddBundle { target, .. }
-        | ImageJob::Validate { target, .. }
-        | ImageJob::Boot { target, .. } => Some(target.image),
-        ImageJob::Where(job) => Some(job.image),
-        ImageJob::List(job) => Some(job.image),
-        ImageJob::Extract(job) => Some(job.image),
-        ImageJob::Salvage(job) => Some(job.image),
-        ImageJob::Undelete(job) => Some(job.image),
-        ImageJob::Change(job) => Some(job.target.image),
-        ImageJob::Serve(job) => Some(job.image),
-    }
-}
-
-/// Prints why an image is refused, if that is the fault.
-fn explain<R: Files + ReadImages, F: Write>(
-    rt: &R,
-    alloc: Global,
-    image: Option<ImageFile<'_>>,
-    fault: &CommandFault<'_>,
-    faults: &mut F,
-) {
-    if let (CommandFault::Refused(refusal), Some(file)) = (fault, image) {
-        refusal.explain(rt, alloc, file, faults);
-    }
-}
-
-/// Does a job on image files, without output for refusals.
-#[rattlefmt::skip]
-fn do_job<'a, R, W, F>(
     rt: &R,
     alloc: Global,
     job: &ImageJob<'a>,
@@ -140,5 +72,30 @@ where
         ImageJob::Boot { target, block } => change_boot(rt, alloc, *target, *block),
         ImageJob::SaveBoot { image, file } => save_boot(rt, alloc, *image, *file),
         ImageJob::Serve(job) => serve(rt, alloc, job, writer, faults),
+    }
+}
+
+/// The image file that a job reads, if it is one.
+pub(crate) fn image_of<'a>(job: &ImageJob<'a>) -> Option<ImageFile<'a>> {
+    match job {
+        ImageJob::Blank { .. } | ImageJob::Check(_) => None,
+        ImageJob::Info { file } => Some(*file),
+        ImageJob::Show { image, .. }
+        | ImageJob::Map { image, .. }
+        | ImageJob::WherePath { image, .. }
+        | ImageJob::Print { image, .. }
+        | ImageJob::ExtractBundle { image, .. }
+        | ImageJob::SaveBoot { image, .. }
+        | ImageJob::ShowBoot { image } => Some(*image),
+        ImageJob::AddBundle { target, .. }
+        | ImageJob::Validate { target, .. }
+        | ImageJob::Boot { target, .. } => Some(target.image),
+        ImageJob::Where(job) => Some(job.image),
+        ImageJob::List(job) => Some(job.image),
+        ImageJob::Extract(job) => Some(job.image),
+        ImageJob::Salvage(job) => Some(job.image),
+        ImageJob::Undelete(job) => Some(job.image),
+        ImageJob::Change(job) => Some(job.target.image),
+        ImageJob::Serve(job) => Some(job.image),
     }
 }

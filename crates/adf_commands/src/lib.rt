@@ -29,6 +29,6 @@ pub use fault::CommandFault;
 pub use faulty_line::{last_number, tell_faulty_line};
 pub use info::FIRST_MOMENT;
 pub use jobs::run_job;
-pub use output::status_of;
+pub use output::end_job;
 pub use refusal::{Detail, DosRefusal, Refusal, Room};
 pub use screen::Screen;

@@ -1,15 +1,21 @@
-//! The output streams of a command.
-ghost use Rattle.std.specs.Prelude.{◌≡◌, OnOk, OnErr, IfErr};
+//! What a command prints, and its exit status.
+ghost use Rattle.std.specs.Prelude.{◌≡◌, ℕ, List, Option, Err, OnOk, OnErr, IfErr};
 ghost use Rattle.std.specs.Io.KnownBytes.{Appends};
 ghost use Rattle.adf_io.specs.Prefix.{WritesFront};
-ghost use Rattle.adf_commands.specs.Commands.{exit_status};
+ghost use Rattle.adf_words.specs.declared.job.ImageJob.{ImageJob};
+ghost use Rattle.adf_commands.specs.Commands.{DoesJob, EndsJob, TellsJob};
 ghost use Rattle.adf_commands.specs.Faults.{IsNoRefusal};
 ghost use Rattle.adf_commands.specs.declared.fault.CommandFault.TheVariants.{Output};
 
 use crate::fault::CommandFault;
+use crate::jobs::image_of;
+use adf_archive::ReadImages;
 use adf_io::write_output;
 use adf_text::print_line;
+use adf_words::ImageJob;
+use std::alloc::Global;
 use std::io::Write;
+use std::rt::Files;
 
 /// Writes a text to standard output.
 pub(crate) fn tell<'a, W: Write>(writer: &mut W, text: &[u8]) -> Result<(), CommandFault<'a>>
@@ -24,16 +30,41 @@ pub(crate) fn tell<'a, W: Write>(writer: &mut W, text: &[u8]) -> Result<(), Comm
     }
 }
 
-/// The exit status of a command. It prints the fault.
-pub fn status_of<F: Write>(done: Result<(), CommandFault<'_>>, faults: &mut F) -> u8
-    ensures { result ≡ exit_status done.entry }
+/// Ends a job on an image file. Prints the line of a refusal on the writer, and why the image is refused and any other fault on
+/// `faults`. Returns the exit status.
+pub fn end_job<R: Files + ReadImages, W: Write, F: Write>(
+    rt: &R,
+    alloc: Global,
+    job: &ImageJob<'_>,
+    done: Result<(), CommandFault<'_>>,
+    writer: &mut W,
+    faults: &mut F,
+) -> u8
+    ensures { (old : Option (List ℕ)) → DoesJob job.now old (W.contents writer.old) done.entry → EndsJob job.now old (W.contents writer.new) result }
 {
-    match done {
-        Ok(()) => 0,
-        Err(fault) => {
-            tell_fault(&fault, faults);
-            fault.status()
-        }
+    let fault = match done {
+        Ok(()) => return 0,
+        Err(fault) => fault,
+    };
+    if let (CommandFault::Refused(refusal), Some(file)) = (&fault, image_of(job)) {
+        refusal.explain(rt, alloc, file, faults);
+    }
+    let last = refuse(alloc, fault, writer);
+    tell_fault(&last, faults);
+    last.status()
+}
+
+/// Prints the line of a refusal, if the fault of a job is one. Returns the fault with which the job ends.
+fn refuse<'a, W: Write>(alloc: Global, fault: CommandFault<'a>, writer: &mut W) -> CommandFault<'a>
+    ensures { (job : ImageJob) (old : Option (List ℕ)) → DoesJob job old (W.contents writer.old) (Err fault.entry) → TellsJob job old (W.contents writer.new) (Err result) }
+{
+    match fault.line(alloc) {
+        Ok(None) => fault,
+        Ok(Some(line)) => match tell(writer, line.as_bytes()) {
+            Ok(()) => fault,
+            Err(other) => other,
+        },
+        Err(error) => CommandFault::from(error),
     }
 }
 

@@ -44,11 +44,13 @@ impl Refusal {
         ensures none { IfNone result (fault.kind ≡ NoMemory) }
         ensures some { IfSome result (λ _. fault.kind ≢ NoMemory) }
     {
-        let kind = volume_word(fault.kind)?;
-        Some(Refusal {
-            kind,
-            block: fault.block,
-        })
+        match fault.kind {
+            FaultKind::NoMemory => None,
+            kind => Some(Refusal {
+                kind: kind_word(kind),
+                block: fault.block,
+            }),
+        }
     }
 
     /// Its line on standard output.
@@ -138,17 +140,5 @@ impl fmt::Display for DosRefusal {
             Detail::NeedsFile => write!(f, "'{path}' is a directory; print needs a file"),
             Detail::IntoItself => write!(f, "cannot move '{path}' into itself"),
         }
-    }
-}
-
-/// The word for a fault of a volume.
-fn volume_word(kind: FaultKind) -> Option<&'static str>
-    ensures word { IfSome result (λ word. word.now ≡ kind_word kind) }
-    ensures none { IfNone result (kind ≡ NoMemory) }
-    ensures some { IfSome result (λ _. kind ≢ NoMemory) }
-{
-    match kind {
-        FaultKind::NoMemory => None,
-        shown => Some(kind_word(shown)),
     }
 }

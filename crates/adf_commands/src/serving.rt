@@ -4,13 +4,14 @@ ghost use Rattle.std.specs.Prelude.{◌≡◌, length, IfOk};
 use crate::changing::given_or_now;
 use crate::fault::CommandFault;
 use crate::faulty_line::{last_number, tell_faulty_line};
-use crate::images::{accept, read_loaded, write_image};
-use adf_block::Image;
+use crate::images::{accept, read_loaded, write_held};
 use adf_host::{HeldFile, HoldFault, hold_target, why_unreadable};
 use adf_io::{Loaded, read_bounded, write_output};
 use adf_script::{LONGEST_SCRIPT, read_script};
 use adf_words::ServeJob;
-use ados_run::{ClientEnding, OpenGate, serve_volume};
+use ados_name::Date3;
+use ados_run::{ClientEnding, OpenGate, VolumeServed, serve_volume};
+use ados_volume::Volume;
 use std::alloc::Global;
 use std::fs::{self, File, OpenFile};
 use std::io::Write;
@@ -28,12 +29,13 @@ struct Scripts {
     copies: Vec<Vec<u8>>,
 }
 
-/// The image after all packets, what is behind it in its file, and the output of each client and how it ended, in order.
+/// What `serve` reads: the volume, what is behind its image in the file, the time stamp of all packets, and the scripts.
 #[derive(Drop)]
-struct Served {
-    image: Image,
+struct Input {
+    volume: Volume,
     behind: Vec<u8>,
-    texts: Vec<ClientText>,
+    moment: Date3,
+    scripts: Scripts,
 }
 
 /// The file to write, and the lock on it, if it exists, or why it is not locked.
@@ -60,49 +62,38 @@ where
         Some(file) => Some((file, hold_target(rt, file, None))),
         None => None,
     };
-    let served = serve_files(rt, alloc, job, faults)?;
-    finish(rt, alloc, &served, out, writer)
-}
-
-/// Runs the scripts in these files over the volume of the image, and prints what is wrong with faulty lines on `faults`.
-fn serve_files<'a, R, F>(
-    rt: &R,
-    alloc: Global,
-    job: &ServeJob<'a>,
-    faults: &mut F,
-) -> Result<Served, CommandFault<'a>>
-where
-    R: Files<File = File> + Clock + Threads + Wait + Copy + Send + Drop + 'static,
-    F: Write,
-{
-    let moment = given_or_now(rt, job.moment)?;
-    let Loaded { image, behind } = read_loaded(rt, alloc, job.image)?;
-    let volume = accept(alloc, image)?;
-    let Scripts { scripts, copies } = read_scripts(rt, alloc, job.scripts.as_slice())?;
+    let Input {
+        volume,
+        behind,
+        moment,
+        scripts: Scripts { scripts, copies },
+    } = read_input(rt, alloc, job)?;
     match serve_volume(rt, alloc, volume, scripts, moment, job.turns) {
         Ok(served) => {
             tell_faulty(alloc, job, &copies, &served.texts, faults);
-            Ok(Served {
-                image: served.handler.into_volume().into_image(),
-                behind,
-                texts: served.texts,
-            })
+            finish(rt, alloc, &served, &behind, out, writer)
         }
         Err(fault) => Err(CommandFault::from(fault)),
     }
 }
 
-/// Copies of scripts.
-fn copies_of<'a>(
+/// Reads the image and the scripts, and the clock if no time stamp is given.
+fn read_input<'a, R: Files + Clock>(
+    rt: &R,
     alloc: Global,
-    scripts: &[(Vec<u8>, OpenGate)],
-) -> Result<Vec<Vec<u8>>, CommandFault<'a>> {
-    let mut copies = Vec::new(alloc);
-    for script in scripts {
-        copies.reserve(1)?;
-        copies.push_reserved(Vec::from_slice(alloc, script.0.as_slice())?);
-    }
-    Ok(copies)
+    job: &ServeJob<'a>,
+) -> Result<Input, CommandFault<'a>>
+    ensures { IfOk result (λ input. length input.scripts.scripts.items ≡ length job.now.scripts.items) }
+{
+    let moment = given_or_now(rt, job.moment)?;
+    let Loaded { image, behind } = read_loaded(rt, alloc, job.image)?;
+    let volume = accept(alloc, image)?;
+    Ok(Input {
+        volume,
+        behind,
+        moment,
+        scripts: read_scripts(rt, alloc, job.scripts.as_slice())?,
+    })
 }
 
 /// Prints what is wrong with the faulty line of each script that has one.
@@ -139,43 +130,24 @@ fn tell_faulty_script<F: Write>(
     }
 }
 
-/// Prints the output of each client, writes the image if requested, and judges how the clients ended.
+/// Prints the output of each client, writes the image and what is behind it if requested, and judges how the clients ended.
 fn finish<'a, R: Files<File = File>, W: Write>(
     rt: &R,
     alloc: Global,
-    served: &Served,
+    served: &VolumeServed,
+    behind: &[u8],
     out: Option<OutFile<'a>>,
     writer: &mut W,
 ) -> Result<(), CommandFault<'a>> {
     let is_told = tell_all(&served.texts, writer);
-    write_out(rt, alloc, served, out)?;
+    if let Some((file, held)) = out {
+        let image = served.handler.volume().image();
+        write_held(rt, alloc, image, behind, file, held)?;
+    }
     if !is_told {
         return Err(CommandFault::Output);
     }
     judge(&served.texts)
-}
-
-/// Writes the image and what is behind it in place of a file, if requested, unless another command has locked it.
-fn write_out<'a, R: Files<File = File>>(
-    rt: &R,
-    alloc: Global,
-    served: &Served,
-    out: Option<OutFile<'a>>,
-) -> Result<(), CommandFault<'a>> {
-    let Some((file, held)) = out else {
-        return Ok(());
-    };
-    match held {
-        Ok(held) => write_image(
-            rt,
-            alloc,
-            &served.image,
-            &served.behind,
-            file,
-            held.as_ref(),
-        ),
-        Err(fault) => Err(CommandFault::Held(file, fault)),
-    }
 }
 
 /// The scripts in these files, in order.
@@ -186,12 +158,14 @@ fn read_scripts<'a, R: Files>(
 ) -> Result<Scripts, CommandFault<'a>>
     ensures { IfOk result (λ read. length read.scripts.items ≡ length files.now) }
 {
-    let mut scripts = Vec::new(alloc);
+    let (mut scripts, mut copies) = (Vec::new(alloc), Vec::new(alloc));
     for file in files {
         scripts.reserve(1)?;
-        scripts.push_reserved((script_of(rt, alloc, *file)?, OpenGate));
+        copies.reserve(1)?;
+        let script = script_of(rt, alloc, *file)?;
+        copies.push_reserved(Vec::from_slice(alloc, script.as_slice())?);
+        scripts.push_reserved((script, OpenGate));
     }
-    let copies = copies_of(alloc, scripts.as_slice())?;
     Ok(Scripts { scripts, copies })
 }
 

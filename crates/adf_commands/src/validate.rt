@@ -1,9 +1,9 @@
 //! The command `validate`.
-ghost use Rattle.std.specs.Prelude.{ℕ, Bool, List, MatchResult};
-ghost use Rattle.adf_commands.specs.Commands.{TellsOf, TellsSome};
+ghost use Rattle.std.specs.Prelude.{MatchResult};
+ghost use Rattle.adf_commands.specs.Commands.{TellsSome};
 ghost use Rattle.adf_commands.specs.Faults.{IsRefusedAs};
 ghost use Rattle.adf_commands.specs.Texts.{IsCountText};
-ghost use Rattle.ados_mend.specs.Answer.{IsNew, IsReason};
+ghost use Rattle.ados_mend.specs.Answer.{IsNew};
 
 use crate::fault::CommandFault;
 use crate::images::Work;
@@ -27,20 +27,6 @@ pub(crate) fn validate_file<'a, R: Files<File = File> + Clock, W: Write>(
     ensures { TellsSome IsCountText IsCountText (W.contents writer.old) (W.contents writer.new) result }
 {
     let (work, image) = Work::begin(rt, alloc, target)?;
-    write_anew(rt, alloc, work, image, force, writer)
-}
-
-/// Writes an image with a new bitmap, and prints how many bits changed.
-fn write_anew<'a, R: Files<File = File>, W: Write>(
-    rt: &R,
-    alloc: Global,
-    work: Work<'a>,
-    image: Image,
-    force: bool,
-    writer: &mut W,
-) -> Result<(), CommandFault<'a>>
-    ensures { TellsOf IsCountText IsCountText image (W.contents writer.old) (W.contents writer.new) result }
-{
     let validated = anew(alloc, image, force)?;
     let line = validated.line(alloc)?;
     work.end(rt, alloc, &validated.image)?;
@@ -53,17 +39,8 @@ fn anew<'a>(alloc: Global, image: Image, force: bool) -> Result<Validated, Comma
 {
     match validate(alloc, image, force) {
         Ok(validated) => Ok(validated),
-        Err(why) => Err(bitmap_fault(why)),
-    }
-}
-
-/// Why no bitmap is written, as the fault of a command.
-fn bitmap_fault<'a>(why: NotValidated) -> CommandFault<'a>
-    ensures { (image : List ℕ) (force : Bool) → IsReason image force why → IsRefusedAs image result }
-{
-    match why {
-        NotValidated::OtherFault(fault) => CommandFault::from(fault),
-        NotValidated::Memory => CommandFault::Memory,
-        _ => CommandFault::Bitmap(why),
+        Err(NotValidated::OtherFault(fault)) => Err(CommandFault::from(fault)),
+        Err(NotValidated::Memory) => Err(CommandFault::Memory),
+        Err(why) => Err(CommandFault::Bitmap(why)),
     }
 }

@@ -1,25 +1,61 @@
-use Rattle.std.proofs.Common.{ℕ, List, subst}
-use Rattle.std.specs.Io.KnownBytes.{Appends}
-use Rattle.std.specs.String.{string_bytes}
-use Rattle.adf_io.specs.Prefix.{WritesFront}
-use Rattle.adf_commands.proofs.Printing.{job_broken, job_failed, job_told, job_unsaid, none_told, some_told}
+use Rattle.std.proofs.Common.{Ok, Err, subst, sym}
+use Rattle.adf_words.specs.declared.job.ImageJob.{ImageJob}
+use Rattle.adf_commands.specs.Commands.{DoesJob}
+use Rattle.adf_commands.proofs.Printing.{PrintsNothing, archive_ends, job_silent}
 use Rattle.adf_commands.proofs.jobs.run_job.Goals as goal
 
-pub returns-in_err-line : goal.returns-in_err-line
-returns-in_err-line g c = job_unsaid c.args.job.now _ _ c.in-Err.fault _ c.in-Err.ensures c.from_residual.ensures.1
+pub returns-in-Blank : goal.returns-in-Blank
+returns-in-Blank g c = job_silent c.args.job.now _ _ (subst PrintsNothing (sym c.in-Blank.is) tt) c.make_blank.ensures
 
-pub returns-in_default : goal.returns-in_default
-returns-in_default g c = job_failed c.args.job.now _ _ c.in-Err.fault c.in-Err.ensures (none_told string_bytes _ _ c.in_ok-line.ensures c.in_default.is)
+pub returns-in-Info : goal.returns-in-Info
+returns-in-Info g c =
+    subst (λ (job : ImageJob). DoesJob job (g.W.Write.contents c.args.writer.now) (g.W.Write.contents c.print_query.new.writer) c.print_query.result) (sym c.in-Info.is) c.print_query.ensures
 
-pub returns-in_err-tell : goal.returns-in_err-tell
-returns-in_err-tell g c =
-    let tells = some_told string_bytes _ c.in-Some.text _ c.in_ok-line.ensures c.in-Some.is in
-    let front = subst (λ (l : List ℕ). WritesFront (g.W.Write.contents c.do_job.new.writer) (g.W.Write.contents c.tell.new.writer) l) c.as_bytes.ensures.value c.in_err-tell.ensures.front in
-    job_broken c.args.job.now _ _ _ (string_bytes c.in-Some.text) c.in-Err.fault c.in_err-tell.field-0.0 _ tells c.in-Err.ensures front
-    c.in_err-tell.ensures.output c.from_residual-in_err-tell.ensures.1
+pub returns-in-Check-Ok : goal.returns-in-Check-Ok
+returns-in-Check-Ok g c =
+    subst (λ (job : ImageJob). DoesJob job (g.W.Write.contents c.args.writer.now) (g.W.Write.contents c.check_archive.new.writer) (Ok tt)) (sym c.in-Check.is) c.in-Check-Ok.ensures
 
-pub returns : goal.returns
-returns g c =
-    let tells = some_told string_bytes _ c.in-Some.text _ c.in_ok-line.ensures c.in-Some.is in
-    let told = subst (λ (l : List ℕ). Appends (g.W.Write.contents c.do_job.new.writer) (g.W.Write.contents c.tell.new.writer) l) c.as_bytes.ensures.value c.in_ok-tell.ensures.ok in
-    job_told c.args.job.now _ _ _ (string_bytes c.in-Some.text) c.in-Err.fault tells c.in-Err.ensures told
+pub returns-in-Check-Err : goal.returns-in-Check-Err
+returns-in-Check-Err g c =
+    subst (λ (job : ImageJob). DoesJob job (g.W.Write.contents c.args.writer.now) (g.W.Write.contents c.check_archive.new.writer) (Err c.from.result)) (sym c.in-Check.is)
+    (archive_ends c.in-Check.job.now _ _ c.in-Check-Err.fault c.from.result c.in-Check-Err.ensures c.from.ensures)
+
+pub returns-in-List : goal.returns-in-List
+returns-in-List g c =
+    subst (λ (job : ImageJob). DoesJob job (g.W.Write.contents c.args.writer.now) (g.W.Write.contents c.print_query-in-List.new.writer) c.print_query-in-List.result) (sym c.in-List.is) c.print_query-in-List.ensures
+
+pub returns-in-Print : goal.returns-in-Print
+returns-in-Print g c =
+    subst (λ (job : ImageJob). DoesJob job (g.W.Write.contents c.args.writer.now) (g.W.Write.contents c.print_query-in-Print.new.writer) c.print_query-in-Print.result) (sym c.in-Print.is) c.print_query-in-Print.ensures
+
+pub returns-in-Salvage : goal.returns-in-Salvage
+returns-in-Salvage g c =
+    subst (λ (job : ImageJob). DoesJob job (g.W.Write.contents c.args.writer.now) (g.W.Write.contents c.take_rescue.new.writer) c.take_rescue.result) (sym c.in-Salvage.is) c.take_rescue.ensures
+
+pub returns-in-ShowBoot : goal.returns-in-ShowBoot
+returns-in-ShowBoot g c =
+    subst (λ (job : ImageJob). DoesJob job (g.W.Write.contents c.args.writer.now) (g.W.Write.contents c.print_query-in-ShowBoot.new.writer) c.print_query-in-ShowBoot.result) (sym c.in-ShowBoot.is) c.print_query-in-ShowBoot.ensures
+
+pub returns-in-Show : goal.returns-in-Show
+returns-in-Show g c =
+    subst (λ (job : ImageJob). DoesJob job (g.W.Write.contents c.args.writer.now) (g.W.Write.contents c.print_query-in-Show.new.writer) c.print_query-in-Show.result) (sym c.in-Show.is) c.print_query-in-Show.ensures
+
+pub returns-in-Validate : goal.returns-in-Validate
+returns-in-Validate g c =
+    subst (λ (job : ImageJob). DoesJob job (g.W.Write.contents c.args.writer.now) (g.W.Write.contents c.validate_file.new.writer) c.validate_file.result) (sym c.in-Validate.is) c.validate_file.ensures
+
+pub returns-in-Where : goal.returns-in-Where
+returns-in-Where g c =
+    subst (λ (job : ImageJob). DoesJob job (g.W.Write.contents c.args.writer.now) (g.W.Write.contents c.tell_where.new.writer) c.tell_where.result) (sym c.in-Where.is) c.tell_where.ensures
+
+pub returns-in-WherePath : goal.returns-in-WherePath
+returns-in-WherePath g c =
+    subst (λ (job : ImageJob). DoesJob job (g.W.Write.contents c.args.writer.now) (g.W.Write.contents c.print_query-in-WherePath.new.writer) c.print_query-in-WherePath.result) (sym c.in-WherePath.is) c.print_query-in-WherePath.ensures
+
+pub returns-in-Map : goal.returns-in-Map
+returns-in-Map g c =
+    subst (λ (job : ImageJob). DoesJob job (g.W.Write.contents c.args.writer.now) (g.W.Write.contents c.print_query-in-Map.new.writer) c.print_query-in-Map.result) (sym c.in-Map.is) c.print_query-in-Map.ensures
+
+pub returns-in-Undelete : goal.returns-in-Undelete
+returns-in-Undelete g c =
+    subst (λ (job : ImageJob). DoesJob job (g.W.Write.contents c.args.writer.now) (g.W.Write.contents c.print_query-in-Undelete.new.writer) c.print_query-in-Undelete.result) (sym c.in-Undelete.is) c.print_query-in-Undelete.ensures

@@ -1,9 +1,12 @@
 use Rattle.std.proofs.Common.{subst}
-use Rattle.ados_mend.specs.Answer.{Validates}
+use Rattle.ados_mend.specs.Answer.{IsReason, Validates}
+use Rattle.adf_commands.proofs.Bitmaps.{refused_as}
 use Rattle.adf_commands.proofs.validate.anew.Goals as goal
 
 pub returns-in-Ok : goal.returns-in-Ok
 returns-in-Ok c = subst (Validates c.args.image c.args.force) c.in-Ok.is c.validate.ensures
 
-pub returns-in-Err : goal.returns-in-Err
-returns-in-Err c = c.bitmap_fault.ensures c.args.image c.args.force (subst (Validates c.args.image c.args.force) c.in-Err.is c.validate.ensures)
+pub returns-in-Err-OtherFault : goal.returns-in-Err-OtherFault
+returns-in-Err-OtherFault c =
+    let shown = subst (Validates c.args.image c.args.force) c.in-Err-OtherFault.is c.validate.ensures in
+    refused_as c.args.image c.in-Err-OtherFault.fault c.from.result shown.0 c.from.ensures
