@@ -16,7 +16,7 @@ use crate::serving::serve;
 use crate::validate::validate_file;
 use adf_archive::{ReadImages, check_archive};
 use adf_import::StandardInput;
-use adf_words::{ImageFile, ImageJob};
+use adf_words::ImageJob;
 use std::alloc::Global;
 use std::fs::File;
 use std::io::Write;
@@ -72,30 +72,5 @@ where
         ImageJob::Boot { target, block } => change_boot(rt, alloc, *target, *block),
         ImageJob::SaveBoot { image, file } => save_boot(rt, alloc, *image, *file),
         ImageJob::Serve(job) => serve(rt, alloc, job, writer, faults),
-    }
-}
-
-/// The image file that a job reads, if it is one.
-pub(crate) fn image_of<'a>(job: &ImageJob<'a>) -> Option<ImageFile<'a>> {
-    match job {
-        ImageJob::Blank { .. } | ImageJob::Check(_) => None,
-        ImageJob::Info { file } => Some(*file),
-        ImageJob::Show { image, .. }
-        | ImageJob::Map { image, .. }
-        | ImageJob::WherePath { image, .. }
-        | ImageJob::Print { image, .. }
-        | ImageJob::ExtractBundle { image, .. }
-        | ImageJob::SaveBoot { image, .. }
-        | ImageJob::ShowBoot { image } => Some(*image),
-        ImageJob::AddBundle { target, .. }
-        | ImageJob::Validate { target, .. }
-        | ImageJob::Boot { target, .. } => Some(target.image),
-        ImageJob::Where(job) => Some(job.image),
-        ImageJob::List(job) => Some(job.image),
-        ImageJob::Extract(job) => Some(job.image),
-        ImageJob::Salvage(job) => Some(job.image),
-        ImageJob::Undelete(job) => Some(job.image),
-        ImageJob::Change(job) => Some(job.target.image),
-        ImageJob::Serve(job) => Some(job.image),
     }
 }

@@ -8,7 +8,6 @@ ghost use Rattle.adf_commands.specs.Faults.{IsNoRefusal};
 ghost use Rattle.adf_commands.specs.declared.fault.CommandFault.TheVariants.{Output};
 
 use crate::fault::CommandFault;
-use crate::jobs::image_of;
 use adf_archive::ReadImages;
 use adf_io::write_output;
 use adf_text::print_line;
@@ -46,7 +45,7 @@ pub fn end_job<R: Files + ReadImages, W: Write, F: Write>(
         Ok(()) => return 0,
         Err(fault) => fault,
     };
-    if let (CommandFault::Refused(refusal), Some(file)) = (&fault, image_of(job)) {
+    if let (CommandFault::Refused(refusal), Some(file)) = (&fault, job.image()) {
         refusal.explain(rt, alloc, file, faults);
     }
     let last = refuse(alloc, fault, writer);

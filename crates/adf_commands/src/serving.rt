@@ -3,12 +3,11 @@ ghost use Rattle.std.specs.Prelude.{◌≡◌, length, IfOk};
 
 use crate::changing::given_or_now;
 use crate::fault::CommandFault;
-use crate::faulty_line::{last_number, tell_faulty_line};
 use crate::images::{accept, read_loaded, write_held};
 use adf_host::{HeldFile, HoldFault, hold_target, why_unreadable};
 use adf_io::{Loaded, read_bounded, write_output};
 use adf_script::{LONGEST_SCRIPT, read_script};
-use adf_words::ServeJob;
+use adf_words::{ServeJob, last_number, tell_faulty_line};
 use ados_name::Date3;
 use ados_run::{ClientEnding, OpenGate, VolumeServed, serve_volume};
 use ados_volume::Volume;

@@ -7,8 +7,9 @@ ghost use Rattle.adf_commands.specs.Texts.{first_moment};
 ghost use Rattle.adf_serve.specs.Script.{RunsScript, TellsScript};
 
 use adf_block::Format;
-use adf_commands::{FIRST_MOMENT, last_number};
+use adf_commands::FIRST_MOMENT;
 use adf_script::{TryFault, read_script, run_script};
+use adf_words::last_number;
 use ados_handler::Handler;
 use ados_name::Name;
 use ados_volume::blank;

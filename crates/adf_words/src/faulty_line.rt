@@ -199,7 +199,7 @@ fn quoted(text: &str) -> Option<(&str, &str)> {
 fn behind_number<'a>(field: Field, rest: Option<&'a str>) -> Result<Option<&'a str>, Wrong<'a>> {
     let (found, behind) = cut(rest.unwrap_or(""));
     let is_right = match field {
-        Field::Signed => is_signed(found),
+        Field::Signed => !found.starts_with('+') && found.parse::<i32>().is_ok(),
         Field::Value => unsigned(found.strip_prefix('$').unwrap_or(found)).is_some(),
         Field::Count => unsigned(found).is_some_and(|count| count <= MOST_READ),
         _ => unsigned(found).is_some(),
@@ -235,9 +235,4 @@ fn unsigned(text: &str) -> Option<u32> {
         return None;
     }
     text.parse().ok()
-}
-
-/// Whether a text is a number of 32 bits that may begin with `-`.
-fn is_signed(text: &str) -> bool {
-    !text.starts_with('+') && text.parse::<i32>().is_ok()
 }
