@@ -11,14 +11,14 @@ pub returns-in-Info : goal.returns-in-Info
 returns-in-Info g c =
     subst (λ (job : ImageJob). DoesJob job (g.W.Write.contents c.args.writer.now) (g.W.Write.contents c.print_query.new.writer) c.print_query.result) (sym c.in-Info.is) c.print_query.ensures
 
-pub returns-in-Check-Ok : goal.returns-in-Check-Ok
-returns-in-Check-Ok g c =
-    subst (λ (job : ImageJob). DoesJob job (g.W.Write.contents c.args.writer.now) (g.W.Write.contents c.check_archive.new.writer) (Ok tt)) (sym c.in-Check.is) c.in-Check-Ok.ensures
+pub returns-in-Ok : goal.returns-in-Ok
+returns-in-Ok g c =
+    subst (λ (job : ImageJob). DoesJob job (g.W.Write.contents c.args.writer.now) (g.W.Write.contents c.check_archive.new.writer) (Ok tt)) (sym c.in-Check.is) c.in-Ok.ensures
 
-pub returns-in-Check-Err : goal.returns-in-Check-Err
-returns-in-Check-Err g c =
+pub returns-in-Err : goal.returns-in-Err
+returns-in-Err g c =
     subst (λ (job : ImageJob). DoesJob job (g.W.Write.contents c.args.writer.now) (g.W.Write.contents c.check_archive.new.writer) (Err c.from.result)) (sym c.in-Check.is)
-    (archive_ends c.in-Check.job.now _ _ c.in-Check-Err.fault c.from.result c.in-Check-Err.ensures c.from.ensures)
+    (archive_ends c.in-Check.job.now _ _ c.in-Err.fault c.from.result c.in-Err.ensures c.from.ensures)
 
 pub returns-in-List : goal.returns-in-List
 returns-in-List g c =

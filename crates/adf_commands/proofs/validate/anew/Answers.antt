@@ -8,5 +8,6 @@ returns-in-Ok c = subst (Validates c.args.image c.args.force) c.in-Ok.is c.valid
 
 pub returns-in-Err-OtherFault : goal.returns-in-Err-OtherFault
 returns-in-Err-OtherFault c =
-    let shown = subst (Validates c.args.image c.args.force) c.in-Err-OtherFault.is c.validate.ensures in
+    let reason = subst (Validates c.args.image c.args.force) c.in-Err-OtherFault.is c.validate.ensures in
+    let shown = subst (IsReason c.args.image c.args.force) c.in-Err-OtherFault.field-0-is reason in
     refused_as c.args.image c.in-Err-OtherFault.fault c.from.result shown.0 c.from.ensures
