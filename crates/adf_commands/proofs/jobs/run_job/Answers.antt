@@ -1,7 +1,7 @@
-use Rattle.std.proofs.Common.{Ok, Err, subst, sym}
+use Rattle.std.proofs.Common.{subst, sym}
 use Rattle.adf_words.specs.declared.job.ImageJob.{ImageJob}
 use Rattle.adf_commands.specs.Commands.{DoesJob}
-use Rattle.adf_commands.proofs.Printing.{PrintsNothing, archive_ends, job_silent}
+use Rattle.adf_commands.proofs.Printing.{PrintsNothing, job_silent}
 use Rattle.adf_commands.proofs.jobs.run_job.Goals as goal
 
 pub returns-in-Blank : goal.returns-in-Blank
@@ -10,15 +10,6 @@ returns-in-Blank g c = job_silent c.args.job.now _ _ (subst PrintsNothing (sym c
 pub returns-in-Info : goal.returns-in-Info
 returns-in-Info g c =
     subst (λ (job : ImageJob). DoesJob job (g.W.Write.contents c.args.writer.now) (g.W.Write.contents c.print_query.new.writer) c.print_query.result) (sym c.in-Info.is) c.print_query.ensures
-
-pub returns-in-Ok : goal.returns-in-Ok
-returns-in-Ok g c =
-    subst (λ (job : ImageJob). DoesJob job (g.W.Write.contents c.args.writer.now) (g.W.Write.contents c.check_archive.new.writer) (Ok tt)) (sym c.in-Check.is) c.in-Ok.ensures
-
-pub returns-in-Err : goal.returns-in-Err
-returns-in-Err g c =
-    subst (λ (job : ImageJob). DoesJob job (g.W.Write.contents c.args.writer.now) (g.W.Write.contents c.check_archive.new.writer) (Err c.from.result)) (sym c.in-Check.is)
-    (archive_ends c.in-Check.job.now _ _ c.in-Err.fault c.from.result c.in-Err.ensures c.from.ensures)
 
 pub returns-in-List : goal.returns-in-List
 returns-in-List g c =
