@@ -112,7 +112,7 @@ pub(crate) fn end_over(images: usize, tally: Tally) -> Result<(), ArchiveFault>
     tally.end()
 }
 
-/// Writes the reports on images, in order. Their paths start at a position of the list.
+/// Writes the reports on images, in order, or a prefix if the writer fails. Their paths start at a position of the list.
 pub fn tell_reports<W: Write>(
     alloc: Global,
     paths: &[String],
@@ -127,7 +127,10 @@ pub fn tell_reports<W: Write>(
     ensures broken { IfErr result IsBroken }
 {
     let text = reports_text(alloc, paths, start, reports, form)?;
-    write_text(&text, writer)
+    match write_output(&text, writer) {
+        Ok(()) => Ok(()),
+        Err(_) => Err(ArchiveFault::Output),
+    }
 }
 
 /// The reports on images, as text. Their paths start at a position of the list.
@@ -152,18 +155,6 @@ fn reports_text(
         )?;
     }
     Ok(text)
-}
-
-/// Writes a text, or a prefix if the writer fails.
-fn write_text<W: Write>(text: &[u8], writer: &mut W) -> Result<(), ArchiveFault>
-    ensures ok { OnOk result (Appends (W.contents writer.old) (W.contents writer.new) text.now) }
-    ensures front { OnErr result (WritesFront (W.contents writer.old) (W.contents writer.new) text.now) }
-    ensures broken { IfErr result IsBroken }
-{
-    match write_output(text, writer) {
-        Ok(()) => Ok(()),
-        Err(_) => Err(ArchiveFault::Output),
-    }
 }
 
 /// Appends the report on an image.
