@@ -35,6 +35,12 @@ class Part(NamedTuple):
 
 PARTS = [
     Part(
+        "Lines of scripts",
+        "They begin with `adf_serve:` and name the line.",
+        "3",
+        {"adf_words/faulty_line": [ARMS, CONSTANTS]},
+    ),
+    Part(
         "The command line",
         "They begin with `error:`, and nothing was done. Others that do so name a wrong argument, and show how the command is used.",
         "1",
@@ -44,7 +50,7 @@ PARTS = [
         "Commands",
         "They begin with `adf_serve:`. `{..}` stands for a text of a part below.",
         "2",
-        {"adf_commands": [CONSTANTS], "adf_serve": [ARMS, CONSTANTS]},
+        {"adf_serve": [ARMS, CONSTANTS]},
     ),
     Part("Errors of AmigaDOS", "Standard output has `refused NUMBER PATH`.", "3", {"adf_words/refused": [ARMS]}),
     Part("Changes and entries", "They may end a text that names the file.", "2", {"adf_import": [], "adf_export": [], "adf_rescue": [], "adf_where": [], "adf_record/*fault*": [], "ados_mend": []}),
@@ -124,7 +130,7 @@ ADVICE: List[Tuple[str, str]] = [
     (r"cannot (read|write|be)", "Look whether the file is there and may be used"),
     (r"\bwas written\b|were written", "Remove them before the next try"),
     (r"no byte|without a picture|one line", "Write the note again, as `extract --meta` does"),
-    (r"keyword|end of the line|\$k|quotes|255 bytes", "Correct this line of the script"),
+    (r"keyword|end of the line|\$k|quotes|255 bytes|^a number\b", "Correct this line of the script"),
     (r"a read failed", "Look whether the disk of the host is sound"),
     (r"packet request|object lock|seek", "This comes from no command"),
     (r"image|volume|disk", "`check --all` names each fault, and `extract --damaged` takes out what is sound"),
@@ -137,7 +143,7 @@ OF_OUTPUT = ("refused {", "suspect block {", "the file at block {")
 STATUSES: List[Tuple[str, str]] = [
     (r"waiting for|skipped|mounted or being|^doubtful: |is \{why\}$|all files that are|belong to nothing|it is a (symbolic|note)|it is neither", ""),
     (r"a volume has 16|past U\+00FF|no byte of an Amiga|is no protection", "1"),
-    (r"no name of a volume|has no block|1,024 bytes|line \{number\}|the script has more|^expected \{|^(a keyword|each \$k|a text in quotes)|^(a|the|each) .*(\$k|text|line|keyword|bytes)$", "3"),
+    (r"no name of a volume|has no block|1,024 bytes|line \{number\}|the script has more|^expected \{|^(a keyword|each \$k|a text in quotes|a number\b)|^(a|the|each) .*(\$k|text|line|keyword|bytes)$", "3"),
     (r"ok, \{\} refused", ""),
     (r"can be trusted|cannot be trusted|nothing that was deleted", "3"),
     (r"its volume is|is not written|--force writes|bitmap block|nothing names it|faults than can be|does not mend", "3"),

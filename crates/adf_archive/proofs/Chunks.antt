@@ -1,17 +1,8 @@
 -- Output for images, chunk by chunk.
 use Rattle.std.proofs.Common.{◌≡◌, ℕ, ◌+◌, ◌≤◌, List, [], ◌++◌, length, Option, Result, Ok, Err, IfErr, ap, sym, ◌∙◌, subst, append_assoc, arith}
+use Rattle.adf_archive.proofs.Common.{Shared, Appends, WritesFront, ImageReport, Form, Tally, LeavesOff, GivesFrom, told_from, IsTally, no_images, noted, tallied}
 use Rattle.std.proofs.lemmas.List.Sums.{fold-append}
-use denote.Param.Members.{Shared}
-use Rattle.std.specs.Io.KnownBytes.{Appends}
 use Rattle.std.proofs.KnownBytes.{Appends-nil, Appends-trans}
-use Rattle.adf_io.specs.Prefix.{WritesFront}
-use Rattle.adf_archive.specs.declared.report.ImageReport.{ImageReport}
-use Rattle.adf_archive.specs.declared.telling.Form.{Form}
-use Rattle.adf_archive.specs.declared.telling.Tally.{Tally}
-use Rattle.adf_archive.specs.Archive.{LeavesOff}
-use Rattle.adf_archive.specs.Each.{GivesFrom}
-use Rattle.adf_archive.specs.Lines.{told_from}
-use Rattle.adf_archive.specs.Status.{IsTally, no_images, noted, tallied}
 use Rattle.adf_archive.proofs.Gathered.{gives_more, gives_none}
 use Rattle.adf_archive.proofs.Listed.{told_append, told_none}
 

@@ -1,7 +1,6 @@
 -- The path of a directory or file, from its end.
 use Rattle.std.proofs.Common.{◌≡◌, ◌≢◌, ℕ, ◌<◌, List, [], ◌∷◌, ◌++◌, length, Some, sym, ap, ◌∙◌, subst, append_assoc, length-append, arith}
-use Rattle.ados_model.specs.Tree.{Tree, name_of, parent_of, root}
-use Rattle.adf_archive.specs.Paths.{HasFront, HasPath}
+use Rattle.adf_archive.proofs.Common.{Tree, name_of, parent_of, root, HasFront, HasPath}
 use Rattle.adf_archive.specs.Paths.HasFront.{at_root, below}
 
 -- the path of the key is the path before the names in the directory of `top`, and these bytes

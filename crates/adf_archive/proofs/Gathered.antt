@@ -1,10 +1,6 @@
 -- The results of a function for some positions and for those after them.
 use Rattle.std.proofs.Common.{ℕ, ◌+◌, ◌-◌, ◌<◌, ◌≤◌, List, [], ◌++◌, get_or, ap₂, sym, ◌∙◌, subst, length-append, refl, inl, inr, ◌⊎◌, arith}
-use Rattle.std.proofs.lemmas.List.{get_or_append_left, get_or-append_right}
-use Rattle.std.proofs.lemmas.Bool.{cases_lt}
-use denote.Param.Members.{Shared}
-use Rattle.std.specs.Fn.{FnReturns}
-use Rattle.adf_archive.specs.Each.{GivesFrom}
+use Rattle.adf_archive.proofs.Common.{get_or_append_left, get_or-append_right, cases_lt, Shared, FnReturns, GivesFrom}
 
 module _ {F R : Type 0} (g : Shared F (ℕ × Unit {0}) R) (f : F) where
   pub gives_none : (start : ℕ) → GivesFrom g f start 0 []

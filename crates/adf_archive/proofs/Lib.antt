@@ -1,4 +1,5 @@
 -- Lemmas about archives.
+pub mod Common
 pub mod Chunks
 pub mod Climbing
 pub mod Gathered

@@ -1,9 +1,6 @@
 -- The output for images, one after the other.
 use Rattle.std.proofs.Common.{◌≡◌, ℕ, suc, ◌+◌, List, [], ◌∷◌, ◌++◌, length, get_or, take, ◌<◌, ap, sym, ◌∙◌, append_assoc, refl, arith}
-use Rattle.std.proofs.lemmas.List.{append-nil, take_more, length-take-le}
-use Rattle.adf_archive.specs.declared.report.ImageReport.{ImageReport}
-use Rattle.adf_archive.specs.declared.telling.Form.{Form}
-use Rattle.adf_archive.specs.Lines.{told_from, told_of}
+use Rattle.adf_archive.proofs.Common.{append-nil, take_more, length-take-le, ImageReport, Form, told_from, told_of}
 
 -- the number of elements before a position
 taken : (i : ℕ) (reports : List ImageReport) → i < length reports → length (take i reports) ≡ i

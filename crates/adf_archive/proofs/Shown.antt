@@ -1,12 +1,7 @@
 -- Reported faults, by the faults themselves.
 use Rattle.std.proofs.Common.{◌≡◌, ℕ, ◌<◌, ◌⊎◌, inl, inr, Bool, false, List, [], ◌∷◌, length, get_or, map, All, sym, ap, ◌∙◌, subst, refl, arith}
-use Rattle.std.proofs.lemmas.List.{get_or-map, length-map}
-use Rattle.ados_faults.specs.Listed.{AreMarks, Marks}
+use Rattle.adf_archive.proofs.Common.{get_or-map, length-map, AreMarks, Marks, VolumeFault, HasValues, HaveTexts, HaveValues, explains, Detail, ShownFault}
 use Rattle.ados_model.specs.Faults.{Shows}
-use Rattle.ados_model.specs.declared.fault.VolumeFault.{VolumeFault}
-use Rattle.adf_archive.specs.Report.{HasValues, HaveTexts, HaveValues, explains}
-use Rattle.adf_archive.specs.declared.checking.Detail.{Detail}
-use Rattle.adf_archive.specs.declared.report.ShownFault.{ShownFault}
 
 -- there are equally many
 pub many : (shown : List ShownFault) (faults : List VolumeFault) → map (λ each. each.fault) shown ≡ faults → length shown ≡ length faults

@@ -1,9 +1,8 @@
 -- For each fault of a size, some bytes have it.
 use Rattle.std.proofs.Common.{ℕ, List, length, replicate, refl, sym, subst, lit<}
-use Rattle.std.proofs.lemmas.List.{length-replicate}
+use Rattle.adf_archive.proofs.Common.{length-replicate, NotWholeBlocks, TooFewBlocks, TooManyBlocks}
 use Rattle.adf_block.specs.Size.{IsSizeFault}
 use Rattle.adf_block.specs.declared.volume_size.SizeFault.{SizeFault}
-use Rattle.adf_block.specs.declared.volume_size.SizeFault.TheVariants.{NotWholeBlocks, TooFewBlocks, TooManyBlocks}
 
 of_length : (n : ℕ) (fault : SizeFault) → IsSizeFault n fault → (bytes : List ℕ) × IsSizeFault (length bytes) fault
 of_length n fault h = (replicate n 0, subst (λ (k : ℕ). IsSizeFault k fault) (sym (length-replicate n 0)) h)

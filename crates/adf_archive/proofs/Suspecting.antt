@@ -1,20 +1,9 @@
 -- The suspect blocks of an image, in the order of the blocks.
 use Rattle.std.proofs.Common.{◌≡◌, ℕ, zero, suc, ◌+◌, ◌-◌, ◌*◌, ◌<◌, ◌≤◌, ◌⊎◌, inl, inr, List, [], ◌∷◌, ◌++◌, length, slice_get, take, drop, All, AllPairs, Contains, Some, refl, sym, ap, ap₂, ◌∙◌, subst, arith}
-use Rattle.std.proofs.lemmas.Bool.{cases_lt}
-use Rattle.std.proofs.lemmas.List.{drop-drop, drop-take, map-append}
-use Rattle.adf_block.specs.Image.{bytes_at}
-use Rattle.std.proofs.lemmas.List.Elements.{All-push, Contains-append_left, Contains-push}
+use Rattle.adf_archive.proofs.Common.{cases_lt, drop-drop, drop-take, map-append, bytes_at, All-push, Contains-append_left, Contains-push, Tree, File, Duty, Stands, content_in, Owns, Owner, Suspect, AreSuspects, IsNoSuspect, IsSuspect, IsSuspectAt, TellsSuspect, blocks_of}
 use Rattle.std.proofs.lemmas.List.Quantifiers.{all_pairs_push}
-use Rattle.ados_model.specs.Tree.{Tree}
-use Rattle.ados_model.specs.Tree.Content.{File}
-use Rattle.ados_model.specs.Stands.{Duty, Stands}
-use Rattle.ados_model.proofs.Nodes.{content_in}
 use Rattle.ados_change.proofs.Writable.{data_is}
-use Rattle.ados_volume.specs.Owners.{Owns}
-use Rattle.ados_volume.specs.declared.owner.Owner.{Owner}
 use Rattle.ados_volume.specs.declared.owner.Owner.TheVariants.{Data}
-use Rattle.adf_archive.specs.declared.suspects.Suspect.{Suspect}
-use Rattle.adf_archive.specs.Suspects.{AreSuspects, IsNoSuspect, IsSuspect, IsSuspectAt, TellsSuspect, blocks_of}
 
 -- these are the suspect blocks before block `n`
 pub record AreSuspectsBelow (image : List ℕ) (t : Tree) (n : ℕ) (suspects : List Suspect) : Type 0 where

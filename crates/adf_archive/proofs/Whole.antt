@@ -1,24 +1,9 @@
 -- The output for an archive, whole or in part.
 use Rattle.std.proofs.Common.{◌≡◌, ℕ, zero, suc, ◌+◌, ◌<◌, ◌≤◌, Bool, true, false, List, [], length, get_or, All, Option, Result, Ok, Err, IsErrAnd, refl, sym, subst, arith}
-use Rattle.std.specs.Prelude.{nat_lt}
-use Rattle.std.proofs.lemmas.List.Elements.{All-nil}
-use denote.Param.Members.{Shared}
-use Rattle.std.specs.Fn.{FnReturns}
-use Rattle.std.specs.Io.KnownBytes.{Appends}
-use Rattle.adf_io.specs.Prefix.{WritesFront}
-use Rattle.adf_io.proofs.Prefixes.{writes_nothing}
+use Rattle.adf_archive.proofs.Common.{nat_lt, All-nil, Shared, FnReturns, Appends, WritesFront, writes_nothing, ImageReport, Form, Tally, Archive, IsDetailOf, TellsArchive, told_in, GivesFrom, told_from, IsReportOfSome, Detail, IsBroken, IsTally, ends, ends_over}
 use Rattle.adf_words.specs.declared.query.CheckJob.{CheckJob}
 use Rattle.adf_archive.specs.declared.fault.ArchiveFault.{ArchiveFault}
 use Rattle.adf_archive.specs.declared.fault.ArchiveFault.TheVariants.{Refused, NotChecked, Output, Memory}
-use Rattle.adf_archive.specs.declared.report.ImageReport.{ImageReport}
-use Rattle.adf_archive.specs.declared.telling.Form.{Form}
-use Rattle.adf_archive.specs.declared.telling.Tally.{Tally}
-use Rattle.adf_archive.specs.Archive.{Archive, IsDetailOf, TellsArchive, told_in}
-use Rattle.adf_archive.specs.Each.{GivesFrom}
-use Rattle.adf_archive.specs.Lines.{told_from}
-use Rattle.adf_archive.specs.Report.{IsReportOfSome}
-use Rattle.adf_archive.specs.declared.checking.Detail.{Detail}
-use Rattle.adf_archive.specs.Status.{IsBroken, IsTally, ends, ends_over}
 
 -- the function's report for each position is the check's result for some bytes
 pub checked_all : {F : Type 0} (g : Shared F (ℕ × Unit {0}) ImageReport) (f : F) (detail : Detail) (count : ℕ) (reports : List ImageReport)

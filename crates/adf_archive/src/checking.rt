@@ -4,17 +4,17 @@ ghost use Rattle.ados_model.specs.Accepted.{Accepts};
 ghost use Rattle.adf_archive.specs.Report.{IsReportFor, IsReportOfSome};
 ghost use Rattle.adf_archive.specs.declared.checking.Detail.{Detail};
 
-use crate::contents::contents_of;
 use crate::faults::refused;
 use crate::reading::ReadImages;
-use crate::report::{AcceptedImage, ImageReport, WhyNot};
+use crate::report::{AcceptedImage, Contents, ImageReport, WhyNot};
 use crate::suspects::suspects_of;
 use adf_block::Image;
 use adf_io::LoadFault;
+use adf_record::counts_of;
 use adf_words::ImageFile;
 use ados_check::accepted_kind;
 use ados_model::FaultKind;
-use ados_volume::{Rejected, Volume, check};
+use ados_volume::{Rejected, Volume, check, free_blocks};
 use std::alloc::{AllocError, Global};
 
 /// What a report contains in addition to the result.
@@ -105,7 +105,11 @@ fn accepted(alloc: Global, volume: &Volume, detail: Detail) -> Result<ImageRepor
     ensures { IfOk result (λ report. (old : List ℕ) → Accepts old volume.now.was_validated volume.now.image → IsReportFor detail old report) }
 {
     let contents = if detail.contents {
-        Some(contents_of(alloc, volume)?)
+        Some(Contents {
+            name: volume.examine(volume.root()).name,
+            counts: counts_of(alloc, volume)?,
+            free: free_blocks(volume),
+        })
     } else {
         None
     };

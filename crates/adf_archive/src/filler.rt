@@ -1,6 +1,6 @@
 //! What programs write where they have no bytes of the disk.
 ghost use Rattle.std.specs.Prelude.{◌≡◌, ◌<◌, ◌↔◌, IsTrue, MatchBool, length};
-ghost use Rattle.adf_archive.specs.Fillers.{IsFiller, Repeats, RepeatsFrom, filler_text};
+ghost use Rattle.adf_archive.specs.Fillers.{IsFiller, Repeats, filler_text};
 ghost use Rattle.adf_archive.specs.steps.Periods.{BeginsFrom, HasPeriod};
 
 /// A filler, by what writes it. docs/COMMANDS.md has the same list.
@@ -36,22 +36,11 @@ fn repeats(text: &[u8], bytes: &[u8]) -> bool
     ensures { IsTrue result ↔ Repeats text.now bytes.now }
 {
     for start in 0..text.len() {
-        if repeats_from(text, start, bytes) {
+        if begins_from(text, start, bytes) && has_period(bytes, text.len()) {
             return true;
         }
     }
     false
-}
-
-/// Whether these bytes are a text, again and again, from this byte of it on.
-fn repeats_from(text: &[u8], start: usize, bytes: &[u8]) -> bool
-    requires { start < length text.now }
-    ensures { IsTrue result ↔ RepeatsFrom text.now bytes.now start }
-{
-    if !begins_from(text, start, bytes) {
-        return false;
-    }
-    has_period(bytes, text.len())
 }
 
 /// Whether the first bytes, as many as the text has, are the text from this byte of it on.

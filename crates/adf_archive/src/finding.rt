@@ -1,6 +1,6 @@
 //! The image files that the arguments of a command name.
 ghost use Rattle.std.specs.Prelude.{◌≡◌, ◌↔◌, ◌≤◌, ◌+◌, false, IfOk, OnOk, IsTrue, length, vec_len};
-ghost use Rattle.adf_archive.specs.Endings.{EndsIn, GrowsByOne, HasImageEnding};
+ghost use Rattle.adf_archive.specs.Endings.{EndsIn, HasImageEnding};
 
 use crate::names::{TextName, names_in, text_name};
 use adf_host::read_names;
@@ -71,32 +71,15 @@ pub fn image_files<R: Files>(
         remarks: Vec::new(alloc),
     };
     for place in 0..words.len() {
-        find(rt, alloc, words[place], &mut found)?;
+        let word = words[place];
+        if fs::symlink_metadata(rt, word).is_ok_and(|met| met.is_dir()) {
+            find_below(rt, alloc, word, &mut found)?;
+            found.in_directory = true;
+        } else {
+            found.add(String::from_str(alloc, word)?, true)?;
+        }
     }
     Ok(found)
-}
-
-/// Adds the images that an argument names.
-fn find<R: Files>(
-    rt: &R,
-    alloc: Global,
-    word: &str,
-    found: &mut FoundImages,
-) -> Result<(), AllocError>
-    ensures { OnOk result (found.new.in_directory ≡ false → GrowsByOne found.old found.new) }
-{
-    if is_directory(rt, word) {
-        find_below(rt, alloc, word, found)?;
-        found.in_directory = true;
-        return Ok(());
-    }
-    let path = String::from_str(alloc, word)?;
-    found.add(path, true)
-}
-
-/// Whether a path leads to a directory, where a link is not followed.
-fn is_directory<R: Files>(rt: &R, path: &str) -> bool {
-    fs::symlink_metadata(rt, path).is_ok_and(|met| met.is_dir())
 }
 
 impl FoundImages {
@@ -162,18 +145,10 @@ fn look_at<R: Files>(rt: &R, next: &Waiting) -> Look {
     if met.is_dir() {
         return Look::Directory;
     }
-    let look = look_of(path);
-    if !(met.is_file() || met.is_symlink()) {
+    let is_file = met.is_file() || met.is_symlink();
+    if !is_file || fs::metadata(rt, path).is_ok_and(|behind| !behind.is_file()) {
         return Look::Neither;
     }
-    match fs::metadata(rt, path) {
-        Ok(behind) if !behind.is_file() => Look::Neither,
-        _ => look,
-    }
-}
-
-/// What a file in a directory is by the ending of its name.
-fn look_of(path: &str) -> Look {
     if has_image_ending(path) {
         return Look::Image;
     }

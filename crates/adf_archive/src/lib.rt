@@ -2,8 +2,6 @@
 #![tactic(auto)]
 
 mod checking;
-mod contents;
-mod each;
 mod fault;
 mod faults;
 mod filler;
@@ -25,7 +23,6 @@ mod telling;
 mod words;
 
 pub use checking::{Detail, report_file, report_image};
-pub use each::together;
 pub use fault::ArchiveFault;
 pub use filler::{Filler, is_filler};
 pub use finding::{FoundImages, Remark, has_image_ending, image_files};

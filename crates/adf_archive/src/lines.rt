@@ -1,6 +1,6 @@
 //! The lines of a report on an image.
 ghost use Rattle.std.specs.Prelude.{◌≡◌, ◌++◌, OnOk, flat_map};
-ghost use Rattle.adf_archive.specs.Lines.{accepted_lines, accepted_words, fault_lines, file_words, lines_of, place_words, refused_words, line_behind, suspect_line};
+ghost use Rattle.adf_archive.specs.Lines.{accepted_lines, fault_lines, file_words, lines_of, refused_words, line_behind, suspect_line};
 
 use crate::report::{AcceptedImage, ImageReport, RefusedImage};
 use crate::suspects::Suspect;
@@ -26,7 +26,7 @@ pub fn push_lines(
     }
 }
 
-/// Appends the lines of an accepted image.
+/// Appends the lines of an accepted image: `ok`, or `ok validated` if the bitmap was rebuilt.
 fn push_accepted(
     alloc: Global,
     text: &mut Vec<u8>,
@@ -35,22 +35,16 @@ fn push_accepted(
 ) -> Result<(), AllocError>
     ensures { OnOk result (text.new.items ≡ text.old.items ++ accepted_lines front.now told.now) }
 {
-    push_line(text, front, accepted_words(told))?;
+    let words: &[u8] = if told.validated {
+        b"ok validated"
+    } else {
+        b"ok"
+    };
+    push_line(text, front, words)?;
     if let Some(suspects) = &told.suspects {
         push_suspects(alloc, text, front, suspects)?;
     }
     Ok(())
-}
-
-/// `ok`, or `ok validated` if the bitmap was rebuilt.
-fn accepted_words(told: &AcceptedImage) -> &'static [u8]
-    ensures { result.now ≡ accepted_words told.now }
-{
-    if told.validated {
-        b"ok validated"
-    } else {
-        b"ok"
-    }
 }
 
 /// Appends a line for each of these blocks.
@@ -78,18 +72,11 @@ fn push_suspect(
     ensures { OnOk result (text.new.items ≡ text.old.items ++ suspect_line front.now suspect.now) }
 {
     text.extend_from_slice(front)?;
-    push_place(alloc, text, suspect.block, suspect.place)?;
-    push_file(alloc, text, suspect)?;
-    text.push(b'\n')?;
-    Ok(())
-}
-
-/// Appends `suspect block BLOCK, data PLACE of `.
-fn push_place(alloc: Global, text: &mut Vec<u8>, block: u32, place: u32) -> Result<(), AllocError>
-    ensures { OnOk result (text.new.items ≡ text.old.items ++ place_words block place) }
-{
+    let (block, place) = (suspect.block, suspect.place);
     let words = format!(in alloc; "suspect block {block}, data {place} of ")?;
     text.extend_from_slice(words.as_bytes())?;
+    push_file(alloc, text, suspect)?;
+    text.push(b'\n')?;
     Ok(())
 }
 

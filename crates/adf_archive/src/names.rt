@@ -13,17 +13,12 @@ pub(crate) struct TextName {
 pub(crate) fn names_in(alloc: Global, bytes: &[u8]) -> Result<Vec<&[u8]>, AllocError> {
     let mut names = Vec::new(alloc);
     for name in bytes.split(|byte| *byte == 0) {
-        if is_entry(name) {
+        if !(name.is_empty() || name == b".".as_slice() || name == b"..".as_slice()) {
             names.push(name)?;
         }
     }
     names.sort_unstable();
     Ok(names)
-}
-
-/// Whether a name is that of something in the directory.
-fn is_entry(name: &[u8]) -> bool {
-    !(name.is_empty() || name == b".".as_slice() || name == b"..".as_slice())
 }
 
 /// A name as text.

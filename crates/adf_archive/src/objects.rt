@@ -225,7 +225,7 @@ fn put_further(writer: &mut Writer, report: &ImageReport) -> Result<(), AllocErr
 {
     match report {
         ImageReport::Accepted(told) => match &told.suspects {
-            Some(suspects) => put_member(writer, suspects),
+            Some(suspects) => put_suspects(writer, suspects),
             None => Ok(()),
         },
         ImageReport::Refused(told) if told.more => put_flag(writer, "more", true),
@@ -234,25 +234,16 @@ fn put_further(writer: &mut Writer, report: &ImageReport) -> Result<(), AllocErr
 }
 
 /// Writes the member with these suspect blocks.
-fn put_member(writer: &mut Writer, suspects: &[Suspect]) -> Result<(), AllocError>
+fn put_suspects(writer: &mut Writer, suspects: &[Suspect]) -> Result<(), AllocError>
     ensures before { writer.new.before ≡ writer.old.before }
     ensures tokens { OnOk result (writer.new.tokens ≡ writer.old.tokens ++ suspects_tokens suspects.now) }
 {
     writer.key("suspects")?;
     writer.begin_array()?;
-    put_each(writer, suspects)?;
-    writer.end_array()
-}
-
-/// Writes the objects of suspect blocks.
-fn put_each(writer: &mut Writer, suspects: &[Suspect]) -> Result<(), AllocError>
-    ensures before { writer.new.before ≡ writer.old.before }
-    ensures tokens { OnOk result (writer.new.tokens ≡ writer.old.tokens ++ flat_map suspect_tokens suspects.now) }
-{
     for suspect in suspects {
         put_suspect(writer, suspect)?;
     }
-    Ok(())
+    writer.end_array()
 }
 
 /// Writes the object of a suspect block.

@@ -224,7 +224,12 @@ impl About<'_> {
         faults: &mut F,
     ) {
         let About { path, manner } = self;
-        if !may_be_other(told) || regular_length(rt, path).is_none() {
+        let may_be_other = told.faults.iter().any(|shown| {
+            let fault = shown.fault;
+            let is_root = fault.block == told.blocks.div_ceil(2);
+            fault.kind == FaultKind::NotADosDisk || (is_root && fault.kind == FaultKind::BadType)
+        });
+        if !may_be_other || regular_length(rt, path).is_none() {
             return;
         }
         let blocks = manner.blocks;
@@ -295,13 +300,4 @@ pub(crate) fn regular_length<R: Files>(rt: &R, path: &str) -> Option<u64> {
         Ok(found) if found.is_file() => Some(found.len()),
         _ => None,
     }
-}
-
-/// Whether the file may be no image, or one of another size: there is no disk of DOS, or no root where it should be.
-fn may_be_other(told: &RefusedImage) -> bool {
-    told.faults.iter().any(|shown| {
-        let fault = shown.fault;
-        let is_root = fault.block == told.blocks.div_ceil(2);
-        fault.kind == FaultKind::NotADosDisk || (is_root && fault.kind == FaultKind::BadType)
-    })
 }

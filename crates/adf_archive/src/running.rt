@@ -6,14 +6,13 @@ ghost use Rattle.adf_archive.specs.Report.{IsReportOfSome};
 ghost use Rattle.adf_archive.specs.Status.{IsBroken};
 
 use crate::checking::{Detail, report_file};
-use crate::each::together;
 use crate::fault::ArchiveFault;
 use crate::finding::{FoundImages, image_files};
 use crate::held::tell_each_held;
 use crate::person::{Manner, tell_person, tell_remarks};
 use crate::reading::ReadImages;
 use crate::report::ImageReport;
-use crate::telling::{Form, Tally, end_over, tell_reports};
+use crate::telling::{Form, Tally, tell_reports};
 use adf_text::print_line;
 use adf_words::{CheckJob, ImageFile};
 use std::alloc::Global;
@@ -77,7 +76,7 @@ where
         writer,
         faults,
     )?;
-    end_over(paths.len(), tally)
+    tally.end(paths.len())
 }
 
 /// The form of the reports: with paths, unless the only argument names a file.
@@ -116,7 +115,8 @@ fn jobs_for<R: Threads>(rt: &R, given: Option<u32>) -> usize {
 }
 
 /// Reports on images in the order of their paths. `report` makes the report for each position of the list, and `jobs`
-/// of them are made in parallel. The output does not depend on `jobs`.
+/// of them are made in parallel, each on its own thread if one can be started. The threads share only `report`. The
+/// output does not depend on `jobs`.
 pub fn check_each<R, C, W, F>(
     rt: &R,
     alloc: Global,
@@ -146,7 +146,7 @@ where
         if shows {
             let _ = write!(faults, "{done} of {} images", paths.len());
         }
-        let reports = together(rt, alloc, done, count, report)?;
+        let reports = thread::map_indices(rt, alloc, count, &|place| report(done + place))?;
         if shows {
             let _ = write!(faults, "\r\x1b[K");
         }

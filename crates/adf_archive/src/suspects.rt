@@ -1,5 +1,5 @@
 //! Data blocks of files that hold nothing but a filler.
-ghost use Rattle.std.specs.Prelude.{◌≡◌, ◌<◌, ◌↔◌, All, IfOk, IsTrue, MatchOption, option_map};
+ghost use Rattle.std.specs.Prelude.{◌≡◌, ◌<◌, All, IfOk, MatchOption, option_map};
 ghost use Rattle.std.specs.String.{string_bytes};
 ghost use Rattle.adf_block.specs.Image.{block_count};
 ghost use Rattle.ados_model.specs.Keys.{HasKey};
@@ -7,7 +7,7 @@ ghost use Rattle.ados_model.specs.Stands.{Stands};
 ghost use Rattle.ados_model.specs.Tree.{Tree};
 ghost use Rattle.ados_volume.specs.Owners.{Owns};
 ghost use Rattle.adf_archive.specs.Paths.{IsPathOf};
-ghost use Rattle.adf_archive.specs.Suspects.{AreSuspects, HoldsFiller, IsNoSuspect, IsSuspectAt, TellsSuspect, data_bytes};
+ghost use Rattle.adf_archive.specs.Suspects.{AreSuspects, IsNoSuspect, IsSuspectAt, TellsSuspect, data_bytes};
 
 use crate::filler::is_filler;
 use crate::path::path_of;
@@ -58,7 +58,7 @@ fn suspect_at(
     ensures { IfOk result (λ found. (t : Tree) → Stands volume.now.image t → MatchOption found (IsNoSuspect volume.now.image block owner) (IsSuspectAt volume.now.image t block owner)) }
 {
     match owner {
-        Owner::Data(file, place) if holds_filler(volume.image(), block) => {
+        Owner::Data(file, place) if is_filler(data_bytes(volume.image(), block)) => {
             let path = path_in(alloc, volume, file, found)?;
             Ok(Some(Suspect {
                 block,
@@ -97,14 +97,6 @@ fn same_path(alloc: Global, suspect: &Suspect) -> Result<Option<String>, AllocEr
         Some(path) => Ok(Some(String::from_str(alloc, path.as_str())?)),
         None => Ok(None),
     }
-}
-
-/// Whether the bytes for a file in a block are a filler from end to end.
-fn holds_filler(image: &Image, block: u32) -> bool
-    requires { block < block_count image.now }
-    ensures { IsTrue result ↔ HoldsFiller image.now block }
-{
-    is_filler(data_bytes(image, block))
 }
 
 /// The bytes for a file in a block, as many as fit.

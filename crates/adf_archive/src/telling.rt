@@ -1,10 +1,10 @@
 //! The reports on images as output, and the overall status.
-ghost use Rattle.std.specs.Prelude.{◌≡◌, ◌+◌, ◌≤◌, ◌++◌, [], IfErr, IfOk, OnOk, OnErr, length, map};
+ghost use Rattle.std.specs.Prelude.{◌≡◌, ◌+◌, ◌≤◌, ◌++◌, [], IfErr, OnOk, OnErr, length, map};
 ghost use Rattle.std.specs.Io.KnownBytes.{Appends};
 ghost use Rattle.std.specs.String.{string_bytes};
 ghost use Rattle.adf_io.specs.Prefix.{WritesFront};
 ghost use Rattle.adf_archive.specs.Lines.{told_from, told_of};
-ghost use Rattle.adf_archive.specs.Status.{IsBroken, IsTally, ends_as, ends_over, noted, tallied};
+ghost use Rattle.adf_archive.specs.Status.{IsBroken, IsTally, ends_over, tallied};
 
 use crate::fault::ArchiveFault;
 use crate::lines::push_lines;
@@ -52,28 +52,24 @@ impl Tally {
         ensures { self.new ≡ tallied self.old reports.now }
     {
         for report in reports {
-            self.note(report);
-        }
-    }
-
-    /// The status with one image added.
-    fn note(&mut self, report: &ImageReport)
-        ensures { self.new ≡ noted self.old report.now }
-    {
-        match report {
-            ImageReport::Accepted(_) => self.accepted = self.accepted.saturating_add(1),
-            ImageReport::Refused(_) | ImageReport::WrongSize(_) => {
-                self.refused = self.refused.saturating_add(1);
+            match report {
+                ImageReport::Accepted(_) => self.accepted = self.accepted.saturating_add(1),
+                ImageReport::Refused(_) | ImageReport::WrongSize(_) => {
+                    self.refused = self.refused.saturating_add(1);
+                }
+                ImageReport::NotChecked(_) => {
+                    self.not_checked = self.not_checked.saturating_add(1);
+                }
             }
-            ImageReport::NotChecked(_) => self.not_checked = self.not_checked.saturating_add(1),
         }
     }
 
-    /// The result of a command over these images. An image that was not checked counts before one that is refused.
-    pub fn end(self) -> Result<(), ArchiveFault>
-        ensures { result ≡ ends_as self }
+    /// The result of a command over this many images with this status. An image that was not checked counts before one
+    /// that is refused. Where there is none, the command fails as if one was not checked.
+    pub fn end(self, images: usize) -> Result<(), ArchiveFault>
+        ensures { result ≡ ends_over images self }
     {
-        if self.not_checked > 0 {
+        if images == 0 || self.not_checked > 0 {
             return Err(ArchiveFault::NotChecked);
         }
         if self.refused > 0 {
@@ -101,18 +97,7 @@ impl Display for Tally {
     }
 }
 
-/// The result of a command over this many images with this status. Where there is none, it fails as if one was not
-/// checked.
-pub(crate) fn end_over(images: usize, tally: Tally) -> Result<(), ArchiveFault>
-    ensures { result ≡ ends_over images tally }
-{
-    if images == 0 {
-        return Err(ArchiveFault::NotChecked);
-    }
-    tally.end()
-}
-
-/// Writes the reports on images, in order. Their paths start at a position of the list.
+/// Writes the reports on images, in order, or a prefix if the writer fails. Their paths start at a position of the list.
 pub fn tell_reports<W: Write>(
     alloc: Global,
     paths: &[String],
@@ -126,21 +111,6 @@ pub fn tell_reports<W: Write>(
     ensures front { OnErr result (WritesFront (W.contents writer.old) (W.contents writer.new) (told_from form (map string_bytes paths.now) start reports.now)) }
     ensures broken { IfErr result IsBroken }
 {
-    let text = reports_text(alloc, paths, start, reports, form)?;
-    write_text(&text, writer)
-}
-
-/// The reports on images, as text. Their paths start at a position of the list.
-fn reports_text(
-    alloc: Global,
-    paths: &[String],
-    start: usize,
-    reports: &[ImageReport],
-    form: Form,
-) -> Result<Vec<u8>, AllocError>
-    requires { start + length reports.now ≤ length paths.now }
-    ensures { IfOk result (λ text. text.items ≡ told_from form (map string_bytes paths.now) start reports.now) }
-{
     let mut text = Vec::new(alloc);
     for place in 0..reports.len() {
         push_told(
@@ -151,16 +121,7 @@ fn reports_text(
             form,
         )?;
     }
-    Ok(text)
-}
-
-/// Writes a text, or a prefix if the writer fails.
-fn write_text<W: Write>(text: &[u8], writer: &mut W) -> Result<(), ArchiveFault>
-    ensures ok { OnOk result (Appends (W.contents writer.old) (W.contents writer.new) text.now) }
-    ensures front { OnErr result (WritesFront (W.contents writer.old) (W.contents writer.new) text.now) }
-    ensures broken { IfErr result IsBroken }
-{
-    match write_output(text, writer) {
+    match write_output(&text, writer) {
         Ok(()) => Ok(()),
         Err(_) => Err(ArchiveFault::Output),
     }

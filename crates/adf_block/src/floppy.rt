@@ -102,7 +102,8 @@ impl Image {
         ensures rest { OnlyLong b i self.old self.new }
         ensures image { IsImage self.new }
     {
-        write_long(&mut self.bytes, b as usize * BLOCK + i as usize * 4, v);
+        let at = b as usize * BLOCK + i as usize * 4;
+        BigEndian::write_u32(&mut self.bytes[at..], v);
     }
 
     /// Byte `i` of block `b`. `i` is 0 to 511.
@@ -157,13 +158,4 @@ fn whole_blocks(bytes: &[u8]) -> usize
     ensures bytes { (i : ℕ) → slice_index bytes.now i < 256 }
 {
     bytes.len() / BLOCK
-}
-
-/// Writes `v` over the four bytes from `at`, big-endian.
-fn write_long(bytes: &mut [u8], at: usize, v: u32)
-    requires { at + 4 ≤ length bytes.old }
-    ensures bytes { (i : ℕ) → slice_index bytes.new i < 256 }
-    ensures written { bytes.new ≡ take at bytes.old ++ big_bytes 4 v ++ drop (at + 4) bytes.old }
-{
-    BigEndian::write_u32(&mut bytes[at..], v);
 }

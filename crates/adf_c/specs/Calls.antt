@@ -120,12 +120,7 @@ RefusesServe old new path text before after NoMemory = (new ≡ old) × (after �
 RefusesServe old new path text before after WrongArgument =
     (new ≡ old) × (after ≡ before) × ((¬ IsPathText path) ⊎ (¬ IsPathText text) ⊎ (old ≡ None))
 
--- the result of serving a packet, with the answer for C
-abbrev pub ServeComes : Option Desk → Option Desk → JipPacket → List ℕ → List ℕ → List ℕ → List ℕ → List ℕ → Result JipAnswer Refusal → Type 0
-ServeComes old new c path text bytes before after result =
-    MatchResult result (λ told. Serves old new c path text bytes before after told) (λ refusal. RefusesServe old new path text before after refusal)
-
--- the same by the status; if the packet is not served, the answer is unchanged
+-- how serving a packet ends, by the status; if the packet is not served, the answer is unchanged
 abbrev pub ServeEnds : Option Desk → Option Desk → JipPacket → List ℕ → List ℕ → List ℕ → List ℕ → List ℕ → JipAnswer → JipAnswer → ℤ → Type 0
 ServeEnds old new c path text bytes before after answer_before answer =
     ComesTo (Serves old new c path text bytes before after answer)

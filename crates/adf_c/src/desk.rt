@@ -1,7 +1,7 @@
 //! The handler of a handle, with a count of changes.
 
 ghost use Rattle.std.specs.Prelude.{◌≡◌};
-ghost use Rattle.adf_c.specs.Desk.{ServesAsHandler, ServesPacket, ServesReadOnly, may_change as changes};
+ghost use Rattle.adf_c.specs.Desk.{ServesPacket, may_change as changes};
 
 use crate::read_only::serve_read_only;
 use ados_handler::Handler;
@@ -19,28 +19,14 @@ pub struct Desk {
 }
 
 impl Desk {
-    /// Serves a packet with a time stamp. A read-only desk refuses what would change the image.
+    /// Serves a packet with a time stamp, and counts it if it may have changed the image. A read-only desk refuses what
+    /// would change the image.
     pub(crate) fn serve(&mut self, packet: Packet, moment: Date3) -> Answer
         ensures { ServesPacket self.old packet moment self.new result }
     {
         if self.read_only {
-            return self.serve_read_only(packet, moment);
+            return serve_read_only(&mut self.handler, packet, moment);
         }
-        self.serve_as_handler(packet, moment)
-    }
-
-    fn serve_read_only(&mut self, packet: Packet, moment: Date3) -> Answer
-        ensures serves { ServesReadOnly self.old packet moment self.new result }
-        ensures stays { self.new.read_only ≡ self.old.read_only }
-    {
-        serve_read_only(&mut self.handler, packet, moment)
-    }
-
-    /// Serves a packet as the handler does, and counts it if it may have changed the image.
-    fn serve_as_handler(&mut self, packet: Packet, moment: Date3) -> Answer
-        ensures serves { ServesAsHandler self.old packet moment self.new result }
-        ensures stays { self.new.read_only ≡ self.old.read_only }
-    {
         let counts = may_change(&packet);
         let answer = self.handler.serve(packet, moment);
         if counts && answer.res2 == 0 {

@@ -2,15 +2,14 @@
 
 ghost use Rattle.std.specs.Prelude.{◌≡◌, ◌↔◌, IsTrue};
 ghost use Rattle.ados_name.specs.Path.{IsPathText};
-ghost use Rattle.adf_c.specs.Calls.{LoadComes, ServeComes, ServeEnds, ServedBy};
+ghost use Rattle.adf_c.specs.Calls.{LoadComes, ServeEnds};
 ghost use Rattle.adf_c.specs.Spelling.{carried};
 ghost use Rattle.c_values.specs.Telling.{fills as fills_buffer, handed_back};
 
-use crate::desk::Desk;
 use crate::handle::{Holder, JipHandle};
 use crate::packet::JipPacket;
 use ados_model::{Action, Body, Buffer, Packet};
-use ados_name::{Date3, PathText};
+use ados_name::PathText;
 use c_values::{JipAnswer, Refusal};
 use std::alloc::Global;
 
@@ -35,37 +34,25 @@ pub extern "C" fn jip_lib_serve(
 ) -> i32
     ensures { ServeEnds handle.old.held handle.new.held packet.now path.now text.now bytes.now buffer.old buffer.new answer.old answer.new result }
 {
-    match serve(alloc, handle, packet, path, text, bytes, buffer) {
-        Ok(told) => {
-            *answer = told;
-            0
-        }
-        Err(refusal) => refusal.number(),
-    }
-}
-
-fn serve(
-    alloc: Global,
-    handle: &mut JipHandle,
-    packet: &JipPacket,
-    path: &[u8],
-    text: &[u8],
-    bytes: &[u8],
-    buffer: &mut [u8],
-) -> Result<JipAnswer, Refusal>
-    ensures { ServeComes handle.old.held handle.new.held packet.now path.now text.now bytes.now buffer.old buffer.new result }
-{
     let action = packet.kind();
-    let load = load(alloc, action, path, text, bytes, buffer)?;
+    let load = match load(alloc, action, path, text, bytes, buffer) {
+        Ok(load) => load,
+        Err(refusal) => return refusal.number(),
+    };
     let Ok(spelled) = packet.packet(alloc, action, path, text, load) else {
-        return Err(Refusal::NoMemory);
+        return Refusal::NoMemory.number();
     };
     let Some(mut desk) = handle.take(alloc) else {
-        return Err(Refusal::WrongArgument);
+        return Refusal::WrongArgument.number();
     };
-    let told = serve_at(&mut desk, spelled, packet.moment.date(), buffer);
+    let fills = fills(&spelled);
+    let answered = desk.serve(spelled, packet.moment.date());
+    if fills {
+        hand_back(&answered.body, buffer);
+    }
+    *answer = JipAnswer::of(&answered);
     handle.put(desk);
-    Ok(told)
+    0
 }
 
 /// The bytes of this action's packet, if its texts fit.
@@ -106,18 +93,6 @@ fn carried_by<'a>(action: Action, bytes: &'a [u8], buffer: &'a [u8]) -> &'a [u8]
         Action::Read => buffer,
         _ => bytes,
     }
-}
-
-/// Serves the packet at a desk, and copies the bytes of a READ's answer into the buffer.
-fn serve_at(desk: &mut Desk, packet: Packet, moment: Date3, buffer: &mut [u8]) -> JipAnswer
-    ensures { ServedBy desk.old desk.new packet moment buffer.old buffer.new result }
-{
-    let fills = fills(&packet);
-    let answer = desk.serve(packet, moment);
-    if fills {
-        hand_back(&answer.body, buffer);
-    }
-    JipAnswer::of(&answer)
 }
 
 /// Whether the packet fills the buffer.

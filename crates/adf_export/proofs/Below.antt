@@ -1,6 +1,5 @@
 -- Everything below a directory: no key is below itself or occurs twice, so there are fewer keys than blocks.
-use Rattle.std.proofs.Common.{◌≡◌, ◌≢◌, ℕ, zero, suc, ◌+◌, ◌<◌, ◌≤◌, inl, inr, List, [], ◌∷◌, ◌++◌, length, Contains, Some, refl, sym, ap, ◌∙◌, subst, arith}
-use Rattle.adf_export.proofs.Common.{flat_map, Once, Contains-cases, Contains-nil, length-once, Once-cons, Node, Tree, Proper, LeadsToRoot, name_of, parent_of, by_parent, parent_in, below, front, listing, ListOrder, ordered, with_below}
+use Rattle.adf_export.proofs.Common.{◌≡◌, ◌≢◌, ℕ, zero, suc, ◌+◌, ◌<◌, ◌≤◌, inl, inr, List, [], ◌∷◌, ◌++◌, length, Contains, Some, refl, sym, ap, ◌∙◌, subst, arith, flat_map, Once, Contains-cases, Contains-nil, length-once, Once-cons, Node, Tree, Proper, LeadsToRoot, name_of, parent_of, by_parent, parent_in, below, front, listing, ListOrder, ordered, with_below}
 use Rattle.adf_export.proofs.Sorting.{ordered_has, ordered_once}
 use Rattle.adf_export.proofs.Lists.{Once-joined, in_joined, length-joined}
 use Rattle.ados_change.specs.Conditions.{IsUnder}

@@ -1,7 +1,5 @@
 -- An object described as a directory is a directory.
-use Rattle.std.proofs.Common.{◌≡◌, ℕ, pos, List, [], Option, Some, None, option_map, refl, ap, ◌∙◌}
-use Rattle.adf_export.proofs.Common.{Content, Node, Tree, content_at, entries, entries_in, parent_of, parent_in, entry_type}
-use Rattle.ados_model.specs.Tree.Content.{Directory, File}
+use Rattle.adf_export.proofs.Common.{◌≡◌, ℕ, pos, List, [], Option, Some, None, option_map, refl, ap, ◌∙◌, Content, Node, Tree, content_at, entries, entries_in, parent_of, parent_in, entry_type, Directory, File}
 
 type-directory : (parent : Option ℕ) (content : Content) → entry_type parent content ≡ pos 2 → (keys : List ℕ) × (content ≡ Directory keys)
 type-directory None content e = cc e

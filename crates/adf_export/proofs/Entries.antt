@@ -1,10 +1,7 @@
 -- The items of one entry.
-use Rattle.std.proofs.Common.{◌≡◌, Bool, false, true, List, [], ◌∷◌, ◌++◌, Some, option_map, ap, sym, ◌∙◌, subst, append_assoc}
-use Rattle.adf_export.proofs.Common.{FileInfo, Node, Tree, file_info, HostItem, Below, Source, Note, AreItems, GoesOut, IsItem, item_place, kind_of, sources_of}
+use Rattle.adf_export.proofs.Common.{◌≡◌, Bool, false, true, List, [], ◌∷◌, ◌++◌, Some, option_map, ap, sym, ◌∙◌, subst, append_assoc, FileInfo, Node, Tree, file_info, HostItem, Below, Source, Note, AreItems, GoesOut, IsItem, item_place, kind_of, sources_of, note_of, Entry}
 use Rattle.adf_text.specs.HostNames.{host_name}
 use Rattle.host_trees.specs.declared.items.ItemKind.TheVariants as kinds
-use Rattle.host_trees.specs.Notes.{note_of}
-use Rattle.adf_export.specs.declared.entry.Source.TheVariants.{Entry}
 
 -- items follow others, those of an entry
 abbrev pub AddsItems : Tree → Bool → Below → List HostItem → List HostItem → Type 0

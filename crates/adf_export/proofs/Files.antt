@@ -1,9 +1,5 @@
 -- The first entries of a list: a file itself, or the entries of a directory.
-use Rattle.std.proofs.Common.{◌≡◌, ℕ, Bool, true, [], ◌∷◌, Option, Some, None, refl, sym, ap, ◌∙◌}
-use Rattle.std.specs.Prelude.{if◌then◌else◌}
-use Rattle.adf_export.proofs.Common.{Content, LeadsToRoot, Proper, Tree, content_at, entries_in, parent_of, at_root, by_parent, ListOrder, front, front_above, listed, listing, path_of, ordered, entry_at, first_keys, first_path}
-use Rattle.ados_model.specs.Tree.Content.{Directory, File}
-use Rattle.ados_model.specs.Change.{holds_file, is_file}
+use Rattle.adf_export.proofs.Common.{◌≡◌, ℕ, Bool, true, [], ◌∷◌, Option, Some, None, refl, sym, ap, ◌∙◌, if◌then◌else◌, Content, LeadsToRoot, Proper, Tree, content_at, entries_in, parent_of, at_root, by_parent, ListOrder, front, front_above, listed, listing, path_of, ordered, entry_at, first_keys, first_path, Directory, File, holds_file, is_file}
 
 module _ (t : Tree) (key : ℕ) (b : Bool) (is : is_file t key ≡ b) where
   pub listed_if : (order : ListOrder) → listed t order key ≡ (if b then entry_at (path_of t key) key ∷ [] else listing t order key)

@@ -1,6 +1,5 @@
 -- The path before the names in a directory, found on the way up.
-use Rattle.std.proofs.Common.{◌≡◌, ℕ, zero, suc, List, [], ◌∷◌, ◌++◌, Some, None, append_assoc, append-nil, refl, sym, ap, ◌∙◌}
-use Rattle.adf_export.proofs.Common.{Tree, name_of, parent_of, front, names_down}
+use Rattle.adf_export.proofs.Common.{◌≡◌, ℕ, zero, suc, List, [], ◌∷◌, ◌++◌, Some, None, append_assoc, append-nil, refl, sym, ap, ◌∙◌, Tree, name_of, parent_of, front, names_down}
 
 -- the name of the directory above comes before all names so far
 pub names_pushed : (t : Tree) (keys : List ℕ) (key : ℕ) → names_down t (keys ++ key ∷ []) ≡ (name_of t key ++ 47 ∷ []) ++ names_down t keys

@@ -1,7 +1,6 @@
 -- The items and sources for some entries, then for one more.
-use Rattle.std.proofs.Common.{◌≡◌, ℕ, ◌+◌, ◌<◌, Bool, List, [], ◌∷◌, ◌++◌, length, get_or, take, flat_map, sym, ap, ◌∙◌, subst, append_assoc}
-use Rattle.std.proofs.lemmas.Grind.{flat_map-append}
-use Rattle.adf_export.proofs.Common.{append-nil, take_more, Tree, HostItem, Below, Source, EachGoesOut, GoesOut, sources_of}
+use Rattle.adf_export.proofs.Common.{flat_map, ◌≡◌, ℕ, ◌+◌, ◌<◌, Bool, List, [], ◌∷◌, ◌++◌, length, get_or, take, sym, ap, ◌∙◌, subst, append_assoc, flat_map-append, take_more, Tree, HostItem, Below, Source, EachGoesOut, GoesOut, sources_of}
+use Rattle.std.proofs.lemmas.List.{append-nil}
 use Rattle.adf_export.specs.Items.EachGoesOut.{none, entry}
 
 module _ (t : Tree) (notes : Bool) where

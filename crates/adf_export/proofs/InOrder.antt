@@ -1,6 +1,5 @@
 -- The texts of entries, one after the other.
-use Rattle.std.proofs.Common.{◌≡◌, ℕ, List, [], ◌∷◌, ◌++◌, Some, append_assoc, append-nil, refl, sym, ap, ◌∙◌, subst}
-use Rattle.adf_export.proofs.Common.{Node, Tree, file_info, Located, ListForm, AreEntries, IsEntry, entry_at}
+use Rattle.adf_export.proofs.Common.{◌≡◌, ℕ, List, [], ◌∷◌, ◌++◌, Some, append_assoc, append-nil, refl, sym, ap, ◌∙◌, subst, Node, Tree, file_info, Located, ListForm, AreEntries, IsEntry, entry_at}
 
 pub entries_append : (t : Tree) (s : ListForm) (xs ys : List Located) (a b : List ℕ) → AreEntries t s xs a → AreEntries t s ys b → AreEntries t s (xs ++ ys) (a ++ b)
 entries_append t s [] ys a b none more = subst (λ (l : List ℕ). AreEntries t s ys (l ++ b)) (sym none) more

@@ -1,10 +1,6 @@
 -- The objects of path arguments, and their faults.
-use Rattle.std.proofs.Common.{◌≡◌, ℕ, ◌+◌, ◌<◌, ◌==◌, inl, inr, false, Bor, List, [], ◌∷◌, ◌++◌, length, get_or, map, take, Option, Some, None, Ok, refl, sym, ap, ap₂, ◌∙◌, subst, arith}
-use Rattle.std.specs.Str.{chars}
-use Rattle.adf_export.proofs.Common.{Keeps, false≢true, get_or-map, length-map, map-append, take_more, Tree, AreAsked, IsExtractFault, IsFaultOfSome, IsRefusal, IsWordFault, LeadTo, LeadsTo, led}
+use Rattle.adf_export.proofs.Common.{◌≡◌, ℕ, ◌+◌, ◌<◌, ◌==◌, inl, inr, false, Bor, List, [], ◌∷◌, ◌++◌, length, get_or, map, take, Option, Some, None, Ok, refl, sym, ap, ap₂, ◌∙◌, subst, arith, chars, Keeps, false≢true, get_or-map, length-map, map-append, take_more, Tree, AreAsked, IsExtractFault, IsFaultOfSome, IsRefusal, IsWordFault, LeadTo, LeadsTo, led, ObjectNotFound, StopsAt}
 use Rattle.ados_model.specs.declared.dos_error.DosError.{DosError}
-use Rattle.ados_model.specs.declared.dos_error.WalkFault.TheVariants.{ObjectNotFound}
-use Rattle.ados_volume.specs.Paths.{StopsAt}
 use Rattle.adf_export.specs.declared.fault.OutFault.{OutFault}
 use Rattle.adf_export.specs.declared.fault.OutFault.TheVariants.{Host, Letter, Memory, Output, Refused}
 use Rattle.adf_export.specs.Printing.{IsPrintFault}

@@ -1,7 +1,5 @@
 -- What is left of the open directories, and what is left after one step.
-use Rattle.std.proofs.Common.{◌≡◌, ℕ, zero, suc, ◌+◌, ◌-◌, ◌*◌, ◌<◌, inl, inr, Bool, true, false, List, [], ◌∷◌, ◌++◌, length, take, Contains, Some, length-append, append_assoc, append-nil, refl, sym, ap, ap₂, ◌∙◌, subst, arith}
-use Rattle.adf_export.proofs.Common.{flat_map, same_from_push, length_push, take_at, Contains-cases, Contains-here, Contains-later, Contains-nil, Node, Tree, Proper, LeadsToRoot, content_at, name_of, parent_of, by_parent, Level, Located, below, listed, ListOrder, ordered, IsOpen, IsLeft, IsSoFar, entry_at, first_keys, first_path, to_list, with_below, work}
-use Rattle.ados_model.specs.Change.{is_file}
+use Rattle.adf_export.proofs.Common.{◌≡◌, ℕ, zero, suc, ◌+◌, ◌-◌, ◌*◌, ◌<◌, inl, inr, Bool, true, false, List, [], ◌∷◌, ◌++◌, length, take, Contains, Some, length-append, append_assoc, append-nil, refl, sym, ap, ap₂, ◌∙◌, subst, arith, flat_map, same_from_push, length_push, take_at, Contains-cases, Contains-here, Contains-later, Contains-nil, Node, Tree, Proper, LeadsToRoot, content_at, name_of, parent_of, by_parent, Level, Located, below, listed, ListOrder, ordered, IsOpen, IsLeft, IsSoFar, entry_at, first_keys, first_path, to_list, with_below, work, is_file}
 use Rattle.adf_export.specs.steps.Levels.IsLeft.{none, more}
 use Rattle.adf_export.proofs.Below.{listing_short, parent_of_entry}
 use Rattle.adf_export.proofs.Files.{file_above, keys_if, listed_if, no_entries_in, path_if}

@@ -1,6 +1,5 @@
 -- Levels that are popped and pushed.
-use Rattle.std.proofs.Common.{◌≡◌, ℕ, List, [], ◌∷◌, ◌++◌, Option, Some, IfSome, option_to_list, subst}
-use Rattle.adf_export.proofs.Common.{All-nil, All-pop, All-push, All-same, Level, HaveKeys, HasKeys}
+use Rattle.adf_export.proofs.Common.{◌≡◌, ℕ, List, [], ◌∷◌, ◌++◌, Option, Some, IfSome, option_to_list, subst, All-nil, All-pop, All-push, All-same, Level, HaveKeys, HasKeys}
 
 module _ (image : List ℕ) where
   Listed : Level → Type 0

@@ -1,6 +1,5 @@
 -- The result of one step of a listing.
-use Rattle.std.proofs.Common.{◌≡◌, ℕ, ◌<◌, true, List, [], ◌∷◌, ◌++◌, Some, append-nil, refl, sym, ◌∙◌, subst}
-use Rattle.adf_export.proofs.Common.{Node, Tree, file_info, Listing, Located, ListForm, ListOrder, IsEntry, IsSoFar, entry_at, work, GoesOn}
+use Rattle.adf_export.proofs.Common.{◌≡◌, ℕ, ◌<◌, true, List, [], ◌∷◌, ◌++◌, Some, append-nil, refl, sym, ◌∙◌, subst, Node, Tree, file_info, Listing, Located, ListForm, ListOrder, IsEntry, IsSoFar, entry_at, work, GoesOn}
 use Rattle.adf_export.proofs.Left.{Lists}
 use Rattle.adf_export.proofs.InOrder.{entry_alone}
 

@@ -1,6 +1,5 @@
 -- Lists without duplicates, and concatenated lists.
-use Rattle.std.proofs.Common.{◌≡◌, ◌≢◌, ℕ, ◌+◌, inl, inr, List, [], ◌∷◌, length, Contains, length-append, refl, sym, ap₂, ◌∙◌, subst}
-use Rattle.adf_export.proofs.Common.{flat_map, Contains-append_cases, Once, Once-head, Once-tail, Contains-here, Contains-later, Contains-nil, Once-append}
+use Rattle.adf_export.proofs.Common.{◌≡◌, ◌≢◌, ℕ, ◌+◌, inl, inr, List, [], ◌∷◌, length, Contains, length-append, refl, sym, ap₂, ◌∙◌, subst, flat_map, Contains-append_cases, Once, Once-head, Once-tail, Contains-here, Contains-later, Contains-nil, Once-append}
 
 -- an element of a concatenation is in one of its lists
 pub in_joined : (f : ℕ → List ℕ) (xs : List ℕ) (y : ℕ) → Contains (flat_map f xs) y → (x : ℕ) × Contains xs x × Contains (f x) y

@@ -1,7 +1,5 @@
 -- The parts of a line, one after the other.
-use Rattle.std.proofs.Common.{◌≡◌, ℕ, ◌-◌, ◌==◌, min, Bool, true, false, List, [], ◌∷◌, ◌++◌, length, drop, replicate, append_assoc, append-nil, sym, ap, ◌∙◌, arith}
-use Rattle.std.specs.Prelude.{if◌then◌else◌}
-use Rattle.adf_export.proofs.Common.{codes, drop-replicate, comment_text, shown}
+use Rattle.adf_export.proofs.Common.{◌≡◌, ℕ, ◌-◌, ◌==◌, min, Bool, true, false, List, [], ◌∷◌, ◌++◌, length, drop, replicate, append_assoc, append-nil, sym, ap, ◌∙◌, arith, if◌then◌else◌, codes, drop-replicate, comment_text, shown}
 
 pub blanks : (n : ℕ) → drop (min n 8) (codes "        ") ≡ replicate (8 - n) 32
 blanks n =

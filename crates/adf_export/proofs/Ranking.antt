@@ -1,17 +1,13 @@
 -- Entries sorted by their ranks.
-use Rattle.std.proofs.Common.{◌≡◌, ℕ, suc, ◌+◌, ◌<◌, List, [], ◌∷◌, ◌++◌, Contains, length, get_or, take, drop, drop-cons, take-append-drop, refl, sym, ap, ap₂, ◌∙◌, subst}
-use Rattle.std.specs.Prelude.{if◌then◌else◌}
+use Rattle.adf_export.proofs.Common.{◌≡◌, ℕ, suc, ◌+◌, ◌<◌, List, [], ◌∷◌, ◌++◌, Contains, length, get_or, take, drop, drop-cons, take-append-drop, refl, sym, ap, ap₂, ◌∙◌, subst, if◌then◌else◌, Once, Once-before, Contains-here, Contains-later, Tree, name_of, ListOrder, compared, comes_before, sorted, weight_of, IsRank, AreRanked, rank_cmp, upper, Rank, placed}
 use Rattle.std.specs.Ordering.{is_lt, match_ordering, nat_cmp, ordering_then}
 use Rattle.std.specs.Cmp.Lexicographic.{slice_cmp}
 use Rattle.std.specs.declared.cmp.Ordering.{Ordering}
 use Rattle.std.specs.declared.cmp.Ordering.TheVariants.{Less, Equal, Greater}
 use Rattle.std.specs.FinMap.{nat_cmp-IsAntisymmetric}
 use Rattle.std.specs.BTreeMap.{insert_entry}
-use Rattle.adf_export.proofs.Common.{map, Once, Once-before, Contains-here, Contains-later, Tree, name_of, ListOrder, compared, comes_before, sorted, weight_of, IsRank, AreRanked, rank_cmp}
-use Rattle.ados_name.specs.Name.{upper}
+use Rattle.std.specs.Prelude.{map}
 use Rattle.std.proofs.lemmas.List.Sums.{fold_more}
-use Rattle.adf_export.specs.declared.order.Rank.{Rank}
-use Rattle.adf_export.specs.Ordered.{placed}
 use Rattle.adf_export.proofs.Sorting.{sorted_has}
 
 then_equal : (a b : Ordering) → ordering_then a b ≡ Equal → b ≡ Equal

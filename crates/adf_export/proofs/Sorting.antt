@@ -1,9 +1,5 @@
 -- Keys in an order: the same keys, each once.
-use Rattle.std.proofs.Common.{◌≡◌, ℕ, ◌⊎◌, inl, inr, Bool, true, false, List, [], ◌∷◌, All, Contains, get_or, refl, sym, ap, ◌∙◌, subst, arith}
-use Rattle.std.specs.Prelude.{if◌then◌else◌}
-use Rattle.adf_export.proofs.Common.{fold, Once, Once-head, Once-tail, Once-cons, Contains-here, Contains-later, Contains-cases, Contains-nil, Contains-get_or, entry_node, HasKey, Stands, Tree, entries, ListOrder, comes_before, ordered, sorted}
-use Rattle.adf_words.specs.declared.query.ListOrder.TheVariants.{Disk, Name, Size, Date}
-use Rattle.adf_export.specs.Ordered.{placed}
+use Rattle.adf_export.proofs.Common.{◌≡◌, ℕ, ◌⊎◌, inl, inr, Bool, true, false, List, [], ◌∷◌, All, Contains, get_or, refl, sym, ap, ◌∙◌, subst, arith, if◌then◌else◌, fold, Once, Once-head, Once-tail, Once-cons, Contains-here, Contains-later, Contains-cases, Contains-nil, Contains-get_or, entry_node, HasKey, Stands, Tree, entries, ListOrder, comes_before, ordered, sorted, Disk, Name, Size, Date, placed}
 
 module _ (before : ℕ → ℕ → Bool) where
   has_go : (key k x : ℕ) (ks rest : List ℕ) (b : Bool) → (Contains rest x → (key ≡ x) ⊎ Contains ks x) → Contains (if b then key ∷ k ∷ ks else k ∷ rest) x → (key ≡ x) ⊎ Contains (k ∷ ks) x

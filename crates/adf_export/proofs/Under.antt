@@ -1,10 +1,9 @@
 -- Entries of objects, each with everything below it.
-use Rattle.std.proofs.Common.{◌≡◌, ◌≢◌, ℕ, suc, ◌+◌, ◌<◌, ◌≤◌, Bool, true, false, ◌==◌, if◌then◌else◌, Option, None, Some, IfSome, List, [], ◌∷◌, ◌++◌, length, flat_map, take, get_or, All, Contains, IsSome, is_some, sym, ap, ◌∙◌, subst, arith, append_assoc, length-append, eq-eqb}
-use Rattle.std.proofs.lemmas.Grind.{flat_map-append}
-use Rattle.adf_export.proofs.Common.{ne_eqb, append-nil, take_more, All-append, All-cons, All-head, All-nil, All-tail, Contains-here, Contains-later, HasKey, Stands, Proper, Tree, entries, root, entry_node, Below, AreBelow, HasGrown, Note, HasSource, sources_of, tops}
+use Rattle.std.proofs.Common.{if◌then◌else◌}
+use Rattle.adf_export.proofs.Common.{flat_map, ◌≡◌, ◌≢◌, ℕ, suc, ◌+◌, ◌<◌, ◌≤◌, Bool, true, false, ◌==◌, Option, None, Some, IfSome, List, [], ◌∷◌, ◌++◌, length, take, get_or, All, Contains, IsSome, is_some, sym, ap, ◌∙◌, subst, arith, append_assoc, length-append, eq-eqb, flat_map-append, ne_eqb, take_more, All-append, All-cons, All-head, All-nil, All-tail, Contains-here, Contains-later, HasKey, Stands, Proper, Tree, entries, root, entry_node, Below, AreBelow, HasGrown, Note, HasSource, sources_of, tops, Entry}
+use Rattle.std.proofs.lemmas.List.{append-nil}
 use Rattle.ados_volume.specs.Below.{placed}
 use Rattle.ados_volume.specs.Below.AreBelow.{none, entry}
-use Rattle.adf_export.specs.declared.entry.Source.TheVariants.{Entry}
 
 -- what is true of all elements
 all_of : (P : ℕ → Type 0) (xs : List ℕ) → ((x : ℕ) → Contains xs x → P x) → All P xs

@@ -1,7 +1,6 @@
 -- A listing written so far.
-use Rattle.std.proofs.Common.{◌≡◌, ℕ, ◌+◌, ◌*◌, ◌≤◌, Bool, true, false, List, [], ◌++◌, Option, append_assoc, append-nil, refl, sym, ap, ◌∙◌, subst, arith}
+use Rattle.adf_export.proofs.Common.{◌≡◌, ℕ, ◌+◌, ◌*◌, ◌≤◌, Bool, true, false, List, [], ◌++◌, Option, append_assoc, append-nil, refl, sym, ap, ◌∙◌, subst, arith, Appends, nil_from_length, Tree, Listing, Passes, Writes, WritesFront, WritesFrontOf, Located, ListForm, ListOrder, AreEntries, BeginsList, BeginsListing, IsList, IsListing, listed, head, IsSoFar, work, GoesOn, Starts}
 use Rattle.std.proofs.KnownBytes.{Appends-nil}
-use Rattle.adf_export.proofs.Common.{Appends, nil_from_length, Tree, Listing, Passes, Writes, WritesFront, WritesFrontOf, Located, ListForm, ListOrder, AreEntries, BeginsList, BeginsListing, IsList, IsListing, listed, head, IsSoFar, work, GoesOn, Starts}
 use Rattle.adf_export.proofs.InOrder.{entries_append}
 use Rattle.adf_io.proofs.Telling.{IsBegun, begun_with, told_all, told_front, told_more, told_part, told_passed}
 

@@ -1,11 +1,8 @@
 -- What is to be done later is still valid after more was put.
 use Rattle.std.proofs.Common.{List, ℕ}
-use Rattle.std.proofs.lemmas.List.Elements.{All-weaker}
-use Rattle.ados_model.specs.Keys.{HasDirectory, HasEntryKey}
-use Rattle.adf_import.specs.declared.progress.Made.{Made}
+use Rattle.adf_import.proofs.Common.{All-weaker, HasDirectory, HasEntryKey, Made, IsReady, KeepsKeys}
 use Rattle.adf_import.specs.declared.progress.Progress.{Progress}
-use Rattle.adf_import.specs.Progress.{IsProgress, IsReady}
-use Rattle.adf_import.specs.Put.{KeepsKeys}
+use Rattle.adf_import.specs.Progress.{IsProgress}
 
 pub progress_kept : (old new : List ℕ) (progress : Progress) → KeepsKeys old new → IsProgress old progress → IsProgress new progress
 progress_kept old new progress kept was = record {

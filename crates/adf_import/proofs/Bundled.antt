@@ -1,6 +1,6 @@
 -- A bundle that is equal to that of a tree.
 use Rattle.std.proofs.Common.{ℕ, List, sym, ◌∙◌, subst}
-use Rattle.ados_model.specs.Tree.{Tree}
+use Rattle.adf_import.proofs.Common.{Tree}
 use Rattle.adf_record.specs.declared.bundle.Bundle.{Bundle}
 use Rattle.adf_record.specs.Bundle.{AreBundleOf, AreEntriesOf, AreSame, IsHeadOf}
 

@@ -1,14 +1,8 @@
 -- Whether protection bits deny the deletion of an entry with everything below it.
 use Rattle.std.proofs.Common.{◌≡◌, ℕ, suc, ◌<◌, inl, inr, Bool, true, false, not, List, [], ◌∷◌, length, get_or, Contains, refl, sym, ap, ap₂, ◌∙◌, arith}
-use Rattle.std.specs.Prelude.{◌&&◌, Option, None, Some, is_some}
-use Rattle.std.proofs.lemmas.Bool.{false≢true, true≢false}
-use Rattle.ados_model.proofs.KeyLists.{Contains-cases, Contains-nil}
-use Rattle.ados_name.specs.Name.{denies_delete}
-use Rattle.ados_model.specs.Tree.{Tree, Proper}
-use Rattle.ados_model.specs.Stands.{Stands}
-use Rattle.ados_change.specs.Conditions.IsUnder.{itself}
-use Rattle.ados_model.specs.Objects.{protection_of}
-use Rattle.adf_import.specs.Pruned.{AreKeysBelow, Denies, IsDenied, IsDeniedEntry}
+use Rattle.adf_import.proofs.Common.{◌&&◌, false≢true, true≢false, Contains-cases, Contains-nil, denies_delete, Tree, Proper, Stands, itself, protection_of, AreKeysBelow}
+use Rattle.std.specs.Prelude.{Option, None, Some, is_some}
+use Rattle.adf_import.specs.Pruned.{Denies, IsDenied, IsDeniedEntry}
 use Rattle.adf_import.proofs.KeysBelow.{among}
 
 -- a test of protection bits that `force` skips

@@ -1,22 +1,10 @@
 -- A file that is overwritten and then cut has exactly the new bytes.
 use Rattle.std.proofs.Common.{◌≡◌, ◌≢◌, ℕ, ◌+◌, ◌<◌, ◌≤◌, inl, inr, Bool, true, false, nat_lt, if◌then◌else◌, List, [], ◌∷◌, length, take, drop, Some, IsSome, is_some, option_map, refl, sym, ap, ◌∙◌, subst, arith, ltb-false, le-ltb, lt-ltb}
-use Rattle.std.proofs.lemmas.Bool.{cases_eq}
+use Rattle.adf_import.proofs.Common.{cases_eq, Date3, Node, Tree, Proper, content_at, root, size_of, size_in, Directory, File, changed, rewritten, written, with_comment, with_protection, without_archive, Stands, content_in, one_tree, nodes_here, nodes_other, NewFile, described, filled, cut_back}
 use Rattle.std.proofs.lemmas.List.{take_all}
 use Rattle.std.proofs.Math.Seq.{take-append_seam}
-use Rattle.ados_name.specs.declared.stamp.Date3.{Date3}
-use Rattle.ados_model.specs.Tree.{Node, Tree, Proper, bytes_in, bytes_of, content_at, root, size_of}
-use Rattle.ados_model.specs.Parts.{size_in}
-use Rattle.ados_model.specs.Tree.Content.{Directory, File}
-use Rattle.ados_model.specs.Change.{changed, rewritten, written}
-use Rattle.ados_model.specs.Edits.{overlaid, shortened, with_comment, with_protection}
-use Rattle.ados_name.specs.Name.{without_archive}
-use Rattle.ados_model.specs.Stands.{Stands}
-use Rattle.ados_model.proofs.Nodes.{content_in}
-use Rattle.ados_model.proofs.OneTree.{one_tree}
-use Rattle.ados_change.proofs.Changed.{nodes_here, nodes_other}
-use Rattle.adf_import.specs.declared.new_file.NewFile.{NewFile}
-use Rattle.adf_import.specs.Changes.{described, filled}
-use Rattle.adf_import.specs.steps.CutBack.{cut_back}
+use Rattle.ados_model.specs.Tree.{bytes_in, bytes_of}
+use Rattle.ados_model.specs.Edits.{overlaid, shortened}
 
 -- the key of an entry, and the key of a file
 abbrev pub IsEntry : ℕ → Tree → Type 0

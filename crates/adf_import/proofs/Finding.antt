@@ -1,12 +1,7 @@
 -- Targets that are found, and changes of them.
 use Rattle.std.proofs.Common.{◌≡◌, ℕ, List, Option, Result, Ok, Err, sym, ◌∙◌, subst}
-use Rattle.std.specs.Prelude.{MatchResult}
-use Rattle.ados_model.specs.declared.dos_error.DosError.{DosError}
-use Rattle.ados_model.specs.Tree.{Tree}
-use Rattle.ados_model.specs.Stands.{Stands}
-use Rattle.ados_volume.specs.Shown.{Shown}
-use Rattle.adf_import.specs.Changes.{Changes}
-use Rattle.adf_import.specs.Paths.{ChangesAt, object_at}
+use Rattle.adf_import.proofs.Common.{MatchResult, DosError, Tree, Stands, Shown, Changes, object_at}
+use Rattle.adf_import.specs.Paths.{ChangesAt}
 
 -- a target that is found
 pub at_found : {K E : Type 0} (P : K → Type 0) (Q : E → Type 0) (r : Result K E) (found : K) → r ≡ Ok found → P found → MatchResult r P Q

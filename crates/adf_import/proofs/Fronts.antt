@@ -1,17 +1,10 @@
 -- Directories on the way to a path, made one after the other.
 use Rattle.std.proofs.Common.{◌≡◌, ℕ, zero, suc, ◌+◌, ◌<◌, ◌≤◌, nat_lt, Bool, true, false, Result, Ok, Err, List, [], ◌∷◌, ◌++◌, length, take, if◌then◌else◌, refl, sym, ap, ◌∙◌, subst, inr, arith}
-use Rattle.std.specs.Prelude.{MatchResult}
+use Rattle.adf_import.proofs.Common.{MatchResult, Date3, DosError, HasTree, Stands, Tree, Shown, MakesMissing, directory_at, AreDone}
 use Rattle.std.proofs.lemmas.Bool.{ltb-false, ltb-true}
 use Rattle.std.proofs.lemmas.List.{append-nil, append_assoc}
-use Rattle.ados_name.specs.declared.stamp.Date3.{Date3}
-use Rattle.ados_model.specs.declared.dos_error.DosError.{DosError}
-use Rattle.ados_model.specs.Keys.{HasTree}
-use Rattle.ados_model.specs.Stands.{Stands}
-use Rattle.ados_model.specs.Tree.{Tree}
-use Rattle.ados_volume.specs.Shown.{Shown}
-use Rattle.adf_import.specs.Commands.{Makes, MakesLast, MakesMissing, MakesWay}
-use Rattle.adf_import.specs.Paths.{directory_at}
-use Rattle.adf_import.specs.Turns.{AreDone, StopsAtPath}
+use Rattle.adf_import.specs.Commands.{Makes, MakesLast, MakesWay}
+use Rattle.adf_import.specs.Turns.{StopsAtPath}
 use Rattle.adf_import.specs.Turns.AreDone.{one_more}
 use Rattle.adf_import.specs.Ways.{ends_front, fronts, fronts_before}
 

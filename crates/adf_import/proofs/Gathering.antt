@@ -1,13 +1,10 @@
 -- The progress of listing the keys of everything below an object.
 use Rattle.std.proofs.Common.{◌≡◌, ℕ, ◌<◌, ◌⊎◌, inl, inr, List, [], ◌∷◌, ◌++◌, length, reverse, Contains, IsSome, refl, sym, ap, ◌∙◌, subst}
+use Rattle.adf_import.proofs.Common.{Contains-append_cases, Contains-append_left, Contains-append_right, Once, Once-apart, Contains-cases, Contains-here, Contains-later, Contains-nil, Tree, Proper, entries, by_parent as under_parent, AreKeysBelow}
 use Rattle.std.proofs.lemmas.List.{append-nil, reverse-reverse}
-use Rattle.std.proofs.lemmas.List.Elements.{Contains-append_cases, Contains-append_left, Contains-append_right}
-use Rattle.ados_model.proofs.KeyLists.{Once, Once-front, Once-apart, Once-append, Contains-cases, Contains-here, Contains-later, Contains-nil}
-use Rattle.ados_model.specs.Tree.{Tree, Proper, entries}
-use Rattle.ados_change.specs.Conditions.IsUnder.{by_parent as under_parent}
+use Rattle.ados_model.proofs.KeyLists.{Once-front, Once-append}
 use Rattle.ados_volume.proofs.Distinct.{Contains-one, Contains-reverse}
 use Rattle.ados_volume.proofs.GoingBelow.{AreApart, IsHeld, apart_at_first, apart_goes_on, gone_few, key_there}
-use Rattle.adf_import.specs.Pruned.{AreKeysBelow}
 
 -- no list ends before an element of it
 no_split : (front : List ℕ) (key : ℕ) (back : List ℕ) → [] ≡ front ++ key ∷ back → ⊥

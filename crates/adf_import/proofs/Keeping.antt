@@ -1,22 +1,9 @@
 -- Directories stay directories and entries stay entries while others are put and described.
 use Rattle.std.proofs.Common.{◌≡◌, ◌≢◌, ℕ, inl, inr, List, [], Option, Some, None, IsSome, is_some, option_map, refl, sym, ap, ◌∙◌, subst}
-use Rattle.std.proofs.lemmas.Bool.{cases_eq, false≢true}
+use Rattle.adf_import.proofs.Common.{cases_eq, false≢true, Date3, slot, without_archive, Content, Node, Tree, Proper, content_at, entries, name_of, root, Directory, File, HasTree, Stands, changed, enter, made, rewritten, with_node, new_node, with_comment, with_protection, content_in, IsDirectoryKey, nodes_here, nodes_other, relisted, NewFile, described, filled, KeepsKeys}
 use Rattle.adf_block.specs.Image.{root_key}
-use Rattle.ados_name.specs.declared.stamp.Date3.{Date3}
-use Rattle.ados_name.specs.Name.{slot, without_archive}
-use Rattle.ados_model.specs.Tree.{Content, Node, Tree, Proper, content_at, entries, name_of, root}
-use Rattle.ados_model.specs.Tree.Content.{Directory, File}
-use Rattle.ados_model.specs.Keys.{HasTree}
-use Rattle.ados_model.specs.Stands.{Stands}
-use Rattle.ados_model.specs.Change.{changed, enter, made, rewritten, stamped, with_node}
-use Rattle.ados_model.specs.Edits.{new_node, with_comment, with_protection}
-use Rattle.ados_model.proofs.Nodes.{content_in}
-use Rattle.ados_change.specs.Conditions.{IsDirectoryKey}
-use Rattle.ados_change.proofs.Changed.{nodes_here, nodes_other, relisted}
-use Rattle.adf_import.specs.declared.new_file.NewFile.{NewFile}
-use Rattle.adf_import.specs.Changes.{described, filled}
+use Rattle.ados_model.specs.Change.{stamped}
 use Rattle.adf_import.proofs.Filling.{IsEntry, after_change}
-use Rattle.adf_import.specs.Put.{KeepsKeys}
 
 -- each node of a tree is a node of another with the same size, and each directory a directory
 pub record Keeps (t u : Tree) : Type 0 where

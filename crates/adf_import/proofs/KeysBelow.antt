@@ -1,14 +1,6 @@
 -- The keys of everything below an object: which objects they are, and which is before which.
 use Rattle.std.proofs.Common.{◌≡◌, ◌≢◌, ℕ, Some, inl, inr, List, ◌∷◌, ◌++◌, Contains, IsSome, is_some, sym, ap, subst}
-use Rattle.std.proofs.lemmas.List.Elements.{Contains-append_left}
-use Rattle.ados_model.proofs.KeyLists.{Contains-split, Contains-cases, Contains-here, Contains-later}
-use Rattle.ados_model.specs.Tree.{Tree, Proper, parent_of}
-use Rattle.ados_model.proofs.Nodes.{parent_in}
-use Rattle.ados_change.specs.Conditions.{IsUnder}
-use Rattle.ados_change.specs.Conditions.IsUnder.{itself, by_parent as under_parent}
-use Rattle.ados_volume.proofs.Loops.{no_loop}
-use Rattle.ados_volume.proofs.AllBelow.{StandsUnder}
-use Rattle.adf_import.specs.Pruned.{AreKeysBelow}
+use Rattle.adf_import.proofs.Common.{Contains-append_left, Contains-split, Contains-cases, Contains-here, Contains-later, Tree, Proper, parent_of, parent_in, IsUnder, itself, by_parent as under_parent, no_loop, StandsUnder, AreKeysBelow}
 
 module _ (t : Tree) (proper : Proper t) (top : ℕ) (keys : List ℕ) (below : AreKeysBelow t top keys) where
   -- the directory of a key is the top, or before it

@@ -1,4 +1,5 @@
 -- A change is made whole or refused, what a sequence of changes keeps, and how a command ends.
+pub mod Common
 pub mod Turns
 pub mod KeysBelow
 pub mod Gathering

@@ -1,13 +1,7 @@
 -- A file that is put under a name into the directory at a path.
 use Rattle.std.proofs.Common.{◌≡◌, ℕ, Bool, None, Ok, List, length, subst}
-use Rattle.ados_name.specs.declared.stamp.Date3.{Date3}
-use Rattle.ados_model.specs.declared.dos_error.DosError.{DosError}
-use Rattle.ados_model.specs.Stands.{Stands}
-use Rattle.ados_model.specs.Tree.{Tree}
-use Rattle.ados_volume.specs.Shown.{Shown}
+use Rattle.adf_import.proofs.Common.{Date3, DosError, Stands, Tree, Shown, directory_at, put, put_refusal}
 use Rattle.adf_import.specs.Commands.{PutsAs, PutsIn}
-use Rattle.adf_import.specs.Paths.{directory_at}
-use Rattle.adf_import.specs.Put.{put, put_refusal}
 use Rattle.adf_import.proofs.Finding.{at_found}
 
 module _ (moment : Date3) (to name : List ℕ) (force : Bool) (dir : ℕ) (old new : Shown) (found : (t : Tree) → Stands old.image t → directory_at to t ≡ Ok dir) where

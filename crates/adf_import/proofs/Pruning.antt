@@ -1,26 +1,18 @@
 -- The progress of removing everything below an entry.
 use Rattle.std.proofs.Common.{◌≡◌, ◌≢◌, ℕ, ◌⊎◌, inl, inr, Bool, true, false, not, ◌==◌, if◌then◌else◌, List, [], ◌∷◌, ◌++◌, filter, Contains, Option, Some, None, IsSome, is_some, option_map, refl, sym, ap, ap₂, ◌∙◌, subst, append_assoc}
+use Rattle.adf_import.proofs.Common.{option_map_or, cases_eq, Contains-append_cases, Contains-append_left, Contains-append_right, Date3, Once, Once-apart, Contains-split, Contains-cases, Contains-here, Contains-later, Contains-nil, Node, Tree, Proper, entries, parent_of, parent_in, one_tree, Stands, removed, IsUnder, itself, by_parent as under_parent, nodes_here, nodes_other, relisted, no_loop, StandsUnder, AreKeysBelow}
 use Rattle.std.specs.Prelude.{option_and_then}
-use Rattle.std.specs.Option.{option_map_or}
-use Rattle.std.proofs.lemmas.Bool.{cases_eq}
 use Rattle.std.proofs.lemmas.List.{append-nil}
-use Rattle.std.proofs.lemmas.List.Elements.{Contains-append_cases, Contains-append_left, Contains-append_right}
-use Rattle.ados_name.specs.declared.stamp.Date3.{Date3}
-use Rattle.ados_model.proofs.KeyLists.{Once, Once-before, Once-apart, Contains-split, Contains-cases, Contains-here, Contains-later, Contains-nil}
-use Rattle.ados_model.specs.Tree.{Node, Tree, Proper, entries, entries_in, parent_of}
-use Rattle.ados_model.proofs.Nodes.{directory_node, parent_in}
-use Rattle.ados_model.proofs.OneTree.{one_tree}
-use Rattle.ados_model.specs.Stands.{Stands}
-use Rattle.ados_model.specs.Change.{left, listed, removed}
-use Rattle.ados_change.specs.Conditions.{CanRemove, IsUnder}
-use Rattle.ados_change.specs.Conditions.IsUnder.{itself, by_parent as under_parent}
-use Rattle.ados_change.proofs.Changed.{nodes_here, nodes_other, relisted, listed_parents}
+use Rattle.ados_model.proofs.KeyLists.{Once-before}
+use Rattle.ados_model.specs.Tree.{entries_in}
+use Rattle.ados_model.proofs.Nodes.{directory_node}
+use Rattle.ados_model.specs.Change.{left, listed}
+use Rattle.ados_change.specs.Conditions.{CanRemove}
+use Rattle.ados_change.proofs.Changed.{listed_parents}
 use Rattle.ados_model.specs.Objects.{is_under}
-use Rattle.ados_volume.proofs.Loops.{no_loop}
 use Rattle.ados_volume.proofs.Distinct.{Contains-one}
-use Rattle.ados_volume.proofs.AllBelow.{StandsUnder}
 use Rattle.ados_volume.proofs.Under.{under_is_told}
-use Rattle.adf_import.specs.Pruned.{AreKeysBelow, pruned}
+use Rattle.adf_import.specs.Pruned.{pruned}
 use Rattle.adf_import.proofs.KeysBelow.{among, held_key, not_top, own_before}
 
 -- of the keys below an entry, the last ones are removed and these are left; everything else is unchanged

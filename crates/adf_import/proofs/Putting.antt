@@ -1,29 +1,12 @@
 -- A file or directory put under a name: in place of the entry with the name, or new.
 use Rattle.std.proofs.Common.{◌≡◌, ℕ, Bool, false, true, not, if◌then◌else◌, List, [], ◌∷◌, Option, Some, None, refl, sym, ap, ◌∙◌, is_some}
-use Rattle.std.specs.Prelude.{◌&&◌}
-use Rattle.std.specs.Option.{option_map_or}
-use Rattle.std.proofs.lemmas.Bool.{true≢false}
-use Rattle.ados_name.specs.declared.stamp.Date3.{Date3}
-use Rattle.ados_name.specs.Name.{denies_delete, denies_write}
-use Rattle.ados_model.specs.declared.dos_error.DosError.TheVariants.{DeleteProtected, DiskFull, ObjectExists, ObjectWrongType, WriteProtected}
-use Rattle.ados_model.specs.Tree.{Content, Tree, content_at, free}
-use Rattle.ados_model.specs.Parts.{IsUnused}
-use Rattle.ados_model.specs.Tree.Content.{Directory, File}
-use Rattle.ados_model.specs.Stands.{Stands}
-use Rattle.ados_model.specs.Keys.{HasDirectory, HasEntryKey, HasKey, HasTree}
-use Rattle.ados_model.specs.Change.{made, child_of, holds_file, is_file}
-use Rattle.ados_change.specs.Conditions.{IsDirectoryKey}
-use Rattle.ados_model.specs.Objects.{protection_of}
-use Rattle.ados_model.specs.Reads.{lacks}
-use Rattle.ados_model.specs.Refusals.{first_refusal, refuse}
+use Rattle.adf_import.proofs.Common.{◌&&◌, option_map_or, true≢false, Date3, denies_delete, denies_write, DeleteProtected, DiskFull, ObjectExists, ObjectWrongType, WriteProtected, Content, Tree, content_at, free, IsUnused, Directory, File, Stands, HasDirectory, HasEntryKey, HasKey, HasTree, made, child_of, is_file, IsDirectoryKey, protection_of, lacks, first_refusal, refuse, passed, NewFile, filled, make_refusal, more_blocks, or_no_room, KeepsKeys, enter_refusal, entered, new_refusal, put, put_refusal}
+use Rattle.ados_model.specs.Change.{holds_file}
 use Rattle.ados_volume.proofs.Walking.{child_is_key}
-use Rattle.ados_volume.proofs.Refusing.{passed}
-use Rattle.adf_import.specs.declared.new_file.NewFile.{NewFile}
 use Rattle.adf_import.specs.declared.new_file.NotPut.TheVariants.{NoRoom, Refused}
-use Rattle.adf_import.specs.Changes.{added, filled}
-use Rattle.adf_import.specs.Refusals.{add_refusal, make_refusal, more_blocks, or_no_room, replace_refusal}
+use Rattle.adf_import.specs.Changes.{added}
+use Rattle.adf_import.specs.Refusals.{add_refusal, replace_refusal}
 use Rattle.adf_import.proofs.Filling.{IsEntry, after_change}
-use Rattle.adf_import.specs.Put.{KeepsKeys, enter_refusal, entered, new_refusal, put, put_refusal}
 use Rattle.adf_import.proofs.Keeping.{content_made, entry_made, keeps_added, keeps_filled, keeps_keys, keeps_made}
 
 -- a child is a node

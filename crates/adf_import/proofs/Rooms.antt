@@ -1,26 +1,13 @@
 -- Whether enough blocks are free for a file's bytes.
 use Rattle.std.proofs.Common.{◌≡◌, ◌≢◌, ℕ, ◌+◌, ◌-◌, ◌<◌, ◌≤◌, inl, inr, Bool, false, nat_lt, if◌then◌else◌, List, [], length, Option, Some, None, option_map, refl, sym, ap, ◌∙◌, arith, le-ltb, lt-ltb}
+use Rattle.adf_import.proofs.Common.{cases_eq, true≢false, Format, Ofs, Ffs, Date3, slot, block_cost, Node, Tree, content_at, entries, free, name_of, size_of, IsUnused, size_in, Directory, File, enter, made, with_node, new_node, content_in, IsDirectoryKey, FileInfo, file_info, nodes_here, nodes_other, relisted, NotPut, more_blocks, or_no_room}
 use Rattle.std.specs.Prelude.{max}
-use Rattle.std.proofs.lemmas.Bool.{cases_eq, cases_lt, true≢false}
-use Rattle.adf_block.specs.declared.layout.Format.{Format}
-use Rattle.adf_block.specs.declared.layout.Format.TheVariants.{Ofs, Ffs}
+use Rattle.std.proofs.lemmas.Bool.{cases_lt}
 use Rattle.adf_block.proofs.Totals.{total-one}
-use Rattle.ados_name.specs.declared.stamp.Date3.{Date3}
-use Rattle.ados_name.specs.Name.{slot}
-use Rattle.ados_model.specs.Tree.{block_cost, Node, Tree, content_at, cost_in, entries, free, name_of, size_of, used}
-use Rattle.ados_model.specs.Parts.{IsUnused, cost_of, size_in}
-use Rattle.ados_model.specs.Tree.Content.{Directory, File}
-use Rattle.ados_model.specs.Change.{enter, made, with_node}
-use Rattle.ados_model.specs.Edits.{new_node}
-use Rattle.ados_model.proofs.Nodes.{content_in}
-use Rattle.ados_change.specs.Conditions.{IsDirectoryKey}
-use Rattle.ados_model.specs.declared.answer.FileInfo.{FileInfo}
-use Rattle.ados_model.specs.Objects.{file_info}
+use Rattle.ados_model.specs.Tree.{cost_in, used}
+use Rattle.ados_model.specs.Parts.{cost_of}
 use Rattle.ados_change.specs.Renewed.{NeedsMore, written_size}
-use Rattle.ados_change.proofs.Changed.{nodes_here, nodes_other, relisted}
-use Rattle.adf_import.specs.declared.new_file.NotPut.{NotPut}
 use Rattle.adf_import.specs.declared.new_file.NotPut.TheVariants.{NoRoom}
-use Rattle.adf_import.specs.Refusals.{more_blocks, or_no_room}
 
 module _ (t : Tree) (moment : Date3) (dir key : ℕ) (name : List ℕ) (directory : IsDirectoryKey t dir) (unused : IsUnused t key) where
   abbrev node : Node

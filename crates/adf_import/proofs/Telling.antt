@@ -1,17 +1,10 @@
 -- The faults of refused moves and protections.
 use Rattle.std.proofs.Common.{◌≡◌, ℕ, Option, None, Some, Result, Err, List, [], ◌∷◌, refl, sym, subst}
+use Rattle.adf_import.proofs.Common.{chars, Date3, Form, protect_word, Shown, EndsProtect, EndsAt, ReadsFirst, InFault, MoveFault}
 use Rattle.std.specs.Prelude.{MatchOption, ⊤}
-use Rattle.std.specs.Str.{chars}
-use Rattle.ados_name.specs.declared.stamp.Date3.{Date3}
-use Rattle.adf_text.specs.declared.protect_words.Form.{Form}
-use Rattle.adf_text.specs.ProtectWords.{protect_word}
-use Rattle.ados_volume.specs.Shown.{Shown}
-use Rattle.adf_import.specs.Commands.{EndsMove, EndsProtect, EndsWithoutBits, IsMoveRefusal, Moves, Protects}
-use Rattle.adf_import.specs.Turns.{EndsAt, ReadsFirst}
+use Rattle.adf_import.specs.Commands.{EndsMove, EndsWithoutBits, IsMoveRefusal, Moves, Protects}
 use Rattle.adf_import.specs.Words.{IsBitsFault}
-use Rattle.adf_import.specs.declared.fault.InFault.{InFault}
 use Rattle.adf_import.specs.declared.fault.InFault.TheVariants.{Bits, Memory}
-use Rattle.adf_import.specs.declared.paths.MoveFault.{MoveFault}
 use Rattle.adf_import.specs.declared.paths.MoveFault.TheVariants.{New, Old}
 use Rattle.adf_import.proofs.Turning.{told_apart, was_read}
 

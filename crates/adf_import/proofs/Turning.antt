@@ -1,15 +1,9 @@
 -- Arguments that are done in turn, and where they end.
 use Rattle.std.proofs.Common.{◌≡◌, Bor, ℕ, ◌+◌, ◌<◌, Result, Ok, Err, List, [], ◌∷◌, ◌++◌, length, get_or, map, take, drop, Contains, refl, sym, ap, ◌∙◌, subst, arith}
-use Rattle.std.specs.Str.{chars}
+use Rattle.adf_import.proofs.Common.{chars, Contains-get_or, DosError, HasTree, Shown, InFault, AreDone, AtWord, EndsAt, EndsInTurn, ReadsFirst}
 use Rattle.std.proofs.lemmas.List.{drop_more, get_or-map, length-map, map-append, take-append-drop, take_more}
-use Rattle.std.proofs.lemmas.List.Elements.{Contains-get_or}
-use Rattle.ados_model.specs.declared.dos_error.DosError.{DosError}
-use Rattle.ados_model.specs.Keys.{HasTree}
-use Rattle.ados_volume.specs.Shown.{Shown}
 use Rattle.adf_words.specs.declared.refused.Refused.{Refused as Told}
-use Rattle.adf_import.specs.declared.fault.InFault.{InFault}
 use Rattle.adf_import.specs.declared.fault.InFault.TheVariants.{Letter, Memory, Refused}
-use Rattle.adf_import.specs.Turns.{AreDone, AtWord, EndsAt, EndsInTurn, ReadsFirst}
 use Rattle.adf_import.specs.Turns.AreDone.{one_more}
 use Rattle.adf_import.specs.Words.{IsForeign, IsLetterFault, IsLetterFaultIn, IsRefusal}
 

@@ -1,12 +1,10 @@
 -- What is untouched by a read before a change, and by sequences of changes.
 use Rattle.std.proofs.Common.{◌≡◌, ◌/◌, ℕ, List, sym, ap, ◌∙◌, subst}
-use Rattle.ados_model.specs.Keys.{HasTree}
+use Rattle.adf_import.proofs.Common.{HasTree, Shown, KeepsInTurn, none, one_more}
 use Rattle.ados_change.specs.NewBlocks.{KeepsRest}
 use Rattle.ados_change.proofs.FilesStay.{past_end_trans}
 use Rattle.ados_change.proofs.Keeping.{same_keeps}
-use Rattle.ados_volume.specs.Shown.{Shown}
-use Rattle.adf_import.specs.InTurn.{KeepsInTurn, KeepsOutside}
-use Rattle.adf_import.specs.InTurn.KeepsInTurn.{none, one_more}
+use Rattle.adf_import.specs.InTurn.{KeepsOutside}
 
 -- a change of an unchanged volume
 pub kept_looked : (old looked new : Shown) → looked ≡ old → KeepsRest looked.image new.image → KeepsRest old.image new.image

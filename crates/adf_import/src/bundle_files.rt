@@ -1,6 +1,6 @@
 //! The files of a bundle on the host.
 
-use crate::fault::InFault;
+use crate::fault::{FileWhy, InFault, unusable};
 use crate::host_files::{read_host, unread};
 use adf_block::layout::BLOCK_BYTES;
 use adf_record::{Bundle, BundleEntry};
@@ -50,7 +50,7 @@ fn read_file<R: Files>(
 ) -> Result<Vec<u8>, InFault> {
     let found = refuse_no_file(rt, alloc, path)?;
     if found != size as u64 {
-        return Err(other_size(alloc, path, found, size));
+        return Err(unusable(alloc, path, FileWhy::Size { found, told: size }));
     }
     let block = BLOCK_BYTES as u64;
     if found > room {
@@ -61,8 +61,13 @@ fn read_file<R: Files>(
         });
     }
     let bytes = read_host(rt, alloc, path, size as usize + 1)?;
-    if bytes.len() != size as usize {
-        return Err(other_size(alloc, path, bytes.len() as u64, size));
+    let read = bytes.len() as u64;
+    if read != size as u64 {
+        let why = FileWhy::Size {
+            found: read,
+            told: size,
+        };
+        return Err(unusable(alloc, path, why));
     }
     Ok(bytes)
 }
@@ -71,7 +76,7 @@ fn read_file<R: Files>(
 pub(crate) fn refuse_no_file<R: Files>(rt: &R, alloc: Global, path: &str) -> Result<u64, InFault> {
     match fs::symlink_metadata(rt, path) {
         Ok(found) if found.is_file() => Ok(found.len()),
-        Ok(_) => Err(InFault::NoFile(String::from_str(alloc, path)?)),
+        Ok(_) => Err(unusable(alloc, path, FileWhy::NoFile)),
         Err(_) => Err(unread(rt, alloc, path)),
     }
 }
@@ -79,19 +84,8 @@ pub(crate) fn refuse_no_file<R: Files>(rt: &R, alloc: Global, path: &str) -> Res
 /// Refuses what stands in place of a directory of the host, a symbolic link too. A directory may be missing.
 fn refuse_no_directory<R: Files>(rt: &R, alloc: Global, path: &str) -> Result<(), InFault> {
     match fs::symlink_metadata(rt, path) {
-        Ok(found) if !found.is_dir() => {
-            let path = String::from_str(alloc, path)?;
-            Err(InFault::NoDirectory(path))
-        }
+        Ok(found) if !found.is_dir() => Err(unusable(alloc, path, FileWhy::NoDirectory)),
         _ => Ok(()),
-    }
-}
-
-/// The fault of a file whose size is not that of its entry.
-fn other_size(alloc: Global, path: &str, found: u64, told: u32) -> InFault {
-    match String::from_str(alloc, path) {
-        Ok(path) => InFault::Size { path, found, told },
-        Err(_) => InFault::Memory,
     }
 }
 

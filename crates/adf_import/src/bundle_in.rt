@@ -2,9 +2,9 @@
 
 use crate::bundle_files::{read_files, refuse_no_file};
 use crate::bundle_put::volume_of_bundle;
-use crate::fault::InFault;
+use crate::fault::{InFault, SourceFault, WrongVolume};
 use crate::host_files::read_host;
-use adf_record::{Bundle, MOST_BUNDLE_BYTES, bundle_of, format_word, read_bundle};
+use adf_record::{MOST_BUNDLE_BYTES, bundle_of, format_word, read_bundle};
 use ados_volume::Volume;
 use std::alloc::Global;
 use std::rt::Files;
@@ -20,36 +20,25 @@ pub fn add_bundle<R: Files>(
     old: &Volume,
     directory: &str,
 ) -> Result<Volume, InFault> {
-    let bundle = described(rt, alloc, directory)?;
-    refuse_other(alloc, old, &bundle)?;
-    let contents = read_files(rt, alloc, &bundle, directory)?;
-    volume_of_bundle(alloc, &bundle, &contents, directory)
-}
-
-/// The bundle that a directory of the host describes.
-fn described<R: Files>(rt: &R, alloc: Global, directory: &str) -> Result<Bundle, InFault> {
     let path = format!(in alloc; "{directory}/volume.json")?;
     refuse_no_file(rt, alloc, path.as_str())?;
     let text = read_host(rt, alloc, path.as_str(), MOST_BUNDLE_BYTES + 1)?;
-    match read_bundle(alloc, &text) {
-        Ok(bundle) => Ok(bundle),
-        Err(fault) if fault.is_memory() => Err(InFault::Memory),
-        Err(fault) => Err(InFault::Description { path, fault }),
-    }
-}
-
-/// Refuses a volume that has entries, or another kind or size than a bundle.
-fn refuse_other(alloc: Global, old: &Volume, bundle: &Bundle) -> Result<(), InFault> {
+    let bundle = match read_bundle(alloc, &text) {
+        Ok(bundle) => bundle,
+        Err(fault) if fault.is_memory() => return Err(InFault::Memory),
+        Err(fault) => return Err(InFault::Source(SourceFault::Description { path, fault })),
+    };
+    let head = bundle.head;
     let found = bundle_of(alloc, old)?;
     if !found.entries.is_empty() {
-        return Err(InFault::NotEmpty);
+        return Err(InFault::Source(SourceFault::Volume(WrongVolume::NotEmpty)));
     }
-    let head = bundle.head;
-    if found.head.format == head.format && found.head.blocks == head.blocks {
-        return Ok(());
+    if found.head.format != head.format || found.head.blocks != head.blocks {
+        return Err(InFault::Source(SourceFault::Volume(WrongVolume::Other {
+            kind: format_word(head.format),
+            blocks: head.blocks,
+        })));
     }
-    Err(InFault::OtherVolume {
-        kind: format_word(head.format),
-        blocks: head.blocks,
-    })
+    let contents = read_files(rt, alloc, &bundle, directory)?;
+    volume_of_bundle(alloc, &bundle, &contents, directory)
 }

@@ -5,7 +5,7 @@ ghost use Rattle.ados_model.specs.Tree.{Tree};
 ghost use Rattle.adf_record.specs.Bundle.{AreBundleOf, AreContentsOf};
 
 use crate::bundle_files::host_path;
-use crate::fault::{InFault, refused};
+use crate::fault::{InFault, SourceFault, refused};
 use crate::item::{Content, How, Item, put_item};
 use crate::paths::directory_at;
 use crate::progress::Progress;
@@ -16,7 +16,6 @@ use adf_record::{Bundle, bundle_of, contents_of, same_bundle, same_contents};
 use adf_text::Uaem;
 use ados_change::put_date;
 use ados_model::DosError;
-use ados_name::Date3;
 use ados_volume::{Volume, blank, check};
 use std::alloc::{AllocError, Global};
 
@@ -39,7 +38,7 @@ pub fn volume_of_bundle(
     };
     let made = is_made(alloc, &volume, bundle, contents)?;
     if !made {
-        return Err(InFault::Unlike);
+        return Err(InFault::Source(SourceFault::Unlike));
     }
     Ok(volume)
 }
@@ -63,7 +62,8 @@ fn is_made(
     Ok(same_contents(&bytes, contents))
 }
 
-/// The image with the entries, the root's date and the boot block of a bundle.
+/// The image with the entries, the root's date and the boot block of a bundle. Each entry that is put into the root sets its
+/// date, so that is set last.
 fn image_of(
     alloc: Global,
     bundle: &Bundle,
@@ -72,25 +72,20 @@ fn image_of(
 ) -> Result<Image, InFault> {
     let head = bundle.head;
     if !size_ok(head.blocks) {
-        return Err(InFault::Unlike);
+        return Err(InFault::Source(SourceFault::Unlike));
     }
     let mut volume = blank(alloc, head.format, head.blocks, head.label, head.created)?;
     put_entries(alloc, &mut volume, bundle, contents, directory)?;
     volume.rename_disk(head.label, head.changed);
     let mut image = volume.into_image();
-    date_root(&mut image, head.root_date);
-    if restore_boot(&mut image, &bundle.boot).is_err() {
-        return Err(InFault::Unlike);
-    }
-    Ok(image)
-}
-
-/// Sets the root's own date, which each entry that is put into the root sets too.
-fn date_root(image: &mut Image, date: Date3) {
     prove!(image.blocks() >= 16);
     let root = image.root();
-    put_date(image, root, DATE, date);
+    put_date(&mut image, root, DATE, head.root_date);
     image.settle(root, CHECKSUM);
+    if restore_boot(&mut image, &bundle.boot).is_err() {
+        return Err(InFault::Source(SourceFault::Unlike));
+    }
+    Ok(image)
 }
 
 /// Puts all entries of a bundle into a volume. Metadata of directories is set last, because each entry put into a
@@ -105,7 +100,7 @@ fn put_entries(
     directory: &str,
 ) -> Result<(), InFault> {
     let Ok(top) = directory_at(volume, b"") else {
-        return Err(InFault::Unlike);
+        return Err(InFault::Source(SourceFault::Unlike));
     };
     let how = How {
         force: false,

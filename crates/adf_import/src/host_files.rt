@@ -1,10 +1,10 @@
 //! What is read of host files: their names, their bytes and their notes.
 
-use crate::fault::{InFault, NoteFault, refused};
+use crate::fault::{FileWhy, InFault, SourceFault, refused, unusable};
 use crate::item::Content;
 use crate::name_why::NameWhy;
 use adf_io::{InputFault, read_bounded};
-use adf_text::{LettersFault, Uaem, UaemFault, host_name_bytes, read_uaem};
+use adf_text::{LettersFault, Uaem, UaemFault, host_name_bytes, letter_text, read_uaem};
 use ados_data::blocks_of;
 use ados_model::DosError;
 use ados_name::{Comment, Date3, Name, Protect};
@@ -18,26 +18,22 @@ use std::rt::Files;
 ///
 /// Error: 210, with the host path, for a text that is not a name.
 pub(crate) fn entry_name(alloc: Global, entry: &HostEntry) -> Result<Name, InFault> {
-    let bytes = match host_name_bytes(alloc, entry.name.as_str()) {
-        Ok(bytes) => bytes,
-        Err(LettersFault::NoByte { letter, .. }) => {
-            return Err(wrong_host_name(alloc, entry, NameWhy::Foreign { letter }));
-        }
+    let why = match host_name_bytes(alloc, entry.name.as_str()) {
+        Ok(bytes) => match Name::new(&bytes) {
+            Ok(name) => return Ok(name),
+            Err(_) => {
+                let name = letter_text(alloc, &bytes)?;
+                NameWhy::of_text(name.as_str()).unwrap_or(NameWhy::Empty)
+            }
+        },
+        Err(LettersFault::NoByte { letter, .. }) => NameWhy::Foreign { letter },
         Err(LettersFault::Memory) => return Err(InFault::Memory),
     };
-    match Name::new(&bytes) {
-        Ok(name) => Ok(name),
-        Err(_) => Err(wrong_host_name(alloc, entry, NameWhy::of_bytes(&bytes))),
-    }
-}
-
-/// The fault of a host file whose name is no name of an entry.
-fn wrong_host_name(alloc: Global, entry: &HostEntry, why: NameWhy) -> InFault {
-    let path = String::from_str(alloc, entry.path.as_str());
-    match (path, String::from_str(alloc, entry.name.as_str())) {
-        (Ok(path), Ok(name)) => InFault::HostName { path, name, why },
-        _ => InFault::Memory,
-    }
+    Err(InFault::HostName {
+        path: String::from_str(alloc, entry.path.as_str())?,
+        name: String::from_str(alloc, entry.name.as_str())?,
+        why,
+    })
 }
 
 /// The most bytes read of a note: more than the longest line.
@@ -50,17 +46,19 @@ fn noted_of<R: Files>(rt: &R, alloc: Global, entry: &HostEntry) -> Result<Uaem, 
         return Ok(without_note(entry.date));
     };
     let line = read_host(rt, alloc, note.as_str(), MOST_NOTED)?;
-    match read_uaem(alloc, &line) {
-        Ok(noted) => Ok(noted),
-        Err(UaemFault::Memory) => Err(InFault::Memory),
+    let why = match read_uaem(alloc, &line) {
+        Ok(noted) => return Ok(noted),
+        Err(UaemFault::Memory) => return Err(InFault::Memory),
         Err(UaemFault::LongComment { .. }) => {
-            Err(refused(alloc, entry.path.as_str(), DosError::CommentTooBig))
+            return Err(refused(alloc, entry.path.as_str(), DosError::CommentTooBig));
         }
-        Err(fault) => Err(InFault::Note {
-            path: String::from_str(alloc, note.as_str())?,
-            fault: NoteFault(fault),
-        }),
-    }
+        Err(UaemFault::NotUtf8 { .. }) => FileWhy::NotUtf8,
+        Err(UaemFault::NoByte { .. }) => FileWhy::NoByte,
+        Err(UaemFault::Control { .. }) => FileWhy::Control,
+        Err(UaemFault::NoProtection) => FileWhy::NoProtection,
+        Err(UaemFault::NoDate) => FileWhy::NoDate,
+    };
+    Err(unusable(alloc, note.as_str(), why))
 }
 
 /// A file or directory of the host as it was read: its metadata, the first bytes of a file, and its length, which a directory
@@ -75,20 +73,13 @@ pub(crate) struct Given {
 impl Given {
     /// The content of a file. A directory has none.
     pub fn content(&self, volume: &Volume) -> Option<Content<'_>> {
-        match self.length {
-            Some(_) => Some(Content {
-                bytes: self.bytes.as_slice(),
-                more: self.unread_blocks(volume),
-            }),
-            None => None,
-        }
-    }
-
-    /// The number of blocks that a file needs in addition to those for the bytes read.
-    pub fn unread_blocks(&self, volume: &Volume) -> u64 {
+        let length = self.length?;
         let format = volume.image().format();
-        let all = blocks_of(format, self.length.unwrap_or(0));
-        all.saturating_sub(blocks_of(format, self.bytes.len() as u64))
+        let read = blocks_of(format, self.bytes.len() as u64);
+        Some(Content {
+            bytes: self.bytes.as_slice(),
+            more: blocks_of(format, length).saturating_sub(read),
+        })
     }
 }
 
@@ -144,7 +135,7 @@ pub(crate) fn read_host<R: Files>(
 pub(crate) fn unread<R: Files>(rt: &R, alloc: Global, path: &str) -> InFault {
     let reason = why_unreadable(rt, path);
     match String::from_str(alloc, path) {
-        Ok(path) => InFault::Read { path, reason },
+        Ok(path) => InFault::Source(SourceFault::Read { path, reason }),
         Err(_) => InFault::Memory,
     }
 }

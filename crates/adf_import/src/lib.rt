@@ -30,7 +30,7 @@ pub use bundle_in::add_bundle;
 pub use bundle_put::volume_of_bundle;
 pub use change::change_volume;
 pub use entries::{delete, make_directory, move_entry};
-pub use fault::{InFault, NoteFault, SourceFault};
+pub use fault::{FileWhy, InFault, SourceFault, WrongVolume};
 pub use fields::{comment, protect, redate, relabel};
 pub use in_turn::outside_stays;
 pub use name_why::{NameWhy, wrong_name};

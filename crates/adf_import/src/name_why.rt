@@ -6,7 +6,7 @@ use std::fmt;
 const LONGEST: usize = 30;
 
 /// Why a text is no name of a file or directory, as the end of a sentence: `'NAME' WHY`.
-#[derive(Clone, Copy, Debug)]
+#[derive(Clone, Copy)]
 pub enum NameWhy {
     Empty,
     /// It has this many characters.
@@ -33,20 +33,6 @@ impl NameWhy {
             return Some(NameWhy::Long { characters });
         }
         None
-    }
-
-    /// Why these bytes, which are no name, are none.
-    pub(crate) fn of_bytes(bytes: &[u8]) -> NameWhy {
-        if bytes.contains(&b'/') {
-            return NameWhy::Has { letter: '/' };
-        }
-        if bytes.contains(&b':') {
-            return NameWhy::Has { letter: ':' };
-        }
-        match bytes.len() {
-            0 => NameWhy::Empty,
-            characters => NameWhy::Long { characters },
-        }
     }
 }
 

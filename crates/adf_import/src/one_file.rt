@@ -5,7 +5,7 @@ ghost use Rattle.std.specs.Str.{chars};
 ghost use Rattle.adf_import.specs.Commands.{PutsAs};
 
 use crate::adding::most_bytes;
-use crate::fault::{InFault, SourceFault};
+use crate::fault::{FileWhy, InFault, SourceFault, unusable};
 use crate::host_files::{Given, read_entry, without_note};
 use crate::item::{How, not_put};
 use crate::new_file::put_file;
@@ -74,7 +74,7 @@ pub(crate) fn add_as<R: Files + StandardInput>(
     match put_file(volume, dir, name, &file, how.force, how.moment) {
         Ok(_) => Ok(()),
         Err(fault) => {
-            let more = given.unread_blocks(volume);
+            let more = given.content(volume).map_or(0, |content| content.more);
             Err(not_put(alloc, target.name, fault, more))
         }
     }
@@ -114,21 +114,13 @@ fn read_input<R: StandardInput>(
 /// Reads a regular file of the host, with its metadata.
 fn read_file<R: Files>(rt: &R, alloc: Global, path: &str, most: usize) -> Result<Given, InFault> {
     if fs::metadata(rt, path).is_ok_and(|found| !found.is_file()) {
-        return Err(not_one_file(alloc, path));
+        return Err(unusable(alloc, path, FileWhy::NotOneFile));
     }
     let tree = host_tree(rt, alloc, &[path])?;
     match tree.entries.as_slice() {
         [entry] if matches!(entry.kind, HostKind::File { .. }) => read_entry(
             rt, alloc, entry, most,
         ),
-        _ => Err(not_one_file(alloc, path)),
-    }
-}
-
-/// The fault of a path to no regular file.
-fn not_one_file(alloc: Global, path: &str) -> InFault {
-    match String::from_str(alloc, path) {
-        Ok(path) => InFault::Source(SourceFault::NotOneFile(path)),
-        Err(_) => InFault::Memory,
+        _ => Err(unusable(alloc, path, FileWhy::NotOneFile)),
     }
 }

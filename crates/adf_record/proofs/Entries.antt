@@ -1,15 +1,6 @@
 -- The entries of a bundle, one after the other.
-use Rattle.std.proofs.Common.{◌≡◌, ℕ, ◌+◌, ◌<◌, None, List, [], ◌∷◌, ◌++◌, length, get_or, take, All, sym, ap, ◌∙◌}
-use Rattle.std.proofs.lemmas.List.{take_more}
-use Rattle.std.proofs.lemmas.Slice.Zip.{all_zipped_more}
+use Rattle.adf_record.proofs.Common.{◌≡◌, ℕ, ◌+◌, ◌<◌, None, List, [], ◌∷◌, ◌++◌, length, get_or, take, All, sym, ap, ◌∙◌, take_more, all_zipped_more, Stands, Tree, entries, root, Below, AreBelow, there_below, BundleEntry, AreEntriesOf, IsEntryOf}
 use Rattle.ados_model.specs.Keys.{HasKey}
-use Rattle.ados_model.specs.Stands.{Stands}
-use Rattle.ados_model.specs.Tree.{Tree, entries, root}
-use Rattle.ados_volume.specs.declared.below.Below.{Below}
-use Rattle.ados_volume.specs.Below.{AreBelow}
-use Rattle.ados_volume.proofs.AllBelow.{there_below}
-use Rattle.adf_record.specs.declared.bundle.BundleEntry.{BundleEntry}
-use Rattle.adf_record.specs.Bundle.{AreEntriesOf, IsEntryOf}
 
 -- one more entry
 pub told_more : (t : Tree) (found : List Below) (i : ℕ) (e : Below) → i < length found → e ≡ get_or found i e → (old new : List BundleEntry) (x : BundleEntry)

@@ -1,18 +1,10 @@
 -- One more line of a bundle's text, and one more path.
-use Rattle.std.proofs.Common.{◌≡◌, ℕ, zero, suc, ◌+◌, ◌<◌, Bool, if◌then◌else◌, ◌⊎◌, inl, inr, List, [], ◌∷◌, ◌++◌, Some, Option, Vec, Global, IfSome, map, Result, Ok, Err, IfErr, IsErrAnd, slice_get, codes, length, get_or, take, refl, sym, ap, ◌∙◌, subst, append_assoc, append-nil, length-append, arith}
+use Rattle.adf_record.proofs.Common.{◌≡◌, ℕ, zero, suc, ◌+◌, ◌<◌, Bool, if◌then◌else◌, ◌⊎◌, inl, inr, List, [], ◌∷◌, ◌++◌, Some, Option, Vec, Global, IfSome, map, Result, Ok, Err, IfErr, IsErrAnd, slice_get, codes, length, get_or, take, refl, sym, ap, ◌∙◌, subst, append_assoc, append-nil, length-append, arith, flat_map_more, length-map, length-take-le, map-append, take_more, AllZip-long, all_zipped_more, print, BundleEntry, MOST_BUNDLE_BYTES, IsEntryLine, IsHeadLine, IsPathOf, IsTextFault, IsTextTo, entry_tokens, in_lines, no_memory, too_long, long, memory, ArePaths, separator}
 use lib.Dec.{eqb-suc-zero}
 use Rattle.std.specs.List.{AllZip}
-use Rattle.std.proofs.lemmas.List.{flat_map_more, length-map, length-take-le, map-append, take_more}
-use Rattle.std.proofs.lemmas.Slice.Zip.{AllZip-long, all_zipped_more}
-use Rattle.json.specs.Print.{print}
 use Rattle.ados_name.specs.Date.{IsTextOf}
 use Rattle.adf_record.specs.declared.bundle.Bundle.{Bundle}
-use Rattle.adf_record.specs.declared.bundle.BundleEntry.{BundleEntry}
 use Rattle.adf_record.specs.declared.bundle_fault.BundleFault.{BundleFault}
-use Rattle.adf_record.specs.declared.bundle_lines.TheConstants.{MOST_BUNDLE_BYTES}
-use Rattle.adf_record.specs.Described.{IsEntryLine, IsHeadLine, IsPathOf, IsTextFault, IsTextTo, entry_tokens, in_lines, no_memory, too_long}
-use Rattle.adf_record.specs.Described.IsTextFault.{long, memory}
-use Rattle.adf_record.specs.steps.Lines.{ArePaths, separator}
 
 in_lines_more : (lines : List (List ℕ)) (line : List ℕ) → in_lines (lines ++ line ∷ []) ≡ in_lines lines ++ separator (length lines) ++ line
 in_lines_more [] line = append-nil (codes "\n" ++ line)

@@ -1,9 +1,8 @@
 -- Lists whose elements are equal by a test.
-use Rattle.std.proofs.Common.{◌≡◌, List, [], ◌∷◌, Bool, map, refl, ap, ◌∙◌}
+use Rattle.adf_record.proofs.Common.{◌≡◌, List, [], ◌∷◌, Bool, map, refl, ap, ◌∙◌, slice_eq-Decides}
 use Rattle.std.specs.Prelude.{◌&&◌}
 use Rattle.std.specs.Bool.{Decides}
 use Rattle.std.specs.Cmp.Lexicographic.{pointwise}
-use Rattle.std.proofs.lemmas.Slice.Eq.{slice_eq-Decides}
 
 module _ {A B : Type 0} (f : A → B) (E : B → B → Bool) where
   pointwise_map : (xs ys : List A) → pointwise (λ (x y : A). E (f x) (f y)) xs ys ≡ pointwise E (map f xs) (map f ys)

@@ -1,5 +1,5 @@
 -- Concatenated lists.
-use Rattle.std.proofs.Common.{◌≡◌, List, ◌++◌, ap, ◌∙◌, append_assoc}
+use Rattle.adf_record.proofs.Common.{◌≡◌, List, ◌++◌, ap, ◌∙◌, append_assoc}
 
 module _ {X : Type 0} where
   -- one after the other

@@ -1,6 +1,5 @@
 -- Members that are written one after the other.
-use Rattle.std.proofs.Common.{◌≡◌, ℕ, List, [], ◌∷◌, ◌++◌, decimal, Option, ap, ◌∙◌}
-use Rattle.json.specs.Token.{Token, key, number, string}
+use Rattle.adf_record.proofs.Common.{◌≡◌, ℕ, List, [], ◌∷◌, ◌++◌, decimal, Option, ap, ◌∙◌, Token, key, number, string}
 use Rattle.adf_record.specs.Members.{number_token}
 
 module _ (old new : List Token) (name : List ℕ) where

@@ -1,4 +1,5 @@
--- What is saved of a damaged image, and deleted entries. Definitions for steps are in `steps`.
+-- What is saved of a damaged image, its account, and deleted entries. Definitions for steps are in `steps`.
+pub mod Account
 pub mod Rescue
 pub mod RescueObject
 pub mod Undelete

@@ -7,6 +7,7 @@ ghost use Rattle.adf_rescue.specs.RescueObject.{is_told};
 ghost use Rattle.adf_text.specs.Ranges.{ranges};
 ghost use Rattle.adf_rescue.specs.steps.Reporting.{IsPart, rest_of};
 
+use crate::account::unaccounted_blocks;
 use crate::plan::Plan;
 use crate::rescue_object::{entry_object, front_text, is_told, rest_object};
 use adf_block::Image;
@@ -15,7 +16,6 @@ use adf_io::{PrintFault, write_text, write_when_long};
 use adf_salvage::{HeaderState, Salvage, Salvaged, State, salvage};
 use adf_text::ranges_text;
 use adf_words::SalvageJob;
-use ados_mend::unaccounted_blocks;
 use host_trees::WriteFault;
 use std::alloc::{AllocError, Global};
 use std::io::Write;

@@ -5,8 +5,8 @@ ghost use Rattle.adf_rescue.specs.Undelete.{deleted_line, deleted_lines, label_i
 
 use crate::chosen::{Chosen, position_of};
 use crate::placing::{Placed, place_at};
-use adf_salvage::Recovery;
 use adf_text::{letter_text, push_plain};
+use ados_sound::Recovery;
 use std::alloc::{AllocError, Global};
 
 /// The entries of an image, by their headers.

@@ -1,5 +1,5 @@
 //! The paths of deleted entries and of the directories above them, and which of them are asked for.
-ghost use Rattle.std.specs.Prelude.{◌≡◌, ℕ, List, [], None, IfOk, length, map, option_map, slice_get};
+ghost use Rattle.std.specs.Prelude.{◌≡◌, ℕ, List, None, IfOk, length, map, option_map, slice_get};
 ghost use Rattle.std.specs.Option.{option_map_or};
 ghost use Rattle.adf_rescue.specs.Undelete.{asked_in, path_in, place_after, places_of, seen_place};
 ghost use Rattle.adf_rescue.specs.steps.Asking.{AreAsked};

@@ -1,14 +1,7 @@
--- A file with right parts is sound, and a sound file has right parts.
+-- The entries and the blocks given to files, while they are gathered, and the bytes of files.
 pub mod Common
-pub mod SoundParts
-pub mod OwnBlocks
 pub mod Copying
-pub mod Leaving
-pub mod Claiming
 pub mod Growing
-pub mod InOrder
-pub mod Naming
-pub mod Heading
 pub mod Following
 pub mod Answering
 pub mod Marked
@@ -17,6 +10,3 @@ pub mod Settling
 pub mod Holding
 pub mod Filled
 pub mod Ending
-pub mod Trusting
-pub mod Recovering
-pub mod ListingDeleted

@@ -1,5 +1,5 @@
 -- The descriptions of an image's entries.
-use Rattle.std.specs.Prelude.{◌≡◌, ◌≢◌, ℕ, zero, suc, ◌+◌, ◌*◌, ◌<◌, ◌≤◌, ◌⊎◌, Bool, List, [], ◌∷◌, ◌++◌, decimal, length, All, AllPairs, Contains, map, None, Some, true, false, ⊤}
+use Rattle.std.specs.Prelude.{◌≡◌, ◌≢◌, ℕ, zero, suc, ◌+◌, ◌*◌, ◌≤◌, ◌⊎◌, Bool, List, [], ◌∷◌, ◌++◌, decimal, length, All, AllPairs, Contains, map, None, Some, true, false, ⊤}
 use Rattle.adf_block.specs.Boot.{HasKind}
 use Rattle.adf_block.specs.declared.boot.BootKind.TheVariants.{Ofs, Ffs}
 use Rattle.adf_block.specs.Frame.{OnlyLong}
@@ -16,17 +16,17 @@ use Rattle.ados_model.specs.Tree.{Content, Node, Tree, entries, root}
 use Rattle.ados_model.specs.Tree.Content.{Directory, File}
 use Rattle.ados_volume.specs.Below.{AreBelow, placed}
 use Rattle.ados_volume.specs.declared.below.Below.{Below}
+use Rattle.ados_sound.specs.Deleted.{AreDeleted, TellsTrust}
+use Rattle.ados_sound.specs.Doubtful.{IsDoubtfulHeader, IsHeader, IsToldHeader}
+use Rattle.ados_sound.specs.Sound.{IsSoundHeader, IsWhole}
 use Rattle.adf_salvage.specs.declared.giving.Piece.{Piece}
 use Rattle.adf_salvage.specs.declared.salvaged.HeaderState.{HeaderState}
 use Rattle.adf_salvage.specs.declared.salvaged.HeaderState.TheVariants as heads
 use Rattle.adf_salvage.specs.declared.salvaged.Salvaged.{Salvaged}
 use Rattle.adf_salvage.specs.declared.salvaged.State.{State}
 use Rattle.adf_salvage.specs.declared.salvaged.State.TheVariants as states
-use Rattle.adf_salvage.specs.Deleted.{IsDeleted, TellsTrust}
-use Rattle.adf_salvage.specs.Doubtful.{IsDoubtfulHeader, IsHeader, IsToldHeader}
 use Rattle.adf_salvage.specs.Loose.{IsLooseData}
 use Rattle.adf_salvage.specs.Lost.{IsLost}
-use Rattle.adf_salvage.specs.Sound.{IsSoundHeader, IsWhole}
 
 -- how contracts see a salvage: whether the image was accepted, the image as it was read, whether its bitmap is trusted, its
 -- entries, the headers that were left out, and the blocks given to files that are not whole
@@ -107,12 +107,6 @@ pub record AreSalvaged (out image : List ℕ) (found : List Salvaged) : Type 0 w
   pub sound : (block : ℕ) → IsToldHeader out image block → Contains (headers_of found) block
   pub doubtful : (block : ℕ) → IsDoubtfulHeader out image block → Contains (headers_of found) block
   pub lost : (block : ℕ) → IsLost out image block → Contains (headers_of found) block
-
--- the headers are exactly those of the deleted entries, each once, by block. Without a trusted bitmap there are none
-pub record AreDeleted (image headers : List ℕ) : Type 0 where
-  pub deleted : All (IsDeleted image) headers
-  pub in_order : AllPairs (λ a b. a < b) headers
-  pub all : (block : ℕ) → IsDeleted image block → Contains headers block
 
 -- a directory, or a whole file that has these bytes in the image
 abbrev pub HoldsAll : List ℕ → ℕ → Content → State → Type 0

@@ -1,11 +1,6 @@
--- The results for a file, block by block.
-pub mod Parts
-pub mod Claims
-pub mod Heading
+-- The entries and the blocks given to files, while they are gathered.
 pub mod Giving
 pub mod Gathering
 pub mod Keeping
-pub mod Deleting
 pub mod Undeleting
-pub mod Leaving
 pub mod Settling

@@ -1,20 +1,20 @@
 //! The entries of a damaged image, while they are gathered.
 ghost use Rattle.std.specs.Prelude.{◌≡◌, ◌<◌, ◌↔◌, ◌++◌, ◌∷◌, [], ℕ, List, None, length, IfOk, IsSome, IsTrue, OnOk};
 ghost use Rattle.adf_block.specs.Image.{block_count};
+ghost use Rattle.ados_sound.specs.Known.{AreKnown};
 ghost use Rattle.adf_salvage.specs.declared.salvaged.Salvaged.{Salvaged as Entry};
 ghost use Rattle.adf_salvage.specs.Lost.{IsLost};
 ghost use Rattle.adf_salvage.specs.steps.Gathering.{AreGathered, AreGatheredBy, GathersMore, IsNew, place_at};
-ghost use Rattle.adf_salvage.specs.steps.Heading.{AreKnown};
 
 use crate::giving::Giving;
-use crate::header::{name_of, name_of_lost, numbered_name};
-use crate::known::Known;
 use crate::names::{Names, Standing};
 use crate::salvaged::{Salvaged, State};
 use crate::state::state_of;
 use crate::told::{told_by_name, told_of};
+use crate::unnamed::{name_of_lost, numbered_name};
 use adf_block::Image;
 use adf_block::layout::NEXT_IN_CHAIN;
+use ados_sound::{Known, name_of};
 use std::alloc::{AllocError, Global};
 
 /// The entries found so far.

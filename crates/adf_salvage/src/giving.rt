@@ -5,14 +5,13 @@ ghost use Rattle.adf_block.specs.Image.{block_count};
 ghost use Rattle.ados_model.specs.Tree.{data_start};
 ghost use Rattle.adf_salvage.specs.steps.Giving.{IsGiving, IsOpen};
 
-use crate::data::is_own_data;
-use crate::holders::looks_like_extension;
 use adf_block::layout::{
     BLOCK_BYTES, BOOT_BLOCKS, FILE_SIZE, FIRST_PAGE, FIRST_POINTER, HEADER_TYPE, NEXT_DATA,
     NEXT_EXTENSION, OFS_DATA_BYTE, POINTER_COUNT, PRIMARY_TYPE, ROOT_TYPE, SECONDARY_TYPE,
     TABLE_LONGS,
 };
 use adf_block::{Format, Image};
+use ados_sound::{is_own_data, looks_like_extension};
 use std::alloc::{AllocError, Global};
 
 /// Bytes in a block.

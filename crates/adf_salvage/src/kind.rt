@@ -1,10 +1,10 @@
 //! The kind of a damaged image.
 ghost use Rattle.adf_salvage.specs.Salvaged.{IsReadAs};
 
-use crate::header::{is_file, is_sound_header};
 use adf_block::beside::KIND;
 use adf_block::layout::{DATA_TYPE, OWN_KEY, PRIMARY_TYPE};
 use adf_block::{BootKind, Image};
+use ados_sound::{is_file, is_sound_header};
 
 /// `DOS`, 0: OFS, as a long.
 const OFS_KIND: u32 = 0x444f_5300;

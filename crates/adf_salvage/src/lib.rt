@@ -4,38 +4,24 @@
 #![tactic(auto)]
 
 mod chains;
-mod claims;
-mod data;
-mod deleted;
 mod gathered;
 mod giving;
-mod header;
-mod headers;
-mod holders;
-mod intact;
 mod kind;
-mod known;
-mod left_out;
 mod listing;
 mod loose;
 mod lost;
 mod names;
 mod pieces;
-mod recovery;
 mod salvaged;
 mod salvaging;
 mod saved;
 mod state;
 mod told;
-mod trust;
 mod undeleted;
+mod unnamed;
 mod unreached;
-mod whole;
 
-pub use deleted::{Deleted, Recovery};
 pub use giving::Piece;
-pub use header::is_sound_header;
-pub use holders::looks_like_extension;
 pub use salvaged::{HeaderState, Salvaged, State};
 pub use salvaging::salvage;
 pub use saved::Salvage;

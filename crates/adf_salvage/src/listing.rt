@@ -1,15 +1,16 @@
 //! The entries of an accepted volume.
-ghost use Rattle.std.specs.Prelude.{◌≡◌, ℕ, List, All, IfOk, Some, map};
+ghost use Rattle.std.specs.Prelude.{◌≡◌, ℕ, List, All, IfOk, Some, map, true};
 ghost use Rattle.ados_model.specs.Accepted.{Accepts};
 ghost use Rattle.ados_model.specs.Keys.{HasKey};
 ghost use Rattle.ados_model.specs.Stands.{Stands};
 ghost use Rattle.ados_model.specs.Tree.{Node, Tree};
+ghost use Rattle.ados_sound.specs.Deleted.{AreDeleted, IsTrustedBitmap, TellsTrust};
 ghost use Rattle.adf_salvage.specs.Salvaged.{HoldsAll, IsOfTree, SavesTree, located_of};
 ghost use Rattle.adf_salvage.specs.steps.Keeping.{CanBeRead, IsReadable};
 
-use crate::left_out::deleted_in;
 use crate::salvaged::{Salvaged, State};
 use crate::saved::Salvage;
+use ados_sound::faultless_deleted;
 use ados_volume::{Below, Volume, entries_below};
 use std::alloc::{AllocError, Global};
 
@@ -28,6 +29,21 @@ pub(crate) fn volume_entries(alloc: Global, volume: Volume) -> Result<Salvage, A
         deleted,
         pieces: Vec::new(alloc),
     })
+}
+
+/// The headers of the deleted entries of an accepted image, and whether its bitmap is trusted. One that was not valid is not.
+fn deleted_in(alloc: Global, volume: &Volume) -> Result<(Vec<u32>, bool), AllocError>
+    ensures deleted { IfOk result (λ left. (image : List ℕ) → Accepts image volume.now.was_validated volume.now.image → AreDeleted image left.0.items) }
+    ensures trust { IfOk result (λ left. (image : List ℕ) → Accepts image volume.now.was_validated volume.now.image → TellsTrust image left.1) }
+    ensures stays { IfOk result (λ left. left.1 ≡ true → IsTrustedBitmap volume.now.image) }
+{
+    if volume.was_validated() {
+        return Ok((Vec::new(alloc), false));
+    }
+    match faultless_deleted(alloc, volume.image())? {
+        Some(headers) => Ok((headers, true)),
+        None => Ok((Vec::new(alloc), false)),
+    }
 }
 
 /// These entries of a volume, with whole files.

@@ -1,22 +1,21 @@
 //! Files whose header is gone, from the OFS data blocks that name it.
 ghost use Rattle.std.specs.Prelude.{◌≡◌, ◌<◌, ◌≤◌, ◌+◌, ℕ, IfOk, IfSome, IsTrue, MatchOption, OnOk, length};
 ghost use Rattle.adf_block.specs.Image.{block_count};
+ghost use Rattle.ados_sound.specs.Known.{AreKnown};
 ghost use Rattle.adf_salvage.specs.Loose.{IsLooseData};
 ghost use Rattle.adf_salvage.specs.Salvaged.{IsLoose, broken_length};
 ghost use Rattle.adf_salvage.specs.steps.Giving.{IsGiving};
-ghost use Rattle.adf_salvage.specs.steps.Heading.{AreKnown};
 ghost use Rattle.adf_salvage.specs.steps.Settling.{AreSettled};
 
 use crate::gathered::Gathered;
 use crate::giving::{Giving, Piece, Remains};
-use crate::known::Known;
 use crate::salvaged::{HeaderState, State};
 use crate::state::damaged;
-use crate::trust::is_used;
 use adf_block::layout::{
     BOOT_BLOCKS, DATA_TYPE, HELD, NEXT_DATA, OFS_ROOM, OWN_KEY, PRIMARY_TYPE, SEQUENCE,
 };
 use adf_block::{Format, Image};
+use ados_sound::{Known, is_used};
 use std::alloc::AllocError;
 
 /// An OFS data block of a file whose header is not told.

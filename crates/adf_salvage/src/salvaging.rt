@@ -7,16 +7,14 @@ ghost use Rattle.adf_salvage.specs.Salvaged.{AreOfTree, IsReadAs, Salvages, Save
 use crate::chains::add_reached;
 use crate::gathered::Gathered;
 use crate::giving::Giving;
-use crate::header::sound_headers;
 use crate::kind::with_kind;
-use crate::known::Known;
-use crate::left_out::left_out_of;
 use crate::listing::volume_entries;
 use crate::loose::add_loose;
 use crate::lost::add_lost;
 use crate::saved::Salvage;
 use crate::unreached::add_unreached;
 use adf_block::Image;
+use ados_sound::Known;
 use ados_volume::{FaultKind, check};
 use std::alloc::{AllocError, Global};
 
@@ -49,9 +47,7 @@ pub fn salvage(alloc: Global, image: Image) -> Result<Salvage, AllocError>
 fn told_headers(alloc: Global, image: Image) -> Result<Salvage, AllocError>
     ensures { (given : List ℕ) → IsReadAs given image → IfOk result (SavesRest given) }
 {
-    let sound = sound_headers(alloc, &image)?;
-    let (left_out, trusted) = left_out_of(alloc, &image, &sound)?;
-    let known = Known::of(alloc, image, trusted, left_out, &sound)?;
+    let known = Known::without_deleted(alloc, image)?;
     let mut gathered = Gathered::new(alloc, &known.image)?;
     add_reached(&known, &mut gathered)?;
     add_unreached(&known, &mut gathered)?;

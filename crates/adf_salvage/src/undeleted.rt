@@ -1,23 +1,19 @@
 //! The deleted entries of an image, with the directories that they were in.
 ghost use Rattle.std.specs.Prelude.{◌≡◌, [], length, IfOk, IsSome, OnOk};
 ghost use Rattle.adf_block.specs.Image.{block_count};
-ghost use Rattle.adf_salvage.specs.Deleted.{IsTrustedBitmap, ListsDeleted};
+ghost use Rattle.ados_sound.specs.Deleted.{IsTrustedBitmap, ListsDeleted};
+ghost use Rattle.ados_sound.specs.Sound.{IsSoundHeader};
+ghost use Rattle.ados_sound.specs.Known.{AreKnown};
 ghost use Rattle.adf_salvage.specs.Undeleted.{TellsUndeleted};
-ghost use Rattle.adf_salvage.specs.Sound.{IsSoundHeader};
 ghost use Rattle.adf_salvage.specs.steps.Gathering.{AreGathered, AreGatheredBy, GathersMore, place_at};
-ghost use Rattle.adf_salvage.specs.steps.Heading.{AreKnown};
 ghost use Rattle.adf_salvage.specs.steps.Undeleting.{AreHeaders, HasEach};
 
-use crate::deleted::{Deleted, Recovery, all_deleted};
 use crate::gathered::Gathered;
 use crate::giving::Giving;
-use crate::header::sound_headers;
-use crate::known::Known;
-use crate::left_out::{LeftOut, deleted_headers};
 use crate::saved::Salvage;
-use crate::trust::trusted_marks;
 use crate::unreached::add_with_parents;
 use adf_block::Image;
+use ados_sound::{Deleted, DeletedEntries, Known, Recovery, deleted_entries};
 use std::alloc::{AllocError, Global};
 
 /// The deleted entries of an image, and all directories above them as far as these are sound.
@@ -47,19 +43,17 @@ pub enum UndeletedEntries {
 pub fn undelete(alloc: Global, image: Image) -> Result<UndeletedEntries, AllocError>
     ensures { IfOk result (TellsUndeleted image) }
 {
-    let Some(marks) = trusted_marks(alloc, &image)? else {
-        return Ok(UndeletedEntries::NoTrustedBitmap);
-    };
-    let sound = sound_headers(alloc, &image)?;
-    let headers = deleted_headers(alloc, &image, Some(&sound))?;
-    if headers.is_empty() {
-        let gathered = Gathered::new(alloc, &image)?;
-        return Ok(found(alloc, image, Vec::new(alloc), gathered));
+    match deleted_entries(alloc, image)? {
+        DeletedEntries::Found(known, deleted) => {
+            let gathered = gathered_deleted(&known, &deleted)?;
+            Ok(found(alloc, known.image, deleted, gathered))
+        }
+        DeletedEntries::Nothing(image) => {
+            let gathered = Gathered::new(alloc, &image)?;
+            Ok(found(alloc, image, Vec::new(alloc), gathered))
+        }
+        DeletedEntries::NoTrustedBitmap => Ok(UndeletedEntries::NoTrustedBitmap),
     }
-    let known = Known::of(alloc, image, true, LeftOut::none(alloc), &sound)?;
-    let deleted = all_deleted(&known, &headers, &marks)?;
-    let gathered = gathered_deleted(&known, &deleted)?;
-    Ok(found(alloc, known.image, deleted, gathered))
 }
 
 /// The deleted entries of an image, with what was gathered of them.

@@ -1,13 +1,7 @@
 -- Fields at the start of bytes.
-use Rattle.std.proofs.Common.{◌≡◌, ◌≤◌, ◌<◌, inl, inr, ℕ, suc, ℤ, false, List, [], ◌∷◌, ◌++◌, length, replicate, get_or, Option, Bor, refl, sym, ap, subst, ◌∙◌, arith, append_assoc}
-use Rattle.std.specs.Prelude.{◌||◌, Some, None, MatchOption, All}
-use Rattle.std.specs.Str.Parse.{AllDigits}
-use Rattle.std.proofs.lemmas.Str.Parse.{digit_from_value}
-use Rattle.std.proofs.lemmas.Bool.Decides.{eqb_tells}
-use Rattle.std.proofs.lemmas.List.{append-nil, length-replicate, get_or_default}
+use Rattle.adf_script.proofs.Common.{◌≡◌, ◌≤◌, ◌<◌, inl, inr, ℕ, suc, ℤ, false, List, [], ◌∷◌, ◌++◌, length, replicate, get_or, Option, Bor, refl, sym, ap, subst, ◌∙◌, arith, append_assoc, ◌||◌, All, AllDigits, digit_from_value, eqb_tells, append-nil, length-replicate, get_or_default, has_byte, IsSplit, IsBehind, IsCut, IsNumber, IsSigned, IsValue, Field, Zeros, SpellsField, SpellsFields}
+use Rattle.std.specs.Prelude.{Some, None, MatchOption}
 use Rattle.std.proofs.Math.ListN.{get_or-append}
-use Rattle.adf_script.specs.Pieces.{has_byte, IsSplit, IsBehind, IsCut}
-use Rattle.adf_script.specs.Grammar.{IsNumber, IsSigned, IsValue, Field, Zeros, SpellsField, SpellsFields}
 use Rattle.adf_script.specs.steps.Reading.{a_text, a_long_text, ReadsNone, Reads}
 use Rattle.adf_script.proofs.Splitting.{has_byte-split, split_unique, true_is_false}
 

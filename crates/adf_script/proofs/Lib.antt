@@ -1,4 +1,5 @@
 -- Lemmas about the words, parts, fields and numbers of lines, and about the output of a script so far.
+pub mod Common
 pub mod Splitting
 pub mod LineLemmas
 pub mod Numerals

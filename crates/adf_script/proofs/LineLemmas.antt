@@ -1,13 +1,7 @@
 -- The first line of a script, and the remaining packet lines.
-use Rattle.std.proofs.Common.{◌≡◌, ℕ, ◌+◌, ◌<◌, false, cond, List, [], ◌∷◌, ◌++◌, length, slice_get, refl, sym, ap, ◌∙◌, arith, append_assoc, append-nil, length-append}
-use Rattle.std.specs.Prelude.{Some, not, filter}
-use Rattle.std.specs.List.{enumerate_from}
-use Rattle.std.proofs.lemmas.List.{nil_from_length}
-use Rattle.std.proofs.lemmas.Option.{slice_get_past}
-use Rattle.adf_script.specs.Lines.{lines_of, on_first, is_skipped, kept_from, kept_lines}
-use Rattle.adf_script.specs.Packets.{NoneIsLeft}
-use Rattle.adf_script.specs.steps.Left.{IsLeft}
-use Rattle.adf_script.specs.Pieces.{has_byte}
+use Rattle.std.proofs.Common.{append-nil}
+use Rattle.adf_script.proofs.Common.{◌≡◌, ℕ, ◌+◌, ◌<◌, false, cond, List, [], ◌∷◌, ◌++◌, length, slice_get, refl, sym, ap, ◌∙◌, arith, append_assoc, length-append, not, filter, enumerate_from, nil_from_length, slice_get_past, lines_of, on_first, is_skipped, kept_from, kept_lines, NoneIsLeft, IsLeft, has_byte}
+use Rattle.std.specs.Prelude.{Some}
 use Rattle.adf_script.proofs.Splitting.{or_false}
 
 -- a line that ends in a line feed

@@ -1,10 +1,7 @@
 -- The bytes of numbers.
-use Rattle.std.proofs.Common.{inl, inr, ℕ, zero, suc, ◌<◌, ℤ, List, [], ◌∷◌, get_or, sym, subst, arith}
+use Rattle.adf_script.proofs.Common.{inl, inr, ℕ, zero, suc, ◌<◌, ℤ, List, [], ◌∷◌, get_or, sym, subst, arith, AllDigits, digit_from_value, IsNumber, IsSigned}
 use Rattle.std.specs.Str.{IsUtf8}
-use Rattle.std.specs.Str.Parse.{AllDigits}
 use Rattle.std.proofs.lemmas.Str.{IsUtf8-from_ascii}
-use Rattle.std.proofs.lemmas.Str.Parse.{digit_from_value}
-use Rattle.adf_script.specs.Grammar.{IsNumber, IsSigned}
 
 digits_below : (ds : List ℕ) → AllDigits 10 ds → (i : ℕ) → get_or ds i 0 < 128
 digits_below [] all i = omega arith

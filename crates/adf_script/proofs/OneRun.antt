@@ -1,23 +1,8 @@
 -- The output of lines, one after the other, is that of one run.
-use Rattle.std.proofs.Common.{◌≡◌, ℕ, ◌+◌, Bool, true, false, List, [], ◌∷◌, ◌++◌, length, slice_get, refl, sym, ap, subst, ◌∙◌, arith, append_assoc, length-append}
-use Rattle.std.specs.Prelude.{Option, flat_map}
-use Rattle.std.specs.Bool.{MatchBool}
-use Rattle.std.proofs.lemmas.List.{map-append}
+use Rattle.adf_script.proofs.Common.{◌≡◌, ℕ, ◌+◌, Bool, true, false, List, [], ◌∷◌, ◌++◌, length, slice_get, refl, sym, ap, subst, ◌∙◌, arith, append_assoc, length-append, flat_map, MatchBool, map-append, none-some, Packet, Answer, PortState, PortHistory, numbered, history_nil, kept_lines, is_too_long, answer_value, answer_values, IsPacketLine, IsFaulty, reply_line, reply_lines, closed_line, fault_line, ArePackets, NextPuts, steps_of, outcomes_of, LinesTell, ended, answered, closed, faulty}
+use Rattle.std.specs.Prelude.{Option}
 use Rattle.std.proofs.lemmas.Grind.{flat_map-append}
-use Rattle.std.proofs.lemmas.Option.{none-some}
-use Rattle.ados_model.specs.declared.packet.Packet.{Packet}
-use Rattle.ados_model.specs.declared.answer.Answer.{Answer}
-use Rattle.ados_port.specs.History.{PortState, PortHistory}
-use Rattle.ados_port.specs.Lawful.{numbered}
-use Rattle.ados_port.proofs.Histories.{history_nil}
 use Rattle.ados_port.proofs.Joining.{history_joins}
-use Rattle.adf_script.specs.Lines.{kept_lines, is_too_long}
-use Rattle.adf_script.specs.Values.{answer_value, answer_values}
-use Rattle.adf_script.specs.Grammar.{IsPacketLine, IsFaulty}
-use Rattle.adf_script.specs.Text.{reply_line, reply_lines, closed_line, fault_line}
-use Rattle.adf_script.specs.Packets.{ArePackets, NextPuts}
-use Rattle.adf_script.specs.Told.{steps_of, outcomes_of, LinesTell}
-use Rattle.adf_script.specs.Told.LinesTell.{ended, answered, closed, faulty}
 use Rattle.adf_script.specs.Ran.{Ending, AtEnd, AtClosed, AtFault, EndsWith, is_whole, last_steps, last_outcomes, last_line, TellsRun, LinesAreOneRun}
 use Rattle.adf_script.proofs.Pushing.{numbered-push, reply_lines-push, packets-answered}
 

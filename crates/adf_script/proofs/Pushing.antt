@@ -1,14 +1,5 @@
 -- One more reply or packet.
-use Rattle.std.proofs.Common.{◌≡◌, ℕ, ◌+◌, inl, inr, List, [], ◌∷◌, ◌++◌, length, take, sym, ap, subst, ◌∙◌, arith, append_assoc, length-append}
-use Rattle.std.proofs.lemmas.List.{append-nil, take-append-le, take_all}
-use Rattle.std.proofs.lemmas.Option.{slice_get_within}
-use Rattle.ados_model.specs.declared.packet.Packet.{Packet}
-use Rattle.ados_model.specs.declared.answer.Answer.{Answer}
-use Rattle.ados_port.specs.Lawful.{numbered}
-use Rattle.ados_port.proofs.Histories.{slice_get-push_at}
-use Rattle.adf_script.specs.Values.{answer_values}
-use Rattle.adf_script.specs.Text.{reply_line, reply_lines}
-use Rattle.adf_script.specs.Packets.{ArePackets, NextPuts}
+use Rattle.adf_script.proofs.Common.{◌≡◌, ℕ, ◌+◌, inl, inr, List, [], ◌∷◌, ◌++◌, length, take, sym, ap, subst, ◌∙◌, arith, append_assoc, length-append, append-nil, take-append-le, take_all, slice_get_within, Packet, Answer, numbered, slice_get-push_at, answer_values, reply_line, reply_lines, ArePackets, NextPuts}
 
 pub numbered-push : {A : Type 0} (number : ℕ) (xs : List A) (y : A) → numbered number (xs ++ y ∷ []) ≡ numbered number xs ++ (record { number = number + length xs; answer = y }) ∷ []
 numbered-push number [] y = λ i. record { number = same i; answer = y } ∷ []

@@ -1,16 +1,7 @@
 -- One packet through a port where none waits.
-use Rattle.std.proofs.Common.{◌≡◌, ◌≢◌, ◌⊎◌, inl, inr, ℕ, ◌+◌, ◌-◌, Bool, true, false, List, [], ◌∷◌, ◌++◌, sym, ap, subst, ◌∙◌}
-use Rattle.std.specs.Prelude.{slice_set, Some}
-use Rattle.std.specs.Bool.{MatchBool}
-use Rattle.ados_model.specs.declared.packet.Packet.{Packet}
-use Rattle.ados_model.specs.declared.answer.Answer.{Answer}
-use Rattle.ados_port.specs.History.{ClientState, PortState, client_state}
-use Rattle.ados_port.specs.Gives.{PutGives, ServeGives, TakeGives}
-use Rattle.ados_port.specs.PutRefused.TheVariants.{Closed, NoRoom}
-use Rattle.ados_port.specs.Reply.{Reply}
+use Rattle.adf_script.proofs.Common.{◌≡◌, ◌≢◌, ◌⊎◌, inl, inr, ℕ, ◌+◌, ◌-◌, Bool, true, false, List, [], ◌∷◌, ◌++◌, sym, ap, subst, ◌∙◌, slice_set, MatchBool, Packet, Answer, ClientState, PortState, client_state, PutGives, ServeGives, TakeGives, Closed, NoRoom, Reply, Accepted, Refused, Served, Taken, quiet_port, IsQuiet, Calls}
+use Rattle.std.specs.Prelude.{Some}
 use Rattle.ados_port.specs.Outcome.{Outcome}
-use Rattle.ados_port.specs.Outcome.TheVariants.{Accepted, Refused, Served, Taken}
-use Rattle.adf_script.specs.steps.Calls.{quiet_port, IsQuiet, Calls}
 
 module _ {S : Type 0} where
   -- the packet waits

@@ -1,28 +1,9 @@
 -- The output of a script so far, line by line.
-use Rattle.std.proofs.Common.{◌≡◌, ℕ, zero, suc, ◌+◌, inl, inr, Bool, true, false, List, [], ◌∷◌, ◌++◌, length, take, drop, slice_get, refl, sym, ap, subst, ◌∙◌, arith, append_assoc, length-append}
+use Rattle.adf_script.proofs.Common.{◌≡◌, ℕ, zero, suc, ◌+◌, inl, inr, Bool, true, false, List, [], ◌∷◌, ◌++◌, length, take, drop, slice_get, refl, sym, ap, subst, ◌∙◌, arith, append_assoc, length-append, MatchBool, take_all, length-take, cases_lt, lt-ltb, none-some, same_Some, Packet, Answer, PortState, PortHistory, StepGives, Closed, Reply, Accepted, Refused, Served, Taken, history_nil, kept_lines, is_too_long, answer_value, reply_line, closed_line, fault_line, NextPuts, NextIsFaulty, NoneIsLeft, steps_of, outcomes_of, LinesTell, Told, ended, answered, closed, faulty, IsQuiet, Calls}
 use Rattle.std.specs.Prelude.{Option, Some, None}
-use Rattle.std.specs.Bool.{MatchBool}
 use Rattle.std.specs.Io.KnownBytes.{Appends, Consumes, IsAtEnd, Keeps}
-use Rattle.std.proofs.lemmas.List.{take_all, length-take}
-use Rattle.std.proofs.lemmas.Bool.{cases_lt, lt-ltb}
-use Rattle.std.proofs.lemmas.Option.{none-some, same_Some}
-use Rattle.ados_model.specs.declared.packet.Packet.{Packet}
-use Rattle.ados_model.specs.declared.answer.Answer.{Answer}
-use Rattle.ados_port.specs.History.{PortState, PortHistory}
-use Rattle.ados_port.specs.Gives.{StepGives}
 use Rattle.ados_port.specs.Step.TheVariants.{Put, Serve, Take}
-use Rattle.ados_port.specs.PutRefused.TheVariants.{Closed}
-use Rattle.ados_port.specs.Reply.{Reply}
-use Rattle.ados_port.specs.Outcome.TheVariants.{Accepted, Refused, Served, Taken}
-use Rattle.ados_port.proofs.Histories.{history_nil}
 use Rattle.ados_port.proofs.Grows.{grow, history_of_step}
-use Rattle.adf_script.specs.Lines.{kept_lines, is_too_long}
-use Rattle.adf_script.specs.Values.{answer_value}
-use Rattle.adf_script.specs.Text.{reply_line, closed_line, fault_line}
-use Rattle.adf_script.specs.Packets.{NextPuts, NextIsFaulty, NoneIsLeft}
-use Rattle.adf_script.specs.Told.{steps_of, outcomes_of, LinesTell, Told}
-use Rattle.adf_script.specs.Told.LinesTell.{ended, answered, closed, faulty}
-use Rattle.adf_script.specs.steps.Calls.{IsQuiet, Calls}
 use Rattle.adf_script.specs.Streams.{ReadsAndWrites}
 use Rattle.adf_io.specs.Prefix.{Writes}
 use Rattle.adf_script.proofs.Quiet.{put_closed}

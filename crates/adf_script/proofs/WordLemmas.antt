@@ -1,12 +1,6 @@
 -- The packets of a word.
-use Rattle.std.proofs.Common.{◌≡◌, ◌≢◌, ℕ, List, ◌++◌, Option, Some, None, MatchOption, refl, sym, ap, subst, ◌∙◌}
-use Rattle.ados_model.specs.declared.packet.Packet.{Packet}
+use Rattle.adf_script.proofs.Common.{◌≡◌, ◌≢◌, ℕ, List, ◌++◌, Option, Some, None, MatchOption, refl, sym, ap, subst, ◌∙◌, Packet, Word, Die, Locate, RenameDisk, Free, Delete, Rename, Copy, Protect, MakeDir, Examine, Next, DiskInfo, Info, Comment, Parent, Date, Same, Read, Write, Update, Input, Output, End, Seek, Size, Other, has_byte, IsCut, form_of, SpellsFields, IsPacketLine, IsFaulty, spelling, EachOf, Puts}
 use Rattle.ados_model.specs.declared.packet.Packet.TheVariants as packet
-use Rattle.adf_script.specs.declared.words.Word.{Word}
-use Rattle.adf_script.specs.declared.words.Word.TheVariants.{Die, Locate, RenameDisk, Free, Delete, Rename, Copy, Protect, MakeDir, Examine, Next, DiskInfo, Info, Comment, Parent, Date, Same, Read, Write, Update, Input, Output, End, Seek, Size, Other}
-use Rattle.adf_script.specs.Pieces.{has_byte, IsCut}
-use Rattle.adf_script.specs.Grammar.{form_of, SpellsFields, IsPacketLine, IsFaulty}
-use Rattle.adf_script.specs.steps.Words.{spelling, EachOf, Puts}
 use Rattle.adf_script.proofs.FieldLemmas.{cut_unique, behind_fields}
 use Rattle.adf_script.proofs.WordList.{spelled_once, word_plain}
 

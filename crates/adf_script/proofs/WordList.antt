@@ -1,11 +1,5 @@
 -- The words of lines: each is in the list of all, and no two have the same spelling.
-use Rattle.std.proofs.Common.{◌≡◌, ◌≢◌, Bool, true, false, ℕ, ◌<◌, List, [], ◌∷◌, get_or, Option, Some, None, refl, sym, ap, ◌∙◌, arith}
-use Rattle.std.specs.Prelude.{◌==◌, ◌&&◌, if◌then◌else◌}
-use Rattle.adf_script.specs.declared.words.Word.{Word}
-use Rattle.adf_script.specs.declared.words.Word.TheVariants.{Die, Locate, RenameDisk, Free, Delete, Rename, Copy, Protect, MakeDir, Examine, Next, DiskInfo, Info, Comment, Parent, Date, Same, Read, Write, Update, Input, Output, End, Seek, Size, Other}
-use Rattle.adf_script.specs.declared.words.TheConstants.Word.{ALL}
-use Rattle.adf_script.specs.Pieces.{has_byte}
-use Rattle.adf_script.specs.steps.Words.{spelling}
+use Rattle.adf_script.proofs.Common.{◌≡◌, ◌≢◌, Bool, true, false, ℕ, ◌<◌, List, [], ◌∷◌, get_or, Option, Some, None, refl, sym, ap, ◌∙◌, arith, ◌==◌, ◌&&◌, if◌then◌else◌, Word, Die, Locate, RenameDisk, Free, Delete, Rename, Copy, Protect, MakeDir, Examine, Next, DiskInfo, Info, Comment, Parent, Date, Same, Read, Write, Update, Input, Output, End, Seek, Size, Other, ALL, has_byte, spelling}
 
 abbrev same_bytes : List ℕ → List ℕ → Bool
 same_bytes [] [] = true

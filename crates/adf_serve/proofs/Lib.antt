@@ -1,3 +1,5 @@
--- Lemmas about the blank floppy, and about the output of a script over it.
-pub mod Blank
+-- Lemmas about the blank floppy, about the output of a script over it, and about the output for an image.
+pub mod Floppy
 pub mod Telling
+pub mod Printing
+pub mod Bitmaps

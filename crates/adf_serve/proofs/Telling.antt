@@ -18,13 +18,13 @@ use Rattle.adf_script.specs.Streams.{ReadsAndWrites}
 use Rattle.adf_script.specs.Text.{fault_line}
 use Rattle.adf_script.specs.Told.{LinesTell, Told}
 use Rattle.adf_script.specs.Told.LinesTell.{ended, answered, closed, faulty}
-use Rattle.adf_commands.specs.Texts.{first_moment}
+use Rattle.adf_serve.specs.Texts.{first_moment}
 use Rattle.adf_serve.specs.Script.{RunsScript, TellsScript, work_floppy}
 use Rattle.std.proofs.KnownBytes.{Keeps-refl}
 use Rattle.std.proofs.lemmas.List.{append-nil}
 use Rattle.adf_io.specs.Front.{ReadsFront}
 use Rattle.adf_script.proofs.Telling.{told_through}
-use Rattle.adf_serve.proofs.Blank.{work_stands}
+use Rattle.adf_serve.proofs.Floppy.{work_stands}
 
 lines_follow_trees : {port : PortState HandlerState Packet Answer} {lines : List (ℕ × List ℕ)} {values : List (Option ℕ)} {next : ℕ} {text : List ℕ} {whole : Bool}
     → LinesTell HandlerGives handler_died first_moment port lines values next text whole → (t : Tree) → Stands port.server.image t

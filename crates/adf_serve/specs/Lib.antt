@@ -1,3 +1,13 @@
--- The floppy for the program's script and the script's output; and how a command line ends.
+-- The floppy for the program's script and the script's output; the output of commands for images and for refusals, the messages
+-- of their faults, the boot blocks that they install, and how they and a command line end.
 pub mod Script
+pub mod Texts
+pub mod Refusals
+pub mod Explained
+pub mod Faults
+pub mod Archives
+pub mod Reports
+pub mod Rescues
+pub mod Placed
+pub mod Boot
 pub mod Commands

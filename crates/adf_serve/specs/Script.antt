@@ -8,7 +8,7 @@ use Rattle.ados_run.specs.TreePort.{TreeState, means, tree_died}
 use Rattle.adf_script.specs.Streams.{ReadsAndWrites}
 use Rattle.adf_io.specs.Prefix.{Writes}
 use Rattle.adf_script.specs.Told.{Told}
-use Rattle.adf_commands.specs.Texts.{first_moment}
+use Rattle.adf_serve.specs.Texts.{first_moment}
 
 -- a blank double-density FFS floppy with the name `Work`, made at the first time stamp, without locks and handles
 abbrev pub work_floppy : TreeState

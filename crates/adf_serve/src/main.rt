@@ -1,16 +1,51 @@
 //! An AmigaDOS file system handler for floppy images, as a program.
 #![tactic(auto)]
 
+// The command line, or a script over a blank floppy.
 mod held;
 mod script;
 mod words;
 
+// A job on image files: which command does it, what it prints, and how it ends.
+mod explaining;
+mod fault;
+mod images;
+mod jobs;
+mod output;
+mod refusal;
+mod screen;
+
+// Commands that print something of an image, or take something out of it.
+mod blocks;
+mod deleted;
+mod info;
+mod look;
+mod moving;
+mod query;
+mod rescue;
+
+// Commands that make an image, or change one.
+mod blank;
+mod boot;
+mod bundle;
+mod changing;
+mod validate;
+
+// Scripts over an image.
+mod serving;
+
+pub use adf_import::StandardInput;
 pub use adf_io::{LoadFault, StoreFault, load_image, store_image};
 pub use adf_script::TryFault;
 use adf_words::given_words;
 pub use ados_run::{
     ClientDone, Gate, RunFault, ScriptsDone, ScriptsFault, run_volume, serve_scripts,
 };
+pub use fault::CommandFault;
+pub use jobs::run_job;
+pub use output::end_job;
+pub use refusal::{Detail, DosRefusal, Refusal, Room};
+pub use screen::Screen;
 pub use script::try_script;
 use std::process::ExitCode;
 pub use words::{run_words, tell_wrong_words};

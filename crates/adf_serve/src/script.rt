@@ -3,12 +3,13 @@ ghost use Rattle.std.specs.Prelude.{◌≡◌, true, false, codes, IfOk, OnOk};
 ghost use Rattle.adf_block.specs.declared.layout.Format.TheVariants.{Ffs};
 ghost use Rattle.ados_model.specs.Blank.{IsBlank};
 ghost use Rattle.ados_model.specs.Session.{opening_session};
-ghost use Rattle.adf_commands.specs.Texts.{first_moment};
+ghost use Rattle.adf_serve.specs.Texts.{first_moment};
 ghost use Rattle.adf_serve.specs.Script.{RunsScript, TellsScript};
 
+use crate::info::FIRST_MOMENT;
 use adf_block::Format;
-use adf_commands::{FIRST_MOMENT, last_number};
 use adf_script::{TryFault, read_script, run_script};
+use adf_words::last_number;
 use ados_handler::Handler;
 use ados_name::Name;
 use ados_volume::blank;

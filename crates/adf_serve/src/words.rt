@@ -4,12 +4,15 @@ ghost use Rattle.adf_serve.specs.Commands.{RunsCommand};
 ghost use Rattle.adf_serve.specs.Script.{RunsScript};
 
 use crate::held::tell_job;
+use crate::jobs::run_job;
+use crate::output::end_job;
+use crate::screen::Screen;
 use crate::script::{faulty_number, run_bytes};
 use adf_archive::ReadImages;
-use adf_commands::{Screen, StandardInput, run_job, status_of, tell_faulty_line};
+use adf_import::StandardInput;
 use adf_script::{TryFault, read_script};
 use adf_text::{print_line, print_lines};
-use adf_words::{Job, WordsFault, read_words};
+use adf_words::{Job, WordsFault, read_words, tell_faulty_line};
 use std::alloc::Global;
 use std::env::FillError;
 use std::fs::File;
@@ -67,7 +70,7 @@ where
                 styled: writer.is_terminal() && takes_bold(rt),
             };
             let done = run_job(rt, alloc, &job, screen, writer, faults);
-            status_of(done, faults)
+            end_job(rt, alloc, &job, done, writer, faults)
         }
         Err(fault) => tell_wrong_words(fault, faults),
     }

@@ -1,15 +1,9 @@
 -- Blocks with their owners: the entry that a block belongs to, and the bytes that are in it.
-use Rattle.std.proofs.Common.{◌≡◌, ℕ, ◌+◌, ◌*◌, ◌-◌, min, Bool, true, false, List, [], ◌∷◌, ◌++◌, map, codes, Option, Some, IsSome, is_some, flat_map, refl, sym, ap, ap₂, ◌∙◌, subst}
-use Rattle.ados_model.specs.Tree.{Content, Tree, content_at, data_size, size_of}
-use Rattle.ados_model.proofs.Nodes.{content_in}
-use Rattle.ados_volume.specs.declared.owner.Owner.{Owner}
-use Rattle.ados_volume.specs.declared.owner.Owner.TheVariants.{Boot, Root, Page, Directory, File, Data, Extension, Lost, Free}
-use Rattle.ados_volume.specs.Owners.{Owns}
+use Rattle.std.proofs.Common.{flat_map}
+use Rattle.adf_where.proofs.Common.{◌≡◌, ℕ, ◌+◌, ◌*◌, ◌-◌, min, Bool, true, false, List, [], ◌∷◌, ◌++◌, map, codes, Option, Some, IsSome, is_some, refl, sym, ap, ap₂, ◌∙◌, subst, Content, Tree, content_at, data_size, size_of, content_in, Owner, Boot, Root, Page, Directory, File, Data, Extension, Lost, Free, Owns, OwnedBlock, entry_of, seen, span_of, told_as, told_tokens, where_line, where_of}
 use Rattle.adf_where.specs.declared.owned.Span.{Span}
 use Rattle.json.specs.Token.{Token, begin_array, end_array}
 use Rattle.json.specs.Print.{print}
-use Rattle.adf_where.specs.declared.owned.OwnedBlock.{OwnedBlock}
-use Rattle.adf_where.specs.Where.{entry_of, seen, span_of, told_as, told_tokens, where_line, where_of}
 
 -- a key with a content is that of a node
 node_at : (t : Tree) (block entry : ℕ) (c : Content) → content_at t block ≡ Some c → block ≡ entry → IsSome (t.nodes entry)

@@ -1,19 +1,13 @@
 -- The faults of a block, from those of the image.
-use Rattle.std.proofs.Common.{◌≡◌, ℕ, zero, suc, ◌+◌, ◌<◌, ◌≤◌, inl, inr, Bool, true, false, cond, ltb, leb, List, [], ◌∷◌, ◌++◌, length, get_or, take, drop, All, AllPairs, Contains, refl, sym, ap, ap₂, ◌∙◌, subst, arith, append-nil, eqb-true}
-use Rattle.std.specs.Prelude.{◌==◌}
-use Rattle.std.specs.List.{AllWithin, between, filter}
-use Rattle.std.specs.List.Sorted.{IsNonDecreasingBy, IsPartitionPoint}
+use Rattle.adf_where.proofs.Common.{◌≡◌, ℕ, zero, suc, ◌+◌, ◌<◌, ◌≤◌, inl, inr, Bool, true, false, cond, ltb, leb, List, [], ◌∷◌, ◌++◌, length, get_or, take, drop, All, AllPairs, Contains, refl, sym, ap, ap₂, ◌∙◌, subst, arith, append-nil, eqb-true, ◌==◌, AllWithin, between, IsNonDecreasingBy, IsPartitionPoint, get_or-drop, get_or-take, length-drop, length-take, StandsBefore, fault_of, VolumeFault, AreFaultsAt, AreFound}
+use Rattle.std.specs.List.{filter}
 use Rattle.std.proofs.lemmas.Bool.{cases_lt, eq-eqb, leb-false, leb-true, ltb-false, ltb-true, ne_eqb}
-use Rattle.std.proofs.lemmas.List.{get_or-drop, get_or-take, length-drop, length-take}
 use Rattle.std.proofs.lemmas.List.Edits.{get_or-between, length-between, split_between}
 use Rattle.std.proofs.lemmas.List.Elements.{All-filter, All-head, All-tail, filter-append, filter_passes}
 use Rattle.std.proofs.lemmas.List.Kept.{AllPairs-filter}
-use Rattle.ados_faults.specs.Listed.{StandsBefore, fault_of}
 use Rattle.ados_faults.specs.declared.listing.AllFaults.{AllFaults}
 use Rattle.ados_model.specs.declared.fault.FaultKind.TheVariants.{DuplicateName}
-use Rattle.ados_model.specs.declared.fault.VolumeFault.{VolumeFault}
 use Rattle.ados_model.specs.Faults.{Shows}
-use Rattle.adf_where.specs.Faulty.{AreFaultsAt, AreFound}
 
 -- an element that passes a test stays in a list
 module _ {X : Type 0} (p : X → Bool) (x : X) (passes : p x ≡ true) where

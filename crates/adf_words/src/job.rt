@@ -67,6 +67,33 @@ pub enum ImageJob<'a> {
     Serve(ServeJob<'a>),
 }
 
+impl<'a> ImageJob<'a> {
+    /// The image file that the job reads, if it is one.
+    pub fn image(&self) -> Option<ImageFile<'a>> {
+        match self {
+            ImageJob::Blank { .. } | ImageJob::Check(_) => None,
+            ImageJob::Info { file } => Some(*file),
+            ImageJob::Show { image, .. }
+            | ImageJob::Map { image, .. }
+            | ImageJob::WherePath { image, .. }
+            | ImageJob::Print { image, .. }
+            | ImageJob::ExtractBundle { image, .. }
+            | ImageJob::SaveBoot { image, .. }
+            | ImageJob::ShowBoot { image } => Some(*image),
+            ImageJob::AddBundle { target, .. }
+            | ImageJob::Validate { target, .. }
+            | ImageJob::Boot { target, .. } => Some(target.image),
+            ImageJob::Where(job) => Some(job.image),
+            ImageJob::List(job) => Some(job.image),
+            ImageJob::Extract(job) => Some(job.image),
+            ImageJob::Salvage(job) => Some(job.image),
+            ImageJob::Undelete(job) => Some(job.image),
+            ImageJob::Change(job) => Some(job.target.image),
+            ImageJob::Serve(job) => Some(job.image),
+        }
+    }
+}
+
 /// The arguments of `serve`.
 #[derive(Drop)]
 pub struct ServeJob<'a> {

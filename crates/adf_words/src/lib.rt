@@ -1,4 +1,4 @@
-//! The command line: the program's jobs as values, how its arguments become jobs, and how an argument is refused.
+//! What people type: the command line, as the program's jobs, and what is wrong with an argument or with a line of a script.
 #![tactic(auto)]
 
 mod arguments;
@@ -9,6 +9,7 @@ mod changing;
 mod commands;
 mod dates;
 mod fault;
+mod faulty_line;
 mod floppy;
 mod given;
 mod image_file;
@@ -18,6 +19,7 @@ mod numbers;
 mod query;
 mod reading;
 mod refused;
+mod script_lines;
 mod table;
 mod taking;
 
@@ -25,6 +27,7 @@ pub use block_word::BlockWord;
 pub use boot::BootBlock;
 pub use change::{Change, ChangeJob, Rewrite, Source};
 pub use fault::WordsFault;
+pub use faulty_line::{last_number, tell_faulty_line};
 pub use floppy::{DOUBLE_TRACK, HEADS, HIGH_DENSITY, HIGH_TRACK};
 pub use given::{given_words, word_of};
 pub use image_file::ImageFile;

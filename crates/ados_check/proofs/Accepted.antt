@@ -1,25 +1,6 @@
 -- A checked image is accepted, as it is or with a rebuilt bitmap.
-use Rattle.std.proofs.Common.{◌≡◌, ℕ, ◌+◌, ◌-◌, ◌*◌, ◌/◌, ◌%◌, ◌<◌, ◌≤◌, inl, inr, true, false, not, List, length, map, Option, Some, None, is_some, refl, sym, ap, ◌∙◌, subst, arith}
-use Rattle.std.proofs.lemmas.Bool.{false≢true}
-use Rattle.std.proofs.lemmas.List.{get_or-map, get_or_past, length-map}
-use Rattle.adf_block.specs.Whole.{IsImage, HasFreeBit}
-use Rattle.adf_block.specs.Image.{has_free_bit, block_count, page_count, root_key, long, block_sum}
-use Rattle.adf_block.specs.Frame.{SameBut, AtLong, InBlock, OnlyBlock}
-use Rattle.adf_block.proofs.Frames.{same_trans, same_weaken, same_count, other_long, other_block_long, other_block_sum}
+use Rattle.ados_check.proofs.Common.{◌≡◌, ℕ, ◌+◌, ◌-◌, ◌*◌, ◌/◌, ◌%◌, ◌<◌, ◌≤◌, inl, inr, true, false, not, List, length, map, Option, Some, None, is_some, refl, sym, ap, ◌∙◌, subst, arith, false≢true, get_or-map, get_or_past, length-map, IsImage, HasFreeBit, has_free_bit, block_count, page_count, root_key, long, block_sum, SameBut, AtLong, InBlock, OnlyBlock, same_trans, same_weaken, same_count, other_long, other_block_long, other_block_sum, LawfulPages, HasBit, page_block, pages_of, InPages, Role, Root, Page, InImage, Reached, root_of, root_page, start, named, HasValidBitmap, IsOfBitmap, Rebuilt, Accepts, HasNoLost, faults_have_no_tree, Mark, mark_at, IsChecked, AreInUse, IsMended}
 use Rattle.ados_map.specs.Bits.{is_unnamed}
-use Rattle.ados_map.specs.Pages.{LawfulPages, HasBit, page_block, pages_of}
-use Rattle.ados_map.specs.Changes.{InPages}
-use Rattle.ados_model.specs.declared.role.Role.{Role}
-use Rattle.ados_model.specs.declared.role.Role.TheVariants.{Root, Page}
-use Rattle.ados_model.specs.Faults.{InImage, Reached, root_of}
-use Rattle.ados_model.specs.Faults.IsPlace.{root_page}
-use Rattle.ados_model.specs.Faults.Reached.{start, named}
-use Rattle.ados_model.specs.Rebuilt.{HasValidBitmap, IsOfBitmap, Rebuilt}
-use Rattle.ados_model.specs.Accepted.{Accepts, HasNoLost}
-use Rattle.ados_model.proofs.NoFaults.{faults_have_no_tree}
-use Rattle.ados_check.specs.declared.mark.Mark.{Mark}
-use Rattle.ados_check.specs.Marks.{mark_at, IsChecked}
-use Rattle.ados_check.specs.Laws.{AreInUse, IsMended}
 use Rattle.ados_check.proofs.MarkLemmas.{mark_got}
 use Rattle.ados_check.proofs.Paths.{mark_of}
 use Rattle.ados_check.proofs.Roles.{reached_marked, marked_inside}

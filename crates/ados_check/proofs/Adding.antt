@@ -1,11 +1,6 @@
 -- One more block at the end of an image.
-use Rattle.std.proofs.Common.{◌≡◌, ◌≢◌, ℕ, ◌+◌, ◌-◌, append-nil, ◌*◌, ◌%◌, ◌^◌, ◌<◌, ◌≤◌, ◌++◌, ◌∷◌, [], ◌==◌, inl, inr, List, length, take, get_or, slice_index, Option, None, Some, MatchOption, if◌then◌else◌, arith, ap, sym, ◌∙◌, refl, subst, length-append, length-take}
-use Rattle.std.proofs.lemmas.Bool.{cases_lt}
-use Rattle.std.proofs.lemmas.List.{get_or-take, get_or_append_left, get_or-append_right}
-use Rattle.adf_block.specs.Image.{byte_at, long, block_sum}
-use Rattle.adf_block.proofs.Longs.{long-bytes, long-same}
-use Rattle.adf_block.proofs.Totals.{total-same}
-use Rattle.ados_check.specs.Keeping.{AreKept, StandsAt, kept_length, start_of}
+use Rattle.std.proofs.Common.{append-nil, length-append}
+use Rattle.ados_check.proofs.Common.{◌≡◌, ◌≢◌, ℕ, ◌+◌, ◌-◌, ◌*◌, ◌%◌, ◌^◌, ◌<◌, ◌≤◌, ◌++◌, ◌∷◌, [], ◌==◌, inl, inr, List, length, take, get_or, slice_index, Option, None, Some, MatchOption, if◌then◌else◌, arith, ap, sym, ◌∙◌, refl, subst, length-take, cases_lt, get_or-take, get_or_append_left, get_or-append_right, byte_at, long, block_sum, long-bytes, long-same, total-same, AreKept, StandsAt, kept_length, start_of}
 use Rattle.ados_check.proofs.KeptLengths.{within}
 
 -- a byte of the old blocks

@@ -1,17 +1,6 @@
 -- What a source has of the root and the bitmap blocks.
-use Rattle.std.proofs.Common.{◌≡◌, ◌≢◌, ℕ, ◌+◌, ◌<◌, List, Option, inl, inr, arith}
-use Rattle.adf_block.specs.Image.{block_sum}
-use Rattle.adf_block.specs.Fields.{primary_type}
-use Rattle.adf_block.specs.declared.layout.TheConstants.{DATA_TYPE}
-use Rattle.ados_map.specs.Pages.{page_block, pages_of}
-use Rattle.ados_model.specs.declared.role.Role.TheVariants.{Root, Page}
-use Rattle.ados_model.specs.Faults.{root_of}
-use Rattle.ados_model.specs.Faults.IsPlace.{root_page}
-use Rattle.ados_check.specs.declared.mark.Mark.{Mark}
-use Rattle.ados_check.specs.Marks.{IsChecked}
+use Rattle.ados_check.proofs.Common.{◌≡◌, ◌≢◌, ℕ, ◌+◌, ◌<◌, List, Option, inl, inr, arith, block_sum, primary_type, DATA_TYPE, page_block, pages_of, Root, Page, root_of, root_page, Mark, IsChecked, SourceView, Tells, TellsBitmap}
 use Rattle.ados_check.proofs.Paths.{mark_of}
-use Rattle.ados_check.specs.Source.{SourceView, Tells}
-use Rattle.ados_check.specs.BitmapTold.{TellsBitmap}
 
 -- a whole image has everything
 module _ (source : SourceView) (marks : List (Option Mark)) (c : IsChecked source.bytes marks) where

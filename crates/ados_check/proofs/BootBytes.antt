@@ -1,11 +1,5 @@
 -- The DOS type of a disk from its first four bytes.
-use Rattle.std.proofs.Common.{◌≡◌, ℕ, ◌<◌, ◌==◌, if◌then◌else◌, List, [], ◌∷◌, slice_index, sym, ap, ◌∙◌, arith}
-use Rattle.adf_block.specs.Image.{byte_at, bytes_at}
-use Rattle.adf_block.specs.Fields.{format_of}
-use Rattle.adf_block.specs.Boot.{IsDos}
-use Rattle.adf_block.specs.declared.layout.Format.TheVariants.{Ofs, Ffs}
-use Rattle.adf_block.proofs.Blocks.{byte-bytes_at}
-use Rattle.ados_model.specs.Stands.{format_byte}
+use Rattle.ados_check.proofs.Common.{◌≡◌, ℕ, ◌<◌, ◌==◌, if◌then◌else◌, List, [], ◌∷◌, slice_index, sym, ap, ◌∙◌, arith, byte_at, bytes_at, format_of, IsDos, Ofs, Ffs, byte-bytes_at, format_byte}
 use Rattle.ados_model.specs.Phrases.{kind_bytes}
 
 module _ (image : List ℕ) (kind : ℕ) (is : bytes_at image 0 0 4 ≡ 68 ∷ 79 ∷ 83 ∷ kind ∷ []) where

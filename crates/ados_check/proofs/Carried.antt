@@ -1,19 +1,5 @@
 -- Two images that differ only in their bitmaps have the same marks.
-use Rattle.std.proofs.Common.{◌≡◌, ◌≢◌, ℕ, ◌<◌, ◌≤◌, inl, inr, List, [], ◌∷◌, Option, Some, refl, sym, ap, ◌∙◌, subst, arith}
-use Rattle.adf_block.specs.declared.layout.Format.{Format}
-use Rattle.adf_block.specs.Whole.{IsImage, text_at}
-use Rattle.adf_block.specs.Image.{block_count, long, block_sum}
-use Rattle.adf_block.specs.declared.layout.TheConstants.{COMMENT_BYTE, NAME_BYTE}
-use Rattle.adf_block.specs.Frame.{SameBut}
-use Rattle.ados_name.specs.Name.{Same, slot}
-use Rattle.ados_model.specs.Stands.{format_byte}
-use Rattle.ados_model.specs.declared.role.Role.{Role}
-use Rattle.ados_model.specs.declared.role.Role.TheVariants.{Root, Page, Entry, Data, Extension}
-use Rattle.ados_model.specs.Faults.{InImage, IsPlace, Reached, root_of}
-use Rattle.ados_model.specs.Faults.Reached.{start, named}
-use Rattle.ados_model.specs.Rebuilt.{IsOfBitmap}
-use Rattle.ados_check.specs.declared.mark.Mark.{Mark}
-use Rattle.ados_check.specs.Marks.{mark_at, AreReached, IsChecked, IsMarkedEntry, IsSound, IsSoundRoot, IsSoundEntry, IsSoundData}
+use Rattle.ados_check.proofs.Common.{◌≡◌, ◌≢◌, ℕ, ◌<◌, ◌≤◌, inl, inr, List, [], ◌∷◌, Option, Some, refl, sym, ap, ◌∙◌, subst, arith, Format, IsImage, text_at, block_count, long, block_sum, COMMENT_BYTE, NAME_BYTE, SameBut, Same, slot, format_byte, Role, Root, Page, Entry, Data, Extension, InImage, IsPlace, Reached, root_of, start, named, IsOfBitmap, Mark, mark_at, AreReached, IsChecked, IsMarkedEntry, IsSound, IsSoundRoot, IsSoundEntry, IsSoundData}
 use Rattle.ados_check.proofs.Roles.{reached_marked, root_role}
 use Rattle.ados_check.proofs.Untouched.{place_moves, IsPlaceLong, place_long, count_same, root_same, IsUntouched, boot_untouched, untouched, long_kept, byte_kept, bytes_kept, sum_kept, root_longs, format_same, longs_kept, name_same, name_valid, root_name_valid, extension_kept}
 use Rattle.ados_check.proofs.FilesKept.{sound_file_kept}

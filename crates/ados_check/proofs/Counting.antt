@@ -1,7 +1,5 @@
 -- The length of a list of distinct numbers below a bound.
-use Rattle.std.proofs.Common.{◌≡◌, ℕ, zero, suc, ◌<◌, ◌≤◌, ◌⊎◌, inl, inr, List, [], ◌∷◌, length, slice_index, sym, ◌∙◌, arith, ne_eqb}
-use Rattle.std.proofs.lemmas.Bool.{cases_eq}
-use Rattle.adf_block.specs.Image.{total}
+use Rattle.ados_check.proofs.Common.{◌≡◌, ℕ, zero, suc, ◌<◌, ◌≤◌, ◌⊎◌, inl, inr, List, [], ◌∷◌, length, slice_index, sym, ◌∙◌, arith, ne_eqb, cases_eq, total}
 use Rattle.ados_model.proofs.Totals.{occurrences, occurrences-one, total-occurrences}
 
 -- a list of distinct numbers

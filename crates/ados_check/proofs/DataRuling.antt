@@ -1,20 +1,5 @@
 -- What a broken rule of a data block shows, and what the fields of a block are that breaks none.
-use Rattle.std.proofs.Common.{◌≡◌, ◌≢◌, ℕ, ◌+◌, ◌<◌, ◌≤◌, inl, inr, List, Option, Some, None, length, slice_index, All, sym, ap, ◌∙◌, arith}
-use Rattle.std.specs.Option.{unwrap_or}
-use Rattle.std.proofs.lemmas.Bool.{cases_lt}
-use Rattle.std.proofs.lemmas.Option.{slice_get_past, unwrap_or-slice_get}
-use Rattle.adf_block.specs.Image.{long}
-use Rattle.adf_block.specs.Fields.{held_count, sequence_number}
-use Rattle.adf_block.specs.declared.layout.TheConstants.{NEXT_DATA}
-use Rattle.ados_model.specs.Faults.{InImage, IsDataAt, IsOfs, Shows}
-use Rattle.ados_model.specs.Faults.HasBadCount.{held_none, held_not_full, held_over}
-use Rattle.ados_model.specs.Faults.HasBadPointer.{further_data}
-use Rattle.ados_check.specs.DataRules.{BreaksRule, IsPlaced, kind_of_data}
-use Rattle.ados_check.specs.declared.data_rules.DataRule.{DataRule}
-use Rattle.ados_check.specs.declared.data_rules.DataRule.TheVariants.{Sequence, TooFew, TooMany, Link}
-use Rattle.ados_check.specs.declared.data_rules.Place.{Place}
-use Rattle.ados_check.specs.declared.data_rules.TheConstants.{DATA_RULES}
-use Rattle.ados_check.specs.steps.Files.{KeepsRules}
+use Rattle.ados_check.proofs.Common.{◌≡◌, ◌≢◌, ℕ, ◌+◌, ◌<◌, ◌≤◌, inl, inr, List, Option, Some, None, length, slice_index, All, sym, ap, ◌∙◌, arith, unwrap_or, cases_lt, slice_get_past, unwrap_or-slice_get, long, held_count, sequence_number, NEXT_DATA, InImage, IsDataAt, IsOfs, Shows, held_none, held_not_full, held_over, further_data, BreaksRule, IsPlaced, kind_of_data, DataRule, Sequence, TooFew, TooMany, Link, Place, DATA_RULES, KeepsRules}
 use Rattle.ados_check.proofs.Ruling.{stable}
 
 -- each rule stands in the list

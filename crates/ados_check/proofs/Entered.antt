@@ -1,6 +1,5 @@
 -- The set of the names so far.
-use Rattle.std.proofs.Common.{◌≡◌, ◌≢◌, ℕ, ◌+◌, ◌<◌, ◌≤◌, ◌⊎◌, inl, inr, Bool, true, false, cond, List, length, Option, refl, sym, ap, ap₂, ◌∙◌, subst, arith}
-use Rattle.std.proofs.lemmas.Bool.{cases_Bool, cases_lt}
+use Rattle.ados_check.proofs.Common.{◌≡◌, ◌≢◌, ℕ, ◌+◌, ◌<◌, ◌≤◌, ◌⊎◌, inl, inr, Bool, true, false, cond, List, length, Option, refl, sym, ap, ap₂, ◌∙◌, subst, arith, cases_Bool, cases_lt, HasDuplicateName, Mark, AreReached, AreUnlike, IsMarkedEntry, upper_name}
 use Rattle.std.specs.declared.cmp.Ordering.{Ordering}
 use Rattle.std.specs.declared.cmp.Ordering.TheVariants.{Equal}
 use Rattle.std.specs.Ordering.{nat_cmp, ordering_then, is_eq}
@@ -8,11 +7,7 @@ use Rattle.std.specs.Cmp.Lexicographic.{slice_cmp}
 use Rattle.std.specs.FinMap.{nat_cmp-IsAntisymmetric, slice_cmp-IsAntisymmetric}
 use Rattle.std.specs.BTreeMap.{is_at}
 use Rattle.std.specs.BTreeSet.{BTreeSet, contains}
-use Rattle.ados_model.specs.Faults.{HasDuplicateName}
-use Rattle.ados_check.specs.declared.mark.Mark.{Mark}
-use Rattle.ados_check.specs.Marks.{AreReached, AreUnlike, IsMarkedEntry}
 use Rattle.ados_check.specs.declared.names.EntryName.{EntryName}
-use Rattle.ados_check.specs.Entries.{upper_name}
 use Rattle.ados_check.proofs.Marked.{one_directory, entry_below}
 use Rattle.ados_check.proofs.UpperNames.{upper_names_equal, entry_sound, duplicate_shown}
 

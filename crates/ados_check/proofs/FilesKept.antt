@@ -1,20 +1,7 @@
 -- A sound file stays sound when only the bitmap changes.
-use Rattle.std.proofs.Common.{◌≡◌, ◌≢◌, ℕ, zero, suc, ◌+◌, ◌-◌, ◌/◌, ◌%◌, ◌<◌, ◌≤◌, List, [], ◌∷◌, length, slice_index, Option, Some, refl, sym, ap, ap₂, ◌∙◌, subst, arith}
-use Rattle.adf_block.specs.declared.layout.Format.{Format}
-use Rattle.adf_block.specs.declared.layout.Format.TheVariants.{Ofs, Ffs}
-use Rattle.adf_block.specs.Whole.{IsImage}
-use Rattle.adf_block.specs.Image.{block_count, long, Chained}
-use Rattle.adf_block.specs.Fields.{file_size, format_of}
-use Rattle.adf_block.specs.declared.layout.TheConstants.{NEXT_EXTENSION, NEXT_DATA}
-use Rattle.adf_block.specs.Frame.{SameBut}
-use Rattle.ados_model.specs.Tree.{data_size, data_start, data_count}
-use Rattle.ados_model.specs.Stands.{HasOfsData, HasFile}
-use Rattle.ados_model.specs.File.{file_byte, AreApart, IsLawful, data_blocks, extension_blocks, contents}
+use Rattle.ados_check.proofs.Common.{◌≡◌, ◌≢◌, ℕ, zero, suc, ◌+◌, ◌-◌, ◌/◌, ◌%◌, ◌<◌, ◌≤◌, List, [], ◌∷◌, length, slice_index, Option, Some, refl, sym, ap, ap₂, ◌∙◌, subst, arith, Format, Ofs, Ffs, IsImage, block_count, long, Chained, file_size, format_of, NEXT_EXTENSION, NEXT_DATA, SameBut, data_size, data_start, data_count, HasOfsData, HasFile, file_byte, AreApart, IsLawful, data_blocks, extension_blocks, contents, IsOfBitmap, Mark, mark_at, IsChecked, IsSoundFile}
 use Rattle.ados_data.proofs.Spelled.{lawful_file}
 use Rattle.ados_model.specs.declared.role.Role.TheVariants as roles
-use Rattle.ados_model.specs.Rebuilt.{IsOfBitmap}
-use Rattle.ados_check.specs.declared.mark.Mark.{Mark}
-use Rattle.ados_check.specs.Marks.{mark_at, IsChecked, IsSoundFile}
 use Rattle.ados_check.proofs.Paths.{mark_of}
 use Rattle.ados_check.proofs.Roles.{IsMarkedFile, marked_inside}
 use Rattle.ados_check.proofs.RolePlaces.{length-data_blocks, length-extension_blocks, length-contents, sound_file, StandsAt, marked_at, one_place, holder_of, long_of, holder_within, different_headers}

@@ -1,19 +1,6 @@
 -- What any source has of the blocks of a walked image.
-use Rattle.std.proofs.Common.{◌≡◌, ◌≢◌, ℕ, zero, suc, ◌<◌, ◌≤◌, inl, inr, List, slice_index, Option, subst, sym, arith}
-use Rattle.adf_block.specs.Image.{block_sum}
-use Rattle.adf_block.specs.Fields.{primary_type}
-use Rattle.adf_block.specs.declared.layout.TheConstants.{DATA_TYPE}
-use Rattle.ados_model.specs.File.{pointer_block}
-use Rattle.ados_model.specs.declared.role.Role.{Role}
-use Rattle.ados_model.specs.declared.role.Role.TheVariants.{Extension}
-use Rattle.ados_model.specs.Faults.{IsOfs}
-use Rattle.ados_check.specs.declared.mark.Mark.{Mark}
-use Rattle.ados_check.specs.DataRules.{TellsHeader}
-use Rattle.ados_check.specs.Marks.{AreReached, IsMarkedEntry}
+use Rattle.ados_check.proofs.Common.{◌≡◌, ◌≢◌, ℕ, zero, suc, ◌<◌, ◌≤◌, inl, inr, List, slice_index, Option, subst, sym, arith, block_sum, primary_type, DATA_TYPE, pointer_block, Role, Extension, IsOfs, Mark, TellsHeader, AreReached, IsMarkedEntry, TellsFields, SourceView, Tells, IsReachedEntry, IsReachedFile, HasCounts}
 use Rattle.ados_check.specs.PlacesTold.{TellsAll}
-use Rattle.ados_check.specs.Rules.{TellsFields}
-use Rattle.ados_check.specs.Source.{SourceView, Tells}
-use Rattle.ados_check.specs.steps.Files.{IsReachedEntry, IsReachedFile, HasCounts}
 use Rattle.ados_check.proofs.Headers.{types_right}
 use Rattle.ados_check.proofs.UpperNames.{entry_sound}
 use Rattle.ados_check.proofs.Pointed.{blocks_upto}

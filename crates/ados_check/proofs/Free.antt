@@ -1,13 +1,5 @@
 -- A reached block that is marked free is a fault of the bitmap.
-use Rattle.std.proofs.Common.{◌≡◌, ℕ, ◌<◌, List, get_or, true, false, Option, Some, None, is_some, sym, ap, ◌∙◌, arith}
-use Rattle.std.proofs.lemmas.Bool.{false≢true}
-use Rattle.adf_block.specs.Whole.{IsImage, HasFreeBit}
-use Rattle.ados_map.specs.Pages.{LawfulPages, page_block, page_of, pages_of}
-use Rattle.ados_model.specs.Faults.{InImage, IsReachedAndFree}
-use Rattle.ados_model.specs.Rebuilt.{HasValidBitmap}
-use Rattle.ados_check.specs.BitmapTold.{IsFree}
-use Rattle.ados_check.specs.declared.mark.Mark.{Mark}
-use Rattle.ados_check.specs.Marks.{mark_at, IsChecked}
+use Rattle.ados_check.proofs.Common.{◌≡◌, ℕ, ◌<◌, List, get_or, true, false, Option, Some, None, is_some, sym, ap, ◌∙◌, arith, false≢true, IsImage, HasFreeBit, LawfulPages, page_block, page_of, pages_of, InImage, IsReachedAndFree, HasValidBitmap, IsFree, Mark, mark_at, IsChecked}
 use Rattle.ados_check.proofs.Roles.{marked_inside}
 use Rattle.ados_check.proofs.MarkLemmas.{mark_got, some_is}
 

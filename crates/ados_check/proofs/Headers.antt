@@ -1,18 +1,5 @@
 -- The header and the extension blocks of a file whose blocks are reached.
-use Rattle.std.proofs.Common.{◌≡◌, ◌≢◌, ℕ, zero, suc, ◌<◌, ◌≤◌, ◌⊎◌, inl, inr, List, length, map, slice_index, slice_index_or, refl, sym, ap, ◌∙◌, subst, arith}
-use Rattle.std.specs.List.{range_with_len}
-use Rattle.std.proofs.lemmas.Bool.{cases_lt, cases_order}
-use Rattle.std.proofs.lemmas.List.FromFn.{length-map-range_with_len, get_or-map-range_with_len}
-use Rattle.adf_block.specs.Image.{block_count, long}
-use Rattle.adf_block.specs.Fields.{pointer_count, primary_type}
-use Rattle.adf_block.specs.declared.layout.TheConstants.{HEADER_TYPE, NEXT_DATA}
-use Rattle.ados_model.specs.File.{pointer_block}
-use Rattle.ados_model.specs.declared.role.Role.{Role}
-use Rattle.ados_model.specs.declared.role.Role.TheVariants.{Entry, Extension}
-use Rattle.ados_model.specs.Faults.{HasFileType, IsOfs, Reached, pointers_of}
-use Rattle.ados_check.specs.Rules.{HasBadField, HasBadTypeAs}
-use Rattle.ados_check.specs.declared.rules.FieldRule.TheVariants.{PointerCount, FirstData}
-use Rattle.ados_check.specs.steps.Files.{HasCount, HasPointersAs, IsReachedEntry, IsReachedFile}
+use Rattle.ados_check.proofs.Common.{◌≡◌, ◌≢◌, ℕ, zero, suc, ◌<◌, ◌≤◌, ◌⊎◌, inl, inr, List, length, map, slice_index, slice_index_or, refl, sym, ap, ◌∙◌, subst, arith, range_with_len, cases_lt, cases_order, length-map-range_with_len, get_or-map-range_with_len, block_count, long, pointer_count, primary_type, HEADER_TYPE, NEXT_DATA, pointer_block, Role, Entry, Extension, HasFileType, IsOfs, Reached, pointers_of, HasBadField, HasBadTypeAs, PointerCount, FirstData, HasCount, HasPointersAs, IsReachedEntry, IsReachedFile}
 use Rattle.ados_check.specs.steps.Files.HasPointersAs.{header, extension}
 use Rattle.ados_check.proofs.Counting.{AreDifferent, different_few}
 use Rattle.ados_check.proofs.Ruling.{stable}

@@ -1,11 +1,6 @@
 -- Concatenated lists.
-use Rattle.std.proofs.Common.{◌≡◌, ◌≢◌, ℕ, zero, suc, ◌<◌, ◌≤◌, ◌⊎◌, inl, inr, ◌==◌, List, [], ◌∷◌, ◌++◌, length, filter, slice_index, AllPairs, Contains, refl, ap, ap₂, ◌∙◌, subst, arith, eq-eqb, ne_eqb}
-use Rattle.std.specs.List.{AllByRecursion}
-use Rattle.std.proofs.lemmas.Bool.{cases_lt}
-use Rattle.std.proofs.lemmas.List.{append-nil, get_or_default}
-use Rattle.std.proofs.lemmas.List.Elements.{recursion_from_All, All-append, All-weaker, All-contains_itself, Contains-get_or, Contains-append_left, Contains-append_right, Contains-append_cases, filter-append}
+use Rattle.ados_check.proofs.Common.{◌≡◌, ◌≢◌, ℕ, zero, suc, ◌<◌, ◌≤◌, ◌⊎◌, inl, inr, ◌==◌, List, [], ◌∷◌, ◌++◌, length, filter, slice_index, AllPairs, Contains, refl, ap, ap₂, ◌∙◌, subst, arith, eq-eqb, ne_eqb, AllByRecursion, cases_lt, append-nil, get_or_default, recursion_from_All, All-append, All-weaker, All-contains_itself, Contains-get_or, Contains-append_left, Contains-append_right, Contains-append_cases, filter-append, joined}
 use Rattle.std.proofs.lemmas.List.Kept.{AllPairs-cons}
-use Rattle.ados_model.proofs.Lists.{joined}
 
 -- a position of an element
 pub place_of : (xs : List ℕ) (x : ℕ) → Contains xs x → (k : ℕ) × (k < length xs) × (slice_index xs k ≡ x)

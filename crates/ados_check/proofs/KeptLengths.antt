@@ -1,8 +1,5 @@
 -- The number of bytes kept of a block.
-use Rattle.std.proofs.Common.{◌≡◌, ◌≢◌, ◌≤◌, ◌==◌, ℕ, List, Bool, true, false, if◌then◌else◌, refl, ne_eqb, arith}
-use Rattle.adf_block.specs.Fields.{primary_type}
-use Rattle.adf_block.specs.declared.layout.TheConstants.{DATA_TYPE}
-use Rattle.ados_check.specs.Keeping.{kept_length}
+use Rattle.ados_check.proofs.Common.{◌≡◌, ◌≢◌, ◌≤◌, ◌==◌, ℕ, List, Bool, true, false, if◌then◌else◌, refl, ne_eqb, arith, primary_type, DATA_TYPE, kept_length}
 
 pub of_data : (image : List ℕ) (block : ℕ) → primary_type image block ≡ DATA_TYPE → kept_length image block ≡ 24
 of_data image block is = rw is refl

@@ -1,11 +1,7 @@
 -- The first four bytes.
-use Rattle.std.proofs.Common.{◌≡◌, ◌≢◌, ℕ, ◌≤◌, ◌==◌, if◌then◌else◌, List, [], ◌∷◌, length, take, slice_index, refl, sym, ap, ◌∙◌, arith}
-use Rattle.adf_block.specs.Image.{byte_at, bytes_at}
-use Rattle.adf_block.specs.Fields.{format_of}
-use Rattle.adf_block.specs.Boot.{IsDos, HasKind}
+use Rattle.ados_check.proofs.Common.{◌≡◌, ◌≢◌, ℕ, ◌≤◌, ◌==◌, if◌then◌else◌, List, [], ◌∷◌, length, take, slice_index, refl, sym, ap, ◌∙◌, arith, byte_at, bytes_at, format_of, IsDos, HasKind, format_byte}
 use Rattle.adf_block.specs.declared.boot.BootKind.TheVariants.{Ofs, Ffs}
 use Rattle.adf_block.specs.declared.layout.Format.TheVariants as formats
-use Rattle.ados_model.specs.Stands.{format_byte}
 
 first_four : (image : List ℕ) → 4 ≤ length image → take 4 image ≡ slice_index image 0 ∷ slice_index image 1 ∷ slice_index image 2 ∷ slice_index image 3 ∷ []
 first_four (a ∷ b ∷ c ∷ d ∷ rest) h = refl

@@ -1,5 +1,6 @@
 -- An image with sound marks represents a tree, as it is or with a rebuilt bitmap, and shows no fault. What a sketch
 -- keeps. The walk over the places of each role, and consequences for the parts of the check.
+pub mod Common
 pub mod Counting
 pub mod Paths
 pub mod Roles

@@ -1,24 +1,6 @@
 -- The data blocks of an OFS file, by their links and positions.
-use Rattle.std.proofs.Common.{◌≡◌, ◌≢◌, ℕ, zero, suc, ◌+◌, ◌-◌, ◌*◌, ◌/◌, ◌%◌, ◌^◌, ◌<◌, ◌≤◌, ◌⊎◌, inl, inr, min, List, Option, Some, None, MatchOption, length, take, drop, slice_index, All, refl, sym, ap, ap₂, ◌∙◌, subst, arith}
-use Rattle.std.specs.List.{slice_get, sum_by}
-use Rattle.std.proofs.lemmas.Bool.{cases_eq, cases_lt}
-use Rattle.std.proofs.lemmas.List.{get_or-take, get_or-drop, take_all}
-use Rattle.std.proofs.lemmas.Option.{slice_get-get_or, slice_get_past, unwrap_or-slice_get}
-use Rattle.std.proofs.lemmas.List.Elements.{All-from_get_or}
-use Rattle.std.proofs.lemmas.List.Sums.{sum_by_more}
-use Rattle.adf_block.specs.Image.{block_count, long, Chained}
-use Rattle.adf_block.specs.Fields.{pointer, held_count, file_size, format_of}
-use Rattle.adf_block.specs.declared.layout.TheConstants.{NEXT_DATA}
-use Rattle.ados_model.specs.Tree.{data_count}
-use Rattle.ados_model.specs.Stands.{HasOfsData}
-use Rattle.ados_model.specs.File.{pointer_block}
-use Rattle.ados_data.proofs.Chains.{chained}
-use Rattle.ados_model.specs.Faults.{InImage, IsOfs, HasBadCount, pointers_of}
-use Rattle.ados_model.specs.Faults.HasBadCount.{wrong_sum}
-use Rattle.ados_check.specs.DataRules.{IsPlaced}
-use Rattle.ados_check.specs.declared.data_rules.Place.{Place}
-use Rattle.ados_check.specs.Marks.{IsSoundData}
-use Rattle.ados_check.specs.steps.Files.{IsReachedFile, HasCounts, IsLinked, KeepsRules}
+use Rattle.ados_check.proofs.Common.{◌≡◌, ◌≢◌, ℕ, zero, suc, ◌+◌, ◌-◌, ◌*◌, ◌/◌, ◌%◌, ◌^◌, ◌<◌, ◌≤◌, ◌⊎◌, inl, inr, min, List, Option, Some, None, MatchOption, length, take, drop, slice_index, All, refl, sym, ap, ap₂, ◌∙◌, subst, arith, sum_by, cases_eq, cases_lt, get_or-take, get_or-drop, take_all, slice_get-get_or, slice_get_past, unwrap_or-slice_get, All-from_get_or, sum_by_more, block_count, long, Chained, pointer, held_count, file_size, format_of, NEXT_DATA, data_count, HasOfsData, pointer_block, chained, InImage, IsOfs, HasBadCount, pointers_of, wrong_sum, IsPlaced, Place, IsSoundData, IsReachedFile, HasCounts, IsLinked, KeepsRules}
+use Rattle.std.specs.List.{slice_get}
 use Rattle.ados_check.proofs.DataRuling.{few_held, full_held, right_link, right_sequence, some_held}
 use Rattle.ados_check.proofs.Headers.{header_inside}
 use Rattle.ados_check.proofs.Pointed.{blocks_upto, length-blocks_upto, block-at, part, are_data_blocks, holder_within, is_pointer, data_inside}

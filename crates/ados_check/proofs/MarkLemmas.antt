@@ -1,16 +1,6 @@
 -- The marks and the pending blocks when one cell changes.
-use Rattle.std.proofs.Common.{◌≡◌, ◌≢◌, ℕ, suc, ◌+◌, ◌-◌, ◌<◌, ◌≤◌, ◌⊎◌, inl, inr, List, [], ◌∷◌, ◌++◌, length, get_or, AllPairs, Contains, replicate, Option, None, Some, is_some, true, false, cond, refl, sym, ap, ◌∙◌, arith}
-use Rattle.std.proofs.Math.ListN.{set}
-use Rattle.std.proofs.lemmas.List.{get_or_default, get_or_past, get_or-set_same, get_or-set_other, get_or-replicate, length-replicate, length-set, length-append, get_or_append_left, get_or-append_right}
-use Rattle.std.proofs.lemmas.List.Sums.{sum_by-set}
-use Rattle.std.proofs.lemmas.List.Folds.{sum_by-replicate}
-use Rattle.std.proofs.lemmas.List.Elements.{Contains-append_cases, Contains-append_left, Contains-append_right}
+use Rattle.ados_check.proofs.Common.{◌≡◌, ◌≢◌, ℕ, suc, ◌+◌, ◌-◌, ◌<◌, ◌≤◌, ◌⊎◌, inl, inr, List, [], ◌∷◌, ◌++◌, length, get_or, AllPairs, Contains, replicate, Option, None, Some, is_some, true, false, cond, refl, sym, ap, ◌∙◌, arith, set, get_or_default, get_or_past, get_or-set_same, get_or-set_other, get_or-replicate, length-replicate, length-set, length-append, get_or_append_left, get_or-append_right, sum_by-set, sum_by-replicate, Contains-append_cases, Contains-append_left, Contains-append_right, cases_lt, Mark, mark_at, unmarked}
 use Rattle.std.proofs.lemmas.List.Quantifiers.{all_pairs_push}
-use Rattle.std.proofs.lemmas.Bool.{cases_lt}
-use Rattle.ados_check.specs.declared.mark.Mark.{Mark}
-use Rattle.ados_check.specs.Marks.{mark_at}
-use Rattle.ados_check.specs.steps.Reaching.{unmarked}
-use Rattle.ados_model.proofs.SmallNodes.{only}
 
 -- one more block is marked
 pub record IsMarkedMore (marks new : List (Option Mark)) (block : ℕ) (mark : Mark) : Type 0 where
@@ -52,32 +42,9 @@ marked_more marks block mark l none =
           omega (arith, count, one);
     }
 
-pub in_pushed : (pending : List ℕ) (block other : ℕ) → Contains (pending ++ block ∷ []) other → Contains pending other ⊎ (other ≡ block)
-in_pushed pending block other h = elim (Contains-append_cases pending (block ∷ []) other h) [
-  | inl old ↦ inl old
-  | inr new ↦ inr (only block other new)
-]
-
-pub pushed_has_old : (pending : List ℕ) (block other : ℕ) → Contains pending other → Contains (pending ++ block ∷ []) other
-pushed_has_old pending block other h = Contains-append_left pending (block ∷ []) other h
-
-pub pushed_has_new : (pending : List ℕ) (block : ℕ) → Contains (pending ++ block ∷ []) block
-pushed_has_new pending block = Contains-append_right pending (block ∷ []) block (0, omega arith, refl)
-
 pub once_pushed : (pending : List ℕ) (block : ℕ) → AllPairs (λ a b. a ≢ b) pending → ¬ Contains pending block → AllPairs (λ a b. a ≢ b) (pending ++ block ∷ [])
 once_pushed pending block once not_in =
     all_pairs_push (λ (a b : ℕ). a ≢ b) pending block once (λ k d l e. not_in (k, l, get_or_default pending k block d l ∙ e))
-
-pub once_rest : (rest : List ℕ) (block : ℕ) → AllPairs (λ a b. a ≢ b) (rest ++ block ∷ []) → AllPairs (λ a b. a ≢ b) rest
-once_rest rest block once i j d lt l e =
-    once i j d lt (omega (arith, length-append rest (block ∷ [])))
-    (get_or_append_left rest (block ∷ []) d i (omega arith) ∙ e ∙ sym (get_or_append_left rest (block ∷ []) d j l))
-
-pub last_not_in_rest : (rest : List ℕ) (block : ℕ) → AllPairs (λ a b. a ≢ b) (rest ++ block ∷ []) → ¬ Contains rest block
-last_not_in_rest rest block once (k, l, e) =
-    let zero_left : length rest - length rest ≡ 0 = omega arith in
-    once k (length rest) block l (omega (arith, length-append rest (block ∷ [])))
-    (get_or_append_left rest (block ∷ []) block k l ∙ e ∙ sym (get_or-append_right rest (block ∷ []) (length rest) (length rest) block refl (omega arith) ∙ ap (λ (n : ℕ). get_or (block ∷ []) n block) zero_left))
 
 -- no marks
 pub none_marked : (n block : ℕ) → mark_at (replicate n None) block ≡ None

@@ -1,10 +1,6 @@
 -- Consequences for a block that is marked as an entry.
-use Rattle.std.proofs.Common.{◌≡◌, ℕ, ◌<◌, List, length, Option, sym, ap, ◌∙◌}
-use Rattle.adf_block.specs.Fields.{secondary_type}
-use Rattle.adf_block.specs.declared.layout.TheConstants.{FILE_TYPE}
+use Rattle.ados_check.proofs.Common.{◌≡◌, ℕ, ◌<◌, List, length, Option, sym, ap, ◌∙◌, secondary_type, FILE_TYPE, Mark, IsMarkedEntry}
 use Rattle.ados_model.specs.declared.role.Role.TheVariants as roles
-use Rattle.ados_check.specs.declared.mark.Mark.{Mark}
-use Rattle.ados_check.specs.Marks.{IsMarkedEntry}
 use Rattle.ados_check.proofs.MarkLemmas.{marked_within}
 use Rattle.ados_check.proofs.Roles.{IsMarkedFile}
 

@@ -1,20 +1,9 @@
 -- The steps of the walk: a block is taken, its longs are visited one by one, and it is done.
-use Rattle.std.proofs.Common.{◌≡◌, ◌≢◌, ◌↔◌, ℕ, ◌+◌, ◌<◌, ◌≤◌, inl, inr, List, [], ◌∷◌, ◌++◌, length, replicate, Contains, Option, None, Some, refl, sym, ap, ◌∙◌, subst, arith}
-use Rattle.std.proofs.lemmas.List.{length-append, length-replicate}
-use Rattle.std.proofs.Math.ListN.{set}
-use Rattle.std.proofs.lemmas.Bool.{cases_eq, cases_lt}
-use Rattle.adf_block.specs.Image.{block_count, page_count, long}
-use Rattle.ados_model.specs.declared.role.Role.{Role}
-use Rattle.ados_model.specs.declared.role.Role.TheVariants.{Root}
-use Rattle.ados_model.specs.Faults.{InImage, IsPlace, PlaceNames, IsUsedTwice, HasBadPointer, root_of}
-use Rattle.ados_model.specs.Faults.Reached.{start, named}
+use Rattle.ados_check.proofs.Common.{◌≡◌, ◌≢◌, ◌↔◌, ℕ, ◌+◌, ◌<◌, ◌≤◌, inl, inr, List, [], ◌∷◌, ◌++◌, length, replicate, Contains, Option, None, Some, refl, sym, ap, ◌∙◌, subst, arith, length-append, length-replicate, set, cases_eq, cases_lt, block_count, page_count, long, Role, Root, InImage, IsPlace, PlaceNames, IsUsedTwice, HasBadPointer, root_of, start, named, outside, Reached, Mark, mark_at, IsSound, root_mark, unmarked, work, ArePending, IsBetween, IsInHand, IsLeft}
+use Rattle.std.proofs.lemmas.List.Elements.{Contains-append_left, Contains-push, Contains-push_cases}
+use Rattle.ados_model.proofs.KeyLists.{Once-before, Once-front}
 use Rattle.ados_model.specs.Faults.IsUsedTwice.{two_holders, two_longs, root_named}
-use Rattle.ados_model.specs.Faults.HasBadPointer.{outside}
-use Rattle.ados_model.specs.Faults.{Reached}
-use Rattle.ados_check.specs.declared.mark.Mark.{Mark}
-use Rattle.ados_check.specs.Marks.{mark_at, IsSound}
-use Rattle.ados_check.specs.steps.Reaching.{root_mark, unmarked, work, ArePending, IsBetween, IsInHand, IsLeft}
-use Rattle.ados_check.proofs.MarkLemmas.{IsMarkedMore, marked_more, in_pushed, pushed_has_old, pushed_has_new, once_pushed, once_rest, last_not_in_rest, none_marked, all_unmarked}
+use Rattle.ados_check.proofs.MarkLemmas.{IsMarkedMore, marked_more, once_pushed, none_marked, all_unmarked}
 use Rattle.ados_check.proofs.Paths.{mark_of}
 use Rattle.ados_check.proofs.PlaceLemmas.{place_within}
 use Rattle.ados_check.proofs.ReachMoves.{in_hand, with_left, gone_through}
@@ -26,8 +15,8 @@ fresh marks block other mark none e z = let h : None ≡ Some mark = sym none �
 -- the pending blocks without the last
 without_last : (image : List ℕ) (marks : List (Option Mark)) (rest : List ℕ) (block : ℕ) → ArePending image marks (rest ++ block ∷ []) → ArePending image marks rest
 without_last image marks rest block waiting = record {
-  marked = λ other q. waiting.marked other (pushed_has_old rest block other q);
-  once = once_rest rest block waiting.once;
+  marked = λ other q. waiting.marked other (Contains-append_left rest (block ∷ []) other q);
+  once = Once-front rest (block ∷ []) waiting.once;
   room = omega (arith, waiting.room, length-append rest (block ∷ []));
 }
 
@@ -71,17 +60,17 @@ module _ (image : List ℕ) (marks new : List (Option Mark)) (pending : List ℕ
   not_pending q = let old = h.waiting.marked (long image hand i) q in fresh marks (long image hand i) (long image hand i) old.0 more.was old.1 refl
 
   not_left : ¬ IsLeft (pending ++ long image hand i ∷ []) hand (i + 1) hand i
-  not_left (inl q) = elim (in_pushed pending (long image hand i) hand q) [ inl old ↦ h.beside old | inr z ↦ not_hand z ]
+  not_left (inl q) = elim (Contains-push_cases pending (long image hand i) hand q) [ inl old ↦ h.beside old | inr z ↦ not_hand (sym z) ]
   not_left (inr a) = absurd (omega (arith, a.1))
 
   agree : (block j : ℕ) → block ≢ long image hand i → ¬ ((block ≡ hand) × (j ≡ i)) → IsLeft pending hand i block j ↔ IsLeft (pending ++ long image hand i ∷ []) hand (i + 1) block j
   agree block j ne other = (
     λ l. elim l [
-      | inl q ↦ inl (pushed_has_old pending (long image hand i) block q)
+      | inl q ↦ inl (Contains-append_left pending (long image hand i ∷ []) block q)
       | inr a ↦ elim (cases_eq j i) [ inl z ↦ absurd (other (a.0, z)) | inr apart ↦ inr (a.0, omega (arith, a.1, apart)) ]
     ],
     λ l. elim l [
-      | inl q ↦ elim (in_pushed pending (long image hand i) block q) [ inl old ↦ inl old | inr z ↦ absurd (ne z) ]
+      | inl q ↦ elim (Contains-push_cases pending (long image hand i) block q) [ inl old ↦ inl old | inr z ↦ absurd (ne (sym z)) ]
       | inr a ↦ inr (a.0, omega (arith, a.1))
     ],
   )
@@ -94,9 +83,9 @@ module _ (image : List ℕ) (marks new : List (Option Mark)) (pending : List ℕ
 
   waiting_more : ArePending image new (pending ++ long image hand i ∷ [])
   waiting_more = record {
-    marked = λ block q. elim (in_pushed pending (long image hand i) block q) [
+    marked = λ block q. elim (Contains-push_cases pending (long image hand i) block q) [
       | inl old ↦ let was = h.waiting.marked block old in (was.0, still_marked block was.0 was.1)
-      | inr z ↦ (mark_of next hand i, ap (mark_at new) z ∙ more.is)
+      | inr z ↦ (mark_of next hand i, ap (mark_at new) (sym z) ∙ more.is)
     ];
     once = once_pushed pending (long image hand i) h.waiting.once not_pending;
     room = omega (arith, length_pushed, more.fewer, h.waiting.room);
@@ -107,11 +96,11 @@ module _ (image : List ℕ) (marks new : List (Option Mark)) (pending : List ℕ
     mark = h.mark;
     held = still_marked hand h.mark h.held;
     of_role = h.of_role;
-    beside = λ q. elim (in_pushed pending (long image hand i) hand q) [ inl old ↦ h.beside old | inr z ↦ not_hand z ];
+    beside = λ q. elim (Contains-push_cases pending (long image hand i) hand q) [ inl old ↦ h.beside old | inr z ↦ not_hand (sym z) ];
     but = gone_through image marks new (IsLeft pending hand i) (IsLeft (pending ++ long image hand i ∷ []) hand (i + 1)) hand i h.mark next h.but h.held
         (subst (λ (r : Role). IsPlace image hand r i next) (sym h.of_role) place)
         (λ other p. only other (subst (λ (r : Role). IsPlace image hand r i other) h.of_role p))
-        within sound more not_left (λ j. inl (pushed_has_new pending (long image hand i))) agree (inr (refl, omega arith));
+        within sound more not_left (λ j. inl (Contains-push pending (long image hand i))) agree (inr (refl, omega arith));
     waiting = waiting_more;
   }
 
@@ -144,13 +133,13 @@ not_waiting image marks pending block hand from role mark at none h = record {
   mark = h.mark;
   held = h.held;
   of_role = h.of_role;
-  beside = λ q. h.beside (pushed_has_old pending block hand q);
+  beside = λ q. h.beside (Contains-append_left pending (block ∷ []) hand q);
   but = with_left image marks (IsLeft (pending ++ block ∷ []) hand from) (IsLeft pending hand from) (λ other i m next e p. (
     λ l. elim l [
-      | inl q ↦ elim (in_pushed pending block other q) [ inl old ↦ inl old | inr z ↦ absurd (none i next (in_hand image marks block i other i mark m next at e z refl p)) ]
+      | inl q ↦ elim (Contains-push_cases pending block other q) [ inl old ↦ inl old | inr z ↦ absurd (none i next (in_hand image marks block i other i mark m next at e (sym z) refl p)) ]
       | inr a ↦ inr a
     ],
-    λ l. elim l [ inl q ↦ inl (pushed_has_old pending block other q) | inr a ↦ inr a ],
+    λ l. elim l [ inl q ↦ inl (Contains-append_left pending (block ∷ []) other q) | inr a ↦ inr a ],
   )) h.but;
   waiting = without_last image marks pending block h.waiting;
 }
@@ -173,12 +162,12 @@ module _ (image : List ℕ) (marks : List (Option Mark)) where
     mark = mark;
     held = e;
     of_role = refl;
-    beside = last_not_in_rest rest block b.waiting.once;
+    beside = Once-before rest block [] b.waiting.once;
     but = with_left image marks (λ other i. Contains (rest ++ block ∷ []) other) (IsLeft rest block 6) (λ other i m next at p. (
-      λ l. elim (in_pushed rest block other l) [ inl old ↦ inl old | inr z ↦ inr (z, (place_within p pages).0) ],
+      λ l. elim (Contains-push_cases rest block other l) [ inl old ↦ inl old | inr z ↦ inr (sym z, (place_within p pages).0) ],
       λ l. elim l [
-        | inl q ↦ pushed_has_old rest block other q
-        | inr a ↦ subst (λ (x : ℕ). Contains (rest ++ block ∷ []) x) (sym a.0) (pushed_has_new rest block)
+        | inl q ↦ Contains-append_left rest (block ∷ []) other q
+        | inr a ↦ subst (λ (x : ℕ). Contains (rest ++ block ∷ []) x) (sym a.0) (Contains-push rest block)
       ],
     )) b.but;
     waiting = without_last image marks rest block b.waiting;
@@ -251,9 +240,9 @@ module _ (image : List ℕ) (n : ℕ) (new : List (Option Mark)) (size : n ≡ b
       marked = λ block i mark next e p not_left. absurd (not_left (root_pending block mark e));
     };
     waiting = record {
-      marked = λ block q. elim (in_pushed [] (root_of image) block q) [
+      marked = λ block q. elim (Contains-push_cases [] (root_of image) block q) [
         | inl old ↦ absurd (omega (arith, old.1))
-        | inr z ↦ (root_mark, ap (mark_at new) z ∙ more.is)
+        | inr z ↦ (root_mark, ap (mark_at new) (sym z) ∙ more.is)
       ];
       once = λ i j d l below. absurd (omega (arith, l, below));
       room = omega (arith, more.fewer, all_unmarked n, size);

@@ -1,19 +1,9 @@
 -- The text of a block's name, and why a text is not a name.
-use Rattle.std.proofs.Common.{◌≡◌, ℕ, ◌+◌, ◌-◌, ◌*◌, ◌<◌, ◌≤◌, ◌⊎◌, inl, inr, ◌==◌, ◌||◌, Bool, true, List, length, take, drop, Some, Contains, refl, sym, ap, ap₂, ◌∙◌, subst, arith}
-use Rattle.std.specs.List.{list_any}
-use Rattle.std.proofs.lemmas.Bool.{cases_Bool, eqb-true}
-use Rattle.std.proofs.lemmas.List.{length-take, length-drop, drop-drop, drop-take, take-take}
-use Rattle.std.proofs.lemmas.List.Elements.{All-contains}
-use Rattle.std.proofs.lemmas.List.Folds.{Any-from_list_any}
-use Rattle.adf_block.specs.Image.{byte_at, bytes_at, block_count}
-use Rattle.adf_block.specs.Whole.{text_at}
-use Rattle.adf_block.specs.declared.layout.TheConstants.{NAME_BYTE}
+use Rattle.ados_check.proofs.Common.{◌≡◌, ℕ, ◌+◌, ◌-◌, ◌*◌, ◌<◌, ◌≤◌, ◌⊎◌, inl, inr, ◌==◌, ◌||◌, Bool, true, List, length, take, drop, Some, Contains, refl, sym, ap, ap₂, ◌∙◌, subst, arith, list_any, cases_Bool, eqb-true, drop-drop, drop-take, take-take, All-contains, Any-from_list_any, byte_at, bytes_at, block_count, text_at, NAME_BYTE, IsName, IsNameByte, is_separator, HasName, HasBadName, HasShortName, HasValidName}
+use Rattle.std.proofs.lemmas.List.{length-take, length-drop}
 use Rattle.ados_name.specs.declared.NameFault.{NameFault}
-use Rattle.ados_name.specs.Name.{IsName, IsNameByte, is_separator}
 use Rattle.ados_name.specs.Fault.{first_fault}
-use Rattle.ados_model.specs.Faults.{HasName, HasBadName, HasShortName}
 use Rattle.ados_model.specs.Faults.HasBadName.{empty, long_name, slash, colon}
-use Rattle.ados_check.specs.Marks.{HasValidName}
 
 -- the bytes after the length byte, read from a whole block
 pub text_is : (image : List ℕ) (block len : ℕ) (bytes : List ℕ) → bytes ≡ bytes_at image block 0 512 → len ≡ byte_at image block 432 → len ≤ 30 → take (433 + len - 433) (drop 433 bytes) ≡ text_at image block NAME_BYTE

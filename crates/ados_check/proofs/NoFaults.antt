@@ -1,25 +1,9 @@
 -- A checked image shows no fault, except possibly in a valid bitmap.
-use Rattle.std.proofs.Common.{◌≡◌, ℕ, ◌⊎◌, inl, inr, List, Contains, Option, Some, refl, sym, ap, ◌∙◌, subst, arith}
-use Rattle.std.proofs.lemmas.List.Elements.{All-contains}
-use Rattle.adf_block.specs.Fields.{secondary_type, format_of}
-use Rattle.adf_block.specs.declared.layout.TheConstants.{FILE_TYPE, NAME_BYTE}
-use Rattle.adf_block.specs.Whole.{text_at, IsImage}
-use Rattle.ados_model.specs.Tree.{data_count}
-use Rattle.ados_model.specs.File.{data_blocks, extension_blocks, contents}
-use Rattle.ados_name.specs.Name.{IsNameByte}
+use Rattle.ados_check.proofs.Common.{◌≡◌, ℕ, ◌⊎◌, inl, inr, List, Contains, Option, Some, refl, sym, ap, ◌∙◌, subst, arith, All-contains, secondary_type, format_of, FILE_TYPE, NAME_BYTE, text_at, IsImage, data_count, data_blocks, extension_blocks, contents, IsNameByte, Role, ShowsNoFault, IsEntry, IsLinkType, IsPlace, PlaceNames, Reached, HasName, root_of, start, HasValidBitmap, IsWhole, is_dos, is_known, Mark, mark_at, HasValidName, IsSound, IsSoundRoot, IsMarkedEntry, IsChecked}
 use Rattle.ados_model.specs.declared.fault.FaultKind.TheVariants.{NotADosDisk, UnsupportedKind, BadSum, BadType, BadOwnKey, BadParent, BadPointer, BlockUsedTwice, WrongChain, BadName, DuplicateName, BadComment, BadCount, BadSequence, LinkEntry, MarkedFree, NoMemory}
-use Rattle.ados_model.specs.declared.role.Role.{Role}
 use Rattle.ados_model.specs.declared.role.Role.TheVariants as roles
-use Rattle.ados_model.specs.Accepted.{ShowsNoFault}
 use Rattle.ados_model.specs.Faults
-use Rattle.ados_model.specs.Faults.{IsEntry, IsLinkType, IsPlace, PlaceNames, Reached, HasName, root_of}
-use Rattle.ados_model.specs.Faults.Reached.{start}
-use Rattle.ados_model.specs.Rebuilt.{HasValidBitmap}
-use Rattle.ados_model.proofs.FileBlocks.{IsWhole}
 use Rattle.ados_model.proofs.FileFaults.{WholeFile, AreWhole, first_link, next_link, no_bad_sequence, no_bad_count}
-use Rattle.ados_model.proofs.NoFaults.{is_dos, is_known}
-use Rattle.ados_check.specs.declared.mark.Mark.{Mark}
-use Rattle.ados_check.specs.Marks.{mark_at, HasValidName, IsSound, IsSoundRoot, IsMarkedEntry, IsChecked}
 use Rattle.ados_check.proofs.Paths.{mark_of}
 use Rattle.ados_check.proofs.RolePlaces.{length-data_blocks, length-extension_blocks, length-contents, sound_file, marked_at, different_headers, file_at, reached_stands}
 use Rattle.ados_check.proofs.Roles.{IsMarkedFile, marked_inside, place_not_root, reached_marked}

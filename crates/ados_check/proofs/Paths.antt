@@ -1,10 +1,5 @@
 -- Linked lists of blocks, and their marks.
-use Rattle.std.proofs.Common.{◌≡◌, ◌≢◌, ℕ, zero, suc, ◌<◌, ◌⊎◌, inl, inr, ◌==◌, if◌then◌else◌, List, [], ◌∷◌, length, slice_index, Option, Some, refl, sym, ap, ◌∙◌, subst, arith, eq-eqb, ne_eqb}
-use Rattle.std.proofs.lemmas.Bool.{cases_eq}
-use Rattle.adf_block.specs.Image.{long, Chained}
-use Rattle.ados_model.specs.declared.role.Role.{Role}
-use Rattle.ados_check.specs.declared.mark.Mark.{Mark}
-use Rattle.ados_check.specs.Marks.{mark_at}
+use Rattle.ados_check.proofs.Common.{◌≡◌, ◌≢◌, ℕ, zero, suc, ◌<◌, ◌⊎◌, inl, inr, ◌==◌, if◌then◌else◌, List, [], ◌∷◌, length, slice_index, Option, Some, refl, sym, ap, ◌∙◌, subst, arith, eq-eqb, ne_eqb, cases_eq, long, Chained, Role, Mark, mark_at}
 use Rattle.ados_check.proofs.Counting.{AreDifferent, different_few}
 
 abbrev pub mark_of : Role → ℕ → ℕ → Mark

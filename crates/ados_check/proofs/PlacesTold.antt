@@ -1,10 +1,5 @@
 -- What a source has of a sound block.
-use Rattle.std.proofs.Common.{ℕ, inr, sym, ◌∙◌}
-use Rattle.ados_check.specs.Source.{SourceView, Tells}
-use Rattle.ados_model.specs.declared.role.Role.{Role}
-use Rattle.ados_model.specs.declared.role.Role.TheVariants.{Page, Data}
-use Rattle.ados_model.specs.Faults.{IsPlace}
-use Rattle.ados_check.specs.Marks.{IsSound}
+use Rattle.ados_check.proofs.Common.{ℕ, inr, sym, ◌∙◌, SourceView, Tells, Role, Page, Data, IsPlace, IsSound}
 
 -- a place of a sound block is available
 pub place_told : (source : SourceView) (block i : ℕ) (role next : Role) → IsPlace source.bytes block role i next → IsSound source.bytes block role → Tells source block i

@@ -1,17 +1,7 @@
 -- The data blocks in a file's pointers, if its counts are right.
-use Rattle.std.proofs.Common.{◌≡◌, ℕ, suc, ◌+◌, ◌-◌, ◌*◌, ◌/◌, ◌%◌, ◌<◌, ◌≤◌, ◌⊎◌, inl, inr, min, List, length, take, drop, map, slice_index, sym, ap, ap₂, ◌∙◌, subst, arith, le-leb}
-use Rattle.std.specs.List.{range_with_len}
-use Rattle.std.proofs.lemmas.Bool.{cases_lt}
-use Rattle.std.proofs.lemmas.List.{ext_get_or, length-take, length-drop, get_or-take, get_or-drop}
-use Rattle.std.proofs.lemmas.List.FromFn.{length-map-range_with_len, get_or-map-range_with_len}
-use Rattle.adf_block.specs.Image.{long}
-use Rattle.adf_block.specs.Fields.{pointer, pointer_count}
-use Rattle.adf_block.specs.declared.layout.TheConstants.{NEXT_EXTENSION}
-use Rattle.ados_model.specs.File.{pointer_block, data_block}
-use Rattle.ados_model.specs.Faults.{InImage, IsPointer, LinkedOnce, first_pointers, pointers_of, AreDataBlocks}
-use Rattle.ados_check.specs.steps.Files.{IsReachedFile, HasCounts}
+use Rattle.ados_check.proofs.Common.{◌≡◌, ℕ, suc, ◌+◌, ◌-◌, ◌*◌, ◌/◌, ◌%◌, ◌<◌, ◌≤◌, ◌⊎◌, inl, inr, min, List, length, take, drop, map, slice_index, sym, ap, ap₂, ◌∙◌, subst, arith, le-leb, range_with_len, cases_lt, ext_get_or, get_or-take, get_or-drop, length-map-range_with_len, get_or-map-range_with_len, long, pointer, pointer_count, NEXT_EXTENSION, pointer_block, data_block, InImage, IsPointer, LinkedOnce, first_pointers, pointers_of, AreDataBlocks, IsReachedFile, HasCounts, length-first_pointers, first_pointers-at, chunks}
+use Rattle.std.proofs.lemmas.List.{length-take, length-drop}
 use Rattle.ados_check.proofs.Headers.{within, not_zero, headers_upto, length-headers_upto, header-at}
-use Rattle.ados_model.proofs.FileBlocks.{length-first_pointers, first_pointers-at, chunks}
 
 -- ---- the blocks of a file
 

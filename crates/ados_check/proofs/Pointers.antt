@@ -1,9 +1,5 @@
 -- The pointers of a block, one more at a time.
-use Rattle.std.proofs.Common.{◌≡◌, ℕ, zero, suc, ◌<◌, ◌≤◌, List, [], ◌∷◌, length, slice_index, refl, ap, ◌∙◌, arith, le-leb}
-use Rattle.std.proofs.lemmas.List.{get_or_append_left, length_push}
-use Rattle.adf_block.specs.Image.{long}
-use Rattle.adf_block.specs.Fields.{pointer, pointer_count}
-use Rattle.ados_model.specs.Faults.{first_pointers, pointers_of}
+use Rattle.ados_check.proofs.Common.{◌≡◌, ℕ, zero, suc, ◌<◌, ◌≤◌, List, [], ◌∷◌, length, slice_index, refl, ap, ◌∙◌, arith, le-leb, get_or_append_left, length_push, long, pointer, pointer_count, first_pointers, pointers_of}
 
 -- after a list
 pub pointers_are : (image : List ℕ) (block : ℕ) → pointer_count image block ≤ 72 → pointers_of image block ≡ first_pointers image block (pointer_count image block)

@@ -1,24 +1,7 @@
 -- The tree of the marks is a proper one.
-use Rattle.std.proofs.Common.{◌≡◌, ◌≢◌, ℕ, ◌<◌, ◌≤◌, List, [], length, slice_index, AllPairs, Contains, Option, Some, refl, sym, ap, ◌∙◌, subst, arith}
-use Rattle.std.specs.Bool.{⊤}
-use Rattle.std.proofs.lemmas.List.{get_or_default}
-use Rattle.std.proofs.lemmas.List.Elements.{Contains-get_or}
-use Rattle.adf_block.specs.Whole.{IsImage, text_at, IsSize}
-use Rattle.adf_block.specs.Image.{block_count}
-use Rattle.adf_block.specs.declared.layout.TheConstants.{NAME_BYTE}
-use Rattle.ados_name.specs.Name.{Same, slot, IsName, IsComment}
-use Rattle.ados_model.specs.declared.role.Role.{Role}
+use Rattle.ados_check.proofs.Common.{◌≡◌, ◌≢◌, ℕ, ◌<◌, ◌≤◌, List, [], length, slice_index, AllPairs, Contains, Option, Some, refl, sym, ap, ◌∙◌, subst, arith, ⊤, get_or_default, Contains-get_or, IsImage, text_at, IsSize, block_count, NAME_BYTE, Same, slot, IsName, IsComment, Role, Node, Tree, Proper, LeadsToRoot, entries, name_of, parent_of, name_in, in_slot, InImage, Reached, root_of, root_page, root_slot, directory_slot, next_entry, start, named, joined, Mark, mark_at, IsChecked, IsSound, IsSoundRoot}
 use Rattle.ados_model.specs.declared.role.Role.TheVariants as roles
-use Rattle.ados_model.specs.Tree.{Node, Tree, Proper, LeadsToRoot, entries, name_of, parent_of}
-use Rattle.ados_model.specs.Parts.{name_in}
 use Rattle.ados_model.specs.Tree.LeadsToRoot.{at_root, by_parent}
-use Rattle.ados_model.specs.Stands.{in_slot}
-use Rattle.ados_model.specs.Faults.{InImage, Reached, root_of}
-use Rattle.ados_model.specs.Faults.IsPlace.{root_page, root_slot, directory_slot, next_entry}
-use Rattle.ados_model.specs.Faults.Reached.{start, named}
-use Rattle.ados_model.proofs.Lists.{joined}
-use Rattle.ados_check.specs.declared.mark.Mark.{Mark}
-use Rattle.ados_check.specs.Marks.{mark_at, IsChecked, IsSound, IsSoundRoot}
 use Rattle.ados_check.proofs.Joined.{place_of, Contains-joined, part_of_joined, AllPairs-joined, filter-joined}
 use Rattle.ados_check.proofs.Paths.{mark_of}
 use Rattle.ados_check.proofs.Roles.{IsMarkedDirectory, reached_marked, marked_inside, root_role}

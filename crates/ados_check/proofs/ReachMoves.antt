@@ -1,13 +1,5 @@
 -- The steps of the walk on marks and pending blocks.
-use Rattle.std.proofs.Common.{◌≡◌, ◌≢◌, ◌↔◌, ℕ, ◌⊎◌, inl, inr, List, Option, None, Some, refl, sym, ap, ◌∙◌, subst}
-use Rattle.std.proofs.lemmas.Bool.{cases_eq}
-use Rattle.adf_block.specs.Image.{long}
-use Rattle.ados_model.specs.declared.role.Role.{Role}
-use Rattle.ados_model.specs.Faults.{InImage, IsPlace, Reached, root_of}
-use Rattle.ados_model.specs.Faults.Reached.{named}
-use Rattle.ados_check.specs.declared.mark.Mark.{Mark}
-use Rattle.ados_check.specs.Marks.{mark_at, IsSound}
-use Rattle.ados_check.specs.steps.Reaching.{root_mark, IsNoted, AreReachedBut}
+use Rattle.ados_check.proofs.Common.{◌≡◌, ◌≢◌, ◌↔◌, ℕ, ◌⊎◌, inl, inr, List, Option, None, Some, refl, sym, ap, ◌∙◌, subst, cases_eq, long, Role, InImage, IsPlace, Reached, root_of, named, Mark, mark_at, IsSound, root_mark, IsNoted, AreReachedBut}
 use Rattle.ados_check.proofs.MarkLemmas.{IsMarkedMore}
 use Rattle.ados_check.proofs.Paths.{mark_of}
 

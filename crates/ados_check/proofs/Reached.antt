@@ -1,22 +1,9 @@
 -- The blocks of a marked file are reached, inside the image and sound.
-use Rattle.std.proofs.Common.{◌≡◌, ◌≢◌, ℕ, zero, suc, ◌-◌, ◌<◌, ◌≤◌, List, ◌∷◌, length, slice_index, Option, Some, refl, sym, ap, ◌∙◌, subst, arith}
-use Rattle.std.proofs.lemmas.List.{get_or_past}
-use Rattle.adf_block.specs.Whole.{IsImage}
-use Rattle.adf_block.specs.Image.{block_count, long, Chained}
-use Rattle.adf_block.specs.Fields.{pointer}
-use Rattle.adf_block.specs.declared.layout.TheConstants.{NEXT_EXTENSION}
-use Rattle.ados_model.specs.File.{pointer_block}
-use Rattle.ados_data.proofs.Chains.{next_of}
-use Rattle.ados_model.specs.declared.role.Role.{Role}
+use Rattle.ados_check.proofs.Common.{◌≡◌, ◌≢◌, ℕ, zero, suc, ◌-◌, ◌<◌, ◌≤◌, List, ◌∷◌, length, slice_index, Option, Some, refl, sym, ap, ◌∙◌, subst, arith, get_or_past, IsImage, block_count, long, Chained, pointer, NEXT_EXTENSION, pointer_block, next_of, Role, InImage, IsPlace, IsPointer, Reached, header_pointer, first_extension, extension_pointer, further_extension, Mark, mark_at, AreReached, IsSound, IsSoundEntry, IsReachedFile}
 use Rattle.ados_model.specs.declared.role.Role.TheVariants as roles
-use Rattle.ados_model.specs.Faults.{InImage, IsPlace, IsPointer, Reached}
-use Rattle.ados_model.specs.Faults.IsPlace.{header_pointer, first_extension, extension_pointer, further_extension}
-use Rattle.ados_check.specs.declared.mark.Mark.{Mark}
-use Rattle.ados_check.specs.Marks.{mark_at, AreReached, IsSound, IsSoundEntry}
 use Rattle.ados_check.proofs.Paths.{mark_of, IsPath, follow, follow-path, follow-chained, holder_along, long_along, AreMarkedAlong, marked_along, once_along}
 use Rattle.ados_check.proofs.Counting.{AreDifferent}
 use Rattle.ados_check.proofs.Roles.{IsMarkedFile, marked_inside}
-use Rattle.ados_check.specs.steps.Files.{IsReachedFile}
 
 -- the extension blocks of a file, along their links
 unfoldable extensions_of : List ℕ → ℕ → List ℕ

@@ -1,12 +1,5 @@
 -- Reads at the position of a kept block.
-use Rattle.std.proofs.Common.{◌≡◌, ◌≢◌, ℕ, ◌+◌, ◌*◌, ◌<◌, ◌≤◌, inl, inr, List, length, take, drop, get_or, slice_index, Option, None, Some, MatchOption, arith, ap, sym, ◌∙◌, subst, length-take, length-drop}
-use Rattle.std.proofs.lemmas.List.{get_or-take, get_or-drop, get_or_default, same_lists}
-use Rattle.byteorder.specs.Endian.{big_number}
-use Rattle.adf_block.specs.Image.{byte_at, bytes_at, long, block_sum, block_count}
-use Rattle.adf_block.proofs.Longs.{long-bytes}
-use Rattle.adf_block.proofs.Blocks.{byte-bytes_at}
-use Rattle.ados_check.specs.Keeping.{AreKept, HasBoot, StandsAt, kept_length, start_of}
-use Rattle.ados_check.specs.Source.{IsKept}
+use Rattle.ados_check.proofs.Common.{◌≡◌, ◌≢◌, ℕ, ◌+◌, ◌*◌, ◌<◌, ◌≤◌, inl, inr, List, length, take, drop, get_or, slice_index, Option, None, Some, MatchOption, arith, ap, sym, ◌∙◌, subst, length-take, length-drop, get_or-take, get_or-drop, get_or_default, same_lists, big_number, byte_at, bytes_at, long, block_sum, block_count, long-bytes, byte-bytes_at, AreKept, HasBoot, StandsAt, kept_length, start_of, IsKept}
 use Rattle.ados_check.proofs.KeptLengths.{of_other, within}
 
 -- a long of a list that is one block

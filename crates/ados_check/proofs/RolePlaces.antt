@@ -1,24 +1,6 @@
 -- The blocks of each role in order, and the marks with the places that name them.
-use Rattle.std.proofs.Common.{◌≡◌, ◌≢◌, ℕ, zero, suc, ◌+◌, ◌-◌, ◌*◌, ◌/◌, ◌%◌, ◌<◌, ◌≤◌, inl, inr, List, [], ◌∷◌, length, map, slice_index, Option, Some, refl, sym, ap, ap₂, ◌∙◌, subst, arith}
-use Rattle.std.specs.Bool.{⊤}
-use Rattle.std.specs.List.{range_with_len}
-use Rattle.std.proofs.lemmas.List.{get_or-take}
-use Rattle.std.proofs.lemmas.List.FromFn.{length-map-range_with_len, get_or-map-range_with_len}
-use Rattle.adf_block.specs.Whole.{IsImage}
-use Rattle.adf_block.specs.Image.{block_count, page_count, long, byte_at, bytes_at, Chained}
-use Rattle.adf_block.specs.Fields.{table_entry, pointer, pointer_count, secondary_type, file_size, format_of}
-use Rattle.adf_block.specs.declared.layout.TheConstants.{FILE_TYPE, NEXT_IN_CHAIN, NEXT_EXTENSION}
-use Rattle.adf_block.proofs.Longs.{long-bytes}
-use Rattle.ados_model.specs.Tree.{data_count, extension_count}
-use Rattle.ados_model.specs.File.{data_blocks, extension_blocks, contents}
-use Rattle.ados_model.specs.declared.role.Role.{Role}
+use Rattle.ados_check.proofs.Common.{◌≡◌, ◌≢◌, ℕ, zero, suc, ◌+◌, ◌-◌, ◌*◌, ◌/◌, ◌%◌, ◌<◌, ◌≤◌, inl, inr, List, [], ◌∷◌, length, map, slice_index, Option, Some, refl, sym, ap, ap₂, ◌∙◌, subst, arith, ⊤, range_with_len, get_or-take, length-map-range_with_len, get_or-map-range_with_len, IsImage, block_count, page_count, long, byte_at, bytes_at, Chained, table_entry, pointer, pointer_count, secondary_type, file_size, format_of, FILE_TYPE, NEXT_IN_CHAIN, NEXT_EXTENSION, long-bytes, data_count, extension_count, data_blocks, extension_blocks, contents, Role, IsPlace, Reached, IsPointer, root_of, root_page, root_slot, directory_slot, next_entry, header_pointer, first_extension, extension_pointer, further_extension, start, named, Chained-first, Chained-more, Mark, mark_at, IsChecked, IsSoundFile}
 use Rattle.ados_model.specs.declared.role.Role.TheVariants as roles
-use Rattle.ados_model.specs.Faults.{IsPlace, Reached, IsPointer, root_of}
-use Rattle.ados_model.specs.Faults.IsPlace.{root_page, root_slot, directory_slot, next_entry, header_pointer, first_extension, extension_pointer, further_extension}
-use Rattle.ados_model.specs.Faults.Reached.{start, named}
-use Rattle.ados_model.proofs.Standing.{Chained-first, Chained-more}
-use Rattle.ados_check.specs.declared.mark.Mark.{Mark}
-use Rattle.ados_check.specs.Marks.{mark_at, IsChecked, IsSoundFile}
 use Rattle.ados_check.proofs.Counting.{AreDifferent}
 use Rattle.ados_check.proofs.Paths.{mark_of, IsPath, follow, follow-path, follow-chained, chained_path, holder_along, long_along, AreMarkedAlong, marked_along, once_along}
 use Rattle.ados_check.proofs.Roles.{IsMarkedDirectory, as_root, as_entry, IsMarkedFile, marked_inside}

@@ -1,16 +1,5 @@
 -- The marks of the reached blocks.
-use Rattle.std.proofs.Common.{◌≡◌, ◌≢◌, ℕ, List, Option, Some, refl, sym, ap, ◌∙◌, subst, arith}
-use Rattle.adf_block.specs.Whole.{IsImage}
-use Rattle.adf_block.specs.Image.{block_count}
-use Rattle.adf_block.specs.Fields.{secondary_type}
-use Rattle.ados_model.specs.declared.role.Role.{Role}
-use Rattle.ados_model.specs.declared.role.Role.TheVariants.{Root, Entry}
-use Rattle.adf_block.specs.declared.layout.TheConstants.{FILE_TYPE}
-use Rattle.ados_model.specs.Faults.{InImage, IsPlace, Reached, root_of}
-use Rattle.ados_model.specs.Faults.IsPlace.{root_page}
-use Rattle.ados_model.specs.Faults.Reached.{start, named}
-use Rattle.ados_check.specs.declared.mark.Mark.{Mark}
-use Rattle.ados_check.specs.Marks.{mark_at, AreReached}
+use Rattle.ados_check.proofs.Common.{◌≡◌, ◌≢◌, ℕ, List, Option, Some, refl, sym, ap, ◌∙◌, subst, arith, IsImage, block_count, secondary_type, Role, Root, Entry, FILE_TYPE, InImage, IsPlace, Reached, root_of, root_page, start, named, Mark, mark_at, AreReached}
 use Rattle.ados_check.proofs.Paths.{mark_of}
 
 -- no place names the root

@@ -1,26 +1,12 @@
 -- What a broken rule shows, and that a block which breaks none is sound.
-use Rattle.std.proofs.Common.{◌≡◌, ◌≢◌, ℕ, ◌+◌, ◌<◌, ◌≤◌, inl, inr, ◌==◌, List, All, Contains, refl, subst, arith, eq-eqb}
-use Rattle.std.proofs.lemmas.Bool.{cases_Bool, eqb-true}
-use Rattle.std.proofs.lemmas.List.Elements.{Contains-get_or}
-use Rattle.adf_block.specs.Image.{block_count, byte_at}
-use Rattle.adf_block.specs.Fields.{secondary_type}
-use Rattle.adf_block.specs.Whole.{IsImage, text_at}
-use Rattle.adf_block.specs.declared.layout.TheConstants.{COMMENT_BYTE, DIRECTORY_TYPE, FILE_TYPE, NAME_BYTE}
+use Rattle.ados_check.proofs.Common.{◌≡◌, ◌≢◌, ℕ, ◌+◌, ◌<◌, ◌≤◌, inl, inr, ◌==◌, List, All, Contains, refl, subst, arith, eq-eqb, cases_Bool, eqb-true, Contains-get_or, block_count, byte_at, secondary_type, IsImage, text_at, COMMENT_BYTE, DIRECTORY_TYPE, FILE_TYPE, NAME_BYTE, HasBadName, HasName, IsFile, Reached, Shows, Role, Root, Page, Entry, Data, Extension, HasEntryType, HasValidName, IsSound, HasBadField, HasBadSumAs, HasBadTypeAs, HasNoType, kind_of, FieldRule, NoLink, OwnKey, Parent, Name, Chain, Comment, PointerCount, FirstData, FIELD_RULES}
 use Rattle.ados_model.specs.Faults
-use Rattle.ados_model.specs.Faults.{HasBadName, HasName, IsFile, Reached, Shows}
 use Rattle.ados_model.specs.Faults.HasName.{root_name, entry_name}
 use Rattle.ados_model.specs.Faults.HasBadType.{root_primary, root_table, root_secondary, entry_primary, entry_secondary, extension_primary, extension_secondary, data_primary}
 use Rattle.ados_model.specs.Faults.HasBadOwnKey.{entry_key, extension_key}
 use Rattle.ados_model.specs.Faults.HasBadParent.{root_parent, entry_parent, extension_file, data_file}
 use Rattle.ados_model.specs.Faults.HasBadComment.{directory_comment, file_comment}
 use Rattle.ados_model.specs.Faults.HasPointers.{file_pointers, extension_pointers}
-use Rattle.ados_model.specs.declared.role.Role.{Role}
-use Rattle.ados_model.specs.declared.role.Role.TheVariants.{Root, Page, Entry, Data, Extension}
-use Rattle.ados_check.specs.Marks.{HasEntryType, HasValidName, IsSound}
-use Rattle.ados_check.specs.Rules.{HasBadField, HasBadSumAs, HasBadTypeAs, HasNoType, kind_of}
-use Rattle.ados_check.specs.declared.rules.FieldRule.{FieldRule}
-use Rattle.ados_check.specs.declared.rules.FieldRule.TheVariants.{NoLink, OwnKey, Parent, Name, Chain, Comment, PointerCount, FirstData}
-use Rattle.ados_check.specs.declared.rules.TheConstants.{FIELD_RULES}
 use Rattle.ados_check.proofs.NameLemmas.{length_text, valid_name}
 use Rattle.ados_check.proofs.Roles.{only_root}
 use Rattle.ados_check.proofs.Texts.{bytes_at-small}

@@ -1,19 +1,5 @@
 -- A file is sound if its counts and size are right and, in OFS, the links of its data blocks.
-use Rattle.std.proofs.Common.{◌≡◌, ◌≢◌, ne_eqb, ℕ, zero, suc, ◌+◌, ◌-◌, ◌*◌, ◌/◌, ◌%◌, ◌<◌, ◌≤◌, ◌⊎◌, inl, inr, min, List, ◌∷◌, length, map, slice_index, refl, sym, ap, ◌∙◌, subst, arith}
-use Rattle.std.specs.List.{range_with_len}
-use Rattle.std.proofs.lemmas.Bool.{cases_lt}
-use Rattle.std.proofs.lemmas.List.{get_or_past}
-use Rattle.std.proofs.lemmas.List.FromFn.{length-map-range_with_len, get_or-map-range_with_len}
-use Rattle.adf_block.specs.declared.layout.Format.TheVariants.{Ofs, Ffs}
-use Rattle.adf_block.specs.Image.{byte_at, long}
-use Rattle.adf_block.specs.Fields.{pointer, pointer_count, file_size, format_of}
-use Rattle.adf_block.specs.declared.layout.TheConstants.{NEXT_EXTENSION}
-use Rattle.ados_model.specs.Tree.{data_count, extension_count}
-use Rattle.ados_model.specs.Stands.{HasExtension, HasOfsData}
-use Rattle.ados_model.specs.File.{file_byte, pointer_block, data_block, data_blocks, extension_blocks, contents}
-use Rattle.ados_data.proofs.Chains.{chained}
-use Rattle.ados_check.specs.Marks.{IsSoundFile}
-use Rattle.ados_check.specs.steps.Files.{IsReachedFile, HasCounts, IsLinked}
+use Rattle.ados_check.proofs.Common.{◌≡◌, ◌≢◌, ne_eqb, ℕ, zero, suc, ◌+◌, ◌-◌, ◌*◌, ◌/◌, ◌%◌, ◌<◌, ◌≤◌, ◌⊎◌, inl, inr, min, List, ◌∷◌, length, map, slice_index, refl, sym, ap, ◌∙◌, subst, arith, range_with_len, cases_lt, get_or_past, length-map-range_with_len, get_or-map-range_with_len, Ofs, Ffs, byte_at, long, pointer, pointer_count, file_size, format_of, NEXT_EXTENSION, data_count, extension_count, HasExtension, HasOfsData, file_byte, pointer_block, data_block, data_blocks, extension_blocks, contents, chained, IsSoundFile, IsReachedFile, HasCounts, IsLinked}
 use Rattle.ados_check.proofs.Pointed.{blocks_upto, length-blocks_upto, block-at, same_extensions, counted}
 use Rattle.ados_check.proofs.RolePlaces.{length-contents}
 

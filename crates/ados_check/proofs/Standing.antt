@@ -1,24 +1,7 @@
 -- An image with sound marks and a valid bitmap represents the tree of the marks.
-use Rattle.std.proofs.Common.{◌≡◌, ◌≢◌, ℕ, ◌<◌, ◌⊎◌, inl, inr, List, [], length, slice_get, Contains, Option, Some, None, IsSome, refl, sym, ap, ap₂, ◌∙◌, subst, arith, eq-eqb, ne_eqb}
-use Rattle.std.proofs.lemmas.Bool.{false≢true, false_from_ne_true}
-use Rattle.adf_block.specs.Whole.{IsImage, HasFreeBit}
-use Rattle.adf_block.specs.Image.{block_sum, has_free_bit, Chained}
-use Rattle.adf_block.specs.Fields.{table_entry, secondary_type, format_of}
-use Rattle.adf_block.specs.declared.layout.TheConstants.{FILE_TYPE, NEXT_IN_CHAIN}
-use Rattle.ados_model.specs.Tree.{data_count, extension_count, Content, Node, Tree, content_at}
-use Rattle.ados_model.specs.Parts.{size_in}
-use Rattle.ados_model.specs.Stands.{HasFile, Layout, Duty, HasDuty, Named, Fits, Stands, HasNode, HasEntry, HasRoot, type_of, in_slot}
-use Rattle.ados_model.specs.File.{data_blocks, extension_blocks}
-use Rattle.ados_model.specs.declared.role.Role.{Role}
+use Rattle.ados_check.proofs.Common.{◌≡◌, ◌≢◌, ℕ, ◌<◌, ◌⊎◌, inl, inr, List, [], length, slice_get, Contains, Option, Some, None, IsSome, refl, sym, ap, ap₂, ◌∙◌, subst, arith, eq-eqb, ne_eqb, false≢true, false_from_ne_true, IsImage, HasFreeBit, block_sum, has_free_bit, Chained, table_entry, secondary_type, format_of, FILE_TYPE, NEXT_IN_CHAIN, data_count, extension_count, Content, Node, Tree, content_at, size_in, HasFile, Layout, Duty, HasDuty, Named, Fits, Stands, HasNode, HasEntry, HasRoot, type_of, in_slot, data_blocks, extension_blocks, Role, Directory, File, InImage, root_of, HasValidBitmap, content_in, slice_get-index, Mark, mark_at, IsChecked, IsSound, IsSoundRoot}
 use Rattle.ados_model.specs.declared.role.Role.TheVariants as roles
-use Rattle.ados_model.specs.Tree.Content.{Directory, File}
-use Rattle.ados_model.specs.Faults.{InImage, root_of}
-use Rattle.ados_model.specs.Rebuilt.{HasValidBitmap}
-use Rattle.ados_model.proofs.Nodes.{content_in}
 use Rattle.ados_model.proofs.Counting.{no_data, slice_get-back}
-use Rattle.ados_model.proofs.Standing.{slice_get-index}
-use Rattle.ados_check.specs.declared.mark.Mark.{Mark}
-use Rattle.ados_check.specs.Marks.{mark_at, IsChecked, IsSound, IsSoundRoot}
 use Rattle.ados_check.proofs.Joined.{place_of}
 use Rattle.ados_check.proofs.Paths.{mark_of}
 use Rattle.ados_check.proofs.Roles.{marked_inside}
@@ -87,31 +70,23 @@ module _ (image : List ℕ) (marks : List (Option Mark)) (im : IsImage image) (c
       let at = marked_stands image marks im c block m e in
       at_place m.role at.0 at.1 (ap (λ (role : Role). duty_of role at.0) (sym is))
 
-  data_view : (block file i : ℕ) (o : Option Content) → content_at t file ≡ o → slice_get (data_in image file o) i ≡ Some block → DutyView block (Duty.Data file i)
-  data_view block file i None e h = absurd (cc h)
-  data_view block file i (Some (Directory keys)) e h = absurd (cc h)
-  data_view block file i (Some (File bytes)) e h =
+  -- the lists of a file
+  file_view : (block file i : ℕ) (o : Option Content) → content_at t file ≡ o → (slice_get (data_in image file o) i ≡ Some block → DutyView block (Duty.Data file i)) × (slice_get (extensions_in image file o) i ≡ Some block → DutyView block (Duty.Extension file i))
+  file_view block file i (Some (File bytes)) e =
       let n = content_in (t.nodes file) (File bytes) e in
-      let f = (file_content image marks c file n.0 bytes n.1 n.2).0 in
-      let back = slice_get-back (data_blocks image file) i block h in
-      at_place (roles.Data file) i (record { within = back.0; here = back.1; holder = f }) refl
-
-  extension_view : (block file i : ℕ) (o : Option Content) → content_at t file ≡ o → slice_get (extensions_in image file o) i ≡ Some block → DutyView block (Duty.Extension file i)
-  extension_view block file i None e h = absurd (cc h)
-  extension_view block file i (Some (Directory keys)) e h = absurd (cc h)
-  extension_view block file i (Some (File bytes)) e h =
-      let n = content_in (t.nodes file) (File bytes) e in
-      let f = (file_content image marks c file n.0 bytes n.1 n.2).0 in
-      let back = slice_get-back (extension_blocks image file) i block h in
-      at_place (roles.Extension file) i (record { within = back.0; here = back.1; holder = f }) refl
+      let f = (file_content image marks c file n.0 bytes n.1 n.2).0 in (
+        (λ h. let back = slice_get-back (data_blocks image file) i block h in at_place (roles.Data file) i (record { within = back.0; here = back.1; holder = f }) refl),
+        (λ h. let back = slice_get-back (extension_blocks image file) i block h in at_place (roles.Extension file) i (record { within = back.0; here = back.1; holder = f }) refl),
+      )
+  file_view block file i _ e = ((λ h. absurd (cc h)), (λ h. absurd (cc h)))
 
   duty_view : (block : ℕ) (duty : Duty) → HasDuty t l block duty → DutyView block duty
   duty_view block (Duty.Page i) h =
       let back = slice_get-back (pages_of image) i block h in
       at_place roles.Page i (record { within = back.0; here = back.1; holder = tt }) refl
   duty_view block Duty.Key h = let n = some_of (t.nodes block) h in key_view block n.0 (node_view image marks block n.0 n.1)
-  duty_view block (Duty.Data file i) h = data_view block file i (content_at t file) refl h
-  duty_view block (Duty.Extension file i) h = extension_view block file i (content_at t file) refl h
+  duty_view block (Duty.Data file i) h = (file_view block file i (content_at t file) refl).0 h
+  duty_view block (Duty.Extension file i) h = (file_view block file i (content_at t file) refl).1 h
   duty_view block Duty.Lost h = let n = some_of (t.lost block) h in of_lost (lost_view image marks block n.0 n.1).0 refl
 
   -- a block at a position is marked, a lost one is not

@@ -1,11 +1,5 @@
 -- The texts in the blocks of an image, and parts of blocks.
-use Rattle.std.proofs.Common.{◌≡◌, ℕ, ◌+◌, ◌*◌, ◌<◌, ◌≤◌, List, length, take, drop, slice_index, All, sym, ap, ◌∙◌, arith, length-take, length-drop}
-use Rattle.std.proofs.lemmas.List.{get_or-take, get_or-drop}
-use Rattle.std.proofs.lemmas.List.Elements.{All-from_get_or}
-use Rattle.adf_block.specs.Whole.{IsImage, text_at}
-use Rattle.adf_block.specs.Image.{block_count, byte_at, bytes_at, HasText}
-use Rattle.adf_block.specs.declared.layout.TheConstants.{COMMENT_BYTE}
-use Rattle.ados_name.specs.Name.{IsComment}
+use Rattle.ados_check.proofs.Common.{◌≡◌, ℕ, ◌+◌, ◌*◌, ◌<◌, ◌≤◌, List, length, take, drop, slice_index, All, sym, ap, ◌∙◌, arith, length-take, length-drop, get_or-take, get_or-drop, All-from_get_or, IsImage, text_at, block_count, byte_at, bytes_at, HasText, COMMENT_BYTE, IsComment}
 
 -- a part of a block has the requested number of bytes
 pub length-bytes_at : (image : List ℕ) (b i n : ℕ) → IsImage image → b < block_count image → i + n ≤ 512 → length (bytes_at image b i n) ≡ n

@@ -1,21 +1,7 @@
 -- The tree of an image with marks, and its nodes.
-use Rattle.std.proofs.Common.{◌≡◌, ◌≢◌, ℕ, ◌⊎◌, inl, inr, Bool, true, false, not, ◌&&◌, nat_le, nat_lt, ◌==◌, if◌then◌else◌, List, [], Contains, Option, Some, None, is_some, refl, sym, ap, ◌∙◌, subst, arith, eq-eqb, ne_eqb}
-use Rattle.std.proofs.lemmas.Bool.{cases_eq, cases_Bool, and_parts, leb-true, ltb-true, le-leb, lt-ltb, not-true}
-use Rattle.adf_block.specs.Image.{block_count, bytes_at, has_free_bit}
-use Rattle.adf_block.specs.Fields.{protection, secondary_type, format_of}
-use Rattle.adf_block.specs.Whole.{text_at}
-use Rattle.adf_block.specs.declared.layout.TheConstants.{COMMENT_BYTE, NAME_BYTE}
-use Rattle.ados_model.specs.File.{contents}
-use Rattle.ados_model.specs.declared.role.Role.{Role}
+use Rattle.ados_check.proofs.Common.{◌≡◌, ◌≢◌, ℕ, ◌⊎◌, inl, inr, Bool, true, false, not, ◌&&◌, nat_le, nat_lt, ◌==◌, if◌then◌else◌, List, [], Contains, Option, Some, None, is_some, refl, sym, ap, ◌∙◌, subst, arith, eq-eqb, ne_eqb, cases_eq, cases_Bool, and_parts, leb-true, ltb-true, lt-ltb, not-true, block_count, bytes_at, has_free_bit, protection, secondary_type, format_of, text_at, COMMENT_BYTE, NAME_BYTE, contents, Role, Content, Node, Tree, content_at, entries_in, entries, parent_of, Directory, File, date_at, InImage, root_of, joined, parent_in, content_in, directory_in, Mark, mark_at, IsChecked, IsSound, IsSoundEntry}
+use Rattle.std.proofs.lemmas.Bool.{le-leb}
 use Rattle.ados_model.specs.declared.role.Role.TheVariants as roles
-use Rattle.ados_model.specs.Tree.{Content, Node, Tree, content_at, entries_in, entries, parent_of}
-use Rattle.ados_model.specs.Tree.Content.{Directory, File}
-use Rattle.ados_model.specs.Stands.{date_at}
-use Rattle.ados_model.specs.Faults.{InImage, root_of}
-use Rattle.ados_model.proofs.Lists.{joined}
-use Rattle.ados_model.proofs.Nodes.{parent_in, content_in, directory_in}
-use Rattle.ados_check.specs.declared.mark.Mark.{Mark}
-use Rattle.ados_check.specs.Marks.{mark_at, IsChecked, IsSound, IsSoundEntry}
 use Rattle.ados_check.proofs.MarkLemmas.{none_is}
 use Rattle.ados_check.proofs.Paths.{mark_of}
 use Rattle.ados_check.proofs.Roles.{IsMarkedDirectory, as_root, as_entry, IsMarkedFile, root_role}

@@ -1,20 +1,5 @@
 -- What is unchanged in a sound image when only its bitmap changes.
-use Rattle.std.proofs.Common.{◌≡◌, ◌≢◌, ℕ, ◌+◌, ◌/◌, ◌<◌, ◌≤◌, inl, inr, List, Option, Some, refl, sym, ap, ◌∙◌, subst, arith}
-use Rattle.adf_block.specs.Whole.{IsImage, text_at}
-use Rattle.adf_block.specs.Image.{block_count, root_key, page_count, long, byte_at, bytes_at, block_sum, HasText}
-use Rattle.adf_block.specs.Fields.{format_of}
-use Rattle.adf_block.specs.declared.layout.TheConstants.{NAME_BYTE}
-use Rattle.adf_block.specs.Frame.{SameBut}
-use Rattle.adf_block.proofs.Frames.{same_count, same_long, same_bytes_at, same_sum}
-use Rattle.ados_name.specs.Name.{IsName}
-use Rattle.ados_model.specs.declared.role.Role.{Role}
-use Rattle.ados_model.specs.declared.role.Role.TheVariants.{Root, Page}
-use Rattle.ados_model.specs.Faults.{IsPlace, IsPointer, Reached, root_of}
-use Rattle.ados_model.specs.Faults.IsPlace.{root_page, root_slot, directory_slot, next_entry, header_pointer, first_extension, extension_pointer, further_extension}
-use Rattle.ados_model.specs.Rebuilt.{IsOfBitmap}
-use Rattle.ados_model.specs.Stands.{HasExtension}
-use Rattle.ados_check.specs.declared.mark.Mark.{Mark}
-use Rattle.ados_check.specs.Marks.{mark_at, AreReached, HasValidName}
+use Rattle.ados_check.proofs.Common.{◌≡◌, ◌≢◌, ℕ, ◌+◌, ◌/◌, ◌<◌, ◌≤◌, inl, inr, List, Option, Some, refl, sym, ap, ◌∙◌, subst, arith, IsImage, text_at, block_count, root_key, page_count, long, byte_at, bytes_at, block_sum, HasText, format_of, NAME_BYTE, SameBut, same_count, same_long, same_bytes_at, same_sum, IsName, Role, Root, Page, IsPlace, IsPointer, Reached, root_of, root_page, root_slot, directory_slot, next_entry, header_pointer, first_extension, extension_pointer, further_extension, IsOfBitmap, HasExtension, Mark, mark_at, AreReached, HasValidName}
 use Rattle.ados_check.proofs.Roles.{one_role, reached_inside, root_role}
 
 -- the longs of a block without the two of the bitmap in the root

@@ -1,18 +1,8 @@
 -- Names in upper case, and the marked entries with these names.
-use Rattle.std.proofs.Common.{◌≡◌, ◌≢◌, ℕ, zero, suc, ◌+◌, ◌-◌, ◌<◌, ◌≤◌, ◌⊎◌, inl, inr, List, ◌∷◌, ◌++◌, length, take, drop, map, replicate, slice_index, Option, sym, ap, ap₂, ◌∙◌, subst, arith, length-append}
-use Rattle.std.proofs.lemmas.Bool.{cases_lt}
-use Rattle.std.proofs.lemmas.List.{ext_get_or, get_or_append_left, get_or-append_right, get_or-map, get_or-replicate, length-replicate, length-map, take_at}
-use Rattle.adf_block.specs.Whole.{IsImage, text_at}
-use Rattle.adf_block.specs.Image.{block_count, byte_at}
-use Rattle.adf_block.specs.declared.layout.TheConstants.{NAME_BYTE}
-use Rattle.adf_block.proofs.Blocks.{byte-bytes_at}
-use Rattle.ados_name.specs.Name.{Same, upper}
+use Rattle.std.proofs.Common.{length-append}
+use Rattle.ados_check.proofs.Common.{◌≡◌, ◌≢◌, ℕ, zero, suc, ◌+◌, ◌-◌, ◌<◌, ◌≤◌, ◌⊎◌, inl, inr, List, ◌∷◌, ◌++◌, length, take, drop, map, replicate, slice_index, Option, sym, ap, ap₂, ◌∙◌, subst, arith, cases_lt, ext_get_or, get_or_append_left, get_or-append_right, get_or-map, get_or-replicate, length-replicate, length-map, take_at, IsImage, text_at, block_count, byte_at, NAME_BYTE, byte-bytes_at, Same, upper, HasDuplicateName, Reached, Mark, AreReached, HasValidName, IsMarkedEntry, IsSound, IsSoundEntry, upper_name}
 use Rattle.ados_model.specs.declared.role.Role.TheVariants as roles
-use Rattle.ados_model.specs.Faults.{HasDuplicateName, Reached}
-use Rattle.ados_check.specs.declared.mark.Mark.{Mark}
-use Rattle.ados_check.specs.Marks.{AreReached, HasValidName, IsMarkedEntry, IsSound, IsSoundEntry}
 use Rattle.ados_check.proofs.Texts.{length-bytes_at}
-use Rattle.ados_check.specs.Entries.{upper_name}
 
 length-text : (image : List ℕ) (block : ℕ) → IsImage image → block < block_count image → byte_at image block NAME_BYTE ≤ 30 → length (map upper (text_at image block NAME_BYTE)) ≡ byte_at image block NAME_BYTE
 length-text image block im l short = length-map (text_at image block NAME_BYTE) upper ∙ length-bytes_at image block (NAME_BYTE + 1) (byte_at image block NAME_BYTE) im l (omega arith)

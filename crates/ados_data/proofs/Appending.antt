@@ -1,28 +1,12 @@
 -- One more data block: first with room for its pointer, then attached, then with the new size.
-use Rattle.std.proofs.Common.{◌≡◌, ◌≢◌, ℕ, suc, ◌+◌, ◌-◌, ◌*◌, ◌/◌, ◌%◌, ◌<◌, ◌≤◌, ◌⊎◌, inl, inr, List, [], ◌∷◌, ◌++◌, length, replicate, take, slice_index, refl, sym, ap, ap₂, ◌∙◌, subst, arith}
-use Rattle.std.proofs.lemmas.Bool.{cases_lt, cases_eq}
-use Rattle.std.proofs.lemmas.List.{length_push, length-append, length-replicate, get_or-replicate, get_or_append_left, get_or-append_right, take_all, take_at}
-use Rattle.adf_block.specs.declared.layout.Format.{Format}
-use Rattle.adf_block.specs.declared.layout.Format.TheVariants.{Ofs}
-use Rattle.adf_block.specs.Image.{byte_at, block_count, IsInside}
-use Rattle.adf_block.specs.Whole.{IsSize, free_bit_count}
-use Rattle.adf_block.specs.Fields.{format_of}
-use Rattle.ados_model.specs.Tree.{block_cost, data_count, extension_count, data_size, data_start}
-use Rattle.ados_model.specs.File.{file_byte, data_blocks, extension_blocks, contents}
-use Rattle.ados_data.specs.Changing.{IsInUse, IsWritable, WritableFile}
-use Rattle.ados_data.specs.steps.Blocks.{IsNewBlock, IsExtended, IsLengthened, IsResized, HasPointerRoom}
-use Rattle.ados_data.specs.declared.grow.End.{End}
-use Rattle.ados_data.specs.steps.FileEnd.{IsEnd}
+use Rattle.ados_data.proofs.Common.{◌≡◌, ◌≢◌, ℕ, suc, ◌+◌, ◌-◌, ◌*◌, ◌/◌, ◌%◌, ◌<◌, ◌≤◌, ◌⊎◌, inl, inr, List, [], ◌∷◌, ◌++◌, length, replicate, take, slice_index, refl, sym, ap, ap₂, ◌∙◌, subst, arith, cases_lt, cases_eq, length_push, length-append, length-replicate, get_or-replicate, get_or_append_left, get_or-append_right, take_all, take_at, Format, Ofs, byte_at, block_count, IsInside, IsSize, free_bit_count, format_of, block_cost, data_count, extension_count, data_size, data_start, file_byte, data_blocks, extension_blocks, contents, IsInUse, IsWritable, WritableFile, IsNewBlock, IsExtended, IsLengthened, IsResized, HasPointerRoom, End, IsEnd, Leaves, Gains, GrowsFile, KeepsUnnamed}
 use Rattle.ados_data.proofs.Sizes.{one_more_block, one_more_cost, below_count, at_count, in_block, behind_start}
 use Rattle.ados_data.proofs.Spelled.{data_blocks_are, extension_blocks_are, contents_are}
 use Rattle.ados_data.proofs.Lists.{head_pushed_before, head_pushed_last, pushed_before, pushed_last}
 use Rattle.ados_data.proofs.Standing.{Standing, marks_stay, count_stays, standing_of, writable_of, stands_beside_new, new_inside, new_in_use, header_beside_new, data_beside_new, untouched_new, same_blocks}
-use Rattle.ados_data.specs.Others.{Leaves, Gains}
-use Rattle.ados_data.specs.Growth.{GrowsFile}
 use Rattle.ados_data.proofs.Composing.{grows_to}
 use Rattle.ados_data.proofs.Leaving.{leaves_same, leaves_both, leaves_taken, leaves_extended, leaves_longer, leaves_resized, beside_gains, gains_same, gains_both, gains_taken, gains_kept}
 use Rattle.ados_data.proofs.Growing.{extended_owned, longer_owned, stands_extended, stands_longer, extended_byte, longer_byte, longer_new_byte, stands_resized, resized_byte, resized_owned}
-use Rattle.ados_data.specs.Unnamed.{KeepsUnnamed}
 use Rattle.ados_data.proofs.Grown.{Grown, grown_of, keeps_same, keeps_both}
 use Rattle.ados_data.proofs.Longer.{keeps_extended, keeps_longer}
 

@@ -1,8 +1,5 @@
 -- A bound below which no block is free.
-use Rattle.std.proofs.Common.{◌≡◌, ℕ, ◌≤◌, ◌<◌, List, length, slice_index, inl, inr, false, subst, arith}
-use Rattle.adf_block.specs.Image.{block_count, has_free_bit, IsInside}
-use Rattle.ados_map.specs.Pages.{NoneFreeBelow}
-use Rattle.ados_data.specs.Others.{Gains}
+use Rattle.ados_data.proofs.Common.{◌≡◌, ℕ, ◌≤◌, ◌<◌, List, length, slice_index, inl, inr, false, subst, arith, block_count, has_free_bit, IsInside, NoneFreeBelow, Gains}
 
 -- no used block became free
 pub below_stays : (old new : List ℕ) (from : ℕ) → block_count new ≡ block_count old

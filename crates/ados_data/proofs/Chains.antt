@@ -1,7 +1,5 @@
 -- A linked list of blocks, link by link.
-use Rattle.std.proofs.Common.{◌≡◌, ℕ, zero, suc, ◌<◌, List, [], ◌∷◌, length, slice_index, arith}
-use Rattle.adf_block.specs.Image.{long, Chained}
-use Rattle.ados_model.proofs.FileFaults.{chain_head}
+use Rattle.ados_data.proofs.Common.{◌≡◌, ℕ, zero, suc, ◌<◌, List, [], ◌∷◌, length, slice_index, arith, long, Chained, chain_head}
 
 -- each block is followed by the next one, or by 0
 pub next_of : (image : List ℕ) (link first : ℕ) (xs : List ℕ) → Chained image link first xs → (i : ℕ) → i < length xs → long image (slice_index xs i) link ≡ slice_index xs (suc i)

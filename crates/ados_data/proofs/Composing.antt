@@ -1,15 +1,5 @@
 -- Growths of a file: one in steps, and one after another.
-use Rattle.std.proofs.Common.{◌≡◌, ℕ, suc, ◌/◌, ◌≤◌, List, ◌∷◌, length, take, slice_index, sym, ap, ap₂, ◌∙◌, subst, arith}
-use Rattle.adf_block.specs.declared.layout.Format.{Format}
-use Rattle.adf_block.specs.Image.{IsInside, block_count}
-use Rattle.adf_block.specs.Fields.{format_of}
-use Rattle.ados_map.specs.Pages.{NoneFreeBelow}
-use Rattle.ados_model.specs.Tree.{block_cost}
-use Rattle.ados_model.specs.File.{LawfulFile, contents, data_blocks, extension_blocks}
-use Rattle.ados_data.specs.Changing.{IsWritable, PaysFor, WritableFile}
-use Rattle.ados_data.specs.Others.{Gains, LeavesOthers}
-use Rattle.ados_data.specs.Unnamed.{KeepsUnnamed}
-use Rattle.ados_data.specs.Growth.{GrowsFile}
+use Rattle.ados_data.proofs.Common.{◌≡◌, ℕ, suc, ◌/◌, ◌≤◌, List, ◌∷◌, length, take, slice_index, sym, ap, ap₂, ◌∙◌, subst, arith, Format, IsInside, block_count, format_of, NoneFreeBelow, block_cost, LawfulFile, contents, data_blocks, extension_blocks, IsWritable, PaysFor, WritableFile, Gains, LeavesOthers, KeepsUnnamed, GrowsFile}
 use Rattle.ados_data.proofs.Bounds.{below_stays}
 use Rattle.ados_data.proofs.Grown.{Grown, front_both, grown_of, keeps_both}
 use Rattle.ados_data.proofs.Leaving.{beside_gains, gains_both, leaves_both, summed_after}

@@ -1,18 +1,5 @@
 -- The bytes outside all fields that a cut leaves untouched.
-use Rattle.std.proofs.Common.{◌≡◌, ◌≢◌, ℕ, suc, ◌-◌, ◌/◌, ◌<◌, ◌≤◌, ◌⊎◌, inl, inr, List, ◌∷◌, length, take, slice_index, sym, ap, ◌∙◌, arith}
-use Rattle.std.proofs.lemmas.List.{length-take-le}
-use Rattle.adf_block.specs.Image.{byte_at, long, block_count}
-use Rattle.adf_block.specs.Fields.{pointer_count, file_size, format_of}
-use Rattle.adf_block.specs.declared.layout.TheConstants.{POINTER_COUNT, FILE_SIZE, NEXT_EXTENSION, NEXT_DATA}
-use Rattle.adf_block.specs.declared.layout.Format.{Format}
-use Rattle.adf_block.specs.declared.layout.Format.TheVariants.{Ofs, Ffs}
-use Rattle.ados_map.specs.Pages.{pages_of, page_block}
-use Rattle.ados_model.specs.Tree.{extension_count}
-use Rattle.ados_data.specs.steps.Edits.{AtFields}
-use Rattle.ados_model.specs.File.{AreApart}
-use Rattle.ados_data.specs.Cut.{IsCutField}
-use Rattle.ados_data.specs.steps.Blocks.{AtEnd}
-use Rattle.ados_data.specs.Unnamed.{IsPointerField, IsHeaderField, data_end, KeepsUnnamed}
+use Rattle.ados_data.proofs.Common.{◌≡◌, ◌≢◌, ℕ, suc, ◌-◌, ◌/◌, ◌<◌, ◌≤◌, ◌⊎◌, inl, inr, List, ◌∷◌, length, take, slice_index, sym, ap, ◌∙◌, arith, length-take-le, byte_at, long, block_count, pointer_count, file_size, format_of, POINTER_COUNT, FILE_SIZE, NEXT_EXTENSION, NEXT_DATA, Format, Ofs, Ffs, pages_of, page_block, extension_count, AtFields, AreApart, IsCutField, AtEnd, IsPointerField, IsHeaderField, data_end, KeepsUnnamed}
 use Rattle.ados_data.proofs.Lists.{head_taken, taken_before}
 
 -- the bytes that a cut to d data blocks writes outside the bitmap: in the last remaining data and pointer blocks, and

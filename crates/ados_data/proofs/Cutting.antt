@@ -1,31 +1,12 @@
 -- A file cut short, while the blocks after its new end are freed.
-use Rattle.std.proofs.Common.{inl, inr, ◌≡◌, ◌≢◌, ℕ, ◌+◌, ◌<◌, ◌≤◌, true, cond, eqb, List, ◌∷◌, length, slice_index, sym, ap, ◌∙◌, subst, arith, suc, ◌-◌, ◌/◌, ◌%◌, ◌⊎◌, take, refl}
-use Rattle.adf_block.specs.declared.layout.TheConstants.{FILE_SIZE, FIRST_POINTER, NEXT_EXTENSION}
-use Rattle.adf_block.specs.declared.layout.Format.{Format}
-use Rattle.adf_block.specs.declared.layout.Format.TheVariants.{Ofs, Ffs}
-use Rattle.adf_block.specs.Image.{long, block_count, root_key, IsInside, block_sum, byte_at, has_free_bit}
-use Rattle.adf_block.specs.Whole.{IsSize, free_bit_count}
-use Rattle.adf_block.specs.Fields.{format_of}
-use Rattle.adf_block.proofs.Frames.{same_count}
-use Rattle.ados_map.specs.Pages.{LawfulPages, pages_of, page_block, page_of}
-use Rattle.ados_map.specs.Changes.{MapPlace, BitChanged}
-use Rattle.ados_model.specs.File.{AreApart, data_blocks, extension_blocks, contents, pointer_block}
-use Rattle.ados_data.specs.Changing.{IsInUse, LawfulMap, WritableFile}
+use Rattle.ados_data.proofs.Common.{inl, inr, ◌≡◌, ◌≢◌, ℕ, ◌+◌, ◌<◌, ◌≤◌, true, cond, eqb, List, ◌∷◌, length, slice_index, sym, ap, ◌∙◌, subst, arith, suc, ◌-◌, ◌/◌, ◌%◌, ◌⊎◌, take, refl, FILE_SIZE, FIRST_POINTER, NEXT_EXTENSION, Format, Ofs, Ffs, long, block_count, root_key, IsInside, block_sum, byte_at, has_free_bit, IsSize, free_bit_count, format_of, same_count, LawfulPages, pages_of, page_block, page_of, MapPlace, BitChanged, AreApart, data_blocks, extension_blocks, contents, pointer_block, IsInUse, LawfulMap, WritableFile, cases_eq, cases_lt, IsOther, Leaves, LeavesOthers, bit_of_inside, get_or-take, length-take-le, data_count, extension_count, block_cost, data_size, data_start, IsResized, KeepsUnnamed, CutsHeader}
 use Rattle.ados_data.proofs.Untouched.{Untouched, untouched_long, untouched_sum}
 use Rattle.ados_data.proofs.Skeleton.{untouched_holder, untouched_data, skeleton_kept}
 use Rattle.ados_data.proofs.Marks.{page_kept, in_use_kept, map_after, one_more}
 use Rattle.ados_data.proofs.Standing.{Standing, standing_of, writable_of, writable_file, Owned, blocks_stay, pages_stay, count_stays, marks_stay, use_stays}
-use Rattle.std.proofs.lemmas.Bool.{cases_eq, cases_lt}
-use Rattle.ados_data.specs.Others.{IsOther, Leaves, LeavesOthers}
-use Rattle.ados_map.proofs.MarkLemmas.{bit_of_inside}
-use Rattle.std.proofs.lemmas.List.{get_or-take, length-take-le}
-use Rattle.ados_model.specs.Tree.{data_count, extension_count, block_cost, data_size, data_start}
-use Rattle.ados_data.specs.steps.Blocks.{IsResized}
 use Rattle.ados_data.proofs.Lists.{head_taken, taken_before}
 use Rattle.ados_data.specs.steps.Giving.{IsEntered}
 use Rattle.ados_data.proofs.Leaving.{leaves_both, leaves_resized}
-use Rattle.ados_data.specs.Unnamed.{KeepsUnnamed}
-use Rattle.ados_data.specs.Cut.{CutsHeader}
 use Rattle.ados_data.proofs.CutKeeping.{AtEnds, header_uncut, keeps_cut}
 use Rattle.ados_data.proofs.Sizes.{fewer_blocks, some_blocks, ofs_count, in_block, behind_start, in_count}
 use Rattle.ados_data.proofs.Spelled.{link_of, data_blocks_are, extension_blocks_are, contents_are}

@@ -1,18 +1,8 @@
 -- A file with enough blocks has a size below 2^32.
-use Rattle.std.proofs.Common.{◌≡◌, ◌≢◌, ℕ, ◌+◌, ◌-◌, ◌/◌, ◌^◌, ◌<◌, ◌≤◌, List, Bool, true, false, cond, length, slice_index, ◌∙◌, subst, arith}
+use Rattle.ados_data.proofs.Common.{◌≡◌, ◌≢◌, ℕ, ◌+◌, ◌-◌, ◌/◌, ◌^◌, ◌<◌, ◌≤◌, List, Bool, true, false, cond, length, slice_index, ◌∙◌, subst, arith, get_or_default, Format, Ofs, Ffs, block_count, has_free_bit, format_of, free_bit_count, total-bound, block_cost, data_count, LawfulFile, contents, data_blocks, HasFree}
 use Rattle.std.proofs.lemmas.Bool.Decides.{Decides-eqb}
-use Rattle.std.proofs.lemmas.List.{get_or_default}
 use Rattle.std.proofs.lemmas.Map.Made.{IsDistinct-from_AllPairs}
 use Rattle.std.proofs.lemmas.Map.Steps.{length-le_from_distinct_below}
-use Rattle.adf_block.specs.declared.layout.Format.{Format}
-use Rattle.adf_block.specs.declared.layout.Format.TheVariants.{Ofs, Ffs}
-use Rattle.adf_block.specs.Image.{block_count, has_free_bit}
-use Rattle.adf_block.specs.Fields.{format_of}
-use Rattle.adf_block.specs.Whole.{free_bit_count}
-use Rattle.adf_block.proofs.Totals.{total-bound}
-use Rattle.ados_model.specs.Tree.{block_cost, data_count}
-use Rattle.ados_model.specs.File.{LawfulFile, contents, data_blocks}
-use Rattle.ados_data.specs.Changing.{HasFree}
 use Rattle.ados_model.proofs.KeyLists.{below_bound}
 
 -- a list of numbers below n without duplicates has at most n elements

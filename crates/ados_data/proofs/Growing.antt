@@ -1,21 +1,8 @@
 -- A file with one more block, or of another size.
-use Rattle.std.proofs.Common.{◌≡◌, ◌≢◌, ℕ, zero, suc, ◌-◌, ◌*◌, ◌/◌, ◌%◌, ◌<◌, ◌≤◌, ◌⊎◌, inl, inr, List, [], ◌∷◌, ◌++◌, length, slice_index, sym, ap, ◌∙◌, subst, arith, ◌+◌, take, refl}
-use Rattle.std.proofs.lemmas.Bool.{cases_lt}
-use Rattle.std.proofs.lemmas.List.{length_push, length-take-le}
-use Rattle.adf_block.specs.declared.layout.TheConstants.{FIRST_POINTER, FILE_SIZE, NEXT_EXTENSION, POINTER_COUNT, NEXT_DATA}
-use Rattle.adf_block.specs.declared.layout.Format.{Format}
-use Rattle.adf_block.specs.declared.layout.Format.TheVariants.{Ofs}
-use Rattle.adf_block.specs.Image.{byte_at, long, block_sum, block_count, IsInside}
-use Rattle.adf_block.specs.Whole.{IsSize}
-use Rattle.adf_block.proofs.Frames.{same_long}
-use Rattle.ados_data.specs.steps.Edits.{AtField, AtFields, AtExtensionFields, AtDataFields}
-use Rattle.ados_model.specs.File.{AreApart}
-use Rattle.ados_data.specs.Changing.{IsInUse}
-use Rattle.ados_data.specs.steps.Blocks.{IsExtended, IsLengthened, AtLink, IsResized, AtEnd}
+use Rattle.ados_data.proofs.Common.{◌≡◌, ◌≢◌, ℕ, zero, suc, ◌-◌, ◌*◌, ◌/◌, ◌%◌, ◌<◌, ◌≤◌, ◌⊎◌, inl, inr, List, [], ◌∷◌, ◌++◌, length, slice_index, sym, ap, ◌∙◌, subst, arith, ◌+◌, take, refl, cases_lt, length_push, length-take-le, FIRST_POINTER, FILE_SIZE, NEXT_EXTENSION, POINTER_COUNT, NEXT_DATA, Format, Ofs, byte_at, long, block_sum, block_count, IsInside, IsSize, same_long, AtField, AtFields, AtExtensionFields, AtDataFields, AreApart, IsInUse, IsExtended, IsLengthened, AtLink, IsResized, AtEnd, extension_count}
 use Rattle.ados_data.proofs.Lists.{head_pushed_before, head_pushed_last, pushed_before, pushed_last, apart_extended, apart_longer, head_taken, taken_before, apart_taken}
 use Rattle.ados_data.proofs.Skeleton.{KeepsHolder, untouched_holder, untouched_data, skeleton_extended, skeleton_longer, skeleton_resized}
 use Rattle.ados_data.proofs.Standing.{Standing, Owned, blocks_stay, format_kept, map_stays, use_stays}
-use Rattle.ados_model.specs.Tree.{extension_count}
 
 -- ---- an extension block
 

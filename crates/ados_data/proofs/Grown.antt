@@ -1,20 +1,6 @@
 -- A file that grew, or whose data and size were written, and the bytes that this leaves untouched.
-use Rattle.std.proofs.Common.{◌≡◌, ℕ, zero, suc, ◌/◌, ◌<◌, ◌≤◌, inl, inr, List, ◌∷◌, length, take, slice_index, refl, sym, ap, ◌∙◌, subst, arith, ◌+◌, ◌-◌, ◌%◌, ◌⊎◌}
-use Rattle.std.proofs.lemmas.Bool.{cases_lt, cases_eq}
-use Rattle.std.proofs.lemmas.List.{length-take, get_or-take, take-take}
-use Rattle.adf_block.specs.declared.layout.Format.{Format}
-use Rattle.adf_block.specs.declared.layout.Format.TheVariants.{Ofs, Ffs}
-use Rattle.adf_block.specs.Image.{byte_at, long, block_count}
-use Rattle.adf_block.specs.Fields.{pointer_count, file_size, format_of}
-use Rattle.adf_block.specs.Frame.{SameBut}
-use Rattle.ados_map.specs.Pages.{pages_of, page_block}
-use Rattle.ados_data.specs.Unnamed.{IsPointerField, IsHeaderField, IsExtensionField, data_end, IsBeside, KeepsUnnamed}
+use Rattle.ados_data.proofs.Common.{◌≡◌, ℕ, zero, suc, ◌/◌, ◌<◌, ◌≤◌, inl, inr, List, ◌∷◌, length, take, slice_index, refl, sym, ap, ◌∙◌, subst, arith, ◌+◌, ◌-◌, ◌%◌, ◌⊎◌, cases_lt, cases_eq, length-take, get_or-take, take-take, Format, Ofs, Ffs, byte_at, long, block_count, pointer_count, file_size, format_of, SameBut, pages_of, page_block, IsPointerField, IsHeaderField, IsExtensionField, data_end, IsBeside, KeepsUnnamed, POINTER_COUNT, FILE_SIZE, NEXT_EXTENSION, NEXT_DATA, same_long, data_size, data_start, AtData, AtFields, IsResized, AtEnd}
 use Rattle.ados_data.proofs.Skeleton.{Skeleton}
-use Rattle.adf_block.specs.declared.layout.TheConstants.{POINTER_COUNT, FILE_SIZE, NEXT_EXTENSION, NEXT_DATA}
-use Rattle.adf_block.proofs.Frames.{same_long}
-use Rattle.ados_model.specs.Tree.{data_size, data_start}
-use Rattle.ados_data.specs.steps.Edits.{AtData, AtFields}
-use Rattle.ados_data.specs.steps.Blocks.{IsResized, AtEnd}
 use Rattle.ados_data.proofs.Standing.{Standing}
 
 -- ---- the fields of more pointers, and the end of more bytes

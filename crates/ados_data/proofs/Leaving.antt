@@ -1,24 +1,10 @@
 -- What the steps of a change leave untouched, and the checksums after it.
-use Rattle.std.proofs.Common.{◌≡◌, ◌≢◌, ℕ, suc, ◌-◌, ◌/◌, ◌<◌, ◌≤◌, ◌⊎◌, inl, inr, true, false, List, [], ◌∷◌, ◌++◌, length, take, slice_index, refl, sym, ap, ◌∙◌, subst, arith}
-use Rattle.std.proofs.lemmas.Bool.{cases_Bool, cases_lt, cases_eq, cases_order, false≢true, true_from_ne_false}
-use Rattle.std.proofs.lemmas.List.{length_push}
-use Rattle.adf_block.specs.declared.layout.TheConstants.{NEXT_EXTENSION}
-use Rattle.adf_block.specs.declared.layout.Format.{Format}
-use Rattle.adf_block.specs.Image.{block_sum, block_count, has_free_bit, IsInside, page_count}
-use Rattle.adf_block.specs.Whole.{IsSize}
-use Rattle.adf_block.proofs.Frames.{same_sum}
-use Rattle.ados_map.specs.Pages.{pages_of, page_block, page_of, HasBit}
-use Rattle.ados_map.specs.Changes.{MapPlace}
-use Rattle.ados_data.specs.steps.Edits.{AtField, AtExtensionFields}
-use Rattle.ados_data.specs.Changing.{IsInUse, LawfulMap, WritableFile, SummedFile}
-use Rattle.ados_data.specs.steps.Blocks.{IsNewBlock, IsExtended, IsLengthened, IsResized}
+use Rattle.ados_data.proofs.Common.{◌≡◌, ◌≢◌, ℕ, suc, ◌-◌, ◌/◌, ◌<◌, ◌≤◌, ◌⊎◌, inl, inr, true, false, List, [], ◌∷◌, ◌++◌, length, take, slice_index, refl, sym, ap, ◌∙◌, subst, arith, cases_Bool, cases_lt, cases_eq, cases_order, false≢true, true_from_ne_false, length_push, NEXT_EXTENSION, Format, block_sum, block_count, has_free_bit, IsInside, page_count, IsSize, same_sum, pages_of, page_block, page_of, HasBit, MapPlace, AtField, AtExtensionFields, IsInUse, LawfulMap, WritableFile, SummedFile, IsNewBlock, IsExtended, IsLengthened, IsResized, IsOther, IsDataField, Leaves, IsOwn, Gains, RisesBehind, WasFree, LeavesOthers, bit_of_inside}
 use Rattle.ados_data.proofs.Lists.{head_pushed_before, head_pushed_last, pushed_before, pushed_last}
 use Rattle.ados_data.proofs.Untouched.{untouched_sum}
-use Rattle.ados_data.specs.Others.{IsOther, IsDataField, Leaves, IsOwn, Gains, RisesBehind, WasFree, LeavesOthers}
 use Rattle.ados_data.proofs.Grown.{front_length, front_at, front_header}
 use Rattle.ados_data.proofs.Growing.{extended_owned, Lengthened, longer_owned, Resized, resized_owned}
 use Rattle.ados_data.proofs.Standing.{Owned, Standing, pages_free, pages_same, pages_stay, marks_stay, beside_new, untaken}
-use Rattle.ados_map.proofs.MarkLemmas.{bit_of_inside}
 
 -- nothing changes
 pub leaves_same : (image : List ℕ) (file : ℕ) (blocks extensions : List ℕ) → Leaves image file blocks extensions image

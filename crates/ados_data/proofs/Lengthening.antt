@@ -1,26 +1,9 @@
 -- A file made longer within its last data block.
-use Rattle.std.proofs.Common.{◌≡◌, ◌≢◌, ℕ, ◌+◌, ◌-◌, ◌*◌, ◌/◌, ◌%◌, ◌<◌, ◌≤◌, inl, inr, List, ◌∷◌, ◌++◌, length, take, slice_index, refl, sym, ap, ap₂, ◌∙◌, subst, arith}
-use Rattle.std.proofs.lemmas.Bool.{cases_lt}
-use Rattle.adf_block.specs.declared.layout.TheConstants.{FILE_SIZE}
-use Rattle.adf_block.specs.declared.layout.Format.{Format}
-use Rattle.adf_block.specs.declared.layout.Format.TheVariants.{Ofs}
-use Rattle.adf_block.specs.Image.{byte_at, bytes_at, long, block_count}
-use Rattle.adf_block.specs.Whole.{IsSize, free_bit_count}
-use Rattle.adf_block.specs.Fields.{format_of}
-use Rattle.adf_block.proofs.Blocks.{byte-bytes_at}
-use Rattle.ados_model.specs.Tree.{block_cost, data_count, data_size, data_start, extension_count}
-use Rattle.ados_model.specs.File.{file_byte, data_blocks, extension_blocks, contents}
-use Rattle.ados_data.specs.steps.Blocks.{IsResized}
+use Rattle.ados_data.proofs.Common.{◌≡◌, ◌≢◌, ℕ, ◌+◌, ◌-◌, ◌*◌, ◌/◌, ◌%◌, ◌<◌, ◌≤◌, inl, inr, List, ◌∷◌, ◌++◌, length, take, slice_index, refl, sym, ap, ap₂, ◌∙◌, subst, arith, cases_lt, FILE_SIZE, Format, Ofs, byte_at, bytes_at, long, block_count, IsSize, free_bit_count, format_of, byte-bytes_at, block_cost, data_count, data_size, data_start, extension_count, file_byte, data_blocks, extension_blocks, contents, IsResized, take_all, length-append, get_or_append_left, get_or-append_right, mod-lt, End, WritableFile, IsEnd, IsLonger, GrowsFile}
 use Rattle.ados_data.proofs.Standing.{Standing, standing_of, writable_of, count_stays, marks_stay}
-use Rattle.std.proofs.lemmas.List.{take_all, length-append, get_or_append_left, get_or-append_right}
-use Rattle.std.proofs.Math.Nat.{mod-lt}
-use Rattle.ados_data.specs.declared.grow.End.{End}
-use Rattle.ados_data.specs.Changing.{WritableFile}
-use Rattle.ados_data.specs.steps.FileEnd.{IsEnd, IsLonger}
 use Rattle.ados_data.proofs.Sizes.{few_bytes, whole_block, in_block, behind_start, filled_size, filled_place, in_count, more_blocks}
 use Rattle.ados_data.proofs.Overlaid.{longer_filled}
 use Rattle.ados_data.proofs.Reading.{length-bytes_at}
-use Rattle.ados_data.specs.Growth.{GrowsFile}
 use Rattle.ados_data.proofs.Composing.{grows_to}
 use Rattle.ados_data.proofs.Leaving.{leaves_resized, gains_same, gains_kept}
 use Rattle.ados_data.proofs.Growing.{stands_resized, resized_byte, resized_owned}

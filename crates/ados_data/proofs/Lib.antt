@@ -1,4 +1,5 @@
 -- Lists and sizes, a lawful file and its blocks, each step of a change, and the changes as sequences of steps.
+pub mod Common
 pub mod Chains
 pub mod Spelled
 pub mod Sizes

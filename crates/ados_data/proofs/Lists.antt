@@ -1,9 +1,5 @@
 -- Positions in a list that grows or is cut, and in the same list after a header.
-use Rattle.std.proofs.Common.{◌≡◌, ◌≢◌, ℕ, zero, suc, ◌<◌, ◌≤◌, inl, inr, List, [], ◌∷◌, ◌++◌, length, take, slice_index, refl, sym, ap, ◌∙◌, subst, arith}
-use Rattle.std.proofs.lemmas.Bool.{cases_lt}
-use Rattle.std.proofs.lemmas.List.{get_or_append_left, get_or_push, get_or-take, get_or_past, length_push, length-take-le}
-use Rattle.adf_block.specs.Image.{IsInside}
-use Rattle.ados_model.specs.File.{AreApart}
+use Rattle.ados_data.proofs.Common.{◌≡◌, ◌≢◌, ℕ, zero, suc, ◌<◌, ◌≤◌, inl, inr, List, [], ◌∷◌, ◌++◌, length, take, slice_index, refl, sym, ap, ◌∙◌, subst, arith, cases_lt, get_or_append_left, get_or_push, get_or-take, get_or_past, length_push, length-take-le, IsInside, AreApart}
 
 pub pushed_before : (xs : List ℕ) (y i : ℕ) → i < length xs → slice_index (xs ++ y ∷ []) i ≡ slice_index xs i
 pushed_before xs y i l = get_or_append_left xs (y ∷ []) 0 i l

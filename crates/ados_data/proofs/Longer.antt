@@ -1,20 +1,7 @@
 -- A file that gets an extension block or a data block leaves all other bytes untouched.
-use Rattle.std.proofs.Common.{◌≡◌, ℕ, suc, ◌/◌, ◌<◌, ◌≤◌, ◌⊎◌, inl, inr, List, [], ◌∷◌, ◌++◌, length, slice_index, refl, sym, ap, ◌∙◌, subst, arith, ◌≢◌, ◌+◌, ◌-◌, ◌*◌, ◌%◌}
-use Rattle.std.proofs.lemmas.List.{length_push}
-use Rattle.adf_block.specs.declared.layout.Format.{Format}
-use Rattle.adf_block.specs.Image.{byte_at, long}
-use Rattle.adf_block.specs.Fields.{pointer_count, file_size, format_of}
-use Rattle.adf_block.specs.declared.layout.TheConstants.{NEXT_EXTENSION, POINTER_COUNT, FIRST_POINTER, FILE_SIZE, NEXT_DATA}
-use Rattle.adf_block.specs.Frame.{SameBut}
-use Rattle.adf_block.proofs.Frames.{same_long, same_trans, same_weaken}
-use Rattle.ados_map.specs.Pages.{pages_of, page_of}
-use Rattle.ados_map.specs.Changes.{MapPlace}
-use Rattle.ados_data.specs.steps.Edits.{AtField, AtExtensionFields, AtFields, AtDataFields}
-use Rattle.ados_data.specs.steps.Blocks.{IsNewBlock, IsExtended, IsLengthened, IsResized, AtLink, AtEnd}
-use Rattle.ados_data.specs.Unnamed.{IsPointerField, IsExtensionField, IsBeside, KeepsUnnamed, IsHeaderField, data_end}
+use Rattle.ados_data.proofs.Common.{◌≡◌, ℕ, suc, ◌/◌, ◌<◌, ◌≤◌, ◌⊎◌, inl, inr, List, [], ◌∷◌, ◌++◌, length, slice_index, refl, sym, ap, ◌∙◌, subst, arith, ◌≢◌, ◌+◌, ◌-◌, ◌*◌, ◌%◌, length_push, Format, byte_at, long, pointer_count, file_size, format_of, NEXT_EXTENSION, POINTER_COUNT, FIRST_POINTER, FILE_SIZE, NEXT_DATA, SameBut, same_long, same_trans, same_weaken, pages_of, page_of, MapPlace, AtField, AtExtensionFields, AtFields, AtDataFields, IsNewBlock, IsExtended, IsLengthened, IsResized, AtLink, AtEnd, IsPointerField, IsExtensionField, IsBeside, KeepsUnnamed, IsHeaderField, data_end, Ofs}
 use Rattle.ados_data.proofs.Lists.{head_pushed_before, head_pushed_last, pushed_before, pushed_last}
 use Rattle.ados_data.proofs.Standing.{Standing, untaken, header_beside_new, data_beside_new}
-use Rattle.adf_block.specs.declared.layout.Format.TheVariants.{Ofs}
 use Rattle.ados_data.proofs.Grown.{more_pointers, more_header}
 use Rattle.ados_data.proofs.CutKeeping.{behind_fields}
 

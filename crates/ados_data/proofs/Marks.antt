@@ -1,15 +1,7 @@
 -- The bitmap after a change outside the root and the bitmap blocks, and the number of blocks marked free.
-use Rattle.std.proofs.Common.{◌≡◌, ℕ, ◌+◌, ◌-◌, ◌/◌, ◌<◌, ◌≤◌, List, ap, ◌∙◌, arith, ◌≢◌, zero, suc, Bool, true, false, cond, refl, sym, ap₂}
-use Rattle.adf_block.specs.Image.{block_count, root_key, has_free_bit, total, IsInside}
-use Rattle.adf_block.specs.Frame.{SameBut}
-use Rattle.adf_block.proofs.Frames.{same_count}
-use Rattle.ados_map.specs.Pages.{LawfulPages, pages_of, page_block, HasBit, NoneFree}
-use Rattle.ados_data.specs.Changing.{IsInUse, LawfulMap}
+use Rattle.ados_data.proofs.Common.{◌≡◌, ℕ, ◌+◌, ◌-◌, ◌/◌, ◌<◌, ◌≤◌, List, ap, ◌∙◌, arith, ◌≢◌, zero, suc, Bool, true, false, cond, refl, sym, ap₂, block_count, root_key, has_free_bit, total, IsInside, SameBut, same_count, LawfulPages, pages_of, page_block, HasBit, NoneFree, IsInUse, LawfulMap, bit_of_inside, free_bit_count, total-one, total-same}
 use Rattle.ados_map.proofs.PageLemmas.{lawful_kept, same_page}
 use Rattle.ados_map.proofs.MarkLemmas as marks
-use Rattle.ados_map.proofs.MarkLemmas.{bit_of_inside}
-use Rattle.adf_block.specs.Whole.{free_bit_count}
-use Rattle.adf_block.proofs.Totals.{total-one, total-same}
 
 module _ (changed : ℕ → ℕ → Type 0) (old new : List ℕ) (h : SameBut changed old new) (small : block_count old ≤ 101602) (root_free : (k : ℕ) → ¬ changed (root_key (block_count old)) k) where
   count : block_count new ≡ block_count old

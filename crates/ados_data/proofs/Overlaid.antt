@@ -1,11 +1,5 @@
 -- A list with another list written over a part of it.
-use Rattle.std.proofs.Common.{◌≡◌, ℕ, ◌+◌, ◌-◌, ◌<◌, ◌≤◌, ◌++◌, inl, inr, List, length, replicate, take, drop, slice_index, refl, sym, ap, ◌∙◌, arith, ◌*◌, ◌%◌, min}
-use Rattle.std.proofs.lemmas.Bool.{cases_lt}
-use Rattle.std.proofs.lemmas.List.{ext_get_or, get_or_append_left, get_or-append_right, get_or-take, get_or-drop, length-take, length-drop, length-append, length-replicate, get_or-replicate, take-append-le, take_all}
-use Rattle.ados_model.specs.Edits.{overlaid}
-use Rattle.adf_block.specs.declared.layout.Format.{Format}
-use Rattle.ados_model.specs.Tree.{data_count, data_size}
-use Rattle.ados_data.specs.steps.FileEnd.{IsLonger}
+use Rattle.ados_data.proofs.Common.{◌≡◌, ℕ, ◌+◌, ◌-◌, ◌<◌, ◌≤◌, ◌++◌, inl, inr, List, length, replicate, take, drop, slice_index, refl, sym, ap, ◌∙◌, arith, ◌*◌, ◌%◌, min, cases_lt, ext_get_or, get_or_append_left, get_or-append_right, get_or-take, get_or-drop, length-take, length-drop, length-append, length-replicate, get_or-replicate, take-append-le, take_all, overlaid, Format, data_count, data_size, IsLonger}
 use Rattle.ados_data.proofs.Sizes.{rest_covered}
 
 module _ (xs : List ℕ) (pos : ℕ) (ys : List ℕ) (room : pos ≤ length xs) where

@@ -1,32 +1,13 @@
 -- A file with some of its data bytes overwritten, and one step of a walk that does so.
-use Rattle.std.proofs.Common.{◌≡◌, ◌≢◌, ℕ, ◌+◌, ◌-◌, ◌/◌, ◌%◌, ◌<◌, ◌≤◌, ◌⊎◌, inl, inr, List, ◌∷◌, length, slice_index, refl, sym, ap, ap₂, ◌∙◌, subst, arith, ◌*◌, ◌^◌, min, take, drop}
-use Rattle.std.proofs.lemmas.Bool.{cases_lt, cases_eq}
-use Rattle.std.proofs.lemmas.List.{take_all, length-take, length-drop}
-use Rattle.adf_block.specs.declared.layout.TheConstants.{FILE_SIZE, FIRST_POINTER, NEXT_EXTENSION}
-use Rattle.adf_block.specs.declared.layout.Format.{Format}
-use Rattle.adf_block.specs.declared.layout.Format.TheVariants.{Ofs, Ffs}
-use Rattle.adf_block.specs.Image.{byte_at, long, block_sum, block_count, IsInside}
-use Rattle.adf_block.specs.Whole.{IsSize, IsImage}
-use Rattle.adf_block.specs.Fields.{format_of}
-use Rattle.adf_block.specs.Frame.{SameBut, Within, OnlyLong}
-use Rattle.adf_block.proofs.Frames.{same_long, same_sum, same_count}
-use Rattle.ados_model.specs.Tree.{block_cost, data_count, data_size, data_start}
-use Rattle.ados_model.specs.File.{AreApart, data_blocks, extension_blocks, contents, file_byte, LawfulFile, pointer_block}
-use Rattle.ados_data.specs.Changing.{IsInUse, WritableFile}
+use Rattle.ados_data.proofs.Common.{◌≡◌, ◌≢◌, ℕ, ◌+◌, ◌-◌, ◌/◌, ◌%◌, ◌<◌, ◌≤◌, ◌⊎◌, inl, inr, List, ◌∷◌, length, slice_index, refl, sym, ap, ap₂, ◌∙◌, subst, arith, ◌*◌, ◌^◌, min, take, drop, cases_lt, cases_eq, take_all, length-take, length-drop, FILE_SIZE, FIRST_POINTER, NEXT_EXTENSION, Format, Ofs, Ffs, byte_at, long, block_sum, block_count, IsInside, IsSize, IsImage, format_of, SameBut, Within, OnlyLong, same_long, same_sum, same_count, block_cost, data_count, data_size, data_start, AreApart, data_blocks, extension_blocks, contents, file_byte, LawfulFile, pointer_block, IsInUse, WritableFile, Leaves, GrowsFile, AtData, overlaid, data_end, KeepsUnnamed, long-below}
 use Rattle.ados_data.proofs.Skeleton.{KeepsData, untouched_holder, untouched_data, skeleton_kept}
 use Rattle.ados_data.proofs.Standing.{marks_stay, Owned, Standing, blocks_stay, standing_of, writable_of, format_kept, map_stays, use_stays, count_stays}
-use Rattle.ados_data.specs.Others.{Leaves}
-use Rattle.ados_data.specs.Growth.{GrowsFile}
 use Rattle.ados_data.proofs.Composing.{grows_to, grows_over}
 use Rattle.ados_data.proofs.Leaving.{gains_kept, gains_same, leaves_owned}
-use Rattle.ados_data.specs.steps.Edits.{AtData}
-use Rattle.ados_model.specs.Edits.{overlaid}
 use Rattle.ados_data.proofs.Sizes.{same_block, in_front, behind_part, in_block, behind_start, in_count, few_bytes, part_bounds}
 use Rattle.ados_data.proofs.Overlaid.{overlaid_before, overlaid_within, overlaid_behind, length-overlaid, overlaid_more}
 use Rattle.ados_data.proofs.Spelled.{extension_blocks_are, contents_are}
-use Rattle.ados_data.specs.Unnamed.{data_end, KeepsUnnamed}
 use Rattle.ados_data.proofs.Grown.{put_end, keeps_put}
-use Rattle.adf_block.proofs.Longs.{long-below}
 use Rattle.ados_data.proofs.Places.{data_is, header_is, byte_within, holder_of, readable}
 use Rattle.ados_data.proofs.Reading.{holder_inside, block_is, block_inside, on_to_next, on_in_same}
 

@@ -1,12 +1,6 @@
 -- The blocks and bytes of a file, as its size and pointers name them, and positions among its pointer blocks.
-use Rattle.std.proofs.Common.{◌≡◌, ℕ, zero, suc, ◌+◌, ◌/◌, ◌<◌, ◌≤◌, List, ◌∷◌, length, slice_index, refl, sym, ap, ◌∙◌, arith, take}
-use Rattle.std.proofs.lemmas.List.FromFn.{length-map-range_with_len, get_or-map-range_with_len}
-use Rattle.adf_block.specs.Fields.{file_size, format_of}
-use Rattle.ados_model.specs.Tree.{data_size, data_count, extension_count}
-use Rattle.ados_model.specs.File.{LawfulFile, ReadableFile, pointer_block, data_block, data_blocks, extension_blocks, contents, file_byte}
+use Rattle.ados_data.proofs.Common.{◌≡◌, ℕ, zero, suc, ◌+◌, ◌/◌, ◌<◌, ◌≤◌, List, ◌∷◌, length, slice_index, refl, sym, ap, ◌∙◌, arith, take, length-map-range_with_len, get_or-map-range_with_len, file_size, format_of, data_size, data_count, extension_count, LawfulFile, ReadableFile, pointer_block, data_block, data_blocks, extension_blocks, contents, file_byte, length-take, Format}
 use Rattle.ados_data.proofs.Sizes.{in_count}
-use Rattle.std.proofs.lemmas.List.{length-take}
-use Rattle.adf_block.specs.declared.layout.Format.{Format}
 use Rattle.ados_data.specs.declared.place.Place.{Place}
 use Rattle.ados_data.specs.Place.{IsAmong, IsPlace}
 use Rattle.ados_data.proofs.Lists.{head_taken}

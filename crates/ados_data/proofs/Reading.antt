@@ -1,17 +1,9 @@
 -- A part of a data block is a part of the file, and a walk over such parts.
-use Rattle.std.proofs.Common.{◌≡◌, ℕ, ◌+◌, ◌-◌, ◌*◌, ◌/◌, ◌%◌, ◌<◌, ◌≤◌, ◌++◌, List, length, take, drop, slice_index, sym, ap, ap₂, ◌∙◌, arith, ◌≢◌, suc, subst}
-use Rattle.std.proofs.lemmas.List.{ext_get_or, get_or-take, get_or-drop, length-take, length-drop, take_at, drop_at, drop-drop, drop-take, take-take, append_assoc}
+use Rattle.ados_data.proofs.Common.{◌≡◌, ℕ, ◌+◌, ◌-◌, ◌*◌, ◌/◌, ◌%◌, ◌<◌, ◌≤◌, ◌++◌, List, length, take, drop, slice_index, sym, ap, ap₂, ◌∙◌, arith, ◌≢◌, suc, subst, ext_get_or, get_or-take, get_or-drop, length-take, length-drop, take_at, drop_at, drop-drop, drop-take, take-take, append_assoc, Format, byte_at, bytes_at, block_count, long, format_of, data_size, data_start, data_block, contents, ReadableFile, pointer_block, byte-bytes_at, FIRST_POINTER, NEXT_EXTENSION}
 use Rattle.std.proofs.Math.Seq.{take-add}
 use borrow.Rule.Slice.PartMut.{put_mid}
-use Rattle.adf_block.specs.declared.layout.Format.{Format}
-use Rattle.adf_block.specs.Image.{byte_at, bytes_at, block_count, long}
-use Rattle.adf_block.specs.Fields.{format_of}
-use Rattle.ados_model.specs.Tree.{data_size, data_start}
-use Rattle.ados_model.specs.File.{data_block, contents, ReadableFile, pointer_block}
 use Rattle.ados_data.proofs.Sizes.{same_block, whole_block, next_holder, same_holder}
 use Rattle.ados_data.proofs.Places.{data_is, byte_is, byte_within, holder_of}
-use Rattle.adf_block.proofs.Blocks.{byte-bytes_at}
-use Rattle.adf_block.specs.declared.layout.TheConstants.{FIRST_POINTER, NEXT_EXTENSION}
 
 pub length-bytes_at : (image : List ℕ) (b i n : ℕ) → b < block_count image → i + n ≤ 512 → length (bytes_at image b i n) ≡ n
 unfolding bytes_at

@@ -1,9 +1,5 @@
 -- Numbers of blocks and bytes.
-use Rattle.std.proofs.Common.{◌≡◌, ◌≢◌, ℕ, ◌+◌, ◌-◌, ◌*◌, ◌/◌, ◌%◌, ◌<◌, ◌≤◌, min, arith}
-use Rattle.std.proofs.Math.Nat.{mod-lt}
-use Rattle.adf_block.specs.declared.layout.Format.{Format}
-use Rattle.adf_block.specs.declared.layout.Format.TheVariants.{Ofs, Ffs}
-use Rattle.ados_model.specs.Tree.{block_cost, data_size, data_start, data_count, extension_count}
+use Rattle.ados_data.proofs.Common.{◌≡◌, ◌≢◌, ℕ, ◌+◌, ◌-◌, ◌*◌, ◌/◌, ◌%◌, ◌<◌, ◌≤◌, min, arith, mod-lt, Format, Ofs, Ffs, block_cost, data_size, data_start, data_count, extension_count}
 
 -- the bytes after byte `at` in its data block
 pub same_block : (format : Format) (at j : ℕ) → at % data_size format + j < data_size format → ((at + j) / data_size format ≡ at / data_size format) × ((at + j) % data_size format ≡ at % data_size format + j)

@@ -1,15 +1,6 @@
 -- A file without its bytes, block by block, through the steps of a change.
-use Rattle.std.proofs.Common.{◌≡◌, ℕ, zero, suc, ◌+◌, ◌-◌, ◌*◌, ◌/◌, ◌%◌, ◌<◌, ◌≤◌, min, List, ◌∷◌, length, slice_index, refl, sym, ap, ap₂, ◌∙◌, arith, ◌≢◌, inl, inr, [], ◌++◌, take, subst}
-use Rattle.adf_block.specs.declared.layout.TheConstants.{FIRST_POINTER, FILE_SIZE, NEXT_EXTENSION, SECONDARY_TYPE, PARENT}
-use Rattle.adf_block.specs.declared.layout.Format.{Format}
-use Rattle.adf_block.specs.declared.layout.Format.TheVariants.{Ofs}
-use Rattle.adf_block.specs.Image.{long, block_sum}
-use Rattle.ados_model.specs.Stands.{HasExtension, HasOfsData, HasFile}
-use Rattle.ados_model.specs.File.{file_byte}
+use Rattle.ados_data.proofs.Common.{◌≡◌, ℕ, zero, suc, ◌+◌, ◌-◌, ◌*◌, ◌/◌, ◌%◌, ◌<◌, ◌≤◌, min, List, ◌∷◌, length, slice_index, refl, sym, ap, ap₂, ◌∙◌, arith, ◌≢◌, inl, inr, [], ◌++◌, take, subst, FIRST_POINTER, FILE_SIZE, NEXT_EXTENSION, SECONDARY_TYPE, PARENT, Format, Ofs, long, block_sum, HasExtension, HasOfsData, HasFile, file_byte, chain_head, cases_lt, cases_eq, length_push, length-take-le}
 use Rattle.ados_data.proofs.Chains.{next_of, chained}
-use Rattle.ados_model.proofs.FileFaults.{chain_head}
-use Rattle.std.proofs.lemmas.Bool.{cases_lt, cases_eq}
-use Rattle.std.proofs.lemmas.List.{length_push, length-take-le}
 use Rattle.ados_data.proofs.Untouched.{Untouched, untouched_long, untouched_sum, extension_kept}
 use Rattle.ados_data.proofs.Lists.{pushed_before, pushed_last, pushed_past, head_pushed_before, taken_before, taken_past, head_taken}
 

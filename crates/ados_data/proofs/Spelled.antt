@@ -1,14 +1,6 @@
 -- The lists in a file's blocks are the lists that the file has.
-use Rattle.std.proofs.Common.{◌≡◌, ℕ, zero, suc, ◌+◌, ◌/◌, ◌%◌, ◌<◌, ◌≤◌, List, ◌∷◌, length, map, slice_index, refl, sym, ap, ◌∙◌, subst, arith}
+use Rattle.ados_data.proofs.Common.{◌≡◌, ℕ, zero, suc, ◌+◌, ◌/◌, ◌%◌, ◌<◌, ◌≤◌, List, ◌∷◌, length, map, slice_index, refl, sym, ap, ◌∙◌, subst, arith, ext_get_or, length-map-range_with_len, get_or-map-range_with_len, long, pointer, file_size, format_of, NEXT_EXTENSION, data_count, extension_count, HasFile, file_byte, IsLawful, LawfulFile, pointer_block, data_block, data_blocks, extension_blocks, contents}
 use Rattle.std.specs.List.{range_with_len}
-use Rattle.std.proofs.lemmas.List.{ext_get_or}
-use Rattle.std.proofs.lemmas.List.FromFn.{length-map-range_with_len, get_or-map-range_with_len}
-use Rattle.adf_block.specs.Image.{long}
-use Rattle.adf_block.specs.Fields.{pointer, file_size, format_of}
-use Rattle.adf_block.specs.declared.layout.TheConstants.{NEXT_EXTENSION}
-use Rattle.ados_model.specs.Tree.{data_count, extension_count}
-use Rattle.ados_model.specs.Stands.{HasFile}
-use Rattle.ados_model.specs.File.{file_byte, IsLawful, LawfulFile, pointer_block, data_block, data_blocks, extension_blocks, contents}
 use Rattle.ados_data.proofs.Chains.{next_of}
 
 -- a list by its elements, as a function of their positions

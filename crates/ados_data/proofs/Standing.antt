@@ -1,26 +1,9 @@
 -- A file that can be changed, through the steps of a change, and a block that is allocated.
-use Rattle.std.proofs.Common.{◌≡◌, ◌≢◌, ℕ, ◌<◌, ◌≤◌, ◌⊎◌, inl, inr, false, cond, eqb, List, ◌∷◌, length, slice_index, refl, sym, ap, ◌∙◌, subst, arith}
-use Rattle.std.proofs.lemmas.Bool.{false≢true}
-use Rattle.adf_block.specs.declared.layout.TheConstants.{FILE_SIZE}
-use Rattle.adf_block.specs.declared.layout.Format.{Format}
-use Rattle.adf_block.specs.declared.layout.Format.TheVariants.{Ofs, Ffs}
-use Rattle.adf_block.specs.Image.{long, block_count, root_key, has_free_bit, IsInside, byte_at}
-use Rattle.adf_block.specs.Whole.{IsSize, free_bit_count}
-use Rattle.adf_block.specs.Fields.{format_of}
-use Rattle.adf_block.specs.Frame.{SameBut, InBlock, OnlyBlock}
-use Rattle.adf_block.proofs.Frames.{same_long, same_count, other_block_sum}
-use Rattle.ados_map.specs.Pages.{pages_of, page_block, page_of, HasBit, LawfulPages, IsLowestFree}
-use Rattle.ados_map.specs.Changes.{MapPlace, BitChanged}
-use Rattle.ados_model.specs.Tree.{data_count, extension_count}
-use Rattle.ados_model.specs.Stands.{HasFile}
-use Rattle.ados_model.specs.File.{file_byte, AreApart, extension_blocks, contents}
-use Rattle.ados_data.specs.Changing.{IsInUse, LawfulMap, IsWritable, WritableFile}
-use Rattle.ados_data.specs.steps.Blocks.{IsNewBlock}
+use Rattle.ados_data.proofs.Common.{◌≡◌, ◌≢◌, ℕ, ◌<◌, ◌≤◌, ◌⊎◌, inl, inr, false, cond, eqb, List, ◌∷◌, length, slice_index, refl, sym, ap, ◌∙◌, subst, arith, false≢true, FILE_SIZE, Format, Ofs, Ffs, long, block_count, root_key, has_free_bit, IsInside, byte_at, IsSize, free_bit_count, format_of, SameBut, InBlock, OnlyBlock, same_long, same_count, other_block_sum, pages_of, page_block, page_of, HasBit, LawfulPages, IsLowestFree, MapPlace, BitChanged, data_count, extension_count, HasFile, file_byte, AreApart, extension_blocks, contents, IsInUse, LawfulMap, IsWritable, WritableFile, IsNewBlock, bit_of_inside}
 use Rattle.ados_data.proofs.Spelled.{data_blocks_are, extension_blocks_are, contents_are}
 use Rattle.ados_data.proofs.Untouched.{Untouched}
 use Rattle.ados_data.proofs.Skeleton.{Skeleton, skeleton_of, file_of, untouched_holder, untouched_data, skeleton_kept}
 use Rattle.ados_data.proofs.Marks.{as_many, page_kept, in_use_kept, mark_kept, map_after, map_kept, lawful_pages_kept, one_less}
-use Rattle.ados_map.proofs.MarkLemmas.{bit_of_inside}
 
 -- a file without its bytes; the bitmap is lawful and all blocks of the file are in use
 pub record Standing (image : List ℕ) (format : Format) (file : ℕ) (blocks extensions : List ℕ) (size : ℕ) : Type 0 where

@@ -1,14 +1,5 @@
 -- Blocks that a change leaves untouched, or all but some longs of them, and blocks without contents.
-use Rattle.std.proofs.Common.{◌≡◌, ℕ, ◌%◌, ◌^◌, ◌<◌, List, ap, ◌∙◌, arith, ◌≢◌, ◌+◌, ◌*◌, inl, inr, sym, ◌⊎◌}
-use Rattle.adf_block.specs.declared.layout.TheConstants.{SECONDARY_TYPE, PARENT}
-use Rattle.adf_block.specs.Image.{byte_at, long, block_sum}
-use Rattle.adf_block.proofs.Longs.{long-same, long-bytes}
-use Rattle.adf_block.proofs.Totals.{total-same}
-use Rattle.ados_model.specs.Stands.{HasExtension}
-use Rattle.std.proofs.lemmas.Bool.{cases_eq}
-use Rattle.adf_block.specs.Frame.{SameBut}
-use Rattle.adf_block.proofs.Frames.{same_long, same_sum}
-use Rattle.ados_data.specs.steps.Edits.{AtField}
+use Rattle.ados_data.proofs.Common.{◌≡◌, ℕ, ◌%◌, ◌^◌, ◌<◌, List, ap, ◌∙◌, arith, ◌≢◌, ◌+◌, ◌*◌, inl, inr, sym, ◌⊎◌, SECONDARY_TYPE, PARENT, byte_at, long, block_sum, long-same, long-bytes, total-same, HasExtension, cases_eq, SameBut, same_long, same_sum, AtField}
 
 -- each byte of the block is unchanged
 abbrev pub Untouched : List ℕ → List ℕ → ℕ → Type 0

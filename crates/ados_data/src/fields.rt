@@ -1,11 +1,9 @@
 //! The fields that lead to a file's data.
 
-ghost use Rattle.std.specs.Prelude.{◌≡◌, ◌<◌, ◌-◌, ◌%◌, length};
-ghost use Rattle.adf_block.specs.Image.{block_count, bytes_at, long};
+ghost use Rattle.std.specs.Prelude.{◌≡◌, ◌<◌, ◌-◌, ◌%◌};
+ghost use Rattle.adf_block.specs.Image.{block_count, long};
 ghost use Rattle.adf_block.specs.Fields.{format_of};
-ghost use Rattle.ados_model.specs.Tree.{data_size, data_start};
 
-use crate::cost::data_start;
 use adf_block::layout::{FIRST_POINTER, TABLE_LONGS};
 use adf_block::{Format, Image};
 
@@ -22,13 +20,4 @@ pub fn data_block(image: &Image, holder: u32, i: u64) -> u32
     ensures { result ≡ long image.now holder (FIRST_POINTER - i % TABLE_LONGS) }
 {
     image.long(holder, FIRST_POINTER - (i % TABLE_LONGS as u64) as u32)
-}
-
-/// The data bytes of a data block: 488 bytes after the header in OFS, all 512 in FFS.
-pub fn data_in(image: &Image, format: Format, block: u32) -> &[u8]
-    requires { block < block_count image.now }
-    ensures bytes { result.now ≡ bytes_at image.now block (data_start format) (data_size format) }
-    ensures length { length result.now ≡ data_size format }
-{
-    &image.block(block)[data_start(format)..]
 }

@@ -4,8 +4,8 @@ ghost use Rattle.std.specs.Prelude.{◌≡◌, ◌++◌, ◌-◌, min, take, dro
 ghost use Rattle.ados_model.specs.File.{ReadableFile, contents};
 ghost use Rattle.ados_data.specs.Place.{IsPlace};
 
-use crate::cost::data_size;
-use crate::fields::{data_block, data_in};
+use crate::cost::{data_size, data_start};
+use crate::fields::data_block;
 use crate::place::{Place, pointer_block};
 use adf_block::Image;
 use adf_block::layout::{FILE_SIZE, NEXT_EXTENSION, TABLE_LONGS};
@@ -41,7 +41,7 @@ pub fn read_near(image: &Image, file: u32, near: Place, pos: u64, buffer: &mut [
         let i = at / room as u64;
         let from = (at % room as u64) as usize;
         let part = (room - from).min(count - done);
-        let found = data_in(image, format, data_block(image, holder, i));
+        let found = &image.block(data_block(image, holder, i))[data_start(format)..];
         buffer[done..done + part].copy_from_slice(&found[from..from + part]);
         done += part;
         if (at + part as u64) % (TABLE_LONGS as u64 * room as u64) == 0 {

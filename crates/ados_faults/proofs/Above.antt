@@ -1,6 +1,5 @@
 -- The extension blocks above a block, one at a time.
-use Rattle.std.proofs.Common.{◌≡◌, ℕ, suc, ◌+◌, ◌-◌, ◌<◌, Bool, true, if◌then◌else◌, List, Option, Some, None, refl, ap, ◌∙◌, arith}
-use Rattle.ados_faults.proofs.Common.{option_and_then, option_map, mark_at, Mark, extensions_to, is_extension}
+use Rattle.ados_faults.proofs.Common.{◌≡◌, ℕ, suc, ◌+◌, ◌-◌, ◌<◌, Bool, true, if◌then◌else◌, List, Option, Some, None, refl, ap, ◌∙◌, arith, option_and_then, option_map, mark_at, Mark, extensions_to, is_extension}
 
 -- as far as p extension blocks lead
 abbrev IsOn : List (Option Mark) → ℕ → ℕ → ℕ → ℕ → Type 0

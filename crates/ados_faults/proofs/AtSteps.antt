@@ -1,10 +1,6 @@
 -- Each fault that an image shows is noted at a step of the walk, or shows only further.
-use Rattle.std.proofs.Common.{◌≡◌, ◌≢◌, ℕ, ◌+◌, ◌<◌, ◌⊎◌, List, Bool, length, get_or, None, Some, inl, inr, refl, sym, ◌∙◌, subst}
-use Rattle.ados_faults.proofs.Common.{slice_get, none-some, slice_get-get_or, slice_get_within, unwrap_or-slice_get, text_at, block_sum, own_key, parent_key, NAME_BYTE, FaultKind, NotADosDisk, UnsupportedKind, BadSum, BadType, BadOwnKey, BadParent, BadPointer, BlockUsedTwice, WrongChain, BadName, DuplicateName, BadComment, BadCount, BadSequence, LinkEntry, MarkedFree, NoMemory, Role, Root, Page, Entry, Data, Extension, HasName, HasSum, Reached, Shows, root_of, BreaksRule, kind_of_data, Sequence, TooFew, TooMany, Link, HasBadField, HasBadTypeAs, HasOtherCount, kind_of, NoLink, OwnKey, Parent, Name, Chain, Comment, PointerCount, FirstData, IsOtherKind, Step, AreLookedAt, IsLookedAt, AreStillNoted, IsNoted, cell_of, Part, Directory, Slot, DataFile, ExtensionFile, AreCovered, IsListed, number_of, step_of, AreOutsideNoted, AreTwiceNoted, IsMarkedFree, only_root}
-use Rattle.ados_name.specs.Name.{slot}
+use Rattle.ados_faults.proofs.Common.{◌≡◌, ◌≢◌, ℕ, ◌+◌, ◌<◌, ◌⊎◌, List, Bool, length, get_or, None, Some, inl, inr, refl, sym, ◌∙◌, subst, slice_get, none-some, slice_get-get_or, slice_get_within, unwrap_or-slice_get, text_at, block_sum, own_key, parent_key, NAME_BYTE, FaultKind, NotADosDisk, UnsupportedKind, BadSum, BadType, BadOwnKey, BadParent, BadPointer, BlockUsedTwice, WrongChain, BadName, DuplicateName, BadComment, BadCount, BadSequence, LinkEntry, MarkedFree, NoMemory, Role, Root, Page, Entry, Data, Extension, HasName, HasSum, Reached, Shows, root_of, BreaksRule, kind_of_data, Sequence, TooFew, TooMany, Link, HasBadField, HasBadTypeAs, HasOtherCount, kind_of, NoLink, OwnKey, Parent, Name, Chain, Comment, PointerCount, FirstData, IsOtherKind, Step, AreLookedAt, IsLookedAt, AreStillNoted, IsNoted, cell_of, Part, Directory, Slot, DataFile, ExtensionFile, AreCovered, IsListed, number_of, step_of, AreOutsideNoted, AreTwiceNoted, IsMarkedFree, only_root, slot, DataRule, FieldRule}
 use Rattle.ados_model.specs.Faults
-use Rattle.ados_check.specs.declared.data_rules.DataRule.{DataRule}
-use Rattle.ados_check.specs.declared.rules.FieldRule.{FieldRule}
 use Rattle.ados_faults.proofs.Covering.{data_listed, data_role, directory_role, entry_listed, extension_listed, extension_role, other_number, page_listed, slot_role}
 
 has_name : (image : List ℕ) (block : ℕ) → Faults.HasBadName image block → HasName image block

@@ -1,12 +1,7 @@
 -- The data blocks of a file, by the blocks whose pointers name them.
-use Rattle.std.proofs.Common.{◌≡◌, ◌≢◌, ℕ, ◌+◌, ◌-◌, ◌*◌, ◌^◌, ◌<◌, ◌≤◌, min, ◌==◌, inl, inr, Bool, true, false, List, [], ◌∷◌, ◌++◌, length, take, drop, flat_map, slice_index, get_or, replicate, set, Option, Some, None, refl, sym, ap, ◌∙◌, subst, arith, length-set, get_or-set_same, get_or-set_other}
-use Rattle.std.proofs.lemmas.Grind.{flat_map-append}
-use Rattle.std.proofs.lemmas.List.Sums.{sum_by-append}
-use Rattle.ados_faults.proofs.Common.{All, slice_get, is_some, cases_eq, cases_lt, eqb-false, eqb-true, false≢true, le-ltb, lt-leb, lt-ltb, or_cases, or_parts, append-nil, drop_more, get_or_append_left, get_or-append-add, get_or_default, get_or_push, take_more, length-append, length-replicate, length_push, take-append-drop, All-append, get_or_from_slice_get, none-some, same_Some, slice_get-get_or, slice_get_within, block_count, held_count, pointer, pointer_count, sequence_number, BadSequence, InImage, pointers_of, BreaksRule, kind_of_data, Sequence, AreHeaders, IsPiece, first_in, next_in, AreAllSeen, AreHeld, ArePlacesNoted, IsHeaderSeen, IsHeld, IsOneNoted, IsPieceNoted, IsPlaceNoted, is_known, AreStillNoted, cell_of, IsNoted}
+use Rattle.ados_faults.proofs.Common.{flat_map, ◌≡◌, ◌≢◌, ℕ, ◌+◌, ◌-◌, ◌*◌, ◌^◌, ◌<◌, ◌≤◌, min, ◌==◌, inl, inr, Bool, true, false, List, [], ◌∷◌, ◌++◌, length, take, drop, slice_index, get_or, replicate, set, Option, Some, None, refl, sym, ap, ◌∙◌, subst, arith, length-set, get_or-set_same, get_or-set_other, flat_map-append, sum_by-append, All, slice_get, is_some, cases_eq, cases_lt, eqb-false, eqb-true, false≢true, le-ltb, lt-leb, lt-ltb, or_cases, or_parts, append-nil, drop_more, get_or_append_left, get_or-append-add, get_or_default, get_or_push, take_more, length-append, length-replicate, length_push, take-append-drop, All-append, get_or_from_slice_get, none-some, same_Some, slice_get-get_or, slice_get_within, block_count, held_count, pointer, pointer_count, sequence_number, BadSequence, InImage, pointers_of, BreaksRule, kind_of_data, Sequence, AreHeaders, IsPiece, first_in, next_in, AreAllSeen, AreHeld, ArePlacesNoted, IsHeaderSeen, IsHeld, IsOneNoted, IsPieceNoted, IsPlaceNoted, is_known, AreStillNoted, cell_of, IsNoted, DataRule, Piece}
 use Rattle.ados_model.proofs.FileBlocks.{first_pointers-at, length-first_pointers}
-use Rattle.ados_check.specs.declared.data_rules.DataRule.{DataRule}
 use Rattle.ados_check.proofs.Pointers.{pointers_are}
-use Rattle.ados_faults.specs.declared.pieces.Piece.{Piece}
 use Rattle.ados_faults.specs.declared.pieces.Seen.{Seen}
 use Rattle.ados_faults.proofs.FileNotes.{placed_on}
 use Rattle.ados_faults.proofs.Firsts.{same_there}

@@ -1,7 +1,5 @@
 -- The cells of faults, and the faults in the order of their cells.
-use Rattle.std.proofs.Common.{◌≡◌, ◌≢◌, ℕ, zero, suc, ◌+◌, ◌<◌, ◌≤◌, ◌⊎◌, inl, inr, Bool, true, false, List, [], ◌∷◌, ◌++◌, length, get_or, set, refl, sym, ap, ap₂, ◌∙◌, subst, arith, length-set, get_or-set_same, get_or-set_other}
-use Rattle.ados_faults.proofs.Common.{cases_Bool, cases_eq, cases_lt, cases_order, false≢true, get_or_default, length_push, All-push, Contains-append_left, Contains-push, All, AllPairs, Contains, all_pairs_push, block_count, FaultKind, NotADosDisk, UnsupportedKind, BadSum, BadType, BadOwnKey, BadParent, BadPointer, BlockUsedTwice, WrongChain, BadName, DuplicateName, BadComment, BadCount, BadSequence, LinkEntry, MarkedFree, NoMemory, Shows, AreFirstFaults, ShowsMoreThan, fault_of, rank, StandsBefore, AreListed, AreNoted, AreStillNoted, IsFull, IsNoted, ListsNoted, cell_at, cell_of}
-use Rattle.ados_model.specs.declared.fault.VolumeFault.{VolumeFault}
+use Rattle.ados_faults.proofs.Common.{◌≡◌, ◌≢◌, ℕ, zero, suc, ◌+◌, ◌<◌, ◌≤◌, ◌⊎◌, inl, inr, Bool, true, false, List, [], ◌∷◌, ◌++◌, length, get_or, set, refl, sym, ap, ap₂, ◌∙◌, subst, arith, length-set, get_or-set_same, get_or-set_other, cases_Bool, cases_eq, cases_lt, cases_order, false≢true, get_or_default, length_push, All-push, Contains-append_left, Contains-push, All, AllPairs, Contains, all_pairs_push, block_count, FaultKind, NotADosDisk, UnsupportedKind, BadSum, BadType, BadOwnKey, BadParent, BadPointer, BlockUsedTwice, WrongChain, BadName, DuplicateName, BadComment, BadCount, BadSequence, LinkEntry, MarkedFree, NoMemory, Shows, AreFirstFaults, ShowsMoreThan, fault_of, rank, StandsBefore, AreListed, AreNoted, AreStillNoted, IsFull, IsNoted, ListsNoted, cell_at, cell_of, VolumeFault}
 
 all_kinds : List FaultKind
 all_kinds = NotADosDisk ∷ UnsupportedKind ∷ BadSum ∷ BadType ∷ BadOwnKey ∷ BadParent ∷ BadPointer ∷ BlockUsedTwice ∷ WrongChain ∷ BadName ∷ DuplicateName ∷ BadComment ∷ BadCount ∷ BadSequence ∷ LinkEntry ∷ MarkedFree ∷ NoMemory ∷ []

@@ -1,7 +1,6 @@
 -- Marks and steps of a walk; that each block a marked one names is marked in the end, and that the steps cover each
 -- role in which a block is reached.
-use Rattle.std.proofs.Common.{◌≡◌, ◌≢◌, ℕ, ◌+◌, ◌-◌, ◌<◌, ◌≤◌, ◌⊎◌, inl, inr, Bool, List, [], ◌∷◌, ◌++◌, length, Some, None, set, refl, sym, ap, ◌∙◌, subst, arith}
-use Rattle.ados_faults.proofs.Common.{All, slice_get, cases_eq, cases_lt, length_push, get_or_push, get_or_append_left, All-push, same_Some, slice_get-get_or, slice_get_within, IsImage, block_count, long, page_count, FIRST_POINTER, NEXT_IN_CHAIN, NEXT_EXTENSION, Role, Root, Page, Entry, Data, Extension, BadPointer, BlockUsedTwice, InImage, IsPlace, IsUsedTwice, LeadsInside, PlaceNames, Reached, root_of, root_page, root_slot, directory_slot, next_entry, header_pointer, first_extension, extension_pointer, further_extension, two_holders, two_longs, root_named, start, named, Mark, mark_at, IsMarkedMore, marked_more, place_not_root, Part, Directory, Slot, DataFile, ExtensionFile, Taken, Step, AreClosed, IsMarked, IsNamedAs, Marks, root_mark, IsNoted, cell_of, AreBacked, AreCovered, AreCoveredBy, IsCovered, IsListed, number_of, root_step, step_of, AreKept, AreOutsideNoted, AreTwiceNoted, AreVisited, IsMarkedBy, IsMetBy, IsPassed, IsStep, IsVisited, IsWalked}
+use Rattle.ados_faults.proofs.Common.{◌≡◌, ◌≢◌, ℕ, ◌+◌, ◌-◌, ◌<◌, ◌≤◌, ◌⊎◌, inl, inr, Bool, List, [], ◌∷◌, ◌++◌, length, Some, None, set, refl, sym, ap, ◌∙◌, subst, arith, All, slice_get, cases_eq, cases_lt, length_push, get_or_push, get_or_append_left, All-push, same_Some, slice_get-get_or, slice_get_within, IsImage, block_count, long, page_count, FIRST_POINTER, NEXT_IN_CHAIN, NEXT_EXTENSION, Role, Root, Page, Entry, Data, Extension, BadPointer, BlockUsedTwice, InImage, IsPlace, IsUsedTwice, LeadsInside, PlaceNames, Reached, root_of, root_page, root_slot, directory_slot, next_entry, header_pointer, first_extension, extension_pointer, further_extension, two_holders, two_longs, root_named, start, named, Mark, mark_at, IsMarkedMore, marked_more, place_not_root, Part, Directory, Slot, DataFile, ExtensionFile, Taken, Step, AreClosed, IsMarked, IsNamedAs, Marks, root_mark, IsNoted, cell_of, AreBacked, AreCovered, AreCoveredBy, IsCovered, IsListed, number_of, root_step, step_of, AreKept, AreOutsideNoted, AreTwiceNoted, AreVisited, IsMarkedBy, IsMetBy, IsPassed, IsStep, IsVisited, IsWalked}
 use Rattle.ados_check.proofs.PlaceLemmas.{place_within}
 use Rattle.ados_faults.specs.declared.walk.Walk.{Walk}
 use Rattle.ados_faults.proofs.Covering.{backed_on, carried, covered_on, data_covered, directory_role, entry_covered, entry_listed, extension_covered, extension_listed, extension_role, none_of_root, slot_role}

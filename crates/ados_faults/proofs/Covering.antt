@@ -1,7 +1,5 @@
 -- The numbers in the roles of a block that a walk takes, and the roles that its steps cover.
-use Rattle.std.proofs.Common.{◌≡◌, ◌≢◌, ℕ, ◌+◌, ◌*◌, ◌<◌, ◌==◌, inl, inr, true, false, List, [], ◌∷◌, length, get_or, replicate, Some, set, refl, sym, ap, ◌∙◌, subst, arith, get_or-set_same, get_or-set_other}
-use Rattle.ados_faults.proofs.Common.{cases_eq, eqb-true, eqb-false, false≢true, not-true, not-false, get_or_default, none-some, same_Some, Role, Root, Page, Entry, Data, Extension, Part, Bitmap, Directory, Slot, DataFile, ExtensionFile, Taken, Step, AreBacked, AreCoveredBy, HasNumber, HasTwo, IsBacked, IsCovered, IsListed, lacks, number_of, part_rank, step_of, taken_at, with_number}
-use Rattle.ados_faults.specs.declared.roles.Taken.TheVariants.{Nothing, One, Two}
+use Rattle.ados_faults.proofs.Common.{◌≡◌, ◌≢◌, ℕ, ◌+◌, ◌*◌, ◌<◌, ◌==◌, inl, inr, true, false, List, [], ◌∷◌, length, get_or, replicate, Some, set, refl, sym, ap, ◌∙◌, subst, arith, get_or-set_same, get_or-set_other, cases_eq, eqb-true, eqb-false, false≢true, not-true, not-false, get_or_default, none-some, same_Some, Role, Root, Page, Entry, Data, Extension, Part, Bitmap, Directory, Slot, DataFile, ExtensionFile, Taken, Step, AreBacked, AreCoveredBy, HasNumber, HasTwo, IsBacked, IsCovered, IsListed, lacks, number_of, part_rank, step_of, taken_at, with_number, Nothing, One, Two}
 use Rattle.ados_faults.proofs.Firsts.{each_same}
 
 -- ---- the cells of the parts

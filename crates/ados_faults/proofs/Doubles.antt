@@ -1,7 +1,5 @@
 -- A block found for the second time.
-use Rattle.std.proofs.Common.{◌≡◌, ◌≢◌, ℕ, ◌*◌, ◌<◌, ◌⊎◌, inl, inr, Bool, List, [], ◌∷◌, length, replicate, Option, Some, None, set, sym, ap, ◌∙◌, subst, arith, length-set}
-use Rattle.ados_faults.proofs.Common.{All, slice_get, cases_order, length-replicate, All-push, IsImage, block_count, Root, InImage, IsUsedTwice, PlaceNames, Reached, root_of, start, two_holders, two_longs, root_named, Mark, mark_at, IsMarkedMore, marked_more, none_marked, Taken, Step, IsNamedAs, root_mark, AreNoted, AreBacked, root_step, IsMet, IsStep, IsWalked}
-use Rattle.ados_faults.specs.declared.roles.Taken.TheVariants.{Nothing}
+use Rattle.ados_faults.proofs.Common.{◌≡◌, ◌≢◌, ℕ, ◌*◌, ◌<◌, ◌⊎◌, inl, inr, Bool, List, [], ◌∷◌, length, replicate, Option, Some, None, set, sym, ap, ◌∙◌, subst, arith, length-set, All, slice_get, cases_order, length-replicate, All-push, IsImage, block_count, Root, InImage, IsUsedTwice, PlaceNames, Reached, root_of, start, two_holders, two_longs, root_named, Mark, mark_at, IsMarkedMore, marked_more, none_marked, Taken, Step, IsNamedAs, root_mark, AreNoted, AreBacked, root_step, IsMet, IsStep, IsWalked, Nothing}
 use Rattle.ados_faults.proofs.Covering.{none_backed}
 use Rattle.ados_faults.proofs.Insides.{root_inside}
 

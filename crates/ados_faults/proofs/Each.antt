@@ -1,6 +1,5 @@
 -- Each fault that an image shows is noted: at a step, in a directory, or at a file.
-use Rattle.std.proofs.Common.{ℕ, ◌+◌, List, Bool, inl, inr, sym, subst, arith}
-use Rattle.ados_faults.proofs.Common.{slice_get, IsImage, FaultKind, DuplicateName, BadCount, Shows, kind_of_data, IsOtherKind, AreAllFilesNoted, IsFileNoted, IsPlaceNoted, AreDuplicatesNoted, AreStillNoted, IsNoted, cell_of}
+use Rattle.ados_faults.proofs.Common.{ℕ, ◌+◌, List, Bool, inl, inr, sym, subst, arith, slice_get, IsImage, FaultKind, DuplicateName, BadCount, Shows, kind_of_data, IsOtherKind, AreAllFilesNoted, IsFileNoted, IsPlaceNoted, AreDuplicatesNoted, AreStillNoted, IsNoted, cell_of}
 use Rattle.ados_model.specs.Faults
 use Rattle.ados_check.proofs.NameLemmas.{length_text}
 use Rattle.ados_check.proofs.UpperNames.{upper_names_equal}

@@ -1,6 +1,5 @@
 -- Lists of blocks with a cell for each block: those of a type, and the entries of a directory.
-use Rattle.std.proofs.Common.{◌≡◌, ◌≢◌, ℕ, ◌+◌, ◌<◌, ◌≤◌, inl, inr, Bool, true, false, List, [], ◌∷◌, ◌++◌, length, get_or, slice_index, replicate, Some, set, refl, sym, ap, ◌∙◌, subst, arith, length-set, get_or-set_same, get_or-set_other}
-use Rattle.ados_faults.proofs.Common.{All, Contains, cases_eq, cases_lt, false≢true, slice_get_within, get_or_append_left, get_or_default, length-replicate, All-pop, All-push, Contains-append_left, Contains-push, Contains-push_cases, block_count, long, FIRST_SLOT, NEXT_IN_CHAIN, TABLE_LONGS, Role, Root, Entry, InImage, IsPlace, LeadsInside, Reached, root_of, root_page, root_slot, directory_slot, next_entry, header_pointer, first_extension, extension_pointer, further_extension, start, named, AreEntriesOf, AreMet, AreNextMet, AreSlotsMet, AreTypesMet, HasTypeAs, HoldsEntries, IsEntryIn, IsGrown, IsOfType, Step, AreCovered, IsListed, step_of, only_root}
+use Rattle.ados_faults.proofs.Common.{◌≡◌, ◌≢◌, ℕ, ◌+◌, ◌<◌, ◌≤◌, inl, inr, Bool, true, false, List, [], ◌∷◌, ◌++◌, length, get_or, slice_index, replicate, Some, set, refl, sym, ap, ◌∙◌, subst, arith, length-set, get_or-set_same, get_or-set_other, All, Contains, cases_eq, cases_lt, false≢true, slice_get_within, get_or_append_left, get_or_default, length-replicate, All-pop, All-push, Contains-append_left, Contains-push, Contains-push_cases, block_count, long, FIRST_SLOT, NEXT_IN_CHAIN, TABLE_LONGS, Role, Root, Entry, InImage, IsPlace, LeadsInside, Reached, root_of, root_page, root_slot, directory_slot, next_entry, header_pointer, first_extension, extension_pointer, further_extension, start, named, AreEntriesOf, AreMet, AreNextMet, AreSlotsMet, AreTypesMet, HasTypeAs, HoldsEntries, IsEntryIn, IsGrown, IsOfType, Step, AreCovered, IsListed, step_of, only_root}
 use Rattle.ados_faults.proofs.Covering.{entry_listed}
 use Rattle.ados_faults.proofs.Firsts.{each_same}
 
@@ -157,6 +156,9 @@ next_more image blocks later n entry is within m grown this = record { met = go 
           subst (λ (b : ℕ). Contains later (long image b NEXT_IN_CHAIN)) (sym e) (this (subst (λ (b : ℕ). LeadsInside image b NEXT_IN_CHAIN) e inside))
     ]
 
+same_dir : (x y s t : ℕ) → Entry x s ≡ Entry y t → x ≡ y
+same_dir x y s t e = cc e
+
 pub all_entries : (image : List ℕ) (dir : ℕ) (blocks : List ℕ) (n : ℕ) → All (IsEntryIn image dir) blocks → AreSlotsMet image dir blocks 72 → AreNextMet image blocks n → length blocks ≤ n → AreEntriesOf image dir blocks
 all_entries image dir blocks n entries slots next all = record { entries = entries; each = λ block s h. complete h s refl }
   where
@@ -169,18 +171,11 @@ all_entries image dir blocks n entries slots next all = record { entries = entri
         let e : slice_index blocks c.0 ≡ h = get_or_default blocks c.0 0 h c.1 ∙ c.2 in
         subst (λ (b : ℕ). Contains blocks (long image b NEXT_IN_CHAIN)) e (next.met c.0 (omega (arith, c.1, all)) c.1 (subst (λ (b : ℕ). LeadsInside image b NEXT_IN_CHAIN) (sym e) inside))
 
-    same_dir : (x y s t : ℕ) → Entry x s ≡ Entry y t → x ≡ y
-    same_dir x y s t e = cc e
-
     placed : {h i : ℕ} {role next : Role} → IsPlace image h role i next → LeadsInside image h i → ((t : ℕ) → role ≡ Entry dir t → Contains blocks h) → (s : ℕ) → next ≡ Entry dir s → Contains blocks (long image h i)
-    placed (root_page l) inside before s e = absurd (cc e)
     placed {h = h} (root_slot {s = t} l n) inside before s e = here h t (same_dir h dir t s e) l inside
     placed {h = h} (directory_slot {s = t} d l n) inside before s e = here h t (same_dir h dir t s e) l inside
     placed {h = h} (next_entry n) inside before s e = behind h (before s e) inside
-    placed (header_pointer d p) inside before s e = absurd (cc e)
-    placed (first_extension d n) inside before s e = absurd (cc e)
-    placed (extension_pointer p) inside before s e = absurd (cc e)
-    placed (further_extension n) inside before s e = absurd (cc e)
+    placed _ inside before s e = absurd (cc e)
 
     complete : {block : ℕ} {role : Role} → Reached image block role → (s : ℕ) → role ≡ Entry dir s → Contains blocks block
     complete start s e = absurd (cc e)
@@ -191,9 +186,6 @@ pub dir_of : (image : List ℕ) (dir : ℕ) {block : ℕ} {role : Role} → Reac
 dir_of image dir start s e = absurd (cc e)
 dir_of image dir (named h place inside) s e = held h place (λ t f. dir_of image dir h t f) s e
   where
-    same_dir : (x y s t : ℕ) → Entry x s ≡ Entry y t → x ≡ y
-    same_dir x y s t e = cc e
-
     held : {h i : ℕ} {role next : Role} → Reached image h role → IsPlace image h role i next → ((t : ℕ) → role ≡ Entry dir t → HoldsEntries image dir) → (s : ℕ) → next ≡ Entry dir s → HoldsEntries image dir
     held r (root_page l) before s e = absurd (cc e)
     held {h = h} r (root_slot {s = t} l n) before s e = inl (sym (same_dir h dir t s e) ∙ only_root r refl)

@@ -1,6 +1,5 @@
 -- What files show stays noted, and is noted file by file.
-use Rattle.std.proofs.Common.{◌≡◌, ℕ, ◌+◌, inl, inr, List, Bool, Option, get_or, ◌∙◌, subst, arith}
-use Rattle.ados_faults.proofs.Common.{slice_get, kind_of_data, BadCount, AreDataBlocks, IsFile, FILE_TYPE, IsOfType, AreBlocksNoted, ArePlacesNoted, IsFileNoted, IsPlaceNoted, AreStillNoted, cell_of}
+use Rattle.ados_faults.proofs.Common.{◌≡◌, ℕ, ◌+◌, inl, inr, List, Bool, Option, get_or, ◌∙◌, subst, arith, slice_get, kind_of_data, BadCount, AreDataBlocks, IsFile, FILE_TYPE, IsOfType, AreBlocksNoted, ArePlacesNoted, IsFileNoted, IsPlaceNoted, AreStillNoted, cell_of}
 use Rattle.ados_faults.proofs.SameBlocks.{same_blocks}
 
 module _ (image : List ℕ) (cells later : List Bool) (on : AreStillNoted cells later) where

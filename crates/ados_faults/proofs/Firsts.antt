@@ -1,6 +1,5 @@
 -- What holds for the first elements of a list, as many as a number says.
-use Rattle.std.proofs.Common.{◌≡◌, ℕ, ◌+◌, ◌<◌, ◌≤◌, inl, inr, List, length, get_or, replicate, Some, sym, ap, ◌∙◌, subst, arith}
-use Rattle.ados_faults.proofs.Common.{Contains, slice_get, cases_lt, get_or_past, get_or-replicate, length-replicate, same_Some, slice_get-get_or, slice_get_within}
+use Rattle.ados_faults.proofs.Common.{◌≡◌, ℕ, ◌+◌, ◌<◌, ◌≤◌, inl, inr, List, length, get_or, replicate, Some, sym, ap, ◌∙◌, subst, arith, Contains, slice_get, cases_lt, get_or_past, get_or-replicate, length-replicate, same_Some, slice_get-get_or, slice_get_within}
 
 -- one more element
 pub one_more : {A : Type 0} (xs : List A) (P Q : A → Type 0) (n : ℕ) (x : A) → slice_get xs n ≡ Some x → ((y : A) → P y → Q y) → Q x → ((k : ℕ) (y : A) → k < n → slice_get xs k ≡ Some y → P y)

@@ -1,6 +1,5 @@
 -- Reached blocks are inside the image; the blocks that places name are reached.
-use Rattle.std.proofs.Common.{◌≡◌, ℕ, ◌<◌, List, sym, subst, arith}
-use Rattle.ados_faults.proofs.Common.{IsImage, block_count, long, Role, InImage, IsPlace, Reached, root_of, start, named}
+use Rattle.ados_faults.proofs.Common.{◌≡◌, ℕ, ◌<◌, List, sym, subst, arith, IsImage, block_count, long, Role, InImage, IsPlace, Reached, root_of, start, named}
 use Rattle.ados_model.specs.Faults
 
 module _ (image : List ℕ) (im : IsImage image) where

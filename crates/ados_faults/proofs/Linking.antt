@@ -1,7 +1,5 @@
 -- The blocks along links, one more at a time.
-use Rattle.std.proofs.Common.{◌≡◌, ◌≢◌, ℕ, ◌+◌, ◌-◌, ◌<◌, ◌≤◌, inl, inr, List, [], ◌∷◌, ◌++◌, length, get_or, slice_index, refl, sym, ap, ◌∙◌, subst, arith}
-use Rattle.ados_faults.proofs.Common.{Contains, cases_lt, get_or_default, length_push, get_or_push, get_or_append_left, All-push, all_pairs_push, block_count, long, InImage, LinkedOnce, LeadOn, FurtherAreInside, last_link, IsChain}
-use Rattle.ados_model.proofs.KeyLists.{length-once}
+use Rattle.ados_faults.proofs.Common.{◌≡◌, ◌≢◌, ℕ, ◌+◌, ◌-◌, ◌<◌, ◌≤◌, inl, inr, List, [], ◌∷◌, ◌++◌, length, get_or, slice_index, refl, sym, ap, ◌∙◌, subst, arith, Contains, cases_lt, get_or_default, length_push, get_or_push, get_or_append_left, All-push, all_pairs_push, block_count, long, InImage, LinkedOnce, LeadOn, FurtherAreInside, last_link, IsChain, length-once}
 
 -- only the first block
 pub chain_start : (image : List ℕ) (link first : ℕ) → InImage image first → IsChain image link (first ∷ [])

@@ -1,8 +1,5 @@
 -- The rules that a block breaks in each role, noted one by one.
-use Rattle.std.proofs.Common.{◌≡◌, ℕ, ◌+◌, List, All, Bool, Some, arith}
-use Rattle.ados_faults.proofs.Common.{slice_get, kind_of, NoLink, OwnKey, Parent, Name, Chain, Comment, PointerCount, FirstData, BadSum, BadType, MarkedFree, Role, Data, IsOfs, Step, AreLookedAt, AreWrongsNoted, IsFieldNoted, IsLookedAt, AreStillNoted, cell_of}
-use Rattle.ados_check.specs.declared.rules.FieldRule.{FieldRule}
-use Rattle.ados_check.specs.declared.rules.TheConstants.{FIELD_RULES, POINTER_RULES}
+use Rattle.ados_faults.proofs.Common.{All, ◌≡◌, ℕ, ◌+◌, List, Bool, Some, arith, slice_get, kind_of, NoLink, OwnKey, Parent, Name, Chain, Comment, PointerCount, FirstData, BadSum, BadType, MarkedFree, Role, Data, IsOfs, Step, AreLookedAt, AreWrongsNoted, IsFieldNoted, IsLookedAt, AreStillNoted, cell_of, FieldRule, FIELD_RULES, POINTER_RULES}
 use Rattle.ados_faults.proofs.Firsts.{one_more}
 
 -- each rule is in one of the two lists

@@ -1,6 +1,5 @@
 -- The kind of a disk, by its first four bytes.
-use Rattle.std.proofs.Common.{◌≡◌, ℕ, ◌<◌, ◌≤◌, ◌⊎◌, inl, inr, List, length, refl, subst, arith}
-use Rattle.ados_faults.proofs.Common.{byte_at, FaultKind, NotADosDisk, UnsupportedKind, Shows, IsOtherKind, ShowsOtherKind}
+use Rattle.ados_faults.proofs.Common.{◌≡◌, ℕ, ◌<◌, ◌≤◌, ◌⊎◌, inl, inr, List, length, refl, subst, arith, byte_at, FaultKind, NotADosDisk, UnsupportedKind, Shows, IsOtherKind, ShowsOtherKind}
 use Rattle.adf_block.specs.Boot.{HasKind, IsDos}
 use Rattle.adf_block.specs.declared.boot.BootKind.{BootKind}
 use Rattle.adf_block.specs.declared.boot.BootKind.TheVariants.{Ofs, Ffs, OtherDos, NotDos}

@@ -1,8 +1,5 @@
 -- Pairs of a block and a role, one more at a time.
-use Rattle.std.proofs.Common.{◌≡◌, ◌≢◌, ℕ, ◌*◌, ◌≤◌, inl, inr, Bool, true, false, List, [], ◌∷◌, ◌++◌, length, get_or, cond, refl, sym, ◌∙◌, subst, arith}
-use Rattle.std.specs.BTreeSet.{BTreeSet, contains}
-use Rattle.ados_faults.proofs.Common.{is_at, false≢true, all_pairs_push, slice_get-get_or, slice_get_within, block_count, Role, InImage, Reached, Step, IsTangled, ArePairs, key_cmp, key_for, step_of}
-use Rattle.ados_faults.specs.declared.tangled.StepKey.{StepKey}
+use Rattle.ados_faults.proofs.Common.{◌≡◌, ◌≢◌, ℕ, ◌*◌, ◌≤◌, inl, inr, Bool, true, false, List, [], ◌∷◌, ◌++◌, length, get_or, cond, refl, sym, ◌∙◌, subst, arith, BTreeSet, contains, is_at, false≢true, all_pairs_push, slice_get-get_or, slice_get_within, block_count, Role, InImage, Reached, Step, IsTangled, ArePairs, key_cmp, key_for, step_of, StepKey}
 use Rattle.ados_faults.proofs.Closing.{all_steps, pushed_cases}
 
 pub no_pairs : (image : List ℕ) (known : BTreeSet StepKey) → ArePairs image [] known

@@ -1,7 +1,5 @@
 -- A root that is reached in another role is named by a place, and so is one that is a data block of a file.
-use Rattle.std.proofs.Common.{◌≡◌, ℕ, zero, suc, ◌+◌, ◌<◌, ◌⊎◌, inl, inr, Bool, List, [], ◌∷◌, length, slice_index, Contains, refl, sym, ap, ◌∙◌, subst, arith, add-one}
-use Rattle.ados_faults.proofs.Common.{flat_map, cases_lt, get_or_default, Contains-append_cases, Contains-get_or, long, IsImage, pointer, pointer_count, NEXT_EXTENSION, FaultKind, BlockUsedTwice, Role, Root, Entry, Data, Extension, InImage, IsDataAt, IsFile, IsUsedTwice, LinkedOnce, Reached, Shows, pointers_of, root_of, header_pointer, first_extension, extension_pointer, further_extension, root_named, start, named, IsNoted, cell_of}
-use Rattle.ados_model.proofs.KeyLists.{Contains-here, Contains-later, Contains-nil}
+use Rattle.ados_faults.proofs.Common.{Contains, ◌≡◌, ℕ, zero, suc, ◌+◌, ◌<◌, ◌⊎◌, inl, inr, Bool, List, [], ◌∷◌, length, slice_index, refl, sym, ap, ◌∙◌, subst, arith, add-one, flat_map, cases_lt, get_or_default, Contains-append_cases, Contains-get_or, long, IsImage, pointer, pointer_count, NEXT_EXTENSION, FaultKind, BlockUsedTwice, Role, Root, Entry, Data, Extension, InImage, IsDataAt, IsFile, IsUsedTwice, LinkedOnce, Reached, Shows, pointers_of, root_of, header_pointer, first_extension, extension_pointer, further_extension, root_named, start, named, IsNoted, cell_of, Contains-here, Contains-later, Contains-nil}
 use Rattle.ados_faults.proofs.AtSteps.{AreStepsNoted, ShowsFurther, noted_or_further}
 use Rattle.ados_faults.proofs.Insides.{root_inside}
 use Rattle.ados_faults.proofs.ByHeaders.{pointer_at, pointers_few, pointers_none}

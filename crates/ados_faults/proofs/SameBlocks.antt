@@ -1,6 +1,5 @@
 -- A file has one list of data blocks.
-use Rattle.std.proofs.Common.{◌≡◌, ℕ, zero, suc, ◌+◌, ◌-◌, ◌<◌, inl, inr, List, length, slice_index, get_or, sym, ap, ◌∙◌, subst, arith}
-use Rattle.ados_faults.proofs.Common.{Contains, flat_map, cases_order, get_or_default, same_lists, long, NEXT_EXTENSION, AreDataBlocks, InImage, LinkedOnce, last_link, pointers_of}
+use Rattle.ados_faults.proofs.Common.{◌≡◌, ℕ, zero, suc, ◌+◌, ◌-◌, ◌<◌, inl, inr, List, length, slice_index, get_or, sym, ap, ◌∙◌, subst, arith, Contains, flat_map, cases_order, get_or_default, same_lists, long, NEXT_EXTENSION, AreDataBlocks, InImage, LinkedOnce, last_link, pointers_of}
 
 module _ (image : List ℕ) (link first : ℕ) where
   -- two lists along the same links agree, as far as both go

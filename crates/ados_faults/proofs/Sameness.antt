@@ -1,13 +1,9 @@
 -- Entries of one directory whose names are equal in upper case have the same name, and are noted.
-use Rattle.std.proofs.Common.{◌≡◌, ◌≢◌, ℕ, ◌-◌, ◌<◌, ◌≤◌, inl, inr, Bool, true, cond, List, [], ◌∷◌, ◌++◌, length, take, drop, map, replicate, get_or, slice_index, set, Option, Some, None, refl, sym, ap, ap₂, ◌∙◌, subst, arith, ◌+◌, length-set, get_or-set_same, get_or-set_other}
+use Rattle.ados_faults.proofs.Common.{◌≡◌, ◌≢◌, ℕ, ◌-◌, ◌<◌, ◌≤◌, inl, inr, Bool, true, cond, List, [], ◌∷◌, ◌++◌, length, take, drop, map, replicate, get_or, slice_index, set, Option, Some, None, refl, sym, ap, ap₂, ◌∙◌, subst, arith, ◌+◌, length-set, get_or-set_same, get_or-set_other, slice_get, option_and_then, BTreeMap, get, is_at, cases_Bool, cases_eq, cases_lt, get_or_from_slice_get, none-some, same_Some, slice_get-get_or, slice_get_past, slice_get_within, get_or_append_left, get_or_push, length-map, length-replicate, length_push, take_at, IsImage, text_at, block_count, byte_at, DIRECTORY_TYPE, NAME_BYTE, Entry, DuplicateName, HasDuplicateName, HasShortName, Reached, AreEntriesOf, HoldsEntries, IsEntryIn, IsOfType, AreDuplicatesNoted, AreFirstMet, AreFirstNames, AreKnown, AreNamesKept, AreNamesMet, AreNamesNoted, AreStillKnown, HasNameOf, IsFirstName, IsNameMet, name_cmp, named_in, named_of, AreStillNoted, IsNoted, cell_of, Same, upper, upper_name, Named}
 use Rattle.std.specs.FinMap.{nat_cmp-IsAntisymmetric, slice_cmp-IsAntisymmetric}
 use Rattle.std.specs.Map.{lookup}
-use Rattle.ados_faults.proofs.Common.{slice_get, option_and_then, BTreeMap, get, is_at, cases_Bool, cases_eq, cases_lt, get_or_from_slice_get, none-some, same_Some, slice_get-get_or, slice_get_past, slice_get_within, get_or_append_left, get_or_push, length-map, length-replicate, length_push, take_at, IsImage, text_at, block_count, byte_at, DIRECTORY_TYPE, NAME_BYTE, Entry, DuplicateName, HasDuplicateName, HasShortName, Reached, AreEntriesOf, HoldsEntries, IsEntryIn, IsOfType, AreDuplicatesNoted, AreFirstMet, AreFirstNames, AreKnown, AreNamesKept, AreNamesMet, AreNamesNoted, AreStillKnown, HasNameOf, IsFirstName, IsNameMet, name_cmp, named_in, named_of, AreStillNoted, IsNoted, cell_of}
-use Rattle.ados_name.specs.Name.{Same, upper}
 use Rattle.ados_check.proofs.Entered.{is_equal}
 use Rattle.ados_check.proofs.Texts.{length-bytes_at}
-use Rattle.ados_check.specs.Entries.{upper_name}
-use Rattle.ados_faults.specs.declared.names.Named.{Named}
 use Rattle.ados_faults.proofs.Enumerated.{dir_of}
 use Rattle.ados_faults.proofs.Firsts.{one_more, same_there}
 use Rattle.ados_faults.proofs.Insides.{reached_inside}
@@ -26,15 +22,6 @@ names_same image block other im l m short other_short e =
     sym (take_at (map upper (text_at image block NAME_BYTE)) (replicate (30 - byte_at image block NAME_BYTE) 0) (byte_at image other NAME_BYTE) one)
     ∙ tails
     ∙ take_at (map upper (text_at image other NAME_BYTE)) (replicate (30 - byte_at image other NAME_BYTE) 0) (byte_at image other NAME_BYTE) two
-
--- names that are the same are equal in upper case
-pub names_equal : (image : List ℕ) (block other : ℕ) → IsImage image → block < block_count image → other < block_count image
-    → byte_at image block NAME_BYTE ≤ 30 → byte_at image other NAME_BYTE ≤ 30 → Same (text_at image block NAME_BYTE) (text_at image other NAME_BYTE) → upper_name image block ≡ upper_name image other
-unfolding upper_name
-names_equal image block other im l m short other_short e =
-    let sizes : byte_at image block NAME_BYTE ≡ byte_at image other NAME_BYTE =
-    sym (length_text image block im l short) ∙ sym (length-map (text_at image block NAME_BYTE) upper) ∙ ap length e ∙ length-map (text_at image other NAME_BYTE) upper ∙ length_text image other im m other_short in
-    ap₂ (λ (n : ℕ) (text : List ℕ). n ∷ (text ++ replicate (30 - n) 0)) sizes e
 
 pub duplicate : (image : List ℕ) (dir block other : ℕ) → IsImage image → IsEntryIn image dir block → IsEntryIn image dir other → HasShortName image block → HasShortName image other
     → upper_name image block ≡ upper_name image other → block ≢ other → HasDuplicateName image block

@@ -1,8 +1,6 @@
 -- What a search says of the list of its faults.
-use Rattle.std.proofs.Common.{◌≡◌, ℕ, ◌<◌, ◌≤◌, ◌||◌, inl, inr, Bool, true, false, List, [], ◌∷◌, All, Contains, length, refl, sym, ap, ◌∙◌, subst, arith}
-use Rattle.ados_faults.proofs.Common.{cases_Bool, Shows, AreFirstFaults, IsTangled, ListsFaults, ShowsMoreThan, TellsMore, IsFull, ListsNoted}
+use Rattle.ados_faults.proofs.Common.{All, Contains, ◌≡◌, ℕ, ◌<◌, ◌≤◌, ◌||◌, inl, inr, Bool, true, false, List, [], ◌∷◌, length, refl, sym, ap, ◌∙◌, subst, arith, cases_Bool, Shows, AreFirstFaults, IsTangled, ListsFaults, ShowsMoreThan, TellsMore, IsFull, ListsNoted, VolumeFault}
 use Rattle.ados_model.specs.Accepted.{ShowsNoFault}
-use Rattle.ados_model.specs.declared.fault.VolumeFault.{VolumeFault}
 use Rattle.ados_faults.specs.steps.Searched.{IsSearched}
 use Rattle.ados_faults.proofs.Cells.{first_faults}
 
@@ -55,15 +53,15 @@ module _ (image : List ℕ) (enough : ℕ) (cells : List Bool) (is_cut : Bool) (
     firsts : is_cut ≡ false → AreFirstFaults image most more faults
     firsts going = first_faults image cells most more faults (s.each going) full each lists.few lists.in_order
 
+    same : (m : Bool) → is_cut ≡ false → m ≡ (m || is_cut)
+    same true e = refl
+    same false e = sym e
+
     pub first_unless : ¬ IsTangled image → AreFirstFaults image most (more || is_cut) faults
     first_unless plain = elim (cases_Bool is_cut) [
       | inl cut ↦ absurd (plain (s.cut cut).tangled)
       | inr going ↦ subst (λ (m : Bool). AreFirstFaults image most m faults) (same more going) (firsts going)
     ]
-      where
-        same : (m : Bool) → is_cut ≡ false → m ≡ (m || is_cut)
-        same true e = refl
-        same false e = sym e
 
     pub more_exactly : most ≡ enough → TellsMore image most (more || is_cut)
     more_exactly is = elim (cases_Bool is_cut) [
@@ -74,7 +72,3 @@ module _ (image : List ℕ) (enough : ℕ) (cells : List Bool) (is_cut : Bool) (
         over : (m : Bool) → is_cut ≡ true → (m || is_cut) ≡ true
         over true e = refl
         over false e = e
-
-        same : (m : Bool) → is_cut ≡ false → m ≡ (m || is_cut)
-        same true e = refl
-        same false e = sym e

@@ -1,24 +1,25 @@
 -- The names that most of these proofs cite, passed on from one place. Declares nothing.
 pub use Rattle.adf_block.proofs.Frames.{other_long, same_bytes_at, same_count, same_long, same_sum, same_trans, same_weaken}
-pub use Rattle.adf_block.specs.Fields.{file_size, format_of, held_count, parent_key, pointer, pointer_count, table_entry}
+pub use Rattle.adf_block.specs.Fields.{format_of, held_count, pointer_count, table_entry}
 pub use Rattle.adf_block.specs.Frame.{OnlyLong, SameBut}
 unfoldable pub use Rattle.adf_block.specs.Image.{block_sum, byte_at, bytes_at, has_free_bit, long}
 pub use Rattle.adf_block.specs.Image.{Chained, HasText, IsInside, block_count, page_count, root_key, total}
 pub use Rattle.adf_block.specs.Whole.{HasFreeBit, IsImage, text_at}
 pub use Rattle.adf_block.specs.declared.layout.TheConstants.{COMMENT_BYTE, FIRST_PAGE, FIRST_POINTER, FIRST_SLOT, NAME_BYTE, NEXT_DATA, NEXT_EXTENSION, NEXT_IN_CHAIN}
-pub use Rattle.adf_salvage.specs.Sound.{IsSoundHeader, Names}
+pub use Rattle.ados_sound.specs.Sound.{IsSoundHeader}
 pub use Rattle.ados_check.proofs.PlaceLemmas.{place_within}
 pub use Rattle.ados_check.proofs.Roles.{only_root, reached_marked}
 pub use Rattle.ados_faults.proofs.Insides.{reached_inside, root_inside}
 pub use Rattle.ados_map.specs.Pages.{LawfulPages, page_block, pages_of}
-pub use Rattle.ados_mend.specs.Account.{BelongsTo, HasExtensionBlock, IsAccounted, IsNextExtension, IsReached}
+pub use Rattle.ados_sound.specs.Marks.{mark_at}
+pub use Rattle.ados_mend.specs.Reached.{IsReached}
 pub use Rattle.ados_mend.specs.BlockMap.{IsMap, header_tokens, map_of, map_page, meaning_line, object_tokens, owner_letters}
 pub use Rattle.ados_mend.specs.Mendable.{IsMendable, IsPage, ShowsOnlyMendable}
 pub use Rattle.ados_mend.specs.Places.{AreAllPlaces, AreAllPlacesOfEach, Gives, IsPlaceOfReached, NamesBlock, naming_of, position, rank}
 pub use Rattle.ados_mend.specs.Validated.{IsValidated, without_lost}
 pub use Rattle.ados_mend.specs.declared.naming.Place.{Place}
-unfoldable pub use Rattle.ados_mend.specs.steps.Accounting.{unmarked}
-pub use Rattle.ados_mend.specs.steps.Accounting.{Adds, AreAccounted, AreClosed, AreMarkedAfter, HasNoMarks, IsDamagedFile, IsMarked, IsNewAfter, IsOfDamaged, IsOwn, IsOwnIn, IsPieceBlock, OfOne, mark_at}
+unfoldable pub use Rattle.ados_mend.specs.steps.Marks.{unmarked}
+pub use Rattle.ados_mend.specs.steps.Marks.{IsMarked}
 pub use Rattle.ados_mend.specs.steps.Cautious.{AreSafePages, FreedHeadersStay, HasNoLostHeader, IsSafePage}
 pub use Rattle.ados_mend.specs.steps.Kept.{AreKeptLongs, page_long}
 pub use Rattle.ados_mend.specs.steps.Placing.{AreListsBelow, ArePlacesBelow, IsGivenIn, IsListOf}
@@ -30,8 +31,7 @@ pub use Rattle.ados_model.specs.Faults.{AreDataBlocks, HasBadComment, HasBadCoun
 pub use Rattle.ados_model.specs.Faults.IsPlace.{directory_slot, extension_pointer, first_extension, further_extension, header_pointer, next_entry, root_page, root_slot}
 pub use Rattle.ados_model.specs.Faults.IsUsedTwice.{root_named, two_holders, two_longs}
 pub use Rattle.ados_model.specs.Faults.Reached.{named, start}
-unfoldable pub use Rattle.ados_model.specs.File.{data_blocks, extension_blocks}
-pub use Rattle.ados_model.specs.File.{ReadableFile, data_block, file_byte, pointer_block}
+pub use Rattle.ados_model.specs.File.{file_byte}
 pub use Rattle.ados_model.specs.Rebuilt.{HasValidBitmap, IsOfBitmap, Rebuilt}
 pub use Rattle.ados_model.specs.Stands.{Duty, Fits, HasDuty, HasEntry, HasFile, HasNode, HasOfsData, HasRoot, Layout, Named, Stands, date_at, in_slot}
 pub use Rattle.ados_model.specs.Tree.{LeadsToRoot, Node, Proper, Tree, data_count, root}
@@ -40,7 +40,7 @@ pub use Rattle.ados_model.specs.declared.role.Role.{Role}
 pub use Rattle.ados_model.specs.declared.role.Role.TheVariants.{Root}
 pub use Rattle.std.proofs.lemmas.Bool.{and_parts, cases_Bool, cases_eq, cases_lt, eqb-false, false≢true, le-leb, leb-true, lt-leb, lt-ltb, ltb-true, not-true}
 pub use Rattle.std.proofs.lemmas.List.{get_or_append_left, get_or_default, get_or_past, get_or_push, length-drop, length-take, length_push, take_more}
-pub use Rattle.std.proofs.lemmas.List.Elements.{All-contains, All-from_get_or, All-get_or, All-push, Contains-append_cases, Contains-append_left, Contains-append_right, Contains-get_or, Contains-push, Contains-push_cases}
+pub use Rattle.std.proofs.lemmas.List.Elements.{All-contains, All-from_get_or, All-get_or, All-push, Contains-append_left, Contains-get_or, Contains-push}
 pub use Rattle.std.proofs.lemmas.Option.{MatchOption-at_some, none-some, same_Some, slice_get-get_or, slice_get_read, slice_get_within}
 pub use Rattle.std.proofs.lemmas.Result.{IfOk-weaker, on_ok_weaker}
 pub use Rattle.std.specs.List.{AllZip, enumerate_from, range_with_len, slice_get}

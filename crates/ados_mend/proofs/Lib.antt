@@ -1,4 +1,4 @@
--- The bitmap blocks of an image, what stays when only the bitmap changes, the image with a new bitmap; the marks of the account; and the places that name blocks.
+-- The bitmap blocks of an image, what stays when only the bitmap changes, the image with a new bitmap; marks of blocks; and the places that name blocks.
 pub mod Common
 pub mod PageFaults
 pub mod PageRoles
@@ -17,9 +17,6 @@ pub mod SettlingPages
 pub mod Renewed
 mod Numbered
 pub mod Marking
-pub mod Walking
-pub mod OwnBlocks
-pub mod AllKinds
 pub mod Reaching
 pub mod Placing
 pub mod PlaceLists

@@ -6,7 +6,7 @@ use Rattle.ados_mend.specs.declared.reached.Step.{Step}
 use Rattle.ados_mend.specs.declared.reached.Walk.{Walk}
 use Rattle.ados_mend.specs.steps.Reaching.{cell}
 use Rattle.ados_mend.proofs.Marking.{still_marked}
-use Rattle.ados_mend.proofs.Walking.{fewer_unmarked}
+use Rattle.ados_mend.proofs.Marking.{fewer_unmarked}
 
 -- ---- the forms of roles
 

@@ -4,7 +4,7 @@ use Rattle.adf_block.specs.declared.layout.TheConstants.{DATA_TYPE, DIRECTORY_TY
 use Rattle.adf_block.specs.Fields.{primary_type, secondary_type}
 use Rattle.adf_block.specs.Image.{block_sum, long, total}
 use Rattle.adf_block.specs.Whole.{HasFreeBit}
-use Rattle.adf_salvage.specs.Sound.{IsSoundHeader}
+use Rattle.ados_sound.specs.Sound.{IsSoundHeader}
 use Rattle.ados_model.specs.declared.role.Role.{Role}
 use Rattle.ados_model.specs.Faults.{InImage, Reached}
 use Rattle.ados_mend.specs.declared.caution.Caution.{Caution}

@@ -1,6 +1,6 @@
 //! The bitmap of an image, written anew: where nothing else is faulty, and without force only where nothing may be lost
-//! with the old one. The map of a volume, a letter for each block. And the account of an image: its blocks that are used and
-//! belong to nothing that a salvage tells. And the places that name a block of any image.
+//! with the old one. The map of a volume, a letter for each block. And the blocks of any image that are reached, and the places
+//! that name a block.
 #![tactic(auto)]
 
 // The answers.
@@ -25,21 +25,15 @@ mod validating;
 mod block_map;
 mod map_object;
 
-// The account.
-mod account;
-mod accounted;
-mod extensions;
-mod reached;
-
-// The places that name a block.
+// What is reached, and the places that name a block.
 mod naming;
 mod places;
+mod reached;
 
-pub use account::unaccounted_blocks;
 pub use answer::{NotValidated, Validated};
 pub use block_map::map_text;
 pub use caution::{Caution, Look};
 pub use naming::{Naming, Place};
 pub use places::places_of;
-pub use reached::reached_cells;
+pub use reached::{is_reached, reached_cells};
 pub use validating::validate;

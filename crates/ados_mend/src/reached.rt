@@ -4,8 +4,8 @@ ghost use Rattle.adf_block.specs.declared.layout.TheConstants.{BLOCK_LONGS};
 ghost use Rattle.adf_block.specs.Image.{block_count};
 ghost use Rattle.adf_block.specs.Whole.{IsImage};
 ghost use Rattle.ados_model.specs.Faults.{InImage};
-ghost use Rattle.ados_mend.specs.Account.{IsReached};
-ghost use Rattle.ados_mend.specs.steps.Accounting.{IsMarked};
+ghost use Rattle.ados_mend.specs.Reached.{IsReached};
+ghost use Rattle.ados_mend.specs.steps.Marks.{IsMarked};
 ghost use Rattle.ados_mend.specs.steps.Reaching.{AreCells, AreKept, AreWalked, IsPassed, IsStep, cell, form};
 
 use adf_block::Image;
@@ -57,7 +57,7 @@ pub fn reached_cells(alloc: Global, image: &Image) -> Result<Vec<bool>, AllocErr
 }
 
 /// Whether a block is reached, by the cells.
-pub(crate) fn is_reached(image: &Image, cells: &[bool], block: u32) -> bool
+pub fn is_reached(image: &Image, cells: &[bool], block: u32) -> bool
     requires inside { InImage image.now block }
     requires cells { AreCells image.now cells.now }
     ensures { MatchBool result (IsReached image.now block) (¬ IsReached image.now block) }

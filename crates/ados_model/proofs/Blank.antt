@@ -1,18 +1,6 @@
 -- A blank image represents the tree of an empty root.
-use Rattle.std.proofs.Common.{◌≡◌, ◌≢◌, ℕ, zero, suc, ◌+◌, ◌-◌, ◌<◌, ◌≤◌, ◌⊎◌, inl, inr, Bool, true, false, cond, ◌==◌, List, [], ◌∷◌, length, filter, slice_index, slice_get, Contains, AllPairs, Option, Some, None, IsSome, option_map, option_and_then, refl, sym, ap, ◌∙◌, subst, arith, eq-eqb, eqb-true}
-use Rattle.std.proofs.lemmas.Bool.{cases_order, cond_both, false≢true}
-use Rattle.std.proofs.lemmas.List.{get_or_default}
-use Rattle.adf_block.specs.declared.layout.Format.{Format}
-use Rattle.adf_block.specs.Image.{IsInside, root_key, page_count, long, block_sum}
-use Rattle.adf_block.specs.Whole.{IsSize, HasFreeBit}
-use Rattle.ados_name.specs.declared.stamp.Date3.{Date3}
-use Rattle.ados_name.specs.Name.{slot, IsName, IsComment}
-use Rattle.ados_model.specs.Tree.{Node, Tree, Proper, LeadsToRoot, name_of, entries, entries_in, parent_of, size_of, data_count}
-use Rattle.ados_model.specs.Parts.{size_in}
-use Rattle.ados_model.specs.Tree.Content.{Directory}
-use Rattle.ados_model.specs.Stands.{Layout, Fits, Duty, HasDuty, Named, Stands, HasNode, HasRoot, in_slot}
+use Rattle.ados_model.proofs.Common.{◌≡◌, ◌≢◌, ℕ, zero, suc, ◌+◌, ◌-◌, ◌<◌, ◌≤◌, ◌⊎◌, inl, inr, Bool, true, false, cond, ◌==◌, List, [], ◌∷◌, length, filter, slice_index, slice_get, Contains, AllPairs, Option, Some, None, IsSome, option_map, option_and_then, refl, sym, ap, ◌∙◌, subst, arith, eq-eqb, eqb-true, cases_order, cond_both, false≢true, get_or_default, Format, IsInside, root_key, page_count, long, block_sum, IsSize, HasFreeBit, Date3, slot, IsName, IsComment, Node, Tree, Proper, LeadsToRoot, name_of, entries, entries_in, parent_of, size_of, data_count, size_in, Directory, Layout, Fits, Duty, HasDuty, Named, Stands, HasNode, HasRoot, in_slot, BlankStands}
 use Rattle.ados_model.specs.Blank.{blank_root, blank_tree, IsBlank}
-use Rattle.ados_model.specs.Laws.{BlankStands}
 use Rattle.ados_model.proofs.Counting.{no_data}
 
 -- n numbers from a on

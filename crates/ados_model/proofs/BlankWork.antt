@@ -1,15 +1,8 @@
 -- A blank FFS image of 1,760 blocks, block by block.
-use Rattle.std.proofs.Common.{◌≡◌, ◌≢◌, ℕ, suc, ◌+◌, ◌-◌, ◌*◌, ◌/◌, ◌%◌, ◌^◌, ◌<◌, ◌≤◌, ◌⊎◌, inl, inr, Bool, true, false, cond, not, ◌&&◌, ◌||◌, ◌==◌, nat_lt, nat_le, bit_and, List, [], ◌∷◌, ◌++◌, length, take, replicate, slice_index, codes, refl, sym, ap, ap₂, ◌∙◌, arith, eqb-true, ne_eqb, ltb-true, lt-ltb, le-leb}
-use Rattle.std.specs.List.{AllByRecursion, list_all}
-use Rattle.std.proofs.lemmas.Bool.{cases_lt, agree_below_at, and_parts, or_cases, false≢true, le-ltb, lt-leb, leb-true}
-use Rattle.std.proofs.lemmas.List.{get_or-replicate}
-use Rattle.adf_block.specs.Image.{IsInside, has_free_bit, block_count, root_key, page_count, byte_at, bytes_at, long, block_sum, HasText}
-use Rattle.adf_block.specs.Whole.{HasFreeBit}
-use Rattle.adf_block.specs.declared.layout.TheConstants.{NAME_BYTE}
+use Rattle.ados_model.proofs.Common.{◌≡◌, ◌≢◌, ℕ, suc, ◌+◌, ◌-◌, ◌*◌, ◌/◌, ◌%◌, ◌^◌, ◌<◌, ◌≤◌, ◌⊎◌, inl, inr, Bool, true, false, cond, not, ◌&&◌, ◌||◌, ◌==◌, nat_lt, nat_le, bit_and, List, [], ◌∷◌, ◌++◌, length, take, replicate, slice_index, codes, refl, sym, ap, ap₂, ◌∙◌, arith, eqb-true, ne_eqb, ltb-true, lt-ltb, le-leb, AllByRecursion, list_all, cases_lt, agree_below_at, and_parts, or_cases, false≢true, lt-leb, leb-true, get_or-replicate, IsInside, has_free_bit, block_count, root_key, page_count, byte_at, bytes_at, long, block_sum, HasText, HasFreeBit, NAME_BYTE, HasBlankImage, total-same}
+use Rattle.std.proofs.lemmas.Bool.{le-ltb}
 use Rattle.ados_model.specs.declared.role.Role.TheVariants.{Root}
 use Rattle.ados_model.specs.Kept.{IsField}
-use Rattle.ados_model.specs.Laws.{HasBlankImage}
-use Rattle.adf_block.proofs.Totals.{total-same}
 use Rattle.ados_model.proofs.Lists.{joined}
 use Rattle.ados_model.proofs.Blocks.{length-joined, byte-joined, byte-joined_next, bytes-joined, long-joined, of_longs, length-of_longs, long-of_longs}
 

@@ -1,9 +1,5 @@
 -- An image composed of blocks, and a block composed of longs.
-use Rattle.std.proofs.Common.{◌≡◌, ℕ, zero, suc, ◌+◌, ◌-◌, ◌*◌, ◌/◌, ◌%◌, ◌^◌, ◌<◌, ◌≤◌, ◌⊎◌, inl, inr, List, [], ◌∷◌, length, take, drop, flat_map, slice_index, refl, sym, ap, ap₂, ◌∙◌, arith}
-use Rattle.std.specs.List.{AllByRecursion}
-use Rattle.std.proofs.lemmas.Bool.{cases_lt}
-use Rattle.std.proofs.lemmas.List.{get_or_append_left, get_or-append_right, get_or-take, get_or-drop, length-take, length-drop, length-append, ext_get_or}
-use Rattle.adf_block.specs.Image.{byte_at, bytes_at, long}
+use Rattle.ados_model.proofs.Common.{◌≡◌, ℕ, zero, suc, ◌+◌, ◌-◌, ◌*◌, ◌/◌, ◌%◌, ◌^◌, ◌<◌, ◌≤◌, ◌⊎◌, inl, inr, List, [], ◌∷◌, length, take, drop, flat_map, slice_index, refl, sym, ap, ap₂, ◌∙◌, arith, AllByRecursion, cases_lt, get_or_append_left, get_or-append_right, get_or-take, get_or-drop, length-take, length-drop, length-append, ext_get_or, byte_at, bytes_at, long}
 use Rattle.ados_model.proofs.Lists.{joined}
 
 -- the number in the first four bytes, big-endian

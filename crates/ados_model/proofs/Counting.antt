@@ -1,17 +1,6 @@
 -- The number of blocks marked free is the number of blocks that the tree does not use.
-use Rattle.std.proofs.Common.{◌≡◌, ◌≢◌, ℕ, suc, ◌+◌, ◌-◌, ◌<◌, Bool, true, false, cond, List, length, slice_index, slice_get, Option, Some, None, is_some, option_map, refl, sym, ap, ◌∙◌, arith}
-use Rattle.std.proofs.lemmas.Bool.{false≢true}
-use Rattle.std.proofs.lemmas.Option.{slice_get_within, get_or_from_slice_get}
-use Rattle.adf_block.specs.declared.layout.Format.{Format}
-use Rattle.adf_block.specs.declared.layout.Format.TheVariants.{Ofs, Ffs}
-use Rattle.adf_block.specs.Image.{IsInside, has_free_bit, block_count, total}
-use Rattle.ados_model.specs.Tree.{Content, Node, Tree, content_at, size_of, cost_in, used, free, data_count, extension_count}
-use Rattle.ados_model.specs.Parts.{size_in}
-use Rattle.ados_model.specs.Tree.Content.{Directory, File}
-use Rattle.ados_model.specs.Stands.{Duty, HasDuty, Named, Stands}
-use Rattle.ados_model.specs.Laws.{FreeBitsCount}
+use Rattle.ados_model.proofs.Common.{◌≡◌, ◌≢◌, ℕ, suc, ◌+◌, ◌-◌, ◌<◌, Bool, true, false, cond, List, length, slice_index, slice_get, Option, Some, None, is_some, option_map, refl, sym, ap, ◌∙◌, arith, false≢true, slice_get_within, get_or_from_slice_get, Format, Ofs, Ffs, IsInside, has_free_bit, block_count, total, Content, Node, Tree, content_at, size_of, cost_in, used, free, data_count, extension_count, size_in, Directory, File, Duty, HasDuty, Named, Stands, FreeBitsCount, total-same}
 use Rattle.ados_model.proofs.Standing.{slice_get-index}
-use Rattle.adf_block.proofs.Totals.{total-same}
 use Rattle.ados_model.proofs.Totals.{total-add, total-zero, total-ones, total-one, total-swap, total-from_two, occurrences, occurrences-none, occurrences-one, total-occurrences}
 
 pub slice_get-back : (xs : List ℕ) (i b : ℕ) → slice_get xs i ≡ Some b → (i < length xs) × (slice_index xs i ≡ b)

@@ -1,14 +1,5 @@
 -- The blocks that a file's pointers reach in an image are those in its lists.
-use Rattle.std.proofs.Common.{◌≡◌, ◌≢◌, ℕ, zero, suc, ◌+◌, ◌-◌, ◌*◌, ◌/◌, ◌%◌, ◌<◌, ◌≤◌, min, ◌⊎◌, inl, inr, List, [], ◌∷◌, ◌++◌, length, take, drop, flat_map, slice_index, refl, sym, ap, ap₂, ◌∙◌, subst, arith, add-one, le-leb}
-use Rattle.std.proofs.lemmas.Bool.{cases_lt}
-use Rattle.std.proofs.lemmas.List.{get_or_default, ext_get_or, nil_from_length, length_push, get_or_push, get_or_append_left, length-take, length-drop, get_or-take, get_or-drop, drop-drop, take-append-drop}
-use Rattle.adf_block.specs.declared.layout.Format.{Format}
-use Rattle.adf_block.specs.Image.{Chained, long}
-use Rattle.adf_block.specs.Fields.{pointer, pointer_count, format_of}
-use Rattle.adf_block.specs.declared.layout.TheConstants.{NEXT_EXTENSION}
-use Rattle.ados_model.specs.Tree.{data_count, extension_count}
-use Rattle.ados_model.specs.Stands.{HasFile}
-use Rattle.ados_model.specs.Faults.{InImage, LinkedOnce, first_pointers, pointers_of, AreDataBlocks}
+use Rattle.ados_model.proofs.Common.{◌≡◌, ◌≢◌, ℕ, zero, suc, ◌+◌, ◌-◌, ◌*◌, ◌/◌, ◌%◌, ◌<◌, ◌≤◌, min, ◌⊎◌, inl, inr, List, [], ◌∷◌, ◌++◌, length, take, drop, flat_map, slice_index, refl, sym, ap, ap₂, ◌∙◌, subst, arith, add-one, le-leb, cases_lt, get_or_default, ext_get_or, nil_from_length, length_push, get_or_push, get_or_append_left, length-take, length-drop, get_or-take, get_or-drop, drop-drop, take-append-drop, Format, Chained, long, pointer, pointer_count, format_of, NEXT_EXTENSION, data_count, extension_count, HasFile, InImage, LinkedOnce, first_pointers, pointers_of, AreDataBlocks}
 use Rattle.ados_model.proofs.Standing.{Chained-first, Chained-more}
 
 pub length-first_pointers : (image : List ℕ) (block n : ℕ) → length (first_pointers image block n) ≡ n

@@ -1,17 +1,8 @@
 -- An image with whole files shows no fault of a file.
-use Rattle.std.proofs.Common.{◌≡◌, ℕ, suc, ◌+◌, ◌-◌, ◌*◌, ◌/◌, ◌<◌, ◌≤◌, min, inl, inr, List, [], ◌∷◌, length, drop, sum_by, slice_index, refl, sym, ap, ◌∙◌, subst, arith, add-one, ◌==◌, if◌then◌else◌}
-use Rattle.std.proofs.lemmas.List.{get_or-take, get_or_past}
+use Rattle.ados_model.proofs.Common.{◌≡◌, ℕ, suc, ◌+◌, ◌-◌, ◌*◌, ◌/◌, ◌<◌, ◌≤◌, min, inl, inr, List, [], ◌∷◌, length, drop, sum_by, slice_index, refl, sym, ap, ◌∙◌, subst, arith, add-one, ◌==◌, if◌then◌else◌, get_or-take, get_or_past, Format, Ofs, Ffs, Chained, long, pointer_count, held_count, format_of, NEXT_EXTENSION, NEXT_DATA, data_count, HasOfsData, IsOfs, IsFile, Reached, AreDataBlocks, IsDataAt, HasPointers, pointers_of}
 use Rattle.std.proofs.lemmas.List.Sums.{sum_by-cons}
-use Rattle.adf_block.specs.declared.layout.Format.{Format}
-use Rattle.adf_block.specs.declared.layout.Format.TheVariants.{Ofs, Ffs}
-use Rattle.adf_block.specs.Image.{Chained, long}
-use Rattle.adf_block.specs.Fields.{pointer_count, held_count, format_of}
-use Rattle.adf_block.specs.declared.layout.TheConstants.{NEXT_EXTENSION, NEXT_DATA}
-use Rattle.ados_model.specs.Tree.{data_count}
-use Rattle.ados_model.specs.Stands.{HasOfsData}
 use Rattle.ados_model.specs.declared.role.Role.TheVariants as roles
 use Rattle.ados_model.specs.Faults
-use Rattle.ados_model.specs.Faults.{IsOfs, IsFile, Reached, AreDataBlocks, IsDataAt, HasPointers, pointers_of}
 use Rattle.ados_model.proofs.FileBlocks.{IsWhole, link_within, data_are, pointers_are}
 use Rattle.ados_model.proofs.Standing.{Chained-more}
 

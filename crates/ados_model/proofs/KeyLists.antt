@@ -1,14 +1,9 @@
 -- Lists of keys without duplicates.
-use Rattle.std.proofs.Common.{◌≡◌, ◌≢◌, ℕ, zero, suc, ◌<◌, ◌≤◌, ◌⊎◌, inl, inr, Bool, true, false, cond, eqb, ◌==◌, not, List, [], ◌∷◌, ◌++◌, length, filter, AllPairs, Contains, refl, sym, ap, ap₂, ◌∙◌, subst, arith, eq-eqb, eqb-true, slice_index}
+use Rattle.ados_model.proofs.Common.{◌≡◌, ◌≢◌, ℕ, zero, suc, ◌<◌, ◌≤◌, ◌⊎◌, inl, inr, Bool, true, false, cond, eqb, ◌==◌, not, List, [], ◌∷◌, ◌++◌, length, filter, AllPairs, Contains, refl, sym, ap, ap₂, ◌∙◌, subst, arith, eq-eqb, eqb-true, slice_index, ◌+◌, ◌-◌, get_or, Decides-eqb, Contains-append_cases, Contains-get_or, filter-append, get_or_append_left, get_or-append_right, get_or_default, length-append, list_any, AllPairs-cons}
 use Rattle.std.proofs.lemmas.Bool.{ne_eqb}
-use Rattle.std.proofs.lemmas.Bool.Decides.{Decides-eqb}
-use Rattle.std.proofs.lemmas.List.Elements.{Contains-append_left, Contains-append_right, filter-append, Contains-append_cases, Contains-get_or}
-use Rattle.std.proofs.lemmas.List.{get_or_default}
 use Rattle.std.proofs.lemmas.Map.Made.{IsDistinct-from_AllPairs}
 use Rattle.std.proofs.lemmas.Map.Views.{Contains-from_any}
 use Rattle.std.proofs.lemmas.Map.Steps.{length-le_from_distinct_below}
-use Rattle.std.specs.List.{list_any}
-use Rattle.std.proofs.lemmas.List.Kept.{AllPairs-cons}
 
 pub Contains-here : (x : ℕ) (xs : List ℕ) → Contains (x ∷ xs) x
 Contains-here x xs = (0, omega arith, refl)
@@ -47,29 +42,18 @@ pub Once-behind : (xs : List ℕ) (x : ℕ) (ys : List ℕ) → Once (xs ++ x �
 Once-behind [] x ys h = Once-head x ys h
 Once-behind (z ∷ zs) x ys h = Once-behind zs x ys (Once-tail z (zs ++ x ∷ ys) h)
 
-pub Once-before : (xs : List ℕ) (x : ℕ) (ys : List ℕ) → Once (xs ++ x ∷ ys) → ¬ Contains xs x
-Once-before [] x ys h m = Contains-nil x m
-Once-before (z ∷ zs) x ys h m =
-    elim (Contains-cases z zs x m) [
-      | inl e ↦ Once-head z (zs ++ x ∷ ys) h (subst (Contains (zs ++ x ∷ ys)) (sym e) (Contains-append_right zs (x ∷ ys) x (Contains-here x ys)))
-      | inr n ↦ Once-before zs x ys (Once-tail z (zs ++ x ∷ ys) h) n
-    ]
-
 pub Once-front : (xs ys : List ℕ) → Once (xs ++ ys) → Once xs
-Once-front [] ys h i j d l m = absurd (omega arith)
-Once-front (x ∷ xs) ys h zero zero d l m = absurd (omega arith)
-Once-front (x ∷ xs) ys h (suc i) zero d l m = absurd (omega arith)
-Once-front (x ∷ xs) ys h zero (suc j) d l m = λ e. Once-head x (xs ++ ys) h (Contains-append_left xs ys x (j, omega arith, get_or_default xs j x d (omega arith) ∙ sym e))
-Once-front (x ∷ xs) ys h (suc i) (suc j) d l m = Once-front xs ys (Once-tail x (xs ++ ys) h) i j d (omega arith) (omega arith)
+Once-front xs ys h i j d l m e = h i j d l (omega (arith, m, length-append xs ys)) (get_or_append_left xs ys d i (omega (arith, l, m)) ∙ e ∙ sym (get_or_append_left xs ys d j m))
 
 -- a key before is not a key after
 pub Once-apart : (xs ys : List ℕ) (x : ℕ) → Once (xs ++ ys) → Contains xs x → ¬ Contains ys x
-Once-apart [] ys x h m n = absurd (Contains-nil x m)
-Once-apart (z ∷ zs) ys x h m n =
-    elim (Contains-cases z zs x m) [
-      | inl e ↦ Once-head z (zs ++ ys) h (subst (Contains (zs ++ ys)) (sym e) (Contains-append_right zs ys x n))
-      | inr r ↦ Once-apart zs ys x (Once-tail z (zs ++ ys) h) r n
-    ]
+Once-apart xs ys x h (i, l, e) (j, m, f) =
+    let behind : length xs + j - length xs ≡ j = omega arith in
+    h i (length xs + j) x (omega (arith, l)) (omega (arith, m, length-append xs ys))
+    (get_or_append_left xs ys x i l ∙ e ∙ sym (get_or-append_right xs ys (length xs) (length xs + j) x refl (omega arith) ∙ ap (λ (k : ℕ). get_or ys k x) behind ∙ f))
+
+pub Once-before : (xs : List ℕ) (x : ℕ) (ys : List ℕ) → Once (xs ++ x ∷ ys) → ¬ Contains xs x
+Once-before xs x ys h m = Once-apart xs (x ∷ ys) x h m (Contains-here x ys)
 
 -- a list of numbers below n without duplicates has at most n elements
 pub length-once : (xs : List ℕ) (n : ℕ) → Once xs → ((x : ℕ) → Contains xs x → x < n) → length xs ≤ n

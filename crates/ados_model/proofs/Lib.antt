@@ -1,6 +1,7 @@
 -- Lists of keys and of nodes. An image represents at most one tree, shows no fault then, and marks as many blocks free
 -- as its tree leaves. A blank image represents the tree of an empty root, and the two images written out represent their
 -- trees.
+pub mod Common
 pub mod KeyLists
 pub mod Lists
 pub mod Nodes

@@ -1,8 +1,5 @@
 -- Lists by the slots of their elements, and linked lists.
-use Rattle.std.proofs.Common.{◌≡◌, ◌≢◌, ℕ, zero, suc, ◌<◌, ◌≤◌, ◌⊎◌, inl, inr, true, false, nat_lt, ◌==◌, List, [], ◌∷◌, ◌++◌, length, filter, slice_index_or, AllPairs, refl, sym, ap, ap₂, ◌∙◌, arith, lt-ltb, le-ltb, eq-eqb, ne_eqb}
-use Rattle.std.specs.List.{AllByRecursion}
-use Rattle.std.proofs.lemmas.Bool.{cases_order}
-use Rattle.adf_block.specs.Image.{Chained, long}
+use Rattle.ados_model.proofs.Common.{◌≡◌, ◌≢◌, ℕ, zero, suc, ◌<◌, ◌≤◌, ◌⊎◌, inl, inr, true, false, nat_lt, ◌==◌, List, [], ◌∷◌, ◌++◌, length, filter, slice_index_or, AllPairs, refl, sym, ap, ap₂, ◌∙◌, arith, lt-ltb, le-ltb, eq-eqb, ne_eqb, AllByRecursion, cases_order, Chained, long}
 
 -- the first of a list whose pairs are related is related to each later one
 pub AllPairs-head : (R : ℕ → ℕ → Type 0) (x : ℕ) (xs : List ℕ) → AllPairs R (x ∷ xs) → AllByRecursion (R x) xs

@@ -1,25 +1,8 @@
 -- An image that represents a tree shows no fault.
-use Rattle.std.proofs.Common.{◌≡◌, ℕ, zero, suc, ◌+◌, ◌*◌, ◌<◌, ◌≤◌, ◌⊎◌, inl, inr, List, [], ◌∷◌, length, take, drop, slice_index, Contains, refl, sym, ap, ap₂, ◌∙◌, subst, arith, ◌==◌, if◌then◌else◌}
-use Rattle.std.proofs.lemmas.List.{get_or_default, take-take}
-use Rattle.std.proofs.lemmas.List.Elements.{All-contains}
-use Rattle.adf_block.specs.declared.layout.Format.{Format}
-use Rattle.adf_block.specs.declared.layout.Format.TheVariants.{Ofs, Ffs}
-use Rattle.adf_block.specs.Image.{byte_at, bytes_at, long, block_sum, HasText}
-use Rattle.adf_block.specs.Fields.{primary_type, parent_key, secondary_type, format_of}
-use Rattle.adf_block.proofs.Blocks.{byte-bytes_at}
-use Rattle.ados_name.specs.Name.{Same, slot, IsName, IsNameByte}
+use Rattle.ados_model.proofs.Common.{◌≡◌, ℕ, zero, suc, ◌+◌, ◌*◌, ◌<◌, ◌≤◌, ◌⊎◌, inl, inr, List, [], ◌∷◌, length, take, drop, slice_index, Contains, refl, sym, ap, ap₂, ◌∙◌, subst, arith, ◌==◌, if◌then◌else◌, get_or_default, take-take, All-contains, Format, Ofs, Ffs, byte_at, bytes_at, long, block_sum, HasText, primary_type, parent_key, secondary_type, format_of, byte-bytes_at, Same, slot, IsName, IsNameByte, Content, Node, Tree, root, name_of, size_of, data_count, Directory, File, FILE_TYPE, COMMENT_BYTE, NAME_BYTE, text_at, Duty, HasDuty, Stands, HasNode, HasEntry, format_byte, type_of, HasFile, HasExtension, HasOfsData, kind_bytes, Role, IsOfs, IsEntry, IsLinkType, Reached, PlaceNames, HasName, root_of, FaultsHaveNoTree}
 use Rattle.ados_model.specs.declared.fault.FaultKind.TheVariants.{NotADosDisk, UnsupportedKind, BadSum, BadType, BadOwnKey, BadParent, BadPointer, BlockUsedTwice, WrongChain, BadName, DuplicateName, BadComment, BadCount, BadSequence, LinkEntry, MarkedFree, NoMemory}
-use Rattle.ados_model.specs.Tree.{Content, Node, Tree, root, name_of, size_of, data_count}
-use Rattle.ados_model.specs.Tree.Content.{Directory, File}
-use Rattle.adf_block.specs.declared.layout.TheConstants.{FILE_TYPE, COMMENT_BYTE, NAME_BYTE}
-use Rattle.adf_block.specs.Whole.{text_at}
-use Rattle.ados_model.specs.Stands.{Duty, HasDuty, Stands, HasNode, HasEntry, format_byte, type_of, HasFile, HasExtension, HasOfsData}
-use Rattle.ados_model.specs.Phrases.{kind_bytes}
 use Rattle.ados_model.specs.Faults
-use Rattle.ados_model.specs.declared.role.Role.{Role}
 use Rattle.ados_model.specs.declared.role.Role.TheVariants as roles
-use Rattle.ados_model.specs.Faults.{IsOfs, IsEntry, IsLinkType, Reached, PlaceNames, HasName, root_of}
-use Rattle.ados_model.specs.Laws.{FaultsHaveNoTree}
 use Rattle.ados_model.proofs.Standing.{StandsAt, IsFileNode, IsEntryNode, entry_at, file_at, reached_stands, same_place, inside_at, serves_at, duty_of, leads, LeadsTo, root_at, root_is, holder_of, long_of}
 use Rattle.ados_model.proofs.FileBlocks.{IsWhole}
 use Rattle.ados_model.proofs.FileFaults.{WholeFile, AreWhole, first_link, next_link, no_bad_sequence, no_bad_count}

@@ -1,14 +1,5 @@
 -- Consequences for the nodes of a tree, and for their blocks.
-use Rattle.std.proofs.Common.{◌≡◌, ◌≢◌, ℕ, ◌⊎◌, inl, inr, ◌==◌, List, slice_index_or, All, Contains, Option, Some, None, IsSome, option_map, option_and_then, refl, arith, mod-lt}
-use Rattle.std.specs.List.{AllByRecursion}
-use Rattle.std.proofs.lemmas.Bool.{false≢true}
-use Rattle.std.proofs.lemmas.List.Elements.{recursion_from_All, All-filter, Contains-get_or}
-use Rattle.adf_block.specs.Image.{IsInside}
-use Rattle.ados_name.specs.Name.{slot, hash}
-use Rattle.ados_model.specs.Tree.{Content, Node, Tree, Proper, LeadsToRoot, root, content_at, entries_in, entries, name_of}
-use Rattle.ados_model.specs.Tree.Content.{Directory, File}
-use Rattle.ados_model.specs.Tree.LeadsToRoot.{at_root, by_parent}
-use Rattle.ados_model.specs.Stands.{in_slot}
+use Rattle.ados_model.proofs.Common.{◌≡◌, ◌≢◌, ℕ, ◌⊎◌, inl, inr, ◌==◌, List, slice_index_or, All, Contains, Option, Some, None, IsSome, option_map, option_and_then, refl, arith, mod-lt, AllByRecursion, false≢true, recursion_from_All, All-filter, Contains-get_or, IsInside, slot, hash, Content, Node, Tree, Proper, LeadsToRoot, root, content_at, entries_in, entries, name_of, Directory, File, at_root, by_parent, in_slot}
 use Rattle.ados_model.proofs.Lists.{joined, by_slot}
 
 pub some_in : (o : Option Node) → IsSome o → (a : Node) × (o ≡ Some a)

@@ -1,21 +1,6 @@
 -- An image represents at most one tree.
-use Rattle.std.proofs.Common.{◌≡◌, ◌≢◌, ℕ, ◌+◌, ◌/◌, ◌%◌, ◌<◌, ◌⊎◌, inl, inr, List, [], ◌∷◌, length, slice_index, slice_get, Contains, Option, Some, None, IsSome, is_some, option_map, refl, sym, ap, ap₂, ◌∙◌, subst, arith}
-use Rattle.std.specs.List.{AllByRecursion}
-use Rattle.std.proofs.lemmas.List.{ext_get_or, nil_from_length, get_or_default}
-use Rattle.std.proofs.lemmas.Bool.{false≢true}
-use Rattle.std.proofs.lemmas.List.Elements.{recursion_from_All}
-use Rattle.adf_block.specs.declared.layout.Format.{Format}
-use Rattle.adf_block.specs.declared.layout.Format.TheVariants.{Ofs, Ffs}
-use Rattle.adf_block.specs.Image.{root_key, page_count, IsInside, long, bytes_at, HasText}
-use Rattle.adf_block.specs.Fields.{table_entry, pointer}
-use Rattle.ados_model.specs.Tree.{Content, Node, Tree, LeadsToRoot, root, content_at, entries_in, entries, size_of, data_count, extension_count}
-use Rattle.ados_model.specs.Parts.{size_in}
-use Rattle.ados_model.specs.Tree.Content.{Directory, File}
-use Rattle.ados_model.specs.Tree.LeadsToRoot.{at_root, by_parent}
-use Rattle.ados_model.specs.Stands.{Layout, Fits, Duty, HasDuty, Stands, format_byte, type_of, date_at, in_slot}
+use Rattle.ados_model.proofs.Common.{◌≡◌, ◌≢◌, ℕ, ◌+◌, ◌/◌, ◌%◌, ◌<◌, ◌⊎◌, inl, inr, List, [], ◌∷◌, length, slice_index, slice_get, Contains, Option, Some, None, IsSome, is_some, option_map, refl, sym, ap, ap₂, ◌∙◌, subst, arith, AllByRecursion, ext_get_or, nil_from_length, get_or_default, false≢true, recursion_from_All, Format, Ofs, Ffs, root_key, page_count, IsInside, long, bytes_at, HasText, table_entry, pointer, Content, Node, Tree, LeadsToRoot, root, content_at, entries_in, entries, size_of, data_count, extension_count, size_in, Directory, File, at_root, by_parent, Layout, Fits, Duty, HasDuty, Stands, format_byte, type_of, date_at, in_slot, COMMENT_BYTE, NAME_BYTE, NEXT_IN_CHAIN, NEXT_EXTENSION, OneTree}
 use Rattle.ados_model.specs.File.{file_byte}
-use Rattle.adf_block.specs.declared.layout.TheConstants.{COMMENT_BYTE, NAME_BYTE, NEXT_IN_CHAIN, NEXT_EXTENSION}
-use Rattle.ados_model.specs.Laws.{OneTree}
 use Rattle.ados_model.proofs.Lists.{joined-same, Chained-one}
 use Rattle.ados_model.proofs.Nodes.{entry_node, parent_lists, in_slot_not_zero, entries_by_slot, entries_of_directory, parent_in, content_in}
 use Rattle.ados_model.proofs.Counting.{no_data as data_count-zero}

@@ -1,9 +1,5 @@
 -- Facts about each number below another, found by computation.
-use Rattle.std.proofs.Common.{◌≡◌, ℕ, suc, ◌<◌, ◌≤◌, Bool, true, ◌&&◌, not, nat_lt, ◌==◌, List, length, slice_index, arith, eqb-true, ltb-true}
-use Rattle.std.proofs.lemmas.Bool.{agree_below, agree_below_at}
-use Rattle.std.proofs.lemmas.Bool.Decides.{nat_tests}
-use Rattle.std.proofs.lemmas.List.Elements.{All-from_get_or}
-use Rattle.ados_name.specs.Name.{IsName, IsNameByte, IsComment}
+use Rattle.ados_model.proofs.Common.{◌≡◌, ℕ, suc, ◌<◌, ◌≤◌, Bool, true, ◌&&◌, not, nat_lt, ◌==◌, List, length, slice_index, arith, eqb-true, ltb-true, agree_below, agree_below_at, nat_tests, All-from_get_or, IsName, IsNameByte, IsComment}
 
 abbrev pub all_below : (ℕ → Bool) → ℕ → Bool
 all_below test n = agree_below test (λ k. true) n

@@ -1,13 +1,5 @@
 -- The use of each block: the three nodes, the bitmap block and the file's data block.
-use Rattle.std.proofs.Common.{◌≡◌, ℕ, zero, suc, List, [], ◌∷◌, length, slice_get, Option, Some, IsSome, refl, option_map, subst, arith}
-use Rattle.std.proofs.lemmas.Bool.{false≢true}
-use Rattle.adf_block.specs.declared.layout.Format.{Format}
-use Rattle.adf_block.specs.declared.layout.Format.TheVariants.{Ofs, Ffs}
-use Rattle.adf_block.specs.Image.{IsInside}
-use Rattle.ados_model.specs.Tree.{data_count, extension_count, Content, Tree, size_of}
-use Rattle.ados_model.specs.Tree.Content.{File}
-use Rattle.ados_model.specs.Stands.{Layout, Fits, Duty, HasDuty}
-use Rattle.ados_model.specs.Small.{nodes, tree}
+use Rattle.ados_model.proofs.Common.{◌≡◌, ℕ, zero, suc, List, [], ◌∷◌, length, slice_get, Option, Some, IsSome, refl, option_map, subst, arith, false≢true, Format, Ofs, Ffs, IsInside, data_count, extension_count, Content, Tree, size_of, File, Layout, Fits, Duty, HasDuty, nodes, tree}
 use Rattle.ados_model.proofs.SmallNodes.{by_key}
 use Rattle.ados_model.proofs.SmallRows.{at_key, each_row}
 

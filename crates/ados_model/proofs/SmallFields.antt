@@ -1,19 +1,7 @@
 -- The fields in the blocks of the images.
-use Rattle.std.proofs.Common.{◌≡◌, ℕ, ◌+◌, ◌*◌, ◌<◌, Bool, true, cond, not, ◌==◌, List, [], ◌∷◌, length, slice_index, refl, sym, ap, ◌∙◌, subst, arith, codes, ◌%◌, ◌^◌, drop}
+use Rattle.ados_model.proofs.Common.{◌≡◌, ℕ, ◌+◌, ◌*◌, ◌<◌, Bool, true, cond, not, ◌==◌, List, [], ◌∷◌, length, slice_index, refl, sym, ap, ◌∙◌, subst, arith, codes, ◌%◌, ◌^◌, drop, agree_below, Format, Ofs, Ffs, has_free_bit, byte_at, bytes_at, long, block_sum, table_entry, TABLE_LONGS, FIRST_SLOT, NEXT_IN_CHAIN, long-bytes_at, total-same, slot, hash, HasFile, HasOfsData, HasNode, HasEntry, HasRoot, kind_bytes, small, letters, hello, tree, image}
 use Rattle.std.specs.Option.{is_some}
-use Rattle.std.proofs.lemmas.Bool.{agree_below}
-use Rattle.adf_block.specs.declared.layout.Format.{Format}
-use Rattle.adf_block.specs.declared.layout.Format.TheVariants.{Ofs, Ffs}
-use Rattle.adf_block.specs.Image.{has_free_bit, byte_at, bytes_at, long, block_sum}
-use Rattle.adf_block.specs.Fields.{table_entry}
-use Rattle.adf_block.specs.declared.layout.TheConstants.{TABLE_LONGS, FIRST_SLOT, NEXT_IN_CHAIN}
-use Rattle.adf_block.proofs.Blocks.{long-bytes_at}
-use Rattle.adf_block.proofs.Totals.{total-same}
-use Rattle.ados_name.specs.Name.{slot, hash}
-use Rattle.ados_model.specs.Stands.{HasFile, HasOfsData, HasNode, HasEntry, HasRoot}
-use Rattle.ados_model.specs.Phrases.{kind_bytes}
 use Rattle.ados_model.proofs.Blocks.{number}
-use Rattle.ados_model.specs.Small.{small, letters, hello, tree, image}
 use Rattle.ados_model.proofs.SmallBelow.{all_below, equal_below, equal_up_to}
 use Rattle.ados_model.proofs.SmallDuties.{layout, duty_of}
 

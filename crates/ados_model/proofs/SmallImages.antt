@@ -1,17 +1,6 @@
 -- The images represent the tree.
-use Rattle.std.proofs.Common.{◌≡◌, ℕ, ◌+◌, ◌-◌, ◌<◌, Bool, true, false, cond, not, ◌==◌, List, [], ◌∷◌, Option, Some, None, refl, sym, ap, ◌∙◌, subst, arith}
+use Rattle.ados_model.proofs.Common.{◌≡◌, ℕ, ◌+◌, ◌-◌, ◌<◌, Bool, true, false, cond, not, ◌==◌, List, [], ◌∷◌, Option, Some, None, refl, sym, ap, ◌∙◌, subst, arith, agree_below_at, false≢true, Format, IsInside, has_free_bit, long, block_sum, Chained, HasFreeBit, table_entry, TABLE_LONGS, NEXT_IN_CHAIN, slot, HasFile, Duty, Named, Stands, HasNode, HasEntry, in_slot, Node, Tree, Directory, File, letters, hello, nodes, tree, image}
 use Rattle.std.specs.Option.{is_some}
-use Rattle.std.proofs.lemmas.Bool.{agree_below_at, false≢true}
-use Rattle.adf_block.specs.declared.layout.Format.{Format}
-use Rattle.adf_block.specs.Image.{IsInside, has_free_bit, long, block_sum, Chained}
-use Rattle.adf_block.specs.Whole.{HasFreeBit}
-use Rattle.adf_block.specs.Fields.{table_entry}
-use Rattle.adf_block.specs.declared.layout.TheConstants.{TABLE_LONGS, NEXT_IN_CHAIN}
-use Rattle.ados_name.specs.Name.{slot}
-use Rattle.ados_model.specs.Stands.{HasFile, Duty, Named, Stands, HasNode, HasEntry, in_slot}
-use Rattle.ados_model.specs.Tree.{Node, Tree}
-use Rattle.ados_model.specs.Tree.Content.{Directory, File}
-use Rattle.ados_model.specs.Small.{letters, hello, nodes, tree, image}
 use Rattle.ados_model.proofs.SmallNodes.{each, only, proper}
 use Rattle.ados_model.proofs.SmallFields.{HasBlocks, has_blocks}
 use Rattle.ados_model.proofs.SmallDuties.{layout, duty_of, has_duty, duty_is, fits}

@@ -1,11 +1,6 @@
 -- The tree is proper.
-use Rattle.std.proofs.Common.{◌≡◌, ◌≢◌, ℕ, ◌<◌, ◌≤◌, ◌⊎◌, inl, inr, List, [], ◌∷◌, length, Contains, AllPairs, Some, None, refl, sym, arith, codes}
-use Rattle.adf_block.specs.declared.layout.Format.{Format}
-use Rattle.ados_name.specs.Name.{slot, IsName, IsComment}
+use Rattle.ados_model.proofs.Common.{◌≡◌, ◌≢◌, ℕ, ◌<◌, ◌≤◌, ◌⊎◌, inl, inr, List, [], ◌∷◌, length, Contains, AllPairs, Some, None, refl, sym, arith, codes, Format, slot, IsName, IsComment, Node, Tree, Proper, LeadsToRoot, entries, name_of, parent_of, at_root, by_parent, small, letters, hello, nodes, tree}
 use Rattle.ados_model.proofs.KeyLists.{Contains-nil, Contains-here, Contains-cases}
-use Rattle.ados_model.specs.Tree.{Node, Tree, Proper, LeadsToRoot, entries, name_of, parent_of}
-use Rattle.ados_model.specs.Tree.LeadsToRoot.{at_root, by_parent}
-use Rattle.ados_model.specs.Small.{small, letters, hello, nodes, tree}
 use Rattle.ados_model.proofs.SmallBelow.{a_name, a_comment}
 use Rattle.ados_model.proofs.SmallRows.{each_row, by_rows}
 

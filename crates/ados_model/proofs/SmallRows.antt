@@ -1,5 +1,5 @@
 -- Facts about each row of a table, and about keys in no row.
-use Rattle.std.proofs.Common.{◌≡◌, ℕ, Bool, true, false, cond, ◌==◌, List, [], ◌∷◌, Option, Some, None, refl, sym, subst, eqb-true}
+use Rattle.ados_model.proofs.Common.{◌≡◌, ℕ, Bool, true, false, cond, ◌==◌, List, [], ◌∷◌, Option, Some, None, refl, sym, subst, eqb-true}
 
 -- the value of a table at a key
 abbrev pub at_key : {A : Type 0} → List (ℕ × A) → ℕ → Option A

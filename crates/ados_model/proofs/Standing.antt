@@ -1,20 +1,7 @@
 -- In an image that represents a tree, each reached block has one position in the list of its role.
-use Rattle.std.proofs.Common.{◌≡◌, ◌≢◌, ℕ, zero, suc, ◌+◌, ◌-◌, ◌*◌, ◌/◌, ◌%◌, ◌<◌, ◌≤◌, ◌⊎◌, inl, inr, true, ◌==◌, List, [], ◌∷◌, length, slice_index, slice_get, AllPairs, Contains, Some, None, refl, sym, ap, ap₂, ◌∙◌, subst, arith, eqb-true}
+use Rattle.ados_model.proofs.Common.{◌≡◌, ◌≢◌, ℕ, zero, suc, ◌+◌, ◌-◌, ◌*◌, ◌/◌, ◌%◌, ◌<◌, ◌≤◌, ◌⊎◌, inl, inr, true, ◌==◌, List, [], ◌∷◌, length, slice_index, slice_get, AllPairs, Contains, Some, None, refl, sym, ap, ap₂, ◌∙◌, subst, arith, eqb-true, cases_order, slice_get-get_or, All-filter, All-contains_itself, filter_passes, AllPairs-filter, block_count, root_key, page_count, long, Chained, table_entry, pointer, pointer_count, secondary_type, slot, Content, Node, Tree, root, entries, name_of, Directory, File, Duty, HasDuty, Stands, type_of, in_slot, FILE_TYPE, NEXT_IN_CHAIN, NEXT_EXTENSION, Role, IsPlace, Reached, root_of, InImage}
 use Rattle.std.specs.Bool.{⊤}
-use Rattle.std.proofs.lemmas.Bool.{cases_order}
-use Rattle.std.proofs.lemmas.Option.{slice_get-get_or}
-use Rattle.std.proofs.lemmas.List.Elements.{All-filter, All-contains_itself, filter_passes}
-use Rattle.std.proofs.lemmas.List.Kept.{AllPairs-filter}
-use Rattle.adf_block.specs.Image.{block_count, root_key, page_count, long, Chained}
-use Rattle.adf_block.specs.Fields.{table_entry, pointer, pointer_count, secondary_type}
-use Rattle.ados_name.specs.Name.{slot}
-use Rattle.ados_model.specs.Tree.{Content, Node, Tree, root, entries, name_of}
-use Rattle.ados_model.specs.Tree.Content.{Directory, File}
-use Rattle.ados_model.specs.Stands.{Duty, HasDuty, Stands, type_of, in_slot}
-use Rattle.adf_block.specs.declared.layout.TheConstants.{FILE_TYPE, NEXT_IN_CHAIN, NEXT_EXTENSION}
-use Rattle.ados_model.specs.declared.role.Role.{Role}
 use Rattle.ados_model.specs.declared.role.Role.TheVariants as roles
-use Rattle.ados_model.specs.Faults.{IsPlace, Reached, root_of, InImage}
 use Rattle.ados_model.specs.Faults.IsPlace.{root_page, root_slot, directory_slot, next_entry, header_pointer, first_extension, extension_pointer, further_extension}
 use Rattle.ados_model.specs.Faults.Reached.{start, named}
 use Rattle.ados_model.proofs.Nodes.{entry_node, directory_node}

@@ -1,12 +1,7 @@
 -- Worked examples of walks and places: directories `a`, `b` and a file `f` in the root of a volume of 1,760 blocks.
-use Rattle.std.proofs.Common.{◌≡◌, ℕ, List, [], ◌∷◌, Option, Some, None, Ok, Err, codes, refl, cond, ◌==◌}
-use Rattle.adf_block.specs.declared.layout.Format.TheVariants.{Ffs}
-use Rattle.ados_name.specs.declared.stamp.Date3.{Date3}
-use Rattle.ados_name.specs.Name.{steps, steps_along, front, last_name}
+use Rattle.ados_model.proofs.Common.{◌≡◌, ℕ, List, [], ◌∷◌, Option, Some, None, Ok, Err, codes, refl, cond, ◌==◌, Ffs, Date3, steps, steps_along, front, last_name, Content, Node, Tree, used, free, Directory, File}
 use Rattle.ados_model.specs.declared.dos_error.WalkFault.TheVariants.{DirectoryNotFound, ObjectNotFound, WrongType}
 use Rattle.ados_model.specs.declared.dos_error.PlaceFault.TheVariants as faults
-use Rattle.ados_model.specs.Tree.{Content, Node, Tree, used, free}
-use Rattle.ados_model.specs.Tree.Content.{Directory, File}
 use Rattle.ados_model.specs.Change.{walk, place}
 
 abbrev pub moment : Date3

@@ -1,8 +1,7 @@
 //! The answers for C.
 
 ghost use Rattle.std.specs.Prelude.{◌≡◌, ◌≤◌, length};
-ghost use Rattle.c_values.specs.Telling.{cells_of, told_disk, told_entry, told_handle, told_of};
-ghost use Rattle.c_values.specs.Telling.{entry_of as entry_told, disk_of as disk_told};
+ghost use Rattle.c_values.specs.Telling.{cells_of, disk_of as disk_told, entry_of as entry_told, told_disk, told_entry, told_handle, told_of};
 
 use crate::date::JipDate;
 use ados_model::{Answer, Body, DiskInfo, FileInfo};

@@ -1,12 +1,12 @@
 -- The entries of a damaged image while they are gathered.
 use Rattle.std.specs.Prelude.{◌≡◌, ℕ, ◌+◌, ◌*◌, ◌<◌, ◌≤◌, List, length, All, Contains, slice_index, slice_index_or, Option, Some, None, IsSome}
 use Rattle.adf_block.specs.Image.{block_count, long, IsInside}
+use Rattle.ados_sound.specs.declared.known.Known.{Known}
+use Rattle.ados_sound.specs.Doubtful.{IsHeader, IsPlaceIn, NamesEntries}
+use Rattle.ados_sound.specs.Known.{AreKnown}
 use Rattle.adf_salvage.specs.declared.gathered.Gathered.{Gathered}
-use Rattle.adf_salvage.specs.declared.known.Known.{Known}
-use Rattle.adf_salvage.specs.Doubtful.{IsHeader, IsPlaceIn, NamesEntries}
 use Rattle.adf_salvage.specs.Salvaged.{IsTold, broken_total, headers_of}
 use Rattle.adf_salvage.specs.steps.Giving.{IsGiving}
-use Rattle.adf_salvage.specs.steps.Heading.{AreKnown}
 
 -- the index of a block's entry, if its header was found
 abbrev pub place_at : List (Option ℕ) → ℕ → Option ℕ

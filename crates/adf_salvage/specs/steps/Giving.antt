@@ -1,21 +1,10 @@
 -- The blocks given to broken files.
-use Rattle.std.specs.Prelude.{◌≡◌, ℕ, ◌+◌, ◌<◌, Bool, true, false, List, length, All, slice_index_or}
+use Rattle.std.specs.Prelude.{◌≡◌, ℕ, ◌<◌, Bool, true, false, List, length, All}
 use Rattle.adf_block.specs.Image.{block_count}
-use Rattle.adf_block.specs.Fields.{own_key, primary_type, sequence_number}
-use Rattle.adf_block.specs.declared.layout.TheConstants.{DATA_TYPE}
+use Rattle.ados_sound.specs.Marks.{mark_at}
 use Rattle.adf_salvage.specs.declared.giving.Giving.{Giving}
 use Rattle.adf_salvage.specs.declared.giving.Piece.{Piece}
 use Rattle.adf_salvage.specs.Salvaged.{AreApart}
-
--- whether the block is marked
-abbrev pub mark_at : List Bool → ℕ → Bool
-mark_at marks block = slice_index_or marks block false
-
--- the block is OFS data block i of the file by its type, its file and its number, whatever else it has
-pub record IsOwnData (image : List ℕ) (file i block : ℕ) : Type 0 where
-  pub primary : primary_type image block ≡ DATA_TYPE
-  pub of_file : own_key image block ≡ file
-  pub number : sequence_number image block ≡ i + 1
 
 -- a block that can still be given
 pub record IsOpen (given : List Bool) (block : ℕ) : Type 0 where

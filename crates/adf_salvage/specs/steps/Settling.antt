@@ -1,14 +1,14 @@
 -- Files without a header while they are added to the entries.
 use Rattle.std.specs.Prelude.{◌≡◌, ℕ, ◌+◌, ◌*◌, ◌<◌, ◌≤◌, ◌⊎◌, List, length, Contains, Option, IsSome, ⊤}
+use Rattle.ados_sound.specs.declared.known.Known.{Known}
+use Rattle.ados_sound.specs.Known.{AreKnown}
 use Rattle.adf_salvage.specs.declared.gathered.Gathered.{Gathered}
-use Rattle.adf_salvage.specs.declared.known.Known.{Known}
 use Rattle.adf_salvage.specs.declared.salvaged.HeaderState.{HeaderState}
 use Rattle.adf_salvage.specs.declared.salvaged.State.{State}
 use Rattle.adf_salvage.specs.declared.salvaged.State.TheVariants as states
 use Rattle.adf_salvage.specs.Salvaged.{AreSalvaged, broken_total, headers_of}
 use Rattle.adf_salvage.specs.steps.Gathering.{place_at}
 use Rattle.adf_salvage.specs.steps.Giving.{IsGiving}
-use Rattle.adf_salvage.specs.steps.Heading.{AreKnown}
 
 -- the state of a file that is not whole and has such a header
 abbrev pub IsDamaged : HeaderState → State → Type 0

@@ -7,7 +7,7 @@ use Rattle.ados_model.specs.declared.role.Role.TheVariants.{Root, Page, Entry, D
 use Rattle.ados_model.specs.Faults.{InImage, IsPlace, LeadsInside, Reached}
 use Rattle.ados_mend.specs.declared.reached.Step.{Step}
 use Rattle.ados_mend.specs.declared.reached.Walk.{Walk}
-use Rattle.ados_mend.specs.steps.Accounting.{IsMarked, unmarked}
+use Rattle.ados_mend.specs.steps.Marks.{IsMarked, unmarked}
 
 -- the form of a role: a block has the same places in all roles of one form
 abbrev pub form : Role → ℕ

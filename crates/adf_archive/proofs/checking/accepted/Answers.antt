@@ -1,9 +1,11 @@
 use Rattle.std.proofs.Common.{ℕ, Bool, List, ap, sym, subst, ◌∙◌}
+use Rattle.adf_archive.proofs.Common.{block_count, name_of, some_in}
 use Rattle.adf_block.specs.Boot.{HasKind}
-use Rattle.adf_block.specs.Image.{block_count}
 use Rattle.ados_model.specs.Accepted.{Accepts}
+use Rattle.ados_model.specs.Parts.{name_in}
+use Rattle.ados_model.specs.declared.answer.FileInfo.{FileInfo}
 use Rattle.adf_archive.proofs.checking.accepted.Goals as goal
-use Rattle.adf_archive.proofs.checking.accepted.Goals.{then-detail+in_ok-contents_of, else-detail, then-detail-2+in_ok-suspects_of, else-detail-2}
+use Rattle.adf_archive.proofs.checking.accepted.Goals.{then-detail+in_ok-counts_of, else-detail, then-detail-2+in_ok-suspects_of, else-detail-2}
 
 pub returns : goal.returns
 returns c = λ old a. record {
@@ -13,7 +15,14 @@ returns c = λ old a. record {
     kind = subst (λ (image : List ℕ). HasKind image c.boot_kind.result) c.image-image.ensures.same c.boot_kind.ensures;
     blocks = c.blocks-2.ensures.count ∙ ap block_count c.image-image.ensures.same;
     contents = elim c.if-detail.branch [
-      | then-detail+in_ok-contents_of w ↦ rw w.contents-is w.in_ok-contents_of.ensures
+      | then-detail+in_ok-counts_of w ↦
+          rw w.contents-is (λ t s.
+          let n = some_in (t.nodes w.root.result) (w.root.ensures.key t s) in
+          record {
+            name = ap (λ (info : FileInfo). info.name) (w.examine.ensures t n.0 s n.1) ∙ sym (ap name_in n.1) ∙ ap (name_of t) (w.root.ensures.root t s);
+            counts = w.in_ok-counts_of.ensures t s;
+            free = w.free_blocks.ensures t s;
+          })
       | else-detail w ↦ rw w.contents-is tt
     ];
     suspects = elim c.if-detail-2.branch [

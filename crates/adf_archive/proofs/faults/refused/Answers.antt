@@ -1,6 +1,5 @@
 use Rattle.std.proofs.Common.{List, sym, subst, arith}
-use Rattle.ados_faults.specs.Listed.{AreAllFaults}
-use Rattle.ados_model.specs.declared.fault.VolumeFault.{VolumeFault}
+use Rattle.adf_archive.proofs.Common.{AreAllFaults, VolumeFault}
 use Rattle.adf_archive.proofs.faults.refused.Goals as goal
 
 pub told-requires-then-detail-clause-each : goal.told-requires-then-detail-clause-each

@@ -1,8 +1,6 @@
 use Rattle.std.proofs.Common.{◌≡◌, All, List, is_some, ap, ◌∙◌, sym, subst, arith}
+use Rattle.adf_archive.proofs.Common.{All-push, HasValues, HaveTexts, explains, ShownFault}
 use Rattle.std.proofs.lemmas.Grind.{common_steps}
-use Rattle.std.proofs.lemmas.List.Elements.{All-push}
-use Rattle.adf_archive.specs.Report.{HasValues, HaveTexts, explains}
-use Rattle.adf_archive.specs.declared.report.ShownFault.{ShownFault}
 use Rattle.adf_archive.proofs.faults.shown_faults.Goals as goal
 use Rattle.adf_archive.proofs.faults.shown_faults.Goals.{then-explains+in_ok-explain, else-explains}
 

@@ -1,5 +1,5 @@
 use Rattle.std.proofs.Common.{◌≡◌, All, map, take}
-use Rattle.adf_archive.specs.Report.{HasValues, HaveTexts, explains}
+use Rattle.adf_archive.proofs.Common.{HasValues, HaveTexts, explains}
 use Rattle.adf_archive.proofs.faults.shown_faults.Given as goal
 
 -- the reports of the faults before this one, with their values and texts

@@ -1,7 +1,5 @@
 use Rattle.std.proofs.Common.{Bool, List, sym, subst, arith}
-use Rattle.ados_faults.specs.Listed.{AreAllFaults}
-use Rattle.ados_model.specs.declared.fault.VolumeFault.{VolumeFault}
-use Rattle.adf_archive.specs.Report.{HaveTexts}
+use Rattle.adf_archive.proofs.Common.{AreAllFaults, VolumeFault, HaveTexts}
 use Rattle.adf_archive.proofs.Shown.{have_values, many, shown_all}
 use Rattle.adf_archive.proofs.faults.told.Goals as goal
 

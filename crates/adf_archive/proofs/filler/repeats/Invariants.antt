@@ -1,5 +1,5 @@
 use Rattle.std.proofs.Common.{ℕ, ◌<◌}
-use Rattle.adf_archive.specs.Fillers.{RepeatsFrom}
+use Rattle.adf_archive.proofs.Common.{RepeatsFrom}
 use Rattle.adf_archive.proofs.filler.repeats.Given as goal
 
 -- the bytes are the text from no byte before this one on

@@ -1,7 +1,6 @@
 use Rattle.std.proofs.Common.{◌≡◌, ℕ, ◌-◌, List, ◌++◌, length, take, drop, ap, sym, ◌∙◌, length-append, arith}
+use Rattle.adf_archive.proofs.Common.{length-drop, length-map, take-append-drop, take_all, map}
 use Rattle.std.proofs.Math.Seq.{drop-append_seam}
-use Rattle.std.proofs.lemmas.List.{length-drop, length-map, take-append-drop, take_all}
-use Rattle.std.specs.Prelude.{map}
 use Rattle.std.specs.Char.{to_ascii_lowercase}
 use Rattle.adf_archive.proofs.finding.has_ending.Goals as goal
 

@@ -1,10 +1,7 @@
 use Rattle.std.proofs.Common.{◌≡◌, ℕ, List, length, ap, sym, ◌∙◌, arith}
-use Rattle.std.proofs.lemmas.List.{ext_get_or}
-use Rattle.adf_block.specs.declared.volume_size.SizeFault.TheVariants.{TooFewBlocks}
-use Rattle.adf_archive.specs.declared.report.ImageReport.{ImageReport}
+use Rattle.adf_archive.proofs.Common.{ext_get_or, TooFewBlocks, ImageReport, told_from}
 use Rattle.adf_archive.specs.declared.report.ImageReport.TheVariants.{WrongSize}
 use Rattle.adf_archive.specs.Laws.{AreAnswers}
-use Rattle.adf_archive.specs.Lines.{told_from}
 use Rattle.adf_archive.proofs.laws.jobs_tell_alike.Goals as goal
 
 same : (answer : ℕ → ImageReport) (count : ℕ) (a b : List ImageReport) → AreAnswers answer count a → AreAnswers answer count b → a ≡ b

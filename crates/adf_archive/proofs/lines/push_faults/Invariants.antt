@@ -1,6 +1,5 @@
 use Rattle.std.proofs.Common.{◌≡◌, ◌++◌, take}
-use Rattle.std.specs.Prelude.{flat_map}
-use Rattle.adf_archive.specs.Lines.{shown_line}
+use Rattle.adf_archive.proofs.Common.{flat_map, shown_line}
 use Rattle.adf_archive.proofs.lines.push_faults.Given as goal
 
 -- the lines of the faults before this one

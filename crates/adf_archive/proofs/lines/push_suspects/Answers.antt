@@ -1,9 +1,6 @@
 use Rattle.std.proofs.Common.{◌≡◌, ℕ, ◌+◌, ◌<◌, List, [], ◌∷◌, ◌++◌, length, get_or, take, ap, sym, ◌∙◌, append_assoc}
-use Rattle.std.specs.Prelude.{flat_map}
-use Rattle.std.proofs.lemmas.List.{append-nil, take_more}
+use Rattle.adf_archive.proofs.Common.{flat_map, append-nil, take_more, Suspect, suspect_line}
 use Rattle.std.proofs.lemmas.List.Concat.{flat_map-append}
-use Rattle.adf_archive.specs.declared.suspects.Suspect.{Suspect}
-use Rattle.adf_archive.specs.Lines.{suspect_line}
 use Rattle.adf_archive.proofs.lines.push_suspects.Goals as goal
 
 more : (f : Suspect → List ℕ) (xs : List Suspect) (i : ℕ) (d : Suspect) → i < length xs → flat_map f (take (i + 1) xs) ≡ flat_map f (take i xs) ++ f (get_or xs i d)

@@ -1,6 +1,5 @@
 use Rattle.std.proofs.Common.{◌≡◌, ◌++◌, take}
-use Rattle.std.specs.Prelude.{flat_map}
-use Rattle.adf_archive.specs.Lines.{suspect_line}
+use Rattle.adf_archive.proofs.Common.{flat_map, suspect_line}
 use Rattle.adf_archive.proofs.lines.push_suspects.Given as goal
 
 -- the lines of the blocks before this one

@@ -1,8 +1,7 @@
 use Rattle.std.proofs.Common.{◌≡◌, ℕ, List, [], ◌∷◌, ◌++◌, Option, codes, decimal, option_map, ap, ◌∙◌}
+use Rattle.adf_archive.proofs.Common.{Token, begin_object, end_object, key, string, number, found_in, wanted_in}
 use Rattle.std.proofs.lemmas.Result.{on_ok_weaker}
-use Rattle.json.specs.Token.{Token, begin_object, end_object, key, string, number}
 use Rattle.adf_record.specs.Members.{number_token, string_token}
-use Rattle.adf_archive.specs.Objects.{found_in, wanted_in}
 use Rattle.adf_record.proofs.Tokens.{behind}
 use Rattle.adf_archive.proofs.objects.put_fault.Goals as goal
 

@@ -1,6 +1,5 @@
 use Rattle.std.proofs.Common.{◌≡◌, ◌++◌, take}
-use Rattle.std.specs.Prelude.{flat_map}
-use Rattle.adf_archive.specs.Objects.{shown_tokens}
+use Rattle.adf_archive.proofs.Common.{flat_map, shown_tokens}
 use Rattle.adf_archive.proofs.objects.put_shown.Given as goal
 
 -- the objects of the faults before this one

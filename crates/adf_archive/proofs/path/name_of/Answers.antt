@@ -1,7 +1,7 @@
 use Rattle.std.proofs.Common.{◌++◌, List, ℕ, sym, ap, ap₂, ◌∙◌}
+use Rattle.adf_archive.proofs.Common.{some_in}
 use Rattle.ados_model.specs.declared.answer.FileInfo.{FileInfo}
 use Rattle.ados_model.specs.Parts.{name_in}
-use Rattle.ados_model.proofs.Nodes.{some_in}
 use Rattle.adf_archive.proofs.path.name_of.Goals as goal
 
 pub returns : goal.returns

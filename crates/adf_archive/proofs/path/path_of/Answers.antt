@@ -1,6 +1,6 @@
 use Rattle.std.proofs.Common.{◌≡◌, ◌≢◌, ℕ, List, ◌++◌, ◌∷◌, Some, length, sym, ap, ◌∙◌, arith}
+use Rattle.adf_archive.proofs.Common.{name_of, parent_of, root}
 use Rattle.adf_text.specs.Letters.{letters}
-use Rattle.ados_model.specs.Tree.{name_of, parent_of, root}
 use Rattle.adf_archive.proofs.Climbing.{ends_at_root, ends_more, no_shorter}
 use Rattle.adf_archive.proofs.path.path_of.Goals as goal
 

@@ -1,7 +1,6 @@
 use Rattle.std.proofs.Common.{◌-◌, vec_len}
+use Rattle.adf_archive.proofs.Common.{Stands, Tree}
 use Rattle.ados_model.specs.Keys.{HasKey}
-use Rattle.ados_model.specs.Stands.{Stands}
-use Rattle.ados_model.specs.Tree.{Tree}
 use Rattle.adf_archive.proofs.Climbing.{EndsPath}
 use Rattle.adf_archive.proofs.path.path_of.Given as goal
 

@@ -1,7 +1,5 @@
 use Rattle.std.proofs.Common.{ℕ, List, length, map, ap, ◌∙◌, arith}
-use Rattle.std.proofs.lemmas.List.{length-map}
-use Rattle.std.specs.String.{string_bytes}
-use Rattle.adf_archive.specs.Status.{ends_over}
+use Rattle.adf_archive.proofs.Common.{length-map, string_bytes, ends_over}
 use Rattle.adf_archive.proofs.Whole.{checked_all, left_off_at, none_told_at, told_all}
 use Rattle.adf_archive.proofs.running.check_archive.Goals as goal
 
@@ -14,8 +12,8 @@ returns g c =
     let one = c.form_of-form.ensures.alone e in
     omega (arith, one.1, c.in_ok-found.ensures one.0, length-map c.as_slice-paths.result.now string_bytes, c.as_slice-paths.ensures.len, ap length c.deref.ensures.value))
     c.form_of-form.ensures.several (g.W.Write.contents c.args.writer.now) (g.W.Write.contents c.check_each.new.writer) told.0
-    c.detail_of-detail.result c.detail_of-detail.ensures (checked_all _ _ c.detail_of-detail.result _ told.0 told.1 (λ i r calls. calls.met)) told.1.0 c.in_ok-tally.tally told.3 told.2 c.end_over.result
-    (c.end_over.ensures ∙ ap (λ (n : ℕ). ends_over n c.in_ok-tally.tally) (omega (arith, told.1.0, length-map c.as_slice-paths.result.now string_bytes)))
+    c.detail_of-detail.result c.detail_of-detail.ensures (checked_all _ _ c.detail_of-detail.result _ told.0 told.1 (λ i r calls. calls.met)) told.1.0 c.in_ok-tally.tally told.3 told.2 c.end.result
+    (c.end.ensures ∙ ap (λ (n : ℕ). ends_over n c.in_ok-tally.tally) (omega (arith, told.1.0, length-map c.as_slice-paths.result.now string_bytes)))
 
 pub returns-in_err-found : goal.returns-in_err-found
 returns-in_err-found g c = none_told_at c.args.job.now (g.W.Write.contents c.args.writer.now) c.from_residual.result c.from_residual.ensures.1

@@ -1,11 +1,5 @@
-use Rattle.std.proofs.Common.{ℕ, List, [], map, ap, sym, subst, ◌∙◌, append-nil, arith}
-use Rattle.std.proofs.lemmas.List.{length-map}
-use Rattle.std.specs.Io.KnownBytes.{Appends}
-use Rattle.std.specs.String.{string_bytes}
-use Rattle.adf_io.specs.Prefix.{WritesFront}
-use Rattle.adf_archive.specs.declared.report.ImageReport.{ImageReport}
-use Rattle.adf_archive.specs.Lines.{told_from}
-use Rattle.adf_archive.specs.Status.{tallied}
+use Rattle.std.proofs.Common.{rules, ℕ, List, [], map, ap, sym, subst, ◌∙◌, append-nil, arith}
+use Rattle.adf_archive.proofs.Common.{length-map, Appends, string_bytes, WritesFront, ImageReport, told_from, tallied}
 use Rattle.adf_archive.proofs.Chunks.{at_err, so_far_front, so_far_more, so_far_none}
 use Rattle.adf_archive.proofs.running.check_each.Goals as goal
 
@@ -21,7 +15,7 @@ loop-done-preserved g c =
     c.deref.ensures.value c.in_ok-tell_reports.ensures.ok in (
       omega (arith, c.min-count.ensures, c.loop-done-test.true),
       so_far_more g.C.Fn c.args.report.now c.args.manner.form paths (g.W.Write.contents c.args.writer.now) (g.W.Write.contents c.loop-done.writer) (g.W.Write.contents c.tell_reports.new.writer)
-          c.loop-done.done c.min-count.result c.loop-done.tally c.loop-done.invariant.1 c.in_ok-reports.reports.items c.in_ok-reports.ensures.each
+          c.loop-done.done c.min-count.result c.loop-done.tally c.loop-done.invariant.1 c.in_ok-reports.reports.items (search rules)
           c.add.new.self written (c.add.ensures ∙ ap (tallied c.loop-done.tally) c.deref-in-loop-done-2.ensures.value),
     )
 
@@ -33,7 +27,7 @@ returns-in_err-tell_reports-clause-fault g c =
     c.deref.ensures.value c.in_err-tell_reports.ensures.front in
     at_err c.from_residual-in_err-tell_reports.result
     (so_far_front g.C.Fn c.args.report.now c.args.manner.form paths (g.W.Write.contents c.args.writer.now) (g.W.Write.contents c.loop-done.writer) (g.W.Write.contents c.tell_reports.new.writer)
-    c.loop-done.done c.min-count.result c.loop-done.tally c.loop-done.invariant.1 c.in_ok-reports.reports.items c.in_ok-reports.ensures.each front
+    c.loop-done.done c.min-count.result c.loop-done.tally c.loop-done.invariant.1 c.in_ok-reports.reports.items (search rules) front
     (omega (arith, c.min-count.ensures, c.loop-done-test.true, length-map c.args.paths.now string_bytes)))
 
 pub returns-in_err-reports-clause-fault : goal.returns-in_err-reports-clause-fault

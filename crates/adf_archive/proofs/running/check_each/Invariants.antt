@@ -1,5 +1,5 @@
 use Rattle.std.proofs.Common.{◌-◌, ◌≤◌, length, map}
-use Rattle.std.specs.String.{string_bytes}
+use Rattle.adf_archive.proofs.Common.{string_bytes}
 use Rattle.adf_archive.proofs.Chunks.{SoFar}
 use Rattle.adf_archive.proofs.running.check_each.Given as goal
 

@@ -1,10 +1,6 @@
 use Rattle.std.proofs.Common.{◌≡◌, ℕ, ◌-◌, ◌<◌, length, Result, Ok, Err, IfOk, option_map, sym, ap, ◌∙◌, subst, arith}
+use Rattle.adf_archive.proofs.Common.{get_or_default, Suspect, string_bytes, IsPathOf, TellsSuspect}
 use Rattle.std.proofs.Math.ListN.{get_or}
-use Rattle.std.proofs.lemmas.List.{get_or_default}
-use Rattle.adf_archive.specs.declared.suspects.Suspect.{Suspect}
-use Rattle.std.specs.String.{string_bytes}
-use Rattle.adf_archive.specs.Paths.{IsPathOf}
-use Rattle.adf_archive.specs.Suspects.{TellsSuspect}
 use Rattle.adf_archive.proofs.suspects.path_in.Goals as goal
 
 mapped : {X Y : Type 0} (P Q : X → Type 0) → ((x : X) → P x → Q x) → (r : Result X Y) → IfOk r P → IfOk r Q

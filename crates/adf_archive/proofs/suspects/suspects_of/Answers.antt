@@ -1,11 +1,7 @@
 use Rattle.std.proofs.Common.{◌≡◌, ◌+◌, ◌<◌, All, Vec, Global, vec_len, Some, slice_get, sym, ap, ◌∙◌, subst, arith}
+use Rattle.adf_archive.proofs.Common.{block_count, Owns, Owner, Suspect, TellsSuspect}
 use Rattle.std.proofs.lemmas.Option.{slice_get_read}
-use Rattle.adf_block.specs.Image.{block_count}
 use Rattle.ados_model.proofs.Standing.{count_same}
-use Rattle.ados_volume.specs.Owners.{Owns}
-use Rattle.ados_volume.specs.declared.owner.Owner.{Owner}
-use Rattle.adf_archive.specs.declared.suspects.Suspect.{Suspect}
-use Rattle.adf_archive.specs.Suspects.{TellsSuspect}
 use Rattle.adf_archive.proofs.Suspecting.{AreSuspectsBelow, inside, suspects_all, suspects_more, suspects_same}
 use Rattle.adf_archive.proofs.suspects.suspects_of.Goals as goal
 use Rattle.adf_archive.proofs.suspects.suspects_of.Goals.{in-Some+in_ok-push, in_default}

@@ -1,5 +1,4 @@
-use Rattle.ados_model.specs.Stands.{Stands}
-use Rattle.ados_model.specs.Tree.{Tree}
+use Rattle.adf_archive.proofs.Common.{Stands, Tree}
 use Rattle.adf_archive.proofs.Suspecting.{AreSuspectsBelow}
 use Rattle.adf_archive.proofs.suspects.suspects_of.Given as goal
 

@@ -1,5 +1,4 @@
-use Rattle.std.proofs.Common.{subst}
-use Rattle.adf_export.proofs.Common.{FileInfo, some_in, Stands, Tree, Note, AreBytesOf, noted, IfOk-weaker}
+use Rattle.adf_export.proofs.Common.{subst, FileInfo, some_in, Stands, Tree, Note, AreBytesOf, noted, IfOk-weaker}
 use Rattle.adf_text.specs.Uaem.{IsLineOf}
 use Rattle.adf_export.proofs.bytes.note_bytes.Goals as goal
 

@@ -1,5 +1,4 @@
-use Rattle.std.proofs.Common.{Bor, ℕ, List, map, subst}
-use Rattle.adf_export.specs.Words.{IsExtractFault}
+use Rattle.adf_export.proofs.Common.{Bor, ℕ, List, map, subst, IsExtractFault}
 use Rattle.adf_export.proofs.Leading.{extract_fault, text_of}
 use Rattle.adf_export.proofs.extracting.extract.Goals as goal
 

@@ -1,6 +1,4 @@
-use Rattle.std.proofs.Common.{ℕ, [], Option, sym, ap, ◌∙◌}
-use Rattle.std.specs.Option.{option_map_or}
-use Rattle.adf_export.proofs.Common.{IfOk-weaker, front}
+use Rattle.adf_export.proofs.Common.{ℕ, [], Option, sym, ap, ◌∙◌, option_map_or, IfOk-weaker, front}
 use Rattle.adf_export.proofs.front.front_above.Goals as goal
 
 pub returns-in-Some : goal.returns-in-Some

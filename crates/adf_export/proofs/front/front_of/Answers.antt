@@ -1,5 +1,4 @@
-use Rattle.std.proofs.Common.{ℕ, List, [], ◌∷◌, ◌++◌, Option, IfSome, sym, ap, ◌∙◌, subst}
-use Rattle.adf_export.proofs.Common.{All-pop, HasKey, names_down}
+use Rattle.adf_export.proofs.Common.{ℕ, List, [], ◌∷◌, ◌++◌, Option, IfSome, sym, ap, ◌∙◌, subst, All-pop, HasKey, names_down}
 use Rattle.adf_export.proofs.Fronting.{names_popped}
 use Rattle.adf_export.proofs.front.front_of.Goals as goal
 

@@ -1,5 +1,4 @@
-use Rattle.std.proofs.Common.{◌≡◌, ◌++◌, All, vec_len}
-use Rattle.adf_export.proofs.Common.{HasKey, Stands, Tree, front, names_down}
+use Rattle.adf_export.proofs.Common.{◌≡◌, ◌++◌, All, vec_len, HasKey, Stands, Tree, front, names_down}
 use Rattle.adf_export.proofs.front.front_of.Given as goal
 
 -- the text, followed by the names of the remaining directories

@@ -1,7 +1,4 @@
-use Rattle.std.proofs.Common.{◌≡◌, ℕ, suc, ◌-◌, ◌+◌, List, ◌++◌, None, Some, arith, sym, ap, ◌∙◌}
-use Rattle.adf_export.proofs.Common.{All-push, All-same, HasKey, parent_of, front, names_down}
-use Rattle.adf_block.specs.Image.{block_count}
-use Rattle.ados_model.proofs.Standing.{count_same}
+use Rattle.adf_export.proofs.Common.{◌≡◌, ℕ, suc, ◌-◌, ◌+◌, List, ◌++◌, None, Some, arith, sym, ap, ◌∙◌, All-push, All-same, HasKey, parent_of, front, names_down, block_count, count_same}
 use Rattle.adf_export.proofs.Fronting.{climbs, nothing_above, nothing_deeper}
 use Rattle.adf_export.proofs.front.keys_up.Goals as goal
 

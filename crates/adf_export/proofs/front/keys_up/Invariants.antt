@@ -1,5 +1,4 @@
-use Rattle.std.proofs.Common.{◌≡◌, ◌-◌, ◌++◌, All}
-use Rattle.adf_export.proofs.Common.{HasKey, Stands, Tree, front, names_down}
+use Rattle.adf_export.proofs.Common.{◌≡◌, ◌-◌, ◌++◌, All, HasKey, Stands, Tree, front, names_down}
 use Rattle.adf_export.proofs.front.keys_up.Given as goal
 
 -- the names of the directories so far follow those of the ones above

@@ -1,4 +1,4 @@
-use Rattle.std.proofs.Common.{◌++◌, List, ℕ, ap₂, ◌∙◌}
+use Rattle.adf_export.proofs.Common.{◌++◌, List, ℕ, ap₂, ◌∙◌}
 use Rattle.adf_export.proofs.front.path_of.Goals as goal
 
 pub returns : goal.returns

@@ -1,5 +1,4 @@
-use Rattle.std.proofs.Common.{ℕ, ◌++◌, List, [], ◌∷◌, ap, ap₂, ◌∙◌}
-use Rattle.adf_export.proofs.Common.{codes, name_of, shown}
+use Rattle.adf_export.proofs.Common.{ℕ, ◌++◌, List, [], ◌∷◌, ap, ap₂, ◌∙◌, codes, name_of, shown}
 use Rattle.adf_export.proofs.head.volume_line.Goals as goal
 
 pub returns : goal.returns

@@ -1,5 +1,4 @@
-use Rattle.std.proofs.Common.{◌++◌, OnErr, List, ℕ, ap₂, ◌∙◌, subst}
-use Rattle.adf_export.proofs.Common.{WritesFront, at_any_err}
+use Rattle.adf_export.proofs.Common.{◌++◌, OnErr, List, ℕ, ap₂, ◌∙◌, subst, WritesFront, at_any_err}
 use Rattle.adf_io.proofs.Prefixes.{writes_nothing}
 use Rattle.adf_export.proofs.info.write_info.Goals as goal
 

@@ -1,5 +1,4 @@
-use Rattle.std.proofs.Common.{◌≡◌, None, length, flat_map, All, sym, subst, arith}
-use Rattle.adf_export.proofs.Common.{Stands, Tree, AreBelow, AllGoOut, EachGoesOut, HasSource, sources_of, tops, IfOk-weaker, if_ok_both}
+use Rattle.adf_export.proofs.Common.{flat_map, ◌≡◌, None, length, All, sym, subst, arith, Stands, Tree, AreBelow, AllGoOut, EachGoesOut, HasSource, sources_of, tops, IfOk-weaker, if_ok_both}
 use Rattle.adf_export.proofs.Under.{all_before, found_there, sources_there}
 use Rattle.adf_export.proofs.items.all_outgoing.Goals as goal
 

@@ -1,5 +1,4 @@
-use Rattle.std.proofs.Common.{ℕ, List, [], None, flat_map, sym, subst, arith}
-use Rattle.adf_export.proofs.Common.{take_all, AreBelow, tops}
+use Rattle.adf_export.proofs.Common.{flat_map, ℕ, List, [], None, sym, subst, arith, take_all, AreBelow, tops}
 use Rattle.adf_export.proofs.Under.{below_none, object_more}
 use Rattle.adf_export.proofs.items.entries_of.Goals as goal
 

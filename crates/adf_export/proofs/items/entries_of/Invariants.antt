@@ -1,5 +1,4 @@
-use Rattle.std.proofs.Common.{None, flat_map, take}
-use Rattle.adf_export.proofs.Common.{Tree, Stands, AreBelow, tops}
+use Rattle.adf_export.proofs.Common.{flat_map, None, take, Tree, Stands, AreBelow, tops}
 use Rattle.adf_export.proofs.items.entries_of.Given as goal
 
 -- the entries of the objects before this one are there

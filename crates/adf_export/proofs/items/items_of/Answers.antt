@@ -1,5 +1,4 @@
-use Rattle.std.proofs.Common.{◌≡◌, ℕ, ◌<◌, None, [], List, length, get_or, flat_map, sym, subst, arith, ap, ◌∙◌}
-use Rattle.adf_export.proofs.Common.{get_or_default, take_all, Below, EachGoesOut, sources_of}
+use Rattle.adf_export.proofs.Common.{flat_map, ◌≡◌, ℕ, ◌<◌, None, [], List, length, get_or, sym, subst, arith, ap, ◌∙◌, get_or_default, take_all, Below, EachGoesOut, sources_of}
 use Rattle.adf_export.proofs.Going.{each_more, each_none, sources_more}
 use Rattle.adf_export.proofs.items.items_of.Goals as goal
 

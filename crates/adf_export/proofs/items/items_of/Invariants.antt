@@ -1,5 +1,4 @@
-use Rattle.std.proofs.Common.{◌≡◌, flat_map, take}
-use Rattle.adf_export.proofs.Common.{Tree, Stands, EachGoesOut, sources_of}
+use Rattle.adf_export.proofs.Common.{flat_map, ◌≡◌, take, Tree, Stands, EachGoesOut, sources_of}
 use Rattle.adf_export.proofs.items.items_of.Given as goal
 
 -- the items and sources for the entries before this one are there

@@ -1,5 +1,4 @@
-use Rattle.std.proofs.Common.{◌≡◌, ℕ, Some, length, sym, ◌∙◌, subst, arith}
-use Rattle.ados_volume.specs.Below.{HasGrown}
+use Rattle.adf_export.proofs.Common.{◌≡◌, ℕ, Some, length, sym, ◌∙◌, subst, arith, HasGrown}
 use Rattle.adf_export.proofs.Under.{entry_object, root_object}
 use Rattle.adf_export.proofs.items.push_object.Goals as goal
 

@@ -1,5 +1,4 @@
-use Rattle.std.proofs.Common.{sym, ap, ◌∙◌}
-use Rattle.adf_export.proofs.Common.{FileInfo, some_in}
+use Rattle.adf_export.proofs.Common.{sym, ap, ◌∙◌, FileInfo, some_in}
 use Rattle.adf_export.proofs.Directories.{told_directory}
 use Rattle.adf_export.proofs.keys.describe.Goals as goal
 

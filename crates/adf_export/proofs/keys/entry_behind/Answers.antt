@@ -1,4 +1,4 @@
-use Rattle.std.proofs.Common.{sym, ◌∙◌}
+use Rattle.adf_export.proofs.Common.{sym, ◌∙◌}
 use Rattle.ados_volume.proofs.Listed.{next_has_key}
 use Rattle.ados_volume.proofs.Ordered.{told_place}
 use Rattle.adf_export.proofs.keys.entry_behind.Goals as goal

@@ -1,5 +1,4 @@
-use Rattle.std.proofs.Common.{ap, sym, ◌∙◌}
-use Rattle.adf_export.proofs.Common.{FileInfo, name_in, some_in}
+use Rattle.adf_export.proofs.Common.{ap, sym, ◌∙◌, FileInfo, name_in, some_in}
 use Rattle.adf_export.proofs.keys.name_of.Goals as goal
 
 pub returns : goal.returns

@@ -1,5 +1,4 @@
-use Rattle.std.proofs.Common.{append_assoc, refl}
-use Rattle.std.specs.String.{string_bytes}
+use Rattle.adf_export.proofs.Common.{append_assoc, refl, string_bytes}
 use Rattle.adf_export.proofs.lines.push_line.Goals as goal
 
 pub returns : goal.returns

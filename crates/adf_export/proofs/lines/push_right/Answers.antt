@@ -1,5 +1,4 @@
-use Rattle.std.proofs.Common.{ℕ, ◌++◌, List, length, drop, append_assoc, ap, ◌∙◌}
-use Rattle.adf_export.proofs.Common.{codes, take_rest}
+use Rattle.adf_export.proofs.Common.{ℕ, ◌++◌, List, length, drop, append_assoc, ap, ◌∙◌, codes, take_rest}
 use Rattle.adf_export.proofs.Padding.{blanks}
 use Rattle.adf_export.proofs.lines.push_right.Goals as goal
 

@@ -1,5 +1,4 @@
-use Rattle.std.proofs.Common.{length, refl, ap, ◌∙◌, arith}
-use Rattle.adf_export.proofs.Common.{Appends, on_err_weaker, on_ok_weaker, Stands, Tree, Writes, WritesFront, WritesFrontOf, BeginsList, IsList, listed, Listing, at_any_err}
+use Rattle.adf_export.proofs.Common.{length, refl, ap, ◌∙◌, arith, Appends, on_err_weaker, on_ok_weaker, Stands, Tree, Writes, WritesFront, WritesFrontOf, BeginsList, IsList, listed, Listing, at_any_err}
 use Rattle.adf_export.proofs.Written.{written_none, written_nothing, written_on, written_more, written_whole, written_front, written_so_far, none_in_turns, went_on, went_out}
 use Rattle.adf_export.proofs.listing.write_list.Goals as goal
 use Rattle.adf_export.proofs.listing.write_list.Goals.{else-loop-test, then-loop-test+in_ok-go_on+then-not-branch}

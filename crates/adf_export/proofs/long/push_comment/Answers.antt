@@ -1,5 +1,4 @@
-use Rattle.std.proofs.Common.{ℕ, ◌++◌, List, [], ◌∷◌, true, sym, ap, ◌∙◌}
-use Rattle.adf_export.specs.Listing.{shown}
+use Rattle.adf_export.proofs.Common.{ℕ, ◌++◌, List, [], ◌∷◌, true, sym, ap, ◌∙◌, shown}
 use Rattle.adf_export.proofs.Padding.{no_comment, some_comment}
 use Rattle.adf_export.proofs.long.push_comment.Goals as goal
 

@@ -1,6 +1,4 @@
-use Rattle.std.proofs.Common.{ℕ, ◌++◌, [], ◌∷◌, List, append_assoc, ap₂, ◌∙◌}
-use Rattle.adf_export.proofs.Common.{on_ok_weaker, PushesDate}
-use Rattle.adf_record.specs.Second.{PushesSecond, to_second}
+use Rattle.adf_export.proofs.Common.{ℕ, ◌++◌, [], ◌∷◌, List, append_assoc, ap₂, ◌∙◌, on_ok_weaker, PushesDate, PushesSecond, to_second}
 use Rattle.adf_export.proofs.long.push_date.Goals as goal
 
 pub returns : goal.returns

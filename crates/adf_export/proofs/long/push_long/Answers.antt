@@ -1,8 +1,6 @@
-use Rattle.std.proofs.Common.{ℕ, ◌++◌, List, [], ◌∷◌, Bool, true, append_assoc, refl, ap, ap₂, ◌∙◌}
+use Rattle.adf_export.proofs.Common.{ℕ, ◌++◌, List, [], ◌∷◌, Bool, true, append_assoc, refl, ap, ap₂, ◌∙◌, to_second, comment_text, right_in, shown, styled_path}
 use Rattle.adf_script.specs.Text.{spaced}
-use Rattle.adf_record.specs.Second.{to_second}
 use Rattle.adf_record.specs.Shown.{bold}
-use Rattle.adf_export.specs.Listing.{comment_text, right_in, shown, styled_path}
 use Rattle.adf_export.proofs.Padding.{six_pieces}
 use Rattle.adf_export.proofs.long.push_long.Goals as goal
 

@@ -1,6 +1,4 @@
-use Rattle.std.proofs.Common.{◌∙◌}
-use Rattle.std.proofs.lemmas.Result.{on_ok_weaker}
-use Rattle.adf_record.proofs.Tokens.{behind}
+use Rattle.adf_export.proofs.Common.{◌∙◌, on_ok_weaker, behind}
 use Rattle.adf_record.proofs.Written.{number_is, text_is}
 use Rattle.adf_export.proofs.objects.put_measures.Goals as goal
 

@@ -1,7 +1,6 @@
-use Rattle.std.proofs.Common.{ℕ, List, [], ◌∷◌, ◌++◌, codes, ap, ◌∙◌}
-use Rattle.std.proofs.lemmas.Result.{on_ok_weaker}
+use Rattle.std.proofs.Common.{codes}
+use Rattle.adf_export.proofs.Common.{ℕ, List, [], ◌∷◌, ◌++◌, ap, ◌∙◌, on_ok_weaker, behind}
 use Rattle.json.specs.Token.{key, string}
-use Rattle.adf_record.proofs.Tokens.{behind}
 use Rattle.adf_text.specs.Letters.{letters}
 use Rattle.adf_export.proofs.objects.put_object.Goals as goal
 

@@ -1,9 +1,7 @@
-use Rattle.std.proofs.Common.{◌≡◌, ◌≢◌, ℕ, List, [], ◌∷◌, ◌++◌, Some, append-nil, arith, refl, sym, ap, ◌∙◌, subst, eq-eqb}
+use Rattle.adf_export.proofs.Common.{◌≡◌, ◌≢◌, ℕ, List, [], ◌∷◌, ◌++◌, Some, append-nil, arith, refl, sym, ap, ◌∙◌, subst, eq-eqb, count_same, entries, IsListed, listing_goes_on, listing_small}
 use Rattle.ados_chain.specs.Look.{first_left}
 use Rattle.ados_chain.specs.declared.read.Next.TheVariants.{Entry}
-use Rattle.ados_model.proofs.Standing.{count_same}
-use Rattle.ados_model.specs.Tree.{behind, entries}
-use Rattle.ados_volume.proofs.DirectoryKeys.{IsListed, listing_goes_on, listing_small}
+use Rattle.ados_model.specs.Tree.{behind}
 use Rattle.adf_export.proofs.order.keys_in.Goals as goal
 
 -- all of them follow the directory itself

@@ -1,7 +1,4 @@
-use Rattle.std.proofs.Common.{◌-◌, vec_len}
-use Rattle.adf_export.proofs.Common.{Tree, Stands}
-use Rattle.adf_block.specs.Image.{block_count}
-use Rattle.ados_volume.proofs.DirectoryKeys.{IsListed}
+use Rattle.adf_export.proofs.Common.{◌-◌, vec_len, Tree, Stands, block_count, IsListed}
 use Rattle.adf_export.proofs.order.keys_in.Given as goal
 
 abbrev pub invariant-loop-key : goal.invariant-loop-key

@@ -1,6 +1,4 @@
-use Rattle.std.proofs.Common.{◌≡◌, refl, sym, ap, ◌∙◌, subst}
-use Rattle.adf_export.proofs.Common.{Once, Stands, Tree, comes_before, ordered, sorted}
-use Rattle.adf_words.specs.declared.query.ListOrder.TheVariants.{Disk}
+use Rattle.adf_export.proofs.Common.{◌≡◌, refl, sym, ap, ◌∙◌, subst, Once, Stands, Tree, comes_before, ordered, sorted, Disk}
 use Rattle.adf_export.proofs.Sorting.{keys_there, ordered_disk, ordered_other}
 use Rattle.adf_export.proofs.order.ordered_keys.Goals as goal
 

@@ -1,7 +1,4 @@
-use Rattle.std.proofs.Common.{[], Option, map, refl, sym, ap, ◌∙◌}
-use Rattle.std.specs.Option.{option_map_or}
-use Rattle.adf_export.proofs.Common.{some_in, file_info, name_in, Node, FileInfo, weight}
-use Rattle.ados_name.specs.Name.{upper}
+use Rattle.adf_export.proofs.Common.{[], Option, map, refl, sym, ap, ◌∙◌, option_map_or, some_in, file_info, name_in, Node, FileInfo, weight, upper}
 use Rattle.adf_export.proofs.order.rank_of.Goals as goal
 
 pub returns : goal.returns

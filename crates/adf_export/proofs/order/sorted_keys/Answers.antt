@@ -1,6 +1,4 @@
-use Rattle.std.proofs.Common.{◌≡◌, ℕ, ◌+◌, List, take, arith, sym, ap, ◌∙◌, subst}
-use Rattle.adf_export.proofs.Common.{take_all, comes_before, sorted, AreRanked}
-use Rattle.adf_export.specs.declared.order.Rank.{Rank}
+use Rattle.adf_export.proofs.Common.{◌≡◌, ℕ, ◌+◌, List, take, arith, sym, ap, ◌∙◌, subst, take_all, comes_before, sorted, AreRanked, Rank}
 use Rattle.adf_export.proofs.Ranking.{ranked_keys, ranked_none, ranked_on}
 use Rattle.adf_export.proofs.order.sorted_keys.Goals as goal
 

@@ -1,5 +1,4 @@
-use Rattle.std.proofs.Common.{take}
-use Rattle.adf_export.proofs.Common.{Tree, Stands, comes_before, sorted, AreRanked}
+use Rattle.adf_export.proofs.Common.{take, Tree, Stands, comes_before, sorted, AreRanked}
 use Rattle.adf_export.proofs.order.sorted_keys.Given as goal
 
 -- the keys before this one are in order, each with its rank

@@ -1,5 +1,4 @@
-use Rattle.std.proofs.Common.{map, sym, ◌∙◌}
-use Rattle.adf_export.proofs.Common.{Tree, Stands, AreAsked, LeadTo, IfOk-weaker}
+use Rattle.adf_export.proofs.Common.{map, sym, ◌∙◌, Tree, Stands, AreAsked, LeadTo, IfOk-weaker}
 use Rattle.adf_export.proofs.Leading.{asked_some, text_of}
 use Rattle.adf_export.proofs.words.asked_objects.Goals as goal
 

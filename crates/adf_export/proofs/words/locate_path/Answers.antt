@@ -1,7 +1,4 @@
-use Rattle.std.proofs.Common.{◌≡◌, ℕ, List, Ok, sym, ap, ◌∙◌, subst}
-use Rattle.std.specs.Str.{chars}
-use Rattle.ados_model.specs.declared.dos_error.WalkFault.TheVariants.{ObjectNotFound}
-use Rattle.ados_volume.specs.Paths.{Leads, StopsAt}
+use Rattle.adf_export.proofs.Common.{◌≡◌, ℕ, List, Ok, sym, ap, ◌∙◌, subst, chars, ObjectNotFound, Leads, StopsAt}
 use Rattle.adf_export.proofs.Leading.{refused_word}
 use Rattle.adf_text.proofs.LettersLemmas.{All-bytes}
 use Rattle.adf_export.proofs.words.locate_path.Goals as goal

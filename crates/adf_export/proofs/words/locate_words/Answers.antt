@@ -1,5 +1,4 @@
-use Rattle.std.proofs.Common.{◌+◌, All, map, take, sym, ◌∙◌, subst, arith}
-use Rattle.adf_export.proofs.Common.{All-push, Stands, HasKey, LeadTo}
+use Rattle.adf_export.proofs.Common.{◌+◌, All, map, take, sym, ◌∙◌, subst, arith, All-push, Stands, HasKey, LeadTo}
 use Rattle.ados_volume.specs.Shown.{Shown}
 use Rattle.adf_export.proofs.Leading.{lead_more, no_word, some_fault, text_of}
 use Rattle.adf_export.proofs.words.locate_words.Goals as goal

@@ -1,5 +1,4 @@
-use Rattle.std.proofs.Common.{◌≡◌, All, map, take}
-use Rattle.adf_export.proofs.Common.{Tree, Stands, HasKey, LeadTo}
+use Rattle.adf_export.proofs.Common.{◌≡◌, All, map, take, Tree, Stands, HasKey, LeadTo}
 use Rattle.adf_export.proofs.words.locate_words.Given as goal
 
 -- the arguments before this one lead to these objects

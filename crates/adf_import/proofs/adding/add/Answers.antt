@@ -1,8 +1,5 @@
 use Rattle.std.proofs.Common.{sym, subst}
-use Rattle.ados_volume.specs.Shown.{Shown}
-use Rattle.adf_import.specs.Progress.{IsReady}
-use Rattle.adf_import.specs.Put.{KeepsKeys}
-use Rattle.ados_model.specs.Keys.{HasDirectory}
+use Rattle.adf_import.proofs.Common.{Shown, IsReady, KeepsKeys, HasDirectory}
 use Rattle.adf_import.proofs.Keeping.{keeps_both, keeps_same}
 use Rattle.adf_import.proofs.adding.add.Goals as goal
 

@@ -1,5 +1,4 @@
-use Rattle.adf_import.specs.Progress.{IsReady}
-use Rattle.adf_import.specs.Put.{KeepsKeys}
+use Rattle.adf_import.proofs.Common.{IsReady, KeepsKeys}
 use Rattle.adf_import.proofs.adding.add.Given as goal
 
 -- every directory and entry is still one, and more can be put into the top directory

@@ -1,6 +1,5 @@
 use Rattle.std.proofs.Common.{sym, subst}
-use Rattle.ados_model.specs.Keys.{HasDirectory}
-use Rattle.ados_volume.specs.Shown.{Shown}
+use Rattle.adf_import.proofs.Common.{HasDirectory, Shown}
 use Rattle.adf_import.proofs.bundle_put.put_entries.Goals as goal
 
 pub loop-place-init : goal.loop-place-init

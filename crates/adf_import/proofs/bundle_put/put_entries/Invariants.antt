@@ -1,4 +1,4 @@
-use Rattle.adf_import.specs.Progress.{IsReady}
+use Rattle.adf_import.proofs.Common.{IsReady}
 use Rattle.adf_import.proofs.bundle_put.put_entries.Given as goal
 
 -- more can be put into the root, and into what was made

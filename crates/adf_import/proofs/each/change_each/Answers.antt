@@ -1,6 +1,5 @@
 use Rattle.std.proofs.Common.{Bor, ℕ, List, Err, map, ap, ◌∙◌, subst, arith}
-use Rattle.adf_import.specs.Commands.{Does}
-use Rattle.adf_import.specs.Turns.{EndsInTurn}
+use Rattle.adf_import.proofs.Common.{Does, EndsInTurn}
 use Rattle.adf_import.specs.Turns.AreDone.{none}
 use Rattle.adf_import.specs.declared.words.Word.{Word}
 use Rattle.adf_import.proofs.Turning.{done_more, ends_here, text_of, was_read}

@@ -1,6 +1,5 @@
 use Rattle.std.proofs.Common.{map, take}
-use Rattle.adf_import.specs.Commands.{Does}
-use Rattle.adf_import.specs.Turns.{AreDone, AtWord}
+use Rattle.adf_import.proofs.Common.{Does, AreDone, AtWord}
 use Rattle.adf_import.proofs.each.change_each.Given as goal
 
 -- the arguments before this one are done

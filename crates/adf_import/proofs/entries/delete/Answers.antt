@@ -1,6 +1,7 @@
 use Rattle.std.proofs.Common.{◌≡◌, false, None, sym, ◌∙◌}
+use Rattle.adf_import.proofs.Common.{none_refuses}
 use Rattle.ados_volume.specs.Refusals.{remove_refusals}
-use Rattle.ados_volume.proofs.Refusing.{can_remove, none_refuses}
+use Rattle.ados_volume.proofs.Refusing.{can_remove}
 use Rattle.adf_import.proofs.entries.delete.Goals as goal
 
 pub remove-requires : goal.remove-requires

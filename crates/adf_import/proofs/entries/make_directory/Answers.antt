@@ -1,14 +1,5 @@
 use Rattle.std.proofs.Common.{◌≡◌, false, [], is_some, rules, sym, ap, ◌∙◌, subst, arith, le-ltb}
-use Rattle.std.proofs.lemmas.Bool.{true≢false}
-use Rattle.ados_name.specs.Name.{IsName}
-use Rattle.ados_model.specs.declared.dos_error.DosError.TheVariants.{DiskFull, ObjectExists}
-use Rattle.ados_model.specs.Tree.{free as free_of}
-use Rattle.ados_model.specs.Stands.{Stands}
-use Rattle.ados_model.specs.Change.{child_of}
-use Rattle.ados_volume.specs.Shown.{Shown}
-use Rattle.ados_model.specs.Reads.{lacks}
-use Rattle.ados_volume.proofs.FreeBlock.{none_free_lacks}
-use Rattle.ados_volume.proofs.Refusing.{can_make_in, none_there, passed}
+use Rattle.adf_import.proofs.Common.{true≢false, IsName, DiskFull, ObjectExists, free as free_of, Stands, child_of, Shown, lacks, none_free_lacks, can_make_in, none_there, passed}
 use Rattle.adf_import.proofs.entries.make_directory.Goals as goal
 
 pub create-requires : goal.create-requires

@@ -1,9 +1,7 @@
 use Rattle.std.proofs.Common.{◌≡◌, false, None, rules, sym, ◌∙◌, subst}
-use Rattle.ados_name.specs.Name.{IsName}
-use Rattle.ados_model.specs.Stands.{Stands}
-use Rattle.ados_volume.specs.Shown.{Shown}
+use Rattle.adf_import.proofs.Common.{IsName, Stands, Shown, none_refuses}
 use Rattle.ados_volume.specs.Refusals.{move_refusals}
-use Rattle.ados_volume.proofs.Refusing.{can_move, none_refuses}
+use Rattle.ados_volume.proofs.Refusing.{can_move}
 use Rattle.adf_import.proofs.entries.move_entry.Goals as goal
 
 pub rename-requires : goal.rename-requires

@@ -1,9 +1,5 @@
 use Rattle.std.proofs.Common.{◌≢◌, ◌==◌, ◌+◌, ◌*◌, ◌/◌, ◌%◌, ℕ, [], sym, ◌∙◌, subst, ne_eqb}
-use Rattle.ados_model.specs.declared.dos_error.DosError.TheVariants.{ObjectWrongType}
-use Rattle.ados_model.specs.Tree.{root}
-use Rattle.ados_model.specs.Stands.{Stands}
-use Rattle.ados_model.specs.Edits.{with_protection}
-use Rattle.ados_volume.proofs.Refusing.{passed}
+use Rattle.adf_import.proofs.Common.{ObjectWrongType, root, Stands, with_protection, passed}
 use Rattle.adf_import.proofs.fields.protect.Goals as goal
 
 pub returns-clause-done : goal.returns-clause-done

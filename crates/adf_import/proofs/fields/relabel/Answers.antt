@@ -1,9 +1,9 @@
 use Rattle.std.proofs.Common.{ℕ, List, [], not, ap, refl, subst}
+use Rattle.adf_import.proofs.Common.{Stands, passed}
 use Rattle.ados_model.specs.declared.dos_error.DosError.TheVariants.{InvalidComponentName}
 use Rattle.ados_model.specs.Edits.{disk_renamed}
-use Rattle.ados_model.specs.Stands.{Stands}
 use Rattle.ados_model.specs.Refusals.{is_name}
-use Rattle.ados_volume.proofs.Refusing.{is_named, passed}
+use Rattle.ados_volume.proofs.Refusing.{is_named}
 use Rattle.adf_import.proofs.fields.relabel.Goals as goal
 
 pub returns-clause-done : goal.returns-clause-done

@@ -1,4 +1,4 @@
-use Rattle.adf_import.specs.Progress.{IsReady}
+use Rattle.adf_import.proofs.Common.{IsReady}
 use Rattle.adf_import.proofs.Advancing.{progress_kept}
 use Rattle.adf_import.proofs.item.put_directory.Goals as goal
 

@@ -1,10 +1,6 @@
 use Rattle.std.proofs.Common.{◌≡◌, ℕ, List, Some, is_some, ap, subst, arith}
-use Rattle.ados_model.specs.Tree.{Node, Tree, size_of}
-use Rattle.ados_model.specs.Stands.{Stands}
+use Rattle.adf_import.proofs.Common.{Node, Tree, size_of, Stands, content_in, FileInfo, file_info}
 use Rattle.ados_model.specs.Keys.{HasFileKey}
-use Rattle.ados_model.proofs.Nodes.{content_in}
-use Rattle.ados_model.specs.declared.answer.FileInfo.{FileInfo}
-use Rattle.ados_model.specs.Objects.{file_info}
 use Rattle.adf_import.proofs.Filling.{is_cut, is_not_cut}
 use Rattle.adf_import.proofs.Rooms.{size_told}
 use Rattle.adf_import.proofs.new_file.cut_behind.Goals as goal

@@ -1,8 +1,6 @@
 use Rattle.std.proofs.Common.{refl}
-use Rattle.ados_model.specs.Tree.{Node}
-use Rattle.adf_import.specs.Changes.{described}
+use Rattle.adf_import.proofs.Common.{Node, described, none, one_more}
 use Rattle.adf_import.proofs.Keeping.{keeps_described, keeps_keys, keys_edited}
-use Rattle.adf_import.specs.InTurn.KeepsInTurn.{none, one_more}
 use Rattle.adf_import.proofs.new_file.describe.Goals as goal
 
 pub set_comment-requires : goal.set_comment-requires

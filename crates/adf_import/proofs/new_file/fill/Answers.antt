@@ -1,9 +1,6 @@
 use Rattle.std.proofs.Common.{length, subst}
-use Rattle.ados_model.specs.Stands.{Stands}
-use Rattle.ados_model.specs.Change.{written}
-use Rattle.adf_import.specs.steps.CutBack.{cut_back}
+use Rattle.adf_import.proofs.Common.{Stands, written, cut_back, none, one_more}
 use Rattle.adf_import.proofs.Filling.{IsEntry, IsFileKey, after_change, content_held, filled_is, held_entry, holds_its_own, holds_put, holds_written}
-use Rattle.adf_import.specs.InTurn.KeepsInTurn.{none, one_more}
 use Rattle.adf_import.proofs.Turns.{in_turn_both}
 use Rattle.adf_import.proofs.new_file.fill.Goals as goal
 

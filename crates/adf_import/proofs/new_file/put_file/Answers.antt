@@ -1,20 +1,6 @@
 use Rattle.std.proofs.Common.{◌≡◌, ◌+◌, ◌≤◌, ℕ, Option, [], length, is_some, rules, Some, None, false, sym, ap, ◌∙◌, subst, le-ltb}
-use Rattle.std.proofs.lemmas.Bool.{true≢false}
-use Rattle.ados_model.specs.Keys.{HasKey, HasTree}
-use Rattle.ados_model.specs.Tree.{block_cost, free as free_of, Tree}
-use Rattle.ados_name.specs.Name.{IsName}
-use Rattle.ados_model.specs.declared.dos_error.DosError.{DosError}
-use Rattle.ados_model.specs.declared.dos_error.DosError.TheVariants.{ObjectExists}
-use Rattle.ados_model.specs.Tree.Content.{File}
-use Rattle.ados_model.specs.Stands.{Stands}
-use Rattle.ados_model.specs.Change.{made, child_of}
-use Rattle.ados_volume.specs.Shown.{Shown}
+use Rattle.adf_import.proofs.Common.{true≢false, HasKey, HasTree, block_cost, free as free_of, Tree, IsName, DosError, ObjectExists, File, Stands, made, child_of, Shown, none_free_lacks, can_make_in, none_there, passed, KeepsInTurn, KeepsKeys, more_blocks, or_no_room}
 use Rattle.ados_change.proofs.Making.{unused}
-use Rattle.ados_volume.proofs.FreeBlock.{none_free_lacks}
-use Rattle.ados_volume.proofs.Refusing.{can_make_in, none_there, passed}
-use Rattle.adf_import.specs.InTurn.{KeepsInTurn}
-use Rattle.adf_import.specs.Put.{KeepsKeys}
-use Rattle.adf_import.specs.Refusals.{more_blocks, or_no_room}
 use Rattle.adf_import.proofs.Filling.{IsFileKey, after_change}
 use Rattle.adf_import.proofs.Putting.{add_keeps, child_key, put_new, put_new_tree, put_over, put_over_tree, replace_keeps}
 use Rattle.adf_import.proofs.Rooms.{as_told, has_room, new_is_empty, no_room, room_in_new, some_room}

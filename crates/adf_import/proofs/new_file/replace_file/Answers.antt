@@ -1,17 +1,6 @@
 use Rattle.std.proofs.Common.{◌≡◌, ℕ, Bool, Option, None, false, true, not, List, [], ◌∷◌, length, sym, ap, ◌∙◌}
-use Rattle.std.specs.Prelude.{◌&&◌}
-use Rattle.ados_name.specs.Name.{denies_delete, denies_write}
-use Rattle.ados_model.specs.declared.dos_error.DosError.{DosError}
-use Rattle.ados_model.specs.declared.dos_error.DosError.TheVariants.{DeleteProtected, ObjectWrongType, WriteProtected}
-use Rattle.ados_model.specs.Tree.{free as free_of, Tree}
-use Rattle.ados_model.specs.Change.{is_file}
-use Rattle.ados_model.specs.Objects.{protection_of}
-use Rattle.ados_model.specs.Refusals.{first_refusal, refuse}
-use Rattle.ados_volume.proofs.Refusing.{passed}
-use Rattle.adf_import.specs.declared.new_file.NotPut.{NotPut}
-use Rattle.adf_import.specs.Refusals.{more_blocks, or_no_room}
+use Rattle.adf_import.proofs.Common.{◌&&◌, denies_delete, denies_write, DosError, DeleteProtected, ObjectWrongType, WriteProtected, free as free_of, Tree, is_file, protection_of, first_refusal, refuse, passed, NotPut, more_blocks, or_no_room, none}
 use Rattle.adf_import.proofs.Rooms.{has_room}
-use Rattle.adf_import.specs.InTurn.KeepsInTurn.{none}
 use Rattle.adf_import.proofs.new_file.replace_file.Goals as goal
 
 -- the protection bits of the file, and their refusals

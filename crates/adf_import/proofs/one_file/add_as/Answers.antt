@@ -1,6 +1,5 @@
 use Rattle.std.proofs.Common.{◌≡◌, ℕ, List, Ok, subst}
-use Rattle.std.specs.Str.{chars}
-use Rattle.adf_import.specs.Paths.{directory_at}
+use Rattle.adf_import.proofs.Common.{chars, directory_at}
 use Rattle.adf_import.proofs.Naming.{put_as}
 use Rattle.adf_import.proofs.one_file.add_as.Goals as goal
 

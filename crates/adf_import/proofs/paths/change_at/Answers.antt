@@ -1,10 +1,10 @@
 use Rattle.std.proofs.Common.{◌≡◌, ℕ, refl, sym, ap, ◌∙◌, subst, false}
-use Rattle.ados_model.specs.Change.{removed}
-use Rattle.ados_model.specs.Edits.{with_comment, with_date}
+use Rattle.adf_import.proofs.Common.{removed, with_comment, Changes}
+use Rattle.ados_model.specs.Edits.{with_date}
 use Rattle.adf_text.specs.ProtectWords.{bits_after}
 use Rattle.adf_import.specs.declared.paths.EntryChange.{EntryChange}
 use Rattle.adf_import.specs.declared.paths.EntryChange.TheVariants.{Delete}
-use Rattle.adf_import.specs.Changes.{Changes, protected, reprotected}
+use Rattle.adf_import.specs.Changes.{protected, reprotected}
 use Rattle.adf_import.specs.Commands.{ChangesEntry}
 use Rattle.adf_import.specs.Refusals.{delete_refusal, root_refusal}
 use Rattle.adf_import.specs.Paths.{comment_refusal}

@@ -1,9 +1,6 @@
 use Rattle.std.proofs.Common.{◌≡◌, Ok, Option, Some, option_map, sym, ap, ◌∙◌, subst}
-use Rattle.ados_model.specs.declared.dos_error.DosError.{DosError}
-use Rattle.ados_model.specs.Stands.{Stands}
-use Rattle.ados_volume.specs.Shown.{Shown}
-use Rattle.adf_import.specs.Paths.{both_ends, move_ends, move_fault, object_at, place_at}
-use Rattle.adf_import.specs.declared.paths.MoveFault.{MoveFault}
+use Rattle.adf_import.proofs.Common.{DosError, Stands, Shown, object_at, place_at, MoveFault}
+use Rattle.adf_import.specs.Paths.{both_ends, move_ends, move_fault}
 use Rattle.adf_import.proofs.Finding.{at_found}
 use Rattle.adf_import.proofs.paths.move_at.Goals as goal
 

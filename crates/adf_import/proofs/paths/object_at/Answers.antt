@@ -1,5 +1,5 @@
 use Rattle.std.proofs.Common.{Err, sym, ap, ◌∙◌}
-use Rattle.ados_model.specs.declared.dos_error.DosError.{DosError}
+use Rattle.adf_import.proofs.Common.{DosError}
 use Rattle.ados_model.specs.declared.dos_error.WalkFault.{WalkFault}
 use Rattle.std.proofs.Common.{ℕ, Result}
 use Rattle.ados_model.specs.Resolved.{walk_result}

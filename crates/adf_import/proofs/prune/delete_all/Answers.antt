@@ -1,5 +1,5 @@
 use Rattle.std.proofs.Common.{sym, ◌∙◌}
-use Rattle.adf_import.specs.InTurn.KeepsInTurn.{none}
+use Rattle.adf_import.proofs.Common.{none}
 use Rattle.adf_import.proofs.Denying.{shown_allowed}
 use Rattle.adf_import.proofs.prune.delete_all.Goals as goal
 

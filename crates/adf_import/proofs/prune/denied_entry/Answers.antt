@@ -1,5 +1,5 @@
 use Rattle.std.proofs.Common.{subst, sym}
-use Rattle.adf_import.specs.Pruned.{AreKeysBelow}
+use Rattle.adf_import.proofs.Common.{AreKeysBelow}
 use Rattle.adf_import.proofs.prune.denied_entry.Goals as goal
 
 pub first_denied-requires-clause-below : goal.first_denied-requires-clause-below

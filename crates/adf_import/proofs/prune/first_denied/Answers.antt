@@ -1,5 +1,5 @@
 use Rattle.std.proofs.Common.{get_or, sym, ◌∙◌, arith}
-use Rattle.std.proofs.lemmas.List.Elements.{Contains-get_or}
+use Rattle.adf_import.proofs.Common.{Contains-get_or}
 use Rattle.adf_import.proofs.Denying.{below_denied, itself_denied, none_denied}
 use Rattle.adf_import.proofs.KeysBelow.{key_there}
 use Rattle.adf_import.proofs.prune.first_denied.Goals as goal

@@ -1,6 +1,5 @@
 use Rattle.std.proofs.Common.{◌≡◌, ℕ, ◌<◌, false, get_or}
-use Rattle.ados_model.specs.Tree.{Tree}
-use Rattle.ados_model.specs.Stands.{Stands}
+use Rattle.adf_import.proofs.Common.{Tree, Stands}
 use Rattle.adf_import.proofs.Denying.{denies}
 use Rattle.adf_import.proofs.prune.first_denied.Given as goal
 

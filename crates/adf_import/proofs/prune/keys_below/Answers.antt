@@ -1,7 +1,6 @@
 use Rattle.std.proofs.Common.{◌≡◌, ℕ, List, [], ◌++◌, sym, ap, ◌∙◌, subst, arith}
-use Rattle.std.proofs.lemmas.Grind.{common_steps}
+use Rattle.adf_import.proofs.Common.{common_steps, entries}
 use Rattle.ados_model.proofs.Standing.{count_same}
-use Rattle.ados_model.specs.Tree.{entries}
 use Rattle.adf_import.proofs.Gathering.{IsGathering, gathered, gathering_few, gathering_goes_on, gathering_starts, gathering_there}
 use Rattle.adf_import.proofs.prune.keys_below.Goals as goal
 

@@ -1,7 +1,5 @@
 use Rattle.std.proofs.Common.{◌-◌, vec_len}
-use Rattle.adf_block.specs.Image.{block_count}
-use Rattle.ados_model.specs.Tree.{Tree}
-use Rattle.ados_model.specs.Stands.{Stands}
+use Rattle.adf_import.proofs.Common.{block_count, Tree, Stands}
 use Rattle.adf_import.proofs.Gathering.{IsGathering}
 use Rattle.adf_import.proofs.prune.keys_below.Given as goal
 

@@ -1,7 +1,5 @@
 use Rattle.std.proofs.Common.{◌≡◌, ◌++◌, ◌+◌, ◌-◌, ℕ, List, vec_len}
-use Rattle.adf_block.specs.Image.{block_count}
-use Rattle.ados_model.specs.Tree.{Tree}
-use Rattle.ados_model.specs.Stands.{Stands}
+use Rattle.adf_import.proofs.Common.{block_count, Tree, Stands}
 use Rattle.ados_volume.proofs.DirectoryKeys.{IsListed}
 use Rattle.adf_import.proofs.prune.push_entries.Given as goal
 

@@ -1,12 +1,7 @@
 use Rattle.std.proofs.Common.{◌≡◌, ℕ, List, [], Some, refl, ◌∙◌, subst, arith}
-use Rattle.std.proofs.lemmas.Grind.{common_steps}
-use Rattle.ados_model.specs.Tree.{Tree, Proper, parent_of}
-use Rattle.ados_model.specs.Stands.{Stands}
-use Rattle.ados_model.specs.Keys.{HasEntryKey}
-use Rattle.ados_model.proofs.Nodes.{some_in}
+use Rattle.adf_import.proofs.Common.{common_steps, Tree, Proper, parent_of, Stands, HasEntryKey, some_in, none, one_more}
 use Rattle.ados_volume.proofs.Refusing.{parent_there}
 use Rattle.adf_import.proofs.Pruning.{IsPruning, can_remove_next, can_remove_top, pruning_ends, pruning_goes_on, pruning_starts}
-use Rattle.adf_import.specs.InTurn.KeepsInTurn.{none, one_more}
 use Rattle.adf_import.proofs.prune.remove_all.Goals as goal
 
 pub loop-entry-init : goal.loop-entry-init

@@ -1,7 +1,5 @@
 use Rattle.std.proofs.Common.{◌≡◌, vec_len}
-use Rattle.ados_model.specs.Tree.{Tree}
-use Rattle.ados_model.specs.Stands.{Stands}
-use Rattle.adf_import.specs.InTurn.{KeepsInTurn}
+use Rattle.adf_import.proofs.Common.{Tree, Stands, KeepsInTurn}
 use Rattle.adf_import.proofs.Pruning.{IsPruning}
 use Rattle.adf_import.proofs.prune.remove_all.Given as goal
 

@@ -1,11 +1,5 @@
 use Rattle.std.proofs.Common.{◌≡◌, [], Some, None, sym, ◌∙◌, subst}
-use Rattle.ados_model.specs.Keys.{HasKey}
-use Rattle.ados_model.specs.Stands.{Stands}
-use Rattle.ados_model.specs.Change.{made, child_of}
-use Rattle.ados_model.specs.Tree.{Tree}
-use Rattle.ados_model.specs.Tree.Content.{Directory}
-use Rattle.ados_volume.specs.Shown.{Shown}
-use Rattle.adf_import.specs.Put.{enter_refusal, entered, new_refusal}
+use Rattle.adf_import.proofs.Common.{HasKey, Stands, made, child_of, Tree, Directory, Shown, enter_refusal, entered, new_refusal}
 use Rattle.adf_import.specs.declared.put.Entered.{Entered}
 use Rattle.adf_import.proofs.Finding.{changed_from, same_changes}
 use Rattle.adf_import.proofs.Putting.{child_key, enter_new, enter_new_tree, enter_there, enter_there_tree}

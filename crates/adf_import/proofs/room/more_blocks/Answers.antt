@@ -1,9 +1,5 @@
 use Rattle.std.proofs.Common.{◌≡◌, ℕ, ◌-◌, ap, ap₂, ◌∙◌}
-use Rattle.adf_block.specs.declared.layout.Format.{Format}
-use Rattle.ados_model.specs.Tree.{block_cost, size_of}
-use Rattle.adf_block.specs.Fields.{format_of}
-use Rattle.ados_model.proofs.Nodes.{some_in}
-use Rattle.ados_change.proofs.Writable.{format_is}
+use Rattle.adf_import.proofs.Common.{Format, block_cost, size_of, format_of, some_in, format_is}
 use Rattle.adf_import.proofs.Rooms.{size_told}
 use Rattle.adf_import.proofs.room.more_blocks.Goals as goal
 

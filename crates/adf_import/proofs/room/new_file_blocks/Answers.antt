@@ -1,9 +1,5 @@
 use Rattle.std.proofs.Common.{ℕ, ◌+◌, ◌<◌, ◌^◌, ap, ◌∙◌, arith}
-use Rattle.adf_block.specs.declared.layout.Format.{Format}
-use Rattle.adf_block.specs.declared.layout.Format.TheVariants.{Ofs, Ffs}
-use Rattle.ados_model.specs.Tree.{block_cost}
-use Rattle.adf_block.specs.Fields.{format_of}
-use Rattle.ados_change.proofs.Writable.{format_is}
+use Rattle.adf_import.proofs.Common.{Format, Ofs, Ffs, block_cost, format_of, format_is}
 use Rattle.adf_import.proofs.room.new_file_blocks.Goals as goal
 
 -- a size below 2^64 needs fewer than 2^64 blocks

@@ -1,9 +1,5 @@
 use Rattle.std.proofs.Common.{List, ℕ, [], ◌∷◌, Err, subst}
-use Rattle.std.specs.Str.{chars}
-use Rattle.adf_text.specs.declared.protect_words.Form.{Form}
-use Rattle.adf_text.specs.ProtectWords.{protect_word}
-use Rattle.adf_import.specs.Commands.{EndsProtect}
-use Rattle.adf_import.specs.Turns.{ReadsFirst}
+use Rattle.adf_import.proofs.Common.{chars, Form, protect_word, EndsProtect, ReadsFirst}
 use Rattle.adf_import.proofs.Telling.{bits_read, no_bits, nothing_said}
 use Rattle.adf_import.proofs.Turning.{both_texts, first_word, foreign_in, not_read, second_word}
 use Rattle.adf_import.proofs.single.set_bits.Goals as goal

@@ -1,5 +1,4 @@
-use Rattle.adf_import.specs.Commands.{MakesMissing}
-use Rattle.adf_import.specs.Turns.{AreDone}
+use Rattle.adf_import.proofs.Common.{MakesMissing, AreDone}
 use Rattle.adf_import.specs.Ways.{fronts_before}
 use Rattle.adf_import.proofs.ways.make_fronts.Given as goal
 

@@ -1,10 +1,5 @@
 use Rattle.std.proofs.Common.{[], Ok, sym, ◌∙◌, subst}
-use Rattle.ados_model.specs.Change.{made}
-use Rattle.ados_model.specs.Stands.{Stands}
-use Rattle.ados_model.specs.Tree.Content.{Directory}
-use Rattle.ados_volume.specs.Shown.{Shown}
-use Rattle.adf_import.specs.Paths.{place_at}
-use Rattle.adf_import.specs.Refusals.{make_refusal}
+use Rattle.adf_import.proofs.Common.{made, Stands, Directory, Shown, place_at, make_refusal}
 use Rattle.adf_import.proofs.Finding.{at_found, changed_from}
 use Rattle.adf_import.proofs.ways.make_one.Goals as goal
 

@@ -1,6 +1,4 @@
-use Rattle.std.proofs.Common.{◌≡◌, map, take}
-use Rattle.ados_model.specs.Stands.{Stands}
-use Rattle.ados_model.specs.Tree.{Tree, bytes_of}
+use Rattle.adf_record.proofs.Common.{◌≡◌, map, take, Stands, Tree, bytes_of}
 use Rattle.adf_record.proofs.bundle_contents.bytes_of_all.Given as goal
 
 -- the objects before this one have their bytes

@@ -1,5 +1,5 @@
+use Rattle.adf_record.proofs.Common.{bytes_eq-Decides}
 use Rattle.std.specs.Str.{bytes_eq}
-use Rattle.std.proofs.lemmas.Slice.Eq.{bytes_eq-Decides}
 use Rattle.adf_record.proofs.Mapped.{mapped_decides}
 use Rattle.adf_record.proofs.bundle_contents.same_contents.Goals as goal
 

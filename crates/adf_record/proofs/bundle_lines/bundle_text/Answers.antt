@@ -1,9 +1,4 @@
-use Rattle.std.proofs.Common.{◌≡◌, ℕ, ◌+◌, ◌<◌, List, [], ◌++◌, Option, Some, IfNone, Vec, Global, slice_get, length, refl, sym, ap, ◌∙◌, subst, arith}
-use Rattle.std.proofs.lemmas.List.{length_push}
-use Rattle.std.proofs.lemmas.Option.{slice_get_read}
-use Rattle.adf_record.specs.Described.{HasNoDirectory, IsHeadLine}
-use Rattle.adf_record.specs.Described.IsTextFault.{no_directory}
-use Rattle.adf_record.specs.steps.Lines.{ArePaths}
+use Rattle.adf_record.proofs.Common.{◌≡◌, ℕ, ◌+◌, ◌<◌, List, [], ◌++◌, Option, Some, IfNone, Vec, Global, slice_get, length, refl, sym, ap, ◌∙◌, subst, arith, length_push, slice_get_read, HasNoDirectory, IsHeadLine, no_directory, ArePaths}
 use Rattle.adf_record.proofs.Lines.{found_path, line_fault, line_of_entry, memory_fault, paths_in, paths_none, paths_step, text_more, text_none}
 use Rattle.adf_record.proofs.bundle_lines.bundle_text.Goals as goal
 

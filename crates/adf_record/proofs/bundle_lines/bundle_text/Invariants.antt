@@ -1,7 +1,4 @@
-use Rattle.std.proofs.Common.{◌≡◌, ◌+◌, ◌≤◌, length, map}
-use Rattle.adf_record.specs.declared.bundle_lines.TheConstants.{MOST_BUNDLE_BYTES}
-use Rattle.adf_record.specs.Described.{IsTextTo}
-use Rattle.adf_record.specs.steps.Lines.{ArePaths}
+use Rattle.adf_record.proofs.Common.{◌≡◌, ◌+◌, ◌≤◌, length, map, MOST_BUNDLE_BYTES, IsTextTo, ArePaths}
 use Rattle.adf_record.proofs.bundle_lines.bundle_text.Given as goal
 
 -- the entries before this one have their lines and paths

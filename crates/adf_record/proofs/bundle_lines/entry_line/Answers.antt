@@ -1,7 +1,4 @@
-use Rattle.std.proofs.Common.{◌≡◌, ℕ, List, [], ◌++◌, ap₂, ◌∙◌, append_assoc}
-use Rattle.json.specs.Print.{print}
-use Rattle.json.specs.Token.{Token}
-use Rattle.adf_record.specs.Described.{entry_tokens}
+use Rattle.adf_record.proofs.Common.{◌≡◌, ℕ, List, [], ◌++◌, ap₂, ◌∙◌, append_assoc, print, Token, entry_tokens}
 use Rattle.adf_record.proofs.bundle_lines.entry_line.Goals as goal
 
 pub returns : goal.returns

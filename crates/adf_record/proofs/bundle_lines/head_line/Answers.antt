@@ -1,8 +1,5 @@
-use Rattle.std.proofs.Common.{◌≡◌, ℕ, List, [], ◌++◌, refl, ap₂, ◌∙◌, subst}
+use Rattle.adf_record.proofs.Common.{◌≡◌, ℕ, List, [], ◌++◌, refl, ap₂, ◌∙◌, subst, print, Token, AreWithoutZeros, head_tokens}
 use Rattle.hex.specs.Hex.{encode_lower}
-use Rattle.json.specs.Print.{print}
-use Rattle.json.specs.Token.{Token}
-use Rattle.adf_record.specs.Described.{AreWithoutZeros, head_tokens}
 use Rattle.adf_record.proofs.bundle_lines.head_line.Goals as goal
 
 pub returns : goal.returns

@@ -1,9 +1,5 @@
-use Rattle.std.proofs.Common.{◌≡◌, ℕ, List, ◌++◌, Option, Some, Vec, Global, option_map, slice_get, codes, map, length, refl, sym, ap, ap₂, ◌∙◌, subst, arith}
-use Rattle.std.proofs.lemmas.Option.{slice_get-map, slice_get_read}
-use Rattle.adf_record.specs.declared.bundle.BundleEntry.{BundleEntry}
-use Rattle.adf_record.specs.Described.{IsPathOf}
+use Rattle.adf_record.proofs.Common.{◌≡◌, ℕ, List, ◌++◌, Option, Some, Vec, Global, option_map, slice_get, codes, map, length, refl, sym, ap, ap₂, ◌∙◌, subst, arith, slice_get-map, slice_get_read, BundleEntry, IsPathOf, ArePaths}
 use Rattle.adf_record.specs.Described.IsPathOf.{inner, top}
-use Rattle.adf_record.specs.steps.Lines.{ArePaths}
 use Rattle.adf_record.proofs.bundle_lines.path_of.Goals as goal
 
 -- the path of an entry in a directory

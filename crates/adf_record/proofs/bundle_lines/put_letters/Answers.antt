@@ -1,6 +1,4 @@
-use Rattle.std.proofs.Common.{ℕ, List, [], ◌∷◌, ◌++◌, ap, ◌∙◌}
-use Rattle.std.proofs.lemmas.Result.{on_ok_weaker}
-use Rattle.json.specs.Token.{key, string}
+use Rattle.adf_record.proofs.Common.{ℕ, List, [], ◌∷◌, ◌++◌, ap, ◌∙◌, on_ok_weaker, key, string}
 use Rattle.adf_record.proofs.bundle_lines.put_letters.Goals as goal
 
 pub returns-clause-tokens : goal.returns-clause-tokens

@@ -1,4 +1,4 @@
-use Rattle.std.proofs.Common.{◌≡◌, ℕ, List, ◌++◌, All, length}
+use Rattle.adf_record.proofs.Common.{◌≡◌, ℕ, List, ◌++◌, All, length}
 use Rattle.adf_record.proofs.bundle_lines.without_zeros.Given as goal
 
 -- what is left, and then zeros

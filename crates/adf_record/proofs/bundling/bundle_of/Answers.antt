@@ -1,6 +1,4 @@
-use Rattle.std.proofs.Common.{None, sym, subst}
-use Rattle.ados_model.specs.Tree.{entries, root}
-use Rattle.ados_volume.specs.Below.{AreBelow}
+use Rattle.adf_record.proofs.Common.{None, sym, subst, entries, root, AreBelow}
 use Rattle.adf_record.proofs.Entries.{all_there}
 use Rattle.adf_record.proofs.bundling.bundle_of.Goals as goal
 

@@ -1,7 +1,4 @@
-use Rattle.std.proofs.Common.{◌≡◌, ℕ, ◌<◌, None, [], List, length, get_or, sym, subst, arith}
-use Rattle.std.proofs.lemmas.List.{get_or_default, take_all}
-use Rattle.ados_volume.specs.declared.below.Below.{Below}
-use Rattle.adf_record.specs.Bundle.{AreEntriesOf}
+use Rattle.adf_record.proofs.Common.{◌≡◌, ℕ, ◌<◌, None, [], List, length, get_or, sym, subst, arith, get_or_default, take_all, Below, AreEntriesOf}
 use Rattle.adf_record.proofs.Entries.{told_more}
 use Rattle.adf_record.proofs.bundling.entries_of.Goals as goal
 

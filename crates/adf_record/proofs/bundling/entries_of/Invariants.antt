@@ -1,7 +1,4 @@
-use Rattle.std.proofs.Common.{take}
-use Rattle.ados_model.specs.Stands.{Stands}
-use Rattle.ados_model.specs.Tree.{Tree}
-use Rattle.adf_record.specs.Bundle.{AreEntriesOf}
+use Rattle.adf_record.proofs.Common.{take, Stands, Tree, AreEntriesOf}
 use Rattle.adf_record.proofs.bundling.entries_of.Given as goal
 
 -- the objects before this one have their entries

@@ -1,6 +1,4 @@
-use Rattle.std.proofs.Common.{refl, ap}
-use Rattle.ados_model.specs.declared.answer.FileInfo.{FileInfo}
-use Rattle.ados_model.proofs.Nodes.{some_in}
+use Rattle.adf_record.proofs.Common.{refl, ap, FileInfo, some_in}
 use Rattle.adf_record.proofs.bundling.entry_of.Goals as goal
 
 pub returns : goal.returns

@@ -1,9 +1,4 @@
-use Rattle.std.proofs.Common.{ap, ◌∙◌}
-use Rattle.adf_block.specs.Image.{block_count}
-use Rattle.adf_block.specs.Fields.{format_of}
-use Rattle.ados_model.specs.declared.answer.FileInfo.{FileInfo}
-use Rattle.ados_model.proofs.Standing.{count_same}
-use Rattle.ados_change.proofs.Writable.{format_is}
+use Rattle.adf_record.proofs.Common.{ap, ◌∙◌, block_count, format_of, FileInfo, count_same, format_is}
 use Rattle.adf_record.proofs.bundling.head_of.Goals as goal
 
 pub returns : goal.returns

@@ -1,5 +1,4 @@
-use Rattle.std.proofs.Common.{ℕ, ◌/◌, List, ◌++◌, codes, ap, ap₂, ◌∙◌}
-use Rattle.adf_record.specs.Shown.{counted, grouped}
+use Rattle.adf_record.proofs.Common.{ℕ, ◌/◌, List, ◌++◌, codes, ap, ap₂, ◌∙◌, counted, grouped}
 use Rattle.adf_record.proofs.Pieces.{eight}
 use Rattle.adf_record.proofs.contents.contents_line.Goals as goal
 

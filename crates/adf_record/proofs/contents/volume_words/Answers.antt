@@ -1,5 +1,4 @@
-use Rattle.std.proofs.Common.{ℕ, List, ◌++◌, codes, ap, ap₂, ◌∙◌}
-use Rattle.adf_record.specs.Shown.{bitmap_words, format_word, size_words}
+use Rattle.adf_record.proofs.Common.{ℕ, List, ◌++◌, codes, ap, ap₂, ◌∙◌, bitmap_words, format_word, size_words}
 use Rattle.adf_record.proofs.Pieces.{five}
 use Rattle.adf_record.proofs.contents.volume_words.Goals as goal
 

@@ -1,6 +1,4 @@
-use Rattle.std.proofs.Common.{ap, ◌∙◌, arith}
-use Rattle.std.proofs.lemmas.List.{take_all}
-use Rattle.adf_record.specs.Counts.{file_count}
+use Rattle.adf_record.proofs.Common.{ap, ◌∙◌, arith, take_all, file_count}
 use Rattle.adf_record.proofs.counts.count_files.Goals as goal
 
 pub returns-clause-count : goal.returns-clause-count

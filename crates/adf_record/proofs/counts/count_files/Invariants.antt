@@ -1,7 +1,4 @@
-use Rattle.std.proofs.Common.{◌≡◌, ◌≤◌, take}
-use Rattle.ados_model.specs.Tree.{Tree}
-use Rattle.ados_model.specs.Stands.{Stands}
-use Rattle.adf_record.specs.Counts.{file_count}
+use Rattle.adf_record.proofs.Common.{◌≡◌, ◌≤◌, take, Tree, Stands, file_count}
 use Rattle.adf_record.proofs.counts.count_files.Given as goal
 
 -- the number of files among the entries before this one

@@ -1,9 +1,4 @@
-use Rattle.std.proofs.Common.{◌≡◌, ℕ, ◌<◌, None, List, length, get_or, IsSome, ap, sym, ◌∙◌, subst, arith}
-use Rattle.ados_model.specs.Tree.{entries, root}
-use Rattle.ados_volume.specs.declared.below.Below.{Below}
-use Rattle.ados_volume.specs.Below.{AreBelow}
-use Rattle.ados_volume.proofs.AllBelow.{there_below}
-use Rattle.adf_record.specs.Counts.{file_count}
+use Rattle.adf_record.proofs.Common.{◌≡◌, ℕ, ◌<◌, None, List, length, get_or, IsSome, ap, sym, ◌∙◌, subst, arith, entries, root, Below, AreBelow, there_below, file_count}
 use Rattle.adf_record.proofs.counts.counts_of.Goals as goal
 
 pub count_files-files-requires : goal.count_files-files-requires

@@ -1,13 +1,6 @@
-use Rattle.std.proofs.Common.{◌≡◌, ℕ, List, ap, sym, ◌∙◌, subst}
-use Rattle.adf_block.specs.Fields.{format_of}
-use Rattle.adf_block.specs.Image.{block_count}
+use Rattle.adf_record.proofs.Common.{◌≡◌, ℕ, List, ap, sym, ◌∙◌, subst, format_of, block_count, FileInfo, name_of, root, some_in, count_same, format_is}
 use Rattle.ados_model.specs.declared.answer.DiskInfo.{DiskInfo}
-use Rattle.ados_model.specs.declared.answer.FileInfo.{FileInfo}
-use Rattle.ados_model.specs.Tree.{name_of, root}
 use Rattle.ados_model.specs.Parts.{name_in}
-use Rattle.ados_model.proofs.Nodes.{some_in}
-use Rattle.ados_model.proofs.Standing.{count_same}
-use Rattle.ados_change.proofs.Writable.{format_is}
 use Rattle.adf_block.specs.BootCode.{IsBootCode}
 use Rattle.adf_record.proofs.facts.facts_of.Goals as goal
 

@@ -1,4 +1,4 @@
-use Rattle.std.proofs.Common.{append_assoc}
+use Rattle.adf_record.proofs.Common.{append_assoc}
 use Rattle.adf_record.proofs.grouped.counted.Goals as goal
 
 pub returns : goal.returns

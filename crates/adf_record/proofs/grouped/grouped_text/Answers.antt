@@ -1,4 +1,4 @@
-use Rattle.std.proofs.Common.{append_assoc, le-ltb}
+use Rattle.adf_record.proofs.Common.{append_assoc, le-ltb}
 use Rattle.adf_record.proofs.grouped.grouped_text.Goals as goal
 
 pub returns : goal.returns

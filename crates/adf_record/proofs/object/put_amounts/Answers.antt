@@ -1,6 +1,4 @@
-use Rattle.std.proofs.Common.{◌≡◌, ℕ, List, [], ◌∷◌, ◌++◌, codes, decimal, ap, ◌∙◌}
-use Rattle.std.proofs.lemmas.Result.{on_ok_weaker}
-use Rattle.json.specs.Token.{Token, key, number}
+use Rattle.adf_record.proofs.Common.{◌≡◌, ℕ, List, [], ◌∷◌, ◌++◌, codes, decimal, ap, ◌∙◌, on_ok_weaker, Token, key, number}
 use Rattle.adf_record.proofs.Tokens.{behind}
 use Rattle.adf_record.proofs.object.put_amounts.Goals as goal
 

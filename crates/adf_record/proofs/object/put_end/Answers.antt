@@ -1,7 +1,4 @@
-use Rattle.std.proofs.Common.{ℕ, List, [], ◌∷◌, ◌++◌, codes, ap, ◌∙◌}
-use Rattle.std.proofs.lemmas.Result.{on_ok_weaker}
-use Rattle.json.specs.Token.{Token, key, string}
-use Rattle.adf_record.specs.Object.{boot_word}
+use Rattle.adf_record.proofs.Common.{ℕ, List, [], ◌∷◌, ◌++◌, codes, ap, ◌∙◌, on_ok_weaker, Token, key, string, boot_word}
 use Rattle.adf_record.proofs.Tokens.{behind}
 use Rattle.adf_record.proofs.object.put_end.Goals as goal
 

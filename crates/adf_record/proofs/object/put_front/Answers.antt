@@ -1,8 +1,5 @@
-use Rattle.std.proofs.Common.{◌≡◌, ℕ, List, [], ◌∷◌, ◌++◌, codes, decimal, ap, ◌∙◌}
-use Rattle.std.proofs.lemmas.Result.{on_ok_weaker}
-use Rattle.json.specs.Token.{Token, boolean, key, number, string}
+use Rattle.adf_record.proofs.Common.{◌≡◌, ℕ, List, [], ◌∷◌, ◌++◌, codes, decimal, ap, ◌∙◌, on_ok_weaker, Token, boolean, key, number, string, kind_word}
 use Rattle.adf_text.specs.Letters.{letters}
-use Rattle.adf_record.specs.Object.{kind_word}
 use Rattle.adf_record.proofs.Tokens.{behind}
 use Rattle.adf_record.proofs.object.put_front.Goals as goal
 

@@ -1,4 +1,4 @@
-use Rattle.std.proofs.Common.{◌≡◌, take}
+use Rattle.adf_record.proofs.Common.{◌≡◌, take}
 use Rattle.adf_record.proofs.same.same_entries.Given as goal
 
 -- the entries before this one are equal

@@ -1,5 +1,4 @@
-use Rattle.std.proofs.Common.{ℕ, ◌++◌, List, refl, ap, ◌∙◌}
-use Rattle.std.specs.String.{string_bytes}
+use Rattle.adf_record.proofs.Common.{ℕ, ◌++◌, List, refl, ap, ◌∙◌, string_bytes}
 use Rattle.adf_record.specs.Second.{to_second}
 use Rattle.adf_record.proofs.second.push_second.Goals as goal
 

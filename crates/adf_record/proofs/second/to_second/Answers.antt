@@ -1,4 +1,4 @@
-use Rattle.std.proofs.Common.{ℕ, Option, take, ap}
+use Rattle.adf_record.proofs.Common.{ℕ, Option, take, ap}
 use Rattle.std.specs.Option.{option_map_or}
 use Rattle.adf_record.proofs.second.to_second.Goals as goal
 

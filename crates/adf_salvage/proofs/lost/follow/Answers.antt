@@ -1,6 +1,6 @@
 use Rattle.std.proofs.Common.{below_more, arith}
+use Rattle.ados_sound.proofs.Naming.{place_below}
 use Rattle.adf_salvage.proofs.Following.{long_kept, headers_kept}
-use Rattle.adf_salvage.proofs.Naming.{place_below}
 use Rattle.adf_salvage.proofs.lost.follow.Goals as goal
 
 pub loop-at-preserved : goal.loop-at-preserved

@@ -1,5 +1,6 @@
 use Rattle.std.proofs.Common.{List, ℕ, refl, sym, subst}
-use Rattle.adf_salvage.specs.Salvaged.{AreDeleted, IsReadAs}
+use Rattle.ados_sound.specs.Deleted.{AreDeleted}
+use Rattle.adf_salvage.specs.Salvaged.{IsReadAs}
 use Rattle.adf_salvage.proofs.Saving.{saves_sound}
 use Rattle.adf_salvage.proofs.Settling.{settles_none}
 use Rattle.adf_salvage.proofs.salvaging.told_headers.Goals as goal
@@ -8,11 +9,9 @@ pub add_loose-requires : goal.add_loose-requires
 add_loose-requires c = settles_none c.in_ok-known.known c.add_lost.new.gathered c.in_ok-add_lost.ensures.gathered c.in_ok-add_lost.ensures.headers c.in_ok-add_lost.ensures.lost
 
 pub returns : goal.returns
-returns c = λ given read.
-    let deleted = subst (AreDeleted c.args.image) (sym c.in_ok-known.ensures.left_out) c.in_ok-left_out.ensures.deleted in
-    record {
-      refused = refl;
-      read = subst (IsReadAs given) (sym c.in_ok-known.ensures.image) read;
-      saves = saves_sound c.in_ok-known.known c.in_ok-add_loose.ensures.0 c.add_loose.new.gathered c.into_headers-deleted.result.items c.in_ok-add_loose.ensures.1
-          (subst (λ (image : List ℕ). AreDeleted image c.in_ok-known.known.left_out) (sym c.in_ok-known.ensures.image) deleted) c.into_headers-deleted.ensures;
-    }
+returns c = λ given read. record {
+  refused = refl;
+  read = subst (IsReadAs given) (sym c.in_ok-known.ensures.image) read;
+  saves = saves_sound c.in_ok-known.known c.in_ok-add_loose.ensures.0 c.add_loose.new.gathered c.into_headers-deleted.result.items c.in_ok-add_loose.ensures.1
+      (subst (λ (image : List ℕ). AreDeleted image c.in_ok-known.known.left_out) (sym c.in_ok-known.ensures.image) c.in_ok-known.ensures.left_out) c.into_headers-deleted.ensures;
+}

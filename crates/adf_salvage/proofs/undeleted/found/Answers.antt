@@ -1,6 +1,11 @@
-use Rattle.std.proofs.Common.{ℕ, None, IsSome, slice_index_or, refl}
-use Rattle.adf_salvage.proofs.ListingDeleted.{met_by}
+use Rattle.std.proofs.Common.{ℕ, List, All, Contains, map, None, IsSome, slice_index_or, refl, subst}
+use Rattle.std.proofs.lemmas.List.Elements.{All-map}
+use Rattle.adf_salvage.proofs.Common.{Deleted}
 use Rattle.adf_salvage.proofs.undeleted.found.Goals as goal
+
+-- what is so of the headers of all entries is so of a block that is one of them
+met_by : (P : ℕ → Type 0) (xs : List Deleted) → All (λ (entry : Deleted). P entry.header) xs → (block : ℕ) → Contains (map (λ (entry : Deleted). entry.header) xs) block → P block
+met_by P xs all block there = subst P there.2 (All-map P (λ (entry : Deleted). entry.header) xs all there.0 _ there.1)
 
 pub returns : goal.returns
 returns c =

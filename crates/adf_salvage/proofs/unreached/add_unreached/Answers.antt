@@ -1,5 +1,5 @@
 use Rattle.std.proofs.Common.{arith}
-use Rattle.adf_salvage.proofs.Naming.{header_inside}
+use Rattle.ados_sound.proofs.Naming.{header_inside}
 use Rattle.adf_salvage.proofs.unreached.add_unreached.Goals as goal
 
 pub returns-clause-all : goal.returns-clause-all

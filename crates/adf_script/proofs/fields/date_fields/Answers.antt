@@ -1,5 +1,4 @@
-use Rattle.std.proofs.Common.{◌∷◌}
-use Rattle.adf_script.specs.Grammar.{Number}
+use Rattle.adf_script.proofs.Common.{◌∷◌, Number}
 use Rattle.adf_script.proofs.fields.date_fields.Goals as goal
 
 pub returns-in_err-days : goal.returns-in_err-days

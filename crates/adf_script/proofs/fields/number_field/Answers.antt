@@ -1,4 +1,4 @@
-use Rattle.adf_script.specs.Grammar.{Number}
+use Rattle.adf_script.proofs.Common.{Number}
 use Rattle.adf_script.proofs.FieldLemmas.{plain_reads, plain_reads_none, number_plain}
 use Rattle.adf_script.proofs.fields.number_field.Goals as goal
 

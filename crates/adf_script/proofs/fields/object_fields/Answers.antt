@@ -1,5 +1,4 @@
-use Rattle.std.proofs.Common.{◌∷◌}
-use Rattle.adf_script.specs.Grammar.{Text}
+use Rattle.adf_script.proofs.Common.{◌∷◌, Text}
 use Rattle.adf_script.proofs.fields.object_fields.Goals as goal
 
 pub returns-in_err-lock-clause-reads : goal.returns-in_err-lock-clause-reads

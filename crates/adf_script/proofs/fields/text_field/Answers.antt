@@ -1,4 +1,4 @@
-use Rattle.std.proofs.Common.{arith}
+use Rattle.adf_script.proofs.Common.{arith}
 use Rattle.adf_script.proofs.FieldLemmas.{text_reads, text_reads_none, text_too_long, text_bytes}
 use Rattle.adf_script.proofs.fields.text_field.Goals as goal
 

@@ -1,4 +1,4 @@
-use Rattle.adf_script.specs.Grammar.{Value}
+use Rattle.adf_script.proofs.Common.{Value}
 use Rattle.adf_script.proofs.FieldLemmas.{plain_reads, plain_reads_none, value_plain}
 use Rattle.adf_script.proofs.fields.value_field.Goals as goal
 

@@ -1,4 +1,4 @@
-use Rattle.adf_script.specs.Grammar.{Zeros}
+use Rattle.adf_script.proofs.Common.{Zeros}
 use Rattle.adf_script.proofs.FieldLemmas.{plain_reads, plain_reads_none, zeros_plain, zeros_spelled, too_many}
 use Rattle.adf_script.proofs.fields.zeros_field.Goals as goal
 

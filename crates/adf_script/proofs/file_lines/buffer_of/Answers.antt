@@ -1,5 +1,4 @@
-use Rattle.std.proofs.Common.{◌∷◌, [], replicate}
-use Rattle.adf_script.specs.Grammar.{Zeros}
+use Rattle.adf_script.proofs.Common.{◌∷◌, [], replicate, Zeros}
 use Rattle.adf_script.proofs.file_lines.buffer_of.Goals as goal
 
 pub returns-in_err-handle : goal.returns-in_err-handle

@@ -1,4 +1,4 @@
-use Rattle.std.proofs.Common.{refl}
+use Rattle.adf_script.proofs.Common.{refl}
 use Rattle.adf_script.proofs.file_lines.end_line.Goals as goal
 
 pub returns-in_err-handle : goal.returns-in_err-handle

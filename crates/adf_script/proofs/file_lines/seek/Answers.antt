@@ -1,7 +1,6 @@
-use Rattle.std.proofs.Common.{refl, rules}
+use Rattle.adf_script.proofs.Common.{refl, rules, to_z-of_z}
 use mir.Syntax.{w32}
 use mir.Val.{SFits}
-use Rattle.std.proofs.lemmas.Int.{to_z-of_z}
 use Rattle.adf_script.proofs.file_lines.seek.Goals as goal
 
 pub returns-in_err-handle : goal.returns-in_err-handle

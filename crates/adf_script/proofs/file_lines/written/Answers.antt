@@ -1,5 +1,4 @@
-use Rattle.std.proofs.Common.{◌∷◌, []}
-use Rattle.adf_script.specs.Grammar.{LongText}
+use Rattle.adf_script.proofs.Common.{◌∷◌, [], LongText}
 use Rattle.adf_script.proofs.file_lines.written.Goals as goal
 
 pub returns-in_err-handle : goal.returns-in_err-handle

@@ -1,4 +1,4 @@
-use Rattle.std.proofs.lemmas.Result.{IfOk-weaker}
+use Rattle.adf_script.proofs.Common.{IfOk-weaker}
 use Rattle.adf_script.proofs.WordLemmas.{known_word, unknown_word}
 use Rattle.adf_script.proofs.grammar.parse.Goals as goal
 

@@ -1,5 +1,4 @@
-use Rattle.std.proofs.Common.{ap, ◌∙◌}
-use Rattle.adf_script.specs.Lines.{lines_of}
+use Rattle.adf_script.proofs.Common.{ap, ◌∙◌, lines_of}
 use Rattle.adf_script.proofs.LineLemmas.{lines_of-ended, lines_of-last}
 use Rattle.adf_script.proofs.lines.first_line.Goals as goal
 

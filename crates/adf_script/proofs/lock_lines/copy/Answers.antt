@@ -1,4 +1,4 @@
-use Rattle.std.proofs.Common.{refl}
+use Rattle.adf_script.proofs.Common.{refl}
 use Rattle.adf_script.proofs.lock_lines.copy.Goals as goal
 
 pub returns-in_err-lock : goal.returns-in_err-lock

@@ -1,4 +1,4 @@
-use Rattle.std.proofs.Common.{refl}
+use Rattle.adf_script.proofs.Common.{refl}
 use Rattle.adf_script.proofs.lock_lines.free.Goals as goal
 
 pub returns-in_err-lock : goal.returns-in_err-lock

@@ -1,8 +1,6 @@
-use Rattle.std.proofs.Common.{◌∷◌, [], refl, rules}
+use Rattle.adf_script.proofs.Common.{◌∷◌, [], refl, rules, to_z-of_z, Signed, Text}
 use mir.Syntax.{w32}
 use mir.Val.{SFits}
-use Rattle.std.proofs.lemmas.Int.{to_z-of_z}
-use Rattle.adf_script.specs.Grammar.{Signed, Text}
 use Rattle.adf_script.proofs.lock_lines.locate.Goals as goal
 
 pub returns-in_default : goal.returns-in_default

@@ -1,5 +1,4 @@
-use Rattle.std.proofs.Common.{◌∷◌, [], refl}
-use Rattle.adf_script.specs.Grammar.{Number}
+use Rattle.adf_script.proofs.Common.{◌∷◌, [], refl, Number}
 use Rattle.adf_script.proofs.object_lines.date.Goals as goal
 
 pub returns-in_default : goal.returns-in_default

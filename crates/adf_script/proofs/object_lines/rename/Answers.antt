@@ -1,5 +1,4 @@
-use Rattle.std.proofs.Common.{◌∷◌, [], refl}
-use Rattle.adf_script.specs.Grammar.{Value, Text}
+use Rattle.adf_script.proofs.Common.{◌∷◌, [], refl, Value, Text}
 use Rattle.adf_script.proofs.object_lines.rename.Goals as goal
 
 pub returns-in_default : goal.returns-in_default

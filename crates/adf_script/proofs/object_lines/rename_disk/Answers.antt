@@ -1,4 +1,4 @@
-use Rattle.std.proofs.Common.{[], refl}
+use Rattle.adf_script.proofs.Common.{[], refl}
 use Rattle.adf_script.proofs.object_lines.rename_disk.Goals as goal
 
 pub returns-in_default : goal.returns-in_default

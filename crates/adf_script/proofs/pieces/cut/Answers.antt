@@ -1,6 +1,4 @@
-use Rattle.std.proofs.Common.{◌≡◌, ◌++◌, ◌+◌, ◌-◌, ◌∷◌, length, take, drop, refl, sym, ◌∙◌, subst, arith, length-drop, Some, None}
-use Rattle.std.proofs.lemmas.List.{append-nil, append_cancel_left, take-append-drop, take_all}
-use Rattle.adf_script.specs.Pieces.{IsBehind}
+use Rattle.adf_script.proofs.Common.{◌≡◌, ◌++◌, ◌+◌, ◌-◌, ◌∷◌, length, take, drop, refl, sym, ◌∙◌, subst, arith, length-drop, Some, None, append-nil, append_cancel_left, take-append-drop, take_all, IsBehind}
 use Rattle.adf_script.proofs.Splitting.{split_at}
 use Rattle.adf_script.proofs.pieces.cut.Goals as goal
 

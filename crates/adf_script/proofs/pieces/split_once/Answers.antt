@@ -1,5 +1,4 @@
-use Rattle.std.proofs.Common.{◌∷◌, ◌++◌, ◌+◌, ◌-◌, length, take, drop, sym, ap, ◌∙◌, arith, length-drop, Some, None}
-use Rattle.std.proofs.lemmas.List.{take_all}
+use Rattle.adf_script.proofs.Common.{◌∷◌, ◌++◌, ◌+◌, ◌-◌, length, take, drop, sym, ap, ◌∙◌, arith, length-drop, Some, None, take_all}
 use Rattle.adf_script.proofs.Splitting.{split_at}
 use Rattle.adf_script.proofs.pieces.split_once.Goals as goal
 

@@ -1,8 +1,5 @@
-use Rattle.std.proofs.Common.{◌≡◌, ◌+◌, [], ◌∷◌, length, length-append, sym, ap, subst, ◌∙◌}
-use Rattle.std.proofs.lemmas.Result.{on_ok_weaker}
+use Rattle.adf_script.proofs.Common.{◌≡◌, ◌+◌, [], ◌∷◌, length, length-append, sym, ap, subst, ◌∙◌, on_ok_weaker, NextPuts, NextIsFaulty, NoneIsLeft, answer_value}
 use Rattle.adf_script.specs.Next.{LinesView}
-use Rattle.adf_script.specs.Packets.{NextPuts, NextIsFaulty, NoneIsLeft}
-use Rattle.adf_script.specs.Values.{answer_value}
 use Rattle.adf_script.proofs.Telling.{nothing_told, told_fault, told_reply, told_closed, told_end}
 use Rattle.adf_script.proofs.runner.run_lines.Goals as goal
 

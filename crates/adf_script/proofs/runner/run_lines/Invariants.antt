@@ -1,5 +1,4 @@
-use Rattle.std.proofs.Common.{◌≡◌, ◌-◌, length}
-use Rattle.adf_script.specs.Lines.{kept_lines}
+use Rattle.adf_script.proofs.Common.{◌≡◌, ◌-◌, length, kept_lines}
 use Rattle.adf_script.proofs.Telling.{SoFar}
 use Rattle.adf_script.proofs.runner.run_lines.Given as goal
 

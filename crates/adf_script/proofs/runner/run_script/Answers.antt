@@ -1,6 +1,5 @@
-use Rattle.ados_port.specs.History.{opening_port}
+use Rattle.adf_script.proofs.Common.{opening_port, on_ok_weaker}
 use Rattle.std.specs.Prelude.{true, false}
-use Rattle.std.proofs.lemmas.Result.{on_ok_weaker}
 use Rattle.adf_script.proofs.Telling.{told_through}
 use Rattle.adf_script.proofs.runner.run_script.Goals as goal
 

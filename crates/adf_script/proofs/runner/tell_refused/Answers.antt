@@ -1,4 +1,4 @@
-use Rattle.std.proofs.lemmas.Result.{on_ok_weaker}
+use Rattle.adf_script.proofs.Common.{on_ok_weaker}
 use Rattle.adf_script.proofs.runner.tell_refused.Goals as goal
 
 pub returns-in-Closed-clause-closed : goal.returns-in-Closed-clause-closed

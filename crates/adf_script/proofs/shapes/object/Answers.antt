@@ -1,4 +1,4 @@
-use Rattle.std.proofs.Common.{[]}
+use Rattle.adf_script.proofs.Common.{[]}
 use Rattle.adf_script.proofs.shapes.object.Goals as goal
 
 pub returns-in_default : goal.returns-in_default

@@ -1,4 +1,4 @@
-use Rattle.std.proofs.Common.{[]}
+use Rattle.adf_script.proofs.Common.{[]}
 use Rattle.adf_script.proofs.shapes.one_value.Goals as goal
 
 pub returns-in_err-n : goal.returns-in_err-n

@@ -1,8 +1,6 @@
-use Rattle.std.proofs.Common.{◌∷◌, [], rules}
+use Rattle.adf_script.proofs.Common.{◌∷◌, [], rules, to_z-of_z, Signed}
 use mir.Syntax.{w32}
 use mir.Val.{SFits}
-use Rattle.std.proofs.lemmas.Int.{to_z-of_z}
-use Rattle.adf_script.specs.Grammar.{Signed}
 use Rattle.adf_script.proofs.shapes.target.Goals as goal
 
 pub returns-in_err-handle : goal.returns-in_err-handle

@@ -1,5 +1,4 @@
-use Rattle.std.proofs.Common.{◌∷◌, []}
-use Rattle.adf_script.specs.Grammar.{Value}
+use Rattle.adf_script.proofs.Common.{◌∷◌, [], Value}
 use Rattle.adf_script.proofs.shapes.two_values.Goals as goal
 
 pub returns-in_err-first : goal.returns-in_err-first

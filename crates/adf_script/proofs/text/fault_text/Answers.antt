@@ -1,4 +1,4 @@
-use Rattle.std.proofs.Common.{ap, sym, ◌∙◌, append_assoc}
+use Rattle.adf_script.proofs.Common.{ap, sym, ◌∙◌, append_assoc}
 use Rattle.adf_script.proofs.text.fault_text.Goals as goal
 
 pub returns : goal.returns

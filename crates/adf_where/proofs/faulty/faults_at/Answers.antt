@@ -1,10 +1,5 @@
-use Rattle.std.proofs.Common.{◌≡◌, Vec, Global, ltb, leb, true, false, ◌∙◌, arith, rules}
-use Rattle.std.specs.Prelude.{filter, ◌==◌}
-use Rattle.std.specs.List.{between}
-use Rattle.std.specs.List.Sorted.{IsPartitionPoint}
+use Rattle.adf_where.proofs.Common.{◌≡◌, Vec, Global, ltb, leb, true, false, ◌∙◌, arith, rules, filter, ◌==◌, between, IsPartitionPoint, IfOk-weaker, VolumeFault}
 use Rattle.std.proofs.lemmas.List.Sorted.{IsPartitionPoint-from_clause, IsPartitionedBy-leb, IsPartitionedBy-ltb}
-use Rattle.std.proofs.lemmas.Result.{IfOk-weaker}
-use Rattle.ados_model.specs.declared.fault.VolumeFault.{VolumeFault}
 use Rattle.adf_where.proofs.FaultsThere.{blocks_rise, faults_between, first_before_end}
 use Rattle.adf_where.proofs.faulty.faults_at.Goals as goal
 

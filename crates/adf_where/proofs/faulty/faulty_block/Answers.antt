@@ -1,8 +1,4 @@
-use Rattle.std.proofs.Common.{ℕ, List, AllPairs, refl, sym, ap, ◌∙◌, subst}
-use Rattle.std.specs.Prelude.{◌==◌, filter}
-use Rattle.ados_faults.specs.Listed.{StandsBefore}
-use Rattle.ados_mend.specs.Places.{AreAllPlaces}
-use Rattle.ados_model.specs.declared.fault.VolumeFault.{VolumeFault}
+use Rattle.adf_where.proofs.Common.{ℕ, List, AllPairs, refl, sym, ap, ◌∙◌, subst, ◌==◌, filter, StandsBefore, AreAllPlaces, VolumeFault}
 use Rattle.adf_where.proofs.FaultsThere.{faults_there}
 use Rattle.adf_where.proofs.faulty.faulty_block.Goals as goal
 

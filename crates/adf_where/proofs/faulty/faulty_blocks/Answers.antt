@@ -1,11 +1,4 @@
-use Rattle.std.proofs.Common.{◌≡◌, ℕ, ◌+◌, List, length, get_or, take, sym, subst, arith, Vec, Global}
-use Rattle.std.specs.List.{AllZip}
-use Rattle.std.proofs.lemmas.List.{get_or_default, take_all}
-use Rattle.std.proofs.lemmas.Slice.Zip.{AllZip-long}
-use Rattle.ados_mend.specs.declared.naming.Place.{Place}
-use Rattle.ados_mend.specs.Places.{AreAllPlaces}
-use Rattle.adf_where.specs.declared.faulty.FaultyBlock.{FaultyBlock}
-use Rattle.adf_where.specs.Faulty.{IsFaultyBlock}
+use Rattle.adf_where.proofs.Common.{◌≡◌, ℕ, ◌+◌, List, length, get_or, take, sym, subst, arith, Vec, Global, AllZip, get_or_default, take_all, AllZip-long, Place, AreAllPlaces, FaultyBlock, IsFaultyBlock}
 use Rattle.adf_where.proofs.Zipped.{zipped_at, zipped_more}
 use Rattle.adf_where.proofs.faulty.faulty_blocks.Goals as goal
 

@@ -1,6 +1,4 @@
-use Rattle.std.proofs.Common.{take}
-use Rattle.std.specs.List.{AllZip}
-use Rattle.adf_where.specs.Faulty.{IsFaultyBlock}
+use Rattle.adf_where.proofs.Common.{take, AllZip, IsFaultyBlock}
 use Rattle.adf_where.proofs.faulty.faulty_blocks.Given as goal
 
 -- what is told of the blocks before this one

@@ -1,6 +1,4 @@
-use Rattle.std.proofs.Common.{◌≡◌, ◌++◌, take}
-use Rattle.std.specs.Prelude.{flat_map}
-use Rattle.adf_where.specs.Faulty.{fault_line}
+use Rattle.adf_where.proofs.Common.{◌≡◌, ◌++◌, take, flat_map, fault_line}
 use Rattle.adf_where.proofs.faulty_lines.push_faults.Given as goal
 
 -- the lines of the faults before this one

@@ -1,6 +1,4 @@
-use Rattle.std.proofs.Common.{◌≡◌, ◌++◌, take}
-use Rattle.std.specs.Prelude.{flat_map}
-use Rattle.adf_where.specs.Faulty.{block_line, place_words}
+use Rattle.adf_where.proofs.Common.{◌≡◌, ◌++◌, take, flat_map, block_line, place_words}
 use Rattle.adf_where.proofs.faulty_lines.push_places.Given as goal
 
 -- the lines of the places before this one

@@ -1,8 +1,4 @@
-use Rattle.std.proofs.Common.{ℕ, List, ap, ◌∙◌, subst}
-use Rattle.std.specs.List.{AllZip}
-use Rattle.adf_where.specs.declared.faulty.FaultyBlock.{FaultyBlock}
-use Rattle.adf_where.specs.Faulty.{IsFaultyBlock, faulty_of}
-use Rattle.adf_where.specs.Where.{AreNamed}
+use Rattle.adf_where.proofs.Common.{ℕ, List, ap, ◌∙◌, subst, AllZip, FaultyBlock, IsFaultyBlock, faulty_of, AreNamed}
 use Rattle.adf_where.proofs.faulty_where.faulty_where_text.Goals as goal
 
 pub faulty_blocks-requires-clause-found : goal.faulty_blocks-requires-clause-found

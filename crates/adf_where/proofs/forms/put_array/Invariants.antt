@@ -1,5 +1,4 @@
-use Rattle.std.proofs.Common.{◌≡◌, ◌++◌, take}
-use Rattle.std.specs.Prelude.{flat_map}
+use Rattle.adf_where.proofs.Common.{◌≡◌, ◌++◌, take, flat_map}
 use Rattle.adf_where.proofs.forms.put_array.Given as goal
 
 -- the elements before this one

@@ -1,5 +1,4 @@
-use Rattle.std.proofs.Common.{◌≡◌, take}
-use Rattle.std.specs.Prelude.{flat_map}
+use Rattle.adf_where.proofs.Common.{◌≡◌, take, flat_map}
 use Rattle.adf_where.proofs.forms.told_text.Given as goal
 
 -- the lines of the blocks before this one

@@ -1,5 +1,4 @@
-use Rattle.std.proofs.Common.{◌≡◌, ◌++◌, drop}
-use Rattle.adf_where.specs.Where.{own_from}
+use Rattle.adf_where.proofs.Common.{◌≡◌, ◌++◌, drop, own_from}
 use Rattle.adf_where.proofs.own_blocks.own_blocks.Given as goal
 
 -- the blocks before this one, and those of the others behind them, are all

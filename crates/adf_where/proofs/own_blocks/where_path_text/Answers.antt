@@ -1,8 +1,4 @@
-use Rattle.std.proofs.Common.{◌≡◌, ap, ◌∙◌}
-use Rattle.std.proofs.lemmas.Result.{IfOk-weaker}
-use Rattle.ados_model.specs.Stands.{Stands}
-use Rattle.ados_model.specs.Tree.{Tree}
-use Rattle.adf_where.specs.Where.{IsWhereOf, own_from}
+use Rattle.adf_where.proofs.Common.{◌≡◌, ap, ◌∙◌, IfOk-weaker, Stands, Tree, IsWhereOf, own_from}
 use Rattle.adf_text.specs.Ranges.{ranges}
 use Rattle.adf_where.proofs.own_blocks.where_path_text.Goals as goal
 

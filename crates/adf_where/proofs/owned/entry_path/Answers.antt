@@ -1,4 +1,4 @@
-use Rattle.std.proofs.Common.{sym, ◌∙◌}
+use Rattle.adf_where.proofs.Common.{sym, ◌∙◌}
 use Rattle.adf_where.proofs.Belonging.{owned_node}
 use Rattle.adf_where.proofs.owned.entry_path.Goals as goal
 

@@ -1,7 +1,4 @@
-use Rattle.std.proofs.Common.{map, take}
-use Rattle.ados_model.specs.Stands.{Stands}
-use Rattle.ados_model.specs.Tree.{Tree}
-use Rattle.adf_where.specs.Where.{AreTold, seen}
+use Rattle.adf_where.proofs.Common.{map, take, Stands, Tree, AreTold, seen}
 use Rattle.adf_where.proofs.owned.owned_blocks.Given as goal
 
 -- what is told of the blocks before this one

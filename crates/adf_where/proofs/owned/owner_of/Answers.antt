@@ -1,7 +1,5 @@
-use Rattle.std.proofs.Common.{◌<◌, length, arith}
+use Rattle.adf_where.proofs.Common.{◌<◌, length, arith, count_same, Boot}
 use Rattle.std.proofs.lemmas.Option.{slice_get-get_or}
-use Rattle.ados_model.proofs.Standing.{count_same}
-use Rattle.ados_volume.specs.declared.owner.Owner.TheVariants.{Boot}
 use Rattle.adf_where.proofs.owned.owner_of.Goals as goal
 
 pub bounds-owners-block : goal.bounds-owners-block

@@ -1,6 +1,5 @@
-use Rattle.std.proofs.Common.{sym, ap, ◌∙◌}
+use Rattle.adf_where.proofs.Common.{sym, ap, ◌∙◌, data_size}
 use Rattle.adf_block.specs.Fields.{format_of}
-use Rattle.ados_model.specs.Tree.{data_size}
 use Rattle.ados_change.proofs.Writable.{format_is}
 use Rattle.adf_where.proofs.owned.room_of.Goals as goal
 

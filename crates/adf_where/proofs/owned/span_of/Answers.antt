@@ -1,8 +1,4 @@
-use Rattle.std.proofs.Common.{ℕ, ◌-◌, length, Option, option_map, sym, ap, ◌∙◌, subst}
-use Rattle.ados_model.specs.Tree.{Content, Node, bytes_in}
-use Rattle.ados_model.proofs.Nodes.{content_in}
-use Rattle.ados_volume.specs.declared.owner.Owner.{Owner}
-use Rattle.ados_volume.specs.Owners.{Owns}
+use Rattle.adf_where.proofs.Common.{ℕ, ◌-◌, length, Option, option_map, sym, ap, ◌∙◌, subst, Content, Node, bytes_in, content_in, Owner, Owns}
 use Rattle.adf_where.proofs.Belonging.{data_span}
 use Rattle.adf_where.proofs.owned.span_of.Goals as goal
 

@@ -1,5 +1,4 @@
-use Rattle.std.proofs.Common.{◌<◌, All, take}
-use Rattle.adf_where.specs.Where.{AreNamed}
+use Rattle.adf_where.proofs.Common.{◌<◌, All, take, AreNamed}
 use Rattle.adf_where.proofs.places.named_blocks.Given as goal
 
 -- the blocks of the arguments before this one

@@ -1,10 +1,5 @@
-use Rattle.std.proofs.Common.{ℕ, List, map, sym, ap, ◌∙◌, subst}
+use Rattle.adf_where.proofs.Common.{ℕ, List, map, sym, ap, ◌∙◌, subst, count_same, Owner, AreOwners, OwnedBlock, AreNamed, AreTold, seen, where_of}
 use Rattle.adf_block.specs.Image.{block_count}
-use Rattle.ados_model.proofs.Standing.{count_same}
-use Rattle.ados_volume.specs.declared.owner.Owner.{Owner}
-use Rattle.ados_volume.specs.Owners.{AreOwners}
-use Rattle.adf_where.specs.declared.owned.OwnedBlock.{OwnedBlock}
-use Rattle.adf_where.specs.Where.{AreNamed, AreTold, seen, where_of}
 use Rattle.adf_where.proofs.Belonging.{told_seen}
 use Rattle.adf_where.proofs.where_blocks.where_text.Goals as goal
 

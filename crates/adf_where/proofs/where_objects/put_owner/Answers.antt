@@ -1,5 +1,4 @@
-use Rattle.std.proofs.lemmas.Result.{on_ok_weaker}
-use Rattle.adf_record.proofs.Tokens.{behind}
+use Rattle.adf_where.proofs.Common.{on_ok_weaker, behind}
 use Rattle.adf_record.proofs.Written.{member_is, text_is}
 use Rattle.adf_where.proofs.where_objects.put_owner.Goals as goal
 

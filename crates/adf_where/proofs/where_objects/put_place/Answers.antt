@@ -1,5 +1,4 @@
-use Rattle.std.proofs.Common.{append_assoc, ◌∙◌}
-use Rattle.std.proofs.lemmas.Result.{on_ok_weaker}
+use Rattle.adf_where.proofs.Common.{append_assoc, ◌∙◌, on_ok_weaker}
 use Rattle.adf_where.proofs.where_objects.put_place.Goals as goal
 
 pub returns-clause-tokens : goal.returns-clause-tokens

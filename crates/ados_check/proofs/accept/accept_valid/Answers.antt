@@ -1,7 +1,4 @@
-use Rattle.std.proofs.Common.{List, ℕ, ap, subst}
-use Rattle.adf_block.specs.Whole.{IsImage}
-use Rattle.ados_check.specs.Laws.{AreInUse}
-use Rattle.ados_check.specs.Source.{SourceView}
+use Rattle.ados_check.proofs.Common.{List, ℕ, ap, subst, IsImage, AreInUse, SourceView}
 use Rattle.ados_check.proofs.Accepted.{checked_is_accepted}
 use Rattle.ados_check.proofs.accept.accept_valid.Goals as goal
 

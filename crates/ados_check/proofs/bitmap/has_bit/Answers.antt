@@ -1,10 +1,7 @@
-use Rattle.std.proofs.Common.{◌≡◌, ℕ, ◌-◌, ◌*◌, ◌%◌, ◌^◌, ◌<◌, not, eqb, ap, ap₂, sym, ◌∙◌, subst, arith}
+use Rattle.ados_check.proofs.Common.{◌≡◌, ℕ, ◌-◌, ◌*◌, ◌%◌, ◌^◌, ◌<◌, not, eqb, ap, ap₂, sym, ◌∙◌, subst, arith, long, map_long, page_of, pages_of, Tells}
 use Rattle.std.specs.Prelude.{bit_and}
 use Rattle.std.proofs.lemmas.Nat.{pow_below}
-use Rattle.adf_block.specs.Image.{long}
-use Rattle.ados_map.specs.Pages.{map_long, page_of, pages_of}
 use Rattle.ados_map.proofs.BitLemmas.{marked-is}
-use Rattle.ados_check.specs.Source.{Tells}
 use Rattle.ados_check.proofs.bitmap.has_bit.Goals as goal
 
 -- 1 shifted by fewer than 32 bits

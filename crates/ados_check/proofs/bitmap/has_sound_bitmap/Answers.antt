@@ -1,5 +1,4 @@
-use Rattle.std.proofs.Common.{sym, ◌∙◌}
-use Rattle.std.proofs.lemmas.Bool.{false≢true}
+use Rattle.ados_check.proofs.Common.{sym, ◌∙◌, false≢true}
 use Rattle.ados_check.proofs.NoFaults.{shows_no_fault}
 use Rattle.ados_check.proofs.bitmap.has_sound_bitmap.Goals as goal
 

@@ -1,5 +1,4 @@
-use Rattle.std.proofs.Common.{ℕ, sym, subst}
-use Rattle.ados_check.specs.Source.{Tells}
+use Rattle.ados_check.proofs.Common.{ℕ, sym, subst, Tells}
 use Rattle.ados_check.proofs.bitmap.has_valid_bitmap.Goals as goal
 
 pub long-requires-clause-told : goal.long-requires-clause-told

@@ -1,7 +1,4 @@
-use Rattle.std.proofs.Common.{ℕ, List, Bool, sym, ap, ◌∙◌, subst}
-use Rattle.adf_block.specs.Image.{long, block_sum}
-use Rattle.adf_block.specs.Frame.{OnlyLong}
-use Rattle.ados_map.specs.Changes.{PagesRebuilt}
+use Rattle.ados_check.proofs.Common.{ℕ, List, Bool, sym, ap, ◌∙◌, subst, long, block_sum, OnlyLong, PagesRebuilt}
 use Rattle.ados_check.proofs.bitmap.mend.Goals as goal
 
 pub returns-clause-mended : goal.returns-clause-mended

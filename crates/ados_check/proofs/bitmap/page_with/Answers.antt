@@ -1,7 +1,4 @@
-use Rattle.std.proofs.Common.{ℕ, ◌+◌, ap, sym, ◌∙◌, subst}
-use Rattle.adf_block.specs.Image.{long}
-use Rattle.ados_map.specs.Pages.{page_of}
-use Rattle.ados_check.specs.Source.{Tells}
+use Rattle.ados_check.proofs.Common.{ℕ, ◌+◌, ap, sym, ◌∙◌, subst, long, page_of, Tells}
 use Rattle.ados_check.proofs.bitmap.page_with.Goals as goal
 
 pub long-requires-clause-told : goal.long-requires-clause-told

@@ -1,4 +1,4 @@
-use Rattle.std.proofs.Common.{refl, sym, ◌∙◌, arith, below_more}
+use Rattle.ados_check.proofs.Common.{refl, sym, ◌∙◌, arith, below_more}
 use Rattle.ados_check.proofs.Accepted.{lawful_pages}
 use Rattle.ados_check.proofs.Free.{marked_by, unmarked_by, free_in, inside, none_below, marked_free}
 use Rattle.ados_check.proofs.bitmap.reached_and_free.Goals as goal

@@ -1,7 +1,4 @@
-use Rattle.std.proofs.Common.{◌≡◌, ◌<◌, ℕ, Some}
-use Rattle.adf_block.specs.Whole.{HasFreeBit}
-use Rattle.ados_check.specs.declared.mark.Mark.{Mark}
-use Rattle.ados_check.specs.Marks.{mark_at}
+use Rattle.ados_check.proofs.Common.{◌≡◌, ◌<◌, ℕ, Some, HasFreeBit, Mark, mark_at}
 use Rattle.ados_check.proofs.bitmap.reached_and_free.Given as goal
 
 abbrev pub invariant-loop-block : goal.invariant-loop-block

@@ -1,9 +1,4 @@
-use Rattle.std.proofs.Common.{◌≡◌, ◌<◌, ◌≤◌, ◌+◌, ◌/◌, ℕ, Option, take, slice_index, refl, sym, ap, ◌∙◌, subst, arith, below_more}
-use Rattle.std.specs.List.{sum_by}
-use Rattle.std.specs.Option.{unwrap_or}
-use Rattle.std.proofs.lemmas.Option.{unwrap_or-slice_get}
-use Rattle.adf_block.specs.Fields.{held_count}
-use Rattle.ados_check.specs.declared.data_rules.Place.{Place}
+use Rattle.ados_check.proofs.Common.{◌≡◌, ◌<◌, ◌≤◌, ◌+◌, ◌/◌, ℕ, Option, take, slice_index, refl, sym, ap, ◌∙◌, subst, arith, below_more, sum_by, unwrap_or, unwrap_or-slice_get, held_count, Place}
 use Rattle.ados_check.proofs.DataRuling.{few_held}
 use Rattle.ados_check.proofs.Headers.{first_link, header_inside}
 use Rattle.ados_check.proofs.Pointed.{blocks_upto, holder_within}

@@ -1,7 +1,4 @@
-use Rattle.std.proofs.Common.{◌≡◌, ℕ, ◌*◌, ◌/◌, ◌<◌, ◌≤◌, take, slice_index}
-use Rattle.std.specs.List.{sum_by}
-use Rattle.adf_block.specs.Fields.{held_count}
-use Rattle.ados_model.specs.File.{pointer_block}
+use Rattle.ados_check.proofs.Common.{◌≡◌, ℕ, ◌*◌, ◌/◌, ◌<◌, ◌≤◌, take, slice_index, sum_by, held_count, pointer_block}
 use Rattle.ados_check.proofs.Pointed.{blocks_upto}
 use Rattle.ados_check.proofs.Linked.{IsPlacedAt}
 use Rattle.ados_check.proofs.chain.check_chain.Given as goal

@@ -1,9 +1,4 @@
-use Rattle.std.proofs.Common.{arith, get_or, refl, subst, sym}
-use Rattle.ados_model.specs.declared.fault.FaultKind.{FaultKind}
-use Rattle.ados_model.specs.Faults.{Shows}
-use Rattle.ados_check.specs.DataRules.{BreaksRule}
-use Rattle.ados_check.specs.declared.data_rules.DataRule.TheVariants.{Sequence}
-use Rattle.ados_check.specs.declared.data_rules.TheConstants.{DATA_RULES}
+use Rattle.ados_check.proofs.Common.{arith, get_or, refl, subst, sym, FaultKind, Shows, BreaksRule, Sequence, DATA_RULES}
 use Rattle.ados_check.proofs.DataRuling.{data_shows, each_rule}
 use Rattle.ados_check.proofs.chain.check_place.Goals as goal
 

@@ -1,4 +1,4 @@
-use Rattle.std.proofs.Common.{◌-◌, ◌%◌, arith}
+use Rattle.ados_check.proofs.Common.{◌-◌, ◌%◌, arith}
 use Rattle.ados_check.proofs.chain.pointer_at.Goals as goal
 
 pub long-requires-clause-told : goal.long-requires-clause-told

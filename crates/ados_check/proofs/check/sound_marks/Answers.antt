@@ -1,6 +1,4 @@
-use Rattle.std.proofs.Common.{subst}
-use Rattle.ados_check.specs.Entries.{AreSoundFiles}
-use Rattle.ados_check.specs.Marks.{AreUnlike}
+use Rattle.ados_check.proofs.Common.{subst, AreSoundFiles, AreUnlike}
 use Rattle.ados_check.proofs.check.sound_marks.Goals as goal
 
 pub returns : goal.returns

@@ -1,5 +1,4 @@
-use Rattle.std.proofs.Common.{refl, sym, ◌∙◌, arith}
-use Rattle.ados_model.specs.Faults.HasBadCount.{wrong_size}
+use Rattle.ados_check.proofs.Common.{refl, sym, ◌∙◌, arith, wrong_size}
 use Rattle.ados_check.proofs.Pointed.{length-blocks_upto, are_data_blocks}
 use Rattle.ados_check.proofs.FilesTold.{holder_told}
 use Rattle.ados_check.proofs.Ruling.{stable}

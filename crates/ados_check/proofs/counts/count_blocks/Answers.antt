@@ -1,4 +1,4 @@
-use Rattle.std.proofs.Common.{arith}
+use Rattle.ados_check.proofs.Common.{arith}
 use Rattle.ados_check.proofs.Headers.{within, pointers_as, few_extensions}
 use Rattle.ados_check.proofs.FilesTold.{fields_told, holder_told}
 use Rattle.ados_check.proofs.counts.count_blocks.Goals as goal

@@ -1,7 +1,4 @@
-use Rattle.std.proofs.Common.{◌≡◌, ◌≢◌, ℕ, suc, ◌<◌}
-use Rattle.adf_block.specs.Fields.{pointer_count}
-use Rattle.ados_model.specs.File.{pointer_block}
-use Rattle.ados_model.specs.declared.role.Role.TheVariants.{Extension}
+use Rattle.ados_check.proofs.Common.{◌≡◌, ◌≢◌, ℕ, suc, ◌<◌, pointer_count, pointer_block, Extension}
 use Rattle.ados_check.proofs.counts.count_blocks.Given as goal
 
 abbrev pub invariant-loop-passed : goal.invariant-loop-passed

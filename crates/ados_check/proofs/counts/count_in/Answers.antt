@@ -1,5 +1,4 @@
-use Rattle.std.proofs.Common.{sym, subst}
-use Rattle.ados_check.specs.steps.Files.{HasCount}
+use Rattle.ados_check.proofs.Common.{sym, subst, HasCount}
 use Rattle.ados_check.proofs.Headers.{reached_as, right_count}
 use Rattle.ados_check.proofs.counts.count_in.Goals as goal
 

@@ -1,4 +1,4 @@
-use Rattle.std.proofs.Common.{arith, below_more}
+use Rattle.ados_check.proofs.Common.{arith, below_more}
 use Rattle.ados_check.proofs.Marked.{entry_below}
 use Rattle.ados_check.proofs.entries.check_files.Goals as goal
 

@@ -1,5 +1,4 @@
-use Rattle.std.proofs.Common.{ℕ, ◌<◌}
-use Rattle.ados_check.specs.Entries.{IsSoundIfFile}
+use Rattle.ados_check.proofs.Common.{ℕ, ◌<◌, IsSoundIfFile}
 use Rattle.ados_check.proofs.entries.check_files.Given as goal
 
 abbrev pub invariant-loop-block : goal.invariant-loop-block

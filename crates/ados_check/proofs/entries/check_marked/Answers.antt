@@ -1,6 +1,4 @@
-use Rattle.std.proofs.Common.{◌∙◌, sym, subst}
-use Rattle.ados_model.specs.declared.role.Role.{Role}
-use Rattle.ados_model.specs.Faults.{Reached}
+use Rattle.ados_check.proofs.Common.{◌∙◌, sym, subst, Role, Reached}
 use Rattle.ados_check.proofs.Reached.{reached_file}
 use Rattle.ados_check.proofs.Marked.{marked_file}
 use Rattle.ados_check.proofs.FilesTold.{long_told}

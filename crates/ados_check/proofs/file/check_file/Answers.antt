@@ -1,4 +1,4 @@
-use Rattle.std.proofs.Common.{◌∙◌}
+use Rattle.ados_check.proofs.Common.{◌∙◌}
 use Rattle.ados_check.proofs.SoundFile.{sound_file, not_ofs}
 use Rattle.ados_check.proofs.file.check_file.Goals as goal
 

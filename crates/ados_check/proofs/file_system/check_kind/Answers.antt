@@ -1,7 +1,5 @@
-use Rattle.std.proofs.Common.{◌≤◌, ◌<◌, length, refl, inl, inr, arith, subst}
+use Rattle.ados_check.proofs.Common.{◌≤◌, ◌<◌, length, refl, inl, inr, arith, subst, HasKind, byte_at}
 use Rattle.adf_block.specs.declared.boot.BootKind.{BootKind}
-use Rattle.adf_block.specs.Boot.{HasKind}
-use Rattle.adf_block.specs.Image.{byte_at}
 use Rattle.ados_check.proofs.KindLemmas.{ofs_bytes, ffs_bytes, is_dos, not_dos}
 use Rattle.ados_check.proofs.file_system.check_kind.Goals as goal
 

@@ -1,6 +1,4 @@
-use Rattle.std.proofs.Common.{refl, subst, sym}
-use Rattle.ados_model.specs.declared.fault.FaultKind.{FaultKind}
-use Rattle.ados_model.specs.Faults.{Shows}
+use Rattle.ados_check.proofs.Common.{refl, subst, sym, FaultKind, Shows}
 use Rattle.ados_check.proofs.Ruling.{field_shows}
 use Rattle.ados_check.proofs.looks.check_field.Goals as goal
 

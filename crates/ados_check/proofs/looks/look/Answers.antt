@@ -1,8 +1,4 @@
-use Rattle.std.proofs.Common.{arith, get_or, refl, subst, sym}
-use Rattle.ados_model.specs.declared.fault.FaultKind.{FaultKind}
-use Rattle.ados_model.specs.Faults.{Shows}
-use Rattle.ados_check.specs.declared.rules.FieldRule.TheVariants.{NoLink}
-use Rattle.ados_check.specs.declared.rules.TheConstants.{FIELD_RULES}
+use Rattle.ados_check.proofs.Common.{arith, get_or, refl, subst, sym, FaultKind, Shows, NoLink, FIELD_RULES}
 use Rattle.ados_check.proofs.Ruling.{field_shows, sound, type_shows}
 use Rattle.ados_check.proofs.looks.look.Goals as goal
 

@@ -1,7 +1,4 @@
-use Rattle.std.proofs.Common.{ℕ, ◌<◌, slice_index_or}
-use Rattle.ados_check.specs.Rules.{HasBadField}
-use Rattle.ados_check.specs.declared.rules.FieldRule.{FieldRule}
-use Rattle.ados_check.specs.declared.rules.TheConstants.{FIELD_RULES}
+use Rattle.ados_check.proofs.Common.{ℕ, ◌<◌, slice_index_or, HasBadField, FieldRule, FIELD_RULES}
 use Rattle.ados_check.proofs.looks.look.Given as goal
 
 abbrev pub invariant-loop-rule : goal.invariant-loop-rule

@@ -1,5 +1,4 @@
-use Rattle.std.proofs.Common.{◌+◌, inl, sym, ◌∙◌, subst, arith}
-use Rattle.std.proofs.lemmas.Bool.{not-true, not-false}
+use Rattle.ados_check.proofs.Common.{◌+◌, inl, sym, ◌∙◌, subst, arith, not-true, not-false}
 use Rattle.ados_check.proofs.Entered.{AreEntered, entered_none, entered_twice, entered_more, all_unlike}
 use Rattle.ados_check.proofs.FilesTold.{entry_told}
 use Rattle.ados_check.proofs.names.check_names.Goals as goal

@@ -1,5 +1,4 @@
-use Rattle.std.proofs.Common.{refl, subst}
-use Rattle.ados_name.specs.Name.{IsName}
+use Rattle.ados_check.proofs.Common.{refl, subst, IsName}
 use Rattle.ados_check.proofs.NameLemmas.{bad_name}
 use Rattle.ados_check.proofs.NameLemmas.{no_bad_name}
 use Rattle.ados_check.proofs.naming.has_bad_name.Goals as goal

@@ -1,6 +1,5 @@
-use Rattle.std.proofs.Common.{◌≡◌, ◌<◌, ◌+◌, ℕ, zero, suc, ◌∷◌, length, replicate, slice_index, get_or-set_other, get_or-set_same, length-set, refl, ap, ◌∙◌, subst, arith, below_more}
-use Rattle.adf_block.specs.Image.{byte_at}
-use Rattle.ados_name.specs.Name.{upper}
+use Rattle.std.proofs.Common.{get_or-set_other, get_or-set_same, length-set}
+use Rattle.ados_check.proofs.Common.{◌≡◌, ◌<◌, ◌+◌, ℕ, zero, suc, ◌∷◌, length, replicate, slice_index, refl, ap, ◌∙◌, subst, arith, below_more, byte_at, upper}
 use Rattle.ados_check.proofs.UpperNames.{name_is}
 use Rattle.ados_check.proofs.naming.upper_name.Goals as goal
 

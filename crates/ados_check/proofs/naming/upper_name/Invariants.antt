@@ -1,6 +1,4 @@
-use Rattle.std.proofs.Common.{◌≡◌, ℕ, ◌+◌, ◌<◌, length, slice_index}
-use Rattle.adf_block.specs.Image.{byte_at}
-use Rattle.ados_name.specs.Name.{upper}
+use Rattle.ados_check.proofs.Common.{◌≡◌, ℕ, ◌+◌, ◌<◌, length, slice_index, byte_at, upper}
 use Rattle.ados_check.proofs.naming.upper_name.Given as goal
 
 abbrev pub invariant-loop-i : goal.invariant-loop-i

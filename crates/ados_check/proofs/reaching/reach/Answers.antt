@@ -1,5 +1,4 @@
-use Rattle.std.proofs.Common.{◌≤◌, arith}
-use Rattle.adf_block.specs.Image.{block_count, page_count}
+use Rattle.ados_check.proofs.Common.{◌≤◌, arith, block_count, page_count}
 use Rattle.ados_check.proofs.Moves.{put_away, skipped_all}
 use Rattle.ados_check.proofs.reaching.reach.Goals as goal
 

@@ -1,6 +1,4 @@
-use Rattle.std.proofs.Common.{◌≤◌, vec_capacity}
-use Rattle.adf_block.specs.Image.{block_count}
-use Rattle.ados_check.specs.steps.Reaching.{IsBetween, work}
+use Rattle.ados_check.proofs.Common.{◌≤◌, vec_capacity, block_count, IsBetween, work}
 use Rattle.ados_check.proofs.reaching.reach.Given as goal
 
 abbrev pub invariant-loop-block : goal.invariant-loop-block

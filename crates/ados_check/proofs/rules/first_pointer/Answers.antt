@@ -1,4 +1,4 @@
-use Rattle.std.proofs.Common.{◌∙◌, sym, arith}
+use Rattle.ados_check.proofs.Common.{◌∙◌, sym, arith}
 use Rattle.ados_check.proofs.Pointers.{first_is}
 use Rattle.ados_check.proofs.rules.first_pointer.Goals as goal
 

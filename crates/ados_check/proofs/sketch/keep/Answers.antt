@@ -1,5 +1,4 @@
-use Rattle.std.proofs.Common.{◌≡◌, ◌++◌, ◌∷◌, [], ℕ, List, Option, Some, length, take, sym, ap, ◌∙◌, subst, subst₂, arith}
-use Rattle.ados_check.specs.Keeping.{AreKept}
+use Rattle.ados_check.proofs.Common.{◌≡◌, ◌++◌, ◌∷◌, [], ℕ, List, Option, Some, length, take, sym, ap, ◌∙◌, subst, subst₂, arith, AreKept}
 use Rattle.ados_check.proofs.Adding.{added_none, added_some}
 use Rattle.ados_check.proofs.sketch.keep.Goals as goal
 

@@ -1,6 +1,4 @@
-use Rattle.std.proofs.Common.{◌≡◌, ℕ, ◌%◌, ◌^◌, ap, ◌∙◌, arith}
-use Rattle.adf_block.specs.Image.{total, long, block_sum}
-use Rattle.adf_block.proofs.Totals.{total-more}
+use Rattle.ados_check.proofs.Common.{◌≡◌, ℕ, ◌%◌, ◌^◌, ap, ◌∙◌, arith, total, long, block_sum, total-more}
 use Rattle.ados_check.proofs.Reading.{first_long}
 use Rattle.ados_check.proofs.sketch.sum.Goals as goal
 

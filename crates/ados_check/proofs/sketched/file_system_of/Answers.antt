@@ -1,6 +1,5 @@
-use Rattle.std.proofs.Common.{◌≡◌, ◌∷◌, [], refl, sym, ◌∙◌}
+use Rattle.ados_check.proofs.Common.{◌≡◌, ◌∷◌, [], refl, sym, ◌∙◌, bytes_at}
 use Rattle.std.proofs.lemmas.Slice.Eq.{bytes_eq-Decides}
-use Rattle.adf_block.specs.Image.{bytes_at}
 use Rattle.ados_check.proofs.BootBytes.{is_dos, kind_is, names_kind}
 use Rattle.ados_check.proofs.sketched.file_system_of.Goals as goal
 

@@ -1,7 +1,4 @@
-use Rattle.std.proofs.Common.{ℕ, ◌+◌, ◌<◌, ap, sym, ◌∙◌, subst, arith}
-use Rattle.adf_block.specs.Image.{long}
-use Rattle.ados_map.specs.Pages.{pages_of}
-use Rattle.ados_check.specs.Source.{Tells}
+use Rattle.ados_check.proofs.Common.{ℕ, ◌+◌, ◌<◌, ap, sym, ◌∙◌, subst, arith, long, pages_of, Tells}
 use Rattle.ados_check.proofs.BitmapTold.{page_first, bitmap_told}
 use Rattle.ados_check.proofs.sketched.tells_bitmap.Goals as goal
 

@@ -1,6 +1,4 @@
-use Rattle.std.proofs.Common.{◌≢◌, ◌<◌, ℕ}
-use Rattle.adf_block.specs.Fields.{primary_type}
-use Rattle.ados_map.specs.Pages.{page_block}
+use Rattle.ados_check.proofs.Common.{◌≢◌, ◌<◌, ℕ, primary_type, page_block}
 use Rattle.ados_check.proofs.sketched.tells_bitmap.Given as goal
 
 abbrev pub invariant-loop-p : goal.invariant-loop-p

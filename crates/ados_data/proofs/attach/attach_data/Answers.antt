@@ -1,8 +1,4 @@
-use Rattle.std.proofs.Common.{◌≢◌, ◌<◌, ◌-◌, ◌%◌, inl, inr, ℕ, sym, ◌∙◌, arith}
-use Rattle.adf_block.specs.declared.layout.TheConstants.{FIRST_POINTER}
-use Rattle.adf_block.proofs.Frames.{same_long, same_sum}
-use Rattle.ados_data.specs.steps.Edits.{AtDataFields}
-use Rattle.ados_data.specs.steps.Blocks.{AtLink}
+use Rattle.ados_data.proofs.Common.{◌≢◌, ◌<◌, ◌-◌, ◌%◌, inl, inr, ℕ, sym, ◌∙◌, arith, FIRST_POINTER, same_long, same_sum, AtDataFields, AtLink}
 use Rattle.ados_data.proofs.Untouched.{beside_field, sum_field, empty_long, wider_field}
 use Rattle.ados_data.proofs.attach.attach_data.Goals as goal
 use Rattle.ados_data.proofs.attach.attach_data.Goals.{then-end-eq0, else-end-eq0}

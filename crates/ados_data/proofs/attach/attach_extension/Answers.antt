@@ -1,7 +1,4 @@
-use Rattle.std.proofs.Common.{◌≡◌, ◌≢◌, ◌<◌, ◌/◌, ◌⊎◌, inl, inr, ℕ, sym, ◌∙◌, arith}
-use Rattle.adf_block.specs.declared.layout.TheConstants.{SECONDARY_TYPE, PARENT, NEXT_EXTENSION}
-use Rattle.adf_block.proofs.Frames.{same_long, same_sum}
-use Rattle.ados_data.specs.steps.Edits.{AtExtensionFields}
+use Rattle.ados_data.proofs.Common.{◌≡◌, ◌≢◌, ◌<◌, ◌/◌, ◌⊎◌, inl, inr, ℕ, sym, ◌∙◌, arith, SECONDARY_TYPE, PARENT, NEXT_EXTENSION, same_long, same_sum, AtExtensionFields}
 use Rattle.ados_data.proofs.Untouched.{beside_field, sum_field, empty_long, extension_kept}
 use Rattle.ados_data.proofs.attach.attach_extension.Goals as goal
 

@@ -1,4 +1,4 @@
-use Rattle.std.proofs.Common.{arith}
+use Rattle.ados_data.proofs.Common.{arith}
 use Rattle.ados_data.proofs.Marks.{none_counted}
 use Rattle.ados_data.proofs.Standing.{new_block_taken}
 use Rattle.ados_data.proofs.blocks.new_block.Goals as goal

@@ -1,5 +1,4 @@
-use Rattle.std.proofs.Common.{◌/◌, ℕ, refl, sym, ap, ◌∙◌, subst, arith}
-use Rattle.adf_block.specs.Whole.{IsSize}
+use Rattle.ados_data.proofs.Common.{◌/◌, ℕ, refl, sym, ap, ◌∙◌, subst, arith, IsSize}
 use Rattle.ados_data.proofs.Appending.{appended_call, room_of, file_inside, last_apart, new_apart}
 use Rattle.ados_data.proofs.Bounds.{below_stays}
 use Rattle.ados_data.proofs.grow.append.Goals as goal

@@ -1,10 +1,4 @@
-use Rattle.std.proofs.Common.{◌≡◌, ◌<◌, ◌-◌, ◌/◌, ◌%◌, ◌∷◌, ℕ, length, slice_index, sym, ap, ◌∙◌, arith}
-use Rattle.std.proofs.lemmas.List.{get_or_past}
-use Rattle.adf_block.specs.declared.layout.TheConstants.{FIRST_POINTER}
-use Rattle.adf_block.specs.declared.layout.Format.{Format}
-use Rattle.adf_block.specs.Image.{long}
-use Rattle.ados_model.specs.Tree.{data_count, extension_count}
-use Rattle.ados_model.specs.File.{data_blocks, extension_blocks, contents, pointer_block}
+use Rattle.ados_data.proofs.Common.{◌≡◌, ◌<◌, ◌-◌, ◌/◌, ◌%◌, ◌∷◌, ℕ, length, slice_index, sym, ap, ◌∙◌, arith, get_or_past, FIRST_POINTER, Format, long, data_count, extension_count, data_blocks, extension_blocks, contents, pointer_block}
 use Rattle.ados_data.proofs.Places.{header_is, data_is, readable}
 use Rattle.ados_data.proofs.grow.end_of.Goals as goal
 use Rattle.ados_data.proofs.grow.end_of.Goals.{then-count-eq0, else-count-eq0}

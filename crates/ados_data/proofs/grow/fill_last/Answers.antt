@@ -1,5 +1,4 @@
-use Rattle.std.proofs.Common.{subst, arith}
-use Rattle.adf_block.specs.Whole.{IsSize}
+use Rattle.ados_data.proofs.Common.{subst, arith, IsSize}
 use Rattle.ados_data.proofs.Lengthening.{filled_call, end_apart}
 use Rattle.ados_data.proofs.grow.fill_last.Goals as goal
 

@@ -1,10 +1,4 @@
-use Rattle.std.proofs.Common.{◌≡◌, ◌<◌, ◌≤◌, ◌-◌, ◌*◌, ◌/◌, ℕ, length, sym, ap, arith, subst}
-use Rattle.adf_block.specs.declared.layout.Format.{Format}
-use Rattle.ados_map.specs.Pages.{NoneFreeBelow}
-use Rattle.ados_model.specs.Tree.{data_size}
-use Rattle.ados_model.specs.File.{contents, data_blocks, extension_blocks}
-use Rattle.ados_data.specs.Growth.{GrowsFile}
-use Rattle.ados_data.specs.steps.FileEnd.{IsLonger}
+use Rattle.ados_data.proofs.Common.{◌≡◌, ◌<◌, ◌≤◌, ◌-◌, ◌*◌, ◌/◌, ℕ, length, sym, ap, arith, subst, Format, NoneFreeBelow, data_size, contents, data_blocks, extension_blocks, GrowsFile, IsLonger}
 use Rattle.ados_data.proofs.Bounds.{below_taken}
 use Rattle.ados_data.proofs.Composing.{grows_both, below_grown}
 use Rattle.ados_data.proofs.Overlaid.{longer_zeros}

@@ -1,9 +1,4 @@
-use Rattle.std.proofs.Common.{◌-◌, ◌≡◌, ◌≤◌, ◌<◌, ◌*◌}
-use Rattle.ados_map.specs.Pages.{NoneFreeBelow}
-use Rattle.ados_model.specs.Tree.{data_size}
-use Rattle.ados_model.specs.File.{contents}
-use Rattle.ados_data.specs.Growth.{GrowsFile}
-use Rattle.ados_data.specs.steps.FileEnd.{IsEnd, IsLonger}
+use Rattle.ados_data.proofs.Common.{◌-◌, ◌≡◌, ◌≤◌, ◌<◌, ◌*◌, NoneFreeBelow, data_size, contents, GrowsFile, IsEnd, IsLonger}
 use Rattle.ados_data.proofs.grow.lengthen.Given as goal
 
 abbrev pub invariant-loop-reached : goal.invariant-loop-reached

@@ -1,6 +1,4 @@
-use Rattle.std.proofs.Common.{◌≤◌, ◌/◌, ℕ, length, min, ap, ap₂, ◌∙◌, arith}
-use Rattle.ados_model.specs.Tree.{data_size}
-use Rattle.ados_model.specs.File.{extension_blocks}
+use Rattle.ados_data.proofs.Common.{◌≤◌, ◌/◌, ℕ, length, min, ap, ap₂, ◌∙◌, arith, data_size, extension_blocks}
 use Rattle.ados_data.proofs.Places.{last_place, header_is}
 use Rattle.ados_data.proofs.place.place_at.Goals as goal
 

@@ -1,5 +1,4 @@
-use Rattle.std.proofs.Common.{◌≡◌}
-use Rattle.ados_model.specs.File.{pointer_block}
+use Rattle.ados_data.proofs.Common.{◌≡◌, pointer_block}
 use Rattle.ados_data.proofs.place.pointer_block.Given as goal
 
 abbrev pub invariant-loop-passed : goal.invariant-loop-passed

@@ -1,12 +1,7 @@
-use Rattle.std.proofs.Common.{◌≡◌, ◌-◌, ◌+◌, ◌/◌, ◌%◌, ◌<◌, ◌≤◌, ℕ, List, take, drop, length, refl, sym, ap, ap₂, ◌∙◌, subst, arith}
+use Rattle.ados_data.proofs.Common.{◌≡◌, ◌-◌, ◌+◌, ◌/◌, ◌%◌, ◌<◌, ◌≤◌, ℕ, List, take, drop, length, refl, sym, ap, ap₂, ◌∙◌, subst, arith, Format, bytes_at, format_of, data_size, data_start, extension_blocks, pointer_block, contents}
 use borrow.Rule.Slice.PartMut.{put_mid}
-use Rattle.adf_block.specs.declared.layout.Format.{Format}
-use Rattle.adf_block.specs.Image.{bytes_at}
-use Rattle.adf_block.specs.Fields.{format_of}
-use Rattle.ados_model.specs.Tree.{data_size, data_start}
-use Rattle.ados_model.specs.File.{extension_blocks, pointer_block, contents}
 use Rattle.ados_data.proofs.Places.{size_is, byte_within, holder_of}
-use Rattle.ados_data.proofs.Reading.{holder_inside, block_inside, block_is, on_to_next, on_in_same, part_copied}
+use Rattle.ados_data.proofs.Reading.{data_of_block, holder_inside, block_inside, block_is, on_to_next, on_in_same, part_copied}
 use Rattle.ados_data.proofs.Sizes.{few_bytes, part_bounds}
 use Rattle.ados_data.proofs.read.read_near.Goals as goal
 
@@ -29,8 +24,8 @@ data_block-requires c =
     let within : c.args.pos + c.loop-done.done < length (contents c.args.image.now c.args.file) = omega (arith, c.min-count.ensures, c.long-size.ensures, size_is c.args.image.now c.args.file, c.loop-done-test.true) in
     holder_inside c.args.image.now c.args.file c.requires.readable c.data_size-room.result room (c.args.pos + c.loop-done.done) c.loop-done.holder within c.loop-done.invariant.holder
 
-pub data_in-found-requires : goal.data_in-found-requires
-data_in-found-requires c =
+pub block-requires : goal.block-requires
+block-requires c =
     let room : c.data_size-room.result ≡ data_size (format_of c.args.image.now) = c.data_size-room.ensures ∙ ap data_size c.format-format.ensures in
     let within : c.args.pos + c.loop-done.done < length (contents c.args.image.now c.args.file) = omega (arith, c.min-count.ensures, c.long-size.ensures, size_is c.args.image.now c.args.file, c.loop-done-test.true) in
     block_inside c.args.image.now c.args.file c.requires.readable c.data_size-room.result room (c.args.pos + c.loop-done.done) c.loop-done.holder c.data_block.result within c.loop-done.invariant.holder c.data_block.ensures
@@ -50,8 +45,8 @@ loop-done-preserved-then-at-part-eq0 c =
     let next : c.args.pos + c.loop-done.done + c.min-part.result ≡ c.args.pos + (c.loop-done.done + c.min-part.result) = omega arith in
     let part : c.loop-done.done + c.min-part.result - c.loop-done.done ≡ c.min-part.result = omega arith in
     let taken : (c.args.pos + c.loop-done.done) % c.data_size-room.result + c.min-part.result - (c.args.pos + c.loop-done.done) % c.data_size-room.result ≡ c.min-part.result = omega arith in
-    let found : c.data_in-found.result.now ≡ bytes_at c.args.image.now c.data_block.result (data_start (format_of c.args.image.now)) (data_size (format_of c.args.image.now)) =
-    c.data_in-found.ensures.bytes ∙ ap (λ (f : Format). bytes_at c.args.image.now c.data_block.result (data_start f) (data_size f)) c.format-format.ensures in
+    let found : take (length c.block.result.now - c.data_start.result) (drop c.data_start.result c.block.result.now) ≡ bytes_at c.args.image.now c.data_block.result (data_start (format_of c.args.image.now)) (data_size (format_of c.args.image.now)) =
+    data_of_block c.args.image.now c.data_block.result c.format-format.result c.block.result.now c.data_start.result c.block.ensures.bytes c.block.ensures.length c.data_start.ensures ∙ ap (λ (f : Format). bytes_at c.args.image.now c.data_block.result (data_start f) (data_size f)) c.format-format.ensures in
     record {
       below = bounds.2;
       holder = on_to_next c.args.image.now c.args.file c.requires.readable c.data_size-room.result room (c.args.pos + c.loop-done.done) c.min-part.result c.loop-done.holder c.long-holder.result bounds.0 bounds.1 c.if-at-part-eq0.true c.loop-done.invariant.holder c.long-holder.ensures
@@ -74,8 +69,8 @@ loop-done-preserved c =
     let next : c.args.pos + c.loop-done.done + c.min-part.result ≡ c.args.pos + (c.loop-done.done + c.min-part.result) = omega arith in
     let part : c.loop-done.done + c.min-part.result - c.loop-done.done ≡ c.min-part.result = omega arith in
     let taken : (c.args.pos + c.loop-done.done) % c.data_size-room.result + c.min-part.result - (c.args.pos + c.loop-done.done) % c.data_size-room.result ≡ c.min-part.result = omega arith in
-    let found : c.data_in-found.result.now ≡ bytes_at c.args.image.now c.data_block.result (data_start (format_of c.args.image.now)) (data_size (format_of c.args.image.now)) =
-    c.data_in-found.ensures.bytes ∙ ap (λ (f : Format). bytes_at c.args.image.now c.data_block.result (data_start f) (data_size f)) c.format-format.ensures in
+    let found : take (length c.block.result.now - c.data_start.result) (drop c.data_start.result c.block.result.now) ≡ bytes_at c.args.image.now c.data_block.result (data_start (format_of c.args.image.now)) (data_size (format_of c.args.image.now)) =
+    data_of_block c.args.image.now c.data_block.result c.format-format.result c.block.result.now c.data_start.result c.block.ensures.bytes c.block.ensures.length c.data_start.ensures ∙ ap (λ (f : Format). bytes_at c.args.image.now c.data_block.result (data_start f) (data_size f)) c.format-format.ensures in
     record {
       below = bounds.2;
       holder = on_in_same c.args.image.now c.args.file c.requires.readable c.data_size-room.result room (c.args.pos + c.loop-done.done) c.min-part.result c.loop-done.holder bounds.1 c.if-at-part-eq0.false c.loop-done.invariant.holder

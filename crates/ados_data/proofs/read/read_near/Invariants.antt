@@ -1,5 +1,4 @@
-use Rattle.std.proofs.Common.{◌-◌, ◌≡◌, ◌++◌, ◌≤◌, ◌+◌, ◌/◌, take, drop}
-use Rattle.ados_model.specs.File.{pointer_block, contents}
+use Rattle.ados_data.proofs.Common.{◌-◌, ◌≡◌, ◌++◌, ◌≤◌, ◌+◌, ◌/◌, take, drop, pointer_block, contents}
 use Rattle.ados_data.proofs.read.read_near.Given as goal
 
 abbrev pub invariant-loop-done : goal.invariant-loop-done

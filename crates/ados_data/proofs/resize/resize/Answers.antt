@@ -1,7 +1,4 @@
-use Rattle.std.proofs.Common.{◌≢◌, ◌<◌, ◌-◌, ◌*◌, ◌/◌, inl, inr, ℕ, sym, ap, ◌∙◌, arith}
-use Rattle.adf_block.specs.declared.layout.TheConstants.{FILE_SIZE, NEXT_EXTENSION}
-use Rattle.adf_block.proofs.Frames.{same_long, same_sum}
-use Rattle.ados_data.specs.steps.Blocks.{AtEnd}
+use Rattle.ados_data.proofs.Common.{◌≢◌, ◌<◌, ◌-◌, ◌*◌, ◌/◌, inl, inr, ℕ, sym, ap, ◌∙◌, arith, FILE_SIZE, NEXT_EXTENSION, same_long, same_sum, AtEnd}
 use Rattle.ados_data.proofs.Untouched.{beside_field, sum_field, wider_field}
 use Rattle.ados_data.proofs.resize.resize.Goals as goal
 use Rattle.ados_data.proofs.resize.resize.Goals.{then-end-eq0, else-end-eq0}

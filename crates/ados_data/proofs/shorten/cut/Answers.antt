@@ -1,12 +1,4 @@
-use Rattle.std.proofs.Common.{◌≡◌, ◌≤◌, ◌<◌, ◌-◌, ◌+◌, ◌/◌, ◌%◌, ◌∷◌, suc, ℕ, length, slice_index, refl, sym, ap, ◌∙◌, subst, arith}
-use Rattle.adf_block.specs.declared.layout.TheConstants.{FIRST_POINTER}
-use Rattle.adf_block.specs.declared.layout.Format.{Format}
-use Rattle.adf_block.specs.Image.{block_count, long, IsInside}
-use Rattle.adf_block.specs.Fields.{format_of}
-use Rattle.adf_block.specs.Whole.{IsSize}
-use Rattle.ados_model.specs.Tree.{data_count, extension_count}
-use Rattle.ados_model.specs.File.{contents, data_blocks, extension_blocks, pointer_block}
-use Rattle.ados_data.specs.steps.Blocks.{IsResized}
+use Rattle.ados_data.proofs.Common.{◌≡◌, ◌≤◌, ◌<◌, ◌-◌, ◌+◌, ◌/◌, ◌%◌, ◌∷◌, suc, ℕ, length, slice_index, refl, sym, ap, ◌∙◌, subst, arith, FIRST_POINTER, Format, block_count, long, IsInside, format_of, IsSize, data_count, extension_count, contents, data_blocks, extension_blocks, pointer_block, IsResized}
 use Rattle.ados_data.proofs.Places.{readable}
 use Rattle.ados_data.proofs.Cutting.{Cutting, IsCuttable, cutting_begun, holder_is_inside, last_inside, last_apart, entered_row, dropped, holder_in, block_inside, few, fewer, rows, is_cut}
 use Rattle.ados_data.proofs.Leaving.{summed_after}

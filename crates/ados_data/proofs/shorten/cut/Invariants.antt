@@ -1,6 +1,4 @@
-use Rattle.std.proofs.Common.{◌-◌, ◌/◌}
-use Rattle.ados_model.specs.File.{data_blocks, extension_blocks}
-use Rattle.adf_block.specs.Fields.{format_of}
+use Rattle.ados_data.proofs.Common.{◌-◌, ◌/◌, data_blocks, extension_blocks, format_of}
 use Rattle.ados_data.proofs.Cutting.{Cutting}
 use Rattle.ados_data.proofs.shorten.cut.Given as goal
 

@@ -1,8 +1,4 @@
-use Rattle.std.proofs.Common.{◌≡◌, ◌-◌, ◌%◌, ℕ, length, min, replicate, take, ap, ap₂, ◌∙◌, arith}
-use Rattle.adf_block.specs.Fields.{format_of}
-use Rattle.ados_model.specs.Tree.{data_size}
-use Rattle.ados_model.specs.File.{contents}
-use Rattle.ados_model.specs.Edits.{overlaid}
+use Rattle.ados_data.proofs.Common.{◌≡◌, ◌-◌, ◌%◌, ℕ, length, min, replicate, take, ap, ap₂, ◌∙◌, arith, format_of, data_size, contents, overlaid}
 use Rattle.ados_data.proofs.Composing.{grows_over, below_grown}
 use Rattle.ados_data.proofs.Overlaid.{zeroed_longer}
 use Rattle.ados_data.proofs.write.extend_near.Goals as goal

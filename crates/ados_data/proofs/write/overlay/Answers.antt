@@ -1,6 +1,4 @@
-use Rattle.std.proofs.Common.{◌≡◌, ◌≤◌, ◌+◌, ◌-◌, ◌/◌, ◌%◌, inl, inr, ℕ, List, take, drop, ap, subst, arith}
-use Rattle.std.proofs.lemmas.List.{length-take}
-use Rattle.ados_model.specs.Tree.{data_start}
+use Rattle.ados_data.proofs.Common.{◌≡◌, ◌≤◌, ◌+◌, ◌-◌, ◌/◌, ◌%◌, inl, inr, ℕ, List, take, drop, ap, subst, arith, length-take, data_start}
 use Rattle.ados_data.proofs.Places.{readable}
 use Rattle.ados_data.proofs.Overlaying.{IsWritten, IsSettled, IsTurn, written_settled, past_fields, size_below, bounds, holder_is_inside, block_is_inside, written_more, size_kept, grown_on, holder_inside_new, holder_next, holder_same}
 use Rattle.ados_data.proofs.Sizes.{whole_block}

@@ -1,9 +1,4 @@
-use Rattle.std.proofs.Common.{◌-◌, ◌≡◌, ◌≤◌, ◌<◌, ◌+◌, ◌/◌, take, length}
-use Rattle.adf_block.specs.Image.{block_count}
-use Rattle.adf_block.specs.Whole.{IsSize}
-use Rattle.ados_model.specs.File.{contents, pointer_block}
-use Rattle.ados_model.specs.Edits.{overlaid}
-use Rattle.ados_data.specs.Growth.{GrowsFile}
+use Rattle.ados_data.proofs.Common.{◌-◌, ◌≡◌, ◌≤◌, ◌<◌, ◌+◌, ◌/◌, take, length, block_count, IsSize, contents, pointer_block, overlaid, GrowsFile}
 use Rattle.ados_data.proofs.write.overlay.Given as goal
 
 abbrev pub invariant-loop-done : goal.invariant-loop-done

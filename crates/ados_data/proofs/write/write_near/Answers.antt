@@ -1,7 +1,4 @@
-use Rattle.std.proofs.Common.{◌≡◌, ℕ, max, ◌+◌, ◌-◌, length, ◌∙◌, subst, arith}
-use Rattle.adf_block.specs.Fields.{format_of}
-use Rattle.ados_model.specs.File.{contents}
-use Rattle.ados_data.specs.Growth.{GrowsFile}
+use Rattle.ados_data.proofs.Common.{◌≡◌, ℕ, max, ◌+◌, ◌-◌, length, ◌∙◌, subst, arith, format_of, contents, GrowsFile}
 use Rattle.ados_data.proofs.Composing.{grows_over, below_grown}
 use Rattle.ados_data.proofs.Fitting.{size_fits}
 use Rattle.ados_data.proofs.Overlaid.{overlaid_longer, overlaid_zeros}

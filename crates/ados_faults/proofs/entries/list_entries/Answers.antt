@@ -1,5 +1,4 @@
-use Rattle.std.proofs.Common.{sym, subst, arith}
-use Rattle.ados_faults.proofs.Common.{All, IsEntryIn}
+use Rattle.ados_faults.proofs.Common.{sym, subst, arith, All, IsEntryIn}
 use Rattle.ados_faults.proofs.entries.list_entries.Goals as goal
 
 pub meet_slots-requires-clause-entries : goal.meet_slots-requires-clause-entries

@@ -1,5 +1,4 @@
-use Rattle.std.proofs.Common.{◌≡◌, ◌<◌, ℕ, length, slice_index, sym, subst, arith, ◌∙◌}
-use Rattle.ados_faults.proofs.Common.{Contains, get_or_default, long, NEXT_IN_CHAIN, InImage, IsEntryIn, IsGrown}
+use Rattle.ados_faults.proofs.Common.{◌≡◌, ◌<◌, ℕ, length, slice_index, sym, subst, arith, ◌∙◌, Contains, get_or_default, long, NEXT_IN_CHAIN, InImage, IsEntryIn, IsGrown}
 use Rattle.ados_faults.proofs.Enumerated.{all_entries, grown_all, next_is_entry, next_more, slots_on}
 use Rattle.ados_faults.proofs.entries.meet_chains.Goals as goal
 

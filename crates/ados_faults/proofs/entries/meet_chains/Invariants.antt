@@ -1,5 +1,4 @@
-use Rattle.std.proofs.Common.{◌-◌, ◌^◌}
-use Rattle.ados_faults.proofs.Common.{All, AreMet, AreNextMet, AreSlotsMet, IsEntryIn}
+use Rattle.ados_faults.proofs.Common.{◌-◌, ◌^◌, All, AreMet, AreNextMet, AreSlotsMet, IsEntryIn}
 use Rattle.ados_faults.proofs.entries.meet_chains.Given as goal
 
 abbrev pub invariant-loop-i : goal.invariant-loop-i

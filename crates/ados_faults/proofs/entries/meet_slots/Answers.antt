@@ -1,5 +1,4 @@
-use Rattle.std.proofs.Common.{◌≡◌, ◌+◌, ℕ, sym, subst, arith}
-use Rattle.ados_faults.proofs.Common.{Contains, long, FIRST_SLOT, InImage, IsEntryIn, IsGrown}
+use Rattle.ados_faults.proofs.Common.{◌≡◌, ◌+◌, ℕ, sym, subst, arith, Contains, long, FIRST_SLOT, InImage, IsEntryIn, IsGrown}
 use Rattle.ados_faults.proofs.Enumerated.{grown_all, slot_entry, slots_more}
 use Rattle.ados_faults.proofs.entries.meet_slots.Goals as goal
 

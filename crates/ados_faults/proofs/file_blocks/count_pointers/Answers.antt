@@ -1,5 +1,4 @@
-use Rattle.std.proofs.Common.{List, ℕ, length, flat_map, ap, arith, ◌∙◌}
-use Rattle.ados_faults.proofs.Common.{take_all, pointers_of}
+use Rattle.ados_faults.proofs.Common.{flat_map, List, ℕ, length, ap, arith, ◌∙◌, take_all, pointers_of}
 use Rattle.ados_faults.proofs.ByHeaders.{length_before}
 use Rattle.ados_faults.proofs.file_blocks.count_pointers.Goals as goal
 

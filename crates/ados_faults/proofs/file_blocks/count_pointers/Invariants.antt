@@ -1,5 +1,4 @@
-use Rattle.std.proofs.Common.{◌≡◌, ◌*◌, ◌≤◌, length, take, flat_map}
-use Rattle.ados_model.specs.Faults.{pointers_of}
+use Rattle.ados_faults.proofs.Common.{flat_map, ◌≡◌, ◌*◌, ◌≤◌, length, take, pointers_of}
 use Rattle.ados_faults.proofs.file_blocks.count_pointers.Given as goal
 
 abbrev pub invariant-loop-header : goal.invariant-loop-header

@@ -1,5 +1,4 @@
-use Rattle.std.proofs.Common.{inl, inr, ℕ, List, length, slice_index, sym, ap, ◌∙◌, subst, arith}
-use Rattle.ados_faults.proofs.Common.{Contains, cases_Bool, length_push, NEXT_EXTENSION, LinkedOnce, IsChain}
+use Rattle.ados_faults.proofs.Common.{inl, inr, ℕ, List, length, slice_index, sym, ap, ◌∙◌, subst, arith, Contains, cases_Bool, length_push, NEXT_EXTENSION, LinkedOnce, IsChain}
 use Rattle.ados_faults.proofs.Linking.{chain_whole, chain_more, head_kept, last_next}
 use Rattle.ados_faults.proofs.file_blocks.go_on.Goals as goal
 

@@ -1,6 +1,4 @@
-use Rattle.std.proofs.Common.{◌≡◌, ◌+◌, ◌<◌, length, take, slice_index, sym, ap, subst, arith, below_more, refl, ◌∙◌}
-use Rattle.std.proofs.lemmas.List.Sums.{sum_by_more}
-use Rattle.ados_faults.proofs.Common.{sum_by, false≢true, get_or_default, take_all, held_count, InImage, pointers_of}
+use Rattle.ados_faults.proofs.Common.{◌≡◌, ◌+◌, ◌<◌, length, take, slice_index, sym, ap, subst, arith, below_more, refl, ◌∙◌, sum_by_more, sum_by, false≢true, get_or_default, take_all, held_count, InImage, pointers_of}
 use Rattle.ados_faults.proofs.ByHeaders.{pointer_at}
 use Rattle.ados_faults.proofs.file_blocks.held_by.Goals as goal
 

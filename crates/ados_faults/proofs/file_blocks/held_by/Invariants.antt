@@ -1,5 +1,4 @@
-use Rattle.std.proofs.Common.{◌≡◌, ◌-◌, ◌^◌, ◌<◌, ℕ, min, take, slice_index}
-use Rattle.ados_faults.proofs.Common.{sum_by, held_count, InImage, pointers_of}
+use Rattle.ados_faults.proofs.Common.{◌≡◌, ◌-◌, ◌^◌, ◌<◌, ℕ, min, take, slice_index, sum_by, held_count, InImage, pointers_of}
 use Rattle.ados_faults.proofs.file_blocks.held_by.Given as goal
 
 abbrev pub invariant-loop-i : goal.invariant-loop-i

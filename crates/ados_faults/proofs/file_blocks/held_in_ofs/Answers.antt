@@ -1,5 +1,4 @@
-use Rattle.std.proofs.Common.{◌+◌, ℕ, List, Option, length, sym, ap, arith, ◌∙◌}
-use Rattle.ados_faults.proofs.Common.{slice_get, length_push}
+use Rattle.ados_faults.proofs.Common.{◌+◌, ℕ, List, Option, length, sym, ap, arith, ◌∙◌, slice_get, length_push}
 use Rattle.ados_faults.proofs.ByHeaders.{held_more}
 use Rattle.ados_faults.proofs.file_blocks.held_in_ofs.Goals as goal
 

@@ -1,5 +1,4 @@
-use Rattle.std.proofs.Common.{◌≡◌, ℕ, Option, Some, length}
-use Rattle.ados_faults.proofs.Common.{slice_get, pointers_of, IsHeld}
+use Rattle.ados_faults.proofs.Common.{◌≡◌, ℕ, Option, Some, length, slice_get, pointers_of, IsHeld}
 use Rattle.ados_faults.proofs.file_blocks.held_in_ofs.Given as goal
 
 abbrev pub invariant-loop-header : goal.invariant-loop-header

@@ -1,5 +1,4 @@
-use Rattle.std.proofs.Common.{◌+◌, ℕ, List, Some, None, get_or, flat_map, take, sym, subst}
-use Rattle.ados_faults.proofs.Common.{take_all, pointers_of, IsHeld}
+use Rattle.ados_faults.proofs.Common.{flat_map, ◌+◌, ℕ, List, Some, None, get_or, take, sym, subst, take_all, pointers_of, IsHeld}
 use Rattle.ados_faults.proofs.ByHeaders.{held_at, held_next, held_nil, held_out, none_held}
 use Rattle.ados_faults.proofs.file_blocks.held_together.Goals as goal
 

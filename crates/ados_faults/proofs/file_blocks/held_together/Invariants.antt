@@ -1,5 +1,4 @@
-use Rattle.std.proofs.Common.{Some, take, flat_map}
-use Rattle.ados_faults.proofs.Common.{pointers_of, IsHeld}
+use Rattle.ados_faults.proofs.Common.{flat_map, Some, take, pointers_of, IsHeld}
 use Rattle.ados_faults.proofs.file_blocks.held_together.Given as goal
 
 abbrev pub invariant-loop-header : goal.invariant-loop-header

@@ -1,5 +1,4 @@
-use Rattle.std.proofs.Common.{◌≤◌, ℕ, List, length, slice_index, sym, ap, subst, arith, ◌∙◌}
-use Rattle.ados_faults.proofs.Common.{block_count, NEXT_EXTENSION, LinkedOnce, IsChain}
+use Rattle.ados_faults.proofs.Common.{◌≤◌, ℕ, List, length, slice_index, sym, ap, subst, arith, ◌∙◌, block_count, NEXT_EXTENSION, LinkedOnce, IsChain}
 use Rattle.ados_faults.proofs.Enumerated.{only_one}
 use Rattle.ados_faults.proofs.Linking.{chain_few, chain_start}
 use Rattle.ados_faults.proofs.file_blocks.list_headers.Goals as goal

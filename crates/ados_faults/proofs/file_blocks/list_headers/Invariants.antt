@@ -1,5 +1,4 @@
-use Rattle.std.proofs.Common.{◌≡◌, ◌+◌, length, slice_index}
-use Rattle.ados_faults.proofs.Common.{NEXT_EXTENSION, AreMet, IsChain}
+use Rattle.ados_faults.proofs.Common.{◌≡◌, ◌+◌, length, slice_index, NEXT_EXTENSION, AreMet, IsChain}
 use Rattle.ados_faults.proofs.file_blocks.list_headers.Given as goal
 
 abbrev pub invariant-loop-passed : goal.invariant-loop-passed

@@ -1,4 +1,4 @@
-use Rattle.std.proofs.Common.{sym, arith, ◌∙◌}
+use Rattle.ados_faults.proofs.Common.{sym, arith, ◌∙◌}
 use Rattle.ados_faults.proofs.ByHeaders.{pointers_few, pointers_none}
 use Rattle.ados_faults.proofs.file_blocks.pointers_in.Goals as goal
 

@@ -1,5 +1,4 @@
-use Rattle.std.proofs.Common.{◌≢◌, sym, subst, arith}
-use Rattle.ados_faults.proofs.Common.{file_size, SourceView}
+use Rattle.ados_faults.proofs.Common.{◌≢◌, sym, subst, arith, file_size, SourceView}
 use Rattle.adf_block.proofs.Longs.{long-below}
 use Rattle.ados_faults.proofs.files.holds_other_size.Goals as goal
 

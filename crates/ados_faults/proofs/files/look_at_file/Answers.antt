@@ -1,5 +1,4 @@
-use Rattle.std.proofs.Common.{◌≢◌, refl, sym, ◌∙◌, subst}
-use Rattle.ados_faults.proofs.Common.{flat_map, SourceView, AreDataBlocks, count_of_size, pointers_of}
+use Rattle.ados_faults.proofs.Common.{◌≢◌, refl, sym, ◌∙◌, subst, flat_map, SourceView, AreDataBlocks, count_of_size, pointers_of}
 use Rattle.ados_model.specs.Faults.HasBadCount.{wrong_size, wrong_sum}
 use Rattle.ados_faults.proofs.ByHeaders.{all_seen_on}
 use Rattle.ados_faults.proofs.FileNotes.{file_noted, places_on}

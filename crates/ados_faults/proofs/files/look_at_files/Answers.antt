@@ -1,5 +1,4 @@
-use Rattle.std.proofs.Common.{rules, inr, List, ℕ, length, drop, get_or, sym, subst, arith}
-use Rattle.ados_faults.proofs.Common.{All, Contains, take_at, slice_get-get_or, FILE_TYPE, IsOfType, AreAllSeen, IsFileNoted}
+use Rattle.ados_faults.proofs.Common.{rules, inr, List, ℕ, length, drop, get_or, sym, subst, arith, All, Contains, take_at, slice_get-get_or, FILE_TYPE, IsOfType, AreAllSeen, IsFileNoted}
 use Rattle.ados_faults.proofs.ByHeaders.{none_seen}
 use Rattle.ados_faults.proofs.Cells.{noted_on}
 use Rattle.ados_faults.proofs.FileNotes.{file_of, file_on}

@@ -1,5 +1,4 @@
-use Rattle.std.proofs.Common.{◌≡◌, ◌<◌, ℕ, Some}
-use Rattle.ados_faults.proofs.Common.{slice_get, AreMet, AreAllSeen, IsFileNoted, AreNoted, AreStillNoted}
+use Rattle.ados_faults.proofs.Common.{◌≡◌, ◌<◌, ℕ, Some, slice_get, AreMet, AreAllSeen, IsFileNoted, AreNoted, AreStillNoted}
 use Rattle.ados_faults.proofs.files.look_at_files.Given as goal
 
 abbrev pub invariant-loop-file : goal.invariant-loop-file

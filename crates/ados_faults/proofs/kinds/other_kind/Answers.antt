@@ -1,4 +1,4 @@
-use Rattle.std.proofs.Common.{arith}
+use Rattle.ados_faults.proofs.Common.{arith}
 use Rattle.ados_faults.proofs.OtherKinds.{no_dos_disk, no_other, unsupported}
 use Rattle.ados_faults.proofs.kinds.other_kind.Goals as goal
 

@@ -1,6 +1,6 @@
+use Rattle.ados_faults.proofs.Common.{AreFirstFaults, IsTangled, ListsFaults, ShowsOtherKind, TellsMore}
 use Rattle.std.proofs.lemmas.Result.{IfOk-weaker}
 use Rattle.ados_faults.specs.declared.listing.AllFaults.{AllFaults}
-use Rattle.ados_faults.specs.Listed.{AreFirstFaults, IsTangled, ListsFaults, ShowsOtherKind, TellsMore}
 use Rattle.ados_faults.proofs.listing.all_faults.Goals as goal
 
 pub returns-in-Some-clause-first : goal.returns-in-Some-clause-first

@@ -1,5 +1,4 @@
-use Rattle.std.proofs.Common.{◌≡◌, ◌||◌, Bool, refl, sym, ◌∙◌, subst}
-use Rattle.ados_faults.specs.Listed.{AreFirstFaults, TellsMore}
+use Rattle.ados_faults.proofs.Common.{◌≡◌, ◌||◌, Bool, refl, sym, ◌∙◌, subst, AreFirstFaults, TellsMore}
 use Rattle.ados_faults.proofs.Searching.{first_unless, more_exactly, none_exactly, whole_exactly}
 use Rattle.ados_faults.proofs.listing.first_faults.Goals as goal
 use Rattle.ados_faults.proofs.listing.first_faults.Goals.{then-listed, else-listed}

@@ -1,7 +1,4 @@
-use Rattle.std.proofs.Common.{sym, subst, ◌∙◌}
-use Rattle.ados_faults.proofs.Common.{All-weaker, HasBadSumAs, HasBadTypeAs, SourceView, AreWrongsNoted, IsFieldNoted}
-use Rattle.ados_check.specs.declared.rules.TheConstants.{FIELD_RULES}
-use Rattle.ados_check.proofs.Ruling.{type_shows}
+use Rattle.ados_faults.proofs.Common.{sym, subst, ◌∙◌, All-weaker, HasBadSumAs, HasBadTypeAs, SourceView, AreWrongsNoted, IsFieldNoted, FIELD_RULES, type_shows}
 use Rattle.ados_faults.proofs.Cells.{noted_on}
 use Rattle.ados_faults.proofs.Looking.{bare_noted, fields_noted}
 use Rattle.ados_faults.proofs.looks.look.Goals as goal

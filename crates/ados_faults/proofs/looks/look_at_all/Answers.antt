@@ -1,5 +1,4 @@
-use Rattle.std.proofs.Common.{get_or}
-use Rattle.ados_faults.proofs.Common.{slice_get-get_or, MarkedFree, Root, cell_of, step_of}
+use Rattle.ados_faults.proofs.Common.{get_or, slice_get-get_or, MarkedFree, Root, cell_of, step_of}
 use Rattle.ados_faults.proofs.Cells.{noted_on}
 use Rattle.ados_faults.proofs.Looking.{looked_more, looked_none}
 use Rattle.ados_faults.proofs.looks.look_at_all.Goals as goal

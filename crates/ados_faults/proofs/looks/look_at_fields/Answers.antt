@@ -1,6 +1,4 @@
-use Rattle.std.proofs.Common.{get_or, sym, subst}
-use Rattle.ados_faults.proofs.Common.{All-more, All-weaker, HasBadField, SourceView, NoLink, FaultKind, Shows, IsFieldNoted, IsNoted, cell_of}
-use Rattle.ados_check.proofs.Ruling.{field_shows}
+use Rattle.ados_faults.proofs.Common.{get_or, sym, subst, All-more, All-weaker, HasBadField, SourceView, NoLink, FaultKind, Shows, IsFieldNoted, IsNoted, cell_of, field_shows}
 use Rattle.ados_faults.proofs.Cells.{noted_on}
 use Rattle.ados_faults.proofs.looks.look_at_fields.Goals as goal
 

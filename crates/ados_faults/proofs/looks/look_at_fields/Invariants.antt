@@ -1,5 +1,4 @@
-use Rattle.std.proofs.Common.{All, take}
-use Rattle.ados_faults.proofs.Common.{IsFieldNoted, AreNoted, AreStillNoted}
+use Rattle.ados_faults.proofs.Common.{All, take, IsFieldNoted, AreNoted, AreStillNoted}
 use Rattle.ados_faults.proofs.looks.look_at_fields.Given as goal
 
 abbrev pub invariant-loop-rule : goal.invariant-loop-rule

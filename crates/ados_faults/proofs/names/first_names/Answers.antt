@@ -1,5 +1,4 @@
-use Rattle.std.proofs.Common.{◌+◌, ℕ, length, sym, ap, subst, arith, ◌∙◌}
-use Rattle.std.proofs.lemmas.List.{length_push}
+use Rattle.ados_faults.proofs.Common.{◌+◌, ℕ, length, sym, ap, subst, arith, ◌∙◌, length_push}
 use Rattle.ados_faults.proofs.Sameness.{AreFirstSoFar, first_more, first_none, none_known}
 use Rattle.ados_faults.proofs.names.first_names.Goals as goal
 

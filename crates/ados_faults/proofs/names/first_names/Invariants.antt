@@ -1,5 +1,4 @@
-use Rattle.std.proofs.Common.{◌≡◌, length}
-use Rattle.ados_faults.specs.steps.Named.{AreKnown}
+use Rattle.ados_faults.proofs.Common.{◌≡◌, length, AreKnown}
 use Rattle.ados_faults.proofs.Sameness.{AreFirstSoFar}
 use Rattle.ados_faults.proofs.names.first_names.Given as goal
 

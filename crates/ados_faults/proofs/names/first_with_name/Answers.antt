@@ -1,6 +1,4 @@
-use Rattle.std.proofs.Common.{sym, ap, refl, ◌∙◌, subst}
-use Rattle.ados_faults.proofs.Common.{get, SourceView, HasShortName, name_cmp}
-use Rattle.ados_check.specs.Entries.{upper_name}
+use Rattle.ados_faults.proofs.Common.{sym, ap, refl, ◌∙◌, subst, get, SourceView, HasShortName, name_cmp, upper_name}
 use Rattle.ados_faults.proofs.Sameness.{known_more, known_stay}
 use Rattle.ados_faults.proofs.names.first_with_name.Goals as goal
 

@@ -1,4 +1,4 @@
-use Rattle.std.proofs.Common.{sym}
+use Rattle.ados_faults.proofs.Common.{sym}
 use Rattle.ados_faults.proofs.Insides.{reached_inside}
 use Rattle.ados_faults.proofs.Sameness.{duplicate}
 use Rattle.ados_faults.proofs.names.note_both.Goals as goal

@@ -1,5 +1,4 @@
-use Rattle.std.proofs.Common.{rules, List, ℕ, length, drop, get_or, sym, subst, arith}
-use Rattle.ados_faults.proofs.Common.{All, Contains, take_at, slice_get-get_or, DIRECTORY_TYPE, IsOfType, AreNamesMet, AreNamesNoted}
+use Rattle.ados_faults.proofs.Common.{rules, List, ℕ, length, drop, get_or, sym, subst, arith, All, Contains, take_at, slice_get-get_or, DIRECTORY_TYPE, IsOfType, AreNamesMet, AreNamesNoted}
 use Rattle.ados_faults.proofs.Cells.{noted_on}
 use Rattle.ados_faults.proofs.Firsts.{all_firsts, one_more}
 use Rattle.ados_faults.proofs.Sameness.{all_duplicates, duplicates_on, holder_of, names_none}

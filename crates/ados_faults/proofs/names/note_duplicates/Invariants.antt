@@ -1,5 +1,4 @@
-use Rattle.std.proofs.Common.{◌≡◌, ◌<◌, ℕ, Some}
-use Rattle.ados_faults.proofs.Common.{slice_get, AreMet, AreNamesMet, AreNamesNoted, AreNoted, AreStillNoted}
+use Rattle.ados_faults.proofs.Common.{◌≡◌, ◌<◌, ℕ, Some, slice_get, AreMet, AreNamesMet, AreNamesNoted, AreNoted, AreStillNoted}
 use Rattle.ados_faults.proofs.names.note_duplicates.Given as goal
 
 abbrev pub invariant-loop-dir : goal.invariant-loop-dir

@@ -1,6 +1,4 @@
-use Rattle.std.proofs.Common.{sym, ap, ◌∙◌}
-use Rattle.ados_faults.proofs.Common.{same_Some, named_of}
-use Rattle.ados_faults.specs.declared.names.Named.{Named}
+use Rattle.ados_faults.proofs.Common.{sym, ap, ◌∙◌, same_Some, named_of, Named}
 use Rattle.ados_faults.proofs.Sameness.{met_here, name_met, names_kept, names_more}
 use Rattle.ados_faults.proofs.names.note_name.Goals as goal
 use Rattle.ados_faults.proofs.names.note_name.Goals.{in_default-via-in-Some+else-named-dir, in_default-via-in_default}

@@ -1,5 +1,4 @@
-use Rattle.std.proofs.Common.{◌≡◌, ℕ, Option, None, Some, get_or, sym, ap, subst, arith, ◌∙◌}
-use Rattle.ados_faults.proofs.Common.{slice_get, same_Some, slice_get-get_or, IsNameMet}
+use Rattle.ados_faults.proofs.Common.{◌≡◌, ℕ, Option, None, Some, get_or, sym, ap, subst, arith, ◌∙◌, slice_get, same_Some, slice_get-get_or, IsNameMet}
 use Rattle.ados_faults.proofs.Cells.{noted_on}
 use Rattle.ados_faults.proofs.Sameness.{first_met_more, first_met_none, has_name_of, names_noted}
 use Rattle.ados_faults.proofs.names.note_names.Goals as goal

@@ -1,6 +1,4 @@
-use Rattle.std.proofs.Common.{◌≡◌, ◌+◌, ◌-◌, ◌^◌, ◌<◌, ℕ, List, length, take, flat_map, slice_index, refl, sym, ap, subst, arith, ◌∙◌}
-use Rattle.ados_faults.proofs.Common.{length-take-le, take_all, slice_get_past, pointers_of, slice_get, IsPiece, ArePlacesNoted}
-use Rattle.ados_faults.specs.declared.pieces.Piece.{Piece}
+use Rattle.ados_faults.proofs.Common.{flat_map, ◌≡◌, ◌+◌, ◌-◌, ◌^◌, ◌<◌, ℕ, List, length, take, slice_index, refl, sym, ap, subst, arith, ◌∙◌, length-take-le, take_all, slice_get_past, pointers_of, slice_get, IsPiece, ArePlacesNoted, Piece}
 use Rattle.ados_faults.proofs.Cells.{noted_on}
 use Rattle.ados_faults.proofs.ByHeaders.{first_there, flat_few, length_before, piece_of, places_back}
 use Rattle.ados_faults.proofs.pieces.look_along.Goals as goal

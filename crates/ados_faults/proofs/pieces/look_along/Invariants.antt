@@ -1,5 +1,4 @@
-use Rattle.std.proofs.Common.{◌≡◌, ◌-◌, length, take, flat_map}
-use Rattle.ados_faults.proofs.Common.{slice_get, pointers_of, AreAllSeen, ArePlacesNoted, AreNoted, AreStillNoted}
+use Rattle.ados_faults.proofs.Common.{flat_map, ◌≡◌, ◌-◌, length, take, slice_get, pointers_of, AreAllSeen, ArePlacesNoted, AreNoted, AreStillNoted}
 use Rattle.ados_faults.proofs.pieces.look_along.Given as goal
 
 abbrev pub invariant-loop-passed : goal.invariant-loop-passed

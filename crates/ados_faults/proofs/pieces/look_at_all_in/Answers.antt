@@ -1,4 +1,4 @@
-use Rattle.std.proofs.Common.{arith, below_more}
+use Rattle.ados_faults.proofs.Common.{arith, below_more}
 use Rattle.ados_faults.proofs.ByHeaders.{one_on}
 use Rattle.ados_faults.proofs.Cells.{noted_on}
 use Rattle.ados_faults.proofs.pieces.look_at_all_in.Goals as goal

@@ -1,5 +1,4 @@
-use Rattle.std.proofs.Common.{◌<◌, ℕ}
-use Rattle.ados_faults.proofs.Common.{IsOneNoted, AreNoted, AreStillNoted}
+use Rattle.ados_faults.proofs.Common.{◌<◌, ℕ, IsOneNoted, AreNoted, AreStillNoted}
 use Rattle.ados_faults.proofs.pieces.look_at_all_in.Given as goal
 
 abbrev pub invariant-loop-i : goal.invariant-loop-i

@@ -1,5 +1,4 @@
-use Rattle.std.proofs.Common.{◌≡◌, ◌+◌, ℕ, Option, slice_index, sym, ap, subst, arith, ◌∙◌}
-use Rattle.ados_faults.proofs.Common.{slice_get, InImage, pointers_of, IsPlaceNoted}
+use Rattle.ados_faults.proofs.Common.{◌≡◌, ◌+◌, ℕ, Option, slice_index, sym, ap, subst, arith, ◌∙◌, slice_get, InImage, pointers_of, IsPlaceNoted}
 use Rattle.ados_faults.proofs.ByHeaders.{next_there, pointer_at}
 use Rattle.ados_faults.proofs.pieces.look_at_one.Goals as goal
 

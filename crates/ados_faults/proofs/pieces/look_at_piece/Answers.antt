@@ -1,5 +1,4 @@
-use Rattle.std.proofs.Common.{◌≡◌, ◌<◌, ℕ, None, Some, get_or, length, sym, ap, arith, ◌∙◌}
-use Rattle.ados_faults.proofs.Common.{slice_get, slice_get-get_or}
+use Rattle.ados_faults.proofs.Common.{◌≡◌, ◌<◌, ℕ, None, Some, get_or, length, sym, ap, arith, ◌∙◌, slice_get, slice_get-get_or}
 use Rattle.ados_faults.proofs.ByHeaders.{all_seen_more, all_seen_on, first_pointer, known_piece, none_first, seen_now}
 use Rattle.ados_faults.proofs.pieces.look_at_piece.Goals as goal
 

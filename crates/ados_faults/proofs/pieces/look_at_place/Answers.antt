@@ -1,6 +1,4 @@
-use Rattle.std.proofs.Common.{get_or, sym, subst, arith}
-use Rattle.ados_faults.proofs.Common.{take_all, All-more, All-weaker, All, BreaksRule, SourceView, Sequence, FaultKind, Shows, IsRuleNoted, IsNoted, cell_of}
-use Rattle.ados_check.specs.declared.data_rules.TheConstants.{DATA_RULES}
+use Rattle.ados_faults.proofs.Common.{get_or, sym, subst, arith, take_all, All-more, All-weaker, All, BreaksRule, SourceView, Sequence, FaultKind, Shows, IsRuleNoted, IsNoted, cell_of, DATA_RULES}
 use Rattle.ados_check.proofs.DataRuling.{data_shows, each_rule}
 use Rattle.ados_faults.proofs.Cells.{noted_on}
 use Rattle.ados_faults.proofs.pieces.look_at_place.Goals as goal

@@ -1,6 +1,4 @@
-use Rattle.std.proofs.Common.{All, take}
-use Rattle.ados_faults.proofs.Common.{IsRuleNoted, AreNoted, AreStillNoted}
-use Rattle.ados_check.specs.declared.data_rules.TheConstants.{DATA_RULES}
+use Rattle.ados_faults.proofs.Common.{All, take, IsRuleNoted, AreNoted, AreStillNoted, DATA_RULES}
 use Rattle.ados_faults.proofs.pieces.look_at_place.Given as goal
 
 abbrev pub invariant-loop-rule : goal.invariant-loop-rule

@@ -1,4 +1,4 @@
-use Rattle.std.proofs.Common.{◌+◌, ◌<◌, ℕ, Some, sym, ap, arith, ◌∙◌}
+use Rattle.ados_faults.proofs.Common.{◌+◌, ◌<◌, ℕ, Some, sym, ap, arith, ◌∙◌}
 use Rattle.ados_faults.proofs.ByHeaders.{next_of_inner, next_of_last, pointer_at}
 use Rattle.ados_faults.proofs.pieces.next_of.Goals as goal
 

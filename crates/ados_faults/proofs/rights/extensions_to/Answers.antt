@@ -1,5 +1,4 @@
-use Rattle.std.proofs.Common.{◌<◌, ap, sym, ◌∙◌, arith}
-use Rattle.ados_faults.proofs.Common.{block_count, is_extension}
+use Rattle.ados_faults.proofs.Common.{◌<◌, ap, sym, ◌∙◌, arith, block_count, is_extension}
 use Rattle.ados_faults.proofs.Above.{one_on}
 use Rattle.ados_faults.proofs.rights.extensions_to.Goals as goal
 

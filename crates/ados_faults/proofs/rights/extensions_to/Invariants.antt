@@ -1,5 +1,4 @@
-use Rattle.std.proofs.Common.{◌≡◌, ◌+◌, ◌-◌}
-use Rattle.ados_faults.proofs.Common.{option_map, block_count, extensions_to}
+use Rattle.ados_faults.proofs.Common.{◌≡◌, ◌+◌, ◌-◌, option_map, block_count, extensions_to}
 use Rattle.ados_faults.proofs.rights.extensions_to.Given as goal
 
 abbrev pub invariant-loop-passed : goal.invariant-loop-passed

@@ -1,5 +1,4 @@
-use Rattle.std.proofs.Common.{ℕ, ◌+◌, ◌*◌, ◌<◌}
-use Rattle.ados_faults.specs.Values.{IsSeparatorAt}
+use Rattle.ados_faults.proofs.Common.{ℕ, ◌+◌, ◌*◌, ◌<◌, IsSeparatorAt}
 use Rattle.ados_faults.proofs.rights.has_wrong_name.Given as goal
 
 abbrev pub invariant-loop-k : goal.invariant-loop-k

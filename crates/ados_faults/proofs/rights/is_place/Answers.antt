@@ -1,5 +1,4 @@
-use Rattle.std.proofs.Common.{◌≡◌, Some, None, refl, sym, subst, ◌∙◌}
-use Rattle.ados_faults.proofs.Common.{SourceView, IsPlace}
+use Rattle.ados_faults.proofs.Common.{◌≡◌, Some, None, refl, sym, subst, ◌∙◌, SourceView, IsPlace}
 use Rattle.ados_faults.proofs.rights.is_place.Goals as goal
 
 pub returns-in-Some : goal.returns-in-Some

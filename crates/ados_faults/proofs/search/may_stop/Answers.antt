@@ -1,5 +1,4 @@
-use Rattle.std.proofs.Common.{not, inl, inr, sym, ap, ◌∙◌}
-use Rattle.std.proofs.lemmas.Bool.{cases_Bool, false≢true}
+use Rattle.ados_faults.proofs.Common.{not, inl, inr, sym, ap, ◌∙◌, cases_Bool, false≢true}
 use Rattle.ados_faults.proofs.search.may_stop.Goals as goal
 
 pub returns-clause-more : goal.returns-clause-more

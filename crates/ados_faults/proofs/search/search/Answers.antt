@@ -1,5 +1,4 @@
-use Rattle.std.proofs.Common.{List, length, subst}
-use Rattle.ados_faults.proofs.Common.{Step, AreLookedAt, AreStillNoted}
+use Rattle.ados_faults.proofs.Common.{List, length, subst, Step, AreLookedAt, AreStillNoted}
 use Rattle.ados_faults.proofs.AtSteps.{AreStepsNoted, free_noted}
 use Rattle.ados_faults.proofs.Cells.{noted_on}
 use Rattle.ados_faults.proofs.Each.{each_noted}

@@ -1,5 +1,4 @@
-use Rattle.std.proofs.Common.{ℕ, List, sym, subst, arith}
-use Rattle.ados_faults.proofs.Common.{Root, InImage, Reached, start, Step, ArePairs}
+use Rattle.ados_faults.proofs.Common.{ℕ, List, sym, subst, arith, Root, InImage, Reached, start, Step, ArePairs}
 use Rattle.ados_faults.proofs.Insides.{root_inside}
 use Rattle.ados_faults.proofs.Pairing.{no_pairs, tangled}
 use Rattle.ados_faults.proofs.tangled.is_tangled.Goals as goal

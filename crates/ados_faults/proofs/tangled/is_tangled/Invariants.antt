@@ -1,4 +1,4 @@
-use Rattle.ados_faults.specs.steps.Pairs.{ArePairs}
+use Rattle.ados_faults.proofs.Common.{ArePairs}
 use Rattle.ados_faults.proofs.tangled.is_tangled.Given as goal
 
 abbrev pub invariant-loop-i : goal.invariant-loop-i

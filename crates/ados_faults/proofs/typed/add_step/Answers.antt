@@ -1,5 +1,4 @@
-use Rattle.std.proofs.Common.{inl, inr, sym, subst, ◌∙◌}
-use Rattle.ados_faults.proofs.Common.{Reached, IsOfType, only_root}
+use Rattle.ados_faults.proofs.Common.{inl, inr, sym, subst, ◌∙◌, Reached, IsOfType, only_root}
 use Rattle.ados_faults.proofs.Enumerated.{grown_all}
 use Rattle.ados_faults.proofs.typed.add_step.Goals as goal
 use Rattle.ados_faults.proofs.typed.add_step.Goals.{in-Root, in-Entry}

@@ -1,5 +1,4 @@
-use Rattle.std.proofs.Common.{get_or, sym, subst, arith}
-use Rattle.ados_faults.proofs.Common.{All, Contains, slice_get-get_or, Root, Step, HasTypeAs, IsOfType, step_of}
+use Rattle.ados_faults.proofs.Common.{get_or, sym, subst, arith, All, Contains, slice_get-get_or, Root, Step, HasTypeAs, IsOfType, step_of}
 use Rattle.ados_faults.proofs.Enumerated.{all_of_type, grown_contains}
 use Rattle.ados_faults.proofs.Firsts.{one_more}
 use Rattle.ados_faults.proofs.typed.blocks_of_type.Goals as goal

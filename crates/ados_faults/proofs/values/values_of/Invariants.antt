@@ -1,5 +1,4 @@
-use Rattle.std.proofs.Common.{ℕ, ◌<◌}
-use Rattle.ados_faults.specs.Values.{ShowsAt}
+use Rattle.ados_faults.proofs.Common.{ℕ, ◌<◌, ShowsAt}
 use Rattle.ados_faults.proofs.values.values_of.Given as goal
 
 abbrev pub invariant-loop-i : goal.invariant-loop-i

@@ -1,5 +1,4 @@
-use Rattle.std.proofs.Common.{◌≡◌, ◌<◌, length, Some, refl, arith}
-use Rattle.ados_faults.proofs.Common.{slice_get, slice_get_read}
+use Rattle.ados_faults.proofs.Common.{◌≡◌, ◌<◌, length, Some, refl, arith, slice_get, slice_get_read}
 use Rattle.ados_faults.proofs.Closing.{all_covered, closed, outside_noted, twice_noted, visited_more}
 use Rattle.ados_faults.proofs.walk.walked.Goals as goal
 

@@ -1,5 +1,4 @@
-use Rattle.std.proofs.Common.{◌-◌, ◌^◌}
-use Rattle.ados_faults.specs.steps.Walked.{AreVisited, IsWalked}
+use Rattle.ados_faults.proofs.Common.{◌-◌, ◌^◌, AreVisited, IsWalked}
 use Rattle.ados_faults.proofs.walk.walked.Given as goal
 
 abbrev pub invariant-loop-i : goal.invariant-loop-i

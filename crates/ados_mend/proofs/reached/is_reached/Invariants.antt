@@ -1,5 +1,5 @@
 use Rattle.std.proofs.Common.{◌≡◌, ℕ, ◌+◌, ◌*◌, ◌<◌, false}
-use Rattle.ados_mend.specs.steps.Accounting.{mark_at}
+use Rattle.ados_sound.specs.Marks.{mark_at}
 use Rattle.ados_mend.proofs.reached.is_reached.Given as goal
 
 abbrev pub invariant-loop-form : goal.invariant-loop-form

@@ -1,6 +1,4 @@
-use Rattle.std.proofs.Common.{refl}
-use Rattle.adf_block.specs.declared.layout.Format.TheVariants.{Ofs}
-use Rattle.ados_name.specs.Name.{steps, steps_along}
+use Rattle.ados_model.proofs.Common.{refl, Ofs, steps, steps_along}
 use Rattle.ados_model.proofs.SmallImages.{stands}
 use Rattle.ados_model.proofs.witness.ofs_image_stands.Goals as goal
 

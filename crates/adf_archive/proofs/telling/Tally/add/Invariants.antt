@@ -1,5 +1,5 @@
 use Rattle.std.proofs.Common.{◌≡◌, take}
-use Rattle.adf_archive.specs.Status.{tallied}
+use Rattle.adf_archive.proofs.Common.{tallied}
 use Rattle.adf_archive.proofs.telling.Tally.add.Given as goal
 
 -- the status of the reports before this one

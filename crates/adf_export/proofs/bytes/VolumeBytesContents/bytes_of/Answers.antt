@@ -1,8 +1,6 @@
-use Rattle.std.proofs.Common.{◌≡◌, ℕ, ◌≤◌, inl, inr, Option, None, Some, List, length, Vec, Result, Ok, Err, IfOk, IfSome, slice_get, refl, sym, ap, ◌∙◌, subst, arith}
+use Rattle.adf_export.proofs.Common.{◌≡◌, ℕ, ◌≤◌, inl, inr, Option, None, Some, List, length, Vec, Result, Ok, Err, IfOk, IfSome, slice_get, refl, sym, ap, ◌∙◌, subst, arith, Stands, Tree, IfOk-weaker, Source, Note, AreBytesOf, Entry}
 use Rattle.std.specs.declared.alloc.Global.{Global}
 use Rattle.std.proofs.lemmas.Option.{slice_get_cases, slice_get_read}
-use Rattle.adf_export.proofs.Common.{Stands, Tree, IfOk-weaker, Source, Note, AreBytesOf}
-use Rattle.adf_export.specs.declared.entry.Source.TheVariants.{Entry}
 use Rattle.adf_export.specs.Bytes.{BytesView}
 use Rattle.adf_export.proofs.bytes.VolumeBytesContents.bytes_of.Goals.{in-Some-Entry, in-Some-Note, in-None}
 use Rattle.adf_export.proofs.bytes.VolumeBytesContents.bytes_of.Goals as goal

@@ -1,7 +1,5 @@
-use Rattle.std.proofs.Common.{refl, ap, ◌∙◌}
-use Rattle.adf_export.proofs.Common.{some_in, HostItem}
+use Rattle.adf_export.proofs.Common.{refl, ap, ◌∙◌, some_in, HostItem, note_of}
 use Rattle.host_trees.specs.declared.items.ItemKind.TheVariants as kinds
-use Rattle.host_trees.specs.Notes.{note_of}
 use Rattle.adf_export.proofs.Entries.{alone, source_alone, source_with_note, with_note}
 use Rattle.adf_export.proofs.entry.Outgoing.push_entry.Goals as goal
 

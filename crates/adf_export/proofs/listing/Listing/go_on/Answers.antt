@@ -1,5 +1,4 @@
-use Rattle.std.proofs.Common.{ℕ, ◌+◌, ◌++◌, List, [], ◌∷◌, drop, refl, sym, ap, ap₂, ◌∙◌, subst, arith}
-use Rattle.adf_export.proofs.Common.{false≢true, HasKey, FileInfo, name_in, Level, Listing, IsEntry}
+use Rattle.adf_export.proofs.Common.{ℕ, ◌+◌, ◌++◌, List, [], ◌∷◌, drop, refl, sym, ap, ap₂, ◌∙◌, subst, arith, false≢true, HasKey, FileInfo, name_in, Level, Listing, IsEntry}
 use Rattle.adf_export.proofs.Directories.{entry_in, told_file}
 use Rattle.adf_export.proofs.ListingSteps.{goes_to_entry, goes_up}
 use Rattle.adf_export.proofs.Left.{Takes, ends, next_inside, lists_file, lists_directory}

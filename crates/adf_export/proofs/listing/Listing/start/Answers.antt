@@ -1,5 +1,4 @@
-use Rattle.std.proofs.Common.{◌++◌, List, [], ◌∷◌, ap, ◌∙◌, arith}
-use Rattle.adf_export.proofs.Common.{some_in, Level}
+use Rattle.adf_export.proofs.Common.{◌++◌, List, [], ◌∷◌, ap, ◌∙◌, arith, some_in, Level}
 use Rattle.adf_export.proofs.Left.{starts}
 use Rattle.adf_export.proofs.Levels.{none_are, pushed_are}
 use Rattle.adf_export.proofs.listing.Listing.start.Goals as goal

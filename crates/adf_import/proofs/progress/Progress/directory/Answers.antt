@@ -1,5 +1,5 @@
 use Rattle.std.proofs.Common.{ℕ, ◌<◌, sym, ◌∙◌, subst}
-use Rattle.ados_model.specs.Keys.{HasDirectory}
+use Rattle.adf_import.proofs.Common.{HasDirectory}
 use Rattle.adf_import.proofs.progress.Progress.directory.Goals as goal
 
 pub returns-in-Some : goal.returns-in-Some

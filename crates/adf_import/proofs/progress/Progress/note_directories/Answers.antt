@@ -1,6 +1,4 @@
-use Rattle.std.proofs.lemmas.List.Elements.{All-weaker}
-use Rattle.ados_model.specs.Keys.{HasEntryKey}
-use Rattle.adf_import.specs.declared.progress.Made.{Made}
+use Rattle.adf_import.proofs.Common.{All-weaker, HasEntryKey, Made}
 use Rattle.adf_import.proofs.Keeping.{keeps_both}
 use Rattle.adf_import.proofs.progress.Progress.note_directories.Goals as goal
 

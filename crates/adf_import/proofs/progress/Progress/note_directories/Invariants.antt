@@ -1,6 +1,4 @@
-use Rattle.std.specs.Prelude.{All}
-use Rattle.ados_model.specs.Keys.{HasEntryKey}
-use Rattle.adf_import.specs.Put.{KeepsKeys}
+use Rattle.adf_import.proofs.Common.{All, HasEntryKey, KeepsKeys}
 use Rattle.adf_import.proofs.progress.Progress.note_directories.Given as goal
 
 -- each new directory is still an entry, and every entry and directory of the volume is still one

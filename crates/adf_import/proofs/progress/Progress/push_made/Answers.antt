@@ -1,8 +1,5 @@
 use Rattle.std.proofs.Common.{List, [], ◌∷◌, sym, subst}
-use Rattle.std.specs.Prelude.{All}
-use Rattle.std.proofs.lemmas.List.Elements.{All-append, All-cons, All-nil}
-use Rattle.ados_model.specs.Keys.{HasEntryKey}
-use Rattle.adf_import.specs.declared.progress.Made.{Made}
+use Rattle.adf_import.proofs.Common.{All, All-append, All-cons, All-nil, HasEntryKey, Made}
 use Rattle.adf_import.proofs.progress.Progress.push_made.Goals as goal
 
 pub returns : goal.returns

@@ -1,7 +1,7 @@
 use Rattle.std.proofs.Common.{inl, refl, ◌∙◌, ◌+◌, ap}
+use Rattle.ados_sound.proofs.Naming.{header_inside, header_looks}
 use Rattle.adf_salvage.proofs.Common.{broken_length, State}
 use Rattle.adf_salvage.proofs.Growing.{gathers_more}
-use Rattle.adf_salvage.proofs.Naming.{header_inside, header_looks}
 use Rattle.adf_salvage.proofs.gathered.Gathered.add.Goals as goal
 
 pub told_of-entry-requires : goal.told_of-entry-requires

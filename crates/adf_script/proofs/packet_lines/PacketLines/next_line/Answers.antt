@@ -1,4 +1,4 @@
-use Rattle.std.proofs.Common.{◌≡◌, ◌+◌, length, slice_get, sym, ◌∙◌, arith, rules}
+use Rattle.adf_script.proofs.Common.{◌≡◌, ◌+◌, length, slice_get, sym, ◌∙◌, arith, rules}
 use Rattle.adf_script.proofs.LineLemmas.{none_left, left-kept, line_here}
 use Rattle.adf_script.proofs.packet_lines.PacketLines.next_line.Goals as goal
 

@@ -1,6 +1,4 @@
-use Rattle.std.proofs.Common.{◌≡◌, ◌+◌, ◌<◌, ◌≤◌, ◌^◌, length}
-use Rattle.adf_script.specs.Lines.{kept_lines}
-use Rattle.adf_script.specs.steps.Left.{IsLeft}
+use Rattle.adf_script.proofs.Common.{◌≡◌, ◌+◌, ◌<◌, ◌≤◌, ◌^◌, length, kept_lines, IsLeft}
 use Rattle.adf_script.proofs.packet_lines.PacketLines.next_line.Given as goal
 
 abbrev pub invariant-loop-self : goal.invariant-loop-self

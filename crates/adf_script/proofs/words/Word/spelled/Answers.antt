@@ -1,4 +1,4 @@
-use Rattle.std.proofs.Common.{arith}
+use Rattle.adf_script.proofs.Common.{arith}
 use Rattle.adf_script.proofs.WordList.{none_spelled}
 use Rattle.adf_script.proofs.words.Word.spelled.Goals as goal
 

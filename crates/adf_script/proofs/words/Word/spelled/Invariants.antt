@@ -1,7 +1,4 @@
-use Rattle.std.proofs.Common.{◌≢◌, ℕ, ◌<◌, get_or}
-use Rattle.adf_script.specs.steps.Words.{spelling}
-use Rattle.adf_script.specs.declared.words.Word.TheVariants.{Die}
-use Rattle.adf_script.specs.declared.words.TheConstants.Word.{ALL}
+use Rattle.adf_script.proofs.Common.{◌≢◌, ℕ, ◌<◌, get_or, spelling, Die, ALL}
 use Rattle.adf_script.proofs.words.Word.spelled.Given as goal
 
 abbrev pub invariant-loop-word : goal.invariant-loop-word

@@ -1,10 +1,4 @@
-use Rattle.std.proofs.Common.{List, ◌++◌, ap, ◌∙◌}
-use Rattle.std.proofs.lemmas.Result.{on_ok_weaker}
-use Rattle.adf_record.proofs.Tokens.{behind}
-use Rattle.ados_mend.specs.declared.naming.Place.{Place}
-use Rattle.ados_model.specs.declared.fault.VolumeFault.{VolumeFault}
-use Rattle.adf_where.specs.Faulty.{fault_word, place_object}
-use Rattle.adf_where.specs.Where.{array_of}
+use Rattle.adf_where.proofs.Common.{List, ◌++◌, ap, ◌∙◌, on_ok_weaker, behind, Place, VolumeFault, fault_word, place_object, array_of}
 use Rattle.adf_where.proofs.faulty_objects.FaultyBlockPut.put.Goals as goal
 
 pub returns-clause-tokens : goal.returns-clause-tokens

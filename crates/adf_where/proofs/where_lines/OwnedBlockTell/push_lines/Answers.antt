@@ -1,6 +1,5 @@
-use Rattle.std.proofs.Common.{ℕ, List, [], ◌∷◌, ◌++◌, option_map, ap, ap₂, ◌∙◌}
+use Rattle.adf_where.proofs.Common.{ℕ, List, [], ◌∷◌, ◌++◌, option_map, ap, ap₂, ◌∙◌, owner_text, path_text, place_text, slash, span_text}
 use Rattle.std.specs.String.{string_bytes}
-use Rattle.adf_where.specs.Where.{owner_text, path_text, place_text, slash, span_text}
 use Rattle.adf_export.proofs.Padding.{six_pieces}
 use Rattle.adf_where.proofs.where_lines.OwnedBlockTell.push_lines.Goals as goal
 

@@ -1,15 +1,12 @@
-use Rattle.std.proofs.Common.{◌≡◌, ◌<◌, ◌≤◌, ◌++◌, ◌∷◌, [], ℕ, List, length, Contains, Option, None, Some, sym, ◌∙◌, subst, arith}
-use Rattle.adf_block.specs.Image.{block_count, page_count}
-use Rattle.ados_check.specs.declared.mark.Mark.{Mark}
-use Rattle.ados_check.specs.Marks.{mark_at}
-use Rattle.ados_check.specs.steps.Reaching.{IsBetween}
-use Rattle.ados_check.proofs.MarkLemmas.{marked_within, mark_read, pushed_has_new}
+use Rattle.std.proofs.lemmas.List.Elements.{Contains-push}
+use Rattle.ados_check.proofs.Common.{◌≡◌, ◌<◌, ◌≤◌, ◌++◌, ◌∷◌, [], ℕ, List, length, Contains, Option, None, Some, sym, ◌∙◌, subst, arith, block_count, page_count, Mark, mark_at, IsBetween}
+use Rattle.ados_check.proofs.MarkLemmas.{marked_within, mark_read}
 use Rattle.ados_check.proofs.Moves.{taken_up}
 use Rattle.ados_check.proofs.reaching.Progress.next.Goals as goal
 
 -- the last of the pending blocks is marked
 last_marked : (image : List ℕ) (marks : List (Option Mark)) (pending rest : List ℕ) (block : ℕ) → IsBetween image marks pending → pending ≡ rest ++ block ∷ [] → (mark : Mark) × (mark_at marks block ≡ Some mark)
-last_marked image marks pending rest block b e = b.waiting.marked block (subst (λ (xs : List ℕ). Contains xs block) (sym e) (pushed_has_new rest block))
+last_marked image marks pending rest block b e = b.waiting.marked block (subst (λ (xs : List ℕ). Contains xs block) (sym e) (Contains-push rest block))
 
 pub index-requires : goal.index-requires
 index-requires c =

@@ -1,9 +1,4 @@
-use Rattle.std.proofs.Common.{rules, ◌≡◌, ◌<◌, ℕ, length, None, Some, refl, sym, ◌∙◌, subst, arith}
-use Rattle.std.proofs.lemmas.Bool.{false≢true}
-use Rattle.std.proofs.lemmas.Option.{same_Some}
-use Rattle.adf_block.specs.Image.{long}
-use Rattle.ados_model.specs.Faults.{InImage, Reached, IsUsedTwice}
-use Rattle.ados_check.specs.Marks.{IsSound, mark_at}
+use Rattle.ados_check.proofs.Common.{rules, ◌≡◌, ◌<◌, ℕ, length, None, Some, refl, sym, ◌∙◌, subst, arith, false≢true, same_Some, long, InImage, Reached, IsUsedTwice, IsSound, mark_at}
 use Rattle.ados_check.proofs.MarkLemmas.{marked_within, mark_read, some_is, none_is}
 use Rattle.ados_check.proofs.Paths.{mark_of}
 use Rattle.ados_check.proofs.Moves.{skipped, took_at, took_unplaced, took_less, marked_less, reached_next, points_outside, used_twice}

@@ -1,5 +1,4 @@
-use Rattle.std.proofs.Common.{◌≡◌, ◌≤◌, vec_capacity}
-use Rattle.ados_check.specs.steps.Reaching.{IsInHand, work}
+use Rattle.ados_check.proofs.Common.{◌≡◌, ◌≤◌, vec_capacity, IsInHand, work}
 use Rattle.ados_check.proofs.reaching.Progress.pass_all.Given as goal
 
 abbrev pub invariant-loop-i : goal.invariant-loop-i

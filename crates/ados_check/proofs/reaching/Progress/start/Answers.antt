@@ -1,7 +1,4 @@
-use Rattle.std.proofs.Common.{rules, ◌<◌, ◌++◌, ◌∷◌, [], ℕ, List, ap, sym, ◌∙◌, subst, arith}
-use Rattle.ados_model.specs.declared.role.Role.TheVariants.{Root}
-use Rattle.ados_model.specs.Faults.{Reached}
-use Rattle.ados_model.specs.Faults.Reached.{start}
+use Rattle.ados_check.proofs.Common.{rules, ◌<◌, ◌++◌, ◌∷◌, [], ℕ, List, ap, sym, ◌∙◌, subst, arith, Root, Reached, start}
 use Rattle.ados_check.proofs.Moves.{begun_at}
 use Rattle.ados_check.proofs.reaching.Progress.start.Goals as goal
 

@@ -1,5 +1,4 @@
-use Rattle.std.proofs.Common.{◌≡◌, ℕ, ◌+◌, ◌-◌, List, take, drop, ap, ◌∙◌, subst, arith}
-use Rattle.ados_check.specs.Keeping.{AreKept}
+use Rattle.ados_check.proofs.Common.{◌≡◌, ℕ, ◌+◌, ◌-◌, List, take, drop, ap, ◌∙◌, subst, arith, AreKept}
 use Rattle.ados_check.proofs.Reading.{stands_at, block_there}
 use Rattle.ados_check.proofs.sketch.Sketch.block.Goals as goal
 

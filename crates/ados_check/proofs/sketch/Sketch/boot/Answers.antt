@@ -1,5 +1,4 @@
-use Rattle.std.proofs.Common.{subst}
-use Rattle.ados_check.specs.Keeping.{HasBoot}
+use Rattle.ados_check.proofs.Common.{subst, HasBoot}
 use Rattle.ados_check.proofs.Reading.{boot_there}
 use Rattle.ados_check.proofs.sketch.Sketch.boot.Goals as goal
 

@@ -1,6 +1,4 @@
-use Rattle.std.proofs.Common.{ℕ, ◌+◌, ◌*◌, List, drop, ap, ◌∙◌, subst}
-use Rattle.byteorder.specs.Endian.{big_number}
-use Rattle.ados_check.specs.Keeping.{AreKept}
+use Rattle.ados_check.proofs.Common.{ℕ, ◌+◌, ◌*◌, List, drop, ap, ◌∙◌, subst, big_number, AreKept}
 use Rattle.ados_check.proofs.Reading.{stands_at, long_there}
 use Rattle.ados_check.proofs.sketch.Sketch.long.Goals as goal
 

@@ -1,7 +1,5 @@
-use Rattle.std.proofs.Common.{◌≡◌, ℕ, ◌+◌, ◌-◌, ◌*◌, ◌++◌, List, take, drop, append_assoc, sym, ap, ap₂, ◌∙◌, subst, arith}
+use Rattle.ados_check.proofs.Common.{◌≡◌, ℕ, ◌+◌, ◌-◌, ◌*◌, ◌++◌, List, take, drop, append_assoc, sym, ap, ap₂, ◌∙◌, subst, arith, AreKept, all_bytes}
 use Rattle.std.proofs.Math.Seq.{take-add}
-use Rattle.ados_check.specs.Keeping.{AreKept}
-use Rattle.ados_check.specs.Pieces.{all_bytes}
 use Rattle.ados_check.proofs.sketch.Sketch.with.Goals as goal
 
 pub loop-place-preserved : goal.loop-place-preserved

@@ -1,6 +1,4 @@
-use Rattle.std.proofs.Common.{◌++◌, ◌*◌, take}
-use Rattle.ados_check.specs.Keeping.{AreKept}
-use Rattle.ados_check.specs.Pieces.{all_bytes}
+use Rattle.ados_check.proofs.Common.{◌++◌, ◌*◌, take, AreKept, all_bytes}
 use Rattle.ados_check.proofs.sketch.Sketch.with.Given as goal
 
 abbrev pub invariant-loop-place : goal.invariant-loop-place

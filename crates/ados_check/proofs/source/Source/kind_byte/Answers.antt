@@ -1,8 +1,4 @@
-use Rattle.std.proofs.Common.{ℕ, List, slice_index, sym, ap, ◌∙◌, arith}
-use Rattle.adf_block.specs.Image.{byte_at}
-use Rattle.adf_block.proofs.Blocks.{byte-bytes_at}
-use Rattle.ados_check.specs.Kept.{seen}
-use Rattle.ados_check.specs.Source.{SourceView}
+use Rattle.ados_check.proofs.Common.{ℕ, List, slice_index, sym, ap, ◌∙◌, arith, byte_at, byte-bytes_at, seen, SourceView}
 use Rattle.ados_check.proofs.source.Source.kind_byte.Goals as goal
 
 pub returns-in-Sketch : goal.returns-in-Sketch

@@ -1,7 +1,4 @@
-use Rattle.std.proofs.Common.{◌≡◌, sym, ap, ◌∙◌, arith}
-use Rattle.adf_block.specs.Image.{byte_at, bytes_at}
-use Rattle.ados_check.specs.Kept.{seen}
-use Rattle.ados_check.specs.Source.{SourceView}
+use Rattle.ados_check.proofs.Common.{◌≡◌, sym, ap, ◌∙◌, arith, byte_at, bytes_at, seen, SourceView}
 use Rattle.ados_check.proofs.NameLemmas.{text_is}
 use Rattle.ados_check.proofs.source.Source.short_text.Goals as goal
 

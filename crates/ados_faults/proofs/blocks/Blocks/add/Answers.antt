@@ -1,5 +1,4 @@
-use Rattle.std.proofs.Common.{◌<◌, ℕ, List, length, true, inl, inr, set, refl, sym, subst, arith, ◌∙◌}
-use Rattle.ados_faults.proofs.Common.{Contains, false≢true, Contains-push, AreMet}
+use Rattle.ados_faults.proofs.Common.{◌<◌, ℕ, List, length, true, inl, inr, set, refl, sym, subst, arith, ◌∙◌, Contains, false≢true, Contains-push, AreMet}
 use Rattle.ados_faults.proofs.Enumerated.{cell_read, met_more}
 use Rattle.ados_faults.proofs.blocks.Blocks.add.Goals as goal
 

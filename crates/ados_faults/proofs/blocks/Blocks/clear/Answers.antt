@@ -1,5 +1,4 @@
-use Rattle.std.proofs.Common.{arith}
-use Rattle.std.proofs.lemmas.Grind.{common_steps}
+use Rattle.ados_faults.proofs.Common.{arith, common_steps}
 use Rattle.ados_faults.proofs.Enumerated.{left_all, left_less, left_none}
 use Rattle.ados_faults.proofs.blocks.Blocks.clear.Goals as goal
 

@@ -1,4 +1,4 @@
-use Rattle.std.proofs.Common.{length}
+use Rattle.ados_faults.proofs.Common.{length}
 use Rattle.ados_faults.proofs.Enumerated.{AreLeft}
 use Rattle.ados_faults.proofs.blocks.Blocks.clear.Given as goal
 

@@ -1,5 +1,4 @@
-use Rattle.std.proofs.Common.{rules, sym, subst}
-use Rattle.ados_faults.specs.steps.Blocks.{AreMet}
+use Rattle.ados_faults.proofs.Common.{rules, sym, subst, AreMet}
 use Rattle.ados_faults.proofs.Enumerated.{met_none}
 use Rattle.ados_faults.proofs.blocks.Blocks.none.Goals as goal
 

@@ -1,5 +1,4 @@
-use Rattle.std.proofs.Common.{◌≡◌, ◌<◌, ◌+◌, false, true, length, get_or, sym, subst, ◌∙◌, arith}
-use Rattle.ados_faults.proofs.Common.{get_or_default, AreListed}
+use Rattle.ados_faults.proofs.Common.{◌≡◌, ◌<◌, ◌+◌, false, true, length, get_or, sym, subst, ◌∙◌, arith, get_or_default, AreListed}
 use Rattle.ados_faults.proofs.Cells.{all_listed, listed_full, listed_more, none_listed, set_within}
 use Rattle.ados_faults.proofs.notes.Notes.listed.Goals as goal
 

@@ -1,4 +1,4 @@
-use Rattle.ados_faults.specs.steps.Noted.{AreListed}
+use Rattle.ados_faults.proofs.Common.{AreListed}
 use Rattle.ados_faults.proofs.notes.Notes.listed.Given as goal
 
 abbrev pub invariant-loop-cell : goal.invariant-loop-cell

@@ -1,5 +1,4 @@
-use Rattle.std.proofs.Common.{ℕ, ◌+◌, ◌*◌, true, set, sym, subst}
-use Rattle.ados_faults.specs.steps.Noted.{AreNoted, AreStillNoted, IsNoted, cell_of}
+use Rattle.ados_faults.proofs.Common.{ℕ, ◌+◌, ◌*◌, true, set, sym, subst, AreNoted, AreStillNoted, IsNoted, cell_of}
 use Rattle.ados_faults.proofs.Cells.{noted_more, noted_here, still_noted}
 use Rattle.ados_faults.proofs.notes.Notes.note.Goals as goal
 

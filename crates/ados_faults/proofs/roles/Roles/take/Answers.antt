@@ -1,5 +1,4 @@
-use Rattle.std.proofs.Common.{refl, sym, subst}
-use Rattle.ados_faults.proofs.Common.{Role, Page, Entry, Data, Extension, Bitmap, Directory, Slot, DataFile, ExtensionFile, AreCoveredBy, IsListed, step_of}
+use Rattle.ados_faults.proofs.Common.{refl, sym, subst, Role, Page, Entry, Data, Extension, Bitmap, Directory, Slot, DataFile, ExtensionFile, AreCoveredBy, IsListed, step_of}
 use Rattle.ados_faults.proofs.Covering.{data_covered, extension_covered, number_here, page_covered, root_covered}
 use Rattle.ados_faults.proofs.roles.Roles.take.Goals as goal
 

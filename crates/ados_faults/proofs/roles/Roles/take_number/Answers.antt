@@ -1,5 +1,4 @@
-use Rattle.std.proofs.Common.{ℕ, ◌≡◌, ◌<◌, ◌+◌, ◌*◌, length, true, set, sym, ap, subst, ◌∙◌, arith}
-use Rattle.ados_faults.proofs.Common.{Taken, AreBacked, lacks, part_rank, taken_at, with_number}
+use Rattle.ados_faults.proofs.Common.{ℕ, ◌≡◌, ◌<◌, ◌+◌, ◌*◌, length, true, set, sym, ap, subst, ◌∙◌, arith, Taken, AreBacked, lacks, part_rank, taken_at, with_number}
 use Rattle.ados_faults.proofs.Covering.{backed_set, covered_old, part_small, taken_read}
 use Rattle.ados_faults.proofs.roles.Roles.take_number.Goals as goal
 

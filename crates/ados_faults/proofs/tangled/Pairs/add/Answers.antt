@@ -1,7 +1,4 @@
-use Rattle.std.proofs.Common.{false, true, sym, subst, ◌≡◌, cond, List, ◌∙◌}
-use Rattle.std.specs.BTreeSet.{contains}
-use Rattle.ados_faults.proofs.Common.{is_at, Step, ArePairs, key_cmp}
-use Rattle.ados_faults.specs.declared.tangled.StepKey.{StepKey}
+use Rattle.ados_faults.proofs.Common.{false, true, sym, subst, ◌≡◌, cond, List, ◌∙◌, contains, is_at, Step, ArePairs, key_cmp, StepKey}
 use Rattle.ados_faults.proofs.Pairing.{one_pair}
 use Rattle.ados_faults.proofs.tangled.Pairs.add.Goals as goal
 

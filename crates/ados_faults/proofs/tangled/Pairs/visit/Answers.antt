@@ -1,5 +1,4 @@
-use Rattle.std.proofs.Common.{ap, refl}
-use Rattle.ados_check.specs.Source.{SourceView}
+use Rattle.ados_faults.proofs.Common.{ap, refl, SourceView}
 use Rattle.ados_faults.proofs.Insides.{named_at}
 use Rattle.ados_faults.proofs.tangled.Pairs.visit.Goals as goal
 

@@ -1,4 +1,4 @@
-use Rattle.std.proofs.Common.{arith, below_more}
+use Rattle.ados_faults.proofs.Common.{arith, below_more}
 use Rattle.ados_faults.proofs.Closing.{kept_on, kept_same, passed_below, passed_on, visited_by}
 use Rattle.ados_faults.proofs.walk.Walk.go_through.Goals as goal
 

@@ -1,5 +1,4 @@
-use Rattle.std.proofs.Common.{ℕ, ◌<◌}
-use Rattle.ados_faults.specs.steps.Walked.{AreKept, IsPassed, IsWalked}
+use Rattle.ados_faults.proofs.Common.{ℕ, ◌<◌, AreKept, IsPassed, IsWalked}
 use Rattle.ados_faults.proofs.walk.Walk.go_through.Given as goal
 
 abbrev pub invariant-loop-i : goal.invariant-loop-i

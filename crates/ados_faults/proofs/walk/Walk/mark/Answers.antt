@@ -1,5 +1,4 @@
-use Rattle.std.proofs.Common.{◌<◌, ◌≡◌, None, Some, length, refl, arith, ◌∙◌}
-use Rattle.ados_faults.proofs.Common.{mark_at, mark_read}
+use Rattle.ados_faults.proofs.Common.{◌<◌, ◌≡◌, None, Some, length, refl, arith, ◌∙◌, mark_at, mark_read}
 use Rattle.ados_faults.proofs.Closing.{mark_stays, marked_by_it, marked_first, marked_here}
 use Rattle.ados_faults.proofs.Doubles.{used_twice}
 use Rattle.ados_faults.proofs.walk.Walk.mark.Goals as goal

@@ -1,5 +1,4 @@
-use Rattle.std.proofs.Common.{rules, List, [], ◌∷◌, ◌++◌, ap, ◌∙◌}
-use Rattle.ados_faults.proofs.Common.{Step, root_step}
+use Rattle.ados_faults.proofs.Common.{rules, List, [], ◌∷◌, ◌++◌, ap, ◌∙◌, Step, root_step}
 use Rattle.ados_faults.proofs.Doubles.{started}
 use Rattle.ados_faults.proofs.walk.Walk.start.Goals as goal
 

@@ -1,5 +1,4 @@
-use Rattle.std.proofs.Common.{refl, arith, List, [], ◌∷◌, ◌++◌, sym, subst}
-use Rattle.ados_faults.proofs.Common.{Taken, Step, AreCoveredBy, step_of, IsWalked}
+use Rattle.ados_faults.proofs.Common.{refl, arith, List, [], ◌∷◌, ◌++◌, sym, subst, Taken, Step, AreCoveredBy, step_of, IsWalked}
 use Rattle.ados_faults.proofs.Closing.{backed_push, kept_push, pushed_there, took}
 use Rattle.ados_faults.proofs.Covering.{covered_here}
 use Rattle.ados_faults.proofs.walk.Walk.take.Goals as goal

@@ -1,5 +1,4 @@
-use Rattle.std.proofs.Common.{ap, refl, sym, subst, ◌∙◌}
-use Rattle.ados_faults.proofs.Common.{false≢true, SourceView, InImage, IsPlace}
+use Rattle.ados_faults.proofs.Common.{ap, refl, sym, subst, ◌∙◌, false≢true, SourceView, InImage, IsPlace}
 use Rattle.ados_model.specs.Faults.HasBadPointer.{outside}
 use Rattle.ados_faults.proofs.Insides.{named_at}
 use Rattle.ados_faults.proofs.walk.Walk.visit.Goals as goal

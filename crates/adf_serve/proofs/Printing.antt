@@ -1,0 +1,446 @@
+-- The output for an image, whole or in part.
+use Rattle.std.proofs.Common.{◌≡◌, ◌≢◌, ℕ, Bor, ◌⊎◌, inl, inr, Bool, true, false, List, [], ◌++◌, map, Option, Some, None, option_map, Ok, Err, IfErr, OnErr, OnOk, IsErrAnd, refl, sym, ap, ap₂, ◌∙◌, subst}
+use Rattle.std.specs.Prelude.{⊤}
+use Rattle.std.specs.Io.KnownBytes.{Appends, Keeps}
+use Rattle.std.proofs.KnownBytes.{Appends-nil, Keeps-refl}
+use Rattle.ados_model.specs.Accepted.{Accepts, HandsBack, IsRefusal}
+use Rattle.ados_model.specs.Faults.{Shows}
+use Rattle.ados_model.specs.Stands.{Stands}
+use Rattle.ados_model.specs.Tree.{Tree, bytes_of}
+use Rattle.ados_model.specs.declared.fault.FaultKind.TheVariants.{NoMemory}
+use Rattle.ados_model.specs.declared.answer.Answer.{Answer}
+use Rattle.ados_model.specs.declared.fault.VolumeFault.{VolumeFault}
+use Rattle.adf_io.specs.Prefix.{Writes, WritesFront, WritesFrontOf}
+use Rattle.adf_export.specs.Info.{info_text}
+use Rattle.adf_export.specs.Listing.{BeginsList, IsList}
+use Rattle.adf_words.specs.declared.job.ImageJob.{ImageJob}
+use Rattle.adf_words.specs.declared.job.ImageJob.TheVariants.{Blank}
+use Rattle.adf_export.specs.declared.fault.OutFault.{OutFault}
+use Rattle.adf_export.specs.declared.fault.OutFault.TheVariants as out
+use Rattle.adf_export.specs.Printing.{IsPrinted, IsPrintFault}
+use Rattle.adf_io.proofs.Prefixes.{writes_first}
+use Rattle.adf_serve.specs.declared.fault.CommandFault.{CommandFault}
+use Rattle.adf_serve.specs.declared.fault.CommandFault.TheVariants.{Dos, Extracted, ImagesRefused, Memory, NotChecked, NotWhole, Output, Refused}
+use Rattle.adf_serve.specs.declared.look.Look.{Look}
+use Rattle.adf_serve.specs.declared.refusal.Refusal.{Refusal}
+use Rattle.adf_serve.specs.declared.refusal.DosRefusal.{DosRefusal}
+use Rattle.adf_serve.specs.Texts.{AreDeletedLines, AreEntryBlocks, AreOwnedBlocks, BeginsJobText, BeginsListOf, BeginsListText, IsJobText, IsListed, IsListOf, IsListText, shown_form, IsLook, IsLookText, disk_answer, IsInfoText, IsPrintText}
+use Rattle.adf_serve.specs.Faults.{IsBlankFault, IsNoImage, IsNoImageRefusal, IsNoRefusal, IsRefusedFor, IsToldAs, IsToldOut}
+use Rattle.adf_serve.specs.Commands.{Does, DoesJob, Ending, EndsJob, EndsOff, LeavesOff, Prints, prints, Tells, TellsFault, TellsJob, TellsOf, TellsSome}
+use Rattle.adf_serve.specs.Commands.Prints.{OnlyFaults, OfBlocks, OfBytes, OfImages, OfRescue, Unsaid}
+use Rattle.std.proofs.lemmas.List.{append-nil}
+use Rattle.adf_archive.specs.Archive.{TellsArchive, told_in}
+use Rattle.adf_archive.specs.declared.fault.ArchiveFault.{ArchiveFault}
+use Rattle.adf_archive.specs.declared.fault.ArchiveFault.TheVariants as archive
+use Rattle.adf_archive.specs.Words.{kind_word}
+use Rattle.adf_words.specs.declared.query.CheckJob.{CheckJob}
+use Rattle.adf_words.specs.declared.query.ListForm.{ListForm}
+use Rattle.adf_words.specs.declared.query.ListJob.{ListJob}
+use Rattle.adf_words.specs.declared.query.ListOrder.{ListOrder}
+use Rattle.adf_words.specs.declared.query.WhereJob.{WhereJob}
+use Rattle.adf_words.specs.declared.query.UndeleteJob.{UndeleteJob}
+use Rattle.adf_rescue.specs.declared.undeleting.Undeletion.{Undeletion}
+use Rattle.adf_rescue.specs.Undelete.{IsUndeletion, key_of}
+use Rattle.adf_where.specs.Where.{IsWhere, IsWhereOf}
+use Rattle.adf_export.specs.Words.{LeadsTo}
+use Rattle.adf_serve.specs.Archives.{EndsArchive, IsToldArchive}
+use Rattle.adf_serve.specs.Placed.{DoesWhere, IsBareLine, IsUnplaced, IsWhereText, MayEnd}
+use Rattle.adf_serve.specs.Reports.{DoesReport, TellsReport}
+use Rattle.adf_serve.specs.Rescues.{IsHostEnd, IsRescueText, IsSizeLine}
+use Rattle.adf_serve.specs.Refusals.{dos_line, IsDosText, IsImageRefusal, IsRefusalText, IsSizeRefusal, refusal_line, refused_line, told_line}
+
+-- an image is refused, as the fault says
+pub refused_for : (image : List ℕ) (fault : VolumeFault) (told : CommandFault) → IsRefusal image fault → IsToldAs fault told → IsRefusedFor image told
+refused_for image fault (Refused refusal) refused (no_want, line) = (fault.kind, fault.block, shown refused, line)
+  where
+    shown : IsRefusal image fault → Shows image fault.kind fault.block
+    shown (inl shows) = shows
+    shown (inr want) = absurd (no_want want.0)
+refused_for image fault told refused t = t.0
+
+-- nothing is written for a refused image
+pub leaves_refused : (IsText : List ℕ → Type 0) (image : List ℕ) (w : Option (List ℕ)) (fault : CommandFault) → IsRefusedFor image fault → LeavesOff IsText image w w fault
+leaves_refused IsText image w (Refused refusal) h = (inr h, Keeps-refl w)
+leaves_refused IsText image w (Dos refusal) h = Keeps-refl w
+leaves_refused IsText image w fault h = inl (Keeps-refl w)
+
+-- a prefix of a text is written
+pub leaves_front : (IsText : List ℕ → Type 0) (image : List ℕ) (old new : Option (List ℕ)) (fault : CommandFault) → WritesFrontOf old new IsText → IsNoRefusal fault → LeavesOff IsText image old new fault
+leaves_front IsText image old new (Refused refusal) front plain = absurd (cc plain)
+leaves_front IsText image old new (Dos refusal) front plain = absurd (cc plain)
+leaves_front IsText image old new fault front plain = inr front
+
+-- a text is written, whole or as far as the writer accepts it
+pub told_text : (IsText : List ℕ → List ℕ → Type 0) (image : List ℕ) (old new : Option (List ℕ)) (text : List ℕ) (done : Ending) → IsText image text → OnOk done (Appends old new text)
+    → OnErr done (WritesFront old new text) → IfErr done IsNoRefusal → TellsOf IsText IsText image old new done
+told_text IsText image old new text (Ok x) is told front plain = (text, told, is)
+told_text IsText image old new text (Err fault) is told front plain = leaves_front (IsText image) image old new fault (text, is, front) plain
+
+-- nothing is written
+pub leaves_nothing : (IsText : List ℕ → Type 0) (image : List ℕ) (w : Option (List ℕ)) (fault : CommandFault) → IsNoRefusal fault → LeavesOff IsText image w w fault
+leaves_nothing IsText image w (Refused refusal) plain = absurd (cc plain)
+leaves_nothing IsText image w (Dos refusal) plain = Keeps-refl w
+leaves_nothing IsText image w fault plain = inl (Keeps-refl w)
+
+-- a fault other than a refused image leaves the output so far
+pub leaves_kept : (IsText : List ℕ → Type 0) (image : List ℕ) (old new : Option (List ℕ)) (fault : CommandFault) → IsNoImageRefusal fault → Keeps old new → LeavesOff IsText image old new fault
+leaves_kept IsText image old new (Refused refusal) plain keeps = absurd plain
+leaves_kept IsText image old new (Dos refusal) plain keeps = keeps
+leaves_kept IsText image old new fault plain keeps = inl keeps
+
+-- nothing is written for a path that leads nowhere
+pub tells_unlisted : (IsText BeginsText : List ℕ → List ℕ → Type 0) (image : List ℕ) (w : Option (List ℕ)) (fault : CommandFault) (done : Ending) → IsNoImageRefusal fault
+    → IsErrAnd done (λ told. told ≡ fault) → TellsOf IsText BeginsText image w w done
+tells_unlisted IsText BeginsText image w fault (Ok x) plain same = absurd same
+tells_unlisted IsText BeginsText image w fault (Err told) plain same = leaves_kept (BeginsText image) image w w told (subst IsNoImageRefusal (sym same) plain) (Keeps-refl w)
+
+-- nothing is written if no image was read
+no_image : (BeginsText : List ℕ → List ℕ → Type 0) (w : Option (List ℕ)) (fault : CommandFault) → IsNoImage fault → (bytes : List ℕ) × LeavesOff (BeginsText bytes) bytes w w fault
+no_image BeginsText w (Refused refusal) (bytes, is) = (bytes, (inl is, Keeps-refl w))
+no_image BeginsText w (Dos refusal) is = ([], Keeps-refl w)
+no_image BeginsText w fault is = ([], inl (Keeps-refl w))
+
+pub tells_no_image : (IsText BeginsText : List ℕ → List ℕ → Type 0) (w : Option (List ℕ)) (fault : CommandFault) (done : Ending) → IsNoImage fault
+    → IsErrAnd done (λ told. told ≡ fault) → TellsSome IsText BeginsText w w done
+tells_no_image IsText BeginsText w fault (Ok x) is same = absurd same
+tells_no_image IsText BeginsText w fault (Err told) is same = no_image BeginsText w told (subst IsNoImage (sym same) is)
+
+-- a blank image that is not made is not a refused one
+blank_plain : (s : Bool) (blocks : ℕ) (word : List ℕ) (fault : CommandFault) → IsBlankFault s blocks word fault → IsNoRefusal fault
+blank_plain s blocks word (Refused refusal) e = absurd (cc e)
+blank_plain s blocks word (Dos refusal) e = absurd (cc e)
+blank_plain s blocks word fault e = refl
+
+pub blank_no_refusal : (s : Bool) (blocks : ℕ) (word : List ℕ) (fault : CommandFault) (done : Ending) → IsBlankFault s blocks word fault
+    → IsErrAnd done (λ told. told ≡ fault) → IfErr done IsNoRefusal
+blank_no_refusal s blocks word fault (Ok x) e same = tt
+blank_no_refusal s blocks word fault (Err told) e same = subst IsNoRefusal (sym same) (blank_plain s blocks word fault e)
+
+accepted_tree : (image : List ℕ) (was_validated : Bool) (checked : List ℕ) → Accepts image was_validated checked → (t : Tree) × Stands checked t
+accepted_tree image false checked a = (a.3.0, a.3.1)
+accepted_tree image true checked a = (a.2.0, a.2.1)
+
+-- the list that a job asks for, and the beginning of one
+module _ (image : List ℕ) (job : ListJob) (styled : Bool) (form : ListForm) (same : form ≡ shown_form styled job.form) (old new : Option (List ℕ)) where
+  abbrev asked_path : Option (List ℕ)
+  asked_path = option_map (λ (word : Bor (List ℕ)). word.now) job.path
+
+  pub list_asked : Writes old new (IsListText asked_path form job.order image) → Writes old new (IsListOf job image)
+  list_asked (text, written, is) = (text, written, (styled, subst (λ (f : ListForm). IsListText asked_path f job.order image text) same is))
+
+  pub front_asked : WritesFrontOf old new (BeginsListText asked_path form job.order image) → WritesFrontOf old new (BeginsListOf job image)
+  front_asked (text, is, written) = (text, (styled, subst (λ (f : ListForm). BeginsListText asked_path f job.order image text) same is), written)
+
+-- for an accepted image
+module _ (image : List ℕ) (was_validated : Bool) (checked : List ℕ) (a : Accepts image was_validated checked) where
+  pub list_text : (path : Option (List ℕ)) (form : ListForm) (order : ListOrder) (key : ℕ) (old new : Option (List ℕ)) → ((t : Tree) → Stands checked t → IsListed t path key)
+      → ((t : Tree) → Stands checked t → Writes old new (IsList t order key form)) → Writes old new (IsListText path form order image)
+  list_text path form order key old new listed h =
+      let s = accepted_tree image was_validated checked a in
+      let w = h s.0 s.1 in (w.0, w.1, (was_validated, checked, s.0, a, s.1, (key, listed s.0 s.1, w.2)))
+
+  pub list_front : (path : Option (List ℕ)) (form : ListForm) (order : ListOrder) (key : ℕ) (old new : Option (List ℕ)) → ((t : Tree) → Stands checked t → IsListed t path key)
+      → ((t : Tree) → Stands checked t → WritesFrontOf old new (BeginsList t order key form)) → WritesFrontOf old new (BeginsListText path form order image)
+  list_front path form order key old new listed h =
+      let s = accepted_tree image was_validated checked a in
+      let w = h s.0 s.1 in (w.0, (was_validated, checked, s.0, a, s.1, (key, listed s.0 s.1, w.1)), w.2)
+
+  pub print_text : (word : List ℕ) (old new : Option (List ℕ)) → ((t : Tree) → Stands checked t → IsPrinted t word old new) → Writes old new (IsPrintText word image)
+  print_text word old new h =
+      let s = accepted_tree image was_validated checked a in
+      let w = h s.0 s.1 in (bytes_of s.0 w.0, w.3, (was_validated, checked, s.0, a, s.1, (w.0, w.1, w.2, refl)))
+
+  pub info_told : (answer : Answer) (shown : List ℕ) → ((t : Tree) → Stands checked t → answer ≡ disk_answer t) → shown ≡ checked → IsInfoText image (info_text answer shown)
+  info_told answer shown is same =
+      let s = accepted_tree image was_validated checked a in (was_validated, checked, s.0, a, s.1, ap₂ info_text (is s.0 s.1) same)
+
+  pub looked : (look : Look) (text : List ℕ) → ((t : Tree) → Stands checked t → IsLook look was_validated checked t text) → IsLookText look image text
+  looked look text is =
+      let s = accepted_tree image was_validated checked a in (was_validated, checked, s.0, a, s.1, is s.0 s.1)
+
+  pub blocks_told : (job : WhereJob) (text : List ℕ) → ((t : Tree) → Stands checked t → IsWhere job.json checked t job.blocks.items text) → AreOwnedBlocks job image text
+  blocks_told job text is =
+      let s = accepted_tree image was_validated checked a in (was_validated, checked, s.0, a, s.1, is s.0 s.1)
+
+  pub entry_told : (word : List ℕ) (key : ℕ) (text : List ℕ) → ((t : Tree) → Stands checked t → LeadsTo t word key) → ((t : Tree) → Stands checked t → IsWhereOf checked t key text)
+      → AreEntryBlocks word image text
+  entry_told word key text leads is =
+      let s = accepted_tree image was_validated checked a in (was_validated, checked, s.0, a, s.1, (key, leads s.0 s.1, is s.0 s.1))
+
+  pub print_fault : (word : List ℕ) (old new : Option (List ℕ)) (fault : OutFault) (told : CommandFault) → ((t : Tree) → Stands checked t → IsPrintFault t word old new fault)
+      → IsToldOut fault told → LeavesOff (IsPrintText word image) image old new told
+  print_fault word old new out.Output told h same =
+      let s = accepted_tree image was_validated checked a in
+      let w = h s.0 s.1 in
+      let bytes = bytes_of s.0 w.0 in
+      subst (λ (f : CommandFault). LeavesOff (IsPrintText word image) image old new f) (sym same)
+      (inr (bytes, (was_validated, checked, s.0, a, s.1, (w.0, w.1, w.2, refl)), writes_first old new w.3.0 bytes w.3.1))
+  print_fault word old new fault told h plain =
+      let s = accepted_tree image was_validated checked a in
+      leaves_kept (IsPrintText word image) image old new told plain (h s.0 s.1).0
+
+-- the lines of an undeletion are those of its image
+pub deleted_told : (image : List ℕ) (job : UndeleteJob) (done : Undeletion) → IsUndeletion image (map (λ word. key_of word.now) job.paths.items) job.force done → AreDeletedLines job image done.text.items
+deleted_told image job done is = record {
+  trusted = is.trusted;
+  found = done.found;
+  undeleted = is.found;
+  chosen = done.chosen.items;
+  are_chosen = is.chosen;
+  lines = is.text;
+}
+
+-- output after no output
+kept_appends : (a b c : Option (List ℕ)) (bytes : List ℕ) → Keeps a b → Appends b c bytes → Appends a c bytes
+kept_appends None b c bytes k w = tt
+kept_appends (Some x) None c bytes k w = absurd k
+kept_appends (Some x) (Some y) None bytes k w = absurd w
+kept_appends (Some x) (Some y) (Some z) bytes k w = w ∙ ap (λ (l : List ℕ). l ++ bytes) k
+
+-- a job without output when it succeeds
+abbrev pub PrintsNothing : ImageJob → Type 0
+PrintsNothing (Blank format blocks moment name as_letters file) = ⊤
+PrintsNothing job = ⊥
+
+pub job_silent : (job : ImageJob) (w : Option (List ℕ)) (done : Ending) → PrintsNothing job → IfErr done IsNoRefusal → DoesJob job w w done
+job_silent (Blank format blocks moment name as_letters file) w (Ok x) silent plain = ([], ([], Appends-nil w, refl))
+job_silent (Blank format blocks moment name as_letters file) w (Err fault) silent plain = ([], leaves_nothing (λ text. text ≡ []) [] w fault plain)
+job_silent job w done silent plain = absurd silent
+
+-- an option without a value, and one with a value
+pub none_told : {A : Type 0} (f : A → List ℕ) (o : Option A) (told : Option (List ℕ)) → option_map f o ≡ told → o ≡ None → told ≡ None
+none_told f o told e is = sym e ∙ ap (option_map f) is
+
+pub some_told : {A : Type 0} (f : A → List ℕ) (o : Option A) (x : A) (told : Option (List ℕ)) → option_map f o ≡ told → o ≡ Some x → told ≡ Some (f x)
+some_told f o x told e is = sym e ∙ ap (option_map f) is
+
+-- a text is a prefix of itself
+told_front : (old new : Option (List ℕ)) (text : List ℕ) → Appends old new text → WritesFront old new text
+told_front old new text told = (text, told, ([], sym (append-nil text)))
+
+-- the fault of a check of images, as that of the command
+pub archive_ends : (job : CheckJob) (old new : Option (List ℕ)) (fault : ArchiveFault) (told : CommandFault) → TellsArchive job old new (Err fault) → IsToldArchive fault told → EndsArchive job old new (Err told)
+archive_ends job old new archive.Refused told h same = subst (λ (f : CommandFault). EndsArchive job old new (Err f)) (sym same) h
+archive_ends job old new archive.NotChecked told h same = subst (λ (f : CommandFault). EndsArchive job old new (Err f)) (sym same) h
+archive_ends job old new archive.Output told h same = subst (λ (f : CommandFault). EndsArchive job old new (Err f)) (sym same) h
+archive_ends job old new archive.Memory told h same = subst (λ (f : CommandFault). EndsArchive job old new (Err f)) (sym same) h
+
+-- a check of images that ran out of memory
+archive_unsaid : (job : CheckJob) (old new : Option (List ℕ)) (fault : CommandFault) → EndsArchive job old new (Err fault) → EndsArchive job old new (Err Memory)
+archive_unsaid job old new ImagesRefused (archive, told, whole) = (archive, told_front old new (told_in archive) told)
+archive_unsaid job old new NotChecked (archive, told, whole) = (archive, told_front old new (told_in archive) told)
+archive_unsaid job old new Output front = front
+archive_unsaid job old new Memory front = front
+archive_unsaid job old new fault none = absurd none
+
+-- a report on an image
+module _ (IsText : Bool → List ℕ → Type 0) (IsPlain : List ℕ → Type 0) (MayEnd : CommandFault → Type 0) where
+  -- the fault has no line, or no memory for it
+  report_failed : (old new : Option (List ℕ)) (fault : CommandFault) → DoesReport IsText IsPlain MayEnd old new (Err fault) → IsNoRefusal fault → TellsReport IsText IsPlain MayEnd old new (Err fault)
+  report_failed old new NotWhole told plain = told
+  report_failed old new (Refused refusal) d plain = absurd (cc plain)
+  report_failed old new (Dos refusal) d plain = absurd (cc plain)
+  report_failed old new fault (may, inl keeps) plain = (may, inl keeps)
+  report_failed old new fault (may, inr (text, is, front)) plain = (may, inr (text, inl is, front))
+
+  report_unsaid : (old new : Option (List ℕ)) (fault : CommandFault) → MayEnd Memory → DoesReport IsText IsPlain MayEnd old new (Err fault) → TellsReport IsText IsPlain MayEnd old new (Err Memory)
+  report_unsaid old new NotWhole may d = (may, inr (d.0, inl (false, d.2), told_front old new d.0 d.1))
+  report_unsaid old new (Refused refusal) may d = (may, inl d.0)
+  report_unsaid old new (Dos refusal) may keeps = (may, inl keeps)
+  report_unsaid old new fault may (ends, inl keeps) = (may, inl keeps)
+  report_unsaid old new fault may (ends, inr (text, is, front)) = (may, inr (text, inl is, front))
+
+  -- nothing is written for a fault without a report
+  pub reports_nothing : (w : Option (List ℕ)) (fault : CommandFault) → IsNoRefusal fault → fault ≢ NotWhole → MayEnd fault → DoesReport IsText IsPlain MayEnd w w (Err fault)
+  reports_nothing w NotWhole plain other may = absurd (other refl)
+  reports_nothing w (Refused refusal) plain other may = absurd (cc plain)
+  reports_nothing w (Dos refusal) plain other may = Keeps-refl w
+  reports_nothing w fault plain other may = (may, inl (Keeps-refl w))
+
+  -- nothing is written if no image was read
+  no_image_reported : (w : Option (List ℕ)) (fault : CommandFault) → ((bytes text : List ℕ) → IsSizeRefusal bytes text → IsPlain text) → (IsNoImage fault → MayEnd fault) → IsNoImage fault
+      → DoesReport IsText IsPlain MayEnd w w (Err fault)
+  no_image_reported w NotWhole plain may is = absurd is
+  no_image_reported w (Refused refusal) plain may is = (Keeps-refl w, plain is.0 (refusal_line refusal) is.1)
+  no_image_reported w (Dos refusal) plain may is = Keeps-refl w
+  no_image_reported w fault plain may is = (may is, inl (Keeps-refl w))
+
+  pub reports_no_image : (w : Option (List ℕ)) (fault : CommandFault) (done : Ending) → ((bytes text : List ℕ) → IsSizeRefusal bytes text → IsPlain text)
+      → ((told : CommandFault) → IsNoImage told → MayEnd told) → IsNoImage fault → IsErrAnd done (λ told. told ≡ fault) → DoesReport IsText IsPlain MayEnd w w done
+  reports_no_image w fault (Ok x) plain may is same = absurd same
+  reports_no_image w fault (Err told) plain may is same = no_image_reported w told plain (may told) (subst IsNoImage (sym same) is)
+
+  -- a report is written, whole or as far as the writer accepts it
+  pub report_front : (whole : Bool) (old new : Option (List ℕ)) (text : List ℕ) (fault : CommandFault) → IsText whole text → WritesFront old new text → MayEnd Output → fault ≡ Output
+      → DoesReport IsText IsPlain MayEnd old new (Err fault)
+  report_front whole old new text fault is front may output = subst (λ (f : CommandFault). DoesReport IsText IsPlain MayEnd old new (Err f)) (sym output) (may, inr (text, (whole, is), front))
+
+  pub front_reported : (whole : Bool) (old new : Option (List ℕ)) (text : List ℕ) (fault : CommandFault) (done : Ending) → IsText whole text → WritesFront old new text → MayEnd Output → fault ≡ Output
+      → IsErrAnd done (λ told. told ≡ fault) → DoesReport IsText IsPlain MayEnd old new done
+  front_reported whole old new text fault (Ok x) is front may output same = absurd same
+  front_reported whole old new text fault (Err told) is front may output same = report_front whole old new text told is front may (same ∙ output)
+
+  pub reported : (old new : Option (List ℕ)) (text : List ℕ) (done : Ending) → IsText true text → OnOk done (Appends old new text) → OnErr done (WritesFront old new text)
+      → MayEnd Output → IfErr done (λ fault. fault ≡ Output) → DoesReport IsText IsPlain MayEnd old new done
+  reported old new text (Ok x) is told front may output = (text, told, is)
+  reported old new text (Err fault) is told front may output = report_front true old new text fault is front may output
+
+-- a rescue ends for the host only if it writes
+pub host_ends : (list : Bool) (fault : CommandFault) → IsNoImage fault → IsHostEnd fault list
+host_ends list (Extracted why) is = absurd is
+host_ends list fault is = tt
+
+-- two texts that are pushed one after the other
+pub pushed : (text front none first second line rest : List ℕ) → text ≡ front ++ second → front ≡ none ++ first → none ≡ [] → first ≡ line → second ≡ rest → text ≡ line ++ rest
+pushed text front none first second line rest is front_is none_is first_is second_is =
+    let join = λ (a b : List ℕ). a ++ b in
+    is ∙ ap₂ join (front_is ∙ ap₂ join none_is first_is) second_is
+
+-- the report on a refused image, or why there is none
+module _ (job : WhereJob) (image : List ℕ) where
+  -- the fault that a refusal of an image that is handed back names
+  pub refusal_shown : (old : List ℕ) (fault : VolumeFault) (refusal : Refusal) → HandsBack old image fault → refusal.kind.now ≡ kind_word fault.kind → refusal.block ≡ fault.block
+      → fault.kind ≢ NoMemory → IsImageRefusal image (refusal_line refusal)
+  refusal_shown old fault refusal handed kind block memory =
+      refused_for image fault (Refused refusal) (subst (λ (i : List ℕ). IsRefusal i fault) (sym handed.0) handed.1) (memory, ap₂ refused_line kind block)
+
+  unplaced : (w : Option (List ℕ)) (fault : CommandFault) → IsUnplaced job image fault → DoesWhere job w w (Err fault)
+  unplaced w (Refused refusal) is = (Keeps-refl w, (image, inr is))
+  unplaced w (Dos refusal) is = Keeps-refl w
+  unplaced w NotWhole is = absurd (cc is)
+  unplaced w fault is = (tt, inl (Keeps-refl w))
+
+  pub reports_unplaced : (w : Option (List ℕ)) (fault : CommandFault) (done : Ending) → IsUnplaced job image fault → IsErrAnd done (λ told. told ≡ fault)
+      → DoesWhere job w w done
+  reports_unplaced w fault (Ok x) is same = absurd same
+  reports_unplaced w fault (Err told) is same = unplaced w told (subst (IsUnplaced job image) (sym same) is)
+
+-- for jobs with such texts for bytes
+module _ (IsText BeginsText : List ℕ → List ℕ → Type 0) where
+  -- a job succeeds
+  done : (p : Prints) (old new : Option (List ℕ)) (x : Unit {0}) → Does p IsText BeginsText old new (Ok x) → Tells p IsText BeginsText old new (Ok x)
+  done OnlyFaults old new x h = h
+  done OfBytes old new x h = h
+  done (OfImages job) old new x h = h
+  done (OfRescue job) old new x h = h
+  done (OfBlocks job) old new x h = h
+  done Unsaid old new x h = tt
+
+  -- a job whose fault has no line
+  failed : (p : Prints) (old new : Option (List ℕ)) (fault : CommandFault) → Does p IsText BeginsText old new (Err fault) → IsNoRefusal fault
+      → Tells p IsText BeginsText old new (Err fault)
+  failed OnlyFaults old new fault keeps plain = rw plain (inl keeps)
+  failed Unsaid old new fault h plain = tt
+  failed (OfImages job) old new fault h plain = h
+  failed (OfRescue job) old new fault h plain = report_failed (IsRescueText job.json) IsSizeLine (λ (fault : CommandFault). IsHostEnd fault job.list) old new fault h plain
+  failed (OfBlocks job) old new fault h plain = report_failed (IsWhereText job) (IsBareLine job) MayEnd old new fault h plain
+  failed OfBytes old new (Refused refusal) h plain = absurd (cc plain)
+  failed OfBytes old new (Dos refusal) h plain = absurd (cc plain)
+  failed OfBytes old new fault (bytes, inl keeps) plain = (bytes, inl keeps)
+  failed OfBytes old new fault (bytes, inr (text, is, front)) plain = (bytes, inr (text, inl is, front))
+
+  -- a job without memory for its line
+  unsaid : (p : Prints) (old new : Option (List ℕ)) (fault : CommandFault) → Does p IsText BeginsText old new (Err fault) → Tells p IsText BeginsText old new (Err Memory)
+  unsaid OnlyFaults old new fault keeps = inl keeps
+  unsaid Unsaid old new fault h = tt
+  unsaid (OfImages job) old new fault h = archive_unsaid job old new fault h
+  unsaid (OfRescue job) old new fault h = report_unsaid (IsRescueText job.json) IsSizeLine (λ (fault : CommandFault). IsHostEnd fault job.list) old new fault tt h
+  unsaid (OfBlocks job) old new fault h = report_unsaid (IsWhereText job) (IsBareLine job) MayEnd old new fault tt h
+  unsaid OfBytes old new (Refused refusal) d = (d.0, inl d.1.1)
+  unsaid OfBytes old new (Dos refusal) d = (d.0, inl d.1)
+  unsaid OfBytes old new fault (bytes, inl keeps) = (bytes, inl keeps)
+  unsaid OfBytes old new fault (bytes, inr (text, is, front)) = (bytes, inr (text, inl is, front))
+
+  module _ (old mid new : Option (List ℕ)) where
+    -- a refused image is reported
+    told_refused : (p : Prints) (refusal : Refusal) → Does p IsText BeginsText old mid (Err (Refused refusal)) → Appends mid new (refusal_line refusal)
+        → Tells p IsText BeginsText old new (Err (Refused refusal))
+    told_refused OnlyFaults refusal keeps w = (refusal_line refusal, kept_appends old mid new (refusal_line refusal) keeps w, refl)
+    told_refused Unsaid refusal d w = tt
+    told_refused (OfImages job) refusal d w = absurd d
+    told_refused (OfRescue job) refusal (keeps, is) w = (refusal_line refusal, kept_appends old mid new (refusal_line refusal) keeps w, is)
+    told_refused (OfBlocks job) refusal (keeps, is) w = (refusal_line refusal, kept_appends old mid new (refusal_line refusal) keeps w, is)
+    told_refused OfBytes refusal (bytes, (is, keeps)) w = (bytes, (refusal_line refusal, kept_appends old mid new (refusal_line refusal) keeps w, is))
+
+    -- a refusal by AmigaDOS is reported
+    told_dos : (p : Prints) (refusal : DosRefusal) → Does p IsText BeginsText old mid (Err (Dos refusal)) → Appends mid new (dos_line refusal)
+        → Tells p IsText BeginsText old new (Err (Dos refusal))
+    told_dos OnlyFaults refusal keeps w = (dos_line refusal, kept_appends old mid new (dos_line refusal) keeps w, refl)
+    told_dos Unsaid refusal d w = tt
+    told_dos (OfImages job) refusal d w = absurd d
+    told_dos (OfRescue job) refusal keeps w = (dos_line refusal, kept_appends old mid new (dos_line refusal) keeps w, refl)
+    told_dos (OfBlocks job) refusal keeps w = (dos_line refusal, kept_appends old mid new (dos_line refusal) keeps w, refl)
+    told_dos OfBytes refusal (bytes, keeps) w = (bytes, (dos_line refusal, kept_appends old mid new (dos_line refusal) keeps w, refl))
+
+    -- a prefix of the output after no output
+    kept_front : (text : List ℕ) → Keeps old mid → WritesFront mid new text → WritesFront old new text
+    kept_front text keeps (written, appends, rest) = (written, kept_appends old mid new written keeps appends, rest)
+
+    -- a job without output, whose line is written as far as the writer accepts it
+    broken_quiet : (fault last : CommandFault) (line : List ℕ) → told_line fault ≡ Some line → IsNoRefusal last → Keeps old mid → WritesFront mid new line → TellsFault old new (Err last)
+    broken_quiet fault last line tells plain keeps front = rw plain (inr (line, (fault, tells), kept_front line keeps front))
+
+    -- a line for refused bytes, as far as the writer accepts it
+    ends_front : (bytes : List ℕ) (last : CommandFault) → IsNoRefusal last → WritesFrontOf old new (λ text. BeginsText bytes text ⊎ (IsRefusalText bytes text ⊎ IsDosText text))
+        → EndsOff (BeginsText bytes) bytes old new last
+    ends_front bytes (Refused r) plain front = absurd (cc plain)
+    ends_front bytes (Dos r) plain front = absurd (cc plain)
+    ends_front bytes last plain front = inr front
+
+    broken_refused : (p : Prints) (refusal : Refusal) → Does p IsText BeginsText old mid (Err (Refused refusal))
+        → WritesFront mid new (refusal_line refusal) → Tells p IsText BeginsText old new (Err Output)
+    broken_refused OnlyFaults refusal keeps front = broken_quiet (Refused refusal) Output (refusal_line refusal) refl refl keeps front
+    broken_refused Unsaid refusal d front = tt
+    broken_refused (OfImages job) refusal d front = absurd d
+    broken_refused (OfRescue job) refusal (keeps, is) front = (tt, inr (refusal_line refusal, inr (Refused refusal, refl), kept_front (refusal_line refusal) keeps front))
+    broken_refused (OfBlocks job) refusal (keeps, is) front = (tt, inr (refusal_line refusal, inr (Refused refusal, refl), kept_front (refusal_line refusal) keeps front))
+    broken_refused OfBytes refusal (bytes, (is, keeps)) front =
+        (bytes, ends_front bytes Output refl (refusal_line refusal, inr (inl is), kept_front (refusal_line refusal) keeps front))
+
+    broken_dos : (p : Prints) (refusal : DosRefusal) → Does p IsText BeginsText old mid (Err (Dos refusal))
+        → WritesFront mid new (dos_line refusal) → Tells p IsText BeginsText old new (Err Output)
+    broken_dos OnlyFaults refusal keeps front = broken_quiet (Dos refusal) Output (dos_line refusal) refl refl keeps front
+    broken_dos Unsaid refusal d front = tt
+    broken_dos (OfImages job) refusal d front = absurd d
+    broken_dos (OfRescue job) refusal keeps front = (tt, inr (dos_line refusal, inr (Dos refusal, refl), kept_front (dos_line refusal) keeps front))
+    broken_dos (OfBlocks job) refusal keeps front = (tt, inr (dos_line refusal, inr (Dos refusal, refl), kept_front (dos_line refusal) keeps front))
+    broken_dos OfBytes refusal (bytes, keeps) front =
+        (bytes, ends_front bytes Output refl (dos_line refusal, inr (inr (refusal, refl)), kept_front (dos_line refusal) keeps front))
+
+-- the fault of a job with this line
+module _ (job : ImageJob) (old mid new : Option (List ℕ)) (line : List ℕ) where
+  -- the line is written
+  pub job_told : (fault : CommandFault) → told_line fault ≡ Some line → DoesJob job old mid (Err fault) → Appends mid new line → TellsJob job old new (Err fault)
+  job_told (Refused refusal) tells h w =
+      let same : line ≡ refusal_line refusal = cc tells in
+      told_refused (IsJobText job) (BeginsJobText job) old mid new (prints job) refusal h (subst (λ (l : List ℕ). Appends mid new l) same w)
+  job_told (Dos refusal) tells h w =
+      let same : line ≡ dos_line refusal = cc tells in
+      told_dos (IsJobText job) (BeginsJobText job) old mid new (prints job) refusal h (subst (λ (l : List ℕ). Appends mid new l) same w)
+  job_told fault tells h w = absurd (cc tells)
+
+  -- the line is written as far as the writer accepts it
+  broken : (fault : CommandFault) → told_line fault ≡ Some line → DoesJob job old mid (Err fault) → WritesFront mid new line → TellsJob job old new (Err Output)
+  broken (Refused refusal) tells h front =
+      let same : line ≡ refusal_line refusal = cc tells in
+      broken_refused (IsJobText job) (BeginsJobText job) old mid new (prints job) refusal h (subst (λ (l : List ℕ). WritesFront mid new l) same front)
+  broken (Dos refusal) tells h front =
+      let same : line ≡ dos_line refusal = cc tells in
+      broken_dos (IsJobText job) (BeginsJobText job) old mid new (prints job) refusal h (subst (λ (l : List ℕ). WritesFront mid new l) same front)
+  broken fault tells h front = absurd (cc tells)
+
+  pub job_broken : (fault last : CommandFault) → told_line fault ≡ Some line → DoesJob job old mid (Err fault) → WritesFront mid new line → last ≡ Output → TellsJob job old new (Err last)
+  job_broken fault last tells h front output = subst (λ (f : CommandFault). TellsJob job old new (Err f)) (sym output) (broken fault tells h front)
+
+-- a job whose fault has no line
+pub job_failed : (job : ImageJob) (old new : Option (List ℕ)) (fault : CommandFault) → DoesJob job old new (Err fault) → IsNoRefusal fault → TellsJob job old new (Err fault)
+job_failed job old new fault h plain = failed (IsJobText job) (BeginsJobText job) (prints job) old new fault h plain
+
+-- a job without memory for its line
+pub job_unsaid : (job : ImageJob) (old new : Option (List ℕ)) (fault last : CommandFault) → DoesJob job old new (Err fault) → last ≡ Memory → TellsJob job old new (Err last)
+job_unsaid job old new fault last h same =
+    subst (λ (f : CommandFault). TellsJob job old new (Err f)) (sym same) (unsaid (IsJobText job) (BeginsJobText job) (prints job) old new fault h)
+
+-- a job that succeeds
+pub job_done : (job : ImageJob) (old new : Option (List ℕ)) (x : Unit {0}) → DoesJob job old new (Ok x) → EndsJob job old new 0
+job_done job old new x h = (Ok x, done (IsJobText job) (BeginsJobText job) (prints job) old new x h, refl)

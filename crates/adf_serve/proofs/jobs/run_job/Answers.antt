@@ -1,0 +1,52 @@
+use Rattle.std.proofs.Common.{subst, sym}
+use Rattle.adf_words.specs.declared.job.ImageJob.{ImageJob}
+use Rattle.adf_serve.specs.Commands.{DoesJob}
+use Rattle.adf_serve.proofs.Printing.{PrintsNothing, job_silent}
+use Rattle.adf_serve.proofs.jobs.run_job.Goals as goal
+
+pub returns-in-Blank : goal.returns-in-Blank
+returns-in-Blank g c = job_silent c.args.job.now _ _ (subst PrintsNothing (sym c.in-Blank.is) tt) c.make_blank.ensures
+
+pub returns-in-Info : goal.returns-in-Info
+returns-in-Info g c =
+    subst (λ (job : ImageJob). DoesJob job (g.W.Write.contents c.args.writer.now) (g.W.Write.contents c.print_query.new.writer) c.print_query.result) (sym c.in-Info.is) c.print_query.ensures
+
+pub returns-in-List : goal.returns-in-List
+returns-in-List g c =
+    subst (λ (job : ImageJob). DoesJob job (g.W.Write.contents c.args.writer.now) (g.W.Write.contents c.print_query-in-List.new.writer) c.print_query-in-List.result) (sym c.in-List.is) c.print_query-in-List.ensures
+
+pub returns-in-Print : goal.returns-in-Print
+returns-in-Print g c =
+    subst (λ (job : ImageJob). DoesJob job (g.W.Write.contents c.args.writer.now) (g.W.Write.contents c.print_query-in-Print.new.writer) c.print_query-in-Print.result) (sym c.in-Print.is) c.print_query-in-Print.ensures
+
+pub returns-in-Salvage : goal.returns-in-Salvage
+returns-in-Salvage g c =
+    subst (λ (job : ImageJob). DoesJob job (g.W.Write.contents c.args.writer.now) (g.W.Write.contents c.take_rescue.new.writer) c.take_rescue.result) (sym c.in-Salvage.is) c.take_rescue.ensures
+
+pub returns-in-ShowBoot : goal.returns-in-ShowBoot
+returns-in-ShowBoot g c =
+    subst (λ (job : ImageJob). DoesJob job (g.W.Write.contents c.args.writer.now) (g.W.Write.contents c.print_query-in-ShowBoot.new.writer) c.print_query-in-ShowBoot.result) (sym c.in-ShowBoot.is) c.print_query-in-ShowBoot.ensures
+
+pub returns-in-Show : goal.returns-in-Show
+returns-in-Show g c =
+    subst (λ (job : ImageJob). DoesJob job (g.W.Write.contents c.args.writer.now) (g.W.Write.contents c.print_query-in-Show.new.writer) c.print_query-in-Show.result) (sym c.in-Show.is) c.print_query-in-Show.ensures
+
+pub returns-in-Validate : goal.returns-in-Validate
+returns-in-Validate g c =
+    subst (λ (job : ImageJob). DoesJob job (g.W.Write.contents c.args.writer.now) (g.W.Write.contents c.validate_file.new.writer) c.validate_file.result) (sym c.in-Validate.is) c.validate_file.ensures
+
+pub returns-in-Where : goal.returns-in-Where
+returns-in-Where g c =
+    subst (λ (job : ImageJob). DoesJob job (g.W.Write.contents c.args.writer.now) (g.W.Write.contents c.tell_where.new.writer) c.tell_where.result) (sym c.in-Where.is) c.tell_where.ensures
+
+pub returns-in-WherePath : goal.returns-in-WherePath
+returns-in-WherePath g c =
+    subst (λ (job : ImageJob). DoesJob job (g.W.Write.contents c.args.writer.now) (g.W.Write.contents c.print_query-in-WherePath.new.writer) c.print_query-in-WherePath.result) (sym c.in-WherePath.is) c.print_query-in-WherePath.ensures
+
+pub returns-in-Map : goal.returns-in-Map
+returns-in-Map g c =
+    subst (λ (job : ImageJob). DoesJob job (g.W.Write.contents c.args.writer.now) (g.W.Write.contents c.print_query-in-Map.new.writer) c.print_query-in-Map.result) (sym c.in-Map.is) c.print_query-in-Map.ensures
+
+pub returns-in-Undelete : goal.returns-in-Undelete
+returns-in-Undelete g c =
+    subst (λ (job : ImageJob). DoesJob job (g.W.Write.contents c.args.writer.now) (g.W.Write.contents c.print_query-in-Undelete.new.writer) c.print_query-in-Undelete.result) (sym c.in-Undelete.is) c.print_query-in-Undelete.ensures

@@ -1,0 +1,76 @@
+//! The jobs on image files.
+ghost use Rattle.adf_serve.specs.Commands.{DoesJob};
+
+use crate::blank::{NewVolume, make_blank};
+use crate::blocks::tell_where;
+use crate::boot::{change_boot, save_boot};
+use crate::bundle::{put_bundle, take_bundle};
+use crate::changing::change;
+use crate::fault::CommandFault;
+use crate::look::Look;
+use crate::moving::take_out;
+use crate::query::{Query, print_query};
+use crate::rescue::take_rescue;
+use crate::screen::Screen;
+use crate::serving::serve;
+use crate::validate::validate_file;
+use adf_archive::{ReadImages, check_archive};
+use adf_import::StandardInput;
+use adf_words::ImageJob;
+use std::alloc::Global;
+use std::fs::File;
+use std::io::Write;
+use std::rt::{Clock, Files};
+use std::sync::Wait;
+use std::thread::Threads;
+
+/// Does a job on image files, except for the line of a refusal ([`end_job`](crate::end_job)). The output for an image goes to the writer.
+/// Skipped files go to `faults`, and so does the progress of a check if `screen` says so.
+#[rattlefmt::skip]
+pub fn run_job<'a, R, W, F>(
+    rt: &R,
+    alloc: Global,
+    job: &ImageJob<'a>,
+    screen: Screen,
+    writer: &mut W,
+    faults: &mut F,
+) -> Result<(), CommandFault<'a>>
+where
+    R: Files<File = File> + Clock + Threads + Wait + ReadImages + StandardInput + Copy + Send + Sync + Drop + 'static,
+    W: Write,
+    F: Write,
+    ensures { DoesJob job.now (W.contents writer.old) (W.contents writer.new) result }
+{
+    match job {
+        ImageJob::Blank { format, blocks, moment, name, letters, file } => {
+            let new = NewVolume { format: *format, blocks: *blocks, moment: *moment, name: *name, letters: *letters };
+            make_blank(rt, alloc, new, *file)
+        }
+        ImageJob::Info { file } => print_query(rt, alloc, *file, Query::Disk, screen.styled, writer),
+        ImageJob::Show { image, json } => {
+            print_query(rt, alloc, *image, Query::Look(Look::Volume { json: *json }), screen.styled, writer)
+        }
+        ImageJob::Map { image, json } => {
+            print_query(rt, alloc, *image, Query::Look(Look::Map { json: *json }), screen.styled, writer)
+        }
+        ImageJob::Where(job) => tell_where(rt, alloc, job, writer, faults),
+        ImageJob::WherePath { image, path } => print_query(rt, alloc, *image, Query::Entry(*path), screen.styled, writer),
+        ImageJob::ShowBoot { image } => print_query(rt, alloc, *image, Query::Look(Look::Boot), screen.styled, writer),
+        ImageJob::List(job) => print_query(rt, alloc, job.image, Query::List(job), screen.styled, writer),
+        ImageJob::Print { image, path } => print_query(rt, alloc, *image, Query::Bytes(*path), screen.styled, writer),
+        ImageJob::Check(job) => match check_archive(rt, alloc, job, screen.progress, writer, faults) {
+            Ok(()) => Ok(()),
+            Err(fault) => Err(CommandFault::from(fault)),
+        },
+        ImageJob::Extract(job) => take_out(rt, alloc, job),
+        ImageJob::ExtractBundle { image, to } => take_bundle(rt, alloc, *image, *to),
+        ImageJob::AddBundle { target, from } => put_bundle(rt, alloc, *target, *from),
+        ImageJob::Salvage(job) => take_rescue(rt, alloc, job, writer, faults),
+        ImageJob::Undelete(job) => print_query(rt, alloc, job.image, Query::Deleted(job), screen.styled, writer),
+        ImageJob::Change(job) => change(rt, alloc, job, faults),
+        ImageJob::Validate { target, force } => validate_file(rt, alloc, *target, *force, writer),
+        ImageJob::Boot { target, block } => change_boot(rt, alloc, *target, *block),
+        ImageJob::SaveBoot { image, file } => save_boot(rt, alloc, *image, *file),
+        ImageJob::Serve(job) => serve(rt, alloc, job, writer, faults),
+    }
+}

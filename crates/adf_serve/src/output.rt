@@ -1,0 +1,83 @@
+//! What a command prints, and its exit status.
+ghost use Rattle.std.specs.Prelude.{◌≡◌, ℕ, List, Option, Err, OnOk, OnErr, IfErr};
+ghost use Rattle.std.specs.Io.KnownBytes.{Appends};
+ghost use Rattle.adf_io.specs.Prefix.{WritesFront};
+ghost use Rattle.adf_words.specs.declared.job.ImageJob.{ImageJob};
+ghost use Rattle.adf_serve.specs.Commands.{DoesJob, EndsJob, TellsJob};
+ghost use Rattle.adf_serve.specs.Faults.{IsNoRefusal};
+ghost use Rattle.adf_serve.specs.declared.fault.CommandFault.TheVariants.{Output};
+
+use crate::fault::CommandFault;
+use adf_archive::ReadImages;
+use adf_io::write_output;
+use adf_text::print_line;
+use adf_words::ImageJob;
+use std::alloc::Global;
+use std::io::Write;
+use std::rt::Files;
+
+/// Writes a text to standard output.
+pub(crate) fn tell<'a, W: Write>(writer: &mut W, text: &[u8]) -> Result<(), CommandFault<'a>>
+    ensures ok { OnOk result (Appends (W.contents writer.old) (W.contents writer.new) text.now) }
+    ensures front { OnErr result (WritesFront (W.contents writer.old) (W.contents writer.new) text.now) }
+    ensures no_refusal { IfErr result IsNoRefusal }
+    ensures output { IfErr result (λ fault. fault ≡ Output) }
+{
+    match write_output(text, writer) {
+        Ok(()) => Ok(()),
+        Err(_) => Err(CommandFault::Output),
+    }
+}
+
+/// Ends a job on an image file. Prints the line of a refusal on the writer, and why the image is refused and any other fault on
+/// `faults`. Returns the exit status.
+pub fn end_job<R: Files + ReadImages, W: Write, F: Write>(
+    rt: &R,
+    alloc: Global,
+    job: &ImageJob<'_>,
+    done: Result<(), CommandFault<'_>>,
+    writer: &mut W,
+    faults: &mut F,
+) -> u8
+    ensures { (old : Option (List ℕ)) → DoesJob job.now old (W.contents writer.old) done.entry → EndsJob job.now old (W.contents writer.new) result }
+{
+    let fault = match done {
+        Ok(()) => return 0,
+        Err(fault) => fault,
+    };
+    if let (CommandFault::Refused(refusal), Some(file)) = (&fault, job.image()) {
+        refusal.explain(rt, alloc, file, faults);
+    }
+    let last = refuse(alloc, fault, writer);
+    tell_fault(&last, faults);
+    last.status()
+}
+
+/// Prints the line of a refusal, if the fault of a job is one. Returns the fault with which the job ends.
+fn refuse<'a, W: Write>(alloc: Global, fault: CommandFault<'a>, writer: &mut W) -> CommandFault<'a>
+    ensures { (job : ImageJob) (old : Option (List ℕ)) → DoesJob job old (W.contents writer.old) (Err fault.entry) → TellsJob job old (W.contents writer.new) (Err result) }
+{
+    match fault.line(alloc) {
+        Ok(None) => fault,
+        Ok(Some(line)) => match tell(writer, line.as_bytes()) {
+            Ok(()) => fault,
+            Err(other) => other,
+        },
+        Err(error) => CommandFault::from(error),
+    }
+}
+
+/// Prints a fault, unless the output has it already: refused images, faulty scripts, and the results of `check` and of
+/// `extract --damaged`.
+fn tell_fault<F: Write>(fault: &CommandFault<'_>, faults: &mut F) {
+    if !matches!(
+        fault,
+        CommandFault::Refused(_)
+            | CommandFault::Script
+            | CommandFault::ImagesRefused
+            | CommandFault::NotChecked
+            | CommandFault::NotWhole
+    ) {
+        print_line(faults, format_args!("adf_serve: {fault}"));
+    }
+}

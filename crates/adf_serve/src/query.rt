@@ -1,0 +1,55 @@
+//! The commands that print something of an image.
+ghost use Rattle.adf_serve.specs.Commands.{TellsSome};
+ghost use Rattle.adf_serve.specs.Texts.{BeginsQueryText, IsQueryText};
+
+use crate::blocks::tell_entry;
+use crate::deleted::tell_deleted;
+use crate::fault::CommandFault;
+use crate::images::read_image;
+use crate::info::tell_info;
+use crate::look::{Look, tell_look};
+use crate::moving::{tell_bytes, tell_list};
+use adf_words::{ImageFile, ListJob, UndeleteJob};
+use std::alloc::Global;
+use std::fs::File;
+use std::io::Write;
+use std::rt::Files;
+
+/// What a command prints of an image.
+#[derive(Clone, Copy)]
+pub(crate) enum Query<'a, 'b> {
+    /// The result of DISK_INFO, and whether the boot checksum is right.
+    Disk,
+    /// The list of a file or directory.
+    List(&'b ListJob<'a>),
+    /// The bytes of the file at a path.
+    Bytes(&'a str),
+    /// All blocks of the file or directory at a path.
+    Entry(&'a str),
+    /// The lines about deleted entries, which are written to the host.
+    Deleted(&'b UndeleteJob<'a>),
+    /// A text that is made whole before any of it is printed.
+    Look(Look),
+}
+
+/// Prints what is asked of the image of a file. With `styled` text for people has bold letters.
+pub(crate) fn print_query<'a, R: Files<File = File>, W: Write>(
+    rt: &R,
+    alloc: Global,
+    file: ImageFile<'a>,
+    query: Query<'a, '_>,
+    styled: bool,
+    writer: &mut W,
+) -> Result<(), CommandFault<'a>>
+    ensures { TellsSome (IsQueryText query.entry) (BeginsQueryText query.entry) (W.contents writer.old) (W.contents writer.new) result }
+{
+    let image = read_image(rt, alloc, file)?;
+    match query {
+        Query::Disk => tell_info(alloc, image, writer),
+        Query::List(job) => tell_list(alloc, image, job, styled, writer),
+        Query::Bytes(path) => tell_bytes(alloc, image, path, writer),
+        Query::Entry(path) => tell_entry(alloc, image, path, writer),
+        Query::Deleted(job) => tell_deleted(rt, alloc, image, job, writer),
+        Query::Look(look) => tell_look(alloc, image, look, styled, writer),
+    }
+}

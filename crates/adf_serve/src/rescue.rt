@@ -1,0 +1,167 @@
+//! The command `extract --damaged`.
+ghost use Rattle.std.specs.Prelude.{ℕ, List, IfErr, IfOk};
+ghost use Rattle.adf_rescue.specs.Rescue.{IsRescue};
+ghost use Rattle.adf_serve.specs.Faults.{IsNoImage};
+ghost use Rattle.adf_serve.specs.Rescues.{DoesRescue, IsRescueEnd};
+
+use crate::fault::CommandFault;
+use crate::images::{read_image, unread};
+use adf_block::Image;
+use adf_host::read_filled_file;
+use adf_io::{Filled, PrintFault, write_output};
+use adf_record::Grouped;
+use adf_rescue::{Doubt, Rescue, RescueFault, extract_damaged};
+use adf_text::print_line;
+use adf_words::{ImageFile, SalvageJob};
+use std::alloc::Global;
+use std::fs::File;
+use std::io::Write;
+use std::rt::Files;
+
+/// Writes what can be told of an image file to files and directories of the host, unless the job only lists, and reports on it.
+pub(crate) fn take_rescue<'a, R, W, F>(
+    rt: &R,
+    alloc: Global,
+    job: &SalvageJob<'a>,
+    writer: &mut W,
+    faults: &mut F,
+) -> Result<(), CommandFault<'a>>
+where
+    R: Files<File = File>,
+    W: Write,
+    F: Write,
+    ensures { DoesRescue job.now (W.contents writer.old) (W.contents writer.new) result }
+{
+    let image = read_filled(rt, alloc, job.image, faults)?;
+    let rescue = rescue_of(rt, alloc, image, job)?;
+    tell_rescue(alloc, &rescue, job, writer, faults)
+}
+
+/// The image of a file. If its first blocks are the image and some are missing, these are zeros, and a line on `faults` says so.
+fn read_filled<'a, R: Files, F: Write>(
+    rt: &R,
+    alloc: Global,
+    file: ImageFile<'a>,
+    faults: &mut F,
+) -> Result<Image, CommandFault<'a>>
+    ensures { IfErr result IsNoImage }
+{
+    let ImageFile { path, blocks } = file;
+    let Some(blocks) = blocks else {
+        return read_image(rt, alloc, file);
+    };
+    match read_filled_file(rt, alloc, path, blocks) {
+        Ok(filled) => {
+            tell_missing(path, blocks, &filled, faults);
+            Ok(filled.image)
+        }
+        Err(fault) => {
+            let blocks = None;
+            Err(unread(rt, fault, ImageFile { path, blocks }))
+        }
+    }
+}
+
+/// Prints how many bytes of the blocks of an image its file has, if some are missing.
+fn tell_missing<F: Write>(path: &str, blocks: u32, filled: &Filled, faults: &mut F) {
+    if filled.missing == 0 {
+        return;
+    }
+    let bytes = filled.image.as_bytes().len();
+    let (all, found) = (
+        Grouped(bytes as u64),
+        Grouped(bytes.saturating_sub(filled.missing) as u64),
+    );
+    print_line(
+        faults,
+        format_args!(
+            "adf_serve: '{path}' has {found} of the {all} bytes of its {blocks} blocks: zeros are taken for the others"
+        ),
+    );
+}
+
+/// Reports on a rescue, and prints on `faults` why entries are doubtful, which files are cut short, and which used blocks belong to
+/// nothing.
+fn tell_rescue<'a, W: Write, F: Write>(
+    alloc: Global,
+    rescue: &Rescue,
+    job: &SalvageJob<'a>,
+    writer: &mut W,
+    faults: &mut F,
+) -> Result<(), CommandFault<'a>>
+    ensures { (image : List ℕ) → IsRescue image rescue.now → DoesRescue job.now (W.contents writer.old) (W.contents writer.new) result }
+{
+    tell_doubts(alloc, rescue, faults);
+    tell_unaccounted(alloc, rescue, faults);
+    match rescue.tell(alloc, job.json, writer) {
+        Ok(true) => Ok(()),
+        Ok(false) => Err(CommandFault::NotWhole),
+        Err(PrintFault::Write) => Err(CommandFault::Output),
+        Err(PrintFault::Memory) => Err(CommandFault::Memory),
+    }
+}
+
+/// Prints why entries are doubtful or cut short.
+fn tell_doubts<F: Write>(alloc: Global, rescue: &Rescue, faults: &mut F) {
+    for place in 0..rescue.len() {
+        if let Ok(Some((path, doubt))) = rescue.doubt_at(alloc, place) {
+            let (path, why) = (path.as_str(), text_of(doubt));
+            print_line(faults, format_args!("adf_serve: '{path}' is {why}"));
+        }
+    }
+}
+
+/// Prints the numbers of the blocks that are used and belong to nothing that is told, if there are some.
+fn tell_unaccounted<F: Write>(alloc: Global, rescue: &Rescue, faults: &mut F) {
+    if let Ok(ranges) = rescue.unaccounted_ranges(alloc) {
+        if !ranges.is_empty() {
+            print_line(
+                faults,
+                format_args!(
+                    "adf_serve: blocks that are used, but belong to nothing that is told:"
+                ),
+            );
+            let _ = write_output(&ranges, faults);
+        }
+    }
+}
+
+/// Why an entry is doubtful or cut short, after its path.
+fn text_of(doubt: Doubt) -> &'static str {
+    match doubt {
+        Doubt::Header => HEADER,
+        Doubt::Blocks => BLOCKS,
+        Doubt::Gone => GONE,
+        Doubt::Cut => CUT,
+    }
+}
+
+/// A directory or file is doubtful because of its header.
+const HEADER: &str = "doubtful: its header has a wrong checksum or too long a comment";
+
+/// A file with a sound header is doubtful because of another block.
+const BLOCKS: &str =
+    "doubtful: a block of it has a wrong checksum or field, or is in another file too";
+
+/// A file is doubtful because it has no header.
+const GONE: &str = "doubtful: its header is gone, and it is made of the data blocks that name it";
+
+/// A file is cut short because of the bound for all of them.
+const CUT: &str = "cut short: all files that are not whole have four times the bytes of the image";
+
+/// The rescue of an image.
+fn rescue_of<'a, R: Files<File = File>>(
+    rt: &R,
+    alloc: Global,
+    image: Image,
+    job: &SalvageJob<'a>,
+) -> Result<Rescue, CommandFault<'a>>
+    ensures told { IfOk result (λ rescue. IsRescue image rescue) }
+    ensures fault { IfErr result (IsRescueEnd job.now.list) }
+{
+    match extract_damaged(rt, alloc, image, job) {
+        Ok(rescue) => Ok(rescue),
+        Err(RescueFault::Host(fault)) => Err(CommandFault::Extracted(fault)),
+        Err(RescueFault::Memory) => Err(CommandFault::Memory),
+    }
+}

@@ -1,0 +1,13 @@
+-- Blocks that are marked.
+use Rattle.std.specs.Prelude.{◌≡◌, ℕ, suc, Bool, true, false, List, [], ◌∷◌}
+use Rattle.ados_sound.specs.Marks.{mark_at}
+
+-- the block is marked
+abbrev pub IsMarked : List Bool → ℕ → Type 0
+IsMarked marks block = mark_at marks block ≡ true
+
+-- the number of marks that are not set
+unfoldable pub unmarked : List Bool → ℕ
+unmarked [] = 0
+unmarked (true ∷ marks) = unmarked marks
+unmarked (false ∷ marks) = suc (unmarked marks)

@@ -1,0 +1,144 @@
+-- The claims of the blocks, in terms of the sound files.
+use Rattle.std.proofs.Common.{◌≡◌, ◌≢◌, ne_eqb, ℕ, zero, suc, ◌+◌, ◌<◌, ◌==◌, inl, inr, Bool, true, false, MatchBool, All, List, [], ◌∷◌, ◌++◌, length, take, drop, get_or, Contains, refl, sym, ap, ◌∙◌, subst, arith}
+use Rattle.std.proofs.Math.Seq.{take-length}
+use Rattle.ados_sound.proofs.Common.{cases_lt, cases_eq, eq-eqb, drop_of_length-le, append-nil, get_or_default, Contains-append_cases, Contains-append_left, Contains-append_right, block_count, Claim, Free, One, Several, IsClaimant, IsIntact, IsWhole, Names, own_blocks, AreClaims, IsClaim, IsNoted, claim_at, with_claim}
+use Rattle.ados_sound.proofs.SoundParts.{lawful_holders, lawful_data_blocks}
+use Rattle.ados_sound.proofs.OwnBlocks.{own_inside}
+
+module _ (out image : List ℕ) (n block : ℕ) where
+  -- one more sound file names the block
+  pub claim_more : (c : Claim) → IsClaim out image n block c → IsClaimant out image n → Names image n block → IsClaim out image (n + 1) block (with_claim n c)
+  claim_more Free h intact names = (
+    omega arith,
+    intact,
+    names,
+    λ file l i m. elim (cases_lt file n) [
+      | inl below ↦ absurd (h file below i m)
+      | inr above ↦ omega (arith, l, above)
+    ],
+  )
+  claim_more (One one) h intact names =
+      let two : one ≢ n = λ z. omega (arith, z, h.0) in
+      rw (ne_eqb one n two) (one, n, two, h.1, h.2, intact, names)
+  claim_more Several h intact names = h
+
+  -- the next file is not sound, or does not name the block
+  pub claim_same : (c : Claim) → IsClaim out image n block c → (IsClaimant out image n → Names image n block → ⊥) → IsClaim out image (n + 1) block c
+  claim_same Free h none = λ file l i m. elim (cases_lt file n) [
+    | inl below ↦ h file below i m
+    | inr above ↦ (let here : file ≡ n = omega (arith, l, above) in
+        none (subst (IsClaimant out image) here i) (subst (λ (k : ℕ). Names image k block) here m))
+  ]
+  claim_same (One one) h none = (
+    omega (arith, h.0),
+    h.1,
+    h.2,
+    λ file l i m. elim (cases_lt file n) [
+      | inl below ↦ h.3 file below i m
+      | inr above ↦ (let here : file ≡ n = omega (arith, l, above) in
+          absurd (none (subst (IsClaimant out image) here i) (subst (λ (k : ℕ). Names image k block) here m)))
+    ],
+  )
+  claim_same Several h none = h
+
+-- noting a file twice is noting it once
+with_twice : (file : ℕ) (c : Claim) → with_claim file (with_claim file c) ≡ with_claim file c
+with_twice file Free = rw (eq-eqb file file refl) refl
+with_twice file (One other) = elim (cases_eq other file) [
+  | inl e ↦ (let same : (other == file) ≡ true = eq-eqb other file e in rw same (rw (eq-eqb file file refl) refl))
+  | inr e ↦ rw (ne_eqb other file e) refl
+]
+with_twice file Several = refl
+
+pub noted_more : (file x block : ℕ) (xs : List ℕ) (old new new' : List Claim) → IsNoted file xs old new block → (block ≡ x → claim_at new' block ≡ with_claim file (claim_at new block))
+    → (block ≢ x → claim_at new' block ≡ claim_at new block) → IsNoted file (xs ++ x ∷ []) old new' block
+noted_more file x block xs old new new' h here there = elim (cases_eq block x) [
+  | inl e ↦
+      (let last : Contains (xs ++ x ∷ []) block = Contains-append_right xs (x ∷ []) block (0, omega arith, sym e) in
+      elim h [
+        | inl a ↦ inl (last, here e ∙ ap (with_claim file) a.1 ∙ with_twice file (claim_at old block))
+        | inr a ↦ inl (last, here e ∙ ap (with_claim file) a.1)
+      ])
+  | inr e ↦ elim h [
+    | inl a ↦ inl (Contains-append_left xs (x ∷ []) block a.0, there e ∙ a.1)
+    | inr a ↦ inr (
+      λ m. elim (Contains-append_cases xs (x ∷ []) block m) [
+        | inl b ↦ a.0 b
+        | inr b ↦ e (only x block b)
+      ],
+      there e ∙ a.1,
+    )
+  ]
+]
+  where
+    only : (y b : ℕ) → Contains (y ∷ []) b → b ≡ y
+    only y b (zero, l, e) = sym e
+    only y b (suc k, l, e) = absurd (omega (arith, l))
+
+-- the claims are right for the sound files below n, and for one more
+pub claims_more : (out image : List ℕ) (n : ℕ) (old new : List Claim) → AreClaims out image n old → IsClaimant out image n → ((block : ℕ) → block < block_count image → IsNoted n (own_blocks image n) old new block) → AreClaims out image (n + 1) new
+claims_more out image n old new h intact noted block l = elim (noted block l) [
+  | inl a ↦ subst (IsClaim out image (n + 1) block) (sym a.1) (claim_more out image n block (claim_at old block) (h block l) intact a.0)
+  | inr a ↦ subst (IsClaim out image (n + 1) block) (sym a.1) (claim_same out image n block (claim_at old block) (h block l) (λ _ m. a.0 m))
+]
+
+pub claims_same : (out image : List ℕ) (n : ℕ) (old : List Claim) → AreClaims out image n old → ¬ IsClaimant out image n → AreClaims out image (n + 1) old
+claims_same out image n old h none block l = claim_same out image n block (claim_at old block) (h block l) (λ i _. none i)
+
+-- the blocks of a sound file are inside the image
+pub own_within : (image : List ℕ) (file : ℕ) → IsIntact image file → (block : ℕ) → Names image file block → block < block_count image
+own_within image file i block m =
+    let here = own_inside image file (lawful_holders image file i.lawful) (lawful_data_blocks image file i.lawful) m.0 m.1 in
+    omega (arith, here.1, get_or_default (own_blocks image file) m.0 0 block m.1, m.2)
+
+module _ (out image : List ℕ) (claims : List Claim) (h : AreClaims out image (block_count image) claims) (file : ℕ) (i : IsClaimant out image file) where
+  -- a sound file is whole if only it names its blocks
+  pub is_whole : All (λ (block : ℕ). claim_at claims block ≡ One file) (own_blocks image file) → IsWhole out image file
+  is_whole all = record {
+    claimant = i;
+    alone = λ other block j m k.
+        let noted : claim_at claims block ≡ One file =
+        ap (claim_at claims) (sym m.2) ∙ all m.0 block m.1 in
+        let told : IsClaim out image (block_count image) block (One file) = subst (IsClaim out image (block_count image) block) noted (h block (own_within image file i.intact block m)) in
+        told.3 other j.intact.header.inside.1 j k;
+  }
+
+  -- each block of a whole file has its claim
+  pub whole_noted : IsWhole out image file → All (λ (block : ℕ). claim_at claims block ≡ One file) (own_blocks image file)
+  whole_noted w = λ k d l.
+      let block = get_or (own_blocks image file) k d in
+      let named : Names image file (get_or (own_blocks image file) k d) = (k, l, get_or_default (own_blocks image file) k (get_or (own_blocks image file) k d) d l) in
+      go (get_or (own_blocks image file) k d) (claim_at claims (get_or (own_blocks image file) k d)) named (h (get_or (own_blocks image file) k d) (own_within image file i.intact (get_or (own_blocks image file) k d) named))
+    where
+      go : (block : ℕ) (c : Claim) → Names image file block → IsClaim out image (block_count image) block c → c ≡ One file
+      go block Free m told = absurd (told file i.intact.header.inside.1 i m)
+      go block (One one) m told = ap One (w.alone one block told.1 m told.2)
+      go block Several m told =
+          absurd (told.2 (w.alone told.0 block told.3 m told.4 ∙ sym (w.alone told.1 block told.5 m told.6)))
+
+-- a file that alone claims its header claims its blocks
+pub alone_claims : (out image : List ℕ) (claims : List Claim) (file : ℕ) → AreClaims out image (block_count image) claims → file < block_count image → claim_at claims file ≡ One file → IsClaimant out image file
+alone_claims out image claims file h l alone = (subst (IsClaim out image (block_count image) file) alone (h file l)).1
+
+-- and a whole file alone claims its header
+pub claimed_whole : (out image : List ℕ) (claims : List Claim) (file : ℕ) → AreClaims out image (block_count image) claims → IsWhole out image file → claim_at claims file ≡ One file
+claimed_whole out image claims file h w = whole_noted out image claims h file w.claimant w 0 0 (omega arith)
+
+-- the blocks of a sound file are indices of a list with an element for each block
+pub all_within : (image : List ℕ) (file : ℕ) → IsIntact image file → (xs : List ℕ) (n : ℕ) → xs ≡ own_blocks image file → n ≡ block_count image → All (λ (block : ℕ). block < n) xs
+all_within image file i xs n e size = subst (λ (ys : List ℕ). All (λ (block : ℕ). block < n) ys) (sym e)
+    (λ k d l. omega (arith, size, own_within image file i (get_or (own_blocks image file) k d) (k, l, get_or_default (own_blocks image file) k (get_or (own_blocks image file) k d) d l)))
+
+-- the claims of its blocks decide whether a sound file is whole
+pub whole_decided : (out image : List ℕ) (claims : List Claim) (file : ℕ) (xs : List ℕ) (answer : Bool) → AreClaims out image (block_count image) claims → IsClaimant out image file → xs ≡ own_blocks image file
+    → MatchBool answer (All (λ (block : ℕ). claim_at claims block ≡ One file) xs) (¬ All (λ (block : ℕ). claim_at claims block ≡ One file) xs) → MatchBool answer (IsWhole out image file) (¬ IsWhole out image file)
+whole_decided out image claims file xs true h i e all = is_whole out image claims h file i (subst (λ (ys : List ℕ). All (λ (block : ℕ). claim_at claims block ≡ One file) ys) e all)
+whole_decided out image claims file xs false h i e none = λ w.
+    none (subst (λ (ys : List ℕ). All (λ (block : ℕ). claim_at claims block ≡ One file) ys) (sym e) (whole_noted out image claims h file i w))
+
+-- a list overwritten by one of the same length
+pub refilled : {X : Type 0} (new old : List X) (len : ℕ) → length new ≡ length old → len ≡ length old → take len (new ++ drop (length new) old) ≡ new
+refilled new old len room count =
+    let none : drop (length new) old ≡ [] = drop_of_length-le old (omega (arith, room)) in
+    let whole : len ≡ length new = count ∙ sym room in
+    ap (λ xs. take len (new ++ xs)) none ∙ ap (λ xs. take len xs) (append-nil new) ∙ ap (λ (m : ℕ). take m new) whole ∙ take-length new

@@ -1,0 +1,31 @@
+-- The names that most of these proofs cite, passed on from one place. Declares nothing.
+pub use Rattle.adf_block.specs.Fields.{file_size, format_of, parent_key, pointer, pointer_count}
+unfoldable pub use Rattle.adf_block.specs.Image.{has_free_bit, long}
+pub use Rattle.adf_block.specs.Image.{IsInside, block_count}
+pub use Rattle.adf_block.specs.Whole.{HasFreeBit, IsImage}
+pub use Rattle.adf_block.specs.declared.layout.Format.TheVariants.{Ofs}
+pub use Rattle.adf_block.specs.declared.layout.TheConstants.{NEXT_DATA, NEXT_EXTENSION}
+pub use Rattle.ados_sound.specs.Deleted.{AreAllFree, AreDeleted, AreTrustedPages, HasCount, HasRecovery, IsDeleted, IsShared, IsTrustedBitmap, IsUsed, ListsDeleted}
+pub use Rattle.ados_sound.specs.Doubtful.{IsHeader, IsNamedHeader, IsPlaceIn, IsRoot, IsToldHeader, LooksLikeHeader, MayBeHeader, NamesEntries}
+pub use Rattle.ados_sound.specs.Doubtful.NamesEntries.{of_named, of_root, of_sound}
+pub use Rattle.ados_sound.specs.Sound.{IsClaimant, IsIntact, IsSoundHeader, IsWhole, Names, data_needed, own_blocks}
+pub use Rattle.ados_sound.specs.declared.claims.Claim.{Claim}
+pub use Rattle.ados_sound.specs.declared.claims.Claim.TheVariants.{Free, One, Several}
+pub use Rattle.ados_sound.specs.declared.deleted.Deleted.{Deleted}
+pub use Rattle.ados_sound.specs.Known.{AreAllClaims, AreClaims, AreHeaders, IsClaim, claim_at}
+pub use Rattle.ados_sound.specs.steps.Claims.{IsNoted, with_claim}
+pub use Rattle.ados_sound.specs.steps.Heading.{AreFound, AreSought, FindsMore, IsFound, IsSought}
+pub use Rattle.ados_sound.specs.steps.Leaving.{AreMarked}
+pub use Rattle.ados_sound.specs.steps.Parts.{AreOnce, AreUsersBelow, HasData, HasHolders, IsDataBlock, IsHolder, data_before, extensions_needed}
+pub use Rattle.ados_data.proofs.Sizes.{in_extensions}
+pub use Rattle.ados_model.specs.Accepted.{ShowsNoFault}
+unfoldable pub use Rattle.ados_model.specs.File.{contents, data_blocks, extension_blocks}
+pub use Rattle.ados_model.specs.File.{LawfulFile, data_block, file_byte, pointer_block}
+pub use Rattle.ados_model.specs.Stands.{HasExtension, HasOfsData}
+pub use Rattle.ados_model.specs.Tree.{data_count, extension_count}
+pub use Rattle.std.proofs.Math.ListN.{drop_of_length-le, set}
+pub use Rattle.std.proofs.lemmas.Bool.{cases_eq, cases_lt, cases_order, eq-eqb}
+pub use Rattle.std.proofs.lemmas.List.{append-nil, append_assoc, ext_get_or, get_or-map, get_or_append_left, get_or_default, get_or_past, get_or_push, length-append, length-map, map-append, take_all, take_more}
+pub use Rattle.std.proofs.lemmas.List.Elements.{All-from_get_or, All-map, All-nil, All-push, Contains-append_cases, Contains-append_left, Contains-append_right, Contains-push}
+pub use Rattle.std.proofs.lemmas.List.Quantifiers.{all_pairs_push}
+pub use Rattle.std.proofs.lemmas.Result.{on_ok_weaker}

@@ -1,0 +1,12 @@
+-- A file with right parts is sound, and a sound file has right parts; headers and claims as they are found; deleted entries.
+pub mod Common
+pub mod SoundParts
+pub mod OwnBlocks
+pub mod Leaving
+pub mod Claiming
+pub mod InOrder
+pub mod Naming
+pub mod Heading
+pub mod Trusting
+pub mod Recovering
+pub mod ListingDeleted

@@ -1,0 +1,102 @@
+//! The deleted entries of an image, and how much of each can be had back.
+ghost use Rattle.std.specs.Prelude.{[], IfOk};
+ghost use Rattle.ados_sound.specs.Deleted.{AreDeleted, ListsDeleted};
+ghost use Rattle.ados_sound.specs.Known.{AreAllClaims};
+ghost use Rattle.ados_sound.specs.Listing.{TellsDeleted};
+ghost use Rattle.ados_sound.specs.steps.Deleting.{AreOfReached};
+
+use crate::header::sound_headers;
+use crate::intact::no_users;
+use crate::known::Known;
+use crate::left_out::{LeftOut, deleted_headers};
+use crate::recovery::recovery_of;
+use crate::trust::trusted_marks;
+use adf_block::Image;
+use ados_check::Mark;
+use std::alloc::{AllocError, Global};
+
+/// How much of a deleted entry can be had back.
+#[derive(Clone, Copy, PartialEq, Eq)]
+pub enum Recovery {
+    /// The entry is a directory, which has no bytes.
+    Directory,
+    /// All blocks of the file are free, as many as `all`, and no other sound file has one of them.
+    Free {
+        all: usize,
+    },
+    /// Some blocks of the file are used now: `used` of `all`, the header among them. `by` is the header of an entry that has
+    /// one of them, where one is known.
+    Used {
+        used: usize,
+        all: usize,
+        by: Option<u32>,
+    },
+    /// All blocks of the file are free, but `shared` of `all` are in other sound files that no directory leads to.
+    Shared {
+        shared: usize,
+        all: usize,
+    },
+    /// The blocks of the file are not those that its size needs.
+    NotIntact,
+}
+
+/// A deleted entry.
+#[derive(Clone, Copy)]
+pub struct Deleted {
+    /// The block number of its header.
+    pub header: u32,
+    pub recovery: Recovery,
+}
+
+/// The deleted entries of an image, if its bitmap says which they are.
+#[derive(Drop)]
+pub enum DeletedEntries {
+    /// These, by block, and what is known of the image, where no header is left out.
+    Found(Known, Vec<Deleted>),
+    /// None. The image is as it was given.
+    Nothing(Image),
+    /// The bitmap cannot be trusted.
+    NoTrustedBitmap,
+}
+
+/// The deleted entries of an image, each with how much of it can be had back.
+///
+/// Time and memory grow about linearly with the size of the image.
+pub fn deleted_entries(alloc: Global, image: Image) -> Result<DeletedEntries, AllocError>
+    ensures { IfOk result (TellsDeleted image) }
+{
+    let Some(marks) = trusted_marks(alloc, &image)? else {
+        return Ok(DeletedEntries::NoTrustedBitmap);
+    };
+    let sound = sound_headers(alloc, &image)?;
+    let headers = deleted_headers(alloc, &image, Some(&sound))?;
+    if headers.is_empty() {
+        return Ok(DeletedEntries::Nothing(image));
+    }
+    let known = Known::of(alloc, image, true, LeftOut::none(alloc), &sound)?;
+    let deleted = all_deleted(&known, &headers, &marks)?;
+    Ok(DeletedEntries::Found(known, deleted))
+}
+
+/// How much of each deleted entry of an image can be had back.
+fn all_deleted(
+    known: &Known,
+    headers: &[u32],
+    marks: &[Option<Mark>],
+) -> Result<Vec<Deleted>, AllocError>
+    requires headers { AreDeleted known.now.image headers.now }
+    requires claims { AreAllClaims [] known.now.image known.now.claims.items }
+    requires marks { AreOfReached known.now.image marks.now }
+    ensures { IfOk result (λ found. ListsDeleted known.now.image found.items) }
+{
+    let mut users = no_users(known.alloc, &known.image)?;
+    let mut found = Vec::new(known.alloc);
+    for header in headers {
+        let recovery = recovery_of(known, *header, marks, &mut users)?;
+        found.push(Deleted {
+            header: *header,
+            recovery,
+        })?;
+    }
+    Ok(found)
+}

@@ -1,0 +1,107 @@
+//! The pointer blocks of a file: its header and its extension blocks.
+ghost use Rattle.std.specs.Prelude.{◌≡◌, ◌<◌, ◌-◌, ◌*◌, ◌∷◌, min, ◌↔◌, Contains, IfOk, IsTrue, MatchOption};
+ghost use Rattle.adf_block.specs.Image.{block_count};
+ghost use Rattle.ados_model.specs.Stands.{HasExtension};
+ghost use Rattle.ados_model.specs.File.{extension_blocks};
+ghost use Rattle.ados_sound.specs.Doubtful.{LooksLikeExtension};
+ghost use Rattle.ados_sound.specs.Sound.{IsIntact, data_needed};
+ghost use Rattle.ados_sound.specs.steps.Parts.{HasHolders, IsHolder};
+
+use adf_block::layout::{
+    BOOT_BLOCKS, FFS_ROOM, FILE_SIZE, FILE_TYPE, LIST_TYPE, NEXT_EXTENSION, OFS_ROOM, OWN_KEY,
+    PARENT, POINTER_COUNT, PRIMARY_TYPE, SECONDARY_TYPE, TABLE_LONGS,
+};
+use adf_block::{Format, Image};
+use std::alloc::{AllocError, Global};
+
+/// The number of data blocks that the size of a file needs.
+pub fn data_needed(image: &Image, file: u32) -> u32
+    requires { file < block_count image.now }
+    ensures { result ≡ data_needed image.now file }
+{
+    let room = match image.format() {
+        Format::Ofs => OFS_ROOM,
+        Format::Ffs => FFS_ROOM,
+    };
+    image.long(file, FILE_SIZE).div_ceil(room)
+}
+
+/// The header and the extension blocks of a file with this many data blocks, if each has the right fields for its
+/// position. Those that come again and again are not followed to the end.
+pub(crate) fn holders(
+    alloc: Global,
+    image: &Image,
+    file: u32,
+    needed: u32,
+) -> Result<Option<Vec<u32>>, AllocError>
+    requires inside { file < block_count image.now }
+    requires needed { needed ≡ data_needed image.now file }
+    ensures { IfOk result (λ found. MatchOption found (¬ IsIntact image.now file)
+        (λ blocks. HasHolders image.now file × (blocks.items ≡ file ∷ extension_blocks image.now file))) }
+{
+    let mut blocks = Vec::new(alloc);
+    let mut holder = file;
+    for q in 0..needed.div_ceil(TABLE_LONGS).max(1) {
+        if !is_holder(image, file, q, holder, needed) {
+            return Ok(None);
+        }
+        if is_again(&blocks, holder) {
+            return Ok(None);
+        }
+        blocks.push(holder)?;
+        holder = image.long(holder, NEXT_EXTENSION);
+    }
+    if holder != 0 {
+        return Ok(None);
+    }
+    Ok(Some(blocks))
+}
+
+/// Whether a block is the one halfway to it. If pointer blocks come again and again, one of the next is (Floyd's rule).
+fn is_again(blocks: &[u32], block: u32) -> bool
+    ensures { IsTrue result → Contains blocks.now block }
+{
+    match blocks.get(blocks.len() / 2) {
+        Some(halfway) => *halfway == block,
+        None => false,
+    }
+}
+
+/// Whether a block can be pointer block `q` of a file with this many data blocks.
+fn is_holder(image: &Image, file: u32, q: u32, block: u32, needed: u32) -> bool
+    requires needed { needed ≡ data_needed image.now file }
+    ensures { IsTrue result ↔ IsHolder image.now file q block }
+{
+    BOOT_BLOCKS <= block
+        && block < image.blocks()
+        && (q == 0 || is_extension(image, file, block))
+        && u64::from(image.long(block, POINTER_COUNT)) == pointers_in(q, needed)
+}
+
+/// The number of pointers in pointer block `q` of a file with this many data blocks.
+fn pointers_in(q: u32, needed: u32) -> u64
+    ensures { result ≡ min TABLE_LONGS (needed - TABLE_LONGS * q) }
+{
+    u64::from(needed)
+        .saturating_sub(u64::from(TABLE_LONGS) * u64::from(q))
+        .min(u64::from(TABLE_LONGS))
+}
+
+/// Whether a block is an extension block of a file.
+fn is_extension(image: &Image, file: u32, block: u32) -> bool
+    requires { block < block_count image.now }
+    ensures { IsTrue result ↔ HasExtension image.now file block }
+{
+    looks_like_extension(image, file, block) && image.sum(block) == 0
+}
+
+/// Whether a block says that it is an extension block of a file, whatever its checksum is.
+pub fn looks_like_extension(image: &Image, file: u32, block: u32) -> bool
+    requires { block < block_count image.now }
+    ensures { IsTrue result ↔ LooksLikeExtension image.now file block }
+{
+    image.long(block, PARENT) == file
+        && image.long(block, PRIMARY_TYPE) == LIST_TYPE
+        && image.long(block, SECONDARY_TYPE) == FILE_TYPE
+        && image.long(block, OWN_KEY) == block
+}

@@ -1,0 +1,87 @@
+//! An image, and what is known of its blocks before its entries are gathered.
+ghost use Rattle.std.specs.Prelude.{◌≡◌, ◌<◌, ◌↔◌, IfOk, IsTrue, MatchBool};
+ghost use Rattle.adf_block.specs.Image.{block_count};
+ghost use Rattle.ados_sound.specs.Deleted.{AreDeleted, TellsTrust};
+ghost use Rattle.ados_sound.specs.Doubtful.{IsHeader, NamesEntries};
+ghost use Rattle.ados_sound.specs.Known.{AreKnown};
+ghost use Rattle.ados_sound.specs.steps.Heading.{AreSound};
+
+use crate::claims::{Claim, claims};
+use crate::header::{is_root, sound_headers};
+use crate::headers::headers;
+use crate::left_out::{LeftOut, left_out_of};
+use adf_block::Image;
+use std::alloc::{AllocError, Global};
+
+/// An image, and what is known of its blocks.
+#[derive(Drop)]
+pub struct Known {
+    pub alloc: Global,
+    pub image: Image,
+    /// Whether the bitmap of the image is trusted.
+    pub trusted: bool,
+    /// The headers that are left out.
+    pub left_out: LeftOut,
+    /// For each block, whether it is a header that is told, sound or doubtful.
+    pub(crate) headers: Vec<bool>,
+    /// For each block, the sound files that claim it.
+    pub(crate) claims: Vec<Claim>,
+}
+
+impl Known {
+    /// What is known of the blocks of an image, where its deleted entries are left out.
+    ///
+    /// Time and memory grow about linearly with the size of the image.
+    pub fn without_deleted(alloc: Global, image: Image) -> Result<Known, AllocError>
+        ensures known { IfOk result AreKnown }
+        ensures image { IfOk result (λ known. known.image ≡ image) }
+        ensures left_out { IfOk result (λ known. AreDeleted image known.left_out) }
+    {
+        let sound = sound_headers(alloc, &image)?;
+        let (left_out, trusted) = left_out_of(alloc, &image, &sound)?;
+        Known::of(alloc, image, trusted, left_out, &sound)
+    }
+
+    /// What is known of the blocks of an image, where some headers are left out. `sound` marks the sound headers.
+    pub(crate) fn of(
+        alloc: Global,
+        image: Image,
+        trusted: bool,
+        left_out: LeftOut,
+        sound: &[bool],
+    ) -> Result<Known, AllocError>
+        requires trust { TellsTrust image trusted }
+        requires sound { AreSound image sound.now }
+        ensures known { IfOk result AreKnown }
+        ensures image { IfOk result (λ known. known.image ≡ image) }
+        ensures left_out { IfOk result (λ known. known.left_out ≡ left_out) }
+    {
+        let claims = claims(alloc, &image, &left_out, sound)?;
+        let headers = headers(alloc, &image, &left_out, sound)?;
+        Ok(Known {
+            alloc,
+            image,
+            trusted,
+            left_out,
+            headers,
+            claims,
+        })
+    }
+
+    /// Whether a block is a header that is told.
+    pub fn is_header(&self, block: u32) -> bool
+        requires { AreKnown self.now }
+        ensures { MatchBool result (IsHeader self.now.left_out self.now.image block) (¬ IsHeader self.now.left_out self.now.image block) }
+    {
+        block < self.image.blocks() && self.headers[block as usize]
+    }
+
+    /// Whether a block can name entries: it is the root or a header that is told.
+    pub fn names_entries(&self, block: u32) -> bool
+        requires inside { block < block_count self.now.image }
+        requires known { AreKnown self.now }
+        ensures { IsTrue result ↔ NamesEntries self.now.left_out self.now.image block }
+    {
+        self.is_header(block) || is_root(&self.image, block)
+    }
+}

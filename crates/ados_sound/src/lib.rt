@@ -1,0 +1,32 @@
+//! What the blocks of a damaged image are by themselves: its sound headers, the files that are sound and whole, and the doubtful
+//! headers. And whether its bitmap can be trusted, which entries this says are deleted, and how much of each can be had back.
+#![tactic(auto)]
+
+// Headers.
+mod header;
+mod headers;
+
+// Files.
+mod claims;
+mod data;
+mod holders;
+mod intact;
+mod whole;
+
+// Deleted entries.
+mod deleted;
+mod left_out;
+mod recovery;
+mod trust;
+
+// All that is known of an image.
+mod known;
+
+pub use data::is_own_data;
+pub use deleted::{Deleted, DeletedEntries, Recovery, deleted_entries};
+pub use header::{dir_of_place, is_file, is_sound_header, name_of};
+pub use holders::{data_needed, looks_like_extension};
+pub use known::Known;
+pub use left_out::{LeftOut, faultless_deleted};
+pub use trust::is_used;
+pub use whole::is_whole;
