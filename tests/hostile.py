@@ -428,8 +428,9 @@ def others_in_place(room: Shared) -> None:
 # ---- directories that are swapped
 
 
-# What is taken out: a file, and then a directory of files.
+# What is taken out: a file, and then a directory of files. And an image that is changed, in a directory of its own.
 TAKEN = ["extract", "--to", "theirs/out", "way.adf", "a", "way"]
+CHANGED = ["mkdir", *MOMENT, "theirs/dir/image.adf", "new"]
 WAY = [f"way/f{number:02}" for number in range(FILES)]
 # The levels of directories in a deep image: more than are open at a time. The handles that a process then has at most: 64, and those
 # of its standard streams.
@@ -540,6 +541,17 @@ def swapped_new(room: Shared) -> Optional[str]:
     return fault or (None if is_there else "it is not in the directory that was open")
 
 
+def swapped_image(room: Shared) -> Optional[str]:
+    """What is wrong after the directory of an image was swapped for a link, directly after the image was locked."""
+    with_dir(room)
+    call = find_call(room, CHANGED, ["flock"], "/dir/image.adf>")
+    with_dir(room)
+    ran, late = stopped_at(room, CHANGED, call, moved_away(room, "theirs/dir"))
+    fault = outside_of(ran) or late or fault_of(ran, 2, None, "theirs/dir/image.adf")
+    is_kept = room.content("theirs/dir.away/image.adf") == room.full
+    return fault or (None if is_kept else "the image is changed")
+
+
 class Race(NamedTuple):
     """A command that runs again and again, and a directory that is swapped meanwhile."""
 
@@ -610,8 +622,7 @@ def race_of_an_image(room: Shared) -> None:
         return None if is_changed == is_well else f"the image is {'changed' if is_changed else 'unchanged'}"
 
     put_way(room)
-    words = ["mkdir", *MOMENT, "theirs/dir/image.adf", "new"]
-    fault = raced(room, Race(words, "theirs/dir", lambda: with_dir(room), fault_of_end))
+    fault = raced(room, Race(CHANGED, "theirs/dir", lambda: with_dir(room), fault_of_end))
     room.report.hold("a link for the directory of an image, again and again", fault)
 
 
@@ -623,6 +634,7 @@ def swapped_directories(room: Shared) -> None:
     fault = swapped_in(room, HOLD_UP_FOUND, lambda: with_way(room))
     room.report.hold(f"a link for a directory {HOLD_UP_FOUND.name}", fault)
     room.report.hold("a link for the directory of a new image", swapped_new(room))
+    room.report.hold("a link for the directory of an image, once it is locked", swapped_image(room))
 
 
 def put_deep(room: Shared) -> List[str]:

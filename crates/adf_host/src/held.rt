@@ -137,7 +137,7 @@ impl HeldFile {
     }
 
     /// The same file, locked until both are dropped.
-    fn again(&self) -> Result<HeldFile, HoldFault>
+    pub fn again(&self) -> Result<HeldFile, HoldFault>
         ensures { IfErr result (λ fault. fault ≡ HoldFault.Lock) }
     {
         match self.file.try_clone() {

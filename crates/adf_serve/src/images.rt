@@ -178,7 +178,12 @@ impl<'a> Work<'a> {
             return Err(CommandFault::Read(image, ReadReason::Directory));
         }
         let out = target.out.unwrap_or(image);
-        let mut held_out = match hold_target(rt, out, Some(&held)) {
+        // The file that was locked is the one to write, whatever its path leads to by now.
+        let target_out = match target.out {
+            Some(out) => hold_target(rt, out, Some(&held)),
+            None => held.again().map(Some),
+        };
+        let mut held_out = match target_out {
             Ok(held_out) => held_out,
             Err(fault) => return Err(CommandFault::Held(out, fault)),
         };
