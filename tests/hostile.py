@@ -542,9 +542,10 @@ def swapped_new(room: Shared) -> Optional[str]:
 
 
 def swapped_image(room: Shared) -> Optional[str]:
-    """What is wrong after the directory of an image was swapped for a link, directly after the image was locked."""
+    """What is wrong after the directory of an image was swapped for a link. It comes after the image is locked, and its path was seen
+    to lead to the locked file."""
     with_dir(room)
-    call = find_call(room, CHANGED, ["flock"], "/dir/image.adf>")
+    call = find_call(room, CHANGED, ["statx", "newfstatat", "stat"], '"theirs/dir/image.adf"')
     with_dir(room)
     ran, late = stopped_at(room, CHANGED, call, moved_away(room, "theirs/dir"))
     fault = outside_of(ran) or late or fault_of(ran, 2, None, "theirs/dir/image.adf")
