@@ -1,6 +1,11 @@
 -- A list with another list written over a part of it.
-use Rattle.ados_data.proofs.Common.{◌≡◌, ℕ, ◌+◌, ◌-◌, ◌<◌, ◌≤◌, ◌++◌, inl, inr, List, length, replicate, take, drop, slice_index, refl, sym, ap, ◌∙◌, arith, ◌*◌, ◌%◌, min, cases_lt, ext_get_or, get_or_append_left, get_or-append_right, get_or-take, get_or-drop, length-take, length-drop, length-append, length-replicate, get_or-replicate, take-append-le, take_all, overlaid, Format, data_count, data_size, IsLonger}
+use Rattle.ados_data.proofs.Common.{◌≡◌, ℕ, ◌+◌, ◌-◌, ◌<◌, ◌≤◌, ◌++◌, inl, inr, List, length, replicate, [], add-zero, take, drop, slice_index, refl, sym, ap, ◌∙◌, arith, ◌*◌, ◌%◌, min, cases_lt, ext_get_or, get_or_append_left, get_or-append_right, get_or-take, get_or-drop, length-take, length-drop, length-append, length-replicate, get_or-replicate, take-append-le, take_all, overlaid, Format, data_count, data_size, IsLonger}
+use Rattle.std.proofs.lemmas.List.{append-nil, take-append-drop}
 use Rattle.ados_data.proofs.Sizes.{rest_covered}
+
+-- nothing written
+pub overlaid_none : (xs : List ℕ) (pos : ℕ) → xs ≡ overlaid xs pos []
+overlaid_none xs pos = simp (append-nil, add-zero, take-append-drop)
 
 module _ (xs : List ℕ) (pos : ℕ) (ys : List ℕ) (room : pos ≤ length xs) where
   front : length (take pos xs) ≡ pos
