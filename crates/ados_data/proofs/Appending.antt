@@ -227,11 +227,11 @@ module _ {i0 i1 i2 : List ℕ} {format : Format} {file : ℕ} {blocks was : List
   pub file_inside : file < block_count i2
   file_inside = omega (arith, blocks_same, r.stands.places.headers_inside 0 (omega arith))
 
-  pub last_apart : 0 < length blocks → (slice_index blocks (length blocks - 1) ≢ holder) × (slice_index blocks (length blocks - 1) ≢ file) × (slice_index blocks (length blocks - 1) ≢ b)
-  last_apart l = (
-    (λ z. r.stands.places.apart (length r.extensions) (length blocks - 1) (omega arith) (omega arith) (sym (z ∙ r.holder_is))),
-    (λ z. r.stands.places.apart 0 (length blocks - 1) (omega arith) (omega arith) (sym z)),
-    data_beside_new i1 b i2 n r.stands.size_ok r.stands.map format file blocks r.extensions size r.stands (length blocks - 1) (omega arith),
+  pub last_apart : {count last : ℕ} → count ≡ length blocks → last ≡ slice_index blocks (length blocks - 1) → 0 < count → (last ≢ holder) × (last ≢ file) × (last ≢ b)
+  last_apart e f l = (
+    (λ z. r.stands.places.apart (length r.extensions) (length blocks - 1) (omega arith) (omega arith) (sym (sym f ∙ z ∙ r.holder_is))),
+    (λ z. r.stands.places.apart 0 (length blocks - 1) (omega arith) (omega arith) (sym (sym f ∙ z))),
+    (λ z. data_beside_new i1 b i2 n r.stands.size_ok r.stands.map format file blocks r.extensions size r.stands (length blocks - 1) (omega arith) (sym f ∙ z)),
   )
 
   pub new_apart : (b ≢ holder) × (b ≢ file)
