@@ -69,13 +69,10 @@ module _ (old new : List ℕ) (format : Format) (file : ℕ) (blocks extensions 
       no (inr n) (z, inl at) = omega arith
       no _ (z, inr at) = omega (arith, a at.0, at.1)
 
-module _ (old new : List ℕ) (format : Format) (file : ℕ) (blocks extensions : List ℕ) (size i low high : ℕ) (s : Standing old format file blocks extensions size) (within : i < length blocks) (fields : format ≡ Ofs → 24 ≤ low)
-    (summed : format ≡ Ofs → block_sum new (slice_index blocks i) ≡ 0) (h : SameBut (AtData format (slice_index blocks i) low high) old new) where
   pub leaves_put : Leaves old file blocks extensions new
   leaves_put =
-      leaves_owned file blocks extensions (put_owned old new format file blocks extensions size i low high s within fields summed h)
-      (λ c k o at. o.beside_data i within at.0) (λ k at. absurd (s.places.apart 0 i (omega arith) within at.0))
-      (λ z. same_sum (Put old new format file blocks extensions size i low high s within fields summed h) old new h file (λ k l at. s.places.apart 0 i (omega arith) within at.0) ∙ z)
+      leaves_owned file blocks extensions put_owned (λ c k o at. o.beside_data i within at.0) (λ k at. absurd (s.places.apart 0 i (omega arith) within at.0))
+      (λ z. same_sum Put old new h file (λ k l at. s.places.apart 0 i (omega arith) within at.0) ∙ z)
 
 -- ---- a part of a file overwritten
 
