@@ -240,12 +240,8 @@ module _ (old new : List ℕ) (format : Format) (file : ℕ) (blocks extensions 
 
   in_header : (q k : ℕ) → q ≤ length extensions → Resized (slice_index (file ∷ extensions) q) k → IsPointerField (pointer_count new (slice_index (file ∷ extensions) q)) (k / 4) ⊎ ((slice_index (file ∷ extensions) q ≡ file) × ((k / 4 ≡ 4) ⊎ (k / 4 ≡ FILE_SIZE)))
   in_header q k l (inl at) = absurd (s.places.apart q (length blocks - 1) l (omega (arith, some)) at.2.0)
-  in_header q k l (inr (inl (at, inl z))) = inl (inl z)
-  in_header q k l (inr (inl (at, inr (inl z)))) = inl (inr (inr (inr z)))
-  in_header q k l (inr (inl (at, inr (inr z)))) = inl (inr (inl z))
-  in_header q k l (inr (inr (at, inl z))) = inr (at, inl z)
-  in_header q k l (inr (inr (at, inr (inl z)))) = inr (at, inr z)
-  in_header q k l (inr (inr (at, inr (inr z)))) = inl (inr (inl z))
+  in_header q k l (inr (inl (at, z))) = grind arith
+  in_header q k l (inr (inr (at, z))) = grind arith
 
   in_data : (j k : ℕ) → j < length blocks → Resized (slice_index blocks j) k → k < data_end (format_of old) size' j
   in_data j k l at = subst (λ (f : Format). k < data_end f size' j) (sym s.format_is) (there at)
