@@ -16,12 +16,8 @@ behind_fields Ffs size i k e l = cc
 pub header_uncut : (file : ℕ) (blocks extensions : List ℕ) (d : ℕ) (old : List ℕ) → AreApart (block_count old) file blocks extensions → 0 < length blocks → d ≤ length blocks → (k : ℕ) → ¬ IsCutField (k / 4)
     → ¬ AtEnds (format_of old) file blocks extensions d file k
 header_uncut file blocks extensions d old a some few k n (inl at) = a.apart 0 (d - 1) (omega arith) (omega (arith, at.1, few)) at.2.0
-header_uncut file blocks extensions d old a some few k n (inr (inl (at, inl z))) = n (inl z)
-header_uncut file blocks extensions d old a some few k n (inr (inl (at, inr (inl z)))) = n (inr (inr (inr (inr z))))
-header_uncut file blocks extensions d old a some few k n (inr (inl (at, inr (inr z)))) = n (inr (inr (inl z)))
-header_uncut file blocks extensions d old a some few k n (inr (inr (at, inl z))) = n (inr (inl z))
-header_uncut file blocks extensions d old a some few k n (inr (inr (at, inr (inl z)))) = n (inr (inr (inr (inl z))))
-header_uncut file blocks extensions d old a some few k n (inr (inr (at, inr (inr z)))) = n (inr (inr (inl z)))
+header_uncut file blocks extensions d old a some few k n (inr (inl (at, z))) = n (grind arith)
+header_uncut file blocks extensions d old a some few k n (inr (inr (at, z))) = n (grind arith)
 
 module _ (file : ℕ) (blocks extensions : List ℕ) (d : ℕ) (old new : List ℕ) (a : AreApart (block_count old) file blocks extensions) (some : 0 < length blocks) (few : d ≤ length blocks) (fewer : extension_count d ≤ length extensions)
     (untouched : (c k : ℕ) → k < 512 → ((p : ℕ) → p < pages_of old → c ≢ page_block old p) → ¬ AtEnds (format_of old) file blocks extensions d c k → byte_at new c k ≡ byte_at old c k)
@@ -41,18 +37,12 @@ module _ (file : ℕ) (blocks extensions : List ℕ) (d : ℕ) (old new : List �
 
   header_end : (k n : ℕ) → ¬ IsHeaderField n (k / 4) → ¬ AtEnds (format_of old) file blocks extensions d file k
   header_end k n o (inl at) = a.apart 0 (d - 1) (omega arith) (omega (arith, at.1, few)) at.2.0
-  header_end k n o (inr (inl (at, inl z))) = o (inl (inl z))
-  header_end k n o (inr (inl (at, inr (inl z)))) = o (inl (inr (inr (inr z))))
-  header_end k n o (inr (inl (at, inr (inr z)))) = o (inl (inr (inl z)))
-  header_end k n o (inr (inr (at, inl z))) = o (inr (inl z))
-  header_end k n o (inr (inr (at, inr (inl z)))) = o (inr (inr z))
-  header_end k n o (inr (inr (at, inr (inr z)))) = o (inl (inr (inl z)))
+  header_end k n o (inr (inl (at, z))) = o (grind arith)
+  header_end k n o (inr (inr (at, z))) = o (grind arith)
 
   extension_end : (q k n : ℕ) → q < length extensions → ¬ IsPointerField n (k / 4) → ¬ AtEnds (format_of old) file blocks extensions d (slice_index extensions q) k
   extension_end q k n l o (inl at) = a.apart (suc q) (d - 1) (omega arith) (omega (arith, at.1, few)) at.2.0
-  extension_end q k n l o (inr (inl (at, inl z))) = o (inl z)
-  extension_end q k n l o (inr (inl (at, inr (inl z)))) = o (inr (inr (inr z)))
-  extension_end q k n l o (inr (inl (at, inr (inr z)))) = o (inr (inl z))
+  extension_end q k n l o (inr (inl (at, z))) = o (grind arith)
   extension_end q k n l o (inr (inr at)) = a.headers_once 0 (suc q) (omega arith) (omega arith) (sym at.0)
 
   data_end_of : (i k size : ℕ) → i < d → data_end (format_of old) size i ≤ k → ¬ AtEnds (format_of old) file blocks extensions d (slice_index blocks i) k

@@ -6,10 +6,7 @@ use Rattle.ados_data.proofs.Standing.{Standing}
 -- ---- the fields of more pointers, and the end of more bytes
 
 pub more_pointers : (a b j : ℕ) → a ≤ b → IsPointerField a j → IsPointerField b j
-more_pointers a b j l (inl z) = inl z
-more_pointers a b j l (inr (inl z)) = inr (inl z)
-more_pointers a b j l (inr (inr (inl z))) = inr (inr (inl (omega (arith, l, z.0), z.1)))
-more_pointers a b j l (inr (inr (inr z))) = inr (inr (inr z))
+more_pointers a b j l z = grind arith
 
 pub more_header : (a b j : ℕ) → a ≤ b → IsHeaderField a j → IsHeaderField b j
 more_header a b j l (inl z) = inl (more_pointers a b j l z)

@@ -35,16 +35,11 @@ module _ (old mid new : List ℕ) (format : Format) (file : ℕ) (blocks extensi
   beside_extension c k o (inr (inr at)) = o.beside_headers (length extensions) (omega (arith, length_push extensions e)) (at.0 ∙ sym (head_pushed_before file extensions e (length extensions) (omega arith)))
 
   pointer_field : (count j : ℕ) → (j ≡ NEXT_EXTENSION) ⊎ (j ≡ 5) → IsPointerField count j
-  pointer_field count j (inl z) = inr (inr (inr z))
-  pointer_field count j (inr z) = inr (inl z)
+  pointer_field count j z = grind arith
 
   -- the changes in the new one, which was empty
   extended_new : (k : ℕ) → (AtExtensionFields e e k ⊎ AtField (slice_index (file ∷ extensions) (length extensions)) NEXT_EXTENSION e k) → IsExtensionField (pointer_count new e) (k / 4)
-  extended_new k (inl (at, inl z)) = inr (inl z)
-  extended_new k (inl (at, inr (inl z))) = inr (inr (inl z))
-  extended_new k (inl (at, inr (inr (inl z)))) = inl (inr (inl z))
-  extended_new k (inl (at, inr (inr (inr (inl z))))) = inr (inr (inr (inl z)))
-  extended_new k (inl (at, inr (inr (inr (inr z))))) = inr (inr (inr (inr z)))
+  extended_new k (inl (at, z)) = grind arith
   extended_new k (inr (at, z)) = inl (pointer_field (pointer_count new e) (k / 4) z)
 
   no_first : (k : ℕ) → k / 4 ≡ 4 → ¬ Extending file k
@@ -105,17 +100,11 @@ module _ (i1 i2 i3 i4 : List ℕ) (format : Format) (file : ℕ) (blocks extensi
   in_header q k l (inr (inl (inl at))) = absurd (beside_header q l at.1)
   in_header q k l (inr (inl (inr (inl at)))) = absurd (s.places.apart q (length blocks - 1) l (omega (arith, at.1)) at.2.0)
   in_header q k l (inr (inl (inr (inr (inl (at, inl z)))))) = inl (inr (inr (inl (omega (arith, z, y.counted, ap (pointer_count i4) at, least, room), omega (arith, z)))))
-  in_header q k l (inr (inl (inr (inr (inl (at, inr (inl z))))))) = inl (inl z)
-  in_header q k l (inr (inl (inr (inr (inl (at, inr (inr z))))))) = inl (inr (inl z))
-  in_header q k l (inr (inl (inr (inr (inr (at, inl z)))))) = inr (at, inl z)
-  in_header q k l (inr (inl (inr (inr (inr (at, inr z)))))) = inl (inr (inl z))
+  in_header q k l (inr (inl (inr (inr (inl (at, inr z)))))) = grind arith
+  in_header q k l (inr (inl (inr (inr (inr (at, z)))))) = grind arith
   in_header q k l (inr (inr (inl at))) = absurd (beside_header q l at.2.0)
-  in_header q k l (inr (inr (inr (inl (at, inl z))))) = inl (inl z)
-  in_header q k l (inr (inr (inr (inl (at, inr (inl z)))))) = inl (inr (inr (inr z)))
-  in_header q k l (inr (inr (inr (inl (at, inr (inr z)))))) = inl (inr (inl z))
-  in_header q k l (inr (inr (inr (inr (at, inl z))))) = inr (at, inl z)
-  in_header q k l (inr (inr (inr (inr (at, inr (inl z)))))) = inr (at, inr z)
-  in_header q k l (inr (inr (inr (inr (at, inr (inr z)))))) = inl (inr (inl z))
+  in_header q k l (inr (inr (inr (inl (at, z))))) = grind arith
+  in_header q k l (inr (inr (inr (inr (at, z))))) = grind arith
 
   -- only the header of an old OFS data block changes
   in_data : (i k : ℕ) → i < length blocks → Changed (slice_index blocks i) k → (format ≡ Ofs) × (k < 24)
