@@ -17,12 +17,10 @@ more_extension a b j l (inl z) = inl (more_pointers a b j l z)
 more_extension a b j l (inr z) = inr z
 
 pub reach : (format : Format) (a b i k : ℕ) → a ≤ b → data_end format b i ≤ k → data_end format a i ≤ k
-reach Ofs a b i k l h = omega arith
-reach Ffs a b i k l h = omega arith
+reach format a b i k l h = grind arith
 
 pub within_reach : (format : Format) (a b i k : ℕ) → a ≤ b → k < data_end format a i → ¬ (data_end format b i ≤ k)
-within_reach Ofs a b i k l m h = omega arith
-within_reach Ffs a b i k l m h = omega arith
+within_reach format a b i k l m h = grind arith
 
 -- ---- growth
 
@@ -186,8 +184,7 @@ header_within Ffs size i k e l = cc
 
 -- a part of a data block ends at the end of the file's bytes or before it
 pub put_end : (format : Format) (at n size : ℕ) → at % data_size format + n ≤ data_size format → at + n ≤ size → data_start format + at % data_size format + n ≤ data_end format size (at / data_size format)
-put_end Ofs at n size l m = omega arith
-put_end Ffs at n size l m = omega arith
+put_end format at n size l m = grind arith
 
 module _ (old : List ℕ) (format : Format) (file : ℕ) (blocks extensions : List ℕ) (size i low high : ℕ) (s : Standing old format file blocks extensions size) (within : i < length blocks) where
   abbrev Put : ℕ → ℕ → Type 0
