@@ -9,8 +9,7 @@ AtEnds format file blocks extensions d c k = AtEnd format d (slice_index blocks 
 
 -- in OFS the data follow the fields
 pub behind_fields : (format : Format) (size i k : ℕ) → format ≡ Ofs → data_end format size i ≤ k → 24 ≤ k
-behind_fields Ofs size i k e l = omega (arith, l)
-behind_fields Ffs size i k e l = cc
+behind_fields format size i k e l = grind arith
 
 -- a cut writes only these longs of the header
 pub header_uncut : (file : ℕ) (blocks extensions : List ℕ) (d : ℕ) (old : List ℕ) → AreApart (block_count old) file blocks extensions → 0 < length blocks → d ≤ length blocks → (k : ℕ) → ¬ IsCutField (k / 4)

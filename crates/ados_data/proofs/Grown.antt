@@ -9,12 +9,10 @@ pub more_pointers : (a b j : ℕ) → a ≤ b → IsPointerField a j → IsPoint
 more_pointers a b j l z = grind arith
 
 pub more_header : (a b j : ℕ) → a ≤ b → IsHeaderField a j → IsHeaderField b j
-more_header a b j l (inl z) = inl (more_pointers a b j l z)
-more_header a b j l (inr z) = inr z
+more_header a b j l z = grind arith
 
 pub more_extension : (a b j : ℕ) → a ≤ b → IsExtensionField a j → IsExtensionField b j
-more_extension a b j l (inl z) = inl (more_pointers a b j l z)
-more_extension a b j l (inr z) = inr z
+more_extension a b j l z = grind arith
 
 pub reach : (format : Format) (a b i k : ℕ) → a ≤ b → data_end format b i ≤ k → data_end format a i ≤ k
 reach format a b i k l h = grind arith
@@ -179,8 +177,7 @@ keeps_within changed old new file blocks extensions h beside header extension wi
 
 -- the header of an OFS data block is before the end of its bytes
 header_within : (format : Format) (size i k : ℕ) → format ≡ Ofs → k < 24 → k < data_end format size i
-header_within Ofs size i k e l = omega arith
-header_within Ffs size i k e l = cc
+header_within format size i k e l = grind arith
 
 -- a part of a data block ends at the end of the file's bytes or before it
 pub put_end : (format : Format) (at n size : ℕ) → at % data_size format + n ≤ data_size format → at + n ≤ size → data_start format + at % data_size format + n ≤ data_end format size (at / data_size format)

@@ -65,8 +65,7 @@ module _ (old new : List ℕ) (format : Format) (file : ℕ) (blocks extensions 
   ]
     where
       no : (k < low) ⊎ (high ≤ k) → ¬ Put (slice_index blocks j) k
-      no (inl n) (z, inl at) = omega arith
-      no (inr n) (z, inl at) = omega arith
+      no n (z, inl at) = omega arith
       no _ (z, inr at) = omega (arith, a at.0, at.1)
 
   pub leaves_put : Leaves old file blocks extensions new
@@ -192,8 +191,7 @@ written_settled {format} {block} low ys {old} {mid} behind room put first (inr (
 
 -- the data of an OFS block follow its fields
 pub past_fields : (format : Format) (n : ℕ) → format ≡ Ofs → 24 ≤ data_start format + n
-past_fields Ofs n e = omega arith
-past_fields Ffs n e = cc
+past_fields format n e = grind arith
 
 -- a turn of the walk: `done` of all bytes are written over the bytes xs, and the next part is in the block of byte pos + done
 pub record IsTurn (start xs i0 : List ℕ) (format : Format) (file size pos : ℕ) (all : List ℕ) (done part room holder : ℕ) : Type 0 where

@@ -15,12 +15,10 @@ in_extensions i d h = omega arith
 
 -- the header bytes and the data bytes of a data block are 512
 pub whole_block : (format : Format) → data_start format + data_size format ≡ 512
-whole_block Ofs = omega arith
-whole_block Ffs = omega arith
+whole_block format = grind arith
 
 pub few_bytes : (format : Format) → (0 < data_size format) × (data_size format ≤ 512)
-few_bytes Ofs = (omega arith, omega arith)
-few_bytes Ffs = (omega arith, omega arith)
+few_bytes format = grind arith
 
 -- the pointer for the next byte is the first of the next pointer block
 pub next_holder : (format : Format) (at part : ℕ) → 0 < part → at % data_size format + part ≤ data_size format → (at + part) % (72 * data_size format) ≡ 0 → (at + part) / data_size format / 72 ≡ at / data_size format / 72 + 1
@@ -53,8 +51,7 @@ pub in_block : (format : Format) (k : ℕ) → data_start format + k % data_size
 in_block format k = grind arith
 
 pub behind_start : (format : Format) (k : ℕ) → format ≡ Ofs → 24 ≤ data_start format + k % data_size format
-behind_start Ofs k e = omega arith
-behind_start Ffs k e = cc
+behind_start format k e = grind arith
 
 -- bytes of one data block before a part, and after it
 pub in_front : (format : Format) (at k : ℕ) → k < at → k / data_size format ≡ at / data_size format → k % data_size format < at % data_size format
@@ -86,8 +83,7 @@ some_blocks format a l = grind arith
 
 -- an OFS file's size ends in its last data block
 pub ofs_count : (format : Format) (d size : ℕ) → d ≡ data_count format size → format ≡ Ofs → (d ≡ (size + 487) / 488) × (488 * (d - 1) ≤ size)
-ofs_count Ofs d size e t = (omega arith, omega arith)
-ofs_count Ffs d size e t = cc
+ofs_count format d size e t = grind arith
 
 -- a size beyond this many blocks needs more
 pub more_blocks : (format : Format) (d size : ℕ) → data_size format * d < size → d < data_count format size
