@@ -1,18 +1,7 @@
 -- The lawful chains of a directory, and the chains after one link changed.
-use Rattle.std.proofs.Common.{◌≡◌, ◌≢◌, ℕ, ◌+◌, ◌<◌, ◌≤◌, ◌⊎◌, inl, inr, List, [], ◌∷◌, ◌++◌, length, Contains, refl, sym, ap, ◌∙◌, subst, arith}
-use Rattle.std.proofs.lemmas.Bool.{cases_eq}
-use Rattle.std.proofs.lemmas.List.Elements.{Contains-append_left}
-use Rattle.adf_block.specs.Image.{block_count, root_key, Chained}
-use Rattle.adf_block.specs.Fields.{table_entry}
-use Rattle.adf_block.specs.declared.layout.TheConstants.{FIRST_SLOT, NEXT_IN_CHAIN}
-use Rattle.ados_name.specs.Name.{IsName, slot}
-use Rattle.ados_chain.specs.Chains.{name_at, slot_at, IsEntryBlock, LawfulChains}
-use Rattle.ados_chain.specs.Relinks.{link_block, link_long, AtLinks, Relinks}
-use Rattle.ados_chain.specs.Links.{IsLink}
-use Rattle.ados_model.proofs.KeyLists.{Once, Once-front, length-once}
+use Rattle.ados_chain.proofs.Common.{◌≡◌, ◌≢◌, ℕ, ◌+◌, ◌<◌, ◌≤◌, ◌⊎◌, inl, inr, List, [], ◌∷◌, ◌++◌, length, Contains, refl, sym, ap, ◌∙◌, subst, arith, cases_eq, Contains-append_left, block_count, root_key, Chained, table_entry, FIRST_SLOT, NEXT_IN_CHAIN, IsName, slot, name_at, slot_at, IsEntryBlock, LawfulChains, link_block, link_long, AtLinks, Relinks, IsLink, Once, Once-front, length-once, same_count}
 use Rattle.ados_chain.proofs.Spelling.{NoneZero, Chained-unique, Chained-kept, Chained-relinked, KeepsLongs, link_block-in, link_long-entry}
 use Rattle.ados_chain.proofs.Framing.{link_long-is, name-kept, longs-kept}
-use Rattle.adf_block.proofs.Frames.{same_count}
 
 module _ (image : List ℕ) (dir : ℕ) (chains : ℕ → List ℕ) (h : LawfulChains image dir chains) where
   pub none_zero : (s : ℕ) → s < 72 → NoneZero (chains s)

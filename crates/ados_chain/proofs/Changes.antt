@@ -1,16 +1,7 @@
 -- Insertion at the end of a chain and removal from it, by the links that change.
-use Rattle.std.proofs.Common.{◌≡◌, ◌≢◌, ℕ, ◌+◌, ◌<◌, inl, inr, List, [], ◌∷◌, ◌++◌, filter, Contains, refl, sym, ap, ◌∙◌, subst, arith, append-nil, eq-eqb}
-use Rattle.std.proofs.lemmas.Bool.{ne_eqb}
-use Rattle.std.proofs.lemmas.List.Elements.{Contains-append_left, Contains-append_right, Contains-append_cases, Contains-push_cases, Contains-get_or}
+use Rattle.ados_chain.proofs.Common.{◌≡◌, ◌≢◌, ℕ, ◌+◌, ◌<◌, inl, inr, List, [], ◌∷◌, ◌++◌, filter, Contains, refl, sym, ap, ◌∙◌, subst, arith, append-nil, eq-eqb, ne_eqb, Contains-append_left, Contains-append_right, Contains-append_cases, Contains-push_cases, Contains-get_or, long, Chained, table_entry, FIRST_SLOT, NEXT_IN_CHAIN, slot, slot_at, IsEntryBlock, LawfulChains, InChains, with_last, without, link_block, link_long, Relinks, InsertsLast, Unlinks, Once, Once-before, Once-behind, Once-apart, Contains-here, Contains-later, is_not, filter-absent, filter-once}
 use Rattle.std.proofs.lemmas.List.Quantifiers.{all_pairs_push}
 use Rattle.std.proofs.lemmas.List.Kept.{AllPairs-filter}
-use Rattle.adf_block.specs.Image.{long, Chained}
-use Rattle.adf_block.specs.Fields.{table_entry}
-use Rattle.adf_block.specs.declared.layout.TheConstants.{FIRST_SLOT, NEXT_IN_CHAIN}
-use Rattle.ados_name.specs.Name.{slot}
-use Rattle.ados_chain.specs.Chains.{slot_at, IsEntryBlock, LawfulChains, InChains, with_last, without}
-use Rattle.ados_chain.specs.Relinks.{link_block, link_long, Relinks, InsertsLast, Unlinks}
-use Rattle.ados_model.proofs.KeyLists.{Once, Once-before, Once-behind, Once-apart, Contains-here, Contains-later, is_not, filter-absent, filter-once}
 use Rattle.ados_chain.proofs.Spelling.{Chained-behind, Chained-kept}
 use Rattle.ados_chain.proofs.Framing.{link_long-is, longs-kept}
 use Rattle.ados_chain.proofs.Chaining.{one_chain, entry_apart, lawful_after}

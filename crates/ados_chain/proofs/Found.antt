@@ -1,16 +1,5 @@
 -- A link that was found, in terms of its chain; and what follows an entry.
-use Rattle.std.proofs.Common.{◌≡◌, ◌≢◌, ℕ, ◌+◌, ◌-◌, ◌<◌, ◌⊎◌, inl, inr, List, [], ◌∷◌, ◌++◌, length, get_or, Contains, Some, refl, sym, ap, ◌∙◌, subst, arith, append_assoc, append-nil}
-use Rattle.std.proofs.lemmas.List.Elements.{Contains-append_left, Contains-append_right, Contains-append_cases}
-use Rattle.adf_block.specs.Image.{block_count, long, Chained}
-use Rattle.adf_block.specs.Fields.{table_entry}
-use Rattle.adf_block.specs.declared.layout.TheConstants.{FIRST_SLOT, NEXT_IN_CHAIN}
-use Rattle.ados_chain.specs.Chains.{LawfulChains, slot_at, InChains, chains_from, entries_of}
-use Rattle.ados_model.specs.Tree.{behind}
-use Rattle.ados_chain.specs.Look.{first_left}
-use Rattle.ados_chain.specs.declared.read.Next.TheVariants.{Entry}
-use Rattle.ados_chain.specs.Relinks.{link_block}
-use Rattle.ados_chain.specs.Links.{IsLink, LeadsTo, BeginsWith}
-use Rattle.ados_model.proofs.KeyLists.{Once-before, Contains-here, Contains-later, Contains-split}
+use Rattle.ados_chain.proofs.Common.{◌≡◌, ◌≢◌, ℕ, ◌+◌, ◌-◌, ◌<◌, ◌⊎◌, inl, inr, List, [], ◌∷◌, ◌++◌, length, get_or, Contains, Some, refl, sym, ap, ◌∙◌, subst, arith, append_assoc, append-nil, Contains-append_left, Contains-append_right, Contains-append_cases, block_count, long, Chained, table_entry, FIRST_SLOT, NEXT_IN_CHAIN, LawfulChains, slot_at, InChains, chains_from, entries_of, behind, first_left, Entry, link_block, IsLink, LeadsTo, BeginsWith, Once-before, Contains-here, Contains-later, Contains-split}
 use Rattle.ados_chain.proofs.Spelling.{link_block-in, Chained-behind}
 use Rattle.ados_chain.proofs.Framing.{link_long-is}
 use Rattle.ados_chain.proofs.Chaining.{none_zero, one_chain, chains_same}

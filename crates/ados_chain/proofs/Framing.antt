@@ -1,15 +1,8 @@
 -- What a change of a link leaves the same: other longs, and the names of entries.
-use Rattle.std.proofs.Common.{◌≡◌, ℕ, ◌+◌, ◌-◌, ◌*◌, ◌/◌, ◌<◌, ◌≤◌, inl, inr, List, [], ◌∷◌, length, take, drop, min, slice_index, sym, ap, ap₂, ◌∙◌, arith, ◌↔◌, Option, Result, Ok, Err, refl, subst}
+use Rattle.ados_chain.proofs.Common.{◌≡◌, ℕ, ◌+◌, ◌-◌, ◌*◌, ◌/◌, ◌<◌, ◌≤◌, inl, inr, List, [], ◌∷◌, length, take, drop, min, slice_index, sym, ap, ap₂, ◌∙◌, arith, ◌↔◌, Option, Result, Ok, Err, refl, subst, FIRST_SLOT, NAME_BYTE, byte_at, block_count, SameBut, same_long, same_bytes_at, IsName, name_at, AtLinks, link_long, IsLink}
 use Rattle.std.proofs.lemmas.List.{drop-take, take-take, drop-drop, length-take, length-drop}
-use Rattle.adf_block.specs.declared.layout.TheConstants.{FIRST_SLOT, NAME_BYTE}
-use Rattle.adf_block.specs.Image.{byte_at, bytes_at, block_count}
-use Rattle.adf_block.specs.Frame.{SameBut}
-use Rattle.adf_block.proofs.Frames.{same_long, same_bytes_at}
+use Rattle.adf_block.specs.Image.{bytes_at}
 use Rattle.adf_block.proofs.Blocks.{byte-bytes_at}
-use Rattle.ados_name.specs.Name.{IsName}
-use Rattle.ados_chain.specs.Chains.{name_at}
-use Rattle.ados_chain.specs.Relinks.{AtLinks, link_long}
-use Rattle.ados_chain.specs.Links.{IsLink}
 use Rattle.ados_chain.proofs.Spelling.{KeepsLongs, link_long-entry}
 use Rattle.std.specs.Prelude.{MatchOption, IfOk, IsOk}
 use Rattle.std.specs.Result.{result_ok}

@@ -1,16 +1,5 @@
 -- What a change of one directory's chains leaves the same elsewhere, for the crates above.
-use Rattle.std.proofs.Common.{◌≡◌, ◌≢◌, ℕ, ◌+◌, ◌<◌, ◌⊎◌, inl, inr, List, [], ◌∷◌, ◌++◌, Contains, sym, ap, ◌∙◌, subst, arith}
-use Rattle.std.proofs.lemmas.List.Elements.{Contains-append_left, Contains-append_right}
-use Rattle.adf_block.specs.Image.{block_count, long, Chained}
-use Rattle.adf_block.specs.Fields.{table_entry}
-use Rattle.adf_block.specs.declared.layout.TheConstants.{FIRST_SLOT, NEXT_IN_CHAIN}
-use Rattle.adf_block.specs.declared.beside.TheConstants.{CHECKSUM}
-use Rattle.adf_block.proofs.Frames.{same_count}
-use Rattle.ados_name.specs.Name.{slot}
-use Rattle.ados_chain.specs.Chains.{name_at, slot_at, IsEntryBlock, LawfulChains, InChains}
-use Rattle.ados_chain.specs.Relinks.{link_block, link_long, AtLinks, Relinks, InsertsLast, Unlinks}
-use Rattle.ados_chain.specs.Links.{IsLink}
-use Rattle.ados_model.proofs.KeyLists.{Contains-here}
+use Rattle.ados_chain.proofs.Common.{◌≡◌, ◌≢◌, ℕ, ◌+◌, ◌<◌, ◌⊎◌, inl, inr, List, [], ◌∷◌, ◌++◌, Contains, sym, ap, ◌∙◌, subst, arith, Contains-append_left, Contains-append_right, block_count, long, Chained, table_entry, FIRST_SLOT, NEXT_IN_CHAIN, CHECKSUM, same_count, slot, name_at, slot_at, IsEntryBlock, LawfulChains, InChains, link_block, link_long, AtLinks, Relinks, InsertsLast, Unlinks, IsLink, Contains-here}
 use Rattle.ados_chain.proofs.Spelling.{Chained-kept, link_long-entry}
 use Rattle.ados_chain.proofs.Framing.{link_long-is, name-kept, longs-kept}
 use Rattle.ados_chain.proofs.Chaining.{entry_apart, entry-kept}

@@ -1,13 +1,7 @@
 -- The order of a directory: what follows a key, by its chains.
-use Rattle.std.proofs.Common.{◌≡◌, ℕ, zero, suc, ◌+◌, ◌-◌, ◌<◌, ◌≤◌, inl, inr, Bool, true, false, cond, ◌==◌, List, [], ◌∷◌, ◌++◌, Contains, Option, Some, None, refl, sym, ap, ◌∙◌, subst, arith, append_assoc, eq-eqb}
-use Rattle.std.proofs.lemmas.Bool.{ne_eqb}
+use Rattle.ados_chain.proofs.Common.{◌≡◌, ℕ, zero, suc, ◌+◌, ◌-◌, ◌<◌, ◌≤◌, inl, inr, Bool, true, false, cond, ◌==◌, List, [], ◌∷◌, ◌++◌, Contains, Option, Some, None, refl, sym, ap, ◌∙◌, subst, arith, append_assoc, eq-eqb, ne_eqb, Contains-append_cases, entries_of, InChains, behind, first_left, Entry, End, Contains-here, Contains-later, Contains-nil}
 use Rattle.std.proofs.lemmas.Option.{none-some, same_Some}
-use Rattle.std.proofs.lemmas.List.Elements.{Contains-append_cases}
-use Rattle.ados_chain.specs.Chains.{chains_from, entries_of, InChains}
-use Rattle.ados_model.specs.Tree.{behind}
-use Rattle.ados_chain.specs.Look.{first_left}
-use Rattle.ados_chain.specs.declared.read.Next.TheVariants.{Entry, End}
-use Rattle.ados_model.proofs.KeyLists.{Contains-here, Contains-later, Contains-nil}
+use Rattle.ados_chain.specs.Chains.{chains_from}
 
 -- what follows a key at its first occurrence; and none for a key that the list does not have
 pub behind-found : (xs : List ℕ) (key : ℕ) (ys : List ℕ) → ¬ Contains xs key → behind key (xs ++ key ∷ ys) ≡ Some ys

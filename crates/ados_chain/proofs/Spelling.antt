@@ -1,11 +1,5 @@
 -- Linked lists of blocks: the links of a list, of a prefix and of its rest, and the list after one link changed.
-use Rattle.std.proofs.Common.{◌≡◌, ◌≢◌, ℕ, zero, suc, ◌<◌, ◌≤◌, ◌⊎◌, inl, cond, ◌==◌, List, [], ◌∷◌, ◌++◌, length, Contains, refl, sym, ap, ap₂, ◌∙◌, subst, arith}
-use Rattle.std.proofs.lemmas.Bool.{ne_eqb}
-use Rattle.adf_block.specs.Image.{long, Chained}
-use Rattle.adf_block.specs.declared.layout.TheConstants.{NEXT_IN_CHAIN}
-use Rattle.adf_block.specs.declared.beside.TheConstants.{CHECKSUM}
-use Rattle.ados_chain.specs.Relinks.{link_block, link_long}
-use Rattle.ados_model.proofs.KeyLists.{Once, Once-tail, Once-head, Contains-here, Contains-later}
+use Rattle.ados_chain.proofs.Common.{◌≡◌, ◌≢◌, ℕ, zero, suc, ◌<◌, ◌≤◌, ◌⊎◌, inl, cond, ◌==◌, List, [], ◌∷◌, ◌++◌, length, Contains, refl, sym, ap, ap₂, ◌∙◌, subst, arith, ne_eqb, long, Chained, NEXT_IN_CHAIN, CHECKSUM, link_block, link_long, Once, Once-tail, Once-head, Contains-here, Contains-later}
 
 -- block 0 is not in the list; it ends it
 abbrev pub NoneZero : List ℕ → Type 0

@@ -1,14 +1,5 @@
 -- Walks along a chain: the facts at the start, between two steps, after a step and at the end.
-use Rattle.std.proofs.Common.{◌≡◌, ◌≢◌, ℕ, ◌+◌, ◌<◌, ◌⊎◌, inl, inr, List, [], ◌∷◌, ◌++◌, length, Contains, refl, sym, ap, ◌∙◌, subst, arith, append_assoc, append-nil, length-append}
-use Rattle.std.proofs.lemmas.List.Elements.{Contains-append_right, Contains-push_cases}
-use Rattle.adf_block.specs.Image.{block_count, long, Chained}
-use Rattle.adf_block.specs.declared.layout.TheConstants.{FIRST_SLOT, NEXT_IN_CHAIN}
-use Rattle.ados_name.specs.Name.{Same}
-use Rattle.ados_chain.specs.Chains.{LawfulChains, name_at}
-use Rattle.ados_chain.specs.Look.{NoneNamed, IsFirstNamed}
-use Rattle.ados_chain.specs.Relinks.{link_block, link_long}
-use Rattle.ados_chain.specs.Links.{LeadsTo, BeginsWith}
-use Rattle.ados_model.proofs.KeyLists.{Contains-here}
+use Rattle.ados_chain.proofs.Common.{◌≡◌, ◌≢◌, ℕ, ◌+◌, ◌<◌, ◌⊎◌, inl, inr, List, [], ◌∷◌, ◌++◌, length, Contains, refl, sym, ap, ◌∙◌, subst, arith, append_assoc, append-nil, length-append, Contains-append_right, Contains-push_cases, block_count, long, Chained, FIRST_SLOT, NEXT_IN_CHAIN, Same, LawfulChains, name_at, NoneNamed, IsFirstNamed, link_block, link_long, LeadsTo, BeginsWith, Contains-here}
 use Rattle.ados_chain.proofs.Spelling.{steps, steps-length, NoneZero, link_block-push, link_long-push}
 use Rattle.ados_chain.proofs.Chaining.{none_zero, chain-short}
 

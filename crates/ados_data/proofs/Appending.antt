@@ -1,8 +1,8 @@
 -- One more data block: first with room for its pointer, then attached, then with the new size.
-use Rattle.ados_data.proofs.Common.{◌≡◌, ◌≢◌, ℕ, suc, ◌+◌, ◌-◌, ◌*◌, ◌/◌, ◌%◌, ◌<◌, ◌≤◌, ◌⊎◌, inl, inr, List, [], ◌∷◌, ◌++◌, length, replicate, take, slice_index, refl, sym, ap, ap₂, ◌∙◌, subst, arith, cases_lt, cases_eq, length_push, length-append, length-replicate, get_or-replicate, get_or_append_left, get_or-append_right, take_all, take_at, Format, Ofs, byte_at, block_count, IsInside, IsSize, free_bit_count, format_of, block_cost, data_count, extension_count, data_size, data_start, file_byte, data_blocks, extension_blocks, contents, IsInUse, IsWritable, WritableFile, IsNewBlock, IsExtended, IsLengthened, IsResized, HasPointerRoom, End, IsEnd, Leaves, Gains, GrowsFile, KeepsUnnamed}
+use Rattle.ados_data.proofs.Common.{◌≡◌, ◌≢◌, ℕ, suc, ◌+◌, ◌-◌, ◌*◌, ◌/◌, ◌%◌, ◌<◌, ◌≤◌, ◌⊎◌, inl, inr, List, [], ◌∷◌, ◌++◌, length, replicate, take, slice_index, refl, sym, ap, ap₂, ◌∙◌, subst, arith, cases_lt, cases_eq, length_push, length-append, length-replicate, get_or-replicate, get_or_append_left, get_or-append_right, take_all, take_at, Format, Ofs, byte_at, block_count, IsInside, IsSize, free_bit_count, format_of, block_cost, data_count, extension_count, data_size, data_start, file_byte, data_blocks, extension_blocks, contents, IsInUse, IsWritable, WritableFile, IsNewBlock, IsExtended, IsLengthened, IsResized, HasPointerRoom, End, IsEnd, Leaves, Gains, GrowsFile, KeepsUnnamed, get_or_push}
 use Rattle.ados_data.proofs.Sizes.{one_more_block, one_more_cost, below_count, at_count, in_block, behind_start}
 use Rattle.ados_data.proofs.Spelled.{data_blocks_are, extension_blocks_are, contents_are}
-use Rattle.ados_data.proofs.Lists.{head_pushed_before, head_pushed_last, pushed_before, pushed_last}
+use Rattle.ados_data.proofs.Lists.{head_pushed_before, head_pushed_last}
 use Rattle.ados_data.proofs.Standing.{Standing, marks_stay, count_stays, standing_of, writable_of, stands_beside_new, new_inside, new_in_use, header_beside_new, data_beside_new, untouched_new, same_blocks}
 use Rattle.ados_data.proofs.Composing.{grows_to}
 use Rattle.ados_data.proofs.Leaving.{leaves_same, leaves_both, leaves_taken, leaves_extended, leaves_longer, leaves_resized, beside_gains, gains_same, gains_both, gains_taken, gains_kept}
@@ -129,7 +129,7 @@ module _ (i0 i1 i2 i3 i4 : List ℕ) (format : Format) (file : ℕ) (blocks was 
   y' =
       let place : length blocks ≡ length blocks + 1 - 1 = omega arith in
       subst (λ (h : ℕ). IsResized i3 format file h (slice_index (blocks ++ b ∷ []) (length blocks + 1 - 1)) (length blocks + 1) size' i4) r.holder_is
-      (subst (λ (c : ℕ). IsResized i3 format file holder c (length blocks + 1) size' i4) (sym (pushed_last blocks b (length blocks + 1 - 1) place)) y)
+      (subst (λ (c : ℕ). IsResized i3 format file holder c (length blocks + 1) size' i4) (sym (get_or_push blocks b 0 (length blocks + 1 - 1) place)) y)
 
   module _ (size_is : format ≡ Ofs → size ≡ 488 * length blocks) (more : format ≡ Ofs → (488 * length blocks < size') × (size' ≤ 488 * (length blocks + 1))) (grows : size ≤ size') where
     t3 : Standing i3 format file (blocks ++ b ∷ []) r.extensions size
@@ -151,7 +151,7 @@ module _ (i0 i1 i2 i3 i4 : List ℕ) (format : Format) (file : ℕ) (blocks was 
       fits = omega (arith, r.least, r.room, longer);
       holder_is = r.holder_is;
       bytes = λ i k l m a.
-          let here : slice_index (blocks ++ b ∷ []) i ≡ slice_index blocks i = pushed_before blocks b i l in
+          let here : slice_index (blocks ++ b ∷ []) i ≡ slice_index blocks i = get_or_append_left blocks (b ∷ []) 0 i l in
           ap (λ (c : ℕ). byte_at i4 c k) (sym here)
           ∙ resized_byte i3 i4 format file (blocks ++ b ∷ []) r.extensions size (length blocks + 1) (length r.extensions) size' t3 y' few (omega arith) i k (omega arith) m a
           ∙ ap (λ (c : ℕ). byte_at i3 c k) here
@@ -159,7 +159,7 @@ module _ (i0 i1 i2 i3 i4 : List ℕ) (format : Format) (file : ℕ) (blocks was 
           ∙ untouched_new i1 b i2 n r.stands.size_ok r.stands.map (slice_index blocks i) (r.stands.data_used i l) k m
           ∙ r.bytes i k l m;
       empty = λ k m a.
-          let here : slice_index (blocks ++ b ∷ []) (length blocks) ≡ b = pushed_last blocks b (length blocks) refl in
+          let here : slice_index (blocks ++ b ∷ []) (length blocks) ≡ b = get_or_push blocks b 0 (length blocks) refl in
           ap (λ (c : ℕ). byte_at i4 c k) (sym here)
           ∙ resized_byte i3 i4 format file (blocks ++ b ∷ []) r.extensions size (length blocks + 1) (length r.extensions) size' t3 y' few (omega arith) (length blocks) k (omega arith) m a
           ∙ ap (λ (c : ℕ). byte_at i3 c k) here
@@ -188,10 +188,10 @@ module _ (i0 i1 i2 i3 i4 : List ℕ) (format : Format) (file : ℕ) (blocks was 
         new_gains : Gains i1 file blocks r.extensions i2 (blocks ++ b ∷ []) r.extensions
         new_gains = gains_taken i1 b i2 file blocks r.extensions (blocks ++ b ∷ []) r.extensions n (λ q l. inl (l, refl))
             (λ i l. elim (cases_lt i (length blocks)) [
-              | inl m ↦ inl (m, pushed_before blocks b i m)
-              | inr m ↦ inr (pushed_last blocks b i (omega (arith, l, m, length_push blocks b)))
+              | inl m ↦ inl (m, get_or_append_left blocks (b ∷ []) 0 i m)
+              | inr m ↦ inr (get_or_push blocks b 0 i (omega (arith, l, m, length_push blocks b)))
             ])
-            (inr (length blocks, omega (arith, length_push blocks b), sym (pushed_last blocks b (length blocks) refl)))
+            (inr (length blocks, omega (arith, length_push blocks b), sym (get_or_push blocks b 0 (length blocks) refl)))
             (omega (arith, length_push blocks b)) (omega arith)
 
         later_leaves : Leaves i1 file blocks r.extensions i4
@@ -227,11 +227,11 @@ module _ {i0 i1 i2 : List ℕ} {format : Format} {file : ℕ} {blocks was : List
   pub file_inside : file < block_count i2
   file_inside = omega (arith, blocks_same, r.stands.places.headers_inside 0 (omega arith))
 
-  pub last_apart : 0 < length blocks → (slice_index blocks (length blocks - 1) ≢ holder) × (slice_index blocks (length blocks - 1) ≢ file) × (slice_index blocks (length blocks - 1) ≢ b)
-  last_apart l = (
-    (λ z. r.stands.places.apart (length r.extensions) (length blocks - 1) (omega arith) (omega arith) (sym (z ∙ r.holder_is))),
-    (λ z. r.stands.places.apart 0 (length blocks - 1) (omega arith) (omega arith) (sym z)),
-    data_beside_new i1 b i2 n r.stands.size_ok r.stands.map format file blocks r.extensions size r.stands (length blocks - 1) (omega arith),
+  pub last_apart : {count last : ℕ} → count ≡ length blocks → last ≡ slice_index blocks (length blocks - 1) → 0 < count → (last ≢ holder) × (last ≢ file) × (last ≢ b)
+  last_apart e f l = (
+    (λ z. r.stands.places.apart (length r.extensions) (length blocks - 1) (omega arith) (omega arith) (sym (sym f ∙ z ∙ r.holder_is))),
+    (λ z. r.stands.places.apart 0 (length blocks - 1) (omega arith) (omega arith) (sym (sym f ∙ z))),
+    (λ z. data_beside_new i1 b i2 n r.stands.size_ok r.stands.map format file blocks r.extensions size r.stands (length blocks - 1) (omega arith) (sym f ∙ z)),
   )
 
   pub new_apart : (b ≢ holder) × (b ≢ file)
@@ -270,13 +270,13 @@ module _ {i0 : List ℕ} {format : Format} {file : ℕ} {end : End} (w : Writabl
           ∙ w.lawful.holds.contents k m
           ∙ ap (λ (t : Format). file_byte t i0 (data_blocks i0 file) k) (sym f)
           ∙ sym (a.bytes (k / data_size format) (data_start format + k % data_size format) place (in_block format k) (behind_start format k))
-          ∙ ap (λ (c : ℕ). byte_at new c (data_start format + k % data_size format)) (sym (pushed_before (data_blocks i0 file) b (k / data_size format) place))
+          ∙ ap (λ (c : ℕ). byte_at new c (data_start format + k % data_size format)) (sym (get_or_append_left (data_blocks i0 file) (b ∷ []) 0 (k / data_size format) place))
       | inr m ↦
           let place : k / data_size format ≡ length (data_blocks i0 file) = omega (arith, e.counted, at_count format end.count k (omega (arith, m, full)) (omega (arith, l, size_is, within))) in
           get_or-append_right (contents i0 file) (replicate (size' - length (contents i0 file)) 0) (length (contents i0 file)) k 0 refl m
           ∙ get_or-replicate (size' - length (contents i0 file)) (k - length (contents i0 file)) 0 0 (omega (arith, l, m, size_is, full, over))
           ∙ sym (a.empty (data_start format + k % data_size format) (in_block format k) (behind_start format k))
-          ∙ ap (λ (c : ℕ). byte_at new c (data_start format + k % data_size format)) (sym (ap (slice_index (data_blocks i0 file ++ b ∷ [])) place ∙ pushed_last (data_blocks i0 file) b (length (data_blocks i0 file)) refl))
+          ∙ ap (λ (c : ℕ). byte_at new c (data_start format + k % data_size format)) (sym (ap (slice_index (data_blocks i0 file ++ b ∷ [])) place ∙ get_or_push (data_blocks i0 file) b 0 (length (data_blocks i0 file)) refl))
     ]
 
     pub writable_new : IsWritable new file (data_blocks i0 file ++ b ∷ []) a.extensions grown
@@ -292,7 +292,7 @@ module _ {i0 : List ℕ} {format : Format} {file : ℕ} {end : End} (w : Writabl
         record {
           counted = omega (arith, e.counted, length_push (data_blocks i0 file) b, ap length bl);
           holder_is = a.holder_is ∙ ap (λ (xs : List ℕ). slice_index (file ∷ xs) (length xs)) (sym ex);
-          last_is = sym (ap (λ (xs : List ℕ). slice_index xs (length xs - 1)) bl ∙ pushed_last (data_blocks i0 file) b (length (data_blocks i0 file ++ b ∷ []) - 1) (omega (arith, length_push (data_blocks i0 file) b)));
+          last_is = sym (ap (λ (xs : List ℕ). slice_index xs (length xs - 1)) bl ∙ get_or_push (data_blocks i0 file) b 0 (length (data_blocks i0 file ++ b ∷ []) - 1) (omega (arith, length_push (data_blocks i0 file) b)));
         }
 
 -- the whole contract of the call

@@ -29,7 +29,7 @@ unfoldable pub use Rattle.ados_model.specs.File.{contents, data_blocks, extensio
 pub use Rattle.ados_model.specs.File.{AreApart, IsLawful, LawfulFile, ReadableFile, data_block, file_byte, pointer_block}
 pub use Rattle.ados_model.specs.Stands.{HasExtension, HasFile, HasOfsData}
 pub use Rattle.ados_model.specs.Tree.{block_cost, data_count, data_size, data_start, extension_count}
-pub use Rattle.std.proofs.Common.{Bool, List, [], ap, ap₂, arith, cond, drop, eqb, false, inl, inr, length, map, max, min, refl, replicate, slice_index, subst, suc, sym, take, true, zero, ℕ, ◌%◌, ◌*◌, ◌++◌, ◌+◌, ◌-◌, ◌/◌, ◌<◌, ◌^◌, ◌∙◌, ◌∷◌, ◌≡◌, ◌≢◌, ◌≤◌, ◌⊎◌}
+pub use Rattle.std.proofs.Common.{Bool, List, [], add-zero, ap, ap₂, arith, cond, drop, eqb, false, inl, inr, length, map, max, min, refl, replicate, rules, slice_index, subst, suc, sym, take, true, zero, ℕ, ◌%◌, ◌*◌, ◌++◌, ◌+◌, ◌-◌, ◌/◌, ◌<◌, ◌^◌, ◌∙◌, ◌∷◌, ◌≡◌, ◌≢◌, ◌≤◌, ◌⊎◌}
 pub use Rattle.std.proofs.Math.Nat.{mod-lt}
 pub use Rattle.std.proofs.lemmas.Bool.{cases_Bool, cases_eq, cases_lt, cases_order, false≢true, true_from_ne_false}
 pub use Rattle.std.proofs.lemmas.List.{append_assoc, drop-drop, drop-take, drop_at, ext_get_or, get_or-append_right, get_or-drop, get_or-replicate, get_or-take, get_or_append_left, get_or_default, get_or_past, get_or_push, length-append, length-drop, length-replicate, length-take, length-take-le, length_push, take-append-le, take-take, take_all, take_at}

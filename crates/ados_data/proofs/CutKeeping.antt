@@ -1,6 +1,6 @@
 -- The bytes outside all fields that a cut leaves untouched.
-use Rattle.ados_data.proofs.Common.{◌≡◌, ◌≢◌, ℕ, suc, ◌-◌, ◌/◌, ◌<◌, ◌≤◌, ◌⊎◌, inl, inr, List, ◌∷◌, length, take, slice_index, sym, ap, ◌∙◌, arith, length-take-le, byte_at, long, block_count, pointer_count, file_size, format_of, POINTER_COUNT, FILE_SIZE, NEXT_EXTENSION, NEXT_DATA, Format, Ofs, Ffs, pages_of, page_block, extension_count, AtFields, AreApart, IsCutField, AtEnd, IsPointerField, IsHeaderField, data_end, KeepsUnnamed}
-use Rattle.ados_data.proofs.Lists.{head_taken, taken_before}
+use Rattle.ados_data.proofs.Common.{◌≡◌, ◌≢◌, ℕ, suc, ◌-◌, ◌/◌, ◌<◌, ◌≤◌, ◌⊎◌, inl, inr, List, ◌∷◌, length, take, slice_index, sym, ap, ◌∙◌, arith, length-take-le, byte_at, long, block_count, pointer_count, file_size, format_of, POINTER_COUNT, FILE_SIZE, NEXT_EXTENSION, NEXT_DATA, Format, Ofs, Ffs, pages_of, page_block, extension_count, AtFields, AreApart, IsCutField, AtEnd, IsPointerField, IsHeaderField, data_end, KeepsUnnamed, get_or-take}
+use Rattle.ados_data.proofs.Lists.{head_taken}
 
 -- the bytes that a cut to d data blocks writes outside the bitmap: in the last remaining data and pointer blocks, and
 -- in the header
@@ -9,19 +9,14 @@ AtEnds format file blocks extensions d c k = AtEnd format d (slice_index blocks 
 
 -- in OFS the data follow the fields
 pub behind_fields : (format : Format) (size i k : ℕ) → format ≡ Ofs → data_end format size i ≤ k → 24 ≤ k
-behind_fields Ofs size i k e l = omega (arith, l)
-behind_fields Ffs size i k e l = cc
+behind_fields format size i k e l = grind arith
 
 -- a cut writes only these longs of the header
 pub header_uncut : (file : ℕ) (blocks extensions : List ℕ) (d : ℕ) (old : List ℕ) → AreApart (block_count old) file blocks extensions → 0 < length blocks → d ≤ length blocks → (k : ℕ) → ¬ IsCutField (k / 4)
     → ¬ AtEnds (format_of old) file blocks extensions d file k
 header_uncut file blocks extensions d old a some few k n (inl at) = a.apart 0 (d - 1) (omega arith) (omega (arith, at.1, few)) at.2.0
-header_uncut file blocks extensions d old a some few k n (inr (inl (at, inl z))) = n (inl z)
-header_uncut file blocks extensions d old a some few k n (inr (inl (at, inr (inl z)))) = n (inr (inr (inr (inr z))))
-header_uncut file blocks extensions d old a some few k n (inr (inl (at, inr (inr z)))) = n (inr (inr (inl z)))
-header_uncut file blocks extensions d old a some few k n (inr (inr (at, inl z))) = n (inr (inl z))
-header_uncut file blocks extensions d old a some few k n (inr (inr (at, inr (inl z)))) = n (inr (inr (inr (inl z))))
-header_uncut file blocks extensions d old a some few k n (inr (inr (at, inr (inr z)))) = n (inr (inr (inl z)))
+header_uncut file blocks extensions d old a some few k n (inr (inl (at, z))) = n (grind arith)
+header_uncut file blocks extensions d old a some few k n (inr (inr (at, z))) = n (grind arith)
 
 module _ (file : ℕ) (blocks extensions : List ℕ) (d : ℕ) (old new : List ℕ) (a : AreApart (block_count old) file blocks extensions) (some : 0 < length blocks) (few : d ≤ length blocks) (fewer : extension_count d ≤ length extensions)
     (untouched : (c k : ℕ) → k < 512 → ((p : ℕ) → p < pages_of old → c ≢ page_block old p) → ¬ AtEnds (format_of old) file blocks extensions d c k → byte_at new c k ≡ byte_at old c k)
@@ -35,24 +30,18 @@ module _ (file : ℕ) (blocks extensions : List ℕ) (d : ℕ) (old new : List �
 
   -- a block that is no longer the file's
   no_end : (c k : ℕ) → ((q : ℕ) → q ≤ length (take (extension_count d) extensions) → c ≢ slice_index (file ∷ take (extension_count d) extensions) q) → ((i : ℕ) → i < length (take d blocks) → c ≢ slice_index (take d blocks) i) → ¬ AtEnds (format_of old) file blocks extensions d c k
-  no_end c k h b (inl at) = b (d - 1) (omega (arith, dl, at.1)) (at.2.0 ∙ sym (taken_before blocks d (d - 1) (omega (arith, at.1))))
+  no_end c k h b (inl at) = b (d - 1) (omega (arith, dl, at.1)) (at.2.0 ∙ sym (get_or-take d blocks (d - 1) 0 (omega (arith, at.1))))
   no_end c k h b (inr (inl at)) = h (extension_count d) (omega (arith, el)) (at.0 ∙ sym (head_taken file extensions (extension_count d) (extension_count d) (omega arith)))
   no_end c k h b (inr (inr at)) = h 0 (omega arith) at.0
 
   header_end : (k n : ℕ) → ¬ IsHeaderField n (k / 4) → ¬ AtEnds (format_of old) file blocks extensions d file k
   header_end k n o (inl at) = a.apart 0 (d - 1) (omega arith) (omega (arith, at.1, few)) at.2.0
-  header_end k n o (inr (inl (at, inl z))) = o (inl (inl z))
-  header_end k n o (inr (inl (at, inr (inl z)))) = o (inl (inr (inr (inr z))))
-  header_end k n o (inr (inl (at, inr (inr z)))) = o (inl (inr (inl z)))
-  header_end k n o (inr (inr (at, inl z))) = o (inr (inl z))
-  header_end k n o (inr (inr (at, inr (inl z)))) = o (inr (inr z))
-  header_end k n o (inr (inr (at, inr (inr z)))) = o (inl (inr (inl z)))
+  header_end k n o (inr (inl (at, z))) = o (grind arith)
+  header_end k n o (inr (inr (at, z))) = o (grind arith)
 
   extension_end : (q k n : ℕ) → q < length extensions → ¬ IsPointerField n (k / 4) → ¬ AtEnds (format_of old) file blocks extensions d (slice_index extensions q) k
   extension_end q k n l o (inl at) = a.apart (suc q) (d - 1) (omega arith) (omega (arith, at.1, few)) at.2.0
-  extension_end q k n l o (inr (inl (at, inl z))) = o (inl z)
-  extension_end q k n l o (inr (inl (at, inr (inl z)))) = o (inr (inr (inr z)))
-  extension_end q k n l o (inr (inl (at, inr (inr z)))) = o (inr (inl z))
+  extension_end q k n l o (inr (inl (at, z))) = o (grind arith)
   extension_end q k n l o (inr (inr at)) = a.headers_once 0 (suc q) (omega arith) (omega arith) (sym at.0)
 
   data_end_of : (i k size : ℕ) → i < d → data_end (format_of old) size i ≤ k → ¬ AtEnds (format_of old) file blocks extensions d (slice_index blocks i) k
@@ -75,14 +64,14 @@ module _ (file : ℕ) (blocks extensions : List ℕ) (d : ℕ) (old new : List �
     where
       kept_extension : (q k : ℕ) → q < extension_count d → k < 512 → ¬ IsPointerField (pointer_count new (slice_index (take (extension_count d) extensions) q)) (k / 4) → byte_at new (slice_index (take (extension_count d) extensions) q) k ≡ byte_at old (slice_index (take (extension_count d) extensions) q) k
       kept_extension q k l r o =
-          let here : slice_index (take (extension_count d) extensions) q ≡ slice_index extensions q = taken_before extensions (extension_count d) q l in
+          let here : slice_index (take (extension_count d) extensions) q ≡ slice_index extensions q = get_or-take (extension_count d) extensions q 0 l in
           ap (λ (c : ℕ). byte_at new c k) here
           ∙ untouched (slice_index extensions q) k r (λ p m. beside_pages (suc q) p (omega (arith, l, fewer)) m) (extension_end q k (pointer_count new (slice_index (take (extension_count d) extensions) q)) (omega (arith, l, fewer)) o)
           ∙ ap (λ (c : ℕ). byte_at old c k) (sym here)
 
       kept_data : (i k : ℕ) → i < d → k < 512 → data_end (format_of old) (file_size new file) i ≤ k → byte_at new (slice_index (take d blocks) i) k ≡ byte_at old (slice_index (take d blocks) i) k
       kept_data i k l r o =
-          let here : slice_index (take d blocks) i ≡ slice_index blocks i = taken_before blocks d i l in
+          let here : slice_index (take d blocks) i ≡ slice_index blocks i = get_or-take d blocks i 0 l in
           ap (λ (c : ℕ). byte_at new c k) here
           ∙ untouched (slice_index blocks i) k r (λ p m. data_beside_pages i p (omega (arith, l, few)) m) (data_end_of i k (file_size new file) l o)
           ∙ ap (λ (c : ℕ). byte_at old c k) (sym here)

@@ -4,7 +4,7 @@ use Rattle.ados_data.proofs.Untouched.{Untouched, untouched_long, untouched_sum}
 use Rattle.ados_data.proofs.Skeleton.{untouched_holder, untouched_data, skeleton_kept}
 use Rattle.ados_data.proofs.Marks.{page_kept, in_use_kept, map_after, one_more}
 use Rattle.ados_data.proofs.Standing.{Standing, standing_of, writable_of, writable_file, Owned, blocks_stay, pages_stay, count_stays, marks_stay, use_stays}
-use Rattle.ados_data.proofs.Lists.{head_taken, taken_before}
+use Rattle.ados_data.proofs.Lists.{head_taken}
 use Rattle.ados_data.specs.steps.Giving.{IsEntered}
 use Rattle.ados_data.proofs.Leaving.{leaves_both, leaves_resized}
 use Rattle.ados_data.proofs.CutKeeping.{AtEnds, header_uncut, keeps_cut}
@@ -165,7 +165,7 @@ module _ {old : List ℕ} {file size d : ℕ} (w : IsCuttable old file size d) w
 
     -- a remaining data block
     kept_data : (j : ℕ) → j < d → (p : ℕ) → p < pages_of image → slice_index blocks j ≢ page_block image p
-    kept_data j l p m e = (c.stands.data_used j (omega (arith, l, dl))).beside_pages p m (taken_before blocks d j l ∙ e)
+    kept_data j l p m e = (c.stands.data_used j (omega (arith, l, dl))).beside_pages p m (get_or-take d blocks j 0 l ∙ e)
 
     pub holder_in : r ≤ length extensions → holder < block_count image
     holder_in l = omega (arith, c.holder_is, c.same_blocks, w.writable.lawful.places.headers_inside r l)
@@ -185,7 +185,7 @@ module _ {old : List ℕ} {file size d : ℕ} (w : IsCuttable old file size d) w
       entered = record {
         stands = stands_given image next new m pages c.stands.size_ok c.stands.map inside used format file (take d blocks) (take (extension_count d) extensions) size c.stands
             (λ q l e. w.writable.lawful.places.headers_once q (suc r) (omega (arith, l, el, further)) (omega arith) (sym (head_taken file extensions (extension_count d) q (omega (arith, l, el))) ∙ e ∙ next_header))
-            (λ j l e. w.writable.lawful.places.apart (suc r) j (omega arith) (omega (arith, l, dl, few)) (sym next_header ∙ sym e ∙ taken_before blocks d j (omega (arith, l, dl))));
+            (λ j l e. w.writable.lawful.places.apart (suc r) j (omega arith) (omega (arith, l, dl, few)) (sym next_header ∙ sym e ∙ get_or-take d blocks j 0 (omega (arith, l, dl))));
         same_blocks = given_count image next new m pages c.stands.size_ok c.stands.map inside used ∙ c.same_blocks;
         holder_is = next_header;
         next_is = ap (λ (b : ℕ). long image b NEXT_EXTENSION) next_header ∙ c.links (suc r) (omega arith) (omega arith);
@@ -232,7 +232,7 @@ module _ {old : List ℕ} {file size d : ℕ} (w : IsCuttable old file size d) w
       dropped = record {
         stands = stands_given image b new m pages c.stands.size_ok c.stands.map data_inside data_in_use format file (take d blocks) (take (extension_count d) extensions) size c.stands
             (λ q l e. w.writable.lawful.places.apart q i (omega (arith, l, el, fewer)) more (sym (head_taken file extensions (extension_count d) q (omega (arith, l, el))) ∙ e ∙ block_is))
-            (λ j l e. w.writable.lawful.places.data_once j i (omega (arith, l, dl, behind)) more (sym (taken_before blocks d j (omega (arith, l, dl))) ∙ e ∙ block_is));
+            (λ j l e. w.writable.lawful.places.data_once j i (omega (arith, l, dl, behind)) more (sym (get_or-take d blocks j 0 (omega (arith, l, dl))) ∙ e ∙ block_is));
         same_blocks = given_count image b new m pages c.stands.size_ok c.stands.map data_inside data_in_use ∙ c.same_blocks;
         holder_is = c.holder_is;
         next_is = c.next_is;
@@ -363,7 +363,7 @@ module _ {old : List ℕ} {file size d : ℕ} (w : IsCuttable old file size d) w
       get_or-take size (contents old file) k 0 small
       ∙ w.writable.lawful.holds.contents k (omega (arith, small, w.shorter))
       ∙ sym (c.bytes (k / data_size (format_of old)) (data_start (format_of old) + k % data_size (format_of old)) place (in_block (format_of old) k) (behind_start (format_of old) k))
-      ∙ ap (λ (b : ℕ). byte_at new b (data_start (format_of old) + k % data_size (format_of old))) (sym (taken_before blocks d (k / data_size (format_of old)) place))) in
+      ∙ ap (λ (b : ℕ). byte_at new b (data_start (format_of old) + k % data_size (format_of old))) (sym (get_or-take d blocks (k / data_size (format_of old)) 0 place))) in
       record {
         writable = writable_file new file (take d blocks) (take (extension_count d) extensions) (take size (contents old file)) written;
         same_format = c.stands.format_is;

@@ -22,8 +22,7 @@ marked_bound image = omega (arith, total-bound (λ k. cond (has_free_bit image (
 
 -- this many blocks hold less than 4 GiB
 size_bound : (format : Format) (size count m n : ℕ) → n ≤ 101602 → m ≤ n - 2 → count ≤ n → block_cost format size ≤ m + (count + ((count + 71) / 72 - 1)) → size < 2 ^ 32
-size_bound Ofs size count m n a b d l = omega arith
-size_bound Ffs size count m n a b d l = omega arith
+size_bound format size count m n a b d l = grind arith
 
 -- the blocks of a volume hold fewer than 2^32 bytes
 pub size_fits : (image : List ℕ) (file size : ℕ) → block_count image ≤ 101602 → LawfulFile image file → HasFree image file size → size < 2 ^ 32

@@ -1,6 +1,6 @@
 -- A file with one more block, or of another size.
-use Rattle.ados_data.proofs.Common.{◌≡◌, ◌≢◌, ℕ, zero, suc, ◌-◌, ◌*◌, ◌/◌, ◌%◌, ◌<◌, ◌≤◌, ◌⊎◌, inl, inr, List, [], ◌∷◌, ◌++◌, length, slice_index, sym, ap, ◌∙◌, subst, arith, ◌+◌, take, refl, cases_lt, length_push, length-take-le, FIRST_POINTER, FILE_SIZE, NEXT_EXTENSION, POINTER_COUNT, NEXT_DATA, Format, Ofs, byte_at, long, block_sum, block_count, IsInside, IsSize, same_long, AtField, AtFields, AtExtensionFields, AtDataFields, AreApart, IsInUse, IsExtended, IsLengthened, AtLink, IsResized, AtEnd, extension_count}
-use Rattle.ados_data.proofs.Lists.{head_pushed_before, head_pushed_last, pushed_before, pushed_last, apart_extended, apart_longer, head_taken, taken_before, apart_taken}
+use Rattle.ados_data.proofs.Common.{◌≡◌, ◌≢◌, ℕ, zero, suc, ◌-◌, ◌*◌, ◌/◌, ◌%◌, ◌<◌, ◌≤◌, ◌⊎◌, inl, inr, List, [], ◌∷◌, ◌++◌, length, slice_index, sym, ap, ◌∙◌, subst, arith, ◌+◌, take, refl, cases_lt, length_push, length-take-le, FIRST_POINTER, FILE_SIZE, NEXT_EXTENSION, POINTER_COUNT, NEXT_DATA, Format, Ofs, byte_at, long, block_sum, block_count, IsInside, IsSize, same_long, AtField, AtFields, AtExtensionFields, AtDataFields, AreApart, IsInUse, IsExtended, IsLengthened, AtLink, IsResized, AtEnd, extension_count, get_or_append_left, get_or_push, get_or-take}
+use Rattle.ados_data.proofs.Lists.{head_pushed_before, head_pushed_last, apart_extended, apart_longer, head_taken, apart_taken}
 use Rattle.ados_data.proofs.Skeleton.{KeepsHolder, untouched_holder, untouched_data, skeleton_extended, skeleton_longer, skeleton_resized}
 use Rattle.ados_data.proofs.Standing.{Standing, Owned, blocks_stay, format_kept, map_stays, use_stays}
 
@@ -134,8 +134,8 @@ module _ (old new : List ℕ) (format : Format) (file : ℕ) (blocks extensions 
     map = map_stays longer_owned s.map;
     headers_used = λ q l. use_stays longer_owned (slice_index (file ∷ extensions) q) (s.places.headers_inside q l) (s.headers_used q l);
     data_used = λ i l. elim (cases_lt i (length blocks)) [
-      | inl m ↦ subst (IsInUse new) (sym (pushed_before blocks b i m)) (use_stays longer_owned (slice_index blocks i) (s.places.data_inside i m) (s.data_used i m))
-      | inr m ↦ subst (IsInUse new) (sym (pushed_last blocks b i (omega (arith, length_push blocks b)))) (use_stays longer_owned b inside used)
+      | inl m ↦ subst (IsInUse new) (sym (get_or_append_left blocks (b ∷ []) 0 i m)) (use_stays longer_owned (slice_index blocks i) (s.places.data_inside i m) (s.data_used i m))
+      | inr m ↦ subst (IsInUse new) (sym (get_or_push blocks b 0 i (omega (arith, length_push blocks b)))) (use_stays longer_owned b inside used)
     ];
   }
 
@@ -250,5 +250,5 @@ module _ (old new : List ℕ) (format : Format) (file : ℕ) (blocks extensions 
         places = subst (λ (n : ℕ). AreApart n file (take d blocks) (take e extensions)) (sym (blocks_stay resized_owned)) (apart_taken (block_count old) file blocks extensions s.places d e few fewer);
         map = map_stays resized_owned s.map;
         headers_used = λ q l. subst (IsInUse new) (sym (head_taken file extensions e q (omega (arith, l, el)))) (use_stays resized_owned (slice_index (file ∷ extensions) q) (s.places.headers_inside q (omega (arith, l, el, fewer))) (s.headers_used q (omega (arith, l, el, fewer))));
-        data_used = λ i l. subst (IsInUse new) (sym (taken_before blocks d i (omega (arith, l, dl)))) (use_stays resized_owned (slice_index blocks i) (s.places.data_inside i (omega (arith, l, dl, few))) (s.data_used i (omega (arith, l, dl, few))));
+        data_used = λ i l. subst (IsInUse new) (sym (get_or-take d blocks i 0 (omega (arith, l, dl)))) (use_stays resized_owned (slice_index blocks i) (s.places.data_inside i (omega (arith, l, dl, few))) (s.data_used i (omega (arith, l, dl, few))));
       }

@@ -6,26 +6,19 @@ use Rattle.ados_data.proofs.Standing.{Standing}
 -- ---- the fields of more pointers, and the end of more bytes
 
 pub more_pointers : (a b j : ℕ) → a ≤ b → IsPointerField a j → IsPointerField b j
-more_pointers a b j l (inl z) = inl z
-more_pointers a b j l (inr (inl z)) = inr (inl z)
-more_pointers a b j l (inr (inr (inl z))) = inr (inr (inl (omega (arith, l, z.0), z.1)))
-more_pointers a b j l (inr (inr (inr z))) = inr (inr (inr z))
+more_pointers a b j l z = grind arith
 
 pub more_header : (a b j : ℕ) → a ≤ b → IsHeaderField a j → IsHeaderField b j
-more_header a b j l (inl z) = inl (more_pointers a b j l z)
-more_header a b j l (inr z) = inr z
+more_header a b j l z = grind arith
 
 pub more_extension : (a b j : ℕ) → a ≤ b → IsExtensionField a j → IsExtensionField b j
-more_extension a b j l (inl z) = inl (more_pointers a b j l z)
-more_extension a b j l (inr z) = inr z
+more_extension a b j l z = grind arith
 
 pub reach : (format : Format) (a b i k : ℕ) → a ≤ b → data_end format b i ≤ k → data_end format a i ≤ k
-reach Ofs a b i k l h = omega arith
-reach Ffs a b i k l h = omega arith
+reach format a b i k l h = grind arith
 
 pub within_reach : (format : Format) (a b i k : ℕ) → a ≤ b → k < data_end format a i → ¬ (data_end format b i ≤ k)
-within_reach Ofs a b i k l m h = omega arith
-within_reach Ffs a b i k l m h = omega arith
+within_reach format a b i k l m h = grind arith
 
 -- ---- growth
 
@@ -184,13 +177,11 @@ keeps_within changed old new file blocks extensions h beside header extension wi
 
 -- the header of an OFS data block is before the end of its bytes
 header_within : (format : Format) (size i k : ℕ) → format ≡ Ofs → k < 24 → k < data_end format size i
-header_within Ofs size i k e l = omega arith
-header_within Ffs size i k e l = cc
+header_within format size i k e l = grind arith
 
 -- a part of a data block ends at the end of the file's bytes or before it
 pub put_end : (format : Format) (at n size : ℕ) → at % data_size format + n ≤ data_size format → at + n ≤ size → data_start format + at % data_size format + n ≤ data_end format size (at / data_size format)
-put_end Ofs at n size l m = omega arith
-put_end Ffs at n size l m = omega arith
+put_end format at n size l m = grind arith
 
 module _ (old : List ℕ) (format : Format) (file : ℕ) (blocks extensions : List ℕ) (size i low high : ℕ) (s : Standing old format file blocks extensions size) (within : i < length blocks) where
   abbrev Put : ℕ → ℕ → Type 0
@@ -240,12 +231,8 @@ module _ (old new : List ℕ) (format : Format) (file : ℕ) (blocks extensions 
 
   in_header : (q k : ℕ) → q ≤ length extensions → Resized (slice_index (file ∷ extensions) q) k → IsPointerField (pointer_count new (slice_index (file ∷ extensions) q)) (k / 4) ⊎ ((slice_index (file ∷ extensions) q ≡ file) × ((k / 4 ≡ 4) ⊎ (k / 4 ≡ FILE_SIZE)))
   in_header q k l (inl at) = absurd (s.places.apart q (length blocks - 1) l (omega (arith, some)) at.2.0)
-  in_header q k l (inr (inl (at, inl z))) = inl (inl z)
-  in_header q k l (inr (inl (at, inr (inl z)))) = inl (inr (inr (inr z)))
-  in_header q k l (inr (inl (at, inr (inr z)))) = inl (inr (inl z))
-  in_header q k l (inr (inr (at, inl z))) = inr (at, inl z)
-  in_header q k l (inr (inr (at, inr (inl z)))) = inr (at, inr z)
-  in_header q k l (inr (inr (at, inr (inr z)))) = inl (inr (inl z))
+  in_header q k l (inr (inl (at, z))) = grind arith
+  in_header q k l (inr (inr (at, z))) = grind arith
 
   in_data : (j k : ℕ) → j < length blocks → Resized (slice_index blocks j) k → k < data_end (format_of old) size' j
   in_data j k l at = subst (λ (f : Format). k < data_end f size' j) (sym s.format_is) (there at)

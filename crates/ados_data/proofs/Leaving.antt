@@ -1,6 +1,6 @@
 -- What the steps of a change leave untouched, and the checksums after it.
-use Rattle.ados_data.proofs.Common.{◌≡◌, ◌≢◌, ℕ, suc, ◌-◌, ◌/◌, ◌<◌, ◌≤◌, ◌⊎◌, inl, inr, true, false, List, [], ◌∷◌, ◌++◌, length, take, slice_index, refl, sym, ap, ◌∙◌, subst, arith, cases_Bool, cases_lt, cases_eq, cases_order, false≢true, true_from_ne_false, length_push, NEXT_EXTENSION, Format, block_sum, block_count, has_free_bit, IsInside, page_count, IsSize, same_sum, pages_of, page_block, page_of, HasBit, MapPlace, AtField, AtExtensionFields, IsInUse, LawfulMap, WritableFile, SummedFile, IsNewBlock, IsExtended, IsLengthened, IsResized, IsOther, IsDataField, Leaves, IsOwn, Gains, RisesBehind, WasFree, LeavesOthers, bit_of_inside}
-use Rattle.ados_data.proofs.Lists.{head_pushed_before, head_pushed_last, pushed_before, pushed_last}
+use Rattle.ados_data.proofs.Common.{◌≡◌, ◌≢◌, ℕ, suc, ◌-◌, ◌/◌, ◌<◌, ◌≤◌, ◌⊎◌, inl, inr, true, false, List, [], ◌∷◌, ◌++◌, length, take, slice_index, refl, sym, ap, ◌∙◌, subst, arith, cases_Bool, cases_lt, cases_eq, cases_order, false≢true, true_from_ne_false, length_push, NEXT_EXTENSION, Format, block_sum, block_count, has_free_bit, IsInside, page_count, IsSize, same_sum, pages_of, page_block, page_of, HasBit, MapPlace, AtField, AtExtensionFields, IsInUse, LawfulMap, WritableFile, SummedFile, IsNewBlock, IsExtended, IsLengthened, IsResized, IsOther, IsDataField, Leaves, IsOwn, Gains, RisesBehind, WasFree, LeavesOthers, bit_of_inside, get_or_append_left, get_or_push}
+use Rattle.ados_data.proofs.Lists.{head_pushed_before, head_pushed_last}
 use Rattle.ados_data.proofs.Untouched.{untouched_sum}
 use Rattle.ados_data.proofs.Grown.{front_length, front_at, front_header}
 use Rattle.ados_data.proofs.Growing.{extended_owned, Lengthened, longer_owned, Resized, resized_owned}
@@ -190,8 +190,7 @@ module _ (old new : List ℕ) (format : Format) (file : ℕ) (blocks extensions 
 
       field : (k : ℕ) → (AtExtensionFields e file k ⊎ AtField (slice_index (file ∷ extensions) (length extensions)) NEXT_EXTENSION file k) → IsDataField (k / 4)
       field k (inl at) = absurd (beside_headers 0 (omega arith) at.0)
-      field k (inr (at, inl z)) = inr (inr (inr (inr (inr z))))
-      field k (inr (at, inr z)) = inr (inr (inl z))
+      field k (inr (at, z)) = grind arith
 
       summed : block_sum old file ≡ 0 → block_sum new file ≡ 0
       summed z = elim (cases_lt 0 (length extensions)) [
@@ -210,19 +209,16 @@ module _ (old new : List ℕ) (format : Format) (file : ℕ) (blocks extensions 
       leaves_owned file (blocks ++ b ∷ []) extensions (longer_owned old new format file blocks extensions size b s x inside used beside_headers beside_data) beside field x.file_sum
     where
       beside : (c k : ℕ) → IsOther old file (blocks ++ b ∷ []) extensions c → ¬ Lengthened old new format file blocks extensions size b s x inside used beside_headers beside_data c k
-      beside c k o (inl at) = o.beside_data (length blocks) (omega (arith, length_push blocks b)) (at.1 ∙ sym (pushed_last blocks b (length blocks) refl))
-      beside c k o (inr (inl at)) = o.beside_data (length blocks - 1) (omega (arith, length_push blocks b)) (at.2.0 ∙ sym (pushed_before blocks b (length blocks - 1) (omega (arith, at.1))))
+      beside c k o (inl at) = o.beside_data (length blocks) (omega (arith, length_push blocks b)) (at.1 ∙ sym (get_or_push blocks b 0 (length blocks) refl))
+      beside c k o (inr (inl at)) = o.beside_data (length blocks - 1) (omega (arith, length_push blocks b)) (at.2.0 ∙ sym (get_or_append_left blocks (b ∷ []) 0 (length blocks - 1) (omega (arith, at.1))))
       beside c k o (inr (inr (inl at))) = o.beside_headers (length extensions) (omega arith) at.0
       beside c k o (inr (inr (inr at))) = o.beside_headers 0 (omega arith) at.0
 
       field : (k : ℕ) → Lengthened old new format file blocks extensions size b s x inside used beside_headers beside_data file k → IsDataField (k / 4)
       field k (inl at) = absurd (beside_headers 0 (omega arith) at.1)
       field k (inr (inl at)) = absurd (s.places.apart 0 (length blocks - 1) (omega arith) (omega (arith, at.1)) at.2.0)
-      field k (inr (inr (inl (at, inl z)))) = inr (inr (inr (inl (omega (arith, z), omega (arith, z)))))
-      field k (inr (inr (inl (at, inr (inl z))))) = inl z
-      field k (inr (inr (inl (at, inr (inr z))))) = inr (inr (inl z))
-      field k (inr (inr (inr (at, inl z)))) = inr (inl z)
-      field k (inr (inr (inr (at, inr z)))) = inr (inr (inl z))
+      field k (inr (inr (inl (at, z)))) = grind arith
+      field k (inr (inr (inr (at, z)))) = grind arith
 
 module _ (old new : List ℕ) (format : Format) (file : ℕ) (blocks extensions : List ℕ) (size d e size' : ℕ) (s : Standing old format file blocks extensions size)
     (x : IsResized old format file (slice_index (file ∷ extensions) e) (slice_index blocks (d - 1)) d size' new) (few : d ≤ length blocks) (fewer : e ≤ length extensions) where
@@ -237,12 +233,8 @@ module _ (old new : List ℕ) (format : Format) (file : ℕ) (blocks extensions 
 
       field : (k : ℕ) → Resized old new format file blocks extensions size d e size' s x few fewer file k → IsDataField (k / 4)
       field k (inl at) = absurd (s.places.apart 0 (d - 1) (omega arith) (omega (arith, at.1)) at.2.0)
-      field k (inr (inl (at, inl z))) = inl z
-      field k (inr (inl (at, inr (inl z)))) = inr (inr (inr (inr (inr z))))
-      field k (inr (inl (at, inr (inr z)))) = inr (inr (inl z))
-      field k (inr (inr (at, inl z))) = inr (inl z)
-      field k (inr (inr (at, inr (inl z)))) = inr (inr (inr (inr (inl z))))
-      field k (inr (inr (at, inr (inr z)))) = inr (inr (inl z))
+      field k (inr (inl (at, z))) = grind arith
+      field k (inr (inr (at, z))) = grind arith
 
 -- ---- a new block joins the lists
 

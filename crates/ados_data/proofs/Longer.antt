@@ -1,6 +1,6 @@
 -- A file that gets an extension block or a data block leaves all other bytes untouched.
-use Rattle.ados_data.proofs.Common.{◌≡◌, ℕ, suc, ◌/◌, ◌<◌, ◌≤◌, ◌⊎◌, inl, inr, List, [], ◌∷◌, ◌++◌, length, slice_index, refl, sym, ap, ◌∙◌, subst, arith, ◌≢◌, ◌+◌, ◌-◌, ◌*◌, ◌%◌, length_push, Format, byte_at, long, pointer_count, file_size, format_of, NEXT_EXTENSION, POINTER_COUNT, FIRST_POINTER, FILE_SIZE, NEXT_DATA, SameBut, same_long, same_trans, same_weaken, pages_of, page_of, MapPlace, AtField, AtExtensionFields, AtFields, AtDataFields, IsNewBlock, IsExtended, IsLengthened, IsResized, AtLink, AtEnd, IsPointerField, IsExtensionField, IsBeside, KeepsUnnamed, IsHeaderField, data_end, Ofs}
-use Rattle.ados_data.proofs.Lists.{head_pushed_before, head_pushed_last, pushed_before, pushed_last}
+use Rattle.ados_data.proofs.Common.{◌≡◌, ℕ, suc, ◌/◌, ◌<◌, ◌≤◌, ◌⊎◌, inl, inr, List, [], ◌∷◌, ◌++◌, length, slice_index, refl, sym, ap, ◌∙◌, subst, arith, ◌≢◌, ◌+◌, ◌-◌, ◌*◌, ◌%◌, length_push, Format, byte_at, long, pointer_count, file_size, format_of, NEXT_EXTENSION, POINTER_COUNT, FIRST_POINTER, FILE_SIZE, NEXT_DATA, SameBut, same_long, same_trans, same_weaken, pages_of, page_of, MapPlace, AtField, AtExtensionFields, AtFields, AtDataFields, IsNewBlock, IsExtended, IsLengthened, IsResized, AtLink, AtEnd, IsPointerField, IsExtensionField, IsBeside, KeepsUnnamed, IsHeaderField, data_end, Ofs, get_or_append_left, get_or_push}
+use Rattle.ados_data.proofs.Lists.{head_pushed_before, head_pushed_last}
 use Rattle.ados_data.proofs.Standing.{Standing, untaken, header_beside_new, data_beside_new}
 use Rattle.ados_data.proofs.Grown.{more_pointers, more_header}
 use Rattle.ados_data.proofs.CutKeeping.{behind_fields}
@@ -35,16 +35,11 @@ module _ (old mid new : List ℕ) (format : Format) (file : ℕ) (blocks extensi
   beside_extension c k o (inr (inr at)) = o.beside_headers (length extensions) (omega (arith, length_push extensions e)) (at.0 ∙ sym (head_pushed_before file extensions e (length extensions) (omega arith)))
 
   pointer_field : (count j : ℕ) → (j ≡ NEXT_EXTENSION) ⊎ (j ≡ 5) → IsPointerField count j
-  pointer_field count j (inl z) = inr (inr (inr z))
-  pointer_field count j (inr z) = inr (inl z)
+  pointer_field count j z = grind arith
 
   -- the changes in the new one, which was empty
   extended_new : (k : ℕ) → (AtExtensionFields e e k ⊎ AtField (slice_index (file ∷ extensions) (length extensions)) NEXT_EXTENSION e k) → IsExtensionField (pointer_count new e) (k / 4)
-  extended_new k (inl (at, inl z)) = inr (inl z)
-  extended_new k (inl (at, inr (inl z))) = inr (inr (inl z))
-  extended_new k (inl (at, inr (inr (inl z)))) = inl (inr (inl z))
-  extended_new k (inl (at, inr (inr (inr (inl z))))) = inr (inr (inr (inl z)))
-  extended_new k (inl (at, inr (inr (inr (inr z))))) = inr (inr (inr (inr z)))
+  extended_new k (inl (at, z)) = grind arith
   extended_new k (inr (at, z)) = inl (pointer_field (pointer_count new e) (k / 4) z)
 
   no_first : (k : ℕ) → k / 4 ≡ 4 → ¬ Extending file k
@@ -58,11 +53,11 @@ module _ (old mid new : List ℕ) (format : Format) (file : ℕ) (blocks extensi
     others = λ c k l o. extended_rest.same_byte c k l (beside_extension c k o);
     header = λ k l f. extended_rest.same_byte file k l (λ at. f (inl (pointer_field (pointer_count new file) (k / 4) (extended_header 0 k (omega arith) at))));
     extension = λ q k l m r f.
-        let here : slice_index (extensions ++ e ∷ []) q ≡ slice_index extensions q = pushed_before extensions e q l in
+        let here : slice_index (extensions ++ e ∷ []) q ≡ slice_index extensions q = get_or_append_left extensions (e ∷ []) 0 q l in
         extended_rest.same_byte (slice_index (extensions ++ e ∷ []) q) k r (λ at. f (pointer_field (pointer_count new (slice_index (extensions ++ e ∷ []) q)) (k / 4) (extended_header (suc q) k (omega arith) (subst (λ (c : ℕ). Extending c k) here at))));
     slack = λ i k l m r d. extended_rest.same_byte (slice_index blocks i) k r (extended_data i k l);
     new_extension = λ q k l m r f.
-        let here : slice_index (extensions ++ e ∷ []) q ≡ e = pushed_last extensions e q (omega (arith, l, m, length_push extensions e)) in
+        let here : slice_index (extensions ++ e ∷ []) q ≡ e = get_or_push extensions e 0 q (omega (arith, l, m, length_push extensions e)) in
         ap (λ (c : ℕ). byte_at new c k) here
         ∙ x.rest.same_byte e k r (λ at. subst (λ (c : ℕ). ¬ IsExtensionField (pointer_count new c) (k / 4)) here f (extended_new k at))
         ∙ n.empty k r;
@@ -105,17 +100,11 @@ module _ (i1 i2 i3 i4 : List ℕ) (format : Format) (file : ℕ) (blocks extensi
   in_header q k l (inr (inl (inl at))) = absurd (beside_header q l at.1)
   in_header q k l (inr (inl (inr (inl at)))) = absurd (s.places.apart q (length blocks - 1) l (omega (arith, at.1)) at.2.0)
   in_header q k l (inr (inl (inr (inr (inl (at, inl z)))))) = inl (inr (inr (inl (omega (arith, z, y.counted, ap (pointer_count i4) at, least, room), omega (arith, z)))))
-  in_header q k l (inr (inl (inr (inr (inl (at, inr (inl z))))))) = inl (inl z)
-  in_header q k l (inr (inl (inr (inr (inl (at, inr (inr z))))))) = inl (inr (inl z))
-  in_header q k l (inr (inl (inr (inr (inr (at, inl z)))))) = inr (at, inl z)
-  in_header q k l (inr (inl (inr (inr (inr (at, inr z)))))) = inl (inr (inl z))
+  in_header q k l (inr (inl (inr (inr (inl (at, inr z)))))) = grind arith
+  in_header q k l (inr (inl (inr (inr (inr (at, z)))))) = grind arith
   in_header q k l (inr (inr (inl at))) = absurd (beside_header q l at.2.0)
-  in_header q k l (inr (inr (inr (inl (at, inl z))))) = inl (inl z)
-  in_header q k l (inr (inr (inr (inl (at, inr (inl z)))))) = inl (inr (inr (inr z)))
-  in_header q k l (inr (inr (inr (inl (at, inr (inr z)))))) = inl (inr (inl z))
-  in_header q k l (inr (inr (inr (inr (at, inl z))))) = inr (at, inl z)
-  in_header q k l (inr (inr (inr (inr (at, inr (inl z)))))) = inr (at, inr z)
-  in_header q k l (inr (inr (inr (inr (at, inr (inr z)))))) = inl (inr (inl z))
+  in_header q k l (inr (inr (inr (inl (at, z))))) = grind arith
+  in_header q k l (inr (inr (inr (inr (at, z))))) = grind arith
 
   -- only the header of an old OFS data block changes
   in_data : (i k : ℕ) → i < length blocks → Changed (slice_index blocks i) k → (format ≡ Ofs) × (k < 24)
@@ -139,13 +128,13 @@ module _ (i1 i2 i3 i4 : List ℕ) (format : Format) (file : ℕ) (blocks extensi
   in_new k (inr (inr (inr at))) = absurd (beside_header 0 (omega arith) (sym at.0))
 
   beside_new : (c : ℕ) → IsBeside i1 file (blocks ++ b ∷ []) extensions c → c ≢ b
-  beside_new c o z = o.beside_data (length blocks) (omega (arith, length_push blocks b)) (z ∙ sym (pushed_last blocks b (length blocks) refl))
+  beside_new c o z = o.beside_data (length blocks) (omega (arith, length_push blocks b)) (z ∙ sym (get_or_push blocks b 0 (length blocks) refl))
 
   beside : (c k : ℕ) → IsBeside i1 file (blocks ++ b ∷ []) extensions c → ¬ Changed c k
   beside c k o (inl (inl at)) = o.beside_pages (page_of b) within at.0
   beside c k o (inl (inr z)) = beside_new c o z
   beside c k o (inr (inl (inl at))) = beside_new c o at.1
-  beside c k o (inr (inl (inr (inl at)))) = o.beside_data (length blocks - 1) (omega (arith, length_push blocks b)) (at.2.0 ∙ sym (pushed_before blocks b (length blocks - 1) (omega (arith, at.1))))
+  beside c k o (inr (inl (inr (inl at)))) = o.beside_data (length blocks - 1) (omega (arith, length_push blocks b)) (at.2.0 ∙ sym (get_or_append_left blocks (b ∷ []) 0 (length blocks - 1) (omega (arith, at.1))))
   beside c k o (inr (inl (inr (inr (inl at))))) = o.beside_headers (length extensions) (omega arith) at.0
   beside c k o (inr (inl (inr (inr (inr at))))) = o.beside_headers 0 (omega arith) at.0
   beside c k o (inr (inr (inl at))) = beside_new c o at.2.0
@@ -170,13 +159,13 @@ module _ (i1 i2 i3 i4 : List ℕ) (format : Format) (file : ℕ) (blocks extensi
     header = λ k l f. rest.same_byte file k l (λ at. f (more_header (pointer_count i4 file) (pointer_count i4 file) (k / 4) (omega arith) (header_field k at)));
     extension = λ q k l m r f. rest.same_byte (slice_index extensions q) k r (λ at. f (more_pointers (pointer_count i4 (slice_index extensions q)) (pointer_count i4 (slice_index extensions q)) (k / 4) (omega arith) (extension_field q k l at)));
     slack = λ i k l m r d.
-        let here : slice_index (blocks ++ b ∷ []) i ≡ slice_index blocks i = pushed_before blocks b i l in
+        let here : slice_index (blocks ++ b ∷ []) i ≡ slice_index blocks i = get_or_append_left blocks (b ∷ []) 0 i l in
         rest.same_byte (slice_index (blocks ++ b ∷ []) i) k r (λ at. end_behind i k (file_size i4 file) d (in_data i k l (subst (λ (c : ℕ). Changed c k) here at)));
     new_extension = λ q k l m r f. absurd (omega (arith, l, m));
     new_data = λ i k l m r d.
-        let here : slice_index (blocks ++ b ∷ []) i ≡ b = pushed_last blocks b i (omega (arith, l, m, length_push blocks b)) in
+        let here : slice_index (blocks ++ b ∷ []) i ≡ b = get_or_push blocks b 0 i (omega (arith, l, m, length_push blocks b)) in
         ap (λ (c : ℕ). byte_at i4 c k) here ∙ set_rest.same_byte b k r (λ at. end_behind i k (long i4 file FILE_SIZE) d (in_new k at)) ∙ n.empty k r;
-    first_taken = λ z l. y.first (omega arith) ∙ x.new_first z ∙ sym (pushed_last blocks b 0 z);
+    first_taken = λ z l. y.first (omega arith) ∙ x.new_first z ∙ sym (get_or_push blocks b 0 0 z);
     first_given = λ l z. absurd (omega (arith, z, length_push blocks b));
     first_kept = λ e. elim e [
       | inl z ↦ absurd (omega (arith, z.1, length_push blocks b))

@@ -1,8 +1,8 @@
 -- A file with some of its data bytes overwritten, and one step of a walk that does so.
-use Rattle.ados_data.proofs.Common.{◌≡◌, ◌≢◌, ℕ, ◌+◌, ◌-◌, ◌/◌, ◌%◌, ◌<◌, ◌≤◌, ◌⊎◌, inl, inr, List, ◌∷◌, length, slice_index, refl, sym, ap, ap₂, ◌∙◌, subst, arith, ◌*◌, ◌^◌, min, take, drop, cases_lt, cases_eq, take_all, length-take, length-drop, FILE_SIZE, FIRST_POINTER, NEXT_EXTENSION, Format, Ofs, Ffs, byte_at, long, block_sum, block_count, IsInside, IsSize, IsImage, format_of, SameBut, Within, OnlyLong, same_long, same_sum, same_count, block_cost, data_count, data_size, data_start, AreApart, data_blocks, extension_blocks, contents, file_byte, LawfulFile, pointer_block, IsInUse, WritableFile, Leaves, GrowsFile, AtData, overlaid, data_end, KeepsUnnamed, long-below}
+use Rattle.ados_data.proofs.Common.{◌≡◌, ◌≢◌, ℕ, ◌+◌, ◌-◌, ◌/◌, ◌%◌, ◌<◌, ◌≤◌, ◌⊎◌, inl, inr, List, ◌∷◌, length, slice_index, refl, sym, ap, ap₂, ◌∙◌, subst, arith, ◌*◌, ◌^◌, min, take, drop, cases_lt, cases_eq, take_all, length-take, length-drop, FILE_SIZE, FIRST_POINTER, NEXT_EXTENSION, Format, Ofs, Ffs, byte_at, long, block_sum, block_count, IsInside, IsSize, IsImage, format_of, SameBut, Within, OnlyLong, same_long, same_sum, same_count, block_cost, data_count, data_size, data_start, AreApart, data_blocks, extension_blocks, contents, file_byte, LawfulFile, pointer_block, IsInUse, WritableFile, NoneFreeBelow, Leaves, GrowsFile, AtData, overlaid, data_end, KeepsUnnamed, long-below}
 use Rattle.ados_data.proofs.Skeleton.{KeepsData, untouched_holder, untouched_data, skeleton_kept}
 use Rattle.ados_data.proofs.Standing.{marks_stay, Owned, Standing, blocks_stay, standing_of, writable_of, format_kept, map_stays, use_stays, count_stays}
-use Rattle.ados_data.proofs.Composing.{grows_to, grows_over}
+use Rattle.ados_data.proofs.Composing.{grows_to, grows_over, below_grown}
 use Rattle.ados_data.proofs.Leaving.{gains_kept, gains_same, leaves_owned}
 use Rattle.ados_data.proofs.Sizes.{same_block, in_front, behind_part, in_block, behind_start, in_count, few_bytes, part_bounds}
 use Rattle.ados_data.proofs.Overlaid.{overlaid_before, overlaid_within, overlaid_behind, length-overlaid, overlaid_more}
@@ -65,17 +65,13 @@ module _ (old new : List ℕ) (format : Format) (file : ℕ) (blocks extensions 
   ]
     where
       no : (k < low) ⊎ (high ≤ k) → ¬ Put (slice_index blocks j) k
-      no (inl n) (z, inl at) = omega arith
-      no (inr n) (z, inl at) = omega arith
+      no n (z, inl at) = omega arith
       no _ (z, inr at) = omega (arith, a at.0, at.1)
 
-module _ (old new : List ℕ) (format : Format) (file : ℕ) (blocks extensions : List ℕ) (size i low high : ℕ) (s : Standing old format file blocks extensions size) (within : i < length blocks) (fields : format ≡ Ofs → 24 ≤ low)
-    (summed : format ≡ Ofs → block_sum new (slice_index blocks i) ≡ 0) (h : SameBut (AtData format (slice_index blocks i) low high) old new) where
   pub leaves_put : Leaves old file blocks extensions new
   leaves_put =
-      leaves_owned file blocks extensions (put_owned old new format file blocks extensions size i low high s within fields summed h)
-      (λ c k o at. o.beside_data i within at.0) (λ k at. absurd (s.places.apart 0 i (omega arith) within at.0))
-      (λ z. same_sum (Put old new format file blocks extensions size i low high s within fields summed h) old new h file (λ k l at. s.places.apart 0 i (omega arith) within at.0) ∙ z)
+      leaves_owned file blocks extensions put_owned (λ c k o at. o.beside_data i within at.0) (λ k at. absurd (s.places.apart 0 i (omega arith) within at.0))
+      (λ z. same_sum Put old new h file (λ k l at. s.places.apart 0 i (omega arith) within at.0) ∙ z)
 
 -- ---- a part of a file overwritten
 
@@ -195,22 +191,22 @@ written_settled {format} {block} low ys {old} {mid} behind room put first (inr (
 
 -- the data of an OFS block follow its fields
 pub past_fields : (format : Format) (n : ℕ) → format ≡ Ofs → 24 ≤ data_start format + n
-past_fields Ofs n e = omega arith
-past_fields Ffs n e = cc
+past_fields format n e = grind arith
 
--- a turn of the walk: `done` of all bytes are written, and the next part is in the block of byte pos + done
-pub record IsTurn (init i0 : List ℕ) (format : Format) (file pos : ℕ) (all : List ℕ) (done part room holder : ℕ) : Type 0 where
-  pub grown : GrowsFile init file (length (contents init file)) i0
-  pub size_ok : IsSize (block_count i0)
-  pub format_is : format ≡ format_of init
+-- a turn of the walk: `done` of all bytes are written over the bytes xs, and the next part is in the block of byte pos + done
+pub record IsTurn (start xs i0 : List ℕ) (format : Format) (file size pos : ℕ) (all : List ℕ) (done part room holder : ℕ) : Type 0 where
+  pub grown : GrowsFile start file size i0
+  pub size_ok : IsSize (block_count start)
+  pub format_is : format ≡ format_of start
   pub room_is : room ≡ data_size format
-  pub fits : pos + length all ≤ length (contents init file)
+  pub whole : length xs ≡ size
+  pub fits : pos + length all ≤ size
   pub left : done < length all
-  pub written : contents i0 file ≡ overlaid (contents init file) pos (take done all)
+  pub written : contents i0 file ≡ overlaid xs pos (take done all)
   pub part_is : part ≡ min (room - (pos + done) % room) (length all - done)
   pub holder_is : holder ≡ pointer_block i0 file ((pos + done) / room / 72)
 
-module _ {init i0 : List ℕ} {format : Format} {file pos : ℕ} {all : List ℕ} {done part room holder : ℕ} (t : IsTurn init i0 format file pos all done part room holder) where
+module _ {start xs i0 : List ℕ} {format : Format} {file size pos : ℕ} {all : List ℕ} {done part room holder : ℕ} (t : IsTurn start xs i0 format file size pos all done part room holder) where
   pub at_within : pos + done < length (contents i0 file)
   at_within = omega (arith, t.grown.sized, t.fits, t.left)
 
@@ -253,23 +249,23 @@ module _ {init i0 : List ℕ} {format : Format} {file pos : ℕ} {all : List ℕ
 
       pub turn : IsPut i0 file (pos + done) ys i1
       turn =
-          is_put i0 i1 format file t.grown.writable t.size_ok format_here (pos + done) ys block (omega (arith, bounds, rest, t.room_is, count_ys)) (omega (arith, part_within, count_ys)) at_within here
+          is_put i0 i1 format file t.grown.writable (subst IsSize (ap (λ (n : ℕ). n / 512) (sym t.grown.leaves.same_length)) t.size_ok) format_here (pos + done) ys block (omega (arith, bounds, rest, t.room_is, count_ys)) (omega (arith, part_within, count_ys)) at_within here
           (λ k l. ap (λ (n : ℕ). byte_at i1 block (data_start format + n + k)) (sym rest) ∙ x.put k l) x.sum
           (subst (λ (n : ℕ). SameBut (AtData format block (data_start format + n) (data_start format + n + length ys)) i0 i1) rest x.rest)
 
-      pub written_more : contents i1 file ≡ overlaid (contents init file) pos (take (done + part) all)
+      pub written_more : contents i1 file ≡ overlaid xs pos (take (done + part) all)
       written_more =
           turn.bytes
-          ∙ ap (λ (xs : List ℕ). overlaid xs (pos + done) ys) t.written
-          ∙ ap (λ (xs : List ℕ). overlaid (overlaid (contents init file) pos (take done all)) (pos + done) xs) ys_is
-          ∙ overlaid_more (contents init file) pos all done part t.fits bounds.2
+          ∙ ap (λ (zs : List ℕ). overlaid zs (pos + done) ys) t.written
+          ∙ ap (overlaid (overlaid xs pos (take done all)) (pos + done)) ys_is
+          ∙ overlaid_more xs pos all done part (omega (arith, t.fits, t.whole)) bounds.2
 
-      -- the growth so far, which is none, and this step
-      pub grown_on : WritableFile init file → GrowsFile init file (length (contents init file)) i1
+      -- the growth so far and this step
+      pub grown_on : WritableFile start file → GrowsFile start file size i1
       grown_on u = grows_over u t.grown turn.grown
 
-      pub size_kept : IsSize (block_count i1)
-      size_kept = subst IsSize (sym (same_count (AtData format block (data_start format + (pos + done) % room) (data_start format + (pos + done) % room + length ys)) i0 i1 x.rest)) t.size_ok
+      pub bound_on : {from : ℕ} → NoneFreeBelow i0 from → NoneFreeBelow i1 from
+      bound_on {from} = below_grown from turn.grown
 
       room_new : room ≡ data_size (format_of i1)
       room_new = room_here ∙ ap data_size (sym turn.grown.format)

@@ -1,8 +1,8 @@
 -- A file without its bytes, block by block, through the steps of a change.
-use Rattle.ados_data.proofs.Common.{◌≡◌, ℕ, zero, suc, ◌+◌, ◌-◌, ◌*◌, ◌/◌, ◌%◌, ◌<◌, ◌≤◌, min, List, ◌∷◌, length, slice_index, refl, sym, ap, ap₂, ◌∙◌, arith, ◌≢◌, inl, inr, [], ◌++◌, take, subst, FIRST_POINTER, FILE_SIZE, NEXT_EXTENSION, SECONDARY_TYPE, PARENT, Format, Ofs, long, block_sum, HasExtension, HasOfsData, HasFile, file_byte, chain_head, cases_lt, cases_eq, length_push, length-take-le}
+use Rattle.ados_data.proofs.Common.{◌≡◌, ℕ, zero, suc, ◌+◌, ◌-◌, ◌*◌, ◌/◌, ◌%◌, ◌<◌, ◌≤◌, min, List, ◌∷◌, length, slice_index, refl, sym, ap, ap₂, ◌∙◌, arith, ◌≢◌, inl, inr, [], ◌++◌, take, subst, FIRST_POINTER, FILE_SIZE, NEXT_EXTENSION, SECONDARY_TYPE, PARENT, Format, Ofs, long, block_sum, HasExtension, HasOfsData, HasFile, file_byte, chain_head, cases_lt, cases_eq, length_push, length-take-le, get_or_append_left, get_or_push, get_or-take}
 use Rattle.ados_data.proofs.Chains.{next_of, chained}
 use Rattle.ados_data.proofs.Untouched.{Untouched, untouched_long, untouched_sum, extension_kept}
-use Rattle.ados_data.proofs.Lists.{pushed_before, pushed_last, pushed_past, head_pushed_before, taken_before, taken_past, head_taken}
+use Rattle.ados_data.proofs.Lists.{pushed_past, head_pushed_before, taken_past, head_taken}
 
 -- pointer block q: its link, its pointers and their number, and in an extension block its other fields
 pub record IsHolder (image : List ℕ) (file : ℕ) (blocks extensions : List ℕ) (q : ℕ) : Type 0 where
@@ -126,7 +126,7 @@ module _ (old new : List ℕ) (format : Format) (file : ℕ) where
     skeleton_extended e full before others link sum sized first datas fields count next = record {
       size_field = sized ∙ s.size_field;
       holders = λ q l. elim (cases_lt q (length extensions)) [
-        | inl m ↦ holder_kept blocks extensions blocks (extensions ++ e ∷ []) q (head_pushed_before file extensions e q (omega arith)) (pushed_before extensions e q m) refl (λ p r t. (t, refl)) (holder_sum q (omega arith)) (before q m) (s.holders q (omega arith))
+        | inl m ↦ holder_kept blocks extensions blocks (extensions ++ e ∷ []) q (head_pushed_before file extensions e q (omega arith)) (get_or_append_left extensions (e ∷ []) 0 q m) refl (λ p r t. (t, refl)) (holder_sum q (omega arith)) (before q m) (s.holders q (omega arith))
         | inr m ↦ elim (cases_lt (length extensions) q) [
           | inr r ↦ subst (IsHolder new file blocks (extensions ++ e ∷ [])) (last_place q m r) last_holder
           | inl r ↦ subst (IsHolder new file blocks (extensions ++ e ∷ [])) (new_place q r l) new_holder
@@ -146,14 +146,14 @@ module _ (old new : List ℕ) (format : Format) (file : ℕ) where
         here = head_pushed_before file extensions e (length extensions) (omega arith)
 
         there : slice_index (file ∷ (extensions ++ e ∷ [])) (suc (length extensions)) ≡ e
-        there = pushed_last extensions e (length extensions) refl
+        there = get_or_push extensions e 0 (length extensions) refl
 
         old_holder : IsHolder old file blocks extensions (length extensions)
         old_holder = s.holders (length extensions) (omega arith)
 
         last_holder : IsHolder new file blocks (extensions ++ e ∷ []) (length extensions)
         last_holder = record {
-          next = ap (λ (b : ℕ). long new b NEXT_EXTENSION) here ∙ link ∙ sym (pushed_last extensions e (length extensions) refl);
+          next = ap (λ (b : ℕ). long new b NEXT_EXTENSION) here ∙ link ∙ sym (get_or_push extensions e 0 (length extensions) refl);
           count = ap (λ (b : ℕ). long new b 2) here ∙ others 2 (omega arith) (omega arith) (omega arith) ∙ old_holder.count;
           pointers = λ p l m. ap (λ (b : ℕ). long new b (FIRST_POINTER - p)) here ∙ others (FIRST_POINTER - p) (omega arith) (omega arith) (omega arith) ∙ old_holder.pointers p l m;
           extension = λ l. subst (HasExtension new file) (sym here) (extension_kept old new file (slice_index (file ∷ extensions) (length extensions))
@@ -182,15 +182,15 @@ module _ (old new : List ℕ) (format : Format) (file : ℕ) where
       size_field = size_same ∙ s.size_field;
       holders = λ q l. elim (cases_lt q (length extensions)) [
         | inl m ↦ holder_kept blocks extensions (blocks ++ b ∷ []) extensions q refl refl (omega (arith, m, placed, length_push blocks b))
-            (λ r t u. (omega (arith, m, placed, t), pushed_before blocks b (72 * q + r) (omega (arith, m, placed, t)))) (holder_sum q l) (before q m) (s.holders q l)
+            (λ r t u. (omega (arith, m, placed, t), get_or_append_left blocks (b ∷ []) 0 (72 * q + r) (omega (arith, m, placed, t)))) (holder_sum q l) (before q m) (s.holders q l)
         | inr m ↦ subst (IsHolder new file (blocks ++ b ∷ []) extensions) (last_place q m l) last_holder
       ];
       first = λ e. elim (cases_lt 0 (length blocks)) [
-        | inl m ↦ first_kept m ∙ s.first e ∙ sym (pushed_before blocks b 0 m)
-        | inr m ↦ first_new (omega arith) ∙ sym (pushed_last blocks b 0 (omega arith))
+        | inl m ↦ first_kept m ∙ s.first e ∙ sym (get_or_append_left blocks (b ∷ []) 0 0 m)
+        | inr m ↦ first_new (omega arith) ∙ sym (get_or_push blocks b 0 0 (omega arith))
       ];
       datas = λ e i l. elim (cases_lt (suc i) (length blocks)) [
-        | inl m ↦ data_kept blocks (blocks ++ b ∷ []) size size i (pushed_before blocks b i (omega arith)) (pushed_before blocks b (suc i) m) refl (datas e i m) (s.datas e i (omega arith))
+        | inl m ↦ data_kept blocks (blocks ++ b ∷ []) size size i (get_or_append_left blocks (b ∷ []) 0 i (omega arith)) (get_or_append_left blocks (b ∷ []) 0 (suc i) m) refl (datas e i m) (s.datas e i (omega arith))
         | inr m ↦ elim (cases_lt i (length blocks)) [
           | inl r ↦ last_data e i (omega arith)
           | inr r ↦ subst (IsData new file (blocks ++ b ∷ []) size) (new_place i r l) (fresh_data e)
@@ -212,8 +212,8 @@ module _ (old new : List ℕ) (format : Format) (file : ℕ) where
           next = others NEXT_EXTENSION (omega arith) (omega arith) (omega arith) (omega arith) (omega arith) ∙ old_holder.next;
           count = count ∙ omega (arith, placed, small, length_push blocks b);
           pointers = λ r l m. elim (cases_eq r p) [
-            | inl e ↦ ap (λ (n : ℕ). long new (slice_index (file ∷ extensions) (length extensions)) (FIRST_POINTER - n)) e ∙ pointer ∙ sym (pushed_last blocks b (72 * length extensions + r) (omega (arith, placed, e)))
-            | inr n ↦ others (FIRST_POINTER - r) (omega arith) (omega arith) (omega (arith, n, l, small)) (omega arith) (omega arith) ∙ old_holder.pointers r l (omega (arith, n, m, placed, length_push blocks b)) ∙ sym (pushed_before blocks b (72 * length extensions + r) (omega (arith, n, m, placed, length_push blocks b)))
+            | inl e ↦ ap (λ (n : ℕ). long new (slice_index (file ∷ extensions) (length extensions)) (FIRST_POINTER - n)) e ∙ pointer ∙ sym (get_or_push blocks b 0 (72 * length extensions + r) (omega (arith, placed, e)))
+            | inr n ↦ others (FIRST_POINTER - r) (omega arith) (omega arith) (omega (arith, n, l, small)) (omega arith) (omega arith) ∙ old_holder.pointers r l (omega (arith, n, m, placed, length_push blocks b)) ∙ sym (get_or_append_left blocks (b ∷ []) 0 (72 * length extensions + r) (omega (arith, n, m, placed, length_push blocks b)))
           ];
           extension = λ l. extension_kept old new file (slice_index (file ∷ extensions) (length extensions))
               (others 0 (omega arith) (omega arith) (omega arith) (omega arith) (omega arith)) (others 1 (omega arith) (omega arith) (omega arith) (omega arith) (omega arith))
@@ -223,11 +223,11 @@ module _ (old new : List ℕ) (format : Format) (file : ℕ) where
 
         last_data : format ≡ Ofs → (i : ℕ) → suc i ≡ length blocks → IsData new file (blocks ++ b ∷ []) size i
         last_data e i m =
-            let here : slice_index (blocks ++ b ∷ []) i ≡ slice_index blocks i = pushed_before blocks b i (omega arith) in
+            let here : slice_index (blocks ++ b ∷ []) i ≡ slice_index blocks i = get_or_append_left blocks (b ∷ []) 0 i (omega arith) in
             let d = s.datas e i (omega arith) in
             let k = last e i m in
             record {
-              next = ap (λ (c : ℕ). long new c 4) here ∙ k.1 ∙ sym (pushed_last blocks b (suc i) (sym m));
+              next = ap (λ (c : ℕ). long new c 4) here ∙ k.1 ∙ sym (get_or_push blocks b 0 (suc i) (sym m));
               fields = record {
                 primary = ap (λ (c : ℕ). long new c 0) here ∙ k.0 0 (omega arith) ∙ d.fields.primary;
                 header = ap (λ (c : ℕ). long new c 1) here ∙ k.0 1 (omega arith) ∙ d.fields.header;
@@ -239,7 +239,7 @@ module _ (old new : List ℕ) (format : Format) (file : ℕ) where
 
         fresh_data : format ≡ Ofs → IsData new file (blocks ++ b ∷ []) size (length blocks)
         fresh_data e =
-            let here : slice_index (blocks ++ b ∷ []) (length blocks) ≡ b = pushed_last blocks b (length blocks) refl in
+            let here : slice_index (blocks ++ b ∷ []) (length blocks) ≡ b = get_or_push blocks b 0 (length blocks) refl in
             record {
               next = ap (λ (c : ℕ). long new c 4) here ∙ (new_data e).1 ∙ sym (pushed_past blocks b (suc (length blocks)) (omega arith));
               fields = subst (HasOfsData new file size (length blocks)) (sym here) (new_data e).0;
@@ -257,16 +257,16 @@ module _ (old new : List ℕ) (format : Format) (file : ℕ) where
     skeleton_resized d x size' few fewer least strict room reached full before others count next sum sized first_none first_kept datas last = record {
       size_field = sized;
       holders = λ q l. elim (cases_lt q x) [
-        | inl m ↦ holder_kept blocks extensions (take d blocks) (take x extensions) q (head_taken file extensions x q (omega arith)) (taken_before extensions x q m) (omega (arith, m, least, strict, few, dl))
-            (λ r t u. (omega (arith, u, dl, few), taken_before blocks d (72 * q + r) (omega (arith, u, dl)))) (holder_sum q (omega arith)) (before q m) (s.holders q (omega arith))
+        | inl m ↦ holder_kept blocks extensions (take d blocks) (take x extensions) q (head_taken file extensions x q (omega arith)) (get_or-take x extensions q 0 m) (omega (arith, m, least, strict, few, dl))
+            (λ r t u. (omega (arith, u, dl, few), get_or-take d blocks (72 * q + r) 0 (omega (arith, u, dl)))) (holder_sum q (omega arith)) (before q m) (s.holders q (omega arith))
         | inr m ↦ subst (IsHolder new file (take d blocks) (take x extensions)) (last_place q m l) last_holder
       ];
       first = λ e. elim (cases_lt 0 d) [
-        | inl m ↦ first_kept m ∙ s.first e ∙ sym (taken_before blocks d 0 m)
+        | inl m ↦ first_kept m ∙ s.first e ∙ sym (get_or-take d blocks 0 0 m)
         | inr m ↦ first_none (omega arith) ∙ sym (taken_past blocks d 0 few m)
       ];
       datas = λ e i l. elim (cases_lt (suc i) d) [
-        | inl m ↦ data_kept blocks (take d blocks) size size' i (taken_before blocks d i (omega arith)) (taken_before blocks d (suc i) m) (omega (arith, m, reached e, full e)) (datas e i m) (s.datas e i (omega arith))
+        | inl m ↦ data_kept blocks (take d blocks) size size' i (get_or-take d blocks i 0 (omega arith)) (get_or-take d blocks (suc i) 0 m) (omega (arith, m, reached e, full e)) (datas e i m) (s.datas e i (omega arith))
         | inr m ↦ last_data e i (omega (arith, m, l, dl))
       ];
     }
@@ -292,7 +292,7 @@ module _ (old new : List ℕ) (format : Format) (file : ℕ) where
           count = ap (λ (b : ℕ). long new b 2) here ∙ count ∙ omega (arith, dl, room);
           pointers = λ p l m.
               ap (λ (b : ℕ). long new b (FIRST_POINTER - p)) here ∙ others (FIRST_POINTER - p) (omega arith) (omega arith) (omega arith) (omega arith) (omega arith) (omega arith)
-              ∙ old_holder.pointers p l (omega (arith, m, dl, few)) ∙ sym (taken_before blocks d (72 * x + p) (omega (arith, m, dl)));
+              ∙ old_holder.pointers p l (omega (arith, m, dl, few)) ∙ sym (get_or-take d blocks (72 * x + p) 0 (omega (arith, m, dl)));
           extension = λ l. subst (HasExtension new file) (sym here) (extension_kept old new file (slice_index (file ∷ extensions) x)
               (others 0 (omega arith) (omega arith) (omega arith) (omega arith) (omega arith) (omega arith)) (others 1 (omega arith) (omega arith) (omega arith) (omega arith) (omega arith) (omega arith))
               (others PARENT (omega arith) (omega arith) (omega arith) (omega arith) (omega arith) (omega arith)) (others SECONDARY_TYPE (omega arith) (omega arith) (omega arith) (omega arith) (omega arith) (omega arith))
@@ -301,7 +301,7 @@ module _ (old new : List ℕ) (format : Format) (file : ℕ) where
 
         last_data : format ≡ Ofs → (i : ℕ) → suc i ≡ d → IsData new file (take d blocks) size' i
         last_data e i m =
-            let place : slice_index (take d blocks) i ≡ slice_index blocks i = taken_before blocks d i (omega arith) in
+            let place : slice_index (take d blocks) i ≡ slice_index blocks i = get_or-take d blocks i 0 (omega arith) in
             let was = s.datas e i (omega arith) in
             let k = last e i m in
             record {

@@ -1,15 +1,15 @@
-//! A new block appended to those of a file.
+//! The links to a new block of a file.
 
-ghost use Rattle.std.specs.Prelude.{◌≡◌, ◌≢◌, ◌<◌, ◌+◌, ◌^◌, ℕ};
+ghost use Rattle.std.specs.Prelude.{◌≡◌, ◌≢◌, ◌<◌, ℕ};
 ghost use Rattle.adf_block.specs.declared.layout.TheConstants.{BLOCK_BYTES};
 ghost use Rattle.adf_block.specs.Image.{block_count, block_sum, byte_at, long};
 ghost use Rattle.adf_block.specs.Frame.{SameBut};
-ghost use Rattle.ados_data.specs.steps.Blocks.{AtLink, IsExtended, IsLengthened};
+ghost use Rattle.ados_data.specs.steps.Blocks.{AtLink, IsExtended};
 
-use crate::edit::{make_data, make_extension};
+use crate::edit::make_extension;
 use crate::grow::End;
 use adf_block::beside::CHECKSUM;
-use adf_block::layout::{FIRST_POINTER, NEXT_DATA, NEXT_EXTENSION, POINTER_COUNT, TABLE_LONGS};
+use adf_block::layout::{NEXT_DATA, NEXT_EXTENSION};
 use adf_block::{Format, Image};
 
 /// Makes the empty block `e` an extension block of a file. It follows `holder`, the last pointer block.
@@ -24,34 +24,8 @@ pub fn attach_extension(image: &mut Image, file: u32, holder: u32, e: u32)
     image.set_summed(holder, NEXT_EXTENSION, e, CHECKSUM);
 }
 
-/// Makes the empty block `b` the data block after the end of a file. The new pointer goes into the last pointer block.
-/// The block holds no data yet.
-pub fn attach_data(image: &mut Image, format: Format, file: u32, end: End, b: u32)
-    requires file { file < block_count image.old }
-    requires holder { end.holder < block_count image.old }
-    requires last { 0 < end.count → end.last < block_count image.old }
-    requires last_apart { 0 < end.count → (end.last ≢ end.holder) × (end.last ≢ file) × (end.last ≢ b) }
-    requires inside { b < block_count image.old }
-    requires apart { (b ≢ end.holder) × (b ≢ file) }
-    requires empty { (k : ℕ) → k < BLOCK_BYTES → byte_at image.old b k ≡ 0 }
-    requires fits { end.count + 1 < 2 ^ 32 }
-    ensures { IsLengthened image.old format file end.holder end.last end.count b image.new }
-{
-    make_data(image, format, b, file, end.count + 1);
-    link_data(image, format, end, b);
-    let place = end.count % TABLE_LONGS;
-    image.set_summed(end.holder, FIRST_POINTER - place, b, CHECKSUM);
-    image.set_summed(end.holder, POINTER_COUNT, place + 1, CHECKSUM);
-    let first = if end.count == 0 {
-        b
-    } else {
-        image.long(file, NEXT_DATA)
-    };
-    image.set_summed(file, NEXT_DATA, first, CHECKSUM);
-}
-
 /// Sets the link from the last data block to the data block `b`. FFS has no such link.
-fn link_data(image: &mut Image, format: Format, end: End, b: u32)
+pub fn link_data(image: &mut Image, format: Format, end: End, b: u32)
     requires last { 0 < end.count → end.last < block_count image.old }
     ensures link { format ≡ Format.Ofs → 0 < end.count → long image.new end.last NEXT_DATA ≡ b }
     ensures sum { format ≡ Format.Ofs → 0 < end.count → block_sum image.old end.last ≡ 0 → block_sum image.new end.last ≡ 0 }

@@ -12,13 +12,17 @@ ghost use Rattle.ados_data.specs.Growth.{GrowsFile};
 ghost use Rattle.ados_data.specs.Place.{IsPlace};
 ghost use Rattle.ados_data.specs.steps.FileEnd.{IsEnd, IsLonger};
 
-use crate::attach::attach_data;
+use crate::attach::link_data;
 use crate::blocks::{new_block, pointer_room};
 use crate::cost::{data_count, data_size, extension_count};
+use crate::edit::make_data;
 use crate::fields::data_block;
 use crate::place::{Place, pointer_block};
 use crate::resize::resize;
-use adf_block::layout::{FILE_SIZE, MOST_BLOCKS};
+use adf_block::beside::CHECKSUM;
+use adf_block::layout::{
+    FILE_SIZE, FIRST_POINTER, MOST_BLOCKS, NEXT_DATA, POINTER_COUNT, TABLE_LONGS,
+};
 use adf_block::{Format, Image};
 
 /// The end of a file.
@@ -98,7 +102,17 @@ fn append(image: &mut Image, format: Format, file: u32, end: End, size: u32, fro
     prove!(image.blocks() <= MOST_BLOCKS);
     let holder = pointer_room(image, file, end.holder, end.count, from);
     let last = new_block(image, from);
-    attach_data(image, format, file, End { holder, ..end }, last);
+    make_data(image, format, last, file, end.count + 1);
+    link_data(image, format, end, last);
+    let place = end.count % TABLE_LONGS;
+    image.set_summed(holder, FIRST_POINTER - place, last, CHECKSUM);
+    image.set_summed(holder, POINTER_COUNT, place + 1, CHECKSUM);
+    let first = if end.count == 0 {
+        last
+    } else {
+        image.long(file, NEXT_DATA)
+    };
+    image.set_summed(file, NEXT_DATA, first, CHECKSUM);
     let longer = End {
         count: end.count + 1,
         holder,

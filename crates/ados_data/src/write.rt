@@ -21,40 +21,6 @@ use adf_block::{Format, Image};
 /// The most data bytes of a data block.
 const ROOM: usize = FFS_ROOM as usize;
 
-/// Overwrites bytes of a file from byte `pos`. All of them are inside the file.
-fn overlay(image: &mut Image, file: u32, near: Place, pos: u64, bytes: &[u8])
-    requires writable { WritableFile image.old file }
-    requires near { IsPlace image.old file near }
-    requires within { pos + length bytes.now ≤ length (contents image.old file) }
-    ensures grown { GrowsFile image.old file (length (contents image.old file)) image.new }
-    ensures bytes { contents image.new file ≡ overlaid (contents image.old file) pos bytes.now }
-{
-    prove!(image.blocks() <= MOST_BLOCKS);
-    if bytes.is_empty() {
-        return;
-    }
-    let format = image.format();
-    let room = data_size(format);
-    let start = data_start(format);
-    let mut holder = pointer_block(image, file, near, pos / room as u64 / TABLE_LONGS as u64);
-    let mut done = 0;
-    while done < bytes.len() {
-        let at = pos + done as u64;
-        let from = (at % room as u64) as usize;
-        let part = (room - from).min(bytes.len() - done);
-        let block = data_block(image, holder, at / room as u64);
-        image.put_bytes(block, start + from, &bytes[done..done + part]);
-        match format {
-            Format::Ofs => image.settle(block, CHECKSUM),
-            Format::Ffs => {}
-        }
-        done += part;
-        if (at + part as u64) % (TABLE_LONGS as u64 * room as u64) == 0 {
-            holder = image.long(holder, NEXT_EXTENSION);
-        }
-    }
-}
-
 /// Writes bytes to a file from byte `pos`, at most its size. The file grows if they reach past its end.
 ///
 /// Each new block is the lowest free one. As in `extend`, bytes that need no change are unchanged.
@@ -90,7 +56,29 @@ pub fn write_near(
     prove!(image.blocks() <= MOST_BLOCKS);
     let size = (image.long(file, FILE_SIZE) as u64).max(pos + bytes.len() as u64);
     let bound = lengthen(image, file, near, size as u32, from);
-    overlay(image, file, near, pos, bytes);
+    if bytes.is_empty() {
+        return bound;
+    }
+    let format = image.format();
+    let room = data_size(format);
+    let start = data_start(format);
+    let mut holder = pointer_block(image, file, near, pos / room as u64 / TABLE_LONGS as u64);
+    let mut done = 0;
+    while done < bytes.len() {
+        let at = pos + done as u64;
+        let from = (at % room as u64) as usize;
+        let part = (room - from).min(bytes.len() - done);
+        let block = data_block(image, holder, at / room as u64);
+        image.put_bytes(block, start + from, &bytes[done..done + part]);
+        match format {
+            Format::Ofs => image.settle(block, CHECKSUM),
+            Format::Ffs => {}
+        }
+        done += part;
+        if (at + part as u64) % (TABLE_LONGS as u64 * room as u64) == 0 {
+            holder = image.long(holder, NEXT_EXTENSION);
+        }
+    }
     bound
 }
 
@@ -126,6 +114,5 @@ pub fn extend_near(image: &mut Image, file: u32, near: Place, size: u32, from: u
     let part = (room - old as usize % room).min((size - old) as usize);
     let zeros = [0; ROOM];
     let bound = lengthen(image, file, near, size, from);
-    overlay(image, file, near, old as u64, &zeros[..part]);
-    bound
+    write_near(image, file, near, old as u64, &zeros[..part], bound)
 }

@@ -1,15 +1,5 @@
 -- Bitmap blocks written one after the other.
-use Rattle.std.proofs.Common.{◌≡◌, ◌≢◌, ℕ, ◌+◌, ◌-◌, ◌*◌, ◌/◌, ◌%◌, ◌<◌, ◌≤◌, inl, inr, Bool, cond, List, arith, ap, sym, ◌∙◌}
-use Rattle.std.specs.Int.{bit_at}
-use Rattle.std.proofs.lemmas.Bool.{cases_lt}
-use Rattle.adf_block.specs.declared.layout.TheConstants.{BOOT_BLOCKS, MAP_LONGS, LONG_BITS, PAGE_BITS}
-use Rattle.adf_block.specs.declared.beside.TheConstants.{PAGE_LONGS}
-use Rattle.adf_block.specs.Image.{long, block_count, block_sum}
-use Rattle.adf_block.specs.Frame.{SameBut, InBlock, OnlyBlock}
-use Rattle.adf_block.proofs.Frames.{same_trans, same_weaken, other_block_long, other_block_sum}
-use Rattle.ados_map.specs.Pages.{LawfulPages, page_block, pages_of, page_of, map_long}
-use Rattle.ados_map.specs.Bits.{IsUnnamedBits, is_unnamed}
-use Rattle.ados_map.specs.Changes.{InPages, PagesRebuilt}
+use Rattle.ados_map.proofs.Common.{◌≡◌, ◌≢◌, ℕ, ◌+◌, ◌-◌, ◌*◌, ◌/◌, ◌%◌, ◌<◌, ◌≤◌, inl, inr, Bool, cond, List, arith, ap, sym, ◌∙◌, bit_at, cases_lt, BOOT_BLOCKS, MAP_LONGS, LONG_BITS, PAGE_BITS, PAGE_LONGS, long, block_count, block_sum, SameBut, InBlock, OnlyBlock, same_trans, same_weaken, other_block_long, other_block_sum, LawfulPages, page_block, pages_of, page_of, map_long, IsUnnamedBits, is_unnamed, InPages, PagesRebuilt}
 use Rattle.ados_map.proofs.BitLemmas.{mark, marked-is, mark-bit}
 use Rattle.ados_map.proofs.PageLemmas.{same_page}
 

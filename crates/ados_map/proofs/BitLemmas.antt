@@ -1,12 +1,6 @@
 -- The bit of a block, as a bit of a long in the bitmap.
-use Rattle.std.proofs.Common.{◌≡◌, ℕ, ◌+◌, ◌-◌, ◌*◌, ◌/◌, ◌%◌, ◌^◌, ◌<◌, ◌≤◌, inl, inr, Bool, true, false, cond, not, List, arith, ap, ap₂, sym, ◌∙◌, refl}
-use Rattle.std.specs.Prelude.{bit_and, ◌==◌, ◌&&◌}
-use Rattle.std.specs.Int.{bit_at}
-use Rattle.std.proofs.lemmas.Bool.{cases_lt, ne_eqb, lt-ltb, le-ltb}
-use Rattle.std.proofs.lemmas.Nat.Bits.{and_pow, bit_at-lt, bit_at_and, bit_at_ones, bit_at_ones_above}
-use Rattle.std.proofs.lemmas.Nat.{pow_pos, pow_below}
-use Rattle.adf_block.specs.Image.{long, block_count, has_free_bit}
-use Rattle.ados_map.specs.Pages.{page_block, page_of, map_long}
+use Rattle.ados_map.proofs.Common.{◌≡◌, ℕ, ◌+◌, ◌-◌, ◌*◌, ◌/◌, ◌%◌, ◌^◌, ◌<◌, ◌≤◌, inl, inr, Bool, true, false, cond, not, List, arith, ap, ap₂, sym, ◌∙◌, refl, bit_and, ◌==◌, ◌&&◌, bit_at, cases_lt, ne_eqb, lt-ltb, le-ltb, and_pow, bit_at-lt, bit_at_and, bit_at_ones, bit_at_ones_above, pow_pos, pow_below, long, block_count, page_block, page_of, map_long}
+use Rattle.adf_block.specs.Image.{has_free_bit}
 use Rattle.ados_map.specs.Bits.{free_bit}
 
 -- whether bit i of a long is set

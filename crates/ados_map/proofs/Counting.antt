@@ -1,13 +1,7 @@
 -- Counts of the bits in the longs of the bitmap.
-use Rattle.std.proofs.Common.{◌≡◌, ℕ, zero, suc, ◌+◌, ◌*◌, ◌-◌, ◌/◌, ◌^◌, ◌<◌, ◌≤◌, inl, inr, Bool, List, cond, false, arith, ap, sym, ◌∙◌, refl}
-use Rattle.std.specs.Int.{bit_at}
-use Rattle.std.specs.Int.Count.{ones, ones_in, ones_step}
+use Rattle.ados_map.proofs.Common.{◌≡◌, ℕ, zero, suc, ◌+◌, ◌*◌, ◌-◌, ◌/◌, ◌^◌, ◌<◌, ◌≤◌, inl, inr, Bool, List, cond, false, arith, ap, sym, ◌∙◌, refl, bit_at, ones_step, cases_lt, bit_at-suc, bit_at_lowest, total, block_count, has_free_bit, IsInside, free_bit_count, free_bit, IsFreeBits}
+use Rattle.std.specs.Int.Count.{ones, ones_in}
 use Rattle.std.proofs.Math.Nat.{pow-suc}
-use Rattle.std.proofs.lemmas.Bool.{cases_lt}
-use Rattle.std.proofs.lemmas.Nat.Bits.{bit_at-suc, bit_at_lowest}
-use Rattle.adf_block.specs.Image.{total, block_count, has_free_bit, IsInside}
-use Rattle.adf_block.specs.Whole.{free_bit_count}
-use Rattle.ados_map.specs.Bits.{free_bit, IsFreeBits}
 use Rattle.ados_map.proofs.BitLemmas.{free_bit-inside, free_bit-past}
 use Rattle.adf_block.proofs.Totals.{total-same}
 

@@ -1,11 +1,5 @@
 -- The marks after a change, and the number of free blocks.
-use Rattle.std.proofs.Common.{◌≡◌, ℕ, ◌-◌, ◌%◌, ◌<◌, ◌≤◌, Bool, inl, inr, List, arith, ap, sym, ◌∙◌}
-use Rattle.std.proofs.lemmas.Bool.{cases_eq}
-use Rattle.adf_block.specs.Image.{long, block_count, block_sum, page_count, IsInside, has_free_bit}
-use Rattle.adf_block.specs.Frame.{SameBut, InBlock, OnlyBlock}
-use Rattle.adf_block.proofs.Frames.{same_count, same_long, same_weaken, other_block_sum}
-use Rattle.ados_map.specs.Pages.{LawfulPages, page_block, pages_of, page_of, map_long, HasBit}
-use Rattle.ados_map.specs.Changes.{MapPlace, BitChanged, SummedPages}
+use Rattle.ados_map.proofs.Common.{◌≡◌, ℕ, ◌-◌, ◌%◌, ◌<◌, ◌≤◌, Bool, inl, inr, List, arith, ap, sym, ◌∙◌, cases_eq, long, block_count, block_sum, page_count, IsInside, has_free_bit, SameBut, InBlock, OnlyBlock, same_count, same_long, same_weaken, other_block_sum, LawfulPages, page_block, pages_of, page_of, map_long, HasBit, MapPlace, BitChanged, SummedPages}
 use Rattle.ados_map.proofs.BitLemmas.{mark, marked-is}
 use Rattle.ados_map.proofs.PageLemmas.{same_page}
 

@@ -1,15 +1,5 @@
 -- Lawful bitmap blocks stay lawful, and the effect of a change of one of them on the marks.
-use Rattle.std.proofs.Common.{◌≡◌, ◌≢◌, ℕ, ◌+◌, ◌-◌, ◌/◌, ◌%◌, ◌<◌, ◌≤◌, ◌⊎◌, inl, inr, Bool, List, arith, ap, ap₂, sym, ◌∙◌}
-use Rattle.std.proofs.lemmas.Bool.{cases_eq}
-use Rattle.std.specs.Int.{bit_at}
-use Rattle.adf_block.specs.declared.layout.TheConstants.{FIRST_PAGE}
-use Rattle.adf_block.specs.declared.beside.TheConstants.{PAGE_LONGS, BITMAP_EXTENSION}
-use Rattle.adf_block.specs.Image.{long, block_count, block_sum, root_key, page_count, IsInside}
-use Rattle.adf_block.specs.Frame.{SameBut}
-use Rattle.adf_block.proofs.Frames.{same_count, same_long}
-use Rattle.ados_map.specs.Pages.{LawfulPages, page_block, pages_of, page_of, map_long, HasBit}
-use Rattle.ados_map.specs.Changes.{InPages, MapPlace, BitChanged}
-use Rattle.ados_map.specs.Bits.{IsBitPut}
+use Rattle.ados_map.proofs.Common.{◌≡◌, ◌≢◌, ℕ, ◌+◌, ◌-◌, ◌/◌, ◌%◌, ◌<◌, ◌≤◌, ◌⊎◌, inl, inr, Bool, List, arith, ap, ap₂, sym, ◌∙◌, cases_eq, bit_at, FIRST_PAGE, PAGE_LONGS, BITMAP_EXTENSION, long, block_count, block_sum, root_key, page_count, IsInside, SameBut, same_count, same_long, LawfulPages, page_block, pages_of, page_of, map_long, HasBit, InPages, MapPlace, BitChanged, IsBitPut}
 use Rattle.ados_map.proofs.BitLemmas.{mark, marked-is, mark-bit, mark-same}
 
 -- the root names the same bitmap blocks if its longs for them did not change

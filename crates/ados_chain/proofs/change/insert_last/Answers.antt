@@ -1,7 +1,4 @@
-use Rattle.std.proofs.Common.{◌≡◌, ◌<◌, ◌+◌, ℕ, List, Contains, sym, ap, ◌∙◌, subst}
-use Rattle.adf_block.specs.declared.layout.TheConstants.{FIRST_SLOT}
-use Rattle.ados_chain.specs.Chains.{slot_at}
-use Rattle.ados_chain.specs.Relinks.{Relinks, link_block, link_long}
+use Rattle.ados_chain.proofs.Common.{◌≡◌, ◌<◌, ◌+◌, ℕ, List, Contains, sym, ap, ◌∙◌, subst, FIRST_SLOT, slot_at, Relinks, link_block, link_long}
 use Rattle.ados_chain.proofs.Changes.{slot_at-small, inserted}
 use Rattle.ados_chain.proofs.Found.{block_inside, long_is, block_apart, leads_to_end, listed_same}
 use Rattle.ados_chain.proofs.change.insert_last.Goals as goal

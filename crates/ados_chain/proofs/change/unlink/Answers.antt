@@ -1,8 +1,4 @@
-use Rattle.std.proofs.Common.{◌≡◌, ◌<◌, ◌+◌, ◌++◌, ◌∷◌, ℕ, List, Contains, sym, ap, ◌∙◌, subst}
-use Rattle.adf_block.specs.Image.{long}
-use Rattle.adf_block.specs.declared.layout.TheConstants.{FIRST_SLOT, NEXT_IN_CHAIN}
-use Rattle.ados_chain.specs.Chains.{IsEntryBlock, slot_at}
-use Rattle.ados_chain.specs.Relinks.{Relinks, CanUnlink, link_long}
+use Rattle.ados_chain.proofs.Common.{◌≡◌, ◌<◌, ◌+◌, ◌++◌, ◌∷◌, ℕ, List, Contains, sym, ap, ◌∙◌, subst, long, FIRST_SLOT, NEXT_IN_CHAIN, IsEntryBlock, slot_at, Relinks, CanUnlink, link_long}
 use Rattle.ados_chain.proofs.Changes.{slot_at-small, unlinked}
 use Rattle.ados_chain.proofs.Found.{block_inside, long_is, block_apart, listed_same, in_own_slot, entry_follows}
 use Rattle.ados_chain.proofs.change.unlink.Goals as goal

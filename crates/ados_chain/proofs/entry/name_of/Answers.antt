@@ -1,5 +1,4 @@
-use Rattle.std.proofs.Common.{◌-◌, ◌+◌, take, drop, slice_index, arith}
-use Rattle.adf_block.specs.declared.layout.TheConstants.{NAME_BYTE}
+use Rattle.ados_chain.proofs.Common.{◌-◌, ◌+◌, take, drop, slice_index, arith, NAME_BYTE}
 use Rattle.ados_chain.proofs.Framing.{name-short, name_byte-read, name-read, name-made}
 use Rattle.ados_chain.proofs.entry.name_of.Goals as goal
 

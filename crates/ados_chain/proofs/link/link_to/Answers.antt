@@ -1,5 +1,4 @@
-use Rattle.std.proofs.Common.{◌<◌, ℕ, sym, subst, inl, inr}
-use Rattle.adf_block.specs.Image.{block_count}
+use Rattle.ados_chain.proofs.Common.{◌<◌, ℕ, sym, subst, inl, inr, block_count}
 use Rattle.ados_chain.proofs.Spelling.{steps}
 use Rattle.ados_chain.proofs.Walks.{key_in, steps_fall, links_more, links_all}
 use Rattle.ados_chain.proofs.link.link_to.Goals as goal

@@ -1,8 +1,6 @@
 -- The link follows entries of the chain that are not the wanted one. The walk takes as many steps as there are entries
 -- left.
-use Rattle.std.proofs.Common.{ℕ, List}
-use Rattle.adf_block.specs.Image.{block_count}
-use Rattle.ados_chain.specs.Chains.{LawfulChains}
+use Rattle.ados_chain.proofs.Common.{ℕ, List, block_count, LawfulChains}
 use Rattle.ados_chain.proofs.Spelling.{steps}
 use Rattle.ados_chain.proofs.Walks.{LinksOn}
 use Rattle.ados_chain.proofs.link.link_to.Given as goal

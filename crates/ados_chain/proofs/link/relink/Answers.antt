@@ -1,9 +1,4 @@
-use Rattle.std.proofs.Common.{◌<◌, inl, inr, ◌∙◌, arith}
-use Rattle.adf_block.specs.declared.layout.TheConstants.{NEXT_IN_CHAIN}
-use Rattle.adf_block.specs.declared.beside.TheConstants.{CHECKSUM}
-use Rattle.adf_block.specs.Frame.{AtLong}
-use Rattle.adf_block.proofs.Frames.{same_trans, same_weaken, other_block_sum, block_from_long}
-use Rattle.ados_chain.specs.Relinks.{AtLinks}
+use Rattle.ados_chain.proofs.Common.{◌<◌, inl, inr, ◌∙◌, arith, NEXT_IN_CHAIN, CHECKSUM, AtLong, same_trans, same_weaken, other_block_sum, block_from_long, AtLinks}
 use Rattle.ados_chain.proofs.Found.{IsLink-small}
 use Rattle.ados_chain.proofs.link.relink.Goals as goal
 

@@ -1,7 +1,4 @@
-use Rattle.std.proofs.Common.{ap, sym}
-use Rattle.std.proofs.lemmas.Bool.{ne_eqb}
-use Rattle.ados_chain.specs.Chains.{entries_of}
-use Rattle.ados_chain.specs.Look.{first_left}
+use Rattle.ados_chain.proofs.Common.{ap, sym, ne_eqb, entries_of, first_left}
 use Rattle.ados_chain.proofs.Order.{behind-absent, entry-in_chains}
 use Rattle.ados_chain.proofs.read.after.Goals as goal
 

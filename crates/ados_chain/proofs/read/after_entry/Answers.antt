@@ -1,4 +1,4 @@
-use Rattle.std.proofs.Common.{◌<◌, ℕ, Contains, sym, subst, ◌∙◌}
+use Rattle.ados_chain.proofs.Common.{◌<◌, ℕ, Contains, sym, subst, ◌∙◌}
 use Rattle.ados_chain.proofs.Found.{in_own_slot}
 use Rattle.ados_chain.proofs.read.after_entry.Goals as goal
 

@@ -1,6 +1,4 @@
-use Rattle.std.proofs.Common.{ap, sym, ◌∙◌, arith}
-use Rattle.std.proofs.lemmas.Bool.{ne_eqb}
-use Rattle.ados_chain.specs.Look.{first_left}
+use Rattle.ados_chain.proofs.Common.{ap, sym, ◌∙◌, arith, ne_eqb, first_left}
 use Rattle.ados_chain.proofs.Found.{behind-more, behind-last}
 use Rattle.ados_chain.proofs.read.behind_entry.Goals as goal
 

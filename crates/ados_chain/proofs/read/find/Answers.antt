@@ -1,7 +1,4 @@
-use Rattle.std.proofs.Common.{◌≡◌, ◌<◌, ℕ, List, sym, subst}
-use Rattle.adf_block.specs.Image.{block_count}
-use Rattle.ados_name.specs.Name.{slot}
-use Rattle.ados_chain.specs.Chains.{LawfulChains, IsEntryBlock}
+use Rattle.ados_chain.proofs.Common.{◌≡◌, ◌<◌, ℕ, List, sym, subst, block_count, slot, LawfulChains, IsEntryBlock}
 use Rattle.ados_chain.proofs.Spelling.{steps}
 use Rattle.ados_chain.proofs.Changes.{slot-small}
 use Rattle.ados_chain.proofs.Walks.{SearchedOn, key_in, steps_fall, searched_more, searched_all, found_here}

@@ -1,8 +1,5 @@
 -- The entries before the key have other names. The walk takes as many steps as there are entries left.
-use Rattle.std.proofs.Common.{ℕ, List}
-use Rattle.adf_block.specs.Image.{block_count}
-use Rattle.ados_name.specs.Name.{slot}
-use Rattle.ados_chain.specs.Chains.{LawfulChains}
+use Rattle.ados_chain.proofs.Common.{ℕ, List, block_count, slot, LawfulChains}
 use Rattle.ados_chain.proofs.Spelling.{steps}
 use Rattle.ados_chain.proofs.Walks.{SearchedOn}
 use Rattle.ados_chain.proofs.read.find.Given as goal

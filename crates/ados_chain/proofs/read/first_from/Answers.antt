@@ -1,8 +1,4 @@
-use Rattle.std.proofs.Common.{◌≡◌, ◌-◌, ℕ, Some, ap, sym, ◌∙◌, subst, arith}
-use Rattle.adf_block.specs.Image.{Chained}
-use Rattle.adf_block.specs.declared.layout.TheConstants.{NEXT_IN_CHAIN}
-use Rattle.ados_chain.specs.Chains.{chains_from}
-use Rattle.ados_chain.specs.Look.{first_left}
+use Rattle.ados_chain.proofs.Common.{◌≡◌, ◌-◌, ℕ, Some, ap, sym, ◌∙◌, subst, arith, Chained, NEXT_IN_CHAIN, chains_from, first_left}
 use Rattle.ados_chain.proofs.Order.{first-here, first-later, first-all}
 use Rattle.ados_chain.proofs.Chaining.{none_zero}
 use Rattle.ados_chain.proofs.Walks.{begun, ended}

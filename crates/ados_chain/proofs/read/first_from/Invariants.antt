@@ -1,7 +1,5 @@
 -- The chains of the slots before s are empty.
-use Rattle.std.proofs.Common.{◌≡◌, ◌-◌, ℕ, List, Some}
-use Rattle.ados_chain.specs.Chains.{LawfulChains, chains_from}
-use Rattle.ados_chain.specs.Look.{first_left}
+use Rattle.ados_chain.proofs.Common.{◌≡◌, ◌-◌, ℕ, List, Some, LawfulChains, chains_from, first_left}
 use Rattle.ados_chain.proofs.read.first_from.Given as goal
 
 abbrev pub invariant-loop-s : goal.invariant-loop-s

@@ -1,7 +1,4 @@
-use Rattle.std.proofs.Common.{◌≡◌, ◌≢◌, ℕ, Option, Contains, sym, ap, subst, ◌∙◌, arith}
-use Rattle.ados_name.specs.Name.{slot}
-use Rattle.ados_chain.specs.Chains.{slot_at}
-use Rattle.ados_chain.specs.Look.{FindsSlot}
+use Rattle.ados_chain.proofs.Common.{◌≡◌, ◌≢◌, ℕ, Option, Contains, sym, ap, subst, ◌∙◌, arith, slot, slot_at, FindsSlot}
 use Rattle.ados_chain.proofs.Found.{IsLink-small, block_inside, long_is, held_listed, listed_held, in_own_slot}
 use Rattle.ados_chain.proofs.read.slot_with.Goals as goal
 use Rattle.ados_chain.proofs.read.slot_with.Goals.{then-key-lt-BOOT_BLOCKS-via-then-key-lt-BOOT_BLOCKS, then-key-lt-BOOT_BLOCKS-via-else-key-lt-BOOT_BLOCKS+then-key-blocks}

@@ -1,9 +1,4 @@
-use Rattle.std.proofs.Common.{◌≡◌, ◌<◌, ◌≤◌, ◌+◌, ◌*◌, ◌-◌, ◌/◌, ◌%◌, ℕ, List, Bool, cond, inl, inr, ap, sym, ◌∙◌, arith}
-use Rattle.std.specs.Int.{bit_at}
-use Rattle.std.proofs.lemmas.Bool.{cases_lt}
-use Rattle.adf_block.specs.Image.{long, block_count}
-use Rattle.ados_map.specs.Pages.{page_block}
-use Rattle.ados_map.specs.Bits.{free_bit}
+use Rattle.ados_map.proofs.Common.{◌≡◌, ◌<◌, ◌≤◌, ◌+◌, ◌*◌, ◌-◌, ◌/◌, ◌%◌, ℕ, List, Bool, cond, inl, inr, ap, sym, ◌∙◌, arith, bit_at, cases_lt, long, block_count, page_block, free_bit}
 use Rattle.ados_map.proofs.BitLemmas.{mark, marked-at, bit-mark, free_bit-inside, free_bit-past, masked_below, masked_above}
 use Rattle.ados_map.proofs.bits.free_bits.Goals as goal
 

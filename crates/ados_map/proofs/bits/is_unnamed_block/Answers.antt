@@ -1,5 +1,4 @@
-use Rattle.std.proofs.Common.{not, true, false, ap, sym, ◌∙◌}
-use Rattle.std.proofs.lemmas.Bool.{le-ltb}
+use Rattle.ados_map.proofs.Common.{not, true, false, ap, sym, ◌∙◌, le-ltb}
 use Rattle.std.proofs.lemmas.List.{get_or_past, get_or_default}
 use Rattle.ados_map.specs.Bits.{is_unnamed}
 use Rattle.ados_map.proofs.bits.is_unnamed_block.Goals as goal

@@ -1,6 +1,4 @@
-use Rattle.std.proofs.Common.{◌≡◌, ◌<◌, ◌+◌, ◌*◌, ℕ, cond}
-use Rattle.std.specs.Int.{bit_at}
-use Rattle.ados_map.specs.Bits.{is_unnamed}
+use Rattle.ados_map.proofs.Common.{◌≡◌, ◌<◌, ◌+◌, ◌*◌, ℕ, cond, bit_at, is_unnamed}
 use Rattle.ados_map.proofs.bits.unnamed_bits.Given as goal
 
 abbrev pub invariant-loop-i : goal.invariant-loop-i

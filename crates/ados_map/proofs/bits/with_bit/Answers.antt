@@ -1,6 +1,4 @@
-use Rattle.std.proofs.Common.{ap, sym, ◌∙◌, Bool, cond}
-use Rattle.std.specs.Int.{w32}
-use Rattle.std.proofs.lemmas.Nat.Bits.{bit_at_set_same, bit_at_set_other, bit_at_clear_same, bit_at_clear_other}
+use Rattle.ados_map.proofs.Common.{ap, sym, ◌∙◌, Bool, cond, w32, bit_at_set_same, bit_at_set_other, bit_at_clear_same, bit_at_clear_other}
 use Rattle.ados_map.proofs.bits.with_bit.Goals as goal
 
 pub returns-then-free : goal.returns-then-free

@@ -1,8 +1,4 @@
-use Rattle.std.proofs.Common.{inl, inr}
-use Rattle.adf_block.specs.Frame.{AtTwoLongs}
-use Rattle.adf_block.proofs.Frames.{same_weaken}
-use Rattle.ados_map.specs.Pages.{map_long, page_block, page_of}
-use Rattle.ados_map.specs.Changes.{MapPlace}
+use Rattle.ados_map.proofs.Common.{inl, inr, AtTwoLongs, same_weaken, map_long, page_block, page_of, MapPlace}
 use Rattle.ados_map.proofs.PageLemmas.{marked_by}
 use Rattle.ados_map.proofs.MarkLemmas.{marked_sums}
 use Rattle.ados_map.proofs.changes.put_mark.Goals as goal

@@ -1,5 +1,4 @@
-use Rattle.std.proofs.Common.{arith, sym, ◌∙◌}
-use Rattle.std.specs.Int.Count.{ones-le}
+use Rattle.ados_map.proofs.Common.{arith, sym, ◌∙◌, ones-le}
 use Rattle.ados_map.proofs.Counting.{free_before-none, free_before-more, free_before-all}
 use Rattle.ados_map.proofs.reading.count_free.Goals as goal
 

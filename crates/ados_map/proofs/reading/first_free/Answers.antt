@@ -1,10 +1,4 @@
-use Rattle.std.proofs.Common.{◌≡◌, ◌≢◌, ◌<◌, ◌+◌, ◌*◌, ◌-◌, ◌^◌, ℕ, List, false, arith, inl, inr, sym, ap, ◌∙◌}
-use Rattle.std.specs.Int.{bit_at, w32, trailing_zeros}
-use Rattle.std.proofs.lemmas.Bool.{cases_lt}
-use Rattle.std.proofs.lemmas.Nat.Bits.{bit_at-trailing_zeros, bit_at-zero}
-use Rattle.adf_block.specs.Image.{IsInside, block_count, has_free_bit}
-use Rattle.ados_map.specs.Pages.{IsLowestFree}
-use Rattle.ados_map.specs.Bits.{free_bit, IsFreeBits}
+use Rattle.ados_map.proofs.Common.{◌≡◌, ◌≢◌, ◌<◌, ◌+◌, ◌*◌, ◌-◌, ◌^◌, ℕ, List, false, arith, inl, inr, sym, ap, ◌∙◌, bit_at, w32, trailing_zeros, cases_lt, bit_at-trailing_zeros, bit_at-zero, IsInside, block_count, has_free_bit, IsLowestFree, free_bit, IsFreeBits}
 use Rattle.ados_map.proofs.BitLemmas.{free_bit-none, free_bit-some, free_bit-within}
 use Rattle.ados_map.proofs.reading.first_free.Goals as goal
 

@@ -1,5 +1,4 @@
-use Rattle.std.proofs.Common.{◌≡◌, ◌<◌, ◌+◌, ◌*◌, ℕ, false}
-use Rattle.adf_block.specs.Image.{IsInside, block_count, has_free_bit}
+use Rattle.ados_map.proofs.Common.{◌≡◌, ◌<◌, ◌+◌, ◌*◌, ℕ, false, IsInside, block_count, has_free_bit}
 use Rattle.ados_map.proofs.reading.first_free.Given as goal
 
 abbrev pub invariant-loop-w : goal.invariant-loop-w

@@ -1,7 +1,5 @@
-use Rattle.std.proofs.Common.{◌≡◌, ◌≤◌, ℕ, leb, MatchBool, inl, inr, ◌∙◌, arith}
-use Rattle.std.specs.Int.Count.{ones-le}
+use Rattle.ados_map.proofs.Common.{◌≡◌, ◌≤◌, ℕ, leb, MatchBool, inl, inr, ◌∙◌, arith, ones-le, free_bit_count}
 use Rattle.std.proofs.lemmas.Bool.Decides.{leb_tells}
-use Rattle.adf_block.specs.Whole.{free_bit_count}
 use Rattle.ados_map.proofs.Counting.{free_before-below, free_before-more, free_before-all, free_before-le}
 use Rattle.ados_map.proofs.reading.has_free.Goals as goal
 

@@ -1,4 +1,4 @@
-use Rattle.std.proofs.Common.{◌≡◌, ◌≤◌, ◌*◌}
+use Rattle.ados_map.proofs.Common.{◌≡◌, ◌≤◌, ◌*◌}
 use Rattle.ados_map.proofs.Counting.{free_before}
 use Rattle.ados_map.proofs.reading.has_free.Given as goal
 

@@ -1,8 +1,4 @@
-use Rattle.std.proofs.Common.{◌≡◌, ◌*◌, ◌-◌, ◌%◌, ◌^◌, ◌<◌, ℕ, not, eqb, arith, ap, ap₂, sym, ◌∙◌}
-use Rattle.std.specs.Prelude.{bit_and}
-use Rattle.std.proofs.lemmas.Nat.{pow_below}
-use Rattle.adf_block.specs.Image.{long}
-use Rattle.ados_map.specs.Pages.{map_long}
+use Rattle.ados_map.proofs.Common.{◌≡◌, ◌*◌, ◌-◌, ◌%◌, ◌^◌, ◌<◌, ℕ, not, eqb, arith, ap, ap₂, sym, ◌∙◌, bit_and, pow_below, long, map_long}
 use Rattle.ados_map.proofs.BitLemmas.{marked-is}
 use Rattle.ados_map.proofs.reading.is_free.Goals as goal
 

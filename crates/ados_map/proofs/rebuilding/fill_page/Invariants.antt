@@ -1,7 +1,4 @@
-use Rattle.std.proofs.Common.{◌<◌, ◌+◌, ◌*◌, ℕ}
-use Rattle.adf_block.specs.Image.{long}
-use Rattle.adf_block.specs.Frame.{OnlyBlock}
-use Rattle.ados_map.specs.Bits.{IsUnnamedBits}
+use Rattle.ados_map.proofs.Common.{◌<◌, ◌+◌, ◌*◌, ℕ, long, OnlyBlock, IsUnnamedBits}
 use Rattle.ados_map.proofs.rebuilding.fill_page.Given as goal
 
 abbrev pub invariant-loop-j : goal.invariant-loop-j

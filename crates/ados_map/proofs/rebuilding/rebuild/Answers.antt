@@ -1,5 +1,4 @@
-use Rattle.std.proofs.Common.{◌<◌, arith, ◌∙◌}
-use Rattle.ados_map.specs.Pages.{pages_of}
+use Rattle.ados_map.proofs.Common.{◌<◌, arith, ◌∙◌, pages_of}
 use Rattle.ados_map.proofs.Begun.{begun_page, begun_more, begun_all}
 use Rattle.ados_map.proofs.PageLemmas.{lawful_in_pages}
 use Rattle.ados_map.proofs.rebuilding.rebuild.Goals as goal

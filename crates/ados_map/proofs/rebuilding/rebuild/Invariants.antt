@@ -1,4 +1,4 @@
-use Rattle.adf_block.specs.Whole.{IsImage}
+use Rattle.ados_map.proofs.Common.{IsImage}
 use Rattle.ados_map.proofs.Begun.{IsBegun}
 use Rattle.ados_map.proofs.rebuilding.rebuild.Given as goal
 
