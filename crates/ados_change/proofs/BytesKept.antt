@@ -1,15 +1,14 @@
 -- A rewritten file leaves all bytes outside fields untouched, takes the lowest free blocks for its new ones, and leaves
 -- free blocks untouched.
-use Rattle.std.proofs.Common.{◌≡◌, ℕ, ◌+◌, ◌-◌, ◌*◌, ◌/◌, ◌<◌, ◌≤◌, inl, inr, min, List, length, slice_index, Some, refl, sym, ap, ◌∙◌, subst, arith, eq-eqb, ◌⊎◌, take, drop, ◌≢◌, zero, suc, true, false, ◌∷◌}
-use Rattle.ados_change.proofs.Common.{ne_eqb, cases_eq, cases_lt, false≢true, Format, Ofs, Ffs, byte_at, bytes_at, has_free_bit, pointer_count, held_count, file_size, secondary_type, format_of, FILE_TYPE, boot_same, HasFile, Layout, Stands, type_of, KeepsUnnamed, IsPointerField, IsHeaderField, data_end, Node, Tree, File, Role, IsFile, IsOfs, Kept, IsField, Alike, KeepsFirstData, page_longs, file_longs, extension_longs, ofs_data_longs, ofs_data, ffs_data, StandsAt, reached_stands, serves_at, duty_of, root_at, entry_at, get_or-take, get_or_past, Duty, pointers_of, IsFileNode, slice_get-index, cases_order, false_from_ne_true, IsInside, block_count, HasFreeBit, page_block, data_blocks, extension_blocks, RisesBehind, data_blocks_are, extension_blocks_are, IsExtensionField, HasDuty, InImage, HasFileKey, IsTaken, TakenRise, TakesLowest}
-use Rattle.ados_change.proofs.Keeping.{header_stays}
+use Rattle.ados_change.proofs.Common.{◌≡◌, ℕ, ◌+◌, ◌-◌, ◌*◌, ◌/◌, ◌<◌, ◌≤◌, inl, inr, min, List, length, slice_index, Some, refl, sym, ap, ◌∙◌, subst, arith, eq-eqb, ◌⊎◌, take, drop, ◌≢◌, zero, suc, true, false, ◌∷◌, ne_eqb, cases_eq, cases_lt, false≢true, Format, Ofs, Ffs, byte_at, bytes_at, has_free_bit, pointer_count, held_count, file_size, secondary_type, format_of, FILE_TYPE, boot_same, HasFile, Layout, Stands, type_of, KeepsUnnamed, IsPointerField, IsHeaderField, data_end, Node, Tree, File, Role, IsFile, IsOfs, Kept, IsField, Alike, KeepsFirstData, page_longs, file_longs, extension_longs, ofs_data_longs, ofs_data, ffs_data, StandsAt, reached_stands, serves_at, duty_of, root_at, entry_at, get_or-take, get_or_past, Duty, pointers_of, IsFileNode, slice_get-index, cases_order, false_from_ne_true, IsInside, block_count, HasFreeBit, page_block, data_blocks, extension_blocks, RisesBehind, data_blocks_are, extension_blocks_are, IsExtensionField, HasDuty, InImage, HasFileKey, IsTaken, TakenRise, TakesLowest}
 use Rattle.ados_change.proofs.Writable.{named_used, key_serves, page_serves}
+use Rattle.ados_change.proofs.FilesStay.{data_serves, extension_serves, file_of_key}
+use Rattle.ados_change.proofs.Keeping.{header_stays}
 use Rattle.ados_change.proofs.Contents.{refilled, holding, here, stays}
-use Rattle.ados_change.proofs.Relaid.{IsRewritten, relaid, data_here, data_there, extensions_here, extensions_there, IsIn, serves_data, serves_extension}
+use Rattle.ados_change.proofs.Relaid.{ComesFrom, IsRewritten, relaid, data_here, data_there, extensions_here, extensions_there, IsIn, serves_data, serves_extension}
 use Rattle.ados_change.proofs.Unchanged.{long_as}
 use Rattle.ados_change.proofs.Refilled.{boot_stays, key_stays, root_stays, data_stays, extension_stays, stands_after, layout_after}
 use Rattle.ados_model.proofs.FileBlocks.{pointers_are}
-use Rattle.ados_change.proofs.FilesStay.{data_serves, extension_serves, file_of_key}
 use Rattle.ados_model.specs.declared.role.Role.TheVariants as roles
 
 -- ---- fields
@@ -240,21 +239,18 @@ module _ (old new : List ℕ) (t : Tree) (s : Stands old t) (file : ℕ) (node :
   is_new : (b : ℕ) → IsTaken old new b → IsIn blocks' b ⊎ IsIn extensions' b
   is_new b m = h.taken b m.inside m.was_free (false_from_ne_true (has_free_bit new b) m.in_use)
 
-  new_data : (i b : ℕ) → IsTaken old new b → (l : i < length blocks') → slice_index blocks' i ≡ b → length (s.layout.file_data file) ≤ i
-  new_data i b m l e = elim (h.data_from i l) [
+  -- such a block is behind the old list
+  new_place : (xs ys : List ℕ) (duty : ℕ → Duty) → ((i : ℕ) → i < length xs → HasDuty t s.layout (slice_index xs i) (duty i)) → (i b : ℕ) → IsTaken old new b → ComesFrom old xs ys i → slice_index ys i ≡ b → length xs ≤ i
+  new_place xs ys duty serves i b m from e = elim from [
     | inr free ↦ free.0
-    | inl was ↦
-        let serves : HasDuty t s.layout b (Duty.Data file i) = slice_get-index (s.layout.file_data file) i was.0 ∙ ap Some (sym was.1 ∙ e) in
-        absurd (false≢true (sym (named_used old t s b (Duty.Data file i) serves) ∙ m.was_free))
+    | inl was ↦ absurd (false≢true (sym (named_used old t s b (duty i) (subst (λ (c : ℕ). HasDuty t s.layout c (duty i)) (sym was.1 ∙ e) (serves i was.0))) ∙ m.was_free))
   ]
 
+  new_data : (i b : ℕ) → IsTaken old new b → (l : i < length blocks') → slice_index blocks' i ≡ b → length (s.layout.file_data file) ≤ i
+  new_data i b m l = new_place (s.layout.file_data file) blocks' (Duty.Data file) (slice_get-index (s.layout.file_data file)) i b m (h.data_from i l)
+
   new_extension : (q b : ℕ) → IsTaken old new b → (l : q < length extensions') → slice_index extensions' q ≡ b → length (s.layout.extensions file) ≤ q
-  new_extension q b m l e = elim (h.extensions_from q l) [
-    | inr free ↦ free.0
-    | inl was ↦
-        let serves : HasDuty t s.layout b (Duty.Extension file q) = slice_get-index (s.layout.extensions file) q was.0 ∙ ap Some (sym was.1 ∙ e) in
-        absurd (false≢true (sym (named_used old t s b (Duty.Extension file q) serves) ∙ m.was_free))
-  ]
+  new_extension q b m l = new_place (s.layout.extensions file) extensions' (Duty.Extension file) (slice_get-index (s.layout.extensions file)) q b m (h.extensions_from q l)
 
   -- a use by the new lists is a use in the new layout
   in_after : (b : ℕ) (duty : Duty) → HasDuty v (relaid s.layout file blocks' extensions') b duty → HasDuty v after.layout b duty

@@ -1,8 +1,7 @@
 -- A rewritten file leaves untouched what no tree determines.
-use Rattle.std.proofs.Common.{◌≡◌, ◌≢◌, ℕ, zero, suc, ◌+◌, ◌-◌, ◌*◌, ◌/◌, ◌%◌, ◌<◌, ◌≤◌, inl, inr, List, length, slice_index, Some, option_map, refl, sym, ap, ap₂, ◌∙◌, subst, arith}
-use Rattle.ados_change.proofs.Common.{cases_eq, cases_lt, ext_get_or, Format, Ofs, Ffs, byte_at, long, file_size, format_of, IsImage, long-same, data_size, data_start, data_count, extension_count, Node, Tree, content_at, HasFile, HasOfsData, Layout, Stands, file_byte, IsLawful, data_blocks, extension_blocks, KeepsUnnamed, data_end, next_of, data_blocks_are, extension_blocks_are, File, HasFileKey, AgreeInFront, HasFileBytes, IsBehindEnd, KeepsData, KeepsFileEnd, KeepsUntold}
-use Rattle.ados_change.proofs.FilesStay.{end_of_data, file_of_key}
+use Rattle.ados_change.proofs.Common.{◌≡◌, ◌≢◌, ℕ, zero, suc, ◌+◌, ◌-◌, ◌*◌, ◌/◌, ◌%◌, ◌<◌, ◌≤◌, inl, inr, List, length, slice_index, Some, option_map, refl, sym, ap, ap₂, ◌∙◌, subst, arith, cases_eq, cases_lt, ext_get_or, Format, Ofs, Ffs, byte_at, long, file_size, format_of, IsImage, long-same, data_size, data_start, data_count, extension_count, Node, Tree, content_at, HasFile, HasOfsData, Layout, Stands, file_byte, IsLawful, data_blocks, extension_blocks, KeepsUnnamed, data_end, next_of, data_blocks_are, extension_blocks_are, File, HasFileKey, AgreeInFront, HasFileBytes, IsBehindEnd, KeepsData, KeepsFileEnd, KeepsUntold}
 use Rattle.ados_change.proofs.Writable.{data_is, extensions_is, is_lawful}
+use Rattle.ados_change.proofs.FilesStay.{end_of_data, file_of_key}
 use Rattle.ados_change.proofs.Contents.{refilled, here, there}
 use Rattle.ados_change.proofs.Relaid.{ComesFrom, IsRewritten, data_there, extensions_there}
 use Rattle.ados_change.proofs.Refilled.{data_stays, layout_after, stands_after}
@@ -65,13 +64,10 @@ module _ (old new : List ℕ) (t : Tree) (s : Stands old t) (file : ℕ) (node :
 
   -- ---- after the file's end
 
-  of_old : (n q i : ℕ) → n + data_start (format_of new) ≤ data_size (format_of new) * q + i → n + data_start (format_of old) ≤ data_size (format_of old) * q + i
-  of_old n q i l = subst (λ (f : Format). n + data_start f ≤ data_size f * q + i) h.format l
-
   behind_end : (q i : ℕ) → q < length blocks' → IsBehindEnd new file q i → data_end (format_of old) (file_size new file) q ≤ i
   behind_end q i m y =
       let place : q < data_count (format_of old) (file_size new file) = omega (arith, m, h.writable.lawful.data_fits ∙ ap₂ data_count h.format (sym h.writable.lawful.holds.size)) in
-      end_here (format_of old) (file_size new file) q i place (of_old (file_size new file) q i y.behind)
+      end_here (format_of old) (file_size new file) q i place (subst (λ (f : Format). file_size new file + data_start f ≤ data_size f * q + i) h.format y.behind)
 
   file_end : KeepsFileEnd old new file
   file_end = record {

@@ -1,11 +1,7 @@
 -- Each change of a field: how it changes the node's block, and the tree that the image then represents.
-use Rattle.std.proofs.Common.{if◌then◌else◌, ◌≡◌, ◌≢◌, ℕ, ◌+◌, ◌<◌, ◌≤◌, ◌⊎◌, inl, inr, ◌==◌, List, length, Some, option_map, refl, sym, ap, ◌∙◌, subst, arith, eq-eqb}
-use Rattle.ados_change.proofs.Common.{cases_eq, ne_eqb, block_sum, HasText, protection, COMMENT_BYTE, NAME_BYTE, SameBut, same_weaken, Date3, IsName, IsComment, Node, Tree, Proper, IsRoot, root, HasEntry, Stands, date_at, changed, stamped, with_node, KeepsRest, root_or_parent, Summed, Restamped}
-use Rattle.ados_change.proofs.Retells.{retold, Retells}
-use Rattle.ados_change.proofs.Retold.{Telling, Tells, stands_retold}
+use Rattle.ados_change.proofs.Common.{if◌then◌else◌, ◌≡◌, ◌≢◌, ℕ, ◌+◌, ◌<◌, ◌≤◌, ◌⊎◌, inl, inr, ◌==◌, List, length, Some, option_map, refl, sym, ap, ◌∙◌, subst, arith, eq-eqb, cases_eq, ne_eqb, block_sum, HasText, protection, COMMENT_BYTE, NAME_BYTE, SameBut, same_weaken, Date3, IsName, IsComment, Node, Tree, Proper, IsRoot, root, HasEntry, Stands, date_at, changed, stamped, with_node, KeepsRest, root_or_parent, Summed, Restamped, IsPlain, IsWritten, of_node}
+use Rattle.ados_change.proofs.Retells.{retold, Retells, Telling, Tells, stands_retold}
 use Rattle.ados_change.proofs.FieldsKept.{IsTold, keeps_fields, telling_told, telling_written}
-use Rattle.ados_change.specs.steps.Footprint.{IsPlain, IsWritten}
-use Rattle.ados_change.specs.steps.Footprint.IsWritten.{of_node}
 use Rattle.ados_change.proofs.Summing.{text_beside, long_beside, date_beside}
 
 -- bytes low to high - 1 of the key's block may differ between the two nodes
@@ -193,10 +189,7 @@ module _ (old new : List ℕ) (t : Tree) (s : Stands old t) (key : ℕ) (node : 
         told b i (inr (inl w)) = inr (omega (arith, w.1), omega (arith, w.2), λ z. omega (arith, w.1, z))
         told b i (inr (inr w)) = inl w.1
 
-  to_retold : (f : Node → Node) (d : Date3) → Stands new (stamped d (changed key f t)) → Stands new (retold key (f node) d t)
-  to_retold f d h = subst (λ o. Stands new (stamped d (with_node key o t))) (ap (option_map f) at) h
-
   -- a field is changed, and then the disk date
   pub keeps_restamped : (f : Node → Node) → Case t key node (f node) t.disk_date low high → (moment : Date3) → Stands new (stamped moment (changed key f t))
       → (r : ℕ) → r ≡ root t → SameBut (Restamped r key low high) old new → KeepsRest old new
-  keeps_restamped f c moment h r e rest = keeps_retold (f node) t.disk_date moment c (to_retold f moment h) r e rest
+  keeps_restamped f c moment h r e rest = keeps_retold (f node) t.disk_date moment c (subst (λ o. Stands new (stamped moment (with_node key o t))) (ap (option_map f) at) h) r e rest

@@ -1,23 +1,18 @@
 -- The steps that make an entry: a free block is allocated and filled, and the entry is listed. The image represents the
 -- tree with it.
-use Rattle.std.proofs.Common.{◌≡◌, ◌≢◌, ℕ, ◌+◌, ◌*◌, ◌/◌, ◌<◌, inl, inr, List, false, Some, refl, sym, ap, ◌∙◌, subst, arith, zero, suc, ◌-◌, ◌≤◌, ◌⊎◌, min, ◌∷◌, length, slice_index, []}
-use Rattle.ados_change.proofs.Common.{cases_eq, OnlyBlock, SameBut, IsInside, block_count, has_free_bit, root_key, HasFreeBit, same_count, same_trans, MapPlace, BitChanged, IsLowestFree, NoneFreeBelow, page_of, pages_of, Date3, slot_at-small, LawfulChains, slot_at, CanInsert, InsertsLast, link_block, link_long, bit_of_inside, InImage, made, with_node, new_node, Stands, Duty, HasDuty, in_slot, Node, Tree, root, IsUnused, size_in, KeepsRest, TakesLowest, KeepsPastEnd, CanMake, IsEmpty, content_of, IsNewEntry, Dated, nil_from_length, Format, Ofs, Ffs, Chained, bytes_at, long, table_entry, NEXT_IN_CHAIN, InBlock, page_block, data_count, extension_count, Content, size_of, HasFile, HasNode, HasEntry, Directory, File, entered, slice_get-index, IsNewField}
-use Rattle.ados_change.proofs.Making.{zero_long, no_duty, unused}
-use Rattle.ados_change.proofs.Frame.{at_root, dated_count}
+use Rattle.ados_change.proofs.Common.{◌≡◌, ◌≢◌, ℕ, ◌+◌, ◌*◌, ◌/◌, ◌<◌, inl, inr, List, false, Some, refl, sym, ap, ◌∙◌, subst, arith, zero, suc, ◌-◌, ◌≤◌, ◌⊎◌, min, ◌∷◌, length, slice_index, [], cases_eq, OnlyBlock, SameBut, IsInside, block_count, has_free_bit, root_key, HasFreeBit, same_count, same_trans, MapPlace, BitChanged, IsLowestFree, NoneFreeBelow, page_of, pages_of, Date3, slot_at-small, LawfulChains, slot_at, CanInsert, InsertsLast, link_block, link_long, bit_of_inside, InImage, made, with_node, new_node, Stands, Duty, HasDuty, in_slot, Node, Tree, root, IsUnused, size_in, KeepsRest, TakesLowest, KeepsPastEnd, CanMake, IsEmpty, content_of, IsNewEntry, Dated, nil_from_length, Format, Ofs, Ffs, Chained, bytes_at, long, table_entry, NEXT_IN_CHAIN, InBlock, page_block, data_count, extension_count, Content, size_of, HasFile, HasNode, HasEntry, Directory, File, entered, slice_get-index, IsNewField, IsChanged, IsPage, IsWritten}
+use Rattle.ados_change.proofs.Making.{zero_long, no_duty, unused, AtLink, dated_there, linked_there, stamped_there, takes_key}
+use Rattle.ados_change.proofs.Unchanged.{at_root, dated_count}
+use Rattle.ados_change.proofs.Writable.{lawful_pages}
 use Rattle.ados_change.proofs.FilesStay.{past_end_trans}
 use Rattle.ados_change.specs.declared.node_kind.NodeKind.{NodeKind}
 use Rattle.ados_change.proofs.Changed.{made_here, nodes_here, nodes_other}
-use Rattle.ados_change.proofs.FirstFree.{AtLink, dated_there, linked_there, stamped_there, takes_key}
 use Rattle.ados_change.proofs.Lawful.{lawful_chains, page_is, page_within, count}
-use Rattle.ados_change.specs.steps.Footprint.{IsChanged, IsPage, IsWritten}
-use Rattle.ados_change.proofs.Writable.{lawful_pages}
-use Rattle.ados_change.proofs.EntriesKept.{changed_kept, page_changed, written_changed}
-use Rattle.ados_change.proofs.KeptSteps.{IsKnown, dated_kept, filled_kept, linked_kept, marked_kept, stamped_kept}
+use Rattle.ados_change.proofs.EntriesKept.{changed_kept, page_changed, written_changed, IsKnown, dated_kept, filled_kept, linked_kept, marked_kept, stamped_kept}
 use Rattle.ados_change.proofs.Listing.{can_insert, place_behind, entered_spells, stamped_spells}
-use Rattle.ados_change.proofs.Loose.{Loose, proper_is_loose, unused_is_loose}
+use Rattle.ados_change.proofs.Loose.{Loose, proper_is_loose, unused_is_loose, Spells, spells, stands}
 use Rattle.ados_change.proofs.ProperChanges.{IsDirectoryNode, begun_is_loose, dir_not_key, directory_at, entered_proper, made_is_proper}
 use Rattle.ados_change.proofs.Relisted.{IsLinkPlace}
-use Rattle.ados_change.proofs.Spells.{Spells, spells, stands}
 use Rattle.ados_change.proofs.EntriesUntold.{HasPages, IsOffMap, bit_past_end, freed_stays, off_marks, off_past_end, old_pages, pages_after, untold_kept, written_off}
 use Rattle.ados_data.proofs.Marks.{mark_kept}
 use Rattle.ados_change.proofs.Remarked.{IsAlone, Remarks, filled_remarks, marked_remarks, remarked}
@@ -108,9 +103,6 @@ module _ (old m1 m2 : List ℕ) (t : Tree) (st : Stands old t) (moment : Date3) 
       none Ofs = refl
       none Ffs = refl
 
-  no_extensions : st.layout.extensions key ≡ []
-  no_extensions = nil_from_length (st.layout.extensions key) (st.fits.extensions key ∙ ap (λ (xs : List ℕ). extension_count (length xs)) no_blocks)
-
   node_here : (a : Node) → Some new ≡ Some a → HasNode m2 key a
   node_here a e =
       let same : new ≡ a = cc e in
@@ -144,7 +136,7 @@ module _ (old m1 m2 : List ℕ) (t : Tree) (st : Stands old t) (moment : Date3) 
       let none : bytes ≡ [] = nil_from_length bytes short in
       subst (λ (bs : List ℕ). HasFile m2 t.format key (st.layout.file_data key) (st.layout.extensions key) bs) (sym none)
       (subst (λ (xs : List ℕ). HasFile m2 t.format key xs (st.layout.extensions key) []) (sym no_blocks)
-      (subst (λ (xs : List ℕ). HasFile m2 t.format key [] xs []) (sym no_extensions) (record {
+      (subst (λ (xs : List ℕ). HasFile m2 t.format key [] xs []) (sym (nil_from_length (st.layout.extensions key) (st.fits.extensions key ∙ ap (λ (xs : List ℕ). extension_count (length xs)) no_blocks))) (record {
         size = zero_at 81 (inr (inl (omega arith, omega arith)));
         chain = zero_at 126 (inr (inr (inr refl)));
         extension = λ i m. absurd (omega (arith, m));

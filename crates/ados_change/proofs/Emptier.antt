@@ -1,18 +1,55 @@
--- A file is emptied before its removal; a directory has nothing to empty.
-use Rattle.std.proofs.Common.{◌≡◌, ◌≢◌, ℕ, zero, suc, ◌+◌, ◌*◌, ◌/◌, ◌<◌, ◌≤◌, inl, inr, List, ◌∷◌, length, slice_index, take, Option, Some, None, option_map, option_and_then, refl, sym, ap, ◌∙◌, subst, arith, []}
-use Rattle.ados_change.proofs.Common.{cases_lt, nil_from_length, Format, Ofs, Ffs, data_count, extension_count, data_blocks, extension_blocks, IsBeside, root_key, page_count, page_block, pages_of, root_is, count_same, Duty, HasDuty, root, NAME_BYTE, COMMENT_BYTE, SameBut, IsDiskStamp, OnlyBlock, block_count, byte_at, has_free_bit, HasFreeBit, secondary_type, FILE_TYPE, cases_eq, Date3, changed, left, removed, shortened, without_archive, Stands, type_of, Content, Node, Tree, bytes_of, content_at, entries_in, size_of, size_in, Directory, File, InImage, HasFileKey, HasFileBytes, KeepsUntold, KeepsBlock, KeepsRest, TakesNone, directory_node, parent_in, one_tree, CanRemove, get_or_past, root_of}
-use Rattle.ados_model.proofs.Counting.{slice_get-back}
-use Rattle.ados_change.specs.steps.Footprint.{IsChanged, IsPage, IsPlain, IsWritten}
-use Rattle.ados_change.specs.steps.Footprint.IsWritten.{of_none, of_node, of_name, of_comment}
+-- After its removal, the contents of an entry make no difference.
+use Rattle.ados_change.proofs.Common.{◌≡◌, ◌≢◌, ℕ, inl, inr, ◌==◌, not, List, filter, Option, Some, None, option_map, sym, ap, ap₂, ◌∙◌, option_map_or, cases_eq, Date3, changed, listed, removed, stamped, with_node, Node, Tree, entries, entries_in, parent_of, zero, suc, ◌+◌, ◌*◌, ◌/◌, ◌<◌, ◌≤◌, ◌∷◌, length, slice_index, take, option_and_then, refl, subst, arith, [], cases_lt, nil_from_length, Format, Ofs, Ffs, data_count, extension_count, data_blocks, extension_blocks, IsBeside, root_key, page_count, page_block, pages_of, root_is, count_same, Duty, HasDuty, root, NAME_BYTE, COMMENT_BYTE, SameBut, IsDiskStamp, OnlyBlock, block_count, byte_at, has_free_bit, HasFreeBit, secondary_type, FILE_TYPE, left, shortened, without_archive, Stands, type_of, Content, bytes_of, content_at, size_of, size_in, Directory, File, InImage, HasFileKey, HasFileBytes, KeepsUntold, KeepsBlock, KeepsRest, TakesNone, directory_node, parent_in, one_tree, CanRemove, get_or_past, root_of, slice_get-back, IsChanged, IsPage, IsPlain, IsWritten, of_none, of_node, of_name, of_comment, Empties, GivesBack, IsEmptied, WritesOnlyEntry}
+use Rattle.ados_change.proofs.Changed.{nodes_here, nodes_other, changed_keeps, each_keeps, parent_field, relisted, same_nodes}
 use Rattle.ados_change.proofs.EntriesKept.{changed_kept}
 use Rattle.ados_change.proofs.Writable.{data_is, extensions_is, page_serves}
 use Rattle.ados_change.proofs.FilesStay.{has_bytes, untold_trans}
 use Rattle.ados_change.proofs.Keeping.{none_taken}
-use Rattle.ados_change.specs.steps.Emptied.{Empties, GivesBack, IsEmptied, WritesOnlyEntry}
-use Rattle.ados_change.proofs.Changed.{nodes_here, nodes_other, relisted}
-use Rattle.ados_change.proofs.Emptying.{removed_same}
 use Rattle.ados_change.proofs.Loose.{left_is, not_own_parent, kept as remaining}
 use Rattle.ados_change.proofs.Unreached.{marks_stay, stands_still, untold_still}
+
+module _ (t : Tree) (key dir : ℕ) (moment : Date3) (f : Node → Node) (keeps : (a : Node) → (f a).parent ≡ a.parent) (below : parent_of t key ≡ Some dir) (apart : dir ≢ key) where
+  abbrev u : Tree
+  u = stamped moment (changed key f t)
+
+  node_other : (k : ℕ) → k ≢ key → u.nodes k ≡ t.nodes k
+  node_other k n = nodes_other key (option_map f (t.nodes key)) t k n
+
+  entries_same : entries u dir ≡ entries t dir
+  entries_same = ap (λ (o : Option Node). entries_in (option_map (λ node. node.content) o)) (node_other dir apart)
+
+  abbrev list : Tree → List ℕ
+  list tree = filter (λ k. not (k == key)) (entries tree dir)
+
+  -- the tree without the entry of this directory
+  abbrev gone : Tree → Tree
+  gone tree = stamped moment (with_node key None (listed moment dir (list tree) tree))
+
+  gone_is : (tree : Tree) → parent_of tree key ≡ Some dir → removed moment key tree ≡ gone tree
+  gone_is tree e = ap (λ (o : Option ℕ). stamped moment (with_node key None (option_map_or (λ d. listed moment d (filter (λ k. not (k == key)) (entries tree d)) tree) o tree))) e
+
+  node_same : (k : ℕ) → (gone u).nodes k ≡ (gone t).nodes k
+  node_same k = elim (cases_eq k key) [
+    | inl e ↦ ap (gone u).nodes e ∙ nodes_here key None (listed moment dir (list u) u) ∙ sym (ap (gone t).nodes e ∙ nodes_here key None (listed moment dir (list t) t))
+    | inr n ↦
+        nodes_other key None (listed moment dir (list u) u) k n
+        ∙ elim (cases_eq k dir) [
+          | inl e ↦
+              ap (listed moment dir (list u) u).nodes e ∙ nodes_here dir (option_map (relisted moment (list u)) (u.nodes dir)) u
+              ∙ ap₂ (λ (keys : List ℕ) (o : Option Node). option_map (relisted moment (filter (λ k. not (k == key)) keys)) o) entries_same (node_other dir apart)
+              ∙ sym (ap (listed moment dir (list t) t).nodes e ∙ nodes_here dir (option_map (relisted moment (list t)) (t.nodes dir)) t)
+          | inr o ↦
+              nodes_other dir (option_map (relisted moment (list u)) (u.nodes dir)) u k o
+              ∙ node_other k n
+              ∙ sym (nodes_other dir (option_map (relisted moment (list t)) (t.nodes dir)) t k o)
+        ]
+        ∙ sym (nodes_other key None (listed moment dir (list t) t) k n)
+  ]
+
+  pub removed_same : removed moment key u ≡ removed moment key t
+  removed_same = gone_is u (changed_keeps parent_field f key t (each_keeps parent_field f keeps) key ∙ below) ∙ same_nodes (stamped moment t) (gone u).nodes (gone t).nodes node_same ∙ sym (gone_is t below)
+
+-- ---- a file is emptied before its removal; a directory has nothing to empty
 
 module _ (old : List ℕ) (t : Tree) (st : Stands old t) (key : ℕ) (can : CanRemove t key) where
   abbrev entry : (a : Node) × (t.nodes key ≡ Some a) × (a.parent ≡ Some can.dir)
@@ -197,9 +234,6 @@ module _ (moment : Date3) (key : ℕ) (old mid away new : List ℕ) (t : Tree) (
     in_between file bytes is was =
         has_bytes mid between.0 between.1 file bytes (ap (option_map (λ (a : Node). a.content)) (between.2.others file (not_key file away gone is)) ∙ was t st)
 
-    untold_gone : KeepsUntold old away
-    untold_gone = untold_trans old mid away t st count_mid in_between empties.untold untold
-
     not_dir : (file : ℕ) (bytes : List ℕ) → content_at t file ≡ Some (File bytes) → file ≢ can.dir
     not_dir file bytes was e =
         let d = directory_node t st.proper can.dir key ((st.proper.listed can.dir key).1 can.listed) in
@@ -224,5 +258,5 @@ module _ (moment : Date3) (key : ℕ) (old mid away new : List ℕ) (t : Tree) (
             let was : HasFreeBit away b = sym (mark b inside) ∙ free in
             back.same_byte b i l other ∙ gives.freed b (in_mid b inside) other was i l ∙ empties.freed b inside (gives.given b (in_mid b inside) other was) i l
       ];
-      untold = untold_trans old away new t st count_away afterwards untold_gone (untold_still away new (removed moment key t) gone key key_in_away gives.free back);
+      untold = untold_trans old away new t st count_away afterwards (untold_trans old mid away t st count_mid in_between empties.untold untold) (untold_still away new (removed moment key t) gone key key_in_away gives.free back);
     }

@@ -1,14 +1,10 @@
 -- A change of fields in blocks of keys leaves all bytes outside fields and the bitmap untouched.
-use Rattle.std.proofs.Common.{◌≡◌, ◌≢◌, ℕ, ◌-◌, ◌/◌, ◌<◌, ◌≤◌, ◌⊎◌, inl, inr, List, Some, refl, sym, ◌∙◌, arith}
-use Rattle.ados_change.proofs.Common.{byte_at, long, HasText, format_of, COMMENT_BYTE, NAME_BYTE, SameBut, same_long, same_weaken, IsName, IsComment, Node, Tree, root, Duty, Stands, HasFileKey, KeepsRest, KeepsData, data_at}
-use Rattle.ados_change.specs.steps.Footprint.{IsWritten}
+use Rattle.ados_change.proofs.Common.{◌≡◌, ◌≢◌, ℕ, ◌-◌, ◌/◌, ◌<◌, ◌≤◌, ◌⊎◌, inl, inr, List, Some, refl, sym, ◌∙◌, arith, byte_at, long, HasText, format_of, COMMENT_BYTE, NAME_BYTE, SameBut, same_long, same_weaken, IsName, IsComment, Node, Tree, root, Duty, Stands, HasFileKey, KeepsRest, KeepsData, data_at, IsWritten, of_node, of_name, of_comment, sum, bits, date, disk}
 use Rattle.ados_change.proofs.EntriesKept.{changed_kept, unwritten, written_changed}
-use Rattle.ados_change.specs.steps.Footprint.IsWritten.{of_node, of_name, of_comment}
-use Rattle.ados_change.specs.steps.Footprint.IsPlain.{sum, bits, date, disk}
 use Rattle.ados_change.proofs.EntriesUntold.{keeps_freed, marks_stay, past_end}
 use Rattle.ados_change.proofs.FilesStay.{data_blocks_stay, data_serves, extension_blocks_stay, file_of_key, files_stay}
 use Rattle.ados_change.proofs.Keeping.{none_taken}
-use Rattle.ados_change.proofs.Retold.{Telling}
+use Rattle.ados_change.proofs.Retells.{Telling}
 
 -- byte i is in the checksum, or after a file's pointers but not in its size or extension
 abbrev pub IsTold : Tree → ℕ → ℕ → Type 0

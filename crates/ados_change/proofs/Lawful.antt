@@ -1,10 +1,8 @@
 -- An image of a tree has lawful bitmap blocks and hash chains, even while one key is in no list.
-use Rattle.std.proofs.Common.{◌≡◌, ◌≢◌, ℕ, ◌+◌, ◌<◌, ◌==◌, List, length, slice_index, true, Contains, Some, None, refl, sym, ap, ◌∙◌, subst, arith, eqb-true}
-use Rattle.ados_change.proofs.Common.{All-contains, filter_passes, AllPairs-filter, IsInside, block_count, long, root_key, NAME_BYTE, slot, IsName, LawfulPages, page_block, pages_of, LawfulChains, IsEntryBlock, InChains, name_at, slot_at, Node, Tree, entries, name_of, parent_of, root, Directory, Duty, Layout, HasDuty, in_slot, parent_in, slice_get-index}
+use Rattle.ados_change.proofs.Common.{◌≡◌, ◌≢◌, ℕ, ◌+◌, ◌<◌, ◌==◌, List, length, slice_index, true, Contains, Some, None, refl, sym, ap, ◌∙◌, subst, arith, eqb-true, All-contains, filter_passes, AllPairs-filter, IsInside, block_count, long, root_key, NAME_BYTE, slot, IsName, LawfulPages, page_block, pages_of, LawfulChains, IsEntryBlock, InChains, name_at, slot_at, Node, Tree, entries, name_of, parent_of, root, Directory, Duty, Layout, HasDuty, in_slot, parent_in, slice_get-index}
 use Rattle.ados_change.proofs.Entering.{Contains-part}
-use Rattle.ados_change.proofs.Loose.{Loose, LeadsLoosely}
+use Rattle.ados_change.proofs.Loose.{Loose, LeadsLoosely, Spells}
 use Rattle.ados_change.proofs.Loose.LeadsLoosely.{to_root, to_loose, to_parent}
-use Rattle.ados_change.proofs.Spells.{Spells}
 use Rattle.ados_model.proofs.NoFaults.{text_is}
 
 module _ (image : List ℕ) (t : Tree) (l : Layout) (key : ℕ) (s : Spells image t l) (loose : Loose t key) where
@@ -49,9 +47,6 @@ module _ (image : List ℕ) (t : Tree) (l : Layout) (key : ℕ) (s : Spells imag
   pub slot_is : (k : ℕ) (node : Node) → t.nodes k ≡ Some node → slot_at image k ≡ slot (name_of t k)
   slot_is k node e = ap slot (name_is k node e) ∙ sym (rw e refl)
 
-  pub name_valid : (k : ℕ) (node : Node) → t.nodes k ≡ Some node → IsName (name_at image k)
-  name_valid k node e = subst IsName (sym (name_is k node e)) (loose.name k node e)
-
   -- a node with a parent is not the root
   pub not_root : (k d : ℕ) → parent_of t k ≡ Some d → k ≢ root t
   not_root k d p e =
@@ -69,7 +64,7 @@ module _ (image : List ℕ) (t : Tree) (l : Layout) (key : ℕ) (s : Spells imag
 
   -- the block of a node may be an entry's block
   pub node_block : (dir k : ℕ) (node : Node) → t.nodes k ≡ Some node → k ≢ root t → k ≢ dir → IsEntryBlock image dir k
-  node_block dir k node e n m = record { inside = inside k Duty.Key (key_serves k node e); not_root = λ r. n (r ∙ root_is); not_dir = m; name = name_valid k node e }
+  node_block dir k node e n m = record { inside = inside k Duty.Key (key_serves k node e); not_root = λ r. n (r ∙ root_is); not_dir = m; name = subst IsName (sym (name_is k node e)) (loose.name k node e) }
 
   entry_block : (dir k : ℕ) → Contains (entries t dir) k → IsEntryBlock image dir k
   entry_block dir k m =

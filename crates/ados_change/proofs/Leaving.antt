@@ -1,14 +1,11 @@
 -- An entry leaves its directory's list: the first steps of a removal and of a move.
-use Rattle.std.proofs.Common.{◌≡◌, ◌≢◌, ℕ, ◌+◌, ◌<◌, inl, List, ◌∷◌, Contains, Some, sym, ◌∙◌, subst, arith}
-use Rattle.ados_change.proofs.Common.{parent_of, Contains-append_left, block_count, long, IsInside, parent_key, SameBut, NEXT_IN_CHAIN, same_count, same_trans, Date3, slot_at-small, LawfulChains, slot_at, CanUnlink, Unlinks, link_block, link_long, Stands, in_slot, Node, Tree, root, parent_in, Dated, entries, Directory, directory_node}
-use Rattle.ados_change.proofs.Frame.{dated_count}
-use Rattle.ados_change.proofs.KeptSteps.{dated_kept, linked_kept}
+use Rattle.ados_change.proofs.Common.{◌≡◌, ◌≢◌, ℕ, ◌+◌, ◌<◌, inl, List, ◌∷◌, Contains, Some, sym, ◌∙◌, subst, arith, parent_of, Contains-append_left, block_count, long, IsInside, parent_key, SameBut, NEXT_IN_CHAIN, same_count, same_trans, Date3, slot_at-small, LawfulChains, slot_at, CanUnlink, Unlinks, link_block, link_long, Stands, in_slot, Node, Tree, root, parent_in, Dated, entries, Directory, directory_node, IsWritten}
+use Rattle.ados_change.proofs.Unchanged.{dated_count}
+use Rattle.ados_change.proofs.EntriesKept.{dated_kept, linked_kept}
 use Rattle.ados_change.proofs.Lawful.{lawful_chains, not_root}
-use Rattle.ados_change.specs.steps.Footprint.{IsWritten}
 use Rattle.ados_change.proofs.Listing.{place_behind, can_unlink, left_spells}
-use Rattle.ados_change.proofs.Loose.{l, Loose, in_list, unlisted_is_loose, node_kept, proper_is_loose}
+use Rattle.ados_change.proofs.Loose.{l, Loose, in_list, unlisted_is_loose, node_kept, proper_is_loose, Spells, spells}
 use Rattle.ados_change.proofs.Relisted.{IsLinkPlace}
-use Rattle.ados_change.proofs.Spells.{Spells, spells}
 
 module _ (old : List ℕ) (t : Tree) (st : Stands old t) (moment : Date3) (key dir : ℕ) (listed : parent_of t key ≡ Some dir) where
   s : Spells old t st.layout

@@ -1,12 +1,9 @@
 -- An entry inserted into a directory's hash chain or removed from it, and the tree of the image then.
-use Rattle.std.proofs.Common.{◌≡◌, ◌≢◌, ℕ, ◌+◌, ◌<◌, ◌≤◌, ◌⊎◌, inl, inr, List, ◌∷◌, filter, ◌==◌, Contains, Some, is_some, IsSome, refl, sym, ap, ◌∙◌, subst, arith, eq-eqb}
-use Rattle.ados_change.proofs.Common.{cases_eq, Contains-append_left, block_sum, long, Chained, table_entry, NEXT_IN_CHAIN, Date3, slot, SameBut, slot_at, with_last, CanInsert, CanUnlink, InsertsLast, Unlinks, link_block, link_long, slot_at-small, is_not, Node, Tree, root, entries, name_of, parent_of, Directory, listed, entered, enter, stamped, Layout, in_slot, Dated, parent_in, Chained-kept}
+use Rattle.ados_change.proofs.Common.{◌≡◌, ◌≢◌, ℕ, ◌+◌, ◌<◌, ◌≤◌, ◌⊎◌, inl, inr, List, ◌∷◌, filter, ◌==◌, Contains, Some, is_some, refl, sym, ap, ◌∙◌, subst, arith, eq-eqb, cases_eq, Contains-append_left, block_sum, long, Chained, table_entry, NEXT_IN_CHAIN, Date3, slot, SameBut, slot_at, with_last, CanInsert, CanUnlink, InsertsLast, Unlinks, link_block, link_long, slot_at-small, is_not, Node, Tree, root, entries, name_of, parent_of, Directory, listed, entered, enter, stamped, Layout, in_slot, Dated, parent_in, Chained-kept}
 use Rattle.ados_chain.proofs.Kept.{inserted-others_kept, unlinked-others_kept}
-use Rattle.ados_change.proofs.Frame.{AtDate, sum-kept, long-kept, AtLongs, dated_longs}
+use Rattle.ados_change.proofs.Unchanged.{AtDate, sum-kept, long-kept, AtLongs, dated_longs}
 use Rattle.ados_change.proofs.Entering.{Contains-passes}
-use Rattle.ados_change.proofs.Loose.{Loose}
-use Rattle.ados_change.proofs.Spells.{Spells}
-use Rattle.ados_change.proofs.Slots.{slots_other, slots_entered, slots_left}
+use Rattle.ados_change.proofs.Loose.{Loose, Spells, slots_other, slots_entered, slots_left}
 use Rattle.ados_change.proofs.Lawful.{lawful_chains, absent, one_directory, not_root, slot_is, in_part, node_block}
 use Rattle.ados_change.proofs.Relisted.{IsLinkPlace, link_place, relisted_spells}
 use Rattle.ados_change.proofs.Relisted.IsLinkPlace.{in_table}
@@ -28,11 +25,8 @@ module _ (image : List ℕ) (t : Tree) (l : Layout) (loose_key : ℕ) (s : Spell
   can_unlink key m = record {
     chains = in_slot t dir;
     lawful = lawful_chains image t l loose_key s loose dir a keys at holds;
-    listed = (slot (name_of t key), omega arith, in_own_slot (entries t dir) key m);
+    listed = (slot (name_of t key), omega arith, Contains-passes (λ j. slot (name_of t j) == slot (name_of t key)) (entries t dir) key m (eq-eqb (slot (name_of t key)) (slot (name_of t key)) refl));
   }
-    where
-      in_own_slot : (xs : List ℕ) (k : ℕ) → Contains xs k → Contains (filter (λ j. slot (name_of t j) == slot (name_of t k)) xs) k
-      in_own_slot xs k n = Contains-passes (λ j. slot (name_of t j) == slot (name_of t k)) xs k n (eq-eqb (slot (name_of t k)) (slot (name_of t k)) refl)
 
 -- ---- the loose key is inserted
 
@@ -47,13 +41,10 @@ module _ (old mid new : List ℕ) (t : Tree) (l : Layout) (key : ℕ) (s : Spell
   }
 
   module _ (inserts : InsertsLast dir key (in_slot t dir) old mid) (moment : Date3) (redated : Dated dir 105 moment mid new) where
-    own_slot : slot_at old key ≡ slot (name_of t key)
-    own_slot = slot_is old t l key s loose key node at_key
-
     chains : (d : ℕ) (b : Node) (ks : List ℕ) (q : ℕ) → t.nodes d ≡ Some b → b.content ≡ Directory ks → q < 72 → Chained mid NEXT_IN_CHAIN (table_entry mid d q) (in_slot (entered moment dir key t) d q)
     chains d b ks q e c m = elim (cases_eq d dir) [
       | inl same ↦
-          let lists : with_last (in_slot t dir) (slot_at old key) key q ≡ in_slot (entered moment dir key t) dir q = ap (λ (p : ℕ). with_last (in_slot t dir) p key q) own_slot ∙ sym (slots_entered t dir moment a at key (loose.rising dir) q) in
+          let lists : with_last (in_slot t dir) (slot_at old key) key q ≡ in_slot (entered moment dir key t) dir q = ap (λ (p : ℕ). with_last (in_slot t dir) p key q) (slot_is old t l key s loose key node at_key) ∙ sym (slots_entered t dir moment a at key (loose.rising dir) q) in
           subst (λ (i : ℕ). Chained mid NEXT_IN_CHAIN (table_entry mid i q) (in_slot (entered moment dir key t) i q)) (sym same)
           (subst (Chained mid NEXT_IN_CHAIN (table_entry mid dir q)) lists (inserts.lawful.spelled q m))
       | inr other ↦
@@ -112,12 +103,6 @@ module _ (old new : List ℕ) (t : Tree) (l : Layout) (key : ℕ) (s : Spells ol
   free : (b j : ℕ) → j ≢ 5 → (j < 118) ⊎ (121 ≤ j) → ¬ W b j
   free b j n o w = elim (w.1) [ inl e ↦ n e | inr e ↦ elim o [ inl x ↦ omega (arith, e.0, x) | inr x ↦ omega (arith, e.1, x) ] ]
 
-  size : (t.blocks ≤ 101602) × (16 ≤ t.blocks)
-  size = (loose.size.1, loose.size.0)
-
-  root_some : IsSome (t.nodes (root t))
-  root_some = ap is_some loose.root_node.1
-
   summed : (k : ℕ) → block_sum old k ≡ 0 → block_sum new k ≡ 0
   summed k was = elim (cases_eq k (root t)) [
     | inl e ↦ ap (block_sum new) e ∙ r.sum (ap (block_sum old) (sym e) ∙ was)
@@ -126,11 +111,11 @@ module _ (old new : List ℕ) (t : Tree) (l : Layout) (key : ℕ) (s : Spells ol
 
   pub stamped_spells : Spells new (stamped moment t) l
   stamped_spells =
-      reframed old new t l s root_some size W tells change t.nodes moment
+      reframed old new t l s loose W tells change t.nodes moment
       (record { same_keys = λ k. refl; was_file = λ k a bytes e c. (a, e, c); same_size = λ d k. refl })
       r.date
-      (λ k a e. let g = s.nodes k a e in node_stays old new t l s root_some size W tells change k a (loose.name k a e) (λ j p q. free k j (omega arith) (inl (omega arith))) (summed k g.sum) g)
-      (λ k d a e p. entry_stays old new t l s root_some size W tells change k d a (loose.comment k a e) (λ j p q. free k j (omega arith) (inl (omega arith))) (free k 125 (omega arith) (inr (omega arith))) (s.entries k d a e p))
+      (λ k a e. let g = s.nodes k a e in node_stays old new t l s loose W tells change k a (loose.name k a e) (λ j p q. free k j (omega arith) (inl (omega arith))) (summed k g.sum) g)
+      (λ k d a e p. entry_stays old new t l s loose W tells change k d a (loose.comment k a e) (λ j p q. free k j (omega arith) (inl (omega arith))) (free k 125 (omega arith) (inr (omega arith))) (s.entries k d a e p))
       (λ d a keys q e c m.
       let link : (b j : ℕ) → j < 128 → j ≢ 5 → (j < 118) ⊎ (121 ≤ j) → long new b j ≡ long old b j = λ b j n o p. long-kept W old new change b j n (free b j o p) in
       subst (λ (first : ℕ). Chained new NEXT_IN_CHAIN first (in_slot t d q)) (sym (link d (6 + q) (omega (arith, m)) (omega arith) (inl (omega (arith, m)))))

@@ -1,9 +1,7 @@
 -- A file with unchanged blocks is the same file.
-use Rattle.std.proofs.Common.{◌≡◌, ℕ, zero, suc, ◌+◌, ◌-◌, ◌*◌, ◌/◌, ◌%◌, ◌<◌, ◌≤◌, ◌⊎◌, inl, inr, List, ◌∷◌, length, slice_index, refl, sym, ◌∙◌, arith}
-use Rattle.ados_change.proofs.Common.{Format, long, data_size, data_start, data_count, HasFile, HasExtension, HasOfsData, file_byte, next_of, chained}
+use Rattle.ados_change.proofs.Common.{◌≡◌, ℕ, zero, suc, ◌+◌, ◌-◌, ◌*◌, ◌/◌, ◌%◌, ◌<◌, ◌≤◌, ◌⊎◌, inl, inr, List, ◌∷◌, length, slice_index, refl, sym, ◌∙◌, arith, Format, long, data_size, data_start, data_count, HasFile, HasExtension, HasOfsData, next_of, chained, chain_head}
 use Rattle.ados_data.proofs.Sizes.{in_count, in_block}
 use Rattle.ados_change.proofs.Unchanged.{Stays, long_as, sum_stays}
-use Rattle.ados_model.proofs.FileFaults.{chain_head}
 
 -- the longs of a header that lead to the file's data
 abbrev pub IsFileLong : ℕ → Type 0
@@ -35,10 +33,6 @@ module _ (old new : List ℕ) (format : Format) (file : ℕ) (blocks extensions 
     sum = sum_stays old new block stays ∙ e.sum;
   }
 
-  byte_stays : (k : ℕ) → k < length bytes → file_byte format new blocks k ≡ file_byte format old blocks k
-  byte_stays k l =
-      (datas (k / data_size format) (omega (arith, in_count format k (length bytes) l, fits))).bytes (data_start format + k % data_size format) (in_block format k) (λ z. z)
-
   pub file_stays : HasFile old format file blocks extensions bytes → HasFile new format file blocks extensions bytes
   file_stays h = record {
     size = header 81 (inr (inr (inl refl))) ∙ h.size;
@@ -47,7 +41,7 @@ module _ (old new : List ℕ) (format : Format) (file : ℕ) (blocks extensions 
     extension = λ q l. extension_stays _ (extension q l) (h.extension q l);
     counts = λ q l. pointer_long q 2 l (inl refl) ∙ h.counts q l;
     pointers = λ i l. pointer_long (i / 72) (77 - i % 72) (omega (arith, l, room)) (inr (omega arith, omega arith)) ∙ h.pointers i l;
-    contents = λ k l. h.contents k l ∙ sym (byte_stays k l);
+    contents = λ k l. h.contents k l ∙ sym ((datas (k / data_size format) (omega (arith, in_count format k (length bytes) l, fits))).bytes (data_start format + k % data_size format) (in_block format k) (λ z. z));
     ofs_chain = λ o. chained new 4 _ blocks (header 4 (inl (omega arith)) ∙ chain_head old 4 _ blocks (h.ofs_chain o))
         (λ i l. long_as old new _ (datas i l) 4 (omega arith) ∙ next_of old 4 _ blocks (h.ofs_chain o) i l);
     ofs_data = λ o i l. data_stays i _ (datas i l) (h.ofs_data o i l);

@@ -1,10 +1,8 @@
 -- A change of longs in the blocks of keys turns an image of one tree into an image of another, if it does so for each
 -- node.
-use Rattle.std.proofs.Common.{◌≡◌, ◌≢◌, ℕ, ◌+◌, ◌-◌, ◌/◌, ◌%◌, ◌^◌, ◌<◌, ◌≤◌, ◌⊎◌, inl, inr, ◌==◌, List, length, slice_index, bit_and, not, Option, Some, is_some, IsSome, refl, sym, ap, ◌∙◌, arith}
-use Rattle.ados_change.proofs.Common.{get_or_default, IsInside, has_free_bit, block_count, root_key, long, block_sum, Chained, HasText, table_entry, COMMENT_BYTE, NAME_BYTE, NEXT_IN_CHAIN, Date3, IsName, IsComment, data_count, Node, Tree, root, size_of, HasFile, Layout, Duty, HasDuty, date_at, HasNode, HasEntry, HasRoot, in_slot, Directory, File, SameBut, slice_get-index}
-use Rattle.ados_change.proofs.Frame.{AtLongs, long-kept, bytes-kept, sum-kept, text_kept, date_kept}
-use Rattle.ados_change.proofs.Spells.{Spells, same_duty}
-use Rattle.ados_change.proofs.Unchanged.{Stays}
+use Rattle.ados_change.proofs.Common.{◌≡◌, ◌≢◌, ℕ, ◌+◌, ◌-◌, ◌/◌, ◌%◌, ◌^◌, ◌<◌, ◌≤◌, ◌⊎◌, inl, inr, ◌==◌, List, length, slice_index, bit_and, not, Option, Some, is_some, IsSome, refl, sym, ap, ◌∙◌, arith, get_or_default, IsInside, has_free_bit, block_count, root_key, long, block_sum, Chained, HasText, table_entry, COMMENT_BYTE, NAME_BYTE, NEXT_IN_CHAIN, Date3, IsName, IsComment, data_count, Node, Tree, root, size_of, HasFile, Layout, Duty, HasDuty, date_at, HasNode, HasEntry, HasRoot, in_slot, Directory, File, SameBut, slice_get-index}
+use Rattle.ados_change.proofs.Unchanged.{AtLongs, long-kept, bytes-kept, sum-kept, text_kept, date_kept, Stays}
+use Rattle.ados_change.proofs.Loose.{Loose, Spells, same_duty}
 use Rattle.ados_change.proofs.OtherFiles.{IsFileLong, file_stays}
 
 -- the tree with these nodes and this disk date
@@ -31,7 +29,7 @@ pub record SameFiles (t : Tree) (nodes : ℕ → Option Node) : Type 0 where
   pub was_file : (k : ℕ) (a : Node) (bytes : List ℕ) → nodes k ≡ Some a → a.content ≡ File bytes → (b : Node) × (t.nodes k ≡ Some b) × (b.content ≡ File bytes)
   pub same_size : (d : Date3) (k : ℕ) → size_of (renewed t nodes d) k ≡ size_of t k
 
-module _ (old new : List ℕ) (t : Tree) (l : Layout) (s : Spells old t l) (root_some : IsSome (t.nodes (root t))) (size : (t.blocks ≤ 101602) × (16 ≤ t.blocks)) (W : ℕ → ℕ → Type 0) (tells : TellsOnly t W) (change : SameBut (AtLongs W) old new) where
+module _ (old new : List ℕ) (t : Tree) (l : Layout) (s : Spells old t l) {loose_key : ℕ} (loose : Loose t loose_key) (W : ℕ → ℕ → Type 0) (tells : TellsOnly t W) (change : SameBut (AtLongs W) old new) where
   kept : (b j : ℕ) → j < 128 → ¬ W b j → long new b j ≡ long old b j
   kept = long-kept W old new change
 
@@ -78,9 +76,6 @@ module _ (old new : List ℕ) (t : Tree) (l : Layout) (s : Spells old t l) (root
   by_duty : (b : ℕ) (duty : Duty) → HasDuty t l b duty → duty ≢ Duty.Key → (j : ℕ) → ¬ W b j
   by_duty b duty m n j w = n (s.fits.one_duty b duty Duty.Key m (tells.of_key b j w))
 
-  low_block : (b j : ℕ) → b < 2 → ¬ W b j
-  low_block b j m w = let inside = s.fits.inside b Duty.Key (tells.of_key b j w) in omega (arith, m, inside.0)
-
   -- such a block is unchanged
   stays : (b : ℕ) (duty : Duty) → HasDuty t l b duty → duty ≢ Duty.Key → Stays old new b
   stays b duty m n = record { size = change.same_length; bytes = λ k h o. change.same_byte b k h (by_duty b duty m n (k / 4)) }
@@ -93,7 +88,7 @@ module _ (old new : List ℕ) (t : Tree) (l : Layout) (s : Spells old t l) (root
       (omega (arith, s.fits.extensions file)) (s.fits.file_data file ∙ ap (data_count t.format) held) (s.files file a bytes e c)
 
   page_long : (i : ℕ) → i < length l.pages → long new (root t) (79 + i) ≡ slice_index l.pages i
-  page_long i m = kept (root t) (79 + i) (omega (arith, m, s.fits.pages, size.0)) (root_unwritten (79 + i) (inl (omega arith, omega (arith, m, s.fits.pages, size.0)))) ∙ s.root_fields.pages i m
+  page_long i m = kept (root t) (79 + i) (omega (arith, m, s.fits.pages, loose.size.1)) (root_unwritten (79 + i) (inl (omega arith, omega (arith, m, s.fits.pages, loose.size.1)))) ∙ s.root_fields.pages i m
 
   -- the bits of the bitmap
   marks_kept : (b : ℕ) → IsInside t.blocks b → has_free_bit new b ≡ has_free_bit old b
@@ -140,9 +135,6 @@ module _ (old new : List ℕ) (t : Tree) (l : Layout) (s : Spells old t l) (root
     serves_back : (b : ℕ) (duty : Duty) → HasDuty (renewed t nodes d) l b duty → HasDuty t l b duty
     serves_back b = same_duty (renewed t nodes d) t l b (sym (files.same_keys b)) refl
 
-    serves_on : (b : ℕ) (duty : Duty) → HasDuty t l b duty → HasDuty (renewed t nodes d) l b duty
-    serves_on b = same_duty t (renewed t nodes d) l b (files.same_keys b) refl
-
     root_after : HasRoot new (renewed t nodes d) l
     root_after =
         let r = s.root_fields in
@@ -167,7 +159,7 @@ module _ (old new : List ℕ) (t : Tree) (l : Layout) (s : Spells old t l) (root
         one_duty = λ b duty other m n. s.fits.one_duty b duty other (serves_back b duty m) (serves_back b other n);
       };
       whole = change.same_length ∙ s.whole;
-      boot = bytes-kept W old new change 0 0 4 (omega arith) (λ j p q. low_block 0 (j / 4) (omega arith)) ∙ s.boot;
+      boot = bytes-kept W old new change 0 0 4 (omega arith) (λ j p q w. let inside = s.fits.inside 0 Duty.Key (tells.of_key 0 (j / 4) w) in omega (arith, inside.0)) ∙ s.boot;
       root_fields = root_after;
       nodes = nodes_after;
       entries = entries_after;
@@ -176,5 +168,5 @@ module _ (old new : List ℕ) (t : Tree) (l : Layout) (s : Spells old t l) (root
       chains = chains_after;
       files = λ file a bytes e c. let w = files.was_file file a bytes e c in file_kept file w.0 bytes w.1 w.2;
       marked_free = λ b i m n. s.marked_free b i (sym (marks_kept b i) ∙ m) (n.0, serves_back b n.0 n.1);
-      marked_used = λ b i m. let n = s.marked_used b i (λ f. m (marks_kept b i ∙ f)) in (n.0, serves_on b n.0 n.1);
+      marked_used = λ b i m. let n = s.marked_used b i (λ f. m (marks_kept b i ∙ f)) in (n.0, same_duty t (renewed t nodes d) l b (files.same_keys b) refl n.0 n.1);
     }

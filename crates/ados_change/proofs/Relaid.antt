@@ -1,9 +1,10 @@
 -- The blocks of a tree after a file got other bytes in other blocks.
-use Rattle.std.proofs.Common.{◌≡◌, ◌≢◌, ℕ, zero, suc, ◌/◌, ◌<◌, ◌≤◌, ◌==◌, ◌⊎◌, inl, inr, Bool, true, false, cond, List, ◌∷◌, length, slice_index, slice_get, Option, Some, None, IsSome, refl, sym, ap, ◌∙◌, subst, arith, eq-eqb}
-use Rattle.ados_change.proofs.Common.{ne_eqb, cases_eq, cases_order, false≢true, Format, IsInside, block_count, page_count, has_free_bit, HasFreeBit, format_of, page_block, pages_of, data_count, extension_count, Node, Tree, size_of, IsWritable, IsOther, Leaves, File, Layout, Fits, Duty, HasDuty, Named, Stands, count_same, slice_get-index}
-use Rattle.ados_model.proofs.Counting.{slice_get-back}
+use Rattle.ados_change.proofs.Common.{◌≡◌, ◌≢◌, ℕ, zero, suc, ◌/◌, ◌<◌, ◌≤◌, ◌==◌, ◌⊎◌, inl, inr, Bool, true, false, cond, List, ◌∷◌, length, slice_index, slice_get, Option, Some, None, IsSome, refl, sym, ap, ◌∙◌, subst, arith, eq-eqb, ne_eqb, cases_eq, cases_order, false≢true, Format, IsInside, block_count, page_count, has_free_bit, HasFreeBit, format_of, page_block, pages_of, data_count, extension_count, Node, Tree, size_of, IsWritable, IsOther, Leaves, File, Layout, Fits, Duty, HasDuty, Named, Stands, count_same, slice_get-index, slice_get-back, take, cases_lt, get_or-take, length-take, data_blocks, extension_blocks, contents, WritableFile, LeavesOthers}
 use Rattle.ados_change.proofs.Writable.{inside, key_serves, named_used, page_serves, beside_pages, format_is}
-use Rattle.ados_change.proofs.Contents.{refilled, was, stays, size_here, size_there}
+use Rattle.ados_change.proofs.Changed.{was}
+use Rattle.ados_change.proofs.Contents.{holding, refilled, stays, size_here, size_there}
+use Rattle.ados_data.specs.Growth.{GrowsFile}
+use Rattle.ados_data.proofs.Grown.{front_at}
 
 -- a block of the new list is at its old position, or was marked free before
 abbrev pub ComesFrom : List ℕ → List ℕ → List ℕ → ℕ → Type 0
@@ -99,7 +100,7 @@ module _ (old new : List ℕ) (t : Tree) (s : Stands old t) (file : ℕ) (node :
     where
       go : (o : Option Node) → u.nodes b ≡ o → IsSome o → IsSome (t.nodes b)
       go None e m = absurd (false≢true m)
-      go (Some a) e m = let w = was t file node bytes bytes' found is_file b a e in rw w.at refl
+      go (Some a) e m = let w = was (holding bytes') file t b a e in rw w.at refl
 
   key_on : (b : ℕ) → IsSome (t.nodes b) → IsSome (u.nodes b)
   key_on b m = go (t.nodes b) refl m
@@ -204,9 +205,6 @@ module _ (old new : List ℕ) (t : Tree) (s : Stands old t) (file : ℕ) (node :
 
   -- ---- marks
 
-  pages_new : pages_of new ≡ pages_of old
-  pages_new = ap (λ (n : ℕ). page_count (n / 512)) h.leaves.same_length
-
   -- a block with a use is marked used
   used_before : (b : ℕ) (duty : Duty) → HasDuty t s.layout b duty → IsBesideLists duty → has_free_bit new b ≡ false
   used_before b duty m beside = go duty m beside
@@ -221,7 +219,7 @@ module _ (old new : List ℕ) (t : Tree) (s : Stands old t) (file : ℕ) (node :
           let serves = page_serves old t s p within in
           let back = slice_get-back s.layout.pages p (page_block old p) serves in
           let is : page_block new p ≡ b = h.leaves.pages p within ∙ sym back.1 ∙ at.1 in
-          ap (has_free_bit new) (sym is) ∙ h.writable.map.pages_marked p (omega (arith, within, pages_new))
+          ap (has_free_bit new) (sym is) ∙ h.writable.map.pages_marked p (omega (arith, within, ap (λ (n : ℕ). page_count (n / 512)) h.leaves.same_length))
       go Duty.Key m beside = elim (cases_eq b file) [
         | inl e ↦ ap (has_free_bit new) e ∙ (h.writable.headers_used 0 (omega arith)).marked
         | inr n ↦ left Duty.Key m beside n (λ p z. cc z)
@@ -270,3 +268,68 @@ module _ (old new : List ℕ) (t : Tree) (s : Stands old t) (file : ℕ) (node :
       go true e w f = absurd (used e)
       go false e true f = named_taken b (h.taken b (i.0, omega (arith, i.1, count_same old t s)) f e)
       go false e false f = let n = s.marked_used b i (λ m. false≢true (sym f ∙ m)) in named_before b n.0 n.1 e
+
+-- ---- the calls on a file's data rewrite the file
+
+-- ---- lists that get shorter
+
+front_from : (old : List ℕ) (n : ℕ) (xs ys : List ℕ) → ys ≡ take n xs → (i : ℕ) → i < length ys → ComesFrom old xs ys i
+front_from old n xs ys e i l =
+    let within : (i < n) × (i < length xs) = (omega (arith, l, ap length e, length-take n xs), omega (arith, l, ap length e, length-take n xs)) in
+    inl (within.1, ap (λ (zs : List ℕ). slice_index zs i) e ∙ get_or-take n xs i 0 within.0)
+
+front_to : (new : List ℕ) (n : ℕ) (xs ys : List ℕ) → ys ≡ take n xs → ((j : ℕ) → n ≤ j → j < length xs → has_free_bit new (slice_index xs j) ≡ true) → (i : ℕ) → i < length xs → GoesTo new xs ys i
+front_to new n xs ys e freed i l = elim (cases_lt i n) [
+  | inl m ↦ inl (omega (arith, l, m, ap length e, length-take n xs), ap (λ (zs : List ℕ). slice_index zs i) e ∙ get_or-take n xs i 0 m)
+  | inr m ↦ inr (freed i m l)
+]
+
+pub of_cut : (old new : List ℕ) (file count extensions : ℕ) → WritableFile new file → format_of new ≡ format_of old → LeavesOthers old file new
+    → ((c : ℕ) → IsInside (block_count old) c → has_free_bit old c ≡ true → has_free_bit new c ≡ true)
+    → data_blocks new file ≡ take count (data_blocks old file) → extension_blocks new file ≡ take extensions (extension_blocks old file)
+    → ((j : ℕ) → count ≤ j → j < length (data_blocks old file) → has_free_bit new (slice_index (data_blocks old file) j) ≡ true)
+    → ((q : ℕ) → extensions ≤ q → q < length (extension_blocks old file) → has_free_bit new (slice_index (extension_blocks old file) q) ≡ true)
+    → IsRewritten old file (data_blocks old file) (extension_blocks old file) new (data_blocks new file) (extension_blocks new file) (contents new file)
+of_cut old new file count extensions writable format leaves stays blocks lists freed freed_lists = record {
+  writable = writable;
+  format = format;
+  leaves = leaves;
+  data_from = front_from old count (data_blocks old file) (data_blocks new file) blocks;
+  extensions_from = front_from old extensions (extension_blocks old file) (extension_blocks new file) lists;
+  data_to = front_to new count (data_blocks old file) (data_blocks new file) blocks freed;
+  extensions_to = front_to new extensions (extension_blocks old file) (extension_blocks new file) lists freed_lists;
+  taken = λ c i was is. absurd (false≢true (sym is ∙ stays c i was));
+}
+
+-- ---- lists that grow
+
+more_from : (old xs ys : List ℕ) → take (length xs) ys ≡ xs → (i : ℕ) → ((i < length xs) × (slice_index ys i ≡ slice_index xs i)) ⊎ ((2 ≤ slice_index ys i) × (has_free_bit old (slice_index ys i) ≡ true)) → ComesFrom old xs ys i
+more_from old xs ys e i h = elim (cases_lt i (length xs)) [
+  | inl l ↦ inl (l, front_at xs ys e i l)
+  | inr l ↦ elim h [ inl same ↦ absurd (omega (arith, l, same.0)) | inr free ↦ inr (l, free.1) ]
+]
+
+more_to : (new xs ys : List ℕ) → take (length xs) ys ≡ xs → (i : ℕ) → i < length xs → GoesTo new xs ys i
+more_to new xs ys e i l =
+    inl (omega (arith, l, ap length e, length-take (length xs) ys), front_at xs ys e i l)
+
+pub of_gains : {old new : List ℕ} {file size : ℕ} → WritableFile old file → GrowsFile old file size new → IsRewritten old file (data_blocks old file) (extension_blocks old file) new (data_blocks new file) (extension_blocks new file) (contents new file)
+of_gains {old} {new} {file} was g = record {
+  writable = g.writable;
+  format = g.format;
+  leaves = g.leaves;
+  data_from = λ i l. more_from old (data_blocks old file) (data_blocks new file) g.blocks i (g.gains.data_blocks_of i l);
+  extensions_from = λ q l.
+      more_from old (extension_blocks old file) (extension_blocks new file) g.extensions q (elim (g.gains.headers (suc q) (omega arith)) [ inl same ↦ inl (omega (arith, same.0), same.1) | inr free ↦ inr free ]);
+  data_to = more_to new (data_blocks old file) (data_blocks new file) g.blocks;
+  extensions_to = more_to new (extension_blocks old file) (extension_blocks new file) g.extensions;
+  taken = λ c i was_free is_used. elim (g.gains.taken c i was_free is_used) [
+    | inl header ↦ in_lists c was_free header.0 header.1 header.2
+    | inr block ↦ inl (block.0, block.1, sym block.2)
+  ];
+}
+  where
+    -- the header was in use before
+    in_lists : (c : ℕ) → has_free_bit old c ≡ true → (q : ℕ) → q ≤ length (extension_blocks new file) → c ≡ slice_index (file ∷ extension_blocks new file) q → IsIn (data_blocks new file) c ⊎ IsIn (extension_blocks new file) c
+    in_lists c free zero l e = absurd (false≢true (sym (was.headers_used 0 (omega arith)).marked ∙ ap (has_free_bit old) (sym e) ∙ free))
+    in_lists c free (suc q) l e = inr (q, omega (arith, l), sym e)

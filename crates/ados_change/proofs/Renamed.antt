@@ -1,20 +1,15 @@
 -- The steps that move an entry: the image represents the tree with the entry moved.
-use Rattle.std.proofs.Common.{◌≡◌, ◌≢◌, ℕ, ◌+◌, ◌<◌, inl, List, length, Some, sym, ◌∙◌, subst, arith}
-use Rattle.ados_change.proofs.Common.{NAME_BYTE, block_count, byte_at, root_key, HasFreeBit, parent_key, SameBut, same_count, same_trans, Date3, slot_at-small, LawfulChains, slot_at, CanInsert, InsertsLast, Unlinks, link_block, link_long, InImage, changed, entered, renamed, KeepsRest, TakesNone, Stands, in_slot, Node, Tree, root, CanRename, AtTitle, Dated, Titled, Directory, stamped}
+use Rattle.ados_change.proofs.Common.{◌≡◌, ◌≢◌, ℕ, ◌+◌, ◌<◌, inl, List, length, Some, sym, ◌∙◌, subst, arith, NAME_BYTE, block_count, byte_at, root_key, HasFreeBit, parent_key, SameBut, same_count, same_trans, Date3, slot_at-small, LawfulChains, slot_at, CanInsert, InsertsLast, Unlinks, link_block, link_long, InImage, changed, entered, renamed, KeepsRest, TakesNone, Stands, in_slot, Node, Tree, root, CanRename, AtTitle, Dated, Titled, Directory, stamped, IsChanged, IsWritten, KeepsBehindName}
 use Rattle.ados_change.proofs.Leaving.{entry, in_tree, no_root, out, out_is_loose, out_entry, count_out, out_spells, out_written}
 use Rattle.ados_change.proofs.Renaming.{titled_spells}
-use Rattle.ados_change.proofs.Frame.{at_root, dated_count}
+use Rattle.ados_change.proofs.Unchanged.{at_root, dated_count}
 use Rattle.ados_change.proofs.Keeping.{none_taken}
 use Rattle.ados_change.proofs.Lawful.{lawful_chains}
 use Rattle.ados_change.proofs.Changed.{nodes_other, relisted, was}
-use Rattle.ados_change.specs.steps.Footprint.{IsChanged, IsWritten}
-use Rattle.ados_change.proofs.EntriesKept.{behind_name, changed_kept, written_changed}
-use Rattle.ados_change.specs.Behind.{KeepsBehindName}
-use Rattle.ados_change.proofs.KeptSteps.{IsKnown, dated_kept, linked_kept, stamped_kept, titled_kept}
+use Rattle.ados_change.proofs.EntriesKept.{behind_name, changed_kept, written_changed, IsKnown, dated_kept, linked_kept, stamped_kept, titled_kept}
 use Rattle.ados_change.proofs.Listing.{place_behind, can_insert, entered_spells, stamped_spells}
-use Rattle.ados_change.proofs.Loose.{kept, left_is, Loose, proper_is_loose}
+use Rattle.ados_change.proofs.Loose.{kept, left_is, Loose, proper_is_loose, Spells, stands}
 use Rattle.ados_change.proofs.ProperChanges.{dir_is_other, directory_at, moved_here, moved, moved_is_loose, moved_entered_proper, into_directory, renamed_is_proper}
-use Rattle.ados_change.proofs.Spells.{Spells, stands}
 use Rattle.ados_change.proofs.EntriesUntold.{keeps_freed, marks_stay, past_end, untold_kept}
 
 -- the entry's node, with its new name and directory

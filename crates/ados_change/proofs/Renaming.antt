@@ -1,21 +1,15 @@
 -- An entry in no list gets another name and directory: the image represents the tree with them.
-use Rattle.std.proofs.Common.{◌≡◌, ◌≢◌, ℕ, ◌+◌, ◌/◌, ◌<◌, ◌≤◌, ◌⊎◌, inl, inr, List, length, Option, Some, is_some, IsSome, option_map, refl, sym, ap, ◌∙◌, subst, arith}
-use Rattle.ados_change.proofs.Common.{block_sum, long, Chained, HasText, table_entry, parent_key, COMMENT_BYTE, NAME_BYTE, NEXT_IN_CHAIN, same_weaken, IsName, Node, Tree, root, size_in, Directory, changed, Layout, HasNode, HasEntry, in_slot, SameBut, AtTitle, Titled, Chained-kept}
-use Rattle.ados_change.proofs.Frame.{AtLongs, sum-kept, long-kept}
+use Rattle.ados_change.proofs.Common.{◌≡◌, ◌≢◌, ℕ, ◌+◌, ◌/◌, ◌<◌, ◌≤◌, ◌⊎◌, inl, inr, List, length, Option, Some, is_some, option_map, refl, sym, ap, ◌∙◌, subst, arith, block_sum, long, Chained, HasText, table_entry, parent_key, COMMENT_BYTE, NAME_BYTE, NEXT_IN_CHAIN, same_weaken, IsName, Node, Tree, root, size_in, Directory, changed, Layout, HasNode, HasEntry, in_slot, SameBut, AtTitle, Titled, Chained-kept}
+use Rattle.ados_change.proofs.Unchanged.{AtLongs, sum-kept, long-kept}
 use Rattle.ados_change.proofs.Changed.{changed_keeps, each_keeps, was}
-use Rattle.ados_change.proofs.Loose.{Loose}
-use Rattle.ados_change.proofs.Slots.{slots_beside}
-use Rattle.ados_change.proofs.Spells.{Spells}
+use Rattle.ados_change.proofs.Loose.{Loose, Spells, slots_beside}
 use Rattle.ados_change.proofs.Reframed.{TellsOnly, first_kept, last_kept, text_stays, date_stays, node_stays, entry_stays, reframed}
 use Rattle.ados_change.proofs.Reframed.Telling.{sum, heading, linking}
 
--- the longs of an entry's name, directory and checksum
-abbrev AtTitleLongs : ℕ → ℕ → ℕ → Type 0
-AtTitleLongs key b j = (b ≡ key) × ((j ≡ 5) ⊎ (((108 ≤ j) × (j < 116)) ⊎ (j ≡ 125)))
-
 module _ (old new : List ℕ) (t : Tree) (lay : Layout) (key dir : ℕ) (name : List ℕ) (s : Spells old t lay) (loose : Loose t key) (entry : Node) (from : ℕ) (at : t.nodes key ≡ Some entry) (below : entry.parent ≡ Some from) (valid : IsName name) (r : Titled key dir name old new) where
+  -- the longs of an entry's name, directory and checksum
   abbrev W : ℕ → ℕ → Type 0
-  W = AtTitleLongs key
+  W b j = (b ≡ key) × ((j ≡ 5) ⊎ (((108 ≤ j) × (j < 116)) ⊎ (j ≡ 125)))
 
   change : SameBut (AtLongs W) old new
   change = same_weaken (AtTitle key (length name)) (AtLongs W) old new (λ b i w. (w.0, elim (w.1) [ inl e ↦ inl e | inr x ↦ elim x [ inl y ↦ inr (inl (omega (arith, y.0), omega (arith, y.1, valid.short))) | inr e ↦ inr (inr e) ] ])) r.rest
@@ -31,12 +25,6 @@ module _ (old new : List ℕ) (t : Tree) (lay : Layout) (key dir : ℕ) (name : 
     of_key = λ b j w. ap is_some (ap t.nodes w.0 ∙ at);
     telling = λ b j w. elim (w.1) [ inl e ↦ sum e | inr x ↦ elim x [ inl y ↦ heading (omega (arith, y.0)) (omega (arith, y.1)) | inr e ↦ linking (λ z. loose.not_root (sym w.0 ∙ z)) (omega (arith, e)) (omega (arith, e)) ] ];
   }
-
-  size : (t.blocks ≤ 101602) × (16 ≤ t.blocks)
-  size = (loose.size.1, loose.size.0)
-
-  root_some : IsSome (t.nodes (root t))
-  root_some = ap is_some loose.root_node.1
 
   free : (b j : ℕ) → j ≢ 5 → (j < 108) ⊎ (((116 ≤ j) × (j < 125)) ⊎ (125 < j)) → ¬ W b j
   free b j n o w = omega (arith, n, o, w.1)
@@ -55,12 +43,12 @@ module _ (old new : List ℕ) (t : Tree) (lay : Layout) (key dir : ℕ) (name : 
       let w = was titled key t k a e in
       let g = s.nodes k w.old w.at in
       elim (w.how) [
-        | inl h ↦ subst (HasNode new k) (sym h.1) (node_stays old new t lay s root_some size W tells change k w.old (loose.name k w.old w.at) (λ j p q. apart k j h.0) (sum-kept W old new change k (λ j m. apart k j h.0) ∙ g.sum) g)
+        | inl h ↦ subst (HasNode new k) (sym h.1) (node_stays old new t lay s loose W tells change k w.old (loose.name k w.old w.at) (λ j p q. apart k j h.0) (sum-kept W old new change k (λ j m. apart k j h.0) ∙ g.sum) g)
         | inr h ↦ subst (HasNode new k) (sym h.1) (record {
-          primary = first_kept old new t lay s root_some size W tells change k 0 (omega arith) ∙ g.primary;
+          primary = first_kept old new t lay s loose W tells change k 0 (omega arith) ∙ g.primary;
           sum = ap (block_sum new) h.0 ∙ r.summed;
           name = subst (λ (b : ℕ). HasText new b NAME_BYTE name) (sym h.0) r.named;
-          date = date_stays old new t lay s root_some size W tells change k 105 (omega arith) (λ j p q. free k j (omega arith) (inl (omega arith))) ∙ g.date;
+          date = date_stays old new t lay s loose W tells change k 105 (omega arith) (λ j p q. free k j (omega arith) (inl (omega arith))) ∙ g.date;
         })
       ]
 
@@ -69,30 +57,30 @@ module _ (old new : List ℕ) (t : Tree) (lay : Layout) (key dir : ℕ) (name : 
       let w = was titled key t k a e in
       elim (w.how) [
         | inl h ↦ subst (λ (n : Node). HasEntry new k n d) (sym h.1)
-            (entry_stays old new t lay s root_some size W tells change k d w.old (loose.comment k w.old w.at) (λ j m n. apart k j h.0) (apart k 125 h.0) (s.entries k d w.old w.at (sym (ap (λ (n : Node). n.parent) h.1) ∙ p)))
+            (entry_stays old new t lay s loose W tells change k d w.old (loose.comment k w.old w.at) (λ j m n. apart k j h.0) (apart k 125 h.0) (s.entries k d w.old w.at (sym (ap (λ (n : Node). n.parent) h.1) ∙ p)))
         | inr h ↦
             let same : w.old ≡ entry = cc (sym (ap t.nodes h.0) ∙ w.at, at) in
             let g = s.entries k from w.old w.at (ap (λ (n : Node). n.parent) same ∙ below) in
             let comment = loose.comment k w.old w.at in
             let dirs : dir ≡ d = let q : Some dir ≡ Some d = sym (ap (λ (n : Node). n.parent) h.1) ∙ p in cc q in
             subst (λ (n : Node). HasEntry new k n d) (sym h.1) (record {
-              key_field = first_kept old new t lay s root_some size W tells change k 1 (omega arith) ∙ g.key_field;
+              key_field = first_kept old new t lay s loose W tells change k 1 (omega arith) ∙ g.key_field;
               protection_field = long-kept W old new change k 80 (omega arith) (free k 80 (omega arith) (inl (omega arith))) ∙ g.protection_field;
-              comment = text_stays old new t lay s root_some size W tells change k COMMENT_BYTE w.old.comment (omega (arith, comment.short)) (λ j m n. free k (j / 4) (omega arith) (inl (omega (arith, n, comment.short)))) g.comment;
+              comment = text_stays old new t lay s loose W tells change k COMMENT_BYTE w.old.comment (omega (arith, comment.short)) (λ j m n. free k (j / 4) (omega arith) (inl (omega (arith, n, comment.short)))) g.comment;
               parent = ap (λ (b : ℕ). parent_key new b) h.0 ∙ r.parent ∙ dirs;
-              secondary = last_kept old new t lay s root_some size W tells change k 127 (omega arith) (omega arith) ∙ g.secondary;
+              secondary = last_kept old new t lay s loose W tells change k 127 (omega arith) (omega arith) ∙ g.secondary;
             })
       ]
 
   pub titled_spells : Spells new (changed key titled t) lay
   titled_spells =
-      reframed old new t lay s root_some size W tells change u.nodes t.disk_date
+      reframed old new t lay s loose W tells change u.nodes t.disk_date
       (record {
         same_keys = changed_keeps is_some titled key t (each_keeps is_some titled (λ a. refl));
         was_file = λ k a bytes e c. let w = was titled key t k a e in (w.old, w.at, elim (w.how) [ inl h ↦ ap (λ (n : Node). n.content) (sym h.1) ∙ c | inr h ↦ ap (λ (n : Node). n.content) (sym h.1) ∙ c ]);
         same_size = λ d k. changed_keeps size_at titled key t (each_keeps size_at titled (λ a. refl)) k;
       })
-      (date_stays old new t lay s root_some size W tells change (root t) 118 (omega arith) (λ j p q. apart (root t) j (λ e. loose.not_root (sym e))) ∙ s.root_fields.disk_date)
+      (date_stays old new t lay s loose W tells change (root t) 118 (omega arith) (λ j p q. apart (root t) j (λ e. loose.not_root (sym e))) ∙ s.root_fields.disk_date)
       node_after (λ k d a e p. entry_after k d a e p)
       (λ d a keys q e c m.
       let w = was titled key t d a e in

@@ -1,19 +1,17 @@
 -- A file that gets its time stamp and is then rewritten: consequences for the tree and the image.
-use Rattle.std.proofs.Common.{◌≡◌, ◌≢◌, ℕ, ◌+◌, ◌/◌, ◌<◌, ◌≤◌, inl, inr, true, false, List, length, Option, Some, None, option_map, refl, sym, ap, ap₂, ◌∙◌, subst, arith, eq-eqb, []}
-use Rattle.ados_change.proofs.Common.{ne_eqb, stamped, cases_eq, lt-ltb, ltb-true, false≢true, IsImage, free_bit_count, IsInside, block_count, byte_at, long, has_free_bit, secondary_type, format_of, SameBut, FILE_TYPE, same_count, long-same, Date3, NoneFreeBelow, block_cost, Content, Node, Tree, root, free, content_at, size_of, bytes_of, data_blocks, extension_blocks, contents, HasFree, WritableFile, IsDataField, RisesBehind, IsBeside, KeepsUnnamed, pages_of, page_count, File, Duty, Stands, HasFileKey, HasTree, rewritten, without_archive, KeepsRest, root_is, IsFileNode, one_tree, AtStamps, IsFileStamp, touched, IsStamped, NeedsMore}
+use Rattle.ados_change.proofs.Common.{◌≡◌, ◌≢◌, ℕ, ◌+◌, ◌/◌, ◌<◌, ◌≤◌, inl, inr, true, false, List, length, Option, Some, None, option_map, refl, sym, ap, ap₂, ◌∙◌, subst, arith, eq-eqb, [], ne_eqb, stamped, cases_eq, lt-ltb, ltb-true, false≢true, IsImage, free_bit_count, IsInside, block_count, byte_at, long, has_free_bit, secondary_type, format_of, SameBut, FILE_TYPE, same_count, long-same, Date3, NoneFreeBelow, block_cost, Content, Node, Tree, root, free, content_at, size_of, bytes_of, data_blocks, extension_blocks, contents, HasFree, WritableFile, IsDataField, RisesBehind, IsBeside, KeepsUnnamed, pages_of, page_count, File, Duty, Stands, HasFileKey, HasTree, rewritten, without_archive, KeepsRest, root_is, IsFileNode, one_tree, AtStamps, IsFileStamp, touched, IsStamped, NeedsMore, free_bits_count}
 use Rattle.ados_data.proofs.Bounds.{below_stays}
 use Rattle.ados_model.specs.Tree.{bytes_in as bytes_held}
 use Rattle.ados_data.specs.declared.place.Place.{Place}
 use Rattle.ados_data.specs.Place.{IsAmong, IsPlace}
-use Rattle.ados_change.proofs.FilesStay.{file_of_key, has_bytes, untold_trans}
-use Rattle.ados_model.proofs.Counting.{free_bits_count}
 use Rattle.ados_change.proofs.Writable.{inside, key_serves, writable, data_is, extensions_is, bytes_is, format_is}
+use Rattle.ados_change.proofs.FilesStay.{file_of_key, has_bytes, untold_trans}
 use Rattle.ados_change.proofs.Changed.{each_keeps, same_nodes}
 use Rattle.ados_change.proofs.Contents.{refilled, holding, file_not_root}
 use Rattle.ados_change.proofs.Relaid.{IsRewritten}
 use Rattle.ados_change.proofs.Refilled.{stands_after}
 use Rattle.ados_change.proofs.BytesKept.{kept, takes_lowest, freed_stays, key_used}
-use Rattle.ados_change.proofs.Stamped.{kept_before, type_stamped, count_marked, lowest_before, marks_same, format_same, stamps_keep}
+use Rattle.ados_change.proofs.Stamping.{kept_before, type_stamped, count_marked, lowest_before, marks_same, format_same, stamps_keep}
 use Rattle.ados_change.proofs.BytesUntold.{untold_kept}
 
 pub bytes_in : (image : List ℕ) (t : Tree) (s : Stands image t) (file : ℕ) → HasFileKey image file → contents image file ≡ bytes_of t file

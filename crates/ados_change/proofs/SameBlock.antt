@@ -1,7 +1,5 @@
 -- A block with a right checksum before and after has the same checksum if all its other bytes are unchanged.
-use Rattle.std.proofs.Common.{◌≡◌, ◌≢◌, ℕ, ◌+◌, ◌*◌, ◌/◌, ◌%◌, ◌^◌, ◌<◌, inl, inr, List, sym, ap, ◌∙◌, arith}
-use Rattle.ados_change.proofs.Common.{cases_eq, IsImage, byte_at, long, block_sum, total, byte_at-below, long-below, long-bytes}
-use Rattle.adf_block.proofs.Totals.{total-one}
+use Rattle.ados_change.proofs.Common.{◌≡◌, ◌≢◌, ℕ, ◌+◌, ◌*◌, ◌/◌, ◌%◌, ◌^◌, ◌<◌, inl, inr, List, sym, ap, ◌∙◌, arith, cases_eq, IsImage, byte_at, long, block_sum, total, byte_at-below, long-below, long-bytes, total-one}
 
 -- two right sums that differ in one long only do not differ
 same_rest : (t u x y : ℕ) → u + x ≡ t + y → t % 2 ^ 32 ≡ 0 → u % 2 ^ 32 ≡ 0 → x < 2 ^ 32 → y < 2 ^ 32 → y ≡ x

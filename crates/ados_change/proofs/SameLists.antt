@@ -1,6 +1,5 @@
 -- A tree with other nodes, but with the same parents, lists and names in lists.
-use Rattle.std.proofs.Common.{◌≡◌, ◌≢◌, ℕ, ◌≤◌, ◌==◌, List, map, filter, slice_index_or, AllPairs, Contains, Option, Some, sym, ap, ◌∙◌, subst, arith}
-use Rattle.ados_change.proofs.Common.{Contains-get_or, Date3, upper, slot, IsName, IsComment, Node, Tree, Proper, IsRoot, LeadsToRoot, root, entries, name_of, parent_of, at_root, by_parent, in_slot}
+use Rattle.ados_change.proofs.Common.{◌≡◌, ◌≢◌, ℕ, ◌≤◌, ◌==◌, List, map, filter, slice_index_or, AllPairs, Contains, Option, Some, sym, ap, ◌∙◌, subst, arith, Contains-get_or, Date3, upper, slot, IsName, IsComment, Node, Tree, Proper, IsRoot, LeadsToRoot, root, entries, name_of, parent_of, at_root, by_parent, in_slot}
 use Rattle.ados_change.proofs.Entering.{filter_same}
 
 -- the order of slots, if the names in the list are the same

@@ -1,7 +1,6 @@
 -- What is unchanged when bytes after a block's checksum change, and the checksum with them.
-use Rattle.std.proofs.Common.{◌≡◌, ℕ, ◌+◌, ◌*◌, ◌<◌, ◌≤◌, ◌⊎◌, inl, inr, List, length, ap, subst, arith}
-use Rattle.ados_change.proofs.Common.{root_key, long, HasText, SameBut, AtLong, same_trans, same_weaken, same_count, same_long, date_at, root_of, Summed, Restamped}
-use Rattle.ados_change.proofs.Frame.{text_kept, date_kept}
+use Rattle.ados_change.proofs.Common.{◌≡◌, ℕ, ◌+◌, ◌*◌, ◌<◌, ◌≤◌, ◌⊎◌, inl, inr, List, length, ap, subst, arith, root_key, long, HasText, SameBut, AtLong, same_trans, same_weaken, same_count, same_long, date_at, root_of, Summed, Restamped}
+use Rattle.ados_change.proofs.Unchanged.{text_kept, date_kept}
 
 module _ (key low high : ℕ) (old new : List ℕ) (h : SameBut (Summed key low high) old new) where
   beside : (b i n k : ℕ) → 24 ≤ i → (i + n ≤ low) ⊎ (high ≤ i) → i ≤ k → k < i + n → ¬ Summed key low high b k

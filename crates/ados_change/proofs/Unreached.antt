@@ -1,12 +1,9 @@
 -- A block that is marked free gets other bytes: the image represents the same tree.
-use Rattle.std.proofs.Common.{◌≡◌, ◌≢◌, ℕ, inl, inr, List, slice_index, Option, Some, None, option_map, refl, sym, ap, ◌∙◌, subst, arith}
-use Rattle.ados_change.proofs.Common.{cases_eq, InBlock, OnlyBlock, SameBut, IsInside, block_count, has_free_bit, HasFreeBit, same_count, same_weaken, page_block, bit_of_inside, with_node, InImage, size_in, Duty, HasDuty, Stands, Node, Tree, entries_in, count_same, slice_get-index, KeepsPastEnd, KeepsUntold}
-use Rattle.ados_map.proofs.MarkLemmas.{mark_kept}
+use Rattle.ados_change.proofs.Common.{◌≡◌, ◌≢◌, ℕ, inl, inr, List, slice_index, Option, Some, None, option_map, refl, sym, ap, ◌∙◌, subst, arith, cases_eq, InBlock, OnlyBlock, SameBut, IsInside, block_count, has_free_bit, HasFreeBit, same_count, same_weaken, page_block, bit_of_inside, with_node, InImage, size_in, Duty, HasDuty, Stands, Node, Tree, entries_in, count_same, slice_get-index, KeepsPastEnd, KeepsUntold, mark_kept}
 use Rattle.ados_change.proofs.Changed.{nodes_here, nodes_other}
 use Rattle.ados_change.proofs.EntriesUntold.{IsOffMap, off_past_end, old_pages, untold_beside}
-use Rattle.ados_change.proofs.Loose.{unused_is_loose}
+use Rattle.ados_change.proofs.Loose.{unused_is_loose, Spells, spells, stands}
 use Rattle.ados_change.proofs.Remarked.{IsAlone, Remarks, filled_remarks, remarked}
-use Rattle.ados_change.proofs.Spells.{Spells, spells, stands}
 use Rattle.ados_change.proofs.Writable.{key_serves}
 
 module _ (old new : List ℕ) (t : Tree) (st : Stands old t) (key : ℕ) (inside : InImage old key) (free : HasFreeBit old key) (only : OnlyBlock key old new) where

@@ -1,6 +1,4 @@
-use Rattle.std.proofs.Common.{◌≡◌, ◌≢◌, sym, ◌∙◌}
-use Rattle.ados_change.proofs.Common.{FILE_TYPE, secondary_type, shortened}
-use Rattle.ados_change.proofs.Keeping.{same_keeps}
+use Rattle.ados_change.proofs.Common.{◌≡◌, ◌≢◌, sym, ◌∙◌, FILE_TYPE, secondary_type, shortened}
 use Rattle.ados_change.proofs.Emptier.{beside_none, cut_to_nothing, is_file, kept_as_is, key_inside}
 use Rattle.ados_change.proofs.entry_removed.empty.Goals as goal
 
@@ -19,9 +17,6 @@ cut-requires-clause-file c = λ t s.
 
 pub returns-clause-empties : goal.returns-clause-empties
 returns-clause-empties c = λ t s. (shortened c.args.moment c.args.key 0 t, c.cut.ensures.stands t s, cut_to_nothing c.args.image.now t s c.args.key (c.requires.can t s) c.args.moment)
-
-pub returns-then-long-clause-keeps : goal.returns-then-long-clause-keeps
-returns-then-long-clause-keeps c = same_keeps c.args.image.now
 
 pub returns-clause-only : goal.returns-clause-only
 returns-clause-only c = λ b i l beside apart.

@@ -1,19 +1,16 @@
-use Rattle.std.proofs.Common.{◌≡◌, ℕ, ◌+◌, ◌/◌, List, length, slice_index, sym, ap, ◌∙◌, arith}
-use Rattle.ados_change.proofs.Common.{InBlock, OnlyBlock, byte_at, byte-bytes_at, same_weaken}
+use Rattle.ados_change.proofs.Common.{◌≡◌, ℕ, ◌+◌, ◌/◌, List, length, slice_index, sym, ap, ◌∙◌, arith, InBlock, OnlyBlock, byte_at, byte-bytes_at, same_weaken}
 use Rattle.ados_change.proofs.Emptier.{each_can, each_empty, keeps_away, key_inside, stands_away, taken_away, takes_none}
 use Rattle.ados_change.proofs.entry_removed.remove.Goals as goal
 
 pub block-requires : goal.block-requires
 block-requires c = key_inside c.args.image.now c.requires.tree.0 c.requires.tree.1 c.args.key (c.requires.can c.requires.tree.0 c.requires.tree.1)
 
-pub remove_empty-requires-clause-tree : goal.remove_empty-requires-clause-tree
-remove_empty-requires-clause-tree c = let e = c.empty.ensures.empties c.requires.tree.0 c.requires.tree.1 in (e.0, e.1)
-
-pub remove_empty-requires-clause-can : goal.remove_empty-requires-clause-can
-remove_empty-requires-clause-can c = each_can c.args.moment c.args.key c.args.image.now c.empty.new.image c.requires.tree.0 c.requires.tree.1 c.empty.ensures.empties
-
-pub remove_empty-requires-clause-empty : goal.remove_empty-requires-clause-empty
-remove_empty-requires-clause-empty c = each_empty c.args.moment c.args.key c.args.image.now c.empty.new.image c.requires.tree.0 c.requires.tree.1 c.empty.ensures.empties
+pub remove_empty-requires : goal.remove_empty-requires
+remove_empty-requires c = record {
+  tree = let e = c.empty.ensures.empties c.requires.tree.0 c.requires.tree.1 in (e.0, e.1);
+  can = each_can c.args.moment c.args.key c.args.image.now c.empty.new.image c.requires.tree.0 c.requires.tree.1 c.empty.ensures.empties;
+  empty = each_empty c.args.moment c.args.key c.args.image.now c.empty.new.image c.requires.tree.0 c.requires.tree.1 c.empty.ensures.empties;
+}
 
 pub put_bytes-requires-clause-inside : goal.put_bytes-requires-clause-inside
 put_bytes-requires-clause-inside c =
