@@ -8,7 +8,6 @@ use Rattle.ados_change.proofs.Lawful.{lawful_chains, absent, one_directory, not_
 use Rattle.ados_change.proofs.Relisted.{IsLinkPlace, link_place, relisted_spells}
 use Rattle.ados_change.proofs.Relisted.IsLinkPlace.{in_table}
 use Rattle.ados_change.proofs.Reframed.{TellsOnly, node_stays, entry_stays, reframed}
-use Rattle.ados_change.proofs.Reframed.Telling.{sum, heading}
 
 module _ (image : List ℕ) (t : Tree) (l : Layout) (loose_key : ℕ) (s : Spells image t l) (loose : Loose t loose_key) (dir : ℕ) (a : Node) (keys : List ℕ) (at : t.nodes dir ≡ Some a) (holds : a.content ≡ Directory keys) where
   -- the link after entries of a hash chain of the directory
@@ -97,7 +96,7 @@ module _ (old new : List ℕ) (t : Tree) (l : Layout) (key : ℕ) (s : Spells ol
   tells : TellsOnly t W
   tells = record {
     of_key = λ b j w. ap is_some (ap t.nodes w.0 ∙ loose.root_node.1);
-    telling = λ b j w. elim (w.1) [ inl e ↦ sum e | inr e ↦ heading (omega (arith, e.0)) e.1 ];
+    telling = λ b j w. elim (w.1) [ inl e ↦ inl e | inr e ↦ inr (inr (inr (inl (omega (arith, e.0), e.1)))) ];
   }
 
   free : (b j : ℕ) → j ≢ 5 → (j < 118) ⊎ (121 ≤ j) → ¬ W b j

@@ -5,7 +5,6 @@ use Rattle.ados_change.proofs.Unchanged.{AtLongs, AtDate, long-kept, sum-kept, d
 use Rattle.ados_change.proofs.Changed.{nodes_here, nodes_other, changed_keeps, each_keeps, was, relisted}
 use Rattle.ados_change.proofs.Loose.{Loose, Spells}
 use Rattle.ados_change.proofs.Reframed.{TellsOnly, Telling, SameFiles, first_kept, text_stays, date_stays, entry_stays, reframed}
-use Rattle.ados_change.proofs.Reframed.Telling.{sum, table, heading, linking}
 
 -- where a link of a directory's hash chains may be: in its hash table, or in an entry
 pub data IsLinkPlace (t : Tree) (dir b i : ℕ) : Type 0 where
@@ -57,16 +56,16 @@ module _ (old mid new : List ℕ) (t : Tree) (l : Layout) (loose_key : ℕ) (s :
       of_key b j (inr w) = ap is_some (ap t.nodes w.0 ∙ at)
 
       placed : (b j : ℕ) → b ≡ b0 → j ≡ i0 → IsLinkPlace t dir b0 i0 → Telling t b j
-      placed b j e f (in_table d m n) = table (no_file b (e ∙ d)) (omega (arith, f, m)) (omega (arith, f, n))
-      placed b j e f (in_entry n g m d) = linking (λ r. m (sym e ∙ r)) (omega (arith, f, d)) (omega (arith, f, d))
+      placed b j e f (in_table d m n) = inr (inl (no_file b (e ∙ d), omega (arith, f, m), omega (arith, f, n)))
+      placed b j e f (in_entry n g m d) = inr (inr (inr (inr (λ r. m (sym e ∙ r), omega (arith, f, d), omega (arith, f, d)))))
 
       telling : (b j : ℕ) → W b j → Telling t b j
       telling b j (inl (inl (inl (e, f)))) = placed b j e f place
-      telling b j (inl (inl (inr (e, f)))) = sum f
-      telling b j (inl (inr (inl (e, f)))) = linking (λ r. no_root (sym e ∙ r)) (omega (arith, f)) (omega (arith, f))
-      telling b j (inl (inr (inr (e, f)))) = sum f
-      telling b j (inr (e, inr (f, g))) = heading f (omega (arith, g))
-      telling b j (inr (e, inl f)) = sum f
+      telling b j (inl (inl (inr (e, f)))) = inl f
+      telling b j (inl (inr (inl (e, f)))) = inr (inr (inr (inr (λ r. no_root (sym e ∙ r), omega (arith, f), omega (arith, f)))))
+      telling b j (inl (inr (inr (e, f)))) = inl f
+      telling b j (inr (e, inr (f, g))) = inr (inr (inr (inl (f, omega (arith, g)))))
+      telling b j (inr (e, inl f)) = inl f
 
   -- a long outside hash tables, links, dates and checksums
   free : (b j : ℕ) → ((78 ≤ j) × (j < 105)) ⊎ (((108 ≤ j) × (j < 124)) ⊎ (j ≡ 125)) → ¬ W b j

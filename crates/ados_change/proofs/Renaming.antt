@@ -4,7 +4,6 @@ use Rattle.ados_change.proofs.Unchanged.{AtLongs, sum-kept, long-kept}
 use Rattle.ados_change.proofs.Changed.{changed_keeps, each_keeps, was}
 use Rattle.ados_change.proofs.Loose.{Loose, Spells, slots_beside}
 use Rattle.ados_change.proofs.Reframed.{TellsOnly, first_kept, last_kept, text_stays, date_stays, node_stays, entry_stays, reframed}
-use Rattle.ados_change.proofs.Reframed.Telling.{sum, heading, linking}
 
 module _ (old new : List ℕ) (t : Tree) (lay : Layout) (key dir : ℕ) (name : List ℕ) (s : Spells old t lay) (loose : Loose t key) (entry : Node) (from : ℕ) (at : t.nodes key ≡ Some entry) (below : entry.parent ≡ Some from) (valid : IsName name) (r : Titled key dir name old new) where
   -- the longs of an entry's name, directory and checksum
@@ -23,7 +22,7 @@ module _ (old new : List ℕ) (t : Tree) (lay : Layout) (key dir : ℕ) (name : 
   tells : TellsOnly t W
   tells = record {
     of_key = λ b j w. ap is_some (ap t.nodes w.0 ∙ at);
-    telling = λ b j w. elim (w.1) [ inl e ↦ sum e | inr x ↦ elim x [ inl y ↦ heading (omega (arith, y.0)) (omega (arith, y.1)) | inr e ↦ linking (λ z. loose.not_root (sym w.0 ∙ z)) (omega (arith, e)) (omega (arith, e)) ] ];
+    telling = λ b j w. elim (w.1) [ inl e ↦ inl e | inr (inl y) ↦ inr (inr (inr (inl (omega (arith, y.0), omega (arith, y.1))))) | inr (inr e) ↦ inr (inr (inr (inr (λ z. loose.not_root (sym w.0 ∙ z), omega (arith, e), omega (arith, e))))) ];
   }
 
   free : (b j : ℕ) → j ≢ 5 → (j < 108) ⊎ (((116 ≤ j) × (j < 125)) ⊎ (125 < j)) → ¬ W b j

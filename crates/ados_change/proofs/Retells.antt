@@ -4,7 +4,6 @@ use Rattle.ados_change.proofs.SameLists.{proper_alike, slots_alike}
 use Rattle.ados_change.proofs.Unchanged.{AtLongs, long-kept, sum-kept}
 use Rattle.ados_change.proofs.Loose.{proper_is_loose, spells, stands}
 use Rattle.ados_change.proofs.Reframed.{TellsOnly, first_kept, date_stays, node_stays, entry_stays, reframed}
-use Rattle.ados_change.proofs.Reframed.{Telling as Longs}
 
 -- the tree with this node at a key, and this disk date
 abbrev pub retold : ℕ → Node → Date3 → Tree → Tree
@@ -162,11 +161,7 @@ module _ (old new : List ℕ) (t : Tree) (key : ℕ) (node after : Node) (d : Da
   tells : TellsOnly t W
   tells = record {
     of_key = λ b j w. ap is_some (ap t.nodes w.0 ∙ r.at);
-    telling = λ b j w. elim (w.1) [
-      | inl e ↦ Longs.sum e
-      | inr (inl x) ↦ Longs.heading x.0 x.1
-      | inr (inr x) ↦ Longs.attributes (λ e. x.0 (sym w.0 ∙ e)) x.1 x.2 x.3
-    ];
+    telling = λ b j w. elim (w.1) [ inl e ↦ inl e | inr (inl x) ↦ inr (inr (inr (inl x))) | inr (inr x) ↦ inr (inr (inl (λ e. x.0 (sym w.0 ∙ e), x.1, x.2, x.3))) ];
   }
 
   -- a long of a hash table, or one after the disk date

@@ -1,9 +1,8 @@
 -- An image with the time stamp of a change written into it: everything else is unchanged.
-use Rattle.ados_change.proofs.Common.{◌≡◌, ◌≢◌, ℕ, ◌+◌, ◌-◌, ◌/◌, ◌<◌, ◌≤◌, ◌⊎◌, inl, inr, Bool, cond, List, Some, refl, sym, ap, ◌∙◌, subst, arith, block_count, root_key, page_count, IsInside, long, has_free_bit, total, pointer_count, secondary_type, format_of, free_bit_count, FILE_TYPE, SameBut, same_long, same_count, same_weaken, Node, Tree, root, File, Stands, type_of, Role, IsFile, Reached, root_page, root_slot, directory_slot, next_entry, header_pointer, first_extension, extension_pointer, further_extension, start, Kept, IsField, Alike, IsTaken, KeepsRest, TakesLowest, root_or_parent, count_same, reached_stands, root_at, IsFileStamp, IsDiskStamp, AtStamps, total-same, IsWritten, of_node, [], IsSome, eq-eqb, ne_eqb, cases_eq, same_trans, Date3, HasFileKey, HasEntryKey, HasKey, HasTree, root_of, stamped, without_archive, root_is, IsFileNode, one_tree, Summed, dated, protected, touched, IsStamped}
+use Rattle.ados_change.proofs.Common.{◌≡◌, ◌≢◌, ℕ, ◌+◌, ◌-◌, ◌/◌, ◌<◌, ◌≤◌, ◌⊎◌, inl, inr, Bool, cond, List, Some, refl, sym, ap, ◌∙◌, subst, arith, block_count, root_key, page_count, IsInside, long, has_free_bit, total, pointer_count, secondary_type, format_of, free_bit_count, FILE_TYPE, SameBut, same_long, same_count, same_weaken, Node, Tree, root, File, Stands, type_of, Role, IsFile, Reached, root_page, root_slot, directory_slot, next_entry, header_pointer, first_extension, extension_pointer, further_extension, start, Kept, IsField, Alike, IsTaken, KeepsRest, TakesLowest, root_or_parent, count_same, reached_stands, root_at, IsFileStamp, IsDiskStamp, AtStamps, total-same, IsWritten, of_node, [], IsSome, eq-eqb, ne_eqb, cases_eq, same_trans, Date3, HasFileKey, HasEntryKey, HasKey, HasTree, root_of, stamped, without_archive, root_is, IsFileNode, one_tree, Summed, dated, protected, touched, IsStamped, IsPlain}
 use Rattle.ados_model.specs.declared.role.Role.TheVariants as roles
 use Rattle.ados_model.specs.Faults.{IsPlace}
 use Rattle.ados_model.specs.Faults.Reached.{named}
-use Rattle.ados_change.specs.steps.Footprint.{IsPlain as Field}
 use Rattle.ados_change.proofs.EntriesKept.{alike_field, changed_field}
 use Rattle.ados_change.proofs.EntriesUntold.{marks_stay}
 use Rattle.ados_change.proofs.FieldsKept.{IsTold, keeps_fields}
@@ -13,19 +12,8 @@ use Rattle.ados_change.proofs.Changed.{same_nodes}
 use Rattle.ados_change.proofs.Contents.{file_not_root}
 
 -- a long that is no time stamp, neither of a file nor of the root
-data IsPlain (j : ℕ) : Type 0 where
-  front : j < 5 → IsPlain j
-  table : 6 ≤ j → j < 80 → IsPlain j
-  texts : 80 < j → j < 105 → IsPlain j
-  name : 107 < j → j < 118 → IsPlain j
-  back : 120 < j → IsPlain j
-
-plain : (j : ℕ) → IsPlain j → ¬ (IsFileStamp j ⊎ IsDiskStamp j)
-plain j (front l) w = omega (arith, l, w)
-plain j (table l m) w = omega (arith, l, m, w)
-plain j (texts l m) w = omega (arith, l, m, w)
-plain j (name l m) w = omega (arith, l, m, w)
-plain j (back l) w = omega (arith, l, w)
+abbrev IsUnstamped : ℕ → Type 0
+IsUnstamped j = ¬ (IsFileStamp j ⊎ IsDiskStamp j)
 
 module _ (old new : List ℕ) (t : Tree) (s : Stands old t) (file : ℕ) (node : Node) (found : t.nodes file ≡ Some node) (not_root : file ≢ root t) (h : SameBut (AtStamps (root t) file) old new) where
   count : block_count new ≡ block_count old
@@ -33,14 +21,14 @@ module _ (old new : List ℕ) (t : Tree) (s : Stands old t) (file : ℕ) (node :
 
   -- time stamps are in the footprint of a change
   stamps_written : (last : List ℕ) (b i : ℕ) → AtStamps (root t) file b i → IsWritten old t s last b i
-  stamps_written last b i (inl (e, w)) = of_node node (ap t.nodes e ∙ found) (elim w [ inl f ↦ Field.sum f | inr (inl f) ↦ Field.bits (λ r. not_root (sym e ∙ r)) f | inr (inr f) ↦ Field.date f.0 (omega (arith, f.1)) ])
-  stamps_written last b i (inr (e, w)) = of_node s.proper.root_node.0 (ap t.nodes e ∙ s.proper.root_node.1) (elim w [ inl f ↦ Field.sum f | inr f ↦ Field.disk e f.0 (omega (arith, f.1)) ])
+  stamps_written last b i (inl (e, w)) = of_node node (ap t.nodes e ∙ found) (elim w [ inl f ↦ IsPlain.sum f | inr (inl f) ↦ IsPlain.bits (λ r. not_root (sym e ∙ r)) f | inr (inr f) ↦ IsPlain.date f.0 (omega (arith, f.1)) ])
+  stamps_written last b i (inr (e, w)) = of_node s.proper.root_node.0 (ap t.nodes e ∙ s.proper.root_node.1) (elim w [ inl f ↦ IsPlain.sum f | inr f ↦ IsPlain.disk e f.0 (omega (arith, f.1)) ])
 
-  unchanged : (b i k : ℕ) → IsPlain i → k / 4 ≡ i → ¬ AtStamps (root t) file b k
-  unchanged b i k p e (inl w) = plain i p (inl (subst IsFileStamp e w.1))
-  unchanged b i k p e (inr w) = plain i p (inr (subst IsDiskStamp e w.1))
+  unchanged : (b i k : ℕ) → IsUnstamped i → k / 4 ≡ i → ¬ AtStamps (root t) file b k
+  unchanged b i k p e (inl w) = p (inl (subst IsFileStamp e w.1))
+  unchanged b i k p e (inr w) = p (inr (subst IsDiskStamp e w.1))
 
-  plain_long : (b i : ℕ) → i < 128 → IsPlain i → long new b i ≡ long old b i
+  plain_long : (b i : ℕ) → i < 128 → IsUnstamped i → long new b i ≡ long old b i
   plain_long b i l p = same_long (AtStamps (root t) file) old new h b i l (λ k e. unchanged b i k p e)
 
   -- the bitmap pointers of the root are unchanged
@@ -56,10 +44,10 @@ module _ (old new : List ℕ) (t : Tree) (s : Stands old t) (file : ℕ) (node :
   -- ---- what is reached, and its fields
 
   type_same : (b : ℕ) → secondary_type new b ≡ secondary_type old b
-  type_same b = plain_long b 127 (omega arith) (back (omega arith))
+  type_same b = plain_long b 127 (omega arith) (λ w. omega (arith, w))
 
   pointers : (b : ℕ) → pointer_count new b ≡ pointer_count old b
-  pointers b = plain_long b 2 (omega arith) (front (omega arith))
+  pointers b = plain_long b 2 (omega arith) (λ w. omega (arith, w))
 
   -- a place is still a place, with the same long
   place_moves : {b i : ℕ} {role next : Role} → Reached old b role → IsPlace old b role i next → (long new b i ≡ long old b i) × IsPlace new b role i next
@@ -67,13 +55,13 @@ module _ (old new : List ℕ) (t : Tree) (s : Stands old t) (file : ℕ) (node :
       let at = reached_stands old t s r in
       let is = root_at old t s at.0 b at.1 in
       (ap (λ (c : ℕ). long new c (79 + i)) is ∙ page_long i l ∙ ap (λ (c : ℕ). long old c (79 + i)) (sym is), root_page (subst (λ (n : ℕ). i < page_count n) (sym count) l))
-  place_moves {b = b} r (root_slot {s = q} l n) = let same = plain_long b (6 + q) (omega (arith, l)) (table (omega arith) (omega (arith, l))) in (same, root_slot l (λ z. n (sym same ∙ z)))
-  place_moves {b = b} r (directory_slot {s = q} e l n) = let same = plain_long b (6 + q) (omega (arith, l)) (table (omega arith) (omega (arith, l))) in (same, directory_slot (type_same b ∙ e) l (λ z. n (sym same ∙ z)))
-  place_moves {b = b} r (next_entry n) = let same = plain_long b 124 (omega arith) (back (omega arith)) in (same, next_entry (λ z. n (sym same ∙ z)))
-  place_moves {b = b} r (header_pointer {i = i} e p) = (plain_long b (77 - i) (omega arith) (table (omega (arith, p.0, p.1)) (omega arith)), header_pointer (type_same b ∙ e) (subst (λ (n : ℕ). (i < n) × (n ≤ 72)) (sym (pointers b)) p))
-  place_moves {b = b} r (first_extension e n) = let same = plain_long b 126 (omega arith) (back (omega arith)) in (same, first_extension (type_same b ∙ e) (λ z. n (sym same ∙ z)))
-  place_moves {b = b} r (extension_pointer {i = i} p) = (plain_long b (77 - i) (omega arith) (table (omega (arith, p.0, p.1)) (omega arith)), extension_pointer (subst (λ (n : ℕ). (i < n) × (n ≤ 72)) (sym (pointers b)) p))
-  place_moves {b = b} r (further_extension n) = let same = plain_long b 126 (omega arith) (back (omega arith)) in (same, further_extension (λ z. n (sym same ∙ z)))
+  place_moves {b = b} r (root_slot {s = q} l n) = let same = plain_long b (6 + q) (omega (arith, l)) (λ w. omega (arith, w, l)) in (same, root_slot l (λ z. n (sym same ∙ z)))
+  place_moves {b = b} r (directory_slot {s = q} e l n) = let same = plain_long b (6 + q) (omega (arith, l)) (λ w. omega (arith, w, l)) in (same, directory_slot (type_same b ∙ e) l (λ z. n (sym same ∙ z)))
+  place_moves {b = b} r (next_entry n) = let same = plain_long b 124 (omega arith) (λ w. omega (arith, w)) in (same, next_entry (λ z. n (sym same ∙ z)))
+  place_moves {b = b} r (header_pointer {i = i} e p) = (plain_long b (77 - i) (omega arith) (λ w. omega (arith, w, p.0, p.1)), header_pointer (type_same b ∙ e) (subst (λ (n : ℕ). (i < n) × (n ≤ 72)) (sym (pointers b)) p))
+  place_moves {b = b} r (first_extension e n) = let same = plain_long b 126 (omega arith) (λ w. omega (arith, w)) in (same, first_extension (type_same b ∙ e) (λ z. n (sym same ∙ z)))
+  place_moves {b = b} r (extension_pointer {i = i} p) = (plain_long b (77 - i) (omega arith) (λ w. omega (arith, w, p.0, p.1)), extension_pointer (subst (λ (n : ℕ). (i < n) × (n ≤ 72)) (sym (pointers b)) p))
+  place_moves {b = b} r (further_extension n) = let same = plain_long b 126 (omega arith) (λ w. omega (arith, w)) in (same, further_extension (λ z. n (sym same ∙ z)))
 
   pub reached_moves : {b : ℕ} {role : Role} → Reached old b role → Reached new b role
   reached_moves start = subst (λ (b : ℕ). Reached new b roles.Root) (ap root_key count) start
@@ -87,7 +75,7 @@ module _ (old new : List ℕ) (t : Tree) (s : Stands old t) (file : ℕ) (node :
   pub type_stamped : (bytes : List ℕ) → node.content ≡ File bytes → secondary_type new file ≡ FILE_TYPE
   type_stamped bytes is = elim (root_or_parent t s.proper file node found) [
     | inl e ↦ absurd (not_root e)
-    | inr p ↦ plain_long file 127 (omega arith) (back (omega arith)) ∙ (s.entries file p.0 node found p.1).secondary ∙ ap type_of is
+    | inr p ↦ plain_long file 127 (omega arith) (λ w. omega (arith, w)) ∙ (s.entries file p.0 node found p.1).secondary ∙ ap type_of is
   ]
 
   -- a time stamp is in a field, even if the file is rewritten afterwards
@@ -111,9 +99,9 @@ module _ (old new : List ℕ) (t : Tree) (s : Stands old t) (file : ℕ) (node :
         g.others b i role role' l (reached_moves r) r' alike n ∙ h.same_byte b i l (λ w. n (stamp_field bytes is last typed b i role role' l r alike w));
     first = λ b f f'.
         let moved : IsFile new b = record { dir = f.dir; slot_of_chain = f.slot_of_chain; reached = reached_moves f.reached; secondary = type_same b ∙ f.secondary } in
-        let firsts = first_stays old new b (plain_long b 2 (omega arith) (front (omega arith))) (λ i l. plain_long b (77 - i) (omega arith) (table (omega (arith, l)) (omega arith))) in
+        let firsts = first_stays old new b (plain_long b 2 (omega arith) (λ w. omega (arith, w))) (λ i l. plain_long b (77 - i) (omega arith) (λ w. omega (arith, w, l))) in
         let kept = g.first b moved f' in
-        record { same = λ e. kept.same (e ∙ sym firsts) ∙ plain_long b 4 (omega arith) (front (omega arith)); other = λ n. kept.other (λ e. n (e ∙ firsts)) };
+        record { same = λ e. kept.same (e ∙ sym firsts) ∙ plain_long b 4 (omega arith) (λ w. omega (arith, w)); other = λ n. kept.other (λ e. n (e ∙ firsts)) };
   }
 
   -- ---- all that an image keeps
@@ -154,7 +142,7 @@ module _ (old new : List ℕ) (t : Tree) (s : Stands old t) (file : ℕ) (node :
       moved b m = record { inside = (m.inside.0, omega (arith, m.inside.1, count)); was_free = marks_same b m.inside ∙ m.was_free; in_use = m.in_use }
 
   pub format_same : format_of new ≡ format_of old
-  format_same = let kind = h.same_byte 0 3 (omega arith) (unchanged 0 0 3 (front (omega arith)) refl) in rw kind refl
+  format_same = let kind = h.same_byte 0 3 (omega arith) (unchanged 0 0 3 (λ w. omega (arith, w)) refl) in rw kind refl
 
 -- ---- the time stamp of a change, in three steps
 
