@@ -1,10 +1,11 @@
 -- A rewritten file leaves all bytes outside fields untouched, takes the lowest free blocks for its new ones, and leaves
 -- free blocks untouched.
-use Rattle.ados_change.proofs.Common.{◌≡◌, ℕ, ◌+◌, ◌-◌, ◌*◌, ◌/◌, ◌<◌, ◌≤◌, inl, inr, min, List, length, slice_index, Some, refl, sym, ap, ◌∙◌, subst, arith, eq-eqb, ◌⊎◌, take, drop, ◌≢◌, zero, suc, true, false, ◌∷◌, ne_eqb, cases_eq, cases_lt, false≢true, Format, Ofs, Ffs, byte_at, bytes_at, has_free_bit, pointer_count, held_count, file_size, secondary_type, format_of, FILE_TYPE, boot_same, HasFile, Layout, Stands, type_of, KeepsUnnamed, IsPointerField, IsHeaderField, data_end, Node, Tree, File, Role, IsFile, IsOfs, Kept, IsField, Alike, KeepsFirstData, page_longs, file_longs, extension_longs, ofs_data_longs, ofs_data, ffs_data, StandsAt, reached_stands, serves_at, duty_of, root_at, entry_at, get_or-take, get_or_past, Duty, pointers_of, IsFileNode, slice_get-index, cases_order, false_from_ne_true, IsInside, block_count, HasFreeBit, page_block, data_blocks, extension_blocks, RisesBehind, data_blocks_are, extension_blocks_are, IsExtensionField, HasDuty, InImage, HasFileKey, IsTaken, TakenRise, TakesLowest}
-use Rattle.ados_change.proofs.Writable.{named_used, key_serves, page_serves}
+use Rattle.ados_change.proofs.Common.{is_some, ◌≡◌, ℕ, ◌+◌, ◌-◌, ◌*◌, ◌/◌, ◌<◌, ◌≤◌, inl, inr, min, List, length, slice_index, Some, refl, sym, ap, ◌∙◌, subst, arith, eq-eqb, ◌⊎◌, take, drop, ◌≢◌, zero, suc, true, false, ◌∷◌, ne_eqb, cases_eq, cases_lt, false≢true, Format, Ofs, Ffs, byte_at, bytes_at, has_free_bit, pointer_count, held_count, file_size, secondary_type, format_of, FILE_TYPE, boot_same, HasFile, Layout, Stands, type_of, KeepsUnnamed, IsPointerField, IsHeaderField, data_end, Node, Tree, File, Role, IsFile, IsOfs, Kept, IsField, Alike, KeepsFirstData, page_longs, file_longs, extension_longs, ofs_data_longs, ofs_data, ffs_data, StandsAt, reached_stands, serves_at, duty_of, root_at, entry_at, get_or-take, get_or_past, Duty, pointers_of, IsFileNode, slice_get-index, cases_order, false_from_ne_true, IsInside, block_count, HasFreeBit, page_block, data_blocks, extension_blocks, RisesBehind, data_blocks_are, extension_blocks_are, IsExtensionField, HasDuty, InImage, HasFileKey, IsTaken, TakenRise, TakesLowest}
+use Rattle.ados_change.proofs.Writable.{named_used, page_serves}
 use Rattle.ados_change.proofs.FilesStay.{data_serves, extension_serves, file_of_key}
 use Rattle.ados_change.proofs.Keeping.{header_stays}
-use Rattle.ados_change.proofs.Contents.{refilled, holding, here, stays}
+use Rattle.ados_change.proofs.Changed.{changed_keeps, each_keeps}
+use Rattle.ados_change.proofs.Contents.{refilled, holding, here}
 use Rattle.ados_change.proofs.Relaid.{ComesFrom, IsRewritten, relaid, data_here, data_there, extensions_here, extensions_there, IsIn, serves_data, serves_extension}
 use Rattle.ados_change.proofs.Unchanged.{long_as}
 use Rattle.ados_change.proofs.Refilled.{boot_stays, key_stays, root_stays, data_stays, extension_stays, stands_after, layout_after}
@@ -343,8 +344,7 @@ module _ (old new : List ℕ) (t : Tree) (s : Stands old t) (file : ℕ) (node :
   -- the block of a node is in use
   pub key_used : (k : ℕ) (a : Node) → t.nodes k ≡ Some a → has_free_bit new k ≡ false
   key_used k a e =
-      let w = stays t file node bytes bytes' found is_file k a e in
-      named_used new v after k Duty.Key (key_serves new v after k w.0 w.1)
+      named_used new v after k Duty.Key (changed_keeps is_some (holding bytes') file t (each_keeps is_some (holding bytes') (λ a. refl)) k ∙ ap is_some e)
 
   module _ (c : ℕ) (free : HasFreeBit new c) where
     unused : (b : ℕ) (duty : Duty) → HasDuty v (relaid s.layout file blocks' extensions') b duty → c ≢ b

@@ -1,5 +1,5 @@
 -- The tree with other bytes in a file.
-use Rattle.ados_change.proofs.Common.{◌≡◌, ◌≢◌, ℕ, inl, inr, List, Option, Some, option_map, refl, sym, ap, ◌∙◌, eq-eqb, ne_eqb, cases_eq, Content, Node, Tree, entries, entries_in, name_of, parent_of, name_in, Directory, changed, length, IsName, IsComment, Proper, root, size_of, size_in, File, in_slot}
+use Rattle.ados_change.proofs.Common.{◌≡◌, ◌≢◌, ℕ, inl, inr, List, Option, Some, option_map, refl, sym, ap, ◌∙◌, eq-eqb, ne_eqb, cases_eq, Content, Node, Tree, entries, entries_in, name_of, parent_of, name_in, Directory, changed, IsName, IsComment, Proper, root, File, in_slot}
 use Rattle.ados_change.proofs.SameLists.{proper_alike, slots_alike}
 use Rattle.ados_change.proofs.Changed.{changed_keeps, each_keeps, parent_field, was, was_with}
 
@@ -21,13 +21,6 @@ module _ (t : Tree) (file : ℕ) (node : Node) (bytes bytes' : List ℕ) (found 
   pub there : (k : ℕ) → k ≢ file → u.nodes k ≡ t.nodes k
   there k n = rw (ne_eqb k file n) refl
 
-  -- a node is still a node
-  pub stays : (k : ℕ) (a : Node) → t.nodes k ≡ Some a → (b : Node) × (u.nodes k ≡ Some b)
-  stays k a e = elim (cases_eq k file) [
-    | inl same ↦ (holding bytes' node, ap u.nodes same ∙ here)
-    | inr other ↦ (a, there k other ∙ e)
-  ]
-
   pub names : (k : ℕ) → name_of u k ≡ name_of t k
   names = changed_keeps name_in (holding bytes') file t (each_keeps name_in (holding bytes') (λ a. refl))
 
@@ -42,12 +35,6 @@ module _ (t : Tree) (file : ℕ) (node : Node) (bytes bytes' : List ℕ) (found 
     | inl same ↦ ap (entries u) same ∙ ap entries_of here ∙ sym (ap entries_of found ∙ ap (λ (c : Content). entries_in (Some c)) is_file) ∙ ap (entries t) (sym same)
     | inr other ↦ ap entries_of (there dir other)
   ]
-
-  pub size_here : size_of u file ≡ length bytes'
-  size_here = rw here refl
-
-  pub size_there : (k : ℕ) → k ≢ file → size_of u k ≡ size_of t k
-  size_there k n = ap (λ (o : Option Node). size_in (option_map (λ node. node.content) o)) (there k n)
 
   pub slots_same : (dir r : ℕ) → in_slot u dir r ≡ in_slot t dir r
   slots_same = slots_alike t u.nodes t.disk_date parents entries_same (λ dir k m. names k)

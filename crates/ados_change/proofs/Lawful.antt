@@ -15,9 +15,6 @@ module _ (image : List ℕ) (t : Tree) (l : Layout) (key : ℕ) (s : Spells imag
   pub inside : (block : ℕ) (duty : Duty) → HasDuty t l block duty → IsInside (block_count image) block
   inside block duty h = let i = s.fits.inside block duty h in (i.0, omega (arith, i.1, count))
 
-  pub key_serves : (k : ℕ) (node : Node) → t.nodes k ≡ Some node → HasDuty t l k Duty.Key
-  key_serves k node e = rw e refl
-
   pub page_is : (p : ℕ) → p < length l.pages → page_block image p ≡ slice_index l.pages p
   page_is p m = ap (λ (b : ℕ). long image b (79 + p)) root_is ∙ s.root_fields.pages p m
 
@@ -36,7 +33,7 @@ module _ (image : List ℕ) (t : Tree) (l : Layout) (key : ℕ) (s : Spells imag
         cc same;
     beside_root = λ p m e.
         let at_root : t.nodes (page_block image p) ≡ Some loose.root_node.0 = ap t.nodes (e ∙ root_is) ∙ loose.root_node.1 in
-        let same = s.fits.one_duty (page_block image p) (Duty.Page p) Duty.Key (page_serves p m) (key_serves _ loose.root_node.0 at_root) in
+        let same = s.fits.one_duty (page_block image p) (Duty.Page p) Duty.Key (page_serves p m) (rw at_root refl) in
         cc same;
   }
 
@@ -64,7 +61,7 @@ module _ (image : List ℕ) (t : Tree) (l : Layout) (key : ℕ) (s : Spells imag
 
   -- the block of a node may be an entry's block
   pub node_block : (dir k : ℕ) (node : Node) → t.nodes k ≡ Some node → k ≢ root t → k ≢ dir → IsEntryBlock image dir k
-  node_block dir k node e n m = record { inside = inside k Duty.Key (key_serves k node e); not_root = λ r. n (r ∙ root_is); not_dir = m; name = subst IsName (sym (name_is k node e)) (loose.name k node e) }
+  node_block dir k node e n m = record { inside = inside k Duty.Key (rw e refl); not_root = λ r. n (r ∙ root_is); not_dir = m; name = subst IsName (sym (name_is k node e)) (loose.name k node e) }
 
   entry_block : (dir k : ℕ) → Contains (entries t dir) k → IsEntryBlock image dir k
   entry_block dir k m =
@@ -80,7 +77,7 @@ module _ (image : List ℕ) (t : Tree) (l : Layout) (key : ℕ) (s : Spells imag
 
   pub lawful_chains : (dir : ℕ) (node : Node) (keys : List ℕ) → t.nodes dir ≡ Some node → node.content ≡ Directory keys → LawfulChains image dir (in_slot t dir)
   lawful_chains dir node keys e c = record {
-    inside = inside dir Duty.Key (key_serves dir node e);
+    inside = inside dir Duty.Key (rw e refl);
     spelled = λ q m. s.chains dir node keys q e c m;
     once = λ q m. AllPairs-filter (λ a b. a ≢ b) (λ k. slot (name_of t k) == q) (entries t dir) (loose.once dir);
     entry = λ q k m n. entry_block dir k (in_part dir q k n);

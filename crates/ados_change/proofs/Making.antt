@@ -18,7 +18,7 @@ zero_long image b i h =
 pub no_duty : (image : List ℕ) (t : Tree) (l : Layout) (s : Spells image t l) (key : ℕ) → IsInside t.blocks key → has_free_bit image key ≡ true → (duty : Duty) → ¬ HasDuty t l key duty
 no_duty image t l s key i free duty m = s.marked_free key i free (duty, m)
 
-no_node : (t : Tree) (l : Layout) (key : ℕ) → ((duty : Duty) → ¬ HasDuty t l key duty) → (o : Option Node) → t.nodes key ≡ o → o ≡ None
+pub no_node : (t : Tree) (l : Layout) (key : ℕ) → ((duty : Duty) → ¬ HasDuty t l key duty) → (o : Option Node) → t.nodes key ≡ o → o ≡ None
 no_node t l key none None e = refl
 no_node t l key none (Some a) e = absurd (none Duty.Key (rw e refl))
 

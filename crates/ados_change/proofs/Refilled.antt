@@ -1,10 +1,10 @@
 -- An image with a rewritten file represents the tree in which the file has its new bytes.
-use Rattle.ados_change.proofs.Common.{◌≡◌, ◌≢◌, ℕ, ◌+◌, ◌<◌, ◌⊎◌, inl, inr, List, length, slice_index, Contains, Some, refl, sym, ap, ◌∙◌, subst, arith, cases_eq, get_or_default, Format, page_count, long, block_sum, Chained, table_entry, COMMENT_BYTE, NAME_BYTE, NEXT_IN_CHAIN, page_block, pages_of, data_count, Content, Node, Tree, root, HasFile, Duty, Stands, HasNode, HasEntry, type_of, in_slot, IsOther, IsDataField, next_of, chained, Directory, File, count_same, slice_get-index, entry_at, chain_head}
+use Rattle.ados_change.proofs.Common.{eq-eqb, ne_eqb, ◌≡◌, ◌≢◌, ℕ, ◌+◌, ◌<◌, ◌⊎◌, inl, inr, List, length, slice_index, Contains, Some, refl, sym, ap, ◌∙◌, subst, arith, cases_eq, get_or_default, Format, page_count, long, block_sum, Chained, table_entry, COMMENT_BYTE, NAME_BYTE, NEXT_IN_CHAIN, page_block, pages_of, data_count, Content, Node, Tree, root, HasFile, Duty, Stands, HasNode, HasEntry, type_of, in_slot, IsOther, IsDataField, next_of, chained, Directory, File, count_same, slice_get-index, entry_at, chain_head}
 use Rattle.ados_change.proofs.Writable.{key_serves, page_serves, lawful_pages, is_lawful, format_is}
 use Rattle.ados_change.proofs.Changed.{was, was_with}
 use Rattle.ados_change.proofs.Contents.{holding, refilled, file_not_root, proper_after, slots_same}
 use Rattle.ados_change.proofs.Unchanged.{StaysBut, Stays, long_stays, text_stays, date_stays, long_as, bytes_as, node_as, entry_as, root_as}
-use Rattle.ados_change.proofs.Relaid.{IsRewritten, relaid, data_there, data_here, extensions_there, extensions_here, not_header, other, fits_after, marked_free_after, marked_used_after}
+use Rattle.ados_change.proofs.Relaid.{IsRewritten, relaid, not_header, other, fits_after, marked_free_after, marked_used_after}
 use Rattle.ados_change.proofs.OtherFiles.{file_stays}
 
 -- a long of a header outside the fields of its data
@@ -155,18 +155,12 @@ module _ (old new : List ℕ) (t : Tree) (s : Stands old t) (file : ℕ) (node :
   file_after f a bs e c =
       let w = was (holding bytes') file t f a e in
       elim (w.how) [
-        | inl z ↦
-            subst (λ (xs : List ℕ). HasFile new t.format f xs ((relaid s.layout file blocks' extensions').extensions f) bs) (sym (data_there s.layout file blocks' extensions' f z.0))
-            (subst (λ (xs : List ℕ). HasFile new t.format f (s.layout.file_data f) xs bs) (sym (extensions_there s.layout file blocks' extensions' f z.0))
-            (other_file f w.old bs w.at (ap (λ (b : Node). b.content) (sym z.1) ∙ c) z.0))
+        | inl z ↦ rw (ne_eqb f file z.0) (other_file f w.old bs w.at (ap (λ (b : Node). b.content) (sym z.1) ∙ c) z.0)
         | inr z ↦
             let kind : Content.File bytes' ≡ File bs = ap (λ (b : Node). b.content) (sym z.1) ∙ c in
             let is : bytes' ≡ bs = cc kind in
-            let lay = relaid s.layout file blocks' extensions' in
-            subst (λ (g : ℕ). HasFile new t.format g (lay.file_data g) (lay.extensions g) bs) (sym z.0)
-            (subst (λ (xs : List ℕ). HasFile new t.format file xs (lay.extensions file) bs) (sym (data_here s.layout file blocks' extensions'))
-            (subst (λ (xs : List ℕ). HasFile new t.format file blocks' xs bs) (sym (extensions_here s.layout file blocks' extensions'))
-            (subst (λ (xs : List ℕ). HasFile new t.format file blocks' extensions' xs) is (subst (λ (g : Format). HasFile new g file blocks' extensions' bytes') (h.format ∙ format_is old t s) h.writable.lawful.holds))))
+            rw (eq-eqb f file z.0) (subst (λ (g : ℕ). HasFile new t.format g blocks' extensions' bs) (sym z.0)
+            (subst (λ (xs : List ℕ). HasFile new t.format file blocks' extensions' xs) is (subst (λ (g : Format). HasFile new g file blocks' extensions' bytes') (h.format ∙ format_is old t s) h.writable.lawful.holds)))
       ]
 
   -- ---- bitmap blocks

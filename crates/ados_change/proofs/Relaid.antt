@@ -1,8 +1,8 @@
 -- The blocks of a tree after a file got other bytes in other blocks.
-use Rattle.ados_change.proofs.Common.{◌≡◌, ◌≢◌, ℕ, zero, suc, ◌/◌, ◌<◌, ◌≤◌, ◌==◌, ◌⊎◌, inl, inr, Bool, true, false, cond, List, ◌∷◌, length, slice_index, slice_get, Option, Some, None, IsSome, refl, sym, ap, ◌∙◌, subst, arith, eq-eqb, ne_eqb, cases_eq, cases_order, false≢true, Format, IsInside, block_count, page_count, has_free_bit, HasFreeBit, format_of, page_block, pages_of, data_count, extension_count, Node, Tree, size_of, IsWritable, IsOther, Leaves, File, Layout, Fits, Duty, HasDuty, Named, Stands, count_same, slice_get-index, slice_get-back, take, cases_lt, get_or-take, length-take, data_blocks, extension_blocks, contents, WritableFile, LeavesOthers}
+use Rattle.ados_change.proofs.Common.{◌≡◌, ◌≢◌, ℕ, zero, suc, ◌/◌, ◌<◌, ◌≤◌, ◌==◌, ◌⊎◌, inl, inr, Bool, true, false, cond, List, ◌∷◌, length, slice_index, slice_get, Some, refl, sym, ap, ◌∙◌, subst, arith, eq-eqb, ne_eqb, cases_eq, cases_order, false≢true, Format, IsInside, block_count, page_count, has_free_bit, HasFreeBit, format_of, page_block, pages_of, data_count, extension_count, Node, Tree, size_of, IsWritable, IsOther, Leaves, File, Layout, Fits, Duty, HasDuty, Named, Stands, count_same, slice_get-index, slice_get-back, take, cases_lt, get_or-take, length-take, data_blocks, extension_blocks, contents, WritableFile, LeavesOthers, is_some}
 use Rattle.ados_change.proofs.Writable.{inside, key_serves, named_used, page_serves, beside_pages, format_is}
-use Rattle.ados_change.proofs.Changed.{was}
-use Rattle.ados_change.proofs.Contents.{holding, refilled, stays, size_here, size_there}
+use Rattle.ados_change.proofs.Changed.{changed_keeps, each_keeps}
+use Rattle.ados_change.proofs.Contents.{holding, refilled}
 use Rattle.ados_data.specs.Growth.{GrowsFile}
 use Rattle.ados_data.proofs.Grown.{front_at}
 
@@ -95,22 +95,11 @@ module _ (old new : List ℕ) (t : Tree) (s : Stands old t) (file : ℕ) (node :
     as_data : {i : ℕ} → i < length blocks' → slice_index blocks' i ≡ b → Holds b (Duty.Data file i)
     as_extension : {q : ℕ} → q < length extensions' → slice_index extensions' q ≡ b → Holds b (Duty.Extension file q)
 
-  key_back : (b : ℕ) → IsSome (u.nodes b) → IsSome (t.nodes b)
-  key_back b m = go (u.nodes b) refl m
-    where
-      go : (o : Option Node) → u.nodes b ≡ o → IsSome o → IsSome (t.nodes b)
-      go None e m = absurd (false≢true m)
-      go (Some a) e m = let w = was (holding bytes') file t b a e in rw w.at refl
-
-  key_on : (b : ℕ) → IsSome (t.nodes b) → IsSome (u.nodes b)
-  key_on b m = go (t.nodes b) refl m
-    where
-      go : (o : Option Node) → t.nodes b ≡ o → IsSome o → IsSome (u.nodes b)
-      go None e m = absurd (false≢true m)
-      go (Some a) e m = let w = stays t file node bytes bytes' found is_file b a e in rw w.1 refl
+  same_key : (b : ℕ) → is_some (u.nodes b) ≡ is_some (t.nodes b)
+  same_key = changed_keeps is_some (holding bytes') file t (each_keeps is_some (holding bytes') (λ a. refl))
 
   pub holds : (b : ℕ) (duty : Duty) → HasDuty u lay b duty → Holds b duty
-  holds b Duty.Key m = as_before (key_back b m) (record { no_data = λ j z. cc z; no_extension = λ q z. cc z })
+  holds b Duty.Key m = as_before (sym (same_key b) ∙ m) (record { no_data = λ j z. cc z; no_extension = λ q z. cc z })
   holds b (Duty.Data f i) m = elim (cases_eq f file) [
     | inl e ↦
         let at = slice_get-back blocks' i b (ap (λ (xs : List ℕ). slice_get xs i) (sym (data_here s.layout file blocks' extensions')) ∙ ap (λ (g : ℕ). slice_get (lay.file_data g) i) (sym e) ∙ m) in
@@ -178,19 +167,14 @@ module _ (old new : List ℕ) (t : Tree) (s : Stands old t) (file : ℕ) (node :
 
   data_fits : (f : ℕ) → length (lay.file_data f) ≡ data_count t.format (size_of u f)
   data_fits f = elim (cases_eq f file) [
-    | inl e ↦
-        ap (λ (g : ℕ). length (lay.file_data g)) e ∙ ap length (data_here s.layout file blocks' extensions') ∙ h.writable.lawful.data_fits
-        ∙ ap (λ (g : Format). data_count g (length bytes')) (h.format ∙ format_is old t s)
-        ∙ ap (data_count t.format) (sym (size_here t file node bytes bytes' found is_file)) ∙ ap (λ (g : ℕ). data_count t.format (size_of u g)) (sym e)
-    | inr n ↦ ap length (data_there s.layout file blocks' extensions' f n) ∙ s.fits.file_data f ∙ ap (data_count t.format) (sym (size_there t file node bytes bytes' found is_file f n))
+    | inl e ↦ rw (eq-eqb f file e, found) (h.writable.lawful.data_fits ∙ ap (λ (g : Format). data_count g (length bytes')) (h.format ∙ format_is old t s))
+    | inr n ↦ rw (ne_eqb f file n) (s.fits.file_data f)
   ]
 
   extensions_fit : (f : ℕ) → length (lay.extensions f) ≡ extension_count (length (lay.file_data f))
   extensions_fit f = elim (cases_eq f file) [
-    | inl e ↦
-        ap (λ (g : ℕ). length (lay.extensions g)) e ∙ ap length (extensions_here s.layout file blocks' extensions') ∙ h.writable.lawful.extensions_fit
-        ∙ ap (λ (xs : List ℕ). extension_count (length xs)) (sym (data_here s.layout file blocks' extensions')) ∙ ap (λ (g : ℕ). extension_count (length (lay.file_data g))) (sym e)
-    | inr n ↦ ap length (extensions_there s.layout file blocks' extensions' f n) ∙ s.fits.extensions f ∙ ap (λ (xs : List ℕ). extension_count (length xs)) (sym (data_there s.layout file blocks' extensions' f n))
+    | inl e ↦ rw (eq-eqb f file e) h.writable.lawful.extensions_fit
+    | inr n ↦ rw (ne_eqb f file n) (s.fits.extensions f)
   ]
 
   pub fits_after : Fits u lay
@@ -236,7 +220,7 @@ module _ (old new : List ℕ) (t : Tree) (s : Stands old t) (file : ℕ) (node :
 
   -- a block that is marked used has a use
   named_before : (b : ℕ) (duty : Duty) → HasDuty t s.layout b duty → has_free_bit new b ≡ false → Named u lay b
-  named_before b Duty.Key m used = (Duty.Key, key_on b m)
+  named_before b Duty.Key m used = (Duty.Key, same_key b ∙ m)
   named_before b (Duty.Data f i) m used = elim (cases_eq f file) [
     | inr n ↦ (Duty.Data f i, ap (λ (xs : List ℕ). slice_get xs i) (data_there s.layout file blocks' extensions' f n) ∙ m)
     | inl e ↦

@@ -1,5 +1,5 @@
 -- A tree with one node replaced: the parts that the lists of entries depend on are unchanged.
-use Rattle.ados_change.proofs.Common.{◌≡◌, ◌≢◌, ℕ, inl, inr, [], Contains, Option, Some, None, is_some, option_map, option_and_then, refl, sym, ap, ◌∙◌, subst, eq-eqb, ne_eqb, cases_eq, Date3, IsName, IsComment, Node, Tree, Proper, IsRoot, root, content_at, entries_in, entries, name_of, parent_of, name_in, in_slot, stamped, with_node, entry_node, ◌+◌, ◌/◌, ◌<◌, ◌≤◌, ◌⊎◌, List, length, arith, long, block_sum, HasText, Chained, protection, table_entry, COMMENT_BYTE, NAME_BYTE, NEXT_IN_CHAIN, SameBut, same_weaken, Stands, HasNode, HasEntry, type_of, date_at, size_in, Chained-kept}
+use Rattle.ados_change.proofs.Common.{content_in, ◌≡◌, ◌≢◌, ℕ, inl, inr, [], Contains, Option, Some, None, is_some, option_map, option_and_then, refl, sym, ap, ◌∙◌, subst, eq-eqb, ne_eqb, cases_eq, Date3, IsName, IsComment, Node, Tree, Proper, IsRoot, root, content_at, entries_in, entries, name_of, parent_of, name_in, in_slot, stamped, with_node, entry_node, ◌+◌, ◌/◌, ◌<◌, ◌≤◌, ◌⊎◌, List, length, arith, long, block_sum, HasText, Chained, protection, table_entry, COMMENT_BYTE, NAME_BYTE, NEXT_IN_CHAIN, SameBut, same_weaken, Stands, HasNode, HasEntry, type_of, date_at, size_in, Chained-kept}
 use Rattle.ados_change.proofs.SameLists.{proper_alike, slots_alike}
 use Rattle.ados_change.proofs.Unchanged.{AtLongs, long-kept, sum-kept}
 use Rattle.ados_change.proofs.Loose.{proper_is_loose, spells, stands}
@@ -63,19 +63,8 @@ module _ (t : Tree) (key : ℕ) (node after : Node) (d : Date3) (r : Retells t k
   entries_same dir = ap entries_in (contents dir)
 
   -- the node that a node comes from
-  pub record Was (k : ℕ) (a : Node) : Type 0 where
-    pub old : Node
-    pub at : t.nodes k ≡ Some old
-    pub parent : a.parent ≡ old.parent
-    pub content : a.content ≡ old.content
-
-  pub was : (k : ℕ) (a : Node) → u.nodes k ≡ Some a → Was k a
-  was k a e = elim (cases_eq k key) [
-    | inl q ↦
-        let same : after ≡ a = cc (at_key k q, e) in
-        record { old = node; at = was_key k q; parent = ap (λ (b : Node). b.parent) (sym same) ∙ r.parent; content = ap (λ (b : Node). b.content) (sym same) ∙ r.content }
-    | inr n ↦ record { old = a; at = sym (at_other k n) ∙ e; parent = refl; content = refl }
-  ]
+  pub was : (k : ℕ) (a : Node) → u.nodes k ≡ Some a → (b : Node) × (t.nodes k ≡ Some b) × (b.content ≡ a.content)
+  was k a e = content_in (t.nodes k) a.content (sym (contents k) ∙ ap (option_map (λ (b : Node). b.content)) e)
 
   module _ (p : Proper t) where
     listed_names : (dir k : ℕ) → Contains (entries t dir) k → name_of u k ≡ name_of t k
@@ -111,7 +100,7 @@ module _ (t : Tree) (key : ℕ) (node after : Node) (d : Date3) (r : Retells t k
 
     pub proper_after : Proper u
     proper_after =
-        proper_alike t u.nodes d parents entries_same listed_names p root_after (λ k a e. let w = was k a e in (w.old, w.at))
+        proper_alike t u.nodes d parents entries_same listed_names p root_after (λ k a e. let w = was k a e in (w.0, w.1))
         (of_each (λ (a : Node). IsName a.name) r.name p.name) (of_each (λ (a : Node). IsComment a.comment) r.comment p.comment)
 
 -- ---- an image with a changed block of one key represents the tree with that key's new node
@@ -226,7 +215,7 @@ module _ (old new : List ℕ) (t : Tree) (key : ℕ) (node after : Node) (d : Da
       (reframed old new t s.layout (spells old t s) (proper_is_loose t s.proper) W tells change (retold key after d t).nodes d
       (record {
         same_keys = λ k. same_of t key node after d r is_some k (λ e. refl);
-        was_file = λ k a bytes e c. let w = was t key node after d r k a e in (w.old, w.at, sym w.content ∙ c);
+        was_file = λ k a bytes e c. let w = was t key node after d r k a e in (w.0, w.1, w.2 ∙ c);
         same_size = λ d' k. ap size_in (contents t key node after d r k);
       })
       disk_after node_after (λ k dir a e p. entry_after k dir a e p)
@@ -234,4 +223,4 @@ module _ (old new : List ℕ) (t : Tree) (key : ℕ) (node after : Node) (d : Da
       let w = was t key node after d r dir a e in
       subst (λ (xs : List ℕ). Chained new NEXT_IN_CHAIN (table_entry new dir q) xs) (sym (slots_same t key node after d r s.proper dir q))
       (subst (λ (first : ℕ). Chained new NEXT_IN_CHAIN first (in_slot t dir q)) (sym (kept dir (6 + q) (omega (arith, l)) (inl (omega arith, omega (arith, l)))))
-      (Chained-kept old new NEXT_IN_CHAIN (table_entry old dir q) (in_slot t dir q) (λ b m. kept b NEXT_IN_CHAIN (omega arith) (inr (omega arith))) (s.chains dir w.old keys q w.at (sym w.content ∙ c) l)))))
+      (Chained-kept old new NEXT_IN_CHAIN (table_entry old dir q) (in_slot t dir q) (λ b m. kept b NEXT_IN_CHAIN (omega arith) (inr (omega arith))) (s.chains dir w.0 keys q w.1 (w.2 ∙ c) l)))))

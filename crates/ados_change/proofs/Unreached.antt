@@ -1,8 +1,9 @@
 -- A block that is marked free gets other bytes: the image represents the same tree.
-use Rattle.ados_change.proofs.Common.{◌≡◌, ◌≢◌, ℕ, inl, inr, List, slice_index, Option, Some, None, option_map, refl, sym, ap, ◌∙◌, subst, arith, cases_eq, InBlock, OnlyBlock, SameBut, IsInside, block_count, has_free_bit, HasFreeBit, same_count, same_weaken, page_block, bit_of_inside, with_node, InImage, size_in, Duty, HasDuty, Stands, Node, Tree, entries_in, count_same, slice_get-index, KeepsPastEnd, KeepsUntold, mark_kept}
-use Rattle.ados_change.proofs.Changed.{nodes_here, nodes_other}
+use Rattle.ados_change.proofs.Common.{◌≡◌, ◌≢◌, ℕ, inl, inr, List, slice_index, Option, None, option_map, refl, sym, ap, ◌∙◌, subst, arith, cases_eq, InBlock, OnlyBlock, SameBut, IsInside, block_count, has_free_bit, HasFreeBit, same_count, same_weaken, page_block, bit_of_inside, with_node, InImage, size_in, Duty, HasDuty, Stands, Node, Tree, entries_in, count_same, slice_get-index, KeepsPastEnd, KeepsUntold, mark_kept}
+use Rattle.ados_change.proofs.Changed.{same_nodes, nodes_here, nodes_other}
 use Rattle.ados_change.proofs.EntriesUntold.{IsOffMap, off_past_end, old_pages, untold_beside}
 use Rattle.ados_change.proofs.Loose.{unused_is_loose, Spells, spells, stands}
+use Rattle.ados_change.proofs.Making.{no_node as none_in}
 use Rattle.ados_change.proofs.Remarked.{IsAlone, Remarks, filled_remarks, remarked}
 use Rattle.ados_change.proofs.Writable.{key_serves}
 
@@ -35,11 +36,7 @@ module _ (old new : List ℕ) (t : Tree) (st : Stands old t) (key : ℕ) (inside
   -- ---- the tree
 
   no_node : t.nodes key ≡ None
-  no_node = go (t.nodes key) refl
-    where
-      go : (o : Option Node) → t.nodes key ≡ o → o ≡ None
-      go None e = refl
-      go (Some a) e = absurd (unused Duty.Key (key_serves old t st key a e))
+  no_node = none_in t st.layout key unused (t.nodes key) refl
 
   alone : IsAlone t st.layout key None
   alone = record {
@@ -61,12 +58,9 @@ module _ (old new : List ℕ) (t : Tree) (st : Stands old t) (key : ℕ) (inside
     | inr n ↦ nodes_other key None t k n
   ]
 
-  same_tree : with_node key None t ≡ t
-  same_tree = λ i. record { blocks = t.blocks; format = t.format; disk_date = t.disk_date; creation_date = t.creation_date; nodes = λ k. same_node k i; lost = t.lost }
-
   spells_still : Spells new t st.layout
   spells_still =
-      subst (λ (u : Tree). Spells new u st.layout) same_tree
+      subst (λ (u : Tree). Spells new u st.layout) (same_nodes t (with_node key None t).nodes t.nodes same_node)
       (remarked old new t st.layout key None (spells old t st) (unused_is_loose t key st.proper no_node) alone remarks
       (λ a e. absurd (cc e)) (λ a d e p. absurd (cc e)) (λ a keys q e c m. absurd (cc e)) (λ a bytes e c. absurd (cc e)))
 
