@@ -6,7 +6,7 @@ use Rattle.ados_change.proofs.FilesStay.{data_serves, extension_serves, file_of_
 use Rattle.ados_change.proofs.Keeping.{header_stays}
 use Rattle.ados_change.proofs.Changed.{changed_keeps, each_keeps}
 use Rattle.ados_change.proofs.Contents.{refilled, holding, here}
-use Rattle.ados_change.proofs.Relaid.{ComesFrom, IsRewritten, relaid, data_here, data_there, extensions_here, extensions_there, IsIn, serves_data, serves_extension}
+use Rattle.ados_change.proofs.Relaid.{ComesFrom, IsRewritten, relaid, IsIn, serves_data, serves_extension}
 use Rattle.ados_change.proofs.Unchanged.{long_as}
 use Rattle.ados_change.proofs.Refilled.{boot_stays, key_stays, root_stays, data_stays, extension_stays, stands_after, layout_after}
 use Rattle.ados_model.proofs.FileBlocks.{pointers_are}
@@ -109,12 +109,12 @@ module _ (old new : List ℕ) (t : Tree) (s : Stands old t) (file : ℕ) (node :
   data_kept : (k k' f f' block i : ℕ) → i < 512 → StandsAt old t s (roles.Data f) k block → StandsAt new v after (roles.Data f') k' block → ¬ IsField new block (roles.Data f') i → byte_at new block i ≡ byte_at old block i
   data_kept k k' f f' block i l m m' n = elim (cases_eq f' file) [
     | inr other ↦
-        let lists : after.layout.file_data f' ≡ s.layout.file_data f' = ap (λ (l : Layout). l.file_data f') layout_is ∙ data_there s.layout file blocks' extensions' f' other in
+        let lists : after.layout.file_data f' ≡ s.layout.file_data f' = ap (λ (l : Layout). l.file_data f') layout_is ∙ rw (ne_eqb f' file other) refl in
         let within : k' < length (s.layout.file_data f') = subst (λ (xs : List ℕ). k' < length xs) lists m'.within in
         let at : slice_index (s.layout.file_data f') k' ≡ block = ap (λ (xs : List ℕ). slice_index xs k') (sym lists) ∙ m'.here in
         ap (λ (b : ℕ). byte_at new b i) (sym at) ∙ (data_stays old new t s file node bytes found is_file blocks' extensions' bytes' h f' k' other within).bytes i l (λ z. z) ∙ ap (λ (b : ℕ). byte_at old b i) at
     | inl same ↦
-        let lists : after.layout.file_data f' ≡ blocks' = ap (λ (l : Layout). l.file_data f') layout_is ∙ ap (relaid s.layout file blocks' extensions').file_data same ∙ data_here s.layout file blocks' extensions' in
+        let lists : after.layout.file_data f' ≡ blocks' = ap (λ (l : Layout). l.file_data f') layout_is ∙ rw (eq-eqb f' file same) refl in
         let within : k' < length blocks' = subst (λ (xs : List ℕ). k' < length xs) lists m'.within in
         let at : slice_index blocks' k' ≡ block = ap (λ (xs : List ℕ). slice_index xs k') (sym lists) ∙ m'.here in
         elim (h.data_from k' within) [
@@ -130,12 +130,12 @@ module _ (old new : List ℕ) (t : Tree) (s : Stands old t) (file : ℕ) (node :
   extension_kept : (k k' f f' block i : ℕ) → i < 512 → StandsAt old t s (roles.Extension f) k block → StandsAt new v after (roles.Extension f') k' block → ¬ IsField new block (roles.Extension f') i → byte_at new block i ≡ byte_at old block i
   extension_kept k k' f f' block i l m m' n = elim (cases_eq f' file) [
     | inr other ↦
-        let lists : after.layout.extensions f' ≡ s.layout.extensions f' = ap (λ (l : Layout). l.extensions f') layout_is ∙ extensions_there s.layout file blocks' extensions' f' other in
+        let lists : after.layout.extensions f' ≡ s.layout.extensions f' = ap (λ (l : Layout). l.extensions f') layout_is ∙ rw (ne_eqb f' file other) refl in
         let within : k' < length (s.layout.extensions f') = subst (λ (xs : List ℕ). k' < length xs) lists m'.within in
         let at : slice_index (s.layout.extensions f') k' ≡ block = ap (λ (xs : List ℕ). slice_index xs k') (sym lists) ∙ m'.here in
         ap (λ (b : ℕ). byte_at new b i) (sym at) ∙ (extension_stays old new t s file node bytes found is_file blocks' extensions' bytes' h f' k' other within).bytes i l (λ z. z) ∙ ap (λ (b : ℕ). byte_at old b i) at
     | inl same ↦
-        let lists : after.layout.extensions f' ≡ extensions' = ap (λ (l : Layout). l.extensions f') layout_is ∙ ap (relaid s.layout file blocks' extensions').extensions same ∙ extensions_here s.layout file blocks' extensions' in
+        let lists : after.layout.extensions f' ≡ extensions' = ap (λ (l : Layout). l.extensions f') layout_is ∙ rw (eq-eqb f' file same) refl in
         let within : k' < length extensions' = subst (λ (xs : List ℕ). k' < length xs) lists m'.within in
         let at : slice_index extensions' k' ≡ block = ap (λ (xs : List ℕ). slice_index xs k') (sym lists) ∙ m'.here in
         elim (h.extensions_from k' within) [
@@ -167,7 +167,7 @@ module _ (old new : List ℕ) (t : Tree) (s : Stands old t) (file : ℕ) (node :
   first_new =
       first_pointer new (refilled file bytes' t) after file (record { node = holding bytes' node; bytes = bytes'; at = here t file node bytes bytes' found is_file; content = refl })
       ∙ ap (λ (l : Layout). slice_index (l.file_data file) 0) layout_is
-      ∙ ap (λ (xs : List ℕ). slice_index xs 0) (data_here s.layout file blocks' extensions')
+      ∙ rw (eq-eqb file file refl) refl
 
   -- the long is unchanged if the first data block is; a new first block, or none, is written
   keeps_first : KeepsFirstData old new file

@@ -1,9 +1,9 @@
 -- A rewritten file leaves untouched what no tree determines.
-use Rattle.ados_change.proofs.Common.{◌≡◌, ◌≢◌, ℕ, zero, suc, ◌+◌, ◌-◌, ◌*◌, ◌/◌, ◌%◌, ◌<◌, ◌≤◌, inl, inr, List, length, slice_index, Some, option_map, refl, sym, ap, ap₂, ◌∙◌, subst, arith, cases_eq, cases_lt, ext_get_or, Format, Ofs, Ffs, byte_at, long, file_size, format_of, IsImage, long-same, data_size, data_start, data_count, extension_count, Node, Tree, content_at, HasFile, HasOfsData, Layout, Stands, file_byte, IsLawful, data_blocks, extension_blocks, KeepsUnnamed, data_end, next_of, data_blocks_are, extension_blocks_are, File, HasFileKey, AgreeInFront, HasFileBytes, IsBehindEnd, KeepsData, KeepsFileEnd, KeepsUntold}
+use Rattle.ados_change.proofs.Common.{◌≡◌, ◌≢◌, ℕ, zero, suc, ◌+◌, ◌-◌, ◌*◌, ◌/◌, ◌%◌, ◌<◌, ◌≤◌, inl, inr, List, length, slice_index, Some, option_map, refl, sym, ap, ap₂, ◌∙◌, subst, arith, cases_eq, cases_lt, ext_get_or, Format, Ofs, Ffs, byte_at, long, file_size, format_of, IsImage, long-same, data_size, data_start, data_count, extension_count, Node, Tree, content_at, HasFile, HasOfsData, Layout, Stands, file_byte, IsLawful, data_blocks, extension_blocks, KeepsUnnamed, data_end, next_of, data_blocks_are, extension_blocks_are, File, HasFileKey, AgreeInFront, HasFileBytes, IsBehindEnd, KeepsData, KeepsFileEnd, KeepsUntold, ne_eqb}
 use Rattle.ados_change.proofs.Writable.{data_is, extensions_is, is_lawful}
 use Rattle.ados_change.proofs.FilesStay.{end_of_data, file_of_key}
 use Rattle.ados_change.proofs.Contents.{refilled, here, there}
-use Rattle.ados_change.proofs.Relaid.{ComesFrom, IsRewritten, data_there, extensions_there}
+use Rattle.ados_change.proofs.Relaid.{ComesFrom, IsRewritten}
 use Rattle.ados_change.proofs.Refilled.{data_stays, layout_after, stands_after}
 use Rattle.ados_change.proofs.SameBlock.{bytes_same}
 
@@ -95,9 +95,9 @@ module _ (old new : List ℕ) (t : Tree) (s : Stands old t) (file : ℕ) (node :
       let lay = layout_after old new t s file node bytes found is_file blocks' extensions' bytes' h in
       let olds = data_is old t s f a.node a.bytes a.at a.content in
       record {
-        blocks = data_is new v after f a.node a.bytes at a.content ∙ ap (λ (l : Layout). l.file_data f) lay ∙ data_there s.layout file blocks' extensions' f n ∙ sym olds;
+        blocks = data_is new v after f a.node a.bytes at a.content ∙ ap (λ (l : Layout). l.file_data f) lay ∙ rw (ne_eqb f file n) refl ∙ sym olds;
         extensions =
-            extensions_is new v after f a.node a.bytes at a.content ∙ ap (λ (l : Layout). l.extensions f) lay ∙ extensions_there s.layout file blocks' extensions' f n
+            extensions_is new v after f a.node a.bytes at a.content ∙ ap (λ (l : Layout). l.extensions f) lay ∙ rw (ne_eqb f file n) refl
             ∙ sym (extensions_is old t s f a.node a.bytes a.at a.content);
         bytes = λ q i l m.
             let within : q < length (s.layout.file_data f) = subst (λ (xs : List ℕ). q < length xs) olds l in

@@ -1,11 +1,12 @@
 -- A change of fields or of entries leaves all bytes outside fields untouched.
-use Rattle.ados_change.proofs.Common.{◌≡◌, ◌≢◌, ℕ, ◌+◌, ◌-◌, ◌/◌, ◌<◌, ◌≤◌, ◌⊎◌, inl, inr, List, length, Some, None, refl, sym, ap, ◌∙◌, subst, arith, InLongs, pointer_count, byte_at, bytes_at, long, secondary_type, COMMENT_BYTE, NAME_BYTE, SameBut, same_long, same_weaken, boot_same, Content, Node, Tree, root, Directory, File, Duty, HasDuty, Stands, type_of, Role, IsFile, Kept, KeepsFirstData, IsField, Alike, InText, root_longs, root_name, page_longs, directory_longs, file_longs, entry_name, entry_comment, extension_longs, ofs_data_longs, ofs_data, ffs_data, root_or_parent, StandsAt, IsFileNode, file_at, reached_stands, serves_at, duty_of, root_at, entry_at, KeepsBehindName, IsChanged, IsPage, IsPlain, IsWritten, sum, table, bits, date, disk, link, of_none, of_node, of_name, of_comment, Bool, slice_index, NEXT_IN_CHAIN, InBlock, OnlyBlock, HasFreeBit, MapPlace, BitChanged, page_block, page_of, Date3, AtLinks, Relinks, slice_get-index, AtTitle, Dated, Titled}
+use Rattle.ados_change.proofs.Common.{◌≡◌, ◌≢◌, ℕ, ◌+◌, ◌-◌, ◌/◌, ◌<◌, ◌≤◌, ◌⊎◌, inl, inr, List, length, Some, refl, sym, ap, ◌∙◌, subst, arith, InLongs, pointer_count, byte_at, bytes_at, long, secondary_type, COMMENT_BYTE, NAME_BYTE, SameBut, same_long, same_weaken, boot_same, Content, Node, Tree, root, Directory, File, Duty, HasDuty, Stands, type_of, Role, IsFile, Kept, KeepsFirstData, IsField, Alike, InText, root_longs, root_name, page_longs, directory_longs, file_longs, entry_name, entry_comment, extension_longs, ofs_data_longs, ofs_data, ffs_data, root_or_parent, StandsAt, IsFileNode, file_at, reached_stands, serves_at, duty_of, root_at, entry_at, KeepsBehindName, IsChanged, IsPage, IsPlain, IsWritten, sum, table, bits, date, disk, link, of_none, of_node, of_name, of_comment, Bool, slice_index, NEXT_IN_CHAIN, InBlock, OnlyBlock, HasFreeBit, MapPlace, BitChanged, page_block, page_of, Date3, AtLinks, Relinks, slice_get-index, AtTitle, Dated, Titled}
 use Rattle.ados_model.specs.Kept.{directory_runs, file_runs}
 use Rattle.ados_model.specs.declared.role.Role.TheVariants as roles
 use Rattle.ados_change.proofs.Keeping.{header_stays}
 use Rattle.ados_change.proofs.Unchanged.{AtDate, AtLongs, dated_longs}
 use Rattle.ados_change.proofs.Relisted.{IsLinkPlace}
 use Rattle.ados_change.proofs.Relisted.IsLinkPlace.{in_table, in_entry}
+use Rattle.ados_change.proofs.Loose.{parent_not_root}
 
 module _ (old : List ℕ) (t : Tree) (st : Stands old t) (new : List ℕ) where
   pub page_changed : (m m' : List ℕ) → SameBut (λ b i. IsPage old t st b) m m' → SameBut (IsChanged old t st new) m m'
@@ -70,17 +71,12 @@ module _ (old : List ℕ) (t : Tree) (st : Stands old t) (new : List ℕ) where
 
   -- a reached block of a node is the root or an entry
   node_field : (b i k : ℕ) (role : Role) (a : Node) → (b ≢ root t → secondary_type new b ≡ type_of a.content) → t.nodes b ≡ Some a → IsPlain (root t) b a (i / 4) → StandsAt old t st role k b → duty_of old t st role k ≡ Duty.Key → IsField new b role i
-  node_field b i k roles.Root a typed e p at d = let here = root_at old t st k b at in by_root here
-    where
-      by_root : b ≡ root t → IsField new b roles.Root i
-      by_root r = subst (λ (x : ℕ). IsField new x roles.Root i) (sym r) (root_field i a (subst (λ (x : ℕ). IsPlain (root t) x a (i / 4)) r p))
+  node_field b i k roles.Root a typed e p at d =
+      let r = root_at old t st k b at in
+      subst (λ (x : ℕ). IsField new x roles.Root i) (sym r) (root_field i a (subst (λ (x : ℕ). IsPlain (root t) x a (i / 4)) r p))
   node_field b i k (roles.Entry dir q) a typed e p at d =
       let n = entry_at old t st dir q k b at in
-      let no_root : b ≢ root t = λ r.
-      let at_root : t.nodes b ≡ Some st.proper.root_node.0 = ap t.nodes r ∙ st.proper.root_node.1 in
-      let one : n.node ≡ st.proper.root_node.0 = cc (n.at, at_root) in
-      let none : n.node.parent ≡ None = ap (λ (x : Node). x.parent) one ∙ st.proper.root_node.2.no_parent in
-      cc (none, n.parent) in
+      let no_root = parent_not_root t st.proper.root_node b dir (rw n.at n.parent) in
       entry_field b i dir q a no_root (typed no_root) p
   node_field b i k _ a typed e p at d = absurd (cc d)
 

@@ -2,9 +2,9 @@
 use Rattle.ados_change.proofs.Common.{◌≡◌, ◌≢◌, ℕ, ◌+◌, ◌<◌, inl, List, ◌∷◌, Contains, Some, sym, ◌∙◌, subst, arith, parent_of, Contains-append_left, block_count, long, IsInside, parent_key, SameBut, NEXT_IN_CHAIN, same_count, same_trans, Date3, slot_at-small, LawfulChains, slot_at, CanUnlink, Unlinks, link_block, link_long, Stands, in_slot, Node, Tree, root, parent_in, Dated, entries, Directory, directory_node, IsWritten}
 use Rattle.ados_change.proofs.Unchanged.{dated_count}
 use Rattle.ados_change.proofs.EntriesKept.{dated_kept, linked_kept}
-use Rattle.ados_change.proofs.Lawful.{lawful_chains, not_root}
+use Rattle.ados_change.proofs.Lawful.{lawful_chains}
 use Rattle.ados_change.proofs.Listing.{place_behind, can_unlink, left_spells}
-use Rattle.ados_change.proofs.Loose.{l, Loose, in_list, unlisted_is_loose, node_kept, proper_is_loose, Spells, spells}
+use Rattle.ados_change.proofs.Loose.{l, Loose, in_list, unlisted_is_loose, node_kept, proper_is_loose, Spells, spells, parent_not_root}
 use Rattle.ados_change.proofs.Relisted.{IsLinkPlace}
 
 module _ (old : List ℕ) (t : Tree) (st : Stands old t) (moment : Date3) (key dir : ℕ) (listed : parent_of t key ≡ Some dir) where
@@ -31,7 +31,7 @@ module _ (old : List ℕ) (t : Tree) (st : Stands old t) (moment : Date3) (key d
   key_inside = omega (arith, in_tree.1, st.whole)
 
   pub no_root : key ≢ root t
-  no_root = not_root old t st.layout 0 s whole_loose key dir listed
+  no_root = parent_not_root t st.proper.root_node key dir listed
 
   chains : LawfulChains old dir (in_slot t dir)
   chains = lawful_chains old t st.layout 0 s whole_loose dir directory.0 directory.1 directory.2 directory.3

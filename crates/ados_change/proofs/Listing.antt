@@ -3,8 +3,8 @@ use Rattle.ados_change.proofs.Common.{◌≡◌, ◌≢◌, ℕ, ◌+◌, ◌<�
 use Rattle.ados_chain.proofs.Kept.{inserted-others_kept, unlinked-others_kept}
 use Rattle.ados_change.proofs.Unchanged.{AtDate, sum-kept, long-kept, AtLongs, dated_longs}
 use Rattle.ados_change.proofs.Entering.{Contains-passes}
-use Rattle.ados_change.proofs.Loose.{Loose, Spells, slots_other, slots_entered, slots_left}
-use Rattle.ados_change.proofs.Lawful.{lawful_chains, absent, one_directory, not_root, slot_is, in_part, node_block}
+use Rattle.ados_change.proofs.Loose.{Loose, Spells, slots_other, slots_entered, slots_left, parent_not_root}
+use Rattle.ados_change.proofs.Lawful.{lawful_chains, absent, one_directory, slot_is, in_part, node_block}
 use Rattle.ados_change.proofs.Relisted.{IsLinkPlace, link_place, relisted_spells}
 use Rattle.ados_change.proofs.Relisted.IsLinkPlace.{in_table}
 use Rattle.ados_change.proofs.Reframed.{TellsOnly, node_stays, entry_stays, reframed}
@@ -17,7 +17,7 @@ module _ (image : List ℕ) (t : Tree) (l : Layout) (loose_key : ℕ) (s : Spell
       (λ k n.
       let p = (loose.listed dir k).0 (in_part image t l loose_key s loose dir q k (within k n)) in
       let b = parent_in (t.nodes k) dir p.1 in
-      (b.0, b.1, not_root image t l loose_key s loose k dir p.1))
+      (b.0, b.1, parent_not_root t loose.root_node k dir p.1))
 
   -- an entry of the directory can be removed from its chain
   pub can_unlink : (key : ℕ) → Contains (entries t dir) key → CanUnlink image dir key
@@ -78,7 +78,7 @@ module _ (old mid new : List ℕ) (t : Tree) (l : Layout) (loose_key : ℕ) (s :
 
   pub left_spells : Spells new (listed moment from (filter (is_not key) (entries t from)) t) l
   left_spells =
-      relisted_spells old mid new t l loose_key s loose from a keys at holds key node at_key (not_root old t l loose_key s loose key from parent)
+      relisted_spells old mid new t l loose_key s loose from a keys at holds key node at_key (parent_not_root t loose.root_node key from parent)
       (link_block from unlinks.front) (link_long (6 + slot_at old key) unlinks.front) (long old key NEXT_IN_CHAIN)
       (place_behind old t l loose_key s loose from a keys at holds (slot_at old key) (slot_at-small old key) unlinks.front
       (λ k m. subst (λ (xs : List ℕ). Contains xs k) (sym unlinks.split) (Contains-append_left unlinks.front (key ∷ unlinks.back) k m)))

@@ -1,7 +1,7 @@
 -- An image that has the blocks of a tree. It represents the tree if that is proper.
 use Rattle.ados_change.proofs.Common.{◌≡◌, ℕ, ◌*◌, ◌<◌, List, [], ◌∷◌, length, Some, is_some, Contains, refl, ◌∙◌, bytes_at, block_sum, IsInside, Chained, HasFreeBit, table_entry, NEXT_IN_CHAIN, HasFile, Layout, Duty, HasDuty, Fits, Named, Stands, HasNode, HasEntry, HasRoot, format_byte, in_slot, Node, Tree, Proper, Directory, File, ◌≢◌, ◌≤◌, ◌⊎◌, inl, inr, ◌↔◌, ◌==◌, not, filter, map, AllPairs, Option, None, option_map, option_and_then, sym, ap, subst, arith, option_map_or, cases_eq, AllPairs-filter, IsSize, Date3, Same, slot, upper, IsName, IsComment, Contains-nil, Contains-filter, Once, is_not, LeadsToRoot, IsRoot, root, entries, entries_in, name_of, parent_of, name_in, at_root, by_parent, with_node, listed, enter, entered, left, stamped, entry_node, directory_node, parent_in, ◌++◌, eq-eqb, ne_eqb, with_last, without}
 use Rattle.ados_change.proofs.Entering.{Contains-enter, Contains-entered, Contains-enter_kept, Once-enter, Rises-enter, Contains-stays, Contains-left, part-enter, part-enter_other, filter-swap, filter_same}
-use Rattle.ados_change.proofs.SameLists.{proper_alike, rising_alike}
+use Rattle.ados_change.proofs.SameLists.{leads_alike, proper_alike, rising_alike}
 use Rattle.ados_change.proofs.Changed.{nodes_here, nodes_other, was, was_with, relisted, listed_names, listed_parents, listed_here, listed_other, each_list}
 
 -- everything that an image which represents a tree has, except that the tree is proper
@@ -76,6 +76,20 @@ leads_loosely : (t u : Tree) (loose : ℕ) → root u ≡ root t → ((k : ℕ) 
 leads_loosely t u loose same parents k (at_root e) = to_root (e ∙ sym same)
 leads_loosely t u loose same parents k (by_parent {dir = d} p rest) = elim (cases_eq k loose) [ inl e ↦ to_loose e | inr n ↦ to_parent n (parents k ∙ p) (leads_loosely t u loose same parents d rest) ]
 
+-- a node with a parent is not the root
+pub parent_not_root : (t : Tree) → (node : Node) × (t.nodes (root t) ≡ Some node) × IsRoot node → (k d : ℕ) → parent_of t k ≡ Some d → k ≢ root t
+parent_not_root t r k d p e =
+    let none : parent_of t k ≡ None = let at : t.nodes k ≡ Some r.0 = ap t.nodes e ∙ r.1 in rw at r.2.no_parent in
+    cc (none, p)
+
+-- no entry is its own directory
+pub own_parent : (t : Tree) → (node : Node) × (t.nodes (root t) ≡ Some node) × IsRoot node → (loose k : ℕ) → LeadsLoosely t loose k → k ≢ loose → parent_of t k ≡ Some k → ⊥
+own_parent t r loose k (to_root e) n p = parent_not_root t r k k p e
+own_parent t r loose k (to_loose e) n p = n e
+own_parent t r loose k (to_parent {dir = d} m q rest) n p =
+    let same : d ≡ k = cc (q, p) in
+    own_parent t r loose d rest (λ e. n (sym same ∙ e)) (subst (λ (i : ℕ). parent_of t i ≡ Some i) (sym same) p)
+
 -- one tree with its lists in order, except that the loose key is in no list; it may be a node or not
 pub record Loose (t : Tree) (loose : ℕ) : Type 0 where
   pub size : IsSize t.blocks
@@ -141,17 +155,12 @@ module _ (t : Tree) (proper : Proper t) (key from : ℕ) (below : parent_of t ke
   pairs_kept : (R : ℕ → ℕ → Type 0) (d : ℕ) → ((e : ℕ) → AllPairs R (entries t e)) → AllPairs R (entries l d)
   pairs_kept R d h = each_list moment from kept t (λ d keys. AllPairs R keys) directory directory_at (AllPairs-filter R (is_not key) (entries t from) (h from)) (λ d o. h d) d
 
-  pub key_not_root : key ≢ root t
-  key_not_root e =
-      let none : parent_of t key ≡ None = let at : t.nodes key ≡ Some proper.root_node.0 = ap t.nodes e ∙ proper.root_node.1 in rw at proper.root_node.2.no_parent in
-      cc (none, below)
-
   pub unlisted_is_loose : Loose l key
   unlisted_is_loose = record {
     size = proper.size;
     inside = λ k a e. let w = was (relisted moment kept) from t k a e in proper.inside k w.old w.at;
     root_node = root_relisted moment from kept t proper.root_node;
-    not_root = key_not_root;
+    not_root = parent_not_root t proper.root_node key from below;
     listed = λ d k. (λ m. let w = was_listed d k m in (w.1, parents_same k ∙ (proper.listed d k).0 w.0), λ h. (each_list moment from kept t (λ d keys. Contains (entries t d) k → k ≢ key → Contains keys k) directory directory_at (Contains-stays key (entries t from) k) (λ d o m n. m) d) ((proper.listed d k).1 (sym (parents_same k) ∙ h.1)) h.0);
     once = λ d. pairs_kept (λ j k. j ≢ k) d proper.once;
     unlike = λ d j k m n same. proper.unlike d j k (was_listed d j m).0 (was_listed d k n).0 (ap (map upper) (sym (names_same j)) ∙ same ∙ ap (map upper) (names_same k));
@@ -166,19 +175,10 @@ module _ (t : Tree) (proper : Proper t) (key from : ℕ) (below : parent_of t ke
 
   -- an entry is not its own directory
   pub not_own_parent : from ≢ key
-  not_own_parent e = go key (proper.rooted key node.0 node.1) (below ∙ ap Some e)
-    where
-      node : (a : Node) × (t.nodes key ≡ Some a) × (a.parent ≡ Some from)
-      node = parent_in (t.nodes key) from below
-
-      go : (k : ℕ) → LeadsToRoot t k → parent_of t k ≡ Some k → ⊥
-      go k (at_root r) p =
-          let at : t.nodes k ≡ Some proper.root_node.0 = ap t.nodes r ∙ proper.root_node.1 in
-          let none : parent_of t k ≡ None = rw at proper.root_node.2.no_parent in
-          cc (none, p)
-      go k (by_parent {dir = d} q rest) p =
-          let same : d ≡ k = cc (q, p) in
-          go d rest (subst (λ (i : ℕ). parent_of t i ≡ Some i) (sym same) p)
+  not_own_parent e =
+      let node = parent_in (t.nodes key) from below in
+      let inside = proper.inside key node.0 node.1 in
+      own_parent t proper.root_node 0 key (leads_loosely t t 0 refl (λ i. refl) key (proper.rooted key node.0 node.1)) (omega (arith, inside.0)) (below ∙ ap Some e)
 
   -- the key's own node is unchanged
   pub node_kept : l.nodes key ≡ t.nodes key
@@ -341,13 +341,9 @@ module _ (t : Tree) (key dir : ℕ) (loose : Loose t key) (directory : Node) (at
       go (inl p) (inr q) = absurd (new_name k (subst (λ (i : ℕ). Contains (entries t i) k) p.0 q) (sym same ∙ ap (λ (i : ℕ). map upper (name_of t i)) (sym p.1)))
       go (inr p) (inl q) = absurd (new_name j (subst (λ (i : ℕ). Contains (entries t i) j) q.0 p) (same ∙ ap (λ (i : ℕ). map upper (name_of t i)) (sym q.1)))
 
-  leads_up : (k : ℕ) → LeadsToRoot t k → LeadsToRoot e k
-  leads_up k (at_root r) = at_root r
-  leads_up k (by_parent {dir = d} p rest) = by_parent (parents_stay k ∙ p) (leads_up d rest)
-
   leads_into : (k : ℕ) → LeadsLoosely t key k → LeadsToRoot e k
   leads_into k (to_root r) = at_root r
-  leads_into k (to_loose r) = by_parent (parents_stay k ∙ ap (parent_of t) r ∙ below) (leads_up dir to_dir)
+  leads_into k (to_loose r) = by_parent (parents_stay k ∙ ap (parent_of t) r ∙ below) (leads_alike t e refl parents_stay dir to_dir)
   leads_into k (to_parent {dir = d} n p rest) = by_parent (parents_stay k ∙ p) (leads_into d rest)
 
   pub entered_is_proper : Proper e

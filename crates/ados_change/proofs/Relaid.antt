@@ -38,19 +38,6 @@ relaid l file blocks extensions = record {
   extensions = λ f. cond (f == file) extensions (l.extensions f);
 }
 
-module _ (l : Layout) (file : ℕ) (blocks extensions : List ℕ) where
-  pub data_here : (relaid l file blocks extensions).file_data file ≡ blocks
-  data_here = rw (eq-eqb file file refl) refl
-
-  pub data_there : (f : ℕ) → f ≢ file → (relaid l file blocks extensions).file_data f ≡ l.file_data f
-  data_there f n = rw (ne_eqb f file n) refl
-
-  pub extensions_here : (relaid l file blocks extensions).extensions file ≡ extensions
-  extensions_here = rw (eq-eqb file file refl) refl
-
-  pub extensions_there : (f : ℕ) → f ≢ file → (relaid l file blocks extensions).extensions f ≡ l.extensions f
-  extensions_there f n = rw (ne_eqb f file n) refl
-
 module _ (old new : List ℕ) (t : Tree) (s : Stands old t) (file : ℕ) (node : Node) (bytes : List ℕ) (found : t.nodes file ≡ Some node) (is_file : node.content ≡ File bytes)
     (blocks' extensions' bytes' : List ℕ) (h : IsRewritten old file (s.layout.file_data file) (s.layout.extensions file) new blocks' extensions' bytes') where
   abbrev pub u : Tree
@@ -102,23 +89,23 @@ module _ (old new : List ℕ) (t : Tree) (s : Stands old t) (file : ℕ) (node :
   holds b Duty.Key m = as_before (sym (same_key b) ∙ m) (record { no_data = λ j z. cc z; no_extension = λ q z. cc z })
   holds b (Duty.Data f i) m = elim (cases_eq f file) [
     | inl e ↦
-        let at = slice_get-back blocks' i b (ap (λ (xs : List ℕ). slice_get xs i) (sym (data_here s.layout file blocks' extensions')) ∙ ap (λ (g : ℕ). slice_get (lay.file_data g) i) (sym e) ∙ m) in
+        let at = slice_get-back blocks' i b (rw (eq-eqb f file e) at m) in
         subst (λ (g : ℕ). Holds b (Duty.Data g i)) (sym e) (as_data at.0 at.1)
-    | inr n ↦ as_before (ap (λ (xs : List ℕ). slice_get xs i) (sym (data_there s.layout file blocks' extensions' f n)) ∙ m) (record { no_data = λ j z. let same : f ≡ file = cc z in n same; no_extension = λ q z. cc z })
+    | inr n ↦ as_before (rw (ne_eqb f file n) at m) (record { no_data = λ j z. let same : f ≡ file = cc z in n same; no_extension = λ q z. cc z })
   ]
   holds b (Duty.Extension f q) m = elim (cases_eq f file) [
     | inl e ↦
-        let at = slice_get-back extensions' q b (ap (λ (xs : List ℕ). slice_get xs q) (sym (extensions_here s.layout file blocks' extensions')) ∙ ap (λ (g : ℕ). slice_get (lay.extensions g) q) (sym e) ∙ m) in
+        let at = slice_get-back extensions' q b (rw (eq-eqb f file e) at m) in
         subst (λ (g : ℕ). Holds b (Duty.Extension g q)) (sym e) (as_extension at.0 at.1)
-    | inr n ↦ as_before (ap (λ (xs : List ℕ). slice_get xs q) (sym (extensions_there s.layout file blocks' extensions' f n)) ∙ m) (record { no_data = λ j z. cc z; no_extension = λ j z. let same : f ≡ file = cc z in n same })
+    | inr n ↦ as_before (rw (ne_eqb f file n) at m) (record { no_data = λ j z. cc z; no_extension = λ j z. let same : f ≡ file = cc z in n same })
   ]
   holds b duty m = as_before m (record { no_data = λ j z. cc z; no_extension = λ q z. cc z })
 
   pub serves_data : (i : ℕ) → i < length blocks' → HasDuty u lay (slice_index blocks' i) (Duty.Data file i)
-  serves_data i l = ap (λ (xs : List ℕ). slice_get xs i) (data_here s.layout file blocks' extensions') ∙ slice_get-index blocks' i l
+  serves_data i l = rw (eq-eqb file file refl) (slice_get-index blocks' i l)
 
   pub serves_extension : (q : ℕ) → q < length extensions' → HasDuty u lay (slice_index extensions' q) (Duty.Extension file q)
-  serves_extension q l = ap (λ (xs : List ℕ). slice_get xs q) (extensions_here s.layout file blocks' extensions') ∙ slice_get-index extensions' q l
+  serves_extension q l = rw (eq-eqb file file refl) (slice_get-index extensions' q l)
 
   -- a block of the new lists has no other use from before
   new_data : (b i : ℕ) (duty : Duty) → i < length blocks' → slice_index blocks' i ≡ b → HasDuty t s.layout b duty → IsBesideLists duty → ⊥
@@ -222,7 +209,7 @@ module _ (old new : List ℕ) (t : Tree) (s : Stands old t) (file : ℕ) (node :
   named_before : (b : ℕ) (duty : Duty) → HasDuty t s.layout b duty → has_free_bit new b ≡ false → Named u lay b
   named_before b Duty.Key m used = (Duty.Key, same_key b ∙ m)
   named_before b (Duty.Data f i) m used = elim (cases_eq f file) [
-    | inr n ↦ (Duty.Data f i, ap (λ (xs : List ℕ). slice_get xs i) (data_there s.layout file blocks' extensions' f n) ∙ m)
+    | inr n ↦ (Duty.Data f i, rw (ne_eqb f file n) m)
     | inl e ↦
         let at = slice_get-back (s.layout.file_data file) i b (ap (λ (g : ℕ). slice_get (s.layout.file_data g) i) (sym e) ∙ m) in
         elim (h.data_to i at.0) [
@@ -231,7 +218,7 @@ module _ (old new : List ℕ) (t : Tree) (s : Stands old t) (file : ℕ) (node :
         ]
   ]
   named_before b (Duty.Extension f q) m used = elim (cases_eq f file) [
-    | inr n ↦ (Duty.Extension f q, ap (λ (xs : List ℕ). slice_get xs q) (extensions_there s.layout file blocks' extensions' f n) ∙ m)
+    | inr n ↦ (Duty.Extension f q, rw (ne_eqb f file n) m)
     | inl e ↦
         let at = slice_get-back (s.layout.extensions file) q b (ap (λ (g : ℕ). slice_get (s.layout.extensions g) q) (sym e) ∙ m) in
         elim (h.extensions_to q at.0) [

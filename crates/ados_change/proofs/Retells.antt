@@ -1,8 +1,8 @@
 -- A tree with one node replaced: the parts that the lists of entries depend on are unchanged.
-use Rattle.ados_change.proofs.Common.{content_in, ◌≡◌, ◌≢◌, ℕ, inl, inr, [], Contains, Option, Some, None, is_some, option_map, option_and_then, refl, sym, ap, ◌∙◌, subst, eq-eqb, ne_eqb, cases_eq, Date3, IsName, IsComment, Node, Tree, Proper, IsRoot, root, content_at, entries_in, entries, name_of, parent_of, name_in, in_slot, stamped, with_node, entry_node, ◌+◌, ◌/◌, ◌<◌, ◌≤◌, ◌⊎◌, List, length, arith, long, block_sum, HasText, Chained, protection, table_entry, COMMENT_BYTE, NAME_BYTE, NEXT_IN_CHAIN, SameBut, same_weaken, Stands, HasNode, HasEntry, type_of, date_at, size_in, Chained-kept}
+use Rattle.ados_change.proofs.Common.{content_in, ◌≡◌, ◌≢◌, ℕ, inl, inr, [], Contains, Option, Some, is_some, option_map, option_and_then, refl, sym, ap, ◌∙◌, subst, eq-eqb, ne_eqb, cases_eq, Date3, IsName, IsComment, Node, Tree, Proper, IsRoot, root, content_at, entries_in, entries, name_of, parent_of, name_in, in_slot, stamped, with_node, ◌+◌, ◌/◌, ◌<◌, ◌≤◌, ◌⊎◌, List, length, arith, long, block_sum, HasText, Chained, protection, table_entry, COMMENT_BYTE, NAME_BYTE, NEXT_IN_CHAIN, SameBut, same_weaken, Stands, HasNode, HasEntry, type_of, date_at, size_in, Chained-kept}
 use Rattle.ados_change.proofs.SameLists.{proper_alike, slots_alike}
 use Rattle.ados_change.proofs.Unchanged.{AtLongs, long-kept, sum-kept}
-use Rattle.ados_change.proofs.Loose.{proper_is_loose, spells, stands}
+use Rattle.ados_change.proofs.Loose.{proper_is_loose, spells, stands, parent_not_root}
 use Rattle.ados_change.proofs.Reframed.{TellsOnly, first_kept, date_stays, node_stays, entry_stays, reframed}
 
 -- the tree with this node at a key, and this disk date
@@ -24,11 +24,7 @@ pub record Retells (t : Tree) (key : ℕ) (node after : Node) (d : Date3) : Type
 
 -- the root is not an entry
 pub entry_not_root : (t : Tree) → Proper t → (dir k : ℕ) → Contains (entries t dir) k → k ≢ root t
-entry_not_root t p dir k c e =
-    let n = entry_node t p dir k c in
-    let same : n.0 ≡ p.root_node.0 = cc (n.1, ap t.nodes e ∙ p.root_node.1) in
-    let none : n.0.parent ≡ None = ap (λ (a : Node). a.parent) same ∙ p.root_node.2.no_parent in
-    cc (none, n.2)
+entry_not_root t p dir k c = parent_not_root t p.root_node k dir ((p.listed dir k).0 c)
 
 module _ (t : Tree) (key : ℕ) (node after : Node) (d : Date3) (r : Retells t key node after d) where
   abbrev u : Tree
@@ -185,10 +181,7 @@ module _ (old new : List ℕ) (t : Tree) (key : ℕ) (node after : Node) (d : Da
   ]
 
   no_root : (dir : ℕ) → node.parent ≡ Some dir → key ≢ root t
-  no_root dir p q =
-      let same : node ≡ s.proper.root_node.0 = cc (r.at, ap t.nodes q ∙ s.proper.root_node.1) in
-      let none = ap (λ (a : Node). a.parent) same ∙ s.proper.root_node.2.no_parent in
-      cc (none, p)
+  no_root dir p = parent_not_root t s.proper.root_node key dir (rw r.at p)
 
   entry_after : (k dir : ℕ) (a : Node) → (retold key after d t).nodes k ≡ Some a → a.parent ≡ Some dir → HasEntry new k a dir
   entry_after k dir a e p = elim (cases_eq k key) [
