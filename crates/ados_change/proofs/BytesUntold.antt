@@ -53,14 +53,10 @@ module _ (old new : List ℕ) (t : Tree) (s : Stands old t) (file : ℕ) (node :
   new_extensions = extension_blocks_are new file blocks' extensions' bytes' h.writable.lawful
 
   blocks_front : AgreeInFront (data_blocks old file) (data_blocks new file)
-  blocks_front =
-      subst (λ (xs : List ℕ). AgreeInFront xs (data_blocks new file)) (sym old_blocks)
-      (subst (λ (xs : List ℕ). AgreeInFront blocks xs) (sym new_blocks) (front_agrees old blocks blocks' h.data_from))
+  blocks_front = rw (old_blocks, new_blocks) (front_agrees old blocks blocks' h.data_from)
 
   extensions_front : AgreeInFront (extension_blocks old file) (extension_blocks new file)
-  extensions_front =
-      subst (λ (xs : List ℕ). AgreeInFront xs (extension_blocks new file)) (sym old_extensions)
-      (subst (λ (xs : List ℕ). AgreeInFront extensions xs) (sym new_extensions) (front_agrees old extensions extensions' h.extensions_from))
+  extensions_front = rw (old_extensions, new_extensions) (front_agrees old extensions extensions' h.extensions_from)
 
   -- ---- after the file's end
 
@@ -119,11 +115,7 @@ module _ (old new : List ℕ) (t : Tree) (s : Stands old t) (file : ℕ) (node :
         (h.writable.lawful.extensions_fit ∙ ap (λ (xs : List ℕ). extension_count (length xs)) same_blocks ∙ sym before.extensions_fit)
 
     same_file : HasFile new (format_of old) file blocks extensions bytes
-    same_file =
-        subst (λ (f : Format). HasFile new f file blocks extensions bytes) h.format
-        (subst (λ (xs : List ℕ). HasFile new (format_of new) file xs extensions bytes) same_blocks
-        (subst (λ (xs : List ℕ). HasFile new (format_of new) file blocks' xs bytes) same_extensions
-        (subst (λ (xs : List ℕ). HasFile new (format_of new) file blocks' extensions' xs) same h.writable.lawful.holds)))
+    same_file = rw (← h.format, ← same_blocks, ← same_extensions, ← same) h.writable.lawful.holds
 
     file_byte_same : (f : Format) → format_of old ≡ f → (k : ℕ) → k < length bytes → file_byte f new blocks k ≡ file_byte f old blocks k
     file_byte_same f e k l = subst (λ (g : Format). file_byte g new blocks k ≡ file_byte g old blocks k) e (sym (same_file.contents k l) ∙ before.holds.contents k l)

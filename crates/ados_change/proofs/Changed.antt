@@ -11,6 +11,13 @@ nodes_other key o t k n = rw (ne_eqb k key n) refl
 pub same_nodes : (t : Tree) (nodes nodes' : ℕ → Option Node) → ((k : ℕ) → nodes k ≡ nodes' k) → record t { nodes = nodes } ≡ record t { nodes = nodes' }
 same_nodes t nodes nodes' same = λ i. record t { nodes = λ k. same k i }
 
+-- a tree with the node that it has
+pub same_with : (key : ℕ) (o : Option Node) (t : Tree) → t.nodes key ≡ o → with_node key o t ≡ t
+same_with key o t at = same_nodes t (with_node key o t).nodes t.nodes (λ k. elim (cases_eq k key) [
+  | inl e ↦ ap (with_node key o t).nodes e ∙ nodes_here key o t ∙ sym (ap t.nodes e ∙ at)
+  | inr n ↦ nodes_other key o t k n
+])
+
 -- what a change of a node leaves untouched
 pub changed_keeps : {X : Type 0} (p : Option Node → X) (f : Node → Node) (key : ℕ) (t : Tree) → ((o : Option Node) → p (option_map f o) ≡ p o) → (k : ℕ) → p ((changed key f t).nodes k) ≡ p (t.nodes k)
 changed_keeps p f key t same k = elim (cases_eq k key) [

@@ -1,6 +1,6 @@
 -- The steps that make an entry: a free block is allocated and filled, and the entry is listed. The image represents the
 -- tree with it.
-use Rattle.ados_change.proofs.Common.{◌≡◌, ◌≢◌, ℕ, ◌+◌, ◌*◌, ◌/◌, ◌<◌, inl, inr, List, false, Some, refl, sym, ap, ◌∙◌, subst, arith, zero, suc, ◌-◌, ◌≤◌, ◌⊎◌, min, ◌∷◌, length, slice_index, [], cases_eq, OnlyBlock, SameBut, IsInside, block_count, has_free_bit, root_key, HasFreeBit, same_count, same_trans, MapPlace, BitChanged, IsLowestFree, NoneFreeBelow, page_of, pages_of, Date3, slot_at-small, LawfulChains, slot_at, CanInsert, InsertsLast, link_block, link_long, bit_of_inside, InImage, made, with_node, new_node, Stands, Duty, HasDuty, in_slot, Node, Tree, root, IsUnused, size_in, KeepsRest, TakesLowest, KeepsPastEnd, CanMake, IsEmpty, content_of, IsNewEntry, Dated, nil_from_length, Format, Ofs, Ffs, Chained, bytes_at, long, table_entry, NEXT_IN_CHAIN, InBlock, page_block, data_count, extension_count, Content, size_of, HasFile, HasNode, HasEntry, Directory, File, entered, slice_get-index, IsNewField, IsChanged, IsPage, IsWritten}
+use Rattle.ados_change.proofs.Common.{◌≡◌, ◌≢◌, ℕ, ◌+◌, ◌*◌, ◌/◌, ◌<◌, inl, inr, List, false, Some, refl, sym, ap, ◌∙◌, subst, arith, zero, suc, ◌-◌, ◌≤◌, ◌⊎◌, min, ◌∷◌, length, slice_index, [], cases_eq, OnlyBlock, SameBut, IsInside, block_count, has_free_bit, root_key, HasFreeBit, same_count, same_trans, MapPlace, BitChanged, IsLowestFree, NoneFreeBelow, page_of, pages_of, Date3, slot_at-small, LawfulChains, slot_at, CanInsert, InsertsLast, link_block, link_long, bit_of_inside, InImage, made, with_node, new_node, Stands, Duty, HasDuty, in_slot, Node, Tree, root, IsUnused, size_in, KeepsRest, TakesLowest, KeepsPastEnd, CanMake, IsEmpty, content_of, IsNewEntry, Dated, nil_from_length, Format, Ofs, Ffs, Chained, bytes_at, long, table_entry, NEXT_IN_CHAIN, InBlock, page_block, data_count, extension_count, Content, size_of, HasFile, HasNode, HasEntry, Directory, File, entered, slice_get-index, IsChanged, IsPage, IsWritten}
 use Rattle.ados_change.proofs.Making.{zero_long, no_duty, unused, AtLink, dated_there, linked_there, stamped_there, takes_key}
 use Rattle.ados_change.proofs.Unchanged.{at_root, dated_count}
 use Rattle.ados_change.proofs.Writable.{lawful_pages}
@@ -115,28 +115,20 @@ module _ (old m1 m2 : List ℕ) (t : Tree) (st : Stands old t) (moment : Date3) 
       subst (λ (n : Node). HasEntry m2 key n d) same (subst (HasEntry m2 key new) dirs (record {
         key_field = entry.key_field;
         protection_field = zero_at 80 (inr (inl (omega arith, omega arith)));
-        comment = record { counted = entry.zeros 328 (omega arith) no_comment; follows = no_text m2 key };
+        comment = record { counted = entry.zeros 328 (omega arith) (λ f. omega (arith, f)); follows = no_text m2 key };
         parent = entry.parent;
         secondary = entry.secondary;
       }))
-    where
-      no_comment : ¬ IsNewField (length name) 328
-      no_comment f = omega (arith, f)
 
   slots_here : (a : Node) (keys : List ℕ) (q : ℕ) → Some new ≡ Some a → a.content ≡ Directory keys → q < 72 → Chained m2 NEXT_IN_CHAIN (table_entry m2 key q) (in_slot t key q)
-  slots_here a keys q e c m = subst (Chained m2 NEXT_IN_CHAIN (table_entry m2 key q)) (sym (no_entries q)) (zero_at (6 + q) (inr (inl (omega arith, omega (arith, m)))))
-    where
-      no_entries : (q : ℕ) → in_slot t key q ≡ []
-      no_entries q = let none = fresh.no_node in rw none refl
+  slots_here a keys q e c m = let none = fresh.no_node in rw none (zero_at (6 + q) (inr (inl (omega arith, omega (arith, m)))))
 
   file_here : (a : Node) (bytes : List ℕ) → Some new ≡ Some a → a.content ≡ File bytes → HasFile m2 t.format key (st.layout.file_data key) (st.layout.extensions key) bytes
   file_here a bytes e c =
       let same : new ≡ a = cc e in
       let short : length bytes ≡ 0 = ap (λ (d : Content). size_in (Some d)) (sym c ∙ ap (λ (n : Node). n.content) (sym same)) ∙ no_contents.1 in
       let none : bytes ≡ [] = nil_from_length bytes short in
-      subst (λ (bs : List ℕ). HasFile m2 t.format key (st.layout.file_data key) (st.layout.extensions key) bs) (sym none)
-      (subst (λ (xs : List ℕ). HasFile m2 t.format key xs (st.layout.extensions key) []) (sym no_blocks)
-      (subst (λ (xs : List ℕ). HasFile m2 t.format key [] xs []) (sym (nil_from_length (st.layout.extensions key) (st.fits.extensions key ∙ ap (λ (xs : List ℕ). extension_count (length xs)) no_blocks))) (record {
+      rw (none, no_blocks, nil_from_length (st.layout.extensions key) (st.fits.extensions key ∙ ap (λ (xs : List ℕ). extension_count (length xs)) no_blocks)) (record {
         size = zero_at 81 (inr (inl (omega arith, omega arith)));
         chain = zero_at 126 (inr (inr (inr refl)));
         extension = λ i m. absurd (omega (arith, m));
@@ -145,7 +137,7 @@ module _ (old m1 m2 : List ℕ) (t : Tree) (st : Stands old t) (moment : Date3) 
         contents = λ i m. absurd (omega (arith, m));
         ofs_chain = λ o. zero_at 4 (inl (omega arith, omega arith));
         ofs_data = λ o i m. absurd (omega (arith, m));
-      })))
+      })
     where
       first_count : (i : ℕ) → i ≤ 0 → long m2 (slice_index (key ∷ []) i) 2 ≡ min 72 (0 - 72 * i)
       first_count zero m = zero_at 2 (inl (omega arith, omega arith))

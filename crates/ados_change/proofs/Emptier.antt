@@ -104,8 +104,7 @@ module _ (old : List ℕ) (t : Tree) (st : Stands old t) (key : ℕ) (can : CanR
         let u = shortened moment key 0 t in
         let blocks = nil_from_length (s.layout.file_data key) (s.fits.file_data key ∙ ap (data_count t.format) cut_to_nothing.no_bytes ∙ none t.format) in
         let lists = nil_from_length (s.layout.extensions key) (s.fits.extensions key ∙ ap (λ (xs : List ℕ). extension_count (length xs)) blocks) in
-        subst (λ (xs : List ℕ). IsBeside old key xs (extension_blocks mid key) b) (sym (data_is mid u s key (shorter entry.0) (take 0 (bytes_of t key)) cut_node refl ∙ blocks))
-        (subst (λ (xs : List ℕ). IsBeside old key [] xs b) (sym (extensions_is mid u s key (shorter entry.0) (take 0 (bytes_of t key)) cut_node refl ∙ lists)) n)
+        rw (data_is mid u s key (shorter entry.0) (take 0 (bytes_of t key)) cut_node refl ∙ blocks, extensions_is mid u s key (shorter entry.0) (take 0 (bytes_of t key)) cut_node refl ∙ lists) n
       where
         none : (f : Format) → data_count f 0 ≡ 0
         none Ofs = refl

@@ -198,10 +198,8 @@ module _ (old : List ℕ) (t : Tree) (st : Stands old t) (new : List ℕ) where
   linked_kept u dir b i0 next key d keys at holds known place of_key m m' r = same_weaken (AtLinks b i0 key) At m m' within r.rest
     where
       within : (c i : ℕ) → AtLinks b i0 key c i → At c i
-      within c i (inl (inl w)) = subst (λ (x : ℕ). At x i) (sym w.0) (place_written u dir b i0 d keys at holds known place i (inl w.1))
-      within c i (inl (inr w)) = subst (λ (x : ℕ). At x i) (sym w.0) (place_written u dir b i0 d keys at holds known place i (inr w.1))
-      within c i (inr (inl w)) = subst (λ (x : ℕ). At x i) (sym w.0) (known_link key i of_key (inl w.1))
-      within c i (inr (inr w)) = subst (λ (x : ℕ). At x i) (sym w.0) (known_link key i of_key (inr w.1))
+      within c i (inl w) = let e : c ≡ b = omega (arith, w) in subst (λ (x : ℕ). At x i) (sym e) (place_written u dir b i0 d keys at holds known place i (elim w [ inl x ↦ inl x.1 | inr x ↦ inr x.1 ]))
+      within c i (inr w) = let e : c ≡ key = omega (arith, w) in subst (λ (x : ℕ). At x i) (sym e) (known_link key i of_key (elim w [ inl x ↦ inl x.1 | inr x ↦ inr x.1 ]))
 
   pub dated_kept : (dir : ℕ) (d : Node) → t.nodes dir ≡ Some d → (moment : Date3) (m m' : List ℕ) → Dated dir 105 moment m m' → SameBut At m m'
   dated_kept dir d at moment m m' r =

@@ -151,11 +151,7 @@ module _ (old new : List ℕ) (t : Tree) (key : ℕ) (node after : Node) (d : Da
 
   -- a long of a hash table, or one after the disk date
   kept : (b j : ℕ) → j < 128 → ((6 ≤ j) × (j < 78)) ⊎ (121 ≤ j) → long new b j ≡ long old b j
-  kept b j l o = long-kept W old new change b j l (λ w. elim (w.1) [
-    | inl e ↦ omega (arith, e, o)
-    | inr (inl x) ↦ omega (arith, x.0, x.1, o)
-    | inr (inr x) ↦ omega (arith, x.1, x.2, o)
-  ])
+  kept b j l o = long-kept W old new change b j l (λ w. omega (arith, o, w.1))
 
   disk_after : date_at new (root t) 118 ≡ d
   disk_after = elim (cases_eq (root t) key) [

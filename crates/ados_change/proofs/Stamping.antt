@@ -35,11 +35,7 @@ module _ (old new : List ℕ) (t : Tree) (s : Stands old t) (file : ℕ) (node :
   page_long : (i : ℕ) → i < page_count (block_count old) → long new (root t) (79 + i) ≡ long old (root t) (79 + i)
   page_long i l =
       let few : 79 + i < 105 = omega (arith, l, count_same old t s, s.proper.size.1) in
-      same_long (AtStamps (root t) file) old new h (root t) (79 + i) (omega (arith, few)) (λ k e w.
-      elim w [
-        | inl z ↦ not_root (sym z.0)
-        | inr z ↦ elim (z.1) [ inl f ↦ omega (arith, e, f) | inr f ↦ omega (arith, e, f.0, few) ]
-      ])
+      same_long (AtStamps (root t) file) old new h (root t) (79 + i) (omega (arith, few)) (λ k e w. omega (arith, e, few, not_root, w))
 
   -- ---- what is reached, and its fields
 

@@ -1,6 +1,6 @@
 -- A block that is marked free gets other bytes: the image represents the same tree.
-use Rattle.ados_change.proofs.Common.{◌≡◌, ◌≢◌, ℕ, inl, inr, List, slice_index, Option, None, option_map, refl, sym, ap, ◌∙◌, subst, arith, cases_eq, InBlock, OnlyBlock, SameBut, IsInside, block_count, has_free_bit, HasFreeBit, same_count, same_weaken, page_block, bit_of_inside, with_node, InImage, size_in, Duty, HasDuty, Stands, Node, Tree, entries_in, count_same, slice_get-index, KeepsPastEnd, KeepsUntold, mark_kept}
-use Rattle.ados_change.proofs.Changed.{same_nodes, nodes_here, nodes_other}
+use Rattle.ados_change.proofs.Common.{◌≡◌, ◌≢◌, ℕ, List, slice_index, Option, None, option_map, refl, sym, ap, ◌∙◌, subst, arith, InBlock, OnlyBlock, SameBut, IsInside, block_count, has_free_bit, HasFreeBit, same_count, same_weaken, page_block, bit_of_inside, InImage, size_in, Duty, HasDuty, Stands, Node, Tree, entries_in, count_same, slice_get-index, KeepsPastEnd, KeepsUntold, mark_kept}
+use Rattle.ados_change.proofs.Changed.{same_with}
 use Rattle.ados_change.proofs.EntriesUntold.{IsOffMap, off_past_end, old_pages, untold_beside}
 use Rattle.ados_change.proofs.Loose.{unused_is_loose, Spells, spells, stands}
 use Rattle.ados_change.proofs.Making.{no_node as none_in}
@@ -52,15 +52,9 @@ module _ (old new : List ℕ) (t : Tree) (st : Stands old t) (key : ℕ) (inside
       filled_remarks old old new t st.layout key None (λ p m e. apart (slice_index st.layout.pages p) (Duty.Page p) (slice_get-index st.layout.pages p m) e) (λ b i. marks_stay b (i.0, omega (arith, i.1, count_same old t st))) in_tree
       (record { change = record { same_length = refl; same_byte = λ b i m n. refl }; bit = free; others = λ b i n. refl; sums = st.pages }) only
 
-  same_node : (k : ℕ) → (with_node key None t).nodes k ≡ t.nodes k
-  same_node k = elim (cases_eq k key) [
-    | inl e ↦ ap (with_node key None t).nodes e ∙ nodes_here key None t ∙ sym (ap t.nodes e ∙ no_node)
-    | inr n ↦ nodes_other key None t k n
-  ]
-
   spells_still : Spells new t st.layout
   spells_still =
-      subst (λ (u : Tree). Spells new u st.layout) (same_nodes t (with_node key None t).nodes t.nodes same_node)
+      subst (λ (u : Tree). Spells new u st.layout) (same_with key None t no_node)
       (remarked old new t st.layout key None (spells old t st) (unused_is_loose t key st.proper no_node) alone remarks
       (λ a e. absurd (cc e)) (λ a d e p. absurd (cc e)) (λ a keys q e c m. absurd (cc e)) (λ a bytes e c. absurd (cc e)))
 
