@@ -1,6 +1,6 @@
 -- The steps that make an entry: a free block is allocated and filled, and the entry is listed. The image represents the
 -- tree with it.
-use Rattle.ados_change.proofs.Common.{◌≡◌, ◌≢◌, ℕ, ◌+◌, ◌*◌, ◌/◌, ◌<◌, inl, inr, List, false, Some, refl, sym, ap, ◌∙◌, subst, arith, zero, suc, ◌-◌, ◌≤◌, ◌⊎◌, min, ◌∷◌, length, slice_index, [], cases_eq, OnlyBlock, SameBut, IsInside, block_count, has_free_bit, root_key, HasFreeBit, same_count, same_trans, MapPlace, BitChanged, IsLowestFree, NoneFreeBelow, page_of, pages_of, Date3, slot_at-small, LawfulChains, slot_at, CanInsert, InsertsLast, link_block, link_long, bit_of_inside, InImage, made, with_node, new_node, Stands, Duty, HasDuty, in_slot, Node, Tree, root, IsUnused, size_in, KeepsRest, TakesLowest, KeepsPastEnd, CanMake, IsEmpty, content_of, IsNewEntry, Dated, nil_from_length, Format, Ofs, Ffs, Chained, bytes_at, long, table_entry, NEXT_IN_CHAIN, InBlock, page_block, data_count, extension_count, Content, size_of, HasFile, HasNode, HasEntry, Directory, File, entered, slice_get-index, IsChanged, IsPage, IsWritten}
+use Rattle.ados_change.proofs.Common.{◌≡◌, ◌≢◌, ℕ, ◌+◌, ◌*◌, ◌/◌, ◌<◌, inl, inr, List, false, Some, refl, sym, ap, ◌∙◌, subst, arith, zero, suc, ◌-◌, ◌≤◌, ◌⊎◌, min, ◌∷◌, length, slice_index, [], cases_eq, OnlyBlock, SameBut, IsInside, block_count, has_free_bit, root_key, HasFreeBit, same_count, same_trans, MapPlace, BitChanged, IsLowestFree, NoneFreeBelow, page_of, pages_of, Date3, slot_at-small, LawfulChains, slot_at, CanInsert, InsertsLast, link_block, link_long, bit_of_inside, InImage, made, with_node, new_node, Stands, Duty, HasDuty, in_slot, Node, Tree, root, IsUnused, size_in, KeepsRest, TakesLowest, KeepsPastEnd, CanMake, IsEmpty, content_of, IsNewEntry, Dated, nil_from_length, Format, Ofs, Ffs, Chained, bytes_at, long, table_entry, NEXT_IN_CHAIN, InBlock, page_block, data_count, extension_count, Content, size_of, HasFile, HasNode, HasEntry, Directory, File, entered, slice_get-index, IsChanged, IsWritten}
 use Rattle.ados_change.proofs.Making.{zero_long, no_duty, unused, AtLink, dated_there, linked_there, stamped_there, takes_key}
 use Rattle.ados_change.proofs.Unchanged.{at_root, dated_count}
 use Rattle.ados_change.proofs.Writable.{lawful_pages}
@@ -9,7 +9,7 @@ use Rattle.ados_change.specs.declared.node_kind.NodeKind.{NodeKind}
 use Rattle.ados_change.proofs.Changed.{made_here, nodes_here, nodes_other}
 use Rattle.ados_change.proofs.Lawful.{lawful_chains, page_is, page_within, count}
 use Rattle.ados_change.proofs.EntriesKept.{changed_kept, page_changed, written_changed, IsKnown, dated_kept, filled_kept, linked_kept, marked_kept, stamped_kept}
-use Rattle.ados_change.proofs.Listing.{can_insert, place_behind, entered_spells, stamped_spells}
+use Rattle.ados_change.proofs.Leaving.{can_insert, place_behind, entered_spells, stamped_spells}
 use Rattle.ados_change.proofs.Loose.{Loose, proper_is_loose, unused_is_loose, Spells, spells, stands}
 use Rattle.ados_change.proofs.ProperChanges.{IsDirectoryNode, begun_is_loose, dir_not_key, directory_at, entered_proper, made_is_proper}
 use Rattle.ados_change.proofs.Relisted.{IsLinkPlace}
@@ -55,9 +55,6 @@ module _ (old m1 m2 : List ℕ) (t : Tree) (st : Stands old t) (moment : Date3) 
     size_before = let none = fresh.no_node in rw none refl;
   }
 
-  small : block_count old ≤ 101602
-  small = omega (arith, st.whole, st.proper.size.1)
-
   page_there : (p : ℕ) → p < pages_of old → page_block old p ≡ slice_index st.layout.pages p
   page_there p m = page_is old t st.layout key s first_loose p (page_within old t st.layout key s first_loose p m)
 
@@ -80,7 +77,7 @@ module _ (old m1 m2 : List ℕ) (t : Tree) (st : Stands old t) (moment : Date3) 
 
   mark_after : (b : ℕ) → IsInside t.blocks b → has_free_bit m2 b ≡ has_free_bit m1 b
   mark_after b i =
-      mark_kept (InBlock key) m1 m2 filled (omega (arith, count_m1, small))
+      mark_kept (InBlock key) m1 m2 filled (omega (arith, count_m1, st.whole, st.proper.size.1))
       (λ k e. first_loose.not_root (sym e ∙ ap root_key (count_m1 ∙ count old t st.layout key s first_loose)))
       (λ p k m e. let q : p < pages_of old = omega (arith, m, count_m1) in key_no_page p (page_within old t st.layout key s first_loose p q) (sym (page_there p q) ∙ sym (mark_end.pages p q) ∙ e))
       b (bit_of_inside m1 b (i.0, omega (arith, i.1, count_m1, st.whole)))
@@ -206,9 +203,6 @@ module _ (old m1 m2 : List ℕ) (t : Tree) (st : Stands old t) (moment : Date3) 
         | inr other ↦ inl (x, sym (nodes_other key (Some new) t k other) ∙ e, n)
       ]
 
-      marked : SameBut (λ b i. IsPage old t st b) old m1
-      marked = marked_kept old t st m5 key (page_of key) false old m1 (page_within old t st.layout key s first_loose (page_of key) own_page) (sym (page_there (page_of key) own_page)) taken
-
       -- no bitmap block is written after the mark
       beside_map : SameBut (IsWritten old t st m5) m1 m5
       beside_map =
@@ -222,7 +216,7 @@ module _ (old m1 m2 : List ℕ) (t : Tree) (st : Stands old t) (moment : Date3) 
           (stamped_kept old t st m5 moment m4 m5 restamped)
 
       created_changed : SameBut (IsChanged old t st m5) old m5
-      created_changed = same_trans (IsChanged old t st m5) old m1 m5 (page_changed old t st m5 old m1 marked) (written_changed old t st m5 m1 m5 beside_map)
+      created_changed = same_trans (IsChanged old t st m5) old m1 m5 (page_changed old t st m5 old m1 (marked_kept old t st m5 key (page_of key) false old m1 (page_within old t st.layout key s first_loose (page_of key) own_page) (sym (page_there (page_of key) own_page)) taken)) (written_changed old t st m5 m1 m5 beside_map)
 
       -- ---- the bitmap
 

@@ -1,12 +1,75 @@
--- After its removal, the contents of an entry make no difference.
-use Rattle.ados_change.proofs.Common.{◌≡◌, ◌≢◌, ℕ, inl, inr, ◌==◌, not, List, filter, Option, Some, None, option_map, sym, ap, ap₂, ◌∙◌, option_map_or, cases_eq, Date3, changed, listed, removed, stamped, with_node, Node, Tree, entries, entries_in, parent_of, zero, suc, ◌+◌, ◌*◌, ◌/◌, ◌<◌, ◌≤◌, ◌∷◌, length, slice_index, take, option_and_then, refl, subst, arith, [], cases_lt, nil_from_length, Format, Ofs, Ffs, data_count, extension_count, data_blocks, extension_blocks, IsBeside, root_key, page_count, page_block, pages_of, root_is, count_same, Duty, HasDuty, root, NAME_BYTE, COMMENT_BYTE, SameBut, IsDiskStamp, OnlyBlock, block_count, byte_at, has_free_bit, HasFreeBit, secondary_type, FILE_TYPE, left, shortened, without_archive, Stands, type_of, Content, bytes_of, content_at, size_of, size_in, Directory, File, InImage, HasFileKey, HasFileBytes, KeepsUntold, KeepsBlock, KeepsRest, TakesNone, directory_node, parent_in, one_tree, CanRemove, get_or_past, root_of, slice_get-back, IsChanged, IsPage, IsPlain, IsWritten, of_none, of_node, of_name, of_comment, Empties, GivesBack, IsEmptied, WritesOnlyEntry}
-use Rattle.ados_change.proofs.Changed.{nodes_here, nodes_other, changed_keeps, each_keeps, parent_field, relisted, same_nodes}
+-- A file is emptied before its removal; a directory has nothing to empty.
+use Rattle.ados_change.proofs.Common.{◌≡◌, ◌≢◌, ℕ, List, slice_index, Option, None, option_map, refl, sym, ap, ◌∙◌, subst, arith, InBlock, OnlyBlock, IsInside, block_count, has_free_bit, HasFreeBit, same_count, same_weaken, page_block, bit_of_inside, InImage, size_in, Duty, HasDuty, Stands, Node, Tree, entries_in, count_same, slice_get-index, KeepsPastEnd, KeepsUntold, mark_kept, inl, inr, ◌==◌, not, filter, Some, ap₂, option_map_or, cases_eq, Date3, changed, listed, removed, stamped, with_node, entries, parent_of, zero, suc, ◌+◌, ◌*◌, ◌/◌, ◌<◌, ◌≤◌, ◌∷◌, length, take, option_and_then, [], cases_lt, nil_from_length, Format, Ofs, Ffs, data_count, extension_count, data_blocks, extension_blocks, IsBeside, root_key, page_count, pages_of, root_is, root, NAME_BYTE, COMMENT_BYTE, SameBut, IsDiskStamp, byte_at, secondary_type, FILE_TYPE, left, shortened, without_archive, type_of, Content, bytes_of, content_at, size_of, Directory, File, HasFileKey, HasFileBytes, KeepsBlock, KeepsRest, TakesNone, directory_node, parent_in, one_tree, CanRemove, get_or_past, root_of, slice_get-back, IsChanged, IsPage, IsPlain, IsWritten, of_none, of_node, of_name, of_comment, Empties, GivesBack, IsEmptied, WritesOnlyEntry}
+use Rattle.ados_change.proofs.Changed.{same_with, nodes_here, nodes_other, changed_keeps, each_keeps, parent_field, relisted, same_nodes}
+use Rattle.ados_change.proofs.EntriesUntold.{IsOffMap, off_past_end, old_pages, untold_beside}
+use Rattle.ados_change.proofs.Loose.{unused_is_loose, Spells, spells, stands}
+use Rattle.ados_change.proofs.Making.{no_node as none_in}
+use Rattle.ados_change.proofs.Remarked.{IsAlone, Remarks, filled_remarks, remarked}
+use Rattle.ados_change.proofs.Writable.{key_serves, data_is, extensions_is, page_serves}
 use Rattle.ados_change.proofs.EntriesKept.{changed_kept}
-use Rattle.ados_change.proofs.Writable.{data_is, extensions_is, page_serves}
 use Rattle.ados_change.proofs.FilesStay.{has_bytes, untold_trans}
 use Rattle.ados_change.proofs.Keeping.{none_taken}
 use Rattle.ados_change.proofs.Loose.{left_is, not_own_parent, kept as remaining}
-use Rattle.ados_change.proofs.Unreached.{marks_stay, stands_still, untold_still}
+
+-- ---- a block that is marked free gets other bytes: the image represents the same tree
+
+module _ (old new : List ℕ) (t : Tree) (st : Stands old t) (key : ℕ) (inside : InImage old key) (free : HasFreeBit old key) (only : OnlyBlock key old new) where
+  in_tree : IsInside t.blocks key
+  in_tree = (inside.0, omega (arith, inside.1, count_same old t st))
+
+  unused : (duty : Duty) → ¬ HasDuty t st.layout key duty
+  unused duty m = st.marked_free key in_tree free (duty, m)
+
+  apart : (b : ℕ) (duty : Duty) → HasDuty t st.layout b duty → b ≢ key
+  apart b duty m e = unused duty (subst (λ (c : ℕ). HasDuty t st.layout c duty) e m)
+
+  count : block_count new ≡ block_count old
+  count = same_count (InBlock key) old new only
+
+  -- ---- the bitmap
+
+  past_end : KeepsPastEnd old new
+  past_end =
+      off_past_end old t st old new (old_pages old t st)
+      (same_weaken (InBlock key) (IsOffMap old t st) old new (λ b i e. record { no_page = λ p. apart b (Duty.Page p.0) p.1 e; no_name = λ r. absurd (apart b Duty.Key (key_serves old t st b st.proper.root_node.0 (ap t.nodes r ∙ st.proper.root_node.1)) e) }) only)
+
+  pub marks_stay : (b : ℕ) → InImage old b → has_free_bit new b ≡ has_free_bit old b
+  marks_stay b i =
+      mark_kept (InBlock key) old new only past_end.pages (λ p k l m e. let page = (old_pages old t st).serves p l in apart (page_block old p) (Duty.Page page.0) page.1 e)
+      b (bit_of_inside old b i)
+
+  -- ---- the tree
+
+  no_node : t.nodes key ≡ None
+  no_node = none_in t st.layout key unused (t.nodes key) refl
+
+  alone : IsAlone t st.layout key None
+  alone = record {
+    inside = in_tree;
+    only = λ duty m. absurd (unused duty m);
+    same_list = sym (ap (λ (o : Option Node). entries_in (option_map (λ node. node.content) o)) no_node);
+    size_after = refl;
+    size_before = ap (λ (o : Option Node). size_in (option_map (λ node. node.content) o)) no_node;
+  }
+
+  remarks : Remarks old t st.layout key None new
+  remarks =
+      filled_remarks old old new t st.layout key None (λ p m e. apart (slice_index st.layout.pages p) (Duty.Page p) (slice_get-index st.layout.pages p m) e) (λ b i. marks_stay b (i.0, omega (arith, i.1, count_same old t st))) in_tree
+      (record { change = record { same_length = refl; same_byte = λ b i m n. refl }; bit = free; others = λ b i n. refl; sums = st.pages }) only
+
+  spells_still : Spells new t st.layout
+  spells_still =
+      subst (λ (u : Tree). Spells new u st.layout) (same_with key None t no_node)
+      (remarked old new t st.layout key None (spells old t st) (unused_is_loose t key st.proper no_node) alone remarks
+      (λ a e. absurd (cc e)) (λ a d e p. absurd (cc e)) (λ a keys q e c m. absurd (cc e)) (λ a bytes e c. absurd (cc e)))
+
+  pub stands_still : Stands new t
+  stands_still = stands new t st.layout st.proper spells_still
+
+  pub untold_still : KeepsUntold old new
+  untold_still = untold_beside old new t t st spells_still st.proper (InBlock key) only (λ b i file q m. apart b (Duty.Data file q) m) past_end
+
+-- ---- after its removal, the contents of an entry make no difference
 
 module _ (t : Tree) (key dir : ℕ) (moment : Date3) (f : Node → Node) (keeps : (a : Node) → (f a).parent ≡ a.parent) (below : parent_of t key ≡ Some dir) (apart : dir ≢ key) where
   abbrev u : Tree
@@ -14,9 +77,6 @@ module _ (t : Tree) (key dir : ℕ) (moment : Date3) (f : Node → Node) (keeps 
 
   node_other : (k : ℕ) → k ≢ key → u.nodes k ≡ t.nodes k
   node_other k n = nodes_other key (option_map f (t.nodes key)) t k n
-
-  entries_same : entries u dir ≡ entries t dir
-  entries_same = ap (λ (o : Option Node). entries_in (option_map (λ node. node.content) o)) (node_other dir apart)
 
   abbrev list : Tree → List ℕ
   list tree = filter (λ k. not (k == key)) (entries tree dir)
@@ -36,7 +96,7 @@ module _ (t : Tree) (key dir : ℕ) (moment : Date3) (f : Node → Node) (keeps 
         ∙ elim (cases_eq k dir) [
           | inl e ↦
               ap (listed moment dir (list u) u).nodes e ∙ nodes_here dir (option_map (relisted moment (list u)) (u.nodes dir)) u
-              ∙ ap₂ (λ (keys : List ℕ) (o : Option Node). option_map (relisted moment (filter (λ k. not (k == key)) keys)) o) entries_same (node_other dir apart)
+              ∙ ap₂ (λ (keys : List ℕ) (o : Option Node). option_map (relisted moment (filter (λ k. not (k == key)) keys)) o) (ap (λ (o : Option Node). entries_in (option_map (λ node. node.content) o)) (node_other dir apart)) (node_other dir apart)
               ∙ sym (ap (listed moment dir (list t) t).nodes e ∙ nodes_here dir (option_map (relisted moment (list t)) (t.nodes dir)) t)
           | inr o ↦
               nodes_other dir (option_map (relisted moment (list u)) (u.nodes dir)) u k o
@@ -48,8 +108,6 @@ module _ (t : Tree) (key dir : ℕ) (moment : Date3) (f : Node → Node) (keeps 
 
   pub removed_same : removed moment key u ≡ removed moment key t
   removed_same = gone_is u (changed_keeps parent_field f key t (each_keeps parent_field f keeps) key ∙ below) ∙ same_nodes (stamped moment t) (gone u).nodes (gone t).nodes node_same ∙ sym (gone_is t below)
-
--- ---- a file is emptied before its removal; a directory has nothing to empty
 
 module _ (old : List ℕ) (t : Tree) (st : Stands old t) (key : ℕ) (can : CanRemove t key) where
   abbrev entry : (a : Node) × (t.nodes key ≡ Some a) × (a.parent ≡ Some can.dir)

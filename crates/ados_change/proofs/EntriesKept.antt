@@ -1,5 +1,5 @@
 -- A change of fields or of entries leaves all bytes outside fields untouched.
-use Rattle.ados_change.proofs.Common.{◌≡◌, ◌≢◌, ℕ, ◌+◌, ◌-◌, ◌/◌, ◌<◌, ◌≤◌, ◌⊎◌, inl, inr, List, length, Some, refl, sym, ap, ◌∙◌, subst, arith, InLongs, pointer_count, byte_at, bytes_at, long, secondary_type, COMMENT_BYTE, NAME_BYTE, SameBut, same_long, same_weaken, boot_same, Content, Node, Tree, root, Directory, File, Duty, HasDuty, Stands, type_of, Role, IsFile, Kept, KeepsFirstData, IsField, Alike, InText, root_longs, root_name, page_longs, directory_longs, file_longs, entry_name, entry_comment, extension_longs, ofs_data_longs, ofs_data, ffs_data, root_or_parent, StandsAt, IsFileNode, file_at, reached_stands, serves_at, duty_of, root_at, entry_at, KeepsBehindName, IsChanged, IsPage, IsPlain, IsWritten, sum, table, bits, date, disk, link, of_none, of_node, of_name, of_comment, Bool, slice_index, NEXT_IN_CHAIN, InBlock, OnlyBlock, HasFreeBit, MapPlace, BitChanged, page_block, page_of, Date3, AtLinks, Relinks, slice_get-index, AtTitle, Dated, Titled}
+use Rattle.ados_change.proofs.Common.{◌≡◌, ◌≢◌, ℕ, ◌+◌, ◌-◌, ◌/◌, ◌<◌, ◌≤◌, ◌⊎◌, inl, inr, List, length, Some, refl, sym, ap, ◌∙◌, subst, arith, InLongs, pointer_count, byte_at, long, secondary_type, COMMENT_BYTE, NAME_BYTE, SameBut, same_long, same_weaken, boot_same, Content, Node, Tree, root, Directory, File, Duty, HasDuty, Stands, type_of, Role, IsFile, Kept, KeepsFirstData, IsField, Alike, InText, root_longs, root_name, page_longs, directory_longs, file_longs, entry_name, entry_comment, extension_longs, ofs_data_longs, ofs_data, ffs_data, root_or_parent, StandsAt, IsFileNode, file_at, reached_stands, serves_at, duty_of, root_at, entry_at, KeepsBehindName, IsChanged, IsPage, IsPlain, IsWritten, sum, table, bits, date, disk, link, of_none, of_node, of_name, of_comment, Bool, slice_index, NEXT_IN_CHAIN, InBlock, OnlyBlock, HasFreeBit, MapPlace, BitChanged, page_block, page_of, Date3, AtLinks, Relinks, slice_get-index, AtTitle, Dated, Titled}
 use Rattle.ados_model.specs.Kept.{directory_runs, file_runs}
 use Rattle.ados_model.specs.declared.role.Role.TheVariants as roles
 use Rattle.ados_change.proofs.Keeping.{header_stays}
@@ -117,9 +117,6 @@ module _ (old new : List ℕ) (t : Tree) (st : Stands old t) (h : SameBut (IsCha
   not_boot b i l (inr (of_name a e p short)) = let inside = st.proper.inside b a e in omega (arith, l, inside.0)
   not_boot b i l (inr (of_comment a e n p short)) = let inside = st.proper.inside b a e in omega (arith, l, inside.0)
 
-  boot_kept : bytes_at new 0 0 1024 ≡ bytes_at old 0 0 1024
-  boot_kept = boot_same old new h.same_length (λ b i l m. h.same_byte b i m (not_boot b i l))
-
   -- a byte of a node's block outside such longs, its comment and its name is not changed
   node_unchanged : (b i : ℕ) (a : Node) → t.nodes b ≡ Some a → ((x : Node) → ¬ IsPlain (root t) b x (i / 4)) → COMMENT_BYTE + 80 ≤ i → (InText new b NAME_BYTE i → i ≤ NAME_BYTE + 30 → ⊥) → ¬ IsChanged old t st new b i
   node_unchanged b i a at plain behind name (inl p) = let duty : Duty.Page p.0 ≡ Duty.Key = st.fits.one_duty b (Duty.Page p.0) Duty.Key p.1 (rw at refl) in cc duty
@@ -166,7 +163,7 @@ module _ (old new : List ℕ) (t : Tree) (st : Stands old t) (h : SameBut (IsCha
   pub changed_kept : Kept old new
   changed_kept = record {
     size = h.same_length;
-    boot = boot_kept;
+    boot = boot_same old new h.same_length (λ b i l m. h.same_byte b i m (not_boot b i l));
     others = λ b i role role' m a a' alike n. h.same_byte b i m (λ w. let at = reached_stands old t st a in n (alike_field role role' alike (changed_field old t st new b i at.0 role (typed b) m at.1 w)));
     first = λ b f g. first_kept b f;
   }

@@ -9,10 +9,8 @@ pub mod FieldsKept
 pub mod Cases
 pub mod Unchanged
 pub mod Relaid
-pub mod OtherFiles
 pub mod Refilled
 pub mod BytesKept
-pub mod SameBlock
 pub mod BytesUntold
 pub mod Renewed
 pub mod Stamping
@@ -25,8 +23,6 @@ pub mod Reframed
 pub mod Remarked
 pub mod Lawful
 pub mod Relisted
-pub mod Listing
-pub mod Renaming
 pub mod Filled
 pub mod Making
 pub mod Created
@@ -35,7 +31,6 @@ pub mod Removed
 pub mod EntriesKept
 pub mod Leaving
 pub mod EntriesUntold
-pub mod Unreached
 pub mod Emptier
 pub mod Writable
 pub mod FilesStay

@@ -3,9 +3,8 @@ use Rattle.ados_change.proofs.Common.{eq-eqb, ne_eqb, ◌≡◌, ◌≢◌, ℕ,
 use Rattle.ados_change.proofs.Writable.{key_serves, page_serves, lawful_pages, is_lawful, format_is}
 use Rattle.ados_change.proofs.Changed.{was, was_with}
 use Rattle.ados_change.proofs.Contents.{holding, refilled, file_not_root, proper_after, slots_same}
-use Rattle.ados_change.proofs.Unchanged.{StaysBut, Stays, long_stays, text_stays, date_stays, long_as, bytes_as, node_as, entry_as, root_as}
+use Rattle.ados_change.proofs.Unchanged.{StaysBut, Stays, long_stays, text_stays, date_stays, long_as, bytes_as, node_as, entry_as, root_as, file_stays}
 use Rattle.ados_change.proofs.Relaid.{IsRewritten, relaid, not_header, other, fits_after, marked_free_after, marked_used_after}
-use Rattle.ados_change.proofs.OtherFiles.{file_stays}
 
 -- a long of a header outside the fields of its data
 beside_fields : (j : ℕ) → (j < 2) ⊎ ((77 < j) × (j ≢ 81) × (j ≢ 126)) → ¬ IsDataField j
@@ -185,7 +184,9 @@ module _ (old new : List ℕ) (t : Tree) (s : Stands old t) (file : ℕ) (node :
     nodes = node_after;
     entries = entry_after;
     pages = page_after;
-    lost = λ b bs e. bytes_as old new b (stays_other b (other old new t s file node bytes found is_file blocks' extensions' bytes' h b Duty.Lost (rw e refl) (record { no_data = λ i z. cc z; no_extension = λ q z. cc z }) (not_header old new t s file node bytes found is_file blocks' extensions' bytes' h b Duty.Lost (rw e refl) (λ z. cc z)) (λ p z. cc z))) 0 512 (omega arith) ∙ s.lost b bs e;
+    lost = λ b bs e.
+        bytes_as old new b (stays_other b (other old new t s file node bytes found is_file blocks' extensions' bytes' h b Duty.Lost (rw e refl) (record { no_data = λ i z. cc z; no_extension = λ q z. cc z })
+        (not_header old new t s file node bytes found is_file blocks' extensions' bytes' h b Duty.Lost (rw e refl) (λ z. cc z)) (λ p z. cc z))) 0 512 (omega arith) ∙ s.lost b bs e;
     chains = chain_after;
     files = file_after;
     marked_free = marked_free_after old new t s file node bytes found is_file blocks' extensions' bytes' h;

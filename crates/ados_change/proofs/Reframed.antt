@@ -1,9 +1,8 @@
 -- A change of longs in the blocks of keys turns an image of one tree into an image of another, if it does so for each
 -- node.
 use Rattle.ados_change.proofs.Common.{◌≡◌, ◌≢◌, ℕ, ◌+◌, ◌-◌, ◌/◌, ◌%◌, ◌^◌, ◌<◌, ◌≤◌, ◌⊎◌, inl, inr, ◌==◌, List, length, slice_index, bit_and, not, Option, Some, is_some, IsSome, refl, sym, ap, ◌∙◌, arith, get_or_default, IsInside, has_free_bit, block_count, root_key, long, block_sum, Chained, HasText, table_entry, COMMENT_BYTE, NAME_BYTE, NEXT_IN_CHAIN, Date3, IsName, IsComment, data_count, Node, Tree, root, size_of, HasFile, Layout, Duty, HasDuty, date_at, HasNode, HasEntry, HasRoot, in_slot, Directory, File, SameBut, slice_get-index}
-use Rattle.ados_change.proofs.Unchanged.{AtLongs, long-kept, bytes-kept, sum-kept, text_kept, date_kept, Stays}
+use Rattle.ados_change.proofs.Unchanged.{AtLongs, long-kept, bytes-kept, sum-kept, text_kept, date_kept, Stays, IsFileLong, file_stays}
 use Rattle.ados_change.proofs.Loose.{Loose, Spells, same_duty}
-use Rattle.ados_change.proofs.OtherFiles.{IsFileLong, file_stays}
 
 -- the tree with these nodes and this disk date
 abbrev pub renewed : Tree → (ℕ → Option Node) → Date3 → Tree

@@ -1,7 +1,6 @@
 -- A block allocated for a new node, or freed by one: the rest of the image is unchanged.
 use Rattle.ados_change.proofs.Common.{◌≡◌, ◌≢◌, ℕ, ◌+◌, ◌/◌, ◌<◌, ◌⊎◌, inl, inr, Bool, true, false, ◌==◌, List, length, slice_index, Contains, not, Option, Some, is_some, option_map, refl, sym, ap, ◌∙◌, subst, arith, BitChanged, MapPlace, page_block, page_of, pages_of, bit_of_inside, same_sum, OnlyBlock, other_block_sum, get_or_default, cases_eq, IsInside, has_free_bit, block_sum, Chained, HasFreeBit, table_entry, NEXT_IN_CHAIN, slot, data_count, Node, Tree, root, entries, entries_in, size_of, name_of, size_in, HasFile, Layout, Fits, Duty, HasDuty, Named, HasNode, HasEntry, in_slot, Directory, File, with_node, SameBut, slice_get-index, parent_in, Chained-kept}
-use Rattle.ados_change.proofs.Unchanged.{AtLongs, Stays, long_as, bytes_as, node_as, entry_as, root_as}
-use Rattle.ados_change.proofs.OtherFiles.{file_stays}
+use Rattle.ados_change.proofs.Unchanged.{AtLongs, Stays, long_as, bytes_as, node_as, entry_as, root_as, file_stays}
 use Rattle.ados_change.proofs.Entering.{Contains-part}
 use Rattle.ados_change.proofs.Changed.{nodes_here, nodes_other}
 use Rattle.ados_change.proofs.Loose.{Loose, Spells, same_duty, slots_beside}
@@ -104,9 +103,6 @@ module _ (old new : List ℕ) (t : Tree) (l : Layout) (key : ℕ) (o : Option No
     | inr n ↦ inr (n, sym (nodes_other key o t k n) ∙ e)
   ]
 
-  slots_same : (dir q : ℕ) → in_slot w dir q ≡ in_slot t dir q
-  slots_same dir q = slots_beside t key loose o alone.same_list dir q
-
   -- ---- the uses
 
   serves_old : (b : ℕ) (duty : Duty) → b ≢ key → HasDuty w l b duty → HasDuty t l b duty
@@ -183,7 +179,7 @@ module _ (old new : List ℕ) (t : Tree) (l : Layout) (key : ℕ) (o : Option No
         node_beside k n.0 n.1 p.0
 
     chain_after : (dir : ℕ) (a : Node) (keys : List ℕ) (q : ℕ) → w.nodes dir ≡ Some a → a.content ≡ Directory keys → q < 72 → Chained new NEXT_IN_CHAIN (table_entry new dir q) (in_slot w dir q)
-    chain_after dir a keys q e c m = subst (Chained new NEXT_IN_CHAIN (table_entry new dir q)) (sym (slots_same dir q)) (elim (node_at dir a e) [
+    chain_after dir a keys q e c m = subst (Chained new NEXT_IN_CHAIN (table_entry new dir q)) (sym (slots_beside t key loose o alone.same_list dir q)) (elim (node_at dir a e) [
       | inl h ↦ subst (λ (d : ℕ). Chained new NEXT_IN_CHAIN (table_entry new d q) (in_slot t d q)) (sym h.0) (slots_here a keys q h.1 c m)
       | inr h ↦
           subst (λ (first : ℕ). Chained new NEXT_IN_CHAIN first (in_slot t dir q)) (sym (long_as old new dir (stays dir (node_beside dir a h.1 h.0)) (6 + q) (omega (arith, m))))

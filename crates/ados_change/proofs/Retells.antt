@@ -52,9 +52,6 @@ module _ (t : Tree) (key : ℕ) (node after : Node) (d : Date3) (r : Retells t k
   parents : (k : ℕ) → parent_of u k ≡ parent_of t k
   parents k = same_of (option_and_then (λ (a : Node). a.parent)) k (λ e. r.parent)
 
-  names : (k : ℕ) → k ≢ root t → name_of u k ≡ name_of t k
-  names k n = same_of name_in k (λ e. r.same_name (λ z. n (e ∙ z)))
-
   entries_same : (dir : ℕ) → entries u dir ≡ entries t dir
   entries_same dir = ap entries_in (contents dir)
 
@@ -64,7 +61,7 @@ module _ (t : Tree) (key : ℕ) (node after : Node) (d : Date3) (r : Retells t k
 
   module _ (p : Proper t) where
     listed_names : (dir k : ℕ) → Contains (entries t dir) k → name_of u k ≡ name_of t k
-    listed_names dir k c = names k (entry_not_root t p dir k c)
+    listed_names dir k c = same_of name_in k (λ e. r.same_name (λ z. (entry_not_root t p dir k c) (e ∙ z)))
 
     pub slots_same : (dir s : ℕ) → in_slot u dir s ≡ in_slot t dir s
     slots_same = slots_alike t u.nodes d parents entries_same listed_names

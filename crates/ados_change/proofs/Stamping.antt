@@ -102,9 +102,6 @@ module _ (old new : List ℕ) (t : Tree) (s : Stands old t) (file : ℕ) (node :
 
   -- ---- all that an image keeps
 
-  footprint : SameBut (IsWritten old t s new) old new
-  footprint = same_weaken (AtStamps (root t) file) (IsWritten old t s new) old new (stamps_written new) h
-
   pub stamps_keep : KeepsRest old new
   stamps_keep = keeps_fields old new t s (AtStamps (root t) file) h (stamps_written new) told
     where
@@ -115,7 +112,7 @@ module _ (old new : List ℕ) (t : Tree) (s : Stands old t) (file : ℕ) (node :
       told b i (inr (e, inr f)) = inr (omega (arith, f.0), omega (arith, f.1), λ z. omega (arith, f.0, z))
 
   pub marks_same : (b : ℕ) → IsInside (block_count old) b → has_free_bit new b ≡ has_free_bit old b
-  marks_same = marks_stay old new t s footprint
+  marks_same = marks_stay old new t s (same_weaken (AtStamps (root t) file) (IsWritten old t s new) old new (stamps_written new) h)
 
   pub count_marked : free_bit_count new ≡ free_bit_count old
   count_marked =
@@ -197,5 +194,11 @@ module _ (moment : Date3) (bits file : ℕ) (old first : List ℕ) (tree : HasTr
           let is : bits ≡ without_archive f.node.protection = cleared ∙ ap without_archive (bits_field old t s file f) in
           subst (Stands new) (same_nodes (stamped moment t) (stamped moment (dated file moment (protected file bits t))).nodes (touched moment file t).nodes (same_node moment bits file t f.node f.at is))
           (third_stands (dated file moment (protected file bits t)) (second_stands (protected file bits t) (first_stands t s)));
-      rest = subst (λ (n : ℕ). SameBut (AtStamps n file) old new) (sym (root_is old tree.0 tree.1)) (same_trans (AtStamps r file) old first new (same_weaken (Summed file 320 324) (AtStamps r file) old first (λ c k w. inl (elim w [ inl x ↦ (x.0, inr (inl (omega (arith, x.1, x.2)))) | inr x ↦ (x.0, inl x.1) ])) first_rest) (same_trans (AtStamps r file) first second new (same_weaken (Summed file 420 432) (AtStamps r file) first second (λ c k w. inl (elim w [ inl x ↦ (x.0, inr (inr (omega (arith, x.1), omega (arith, x.2)))) | inr x ↦ (x.0, inl x.1) ])) second_rest) third_same));
+      rest =
+          subst (λ (n : ℕ). SameBut (AtStamps n file) old new) (sym (root_is old tree.0 tree.1))
+          (same_trans (AtStamps r file) old first new
+          (same_weaken (Summed file 320 324) (AtStamps r file) old first (λ c k w. inl (elim w [ inl x ↦ (x.0, inr (inl (omega (arith, x.1, x.2)))) | inr x ↦ (x.0, inl x.1) ])) first_rest)
+          (same_trans (AtStamps r file) first second new
+          (same_weaken (Summed file 420 432) (AtStamps r file) first second (λ c k w. inl (elim w [ inl x ↦ (x.0, inr (inr (omega (arith, x.1), omega (arith, x.2)))) | inr x ↦ (x.0, inl x.1) ])) second_rest)
+          third_same));
     }
