@@ -323,17 +323,8 @@ module _ (old new : List ℕ) (t : Tree) (s : Stands old t) (file : ℕ) (node :
         ];
     first = λ b taken f.
         let at = reached_stands new v after f.reached in
-        let role = roles.Entry f.dir f.slot_of_chain in
-        elim (is_new b taken) [
-          | inl m ↦
-              let serves = serves_data old new t s file node bytes found is_file blocks' extensions' bytes' h m.0 m.1 ∙ ap Some m.2 in
-              let duty = same_duty role at.0 b (Duty.Data file m.0) at.1 serves in
-              absurd (cc duty)
-          | inr m ↦
-              let serves = serves_extension old new t s file node bytes found is_file blocks' extensions' bytes' h m.0 m.1 ∙ ap Some m.2 in
-              let duty = same_duty role at.0 b (Duty.Extension file m.0) at.1 serves in
-              absurd (cc duty)
-        ];
+        let own = own_duty b Duty.Key taken (serves_at new v after (roles.Entry f.dir f.slot_of_chain) at.0 b at.1) in
+        elim own [ inl d ↦ absurd (let same = d.1 in cc same) | inr d ↦ absurd (let same = d.1 in cc same) ];
   }
 
   -- ---- the bytes of free blocks

@@ -59,9 +59,6 @@ lacks_room image t s file size key h = let f = free_in image t s file size key i
 abbrev touch : Date3 → Node → Node
 touch moment node = record node { date = moment; protection = without_archive node.protection }
 
-abbrev rewrite : Date3 → List ℕ → Node → Node
-rewrite moment bytes node = record node { content = File bytes; date = moment; protection = without_archive node.protection }
-
 -- a file that is stamped and refilled is rewritten
 same_node : (moment : Date3) (bytes : List ℕ) (file k : ℕ) (t : Tree) → (refilled file bytes (touched moment file t)).nodes k ≡ (rewritten moment file bytes t).nodes k
 same_node moment bytes file k t = elim (cases_eq k file) [
@@ -69,7 +66,7 @@ same_node moment bytes file k t = elim (cases_eq k file) [
   | inr n ↦ rw (ne_eqb k file n) refl
 ]
   where
-    go : (o : Option Node) → option_map (holding bytes) (option_map (touch moment) o) ≡ option_map (rewrite moment bytes) o
+    go : (o : Option Node) → option_map (holding bytes) (option_map (touch moment) o) ≡ option_map (λ (node : Node). record node { content = File bytes; date = moment; protection = without_archive node.protection }) o
     go None = refl
     go (Some a) = refl
 

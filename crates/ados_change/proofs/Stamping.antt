@@ -139,12 +139,6 @@ module _ (old new : List ℕ) (t : Tree) (s : Stands old t) (file : ℕ) (node :
 
 -- ---- the time stamp of a change, in three steps
 
-abbrev with_bits : ℕ → Node → Node
-with_bits bits node = record node { protection = bits }
-
-abbrev with_date : Date3 → Node → Node
-with_date moment node = record node { date = moment }
-
 -- a file's key is not the root
 pub entry_key : (image : List ℕ) (file : ℕ) → HasFileKey image file → HasEntryKey image file
 entry_key image file key t s =
@@ -161,7 +155,7 @@ bits_field image t s file f = elim (root_or_parent t s.proper file f.node f.at) 
 module _ (moment : Date3) (bits file : ℕ) (t : Tree) (node : Node) (at : t.nodes file ≡ Some node) (is : bits ≡ without_archive node.protection) where
   same_node : (k : ℕ) → (stamped moment (dated file moment (protected file bits t))).nodes k ≡ (touched moment file t).nodes k
   same_node k = elim (cases_eq k file) [
-    | inl e ↦ rw (eq-eqb k file e, eq-eqb file file refl, at) (ap (λ (b : ℕ). Some (with_date moment (with_bits b node))) is)
+    | inl e ↦ rw (eq-eqb k file e, eq-eqb file file refl, at) (ap (λ (b : ℕ). Some (record node { protection = b; date = moment })) is)
     | inr n ↦ rw (ne_eqb k file n) refl
   ]
 

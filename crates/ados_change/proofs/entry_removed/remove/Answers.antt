@@ -1,16 +1,18 @@
-use Rattle.ados_change.proofs.Common.{KeepsBlock, ◌≡◌, ℕ, ◌+◌, ◌/◌, List, length, slice_index, sym, ap, ◌∙◌, arith, InBlock, OnlyBlock, byte_at, byte-bytes_at, same_weaken}
-use Rattle.ados_change.proofs.Emptier.{each_can, each_empty, keeps_away, key_inside, stands_away, taken_away, takes_none}
+use Rattle.ados_change.proofs.Common.{CanRemove, Tree, one_tree, size_of, subst, KeepsBlock, ◌≡◌, ℕ, ◌+◌, ◌/◌, List, length, slice_index, sym, ap, ◌∙◌, arith, InBlock, OnlyBlock, byte_at, byte-bytes_at, same_weaken}
+use Rattle.ados_change.proofs.Emptier.{keeps_away, key_inside, stands_away, taken_away, takes_none}
 use Rattle.ados_change.proofs.entry_removed.remove.Goals as goal
 
 pub block-requires : goal.block-requires
 block-requires c = key_inside c.args.image.now c.requires.tree.0 c.requires.tree.1 c.args.key (c.requires.can c.requires.tree.0 c.requires.tree.1)
 
 pub remove_empty-requires : goal.remove_empty-requires
-remove_empty-requires c = record {
-  tree = let e = c.empty.ensures.empties c.requires.tree.0 c.requires.tree.1 in (e.0, e.1);
-  can = each_can c.args.moment c.args.key c.args.image.now c.empty.new.image c.requires.tree.0 c.requires.tree.1 c.empty.ensures.empties;
-  empty = each_empty c.args.moment c.args.key c.args.image.now c.empty.new.image c.requires.tree.0 c.requires.tree.1 c.empty.ensures.empties;
-}
+remove_empty-requires c =
+    let e = c.empty.ensures.empties c.requires.tree.0 c.requires.tree.1 in
+    record {
+      tree = (e.0, e.1);
+      can = λ v s. subst (λ (x : Tree). CanRemove x c.args.key) (one_tree c.empty.new.image e.0 v e.1 s) e.2.can;
+      empty = λ v s. subst (λ (x : Tree). size_of x c.args.key ≡ 0) (one_tree c.empty.new.image e.0 v e.1 s) e.2.no_bytes;
+    }
 
 pub put_bytes-requires-clause-inside : goal.put_bytes-requires-clause-inside
 put_bytes-requires-clause-inside c =
