@@ -61,9 +61,6 @@ module _ (old m1 m2 : List ℕ) (t : Tree) (st : Stands old t) (moment : Date3) 
   key_no_page : (p : ℕ) → p < length st.layout.pages → slice_index st.layout.pages p ≢ key
   key_no_page p m e = no_duties (Duty.Page p) (slice_get-index st.layout.pages p m ∙ ap Some e)
 
-  own_page : page_of key < pages_of old
-  own_page = omega (arith, low.inside.0, low.inside.1)
-
   -- ---- the mark
 
   mark_end : KeepsPastEnd old m1
@@ -216,7 +213,7 @@ module _ (old m1 m2 : List ℕ) (t : Tree) (st : Stands old t) (moment : Date3) 
           (stamped_kept old t st m5 moment m4 m5 restamped)
 
       created_changed : SameBut (IsChanged old t st m5) old m5
-      created_changed = same_trans (IsChanged old t st m5) old m1 m5 (page_changed old t st m5 old m1 (marked_kept old t st m5 key (page_of key) false old m1 (page_within old t st.layout key s first_loose (page_of key) own_page) (sym (page_there (page_of key) own_page)) taken)) (written_changed old t st m5 m1 m5 beside_map)
+      created_changed = same_trans (IsChanged old t st m5) old m1 m5 (page_changed old t st m5 old m1 (marked_kept old t st m5 key false old m1 ((old_pages old t st).serves (page_of key) (omega (arith, low.inside.0, low.inside.1))) taken)) (written_changed old t st m5 m1 m5 beside_map)
 
       -- ---- the bitmap
 

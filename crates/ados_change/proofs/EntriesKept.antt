@@ -1,5 +1,5 @@
 -- A change of fields or of entries leaves all bytes outside fields untouched.
-use Rattle.ados_change.proofs.Common.{◌≡◌, ◌≢◌, ℕ, ◌+◌, ◌-◌, ◌/◌, ◌<◌, ◌≤◌, ◌⊎◌, inl, inr, List, length, Some, refl, sym, ap, ◌∙◌, subst, arith, InLongs, pointer_count, byte_at, long, secondary_type, COMMENT_BYTE, NAME_BYTE, SameBut, same_long, same_weaken, boot_same, Content, Node, Tree, root, Directory, File, Duty, HasDuty, Stands, type_of, Role, IsFile, Kept, KeepsFirstData, IsField, Alike, InText, root_longs, root_name, page_longs, directory_longs, file_longs, entry_name, entry_comment, extension_longs, ofs_data_longs, ofs_data, ffs_data, root_or_parent, StandsAt, IsFileNode, file_at, reached_stands, serves_at, duty_of, root_at, entry_at, KeepsBehindName, IsChanged, IsPage, IsPlain, IsWritten, sum, table, bits, date, disk, link, of_none, of_node, of_name, of_comment, Bool, slice_index, NEXT_IN_CHAIN, InBlock, OnlyBlock, HasFreeBit, MapPlace, BitChanged, page_block, page_of, Date3, AtLinks, Relinks, slice_get-index, AtTitle, Dated, Titled}
+use Rattle.ados_change.proofs.Common.{◌≡◌, ◌≢◌, ℕ, ◌+◌, ◌-◌, ◌/◌, ◌<◌, ◌≤◌, ◌⊎◌, inl, inr, List, length, Some, refl, sym, ap, ◌∙◌, subst, arith, InLongs, pointer_count, byte_at, long, secondary_type, COMMENT_BYTE, NAME_BYTE, SameBut, same_long, same_weaken, boot_same, Content, Node, Tree, root, Directory, File, Duty, HasDuty, Stands, type_of, Role, IsFile, Kept, KeepsFirstData, IsField, Alike, InText, root_longs, root_name, page_longs, directory_longs, file_longs, entry_name, entry_comment, extension_longs, ofs_data_longs, ofs_data, ffs_data, root_or_parent, StandsAt, IsFileNode, file_at, reached_stands, serves_at, duty_of, root_at, entry_at, KeepsBehindName, IsChanged, IsPage, IsPlain, IsWritten, sum, table, bits, date, disk, link, of_none, of_node, of_name, of_comment, Bool, NEXT_IN_CHAIN, InBlock, OnlyBlock, HasFreeBit, MapPlace, BitChanged, page_block, page_of, Date3, AtLinks, Relinks, AtTitle, Dated, Titled}
 use Rattle.ados_model.specs.Kept.{directory_runs, file_runs}
 use Rattle.ados_model.specs.declared.role.Role.TheVariants as roles
 use Rattle.ados_change.proofs.Keeping.{header_stays}
@@ -207,8 +207,8 @@ module _ (old : List ℕ) (t : Tree) (st : Stands old t) (new : List ℕ) where
       same_weaken (AtLongs (AtDate (root t) 118)) At m m' (λ c i w. of_node st.proper.root_node.0 (ap t.nodes w.0 ∙ st.proper.root_node.1) (elim (w.1) [ inl f ↦ sum f | inr f ↦ disk w.0 f.0 f.1 ]))
       (dated_longs (root t) 118 moment m m' r)
 
-  pub marked_kept : (key p : ℕ) (free : Bool) (m m' : List ℕ) → p < length st.layout.pages → slice_index st.layout.pages p ≡ page_block m (page_of key) → BitChanged m key free m' → SameBut (λ b i. IsPage old t st b) m m'
-  marked_kept key p free m m' l e r = same_weaken (MapPlace m key) (λ b i. IsPage old t st b) m m' (λ c i w. (p, slice_get-index st.layout.pages p l ∙ ap Some (e ∙ sym w.0))) r.rest
+  pub marked_kept : (key : ℕ) (free : Bool) (m m' : List ℕ) → IsPage old t st (page_block m (page_of key)) → BitChanged m key free m' → SameBut (λ b i. IsPage old t st b) m m'
+  marked_kept key free m m' page r = same_weaken (MapPlace m key) (λ b i. IsPage old t st b) m m' (λ c i w. subst (IsPage old t st) (sym w.0) page) r.rest
 
   pub filled_kept : (key : ℕ) → 2 ≤ key → ¬ HasFreeBit new key → ((duty : Duty) → ¬ HasDuty t st.layout key duty) → (m m' : List ℕ) → OnlyBlock key m m' → SameBut At m m'
   filled_kept key l used none m m' h = same_weaken (InBlock key) At m m' (λ c i w. subst (λ (x : ℕ). At x i) (sym w) (of_none l used none)) h

@@ -1,9 +1,9 @@
 -- The steps that remove an entry without contents: the image represents the tree without it.
-use Rattle.ados_change.proofs.Common.{◌≡◌, ◌≢◌, ℕ, ◌<◌, inl, inr, true, List, length, slice_index, sym, ap, ◌∙◌, subst, arith, Option, None, option_map, refl, [], cases_eq, block_count, has_free_bit, root_key, IsInside, HasFreeBit, parent_key, SameBut, same_count, same_trans, MapPlace, BitChanged, LawfulPages, page_block, page_of, Date3, LawfulChains, Unlinks, removed, Stands, bit_of_inside, InImage, KeepsPastEnd, KeepsUntold, Node, Tree, root, size_of, CanRemove, Dated, Proper, entries, size_in, with_node, stamped, Duty, GivesBack, IsChanged, IsWritten}
+use Rattle.ados_change.proofs.Common.{◌≡◌, ◌≢◌, ℕ, inl, inr, true, List, sym, ap, ◌∙◌, subst, arith, Option, None, option_map, refl, [], cases_eq, block_count, has_free_bit, root_key, IsInside, HasFreeBit, parent_key, SameBut, same_count, same_trans, MapPlace, BitChanged, LawfulPages, page_of, Date3, LawfulChains, Unlinks, removed, Stands, bit_of_inside, InImage, KeepsPastEnd, KeepsUntold, Node, Tree, root, size_of, CanRemove, Dated, Proper, entries, size_in, with_node, stamped, Duty, GivesBack, IsChanged, IsWritten}
 use Rattle.ados_change.proofs.Leaving.{in_tree, key_inside, out, out_is_loose, out_entry, count_out, out_spells, out_written, stamped_spells}
 use Rattle.ados_change.proofs.Unchanged.{at_root}
 use Rattle.ados_change.proofs.FilesStay.{past_end_trans}
-use Rattle.ados_change.proofs.Lawful.{page_is, page_within, lawful_pages}
+use Rattle.ados_change.proofs.Lawful.{lawful_pages}
 use Rattle.ados_change.proofs.EntriesKept.{page_changed, written_changed, marked_kept, stamped_kept}
 use Rattle.ados_change.proofs.ProperChanges.{removed_is_proper}
 use Rattle.ados_change.proofs.Loose.{Loose, left_is, not_own_parent, node_kept, entries_other, without_is_proper, proper_is_loose, Spells, stands}
@@ -33,11 +33,6 @@ module _ (old : List ℕ) (t : Tree) (st : Stands old t) (moment : Date3) (key :
 
   pub pages_still : LawfulPages m2
   pages_still = lawful_pages m2 left_out st.layout key spelled loose
-
-  page : (page_of key < length st.layout.pages) × (slice_index st.layout.pages (page_of key) ≡ page_block m2 (page_of key))
-  page =
-      let within = page_within m2 left_out st.layout key spelled loose (page_of key) (omega (arith, inside.0, inside.1, count_m2)) in
-      (within, sym (page_is m2 left_out st.layout key spelled loose (page_of key) within))
 
   no_entries : [] ≡ entries left_out key
   no_entries = sym (entries_other t st.proper key can.dir can.listed moment key (λ e. not_own_parent t st.proper key can.dir can.listed moment (sym e)) ∙ can.empty)
@@ -94,7 +89,7 @@ module _ (old : List ℕ) (t : Tree) (st : Stands old t) (moment : Date3) (key :
     pub gone_changed : SameBut (IsChanged old t st m4) old m4
     gone_changed =
         same_trans (IsChanged old t st m4) old m3 m4
-        (same_trans (IsChanged old t st m4) old m2 m3 (written_changed old t st m4 old m2 (written m4)) (page_changed old t st m4 m2 m3 (marked_kept old t st m4 key (page_of key) true m2 m3 page.0 page.1 given)))
+        (same_trans (IsChanged old t st m4) old m2 m3 (written_changed old t st m4 old m2 (written m4)) (page_changed old t st m4 m2 m3 (marked_kept old t st m4 key true m2 m3 (out_map.serves (page_of key) (omega (arith, inside.0, inside.1, count_m2))) given)))
         (written_changed old t st m4 m3 m4 last_written)
 
     -- ---- the bitmap
