@@ -39,7 +39,7 @@ pub use Rattle.ados_data.specs.Unnamed.{IsBeside, IsExtensionField, IsHeaderFiel
 pub use Rattle.ados_map.proofs.MarkLemmas.{bit_of_inside, mark_kept}
 pub use Rattle.ados_map.specs.Changes.{BitChanged, MapPlace}
 pub use Rattle.ados_map.specs.Pages.{HasBit, IsLowestFree, LawfulPages, NoneFreeBelow, page_block, page_of, pages_of}
-pub use Rattle.ados_model.proofs.Counting.{free_bits_count, slice_get-back}
+pub use Rattle.ados_model.proofs.Counting.{free_bits_count, no_data, slice_get-back}
 pub use Rattle.ados_model.proofs.FileFaults.{chain_head}
 pub use Rattle.ados_model.proofs.KeyLists.{Contains-cases, Contains-filter, Contains-here, Contains-later, Contains-nil, Once, Once-head, Once-tail, is_not}
 pub use Rattle.ados_model.proofs.Nodes.{content_in, directory_node, entry_node, parent_in, root_or_parent, some_in}

@@ -1,6 +1,6 @@
 -- The steps that make an entry: a free block is allocated and filled, and the entry is listed. The image represents the
 -- tree with it.
-use Rattle.ados_change.proofs.Common.{◌≡◌, ◌≢◌, ℕ, ◌+◌, ◌*◌, ◌/◌, ◌<◌, inl, inr, List, false, Some, refl, sym, ap, ◌∙◌, subst, arith, zero, suc, ◌-◌, ◌≤◌, ◌⊎◌, min, ◌∷◌, length, slice_index, [], cases_eq, OnlyBlock, SameBut, IsInside, block_count, has_free_bit, root_key, HasFreeBit, same_count, same_trans, MapPlace, BitChanged, IsLowestFree, NoneFreeBelow, page_of, pages_of, Date3, slot_at-small, LawfulChains, slot_at, CanInsert, InsertsLast, link_block, link_long, bit_of_inside, InImage, made, with_node, new_node, Stands, Duty, HasDuty, in_slot, Node, Tree, root, IsUnused, size_in, KeepsRest, TakesLowest, KeepsPastEnd, CanMake, IsEmpty, content_of, IsNewEntry, Dated, nil_from_length, Format, Ofs, Ffs, Chained, bytes_at, long, table_entry, NEXT_IN_CHAIN, InBlock, page_block, data_count, extension_count, Content, size_of, HasFile, HasNode, HasEntry, Directory, File, entered, slice_get-index, IsChanged, IsWritten}
+use Rattle.ados_change.proofs.Common.{no_data, ◌≡◌, ◌≢◌, ℕ, ◌+◌, ◌*◌, ◌/◌, ◌<◌, inl, inr, List, false, Some, refl, sym, ap, ◌∙◌, subst, arith, zero, suc, ◌-◌, ◌≤◌, ◌⊎◌, min, ◌∷◌, length, slice_index, [], cases_eq, OnlyBlock, SameBut, IsInside, block_count, has_free_bit, root_key, HasFreeBit, same_count, same_trans, MapPlace, BitChanged, IsLowestFree, NoneFreeBelow, page_of, pages_of, Date3, slot_at-small, LawfulChains, slot_at, CanInsert, InsertsLast, link_block, link_long, bit_of_inside, InImage, made, with_node, new_node, Stands, Duty, HasDuty, in_slot, Node, Tree, root, IsUnused, size_in, KeepsRest, TakesLowest, KeepsPastEnd, CanMake, IsEmpty, content_of, IsNewEntry, Dated, nil_from_length, Chained, bytes_at, long, table_entry, NEXT_IN_CHAIN, InBlock, page_block, data_count, extension_count, Content, HasFile, HasNode, HasEntry, Directory, File, entered, slice_get-index, IsChanged, IsWritten}
 use Rattle.ados_change.proofs.Making.{zero_long, no_duty, unused, AtLink, dated_there, linked_there, stamped_there, takes_key}
 use Rattle.ados_change.proofs.Unchanged.{at_root, dated_count}
 use Rattle.ados_change.proofs.Writable.{lawful_pages}
@@ -89,13 +89,7 @@ module _ (old m1 m2 : List ℕ) (t : Tree) (st : Stands old t) (moment : Date3) 
   zero_at i o = zero_long m2 key i (λ k p q. entry.zeros k (omega (arith, o, q)) (λ f. let short = can.valid.short in omega (arith, p, q, o, f, short)))
 
   no_blocks : st.layout.file_data key ≡ []
-  no_blocks =
-      let size : size_of t key ≡ 0 = alone.size_before in
-      nil_from_length (st.layout.file_data key) (st.fits.file_data key ∙ ap (data_count t.format) size ∙ none t.format)
-    where
-      none : (f : Format) → data_count f 0 ≡ 0
-      none Ofs = refl
-      none Ffs = refl
+  no_blocks = nil_from_length (st.layout.file_data key) (st.fits.file_data key ∙ ap (data_count t.format) alone.size_before ∙ no_data t.format)
 
   node_here : (a : Node) → Some new ≡ Some a → HasNode m2 key a
   node_here a e =

@@ -1,5 +1,5 @@
 -- A file is emptied before its removal; a directory has nothing to empty.
-use Rattle.ados_change.proofs.Common.{◌≡◌, ◌≢◌, ℕ, List, slice_index, Option, None, option_map, refl, sym, ap, ◌∙◌, subst, arith, InBlock, OnlyBlock, IsInside, block_count, has_free_bit, HasFreeBit, same_count, same_weaken, page_block, bit_of_inside, InImage, size_in, Duty, HasDuty, Stands, Node, Tree, entries_in, count_same, slice_get-index, KeepsPastEnd, KeepsUntold, mark_kept, inl, inr, ◌==◌, not, filter, Some, ap₂, option_map_or, cases_eq, Date3, changed, listed, removed, stamped, with_node, entries, parent_of, zero, suc, ◌+◌, ◌*◌, ◌/◌, ◌<◌, ◌≤◌, ◌∷◌, length, take, option_and_then, [], cases_lt, nil_from_length, Format, Ofs, Ffs, data_count, extension_count, data_blocks, extension_blocks, IsBeside, root_key, page_count, pages_of, root_is, root, NAME_BYTE, COMMENT_BYTE, SameBut, IsDiskStamp, byte_at, secondary_type, FILE_TYPE, left, shortened, without_archive, type_of, Content, bytes_of, content_at, size_of, Directory, File, HasFileKey, HasFileBytes, KeepsBlock, KeepsRest, TakesNone, directory_node, parent_in, CanRemove, get_or_past, root_of, slice_get-back, IsChanged, IsPage, IsPlain, IsWritten, of_none, of_node, of_name, of_comment, Empties, GivesBack, IsEmptied, WritesOnlyEntry}
+use Rattle.ados_change.proofs.Common.{no_data, ◌≡◌, ◌≢◌, ℕ, List, slice_index, Option, None, option_map, refl, sym, ap, ◌∙◌, subst, arith, InBlock, OnlyBlock, IsInside, block_count, has_free_bit, HasFreeBit, same_count, same_weaken, page_block, bit_of_inside, InImage, size_in, Duty, HasDuty, Stands, Node, Tree, entries_in, count_same, slice_get-index, KeepsPastEnd, KeepsUntold, mark_kept, inl, inr, ◌==◌, not, filter, Some, ap₂, option_map_or, cases_eq, Date3, changed, listed, removed, stamped, with_node, entries, parent_of, zero, suc, ◌+◌, ◌*◌, ◌/◌, ◌<◌, ◌≤◌, ◌∷◌, length, take, option_and_then, [], cases_lt, nil_from_length, data_count, extension_count, data_blocks, extension_blocks, IsBeside, root_key, page_count, pages_of, root_is, root, NAME_BYTE, COMMENT_BYTE, SameBut, IsDiskStamp, byte_at, secondary_type, FILE_TYPE, left, shortened, without_archive, type_of, Content, bytes_of, content_at, size_of, Directory, File, HasFileKey, HasFileBytes, KeepsBlock, KeepsRest, TakesNone, directory_node, parent_in, CanRemove, get_or_past, root_of, slice_get-back, IsChanged, IsPage, IsPlain, IsWritten, of_none, of_node, of_name, of_comment, Empties, GivesBack, IsEmptied, WritesOnlyEntry}
 use Rattle.ados_change.proofs.Changed.{same_with, nodes_here, nodes_other, changed_keeps, each_keeps, parent_field, relisted, same_nodes}
 use Rattle.ados_change.proofs.EntriesUntold.{IsOffMap, off_past_end, old_pages, untold_beside}
 use Rattle.ados_change.proofs.Loose.{unused_is_loose, Spells, spells, stands}
@@ -157,13 +157,9 @@ module _ (old : List ℕ) (t : Tree) (st : Stands old t) (key : ℕ) (can : CanR
     pub beside_none : (mid : List ℕ) → Stands mid (shortened moment key 0 t) → (b : ℕ) → IsBeside old key [] [] b → IsBeside old key (data_blocks mid key) (extension_blocks mid key) b
     beside_none mid s b n =
         let u = shortened moment key 0 t in
-        let blocks = nil_from_length (s.layout.file_data key) (s.fits.file_data key ∙ ap (data_count t.format) cut_to_nothing.no_bytes ∙ none t.format) in
+        let blocks = nil_from_length (s.layout.file_data key) (s.fits.file_data key ∙ ap (data_count t.format) cut_to_nothing.no_bytes ∙ no_data t.format) in
         let lists = nil_from_length (s.layout.extensions key) (s.fits.extensions key ∙ ap (λ (xs : List ℕ). extension_count (length xs)) blocks) in
         rw (data_is mid u s key (shorter entry.0) (take 0 (bytes_of t key)) cut_node refl ∙ blocks, extensions_is mid u s key (shorter entry.0) (take 0 (bytes_of t key)) cut_node refl ∙ lists) n
-      where
-        none : (f : Format) → data_count f 0 ≡ 0
-        none Ofs = refl
-        none Ffs = refl
 
 -- the image represents only this tree, so a fact about one of its trees is a fact about each
 module _ (moment : Date3) (key : ℕ) (old mid : List ℕ) (t : Tree) (st : Stands old t) (empties : Empties moment key old mid) where
