@@ -1,15 +1,15 @@
 -- A rewritten file leaves all bytes outside fields untouched, takes the lowest free blocks for its new ones, and leaves
 -- free blocks untouched.
-use Rattle.std.proofs.Common.{◌≡◌, ℕ, ◌+◌, ◌-◌, ◌*◌, ◌/◌, ◌<◌, ◌≤◌, inl, inr, min, List, length, slice_index, Some, refl, sym, ap, ◌∙◌, subst, arith, eq-eqb, ◌⊎◌, take, drop, ◌≢◌, zero, suc, true, false, ◌∷◌}
-use Rattle.ados_change.proofs.Common.{ne_eqb, cases_eq, cases_lt, false≢true, Format, Ofs, Ffs, byte_at, bytes_at, has_free_bit, pointer_count, held_count, file_size, secondary_type, format_of, FILE_TYPE, boot_same, HasFile, Layout, Stands, type_of, KeepsUnnamed, IsPointerField, IsHeaderField, data_end, Node, Tree, File, Role, IsFile, IsOfs, Kept, IsField, Alike, KeepsFirstData, page_longs, file_longs, extension_longs, ofs_data_longs, ofs_data, ffs_data, StandsAt, reached_stands, serves_at, duty_of, root_at, entry_at, get_or-take, get_or_past, Duty, pointers_of, IsFileNode, slice_get-index, cases_order, false_from_ne_true, IsInside, block_count, HasFreeBit, page_block, data_blocks, extension_blocks, RisesBehind, data_blocks_are, extension_blocks_are, IsExtensionField, HasDuty, InImage, HasFileKey, IsTaken, TakenRise, TakesLowest}
+use Rattle.ados_change.proofs.Common.{is_some, ◌≡◌, ℕ, ◌+◌, ◌-◌, ◌*◌, ◌/◌, ◌<◌, ◌≤◌, inl, inr, min, List, length, slice_index, Some, refl, sym, ap, ◌∙◌, subst, arith, eq-eqb, ◌⊎◌, take, drop, ◌≢◌, zero, suc, true, false, ◌∷◌, ne_eqb, cases_eq, cases_lt, false≢true, Format, Ofs, Ffs, byte_at, has_free_bit, pointer_count, held_count, file_size, secondary_type, format_of, FILE_TYPE, boot_same, HasFile, Layout, Stands, type_of, KeepsUnnamed, IsPointerField, IsHeaderField, data_end, Node, Tree, File, Role, IsFile, IsOfs, Kept, IsField, Alike, KeepsFirstData, page_longs, file_longs, extension_longs, ofs_data_longs, ofs_data, ffs_data, StandsAt, reached_stands, serves_at, duty_of, root_at, entry_at, get_or-take, get_or_past, Duty, pointers_of, IsFileNode, slice_get-index, cases_order, false_from_ne_true, IsInside, block_count, HasFreeBit, page_block, data_blocks, extension_blocks, RisesBehind, data_blocks_are, extension_blocks_are, IsExtensionField, HasDuty, InImage, HasFileKey, IsTaken, TakenRise, TakesLowest}
+use Rattle.ados_change.proofs.Writable.{named_used, page_serves}
+use Rattle.ados_change.proofs.FilesStay.{data_serves, extension_serves, file_of_key}
 use Rattle.ados_change.proofs.Keeping.{header_stays}
-use Rattle.ados_change.proofs.Writable.{named_used, key_serves, page_serves}
-use Rattle.ados_change.proofs.Contents.{refilled, holding, here, stays}
-use Rattle.ados_change.proofs.Relaid.{IsRewritten, relaid, data_here, data_there, extensions_here, extensions_there, IsIn, serves_data, serves_extension}
+use Rattle.ados_change.proofs.Changed.{changed_keeps, each_keeps}
+use Rattle.ados_change.proofs.Contents.{refilled, holding, here}
+use Rattle.ados_change.proofs.Relaid.{ComesFrom, IsRewritten, relaid, IsIn, serves_data, serves_extension}
 use Rattle.ados_change.proofs.Unchanged.{long_as}
 use Rattle.ados_change.proofs.Refilled.{boot_stays, key_stays, root_stays, data_stays, extension_stays, stands_after, layout_after}
 use Rattle.ados_model.proofs.FileBlocks.{pointers_are}
-use Rattle.ados_change.proofs.FilesStay.{data_serves, extension_serves, file_of_key}
 use Rattle.ados_model.specs.declared.role.Role.TheVariants as roles
 
 -- ---- fields
@@ -109,12 +109,12 @@ module _ (old new : List ℕ) (t : Tree) (s : Stands old t) (file : ℕ) (node :
   data_kept : (k k' f f' block i : ℕ) → i < 512 → StandsAt old t s (roles.Data f) k block → StandsAt new v after (roles.Data f') k' block → ¬ IsField new block (roles.Data f') i → byte_at new block i ≡ byte_at old block i
   data_kept k k' f f' block i l m m' n = elim (cases_eq f' file) [
     | inr other ↦
-        let lists : after.layout.file_data f' ≡ s.layout.file_data f' = ap (λ (l : Layout). l.file_data f') layout_is ∙ data_there s.layout file blocks' extensions' f' other in
+        let lists : after.layout.file_data f' ≡ s.layout.file_data f' = ap (λ (l : Layout). l.file_data f') layout_is ∙ rw (ne_eqb f' file other) refl in
         let within : k' < length (s.layout.file_data f') = subst (λ (xs : List ℕ). k' < length xs) lists m'.within in
         let at : slice_index (s.layout.file_data f') k' ≡ block = ap (λ (xs : List ℕ). slice_index xs k') (sym lists) ∙ m'.here in
         ap (λ (b : ℕ). byte_at new b i) (sym at) ∙ (data_stays old new t s file node bytes found is_file blocks' extensions' bytes' h f' k' other within).bytes i l (λ z. z) ∙ ap (λ (b : ℕ). byte_at old b i) at
     | inl same ↦
-        let lists : after.layout.file_data f' ≡ blocks' = ap (λ (l : Layout). l.file_data f') layout_is ∙ ap (relaid s.layout file blocks' extensions').file_data same ∙ data_here s.layout file blocks' extensions' in
+        let lists : after.layout.file_data f' ≡ blocks' = ap (λ (l : Layout). l.file_data f') layout_is ∙ rw (eq-eqb f' file same) refl in
         let within : k' < length blocks' = subst (λ (xs : List ℕ). k' < length xs) lists m'.within in
         let at : slice_index blocks' k' ≡ block = ap (λ (xs : List ℕ). slice_index xs k') (sym lists) ∙ m'.here in
         elim (h.data_from k' within) [
@@ -130,12 +130,12 @@ module _ (old new : List ℕ) (t : Tree) (s : Stands old t) (file : ℕ) (node :
   extension_kept : (k k' f f' block i : ℕ) → i < 512 → StandsAt old t s (roles.Extension f) k block → StandsAt new v after (roles.Extension f') k' block → ¬ IsField new block (roles.Extension f') i → byte_at new block i ≡ byte_at old block i
   extension_kept k k' f f' block i l m m' n = elim (cases_eq f' file) [
     | inr other ↦
-        let lists : after.layout.extensions f' ≡ s.layout.extensions f' = ap (λ (l : Layout). l.extensions f') layout_is ∙ extensions_there s.layout file blocks' extensions' f' other in
+        let lists : after.layout.extensions f' ≡ s.layout.extensions f' = ap (λ (l : Layout). l.extensions f') layout_is ∙ rw (ne_eqb f' file other) refl in
         let within : k' < length (s.layout.extensions f') = subst (λ (xs : List ℕ). k' < length xs) lists m'.within in
         let at : slice_index (s.layout.extensions f') k' ≡ block = ap (λ (xs : List ℕ). slice_index xs k') (sym lists) ∙ m'.here in
         ap (λ (b : ℕ). byte_at new b i) (sym at) ∙ (extension_stays old new t s file node bytes found is_file blocks' extensions' bytes' h f' k' other within).bytes i l (λ z. z) ∙ ap (λ (b : ℕ). byte_at old b i) at
     | inl same ↦
-        let lists : after.layout.extensions f' ≡ extensions' = ap (λ (l : Layout). l.extensions f') layout_is ∙ ap (relaid s.layout file blocks' extensions').extensions same ∙ extensions_here s.layout file blocks' extensions' in
+        let lists : after.layout.extensions f' ≡ extensions' = ap (λ (l : Layout). l.extensions f') layout_is ∙ rw (eq-eqb f' file same) refl in
         let within : k' < length extensions' = subst (λ (xs : List ℕ). k' < length xs) lists m'.within in
         let at : slice_index extensions' k' ≡ block = ap (λ (xs : List ℕ). slice_index xs k') (sym lists) ∙ m'.here in
         elim (h.extensions_from k' within) [
@@ -167,7 +167,7 @@ module _ (old new : List ℕ) (t : Tree) (s : Stands old t) (file : ℕ) (node :
   first_new =
       first_pointer new (refilled file bytes' t) after file (record { node = holding bytes' node; bytes = bytes'; at = here t file node bytes bytes' found is_file; content = refl })
       ∙ ap (λ (l : Layout). slice_index (l.file_data file) 0) layout_is
-      ∙ ap (λ (xs : List ℕ). slice_index xs 0) (data_here s.layout file blocks' extensions')
+      ∙ rw (eq-eqb file file refl) refl
 
   -- the long is unchanged if the first data block is; a new first block, or none, is written
   keeps_first : KeepsFirstData old new file
@@ -200,9 +200,6 @@ module _ (old new : List ℕ) (t : Tree) (s : Stands old t) (file : ℕ) (node :
 
   -- ---- all together
 
-  boot_kept : bytes_at new 0 0 1024 ≡ bytes_at old 0 0 1024
-  boot_kept = boot_same old new h.leaves.same_length (λ b i l m. (boot_stays old new t s file node bytes found is_file blocks' extensions' bytes' h b l).bytes i m (λ z. z))
-
   first_kept : (b : ℕ) → IsFile old b → KeepsFirstData old new b
   first_kept b f = elim (cases_eq b file) [
     | inl same ↦ subst (KeepsFirstData old new) (sym same) keeps_first
@@ -216,7 +213,7 @@ module _ (old new : List ℕ) (t : Tree) (s : Stands old t) (file : ℕ) (node :
   pub kept : Kept old new
   kept = record {
     size = h.leaves.same_length;
-    boot = boot_kept;
+    boot = boot_same old new h.leaves.same_length (λ b i l m. (boot_stays old new t s file node bytes found is_file blocks' extensions' bytes' h b l).bytes i m (λ z. z));
     others = λ b i role role' l r r' alike n.
         let at = reached_stands old t s r in
         let at' = reached_stands new v after r' in
@@ -240,21 +237,18 @@ module _ (old new : List ℕ) (t : Tree) (s : Stands old t) (file : ℕ) (node :
   is_new : (b : ℕ) → IsTaken old new b → IsIn blocks' b ⊎ IsIn extensions' b
   is_new b m = h.taken b m.inside m.was_free (false_from_ne_true (has_free_bit new b) m.in_use)
 
-  new_data : (i b : ℕ) → IsTaken old new b → (l : i < length blocks') → slice_index blocks' i ≡ b → length (s.layout.file_data file) ≤ i
-  new_data i b m l e = elim (h.data_from i l) [
+  -- such a block is behind the old list
+  new_place : (xs ys : List ℕ) (duty : ℕ → Duty) → ((i : ℕ) → i < length xs → HasDuty t s.layout (slice_index xs i) (duty i)) → (i b : ℕ) → IsTaken old new b → ComesFrom old xs ys i → slice_index ys i ≡ b → length xs ≤ i
+  new_place xs ys duty serves i b m from e = elim from [
     | inr free ↦ free.0
-    | inl was ↦
-        let serves : HasDuty t s.layout b (Duty.Data file i) = slice_get-index (s.layout.file_data file) i was.0 ∙ ap Some (sym was.1 ∙ e) in
-        absurd (false≢true (sym (named_used old t s b (Duty.Data file i) serves) ∙ m.was_free))
+    | inl was ↦ absurd (false≢true (sym (named_used old t s b (duty i) (subst (λ (c : ℕ). HasDuty t s.layout c (duty i)) (sym was.1 ∙ e) (serves i was.0))) ∙ m.was_free))
   ]
 
+  new_data : (i b : ℕ) → IsTaken old new b → (l : i < length blocks') → slice_index blocks' i ≡ b → length (s.layout.file_data file) ≤ i
+  new_data i b m l = new_place (s.layout.file_data file) blocks' (Duty.Data file) (slice_get-index (s.layout.file_data file)) i b m (h.data_from i l)
+
   new_extension : (q b : ℕ) → IsTaken old new b → (l : q < length extensions') → slice_index extensions' q ≡ b → length (s.layout.extensions file) ≤ q
-  new_extension q b m l e = elim (h.extensions_from q l) [
-    | inr free ↦ free.0
-    | inl was ↦
-        let serves : HasDuty t s.layout b (Duty.Extension file q) = slice_get-index (s.layout.extensions file) q was.0 ∙ ap Some (sym was.1 ∙ e) in
-        absurd (false≢true (sym (named_used old t s b (Duty.Extension file q) serves) ∙ m.was_free))
-  ]
+  new_extension q b m l = new_place (s.layout.extensions file) extensions' (Duty.Extension file) (slice_get-index (s.layout.extensions file)) q b m (h.extensions_from q l)
 
   -- a use by the new lists is a use in the new layout
   in_after : (b : ℕ) (duty : Duty) → HasDuty v (relaid s.layout file blocks' extensions') b duty → HasDuty v after.layout b duty
@@ -329,17 +323,8 @@ module _ (old new : List ℕ) (t : Tree) (s : Stands old t) (file : ℕ) (node :
         ];
     first = λ b taken f.
         let at = reached_stands new v after f.reached in
-        let role = roles.Entry f.dir f.slot_of_chain in
-        elim (is_new b taken) [
-          | inl m ↦
-              let serves = serves_data old new t s file node bytes found is_file blocks' extensions' bytes' h m.0 m.1 ∙ ap Some m.2 in
-              let duty = same_duty role at.0 b (Duty.Data file m.0) at.1 serves in
-              absurd (cc duty)
-          | inr m ↦
-              let serves = serves_extension old new t s file node bytes found is_file blocks' extensions' bytes' h m.0 m.1 ∙ ap Some m.2 in
-              let duty = same_duty role at.0 b (Duty.Extension file m.0) at.1 serves in
-              absurd (cc duty)
-        ];
+        let own = own_duty b Duty.Key taken (serves_at new v after (roles.Entry f.dir f.slot_of_chain) at.0 b at.1) in
+        elim own [ inl d ↦ absurd (let same = d.1 in cc same) | inr d ↦ absurd (let same = d.1 in cc same) ];
   }
 
   -- ---- the bytes of free blocks
@@ -347,8 +332,7 @@ module _ (old new : List ℕ) (t : Tree) (s : Stands old t) (file : ℕ) (node :
   -- the block of a node is in use
   pub key_used : (k : ℕ) (a : Node) → t.nodes k ≡ Some a → has_free_bit new k ≡ false
   key_used k a e =
-      let w = stays t file node bytes bytes' found is_file k a e in
-      named_used new v after k Duty.Key (key_serves new v after k w.0 w.1)
+      named_used new v after k Duty.Key (changed_keeps is_some (holding bytes') file t (each_keeps is_some (holding bytes') (λ a. refl)) k ∙ ap is_some e)
 
   module _ (c : ℕ) (free : HasFreeBit new c) where
     unused : (b : ℕ) (duty : Duty) → HasDuty v (relaid s.layout file blocks' extensions') b duty → c ≢ b

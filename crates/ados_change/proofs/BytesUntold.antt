@@ -1,12 +1,61 @@
 -- A rewritten file leaves untouched what no tree determines.
-use Rattle.std.proofs.Common.{◌≡◌, ◌≢◌, ℕ, zero, suc, ◌+◌, ◌-◌, ◌*◌, ◌/◌, ◌%◌, ◌<◌, ◌≤◌, inl, inr, List, length, slice_index, Some, option_map, refl, sym, ap, ap₂, ◌∙◌, subst, arith}
-use Rattle.ados_change.proofs.Common.{cases_eq, cases_lt, ext_get_or, Format, Ofs, Ffs, byte_at, long, file_size, format_of, IsImage, long-same, data_size, data_start, data_count, extension_count, Node, Tree, content_at, HasFile, HasOfsData, Layout, Stands, file_byte, IsLawful, data_blocks, extension_blocks, KeepsUnnamed, data_end, next_of, data_blocks_are, extension_blocks_are, File, HasFileKey, AgreeInFront, HasFileBytes, IsBehindEnd, KeepsData, KeepsFileEnd, KeepsUntold}
-use Rattle.ados_change.proofs.FilesStay.{end_of_data, file_of_key}
+use Rattle.ados_change.proofs.Common.{◌≡◌, ◌≢◌, ℕ, ◌+◌, ◌*◌, ◌/◌, ◌%◌, ◌^◌, ◌<◌, inl, inr, List, sym, ap, ◌∙◌, arith, cases_eq, IsImage, byte_at, long, block_sum, total, byte_at-below, long-below, long-bytes, total-one, zero, suc, ◌-◌, ◌≤◌, length, slice_index, Some, option_map, refl, ap₂, subst, cases_lt, ext_get_or, Format, Ofs, Ffs, file_size, format_of, long-same, data_size, data_start, data_count, extension_count, Node, Tree, content_at, HasFile, HasOfsData, Layout, Stands, file_byte, IsLawful, data_blocks, extension_blocks, KeepsUnnamed, data_end, next_of, data_blocks_are, extension_blocks_are, File, HasFileKey, AgreeInFront, HasFileBytes, IsBehindEnd, KeepsData, KeepsFileEnd, KeepsUntold, ne_eqb}
 use Rattle.ados_change.proofs.Writable.{data_is, extensions_is, is_lawful}
+use Rattle.ados_change.proofs.FilesStay.{end_of_data, file_of_key}
 use Rattle.ados_change.proofs.Contents.{refilled, here, there}
-use Rattle.ados_change.proofs.Relaid.{ComesFrom, IsRewritten, data_there, extensions_there}
+use Rattle.ados_change.proofs.Relaid.{ComesFrom, IsRewritten}
 use Rattle.ados_change.proofs.Refilled.{data_stays, layout_after, stands_after}
-use Rattle.ados_change.proofs.SameBlock.{bytes_same}
+
+-- ---- a block with a right checksum before and after has the same checksum if all its other bytes are unchanged
+
+-- two right sums that differ in one long only do not differ
+same_rest : (t u x y : ℕ) → u + x ≡ t + y → t % 2 ^ 32 ≡ 0 → u % 2 ^ 32 ≡ 0 → x < 2 ^ 32 → y < 2 ^ 32 → y ≡ x
+same_rest t u x y e f g l m = omega (arith, e, f, g, l, m)
+
+-- the long of four bytes
+abbrev four : ℕ → ℕ → ℕ → ℕ → ℕ
+four a b c d = a * 256 ^ 3 + (b * 256 ^ 2 + (c * 256 ^ 1 + (d * 256 ^ 0 + 0)))
+
+same_four : (a b c d a' b' c' d' : ℕ) → a < 256 → b < 256 → c < 256 → d < 256 → a' < 256 → b' < 256 → c' < 256 → d' < 256 → four a b c d ≡ four a' b' c' d' → (a ≡ a') × (b ≡ b') × (c ≡ c') × (d ≡ d')
+same_four a b c d a' b' c' d' la lb lc ld la' lb' lc' ld' e =
+    let x : a ≡ a' = omega (arith, e, la, lb, lc, ld, la', lb', lc', ld') in
+    let y : b ≡ b' = omega (arith, e, x, lb, lc, ld, lb', lc', ld') in
+    let z : c ≡ c' = omega (arith, e, x, y, lc, ld, lc', ld') in
+    (x, y, z, omega (arith, e, x, y, z))
+
+module _ (old new : List ℕ) (was : IsImage old) (is : IsImage new) (b : ℕ) (settled : block_sum old b ≡ 0) (still : block_sum new b ≡ 0)
+    (others : (j : ℕ) → j < 128 → j ≢ 5 → long new b j ≡ long old b j) where
+  sum_same : long new b 5 ≡ long old b 5
+  unfolding block_sum
+  sum_same =
+      let one = total-one (long old b) (long new b) 5 128 (omega arith) others in
+      same_rest (total (long old b) 128) (total (long new b) 128) (long old b 5) (long new b 5) one settled still (long-below old b 5 was) (long-below new b 5 is)
+
+  long_same : (j : ℕ) → j < 128 → long new b j ≡ long old b j
+  long_same j l = elim (cases_eq j 5) [ inl e ↦ ap (long new b) e ∙ sum_same ∙ ap (long old b) (sym e) | inr n ↦ others j l n ]
+
+  pub bytes_same : (k : ℕ) → k < 512 → byte_at new b k ≡ byte_at old b k
+  bytes_same k l =
+      let j = k / 4 in
+      let now : (i : ℕ) → byte_at new b i < 256 = λ i. byte_at-below new b i is in
+      let then : (i : ℕ) → byte_at old b i < 256 = λ i. byte_at-below old b i was in
+      let all =
+      same_four (byte_at new b (4 * (k / 4) + 0)) (byte_at new b (4 * (k / 4) + 1)) (byte_at new b (4 * (k / 4) + 2)) (byte_at new b (4 * (k / 4) + 3))
+      (byte_at old b (4 * (k / 4) + 0)) (byte_at old b (4 * (k / 4) + 1)) (byte_at old b (4 * (k / 4) + 2)) (byte_at old b (4 * (k / 4) + 3))
+      (now _) (now _) (now _) (now _) (then _) (then _) (then _) (then _)
+      (sym (long-bytes new b (k / 4)) ∙ long_same (k / 4) (omega (arith, l)) ∙ long-bytes old b (k / 4)) in
+      let at : (r : ℕ) → k % 4 ≡ r → byte_at new b (4 * (k / 4) + r) ≡ byte_at old b (4 * (k / 4) + r) → byte_at new b k ≡ byte_at old b k =
+      λ r e same. let here : k ≡ 4 * (k / 4) + r = omega (arith, e) in ap (byte_at new b) here ∙ same ∙ ap (byte_at old b) (sym here) in
+      elim (cases_eq (k % 4) 0) [
+        | inl e ↦ at 0 e all.0
+        | inr n ↦ elim (cases_eq (k % 4) 1) [
+          | inl e ↦ at 1 e all.1
+          | inr o ↦ elim (cases_eq (k % 4) 2) [
+            | inl e ↦ at 2 e all.2
+            | inr p ↦ at 3 (omega (arith, n, o, p)) all.3
+          ]
+        ]
+      ]
 
 -- a byte of the file's block that is after the file's bytes is after their end in that block
 end_here : (f : Format) (a q i : ℕ) → q < data_count f a → a + data_start f ≤ data_size f * q + i → data_end f a q ≤ i
@@ -54,29 +103,19 @@ module _ (old new : List ℕ) (t : Tree) (s : Stands old t) (file : ℕ) (node :
   new_extensions = extension_blocks_are new file blocks' extensions' bytes' h.writable.lawful
 
   blocks_front : AgreeInFront (data_blocks old file) (data_blocks new file)
-  blocks_front =
-      subst (λ (xs : List ℕ). AgreeInFront xs (data_blocks new file)) (sym old_blocks)
-      (subst (λ (xs : List ℕ). AgreeInFront blocks xs) (sym new_blocks) (front_agrees old blocks blocks' h.data_from))
-
-  extensions_front : AgreeInFront (extension_blocks old file) (extension_blocks new file)
-  extensions_front =
-      subst (λ (xs : List ℕ). AgreeInFront xs (extension_blocks new file)) (sym old_extensions)
-      (subst (λ (xs : List ℕ). AgreeInFront extensions xs) (sym new_extensions) (front_agrees old extensions extensions' h.extensions_from))
+  blocks_front = rw (old_blocks, new_blocks) (front_agrees old blocks blocks' h.data_from)
 
   -- ---- after the file's end
-
-  of_old : (n q i : ℕ) → n + data_start (format_of new) ≤ data_size (format_of new) * q + i → n + data_start (format_of old) ≤ data_size (format_of old) * q + i
-  of_old n q i l = subst (λ (f : Format). n + data_start f ≤ data_size f * q + i) h.format l
 
   behind_end : (q i : ℕ) → q < length blocks' → IsBehindEnd new file q i → data_end (format_of old) (file_size new file) q ≤ i
   behind_end q i m y =
       let place : q < data_count (format_of old) (file_size new file) = omega (arith, m, h.writable.lawful.data_fits ∙ ap₂ data_count h.format (sym h.writable.lawful.holds.size)) in
-      end_here (format_of old) (file_size new file) q i place (of_old (file_size new file) q i y.behind)
+      end_here (format_of old) (file_size new file) q i place (subst (λ (f : Format). file_size new file + data_start f ≤ data_size f * q + i) h.format y.behind)
 
   file_end : KeepsFileEnd old new file
   file_end = record {
     blocks = blocks_front;
-    extensions = extensions_front;
+    extensions = rw (old_extensions, new_extensions) (front_agrees old extensions extensions' h.extensions_from);
     stays = λ q i x y.
         let l : q < length blocks = subst (λ (xs : List ℕ). q < length xs) old_blocks x in
         let m : q < length blocks' = subst (λ (xs : List ℕ). q < length xs) new_blocks y.block in
@@ -99,9 +138,9 @@ module _ (old new : List ℕ) (t : Tree) (s : Stands old t) (file : ℕ) (node :
       let lay = layout_after old new t s file node bytes found is_file blocks' extensions' bytes' h in
       let olds = data_is old t s f a.node a.bytes a.at a.content in
       record {
-        blocks = data_is new v after f a.node a.bytes at a.content ∙ ap (λ (l : Layout). l.file_data f) lay ∙ data_there s.layout file blocks' extensions' f n ∙ sym olds;
+        blocks = data_is new v after f a.node a.bytes at a.content ∙ ap (λ (l : Layout). l.file_data f) lay ∙ rw (ne_eqb f file n) refl ∙ sym olds;
         extensions =
-            extensions_is new v after f a.node a.bytes at a.content ∙ ap (λ (l : Layout). l.extensions f) lay ∙ extensions_there s.layout file blocks' extensions' f n
+            extensions_is new v after f a.node a.bytes at a.content ∙ ap (λ (l : Layout). l.extensions f) lay ∙ rw (ne_eqb f file n) refl
             ∙ sym (extensions_is old t s f a.node a.bytes a.at a.content);
         bytes = λ q i l m.
             let within : q < length (s.layout.file_data f) = subst (λ (xs : List ℕ). q < length xs) olds l in
@@ -123,11 +162,7 @@ module _ (old new : List ℕ) (t : Tree) (s : Stands old t) (file : ℕ) (node :
         (h.writable.lawful.extensions_fit ∙ ap (λ (xs : List ℕ). extension_count (length xs)) same_blocks ∙ sym before.extensions_fit)
 
     same_file : HasFile new (format_of old) file blocks extensions bytes
-    same_file =
-        subst (λ (f : Format). HasFile new f file blocks extensions bytes) h.format
-        (subst (λ (xs : List ℕ). HasFile new (format_of new) file xs extensions bytes) same_blocks
-        (subst (λ (xs : List ℕ). HasFile new (format_of new) file blocks' xs bytes) same_extensions
-        (subst (λ (xs : List ℕ). HasFile new (format_of new) file blocks' extensions' xs) same h.writable.lawful.holds)))
+    same_file = rw (← h.format, ← same_blocks, ← same_extensions, ← same) h.writable.lawful.holds
 
     file_byte_same : (f : Format) → format_of old ≡ f → (k : ℕ) → k < length bytes → file_byte f new blocks k ≡ file_byte f old blocks k
     file_byte_same f e k l = subst (λ (g : Format). file_byte g new blocks k ≡ file_byte g old blocks k) e (sym (same_file.contents k l) ∙ before.holds.contents k l)

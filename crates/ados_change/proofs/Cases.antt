@@ -1,12 +1,9 @@
 -- Each change of a field: how it changes the node's block, and the tree that the image then represents.
-use Rattle.std.proofs.Common.{if◌then◌else◌, ◌≡◌, ◌≢◌, ℕ, ◌+◌, ◌<◌, ◌≤◌, ◌⊎◌, inl, inr, ◌==◌, List, length, Some, option_map, refl, sym, ap, ◌∙◌, subst, arith, eq-eqb}
-use Rattle.ados_change.proofs.Common.{cases_eq, ne_eqb, block_sum, HasText, protection, COMMENT_BYTE, NAME_BYTE, SameBut, same_weaken, Date3, IsName, IsComment, Node, Tree, Proper, IsRoot, root, HasEntry, Stands, date_at, changed, stamped, with_node, KeepsRest, root_or_parent, Summed, Restamped}
-use Rattle.ados_change.proofs.Retells.{retold, Retells}
-use Rattle.ados_change.proofs.Retold.{Telling, Tells, stands_retold}
+use Rattle.ados_change.proofs.Common.{◌≡◌, ◌≢◌, ℕ, ◌+◌, ◌<◌, ◌≤◌, ◌⊎◌, inl, inr, List, length, Some, option_map, refl, sym, ap, ◌∙◌, subst, arith, eq-eqb, block_sum, HasText, protection, COMMENT_BYTE, NAME_BYTE, SameBut, same_weaken, Date3, IsName, IsComment, Node, Tree, Proper, IsRoot, root, HasEntry, Stands, date_at, changed, stamped, with_node, KeepsRest, root_or_parent, Summed, Restamped, IsPlain, IsWritten, of_node}
+use Rattle.ados_change.proofs.Retells.{retold, Retells, Telling, Tells, stands_retold}
 use Rattle.ados_change.proofs.FieldsKept.{IsTold, keeps_fields, telling_told, telling_written}
-use Rattle.ados_change.specs.steps.Footprint.{IsPlain, IsWritten}
-use Rattle.ados_change.specs.steps.Footprint.IsWritten.{of_node}
 use Rattle.ados_change.proofs.Summing.{text_beside, long_beside, date_beside}
+use Rattle.ados_change.proofs.Changed.{same_with}
 
 -- bytes low to high - 1 of the key's block may differ between the two nodes
 pub record Case (t : Tree) (key : ℕ) (node after : Node) (d : Date3) (low high : ℕ) : Type 0 where
@@ -51,16 +48,6 @@ module _ (t : Tree) (p : Proper t) (key : ℕ) (node : Node) (at : t.nodes key �
 
   pub stamp_case : (moment : Date3) → key ≡ root t → Case t key node node moment 472 484
   stamp_case moment e = case node moment 472 484 refl refl (p.name key node at) (p.comment key node at) (λ n. refl) (λ n. absurd (n e)) (λ e. refl) (λ e. refl) (λ i l m. Telling.disk_date e l m)
-
--- an unchanged node: only the disk date of the tree changes
-same_node : (t : Tree) (key : ℕ) (node : Node) → t.nodes key ≡ Some node → (moment : Date3) → retold key node moment t ≡ stamped moment t
-same_node t key node at moment = λ i. record t { disk_date = moment; nodes = λ k. as_it_was k i }
-  where
-    as_it_was : (k : ℕ) → (if k == key then Some node else t.nodes k) ≡ t.nodes k
-    as_it_was k = elim (cases_eq k key) [
-      | inl e ↦ let here = eq-eqb k key e in rw here (sym (ap t.nodes e ∙ at))
-      | inr n ↦ let other = ne_eqb k key n in rw other refl
-    ]
 
 -- the node of a key that is changed
 pub changed_node : (t : Tree) (key : ℕ) (node : Node) → t.nodes key ≡ Some node → (f : Node → Node) → (changed key f t).nodes key ≡ Some (f node)
@@ -147,7 +134,7 @@ module _ (old new : List ℕ) (t : Tree) (s : Stands old t) (key : ℕ) (node : 
 
   pub stamped_stands : (moment : Date3) → key ≡ root t → SameBut (Summed key 472 484) old new → date_at new key 118 ≡ moment → Stands new (stamped moment t)
   stamped_stands moment e rest put =
-      subst (Stands new) (same_node t key node at moment)
+      subst (Stands new) (ap (stamped moment) (same_with key (Some node) t at))
       (told node moment 472 484 (stamp_case t s.proper key node at moment e) rest
       (name_stays 472 484 rest (inl (omega arith))) (date_stays 472 484 rest (inl (omega arith))) (bits_stay 472 484 rest (inl (omega arith)))
       (comment_stays 472 484 rest (inl (omega arith))) (λ _. put))
@@ -193,10 +180,7 @@ module _ (old new : List ℕ) (t : Tree) (s : Stands old t) (key : ℕ) (node : 
         told b i (inr (inl w)) = inr (omega (arith, w.1), omega (arith, w.2), λ z. omega (arith, w.1, z))
         told b i (inr (inr w)) = inl w.1
 
-  to_retold : (f : Node → Node) (d : Date3) → Stands new (stamped d (changed key f t)) → Stands new (retold key (f node) d t)
-  to_retold f d h = subst (λ o. Stands new (stamped d (with_node key o t))) (ap (option_map f) at) h
-
   -- a field is changed, and then the disk date
   pub keeps_restamped : (f : Node → Node) → Case t key node (f node) t.disk_date low high → (moment : Date3) → Stands new (stamped moment (changed key f t))
       → (r : ℕ) → r ≡ root t → SameBut (Restamped r key low high) old new → KeepsRest old new
-  keeps_restamped f c moment h r e rest = keeps_retold (f node) t.disk_date moment c (to_retold f moment h) r e rest
+  keeps_restamped f c moment h r e rest = keeps_retold (f node) t.disk_date moment c (subst (λ o. Stands new (stamped moment (with_node key o t))) (ap (option_map f) at) h) r e rest

@@ -1,6 +1,5 @@
 -- The nodes of a changed tree.
-use Rattle.std.proofs.Common.{◌≡◌, ◌≢◌, ℕ, ◌⊎◌, inl, inr, List, Option, Some, None, is_some, IsSome, option_map, option_and_then, refl, sym, ap, ◌∙◌, subst, eq-eqb}
-use Rattle.ados_change.proofs.Common.{ne_eqb, cases_eq, slot, Date3, Content, Node, Tree, entries, entries_in, name_of, parent_of, name_in, Directory, with_node, changed, enter, listed, made, new_node}
+use Rattle.ados_change.proofs.Common.{◌≡◌, ◌≢◌, ℕ, ◌⊎◌, inl, inr, List, Option, Some, None, is_some, IsSome, option_map, option_and_then, refl, sym, ap, ◌∙◌, subst, eq-eqb, ne_eqb, cases_eq, slot, Date3, Content, Node, Tree, entries, entries_in, name_of, parent_of, name_in, Directory, with_node, changed, enter, listed, made, new_node}
 
 pub nodes_here : (key : ℕ) (o : Option Node) (t : Tree) → (with_node key o t).nodes key ≡ o
 nodes_here key o t = rw (eq-eqb key key refl) refl
@@ -11,6 +10,13 @@ nodes_other key o t k n = rw (ne_eqb k key n) refl
 -- trees that differ in no node are equal
 pub same_nodes : (t : Tree) (nodes nodes' : ℕ → Option Node) → ((k : ℕ) → nodes k ≡ nodes' k) → record t { nodes = nodes } ≡ record t { nodes = nodes' }
 same_nodes t nodes nodes' same = λ i. record t { nodes = λ k. same k i }
+
+-- a tree with the node that it has
+pub same_with : (key : ℕ) (o : Option Node) (t : Tree) → t.nodes key ≡ o → with_node key o t ≡ t
+same_with key o t at = same_nodes t (with_node key o t).nodes t.nodes (λ k. elim (cases_eq k key) [
+  | inl e ↦ ap (with_node key o t).nodes e ∙ nodes_here key o t ∙ sym (ap t.nodes e ∙ at)
+  | inr n ↦ nodes_other key o t k n
+])
 
 -- what a change of a node leaves untouched
 pub changed_keeps : {X : Type 0} (p : Option Node → X) (f : Node → Node) (key : ℕ) (t : Tree) → ((o : Option Node) → p (option_map f o) ≡ p o) → (k : ℕ) → p ((changed key f t).nodes k) ≡ p (t.nodes k)
@@ -62,9 +68,6 @@ module _ (moment : Date3) (dir : ℕ) (keys : List ℕ) (t : Tree) where
   pub listed_parents : (k : ℕ) → parent_of (listed moment dir keys t) k ≡ parent_of t k
   listed_parents = changed_keeps parent_field (relisted moment keys) dir t (each_keeps parent_field (relisted moment keys) (λ a. refl))
 
-  listed_some : (k : ℕ) → is_some ((listed moment dir keys t).nodes k) ≡ is_some (t.nodes k)
-  listed_some = changed_keeps is_some (relisted moment keys) dir t (each_keeps is_some (relisted moment keys) (λ a. refl))
-
   pub listed_here : (a : Node) → t.nodes dir ≡ Some a → entries (listed moment dir keys t) dir ≡ keys
   listed_here a e = ap (λ (o : Option Node). entries_in (option_map (λ node. node.content) o)) (nodes_here dir (option_map (relisted moment keys) (t.nodes dir)) t ∙ ap (option_map (relisted moment keys)) e)
 
@@ -87,4 +90,4 @@ module _ (moment : Date3) (dir key : ℕ) (name : List ℕ) (content : Content) 
   making = with_node key (Some (new_node moment dir name content)) t
 
   pub made_here : IsSome ((made moment dir key name content t).nodes key)
-  made_here = listed_some moment dir (with_key dir key making) making key ∙ ap is_some (nodes_here key (Some (new_node moment dir name content)) t)
+  made_here = changed_keeps is_some (relisted moment (with_key dir key making)) dir making (each_keeps is_some (relisted moment (with_key dir key making)) (λ a. refl)) key ∙ ap is_some (nodes_here key (Some (new_node moment dir name content)) t)

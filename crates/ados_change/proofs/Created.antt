@@ -1,23 +1,18 @@
 -- The steps that make an entry: a free block is allocated and filled, and the entry is listed. The image represents the
 -- tree with it.
-use Rattle.std.proofs.Common.{◌≡◌, ◌≢◌, ℕ, ◌+◌, ◌*◌, ◌/◌, ◌<◌, inl, inr, List, false, Some, refl, sym, ap, ◌∙◌, subst, arith, zero, suc, ◌-◌, ◌≤◌, ◌⊎◌, min, ◌∷◌, length, slice_index, []}
-use Rattle.ados_change.proofs.Common.{cases_eq, OnlyBlock, SameBut, IsInside, block_count, has_free_bit, root_key, HasFreeBit, same_count, same_trans, MapPlace, BitChanged, IsLowestFree, NoneFreeBelow, page_of, pages_of, Date3, slot_at-small, LawfulChains, slot_at, CanInsert, InsertsLast, link_block, link_long, bit_of_inside, InImage, made, with_node, new_node, Stands, Duty, HasDuty, in_slot, Node, Tree, root, IsUnused, size_in, KeepsRest, TakesLowest, KeepsPastEnd, CanMake, IsEmpty, content_of, IsNewEntry, Dated, nil_from_length, Format, Ofs, Ffs, Chained, bytes_at, long, table_entry, NEXT_IN_CHAIN, InBlock, page_block, data_count, extension_count, Content, size_of, HasFile, HasNode, HasEntry, Directory, File, entered, slice_get-index, IsNewField}
-use Rattle.ados_change.proofs.Making.{zero_long, no_duty, unused}
-use Rattle.ados_change.proofs.Frame.{at_root, dated_count}
+use Rattle.ados_change.proofs.Common.{no_data, ◌≡◌, ◌≢◌, ℕ, ◌+◌, ◌*◌, ◌/◌, ◌<◌, inl, inr, List, false, Some, refl, sym, ap, ◌∙◌, subst, arith, zero, suc, ◌-◌, ◌≤◌, ◌⊎◌, min, ◌∷◌, length, slice_index, [], cases_eq, OnlyBlock, SameBut, IsInside, block_count, has_free_bit, root_key, HasFreeBit, same_count, same_trans, MapPlace, BitChanged, IsLowestFree, NoneFreeBelow, page_of, pages_of, Date3, slot_at-small, LawfulChains, slot_at, CanInsert, InsertsLast, link_block, link_long, bit_of_inside, InImage, made, with_node, new_node, Stands, Duty, HasDuty, in_slot, Node, Tree, root, IsUnused, size_in, KeepsRest, TakesLowest, KeepsPastEnd, CanMake, IsEmpty, content_of, IsNewEntry, Dated, nil_from_length, Chained, bytes_at, long, table_entry, NEXT_IN_CHAIN, InBlock, page_block, data_count, extension_count, Content, HasFile, HasNode, HasEntry, Directory, File, entered, slice_get-index, IsChanged, IsWritten}
+use Rattle.ados_change.proofs.Making.{zero_long, no_duty, unused, AtLink, dated_there, linked_there, stamped_there, takes_key}
+use Rattle.ados_change.proofs.Unchanged.{at_root, dated_count}
+use Rattle.ados_change.proofs.Writable.{lawful_pages}
 use Rattle.ados_change.proofs.FilesStay.{past_end_trans}
 use Rattle.ados_change.specs.declared.node_kind.NodeKind.{NodeKind}
 use Rattle.ados_change.proofs.Changed.{made_here, nodes_here, nodes_other}
-use Rattle.ados_change.proofs.FirstFree.{AtLink, dated_there, linked_there, stamped_there, takes_key}
 use Rattle.ados_change.proofs.Lawful.{lawful_chains, page_is, page_within, count}
-use Rattle.ados_change.specs.steps.Footprint.{IsChanged, IsPage, IsWritten}
-use Rattle.ados_change.proofs.Writable.{lawful_pages}
-use Rattle.ados_change.proofs.EntriesKept.{changed_kept, page_changed, written_changed}
-use Rattle.ados_change.proofs.KeptSteps.{IsKnown, dated_kept, filled_kept, linked_kept, marked_kept, stamped_kept}
-use Rattle.ados_change.proofs.Listing.{can_insert, place_behind, entered_spells, stamped_spells}
-use Rattle.ados_change.proofs.Loose.{Loose, proper_is_loose, unused_is_loose}
+use Rattle.ados_change.proofs.EntriesKept.{changed_kept, page_changed, written_changed, IsKnown, dated_kept, filled_kept, linked_kept, marked_kept, stamped_kept}
+use Rattle.ados_change.proofs.Leaving.{can_insert, place_behind, entered_spells, stamped_spells}
+use Rattle.ados_change.proofs.Loose.{Loose, proper_is_loose, unused_is_loose, Spells, spells, stands}
 use Rattle.ados_change.proofs.ProperChanges.{IsDirectoryNode, begun_is_loose, dir_not_key, directory_at, entered_proper, made_is_proper}
 use Rattle.ados_change.proofs.Relisted.{IsLinkPlace}
-use Rattle.ados_change.proofs.Spells.{Spells, spells, stands}
 use Rattle.ados_change.proofs.EntriesUntold.{HasPages, IsOffMap, bit_past_end, freed_stays, off_marks, off_past_end, old_pages, pages_after, untold_kept, written_off}
 use Rattle.ados_data.proofs.Marks.{mark_kept}
 use Rattle.ados_change.proofs.Remarked.{IsAlone, Remarks, filled_remarks, marked_remarks, remarked}
@@ -60,17 +55,11 @@ module _ (old m1 m2 : List ℕ) (t : Tree) (st : Stands old t) (moment : Date3) 
     size_before = let none = fresh.no_node in rw none refl;
   }
 
-  small : block_count old ≤ 101602
-  small = omega (arith, st.whole, st.proper.size.1)
-
   page_there : (p : ℕ) → p < pages_of old → page_block old p ≡ slice_index st.layout.pages p
   page_there p m = page_is old t st.layout key s first_loose p (page_within old t st.layout key s first_loose p m)
 
   key_no_page : (p : ℕ) → p < length st.layout.pages → slice_index st.layout.pages p ≢ key
   key_no_page p m e = no_duties (Duty.Page p) (slice_get-index st.layout.pages p m ∙ ap Some e)
-
-  own_page : page_of key < pages_of old
-  own_page = omega (arith, low.inside.0, low.inside.1)
 
   -- ---- the mark
 
@@ -85,7 +74,7 @@ module _ (old m1 m2 : List ℕ) (t : Tree) (st : Stands old t) (moment : Date3) 
 
   mark_after : (b : ℕ) → IsInside t.blocks b → has_free_bit m2 b ≡ has_free_bit m1 b
   mark_after b i =
-      mark_kept (InBlock key) m1 m2 filled (omega (arith, count_m1, small))
+      mark_kept (InBlock key) m1 m2 filled (omega (arith, count_m1, st.whole, st.proper.size.1))
       (λ k e. first_loose.not_root (sym e ∙ ap root_key (count_m1 ∙ count old t st.layout key s first_loose)))
       (λ p k m e. let q : p < pages_of old = omega (arith, m, count_m1) in key_no_page p (page_within old t st.layout key s first_loose p q) (sym (page_there p q) ∙ sym (mark_end.pages p q) ∙ e))
       b (bit_of_inside m1 b (i.0, omega (arith, i.1, count_m1, st.whole)))
@@ -100,16 +89,7 @@ module _ (old m1 m2 : List ℕ) (t : Tree) (st : Stands old t) (moment : Date3) 
   zero_at i o = zero_long m2 key i (λ k p q. entry.zeros k (omega (arith, o, q)) (λ f. let short = can.valid.short in omega (arith, p, q, o, f, short)))
 
   no_blocks : st.layout.file_data key ≡ []
-  no_blocks =
-      let size : size_of t key ≡ 0 = alone.size_before in
-      nil_from_length (st.layout.file_data key) (st.fits.file_data key ∙ ap (data_count t.format) size ∙ none t.format)
-    where
-      none : (f : Format) → data_count f 0 ≡ 0
-      none Ofs = refl
-      none Ffs = refl
-
-  no_extensions : st.layout.extensions key ≡ []
-  no_extensions = nil_from_length (st.layout.extensions key) (st.fits.extensions key ∙ ap (λ (xs : List ℕ). extension_count (length xs)) no_blocks)
+  no_blocks = nil_from_length (st.layout.file_data key) (st.fits.file_data key ∙ ap (data_count t.format) alone.size_before ∙ no_data t.format)
 
   node_here : (a : Node) → Some new ≡ Some a → HasNode m2 key a
   node_here a e =
@@ -123,28 +103,20 @@ module _ (old m1 m2 : List ℕ) (t : Tree) (st : Stands old t) (moment : Date3) 
       subst (λ (n : Node). HasEntry m2 key n d) same (subst (HasEntry m2 key new) dirs (record {
         key_field = entry.key_field;
         protection_field = zero_at 80 (inr (inl (omega arith, omega arith)));
-        comment = record { counted = entry.zeros 328 (omega arith) no_comment; follows = no_text m2 key };
+        comment = record { counted = entry.zeros 328 (omega arith) (λ f. omega (arith, f)); follows = no_text m2 key };
         parent = entry.parent;
         secondary = entry.secondary;
       }))
-    where
-      no_comment : ¬ IsNewField (length name) 328
-      no_comment f = omega (arith, f)
 
   slots_here : (a : Node) (keys : List ℕ) (q : ℕ) → Some new ≡ Some a → a.content ≡ Directory keys → q < 72 → Chained m2 NEXT_IN_CHAIN (table_entry m2 key q) (in_slot t key q)
-  slots_here a keys q e c m = subst (Chained m2 NEXT_IN_CHAIN (table_entry m2 key q)) (sym (no_entries q)) (zero_at (6 + q) (inr (inl (omega arith, omega (arith, m)))))
-    where
-      no_entries : (q : ℕ) → in_slot t key q ≡ []
-      no_entries q = let none = fresh.no_node in rw none refl
+  slots_here a keys q e c m = let none = fresh.no_node in rw none (zero_at (6 + q) (inr (inl (omega arith, omega (arith, m)))))
 
   file_here : (a : Node) (bytes : List ℕ) → Some new ≡ Some a → a.content ≡ File bytes → HasFile m2 t.format key (st.layout.file_data key) (st.layout.extensions key) bytes
   file_here a bytes e c =
       let same : new ≡ a = cc e in
       let short : length bytes ≡ 0 = ap (λ (d : Content). size_in (Some d)) (sym c ∙ ap (λ (n : Node). n.content) (sym same)) ∙ no_contents.1 in
       let none : bytes ≡ [] = nil_from_length bytes short in
-      subst (λ (bs : List ℕ). HasFile m2 t.format key (st.layout.file_data key) (st.layout.extensions key) bs) (sym none)
-      (subst (λ (xs : List ℕ). HasFile m2 t.format key xs (st.layout.extensions key) []) (sym no_blocks)
-      (subst (λ (xs : List ℕ). HasFile m2 t.format key [] xs []) (sym no_extensions) (record {
+      rw (none, no_blocks, nil_from_length (st.layout.extensions key) (st.fits.extensions key ∙ ap (λ (xs : List ℕ). extension_count (length xs)) no_blocks)) (record {
         size = zero_at 81 (inr (inl (omega arith, omega arith)));
         chain = zero_at 126 (inr (inr (inr refl)));
         extension = λ i m. absurd (omega (arith, m));
@@ -153,7 +125,7 @@ module _ (old m1 m2 : List ℕ) (t : Tree) (st : Stands old t) (moment : Date3) 
         contents = λ i m. absurd (omega (arith, m));
         ofs_chain = λ o. zero_at 4 (inl (omega arith, omega arith));
         ofs_data = λ o i m. absurd (omega (arith, m));
-      })))
+      })
     where
       first_count : (i : ℕ) → i ≤ 0 → long m2 (slice_index (key ∷ []) i) 2 ≡ min 72 (0 - 72 * i)
       first_count zero m = zero_at 2 (inl (omega arith, omega arith))
@@ -222,9 +194,6 @@ module _ (old m1 m2 : List ℕ) (t : Tree) (st : Stands old t) (moment : Date3) 
         | inr other ↦ inl (x, sym (nodes_other key (Some new) t k other) ∙ e, n)
       ]
 
-      marked : SameBut (λ b i. IsPage old t st b) old m1
-      marked = marked_kept old t st m5 key (page_of key) false old m1 (page_within old t st.layout key s first_loose (page_of key) own_page) (sym (page_there (page_of key) own_page)) taken
-
       -- no bitmap block is written after the mark
       beside_map : SameBut (IsWritten old t st m5) m1 m5
       beside_map =
@@ -238,7 +207,7 @@ module _ (old m1 m2 : List ℕ) (t : Tree) (st : Stands old t) (moment : Date3) 
           (stamped_kept old t st m5 moment m4 m5 restamped)
 
       created_changed : SameBut (IsChanged old t st m5) old m5
-      created_changed = same_trans (IsChanged old t st m5) old m1 m5 (page_changed old t st m5 old m1 marked) (written_changed old t st m5 m1 m5 beside_map)
+      created_changed = same_trans (IsChanged old t st m5) old m1 m5 (page_changed old t st m5 old m1 (marked_kept old t st m5 key false old m1 ((old_pages old t st).serves (page_of key) (omega (arith, low.inside.0, low.inside.1))) taken)) (written_changed old t st m5 m1 m5 beside_map)
 
       -- ---- the bitmap
 

@@ -1,18 +1,113 @@
 -- A file is emptied before its removal; a directory has nothing to empty.
-use Rattle.std.proofs.Common.{◌≡◌, ◌≢◌, ℕ, zero, suc, ◌+◌, ◌*◌, ◌/◌, ◌<◌, ◌≤◌, inl, inr, List, ◌∷◌, length, slice_index, take, Option, Some, None, option_map, option_and_then, refl, sym, ap, ◌∙◌, subst, arith, []}
-use Rattle.ados_change.proofs.Common.{cases_lt, nil_from_length, Format, Ofs, Ffs, data_count, extension_count, data_blocks, extension_blocks, IsBeside, root_key, page_count, page_block, pages_of, root_is, count_same, Duty, HasDuty, root, NAME_BYTE, COMMENT_BYTE, SameBut, IsDiskStamp, OnlyBlock, block_count, byte_at, has_free_bit, HasFreeBit, secondary_type, FILE_TYPE, cases_eq, Date3, changed, left, removed, shortened, without_archive, Stands, type_of, Content, Node, Tree, bytes_of, content_at, entries_in, size_of, size_in, Directory, File, InImage, HasFileKey, HasFileBytes, KeepsUntold, KeepsBlock, KeepsRest, TakesNone, directory_node, parent_in, one_tree, CanRemove, get_or_past, root_of}
-use Rattle.ados_model.proofs.Counting.{slice_get-back}
-use Rattle.ados_change.specs.steps.Footprint.{IsChanged, IsPage, IsPlain, IsWritten}
-use Rattle.ados_change.specs.steps.Footprint.IsWritten.{of_none, of_node, of_name, of_comment}
+use Rattle.ados_change.proofs.Common.{no_data, ◌≡◌, ◌≢◌, ℕ, List, slice_index, Option, None, option_map, refl, sym, ap, ◌∙◌, subst, arith, InBlock, OnlyBlock, IsInside, block_count, has_free_bit, HasFreeBit, same_count, same_weaken, page_block, bit_of_inside, InImage, size_in, Duty, HasDuty, Stands, Node, Tree, entries_in, count_same, slice_get-index, KeepsPastEnd, KeepsUntold, mark_kept, inl, inr, ◌==◌, not, filter, Some, ap₂, option_map_or, cases_eq, Date3, changed, listed, removed, stamped, with_node, entries, parent_of, zero, suc, ◌+◌, ◌*◌, ◌/◌, ◌<◌, ◌≤◌, ◌∷◌, length, take, option_and_then, [], cases_lt, nil_from_length, data_count, extension_count, data_blocks, extension_blocks, IsBeside, root_key, page_count, pages_of, root_is, root, NAME_BYTE, COMMENT_BYTE, SameBut, IsDiskStamp, byte_at, secondary_type, FILE_TYPE, left, shortened, without_archive, type_of, Content, bytes_of, content_at, size_of, Directory, File, HasFileKey, HasFileBytes, KeepsBlock, KeepsRest, TakesNone, directory_node, parent_in, CanRemove, get_or_past, root_of, slice_get-back, IsChanged, IsPage, IsPlain, IsWritten, of_none, of_node, of_name, of_comment, Empties, GivesBack, IsEmptied, WritesOnlyEntry}
+use Rattle.ados_change.proofs.Changed.{same_with, nodes_here, nodes_other, changed_keeps, each_keeps, parent_field, relisted, same_nodes}
+use Rattle.ados_change.proofs.EntriesUntold.{IsOffMap, off_past_end, old_pages, untold_beside}
+use Rattle.ados_change.proofs.Loose.{unused_is_loose, Spells, spells, stands}
+use Rattle.ados_change.proofs.Making.{no_node as none_in}
+use Rattle.ados_change.proofs.Remarked.{IsAlone, Remarks, filled_remarks, remarked}
+use Rattle.ados_change.proofs.Writable.{key_serves, data_is, extensions_is, page_serves}
 use Rattle.ados_change.proofs.EntriesKept.{changed_kept}
-use Rattle.ados_change.proofs.Writable.{data_is, extensions_is, page_serves}
 use Rattle.ados_change.proofs.FilesStay.{has_bytes, untold_trans}
 use Rattle.ados_change.proofs.Keeping.{none_taken}
-use Rattle.ados_change.specs.steps.Emptied.{Empties, GivesBack, IsEmptied, WritesOnlyEntry}
-use Rattle.ados_change.proofs.Changed.{nodes_here, nodes_other, relisted}
-use Rattle.ados_change.proofs.Emptying.{removed_same}
 use Rattle.ados_change.proofs.Loose.{left_is, not_own_parent, kept as remaining}
-use Rattle.ados_change.proofs.Unreached.{marks_stay, stands_still, untold_still}
+
+-- ---- a block that is marked free gets other bytes: the image represents the same tree
+
+module _ (old new : List ℕ) (t : Tree) (st : Stands old t) (key : ℕ) (inside : InImage old key) (free : HasFreeBit old key) (only : OnlyBlock key old new) where
+  in_tree : IsInside t.blocks key
+  in_tree = (inside.0, omega (arith, inside.1, count_same old t st))
+
+  unused : (duty : Duty) → ¬ HasDuty t st.layout key duty
+  unused duty m = st.marked_free key in_tree free (duty, m)
+
+  apart : (b : ℕ) (duty : Duty) → HasDuty t st.layout b duty → b ≢ key
+  apart b duty m e = unused duty (subst (λ (c : ℕ). HasDuty t st.layout c duty) e m)
+
+  count : block_count new ≡ block_count old
+  count = same_count (InBlock key) old new only
+
+  -- ---- the bitmap
+
+  past_end : KeepsPastEnd old new
+  past_end =
+      off_past_end old t st old new (old_pages old t st)
+      (same_weaken (InBlock key) (IsOffMap old t st) old new (λ b i e. record { no_page = λ p. apart b (Duty.Page p.0) p.1 e; no_name = λ r. absurd (apart b Duty.Key (key_serves old t st b st.proper.root_node.0 (ap t.nodes r ∙ st.proper.root_node.1)) e) }) only)
+
+  pub marks_stay : (b : ℕ) → InImage old b → has_free_bit new b ≡ has_free_bit old b
+  marks_stay b i =
+      mark_kept (InBlock key) old new only past_end.pages (λ p k l m e. let page = (old_pages old t st).serves p l in apart (page_block old p) (Duty.Page page.0) page.1 e)
+      b (bit_of_inside old b i)
+
+  -- ---- the tree
+
+  no_node : t.nodes key ≡ None
+  no_node = none_in t st.layout key unused (t.nodes key) refl
+
+  alone : IsAlone t st.layout key None
+  alone = record {
+    inside = in_tree;
+    only = λ duty m. absurd (unused duty m);
+    same_list = sym (ap (λ (o : Option Node). entries_in (option_map (λ node. node.content) o)) no_node);
+    size_after = refl;
+    size_before = ap (λ (o : Option Node). size_in (option_map (λ node. node.content) o)) no_node;
+  }
+
+  remarks : Remarks old t st.layout key None new
+  remarks =
+      filled_remarks old old new t st.layout key None (λ p m e. apart (slice_index st.layout.pages p) (Duty.Page p) (slice_get-index st.layout.pages p m) e) (λ b i. marks_stay b (i.0, omega (arith, i.1, count_same old t st))) in_tree
+      (record { change = record { same_length = refl; same_byte = λ b i m n. refl }; bit = free; others = λ b i n. refl; sums = st.pages }) only
+
+  spells_still : Spells new t st.layout
+  spells_still =
+      subst (λ (u : Tree). Spells new u st.layout) (same_with key None t no_node)
+      (remarked old new t st.layout key None (spells old t st) (unused_is_loose t key st.proper no_node) alone remarks
+      (λ a e. absurd (cc e)) (λ a d e p. absurd (cc e)) (λ a keys q e c m. absurd (cc e)) (λ a bytes e c. absurd (cc e)))
+
+  pub stands_still : Stands new t
+  stands_still = stands new t st.layout st.proper spells_still
+
+  pub untold_still : KeepsUntold old new
+  untold_still = untold_beside old new t t st spells_still st.proper (InBlock key) only (λ b i file q m. apart b (Duty.Data file q) m) past_end
+
+-- ---- after its removal, the contents of an entry make no difference
+
+module _ (t : Tree) (key dir : ℕ) (moment : Date3) (f : Node → Node) (keeps : (a : Node) → (f a).parent ≡ a.parent) (below : parent_of t key ≡ Some dir) (apart : dir ≢ key) where
+  abbrev u : Tree
+  u = stamped moment (changed key f t)
+
+  node_other : (k : ℕ) → k ≢ key → u.nodes k ≡ t.nodes k
+  node_other k n = nodes_other key (option_map f (t.nodes key)) t k n
+
+  abbrev list : Tree → List ℕ
+  list tree = filter (λ k. not (k == key)) (entries tree dir)
+
+  -- the tree without the entry of this directory
+  abbrev gone : Tree → Tree
+  gone tree = stamped moment (with_node key None (listed moment dir (list tree) tree))
+
+  gone_is : (tree : Tree) → parent_of tree key ≡ Some dir → removed moment key tree ≡ gone tree
+  gone_is tree e = ap (λ (o : Option ℕ). stamped moment (with_node key None (option_map_or (λ d. listed moment d (filter (λ k. not (k == key)) (entries tree d)) tree) o tree))) e
+
+  node_same : (k : ℕ) → (gone u).nodes k ≡ (gone t).nodes k
+  node_same k = elim (cases_eq k key) [
+    | inl e ↦ ap (gone u).nodes e ∙ nodes_here key None (listed moment dir (list u) u) ∙ sym (ap (gone t).nodes e ∙ nodes_here key None (listed moment dir (list t) t))
+    | inr n ↦
+        nodes_other key None (listed moment dir (list u) u) k n
+        ∙ elim (cases_eq k dir) [
+          | inl e ↦
+              ap (listed moment dir (list u) u).nodes e ∙ nodes_here dir (option_map (relisted moment (list u)) (u.nodes dir)) u
+              ∙ ap₂ (λ (keys : List ℕ) (o : Option Node). option_map (relisted moment (filter (λ k. not (k == key)) keys)) o) (ap (λ (o : Option Node). entries_in (option_map (λ node. node.content) o)) (node_other dir apart)) (node_other dir apart)
+              ∙ sym (ap (listed moment dir (list t) t).nodes e ∙ nodes_here dir (option_map (relisted moment (list t)) (t.nodes dir)) t)
+          | inr o ↦
+              nodes_other dir (option_map (relisted moment (list u)) (u.nodes dir)) u k o
+              ∙ node_other k n
+              ∙ sym (nodes_other dir (option_map (relisted moment (list t)) (t.nodes dir)) t k o)
+        ]
+        ∙ sym (nodes_other key None (listed moment dir (list t) t) k n)
+  ]
+
+  pub removed_same : removed moment key u ≡ removed moment key t
+  removed_same = gone_is u (changed_keeps parent_field f key t (each_keeps parent_field f keeps) key ∙ below) ∙ same_nodes (stamped moment t) (gone u).nodes (gone t).nodes node_same ∙ sym (gone_is t below)
 
 module _ (old : List ℕ) (t : Tree) (st : Stands old t) (key : ℕ) (can : CanRemove t key) where
   abbrev entry : (a : Node) × (t.nodes key ≡ Some a) × (a.parent ≡ Some can.dir)
@@ -40,9 +135,6 @@ module _ (old : List ℕ) (t : Tree) (st : Stands old t) (key : ℕ) (can : CanR
       go (File bytes) d at = (bytes, at)
 
   module _ (moment : Date3) where
-    pub kept_as_is : secondary_type old key ≢ FILE_TYPE → IsEmptied moment key t t
-    kept_as_is n = record { can = can; no_bytes = not_file n; others = λ k o. refl; same = refl }
-
     abbrev shorter : Node → Node
     shorter node = record node { content = File (take 0 (bytes_of t key)); date = moment; protection = without_archive node.protection }
 
@@ -65,25 +157,14 @@ module _ (old : List ℕ) (t : Tree) (st : Stands old t) (key : ℕ) (can : CanR
     pub beside_none : (mid : List ℕ) → Stands mid (shortened moment key 0 t) → (b : ℕ) → IsBeside old key [] [] b → IsBeside old key (data_blocks mid key) (extension_blocks mid key) b
     beside_none mid s b n =
         let u = shortened moment key 0 t in
-        let blocks = nil_from_length (s.layout.file_data key) (s.fits.file_data key ∙ ap (data_count t.format) cut_to_nothing.no_bytes ∙ none t.format) in
+        let blocks = nil_from_length (s.layout.file_data key) (s.fits.file_data key ∙ ap (data_count t.format) cut_to_nothing.no_bytes ∙ no_data t.format) in
         let lists = nil_from_length (s.layout.extensions key) (s.fits.extensions key ∙ ap (λ (xs : List ℕ). extension_count (length xs)) blocks) in
-        subst (λ (xs : List ℕ). IsBeside old key xs (extension_blocks mid key) b) (sym (data_is mid u s key (shorter entry.0) (take 0 (bytes_of t key)) cut_node refl ∙ blocks))
-        (subst (λ (xs : List ℕ). IsBeside old key [] xs b) (sym (extensions_is mid u s key (shorter entry.0) (take 0 (bytes_of t key)) cut_node refl ∙ lists)) n)
-      where
-        none : (f : Format) → data_count f 0 ≡ 0
-        none Ofs = refl
-        none Ffs = refl
+        rw (data_is mid u s key (shorter entry.0) (take 0 (bytes_of t key)) cut_node refl ∙ blocks, extensions_is mid u s key (shorter entry.0) (take 0 (bytes_of t key)) cut_node refl ∙ lists) n
 
 -- the image represents only this tree, so a fact about one of its trees is a fact about each
 module _ (moment : Date3) (key : ℕ) (old mid : List ℕ) (t : Tree) (st : Stands old t) (empties : Empties moment key old mid) where
   abbrev emptied : (u : Tree) × Stands mid u × IsEmptied moment key t u
   emptied = empties t st
-
-  pub each_can : (v : Tree) → Stands mid v → CanRemove v key
-  each_can v sv = subst (λ (x : Tree). CanRemove x key) (one_tree mid emptied.0 v emptied.1 sv) emptied.2.can
-
-  pub each_empty : (v : Tree) → Stands mid v → size_of v key ≡ 0
-  each_empty v sv = subst (λ (x : Tree). size_of x key ≡ 0) (one_tree mid emptied.0 v emptied.1 sv) emptied.2.no_bytes
 
   pub taken_away : (new : List ℕ) → ((v : Tree) → Stands mid v → Stands new (removed moment key v)) → Stands new (removed moment key t)
   taken_away new gone = subst (Stands new) emptied.2.same (gone emptied.0 emptied.1)
@@ -197,9 +278,6 @@ module _ (moment : Date3) (key : ℕ) (old mid away new : List ℕ) (t : Tree) (
     in_between file bytes is was =
         has_bytes mid between.0 between.1 file bytes (ap (option_map (λ (a : Node). a.content)) (between.2.others file (not_key file away gone is)) ∙ was t st)
 
-    untold_gone : KeepsUntold old away
-    untold_gone = untold_trans old mid away t st count_mid in_between empties.untold untold
-
     not_dir : (file : ℕ) (bytes : List ℕ) → content_at t file ≡ Some (File bytes) → file ≢ can.dir
     not_dir file bytes was e =
         let d = directory_node t st.proper can.dir key ((st.proper.listed can.dir key).1 can.listed) in
@@ -224,5 +302,5 @@ module _ (moment : Date3) (key : ℕ) (old mid away new : List ℕ) (t : Tree) (
             let was : HasFreeBit away b = sym (mark b inside) ∙ free in
             back.same_byte b i l other ∙ gives.freed b (in_mid b inside) other was i l ∙ empties.freed b inside (gives.given b (in_mid b inside) other was) i l
       ];
-      untold = untold_trans old away new t st count_away afterwards untold_gone (untold_still away new (removed moment key t) gone key key_in_away gives.free back);
+      untold = untold_trans old away new t st count_away afterwards (untold_trans old mid away t st count_mid in_between empties.untold untold) (untold_still away new (removed moment key t) gone key key_in_away gives.free back);
     }

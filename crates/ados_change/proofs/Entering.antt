@@ -1,8 +1,6 @@
 -- A key inserted into a list, and one removed from it.
-use Rattle.std.proofs.Common.{◌≡◌, ◌≢◌, ℕ, suc, ◌<◌, ◌≤◌, ◌⊎◌, inl, inr, Bool, true, false, cond, nat_le, ◌==◌, not, List, [], ◌∷◌, ◌++◌, filter, AllPairs, Contains, refl, sym, ap, ap₂, ◌∙◌, subst, arith, eq-eqb}
-use Rattle.std.specs.List.{list_any}
+use Rattle.ados_change.proofs.Common.{◌≡◌, ◌≢◌, ℕ, suc, ◌<◌, ◌≤◌, ◌⊎◌, inl, inr, Bool, true, false, cond, nat_le, ◌==◌, not, List, [], ◌∷◌, ◌++◌, filter, AllPairs, Contains, refl, sym, ap, ap₂, ◌∙◌, subst, arith, eq-eqb, list_any, All-contains, filter_passes, ne_eqb, cases_eq, cases_lt, le-leb, lt-leb, Contains-get_or, AllPairs-cons, Contains-here, Contains-later, Contains-cases, Contains-nil, Once, Once-head, Once-tail, is_not, enter}
 use Rattle.std.proofs.lemmas.List.Elements.{All-filter, All-contains_itself}
-use Rattle.ados_change.proofs.Common.{All-contains, filter_passes, ne_eqb, cases_eq, cases_lt, le-leb, lt-leb, Contains-get_or, AllPairs-cons, Contains-here, Contains-later, Contains-cases, Contains-nil, Once, Once-head, Once-tail, is_not, enter}
 use Rattle.ados_model.proofs.Lists.{AllPairs-tail}
 
 -- one more element in front, related to each of the others

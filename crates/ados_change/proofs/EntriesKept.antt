@@ -1,13 +1,12 @@
 -- A change of fields or of entries leaves all bytes outside fields untouched.
-use Rattle.std.proofs.Common.{◌≡◌, ◌≢◌, ℕ, ◌+◌, ◌-◌, ◌/◌, ◌<◌, ◌≤◌, ◌⊎◌, inl, inr, List, length, Some, None, refl, sym, ap, ◌∙◌, subst, arith}
-use Rattle.ados_change.proofs.Common.{InLongs, pointer_count, byte_at, bytes_at, long, secondary_type, COMMENT_BYTE, NAME_BYTE, SameBut, same_long, same_weaken, boot_same, Content, Node, Tree, root, Directory, File, Duty, HasDuty, Stands, type_of, Role, IsFile, Kept, KeepsFirstData, IsField, Alike, InText, root_longs, root_name, page_longs, directory_longs, file_longs, entry_name, entry_comment, extension_longs, ofs_data_longs, ofs_data, ffs_data, root_or_parent, StandsAt, IsFileNode, file_at, reached_stands, serves_at, duty_of, root_at, entry_at}
+use Rattle.ados_change.proofs.Common.{◌≡◌, ◌≢◌, ℕ, ◌+◌, ◌-◌, ◌/◌, ◌<◌, ◌≤◌, ◌⊎◌, inl, inr, List, length, Some, refl, sym, ap, ◌∙◌, subst, arith, InLongs, pointer_count, byte_at, long, secondary_type, COMMENT_BYTE, NAME_BYTE, SameBut, same_long, same_weaken, boot_same, Content, Node, Tree, root, Directory, File, Duty, HasDuty, Stands, type_of, Role, IsFile, Kept, KeepsFirstData, IsField, Alike, InText, root_longs, root_name, page_longs, directory_longs, file_longs, entry_name, entry_comment, extension_longs, ofs_data_longs, ofs_data, ffs_data, root_or_parent, StandsAt, IsFileNode, file_at, reached_stands, serves_at, duty_of, root_at, entry_at, KeepsBehindName, IsChanged, IsPage, IsPlain, IsWritten, sum, table, bits, date, disk, link, of_none, of_node, of_name, of_comment, Bool, NEXT_IN_CHAIN, InBlock, OnlyBlock, HasFreeBit, MapPlace, BitChanged, page_block, page_of, Date3, AtLinks, Relinks, AtTitle, Dated, Titled}
 use Rattle.ados_model.specs.Kept.{directory_runs, file_runs}
-use Rattle.ados_change.specs.Behind.{KeepsBehindName}
-use Rattle.ados_change.specs.steps.Footprint.{IsChanged, IsPage, IsPlain, IsWritten}
-use Rattle.ados_change.specs.steps.Footprint.IsPlain.{sum, table, bits, date, disk, link}
-use Rattle.ados_change.specs.steps.Footprint.IsWritten.{of_none, of_node, of_name, of_comment}
 use Rattle.ados_model.specs.declared.role.Role.TheVariants as roles
 use Rattle.ados_change.proofs.Keeping.{header_stays}
+use Rattle.ados_change.proofs.Unchanged.{AtDate, AtLongs, dated_longs}
+use Rattle.ados_change.proofs.Relisted.{IsLinkPlace}
+use Rattle.ados_change.proofs.Relisted.IsLinkPlace.{in_table, in_entry}
+use Rattle.ados_change.proofs.Loose.{parent_not_root}
 
 module _ (old : List ℕ) (t : Tree) (st : Stands old t) (new : List ℕ) where
   pub page_changed : (m m' : List ℕ) → SameBut (λ b i. IsPage old t st b) m m' → SameBut (IsChanged old t st new) m m'
@@ -22,6 +21,15 @@ module _ (old : List ℕ) (t : Tree) (st : Stands old t) (new : List ℕ) where
   unwritten b i duty m n (of_node a e p) = n (st.fits.one_duty b duty Duty.Key m (rw e refl))
   unwritten b i duty m n (of_name a e p short) = n (st.fits.one_duty b duty Duty.Key m (rw e refl))
   unwritten b i duty m n (of_comment a e o p short) = n (st.fits.one_duty b duty Duty.Key m (rw e refl))
+
+-- where such a long is
+pub plain_at : {top b : ℕ} {a : Node} {j : ℕ} → IsPlain top b a j → (j ≡ 5) ⊎ (((6 ≤ j) × (j < 78)) ⊎ (((b ≢ top) × (j ≡ 80)) ⊎ (((105 ≤ j) × (j < 108)) ⊎ (((b ≡ top) × (118 ≤ j) × (j < 121)) ⊎ ((b ≢ top) × (124 ≤ j) × (j < 126))))))
+plain_at (sum e) = inl e
+plain_at (table keys c m n) = inr (inl (m, n))
+plain_at (bits n e) = inr (inr (inl (n, e)))
+plain_at (date m n) = inr (inr (inr (inl (m, n))))
+plain_at (disk e m n) = inr (inr (inr (inr (inl (e, m, n)))))
+plain_at (link n m o) = inr (inr (inr (inr (inr (n, m, o)))))
 
 -- a byte of a field is a byte of a field in each role of the same kind
 pub alike_field : {image : List ℕ} {b i : ℕ} (role role' : Role) → Alike role role' → IsField image b role i → IsField image b role' i
@@ -63,17 +71,12 @@ module _ (old : List ℕ) (t : Tree) (st : Stands old t) (new : List ℕ) where
 
   -- a reached block of a node is the root or an entry
   node_field : (b i k : ℕ) (role : Role) (a : Node) → (b ≢ root t → secondary_type new b ≡ type_of a.content) → t.nodes b ≡ Some a → IsPlain (root t) b a (i / 4) → StandsAt old t st role k b → duty_of old t st role k ≡ Duty.Key → IsField new b role i
-  node_field b i k roles.Root a typed e p at d = let here = root_at old t st k b at in by_root here
-    where
-      by_root : b ≡ root t → IsField new b roles.Root i
-      by_root r = subst (λ (x : ℕ). IsField new x roles.Root i) (sym r) (root_field i a (subst (λ (x : ℕ). IsPlain (root t) x a (i / 4)) r p))
+  node_field b i k roles.Root a typed e p at d =
+      let r = root_at old t st k b at in
+      subst (λ (x : ℕ). IsField new x roles.Root i) (sym r) (root_field i a (subst (λ (x : ℕ). IsPlain (root t) x a (i / 4)) r p))
   node_field b i k (roles.Entry dir q) a typed e p at d =
       let n = entry_at old t st dir q k b at in
-      let no_root : b ≢ root t = λ r.
-      let at_root : t.nodes b ≡ Some st.proper.root_node.0 = ap t.nodes r ∙ st.proper.root_node.1 in
-      let one : n.node ≡ st.proper.root_node.0 = cc (n.at, at_root) in
-      let none : n.node.parent ≡ None = ap (λ (x : Node). x.parent) one ∙ st.proper.root_node.2.no_parent in
-      cc (none, n.parent) in
+      let no_root = parent_not_root t st.proper.root_node b dir (rw n.at n.parent) in
       entry_field b i dir q a no_root (typed no_root) p
   node_field b i k _ a typed e p at d = absurd (cc d)
 
@@ -114,9 +117,6 @@ module _ (old new : List ℕ) (t : Tree) (st : Stands old t) (h : SameBut (IsCha
   not_boot b i l (inr (of_name a e p short)) = let inside = st.proper.inside b a e in omega (arith, l, inside.0)
   not_boot b i l (inr (of_comment a e n p short)) = let inside = st.proper.inside b a e in omega (arith, l, inside.0)
 
-  boot_kept : bytes_at new 0 0 1024 ≡ bytes_at old 0 0 1024
-  boot_kept = boot_same old new h.same_length (λ b i l m. h.same_byte b i m (not_boot b i l))
-
   -- a byte of a node's block outside such longs, its comment and its name is not changed
   node_unchanged : (b i : ℕ) (a : Node) → t.nodes b ≡ Some a → ((x : Node) → ¬ IsPlain (root t) b x (i / 4)) → COMMENT_BYTE + 80 ≤ i → (InText new b NAME_BYTE i → i ≤ NAME_BYTE + 30 → ⊥) → ¬ IsChanged old t st new b i
   node_unchanged b i a at plain behind name (inl p) = let duty : Duty.Page p.0 ≡ Duty.Key = st.fits.one_duty b (Duty.Page p.0) Duty.Key p.1 (rw at refl) in cc duty
@@ -127,30 +127,10 @@ module _ (old new : List ℕ) (t : Tree) (st : Stands old t) (h : SameBut (IsCha
 
   -- nothing after a node's name is written
   pub behind_name : (key : ℕ) (a : Node) → t.nodes key ≡ Some a → (name : List ℕ) → byte_at new key NAME_BYTE ≡ length name → KeepsBehindName key name old new
-  behind_name key a at name counted i above within = h.same_byte key i (omega (arith, within)) (node_unchanged key i a at plain (omega (arith, above)) (λ text short. omega (arith, text.1, counted, above)))
-    where
-      plain : (x : Node) → IsPlain (root t) key x (i / 4) → ⊥
-      plain x (sum e) = omega (arith, e, above)
-      plain x (table keys c m n) = omega (arith, n, above)
-      plain x (bits n e) = omega (arith, e, above)
-      plain x (date m n) = omega (arith, n, above)
-      plain x (disk e m n) = omega (arith, m, within)
-      plain x (link n m o) = omega (arith, m, within)
-
-  -- its type is not written
-  type_stays : (b : ℕ) (a : Node) → t.nodes b ≡ Some a → secondary_type new b ≡ secondary_type old b
-  type_stays b a at = same_long (IsChanged old t st new) old new h b 127 (omega arith) (λ k e. node_unchanged b k a at (plain k e) (omega (arith, e)) (λ text short. omega (arith, e, short)))
-    where
-      plain : (k : ℕ) → k / 4 ≡ 127 → (x : Node) → IsPlain (root t) b x (k / 4) → ⊥
-      plain k f x (sum e) = omega (arith, e, f)
-      plain k f x (table keys c m n) = omega (arith, n, f)
-      plain k f x (bits n e) = omega (arith, e, f)
-      plain k f x (date m n) = omega (arith, n, f)
-      plain k f x (disk e m n) = omega (arith, n, f)
-      plain k f x (link n m o) = omega (arith, o, f)
+  behind_name key a at name counted i above within = h.same_byte key i (omega (arith, within)) (node_unchanged key i a at (λ x p. omega (arith, above, within, plain_at p)) (omega (arith, above)) (λ text short. omega (arith, text.1, counted, above)))
 
   typed : (b : ℕ) (a : Node) → t.nodes b ≡ Some a → b ≢ root t → secondary_type new b ≡ type_of a.content
-  typed b a e n = elim (root_or_parent t st.proper b a e) [ inl r ↦ absurd (n r) | inr p ↦ type_stays b a e ∙ (st.entries b p.0 a e p.1).secondary ]
+  typed b a e n = elim (root_or_parent t st.proper b a e) [ inl r ↦ absurd (n r) | inr p ↦ same_long (IsChanged old t st new) old new h b 127 (omega arith) (λ k f. node_unchanged b k a e (λ x p. omega (arith, f, plain_at p)) (omega (arith, f)) (λ text short. omega (arith, f, short))) ∙ (st.entries b p.0 a e p.1).secondary ]
 
   -- the fields of a file's data in its header are not changed
   front_unchanged : (b i : ℕ) → IsFileNode old t st b → i / 4 < 78 → i / 4 ≢ 5 → ¬ IsChanged old t st new b i
@@ -183,7 +163,60 @@ module _ (old new : List ℕ) (t : Tree) (st : Stands old t) (h : SameBut (IsCha
   pub changed_kept : Kept old new
   changed_kept = record {
     size = h.same_length;
-    boot = boot_kept;
+    boot = boot_same old new h.same_length (λ b i l m. h.same_byte b i m (not_boot b i l));
     others = λ b i role role' m a a' alike n. h.same_byte b i m (λ w. let at = reached_stands old t st a in n (alike_field role role' alike (changed_field old t st new b i at.0 role (typed b) m at.1 w)));
     first = λ b f g. first_kept b f;
   }
+
+-- ---- each step of a change of entries writes only fields
+
+module _ (old : List ℕ) (t : Tree) (st : Stands old t) (new : List ℕ) where
+  abbrev pub At : ℕ → ℕ → Type 0
+  At = IsWritten old t st new
+
+  -- the block of a node other than the root, or a block newly in use
+  abbrev pub IsKnown : ℕ → Type 0
+  IsKnown b = ((node : Node) × (t.nodes b ≡ Some node) × (b ≢ root t)) ⊎ ((2 ≤ b) × (¬ HasFreeBit new b) × ((duty : Duty) → ¬ HasDuty t st.layout b duty))
+
+  -- the next-in-chain long or the checksum of such a block
+  known_link : (b i : ℕ) → IsKnown b → (i / 4 ≡ NEXT_IN_CHAIN) ⊎ (i / 4 ≡ 5) → At b i
+  known_link b i (inl n) (inl e) = of_node n.0 n.1 (link n.2 (omega (arith, e)) (omega (arith, e)))
+  known_link b i (inl n) (inr e) = of_node n.0 n.1 (sum e)
+  known_link b i (inr n) e = of_none n.0 n.1 n.2
+
+  -- a link of a directory's hash chains, or the checksum of its block, in a tree with known nodes
+  place_written : (u : Tree) (dir b i0 : ℕ) (d : Node) (keys : List ℕ) → t.nodes dir ≡ Some d → d.content ≡ Directory keys → ((k : ℕ) (x : Node) → u.nodes k ≡ Some x → k ≢ root u → IsKnown k) → IsLinkPlace u dir b i0 → (i : ℕ) → (i / 4 ≡ i0) ⊎ (i / 4 ≡ 5) → At b i
+  place_written u dir b i0 d keys at holds known (in_table e m n) i (inl f) = of_node d (ap t.nodes e ∙ at) (table keys holds (omega (arith, f, m)) (omega (arith, f, n)))
+  place_written u dir b i0 d keys at holds known (in_table e m n) i (inr f) = of_node d (ap t.nodes e ∙ at) (sum f)
+  place_written u dir b i0 d keys at holds known (in_entry x f n e) i (inl g) = known_link b i (known b x f n) (inl (g ∙ e))
+  place_written u dir b i0 d keys at holds known (in_entry x f n e) i (inr g) = known_link b i (known b x f n) (inr g)
+
+  pub linked_kept : (u : Tree) (dir b i0 next key : ℕ) (d : Node) (keys : List ℕ) → t.nodes dir ≡ Some d → d.content ≡ Directory keys → ((k : ℕ) (x : Node) → u.nodes k ≡ Some x → k ≢ root u → IsKnown k) → IsLinkPlace u dir b i0 → IsKnown key → (m m' : List ℕ) → Relinks b i0 next key m m' → SameBut At m m'
+  linked_kept u dir b i0 next key d keys at holds known place of_key m m' r = same_weaken (AtLinks b i0 key) At m m' within r.rest
+    where
+      within : (c i : ℕ) → AtLinks b i0 key c i → At c i
+      within c i (inl w) = let e : c ≡ b = omega (arith, w) in subst (λ (x : ℕ). At x i) (sym e) (place_written u dir b i0 d keys at holds known place i (elim w [ inl x ↦ inl x.1 | inr x ↦ inr x.1 ]))
+      within c i (inr w) = let e : c ≡ key = omega (arith, w) in subst (λ (x : ℕ). At x i) (sym e) (known_link key i of_key (elim w [ inl x ↦ inl x.1 | inr x ↦ inr x.1 ]))
+
+  pub dated_kept : (dir : ℕ) (d : Node) → t.nodes dir ≡ Some d → (moment : Date3) (m m' : List ℕ) → Dated dir 105 moment m m' → SameBut At m m'
+  dated_kept dir d at moment m m' r =
+      same_weaken (AtLongs (AtDate dir 105)) At m m' (λ c i w. of_node d (ap t.nodes w.0 ∙ at) (elim (w.1) [ inl f ↦ sum f | inr f ↦ date f.0 f.1 ])) (dated_longs dir 105 moment m m' r)
+
+  pub stamped_kept : (moment : Date3) (m m' : List ℕ) → Dated (root t) 118 moment m m' → SameBut At m m'
+  stamped_kept moment m m' r =
+      same_weaken (AtLongs (AtDate (root t) 118)) At m m' (λ c i w. of_node st.proper.root_node.0 (ap t.nodes w.0 ∙ st.proper.root_node.1) (elim (w.1) [ inl f ↦ sum f | inr f ↦ disk w.0 f.0 f.1 ]))
+      (dated_longs (root t) 118 moment m m' r)
+
+  pub marked_kept : (key : ℕ) (free : Bool) (m m' : List ℕ) → IsPage old t st (page_block m (page_of key)) → BitChanged m key free m' → SameBut (λ b i. IsPage old t st b) m m'
+  marked_kept key free m m' page r = same_weaken (MapPlace m key) (λ b i. IsPage old t st b) m m' (λ c i w. subst (IsPage old t st) (sym w.0) page) r.rest
+
+  pub filled_kept : (key : ℕ) → 2 ≤ key → ¬ HasFreeBit new key → ((duty : Duty) → ¬ HasDuty t st.layout key duty) → (m m' : List ℕ) → OnlyBlock key m m' → SameBut At m m'
+  filled_kept key l used none m m' h = same_weaken (InBlock key) At m m' (λ c i w. subst (λ (x : ℕ). At x i) (sym w) (of_none l used none)) h
+
+  pub titled_kept : (key dir : ℕ) (name : List ℕ) (d : Node) → t.nodes key ≡ Some d → key ≢ root t → byte_at new key NAME_BYTE ≡ length name → length name ≤ 30 → (m m' : List ℕ) → Titled key dir name m m' → SameBut At m m'
+  titled_kept key dir name d at n counted short m m' r = same_weaken (AtTitle key (length name)) At m m' within r.rest
+    where
+      within : (c i : ℕ) → AtTitle key (length name) c i → At c i
+      within c i (e, inl f) = of_node d (ap t.nodes e ∙ at) (sum f)
+      within c i (e, inr (inl f)) = subst (λ (x : ℕ). At x i) (sym e) (of_name d at (f.0, omega (arith, f.1, counted)) (omega (arith, f.1, short)))
+      within c i (e, inr (inr f)) = subst (λ (x : ℕ). At x i) (sym e) (of_node d at (link n (omega (arith, f)) (omega (arith, f))))

@@ -1,16 +1,11 @@
 -- A change of entries leaves untouched what no tree determines, step by step: the bitmap past the volume's end, and
 -- the data blocks of files.
-use Rattle.std.proofs.Common.{◌≡◌, ℕ, ◌+◌, ◌/◌, ◌<◌, ◌≤◌, ◌⊎◌, inl, inr, Bool, List, refl, sym, ap, ◌∙◌, subst, arith}
-use Rattle.ados_change.proofs.Common.{SameBut, IsInside, block_count, has_free_bit, page_count, long, root_key, same_count, same_long, same_weaken, HasFreeBit, MapPlace, BitChanged, HasBit, LawfulPages, page_block, page_of, pages_of, bit_of_inside, Tree, Proper, root, Duty, HasDuty, Layout, Stands, InImage, HasFileKey, KeepsBlock, KeepsFreed, KeepsData, KeepsPastEnd, KeepsUntold, data_at, count_same}
-use Rattle.ados_map.proofs.MarkLemmas.{mark_kept}
+use Rattle.ados_change.proofs.Common.{◌≡◌, ℕ, ◌+◌, ◌/◌, ◌<◌, ◌≤◌, ◌⊎◌, inl, inr, Bool, List, refl, sym, ap, ◌∙◌, subst, arith, SameBut, IsInside, block_count, has_free_bit, page_count, long, root_key, same_count, same_long, same_weaken, HasFreeBit, MapPlace, BitChanged, HasBit, LawfulPages, page_block, page_of, pages_of, bit_of_inside, Tree, Proper, root, Duty, HasDuty, Layout, Stands, InImage, HasFileKey, KeepsBlock, KeepsFreed, KeepsData, KeepsPastEnd, KeepsUntold, data_at, count_same, mark_kept, IsChanged, IsPage, IsWritten, of_none, of_node, of_name, of_comment, bits, cases_lt}
 use Rattle.ados_data.proofs.Marks.{page_kept}
-use Rattle.ados_change.proofs.FilesStay.{data_serves, file_of_key, files_stay}
 use Rattle.ados_change.proofs.Writable.{data_is, extensions_is, page_serves}
-use Rattle.ados_change.specs.steps.Footprint.{IsChanged, IsPage, IsWritten}
-use Rattle.ados_change.proofs.EntriesKept.{unwritten, written_changed}
-use Rattle.ados_change.specs.steps.Footprint.IsWritten.{of_none, of_node, of_name, of_comment}
-use Rattle.ados_change.specs.steps.Footprint.IsPlain.{sum, table, bits, date, disk, link}
-use Rattle.ados_change.proofs.Spells.{Spells, layout_is, stands}
+use Rattle.ados_change.proofs.FilesStay.{data_serves, file_of_key, files_stay}
+use Rattle.ados_change.proofs.EntriesKept.{unwritten, written_changed, plain_at}
+use Rattle.ados_change.proofs.Loose.{Spells, layout_is, stands}
 
 -- ---- the bitmap
 
@@ -26,12 +21,7 @@ module _ (old : List ℕ) (t : Tree) (st : Stands old t) where
     where
       off : {b i : ℕ} → b ≡ root t → IsWritten old t st new b i → (i / 4 < 79) ⊎ (105 ≤ i / 4)
       off e (of_none l used none) = absurd (none Duty.Key (rw (ap t.nodes e ∙ st.proper.root_node.1) refl))
-      off e (of_node n at (sum f)) = inl (omega (arith, f))
-      off e (of_node n at (table keys c l m)) = inl (omega (arith, m))
-      off e (of_node n at (bits o f)) = absurd (o e)
-      off e (of_node n at (date l m)) = inr l
-      off e (of_node n at (disk f l m)) = inr (omega (arith, l))
-      off e (of_node n at (link o l m)) = absurd (o e)
+      off {i = i} e (of_node n at p) = elim (cases_lt (i / 4) 79) [ inl l ↦ inl l | inr l ↦ inr (omega (arith, e, l, plain_at p)) ]
       off e (of_name n at text short) = inr (omega (arith, text.0))
       off e (of_comment n at o text short) = absurd (o e)
 

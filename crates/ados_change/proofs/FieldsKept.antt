@@ -1,14 +1,10 @@
 -- A change of fields in blocks of keys leaves all bytes outside fields and the bitmap untouched.
-use Rattle.std.proofs.Common.{◌≡◌, ◌≢◌, ℕ, ◌-◌, ◌/◌, ◌<◌, ◌≤◌, ◌⊎◌, inl, inr, List, Some, refl, sym, ◌∙◌, arith}
-use Rattle.ados_change.proofs.Common.{byte_at, long, HasText, format_of, COMMENT_BYTE, NAME_BYTE, SameBut, same_long, same_weaken, IsName, IsComment, Node, Tree, root, Duty, Stands, HasFileKey, KeepsRest, KeepsData, data_at}
-use Rattle.ados_change.specs.steps.Footprint.{IsWritten}
+use Rattle.ados_change.proofs.Common.{◌≡◌, ◌≢◌, ℕ, ◌-◌, ◌/◌, ◌<◌, ◌≤◌, ◌⊎◌, inl, inr, List, Some, refl, ◌∙◌, arith, byte_at, long, HasText, format_of, COMMENT_BYTE, NAME_BYTE, SameBut, same_long, same_weaken, IsName, IsComment, Node, Tree, root, Duty, Stands, HasFileKey, KeepsRest, KeepsData, data_at, IsWritten, of_node, of_name, of_comment, sum, bits, date, disk}
 use Rattle.ados_change.proofs.EntriesKept.{changed_kept, unwritten, written_changed}
-use Rattle.ados_change.specs.steps.Footprint.IsWritten.{of_node, of_name, of_comment}
-use Rattle.ados_change.specs.steps.Footprint.IsPlain.{sum, bits, date, disk}
 use Rattle.ados_change.proofs.EntriesUntold.{keeps_freed, marks_stay, past_end}
 use Rattle.ados_change.proofs.FilesStay.{data_blocks_stay, data_serves, extension_blocks_stay, file_of_key, files_stay}
 use Rattle.ados_change.proofs.Keeping.{none_taken}
-use Rattle.ados_change.proofs.Retold.{Telling}
+use Rattle.ados_change.proofs.Retells.{Telling}
 
 -- byte i is in the checksum, or after a file's pointers but not in its size or extension
 abbrev pub IsTold : Tree → ℕ → ℕ → Type 0
@@ -20,9 +16,6 @@ module _ (old new : List ℕ) (t : Tree) (s : Stands old t) where
     footprint = same_weaken changed (IsWritten old t s new) old new written h
 
     -- ---- what no tree determines
-
-    front_stays : (b j : ℕ) → j < 78 → j ≢ 5 → long new b j ≡ long old b j
-    front_stays b j l n = same_long changed old new h b j (omega (arith, l)) (λ k e w. elim (told b k w) [ inl f ↦ n (sym e ∙ f) | inr f ↦ omega (arith, e, l, f.0) ])
 
     link_stays : (b : ℕ) → long new b 126 ≡ long old b 126
     link_stays b = same_long changed old new h b 126 (omega arith) (λ k e w. elim (told b k w) [ inl f ↦ omega (arith, e, f) | inr f ↦ omega (arith, e, f.1) ])
@@ -36,7 +29,7 @@ module _ (old new : List ℕ) (t : Tree) (s : Stands old t) where
     -- no data block is written
     data_stays : (file : ℕ) → HasFileKey old file → KeepsData old new file
     data_stays file key =
-        let pointers : (b i : ℕ) → i < 72 → long new b (77 - i) ≡ long old b (77 - i) = λ b i l. front_stays b (77 - i) (omega arith) (omega (arith, l)) in
+        let pointers : (b i : ℕ) → i < 72 → long new b (77 - i) ≡ long old b (77 - i) = λ b i l. same_long changed old new h b (77 - i) (omega arith) (λ k e w. omega (arith, e, l, told b k w)) in
         record {
           blocks = data_blocks_stay old new link_stays pointers format_stays file (size_stays file);
           extensions = extension_blocks_stay old new link_stays pointers format_stays file (size_stays file);

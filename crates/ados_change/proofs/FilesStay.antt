@@ -1,8 +1,6 @@
 -- Files that stay in their blocks, and what two changes together leave untouched in them.
-use Rattle.std.proofs.Common.{◌≡◌, ℕ, zero, suc, ◌+◌, ◌-◌, ◌/◌, ◌%◌, ◌<◌, List, length, map, slice_index, Some, refl, sym, ap, ap₂, ◌∙◌, subst, arith}
-use Rattle.std.specs.List.{range_with_len}
+use Rattle.ados_change.proofs.Common.{◌≡◌, ℕ, zero, suc, ◌<◌, List, length, slice_index, Some, refl, sym, ap, ◌∙◌, subst, arith, block_count, byte_at, format_of, pages_of, data_count, Tree, Duty, HasDuty, Stands, data_blocks, extension_blocks, File, slice_get-index, ◌+◌, ◌-◌, ◌/◌, ◌%◌, map, ap₂, range_with_len, page_count, long, file_size, extension_count, content_at, pointer_block, data_block, listed_is, HasFileKey, HasData, HasFileBytes, KeepsData, KeepsFileEnd, KeepsPastEnd, KeepsUntold, data_at, content_in, one_tree, IsFileNode}
 use Rattle.std.proofs.lemmas.List.FromFn.{length-map-range_with_len, get_or-map-range_with_len}
-use Rattle.ados_change.proofs.Common.{block_count, page_count, byte_at, long, file_size, format_of, pages_of, data_count, extension_count, Tree, content_at, pointer_block, data_block, data_blocks, extension_blocks, listed_is, File, Duty, HasDuty, Stands, HasFileKey, HasData, HasFileBytes, KeepsData, KeepsFileEnd, KeepsPastEnd, KeepsUntold, data_at, content_in, one_tree, IsFileNode, slice_get-index}
 use Rattle.ados_change.proofs.Writable.{data_is, extensions_is}
 
 -- ---- lists whose links are unchanged
@@ -12,9 +10,6 @@ module _ (old new : List ℕ) (links : (b : ℕ) → long new b 126 ≡ long old
   holder_stays : (q : ℕ) → pointer_block new file q ≡ pointer_block old file q
   holder_stays zero = refl
   holder_stays (suc q) = links (pointer_block new file q) ∙ ap (λ (b : ℕ). long old b 126) (holder_stays q)
-
-  block_stays : (i : ℕ) → data_block new file i ≡ data_block old file i
-  block_stays i = pointers (pointer_block new file (i / 72)) (i % 72) (omega arith) ∙ ap (λ (b : ℕ). long old b (77 - i % 72)) (holder_stays (i / 72))
 
   count_stays : data_count (format_of new) (file_size new file) ≡ data_count (format_of old) (file_size old file)
   count_stays = ap₂ data_count format size
@@ -26,7 +21,7 @@ module _ (old new : List ℕ) (links : (b : ℕ) → long new b 126 ≡ long old
 
   pub data_blocks_stay : data_blocks new file ≡ data_blocks old file
   unfolding data_blocks
-  data_blocks_stay = same_list (data_block new file) (data_block old file) _ _ count_stays block_stays
+  data_blocks_stay = same_list (data_block new file) (data_block old file) _ _ count_stays (λ i. pointers (pointer_block new file (i / 72)) (i % 72) (omega arith) ∙ ap (λ (b : ℕ). long old b (77 - i % 72)) (holder_stays (i / 72)))
 
   pub extension_blocks_stay : extension_blocks new file ≡ extension_blocks old file
   unfolding extension_blocks

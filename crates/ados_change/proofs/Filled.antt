@@ -1,7 +1,6 @@
 -- The block of an entry after its fields were written.
-use Rattle.std.proofs.Common.{◌≡◌, ℕ, ◌+◌, ◌/◌, ◌<◌, ◌≤◌, ◌⊎◌, inl, inr, List, length, refl, ◌∙◌, arith}
-use Rattle.ados_change.proofs.Common.{byte_at, block_sum, long, HasText, AtLong, OnlyLong, SameBut, Within, other_long, same_long, same_trans, same_weaken, Date3, IsName, date_at, type_of, Content, IsHead, IsNewEntry, AtTitle, Titled}
-use Rattle.ados_change.proofs.Frame.{text_kept, date_kept}
+use Rattle.ados_change.proofs.Common.{◌≡◌, ℕ, ◌+◌, ◌/◌, ◌<◌, ◌≤◌, ◌⊎◌, inl, inr, List, length, refl, ◌∙◌, arith, byte_at, block_sum, long, HasText, AtLong, OnlyLong, SameBut, Within, other_long, same_long, same_trans, same_weaken, Date3, IsName, date_at, type_of, Content, IsHead, IsNewEntry, AtTitle, Titled}
+use Rattle.ados_change.proofs.Unchanged.{text_kept, date_kept}
 
 pub titled : (old m1 m2 new : List ℕ) (key dir : ℕ) (name : List ℕ) → IsName name → HasText m1 key 432 name → SameBut (Within key 432 (433 + length name)) old m1 → OnlyLong key 125 m1 m2 → long m2 key 125 ≡ dir → OnlyLong key 5 m2 new → block_sum new key ≡ 0 → Titled key dir name old new
 titled old m1 m2 new key dir name valid text first second set third sum = record {

@@ -1,6 +1,5 @@
 -- What is unchanged when nothing changes, and in headers with unchanged pointers.
-use Rattle.std.proofs.Common.{◌≡◌, ℕ, zero, suc, ◌-◌, ◌<◌, ◌≤◌, nat_le, Bool, true, false, cond, List, ◌∷◌, ◌++◌, slice_index, refl, sym, ap, ap₂, ◌∙◌, arith, []}
-use Rattle.ados_change.proofs.Common.{leb-true, long, pointer_count, first_pointers, pointers_of, KeepsFirstData, first_data, KeepsRest, TakesLowest, TakesNone}
+use Rattle.ados_change.proofs.Common.{◌≡◌, ℕ, zero, suc, ◌<◌, ◌≤◌, true, false, List, ◌∷◌, slice_index, refl, ap, ◌∙◌, arith, ◌-◌, ap₂, long, nat_le, Bool, cond, ◌++◌, [], leb-true, pointer_count, first_pointers, pointers_of, KeepsFirstData, first_data, KeepsRest, TakesLowest, TakesNone}
 use Rattle.ados_change.proofs.FilesStay.{same_untold}
 
 -- ---- the first data block
@@ -23,10 +22,6 @@ module _ (old new : List ℕ) (b : ℕ) (count : pointer_count new b ≡ pointer
   -- a header whose long is unchanged as well
   pub header_stays : long new b 4 ≡ long old b 4 → KeepsFirstData old new b
   header_stays e = record { same = λ _. e; other = λ n. absurd (n first_stays) }
-
--- the header's facts survive an earlier step that leaves its first data block and that long unchanged
-pub keeps_first_since : (old mid new : List ℕ) (b : ℕ) → first_data mid b ≡ first_data old b → long mid b 4 ≡ long old b 4 → KeepsFirstData mid new b → KeepsFirstData old new b
-keeps_first_since old mid new b firsts longs k = record { same = λ e. k.same (e ∙ sym firsts) ∙ longs; other = λ n. k.other (λ e. n (e ∙ firsts)) }
 
 -- ---- no block is allocated, and nothing changes
 

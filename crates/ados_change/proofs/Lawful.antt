@@ -1,10 +1,7 @@
 -- An image of a tree has lawful bitmap blocks and hash chains, even while one key is in no list.
-use Rattle.std.proofs.Common.{◌≡◌, ◌≢◌, ℕ, ◌+◌, ◌<◌, ◌==◌, List, length, slice_index, true, Contains, Some, None, refl, sym, ap, ◌∙◌, subst, arith, eqb-true}
-use Rattle.ados_change.proofs.Common.{All-contains, filter_passes, AllPairs-filter, IsInside, block_count, long, root_key, NAME_BYTE, slot, IsName, LawfulPages, page_block, pages_of, LawfulChains, IsEntryBlock, InChains, name_at, slot_at, Node, Tree, entries, name_of, parent_of, root, Directory, Duty, Layout, HasDuty, in_slot, parent_in, slice_get-index}
+use Rattle.ados_change.proofs.Common.{◌≡◌, ◌≢◌, ℕ, ◌+◌, ◌<◌, ◌==◌, List, length, slice_index, true, Contains, Some, refl, sym, ap, ◌∙◌, subst, arith, eqb-true, All-contains, filter_passes, AllPairs-filter, IsInside, block_count, long, root_key, NAME_BYTE, slot, IsName, LawfulPages, page_block, pages_of, LawfulChains, IsEntryBlock, InChains, name_at, slot_at, Node, Tree, entries, name_of, root, Directory, Duty, Layout, HasDuty, in_slot, parent_in, slice_get-index}
 use Rattle.ados_change.proofs.Entering.{Contains-part}
-use Rattle.ados_change.proofs.Loose.{Loose, LeadsLoosely}
-use Rattle.ados_change.proofs.Loose.LeadsLoosely.{to_root, to_loose, to_parent}
-use Rattle.ados_change.proofs.Spells.{Spells}
+use Rattle.ados_change.proofs.Loose.{Loose, Spells, parent_not_root, own_parent}
 use Rattle.ados_model.proofs.NoFaults.{text_is}
 
 module _ (image : List ℕ) (t : Tree) (l : Layout) (key : ℕ) (s : Spells image t l) (loose : Loose t key) where
@@ -16,9 +13,6 @@ module _ (image : List ℕ) (t : Tree) (l : Layout) (key : ℕ) (s : Spells imag
 
   pub inside : (block : ℕ) (duty : Duty) → HasDuty t l block duty → IsInside (block_count image) block
   inside block duty h = let i = s.fits.inside block duty h in (i.0, omega (arith, i.1, count))
-
-  pub key_serves : (k : ℕ) (node : Node) → t.nodes k ≡ Some node → HasDuty t l k Duty.Key
-  key_serves k node e = rw e refl
 
   pub page_is : (p : ℕ) → p < length l.pages → page_block image p ≡ slice_index l.pages p
   page_is p m = ap (λ (b : ℕ). long image b (79 + p)) root_is ∙ s.root_fields.pages p m
@@ -38,7 +32,7 @@ module _ (image : List ℕ) (t : Tree) (l : Layout) (key : ℕ) (s : Spells imag
         cc same;
     beside_root = λ p m e.
         let at_root : t.nodes (page_block image p) ≡ Some loose.root_node.0 = ap t.nodes (e ∙ root_is) ∙ loose.root_node.1 in
-        let same = s.fits.one_duty (page_block image p) (Duty.Page p) Duty.Key (page_serves p m) (key_serves _ loose.root_node.0 at_root) in
+        let same = s.fits.one_duty (page_block image p) (Duty.Page p) Duty.Key (page_serves p m) (rw at_root refl) in
         cc same;
   }
 
@@ -49,33 +43,15 @@ module _ (image : List ℕ) (t : Tree) (l : Layout) (key : ℕ) (s : Spells imag
   pub slot_is : (k : ℕ) (node : Node) → t.nodes k ≡ Some node → slot_at image k ≡ slot (name_of t k)
   slot_is k node e = ap slot (name_is k node e) ∙ sym (rw e refl)
 
-  pub name_valid : (k : ℕ) (node : Node) → t.nodes k ≡ Some node → IsName (name_at image k)
-  name_valid k node e = subst IsName (sym (name_is k node e)) (loose.name k node e)
-
-  -- a node with a parent is not the root
-  pub not_root : (k d : ℕ) → parent_of t k ≡ Some d → k ≢ root t
-  not_root k d p e =
-      let at : t.nodes k ≡ Some loose.root_node.0 = ap t.nodes e ∙ loose.root_node.1 in
-      let none : parent_of t k ≡ None = rw at loose.root_node.2.no_parent in
-      cc (none, p)
-
-  -- no entry is its own directory
-  not_own_parent : (k : ℕ) → LeadsLoosely t key k → k ≢ key → parent_of t k ≡ Some k → ⊥
-  not_own_parent k (to_root r) n p = not_root k k p r
-  not_own_parent k (to_loose e) n p = n e
-  not_own_parent k (to_parent {dir = d} m q rest) n p =
-      let same : d ≡ k = cc (q, p) in
-      not_own_parent d rest (λ e. n (sym same ∙ e)) (subst (λ (i : ℕ). parent_of t i ≡ Some i) (sym same) p)
-
   -- the block of a node may be an entry's block
   pub node_block : (dir k : ℕ) (node : Node) → t.nodes k ≡ Some node → k ≢ root t → k ≢ dir → IsEntryBlock image dir k
-  node_block dir k node e n m = record { inside = inside k Duty.Key (key_serves k node e); not_root = λ r. n (r ∙ root_is); not_dir = m; name = name_valid k node e }
+  node_block dir k node e n m = record { inside = inside k Duty.Key (rw e refl); not_root = λ r. n (r ∙ root_is); not_dir = m; name = subst IsName (sym (name_is k node e)) (loose.name k node e) }
 
   entry_block : (dir k : ℕ) → Contains (entries t dir) k → IsEntryBlock image dir k
   entry_block dir k m =
       let p = (loose.listed dir k).0 m in
       let n = parent_in (t.nodes k) dir p.1 in
-      node_block dir k n.0 n.1 (not_root k dir p.1) (λ e. not_own_parent k (loose.rooted k n.0 n.1) p.0 (p.1 ∙ ap Some (sym e)))
+      node_block dir k n.0 n.1 (parent_not_root t loose.root_node k dir p.1) (λ e. own_parent t loose.root_node key k (loose.rooted k n.0 n.1) p.0 (p.1 ∙ ap Some (sym e)))
 
   pub in_part : (dir q k : ℕ) → Contains (in_slot t dir q) k → Contains (entries t dir) k
   in_part dir q k m = Contains-part (λ k. slot (name_of t k) == q) (entries t dir) k m
@@ -85,7 +61,7 @@ module _ (image : List ℕ) (t : Tree) (l : Layout) (key : ℕ) (s : Spells imag
 
   pub lawful_chains : (dir : ℕ) (node : Node) (keys : List ℕ) → t.nodes dir ≡ Some node → node.content ≡ Directory keys → LawfulChains image dir (in_slot t dir)
   lawful_chains dir node keys e c = record {
-    inside = inside dir Duty.Key (key_serves dir node e);
+    inside = inside dir Duty.Key (rw e refl);
     spelled = λ q m. s.chains dir node keys q e c m;
     once = λ q m. AllPairs-filter (λ a b. a ≢ b) (λ k. slot (name_of t k) == q) (entries t dir) (loose.once dir);
     entry = λ q k m n. entry_block dir k (in_part dir q k n);

@@ -1,9 +1,8 @@
 -- Each change of entries turns a proper tree into a proper one.
-use Rattle.std.proofs.Common.{◌≡◌, ◌≢◌, ℕ, ◌<◌, inl, inr, List, [], map, Contains, Some, None, option_map, option_and_then, refl, sym, ap, ◌∙◌, subst, arith}
-use Rattle.ados_change.proofs.Common.{All-nil, Date3, upper, IsName, IsComment, Contains-nil, Content, Node, Tree, Proper, LeadsToRoot, entries, entries_in, name_of, parent_of, name_in, IsUnused, Directory, at_root, by_parent, with_node, changed, entered, stamped, new_node, content_in, parent_in, CanMake, CanRename, IsDirectoryKey, IsEmpty, IsUnder}
+use Rattle.ados_change.proofs.Common.{◌≡◌, ◌≢◌, ℕ, ◌<◌, inl, inr, List, [], map, Contains, Some, None, option_map, option_and_then, refl, sym, ap, ◌∙◌, subst, arith, All-nil, Date3, upper, IsName, IsComment, Contains-nil, Content, Node, Tree, Proper, LeadsToRoot, entries, entries_in, name_of, parent_of, name_in, IsUnused, Directory, at_root, by_parent, with_node, changed, entered, stamped, new_node, content_in, parent_in, CanMake, CanRename, IsDirectoryKey, IsEmpty, IsUnder}
 use Rattle.ados_change.specs.Conditions.IsUnder.{itself, by_parent as under_parent}
 use Rattle.ados_change.specs.Laws.{MadeIsProper, RemovedIsProper, RenamedIsProper}
-use Rattle.ados_change.proofs.Changed.{nodes_here, nodes_other, was, Was, relisted}
+use Rattle.ados_change.proofs.Changed.{parent_field, nodes_here, nodes_other, was, Was, relisted}
 use Rattle.ados_change.proofs.Loose.{Loose, l, kept, left_is, unlisted_is_loose, was_listed, names_same, parents_same, entries_other, not_own_parent, node_kept, still_node, unused_is_loose, changed_is_loose, without_is_proper, entered_is_proper, stamped_is_proper, entries_with}
 
 -- the node of a directory
@@ -110,15 +109,9 @@ module _ (t : Tree) (moment : Date3) (key dir : ℕ) (name : List ℕ) (proper :
   pub dir_is_other : dir ≢ key
   dir_is_other e = can.not_under (itself e)
 
-  parents_other : (k : ℕ) → k ≢ key → parent_of moved k ≡ parent_of t k
-  parents_other k n = ap (option_and_then (λ node. node.parent)) (moved_other k n) ∙ parents_same t proper key can.from can.listed moment k
-
-  names_other : (k : ℕ) → k ≢ key → name_of moved k ≡ name_of t k
-  names_other k n = ap name_in (moved_other k n) ∙ names_same t proper key can.from can.listed moment k
-
   leads_apart : (k : ℕ) → ¬ IsUnder t key k → LeadsToRoot t k → LeadsToRoot moved k
   leads_apart k n (at_root e) = at_root e
-  leads_apart k n (by_parent {dir = d} p rest) = by_parent (parents_other k (λ e. n (itself e)) ∙ p) (leads_apart d (λ u. n (under_parent p u)) rest)
+  leads_apart k n (by_parent {dir = d} p rest) = by_parent (ap parent_field (moved_other k (λ e. n (itself e))) ∙ parents_same t proper key can.from can.listed moment k ∙ p) (leads_apart d (λ u. n (under_parent p u)) rest)
 
   pub into : (b : Node) × (moved.nodes dir ≡ Some b)
   into =
@@ -149,7 +142,7 @@ module _ (t : Tree) (moment : Date3) (key dir : ℕ) (name : List ℕ) (proper :
       entered_is_proper moved key dir moved_is_loose into.0 into.1 (ap (option_and_then (λ node. node.parent)) moved_here) (leads_apart dir can.not_under (proper.rooted dir d.node d.at))
       (λ k m same.
       let was = was_listed t proper key can.from can.listed moment dir k (subst (λ (keys : List ℕ). Contains keys k) (entries_with out key out_is_loose (option_map named (out.nodes key)) same_entries dir) m) in
-      can.new_name k was.0 was.1 (ap (map upper) (sym (names_other k was.1)) ∙ same ∙ ap (map upper) named_so)) moment
+      can.new_name k was.0 was.1 (ap (map upper) (sym (ap name_in (moved_other k was.1) ∙ names_same t proper key can.from can.listed moment k)) ∙ same ∙ ap (map upper) named_so)) moment
 
 pub renamed_is_proper : RenamedIsProper
 renamed_is_proper t moment key dir name proper can =

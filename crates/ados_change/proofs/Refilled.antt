@@ -1,12 +1,10 @@
 -- An image with a rewritten file represents the tree in which the file has its new bytes.
-use Rattle.std.proofs.Common.{◌≡◌, ◌≢◌, ℕ, ◌+◌, ◌<◌, ◌⊎◌, inl, inr, List, length, slice_index, Contains, Some, refl, sym, ap, ◌∙◌, subst, arith}
-use Rattle.ados_change.proofs.Common.{cases_eq, get_or_default, Format, page_count, long, block_sum, Chained, HasText, table_entry, COMMENT_BYTE, NAME_BYTE, NEXT_IN_CHAIN, page_block, pages_of, data_count, Content, Node, Tree, root, HasFile, Duty, HasDuty, Stands, HasNode, HasEntry, type_of, in_slot, IsOther, IsDataField, next_of, chained, Directory, File, count_same, slice_get-index, entry_at}
+use Rattle.ados_change.proofs.Common.{eq-eqb, ne_eqb, ◌≡◌, ◌≢◌, ℕ, ◌+◌, ◌<◌, ◌⊎◌, inl, inr, List, length, slice_index, Contains, Some, refl, sym, ap, ◌∙◌, subst, arith, cases_eq, get_or_default, Format, page_count, long, block_sum, Chained, table_entry, COMMENT_BYTE, NAME_BYTE, NEXT_IN_CHAIN, page_block, pages_of, data_count, Content, Node, Tree, root, HasFile, Duty, Stands, HasNode, HasEntry, type_of, in_slot, IsOther, IsDataField, next_of, chained, Directory, File, count_same, slice_get-index, entry_at, chain_head}
 use Rattle.ados_change.proofs.Writable.{key_serves, page_serves, lawful_pages, is_lawful, format_is}
-use Rattle.ados_change.proofs.Contents.{refilled, Was, was, file_not_root, proper_after, slots_same}
-use Rattle.ados_change.proofs.Unchanged.{StaysBut, Stays, long_stays, text_stays, date_stays, long_as, bytes_as, node_as, entry_as, root_as}
-use Rattle.ados_change.proofs.Relaid.{IsRewritten, relaid, data_there, data_here, extensions_there, extensions_here, not_header, other, fits_after, marked_free_after, marked_used_after}
-use Rattle.ados_change.proofs.OtherFiles.{file_stays}
-use Rattle.ados_model.proofs.FileFaults.{chain_head}
+use Rattle.ados_change.proofs.Changed.{was, was_with}
+use Rattle.ados_change.proofs.Contents.{holding, refilled, file_not_root, proper_after, slots_same}
+use Rattle.ados_change.proofs.Unchanged.{StaysBut, Stays, long_stays, text_stays, date_stays, long_as, bytes_as, node_as, entry_as, root_as, file_stays}
+use Rattle.ados_change.proofs.Relaid.{IsRewritten, relaid, not_header, other, fits_after, marked_free_after, marked_used_after}
 
 -- a long of a header outside the fields of its data
 beside_fields : (j : ℕ) → (j < 2) ⊎ ((77 < j) × (j ≢ 81) × (j ≢ 126)) → ¬ IsDataField j
@@ -36,10 +34,6 @@ module _ (old new : List ℕ) (t : Tree) (s : Stands old t) (file : ℕ) (node :
   pub key_stays : (k : ℕ) (a : Node) → t.nodes k ≡ Some a → k ≢ file → Stays old new k
   key_stays k a e n =
       stays_other k (other old new t s file node bytes found is_file blocks' extensions' bytes' h k Duty.Key (key_serves old t s k a e) (record { no_data = λ i z. cc z; no_extension = λ q z. cc z }) n (λ p z. cc z))
-
-  pub lost_stays : (b : ℕ) → HasDuty t s.layout b Duty.Lost → Stays old new b
-  lost_stays b m =
-      stays_other b (other old new t s file node bytes found is_file blocks' extensions' bytes' h b Duty.Lost m (record { no_data = λ i z. cc z; no_extension = λ q z. cc z }) (not_header old new t s file node bytes found is_file blocks' extensions' bytes' h b Duty.Lost m (λ z. cc z)) (λ p z. cc z))
 
   pub data_stays : (f i : ℕ) → f ≢ file → i < length (s.layout.file_data f) → Stays old new (slice_index (s.layout.file_data f) i)
   data_stays f i n l =
@@ -74,20 +68,16 @@ module _ (old new : List ℕ) (t : Tree) (s : Stands old t) (file : ℕ) (node :
         date = date_stays IsDataField old new file header_stays 105 (omega arith) (λ j from below. beside_fields j (inr (omega (arith, from), λ z. omega (arith, z, from), λ z. omega (arith, z, below)))) ∙ n.date;
       }
 
-  other_node : (k : ℕ) (a : Node) → k ≢ file → t.nodes k ≡ Some a → HasNode new k a
-  other_node k a m e = node_as old new k (key_stays k a e m) a (s.proper.name k a e) (s.nodes k a e)
-
   old_node : (k : ℕ) (a : Node) → t.nodes k ≡ Some a → HasNode new k a
   old_node k a e = elim (cases_eq k file) [
     | inl same ↦ subst (λ (b : ℕ). HasNode new b a) (sym same) (file_node a (ap t.nodes (sym same) ∙ e))
-    | inr m ↦ other_node k a m e
+    | inr m ↦ node_as old new k (key_stays k a e m) a (s.proper.name k a e) (s.nodes k a e)
   ]
 
   node_after : (k : ℕ) (a : Node) → v.nodes k ≡ Some a → HasNode new k a
   node_after k a e =
-      let w = was t file node bytes bytes' found is_file k a e in
-      let n = old_node k w.old w.at in
-      record { primary = n.primary; sum = n.sum; name = subst (HasText new k NAME_BYTE) (sym w.name) n.name; date = n.date ∙ sym w.date }
+      let w = was (holding bytes') file t k a e in
+      was_with (HasNode new k) (holding bytes') file t k a (λ b n. record { primary = n.primary; sum = n.sum; name = n.name; date = n.date }) w (old_node k w.old w.at)
 
   -- ---- entries
 
@@ -103,35 +93,28 @@ module _ (old new : List ℕ) (t : Tree) (s : Stands old t) (file : ℕ) (node :
         secondary = header_long 127 (omega arith) (inr (omega arith, λ z. omega (arith, z), λ z. omega (arith, z))) ∙ n.secondary;
       }
 
-  other_entry : (k : ℕ) (a : Node) (d : ℕ) → k ≢ file → t.nodes k ≡ Some a → a.parent ≡ Some d → HasEntry new k a d
-  other_entry k a d m e p = entry_as old new k (key_stays k a e m) a d (s.proper.comment k a e) (s.entries k d a e p)
-
   old_entry : (k d : ℕ) (a : Node) → t.nodes k ≡ Some a → a.parent ≡ Some d → HasEntry new k a d
   old_entry k d a e p = elim (cases_eq k file) [
     | inl same ↦ subst (λ (b : ℕ). HasEntry new b a d) (sym same) (file_entry a d (ap t.nodes (sym same) ∙ e) p)
-    | inr m ↦ other_entry k a d m e p
-  ]
-
-  -- a file is still a file
-  same_type : (k : ℕ) (a : Node) (w : Was t file node bytes bytes' found is_file k a) → type_of w.old.content ≡ type_of a.content
-  same_type k a w = elim (w.content) [
-    | inr c ↦ ap type_of (sym c.1)
-    | inl c ↦
-        let is : w.old ≡ node = cc (w.at, ap t.nodes c.0 ∙ found) in
-        ap type_of (ap (λ (m : Node). m.content) is ∙ is_file) ∙ sym (ap type_of c.1)
+    | inr m ↦ entry_as old new k (key_stays k a e m) a d (s.proper.comment k a e) (s.entries k d a e p)
   ]
 
   entry_after : (k d : ℕ) (a : Node) → v.nodes k ≡ Some a → a.parent ≡ Some d → HasEntry new k a d
   entry_after k d a e p =
-      let w = was t file node bytes bytes' found is_file k a e in
-      let n = old_entry k d w.old w.at (sym w.parent ∙ p) in
-      record {
-        key_field = n.key_field;
-        protection_field = n.protection_field ∙ sym w.protection;
-        comment = subst (HasText new k COMMENT_BYTE) (sym w.comment) n.comment;
-        parent = n.parent;
-        secondary = n.secondary ∙ same_type k a w;
-      }
+      let w = was (holding bytes') file t k a e in
+      let n = old_entry k d w.old w.at (elim (w.how) [ inl h ↦ ap (λ (b : Node). b.parent) (sym h.1) ∙ p | inr h ↦ ap (λ (b : Node). b.parent) (sym h.1) ∙ p ]) in
+      elim (w.how) [
+        | inl h ↦ subst (λ (b : Node). HasEntry new k b d) (sym h.1) n
+        | inr h ↦
+            let is : w.old ≡ node = cc (w.at, ap t.nodes h.0 ∙ found) in
+            subst (λ (b : Node). HasEntry new k b d) (sym h.1) (record {
+              key_field = n.key_field;
+              protection_field = n.protection_field;
+              comment = n.comment;
+              parent = n.parent;
+              secondary = n.secondary ∙ ap type_of (ap (λ (b : Node). b.content) is ∙ is_file);
+            })
+      ]
 
   -- ---- hash chains
 
@@ -152,11 +135,11 @@ module _ (old new : List ℕ) (t : Tree) (s : Stands old t) (file : ℕ) (node :
 
   chain_after : (d : ℕ) (a : Node) (keys : List ℕ) (r : ℕ) → v.nodes d ≡ Some a → a.content ≡ Directory keys → r < 72 → Chained new NEXT_IN_CHAIN (table_entry new d r) (in_slot v d r)
   chain_after d a keys r e c l =
-      let w = was t file node bytes bytes' found is_file d a e in
+      let w = was (holding bytes') file t d a e in
       subst (Chained new NEXT_IN_CHAIN (table_entry new d r)) (sym (slots_same t file node bytes bytes' found is_file d r))
-      (elim (w.content) [
-        | inl z ↦ absurd (let kind : Content.File bytes' ≡ Directory keys = sym z.1 ∙ c in cc kind)
-        | inr z ↦ old_chain d w.old keys r w.at (sym z.1 ∙ c) z.0 l
+      (elim (w.how) [
+        | inl h ↦ old_chain d w.old keys r w.at (ap (λ (b : Node). b.content) (sym h.1) ∙ c) h.0 l
+        | inr h ↦ absurd (let kind : Content.File bytes' ≡ Directory keys = ap (λ (b : Node). b.content) (sym h.1) ∙ c in cc kind)
       ])
 
   -- ---- files
@@ -167,24 +150,16 @@ module _ (old new : List ℕ) (t : Tree) (s : Stands old t) (file : ℕ) (node :
       file_stays old new t.format f (s.layout.file_data f) (s.layout.extensions f) bs (λ j o. long_as old new f (key_stays f a e n) j (omega (arith, o))) (λ q l. extension_stays f q n l) (λ i l. data_stays f i n l)
       (omega (arith, s.fits.extensions f)) (subst (λ (g : Format). length (s.layout.file_data f) ≡ data_count g (length bs)) (format_is old t s) lawful.data_fits) (s.files f a bs e c)
 
-  this_file : HasFile new t.format file blocks' extensions' bytes'
-  this_file = subst (λ (g : Format). HasFile new g file blocks' extensions' bytes') (h.format ∙ format_is old t s) h.writable.lawful.holds
-
   file_after : (f : ℕ) (a : Node) (bs : List ℕ) → v.nodes f ≡ Some a → a.content ≡ File bs → HasFile new t.format f ((relaid s.layout file blocks' extensions').file_data f) ((relaid s.layout file blocks' extensions').extensions f) bs
   file_after f a bs e c =
-      let w = was t file node bytes bytes' found is_file f a e in
-      elim (w.content) [
-        | inl z ↦
-            let is : bytes' ≡ bs = cc (sym z.1 ∙ c) in
-            let lay = relaid s.layout file blocks' extensions' in
-            subst (λ (g : ℕ). HasFile new t.format g (lay.file_data g) (lay.extensions g) bs) (sym z.0)
-            (subst (λ (xs : List ℕ). HasFile new t.format file xs (lay.extensions file) bs) (sym (data_here s.layout file blocks' extensions'))
-            (subst (λ (xs : List ℕ). HasFile new t.format file blocks' xs bs) (sym (extensions_here s.layout file blocks' extensions'))
-            (subst (λ (xs : List ℕ). HasFile new t.format file blocks' extensions' xs) is this_file)))
+      let w = was (holding bytes') file t f a e in
+      elim (w.how) [
+        | inl z ↦ rw (ne_eqb f file z.0) (other_file f w.old bs w.at (ap (λ (b : Node). b.content) (sym z.1) ∙ c) z.0)
         | inr z ↦
-            subst (λ (xs : List ℕ). HasFile new t.format f xs ((relaid s.layout file blocks' extensions').extensions f) bs) (sym (data_there s.layout file blocks' extensions' f z.0))
-            (subst (λ (xs : List ℕ). HasFile new t.format f (s.layout.file_data f) xs bs) (sym (extensions_there s.layout file blocks' extensions' f z.0))
-            (other_file f w.old bs w.at (sym z.1 ∙ c) z.0))
+            let kind : Content.File bytes' ≡ File bs = ap (λ (b : Node). b.content) (sym z.1) ∙ c in
+            let is : bytes' ≡ bs = cc kind in
+            rw (eq-eqb f file z.0) (subst (λ (g : ℕ). HasFile new t.format g blocks' extensions' bs) (sym z.0)
+            (subst (λ (xs : List ℕ). HasFile new t.format file blocks' extensions' xs) is (subst (λ (g : Format). HasFile new g file blocks' extensions' bytes') (h.format ∙ format_is old t s) h.writable.lawful.holds)))
       ]
 
   -- ---- bitmap blocks
@@ -209,7 +184,9 @@ module _ (old new : List ℕ) (t : Tree) (s : Stands old t) (file : ℕ) (node :
     nodes = node_after;
     entries = entry_after;
     pages = page_after;
-    lost = λ b bs e. bytes_as old new b (lost_stays b (rw e refl)) 0 512 (omega arith) ∙ s.lost b bs e;
+    lost = λ b bs e.
+        bytes_as old new b (stays_other b (other old new t s file node bytes found is_file blocks' extensions' bytes' h b Duty.Lost (rw e refl) (record { no_data = λ i z. cc z; no_extension = λ q z. cc z })
+        (not_header old new t s file node bytes found is_file blocks' extensions' bytes' h b Duty.Lost (rw e refl) (λ z. cc z)) (λ p z. cc z))) 0 512 (omega arith) ∙ s.lost b bs e;
     chains = chain_after;
     files = file_after;
     marked_free = marked_free_after old new t s file node bytes found is_file blocks' extensions' bytes' h;

@@ -1,11 +1,8 @@
 -- A change of longs in the blocks of keys turns an image of one tree into an image of another, if it does so for each
 -- node.
-use Rattle.std.proofs.Common.{◌≡◌, ◌≢◌, ℕ, ◌+◌, ◌-◌, ◌/◌, ◌%◌, ◌^◌, ◌<◌, ◌≤◌, ◌⊎◌, inl, inr, ◌==◌, List, length, slice_index, bit_and, not, Option, Some, is_some, IsSome, refl, sym, ap, ◌∙◌, arith}
-use Rattle.ados_change.proofs.Common.{get_or_default, IsInside, has_free_bit, block_count, root_key, long, block_sum, Chained, HasText, table_entry, COMMENT_BYTE, NAME_BYTE, NEXT_IN_CHAIN, Date3, IsName, IsComment, data_count, Node, Tree, root, size_of, HasFile, Layout, Duty, HasDuty, date_at, HasNode, HasEntry, HasRoot, in_slot, Directory, File, SameBut, slice_get-index}
-use Rattle.ados_change.proofs.Frame.{AtLongs, long-kept, bytes-kept, sum-kept, text_kept, date_kept}
-use Rattle.ados_change.proofs.Spells.{Spells, same_duty}
-use Rattle.ados_change.proofs.Unchanged.{Stays}
-use Rattle.ados_change.proofs.OtherFiles.{IsFileLong, file_stays}
+use Rattle.ados_change.proofs.Common.{◌≡◌, ◌≢◌, ℕ, ◌+◌, ◌-◌, ◌/◌, ◌%◌, ◌^◌, ◌<◌, ◌≤◌, ◌⊎◌, inl, inr, ◌==◌, List, length, slice_index, bit_and, not, Option, Some, is_some, IsSome, refl, sym, ap, ◌∙◌, arith, get_or_default, IsInside, has_free_bit, block_count, root_key, long, block_sum, Chained, HasText, table_entry, COMMENT_BYTE, NAME_BYTE, NEXT_IN_CHAIN, Date3, IsName, IsComment, data_count, Node, Tree, root, size_of, HasFile, Layout, Duty, HasDuty, date_at, HasNode, HasEntry, HasRoot, in_slot, Directory, File, SameBut, slice_get-index}
+use Rattle.ados_change.proofs.Unchanged.{AtLongs, long-kept, bytes-kept, sum-kept, text_kept, date_kept, Stays, IsFileLong, file_stays}
+use Rattle.ados_change.proofs.Loose.{Loose, Spells, same_duty}
 
 -- the tree with these nodes and this disk date
 abbrev pub renewed : Tree → (ℕ → Option Node) → Date3 → Tree
@@ -13,12 +10,10 @@ renewed t nodes d = record t { nodes = nodes; disk_date = d }
 
 -- the longs without effect on a file's data, on the bitmap blocks or on the kind of a block: the checksum, a
 -- directory's hash table, protection and comment, date and name, next-in-chain and parent, the disk date
-pub data Telling (t : Tree) (b : ℕ) : ℕ → Type 0 where
-  sum : {j : ℕ} → j ≡ 5 → Telling t b j
-  table : {j : ℕ} → ((a : Node) (bytes : List ℕ) → t.nodes b ≡ Some a → a.content ≡ File bytes → ⊥) → 6 ≤ j → j < 78 → Telling t b j
-  attributes : {j : ℕ} → b ≢ root t → 80 ≤ j → j < 104 → j ≢ 81 → Telling t b j
-  heading : {j : ℕ} → 105 ≤ j → j < 121 → Telling t b j
-  linking : {j : ℕ} → b ≢ root t → 124 ≤ j → j < 126 → Telling t b j
+abbrev pub Telling : Tree → ℕ → ℕ → Type 0
+Telling t b j =
+    (j ≡ 5) ⊎ ((((a : Node) (bytes : List ℕ) → t.nodes b ≡ Some a → a.content ≡ File bytes → ⊥) × (6 ≤ j) × (j < 78)) ⊎ (((b ≢ root t) × (80 ≤ j) × (j < 104) × (j ≢ 81))
+    ⊎ (((105 ≤ j) × (j < 121)) ⊎ ((b ≢ root t) × (124 ≤ j) × (j < 126)))))
 
 -- only such longs in the blocks of keys are written
 pub record TellsOnly (t : Tree) (W : ℕ → ℕ → Type 0) : Type 0 where
@@ -31,55 +26,28 @@ pub record SameFiles (t : Tree) (nodes : ℕ → Option Node) : Type 0 where
   pub was_file : (k : ℕ) (a : Node) (bytes : List ℕ) → nodes k ≡ Some a → a.content ≡ File bytes → (b : Node) × (t.nodes k ≡ Some b) × (b.content ≡ File bytes)
   pub same_size : (d : Date3) (k : ℕ) → size_of (renewed t nodes d) k ≡ size_of t k
 
-module _ (old new : List ℕ) (t : Tree) (l : Layout) (s : Spells old t l) (root_some : IsSome (t.nodes (root t))) (size : (t.blocks ≤ 101602) × (16 ≤ t.blocks)) (W : ℕ → ℕ → Type 0) (tells : TellsOnly t W) (change : SameBut (AtLongs W) old new) where
+module _ (old new : List ℕ) (t : Tree) (l : Layout) (s : Spells old t l) {loose_key : ℕ} (loose : Loose t loose_key) (W : ℕ → ℕ → Type 0) (tells : TellsOnly t W) (change : SameBut (AtLongs W) old new) where
   kept : (b j : ℕ) → j < 128 → ¬ W b j → long new b j ≡ long old b j
   kept = long-kept W old new change
 
-  -- the primary type, own number and secondary type of a block
-  unwritten : (b j : ℕ) → (j < 5) ⊎ ((j ≡ 81) ⊎ ((j ≡ 78) ⊎ (((121 ≤ j) × (j < 124)) ⊎ (126 ≤ j)))) → ¬ W b j
-  unwritten b j o w = go o (tells.telling b j w)
-    where
-      go : (j < 5) ⊎ ((j ≡ 81) ⊎ ((j ≡ 78) ⊎ (((121 ≤ j) × (j < 124)) ⊎ (126 ≤ j)))) → Telling t b j → ⊥
-      go o (sum e) = omega (arith, o, e)
-      go o (table n p q) = omega (arith, o, p, q)
-      go o (attributes n p q m) = omega (arith, o, p, q, m)
-      go o (heading p q) = omega (arith, o, p, q)
-      go o (linking n p q) = omega (arith, o, p, q)
-
   pub first_kept : (b j : ℕ) → j < 5 → long new b j ≡ long old b j
-  first_kept b j m = kept b j (omega arith) (unwritten b j (inl m))
+  first_kept b j m = kept b j (omega arith) (λ w. omega (arith, m, tells.telling b j w))
 
   pub last_kept : (b j : ℕ) → 126 ≤ j → j < 128 → long new b j ≡ long old b j
-  last_kept b j m n = kept b j n (unwritten b j (inr (inr (inr (inr m)))))
-
-  -- the bitmap pointers and the parent of the root
-  root_unwritten : (j : ℕ) → ((79 ≤ j) × (j < 104)) ⊎ ((j ≡ 124) ⊎ (j ≡ 125)) → ¬ W (root t) j
-  root_unwritten j o w = go o (tells.telling (root t) j w)
-    where
-      go : ((79 ≤ j) × (j < 104)) ⊎ ((j ≡ 124) ⊎ (j ≡ 125)) → Telling t (root t) j → ⊥
-      go o (sum e) = omega (arith, o, e)
-      go o (table n p q) = omega (arith, o, p, q)
-      go o (attributes n p q m) = n refl
-      go o (heading p q) = omega (arith, o, p, q)
-      go o (linking n p q) = n refl
+  last_kept b j m n = kept b j n (λ w. omega (arith, m, tells.telling b j w))
 
   -- the longs of a file's header that lead to its data
   header_unwritten : (b j : ℕ) (a : Node) (bytes : List ℕ) → t.nodes b ≡ Some a → a.content ≡ File bytes → IsFileLong j → ¬ W b j
   header_unwritten b j a bytes e c o w = go (tells.telling b j w)
     where
       go : Telling t b j → ⊥
-      go (sum d) = omega (arith, o, d)
-      go (table f p q) = f a bytes e c
-      go (attributes f p q d) = omega (arith, o, p, q, d)
-      go (heading p q) = omega (arith, o, p, q)
-      go (linking f p q) = omega (arith, o, p, q)
+      go (inl d) = omega (arith, o, d)
+      go (inr (inl d)) = d.0 a bytes e c
+      go (inr (inr d)) = omega (arith, o, d)
 
   -- a block that is used otherwise than as a key
   by_duty : (b : ℕ) (duty : Duty) → HasDuty t l b duty → duty ≢ Duty.Key → (j : ℕ) → ¬ W b j
   by_duty b duty m n j w = n (s.fits.one_duty b duty Duty.Key m (tells.of_key b j w))
-
-  low_block : (b j : ℕ) → b < 2 → ¬ W b j
-  low_block b j m w = let inside = s.fits.inside b Duty.Key (tells.of_key b j w) in omega (arith, m, inside.0)
 
   -- such a block is unchanged
   stays : (b : ℕ) (duty : Duty) → HasDuty t l b duty → duty ≢ Duty.Key → Stays old new b
@@ -93,7 +61,7 @@ module _ (old new : List ℕ) (t : Tree) (l : Layout) (s : Spells old t l) (root
       (omega (arith, s.fits.extensions file)) (s.fits.file_data file ∙ ap (data_count t.format) held) (s.files file a bytes e c)
 
   page_long : (i : ℕ) → i < length l.pages → long new (root t) (79 + i) ≡ slice_index l.pages i
-  page_long i m = kept (root t) (79 + i) (omega (arith, m, s.fits.pages, size.0)) (root_unwritten (79 + i) (inl (omega arith, omega (arith, m, s.fits.pages, size.0)))) ∙ s.root_fields.pages i m
+  page_long i m = kept (root t) (79 + i) (omega (arith, m, s.fits.pages, loose.size.1)) (λ w. omega (arith, m, s.fits.pages, loose.size.1, tells.telling (root t) (79 + i) w)) ∙ s.root_fields.pages i m
 
   -- the bits of the bitmap
   marks_kept : (b : ℕ) → IsInside t.blocks b → has_free_bit new b ≡ has_free_bit old b
@@ -140,19 +108,16 @@ module _ (old new : List ℕ) (t : Tree) (l : Layout) (s : Spells old t l) (root
     serves_back : (b : ℕ) (duty : Duty) → HasDuty (renewed t nodes d) l b duty → HasDuty t l b duty
     serves_back b = same_duty (renewed t nodes d) t l b (sym (files.same_keys b)) refl
 
-    serves_on : (b : ℕ) (duty : Duty) → HasDuty t l b duty → HasDuty (renewed t nodes d) l b duty
-    serves_on b = same_duty t (renewed t nodes d) l b (files.same_keys b) refl
-
     root_after : HasRoot new (renewed t nodes d) l
     root_after =
         let r = s.root_fields in
         record {
           table_size = first_kept (root t) 3 (omega arith) ∙ r.table_size;
-          valid = kept (root t) 78 (omega arith) (unwritten (root t) 78 (inr (inr (inl refl)))) ∙ r.valid;
+          valid = kept (root t) 78 (omega arith) (λ w. omega (arith, tells.telling (root t) 78 w)) ∙ r.valid;
           pages = page_long;
           disk_date = disk;
-          creation_date = date_stays (root t) 121 (omega arith) (λ j p q. unwritten (root t) j (inr (inr (inr (inl (p, omega arith)))))) ∙ r.creation_date;
-          parent = kept (root t) 125 (omega arith) (root_unwritten 125 (inr (inr refl))) ∙ r.parent;
+          creation_date = date_stays (root t) 121 (omega arith) (λ j p q w. omega (arith, p, q, tells.telling (root t) j w)) ∙ r.creation_date;
+          parent = kept (root t) 125 (omega arith) (λ w. omega (arith, tells.telling (root t) 125 w)) ∙ r.parent;
           secondary = last_kept (root t) 127 (omega arith) (omega arith) ∙ r.secondary;
         }
 
@@ -167,7 +132,7 @@ module _ (old new : List ℕ) (t : Tree) (l : Layout) (s : Spells old t l) (root
         one_duty = λ b duty other m n. s.fits.one_duty b duty other (serves_back b duty m) (serves_back b other n);
       };
       whole = change.same_length ∙ s.whole;
-      boot = bytes-kept W old new change 0 0 4 (omega arith) (λ j p q. low_block 0 (j / 4) (omega arith)) ∙ s.boot;
+      boot = bytes-kept W old new change 0 0 4 (omega arith) (λ j p q w. let inside = s.fits.inside 0 Duty.Key (tells.of_key 0 (j / 4) w) in omega (arith, inside.0)) ∙ s.boot;
       root_fields = root_after;
       nodes = nodes_after;
       entries = entries_after;
@@ -176,5 +141,5 @@ module _ (old new : List ℕ) (t : Tree) (l : Layout) (s : Spells old t l) (root
       chains = chains_after;
       files = λ file a bytes e c. let w = files.was_file file a bytes e c in file_kept file w.0 bytes w.1 w.2;
       marked_free = λ b i m n. s.marked_free b i (sym (marks_kept b i) ∙ m) (n.0, serves_back b n.0 n.1);
-      marked_used = λ b i m. let n = s.marked_used b i (λ f. m (marks_kept b i ∙ f)) in (n.0, serves_on b n.0 n.1);
+      marked_used = λ b i m. let n = s.marked_used b i (λ f. m (marks_kept b i ∙ f)) in (n.0, same_duty t (renewed t nodes d) l b (files.same_keys b) refl n.0 n.1);
     }

@@ -1,9 +1,10 @@
 -- The blocks of a tree after a file got other bytes in other blocks.
-use Rattle.std.proofs.Common.{◌≡◌, ◌≢◌, ℕ, zero, suc, ◌/◌, ◌<◌, ◌≤◌, ◌==◌, ◌⊎◌, inl, inr, Bool, true, false, cond, List, ◌∷◌, length, slice_index, slice_get, Option, Some, None, IsSome, refl, sym, ap, ◌∙◌, subst, arith, eq-eqb}
-use Rattle.ados_change.proofs.Common.{ne_eqb, cases_eq, cases_order, false≢true, Format, IsInside, block_count, page_count, has_free_bit, HasFreeBit, format_of, page_block, pages_of, data_count, extension_count, Node, Tree, size_of, IsWritable, IsOther, Leaves, File, Layout, Fits, Duty, HasDuty, Named, Stands, count_same, slice_get-index}
-use Rattle.ados_model.proofs.Counting.{slice_get-back}
+use Rattle.ados_change.proofs.Common.{◌≡◌, ◌≢◌, ℕ, zero, suc, ◌/◌, ◌<◌, ◌≤◌, ◌==◌, ◌⊎◌, inl, inr, Bool, true, false, cond, List, ◌∷◌, length, slice_index, slice_get, Some, refl, sym, ap, ◌∙◌, subst, arith, eq-eqb, ne_eqb, cases_eq, cases_order, false≢true, Format, IsInside, block_count, page_count, has_free_bit, HasFreeBit, format_of, page_block, pages_of, data_count, extension_count, Node, Tree, size_of, IsWritable, IsOther, Leaves, File, Layout, Fits, Duty, HasDuty, Named, Stands, count_same, slice_get-index, slice_get-back, take, cases_lt, get_or-take, length-take, data_blocks, extension_blocks, contents, WritableFile, LeavesOthers, is_some}
 use Rattle.ados_change.proofs.Writable.{inside, key_serves, named_used, page_serves, beside_pages, format_is}
-use Rattle.ados_change.proofs.Contents.{refilled, was, stays, size_here, size_there}
+use Rattle.ados_change.proofs.Changed.{changed_keeps, each_keeps}
+use Rattle.ados_change.proofs.Contents.{holding, refilled}
+use Rattle.ados_data.specs.Growth.{GrowsFile}
+use Rattle.ados_data.proofs.Grown.{front_at}
 
 -- a block of the new list is at its old position, or was marked free before
 abbrev pub ComesFrom : List ℕ → List ℕ → List ℕ → ℕ → Type 0
@@ -36,19 +37,6 @@ relaid l file blocks extensions = record {
   file_data = λ f. cond (f == file) blocks (l.file_data f);
   extensions = λ f. cond (f == file) extensions (l.extensions f);
 }
-
-module _ (l : Layout) (file : ℕ) (blocks extensions : List ℕ) where
-  pub data_here : (relaid l file blocks extensions).file_data file ≡ blocks
-  data_here = rw (eq-eqb file file refl) refl
-
-  pub data_there : (f : ℕ) → f ≢ file → (relaid l file blocks extensions).file_data f ≡ l.file_data f
-  data_there f n = rw (ne_eqb f file n) refl
-
-  pub extensions_here : (relaid l file blocks extensions).extensions file ≡ extensions
-  extensions_here = rw (eq-eqb file file refl) refl
-
-  pub extensions_there : (f : ℕ) → f ≢ file → (relaid l file blocks extensions).extensions f ≡ l.extensions f
-  extensions_there f n = rw (ne_eqb f file n) refl
 
 module _ (old new : List ℕ) (t : Tree) (s : Stands old t) (file : ℕ) (node : Node) (bytes : List ℕ) (found : t.nodes file ≡ Some node) (is_file : node.content ≡ File bytes)
     (blocks' extensions' bytes' : List ℕ) (h : IsRewritten old file (s.layout.file_data file) (s.layout.extensions file) new blocks' extensions' bytes') where
@@ -94,41 +82,30 @@ module _ (old new : List ℕ) (t : Tree) (s : Stands old t) (file : ℕ) (node :
     as_data : {i : ℕ} → i < length blocks' → slice_index blocks' i ≡ b → Holds b (Duty.Data file i)
     as_extension : {q : ℕ} → q < length extensions' → slice_index extensions' q ≡ b → Holds b (Duty.Extension file q)
 
-  key_back : (b : ℕ) → IsSome (u.nodes b) → IsSome (t.nodes b)
-  key_back b m = go (u.nodes b) refl m
-    where
-      go : (o : Option Node) → u.nodes b ≡ o → IsSome o → IsSome (t.nodes b)
-      go None e m = absurd (false≢true m)
-      go (Some a) e m = let w = was t file node bytes bytes' found is_file b a e in rw w.at refl
-
-  key_on : (b : ℕ) → IsSome (t.nodes b) → IsSome (u.nodes b)
-  key_on b m = go (t.nodes b) refl m
-    where
-      go : (o : Option Node) → t.nodes b ≡ o → IsSome o → IsSome (u.nodes b)
-      go None e m = absurd (false≢true m)
-      go (Some a) e m = let w = stays t file node bytes bytes' found is_file b a e in rw w.1 refl
+  same_key : (b : ℕ) → is_some (u.nodes b) ≡ is_some (t.nodes b)
+  same_key = changed_keeps is_some (holding bytes') file t (each_keeps is_some (holding bytes') (λ a. refl))
 
   pub holds : (b : ℕ) (duty : Duty) → HasDuty u lay b duty → Holds b duty
-  holds b Duty.Key m = as_before (key_back b m) (record { no_data = λ j z. cc z; no_extension = λ q z. cc z })
+  holds b Duty.Key m = as_before (sym (same_key b) ∙ m) (record { no_data = λ j z. cc z; no_extension = λ q z. cc z })
   holds b (Duty.Data f i) m = elim (cases_eq f file) [
     | inl e ↦
-        let at = slice_get-back blocks' i b (ap (λ (xs : List ℕ). slice_get xs i) (sym (data_here s.layout file blocks' extensions')) ∙ ap (λ (g : ℕ). slice_get (lay.file_data g) i) (sym e) ∙ m) in
+        let at = slice_get-back blocks' i b (rw (eq-eqb f file e) at m) in
         subst (λ (g : ℕ). Holds b (Duty.Data g i)) (sym e) (as_data at.0 at.1)
-    | inr n ↦ as_before (ap (λ (xs : List ℕ). slice_get xs i) (sym (data_there s.layout file blocks' extensions' f n)) ∙ m) (record { no_data = λ j z. let same : f ≡ file = cc z in n same; no_extension = λ q z. cc z })
+    | inr n ↦ as_before (rw (ne_eqb f file n) at m) (record { no_data = λ j z. let same : f ≡ file = cc z in n same; no_extension = λ q z. cc z })
   ]
   holds b (Duty.Extension f q) m = elim (cases_eq f file) [
     | inl e ↦
-        let at = slice_get-back extensions' q b (ap (λ (xs : List ℕ). slice_get xs q) (sym (extensions_here s.layout file blocks' extensions')) ∙ ap (λ (g : ℕ). slice_get (lay.extensions g) q) (sym e) ∙ m) in
+        let at = slice_get-back extensions' q b (rw (eq-eqb f file e) at m) in
         subst (λ (g : ℕ). Holds b (Duty.Extension g q)) (sym e) (as_extension at.0 at.1)
-    | inr n ↦ as_before (ap (λ (xs : List ℕ). slice_get xs q) (sym (extensions_there s.layout file blocks' extensions' f n)) ∙ m) (record { no_data = λ j z. cc z; no_extension = λ j z. let same : f ≡ file = cc z in n same })
+    | inr n ↦ as_before (rw (ne_eqb f file n) at m) (record { no_data = λ j z. cc z; no_extension = λ j z. let same : f ≡ file = cc z in n same })
   ]
   holds b duty m = as_before m (record { no_data = λ j z. cc z; no_extension = λ q z. cc z })
 
   pub serves_data : (i : ℕ) → i < length blocks' → HasDuty u lay (slice_index blocks' i) (Duty.Data file i)
-  serves_data i l = ap (λ (xs : List ℕ). slice_get xs i) (data_here s.layout file blocks' extensions') ∙ slice_get-index blocks' i l
+  serves_data i l = rw (eq-eqb file file refl) (slice_get-index blocks' i l)
 
   pub serves_extension : (q : ℕ) → q < length extensions' → HasDuty u lay (slice_index extensions' q) (Duty.Extension file q)
-  serves_extension q l = ap (λ (xs : List ℕ). slice_get xs q) (extensions_here s.layout file blocks' extensions') ∙ slice_get-index extensions' q l
+  serves_extension q l = rw (eq-eqb file file refl) (slice_get-index extensions' q l)
 
   -- a block of the new lists has no other use from before
   new_data : (b i : ℕ) (duty : Duty) → i < length blocks' → slice_index blocks' i ≡ b → HasDuty t s.layout b duty → IsBesideLists duty → ⊥
@@ -177,19 +154,14 @@ module _ (old new : List ℕ) (t : Tree) (s : Stands old t) (file : ℕ) (node :
 
   data_fits : (f : ℕ) → length (lay.file_data f) ≡ data_count t.format (size_of u f)
   data_fits f = elim (cases_eq f file) [
-    | inl e ↦
-        ap (λ (g : ℕ). length (lay.file_data g)) e ∙ ap length (data_here s.layout file blocks' extensions') ∙ h.writable.lawful.data_fits
-        ∙ ap (λ (g : Format). data_count g (length bytes')) (h.format ∙ format_is old t s)
-        ∙ ap (data_count t.format) (sym (size_here t file node bytes bytes' found is_file)) ∙ ap (λ (g : ℕ). data_count t.format (size_of u g)) (sym e)
-    | inr n ↦ ap length (data_there s.layout file blocks' extensions' f n) ∙ s.fits.file_data f ∙ ap (data_count t.format) (sym (size_there t file node bytes bytes' found is_file f n))
+    | inl e ↦ rw (eq-eqb f file e, found) (h.writable.lawful.data_fits ∙ ap (λ (g : Format). data_count g (length bytes')) (h.format ∙ format_is old t s))
+    | inr n ↦ rw (ne_eqb f file n) (s.fits.file_data f)
   ]
 
   extensions_fit : (f : ℕ) → length (lay.extensions f) ≡ extension_count (length (lay.file_data f))
   extensions_fit f = elim (cases_eq f file) [
-    | inl e ↦
-        ap (λ (g : ℕ). length (lay.extensions g)) e ∙ ap length (extensions_here s.layout file blocks' extensions') ∙ h.writable.lawful.extensions_fit
-        ∙ ap (λ (xs : List ℕ). extension_count (length xs)) (sym (data_here s.layout file blocks' extensions')) ∙ ap (λ (g : ℕ). extension_count (length (lay.file_data g))) (sym e)
-    | inr n ↦ ap length (extensions_there s.layout file blocks' extensions' f n) ∙ s.fits.extensions f ∙ ap (λ (xs : List ℕ). extension_count (length xs)) (sym (data_there s.layout file blocks' extensions' f n))
+    | inl e ↦ rw (eq-eqb f file e) h.writable.lawful.extensions_fit
+    | inr n ↦ rw (ne_eqb f file n) (s.fits.extensions f)
   ]
 
   pub fits_after : Fits u lay
@@ -203,9 +175,6 @@ module _ (old new : List ℕ) (t : Tree) (s : Stands old t) (file : ℕ) (node :
   }
 
   -- ---- marks
-
-  pages_new : pages_of new ≡ pages_of old
-  pages_new = ap (λ (n : ℕ). page_count (n / 512)) h.leaves.same_length
 
   -- a block with a use is marked used
   used_before : (b : ℕ) (duty : Duty) → HasDuty t s.layout b duty → IsBesideLists duty → has_free_bit new b ≡ false
@@ -221,7 +190,7 @@ module _ (old new : List ℕ) (t : Tree) (s : Stands old t) (file : ℕ) (node :
           let serves = page_serves old t s p within in
           let back = slice_get-back s.layout.pages p (page_block old p) serves in
           let is : page_block new p ≡ b = h.leaves.pages p within ∙ sym back.1 ∙ at.1 in
-          ap (has_free_bit new) (sym is) ∙ h.writable.map.pages_marked p (omega (arith, within, pages_new))
+          ap (has_free_bit new) (sym is) ∙ h.writable.map.pages_marked p (omega (arith, within, ap (λ (n : ℕ). page_count (n / 512)) h.leaves.same_length))
       go Duty.Key m beside = elim (cases_eq b file) [
         | inl e ↦ ap (has_free_bit new) e ∙ (h.writable.headers_used 0 (omega arith)).marked
         | inr n ↦ left Duty.Key m beside n (λ p z. cc z)
@@ -238,9 +207,9 @@ module _ (old new : List ℕ) (t : Tree) (s : Stands old t) (file : ℕ) (node :
 
   -- a block that is marked used has a use
   named_before : (b : ℕ) (duty : Duty) → HasDuty t s.layout b duty → has_free_bit new b ≡ false → Named u lay b
-  named_before b Duty.Key m used = (Duty.Key, key_on b m)
+  named_before b Duty.Key m used = (Duty.Key, same_key b ∙ m)
   named_before b (Duty.Data f i) m used = elim (cases_eq f file) [
-    | inr n ↦ (Duty.Data f i, ap (λ (xs : List ℕ). slice_get xs i) (data_there s.layout file blocks' extensions' f n) ∙ m)
+    | inr n ↦ (Duty.Data f i, rw (ne_eqb f file n) m)
     | inl e ↦
         let at = slice_get-back (s.layout.file_data file) i b (ap (λ (g : ℕ). slice_get (s.layout.file_data g) i) (sym e) ∙ m) in
         elim (h.data_to i at.0) [
@@ -249,7 +218,7 @@ module _ (old new : List ℕ) (t : Tree) (s : Stands old t) (file : ℕ) (node :
         ]
   ]
   named_before b (Duty.Extension f q) m used = elim (cases_eq f file) [
-    | inr n ↦ (Duty.Extension f q, ap (λ (xs : List ℕ). slice_get xs q) (extensions_there s.layout file blocks' extensions' f n) ∙ m)
+    | inr n ↦ (Duty.Extension f q, rw (ne_eqb f file n) m)
     | inl e ↦
         let at = slice_get-back (s.layout.extensions file) q b (ap (λ (g : ℕ). slice_get (s.layout.extensions g) q) (sym e) ∙ m) in
         elim (h.extensions_to q at.0) [
@@ -270,3 +239,68 @@ module _ (old new : List ℕ) (t : Tree) (s : Stands old t) (file : ℕ) (node :
       go true e w f = absurd (used e)
       go false e true f = named_taken b (h.taken b (i.0, omega (arith, i.1, count_same old t s)) f e)
       go false e false f = let n = s.marked_used b i (λ m. false≢true (sym f ∙ m)) in named_before b n.0 n.1 e
+
+-- ---- the calls on a file's data rewrite the file
+
+-- ---- lists that get shorter
+
+front_from : (old : List ℕ) (n : ℕ) (xs ys : List ℕ) → ys ≡ take n xs → (i : ℕ) → i < length ys → ComesFrom old xs ys i
+front_from old n xs ys e i l =
+    let within : (i < n) × (i < length xs) = (omega (arith, l, ap length e, length-take n xs), omega (arith, l, ap length e, length-take n xs)) in
+    inl (within.1, ap (λ (zs : List ℕ). slice_index zs i) e ∙ get_or-take n xs i 0 within.0)
+
+front_to : (new : List ℕ) (n : ℕ) (xs ys : List ℕ) → ys ≡ take n xs → ((j : ℕ) → n ≤ j → j < length xs → has_free_bit new (slice_index xs j) ≡ true) → (i : ℕ) → i < length xs → GoesTo new xs ys i
+front_to new n xs ys e freed i l = elim (cases_lt i n) [
+  | inl m ↦ inl (omega (arith, l, m, ap length e, length-take n xs), ap (λ (zs : List ℕ). slice_index zs i) e ∙ get_or-take n xs i 0 m)
+  | inr m ↦ inr (freed i m l)
+]
+
+pub of_cut : (old new : List ℕ) (file count extensions : ℕ) → WritableFile new file → format_of new ≡ format_of old → LeavesOthers old file new
+    → ((c : ℕ) → IsInside (block_count old) c → has_free_bit old c ≡ true → has_free_bit new c ≡ true)
+    → data_blocks new file ≡ take count (data_blocks old file) → extension_blocks new file ≡ take extensions (extension_blocks old file)
+    → ((j : ℕ) → count ≤ j → j < length (data_blocks old file) → has_free_bit new (slice_index (data_blocks old file) j) ≡ true)
+    → ((q : ℕ) → extensions ≤ q → q < length (extension_blocks old file) → has_free_bit new (slice_index (extension_blocks old file) q) ≡ true)
+    → IsRewritten old file (data_blocks old file) (extension_blocks old file) new (data_blocks new file) (extension_blocks new file) (contents new file)
+of_cut old new file count extensions writable format leaves stays blocks lists freed freed_lists = record {
+  writable = writable;
+  format = format;
+  leaves = leaves;
+  data_from = front_from old count (data_blocks old file) (data_blocks new file) blocks;
+  extensions_from = front_from old extensions (extension_blocks old file) (extension_blocks new file) lists;
+  data_to = front_to new count (data_blocks old file) (data_blocks new file) blocks freed;
+  extensions_to = front_to new extensions (extension_blocks old file) (extension_blocks new file) lists freed_lists;
+  taken = λ c i was is. absurd (false≢true (sym is ∙ stays c i was));
+}
+
+-- ---- lists that grow
+
+more_from : (old xs ys : List ℕ) → take (length xs) ys ≡ xs → (i : ℕ) → ((i < length xs) × (slice_index ys i ≡ slice_index xs i)) ⊎ ((2 ≤ slice_index ys i) × (has_free_bit old (slice_index ys i) ≡ true)) → ComesFrom old xs ys i
+more_from old xs ys e i h = elim (cases_lt i (length xs)) [
+  | inl l ↦ inl (l, front_at xs ys e i l)
+  | inr l ↦ elim h [ inl same ↦ absurd (omega (arith, l, same.0)) | inr free ↦ inr (l, free.1) ]
+]
+
+more_to : (new xs ys : List ℕ) → take (length xs) ys ≡ xs → (i : ℕ) → i < length xs → GoesTo new xs ys i
+more_to new xs ys e i l =
+    inl (omega (arith, l, ap length e, length-take (length xs) ys), front_at xs ys e i l)
+
+pub of_gains : {old new : List ℕ} {file size : ℕ} → WritableFile old file → GrowsFile old file size new → IsRewritten old file (data_blocks old file) (extension_blocks old file) new (data_blocks new file) (extension_blocks new file) (contents new file)
+of_gains {old} {new} {file} was g = record {
+  writable = g.writable;
+  format = g.format;
+  leaves = g.leaves;
+  data_from = λ i l. more_from old (data_blocks old file) (data_blocks new file) g.blocks i (g.gains.data_blocks_of i l);
+  extensions_from = λ q l.
+      more_from old (extension_blocks old file) (extension_blocks new file) g.extensions q (elim (g.gains.headers (suc q) (omega arith)) [ inl same ↦ inl (omega (arith, same.0), same.1) | inr free ↦ inr free ]);
+  data_to = more_to new (data_blocks old file) (data_blocks new file) g.blocks;
+  extensions_to = more_to new (extension_blocks old file) (extension_blocks new file) g.extensions;
+  taken = λ c i was_free is_used. elim (g.gains.taken c i was_free is_used) [
+    | inl header ↦ in_lists c was_free header.0 header.1 header.2
+    | inr block ↦ inl (block.0, block.1, sym block.2)
+  ];
+}
+  where
+    -- the header was in use before
+    in_lists : (c : ℕ) → has_free_bit old c ≡ true → (q : ℕ) → q ≤ length (extension_blocks new file) → c ≡ slice_index (file ∷ extension_blocks new file) q → IsIn (data_blocks new file) c ⊎ IsIn (extension_blocks new file) c
+    in_lists c free zero l e = absurd (false≢true (sym (was.headers_used 0 (omega arith)).marked ∙ ap (has_free_bit old) (sym e) ∙ free))
+    in_lists c free (suc q) l e = inr (q, omega (arith, l), sym e)

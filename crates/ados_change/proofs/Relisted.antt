@@ -1,18 +1,19 @@
 -- A link of a hash chain and the date of its directory change: the image represents the tree with the directory's new
 -- list.
-use Rattle.std.proofs.Common.{◌≡◌, ◌≢◌, ℕ, ◌+◌, ◌/◌, ◌<◌, ◌≤◌, ◌⊎◌, inl, inr, List, [], ◌∷◌, Contains, Option, Some, None, is_some, IsSome, option_map, refl, sym, ap, ◌∙◌, subst, arith}
-use Rattle.ados_change.proofs.Common.{same_trans, same_weaken, cases_eq, block_sum, long, Chained, table_entry, NAME_BYTE, NEXT_IN_CHAIN, SameBut, same_sum, Date3, AtLinks, Relinks, link_block, link_long, Contains-here, Contains-later, Content, Node, Tree, root, size_in, Directory, File, listed, date_at, Layout, HasNode, HasEntry, type_of, in_slot, Dated, Chained-kept}
-use Rattle.ados_change.proofs.Frame.{AtLongs, AtDate, long-kept, sum-kept, dated_longs}
+use Rattle.ados_change.proofs.Common.{◌≡◌, ◌≢◌, ℕ, ◌+◌, ◌/◌, ◌<◌, ◌≤◌, ◌⊎◌, inl, inr, List, [], ◌∷◌, Contains, Option, Some, None, is_some, IsSome, option_map, refl, sym, ap, ◌∙◌, subst, arith, same_trans, same_weaken, cases_eq, block_sum, long, Chained, table_entry, NAME_BYTE, NEXT_IN_CHAIN, SameBut, same_sum, Date3, AtLinks, Relinks, link_block, link_long, Contains-here, Contains-later, Content, Node, Tree, root, size_in, Directory, File, listed, date_at, Layout, HasNode, HasEntry, type_of, in_slot, Dated, Chained-kept}
+use Rattle.ados_change.proofs.Unchanged.{AtLongs, AtDate, long-kept, sum-kept, dated_longs}
 use Rattle.ados_change.proofs.Changed.{nodes_here, nodes_other, changed_keeps, each_keeps, was, relisted}
-use Rattle.ados_change.proofs.Loose.{Loose}
-use Rattle.ados_change.proofs.Spells.{Spells}
+use Rattle.ados_change.proofs.Loose.{Loose, Spells}
 use Rattle.ados_change.proofs.Reframed.{TellsOnly, Telling, SameFiles, first_kept, text_stays, date_stays, entry_stays, reframed}
-use Rattle.ados_change.proofs.Reframed.Telling.{sum, table, heading, linking}
 
 -- where a link of a directory's hash chains may be: in its hash table, or in an entry
 pub data IsLinkPlace (t : Tree) (dir b i : ℕ) : Type 0 where
   in_table : b ≡ dir → 6 ≤ i → i < 78 → IsLinkPlace t dir b i
   in_entry : (node : Node) → t.nodes b ≡ Some node → b ≢ root t → i ≡ NEXT_IN_CHAIN → IsLinkPlace t dir b i
+
+place_long : {t : Tree} {dir b i : ℕ} → IsLinkPlace t dir b i → ((6 ≤ i) × (i < 78)) ⊎ (i ≡ 124)
+place_long (in_table e m n) = inl (m, n)
+place_long (in_entry node f n e) = inr e
 
 -- the link after entries of a hash chain is in such a place
 pub link_place : (t : Tree) (dir b i : ℕ) (front : List ℕ) → IsLinkPlace t dir b i → ((k : ℕ) → Contains front k → (node : Node) × (t.nodes k ≡ Some node) × (k ≢ root t)) → IsLinkPlace t dir (link_block b front) (link_long i front)
@@ -50,60 +51,25 @@ module _ (old mid new : List ℕ) (t : Tree) (l : Layout) (loose_key : ℕ) (s :
       linked (in_entry n f m e) = ap is_some f
 
       of_key : (b j : ℕ) → W b j → IsSome (t.nodes b)
-      of_key b j (inl (inl (inl (e, f)))) = ap is_some (ap t.nodes e) ∙ linked place
-      of_key b j (inl (inl (inr (e, f)))) = ap is_some (ap t.nodes e) ∙ linked place
-      of_key b j (inl (inr (inl (e, f)))) = ap is_some (ap t.nodes e ∙ at_key)
-      of_key b j (inl (inr (inr (e, f)))) = ap is_some (ap t.nodes e ∙ at_key)
-      of_key b j (inr (e, inr (f, g))) = ap is_some (ap t.nodes e ∙ at)
-      of_key b j (inr (e, inl f)) = ap is_some (ap t.nodes e ∙ at)
+      of_key b j (inl (inl w)) = let e : b ≡ b0 = omega (arith, w) in ap is_some (ap t.nodes e) ∙ linked place
+      of_key b j (inl (inr w)) = let e : b ≡ key = omega (arith, w) in ap is_some (ap t.nodes e ∙ at_key)
+      of_key b j (inr w) = ap is_some (ap t.nodes w.0 ∙ at)
 
       placed : (b j : ℕ) → b ≡ b0 → j ≡ i0 → IsLinkPlace t dir b0 i0 → Telling t b j
-      placed b j e f (in_table d m n) = table (no_file b (e ∙ d)) (omega (arith, f, m)) (omega (arith, f, n))
-      placed b j e f (in_entry n g m d) = linking (λ r. m (sym e ∙ r)) (omega (arith, f, d)) (omega (arith, f, d))
+      placed b j e f (in_table d m n) = inr (inl (no_file b (e ∙ d), omega (arith, f, m), omega (arith, f, n)))
+      placed b j e f (in_entry n g m d) = inr (inr (inr (inr (λ r. m (sym e ∙ r), omega (arith, f, d), omega (arith, f, d)))))
 
       telling : (b j : ℕ) → W b j → Telling t b j
       telling b j (inl (inl (inl (e, f)))) = placed b j e f place
-      telling b j (inl (inl (inr (e, f)))) = sum f
-      telling b j (inl (inr (inl (e, f)))) = linking (λ r. no_root (sym e ∙ r)) (omega (arith, f)) (omega (arith, f))
-      telling b j (inl (inr (inr (e, f)))) = sum f
-      telling b j (inr (e, inr (f, g))) = heading f (omega (arith, g))
-      telling b j (inr (e, inl f)) = sum f
-
-  root_some : IsSome (t.nodes (root t))
-  root_some = ap is_some loose.root_node.1
-
-  size : (t.blocks ≤ 101602) × (16 ≤ t.blocks)
-  size = (loose.size.1, loose.size.0)
+      telling b j (inl (inl (inr (e, f)))) = inl f
+      telling b j (inl (inr (inl (e, f)))) = inr (inr (inr (inr (λ r. no_root (sym e ∙ r), omega (arith, f), omega (arith, f)))))
+      telling b j (inl (inr (inr (e, f)))) = inl f
+      telling b j (inr (e, inr (f, g))) = inr (inr (inr (inl (f, omega (arith, g)))))
+      telling b j (inr (e, inl f)) = inl f
 
   -- a long outside hash tables, links, dates and checksums
   free : (b j : ℕ) → ((78 ≤ j) × (j < 105)) ⊎ (((108 ≤ j) × (j < 124)) ⊎ (j ≡ 125)) → ¬ W b j
-  free b j o w = go place w
-    where
-      apart : (i : ℕ) → (i < 78) ⊎ (i ≡ NEXT_IN_CHAIN) → j ≡ i → ⊥
-      apart i (inl m) e = elim o [ inl x ↦ omega (arith, x.0, e, m) | inr (inl x) ↦ omega (arith, x.0, e, m) | inr (inr x) ↦ omega (arith, x, e, m) ]
-      apart i (inr m) e = elim o [ inl x ↦ omega (arith, x.1, e, m) | inr (inl x) ↦ omega (arith, x.1, e, m) | inr (inr x) ↦ omega (arith, x, e, m) ]
-
-      go : IsLinkPlace t dir b0 i0 → W b j → ⊥
-      go (in_table d m n) (inl (inl (inl (e, f)))) = apart i0 (inl n) f
-      go (in_entry n g m d) (inl (inl (inl (e, f)))) = apart i0 (inr d) f
-      go p (inl (inl (inr (e, f)))) = apart 5 (inl (omega arith)) f
-      go p (inl (inr (inl (e, f)))) = apart 124 (inr refl) f
-      go p (inl (inr (inr (e, f)))) = apart 5 (inl (omega arith)) f
-      go p (inr (e, inr (f, g))) = elim o [ inl x ↦ omega (arith, x.1, f) | inr (inl x) ↦ omega (arith, x.0, g) | inr (inr x) ↦ omega (arith, x, g) ]
-      go p (inr (e, inl f)) = apart 5 (inl (omega arith)) f
-
-  -- only the directory's date is written
-  undated : (b j : ℕ) → b ≢ dir → 105 ≤ j → j < 108 → ¬ W b j
-  undated b j n p q w = go place w
-    where
-      go : IsLinkPlace t dir b0 i0 → W b j → ⊥
-      go (in_table d m o) (inl (inl (inl (e, f)))) = omega (arith, f, o, p)
-      go (in_entry o g m d) (inl (inl (inl (e, f)))) = omega (arith, f, d, q)
-      go x (inl (inl (inr (e, f)))) = omega (arith, f, p)
-      go x (inl (inr (inl (e, f)))) = omega (arith, f, q)
-      go x (inl (inr (inr (e, f)))) = omega (arith, f, p)
-      go x (inr (e, inr (f, g))) = n e
-      go x (inr (e, inl f)) = omega (arith, f, p)
+  free b j o w = omega (arith, o, w, place_long place)
 
   sum_after : (k : ℕ) → block_sum old k ≡ 0 → block_sum new k ≡ 0
   sum_after k was = elim (cases_eq k dir) [
@@ -125,14 +91,14 @@ module _ (old mid new : List ℕ) (t : Tree) (l : Layout) (loose_key : ℕ) (s :
         let w = was (relisted moment list) dir t k b e in
         let g = s.nodes k w.old w.at in
         let short = loose.name k w.old w.at in
-        let named = text_stays old new t l s root_some size W tells change k NAME_BYTE w.old.name (omega (arith, short.short)) (λ j p q. free k (j / 4) (inr (inl (omega arith, omega (arith, q, short.short))))) g.name in
-        let primary = first_kept old new t l s root_some size W tells change k 0 (omega arith) ∙ g.primary in
+        let named = text_stays old new t l s loose W tells change k NAME_BYTE w.old.name (omega (arith, short.short)) (λ j p q. free k (j / 4) (inr (inl (omega arith, omega (arith, q, short.short))))) g.name in
+        let primary = first_kept old new t l s loose W tells change k 0 (omega arith) ∙ g.primary in
         elim (w.how) [
           | inl h ↦ subst (HasNode new k) (sym h.1) (record {
             primary = primary;
             sum = sum_after k g.sum;
             name = named;
-            date = date_stays old new t l s root_some size W tells change k 105 (omega arith) (λ j p q. undated k j h.0 p (omega arith)) ∙ g.date;
+            date = date_stays old new t l s loose W tells change k 105 (omega arith) (λ j p q w. omega (arith, h.0, p, q, w, place_long place)) ∙ g.date;
           })
           | inr h ↦ subst (HasNode new k) (sym h.1) (record {
             primary = primary;
@@ -147,7 +113,7 @@ module _ (old mid new : List ℕ) (t : Tree) (l : Layout) (loose_key : ℕ) (s :
         let w = was (relisted moment list) dir t k b e in
         let comment = loose.comment k w.old w.at in
         let stays : (o : Option ℕ) → w.old.parent ≡ Some d → HasEntry new k w.old d = λ o q.
-        entry_stays old new t l s root_some size W tells change k d w.old comment (λ j m n. free k j (inl (omega arith, omega arith))) (free k 125 (inr (inr refl))) (s.entries k d w.old w.at q) in
+        entry_stays old new t l s loose W tells change k d w.old comment (λ j m n. free k j (inl (omega arith, omega arith))) (free k 125 (inr (inr refl))) (s.entries k d w.old w.at q) in
         elim (w.how) [
           | inl h ↦ subst (λ (n : Node). HasEntry new k n d) (sym h.1) (stays None (sym (ap (λ (n : Node). n.parent) h.1) ∙ p))
           | inr h ↦
@@ -190,8 +156,5 @@ module _ (old mid new : List ℕ) (t : Tree) (l : Layout) (loose_key : ℕ) (s :
         subst (λ (first : ℕ). Chained new NEXT_IN_CHAIN first (in_slot u d q)) (sym (undated_long d (6 + q) (omega (arith, m)) (inl (omega (arith, m))) (omega arith)))
         (Chained-kept mid new NEXT_IN_CHAIN (table_entry mid d q) (in_slot u d q) (λ i n. undated_long i 124 (omega arith) (inr (omega arith)) (omega arith)) (chains d w.old directory.0 q w.at directory.1 m))
 
-    root_dated : date_at new (root t) 118 ≡ t.disk_date
-    root_dated = date_stays old new t l s root_some size W tells change (root t) 118 (omega arith) (λ j p q. free (root t) j (inr (inl (omega arith, omega arith)))) ∙ s.root_fields.disk_date
-
     pub relisted_spells : Spells new (listed moment dir list t) l
-    relisted_spells = reframed old new t l s root_some size W tells change u.nodes t.disk_date same_files root_dated node_after (λ k d b e p. entry_after k d b e p) chains_after
+    relisted_spells = reframed old new t l s loose W tells change u.nodes t.disk_date same_files (date_stays old new t l s loose W tells change (root t) 118 (omega arith) (λ j p q. free (root t) j (inr (inl (omega arith, omega arith)))) ∙ s.root_fields.disk_date) node_after (λ k d b e p. entry_after k d b e p) chains_after

@@ -1,15 +1,10 @@
 -- A block allocated for a new node, or freed by one: the rest of the image is unchanged.
-use Rattle.std.proofs.Common.{◌≡◌, ◌≢◌, ℕ, ◌+◌, ◌/◌, ◌<◌, ◌⊎◌, inl, inr, Bool, true, false, ◌==◌, List, length, slice_index, Contains, not, Option, Some, is_some, option_map, refl, sym, ap, ◌∙◌, subst, arith}
-use Rattle.ados_change.proofs.Common.{BitChanged, MapPlace, page_block, page_of, pages_of, bit_of_inside, same_sum, OnlyBlock, other_block_sum, get_or_default, cases_eq, IsInside, has_free_bit, block_sum, Chained, HasFreeBit, table_entry, NEXT_IN_CHAIN, slot, data_count, Node, Tree, root, entries, entries_in, size_of, name_of, size_in, HasFile, Layout, Fits, Duty, HasDuty, Named, HasNode, HasEntry, in_slot, Directory, File, with_node, SameBut, slice_get-index, parent_in, Chained-kept}
-use Rattle.ados_change.proofs.Frame.{AtLongs}
-use Rattle.ados_change.proofs.Unchanged.{Stays, long_as, bytes_as, node_as, entry_as, root_as}
-use Rattle.ados_change.proofs.OtherFiles.{file_stays}
+use Rattle.ados_change.proofs.Common.{◌≡◌, ◌≢◌, ℕ, ◌+◌, ◌/◌, ◌<◌, ◌⊎◌, inl, inr, Bool, true, false, ◌==◌, List, length, slice_index, Contains, not, Option, Some, is_some, option_map, refl, sym, ap, ◌∙◌, subst, arith, BitChanged, MapPlace, page_block, page_of, pages_of, bit_of_inside, same_sum, OnlyBlock, other_block_sum, get_or_default, cases_eq, IsInside, has_free_bit, block_sum, Chained, HasFreeBit, table_entry, NEXT_IN_CHAIN, slot, data_count, Node, Tree, root, entries, entries_in, size_of, name_of, size_in, HasFile, Layout, Fits, Duty, HasDuty, Named, HasNode, HasEntry, in_slot, Directory, File, with_node, SameBut, slice_get-index, parent_in, Chained-kept}
+use Rattle.ados_change.proofs.Unchanged.{AtLongs, Stays, long_as, bytes_as, node_as, entry_as, root_as, file_stays}
 use Rattle.ados_change.proofs.Entering.{Contains-part}
 use Rattle.ados_change.proofs.Changed.{nodes_here, nodes_other}
-use Rattle.ados_change.proofs.Loose.{Loose}
+use Rattle.ados_change.proofs.Loose.{Loose, Spells, same_duty, slots_beside}
 use Rattle.ados_change.proofs.Lawful.{count, page_is, page_within}
-use Rattle.ados_change.proofs.Slots.{slots_beside}
-use Rattle.ados_change.proofs.Spells.{Spells, same_duty}
 
 -- a bitmap block
 abbrev pub IsPage : Layout → ℕ → Type 0
@@ -82,14 +77,8 @@ module _ (old new : List ℕ) (t : Tree) (l : Layout) (key : ℕ) (o : Option No
   by_duty : (b : ℕ) (duty : Duty) → HasDuty t l b duty → ((p : ℕ) → duty ≢ Duty.Page p) → b ≢ key → IsBeside b
   by_duty b duty m n o = (o, λ p h e. n p (s.fits.one_duty b duty (Duty.Page p) m (slice_get-index l.pages p h ∙ ap Some e)))
 
-  not_key_duty : (b : ℕ) (duty : Duty) → HasDuty t l b duty → duty ≢ Duty.Key → b ≢ key
-  not_key_duty b duty m n e = n (alone.only duty (subst (λ (c : ℕ). HasDuty t l c duty) e m))
-
   node_beside : (k : ℕ) (a : Node) → t.nodes k ≡ Some a → k ≢ key → IsBeside k
   node_beside k a e n = by_duty k Duty.Key (rw e refl) (λ p z. cc z) n
-
-  root_beside : IsBeside (root t)
-  root_beside = node_beside (root t) loose.root_node.0 loose.root_node.1 (λ e. loose.not_root (sym e))
 
   boot_beside : IsBeside 0
   boot_beside = (
@@ -99,7 +88,7 @@ module _ (old new : List ℕ) (t : Tree) (l : Layout) (key : ℕ) (o : Option No
 
   -- a block used neither as a bitmap block nor as a key is unchanged
   list_stays : (b : ℕ) (duty : Duty) → HasDuty t l b duty → ((p : ℕ) → duty ≢ Duty.Page p) → duty ≢ Duty.Key → Stays old new b
-  list_stays b duty m n o = stays b (by_duty b duty m n (not_key_duty b duty m o))
+  list_stays b duty m n o = stays b (by_duty b duty m n (λ e. o (alone.only duty (subst (λ (c : ℕ). HasDuty t l c duty) e m))))
 
   file_kept : (file : ℕ) (a : Node) (bytes : List ℕ) → t.nodes file ≡ Some a → a.content ≡ File bytes → IsBeside file → HasFile new t.format file (l.file_data file) (l.extensions file) bytes
   file_kept file a bytes e c n =
@@ -114,16 +103,10 @@ module _ (old new : List ℕ) (t : Tree) (l : Layout) (key : ℕ) (o : Option No
     | inr n ↦ inr (n, sym (nodes_other key o t k n) ∙ e)
   ]
 
-  slots_same : (dir q : ℕ) → in_slot w dir q ≡ in_slot t dir q
-  slots_same dir q = slots_beside t key loose o alone.same_list dir q
-
   -- ---- the uses
 
   serves_old : (b : ℕ) (duty : Duty) → b ≢ key → HasDuty w l b duty → HasDuty t l b duty
   serves_old b duty n m = same_duty w t l b (ap is_some (sym (nodes_other key o t b n))) refl duty m
-
-  serves_new : (b : ℕ) (duty : Duty) → b ≢ key → HasDuty t l b duty → HasDuty w l b duty
-  serves_new b duty n m = same_duty t w l b (ap is_some (nodes_other key o t b n)) refl duty m
 
   serves_here : (duty : Duty) → HasDuty w l key duty → (duty ≡ Duty.Key) × (is_some o ≡ true)
   serves_here Duty.Key m = (refl, ap is_some (sym (nodes_here key o t)) ∙ m)
@@ -166,7 +149,7 @@ module _ (old new : List ℕ) (t : Tree) (l : Layout) (key : ℕ) (o : Option No
     | inl e ↦
         let set : is_some o ≡ true = is_set (is_some o) refl (λ z. m (ap (has_free_bit new) e ∙ z)) in
         (Duty.Key, ap is_some (ap w.nodes e ∙ nodes_here key o t) ∙ set)
-    | inr d ↦ let n = s.marked_used b i (λ z. m (r.others b i d ∙ z)) in (n.0, serves_new b n.0 d n.1)
+    | inr d ↦ let n = s.marked_used b i (λ z. m (r.others b i d ∙ z)) in (n.0, same_duty t w l b (ap is_some (nodes_other key o t b d)) refl n.0 n.1)
   ]
     where
       is_set : (c : Bool) → is_some o ≡ c → ¬ HasFreeBit new key → c ≡ true
@@ -196,7 +179,7 @@ module _ (old new : List ℕ) (t : Tree) (l : Layout) (key : ℕ) (o : Option No
         node_beside k n.0 n.1 p.0
 
     chain_after : (dir : ℕ) (a : Node) (keys : List ℕ) (q : ℕ) → w.nodes dir ≡ Some a → a.content ≡ Directory keys → q < 72 → Chained new NEXT_IN_CHAIN (table_entry new dir q) (in_slot w dir q)
-    chain_after dir a keys q e c m = subst (Chained new NEXT_IN_CHAIN (table_entry new dir q)) (sym (slots_same dir q)) (elim (node_at dir a e) [
+    chain_after dir a keys q e c m = subst (Chained new NEXT_IN_CHAIN (table_entry new dir q)) (sym (slots_beside t key loose o alone.same_list dir q)) (elim (node_at dir a e) [
       | inl h ↦ subst (λ (d : ℕ). Chained new NEXT_IN_CHAIN (table_entry new d q) (in_slot t d q)) (sym h.0) (slots_here a keys q h.1 c m)
       | inr h ↦
           subst (λ (first : ℕ). Chained new NEXT_IN_CHAIN first (in_slot t dir q)) (sym (long_as old new dir (stays dir (node_beside dir a h.1 h.0)) (6 + q) (omega (arith, m))))
@@ -208,7 +191,7 @@ module _ (old new : List ℕ) (t : Tree) (l : Layout) (key : ℕ) (o : Option No
       fits = fits_after;
       whole = r.change.same_length ∙ s.whole;
       boot = bytes_as old new 0 (stays 0 boot_beside) 0 4 (omega arith) ∙ s.boot;
-      root_fields = root_as old new t l w.nodes l.file_data l.extensions (omega (arith, s.fits.pages, loose.size.1)) (stays (root t) root_beside) s.root_fields;
+      root_fields = root_as old new t l w.nodes l.file_data l.extensions (omega (arith, s.fits.pages, loose.size.1)) (stays (root t) (node_beside (root t) loose.root_node.0 loose.root_node.1 (λ e. loose.not_root (sym e)))) s.root_fields;
       nodes = node_after;
       entries = entry_after;
       pages = r.sums;

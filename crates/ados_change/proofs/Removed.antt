@@ -1,18 +1,13 @@
 -- The steps that remove an entry without contents: the image represents the tree without it.
-use Rattle.std.proofs.Common.{◌≡◌, ◌≢◌, ℕ, ◌<◌, inl, inr, true, List, length, slice_index, sym, ap, ◌∙◌, subst, arith, Option, None, option_map, refl, []}
-use Rattle.ados_change.proofs.Common.{cases_eq, block_count, has_free_bit, root_key, IsInside, HasFreeBit, parent_key, SameBut, same_count, same_trans, MapPlace, BitChanged, LawfulPages, page_block, page_of, Date3, LawfulChains, Unlinks, removed, Stands, bit_of_inside, InImage, KeepsPastEnd, KeepsUntold, Node, Tree, root, size_of, CanRemove, Dated, Proper, entries, size_in, with_node, stamped, Duty}
-use Rattle.ados_change.proofs.Leaving.{in_tree, key_inside, out, out_is_loose, out_entry, count_out, out_spells, out_written}
-use Rattle.ados_change.proofs.Frame.{at_root}
+use Rattle.ados_change.proofs.Common.{◌≡◌, ◌≢◌, ℕ, inl, inr, true, List, sym, ap, ◌∙◌, subst, arith, Option, None, option_map, refl, [], cases_eq, block_count, has_free_bit, root_key, IsInside, HasFreeBit, parent_key, SameBut, same_count, same_trans, MapPlace, BitChanged, LawfulPages, page_of, Date3, LawfulChains, Unlinks, removed, Stands, bit_of_inside, InImage, KeepsPastEnd, KeepsUntold, Node, Tree, root, size_of, CanRemove, Dated, Proper, entries, size_in, with_node, stamped, Duty, GivesBack, IsChanged, IsWritten}
+use Rattle.ados_change.proofs.Leaving.{in_tree, key_inside, out, out_is_loose, out_entry, count_out, out_spells, out_written, stamped_spells}
+use Rattle.ados_change.proofs.Unchanged.{at_root}
 use Rattle.ados_change.proofs.FilesStay.{past_end_trans}
-use Rattle.ados_change.specs.steps.Emptied.{GivesBack}
-use Rattle.ados_change.proofs.Lawful.{page_is, page_within, lawful_pages}
-use Rattle.ados_change.specs.steps.Footprint.{IsChanged, IsPage, IsWritten}
-use Rattle.ados_change.proofs.EntriesKept.{page_changed, written_changed}
-use Rattle.ados_change.proofs.KeptSteps.{marked_kept, stamped_kept}
-use Rattle.ados_change.proofs.Listing.{stamped_spells}
-use Rattle.ados_change.proofs.Loose.{Loose, left_is, not_own_parent, node_kept, entries_other, without_is_proper, proper_is_loose, stamped_is_proper}
+use Rattle.ados_change.proofs.Lawful.{lawful_pages}
+use Rattle.ados_change.proofs.EntriesKept.{page_changed, written_changed, marked_kept, stamped_kept}
+use Rattle.ados_change.proofs.ProperChanges.{removed_is_proper}
+use Rattle.ados_change.proofs.Loose.{Loose, left_is, not_own_parent, node_kept, entries_other, without_is_proper, proper_is_loose, Spells, stands}
 use Rattle.ados_change.proofs.EntriesUntold.{HasPages, IsOffMap, bit_past_end, freed_stays, marks_stay, off_marks, off_past_end, old_pages, pages_after, past_end, untold_kept, written_off}
-use Rattle.ados_change.proofs.Spells.{Spells, stands}
 use Rattle.ados_change.proofs.Remarked.{IsAlone, marked_remarks, remarked}
 
 module _ (old : List ℕ) (t : Tree) (st : Stands old t) (moment : Date3) (key : ℕ) (can : CanRemove t key) (no_bytes : size_of t key ≡ 0) (from : ℕ) (from_is : from ≡ parent_key old key)
@@ -38,11 +33,6 @@ module _ (old : List ℕ) (t : Tree) (st : Stands old t) (moment : Date3) (key :
 
   pub pages_still : LawfulPages m2
   pages_still = lawful_pages m2 left_out st.layout key spelled loose
-
-  page : (page_of key < length st.layout.pages) × (slice_index st.layout.pages (page_of key) ≡ page_block m2 (page_of key))
-  page =
-      let within = page_within m2 left_out st.layout key spelled loose (page_of key) (omega (arith, inside.0, inside.1, count_m2)) in
-      (within, sym (page_is m2 left_out st.layout key spelled loose (page_of key) within))
 
   no_entries : [] ≡ entries left_out key
   no_entries = sym (entries_other t st.proper key can.dir can.listed moment key (λ e. not_own_parent t st.proper key can.dir can.listed moment (sym e)) ∙ can.empty)
@@ -89,15 +79,9 @@ module _ (old : List ℕ) (t : Tree) (st : Stands old t) (moment : Date3) (key :
         (stamped_spells m3 m4 (with_node key None left_out) st.layout 0 gone_spells (proper_is_loose (with_node key None left_out) gone_proper) moment restamped)
 
     pub gone : Stands m4 (removed moment key t)
-    gone =
-        stands m4 (removed moment key t) st.layout
-        (subst (λ (u : Tree). Proper (stamped moment (with_node key None u))) (sym (left_is t st.proper key can.dir can.listed moment)) (stamped_is_proper moment (with_node key None left_out) gone_proper))
-        after
+    gone = stands m4 (removed moment key t) st.layout (removed_is_proper t moment key st.proper can) after
 
     -- ---- what is unchanged
-
-    marked : SameBut (λ b i. IsPage old t st b) m2 m3
-    marked = marked_kept old t st m4 key (page_of key) true m2 m3 page.0 page.1 given
 
     last_written : SameBut (IsWritten old t st m4) m3 m4
     last_written = stamped_kept old t st m4 moment m3 m4 restamped
@@ -105,7 +89,7 @@ module _ (old : List ℕ) (t : Tree) (st : Stands old t) (moment : Date3) (key :
     pub gone_changed : SameBut (IsChanged old t st m4) old m4
     gone_changed =
         same_trans (IsChanged old t st m4) old m3 m4
-        (same_trans (IsChanged old t st m4) old m2 m3 (written_changed old t st m4 old m2 (written m4)) (page_changed old t st m4 m2 m3 marked))
+        (same_trans (IsChanged old t st m4) old m2 m3 (written_changed old t st m4 old m2 (written m4)) (page_changed old t st m4 m2 m3 (marked_kept old t st m4 key true m2 m3 (out_map.serves (page_of key) (omega (arith, inside.0, inside.1, count_m2))) given)))
         (written_changed old t st m4 m3 m4 last_written)
 
     -- ---- the bitmap

@@ -1,19 +1,17 @@
 -- A file that gets its time stamp and is then rewritten: consequences for the tree and the image.
-use Rattle.std.proofs.Common.{◌≡◌, ◌≢◌, ℕ, ◌+◌, ◌/◌, ◌<◌, ◌≤◌, inl, inr, true, false, List, length, Option, Some, None, option_map, refl, sym, ap, ap₂, ◌∙◌, subst, arith, eq-eqb, []}
-use Rattle.ados_change.proofs.Common.{ne_eqb, stamped, cases_eq, lt-ltb, ltb-true, false≢true, IsImage, free_bit_count, IsInside, block_count, byte_at, long, has_free_bit, secondary_type, format_of, SameBut, FILE_TYPE, same_count, long-same, Date3, NoneFreeBelow, block_cost, Content, Node, Tree, root, free, content_at, size_of, bytes_of, data_blocks, extension_blocks, contents, HasFree, WritableFile, IsDataField, RisesBehind, IsBeside, KeepsUnnamed, pages_of, page_count, File, Duty, Stands, HasFileKey, HasTree, rewritten, without_archive, KeepsRest, root_is, IsFileNode, one_tree, AtStamps, IsFileStamp, touched, IsStamped, NeedsMore}
+use Rattle.ados_change.proofs.Common.{◌≡◌, ◌≢◌, ℕ, ◌+◌, ◌/◌, ◌<◌, ◌≤◌, inl, inr, true, false, List, length, Option, Some, None, option_map, refl, sym, ap, ap₂, ◌∙◌, subst, arith, eq-eqb, [], ne_eqb, stamped, cases_eq, lt-ltb, ltb-true, false≢true, IsImage, free_bit_count, IsInside, block_count, byte_at, long, has_free_bit, secondary_type, format_of, SameBut, FILE_TYPE, same_count, long-same, Date3, NoneFreeBelow, block_cost, Content, Node, Tree, root, free, content_at, size_of, bytes_of, data_blocks, extension_blocks, contents, HasFree, WritableFile, IsDataField, RisesBehind, IsBeside, KeepsUnnamed, pages_of, page_count, File, Duty, Stands, HasFileKey, HasTree, rewritten, without_archive, KeepsRest, root_is, IsFileNode, one_tree, AtStamps, IsFileStamp, touched, IsStamped, NeedsMore, free_bits_count}
 use Rattle.ados_data.proofs.Bounds.{below_stays}
 use Rattle.ados_model.specs.Tree.{bytes_in as bytes_held}
 use Rattle.ados_data.specs.declared.place.Place.{Place}
 use Rattle.ados_data.specs.Place.{IsAmong, IsPlace}
-use Rattle.ados_change.proofs.FilesStay.{file_of_key, has_bytes, untold_trans}
-use Rattle.ados_model.proofs.Counting.{free_bits_count}
 use Rattle.ados_change.proofs.Writable.{inside, key_serves, writable, data_is, extensions_is, bytes_is, format_is}
-use Rattle.ados_change.proofs.Changed.{each_keeps, same_nodes}
+use Rattle.ados_change.proofs.FilesStay.{file_of_key, has_bytes, untold_trans}
+use Rattle.ados_change.proofs.Changed.{each_keeps, same_nodes, changed_keeps}
 use Rattle.ados_change.proofs.Contents.{refilled, holding, file_not_root}
 use Rattle.ados_change.proofs.Relaid.{IsRewritten}
 use Rattle.ados_change.proofs.Refilled.{stands_after}
 use Rattle.ados_change.proofs.BytesKept.{kept, takes_lowest, freed_stays, key_used}
-use Rattle.ados_change.proofs.Stamped.{kept_before, type_stamped, count_marked, lowest_before, marks_same, format_same, stamps_keep}
+use Rattle.ados_change.proofs.Stamping.{kept_before, type_stamped, count_marked, lowest_before, marks_same, format_same, stamps_keep}
 use Rattle.ados_change.proofs.BytesUntold.{untold_kept}
 
 pub bytes_in : (image : List ℕ) (t : Tree) (s : Stands image t) (file : ℕ) → HasFileKey image file → contents image file ≡ bytes_of t file
@@ -61,9 +59,6 @@ lacks_room image t s file size key h = let f = free_in image t s file size key i
 abbrev touch : Date3 → Node → Node
 touch moment node = record node { date = moment; protection = without_archive node.protection }
 
-abbrev rewrite : Date3 → List ℕ → Node → Node
-rewrite moment bytes node = record node { content = File bytes; date = moment; protection = without_archive node.protection }
-
 -- a file that is stamped and refilled is rewritten
 same_node : (moment : Date3) (bytes : List ℕ) (file k : ℕ) (t : Tree) → (refilled file bytes (touched moment file t)).nodes k ≡ (rewritten moment file bytes t).nodes k
 same_node moment bytes file k t = elim (cases_eq k file) [
@@ -71,7 +66,7 @@ same_node moment bytes file k t = elim (cases_eq k file) [
   | inr n ↦ rw (ne_eqb k file n) refl
 ]
   where
-    go : (o : Option Node) → option_map (holding bytes) (option_map (touch moment) o) ≡ option_map (rewrite moment bytes) o
+    go : (o : Option Node) → option_map (holding bytes) (option_map (touch moment) o) ≡ option_map (λ (node : Node). record node { content = File bytes; date = moment; protection = without_archive node.protection }) o
     go None = refl
     go (Some a) = refl
 
@@ -81,15 +76,9 @@ is_rewritten moment bytes file t = same_nodes (stamped moment t) (refilled file 
 -- ---- after the time stamp
 
 module _ (moment : Date3) (old mid : List ℕ) (file : ℕ) (tree : HasTree old) (key : HasFileKey old file) (h : IsStamped moment old file mid) where
-  touched_content : (t : Tree) → content_at (touched moment file t) file ≡ content_at t file
-  touched_content t = rw (eq-eqb file file refl) (each_keeps (option_map (λ (node : Node). node.content)) (touch moment) (λ a. refl) (t.nodes file))
-
   -- the content of every node is the same
   touched_contents : (t : Tree) (k : ℕ) → content_at (touched moment file t) k ≡ content_at t k
-  touched_contents t k = elim (cases_eq k file) [
-    | inl e ↦ ap (content_at (touched moment file t)) e ∙ touched_content t ∙ ap (content_at t) (sym e)
-    | inr n ↦ rw (ne_eqb k file n) refl
-  ]
+  touched_contents t = changed_keeps (option_map (λ (node : Node). node.content)) (touch moment) file t (each_keeps (option_map (λ (node : Node). node.content)) (touch moment) (λ a. refl))
 
   -- the image after it represents a tree in which the file is still a file
   abbrev pub mid_tree : HasTree mid
@@ -99,7 +88,7 @@ module _ (moment : Date3) (old mid : List ℕ) (file : ℕ) (tree : HasTree old)
   mid_key t s =
       let c = key tree.0 tree.1 in
       let same : touched moment file tree.0 ≡ t = one_tree mid (touched moment file tree.0) t mid_tree.1 s in
-      (c.0, ap (λ (u : Tree). content_at u file) (sym same) ∙ touched_content tree.0 ∙ c.1)
+      (c.0, ap (λ (u : Tree). content_at u file) (sym same) ∙ touched_contents tree.0 file ∙ c.1)
 
   pub mid_writable : WritableFile mid file
   mid_writable = file_writable mid file mid_tree mid_key
@@ -145,7 +134,7 @@ module _ (moment : Date3) (old mid : List ℕ) (file : ℕ) (tree : HasTree old)
   pub same_contents : contents mid file ≡ contents old file
   same_contents =
       bytes_in mid mid_tree.0 mid_tree.1 file mid_key
-      ∙ ap (λ (c : Option Content). bytes_held c) (touched_content tree.0)
+      ∙ ap (λ (c : Option Content). bytes_held c) (touched_contents tree.0 file)
       ∙ sym (bytes_in old tree.0 tree.1 file key)
 
   -- its blocks are the same, so a place in it is still a place
@@ -153,7 +142,7 @@ module _ (moment : Date3) (old mid : List ℕ) (file : ℕ) (tree : HasTree old)
   same_place place =
       let c = key tree.0 tree.1 in
       let stays = (stamps_keep old mid tree.0 tree.1 file node.node node.at file_is_no_root rest).untold in
-      let same = stays.other_data file c.0 (has_bytes old tree.0 tree.1 file c.0 c.1) (has_bytes mid mid_tree.0 mid_tree.1 file c.0 (touched_content tree.0 ∙ c.1)) in
+      let same = stays.other_data file c.0 (has_bytes old tree.0 tree.1 file c.0 c.1) (has_bytes mid mid_tree.0 mid_tree.1 file c.0 (touched_contents tree.0 file ∙ c.1)) in
       subst (λ (xs : List ℕ). IsAmong file xs place) (sym same.extensions)
 
   pub same_room : (size : ℕ) → HasFree old file size → HasFree mid file size
@@ -172,9 +161,7 @@ module _ (moment : Date3) (old mid : List ℕ) (file : ℕ) (tree : HasTree old)
         let f = file_of_key mid (touched moment file u) after file mid_key in
         let blocks = data_is mid (touched moment file u) after file f.node f.bytes f.at f.content in
         let lists = extensions_is mid (touched moment file u) after file f.node f.bytes f.at f.content in
-        let laid : IsRewritten mid file (after.layout.file_data file) (after.layout.extensions file) new (data_blocks new file) (extension_blocks new file) (contents new file) =
-        subst (λ (xs : List ℕ). IsRewritten mid file xs (after.layout.extensions file) new (data_blocks new file) (extension_blocks new file) (contents new file)) blocks
-        (subst (λ (xs : List ℕ). IsRewritten mid file (data_blocks mid file) xs new (data_blocks new file) (extension_blocks new file) (contents new file)) lists r) in
+        let laid : IsRewritten mid file (after.layout.file_data file) (after.layout.extensions file) new (data_blocks new file) (extension_blocks new file) (contents new file) = rw (← blocks, ← lists) r in
         subst (Stands new) (is_rewritten moment (contents new file) file u)
         (stands_after mid new (touched moment file u) after file f.node f.bytes f.at f.content (data_blocks new file) (extension_blocks new file) (contents new file) laid)
 
@@ -197,12 +184,8 @@ module _ (moment : Date3) (old mid : List ℕ) (file : ℕ) (tree : HasTree old)
           let f = file_of_key mid u mid_tree.1 file mid_key in
           let blocks = data_is mid u mid_tree.1 file f.node f.bytes f.at f.content in
           let lists = extensions_is mid u mid_tree.1 file f.node f.bytes f.at f.content in
-          let laid : IsRewritten mid file (mid_tree.1.layout.file_data file) (mid_tree.1.layout.extensions file) new (data_blocks new file) (extension_blocks new file) (contents new file) =
-          subst (λ (xs : List ℕ). IsRewritten mid file xs (mid_tree.1.layout.extensions file) new (data_blocks new file) (extension_blocks new file) (contents new file)) blocks
-          (subst (λ (xs : List ℕ). IsRewritten mid file (data_blocks mid file) xs new (data_blocks new file) (extension_blocks new file) (contents new file)) lists r) in
-          let unnamed : KeepsUnnamed mid file (mid_tree.1.layout.file_data file) (mid_tree.1.layout.extensions file) new (data_blocks new file) (extension_blocks new file) =
-          subst (λ (xs : List ℕ). KeepsUnnamed mid file xs (mid_tree.1.layout.extensions file) new (data_blocks new file) (extension_blocks new file)) blocks
-          (subst (λ (xs : List ℕ). KeepsUnnamed mid file (data_blocks mid file) xs new (data_blocks new file) (extension_blocks new file)) lists keeps) in
+          let laid : IsRewritten mid file (mid_tree.1.layout.file_data file) (mid_tree.1.layout.extensions file) new (data_blocks new file) (extension_blocks new file) (contents new file) = rw (← blocks, ← lists) r in
+          let unnamed : KeepsUnnamed mid file (mid_tree.1.layout.file_data file) (mid_tree.1.layout.extensions file) new (data_blocks new file) (extension_blocks new file) = rw (← blocks, ← lists) keeps in
           record {
             kept = kept_before old mid tree.0 tree.1 file node.node node.at file_is_no_root rest node.bytes node.content new still_file (stamps_keep old mid tree.0 tree.1 file node.node node.at file_is_no_root rest).kept
                 (kept mid new u mid_tree.1 file f.node f.bytes f.at f.content (data_blocks new file) (extension_blocks new file) (contents new file) laid unnamed);

@@ -1,6 +1,5 @@
 -- A tree with other nodes, but with the same parents, lists and names in lists.
-use Rattle.std.proofs.Common.{◌≡◌, ◌≢◌, ℕ, ◌≤◌, ◌==◌, List, map, filter, slice_index_or, AllPairs, Contains, Option, Some, sym, ap, ◌∙◌, subst, arith}
-use Rattle.ados_change.proofs.Common.{Contains-get_or, Date3, upper, slot, IsName, IsComment, Node, Tree, Proper, IsRoot, LeadsToRoot, root, entries, name_of, parent_of, at_root, by_parent, in_slot}
+use Rattle.ados_change.proofs.Common.{◌≡◌, ◌≢◌, ℕ, ◌≤◌, ◌==◌, List, map, filter, slice_index_or, AllPairs, Contains, Option, Some, sym, ap, ◌∙◌, subst, arith, Contains-get_or, Date3, upper, slot, IsName, IsComment, Node, Tree, Proper, IsRoot, LeadsToRoot, root, entries, name_of, parent_of, at_root, by_parent, in_slot, refl}
 use Rattle.ados_change.proofs.Entering.{filter_same}
 
 -- the order of slots, if the names in the list are the same
@@ -9,6 +8,11 @@ rising_alike names names' keys same h i j e l m =
     let first = ap slot (same (slice_index_or keys i e) (Contains-get_or keys i e (omega arith))) in
     let second = ap slot (same (slice_index_or keys j e) (Contains-get_or keys j e m)) in
     omega (arith, first, second, h i j e l m)
+
+-- a path to the root of a tree, in a tree with the same parents
+pub leads_alike : (t u : Tree) → root u ≡ root t → ((k : ℕ) → parent_of u k ≡ parent_of t k) → (k : ℕ) → LeadsToRoot t k → LeadsToRoot u k
+leads_alike t u same parents k (at_root e) = at_root (e ∙ sym same)
+leads_alike t u same parents k (by_parent {dir = dir} p q) = by_parent (parents k ∙ p) (leads_alike t u same parents dir q)
 
 module _ (t : Tree) (nodes : ℕ → Option Node) (d : Date3) where
   abbrev u : Tree
@@ -22,10 +26,6 @@ module _ (t : Tree) (nodes : ℕ → Option Node) (d : Date3) where
 
     was_listed : (dir k : ℕ) → Contains (entries u dir) k → Contains (entries t dir) k
     was_listed dir k c = subst (λ (keys : List ℕ). Contains keys k) (lists dir) c
-
-    leads_on : (k : ℕ) → LeadsToRoot t k → LeadsToRoot u k
-    leads_on k (at_root e) = at_root e
-    leads_on k (by_parent {dir = dir} p q) = by_parent (parents k ∙ p) (leads_on dir q)
 
     -- it is proper if its nodes were nodes and are valid
     pub proper_alike : Proper t → (a : Node) × (nodes (root t) ≡ Some a) × IsRoot a → ((k : ℕ) (a : Node) → nodes k ≡ Some a → (b : Node) × (t.nodes k ≡ Some b))
@@ -44,7 +44,7 @@ module _ (t : Tree) (nodes : ℕ → Option Node) (d : Date3) where
           let n = was_listed dir k m in
           p.unlike dir j k b n (ap (map upper) (sym (names dir j b)) ∙ same ∙ ap (map upper) (names dir k n));
       rising = λ dir. subst (AllPairs (λ j k. slot (name_of u j) ≤ slot (name_of u k))) (sym (lists dir)) (rising_alike (name_of t) (name_of u) (entries t dir) (names dir) (p.rising dir));
-      rooted = λ k a e. let w = was k a e in leads_on k (p.rooted k w.0 w.1);
+      rooted = λ k a e. let w = was k a e in leads_alike t u refl parents k (p.rooted k w.0 w.1);
       name = name;
       comment = comment;
     }

@@ -1,13 +1,10 @@
 -- What is unchanged when bytes after a block's checksum change, and the checksum with them.
-use Rattle.std.proofs.Common.{◌≡◌, ℕ, ◌+◌, ◌*◌, ◌<◌, ◌≤◌, ◌⊎◌, inl, inr, List, length, ap, subst, arith}
-use Rattle.ados_change.proofs.Common.{root_key, long, HasText, SameBut, AtLong, same_trans, same_weaken, same_count, same_long, date_at, root_of, Summed, Restamped}
-use Rattle.ados_change.proofs.Frame.{text_kept, date_kept}
+use Rattle.ados_change.proofs.Common.{◌≡◌, ℕ, ◌+◌, ◌*◌, ◌<◌, ◌≤◌, ◌⊎◌, inl, inr, List, length, ap, subst, arith, root_key, long, HasText, SameBut, AtLong, same_trans, same_weaken, same_count, same_long, date_at, root_of, Summed, Restamped}
+use Rattle.ados_change.proofs.Unchanged.{text_kept, date_kept}
 
 module _ (key low high : ℕ) (old new : List ℕ) (h : SameBut (Summed key low high) old new) where
   beside : (b i n k : ℕ) → 24 ≤ i → (i + n ≤ low) ⊎ (high ≤ i) → i ≤ k → k < i + n → ¬ Summed key low high b k
-  beside b i n k behind (inl side) l m (inl w) = omega (arith, m, w.1, side)
-  beside b i n k behind (inr side) l m (inl w) = omega (arith, l, w.2, side)
-  beside b i n k behind side l m (inr w) = omega (arith, l, w.1, behind)
+  beside b i n k behind side l m w = omega (arith, behind, side, l, m, w)
 
   pub text_beside : (b i : ℕ) (text : List ℕ) → 24 ≤ i → i + 1 + length text ≤ 512 → (i + (1 + length text) ≤ low) ⊎ (high ≤ i) → HasText old b i text → HasText new b i text
   text_beside b i text behind room side g = text_kept (Summed key low high) old new h b i text (omega (arith, room)) (λ k l m. beside b i (1 + length text) k behind side l (omega (arith, m))) g

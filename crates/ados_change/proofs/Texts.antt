@@ -1,6 +1,5 @@
 -- A text after its length.
-use Rattle.std.proofs.Common.{◌≡◌, ℕ, ◌+◌, ◌<◌, ◌≤◌, List, length, slice_index, sym, ap, ◌∙◌, arith}
-use Rattle.ados_change.proofs.Common.{ext_get_or, block_count, byte_at, bytes_at, HasText, SameBut, Within, byte-bytes_at, same_count}
+use Rattle.ados_change.proofs.Common.{◌≡◌, ℕ, ◌+◌, ◌<◌, ◌≤◌, List, length, slice_index, sym, ap, ◌∙◌, arith, ext_get_or, block_count, byte_at, bytes_at, HasText, SameBut, Within, byte-bytes_at, same_count}
 use Rattle.ados_data.proofs.Reading.{length-bytes_at}
 
 -- bytes of a block, written one by one

@@ -1,9 +1,8 @@
 -- An image that represents a tree has lawful bitmap blocks, and each of its files can be changed.
-use Rattle.std.proofs.Common.{◌≡◌, ◌≢◌, ℕ, zero, suc, ◌<◌, ◌≤◌, ◌==◌, true, false, List, ◌∷◌, length, slice_index, Some, refl, sym, ap, ◌∙◌, subst, arith, eq-eqb, ne_eqb}
-use Rattle.ados_change.proofs.Common.{false_from_ne_true, Format, Ofs, Ffs, IsInside, block_count, byte_at, root_key, has_free_bit, format_of, byte-bytes_at, LawfulPages, page_block, pages_of, data_count, Content, Node, Tree, size_of, HasFile, Duty, HasDuty, Stands, format_byte, IsLawful, AreApart, data_blocks, extension_blocks, contents, IsInUse, LawfulMap, IsWritable, WritableFile, data_blocks_are, extension_blocks_are, contents_are, Directory, File, count_same, root_is, slice_get-index}
+use Rattle.ados_change.proofs.Common.{◌≡◌, ◌≢◌, ℕ, zero, suc, ◌<◌, ◌≤◌, ◌==◌, true, false, List, ◌∷◌, length, slice_index, Some, refl, sym, ap, ◌∙◌, subst, arith, eq-eqb, ne_eqb, false_from_ne_true, Format, Ofs, Ffs, IsInside, block_count, byte_at, root_key, has_free_bit, format_of, byte-bytes_at, LawfulPages, page_block, pages_of, data_count, Node, Tree, size_of, HasFile, Duty, HasDuty, Stands, format_byte, IsLawful, AreApart, data_blocks, extension_blocks, contents, IsInUse, LawfulMap, WritableFile, data_blocks_are, extension_blocks_are, contents_are, File, count_same, root_is, slice_get-index, map, []}
+use Rattle.ados_change.proofs.Contents.{file_not_root}
 use Rattle.ados_change.proofs.Lawful.{lawful_pages as lawful_by, page_serves as page_named}
-use Rattle.ados_change.proofs.Loose.{proper_is_loose}
-use Rattle.ados_change.proofs.Spells.{spells}
+use Rattle.ados_change.proofs.Loose.{proper_is_loose, spells}
 
 module _ (image : List ℕ) (t : Tree) (s : Stands image t) where
   pub inside : (block : ℕ) (duty : Duty) → HasDuty t s.layout block duty → IsInside (block_count image) block
@@ -60,8 +59,8 @@ module _ (image : List ℕ) (t : Tree) (s : Stands image t) where
     header_serves zero l = key_serves file node e
     header_serves (suc q) l = slice_get-index (s.layout.extensions file) q (omega (arith, l))
 
-    data_serves : (i : ℕ) → i < length (s.layout.file_data file) → HasDuty t s.layout (slice_index (s.layout.file_data file) i) (Duty.Data file i)
-    data_serves i l = slice_get-index (s.layout.file_data file) i l
+    block_serves : (i : ℕ) → i < length (s.layout.file_data file) → HasDuty t s.layout (slice_index (s.layout.file_data file) i) (Duty.Data file i)
+    block_serves i l = slice_get-index (s.layout.file_data file) i l
 
     duties_apart : (p q : ℕ) → p < q → header_duty p ≢ header_duty q
     unfolding header_duty
@@ -82,12 +81,12 @@ module _ (image : List ℕ) (t : Tree) (s : Stands image t) where
     blocks_apart : AreApart (block_count image) file (s.layout.file_data file) (s.layout.extensions file)
     blocks_apart = record {
       headers_inside = λ q l. inside _ (header_duty q) (header_serves q l);
-      data_inside = λ i l. inside _ (Duty.Data file i) (data_serves i l);
+      data_inside = λ i l. inside _ (Duty.Data file i) (block_serves i l);
       headers_once = λ p q l m same. duties_apart p q l (s.fits.one_duty _ (header_duty p) (header_duty q) (header_serves p (omega (arith, l, m))) (subst (λ (b : ℕ). HasDuty t s.layout b (header_duty q)) (sym same) (header_serves q m)));
       data_once = λ i j l m same.
-          let duty = s.fits.one_duty _ (Duty.Data file i) (Duty.Data file j) (data_serves i (omega (arith, l, m))) (subst (λ (b : ℕ). HasDuty t s.layout b (Duty.Data file j)) (sym same) (data_serves j m)) in
+          let duty = s.fits.one_duty _ (Duty.Data file i) (Duty.Data file j) (block_serves i (omega (arith, l, m))) (subst (λ (b : ℕ). HasDuty t s.layout b (Duty.Data file j)) (sym same) (block_serves j m)) in
           let places : i ≡ j = cc duty in omega (arith, places, l);
-      apart = λ q i l m same. data_apart q i (s.fits.one_duty _ (header_duty q) (Duty.Data file i) (header_serves q l) (subst (λ (b : ℕ). HasDuty t s.layout b (Duty.Data file i)) (sym same) (data_serves i m)));
+      apart = λ q i l m same. data_apart q i (s.fits.one_duty _ (header_duty q) (Duty.Data file i) (header_serves q l) (subst (λ (b : ℕ). HasDuty t s.layout b (Duty.Data file i)) (sym same) (block_serves i m)));
     }
 
     pub is_lawful : IsLawful image file (s.layout.file_data file) (s.layout.extensions file) bytes
@@ -110,14 +109,6 @@ module _ (image : List ℕ) (t : Tree) (s : Stands image t) where
     pub bytes_is : contents image file ≡ bytes
     bytes_is = contents_are image file (s.layout.file_data file) (s.layout.extensions file) bytes is_lawful
 
-    -- a file is not the root
-    pub file_not_root : file ≢ root_key (block_count image)
-    file_not_root same =
-        let at : t.nodes file ≡ Some s.proper.root_node.0 = ap t.nodes (same ∙ root_is image t s) ∙ s.proper.root_node.1 in
-        let one : node ≡ s.proper.root_node.0 = cc (e, at) in
-        let kind : Content.File bytes ≡ Directory s.proper.root_node.2.keys = sym c ∙ ap (λ (a : Node). a.content) one ∙ s.proper.root_node.2.directory in
-        cc kind
-
     header_used : (q : ℕ) → q ≤ length (s.layout.extensions file) → IsInUse image (slice_index (file ∷ s.layout.extensions file) q)
     header_used q l = record {
       marked = named_used _ (header_duty q) (header_serves q l);
@@ -126,26 +117,20 @@ module _ (image : List ℕ) (t : Tree) (s : Stands image t) where
     }
       where
         not_root : (q : ℕ) → q ≤ length (s.layout.extensions file) → slice_index (file ∷ s.layout.extensions file) q ≢ root_key (block_count image)
-        not_root zero l same = file_not_root same
+        not_root zero l same = file_not_root t file node bytes [] e c s.proper (same ∙ root_is image t s)
         not_root (suc q) l same =
             let duty : Duty.Extension file q ≡ Duty.Key = s.fits.one_duty _ (Duty.Extension file q) Duty.Key (slice_get-index (s.layout.extensions file) q (omega (arith, l))) (subst (λ (b : ℕ). HasDuty t s.layout b Duty.Key) (sym same) root_serves) in
             cc duty
 
     data_used : (i : ℕ) → i < length (s.layout.file_data file) → IsInUse image (slice_index (s.layout.file_data file) i)
     data_used i l = record {
-      marked = named_used _ (Duty.Data file i) (data_serves i l);
+      marked = named_used _ (Duty.Data file i) (block_serves i l);
       beside_root = λ same.
-          let duty : Duty.Data file i ≡ Duty.Key = s.fits.one_duty _ (Duty.Data file i) Duty.Key (data_serves i l) (subst (λ (b : ℕ). HasDuty t s.layout b Duty.Key) (sym same) root_serves) in
+          let duty : Duty.Data file i ≡ Duty.Key = s.fits.one_duty _ (Duty.Data file i) Duty.Key (block_serves i l) (subst (λ (b : ℕ). HasDuty t s.layout b Duty.Key) (sym same) root_serves) in
           cc duty;
-      beside_pages = beside_pages _ (Duty.Data file i) (data_serves i l) (λ p z. cc z);
+      beside_pages = beside_pages _ (Duty.Data file i) (block_serves i l) (λ p z. cc z);
     }
-
-    pub is_writable : IsWritable image file (s.layout.file_data file) (s.layout.extensions file) bytes
-    is_writable = record { lawful = is_lawful; map = lawful_map; headers_used = header_used; data_used = data_used }
 
     -- each file can be changed
     pub writable : WritableFile image file
-    writable =
-        subst (λ (xs : List ℕ). IsWritable image file xs (extension_blocks image file) (contents image file)) (sym data_is)
-        (subst (λ (xs : List ℕ). IsWritable image file (s.layout.file_data file) xs (contents image file)) (sym extensions_is)
-        (subst (λ (xs : List ℕ). IsWritable image file (s.layout.file_data file) (s.layout.extensions file) xs) (sym bytes_is) is_writable))
+    writable = rw (data_is, extensions_is, bytes_is) (record { lawful = is_lawful; map = lawful_map; headers_used = header_used; data_used = data_used })

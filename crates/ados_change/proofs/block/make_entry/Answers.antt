@@ -1,4 +1,4 @@
-use Rattle.ados_change.specs.Kinds.{content_of}
+use Rattle.ados_change.proofs.Common.{content_of}
 use Rattle.ados_change.proofs.Filled.{new_entry}
 use Rattle.ados_change.proofs.block.make_entry.Goals as goal
 

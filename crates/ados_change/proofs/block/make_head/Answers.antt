@@ -1,5 +1,4 @@
-use Rattle.std.proofs.Common.{◌∙◌}
-use Rattle.ados_change.specs.Kinds.{content_of}
+use Rattle.ados_change.proofs.Common.{◌∙◌, content_of}
 use Rattle.ados_change.proofs.Filled.{head}
 use Rattle.ados_change.proofs.block.make_head.Goals as goal
 

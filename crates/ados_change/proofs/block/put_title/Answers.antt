@@ -1,5 +1,4 @@
-use Rattle.std.proofs.Common.{List, ℕ, sym, subst}
-use Rattle.ados_change.proofs.Common.{IsName, Titled}
+use Rattle.ados_change.proofs.Common.{List, ℕ, sym, subst, IsName, Titled}
 use Rattle.ados_change.proofs.Filled.{titled}
 use Rattle.ados_change.proofs.block.put_title.Goals as goal
 

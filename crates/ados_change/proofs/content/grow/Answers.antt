@@ -1,7 +1,5 @@
-use Rattle.std.proofs.Common.{◌≡◌, ◌≢◌, ℕ, ◌-◌, ◌++◌, List, length, replicate, ap, ◌∙◌, subst, refl, arith}
-use Rattle.ados_change.proofs.Common.{bytes_of, data_blocks, extension_blocks, contents, Stands, rewritten}
-use Rattle.ados_change.proofs.Calls.{of_gains}
-use Rattle.ados_change.proofs.Relaid.{IsRewritten}
+use Rattle.ados_change.proofs.Common.{◌≡◌, ◌≢◌, ℕ, ◌-◌, ◌++◌, List, length, replicate, ap, ◌∙◌, subst, refl, arith, bytes_of, data_blocks, extension_blocks, contents, Stands, rewritten}
+use Rattle.ados_change.proofs.Relaid.{of_gains, IsRewritten}
 use Rattle.ados_change.proofs.Renewed.{bytes_in, size_in, room_enough, lacks_room, mid_writable, below_mid, same_contents, same_place, same_room, stands_rewritten, keeps_rest}
 use Rattle.ados_change.proofs.content.grow.Goals as goal
 
@@ -9,27 +7,17 @@ pub returns-then-not-has_room-clause-done : goal.returns-then-not-has_room-claus
 returns-then-not-has_room-clause-done c =
     (refl, λ t s. lacks_room c.args.image.now t s c.args.file c.args.size c.requires.file c.if-not-has_room.ensures)
 
-pub extend_near-requires-clause-near : goal.extend_near-requires-clause-near
-extend_near-requires-clause-near c =
-    same_place c.args.moment c.args.image.now c.stamp.new.image c.args.file c.requires.tree c.requires.file c.stamp.ensures c.args.near c.requires.near
-
-pub extend_near-requires-clause-writable : goal.extend_near-requires-clause-writable
-extend_near-requires-clause-writable c =
-    mid_writable c.args.moment c.args.image.now c.stamp.new.image c.args.file c.requires.tree c.requires.file c.stamp.ensures
-
-pub extend_near-requires-clause-below : goal.extend_near-requires-clause-below
-extend_near-requires-clause-below c =
-    below_mid c.args.moment c.args.image.now c.stamp.new.image c.args.file c.requires.tree c.requires.file c.stamp.ensures c.args.from c.requires.below
-
-pub extend_near-requires-clause-longer : goal.extend_near-requires-clause-longer
-extend_near-requires-clause-longer c =
+pub extend_near-requires : goal.extend_near-requires
+extend_near-requires c =
     let same = ap length (same_contents c.args.moment c.args.image.now c.stamp.new.image c.args.file c.requires.tree c.requires.file c.stamp.ensures) in
     let size = size_in c.args.image.now c.requires.tree.0 c.requires.tree.1 c.args.file c.requires.file in
-    omega (arith, same, size, c.requires.longer c.requires.tree.0 c.requires.tree.1)
-
-pub extend_near-requires-clause-free : goal.extend_near-requires-clause-free
-extend_near-requires-clause-free c =
-    same_room c.args.moment c.args.image.now c.stamp.new.image c.args.file c.requires.tree c.requires.file c.stamp.ensures c.args.size c.if-not-has_room.ensures
+    record {
+      writable = mid_writable c.args.moment c.args.image.now c.stamp.new.image c.args.file c.requires.tree c.requires.file c.stamp.ensures;
+      near = same_place c.args.moment c.args.image.now c.stamp.new.image c.args.file c.requires.tree c.requires.file c.stamp.ensures c.args.near c.requires.near;
+      below = below_mid c.args.moment c.args.image.now c.stamp.new.image c.args.file c.requires.tree c.requires.file c.stamp.ensures c.args.from c.requires.below;
+      longer = omega (arith, same, size, c.requires.longer c.requires.tree.0 c.requires.tree.1);
+      free = same_room c.args.moment c.args.image.now c.stamp.new.image c.args.file c.requires.tree c.requires.file c.stamp.ensures c.args.size c.if-not-has_room.ensures;
+    }
 
 -- the file is rewritten, with as many more blocks as it needs
 grown_long : (c : goal.After-extend_near) → IsRewritten c.stamp.new.image c.args.file (data_blocks c.stamp.new.image c.args.file) (extension_blocks c.stamp.new.image c.args.file) c.extend_near.new.image (data_blocks c.extend_near.new.image c.args.file) (extension_blocks c.extend_near.new.image c.args.file) (contents c.extend_near.new.image c.args.file)

@@ -1,7 +1,5 @@
-use Rattle.std.proofs.Common.{◌≡◌, ◌≢◌, ℕ, ◌+◌, ◌≤◌, max, List, [], ◌∷◌, length, ap, ◌∙◌, sym, subst, refl, arith, eqb-true}
-use Rattle.ados_change.proofs.Common.{eqb-false, ltb-true, Date3, block_cost, Tree, bytes_of, size_of, data_blocks, extension_blocks, contents, rewritten, written, overlaid, HasFree, Stands, NeedsMore}
-use Rattle.ados_change.proofs.Calls.{of_gains}
-use Rattle.ados_change.proofs.Relaid.{IsRewritten}
+use Rattle.ados_change.proofs.Common.{◌≡◌, ◌≢◌, ℕ, ◌+◌, ◌≤◌, max, List, [], ◌∷◌, length, ap, ◌∙◌, sym, subst, refl, arith, eqb-true, eqb-false, ltb-true, Date3, block_cost, Tree, bytes_of, size_of, data_blocks, extension_blocks, contents, rewritten, written, overlaid, HasFree, Stands, NeedsMore}
+use Rattle.ados_change.proofs.Relaid.{of_gains, IsRewritten}
 use Rattle.ados_change.proofs.Renewed.{bytes_in, size_in, room_enough, lacks_room, mid_writable, below_mid, same_contents, same_place, same_room, stands_rewritten, keeps_rest}
 use Rattle.ados_change.proofs.content.write.Goals as goal
 
@@ -35,30 +33,18 @@ returns-then-not-has_room-clause-done c = (
       subst (NeedsMore t c.args.file) size (lacks_room c.args.image.now t s c.args.file c.max-size.result c.requires.file c.if-not-has_room.ensures),
 )
 
-pub write_near-bound-requires-clause-near : goal.write_near-bound-requires-clause-near
-write_near-bound-requires-clause-near c =
-    same_place c.args.moment c.args.image.now c.stamp.new.image c.args.file c.requires.tree c.requires.file c.stamp.ensures c.args.near c.requires.near
-
-pub write_near-bound-requires-clause-writable : goal.write_near-bound-requires-clause-writable
-write_near-bound-requires-clause-writable c =
-    mid_writable c.args.moment c.args.image.now c.stamp.new.image c.args.file c.requires.tree c.requires.file c.stamp.ensures
-
-pub write_near-bound-requires-clause-below : goal.write_near-bound-requires-clause-below
-write_near-bound-requires-clause-below c =
-    below_mid c.args.moment c.args.image.now c.stamp.new.image c.args.file c.requires.tree c.requires.file c.stamp.ensures c.args.from c.requires.below
-
-pub write_near-bound-requires-clause-start : goal.write_near-bound-requires-clause-start
-write_near-bound-requires-clause-start c =
+pub write_near-bound-requires : goal.write_near-bound-requires
+write_near-bound-requires c =
     let same = ap length (same_contents c.args.moment c.args.image.now c.stamp.new.image c.args.file c.requires.tree c.requires.file c.stamp.ensures) in
     let size = size_in c.args.image.now c.requires.tree.0 c.requires.tree.1 c.args.file c.requires.file in
-    omega (arith, same, size, c.requires.start c.requires.tree.0 c.requires.tree.1)
-
-pub write_near-bound-requires-clause-free : goal.write_near-bound-requires-clause-free
-write_near-bound-requires-clause-free c =
-    let same = ap length (same_contents c.args.moment c.args.image.now c.stamp.new.image c.args.file c.requires.tree c.requires.file c.stamp.ensures) ∙ size_in c.args.image.now c.requires.tree.0 c.requires.tree.1 c.args.file c.requires.file in
-    let size = c.max-size.ensures ∙ ap (λ (n : ℕ). max n (c.args.pos + length c.args.bytes.now)) (c.size_of.ensures c.requires.tree.0 c.requires.tree.1 ∙ sym same) in
-    subst (HasFree c.stamp.new.image c.args.file) size
-    (same_room c.args.moment c.args.image.now c.stamp.new.image c.args.file c.requires.tree c.requires.file c.stamp.ensures c.max-size.result c.if-not-has_room.ensures)
+    let end = c.max-size.ensures ∙ ap (λ (n : ℕ). max n (c.args.pos + length c.args.bytes.now)) (c.size_of.ensures c.requires.tree.0 c.requires.tree.1 ∙ sym (same ∙ size)) in
+    record {
+      writable = mid_writable c.args.moment c.args.image.now c.stamp.new.image c.args.file c.requires.tree c.requires.file c.stamp.ensures;
+      near = same_place c.args.moment c.args.image.now c.stamp.new.image c.args.file c.requires.tree c.requires.file c.stamp.ensures c.args.near c.requires.near;
+      below = below_mid c.args.moment c.args.image.now c.stamp.new.image c.args.file c.requires.tree c.requires.file c.stamp.ensures c.args.from c.requires.below;
+      start = omega (arith, same, size, c.requires.start c.requires.tree.0 c.requires.tree.1);
+      free = subst (HasFree c.stamp.new.image c.args.file) end (same_room c.args.moment c.args.image.now c.stamp.new.image c.args.file c.requires.tree c.requires.file c.stamp.ensures c.max-size.result c.if-not-has_room.ensures);
+    }
 
 -- the file is rewritten, with as many more blocks as it needs
 written_over : (c : goal.Else-prove-2) → IsRewritten c.stamp.new.image c.args.file (data_blocks c.stamp.new.image c.args.file) (extension_blocks c.stamp.new.image c.args.file) c.write_near-bound.new.image (data_blocks c.write_near-bound.new.image c.args.file) (extension_blocks c.write_near-bound.new.image c.args.file) (contents c.write_near-bound.new.image c.args.file)

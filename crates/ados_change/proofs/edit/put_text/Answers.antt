@@ -1,4 +1,4 @@
-use Rattle.std.proofs.Common.{arith}
+use Rattle.ados_change.proofs.Common.{arith}
 use Rattle.ados_change.proofs.Texts.{text_put}
 use Rattle.ados_change.proofs.edit.put_text.Goals as goal
 

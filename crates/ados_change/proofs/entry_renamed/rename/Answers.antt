@@ -20,27 +20,21 @@ insert_last-requires c = insertable c.args.image.now c.requires.tree.0 c.require
 pub touch-requires-2 : goal.touch-requires-2
 touch-requires-2 c = dir_inside c.args.image.now c.requires.tree.0 c.requires.tree.1 c.args.moment c.args.key c.args.dir c.args.name.now (c.requires.can c.requires.tree.0 c.requires.tree.1) c.long-from.result c.long-from.ensures c.unlink.new.image c.unlink.ensures.unlinks c.touch.new.image c.touch.ensures.dated c.put_title.new.image c.put_title.ensures.titled c.insert_last.new.image c.insert_last.ensures.inserts
 
-pub returns-clause-stands : goal.returns-clause-stands
-returns-clause-stands c = λ t s.
-    moved_stands c.args.image.now t s c.args.moment c.args.key c.args.dir c.args.name.now (c.requires.can t s) c.long-from.result c.long-from.ensures c.unlink.new.image c.unlink.ensures.unlinks c.touch.new.image c.touch.ensures.dated c.put_title.new.image c.put_title.ensures.titled
-    c.insert_last.new.image c.insert_last.ensures.inserts c.touch-2.new.image c.stamp.new.image c.touch-2.ensures.dated c.stamp.ensures.dated
-
-pub returns-clause-keeps : goal.returns-clause-keeps
-returns-clause-keeps c =
-    moved_keeps c.args.image.now c.requires.tree.0 c.requires.tree.1 c.args.moment c.args.key c.args.dir c.args.name.now (c.requires.can c.requires.tree.0 c.requires.tree.1) c.long-from.result c.long-from.ensures c.unlink.new.image c.unlink.ensures.unlinks c.touch.new.image c.touch.ensures.dated c.put_title.new.image c.put_title.ensures.titled
-    c.insert_last.new.image c.insert_last.ensures.inserts c.touch-2.new.image c.stamp.new.image c.touch-2.ensures.dated c.stamp.ensures.dated
-
-pub returns-clause-none : goal.returns-clause-none
-returns-clause-none c =
-    moved_none c.args.image.now c.requires.tree.0 c.requires.tree.1 c.args.moment c.args.key c.args.dir c.args.name.now (c.requires.can c.requires.tree.0 c.requires.tree.1) c.long-from.result c.long-from.ensures c.unlink.new.image c.unlink.ensures.unlinks c.touch.new.image c.touch.ensures.dated c.put_title.new.image c.put_title.ensures.titled
-    c.insert_last.new.image c.insert_last.ensures.inserts c.touch-2.new.image c.stamp.new.image c.touch-2.ensures.dated c.stamp.ensures.dated
-
-pub returns-clause-gives_none : goal.returns-clause-gives_none
-returns-clause-gives_none c =
-    moved_gives_none c.args.image.now c.requires.tree.0 c.requires.tree.1 c.args.moment c.args.key c.args.dir c.args.name.now (c.requires.can c.requires.tree.0 c.requires.tree.1) c.long-from.result c.long-from.ensures c.unlink.new.image c.unlink.ensures.unlinks c.touch.new.image c.touch.ensures.dated c.put_title.new.image c.put_title.ensures.titled
-    c.insert_last.new.image c.insert_last.ensures.inserts c.touch-2.new.image c.stamp.new.image c.touch-2.ensures.dated c.stamp.ensures.dated
-
-pub returns-clause-behind : goal.returns-clause-behind
-returns-clause-behind c =
-    moved_behind c.args.image.now c.requires.tree.0 c.requires.tree.1 c.args.moment c.args.key c.args.dir c.args.name.now (c.requires.can c.requires.tree.0 c.requires.tree.1) c.long-from.result c.long-from.ensures c.unlink.new.image c.unlink.ensures.unlinks c.touch.new.image c.touch.ensures.dated c.put_title.new.image c.put_title.ensures.titled
-    c.insert_last.new.image c.insert_last.ensures.inserts c.touch-2.new.image c.stamp.new.image c.touch-2.ensures.dated c.stamp.ensures.dated
+pub returns : goal.returns
+returns c = record {
+  stands = λ t s.
+      moved_stands c.args.image.now t s c.args.moment c.args.key c.args.dir c.args.name.now (c.requires.can t s) c.long-from.result c.long-from.ensures c.unlink.new.image c.unlink.ensures.unlinks c.touch.new.image c.touch.ensures.dated c.put_title.new.image c.put_title.ensures.titled
+      c.insert_last.new.image c.insert_last.ensures.inserts c.touch-2.new.image c.stamp.new.image c.touch-2.ensures.dated c.stamp.ensures.dated;
+  keeps =
+      moved_keeps c.args.image.now c.requires.tree.0 c.requires.tree.1 c.args.moment c.args.key c.args.dir c.args.name.now (c.requires.can c.requires.tree.0 c.requires.tree.1) c.long-from.result c.long-from.ensures c.unlink.new.image c.unlink.ensures.unlinks c.touch.new.image c.touch.ensures.dated c.put_title.new.image c.put_title.ensures.titled
+      c.insert_last.new.image c.insert_last.ensures.inserts c.touch-2.new.image c.stamp.new.image c.touch-2.ensures.dated c.stamp.ensures.dated;
+  none =
+      moved_none c.args.image.now c.requires.tree.0 c.requires.tree.1 c.args.moment c.args.key c.args.dir c.args.name.now (c.requires.can c.requires.tree.0 c.requires.tree.1) c.long-from.result c.long-from.ensures c.unlink.new.image c.unlink.ensures.unlinks c.touch.new.image c.touch.ensures.dated c.put_title.new.image c.put_title.ensures.titled
+      c.insert_last.new.image c.insert_last.ensures.inserts c.touch-2.new.image c.stamp.new.image c.touch-2.ensures.dated c.stamp.ensures.dated;
+  gives_none =
+      moved_gives_none c.args.image.now c.requires.tree.0 c.requires.tree.1 c.args.moment c.args.key c.args.dir c.args.name.now (c.requires.can c.requires.tree.0 c.requires.tree.1) c.long-from.result c.long-from.ensures c.unlink.new.image c.unlink.ensures.unlinks c.touch.new.image c.touch.ensures.dated c.put_title.new.image c.put_title.ensures.titled
+      c.insert_last.new.image c.insert_last.ensures.inserts c.touch-2.new.image c.stamp.new.image c.touch-2.ensures.dated c.stamp.ensures.dated;
+  behind =
+      moved_behind c.args.image.now c.requires.tree.0 c.requires.tree.1 c.args.moment c.args.key c.args.dir c.args.name.now (c.requires.can c.requires.tree.0 c.requires.tree.1) c.long-from.result c.long-from.ensures c.unlink.new.image c.unlink.ensures.unlinks c.touch.new.image c.touch.ensures.dated c.put_title.new.image c.put_title.ensures.titled
+      c.insert_last.new.image c.insert_last.ensures.inserts c.touch-2.new.image c.stamp.new.image c.touch-2.ensures.dated c.stamp.ensures.dated;
+}

@@ -6,10 +6,6 @@ use Rattle.ados_change.proofs.fields.set_date.Goals as goal
 pub stamp_disk-requires : goal.stamp_disk-requires
 stamp_disk-requires c = (dated c.args.key c.args.date c.requires.tree.0, c.touch.ensures.stands c.requires.tree.0 c.requires.tree.1)
 
-pub returns-clause-rest : goal.returns-clause-rest
-returns-clause-rest c =
-    restamped c.args.key 420 432 c.args.image.now c.touch.new.image c.stamp_disk.new.image c.touch.ensures.rest c.stamp_disk.ensures.rest
-
 pub returns-clause-stands : goal.returns-clause-stands
 returns-clause-stands c = λ t s. c.stamp_disk.ensures.stands (dated c.args.key c.args.date t) (c.touch.ensures.stands t s)
 
@@ -21,4 +17,5 @@ returns-clause-keeps c =
     let n = some_in (t.nodes c.args.key) entry.0 in
     keeps_restamped c.args.image.now c.stamp_disk.new.image t s c.args.key n.0 n.1 420 432 (λ a. record a { date = c.args.date })
     (date_case t s.proper c.args.key n.0 n.1 c.args.date) c.args.moment (returns-clause-stands c t s)
-    (root_of c.args.image.now) (root_is c.args.image.now t s) (returns-clause-rest c)
+    (root_of c.args.image.now) (root_is c.args.image.now t s)
+    (restamped c.args.key 420 432 c.args.image.now c.touch.new.image c.stamp_disk.new.image c.touch.ensures.rest c.stamp_disk.ensures.rest)

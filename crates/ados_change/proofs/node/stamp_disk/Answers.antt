@@ -1,5 +1,4 @@
-use Rattle.std.proofs.Common.{ℕ, refl, ap, sym, subst, ◌∙◌}
-use Rattle.ados_change.proofs.Common.{block_sum, SameBut, root, date_at, root_is, Summed}
+use Rattle.ados_change.proofs.Common.{ℕ, refl, ap, sym, subst, ◌∙◌, block_sum, SameBut, root, date_at, root_is, Summed}
 use Rattle.ados_change.proofs.Cases.{stamped_stands}
 use Rattle.ados_change.proofs.node.stamp_disk.Goals as goal
 

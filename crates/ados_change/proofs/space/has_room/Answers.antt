@@ -1,5 +1,4 @@
-use Rattle.std.proofs.Common.{◌≡◌, Bool, true, false, MatchBool, length, sym, ap, ap₂, ◌∙◌, arith}
-use Rattle.ados_change.proofs.Common.{block_cost, format_of, contents}
+use Rattle.ados_change.proofs.Common.{◌≡◌, Bool, true, false, MatchBool, length, sym, ap, ap₂, ◌∙◌, arith, block_cost, format_of, contents}
 use Rattle.ados_change.proofs.Writable.{lawful_pages}
 use Rattle.ados_change.proofs.Renewed.{size_in}
 use Rattle.ados_change.proofs.space.has_room.Goals as goal

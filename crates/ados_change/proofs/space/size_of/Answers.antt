@@ -1,4 +1,4 @@
-use Rattle.std.proofs.Common.{◌∙◌}
+use Rattle.ados_change.proofs.Common.{◌∙◌}
 use Rattle.ados_change.proofs.Renewed.{file_inside, size_field}
 use Rattle.ados_change.proofs.space.size_of.Goals as goal
 

@@ -1,5 +1,4 @@
-use Rattle.std.proofs.Common.{◌∙◌, ap}
-use Rattle.ados_change.proofs.Common.{dated, protected, without_archive}
+use Rattle.ados_change.proofs.Common.{◌∙◌, ap, dated, protected, without_archive}
 use Rattle.ados_change.proofs.Renewed.{file_inside}
 use Rattle.ados_change.proofs.Stamping.{entry_key, first_key, is_stamped}
 use Rattle.ados_change.proofs.stamp.stamp.Goals as goal
