@@ -1,5 +1,4 @@
-use Rattle.ados_check.proofs.Common.{◌≤◌, arith, byte_at, NAME_BYTE}
-use Rattle.ados_model.specs.Faults.HasBadName.{long_name}
+use Rattle.ados_check.proofs.Common.{◌≤◌, arith, byte_at, NAME_BYTE, long_name}
 use Rattle.ados_check.proofs.NameLemmas.{name_rule, refused_is_bad}
 use Rattle.ados_check.proofs.rules.has_bad_field.Goals.{in-Name, in_default}
 use Rattle.ados_check.proofs.rules.has_bad_field.Goals as goal
