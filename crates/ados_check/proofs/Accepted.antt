@@ -1,8 +1,7 @@
 -- A checked image is accepted, as it is or with a rebuilt bitmap.
-use Rattle.ados_check.proofs.Common.{◌≡◌, ℕ, ◌+◌, ◌-◌, ◌*◌, ◌/◌, ◌%◌, ◌<◌, ◌≤◌, inl, inr, true, false, not, List, length, map, Option, Some, None, is_some, refl, sym, ap, ◌∙◌, subst, arith, false≢true, get_or-map, get_or_past, length-map, IsImage, HasFreeBit, has_free_bit, block_count, page_count, root_key, long, block_sum, SameBut, AtLong, InBlock, OnlyBlock, same_trans, same_weaken, same_count, other_long, other_block_long, other_block_sum, LawfulPages, HasBit, page_block, pages_of, InPages, Role, Root, Page, InImage, Reached, root_of, root_page, start, named, HasValidBitmap, IsOfBitmap, Rebuilt, Accepts, HasNoLost, faults_have_no_tree, Mark, mark_at, IsChecked, AreInUse, IsMended}
+use Rattle.ados_check.proofs.Common.{◌≡◌, ℕ, ◌+◌, ◌-◌, ◌*◌, ◌/◌, ◌%◌, ◌<◌, ◌≤◌, inl, inr, true, false, not, List, length, map, Option, Some, None, is_some, refl, sym, ap, ◌∙◌, subst, arith, false≢true, get_or-map, get_or_past, length-map, IsImage, HasFreeBit, has_free_bit, block_count, page_count, root_key, long, block_sum, SameBut, AtLong, InBlock, OnlyBlock, same_trans, same_weaken, same_count, other_long, other_block_long, other_block_sum, LawfulPages, HasBit, page_block, pages_of, InPages, Role, Root, Page, InImage, Reached, root_of, root_page, start, named, HasValidBitmap, IsOfBitmap, Rebuilt, Accepts, HasNoLost, faults_have_no_tree, Mark, mark_at, IsChecked, AreInUse, IsMended, mark_of}
 use Rattle.ados_map.specs.Bits.{is_unnamed}
 use Rattle.ados_check.proofs.MarkLemmas.{mark_got}
-use Rattle.ados_check.proofs.Paths.{mark_of}
 use Rattle.ados_check.proofs.Roles.{reached_marked, marked_inside}
 use Rattle.ados_check.proofs.RolePlaces.{length-pages_of, page-at, reached_stands}
 use Rattle.ados_check.proofs.Untouched.{root_same, root_longs}

@@ -1,7 +1,6 @@
 -- One more block at the end of an image.
-use Rattle.std.proofs.Common.{append-nil, length-append}
-use Rattle.ados_check.proofs.Common.{◌≡◌, ◌≢◌, ℕ, ◌+◌, ◌-◌, ◌*◌, ◌%◌, ◌^◌, ◌<◌, ◌≤◌, ◌++◌, ◌∷◌, [], ◌==◌, inl, inr, List, length, take, get_or, slice_index, Option, None, Some, MatchOption, if◌then◌else◌, arith, ap, sym, ◌∙◌, refl, subst, length-take, cases_lt, get_or-take, get_or_append_left, get_or-append_right, byte_at, long, block_sum, long-bytes, long-same, total-same, AreKept, StandsAt, kept_length, start_of}
-use Rattle.ados_check.proofs.KeptLengths.{within}
+use Rattle.ados_check.proofs.Common.{◌≡◌, ◌≢◌, ℕ, ◌+◌, ◌-◌, ◌*◌, ◌%◌, ◌^◌, ◌<◌, ◌≤◌, ◌++◌, ◌∷◌, [], ◌==◌, inl, inr, List, length, take, get_or, slice_index, Option, None, Some, MatchOption, if◌then◌else◌, arith, ap, sym, ◌∙◌, refl, subst, length-take, cases_lt, get_or-take, get_or_append_left, get_or-append_right, byte_at, long, block_sum, long-bytes, long-same, total-same, AreKept, StandsAt, kept_length, start_of, append-nil, length-append}
+use Rattle.ados_check.proofs.Reading.{within}
 
 -- a byte of the old blocks
 old_byte : (image block : List ℕ) (b k : ℕ) → 512 * b + k < length image → byte_at (image ++ block) b k ≡ byte_at image b k

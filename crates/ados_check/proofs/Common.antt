@@ -32,7 +32,7 @@ pub use Rattle.ados_check.specs.declared.rules.FieldRule.{FieldRule}
 pub use Rattle.ados_check.specs.declared.rules.FieldRule.TheVariants.{Chain, Comment, FirstData, Name, NoLink, OwnKey, Parent, PointerCount}
 pub use Rattle.ados_check.specs.declared.rules.TheConstants.{FIELD_RULES}
 pub use Rattle.ados_check.specs.steps.Files.{HasCount, HasCounts, HasPointersAs, IsLinked, IsReachedEntry, IsReachedFile, KeepsRules}
-pub use Rattle.ados_check.specs.steps.Reaching.{ArePending, AreReachedBut, IsBetween, IsInHand, IsLeft, IsNoted, root_mark, unmarked, work}
+pub use Rattle.ados_check.specs.steps.Reaching.{ArePending, AreReachedBut, IsBetween, IsInHand, IsLeft, IsNoted, root_mark, unmarked, work, mark_of}
 pub use Rattle.ados_data.proofs.Chains.{chained, next_of}
 pub use Rattle.ados_map.specs.Changes.{InPages, PagesRebuilt}
 pub use Rattle.ados_map.specs.Pages.{HasBit, LawfulPages, map_long, page_block, page_of, pages_of}
@@ -44,7 +44,9 @@ pub use Rattle.ados_model.proofs.Standing.{Chained-first, Chained-more, slice_ge
 pub use Rattle.ados_model.specs.Accepted.{Accepts, HasNoLost, ShowsNoFault}
 pub use Rattle.ados_model.specs.Faults.{AreDataBlocks, HasBadCount, HasBadName, HasBadPointer, HasDuplicateName, HasFileType, HasName, HasShortName, InImage, IsDataAt, IsEntry, IsFile, IsLinkType, IsOfs, IsPlace, IsPointer, IsReachedAndFree, IsUsedTwice, LinkedOnce, PlaceNames, Reached, Shows, first_pointers, pointers_of, root_of}
 pub use Rattle.ados_model.specs.Faults.HasBadCount.{held_none, held_not_full, held_over, wrong_size, wrong_sum}
+pub use Rattle.ados_model.specs.Faults.HasBadName.{colon, empty, long_name, slash}
 pub use Rattle.ados_model.specs.Faults.HasBadPointer.{further_data, outside}
+pub use Rattle.ados_model.specs.Faults.HasName.{entry_name, root_name}
 pub use Rattle.ados_model.specs.Faults.IsPlace.{directory_slot, extension_pointer, first_extension, further_extension, header_pointer, next_entry, root_page, root_slot}
 pub use Rattle.ados_model.specs.Faults.Reached.{named, start}
 unfoldable pub use Rattle.ados_model.specs.File.{contents, data_blocks, extension_blocks}
@@ -59,11 +61,11 @@ pub use Rattle.ados_model.specs.declared.role.Role.{Role}
 pub use Rattle.ados_model.specs.declared.role.Role.TheVariants.{Data, Entry, Extension, Page, Root}
 pub use Rattle.ados_name.specs.Name.{IsComment, IsName, IsNameByte, Same, is_separator, slot, upper}
 pub use Rattle.byteorder.specs.Endian.{big_number}
-pub use Rattle.std.proofs.Common.{All, AllPairs, Bool, Contains, IsSome, List, MatchOption, None, Option, Some, [], ap, append_assoc, ap₂, arith, below_more, cond, drop, eq-eqb, eqb, false, filter, fold, get_or, if◌then◌else◌, inl, inr, is_some, le-leb, length, length-drop, length-take, map, min, nat_le, nat_lt, ne_eqb, not, refl, replicate, rules, slice_get, slice_index, slice_index_or, subst, subst₂, suc, sym, take, true, vec_capacity, zero, ℕ, ◌%◌, ◌&&◌, ◌*◌, ◌++◌, ◌+◌, ◌-◌, ◌/◌, ◌<◌, ◌==◌, ◌^◌, ◌||◌, ◌↔◌, ◌∙◌, ◌∷◌, ◌≡◌, ◌≢◌, ◌≤◌, ◌⊎◌}
+pub use Rattle.std.proofs.Common.{All, AllPairs, Bool, Contains, IsSome, List, MatchOption, None, Option, Some, [], ap, append_assoc, ap₂, arith, below_more, cond, drop, eq-eqb, eqb, false, filter, fold, get_or, if◌then◌else◌, inl, inr, is_some, le-leb, length, length-drop, length-take, map, min, nat_le, nat_lt, ne_eqb, not, refl, replicate, rules, slice_get, slice_index, slice_index_or, subst, subst₂, suc, sym, take, true, vec_capacity, zero, ℕ, ◌%◌, ◌&&◌, ◌*◌, ◌++◌, ◌+◌, ◌-◌, ◌/◌, ◌<◌, ◌==◌, ◌^◌, ◌||◌, ◌↔◌, ◌∙◌, ◌∷◌, ◌≡◌, ◌≢◌, ◌≤◌, ◌⊎◌, ltb, bit_and, IfErr, IsOk, IsTrue, Ok, Err, Result, is_err}
 pub use Rattle.std.proofs.Math.ListN.{set}
-pub use Rattle.std.proofs.lemmas.Bool.{and_parts, cases_Bool, cases_eq, cases_lt, cases_order, eqb-true, false_from_ne_true, false≢true, leb-true, lt-ltb, ltb-true, not-false, not-true}
+pub use Rattle.std.proofs.lemmas.Bool.{and_parts, cases_Bool, cases_eq, cases_lt, cases_order, eqb-true, false_from_ne_true, false≢true, leb-true, lt-ltb, ltb-true, not-false, not-true, cond_above, cond_below}
 pub use Rattle.std.proofs.lemmas.List.{append-nil, drop-drop, drop-take, ext_get_or, get_or-append_right, get_or-drop, get_or-map, get_or-replicate, get_or-set_other, get_or-set_same, get_or-take, get_or_append_left, get_or_default, get_or_past, length-append, length-map, length-replicate, length-set, length_push, same_lists, take-take, take_all, take_at}
-pub use Rattle.std.proofs.lemmas.List.Elements.{All-append, All-contains, All-contains_itself, All-from_get_or, All-weaker, Contains-append_cases, Contains-append_left, Contains-append_right, Contains-get_or, filter-append, recursion_from_All}
+pub use Rattle.std.proofs.lemmas.List.Elements.{All-append, All-contains, All-contains_itself, All-from_get_or, All-weaker, Contains-append_cases, Contains-append_left, Contains-append_right, Contains-get_or, filter-append, recursion_from_All, Contains-push, Contains-push_cases}
 pub use Rattle.std.proofs.lemmas.List.Folds.{Any-from_list_any, sum_by-replicate}
 pub use Rattle.std.proofs.lemmas.List.FromFn.{get_or-map-range_with_len, length-map-range_with_len}
 pub use Rattle.std.proofs.lemmas.List.Sums.{sum_by-set, sum_by_more}

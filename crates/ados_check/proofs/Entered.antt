@@ -8,8 +8,7 @@ use Rattle.std.specs.FinMap.{nat_cmp-IsAntisymmetric, slice_cmp-IsAntisymmetric}
 use Rattle.std.specs.BTreeMap.{is_at}
 use Rattle.std.specs.BTreeSet.{BTreeSet, contains}
 use Rattle.ados_check.specs.declared.names.EntryName.{EntryName}
-use Rattle.ados_check.proofs.Marked.{one_directory, entry_below}
-use Rattle.ados_check.proofs.UpperNames.{upper_names_equal, entry_sound, duplicate_shown}
+use Rattle.ados_check.proofs.UpperNames.{one_directory, entry_below, upper_names_equal, entry_sound, duplicate_shown}
 
 -- the order of names: by directory, then by bytes
 abbrev pub entry_cmp : EntryName → EntryName → Ordering

@@ -1,8 +1,6 @@
 -- A sound file stays sound when only the bitmap changes.
-use Rattle.ados_check.proofs.Common.{◌≡◌, ◌≢◌, ℕ, zero, suc, ◌+◌, ◌-◌, ◌/◌, ◌%◌, ◌<◌, ◌≤◌, List, [], ◌∷◌, length, slice_index, Option, Some, refl, sym, ap, ap₂, ◌∙◌, subst, arith, Format, Ofs, Ffs, IsImage, block_count, long, Chained, file_size, format_of, NEXT_EXTENSION, NEXT_DATA, SameBut, data_size, data_start, data_count, HasOfsData, HasFile, file_byte, AreApart, IsLawful, data_blocks, extension_blocks, contents, IsOfBitmap, Mark, mark_at, IsChecked, IsSoundFile}
+use Rattle.ados_check.proofs.Common.{◌≡◌, ◌≢◌, ℕ, zero, suc, ◌+◌, ◌-◌, ◌/◌, ◌%◌, ◌<◌, ◌≤◌, List, [], ◌∷◌, length, slice_index, Option, Some, refl, sym, ap, ap₂, ◌∙◌, subst, arith, Format, Ofs, Ffs, IsImage, block_count, long, Chained, file_size, format_of, NEXT_EXTENSION, NEXT_DATA, SameBut, data_size, data_start, data_count, HasOfsData, HasFile, file_byte, AreApart, IsLawful, data_blocks, extension_blocks, contents, IsOfBitmap, Mark, mark_at, IsChecked, IsSoundFile, Data, Extension, mark_of}
 use Rattle.ados_data.proofs.Spelled.{lawful_file}
-use Rattle.ados_model.specs.declared.role.Role.TheVariants as roles
-use Rattle.ados_check.proofs.Paths.{mark_of}
 use Rattle.ados_check.proofs.Roles.{IsMarkedFile, marked_inside}
 use Rattle.ados_check.proofs.RolePlaces.{length-data_blocks, length-extension_blocks, length-contents, sound_file, StandsAt, marked_at, one_place, holder_of, long_of, holder_within, different_headers}
 use Rattle.ados_check.proofs.Untouched.{count_same, IsUntouched, untouched, long_kept, byte_kept, sum_kept, format_same, extension_kept}
@@ -32,21 +30,21 @@ module _ (old new : List ℕ) (marks : List (Option Mark)) (im : IsImage old) (c
       let role = f.role in
       untouched old new marks im c.reached same file f.mark f.marked (λ z. cc (role, z)) (λ z. cc (role, z))
 
-  extension_stands : (q : ℕ) → q < length (extension_blocks old file) → StandsAt old marks im c (roles.Extension file) q (slice_index (extension_blocks old file) q)
+  extension_stands : (q : ℕ) → q < length (extension_blocks old file) → StandsAt old marks im c (Extension file) q (slice_index (extension_blocks old file) q)
   extension_stands q l = record { within = l; here = refl; holder = f }
 
-  data_stands : (i : ℕ) → i < length (data_blocks old file) → StandsAt old marks im c (roles.Data file) i (slice_index (data_blocks old file) i)
+  data_stands : (i : ℕ) → i < length (data_blocks old file) → StandsAt old marks im c (Data file) i (slice_index (data_blocks old file) i)
   data_stands i l = record { within = l; here = refl; holder = f }
 
   extension_free : (q : ℕ) → q < length (extension_blocks old file) → Free (slice_index (extension_blocks old file) q)
-  extension_free q l = untouched old new marks im c.reached same _ _ (marked_at old marks im c (roles.Extension file) q _ (extension_stands q l)) (λ z. cc z) (λ z. cc z)
+  extension_free q l = untouched old new marks im c.reached same _ _ (marked_at old marks im c (Extension file) q _ (extension_stands q l)) (λ z. cc z) (λ z. cc z)
 
   headers_free : (q : ℕ) → q ≤ length (extension_blocks old file) → Free (slice_index (file ∷ extension_blocks old file) q)
   headers_free zero l = header_free
   headers_free (suc q) l = extension_free q (omega arith)
 
   data_free : (i : ℕ) → i < length (data_blocks old file) → Free (slice_index (data_blocks old file) i)
-  data_free i l = untouched old new marks im c.reached same _ _ (marked_at old marks im c (roles.Data file) i _ (data_stands i l)) (λ z. cc z) (λ z. cc z)
+  data_free i l = untouched old new marks im c.reached same _ _ (marked_at old marks im c (Data file) i _ (data_stands i l)) (λ z. cc z) (λ z. cc z)
 
   -- ---- so they hold the same file
 
@@ -83,16 +81,16 @@ module _ (old new : List ℕ) (marks : List (Option Mark)) (im : IsImage old) (c
 
   -- ---- the blocks are distinct
 
-  header_role : (q : ℕ) → q ≤ length (extension_blocks old file) → (m : Mark) × (mark_at marks (slice_index (file ∷ extension_blocks old file) q) ≡ Some m) × (m.role ≢ roles.Data file)
+  header_role : (q : ℕ) → q ≤ length (extension_blocks old file) → (m : Mark) × (mark_at marks (slice_index (file ∷ extension_blocks old file) q) ≡ Some m) × (m.role ≢ Data file)
   header_role zero l = let role = f.role in (f.mark, f.marked, λ z. cc (role, z))
-  header_role (suc q) l = (_, marked_at old marks im c (roles.Extension file) q _ (extension_stands q (omega arith)), λ z. cc z)
+  header_role (suc q) l = (_, marked_at old marks im c (Extension file) q _ (extension_stands q (omega arith)), λ z. cc z)
 
   not_header : (q i : ℕ) → q ≤ length (extension_blocks old file) → (l : i < length (data_blocks old file)) → slice_index (file ∷ extension_blocks old file) q ≢ slice_index (data_blocks old file) i
   not_header q i m l e =
       let header = header_role q m in
-      let marked = marked_at old marks im c (roles.Data file) i _ (data_stands i l) in
+      let marked = marked_at old marks im c (Data file) i _ (data_stands i l) in
       let blocks = ap (mark_at marks) e in
-      let one : header.0 ≡ mark_of (roles.Data file) (holder_of old marks im c (roles.Data file) i) (long_of old marks im c (roles.Data file) i) = cc (header.1, marked, blocks) in
+      let one : header.0 ≡ mark_of (Data file) (holder_of old marks im c (Data file) i) (long_of old marks im c (Data file) i) = cc (header.1, marked, blocks) in
       header.2 (ap (λ (m : Mark). m.role) one)
 
   places : AreApart (block_count new) file (data_blocks old file) (extension_blocks old file)
@@ -100,9 +98,9 @@ module _ (old new : List ℕ) (marks : List (Option Mark)) (im : IsImage old) (c
       let count = count_same old new marks im c.reached same in
       record {
         headers_inside = λ q l. let header = header_role q l in let inside = marked_inside old marks c.reached im _ header.0 header.1 in (inside.0, omega (arith, inside.1, count));
-        data_inside = λ i l. let inside = marked_inside old marks c.reached im _ _ (marked_at old marks im c (roles.Data file) i _ (data_stands i l)) in (inside.0, omega (arith, inside.1, count));
+        data_inside = λ i l. let inside = marked_inside old marks c.reached im _ _ (marked_at old marks im c (Data file) i _ (data_stands i l)) in (inside.0, omega (arith, inside.1, count));
         headers_once = λ p q b l e. let at : p ≡ q = different_headers old marks im c file f p q (omega arith) (omega arith) e in omega (arith, at, b);
-        data_once = λ i j b l e. let at : i ≡ j = one_place old marks im c (roles.Data file) i j _ (record { within = omega arith; here = e; holder = f }) (data_stands j l) in omega (arith, at, b);
+        data_once = λ i j b l e. let at : i ≡ j = one_place old marks im c (Data file) i j _ (record { within = omega arith; here = e; holder = f }) (data_stands j l) in omega (arith, at, b);
         apart = λ q i l m. not_header q i l m;
       }
 

@@ -1,5 +1,5 @@
 -- What any source has of the blocks of a walked image.
-use Rattle.ados_check.proofs.Common.{◌≡◌, ◌≢◌, ℕ, zero, suc, ◌<◌, ◌≤◌, inl, inr, List, slice_index, Option, subst, sym, arith, block_sum, primary_type, DATA_TYPE, pointer_block, Role, Extension, IsOfs, Mark, TellsHeader, AreReached, IsMarkedEntry, TellsFields, SourceView, Tells, IsReachedEntry, IsReachedFile, HasCounts}
+use Rattle.ados_check.proofs.Common.{◌≡◌, ◌≢◌, ℕ, zero, suc, ◌<◌, ◌≤◌, inl, inr, List, slice_index, Option, subst, sym, arith, block_sum, primary_type, DATA_TYPE, pointer_block, Role, Extension, IsOfs, Mark, TellsHeader, AreReached, IsMarkedEntry, TellsFields, SourceView, Tells, IsReachedEntry, IsReachedFile, HasCounts, ◌∙◌, Page, Data, IsPlace, IsSound, ◌+◌, page_block, pages_of, Root, root_of, root_page, IsChecked, TellsBitmap, mark_of}
 use Rattle.ados_check.specs.PlacesTold.{TellsAll}
 use Rattle.ados_check.proofs.Headers.{types_right}
 use Rattle.ados_check.proofs.UpperNames.{entry_sound}
@@ -46,3 +46,28 @@ module _ (source : SourceView) where
 
     pub data_told : (count : ℕ) → HasCounts source.bytes file count → IsOfs source.bytes → (block place i : ℕ) → block ≡ slice_index (blocks_upto source.bytes file count) place → place < count → i < 6 → Tells source block i
     data_told count h ofs block place i e l few = subst (λ (b : ℕ). Tells source b i) (sym e) (inr ((block_sound source.bytes file count r h ofs place l).sum, inl few))
+
+-- a place of a sound block is available
+pub place_told : (source : SourceView) (block i : ℕ) (role next : Role) → IsPlace source.bytes block role i next → IsSound source.bytes block role → Tells source block i
+place_told source block i Page next place sound = elim place [ ]
+place_told source block i (Data file) next place sound = elim place [ ]
+place_told source block i _ next place sound = inr (sound.sum, inr (λ e. let h = sym sound.primary ∙ e in cc h))
+
+-- a whole image has everything
+module _ (source : SourceView) (marks : List (Option Mark)) (c : IsChecked source.bytes marks) where
+  pub root_told : (i : ℕ) → Tells source (root_of source.bytes) i
+  root_told i =
+      let sound = c.reached.sound (root_of source.bytes) (mark_of Root 0 0) c.reached.root in
+      inr (sound.sum, inr (λ z. omega (arith, sound.primary, z)))
+
+  page_sum : (p : ℕ) → p < pages_of source.bytes → block_sum source.bytes (page_block source.bytes p) ≡ 0
+  page_sum p l =
+      let marked = c.reached.marked (root_of source.bytes) (79 + p) (mark_of Root 0 0) Page c.reached.root (root_page l) in
+      c.reached.sound (page_block source.bytes p) (mark_of Page (root_of source.bytes) (79 + p)) marked
+
+  -- the checksum of a bitmap block is always available; it is at the position of the primary type in other blocks
+  pub page_first : (p : ℕ) → p < pages_of source.bytes → Tells source (page_block source.bytes p) 0
+  page_first p l = inr (page_sum p l, inl (omega arith))
+
+  pub bitmap_told : ((p : ℕ) → p < pages_of source.bytes → primary_type source.bytes (page_block source.bytes p) ≢ DATA_TYPE) → TellsBitmap source
+  bitmap_told other = record { root = root_told; page = λ p i l. inr (page_sum p l, inr (other p l)) }

@@ -1,7 +1,5 @@
 -- The first four bytes.
-use Rattle.ados_check.proofs.Common.{◌≡◌, ◌≢◌, ℕ, ◌≤◌, ◌==◌, if◌then◌else◌, List, [], ◌∷◌, length, take, slice_index, refl, sym, ap, ◌∙◌, arith, byte_at, bytes_at, format_of, IsDos, HasKind, format_byte}
-use Rattle.adf_block.specs.declared.boot.BootKind.TheVariants.{Ofs, Ffs}
-use Rattle.adf_block.specs.declared.layout.Format.TheVariants as formats
+use Rattle.ados_check.proofs.Common.{◌≡◌, ◌≢◌, ℕ, ◌≤◌, ◌==◌, if◌then◌else◌, List, [], ◌∷◌, length, take, slice_index, refl, sym, ◌∙◌, arith, byte_at, bytes_at, format_of, IsDos, Ofs, Ffs, format_byte}
 
 first_four : (image : List ℕ) → 4 ≤ length image → take 4 image ≡ slice_index image 0 ∷ slice_index image 1 ∷ slice_index image 2 ∷ slice_index image 3 ∷ []
 first_four (a ∷ b ∷ c ∷ d ∷ rest) h = refl
@@ -11,9 +9,9 @@ first_three : (image : List ℕ) → 3 ≤ length image → take 3 image ≡ sli
 first_three (a ∷ b ∷ c ∷ rest) h = refl
 first_three _ h = absurd (omega arith)
 
-pub dos_bytes : (image : List ℕ) (k : ℕ) → 4 ≤ length image → IsDos image → byte_at image 0 3 ≡ k → bytes_at image 0 0 4 ≡ 68 ∷ 79 ∷ 83 ∷ k ∷ []
+pub dos_bytes : (image : List ℕ) (k : ℕ) → k ≡ format_byte (if k == 0 then Ofs else Ffs) → 4 ≤ length image → IsDos image → byte_at image 0 3 ≡ k → bytes_at image 0 0 4 ≡ 68 ∷ 79 ∷ 83 ∷ format_byte (format_of image) ∷ []
 unfolding bytes_at byte_at
-dos_bytes image k long dos last = first_four image long ∙ cc
+dos_bytes image k known long dos last = first_four image long ∙ rw (last, ← known) cc
 
 pub is_dos : (image : List ℕ) → 4 ≤ length image → IsDos image → bytes_at image 0 0 3 ≡ 68 ∷ 79 ∷ 83 ∷ []
 unfolding bytes_at byte_at
@@ -24,11 +22,3 @@ unfolding bytes_at byte_at
 not_dos image long other e =
     let same : (slice_index image 0 ∷ slice_index image 1 ∷ slice_index image 2 ∷ []) ≡ (68 ∷ 79 ∷ 83 ∷ []) = sym (first_three image (omega arith)) ∙ e in
     other (cc, cc, cc)
-
-pub ofs_bytes : (image : List ℕ) → 4 ≤ length image → HasKind image Ofs → bytes_at image 0 0 4 ≡ 68 ∷ 79 ∷ 83 ∷ format_byte (format_of image) ∷ []
-ofs_bytes image long kind =
-    dos_bytes image 0 long kind.0 kind.1 ∙ ap (λ (k : ℕ). 68 ∷ 79 ∷ 83 ∷ format_byte (if k == 0 then formats.Ofs else formats.Ffs) ∷ []) (sym kind.1)
-
-pub ffs_bytes : (image : List ℕ) → 4 ≤ length image → HasKind image Ffs → bytes_at image 0 0 4 ≡ 68 ∷ 79 ∷ 83 ∷ format_byte (format_of image) ∷ []
-ffs_bytes image long kind =
-    dos_bytes image 1 long kind.0 kind.1 ∙ ap (λ (k : ℕ). 68 ∷ 79 ∷ 83 ∷ format_byte (if k == 0 then formats.Ofs else formats.Ffs) ∷ []) (sym kind.1)

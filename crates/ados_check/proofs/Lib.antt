@@ -15,10 +15,8 @@ pub mod FilesKept
 pub mod Carried
 pub mod NoFaults
 pub mod Accepted
-pub mod KeptLengths
 pub mod Adding
 pub mod Reading
-pub mod PlacesTold
 pub mod PlaceLemmas
 pub mod KindLemmas
 pub mod NameLemmas
@@ -34,9 +32,7 @@ pub mod Pointed
 pub mod SoundFile
 pub mod Linked
 pub mod UpperNames
-pub mod Marked
 pub mod Entered
 pub mod FilesTold
 pub mod Free
-pub mod BitmapTold
 pub mod BootBytes

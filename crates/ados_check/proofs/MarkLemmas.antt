@@ -1,5 +1,5 @@
 -- The marks and the pending blocks when one cell changes.
-use Rattle.ados_check.proofs.Common.{◌≡◌, ◌≢◌, ℕ, suc, ◌+◌, ◌-◌, ◌<◌, ◌≤◌, ◌⊎◌, inl, inr, List, [], ◌∷◌, ◌++◌, length, get_or, AllPairs, Contains, replicate, Option, None, Some, is_some, true, false, cond, refl, sym, ap, ◌∙◌, arith, set, get_or_default, get_or_past, get_or-set_same, get_or-set_other, get_or-replicate, length-replicate, length-set, length-append, get_or_append_left, get_or-append_right, sum_by-set, sum_by-replicate, Contains-append_cases, Contains-append_left, Contains-append_right, cases_lt, Mark, mark_at, unmarked}
+use Rattle.ados_check.proofs.Common.{◌≡◌, ◌≢◌, ℕ, suc, ◌+◌, ◌<◌, ◌≤◌, inl, inr, List, [], ◌∷◌, ◌++◌, length, get_or, AllPairs, Contains, replicate, Option, None, Some, is_some, true, false, cond, refl, sym, ap, ◌∙◌, arith, set, get_or_default, get_or_past, get_or-set_same, get_or-set_other, get_or-replicate, length-replicate, length-set, sum_by-set, sum_by-replicate, cases_lt, Mark, mark_at, unmarked}
 use Rattle.std.proofs.lemmas.List.Quantifiers.{all_pairs_push}
 
 -- one more block is marked

@@ -1,10 +1,8 @@
 -- The steps of the walk: a block is taken, its longs are visited one by one, and it is done.
-use Rattle.ados_check.proofs.Common.{◌≡◌, ◌≢◌, ◌↔◌, ℕ, ◌+◌, ◌<◌, ◌≤◌, inl, inr, List, [], ◌∷◌, ◌++◌, length, replicate, Contains, Option, None, Some, refl, sym, ap, ◌∙◌, subst, arith, length-append, length-replicate, set, cases_eq, cases_lt, block_count, page_count, long, Role, Root, InImage, IsPlace, PlaceNames, IsUsedTwice, HasBadPointer, root_of, start, named, outside, Reached, Mark, mark_at, IsSound, root_mark, unmarked, work, ArePending, IsBetween, IsInHand, IsLeft}
-use Rattle.std.proofs.lemmas.List.Elements.{Contains-append_left, Contains-push, Contains-push_cases}
+use Rattle.ados_check.proofs.Common.{◌≡◌, ◌≢◌, ◌↔◌, ℕ, ◌+◌, ◌<◌, ◌≤◌, inl, inr, List, [], ◌∷◌, ◌++◌, length, replicate, Contains, Option, None, Some, refl, sym, ap, ◌∙◌, subst, arith, length-append, length-replicate, set, cases_eq, cases_lt, block_count, page_count, long, Role, Root, InImage, IsPlace, PlaceNames, IsUsedTwice, HasBadPointer, root_of, start, named, outside, Reached, Mark, mark_at, IsSound, root_mark, unmarked, work, ArePending, IsBetween, IsInHand, IsLeft, mark_of, Contains-append_left, Contains-push, Contains-push_cases}
 use Rattle.ados_model.proofs.KeyLists.{Once-before, Once-front}
 use Rattle.ados_model.specs.Faults.IsUsedTwice.{two_holders, two_longs, root_named}
 use Rattle.ados_check.proofs.MarkLemmas.{IsMarkedMore, marked_more, once_pushed, none_marked, all_unmarked}
-use Rattle.ados_check.proofs.Paths.{mark_of}
 use Rattle.ados_check.proofs.PlaceLemmas.{place_within}
 use Rattle.ados_check.proofs.ReachMoves.{in_hand, with_left, gone_through}
 
@@ -183,26 +181,30 @@ module _ (image : List ℕ) (marks : List (Option Mark)) where
     waiting = h.waiting;
   }
 
-  pub reached_next : (pending : List ℕ) (hand i : ℕ) (role next : Role) → IsInHand image marks pending hand role i → IsPlace image hand role i next → InImage image (long image hand i) → Reached image (long image hand i) next
-  reached_next pending hand i role next h place within = named (subst (λ (r : Role). Reached image hand r) h.of_role (h.but.reached hand h.mark h.held)) place within
+  -- the block in hand is reached in its role
+  in_role : {pending : List ℕ} {hand i : ℕ} {role : Role} → IsInHand image marks pending hand role i → Reached image hand role
+  in_role {hand = hand} h = subst (Reached image hand) h.of_role (h.but.reached hand h.mark h.held)
+
+  pub reached_next : (pending : List ℕ) (hand i : ℕ) (role next : Role) (block : ℕ) → block ≡ long image hand i → IsInHand image marks pending hand role i → IsPlace image hand role i next → InImage image block → Reached image block next
+  reached_next pending hand i role next block e h place within = subst (λ (b : ℕ). Reached image b next) (sym e) (named (in_role h) place (subst (InImage image) e within))
 
   pub points_outside : (pending : List ℕ) (hand i : ℕ) (role next : Role) → IsInHand image marks pending hand role i → IsPlace image hand role i next → ¬ InImage image (long image hand i) → HasBadPointer image hand
-  points_outside pending hand i role next h place not_in = outside (subst (λ (r : Role). Reached image hand r) h.of_role (h.but.reached hand h.mark h.held)) place not_in
+  points_outside pending hand i role next h place not_in = outside (in_role h) place not_in
 
   -- the place names a block that is already marked, with another place or as the root
-  pub used_twice : (pending : List ℕ) (hand i : ℕ) (role next : Role) (mark : Mark) → IsInHand image marks pending hand role i → IsPlace image hand role i next → InImage image (long image hand i) → mark_at marks (long image hand i) ≡ Some mark → IsUsedTwice image (long image hand i)
-  used_twice pending hand i role next mark h place within e =
-      let here : PlaceNames image hand i (long image hand i) = record {
+  pub used_twice : (pending : List ℕ) (hand i : ℕ) (role next : Role) (block : ℕ) (mark : Mark) → block ≡ long image hand i → IsInHand image marks pending hand role i → IsPlace image hand role i next → InImage image block → mark_at marks block ≡ Some mark → IsUsedTwice image block
+  used_twice pending hand i role next block mark is h place within e =
+      let here : PlaceNames image hand i block = record {
         role = role;
         next = next;
-        reached = subst (λ (r : Role). Reached image hand r) h.of_role (h.but.reached hand h.mark h.held);
+        reached = in_role h;
         place = place;
-        names = refl;
+        names = sym is;
       } in
-      elim (h.but.noted (long image hand i) mark e) [
+      elim (h.but.noted block mark e) [
         | inl root ↦ root_named root here
         | inr n ↦
-            let there : PlaceNames image mark.holder mark.long (long image hand i) = record {
+            let there : PlaceNames image mark.holder mark.long block = record {
               role = n.holder.role;
               next = mark.role;
               reached = h.but.reached mark.holder n.holder n.held;
@@ -210,7 +212,7 @@ module _ (image : List ℕ) (marks : List (Option Mark)) where
               names = n.names;
             } in
             elim (cases_eq mark.holder hand) [
-              | inl z ↦ two_longs within (subst (λ (b : ℕ). PlaceNames image b mark.long (long image hand i)) z there) here (λ f. n.passed (inr (z, omega (arith, f))))
+              | inl z ↦ two_longs within (subst (λ (b : ℕ). PlaceNames image b mark.long block) z there) here (λ f. n.passed (inr (z, omega (arith, f))))
               | inr ne ↦ two_holders within (mark.long, there) (i, here) ne
             ]
       ]

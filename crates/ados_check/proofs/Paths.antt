@@ -1,9 +1,6 @@
 -- Linked lists of blocks, and their marks.
-use Rattle.ados_check.proofs.Common.{◌≡◌, ◌≢◌, ℕ, zero, suc, ◌<◌, ◌⊎◌, inl, inr, ◌==◌, if◌then◌else◌, List, [], ◌∷◌, length, slice_index, Option, Some, refl, sym, ap, ◌∙◌, subst, arith, eq-eqb, ne_eqb, cases_eq, long, Chained, Role, Mark, mark_at}
+use Rattle.ados_check.proofs.Common.{◌≡◌, ◌≢◌, ℕ, zero, suc, ◌<◌, ◌⊎◌, inl, inr, ◌==◌, if◌then◌else◌, List, [], ◌∷◌, length, slice_index, Option, Some, refl, sym, ap, ◌∙◌, subst, arith, eq-eqb, ne_eqb, cases_eq, long, Chained, Role, Mark, mark_at, mark_of}
 use Rattle.ados_check.proofs.Counting.{AreDifferent, different_few}
-
-abbrev pub mark_of : Role → ℕ → ℕ → Mark
-mark_of role holder long = record { role = role; holder = holder; long = long }
 
 -- the list starts at the first block and follows the link; no block of it is 0
 pub record IsPath (image : List ℕ) (link first : ℕ) (xs : List ℕ) : Type 0 where

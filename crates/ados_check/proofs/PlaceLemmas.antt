@@ -1,7 +1,5 @@
 -- The places of each role, by the index of the long.
-use Rattle.ados_check.proofs.Common.{◌≡◌, ◌↔◌, Some, ℕ, ◌+◌, ◌-◌, ◌<◌, ◌≤◌, List, refl, sym, ap, ◌∙◌, subst, arith, same_Some, block_count, page_count, secondary_type, Role, Root, Page, Entry, Data, Extension, IsPlace, root_page, root_slot, directory_slot, next_entry, header_pointer, first_extension, extension_pointer, further_extension, cond}
-use Rattle.std.proofs.Common.{ltb}
-use Rattle.std.proofs.lemmas.Bool.{cond_above, cond_below}
+use Rattle.ados_check.proofs.Common.{◌≡◌, ◌↔◌, Some, ℕ, ◌+◌, ◌-◌, ◌<◌, ◌≤◌, List, refl, sym, ap, ◌∙◌, subst, arith, same_Some, block_count, page_count, secondary_type, Role, Root, Page, Entry, Data, Extension, IsPlace, root_page, root_slot, directory_slot, next_entry, header_pointer, first_extension, extension_pointer, further_extension, cond, ltb, cond_above, cond_below}
 
 -- a place of a root
 pub data OfRoot (image : List ℕ) (block i : ℕ) (next : Role) : Type 0 where

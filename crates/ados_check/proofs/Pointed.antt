@@ -1,6 +1,5 @@
 -- The data blocks in a file's pointers, if its counts are right.
-use Rattle.ados_check.proofs.Common.{◌≡◌, ℕ, suc, ◌+◌, ◌-◌, ◌*◌, ◌/◌, ◌%◌, ◌<◌, ◌≤◌, ◌⊎◌, inl, inr, min, List, length, take, drop, map, slice_index, sym, ap, ap₂, ◌∙◌, subst, arith, le-leb, range_with_len, cases_lt, ext_get_or, get_or-take, get_or-drop, length-map-range_with_len, get_or-map-range_with_len, long, pointer, pointer_count, NEXT_EXTENSION, pointer_block, data_block, InImage, IsPointer, LinkedOnce, first_pointers, pointers_of, AreDataBlocks, IsReachedFile, HasCounts, length-first_pointers, first_pointers-at, chunks}
-use Rattle.std.proofs.lemmas.List.{length-take, length-drop}
+use Rattle.ados_check.proofs.Common.{◌≡◌, ℕ, suc, ◌+◌, ◌-◌, ◌*◌, ◌/◌, ◌%◌, ◌<◌, ◌≤◌, ◌⊎◌, inl, inr, min, List, length, take, drop, map, slice_index, sym, ap, ap₂, ◌∙◌, subst, arith, le-leb, range_with_len, cases_lt, ext_get_or, get_or-take, get_or-drop, length-map-range_with_len, get_or-map-range_with_len, long, pointer, pointer_count, NEXT_EXTENSION, pointer_block, data_block, InImage, IsPointer, LinkedOnce, first_pointers, pointers_of, AreDataBlocks, IsReachedFile, HasCounts, length-first_pointers, first_pointers-at, chunks, length-take, length-drop}
 use Rattle.ados_check.proofs.Headers.{within, not_zero, headers_upto, length-headers_upto, header-at}
 
 -- ---- the blocks of a file

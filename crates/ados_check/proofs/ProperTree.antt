@@ -1,9 +1,7 @@
 -- The tree of the marks is a proper one.
-use Rattle.ados_check.proofs.Common.{◌≡◌, ◌≢◌, ℕ, ◌<◌, ◌≤◌, List, [], length, slice_index, AllPairs, Contains, Option, Some, refl, sym, ap, ◌∙◌, subst, arith, ⊤, get_or_default, Contains-get_or, IsImage, text_at, IsSize, block_count, NAME_BYTE, Same, slot, IsName, IsComment, Role, Node, Tree, Proper, LeadsToRoot, entries, name_of, parent_of, name_in, in_slot, InImage, Reached, root_of, root_page, root_slot, directory_slot, next_entry, start, named, joined, Mark, mark_at, IsChecked, IsSound, IsSoundRoot}
-use Rattle.ados_model.specs.declared.role.Role.TheVariants as roles
+use Rattle.ados_check.proofs.Common.{◌≡◌, ◌≢◌, ℕ, ◌<◌, ◌≤◌, List, [], length, slice_index, AllPairs, Contains, Option, Some, refl, sym, ap, ◌∙◌, subst, arith, ⊤, get_or_default, Contains-get_or, IsImage, text_at, IsSize, block_count, NAME_BYTE, Same, slot, IsName, IsComment, Role, Node, Tree, Proper, LeadsToRoot, entries, name_of, parent_of, name_in, in_slot, InImage, Reached, root_of, root_page, root_slot, directory_slot, next_entry, start, named, joined, Mark, mark_at, IsChecked, IsSound, IsSoundRoot, Data, Entry, Extension, Page, Root, mark_of}
 use Rattle.ados_model.specs.Tree.LeadsToRoot.{at_root, by_parent}
 use Rattle.ados_check.proofs.Joined.{place_of, Contains-joined, part_of_joined, AllPairs-joined, filter-joined}
-use Rattle.ados_check.proofs.Paths.{mark_of}
 use Rattle.ados_check.proofs.Roles.{IsMarkedDirectory, reached_marked, marked_inside, root_role}
 use Rattle.ados_check.proofs.RolePlaces.{chain_of, StandsAt, marked_at, marked_stands, one_place, holder_of, long_of}
 use Rattle.ados_check.proofs.Texts.{comment_valid}
@@ -17,24 +15,24 @@ module _ (image : List ℕ) (marks : List (Option Mark)) (im : IsImage image) (c
   -- ---- the hash chains
 
   -- an element of a chain is at a position of it
-  chain_stands : (dir s : ℕ) → IsMarkedDirectory image marks dir → s < 72 → (x : ℕ) → Contains (chain_of image dir s) x → (k : ℕ) × StandsAt image marks im c (roles.Entry dir s) k x
+  chain_stands : (dir s : ℕ) → IsMarkedDirectory image marks dir → s < 72 → (x : ℕ) → Contains (chain_of image dir s) x → (k : ℕ) × StandsAt image marks im c (Entry dir s) k x
   chain_stands dir s d l x h = let p = place_of (chain_of image dir s) x h in (p.0, record { within = p.1; here = p.2; holder = (d, l) })
 
   -- an element of a chain is marked with the chain's slot
-  pub chain_marked : (dir s : ℕ) → IsMarkedDirectory image marks dir → s < 72 → (x : ℕ) → Contains (chain_of image dir s) x → (m : Mark) × (mark_at marks x ≡ Some m) × (m.role ≡ roles.Entry dir s)
+  pub chain_marked : (dir s : ℕ) → IsMarkedDirectory image marks dir → s < 72 → (x : ℕ) → Contains (chain_of image dir s) x → (m : Mark) × (mark_at marks x ≡ Some m) × (m.role ≡ Entry dir s)
   chain_marked dir s d l x h =
       let p = chain_stands dir s d l x h in
-      (mark_of (roles.Entry dir s) (holder_of image marks im c (roles.Entry dir s) p.0) (long_of image marks im c (roles.Entry dir s) p.0), marked_at image marks im c (roles.Entry dir s) p.0 x p.1, refl)
+      (mark_of (Entry dir s) (holder_of image marks im c (Entry dir s) p.0) (long_of image marks im c (Entry dir s) p.0), marked_at image marks im c (Entry dir s) p.0 x p.1, refl)
 
   -- a block marked with a slot is in its chain
-  pub marked_chain : (key : ℕ) (m : Mark) (dir s : ℕ) → mark_at marks key ≡ Some m → m.role ≡ roles.Entry dir s → IsMarkedDirectory image marks dir × (s < 72) × Contains (chain_of image dir s) key
+  pub marked_chain : (key : ℕ) (m : Mark) (dir s : ℕ) → mark_at marks key ≡ Some m → m.role ≡ Entry dir s → IsMarkedDirectory image marks dir × (s < 72) × Contains (chain_of image dir s) key
   marked_chain key m dir s e is =
       let at = marked_stands image marks im c key m e in
-      let stands : StandsAt image marks im c (roles.Entry dir s) at.0 key = subst (λ (role : Role). StandsAt image marks im c role at.0 key) is at.1 in
+      let stands : StandsAt image marks im c (Entry dir s) at.0 key = subst (λ (role : Role). StandsAt image marks im c role at.0 key) is at.1 in
       (stands.holder.0, stands.holder.1, subst (Contains (chain_of image dir s)) stands.here (Contains-get_or (chain_of image dir s) at.0 0 stands.within))
 
-  name_is : (key : ℕ) (m : Mark) (dir s : ℕ) → mark_at marks key ≡ Some m → m.role ≡ roles.Entry dir s → name_of t key ≡ text_at image key NAME_BYTE
-  name_is key m dir s e is = ap name_in (node_is image marks key m (roles.Entry dir s) e is)
+  name_is : (key : ℕ) (m : Mark) (dir s : ℕ) → mark_at marks key ≡ Some m → m.role ≡ Entry dir s → name_of t key ≡ text_at image key NAME_BYTE
+  name_is key m dir s e is = ap name_in (node_is image marks key m (Entry dir s) e is)
 
   -- the slot of a name determines the chain
   told : (dir : ℕ) → IsMarkedDirectory image marks dir → (s x : ℕ) → s < 72 → Contains (chain_of image dir s) x → slot (name_of t x) ≡ s
@@ -81,7 +79,7 @@ module _ (image : List ℕ) (marks : List (Option Mark)) (im : IsImage image) (c
   chain-once dir s d l = λ i j z b m e.
       let k : i < length (chain_of image dir s) = omega arith in
       let same : slice_index (chain_of image dir s) i ≡ slice_index (chain_of image dir s) j = get_or_default (chain_of image dir s) i 0 z k ∙ e ∙ sym (get_or_default (chain_of image dir s) j 0 z m) in
-      let places : i ≡ j = one_place image marks im c (roles.Entry dir s) i j (slice_index (chain_of image dir s) j) (record { within = k; here = same; holder = (d, l) }) (record { within = m; here = refl; holder = (d, l) }) in
+      let places : i ≡ j = one_place image marks im c (Entry dir s) i j (slice_index (chain_of image dir s) j) (record { within = k; here = same; holder = (d, l) }) (record { within = m; here = refl; holder = (d, l) }) in
       omega (arith, places, b)
 
   chains-apart : (dir : ℕ) → IsMarkedDirectory image marks dir → (r s x y : ℕ) → r < s → s < 72 → Contains (chain_of image dir r) x → Contains (chain_of image dir s) y → x ≢ y
@@ -90,7 +88,7 @@ module _ (image : List ℕ) (marks : List (Option Mark)) (im : IsImage image) (c
       let other = chain_marked dir s d l y g in
       let blocks = ap (mark_at marks) e in
       let same : one.0 ≡ other.0 = cc (one.1, other.1, blocks) in
-      let role : roles.Entry dir r ≡ roles.Entry dir s = sym one.2 ∙ ap (λ (m : Mark). m.role) same ∙ other.2 in
+      let role : Entry dir r ≡ Entry dir s = sym one.2 ∙ ap (λ (m : Mark). m.role) same ∙ other.2 in
       let slots : r ≡ s = cc role in
       omega (arith, slots, b)
 
@@ -118,11 +116,11 @@ module _ (image : List ℕ) (marks : List (Option Mark)) (im : IsImage image) (c
   -- ---- the way to the root
 
   abbrev Leads : Role → Type 0
-  Leads roles.Root = ⊤
-  Leads roles.Page = ⊤
-  Leads (roles.Entry dir s) = LeadsToRoot t dir
-  Leads (roles.Data file) = ⊤
-  Leads (roles.Extension file) = ⊤
+  Leads Root = ⊤
+  Leads Page = ⊤
+  Leads (Entry dir s) = LeadsToRoot t dir
+  Leads (Data file) = ⊤
+  Leads (Extension file) = ⊤
 
   parent_leads : {block : ℕ} {role : Role} → Reached image block role → Leads role
   parent_leads start = tt
@@ -167,7 +165,7 @@ module _ (image : List ℕ) (marks : List (Option Mark)) (im : IsImage image) (c
   proper = record {
     size = subst IsSize (sym count) im.size;
     inside = λ key a h. node_inside key a (node_view image marks key a h);
-    root_node = (root_node image (root_of image), node_is image marks (root_of image) (mark_of roles.Root 0 0) roles.Root c.reached.root refl, record { no_parent = refl; no_protection = refl; no_comment = refl; keys = keys_of image (root_of image); directory = refl });
+    root_node = (root_node image (root_of image), node_is image marks (root_of image) (mark_of Root 0 0) Root c.reached.root refl, record { no_parent = refl; no_protection = refl; no_comment = refl; keys = keys_of image (root_of image); directory = refl });
     listed = λ dir key. (lists_entries dir key, is_listed dir key);
     once = λ dir. pairs (λ j k. j ≢ k) dir (λ d s l. chain-once dir s d l) (chains-apart dir);
     unlike = entries-unlike;

@@ -1,7 +1,6 @@
 -- The steps of the walk on marks and pending blocks.
-use Rattle.ados_check.proofs.Common.{◌≡◌, ◌≢◌, ◌↔◌, ℕ, ◌⊎◌, inl, inr, List, Option, None, Some, refl, sym, ap, ◌∙◌, subst, cases_eq, long, Role, InImage, IsPlace, Reached, root_of, named, Mark, mark_at, IsSound, root_mark, IsNoted, AreReachedBut}
+use Rattle.ados_check.proofs.Common.{◌≡◌, ◌≢◌, ◌↔◌, ℕ, ◌⊎◌, inl, inr, List, Option, None, Some, refl, sym, ap, ◌∙◌, subst, cases_eq, long, Role, InImage, IsPlace, Reached, root_of, named, Mark, mark_at, IsSound, root_mark, IsNoted, AreReachedBut, mark_of}
 use Rattle.ados_check.proofs.MarkLemmas.{IsMarkedMore}
-use Rattle.ados_check.proofs.Paths.{mark_of}
 
 -- a place of the visited block, under its other names
 pub in_hand : (image : List ℕ) (marks : List (Option Mark)) (hand i block j : ℕ) (m mark : Mark) (next : Role) → mark_at marks hand ≡ Some m → mark_at marks block ≡ Some mark → block ≡ hand → j ≡ i → IsPlace image block mark.role j next → IsPlace image hand m.role i next

@@ -1,6 +1,19 @@
 -- Reads at the position of a kept block.
-use Rattle.ados_check.proofs.Common.{◌≡◌, ◌≢◌, ℕ, ◌+◌, ◌*◌, ◌<◌, ◌≤◌, inl, inr, List, length, take, drop, get_or, slice_index, Option, None, Some, MatchOption, arith, ap, sym, ◌∙◌, subst, length-take, length-drop, get_or-take, get_or-drop, get_or_default, same_lists, big_number, byte_at, bytes_at, long, block_sum, block_count, long-bytes, byte-bytes_at, AreKept, HasBoot, StandsAt, kept_length, start_of, IsKept}
-use Rattle.ados_check.proofs.KeptLengths.{of_other, within}
+use Rattle.ados_check.proofs.Common.{◌≡◌, ◌≢◌, ℕ, ◌+◌, ◌*◌, ◌<◌, ◌≤◌, inl, inr, List, length, take, drop, get_or, slice_index, Option, None, Some, MatchOption, arith, ap, sym, ◌∙◌, subst, length-take, length-drop, get_or-take, get_or-drop, get_or_default, same_lists, big_number, byte_at, bytes_at, long, block_sum, block_count, long-bytes, byte-bytes_at, AreKept, HasBoot, StandsAt, kept_length, start_of, IsKept, ◌==◌, Bool, true, false, if◌then◌else◌, refl, ne_eqb, primary_type, DATA_TYPE}
+
+pub of_data : (image : List ℕ) (block : ℕ) → primary_type image block ≡ DATA_TYPE → kept_length image block ≡ 24
+of_data image block is = rw is refl
+
+pub of_other : (image : List ℕ) (block : ℕ) → primary_type image block ≢ DATA_TYPE → kept_length image block ≡ 512
+of_other image block other = rw (ne_eqb (primary_type image block) DATA_TYPE other) refl
+
+-- at least a header, and at most a whole block
+pub within : (image : List ℕ) (block : ℕ) → (24 ≤ kept_length image block) × (kept_length image block ≤ 512)
+within image block = by_type (primary_type image block == DATA_TYPE)
+  where
+    by_type : (is : Bool) → (24 ≤ (if is then 24 else 512)) × ((if is then 24 else 512) ≤ 512)
+    by_type true = (omega arith, omega arith)
+    by_type false = (omega arith, omega arith)
 
 -- a long of a list that is one block
 pub first_long : (block : List ℕ) (i : ℕ) → big_number 4 (drop (4 * i) block) ≡ long block 0 i

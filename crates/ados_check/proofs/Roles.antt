@@ -1,6 +1,5 @@
 -- The marks of the reached blocks.
-use Rattle.ados_check.proofs.Common.{◌≡◌, ◌≢◌, ℕ, List, Option, Some, refl, sym, ap, ◌∙◌, subst, arith, IsImage, block_count, secondary_type, Role, Root, Entry, FILE_TYPE, InImage, IsPlace, Reached, root_of, root_page, start, named, Mark, mark_at, AreReached}
-use Rattle.ados_check.proofs.Paths.{mark_of}
+use Rattle.ados_check.proofs.Common.{◌≡◌, ◌≢◌, ℕ, List, Option, Some, refl, sym, ap, ◌∙◌, subst, arith, IsImage, block_count, secondary_type, Role, Root, Entry, FILE_TYPE, InImage, IsPlace, Reached, root_of, root_page, start, named, Mark, mark_at, AreReached, mark_of}
 
 -- no place names the root
 pub place_not_root : {image : List ℕ} {block i : ℕ} {role next : Role} → IsPlace image block role i next → next ≢ Root

@@ -1,7 +1,6 @@
 -- What a broken rule shows, and that a block which breaks none is sound.
-use Rattle.ados_check.proofs.Common.{◌≡◌, ◌≢◌, ℕ, ◌+◌, ◌<◌, ◌≤◌, inl, inr, ◌==◌, List, All, Contains, refl, subst, arith, eq-eqb, cases_Bool, eqb-true, Contains-get_or, block_count, byte_at, secondary_type, IsImage, text_at, COMMENT_BYTE, DIRECTORY_TYPE, FILE_TYPE, NAME_BYTE, HasBadName, HasName, IsFile, Reached, Shows, Role, Root, Page, Entry, Data, Extension, HasEntryType, HasValidName, IsSound, HasBadField, HasBadSumAs, HasBadTypeAs, HasNoType, kind_of, FieldRule, NoLink, OwnKey, Parent, Name, Chain, Comment, PointerCount, FirstData, FIELD_RULES}
+use Rattle.ados_check.proofs.Common.{◌≡◌, ◌≢◌, ℕ, ◌+◌, ◌<◌, ◌≤◌, inl, inr, ◌==◌, List, All, Contains, refl, subst, arith, eq-eqb, cases_Bool, eqb-true, Contains-get_or, block_count, byte_at, secondary_type, IsImage, text_at, COMMENT_BYTE, DIRECTORY_TYPE, FILE_TYPE, NAME_BYTE, HasBadName, HasName, IsFile, Reached, Shows, Role, Root, Page, Entry, Data, Extension, HasEntryType, HasValidName, IsSound, HasBadField, HasBadSumAs, HasBadTypeAs, HasNoType, kind_of, FieldRule, NoLink, OwnKey, Parent, Name, Chain, Comment, PointerCount, FirstData, FIELD_RULES, root_name, entry_name}
 use Rattle.ados_model.specs.Faults
-use Rattle.ados_model.specs.Faults.HasName.{root_name, entry_name}
 use Rattle.ados_model.specs.Faults.HasBadType.{root_primary, root_table, root_secondary, entry_primary, entry_secondary, extension_primary, extension_secondary, data_primary}
 use Rattle.ados_model.specs.Faults.HasBadOwnKey.{entry_key, extension_key}
 use Rattle.ados_model.specs.Faults.HasBadParent.{root_parent, entry_parent, extension_file, data_file}

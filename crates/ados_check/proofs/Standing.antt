@@ -1,9 +1,7 @@
 -- An image with sound marks and a valid bitmap represents the tree of the marks.
-use Rattle.ados_check.proofs.Common.{◌≡◌, ◌≢◌, ℕ, ◌<◌, ◌⊎◌, inl, inr, List, [], length, slice_get, Contains, Option, Some, None, IsSome, refl, sym, ap, ap₂, ◌∙◌, subst, arith, eq-eqb, ne_eqb, false≢true, false_from_ne_true, IsImage, HasFreeBit, block_sum, has_free_bit, Chained, table_entry, secondary_type, format_of, FILE_TYPE, NEXT_IN_CHAIN, data_count, extension_count, Content, Node, Tree, content_at, size_in, HasFile, Layout, Duty, HasDuty, Named, Fits, Stands, HasNode, HasEntry, HasRoot, type_of, in_slot, data_blocks, extension_blocks, Role, Directory, File, InImage, root_of, HasValidBitmap, content_in, slice_get-index, Mark, mark_at, IsChecked, IsSound, IsSoundRoot}
-use Rattle.ados_model.specs.declared.role.Role.TheVariants as roles
+use Rattle.ados_check.proofs.Common.{◌≡◌, ◌≢◌, ℕ, ◌<◌, ◌⊎◌, inl, inr, List, [], length, slice_get, Contains, Option, Some, None, IsSome, refl, sym, ap, ap₂, ◌∙◌, subst, arith, eq-eqb, ne_eqb, false≢true, false_from_ne_true, IsImage, HasFreeBit, block_sum, has_free_bit, Chained, table_entry, secondary_type, format_of, FILE_TYPE, NEXT_IN_CHAIN, data_count, extension_count, Content, Node, Tree, content_at, size_in, HasFile, Layout, Duty, HasDuty, Named, Fits, Stands, HasNode, HasEntry, HasRoot, type_of, in_slot, data_blocks, extension_blocks, Role, Directory, File, InImage, root_of, HasValidBitmap, content_in, slice_get-index, Mark, mark_at, IsChecked, IsSound, IsSoundRoot, Data, Entry, Extension, Page, Root, mark_of}
 use Rattle.ados_model.proofs.Counting.{no_data, slice_get-back}
 use Rattle.ados_check.proofs.Joined.{place_of}
-use Rattle.ados_check.proofs.Paths.{mark_of}
 use Rattle.ados_check.proofs.Roles.{marked_inside}
 use Rattle.ados_check.proofs.RolePlaces.{pages_of, length-pages_of, page-at, length-data_blocks, length-extension_blocks, length-contents, sound_file, chain-chained, StandsAt, marked_at, marked_stands, one_place, holder_of, long_of}
 use Rattle.ados_check.proofs.Texts.{length-bytes_at, comment_text}
@@ -28,9 +26,9 @@ layout_of image marks = record {
 }
 
 abbrev duty_of : Role → ℕ → Duty
-duty_of roles.Page k = Duty.Page k
-duty_of (roles.Data file) k = Duty.Data file k
-duty_of (roles.Extension file) k = Duty.Extension file k
+duty_of Page k = Duty.Page k
+duty_of (Data file) k = Duty.Data file k
+duty_of (Extension file) k = Duty.Extension file k
 duty_of _ k = Duty.Key
 
 module _ (image : List ℕ) (marks : List (Option Mark)) (im : IsImage image) (c : IsChecked image marks) where
@@ -43,13 +41,13 @@ module _ (image : List ℕ) (marks : List (Option Mark)) (im : IsImage image) (c
   -- ---- the uses of a block
 
   serves_at : (role : Role) (k block : ℕ) → StandsAt image marks im c role k block → HasDuty t l block (duty_of role k)
-  serves_at roles.Root k block h = let n = node_is image marks block (mark_of roles.Root 0 0) roles.Root (marked_at image marks im c roles.Root k block h) refl in rw n refl
-  serves_at roles.Page k block h = slice_get-index (pages_of image) k h.within ∙ ap Some h.here
-  serves_at (roles.Entry dir s) k block h = let n = node_is image marks block _ (roles.Entry dir s) (marked_at image marks im c (roles.Entry dir s) k block h) refl in rw n refl
-  serves_at (roles.Data file) k block h =
+  serves_at Root k block h = let n = node_is image marks block (mark_of Root 0 0) Root (marked_at image marks im c Root k block h) refl in rw n refl
+  serves_at Page k block h = slice_get-index (pages_of image) k h.within ∙ ap Some h.here
+  serves_at (Entry dir s) k block h = let n = node_is image marks block _ (Entry dir s) (marked_at image marks im c (Entry dir s) k block h) refl in rw n refl
+  serves_at (Data file) k block h =
       ap (λ (o : Option Content). slice_get (data_in image file o) k) (file_bytes image marks c file h.holder)
       ∙ slice_get-index (data_blocks image file) k h.within ∙ ap Some h.here
-  serves_at (roles.Extension file) k block h =
+  serves_at (Extension file) k block h =
       ap (λ (o : Option Content). slice_get (extensions_in image file o) k) (file_bytes image marks c file h.holder)
       ∙ slice_get-index (extension_blocks image file) k h.within ∙ ap Some h.here
 
@@ -75,15 +73,15 @@ module _ (image : List ℕ) (marks : List (Option Mark)) (im : IsImage image) (c
   file_view block file i (Some (File bytes)) e =
       let n = content_in (t.nodes file) (File bytes) e in
       let f = (file_content image marks c file n.0 bytes n.1 n.2).0 in (
-        (λ h. let back = slice_get-back (data_blocks image file) i block h in at_place (roles.Data file) i (record { within = back.0; here = back.1; holder = f }) refl),
-        (λ h. let back = slice_get-back (extension_blocks image file) i block h in at_place (roles.Extension file) i (record { within = back.0; here = back.1; holder = f }) refl),
+        (λ h. let back = slice_get-back (data_blocks image file) i block h in at_place (Data file) i (record { within = back.0; here = back.1; holder = f }) refl),
+        (λ h. let back = slice_get-back (extension_blocks image file) i block h in at_place (Extension file) i (record { within = back.0; here = back.1; holder = f }) refl),
       )
   file_view block file i _ e = ((λ h. absurd (cc h)), (λ h. absurd (cc h)))
 
   duty_view : (block : ℕ) (duty : Duty) → HasDuty t l block duty → DutyView block duty
   duty_view block (Duty.Page i) h =
       let back = slice_get-back (pages_of image) i block h in
-      at_place roles.Page i (record { within = back.0; here = back.1; holder = tt }) refl
+      at_place Page i (record { within = back.0; here = back.1; holder = tt }) refl
   duty_view block Duty.Key h = let n = some_of (t.nodes block) h in key_view block n.0 (node_view image marks block n.0 n.1)
   duty_view block (Duty.Data file i) h = (file_view block file i (content_at t file) refl).0 h
   duty_view block (Duty.Extension file i) h = (file_view block file i (content_at t file) refl).1 h
@@ -144,7 +142,7 @@ module _ (image : List ℕ) (marks : List (Option Mark)) (im : IsImage image) (c
 
   -- ---- the fields of the blocks
 
-  sound_root : (key : ℕ) (m : Mark) → mark_at marks key ≡ Some m → m.role ≡ roles.Root → IsSoundRoot image key
+  sound_root : (key : ℕ) (m : Mark) → mark_at marks key ≡ Some m → m.role ≡ Root → IsSoundRoot image key
   sound_root key m e is = subst (IsSound image key) is (c.reached.sound key m e)
 
   has_node : (key : ℕ) (a : Node) → NodeView image marks key a → HasNode image key a
@@ -181,7 +179,7 @@ module _ (image : List ℕ) (marks : List (Option Mark)) (im : IsImage image) (c
 
   root_fields : HasValidBitmap image → HasRoot image t l
   root_fields valid =
-      let sound = sound_root (root_of image) (mark_of roles.Root 0 0) c.reached.root refl in
+      let sound = sound_root (root_of image) (mark_of Root 0 0) c.reached.root refl in
       record {
         table_size = sound.table_size;
         valid = valid;
@@ -195,7 +193,7 @@ module _ (image : List ℕ) (marks : List (Option Mark)) (im : IsImage image) (c
   page_sum : (page : ℕ) → Contains (pages_of image) page → block_sum image page ≡ 0
   page_sum page h =
       let at = place_of (pages_of image) page h in
-      c.reached.sound page (mark_of roles.Page _ _) (marked_at image marks im c roles.Page at.0 page (record { within = at.1; here = at.2; holder = tt }))
+      c.reached.sound page (mark_of Page _ _) (marked_at image marks im c Page at.0 page (record { within = at.1; here = at.2; holder = tt }))
 
   chains : (dir : ℕ) (node : Node) (keys : List ℕ) (s : ℕ) → t.nodes dir ≡ Some node → node.content ≡ Directory keys → s < 72 → Chained image NEXT_IN_CHAIN (table_entry image dir s) (in_slot t dir s)
   chains dir node keys s h is small =

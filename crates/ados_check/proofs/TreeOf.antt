@@ -1,9 +1,6 @@
 -- The tree of an image with marks, and its nodes.
-use Rattle.ados_check.proofs.Common.{◌≡◌, ◌≢◌, ℕ, ◌⊎◌, inl, inr, Bool, true, false, not, ◌&&◌, nat_le, nat_lt, ◌==◌, if◌then◌else◌, List, [], Contains, Option, Some, None, is_some, refl, sym, ap, ◌∙◌, subst, arith, eq-eqb, ne_eqb, cases_eq, cases_Bool, and_parts, leb-true, ltb-true, lt-ltb, not-true, block_count, bytes_at, has_free_bit, protection, secondary_type, format_of, text_at, COMMENT_BYTE, NAME_BYTE, contents, Role, Content, Node, Tree, content_at, entries_in, entries, parent_of, Directory, File, date_at, InImage, root_of, joined, parent_in, content_in, directory_in, Mark, mark_at, IsChecked, IsSound, IsSoundEntry}
-use Rattle.std.proofs.lemmas.Bool.{le-leb}
-use Rattle.ados_model.specs.declared.role.Role.TheVariants as roles
+use Rattle.ados_check.proofs.Common.{◌≡◌, ◌≢◌, ℕ, ◌⊎◌, inl, inr, Bool, true, false, not, ◌&&◌, nat_le, nat_lt, ◌==◌, if◌then◌else◌, List, [], Contains, Option, Some, None, is_some, refl, sym, ap, ◌∙◌, subst, arith, eq-eqb, ne_eqb, cases_eq, cases_Bool, and_parts, leb-true, ltb-true, lt-ltb, not-true, block_count, bytes_at, has_free_bit, protection, secondary_type, format_of, text_at, COMMENT_BYTE, NAME_BYTE, contents, Role, Content, Node, Tree, content_at, entries_in, entries, parent_of, Directory, File, date_at, InImage, root_of, joined, parent_in, content_in, directory_in, Mark, mark_at, IsChecked, IsSound, IsSoundEntry, Entry, Root, mark_of, le-leb}
 use Rattle.ados_check.proofs.MarkLemmas.{none_is}
-use Rattle.ados_check.proofs.Paths.{mark_of}
 use Rattle.ados_check.proofs.Roles.{IsMarkedDirectory, as_root, as_entry, IsMarkedFile, root_role}
 use Rattle.ados_check.proofs.RolePlaces.{chain_of}
 
@@ -36,8 +33,8 @@ entry_node image block dir = record {
 
 -- the node for a block in a role
 abbrev pub node_of : List ℕ → ℕ → Role → Option Node
-node_of image block roles.Root = Some (root_node image block)
-node_of image block (roles.Entry dir s) = Some (entry_node image block dir)
+node_of image block Root = Some (root_node image block)
+node_of image block (Entry dir s) = Some (entry_node image block dir)
 node_of image block _ = None
 
 abbrev pub node_in : List ℕ → ℕ → Option Mark → Option Node
@@ -63,16 +60,16 @@ tree_of image marks = record {
 
 -- the cases of a node
 pub data NodeView (image : List ℕ) (marks : List (Option Mark)) (key : ℕ) (a : Node) : Type 0 where
-  the_root : (m : Mark) → mark_at marks key ≡ Some m → m.role ≡ roles.Root → a ≡ root_node image key → NodeView image marks key a
-  an_entry : (m : Mark) (dir s : ℕ) → mark_at marks key ≡ Some m → m.role ≡ roles.Entry dir s → a ≡ entry_node image key dir → NodeView image marks key a
+  the_root : (m : Mark) → mark_at marks key ≡ Some m → m.role ≡ Root → a ≡ root_node image key → NodeView image marks key a
+  an_entry : (m : Mark) (dir s : ℕ) → mark_at marks key ≡ Some m → m.role ≡ Entry dir s → a ≡ entry_node image key dir → NodeView image marks key a
 
 module _ (image : List ℕ) (marks : List (Option Mark)) where
   pub node_view : (key : ℕ) (a : Node) → (tree_of image marks).nodes key ≡ Some a → NodeView image marks key a
   node_view key a h = go (mark_at marks key) refl h
     where
       by_role : (m : Mark) (role : Role) → mark_at marks key ≡ Some m → m.role ≡ role → node_of image key role ≡ Some a → NodeView image marks key a
-      by_role m roles.Root e is n = let same : root_node image key ≡ a = cc n in the_root m e is (sym same)
-      by_role m (roles.Entry dir s) e is n = let same : entry_node image key dir ≡ a = cc n in an_entry m dir s e is (sym same)
+      by_role m Root e is n = let same : root_node image key ≡ a = cc n in the_root m e is (sym same)
+      by_role m (Entry dir s) e is n = let same : entry_node image key dir ≡ a = cc n in an_entry m dir s e is (sym same)
       by_role m _ e is n = absurd (cc n)
 
       go : (o : Option Mark) → mark_at marks key ≡ o → node_in image key o ≡ Some a → NodeView image marks key a
@@ -83,22 +80,22 @@ module _ (image : List ℕ) (marks : List (Option Mark)) where
   node_is key m role e is = ap (node_in image key) e ∙ ap (node_of image key) is
 
   -- a node with a parent is marked as an entry of it
-  pub entry_of_parent : (key dir : ℕ) → parent_of (tree_of image marks) key ≡ Some dir → (m : Mark) × (s : ℕ) × (mark_at marks key ≡ Some m) × (m.role ≡ roles.Entry dir s)
+  pub entry_of_parent : (key dir : ℕ) → parent_of (tree_of image marks) key ≡ Some dir → (m : Mark) × (s : ℕ) × (mark_at marks key ≡ Some m) × (m.role ≡ Entry dir s)
   entry_of_parent key dir h =
       let found = parent_in ((tree_of image marks).nodes key) dir h in
       go found.0 found.2 (node_view key found.0 found.1)
     where
-      go : (a : Node) → a.parent ≡ Some dir → NodeView image marks key a → (m : Mark) × (s : ℕ) × (mark_at marks key ≡ Some m) × (m.role ≡ roles.Entry dir s)
+      go : (a : Node) → a.parent ≡ Some dir → NodeView image marks key a → (m : Mark) × (s : ℕ) × (mark_at marks key ≡ Some m) × (m.role ≡ Entry dir s)
       go a p (the_root m e is same) =
           let none : a.parent ≡ None = ap (λ (b : Node). b.parent) same in
           absurd (cc (none, p))
       go a p (an_entry m up s e is same) =
           let parent : a.parent ≡ Some up = ap (λ (b : Node). b.parent) same in
           let dirs : up ≡ dir = cc (parent, p) in
-          (m, s, e, is ∙ ap (λ (d : ℕ). roles.Entry d s) dirs)
+          (m, s, e, is ∙ ap (λ (d : ℕ). Entry d s) dirs)
 
-  pub parent_of_entry : (key : ℕ) (m : Mark) (dir s : ℕ) → mark_at marks key ≡ Some m → m.role ≡ roles.Entry dir s → parent_of (tree_of image marks) key ≡ Some dir
-  parent_of_entry key m dir s e is = let n = node_is key m (roles.Entry dir s) e is in rw n refl
+  pub parent_of_entry : (key : ℕ) (m : Mark) (dir s : ℕ) → mark_at marks key ≡ Some m → m.role ≡ Entry dir s → parent_of (tree_of image marks) key ≡ Some dir
+  parent_of_entry key m dir s e is = let n = node_is key m (Entry dir s) e is in rw n refl
 
   content_cases : (block : ℕ) → ((secondary_type image block ≡ 2) × (content_of image block ≡ Directory (keys_of image block))) ⊎ ((secondary_type image block ≢ 2) × (content_of image block ≡ File (contents image block)))
   content_cases block =
@@ -141,14 +138,14 @@ module _ (image : List ℕ) (marks : List (Option Mark)) where
             ]
 
     pub directory_keys : (dir : ℕ) → IsMarkedDirectory image marks dir → content_at (tree_of image marks) dir ≡ Some (Directory (keys_of image dir))
-    directory_keys dir (as_root e) = let n = node_is dir (mark_of roles.Root 0 0) roles.Root (ap (mark_at marks) e ∙ c.reached.root) refl in rw n refl
+    directory_keys dir (as_root e) = let n = node_is dir (mark_of Root 0 0) Root (ap (mark_at marks) e ∙ c.reached.root) refl in rw n refl
     directory_keys dir (as_entry m up s e is sec) =
-        let n = node_is dir m (roles.Entry up s) e is in
+        let n = node_is dir m (Entry up s) e is in
         rw n (rw (eq-eqb (secondary_type image dir) 2 sec) refl)
 
     pub file_bytes : (file : ℕ) → IsMarkedFile image marks file → content_at (tree_of image marks) file ≡ Some (File (contents image file))
     file_bytes file f =
-        let n = node_is file f.mark (roles.Entry f.dir f.slot_of_chain) f.marked f.role in
+        let n = node_is file f.mark (Entry f.dir f.slot_of_chain) f.marked f.role in
         let other : secondary_type image file ≢ 2 = λ z. let sec = f.secondary in omega (arith, sec, z) in
         rw n (rw (ne_eqb (secondary_type image file) 2 other) refl)
 

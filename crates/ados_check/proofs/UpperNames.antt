@@ -1,8 +1,8 @@
 -- Names in upper case, and the marked entries with these names.
-use Rattle.std.proofs.Common.{length-append}
-use Rattle.ados_check.proofs.Common.{◌≡◌, ◌≢◌, ℕ, zero, suc, ◌+◌, ◌-◌, ◌<◌, ◌≤◌, ◌⊎◌, inl, inr, List, ◌∷◌, ◌++◌, length, take, drop, map, replicate, slice_index, Option, sym, ap, ap₂, ◌∙◌, subst, arith, cases_lt, ext_get_or, get_or_append_left, get_or-append_right, get_or-map, get_or-replicate, length-replicate, length-map, take_at, IsImage, text_at, block_count, byte_at, NAME_BYTE, byte-bytes_at, Same, upper, HasDuplicateName, Reached, Mark, AreReached, HasValidName, IsMarkedEntry, IsSound, IsSoundEntry, upper_name}
-use Rattle.ados_model.specs.declared.role.Role.TheVariants as roles
+use Rattle.ados_check.proofs.Common.{◌≡◌, ◌≢◌, ℕ, zero, suc, ◌+◌, ◌-◌, ◌<◌, ◌≤◌, ◌⊎◌, inl, inr, List, ◌∷◌, ◌++◌, length, take, drop, map, replicate, slice_index, Option, sym, ap, ap₂, ◌∙◌, subst, arith, cases_lt, ext_get_or, get_or_append_left, get_or-append_right, get_or-map, get_or-replicate, length-replicate, length-map, take_at, IsImage, text_at, block_count, byte_at, NAME_BYTE, byte-bytes_at, Same, upper, HasDuplicateName, Reached, Mark, AreReached, HasValidName, IsMarkedEntry, IsSound, IsSoundEntry, upper_name, Entry, length-append, secondary_type, FILE_TYPE}
 use Rattle.ados_check.proofs.Texts.{length-bytes_at}
+use Rattle.ados_check.proofs.MarkLemmas.{marked_within}
+use Rattle.ados_check.proofs.Roles.{IsMarkedFile}
 
 length-text : (image : List ℕ) (block : ℕ) → IsImage image → block < block_count image → byte_at image block NAME_BYTE ≤ 30 → length (map upper (text_at image block NAME_BYTE)) ≡ byte_at image block NAME_BYTE
 length-text image block im l short = length-map (text_at image block NAME_BYTE) upper ∙ length-bytes_at image block (NAME_BYTE + 1) (byte_at image block NAME_BYTE) im l (omega arith)
@@ -66,11 +66,26 @@ names_same image block other v w e =
 
 -- ---- marked entries
 
+module _ (marks : List (Option Mark)) where
+  -- it has one directory
+  pub one_directory : (block dir other : ℕ) → IsMarkedEntry marks block dir → IsMarkedEntry marks block other → dir ≡ other
+  one_directory block dir other m n =
+      let same : m.0 ≡ n.0 = cc (m.2, n.2) in
+      let roles : Entry dir m.1 ≡ Entry other n.1 = sym m.3 ∙ ap (λ (x : Mark). x.role) same ∙ n.3 in
+      cc roles
+
+  -- its number is below that of the marks
+  pub entry_below : (block dir : ℕ) → IsMarkedEntry marks block dir → block < length marks
+  entry_below block dir m = marked_within marks block m.0 m.2
+
+  pub marked_file : (image : List ℕ) (block dir : ℕ) → IsMarkedEntry marks block dir → secondary_type image block ≡ FILE_TYPE → IsMarkedFile image marks block
+  marked_file image block dir m e = record { mark = m.0; dir = dir; slot_of_chain = m.1; marked = m.2; role = m.3; secondary = e }
+
 module _ (image : List ℕ) (marks : List (Option Mark)) (c : AreReached image marks) where
   pub entry_sound : (block dir : ℕ) (m : IsMarkedEntry marks block dir) → IsSoundEntry image block dir m.1
   entry_sound block dir m = subst (IsSound image block) m.3 (c.sound block m.0 m.2)
 
-  pub entry_reached : (block dir : ℕ) (m : IsMarkedEntry marks block dir) → Reached image block (roles.Entry dir m.1)
+  pub entry_reached : (block dir : ℕ) (m : IsMarkedEntry marks block dir) → Reached image block (Entry dir m.1)
   entry_reached block dir m = subst (Reached image block) m.3 (c.reached block m.0 m.2)
 
   -- two marked entries of a directory with the same name

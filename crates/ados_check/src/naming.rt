@@ -3,7 +3,7 @@ ghost use Rattle.std.specs.Prelude.{◌≡◌, ◌↔◌, ◌<◌, ◌≤◌, Is
 ghost use Rattle.adf_block.specs.Image.{block_count};
 ghost use Rattle.adf_block.specs.Whole.{IsImage};
 ghost use Rattle.ados_name.specs.Name.{hash};
-ghost use Rattle.ados_model.specs.Faults.{HasBadName, HasName, HasShortName};
+ghost use Rattle.ados_model.specs.Faults.{HasShortName};
 ghost use Rattle.ados_check.specs.PlacesTold.{TellsAll};
 ghost use Rattle.ados_check.specs.Rules.{IsOfOtherSlot};
 ghost use Rattle.ados_check.specs.Entries.{upper_name};
@@ -11,22 +11,6 @@ ghost use Rattle.ados_check.specs.Entries.{upper_name};
 use crate::source::Source;
 use adf_block::layout::{NAME_BYTE, TABLE_LONGS};
 use ados_name::{Name, upper};
-
-/// Whether the name is not valid.
-pub(crate) fn has_bad_name(source: &Source<'_>, block: u32) -> bool
-    requires inside { block < block_count source.now.bytes }
-    requires named { HasName source.now.bytes block }
-    requires told { TellsAll source.now block }
-    ensures { IsTrue result ↔ HasBadName source.now.bytes block }
-{
-    if !has_short_name(source, block) {
-        return true;
-    }
-    match Name::new(source.short_text(block)) {
-        Ok(_) => false,
-        Err(_) => true,
-    }
-}
 
 /// Whether the length of the name is at most 30.
 pub fn has_short_name(source: &Source<'_>, block: u32) -> bool

@@ -7,7 +7,7 @@ ghost use Rattle.ados_check.specs.PlacesTold.{TellsAll};
 ghost use Rattle.ados_check.specs.Rules.{HasBadField, HasBadSumAs, HasBadTypeAs, HasNoType, HasOtherCount, HasOtherFirst, TellsFields, TellsTypes, kind_of};
 ghost use Rattle.ados_model.specs.Faults.{HasFileType, HasLinkType, Reached, pointers_of};
 
-use crate::naming::{has_bad_name, is_of_other_slot};
+use crate::naming::{has_short_name, is_of_other_slot};
 use crate::source::Source;
 use adf_block::beside::{DIRECTORY_LINK_TYPE, FILE_LINK_TYPE, SOFT_LINK_TYPE};
 use adf_block::layout::{
@@ -16,6 +16,7 @@ use adf_block::layout::{
     SECONDARY_TYPE, TABLE_LONGS, TABLE_SIZE,
 };
 use ados_model::{FaultKind, Role};
+use ados_name::Name;
 
 /// A rule for fields of a block.
 #[derive(Clone, Copy)]
@@ -115,9 +116,11 @@ pub fn has_bad_field(source: &Source<'_>, block: u32, role: Role, rule: FieldRul
     ensures { IsTrue result ↔ HasBadField source.now.bytes block role rule }
 {
     match role {
+        Role::Root | Role::Entry(_, _) if matches!(rule, FieldRule::Name) => {
+            !has_short_name(source, block) || Name::new(source.short_text(block)).is_err()
+        }
         Role::Root => match rule {
             FieldRule::Parent => source.long(block, PARENT) != 0,
-            FieldRule::Name => has_bad_name(source, block),
             _ => false,
         },
         Role::Page => false,
@@ -125,13 +128,13 @@ pub fn has_bad_field(source: &Source<'_>, block: u32, role: Role, rule: FieldRul
             FieldRule::NoLink => has_link_type(source, block),
             FieldRule::OwnKey => source.long(block, OWN_KEY) != block,
             FieldRule::Parent => source.long(block, PARENT) != dir,
-            FieldRule::Name => has_bad_name(source, block),
             FieldRule::Chain => is_of_other_slot(source, block, slot),
             FieldRule::Comment => {
                 has_entry_type(source, block) && source.byte(block, COMMENT_BYTE) > 79
             }
             FieldRule::PointerCount => is_file(source, block) && has_other_count(source, block),
             FieldRule::FirstData => is_file(source, block) && has_other_first(source, block),
+            FieldRule::Name => false,
         },
         Role::Data(file) => match rule {
             FieldRule::Parent => source.kind_byte() == 0 && source.long(block, OWN_KEY) != file,

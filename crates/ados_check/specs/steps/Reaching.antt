@@ -7,9 +7,13 @@ use Rattle.ados_model.specs.Faults.{IsPlace, LeadsInside, Reached, root_of}
 use Rattle.ados_check.specs.declared.mark.Mark.{Mark}
 use Rattle.ados_check.specs.Marks.{mark_at, IsMarkedFor, IsSound}
 
+-- the mark of a block with a role, which long i of a holder names
+abbrev pub mark_of : Role → ℕ → ℕ → Mark
+mark_of role holder i = record { role = role; holder = holder; long = i }
+
 -- the mark of the root
 abbrev pub root_mark : Mark
-root_mark = record { role = Root; holder = 0; long = 0 }
+root_mark = mark_of Root 0 0
 
 -- the long in a mark is a place that names the block, and it was visited
 pub record IsNoted (image : List ℕ) (marks : List (Option Mark)) (left : ℕ → ℕ → Type 0) (block : ℕ) (mark : Mark) : Type 0 where

@@ -1,5 +1,4 @@
-use Rattle.ados_check.proofs.Common.{◌≡◌, ℕ, ◌-◌, ◌*◌, ◌%◌, ◌^◌, ◌<◌, not, eqb, ap, ap₂, sym, ◌∙◌, subst, arith, long, map_long, page_of, pages_of, Tells}
-use Rattle.std.specs.Prelude.{bit_and}
+use Rattle.ados_check.proofs.Common.{◌≡◌, ℕ, ◌-◌, ◌*◌, ◌%◌, ◌^◌, ◌<◌, not, eqb, ap, ap₂, sym, ◌∙◌, subst, arith, long, map_long, page_of, pages_of, Tells, bit_and}
 use Rattle.std.proofs.lemmas.Nat.{pow_below}
 use Rattle.ados_map.proofs.BitLemmas.{marked-is}
 use Rattle.ados_check.proofs.bitmap.has_bit.Goals as goal

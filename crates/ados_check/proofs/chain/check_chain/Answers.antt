@@ -3,25 +3,9 @@ use Rattle.ados_check.proofs.DataRuling.{few_held}
 use Rattle.ados_check.proofs.Headers.{first_link, header_inside}
 use Rattle.ados_check.proofs.Pointed.{blocks_upto, holder_within}
 use Rattle.ados_check.proofs.Linked.{IsPlacedAt, placed, first-is, next_holder, holder_inside, named_block, named_inside, is_placed, sum_shown, sum_more, linked_file}
-use Rattle.ados_check.proofs.FilesTold.{data_told, fields_told, header_told, holder_all, holder_told}
+use Rattle.ados_check.proofs.FilesTold.{data_told, header_told, holder_told}
 use Rattle.ados_check.proofs.Ruling.{stable}
 use Rattle.ados_check.proofs.chain.check_chain.Goals as goal
-
-pub check_field-requires-clause-inside : goal.check_field-requires-clause-inside
-check_field-requires-clause-inside c = header_inside c.args.source.now.bytes c.args.file c.requires.reached 0 (omega arith)
-
-pub check_field-requires-clause-reached : goal.check_field-requires-clause-reached
-check_field-requires-clause-reached c = c.requires.entry.reached
-
-pub check_field-requires-clause-told : goal.check_field-requires-clause-told
-check_field-requires-clause-told c =
-    fields_told c.args.source.now c.args.file c.requires.reached c.args.entry c.requires.entry c.args.file 0 c.args.entry refl (omega arith) (λ _. refl) (λ l. absurd (omega (arith, l)))
-
-pub first_pointer-block-requires-clause-inside : goal.first_pointer-block-requires-clause-inside
-first_pointer-block-requires-clause-inside c = header_inside c.args.source.now.bytes c.args.file c.requires.reached 0 (omega arith)
-
-pub first_pointer-block-requires-clause-told : goal.first_pointer-block-requires-clause-told
-first_pointer-block-requires-clause-told c = holder_all c.args.source.now c.args.file c.requires.reached c.args.file 0 refl (omega arith)
 
 pub loop-position-init : goal.loop-position-init
 loop-position-init c = record {
@@ -31,10 +15,6 @@ loop-position-init c = record {
   sum = refl;
   few = omega arith;
 }
-
-pub holder_behind-holder-requires-clause-inside : goal.holder_behind-holder-requires-clause-inside
-holder_behind-holder-requires-clause-inside c =
-    omega (arith, c.loop-position.invariant.holder, holder_inside c.args.source.now.bytes c.args.file c.args.count c.requires.reached c.requires.counts c.loop-position.position c.loop-position-test.true)
 
 pub holder_behind-holder-requires-clause-told : goal.holder_behind-holder-requires-clause-told
 holder_behind-holder-requires-clause-told c =
@@ -96,9 +76,6 @@ loop-position-preserved c =
 
 pub has_other_size-requires-clause-inside : goal.has_other_size-requires-clause-inside
 has_other_size-requires-clause-inside c = header_inside c.args.source.now.bytes c.args.file c.requires.reached 0 (omega arith)
-
-pub has_other_size-requires-clause-told : goal.has_other_size-requires-clause-told
-has_other_size-requires-clause-told c = holder_told c.args.source.now c.args.file c.requires.reached c.args.file 0 refl (omega arith) 81
 
 pub returns-then-has_other_size : goal.returns-then-has_other_size
 returns-then-has_other_size c =

@@ -1,5 +1,5 @@
 use Rattle.ados_check.proofs.Common.{arith, below_more}
-use Rattle.ados_check.proofs.Marked.{entry_below}
+use Rattle.ados_check.proofs.UpperNames.{entry_below}
 use Rattle.ados_check.proofs.entries.check_files.Goals as goal
 
 pub loop-block-preserved : goal.loop-block-preserved

@@ -1,14 +1,13 @@
 use Rattle.ados_check.proofs.Common.{◌≤◌, ◌<◌, length, refl, inl, inr, arith, subst, HasKind, byte_at}
-use Rattle.adf_block.specs.declared.boot.BootKind.{BootKind}
-use Rattle.ados_check.proofs.KindLemmas.{ofs_bytes, ffs_bytes, is_dos, not_dos}
+use Rattle.ados_check.proofs.KindLemmas.{dos_bytes, is_dos, not_dos}
 use Rattle.ados_check.proofs.file_system.check_kind.Goals as goal
 
 pub returns-in-Ofs : goal.returns-in-Ofs
 returns-in-Ofs c =
     let room : 4 ≤ length c.args.image.now = omega arith in
     elim c.in-Ofs.is [
-      | inl ofs ↦ ofs_bytes c.args.image.now room (subst (λ (k : BootKind). HasKind c.args.image.now k) ofs c.boot_kind.ensures)
-      | inr ffs ↦ ffs_bytes c.args.image.now room (subst (λ (k : BootKind). HasKind c.args.image.now k) ffs c.boot_kind.ensures)
+      | inl ofs ↦ let kind = subst (HasKind c.args.image.now) ofs c.boot_kind.ensures in dos_bytes c.args.image.now 0 refl room kind.0 kind.1
+      | inr ffs ↦ let kind = subst (HasKind c.args.image.now) ffs c.boot_kind.ensures in dos_bytes c.args.image.now 1 refl room kind.0 kind.1
     ]
 
 pub returns-in-OtherDos : goal.returns-in-OtherDos

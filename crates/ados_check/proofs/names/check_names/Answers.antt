@@ -1,12 +1,7 @@
 use Rattle.ados_check.proofs.Common.{◌+◌, inl, sym, ◌∙◌, subst, arith, not-true, not-false}
 use Rattle.ados_check.proofs.Entered.{AreEntered, entered_none, entered_twice, entered_more, all_unlike}
-use Rattle.ados_check.proofs.FilesTold.{entry_told}
 use Rattle.ados_check.proofs.names.check_names.Goals as goal
 use Rattle.ados_check.proofs.names.check_names.Goals.{in-Some+in-Ok-true, in_default}
-
-pub upper_name-name-requires-clause-told : goal.upper_name-name-requires-clause-told
-upper_name-name-requires-clause-told c =
-    entry_told c.args.source.now c.args.marks.now c.requires c.loop-block.block c.in-Some.dir c.in-Some.ensures
 
 pub returns-in-Ok-false : goal.returns-in-Ok-false
 returns-in-Ok-false c =

@@ -1,5 +1,4 @@
-use Rattle.std.proofs.Common.{get_or-set_other, get_or-set_same, length-set}
-use Rattle.ados_check.proofs.Common.{◌≡◌, ◌<◌, ◌+◌, ℕ, zero, suc, ◌∷◌, length, replicate, slice_index, refl, ap, ◌∙◌, subst, arith, below_more, byte_at, upper}
+use Rattle.ados_check.proofs.Common.{◌≡◌, ◌<◌, ◌+◌, ℕ, zero, suc, ◌∷◌, replicate, slice_index, refl, ◌∙◌, subst, arith, byte_at, upper}
 use Rattle.ados_check.proofs.UpperNames.{name_is}
 use Rattle.ados_check.proofs.naming.upper_name.Goals as goal
 
@@ -18,18 +17,6 @@ loop-i-init c = record {
   text = λ k l. absurd (omega (arith, l));
   rest = zeros_behind c.byte-len.result;
 }
-
-pub loop-i-preserved : goal.loop-i-preserved
-loop-i-preserved c =
-    let small : c.loop-i.i + 1 < length c.loop-i.name = omega (arith, c.loop-i.invariant.size, c.loop-i-test.true, c.from-i-end.ensures, c.byte-len.ensures, c.requires.short) in
-    record {
-      size = length-set c.loop-i.name (c.loop-i.i + 1) c.upper.result ∙ c.loop-i.invariant.size;
-      first = get_or-set_other c.loop-i.name (c.loop-i.i + 1) 0 c.upper.result 0 (omega arith) ∙ c.loop-i.invariant.first;
-      text = below_more _ _
-          (λ k l. get_or-set_other c.loop-i.name (c.loop-i.i + 1) (k + 1) c.upper.result 0 (omega (arith, l)) ∙ c.loop-i.invariant.text k l)
-          (get_or-set_same c.loop-i.name (c.loop-i.i + 1) c.upper.result 0 small ∙ c.upper.ensures ∙ ap upper (c.byte.ensures ∙ ap (byte_at c.args.source.now.bytes c.args.block) (omega arith)));
-      rest = λ k l. get_or-set_other c.loop-i.name (c.loop-i.i + 1) k c.upper.result 0 (omega (arith, l)) ∙ c.loop-i.invariant.rest k (omega (arith, l));
-    }
 
 pub returns : goal.returns
 returns c =

@@ -1,5 +1,5 @@
 use Rattle.ados_check.proofs.Common.{sym, ◌∙◌}
-use Rattle.ados_check.proofs.KeptLengths.{of_data, of_other}
+use Rattle.ados_check.proofs.Reading.{of_data, of_other}
 use Rattle.ados_check.proofs.Reading.{first_long}
 use Rattle.ados_check.proofs.sketch.kept_of.Goals as goal
 

@@ -1,5 +1,5 @@
 use Rattle.ados_check.proofs.Common.{ℕ, ◌+◌, ◌<◌, ap, sym, ◌∙◌, subst, arith, long, pages_of, Tells}
-use Rattle.ados_check.proofs.BitmapTold.{page_first, bitmap_told}
+use Rattle.ados_check.proofs.FilesTold.{page_first, bitmap_told}
 use Rattle.ados_check.proofs.sketched.tells_bitmap.Goals as goal
 
 pub long-requires-clause-told : goal.long-requires-clause-told

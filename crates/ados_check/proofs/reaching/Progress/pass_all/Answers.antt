@@ -1,8 +1,7 @@
-use Rattle.ados_check.proofs.Common.{rules, ◌≡◌, ◌<◌, ℕ, length, None, Some, refl, sym, ◌∙◌, subst, arith, false≢true, same_Some, long, InImage, Reached, IsUsedTwice, IsSound, mark_at}
+use Rattle.ados_check.proofs.Common.{rules, ◌≡◌, ◌<◌, length, None, refl, sym, ◌∙◌, subst, arith, false≢true, same_Some, InImage, IsSound, mark_at, mark_of}
 use Rattle.ados_check.proofs.MarkLemmas.{marked_within, mark_read, some_is, none_is}
-use Rattle.ados_check.proofs.Paths.{mark_of}
 use Rattle.ados_check.proofs.Moves.{skipped, took_at, took_unplaced, took_less, marked_less, reached_next, points_outside, used_twice}
-use Rattle.ados_check.proofs.PlacesTold.{place_told}
+use Rattle.ados_check.proofs.FilesTold.{place_told}
 use Rattle.ados_check.proofs.reaching.Progress.pass_all.Goals as goal
 
 pub loop-i-preserved-in_default : goal.loop-i-preserved-in_default
@@ -32,27 +31,19 @@ returns-then-not-contains-clause-shown c =
 
 pub returns-then-is_some-clause-shown : goal.returns-then-is_some-clause-shown
 returns-then-is_some-clause-shown c =
-    let image = c.args.source.now.bytes in
     let marks = c.loop-i.self.marks.items in
     let block = c.long-block.result in
     let place = (c.place_role.ensures c.in-Some.next).0 c.in-Some.is in
     let inside = c.if-not-contains.ensures.0 refl in
-    let within : InImage image (long image c.args.holder c.loop-i.i) = subst (λ (b : ℕ). InImage image b) c.long-block.ensures inside in
     let there : block < length marks = omega (arith, inside.1, c.loop-i.invariant.hand.but.size) in
-    let read = mark_read marks block c.index.result.now there c.index.ensures in
     let some = some_is c.index.result.now (sym c.is_some.ensures ∙ c.if-is_some.true) in
-    let marked = subst (λ (b : ℕ). mark_at marks b ≡ Some some.0) c.long-block.ensures (read ∙ some.1) in
-    subst (λ (b : ℕ). IsUsedTwice image b) (sym c.long-block.ensures)
-    (used_twice image marks c.loop-i.self.pending.items c.args.holder c.loop-i.i c.args.role c.in-Some.next some.0 c.loop-i.invariant.hand place within marked)
+    used_twice c.args.source.now.bytes marks c.loop-i.self.pending.items c.args.holder c.loop-i.i c.args.role c.in-Some.next block some.0 c.long-block.ensures c.loop-i.invariant.hand place inside
+    (mark_read marks block c.index.result.now there c.index.ensures ∙ some.1)
 
 pub look-requires-clause-reached : goal.look-requires-clause-reached
 look-requires-clause-reached c =
-    let image = c.args.source.now.bytes in
     let place = (c.place_role.ensures c.in-Some.next).0 c.in-Some.is in
-    let inside = c.if-not-contains.ensures.0 refl in
-    let within : InImage image (long image c.args.holder c.loop-i.i) = subst (λ (b : ℕ). InImage image b) c.long-block.ensures inside in
-    subst (λ (b : ℕ). Reached image b c.in-Some.next) (sym c.long-block.ensures)
-    (reached_next image c.loop-i.self.marks.items c.loop-i.self.pending.items c.args.holder c.loop-i.i c.args.role c.in-Some.next c.loop-i.invariant.hand place within)
+    reached_next c.args.source.now.bytes c.loop-i.self.marks.items c.loop-i.self.pending.items c.args.holder c.loop-i.i c.args.role c.in-Some.next c.long-block.result c.long-block.ensures c.loop-i.invariant.hand place (c.if-not-contains.ensures.0 refl)
 
 pub loop-i-preserved : goal.loop-i-preserved
 loop-i-preserved c =
