@@ -1,10 +1,12 @@
 -- Ends that grow.
-use Rattle.std.proofs.Common.{◌≡◌, ℕ, List, ◌++◌, length, Some, slice_get, sym, ap, subst, ◌∙◌, append_assoc, arith}
+use Rattle.std.proofs.Common.{◌≡◌, ℕ, List, [], ◌++◌, length, Some, slice_get, sym, ap, subst, ◌∙◌, append_assoc, arith}
 use Rattle.std.proofs.lemmas.Option.{slice_get_within, slice_get-get_or}
 use Rattle.std.proofs.Math.ListN.{get_or}
 use Rattle.port_ends.specs.History.{Serving}
 use Rattle.port_ends.specs.Rings.{OutView}
 use Rattle.port_ends.specs.Ends.{ClientView, HandlerView, AreEnds, Serves}
+use Rattle.port_ends.specs.Batches.{ServesSome, ServesSoMany, OnlyOffers}
+use Rattle.port_ends.proofs.Handling.{serves_more, serves_offers}
 use Rattle.ados_port.specs.Grown.{Grown}
 
 module _ {Q M A : Type 0} where
@@ -20,6 +22,13 @@ module _ {Q M A : Type 0} where
   }
 
 module _ {S Q M A : Type 0} where
+  -- one more batch, and one that ran out of memory
+  pub some_more : (gives : S → Q → M → S → A → Type 0) (m : M) (a b c : HandlerView S Q M A) (n : ℕ) → ServesSome gives m a b → ServesSoMany gives m b n c → ServesSome gives m a c
+  some_more gives m a b c n h g = (h.0 ++ g.0, serves_more gives m a b c h.0 g.0 h.1 g.2)
+
+  pub some_offers : (gives : S → Q → M → S → A → Type 0) (m : M) (a b c : HandlerView S Q M A) → ServesSome gives m a b → OnlyOffers b c → ServesSome gives m a c
+  some_offers gives m a b c h g = (h.0 ++ [], serves_more gives m a b c h.0 [] h.1 (serves_offers gives m b c c.outlets g.0 g.1))
+
   -- grown ends are still the ends of that port
   pub ends_after : (gives : S → Q → M → S → A → Type 0) (m : M) (h h' : HandlerView S Q M A) (xs : List (Serving Q M A)) (cs cs' : List (ClientView Q M A))
       → AreEnds h cs → Serves gives m h xs h' → length cs' ≡ length cs → ((k : ℕ) (o : ClientView Q M A) → slice_get cs k ≡ Some o → (n : ClientView Q M A) × (slice_get cs' k ≡ Some n) × Grown o n) → AreEnds h' cs'

@@ -6,10 +6,11 @@ use Rattle.std.proofs.lemmas.List.Elements.{filter_map-append}
 use Rattle.std.proofs.lemmas.Bool.Decides.{eqb_tells}
 use Rattle.std.proofs.Math.Seq.{take-append-add, drop-append-add}
 use Rattle.port_ends.proofs.Events.{filter_map-take}
-use Rattle.port_ends.proofs.Numbers.{eq_true, eq_false}
+use Rattle.std.proofs.lemmas.Bool.{eq-eqb, ne_eqb}
 use Rattle.port_ends.proofs.Lawful.{length-numbered}
 use Rattle.port_ends.proofs.Replies.{took_first}
-use Rattle.port_ends.proofs.Serving.{run-append, last_server-append, packets_by-append, answers_to-append}
+use Rattle.port_ends.proofs.Serving.{packets_by-append, answers_to-append}
+use Rattle.port_ends.proofs.Serving.{run-append, last_server-append}
 use Rattle.port_ends.specs.History.{ClientState, PortState, Serving, Event, events_of, packets_by, accepted_in, moments_in, taken_in, served_count, taken_count, client_state, Run, last_server, queue, client_now, PutFits, take_outcome, OutcomeFits, PortHistory, moment_served}
 use Rattle.port_ends.specs.Lawful.{accepted_count, packets_of, answers_to}
 use Rattle.port_ends.specs.declared.step.Step.{Step}
@@ -21,9 +22,8 @@ use Rattle.ados_port.proofs.Histories.{served_length, servers_length, queue_is, 
 events-append : {Q M A : Type 0} (steps more : List (Step Q M)) (outcomes after : List (Outcome Q A)) → length outcomes ≡ length steps
     → events_of (steps ++ more) (outcomes ++ after) ≡ events_of steps outcomes ++ events_of more after
 events-append [] more [] after e = refl
-events-append [] more (o ∷ os) after e = absurd (omega (arith, e))
-events-append (s ∷ ss) more [] after e = absurd (omega (arith, e))
 events-append (s ∷ ss) more (o ∷ os) after e = ap (λ es. record { step = s; outcome = o } ∷ es) (events-append ss more os after (omega (arith, e)))
+events-append steps more outcomes after e = absurd (omega (arith, e))
 
 -- an element of two appended lists is one of the first, or one of the second at its index there
 slice_get-append_at : {X : Type 0} (xs ys : List X) (i : ℕ) (x : X) → slice_get (xs ++ ys) i ≡ Some x
@@ -38,8 +38,8 @@ slice_get-append_at (z ∷ zs) ys (suc i) x h = elim (slice_get-append_at zs ys 
 -- two numbers, both larger by k
 eq-longer : (k a b x y : ℕ) → x ≡ k + a → y ≡ k + b → nat_eq x y ≡ nat_eq a b
 eq-longer k a b x y e f = elim (eqb_tells a b) [
-  | inl w ↦ eq_true x y (omega (arith, e, f, w.1)) ∙ sym w.0
-  | inr w ↦ eq_false x y (λ q. w.1 (omega (arith, e, f, q))) ∙ sym w.0
+  | inl w ↦ eq-eqb x y (omega (arith, e, f, w.1)) ∙ sym w.0
+  | inr w ↦ ne_eqb x y (λ q. w.1 (omega (arith, e, f, q))) ∙ sym w.0
 ]
 
 module _ {Q M A : Type 0} where

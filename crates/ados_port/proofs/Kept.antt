@@ -1,11 +1,11 @@
 -- Lemmas on the clients and the waiting packets.
-use Rattle.std.proofs.Common.{◌≡◌, ◌≢◌, ◌⊎◌, ℕ, suc, ◌+◌, ◌<◌, ◌≤◌, List, [], ◌∷◌, ◌++◌, length, slice_get, slice_set, nat_eq, Some, sym, ap, ◌∙◌, inl, inr, arith, cond, add-zero, zero-add}
+use Rattle.std.proofs.Common.{◌≡◌, ◌≢◌, ◌⊎◌, ℕ, suc, ◌+◌, ◌-◌, ◌<◌, ◌≤◌, List, [], ◌∷◌, ◌++◌, length, slice_get, slice_set, nat_eq, Some, get_or, refl, subst, sym, ap, ◌∙◌, inl, inr, arith, cond, add-zero, zero-add}
 use Rattle.std.specs.Prelude.{count_by}
 use Rattle.std.proofs.lemmas.List.Sums.{sum_by-append}
 use Rattle.std.proofs.lemmas.List.{length-set}
-use Rattle.std.proofs.lemmas.Option.{same_Some, slice_get_within}
+use Rattle.std.proofs.lemmas.Option.{same_Some, slice_get_read, slice_get_within}
 use Rattle.std.proofs.lemmas.Bool.Decides.{eqb_tells}
-use Rattle.port_ends.proofs.Numbers.{eq_true, eq_false}
+use Rattle.std.proofs.lemmas.Bool.{eq-eqb, ne_eqb}
 use Rattle.port_ends.proofs.Eachs.{get_set_same, get_set_other}
 use Rattle.ados_port.specs.View.{IsKept}
 use Rattle.ados_port.proofs.Histories.{slice_get-push_at}
@@ -47,11 +47,11 @@ module _ {Q A : Type 0} (clients : List (Client A)) (waiting : List (Waiting Q))
     counted = λ i c h. elim (slice_get-set_cases clients p new i c h) [
       | inl e ↦
           ap (λ k. k.waiting) e.1 ∙ more ∙ ap (λ n. n + 1) (kept.counted p old at_p) ∙ ap (λ k. count_by (λ w. nat_eq w.client (k + 1)) waiting + 1) (sym e.0)
-          ∙ ap (λ b. count_by (λ w. nat_eq w.client (i + 1)) waiting + cond b 1 0) (sym (eq_true w.client (i + 1) (is_client ∙ ap (λ n. n + 1) (sym e.0))))
+          ∙ ap (λ b. count_by (λ w. nat_eq w.client (i + 1)) waiting + cond b 1 0) (sym (eq-eqb w.client (i + 1) (is_client ∙ ap (λ n. n + 1) (sym e.0))))
           ∙ sym (count-push waiting w (i + 1))
       | inr e ↦
           kept.counted i c e.1 ∙ sym (add-zero _)
-          ∙ ap (λ b. count_by (λ w. nat_eq w.client (i + 1)) waiting + cond b 1 0) (sym (eq_false w.client (i + 1) (λ q. e.0 (omega (arith, q, is_client)))))
+          ∙ ap (λ b. count_by (λ w. nat_eq w.client (i + 1)) waiting + cond b 1 0) (sym (ne_eqb w.client (i + 1) (λ q. e.0 (omega (arith, q, is_client)))))
           ∙ sym (count-push waiting w (i + 1))
     ];
     known = λ i v h. rw length-set (elim (slice_get-push_at waiting w i v h) [
@@ -64,7 +64,7 @@ module _ {Q A : Type 0} (clients : List (Client A)) (waiting : List (Waiting Q))
 pub waits_first : {Q A : Type 0} (clients : List (Client A)) (w : Waiting Q) (rest : List (Waiting Q)) (p : ℕ) (c : Client A) → IsKept clients (w ∷ rest) → slice_get clients p ≡ Some c → w.client ≡ p + 1 → 0 < c.waiting
 waits_first clients w rest p c kept at_p is_client =
     let e : c.waiting ≡ 1 + count_by (λ v. nat_eq v.client (p + 1)) rest =
-    kept.counted p c at_p ∙ count-cons rest w (p + 1) ∙ ap (λ b. cond b 1 0 + count_by (λ v. nat_eq v.client (p + 1)) rest) (eq_true w.client (p + 1) is_client)
+    kept.counted p c at_p ∙ count-cons rest w (p + 1) ∙ ap (λ b. cond b 1 0 + count_by (λ v. nat_eq v.client (p + 1)) rest) (eq-eqb w.client (p + 1) is_client)
     in omega (arith, e)
 
 -- a client whose packet was served
@@ -74,12 +74,12 @@ kept_served clients w rest p old new kept at_p less is_client = record {
   counted = λ i c h. elim (slice_get-set_cases clients p new i c h) [
     | inl e ↦
         let d : old.waiting ≡ 1 + count_by (λ v. nat_eq v.client (p + 1)) rest =
-        kept.counted p old at_p ∙ count-cons rest w (p + 1) ∙ ap (λ b. cond b 1 0 + count_by (λ v. nat_eq v.client (p + 1)) rest) (eq_true w.client (p + 1) is_client)
+        kept.counted p old at_p ∙ count-cons rest w (p + 1) ∙ ap (λ b. cond b 1 0 + count_by (λ v. nat_eq v.client (p + 1)) rest) (eq-eqb w.client (p + 1) is_client)
         in let f : new.waiting ≡ count_by (λ v. nat_eq v.client (p + 1)) rest = omega (arith, d, less)
         in ap (λ k. k.waiting) e.1 ∙ f ∙ ap (λ k. count_by (λ v. nat_eq v.client (k + 1)) rest) (sym e.0)
     | inr e ↦
         kept.counted i c e.1 ∙ count-cons rest w (i + 1)
-        ∙ ap (λ b. cond b 1 0 + count_by (λ v. nat_eq v.client (i + 1)) rest) (eq_false w.client (i + 1) (λ q. e.0 (omega (arith, q, is_client))))
+        ∙ ap (λ b. cond b 1 0 + count_by (λ v. nat_eq v.client (i + 1)) rest) (ne_eqb w.client (i + 1) (λ q. e.0 (omega (arith, q, is_client))))
         ∙ zero-add _
   ];
   known = λ i v h. rw length-set (kept.known (suc i) v h);
@@ -88,3 +88,10 @@ kept_served clients w rest p old new kept at_p less is_client = record {
 -- the first waiting packet belongs to a client
 pub first_known : {Q A : Type 0} (clients : List (Client A)) (waiting : List (Waiting Q)) (w : Waiting Q) (rest : List (Waiting Q)) → IsKept clients waiting → waiting ≡ w ∷ rest → (1 ≤ w.client) × (w.client ≤ length clients)
 first_known clients waiting w rest kept e = kept.known 0 w (ap (λ ws. slice_get ws 0) e)
+
+-- and that client is in its place
+pub first_found : {Q A : Type 0} (clients : List (Client A)) (waiting : List (Waiting Q)) (w : Waiting Q) (rest : List (Waiting Q)) (c : Client A) → IsKept clients waiting → waiting ≡ w ∷ rest
+    → c ≡ get_or clients (w.client - 1) c → (w.client ≡ w.client - 1 + 1) × (slice_get clients (w.client - 1) ≡ Some c) × IsKept clients (w ∷ rest)
+first_found clients waiting w rest c kept e at =
+    let known = first_known clients waiting w rest kept e in
+    (omega (arith, known.0), slice_get_read clients (length clients) (w.client - 1) c refl (omega (arith, known.0, known.1)) at, subst (IsKept clients) e kept)

@@ -8,9 +8,6 @@ pub mod Growth
 pub mod Joins
 pub mod Parting
 pub use Rattle.port_ends.proofs.Closing
-pub use Rattle.port_ends.proofs.Replies
-pub use Rattle.port_ends.proofs.Lawful
 pub use Rattle.port_ends.proofs.Replayed
 pub use Rattle.port_ends.proofs.Eachs
-pub use Rattle.port_ends.proofs.Moves
 pub use Rattle.port_ends.proofs.Gathers

@@ -12,7 +12,7 @@ use Rattle.ados_port.specs.declared.counts.Client.{Client}
 use Rattle.ados_port.specs.declared.exchange.Waiting.{Waiting}
 use Rattle.port_ends.specs.declared.step.PutRefused.TheVariants.{NoRoom}
 use Rattle.port_ends.specs.declared.step.Outcome.TheVariants.{Accepted, Refused, Served, Taken, Nothing}
-use Rattle.port_ends.proofs.Numbers.{eq_false}
+use Rattle.std.proofs.lemmas.Bool.{ne_eqb}
 
 -- the visible state of a client, and of an exchange
 abbrev pub client_view : {A : Type 0} → Client A → ClientState A
@@ -25,7 +25,7 @@ port_view server clients waiting = record { server = server; clients = clients_v
 pub client_state-found : {A : Type 0} (cs : List (Client A)) (client : ℕ) (c : Client A) → client ≢ 0 → slice_get cs (client - 1) ≡ Some c
     → client_state (clients_view cs) client ≡ Some (client_view c)
 client_state-found cs client c not_zero found =
-    ap (λ b. cond b None (slice_get (clients_view cs) (client - 1))) (eq_false client 0 not_zero)
+    ap (λ b. cond b None (slice_get (clients_view cs) (client - 1))) (ne_eqb client 0 not_zero)
     ∙ slice_get-map client_view cs (client - 1) ∙ ap (option_map client_view) found
 
 -- a client whose visible state is unchanged

@@ -125,45 +125,6 @@ where
     }
 }
 
-// Serves until this many threads have ended and a batch found nothing.
-//
-// After empty batches it sleeps until a client wakes it. A batch that runs out of memory is repeated as long as a
-// thread runs, and wakes the clients. After the last thread has ended it is a fault.
-fn serve_until_ended<S: Server, R: Wait>(
-    rt: &R,
-    handler: &mut HandlerEnd<S>,
-    moment: S::Moment,
-    ended: &AtomicUsize,
-    threads: usize,
-) -> Result<(), ServeClientsFault>
-    ensures { ServesSome S.gives moment handler.old handler.new }
-{
-    let mut looks = 0u64;
-    for _ in rt.forever() {
-        let rest = Rest::after(looks);
-        handler.announce(rest);
-        let all = ended.load(Ordering::SeqCst) == threads;
-        match handler.serve_batch(rt, moment, BATCH) {
-            Ok(0) => {
-                if all {
-                    break;
-                }
-                handler.rest(rt, rest);
-                looks = looks.saturating_add(1);
-            }
-            Ok(_) => looks = 0,
-            Err(_) => {
-                if all {
-                    return Err(ServeClientsFault::Memory);
-                }
-                handler.wake_clients();
-                thread::yield_now();
-            }
-        }
-    }
-    Ok(())
-}
-
 // Starts a thread for each client, in order. The list has room for their handles. After a fault the started threads run
 // on.
 fn start_clients<S, C, R>(
@@ -227,6 +188,9 @@ where
 /// Runs each client on a thread of its own, and the handler on this thread, until every client has ended and a batch
 /// found nothing.
 ///
+/// After empty batches the handler sleeps until a client wakes it. A batch that runs out of memory is repeated as long
+/// as a thread runs, and wakes the clients. After the last thread has ended it is a fault.
+///
 /// The ends come back in the order of the clients, each grown from its own, so `gather` can be called with them. On a
 /// fault the ends are given up, after the clients of all started threads were served to their end and joined.
 pub fn serve_clients<S, C, R>(
@@ -253,14 +217,35 @@ where
 {
     let Room {
         ended,
-        handles,
+        mut handles,
         ends: kept,
         reports,
     } = room_for(alloc, ends.len())?;
-    let mut handles = handles;
     let started = start_clients(rt, ends, jobs, &ended, &mut handles);
     let mut handler = handler;
-    let served = serve_until_ended(rt, &mut handler, moment, &ended, handles.len());
+    let mut looks = 0u64;
+    let mut served = Ok(());
+    for _ in rt.forever() {
+        let rest = Rest::after(looks);
+        handler.announce(rest);
+        let all = ended.load(Ordering::SeqCst) == handles.len();
+        match handler.serve_batch(rt, moment, BATCH) {
+            Ok(0) if all => break,
+            Ok(0) => {
+                handler.rest(rt, rest);
+                looks = looks.saturating_add(1);
+            }
+            Ok(_) => looks = 0,
+            Err(_) if all => {
+                served = Err(ServeClientsFault::Memory);
+                break;
+            }
+            Err(_) => {
+                handler.wake_clients();
+                thread::yield_now();
+            }
+        }
+    }
     let (ends, reports) = join_clients(rt, handles, kept, reports);
     started.and(served)?;
     Ok(Served {
