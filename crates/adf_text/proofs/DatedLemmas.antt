@@ -1,32 +1,13 @@
 -- The text of a date: it belongs to one date only, its letters, and where it ends.
-use Rattle.std.proofs.Common.{◌≡◌, ℕ, suc, ℤ, pos, negsuc, ◌+ℤ◌, ◌-ℤ◌, ◌+◌, ◌*◌, ◌/◌, ◌%◌, ◌<◌, ◌≤◌, ◌^◌, ◌==◌, ◌≢◌, Bool, true, false, List, [], ◌∷◌, ◌++◌, Option, None, Some, length, take, drop, All, append_assoc, append-nil, refl, sym, ap, subst, ◌∙◌, arith}
-use Rattle.std.specs.Bool.{MatchBool, ⊤}
-use Rattle.std.specs.Char.{digit_value}
-use Rattle.std.specs.Fmt.{decimal}
-use Rattle.std.specs.Option.{MatchOption}
-use Rattle.std.specs.Prelude.{codes, ◌&&◌, nat_le, nat_lt}
-use Rattle.std.specs.Result.{result_unwrap_or}
+use Rattle.adf_text.proofs.Common.{◌≡◌, ℕ, suc, ℤ, pos, negsuc, ◌+ℤ◌, ◌-ℤ◌, ◌+◌, ◌*◌, ◌/◌, ◌%◌, ◌<◌, ◌≤◌, ◌^◌, ◌==◌, ◌≢◌, Bool, true, false, List, [], ◌∷◌, ◌++◌, Option, None, Some, length, take, drop, All, append_assoc, append-nil, refl, sym, ap, subst, ◌∙◌, arith, MatchBool, ⊤, digit_value, decimal, MatchOption, codes, ◌&&◌, nat_le, nat_lt, result_unwrap_or, take-append_seam, drop-append_seam, and_parts, ltb-true, both_ways, eqb-true, false_from_ne_true, true≢false, decimal_is_IsNumeral, decimal_injective, same_from_push, All-same, All-nil, All-cons, All-head, All-tail, All-append, All-weaker, epoch_day, IsYear, IsYmd, date_text, date_parts, signed_arith, DateParts, date_spec, date_spec-text, Date3, has_civil_text, civil_text, raw_text, IsTextOf, IsStamp, StandsApart, BeginsWithDate, HasNoDate, IsTextOfNone, FindsDate, FindsCivil, FindsNumbers, pair}
 use Rattle.std.specs.Str.Parse.{AllDigits}
-use Rattle.std.proofs.Math.Seq.{take-append_seam, drop-append_seam}
-use Rattle.std.proofs.lemmas.Bool.{and_parts, ltb-true, both_ways, eqb-true, false_from_ne_true, true≢false}
-use Rattle.std.proofs.lemmas.Fmt.{decimal_is_IsNumeral, decimal_injective}
-use Rattle.std.proofs.lemmas.List.{same_from_push}
-use Rattle.std.proofs.lemmas.List.Elements.{All-same, All-nil, All-cons, All-head, All-tail, All-append, All-weaker}
 use Rattle.std.proofs.lemmas.Str.Parse.{digit_from_value}
 use Rattle.jiff.specs.Types.{Date}
-use Rattle.jiff.specs.Words.{epoch_day, IsYear, IsYmd, date_text, date_parts}
-use Rattle.jiff.proofs.SpanFacts.{signed_arith}
 use Rattle.jiff_core.proofs.CalendarLemmas.{days_in_month_bounds}
 use Rattle.jiff_core.proofs.DateLemmas.{epoch_day_same, epoch_day_injective}
 use Rattle.jiff_fmt.specs.Reader.{Read}
-use Rattle.jiff_fmt.specs.Temporal.{DateParts, date_spec}
 use Rattle.jiff_fmt.specs.Text.{year_text, pad2, pad4}
-use Rattle.jiff_fmt.proofs.RoundTrip.{date_spec-text}
-use Rattle.ados_name.specs.declared.stamp.Date3.{Date3}
 use Rattle.ados_name.specs.CivilDay.{IsDaysAfterEpoch}
-use Rattle.ados_name.specs.Date.{has_civil_text, civil_text, raw_text, IsTextOf}
-use Rattle.adf_text.specs.Dated.{IsStamp, StandsApart, BeginsWithDate, HasNoDate, IsTextOfNone}
-use Rattle.adf_text.specs.steps.Finds.{FindsDate, FindsCivil, FindsNumbers, pair}
 
 pub split-same : (xs ys vs ws : List ℕ) → length xs ≡ length ys → xs ++ vs ≡ ys ++ ws → (xs ≡ ys) × (vs ≡ ws)
 split-same xs ys vs ws long same = (

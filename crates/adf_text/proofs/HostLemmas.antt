@@ -1,19 +1,8 @@
 -- The name of a host file.
-use Rattle.std.proofs.Common.{◌≡◌, ◌≢◌, ℕ, ◌+◌, ◌/◌, ◌%◌, ◌<◌, ◌≤◌, false, cond, ltb, List, [], ◌∷◌, length, All, refl, sym, ap, subst, ◌∙◌, ⊎_elim, arith}
-use Rattle.std.specs.Prelude.{codes}
-use Rattle.std.specs.Str.{bytes_eq, chars}
+use Rattle.adf_text.proofs.Common.{◌≡◌, ◌≢◌, ℕ, ◌+◌, ◌/◌, ◌%◌, ◌<◌, ◌≤◌, false, cond, ltb, List, [], ◌∷◌, length, All, refl, sym, ap, subst, ◌∙◌, ⊎_elim, arith, codes, bytes_eq, cond-true, cond-false, cond_both, cases_lt, lt-ltb, le-ltb, true≢false, All-nil, All-cons, All-head, All-tail, All-append, All-weaker, All-same, bytes_eq-Decides, encodes_same, length-le-encodes, percent_decode, IsEscapeByte, length-percent_decode, HostName, IsByte, letters, needs_escape, escaped, host_letters, host_name, IsHostName}
+use Rattle.std.specs.Str.{chars}
 use Rattle.std.proofs.Math.Utf8.{encode}
-use Rattle.std.proofs.lemmas.Bool.{cond-true, cond-false, cond_both, cases_lt, lt-ltb, le-ltb, true≢false}
-use Rattle.std.proofs.lemmas.List.Elements.{All-nil, All-cons, All-head, All-tail, All-append, All-weaker, All-same}
-use Rattle.std.proofs.lemmas.Slice.Eq.{bytes_eq-Decides}
-use Rattle.std.proofs.lemmas.Str.{encodes_same, length-le-encodes}
-use Rattle.percent_encoding.specs.Percent.{percent_decode}
-use Rattle.percent_encoding.proofs.PercentLemmas.{IsEscapeByte, length-percent_decode}
 use Rattle.ados_name.specs.Name.{IsName, IsNameByte}
-use Rattle.adf_text.specs.declared.escapes.Place.TheVariants.{HostName}
-use Rattle.adf_text.specs.Letters.{IsByte, letters}
-use Rattle.adf_text.specs.Escapes.{needs_escape, escaped}
-use Rattle.adf_text.specs.HostNames.{host_letters, host_name, IsHostName}
 use Rattle.adf_text.proofs.LettersLemmas.{chars-letters}
 use Rattle.adf_text.proofs.EscapesLemmas.{percent_decode-escaped, All-escaped}
 

@@ -1,15 +1,7 @@
 -- Texts with escapes for their control characters.
-use Rattle.std.proofs.Common.{◌≡◌, ℕ, ◌+◌, ◌-◌, ◌≤◌, Bool, false, List, [], ◌∷◌, ◌++◌, Option, None, Some, IfSome, length, take, drop, take_all, length-drop, length-append, append_assoc, append-nil, refl, sym, ap, ◌∙◌, subst, arith}
-use lib.Seq.{drop-append_seam, drop-drop, take-add, take-append_seam}
-use Rattle.std.specs.Fmt.{WritesInCalls}
-use Rattle.std.specs.List.{FoldsTo, concat}
-use Rattle.std.specs.Io.KnownBytes.{Appends}
-use Rattle.std.proofs.KnownBytes.{Appends-nil, Appends-trans}
-use Rattle.std.specs.Prelude.{flat_map}
-use Rattle.std.specs.Char.{encode_utf8}
-use Rattle.std.specs.Str.{chars, IsUtf8}
-use Rattle.std.proofs.lemmas.Str.{chars-append, chars_past_char, IsUtf8-append, IsUtf8-past_char}
-use Rattle.std.proofs.lemmas.List.{nil_from_length}
+use Rattle.adf_text.proofs.Common.{◌≡◌, ℕ, ◌+◌, ◌-◌, ◌≤◌, Bool, false, List, [], ◌∷◌, ◌++◌, Option, None, Some, IfSome, length, take, drop, take_all, length-drop, length-append, append_assoc, append-nil, refl, sym, ap, ◌∙◌, subst, arith, drop-append_seam, take-append_seam, WritesInCalls, FoldsTo, concat, Appends, Appends-nil, Appends-trans, flat_map, encode_utf8, IsUtf8, chars-append, chars_past_char, IsUtf8-append, IsUtf8-past_char, nil_from_length}
+use lib.Seq.{drop-drop, take-add}
+use Rattle.std.specs.Str.{chars}
 use Rattle.std.proofs.lemmas.List.Concat.{flat_map-append}
 use Rattle.adf_text.specs.Plain.{plain, plain_letter}
 

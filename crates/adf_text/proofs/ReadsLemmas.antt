@@ -1,25 +1,9 @@
 -- A file is read as one note, and a written note is read back.
-use Rattle.std.proofs.Common.{◌≡◌, ℕ, ◌%◌, ◌<◌, ◌≤◌, Bool, true, false, List, [], ◌∷◌, ◌++◌, length, drop, All, append_assoc, refl, sym, ap, subst, ◌∙◌, inl, inr, arith}
-use Rattle.std.specs.Prelude.{◌⊎◌, ◌||◌, ◌==◌, not}
+use Rattle.adf_text.proofs.Common.{◌≡◌, ℕ, ◌%◌, ◌<◌, ◌≤◌, Bool, true, false, List, [], ◌∷◌, ◌++◌, length, drop, All, append_assoc, refl, sym, ap, subst, ◌∙◌, inl, inr, arith, ◌⊎◌, ◌||◌, ◌==◌, not, nat_tests, All-from_recursion, All-nil, All-cons, All-head, All-tail, All-append, All-weaker, All-same, All-get_or, slice_get_within, get_or_from_slice_get, encodes_same, encodes-append, encode_ascii, IsEscapeByte, is_set, letter_or_dash, Date3, Comment, Uaem, IsByte, letters, is_control, needs_escape, escaped, protection_letters, protection_of, IsStamp, BeginsWithDate, HasNoDate, IsLineOf, IsNoted, IsLineEnd, IsLineLetter, HasLine, BeginsWithBits, comment_of, Tells, Reads, IsFirstControl, HasLongComment, IsUaemFaultOf, low_bits}
 use Rattle.std.specs.Str.{chars}
 use Rattle.std.proofs.Math.Utf8.{encode}
-use Rattle.std.proofs.lemmas.Bool.Decides.{nat_tests}
-use Rattle.std.proofs.lemmas.List.Elements.{All-from_recursion, All-nil, All-cons, All-head, All-tail, All-append, All-weaker, All-same, All-get_or}
-use Rattle.std.proofs.lemmas.Option.{slice_get_within, get_or_from_slice_get}
-use Rattle.std.proofs.lemmas.Str.{encodes_same, encodes-append, encode_ascii}
-use Rattle.percent_encoding.proofs.PercentLemmas.{IsEscapeByte}
-use Rattle.ados_name.specs.Protection.{is_set, letter_or_dash}
-use Rattle.ados_name.specs.declared.stamp.Date3.{Date3}
-use Rattle.adf_text.specs.declared.escapes.Place.TheVariants.{Comment}
-use Rattle.adf_text.specs.declared.uaem.Uaem.{Uaem}
 use Rattle.adf_text.specs.declared.uaem_reader.UaemFault.{UaemFault}
 use Rattle.adf_text.specs.declared.uaem_reader.UaemFault.TheVariants.{NotUtf8, NoByte, Control, NoProtection, NoDate, LongComment, Memory}
-use Rattle.adf_text.specs.Letters.{IsByte, letters}
-use Rattle.adf_text.specs.Escapes.{is_control, needs_escape, escaped}
-use Rattle.adf_text.specs.ProtectionLetters.{protection_letters, protection_of}
-use Rattle.adf_text.specs.Dated.{IsStamp, BeginsWithDate, HasNoDate}
-use Rattle.adf_text.specs.Uaem.{IsLineOf, IsNoted}
-use Rattle.adf_text.specs.UaemReads.{IsLineEnd, IsLineLetter, HasLine, BeginsWithBits, comment_of, Tells, Reads, IsFirstControl, HasLongComment, IsUaemFaultOf, low_bits}
 use Rattle.adf_text.specs.steps.Parts.{StopsLine, Breaks, IsOnlyLine, BreaksLine, HasNoBits, IsTooLong}
 use Rattle.adf_text.proofs.LettersLemmas.{all_scalars-bytes, chars-letters}
 use Rattle.adf_text.proofs.EscapesLemmas.{percent_decode-escaped, All-escaped}

@@ -1,5 +1,4 @@
-use Rattle.std.proofs.Common.{◌≡◌, refl}
-use Rattle.std.proofs.lemmas.Str.{chars_from_encodes}
+use Rattle.adf_text.proofs.Common.{◌≡◌, refl, chars_from_encodes}
 use Rattle.std.specs.Str.{chars}
 use Rattle.adf_text.proofs.escapes.unescaped.Goals as goal
 

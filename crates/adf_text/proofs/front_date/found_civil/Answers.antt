@@ -1,5 +1,4 @@
-use Rattle.std.proofs.Common.{◌≡◌, ℕ, Option, None, Some, ◌*◌, ◌/◌, ◌%◌, get_or, length, ap, ◌∙◌, arith}
-use Rattle.adf_text.specs.steps.Finds.{pair}
+use Rattle.adf_text.proofs.Common.{◌≡◌, ℕ, Option, None, Some, ◌*◌, ◌/◌, ◌%◌, get_or, length, ap, ◌∙◌, arith, pair}
 use Rattle.adf_text.proofs.DatedLemmas.{civil-parts, length-time, pair-digits, whole-time, whole-minute}
 use Rattle.adf_text.proofs.front_date.found_civil.Goals as goal
 

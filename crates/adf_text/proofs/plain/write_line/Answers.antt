@@ -1,5 +1,4 @@
-use Rattle.std.proofs.lemmas.Result.{on_ok_weaker}
-use Rattle.std.proofs.KnownBytes.{Appends-trans}
+use Rattle.adf_text.proofs.Common.{on_ok_weaker, Appends-trans}
 use Rattle.adf_text.proofs.PlainLemmas.{if_some_weaker}
 use Rattle.adf_text.proofs.plain.write_line.Goals as goal
 

@@ -1,5 +1,4 @@
-use Rattle.std.proofs.Common.{rules}
-use Rattle.std.proofs.lemmas.Result.{on_ok_weaker}
+use Rattle.adf_text.proofs.Common.{rules, on_ok_weaker}
 use Rattle.adf_text.proofs.PlainLemmas.{if_some_weaker, took_in_calls}
 use Rattle.adf_text.proofs.plain.write_plain.Goals as goal
 
