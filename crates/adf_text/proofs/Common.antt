@@ -24,12 +24,12 @@ pub use Rattle.std.proofs.Common.{All, Bool, Bor, Err, Fits, FitsSigned, IfErr, 
 pub use Rattle.std.proofs.KnownBytes.{Appends-nil, Appends-trans}
 pub use Rattle.std.proofs.Math.Seq.{drop-append_seam, take-append_seam, take-length}
 pub use Rattle.std.proofs.Math.Utf8.{low_scalar}
-pub use Rattle.std.proofs.lemmas.Bool.{and_from, and_parts, both_ways, cases_Bool, cases_lt, cond-false, cond-true, cond_both, eqb-true, false_from_ne_true, false≢true, le-ltb, lt-ltb, ltb-true, not-true, true≢false}
+pub use Rattle.std.proofs.lemmas.Bool.{and_from, and_parts, both_ways, cases_Bool, cases_lt, cond-false, cond-true, cond_both, eqb-true, false_from_ne_true, false≢true, le-ltb, lt-ltb, ltb-true, not-true, or_parts, true≢false}
 pub use Rattle.std.proofs.lemmas.Bool.Decides.{Decides-eqb, nat_tests}
 pub use Rattle.std.proofs.lemmas.Fmt.{IsAscii-decimal, decimal_injective, decimal_is_IsNumeral, parse-decimal}
 pub use Rattle.std.proofs.lemmas.List.{length_push, nil_from_length, same_from_push, take-append-drop, take_more, take_rest}
-pub use Rattle.std.proofs.lemmas.List.Elements.{All-append, All-cons, All-from_get_or, All-from_recursion, All-get_or, All-head, All-nil, All-push, All-same, All-tail, All-weaker}
-pub use Rattle.std.proofs.lemmas.Option.{get_or_from_slice_get, slice_get_read, slice_get_within}
+pub use Rattle.std.proofs.lemmas.List.Elements.{All-append, All-cons, All-from_get_or, All-from_recursion, All-get_or, All-head, All-nil, All-push, All-same, All-tail, All-take, All-weaker}
+pub use Rattle.std.proofs.lemmas.Option.{IfSome_then, get_or_from_slice_get, slice_get_read, slice_get_within}
 pub use Rattle.std.proofs.lemmas.Result.{IfOk-weaker, on_ok_weaker}
 pub use Rattle.std.proofs.lemmas.Slice.Eq.{bytes_eq-Decides, strip_prefix_is}
 pub use Rattle.std.proofs.lemmas.Str.{IsUtf8-append, IsUtf8-from_ascii, IsUtf8-past_char, chars-append, chars-encodes, chars_from_encodes, chars_past_char, encode_ascii, encodes-append, encodes-chars, encodes_same, length-le-encodes}

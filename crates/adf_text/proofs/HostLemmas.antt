@@ -49,21 +49,21 @@ All-host_letters name is =
     (λ _. All-dots)
     (λ _. All-escaped IsHostLetter HostName host_letter-escape name (All-weaker IsNameByte (λ b. needs_escape HostName b ≡ false → IsHostLetter b) host_letter-kept name is.plain)))
 
-decode-dot : percent_decode (codes "%2E") ≡ codes "."
+decoded-dots : (percent_decode (codes "%2E") ≡ codes ".") × (percent_decode (codes "%2E.") ≡ codes "..") × (percent_decode (codes ".") ≡ codes ".") × (percent_decode (codes "..") ≡ codes "..")
 unfolding percent_decode
-decode-dot = refl
+decoded-dots = (refl, refl, refl, refl)
 
-decode-dots : percent_decode (codes "%2E.") ≡ codes ".."
-unfolding percent_decode
-decode-dots = refl
+letters-dots : (letters (codes ".") ≡ codes ".") × (letters (codes "..") ≡ codes "..")
+unfolding encode
+letters-dots = (refl, refl)
 
 pub percent_decode-host_letters : (name : List ℕ) → IsName name → percent_decode (host_letters name) ≡ name
 percent_decode-host_letters name is =
     let small = All-weaker IsNameByte IsByte (λ b h. h.byte) name is.plain in
     cond_both (bytes_eq name (codes ".")) (codes "%2E") (cond (bytes_eq name (codes "..")) (codes "%2E.") (escaped HostName name)) (λ x. percent_decode x ≡ name)
-    (λ dot. decode-dot ∙ sym ((bytes_eq-Decides name (codes ".")).0 dot))
+    (λ dot. decoded-dots.0 ∙ sym ((bytes_eq-Decides name (codes ".")).0 dot))
     (λ _. cond_both (bytes_eq name (codes "..")) (codes "%2E.") (escaped HostName name) (λ x. percent_decode x ≡ name)
-    (λ dots. decode-dots ∙ sym ((bytes_eq-Decides name (codes "..")).0 dots))
+    (λ dots. decoded-dots.1 ∙ sym ((bytes_eq-Decides name (codes "..")).0 dots))
     (λ _. percent_decode-escaped HostName name small))
 
 pub chars-host_name : (name : List ℕ) → IsName name → chars (host_name name) ≡ host_letters name
@@ -109,22 +109,6 @@ module _ (name : List ℕ) (is : IsName name) where
       let lengths = ap length both in
       omega (arith, lengths, longer)
 
-letters-dot : letters (codes ".") ≡ codes "."
-unfolding encode
-letters-dot = refl
-
-letters-dots : letters (codes "..") ≡ codes ".."
-unfolding encode
-letters-dots = refl
-
-plain-dot : percent_decode (codes ".") ≡ codes "."
-unfolding percent_decode
-plain-dot = refl
-
-plain-dots : percent_decode (codes "..") ≡ codes ".."
-unfolding percent_decode
-plain-dots = refl
-
 pub IsHostName-host_name : (name : List ℕ) → IsName name → IsHostName (host_name name)
 IsHostName-host_name name is =
     let few = length-le-encodes (host_letters name) in
@@ -133,8 +117,8 @@ IsHostName-host_name name is =
     let some = is.not_empty in
     record {
       not_empty = omega (arith, few, back, kept, some);
-      not_dot = other_text name is (codes ".") (codes "%2E") letters-dot plain-dot refl (omega arith);
-      not_dots = other_text name is (codes "..") (codes "%2E.") letters-dots plain-dots refl (omega arith);
+      not_dot = other_text name is (codes ".") (codes "%2E") letters-dots.0 decoded-dots.2 refl (omega arith);
+      not_dots = other_text name is (codes "..") (codes "%2E.") letters-dots.1 decoded-dots.3 refl (omega arith);
       plain = All-letters (host_letters name) (All-host_letters name is);
     }
 

@@ -1,5 +1,5 @@
 -- Texts with escapes for their control characters.
-use Rattle.adf_text.proofs.Common.{◌≡◌, ℕ, ◌+◌, ◌-◌, ◌≤◌, Bool, false, List, [], ◌∷◌, ◌++◌, Option, None, Some, IfSome, length, take, drop, take_all, length-drop, length-append, append_assoc, append-nil, refl, sym, ap, ◌∙◌, subst, arith, drop-append_seam, take-append_seam, WritesInCalls, FoldsTo, concat, Appends, Appends-nil, Appends-trans, flat_map, encode_utf8, IsUtf8, chars-append, chars_past_char, IsUtf8-append, IsUtf8-past_char, nil_from_length}
+use Rattle.adf_text.proofs.Common.{◌≡◌, ℕ, ◌+◌, ◌-◌, ◌≤◌, Bool, false, List, [], ◌∷◌, ◌++◌, Option, length, take, drop, take_all, length-drop, length-append, append_assoc, append-nil, refl, sym, ap, ◌∙◌, subst, arith, drop-append_seam, take-append_seam, WritesInCalls, FoldsTo, concat, Appends, Appends-nil, Appends-trans, flat_map, encode_utf8, IsUtf8, chars-append, chars_past_char, IsUtf8-append, IsUtf8-past_char, nil_from_length}
 use lib.Seq.{drop-drop, take-add}
 use Rattle.std.specs.Str.{chars}
 use Rattle.std.proofs.lemmas.List.Concat.{flat_map-append}
@@ -106,7 +106,3 @@ module _ {S N : Type 0} (name : S → N) (contents : S → Option (List ℕ)) wh
 
   pub took_in_calls : (s : S) (bytes : List ℕ) (t : S) → WritesInCalls Took s bytes t → (name t ≡ name s) × Appends (contents s) (contents t) (plain false bytes)
   took_in_calls s bytes t calls = let took = subst (λ (l : List ℕ). Took s l t) calls.whole (took_all s calls.parts t calls.calls) in (took.0, took.2)
-
-pub if_some_weaker : {P Q : List ℕ → Type 0} (o : Option (List ℕ)) → ((bytes : List ℕ) → P bytes → Q bytes) → IfSome o P → IfSome o Q
-if_some_weaker None k h = tt
-if_some_weaker (Some bytes) k h = k bytes h
