@@ -1,13 +1,6 @@
 -- Escapes are read back as their bytes.
-use Rattle.std.proofs.Common.{◌≡◌, ℕ, true, false, List, [], ◌∷◌, ◌++◌, All, refl, ap, ◌∙◌, ⊎_elim}
-use Rattle.std.proofs.lemmas.Bool.{cond-true, cond-false, cases_Bool, both_ways}
-use Rattle.std.proofs.lemmas.List.Elements.{All-nil, All-cons, All-head, All-tail, All-append, All-weaker, All-same}
-use Rattle.percent_encoding.specs.Percent.{percent_encode_byte, percent_decode}
-use Rattle.percent_encoding.proofs.PercentLemmas.{IsEscapeByte, All-percent_encode_byte, percent_decode-nil, percent_decode_not_percent, percent_decode-percent_encode_byte}
+use Rattle.adf_text.proofs.Common.{◌≡◌, ℕ, true, false, List, [], ◌∷◌, ◌++◌, All, refl, ap, ◌∙◌, ⊎_elim, cond-true, cond-false, cases_Bool, both_ways, All-nil, All-cons, All-head, All-tail, All-append, All-weaker, All-same, percent_encode_byte, percent_decode, IsEscapeByte, All-percent_encode_byte, percent_decode-nil, percent_decode_not_percent, percent_decode-percent_encode_byte, HostName, Comment, IsByte, needs_escape, escaped}
 use Rattle.adf_text.specs.declared.escapes.Place.{Place}
-use Rattle.adf_text.specs.declared.escapes.Place.TheVariants.{HostName, Comment}
-use Rattle.adf_text.specs.Letters.{IsByte}
-use Rattle.adf_text.specs.Escapes.{needs_escape, escaped}
 
 escaped-yes : (place : Place) (b : ℕ) (bs : List ℕ) → needs_escape place b ≡ true → escaped place (b ∷ bs) ≡ percent_encode_byte b ++ escaped place bs
 escaped-yes place b bs needed = ap (λ x. x ++ escaped place bs) (cond-true (needs_escape place b) (percent_encode_byte b) (b ∷ []) needed)

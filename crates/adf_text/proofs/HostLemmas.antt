@@ -1,19 +1,8 @@
 -- The name of a host file.
-use Rattle.std.proofs.Common.{◌≡◌, ◌≢◌, ℕ, ◌+◌, ◌/◌, ◌%◌, ◌<◌, ◌≤◌, false, cond, ltb, List, [], ◌∷◌, length, All, refl, sym, ap, subst, ◌∙◌, ⊎_elim, arith}
-use Rattle.std.specs.Prelude.{codes}
-use Rattle.std.specs.Str.{bytes_eq, chars}
+use Rattle.adf_text.proofs.Common.{◌≡◌, ◌≢◌, ℕ, ◌+◌, ◌/◌, ◌%◌, ◌<◌, ◌≤◌, false, cond, ltb, List, [], ◌∷◌, length, All, refl, sym, ap, subst, ◌∙◌, ⊎_elim, arith, codes, bytes_eq, cond-true, cond-false, cond_both, cases_lt, lt-ltb, le-ltb, true≢false, All-nil, All-cons, All-head, All-tail, All-append, All-weaker, All-same, bytes_eq-Decides, encodes_same, length-le-encodes, percent_decode, IsEscapeByte, length-percent_decode, HostName, IsByte, letters, needs_escape, escaped, host_letters, host_name, IsHostName}
+use Rattle.std.specs.Str.{chars}
 use Rattle.std.proofs.Math.Utf8.{encode}
-use Rattle.std.proofs.lemmas.Bool.{cond-true, cond-false, cond_both, cases_lt, lt-ltb, le-ltb, true≢false}
-use Rattle.std.proofs.lemmas.List.Elements.{All-nil, All-cons, All-head, All-tail, All-append, All-weaker, All-same}
-use Rattle.std.proofs.lemmas.Slice.Eq.{bytes_eq-Decides}
-use Rattle.std.proofs.lemmas.Str.{encodes_same, length-le-encodes}
-use Rattle.percent_encoding.specs.Percent.{percent_decode}
-use Rattle.percent_encoding.proofs.PercentLemmas.{IsEscapeByte, length-percent_decode}
 use Rattle.ados_name.specs.Name.{IsName, IsNameByte}
-use Rattle.adf_text.specs.declared.escapes.Place.TheVariants.{HostName}
-use Rattle.adf_text.specs.Letters.{IsByte, letters}
-use Rattle.adf_text.specs.Escapes.{needs_escape, escaped}
-use Rattle.adf_text.specs.HostNames.{host_letters, host_name, IsHostName}
 use Rattle.adf_text.proofs.LettersLemmas.{chars-letters}
 use Rattle.adf_text.proofs.EscapesLemmas.{percent_decode-escaped, All-escaped}
 
@@ -60,21 +49,21 @@ All-host_letters name is =
     (λ _. All-dots)
     (λ _. All-escaped IsHostLetter HostName host_letter-escape name (All-weaker IsNameByte (λ b. needs_escape HostName b ≡ false → IsHostLetter b) host_letter-kept name is.plain)))
 
-decode-dot : percent_decode (codes "%2E") ≡ codes "."
+decoded-dots : (percent_decode (codes "%2E") ≡ codes ".") × (percent_decode (codes "%2E.") ≡ codes "..") × (percent_decode (codes ".") ≡ codes ".") × (percent_decode (codes "..") ≡ codes "..")
 unfolding percent_decode
-decode-dot = refl
+decoded-dots = (refl, refl, refl, refl)
 
-decode-dots : percent_decode (codes "%2E.") ≡ codes ".."
-unfolding percent_decode
-decode-dots = refl
+letters-dots : (letters (codes ".") ≡ codes ".") × (letters (codes "..") ≡ codes "..")
+unfolding encode
+letters-dots = (refl, refl)
 
 pub percent_decode-host_letters : (name : List ℕ) → IsName name → percent_decode (host_letters name) ≡ name
 percent_decode-host_letters name is =
     let small = All-weaker IsNameByte IsByte (λ b h. h.byte) name is.plain in
     cond_both (bytes_eq name (codes ".")) (codes "%2E") (cond (bytes_eq name (codes "..")) (codes "%2E.") (escaped HostName name)) (λ x. percent_decode x ≡ name)
-    (λ dot. decode-dot ∙ sym ((bytes_eq-Decides name (codes ".")).0 dot))
+    (λ dot. decoded-dots.0 ∙ sym ((bytes_eq-Decides name (codes ".")).0 dot))
     (λ _. cond_both (bytes_eq name (codes "..")) (codes "%2E.") (escaped HostName name) (λ x. percent_decode x ≡ name)
-    (λ dots. decode-dots ∙ sym ((bytes_eq-Decides name (codes "..")).0 dots))
+    (λ dots. decoded-dots.1 ∙ sym ((bytes_eq-Decides name (codes "..")).0 dots))
     (λ _. percent_decode-escaped HostName name small))
 
 pub chars-host_name : (name : List ℕ) → IsName name → chars (host_name name) ≡ host_letters name
@@ -120,22 +109,6 @@ module _ (name : List ℕ) (is : IsName name) where
       let lengths = ap length both in
       omega (arith, lengths, longer)
 
-letters-dot : letters (codes ".") ≡ codes "."
-unfolding encode
-letters-dot = refl
-
-letters-dots : letters (codes "..") ≡ codes ".."
-unfolding encode
-letters-dots = refl
-
-plain-dot : percent_decode (codes ".") ≡ codes "."
-unfolding percent_decode
-plain-dot = refl
-
-plain-dots : percent_decode (codes "..") ≡ codes ".."
-unfolding percent_decode
-plain-dots = refl
-
 pub IsHostName-host_name : (name : List ℕ) → IsName name → IsHostName (host_name name)
 IsHostName-host_name name is =
     let few = length-le-encodes (host_letters name) in
@@ -144,8 +117,8 @@ IsHostName-host_name name is =
     let some = is.not_empty in
     record {
       not_empty = omega (arith, few, back, kept, some);
-      not_dot = other_text name is (codes ".") (codes "%2E") letters-dot plain-dot refl (omega arith);
-      not_dots = other_text name is (codes "..") (codes "%2E.") letters-dots plain-dots refl (omega arith);
+      not_dot = other_text name is (codes ".") (codes "%2E") letters-dots.0 decoded-dots.2 refl (omega arith);
+      not_dots = other_text name is (codes "..") (codes "%2E.") letters-dots.1 decoded-dots.3 refl (omega arith);
       plain = All-letters (host_letters name) (All-host_letters name is);
     }
 

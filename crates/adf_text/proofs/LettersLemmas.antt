@@ -1,14 +1,6 @@
 -- Letters that are bytes.
-use Rattle.std.proofs.Common.{◌≡◌, ℕ, ◌<◌, ◌≤◌, true, List, [], ◌∷◌, ◌++◌, length, get_or, take, All, Fits, w8, sym, ap, refl, ◌∙◌, arith}
-use Rattle.std.proofs.Math.Utf8.{low_scalar}
-use Rattle.std.proofs.lemmas.Bool.{and_from}
-use Rattle.std.proofs.Math.Seq.{take-length}
-use Rattle.std.proofs.lemmas.List.{length_push, take_more}
-use Rattle.std.proofs.lemmas.List.Elements.{All-head, All-tail, All-from_get_or, All-same}
-use Rattle.std.proofs.lemmas.Option.{slice_get_read}
-use Rattle.std.proofs.lemmas.Str.{chars-encodes, encodes-chars}
-use Rattle.std.specs.Str.{all_scalars, chars, IsUtf8}
-use Rattle.adf_text.specs.Letters.{IsByte, letters, IsFirstForeign}
+use Rattle.adf_text.proofs.Common.{◌≡◌, ℕ, ◌<◌, ◌≤◌, true, List, [], ◌∷◌, ◌++◌, length, get_or, take, All, Fits, w8, sym, ap, refl, ◌∙◌, arith, low_scalar, and_from, take-length, length_push, take_more, All-head, All-tail, All-from_get_or, All-same, slice_get_read, chars-encodes, encodes-chars, all_scalars, IsUtf8, IsByte, letters, IsFirstForeign}
+use Rattle.std.specs.Str.{chars}
 
 -- bytes are characters
 pub all_scalars-bytes : (bytes : List ℕ) → All IsByte bytes → all_scalars bytes ≡ true

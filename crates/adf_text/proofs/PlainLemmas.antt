@@ -1,15 +1,7 @@
 -- Texts with escapes for their control characters.
-use Rattle.std.proofs.Common.{◌≡◌, ℕ, ◌+◌, ◌-◌, ◌≤◌, Bool, false, List, [], ◌∷◌, ◌++◌, Option, None, Some, IfSome, length, take, drop, take_all, length-drop, length-append, append_assoc, append-nil, refl, sym, ap, ◌∙◌, subst, arith}
-use lib.Seq.{drop-append_seam, drop-drop, take-add, take-append_seam}
-use Rattle.std.specs.Fmt.{WritesInCalls}
-use Rattle.std.specs.List.{FoldsTo, concat}
-use Rattle.std.specs.Io.KnownBytes.{Appends}
-use Rattle.std.proofs.KnownBytes.{Appends-nil, Appends-trans}
-use Rattle.std.specs.Prelude.{flat_map}
-use Rattle.std.specs.Char.{encode_utf8}
-use Rattle.std.specs.Str.{chars, IsUtf8}
-use Rattle.std.proofs.lemmas.Str.{chars-append, chars_past_char, IsUtf8-append, IsUtf8-past_char}
-use Rattle.std.proofs.lemmas.List.{nil_from_length}
+use Rattle.adf_text.proofs.Common.{◌≡◌, ℕ, ◌+◌, ◌-◌, ◌≤◌, Bool, false, List, [], ◌∷◌, ◌++◌, Option, length, take, drop, take_all, length-drop, length-append, append_assoc, append-nil, refl, sym, ap, ◌∙◌, subst, arith, drop-append_seam, take-append_seam, WritesInCalls, FoldsTo, concat, Appends, Appends-nil, Appends-trans, flat_map, encode_utf8, IsUtf8, chars-append, chars_past_char, IsUtf8-append, IsUtf8-past_char, nil_from_length}
+use lib.Seq.{drop-drop, take-add}
+use Rattle.std.specs.Str.{chars}
 use Rattle.std.proofs.lemmas.List.Concat.{flat_map-append}
 use Rattle.adf_text.specs.Plain.{plain, plain_letter}
 
@@ -114,7 +106,3 @@ module _ {S N : Type 0} (name : S → N) (contents : S → Option (List ℕ)) wh
 
   pub took_in_calls : (s : S) (bytes : List ℕ) (t : S) → WritesInCalls Took s bytes t → (name t ≡ name s) × Appends (contents s) (contents t) (plain false bytes)
   took_in_calls s bytes t calls = let took = subst (λ (l : List ℕ). Took s l t) calls.whole (took_all s calls.parts t calls.calls) in (took.0, took.2)
-
-pub if_some_weaker : {P Q : List ℕ → Type 0} (o : Option (List ℕ)) → ((bytes : List ℕ) → P bytes → Q bytes) → IfSome o P → IfSome o Q
-if_some_weaker None k h = tt
-if_some_weaker (Some bytes) k h = k bytes h

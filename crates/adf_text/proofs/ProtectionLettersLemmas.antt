@@ -1,16 +1,8 @@
 -- The letters of bits are read back as these bits.
-use Rattle.std.proofs.Common.{◌≡◌, ℕ, zero, suc, ◌+◌, ◌*◌, ◌/◌, ◌%◌, ◌<◌, ◌==◌, Bool, true, false, List, [], ◌∷◌, ◌++◌, map, take, drop, refl, sym, ap, ◌∙◌, inr, arith}
-use Rattle.std.specs.Prelude.{not, ◌&&◌, ◌||◌, nat_lt}
-use Rattle.std.specs.List.{list_any}
-use Rattle.std.specs.Int.{bit_at}
+use Rattle.adf_text.proofs.Common.{◌≡◌, ℕ, zero, suc, ◌+◌, ◌*◌, ◌/◌, ◌%◌, ◌<◌, ◌==◌, Bool, true, false, List, [], ◌∷◌, ◌++◌, map, take, drop, refl, sym, ap, ◌∙◌, inr, arith, not, ◌&&◌, ◌||◌, nat_lt, list_any, bit_at, and_parts, not-true, ltb-true, encode_ascii, is_set, letter_or_dash, letters, protection_letters, bit, protection_of, AreLetters}
 use Rattle.std.proofs.Math.Bool.{or-false}
-use Rattle.std.proofs.lemmas.Bool.{and_parts, not-true, ltb-true}
-use Rattle.std.proofs.lemmas.Str.{encode_ascii}
 use Rattle.std.proofs.lemmas.Nat.{mod-pow-add}
 use Rattle.std.proofs.lemmas.Nat.Bits.{bit_at-lt}
-use Rattle.ados_name.specs.Protection.{is_set, letter_or_dash}
-use Rattle.adf_text.specs.Letters.{letters}
-use Rattle.adf_text.specs.ProtectionLetters.{protection_letters, bit, protection_of, AreLetters}
 
 -- what a place shows: its letter, or a dash
 abbrev shown : Bool × ℕ → ℕ

@@ -1,25 +1,9 @@
 -- A file is read as one note, and a written note is read back.
-use Rattle.std.proofs.Common.{◌≡◌, ℕ, ◌%◌, ◌<◌, ◌≤◌, Bool, true, false, List, [], ◌∷◌, ◌++◌, length, drop, All, append_assoc, refl, sym, ap, subst, ◌∙◌, inl, inr, arith}
-use Rattle.std.specs.Prelude.{◌⊎◌, ◌||◌, ◌==◌, not}
+use Rattle.adf_text.proofs.Common.{◌≡◌, ℕ, ◌%◌, ◌<◌, ◌≤◌, Bool, true, false, List, [], ◌∷◌, ◌++◌, length, drop, All, append_assoc, refl, sym, ap, subst, ◌∙◌, inl, inr, arith, ◌⊎◌, ◌==◌, not, nat_tests, All-from_recursion, All-nil, All-cons, All-head, All-tail, All-append, All-weaker, All-same, All-get_or, slice_get_within, get_or_from_slice_get, encodes_same, encodes-append, encode_ascii, IsEscapeByte, is_set, letter_or_dash, Date3, Comment, Uaem, IsByte, letters, is_control, needs_escape, escaped, protection_letters, protection_of, IsStamp, BeginsWithDate, HasNoDate, IsLineOf, IsNoted, IsLineEnd, IsLineLetter, HasLine, BeginsWithBits, comment_of, Tells, Reads, IsFirstControl, HasLongComment, IsUaemFaultOf, low_bits, or_parts, All-take, take-append_seam}
 use Rattle.std.specs.Str.{chars}
 use Rattle.std.proofs.Math.Utf8.{encode}
-use Rattle.std.proofs.lemmas.Bool.Decides.{nat_tests}
-use Rattle.std.proofs.lemmas.List.Elements.{All-from_recursion, All-nil, All-cons, All-head, All-tail, All-append, All-weaker, All-same, All-get_or}
-use Rattle.std.proofs.lemmas.Option.{slice_get_within, get_or_from_slice_get}
-use Rattle.std.proofs.lemmas.Str.{encodes_same, encodes-append, encode_ascii}
-use Rattle.percent_encoding.proofs.PercentLemmas.{IsEscapeByte}
-use Rattle.ados_name.specs.Protection.{is_set, letter_or_dash}
-use Rattle.ados_name.specs.declared.stamp.Date3.{Date3}
-use Rattle.adf_text.specs.declared.escapes.Place.TheVariants.{Comment}
-use Rattle.adf_text.specs.declared.uaem.Uaem.{Uaem}
 use Rattle.adf_text.specs.declared.uaem_reader.UaemFault.{UaemFault}
 use Rattle.adf_text.specs.declared.uaem_reader.UaemFault.TheVariants.{NotUtf8, NoByte, Control, NoProtection, NoDate, LongComment, Memory}
-use Rattle.adf_text.specs.Letters.{IsByte, letters}
-use Rattle.adf_text.specs.Escapes.{is_control, needs_escape, escaped}
-use Rattle.adf_text.specs.ProtectionLetters.{protection_letters, protection_of}
-use Rattle.adf_text.specs.Dated.{IsStamp, BeginsWithDate, HasNoDate}
-use Rattle.adf_text.specs.Uaem.{IsLineOf, IsNoted}
-use Rattle.adf_text.specs.UaemReads.{IsLineEnd, IsLineLetter, HasLine, BeginsWithBits, comment_of, Tells, Reads, IsFirstControl, HasLongComment, IsUaemFaultOf, low_bits}
 use Rattle.adf_text.specs.steps.Parts.{StopsLine, Breaks, IsOnlyLine, BreaksLine, HasNoBits, IsTooLong}
 use Rattle.adf_text.proofs.LettersLemmas.{all_scalars-bytes, chars-letters}
 use Rattle.adf_text.proofs.EscapesLemmas.{percent_decode-escaped, All-escaped}
@@ -58,9 +42,6 @@ file-bytes file line has =
 
 -- ---- a line has one content
 
-low-same : (b c : ℕ) → b < 256 → c < 256 → b % 256 ≡ c % 256 → b ≡ c
-low-same b c few_b few_c same = omega arith
-
 bits-same : (line : List ℕ) (b c : ℕ) (x y : List ℕ) → BeginsWithBits line b x → BeginsWithBits line c y → (b % 256 ≡ c % 256) × (x ≡ y)
 bits-same line b c x y first second =
     let parts = split-same (protection_letters b) (protection_letters c) (32 ∷ x) (32 ∷ y) refl (sym first ∙ second) in
@@ -69,7 +50,7 @@ bits-same line b c x y first second =
 tells-same : (line : List ℕ) (noted other : Uaem) → IsStamp noted.date → IsStamp other.date → Tells line noted → Tells line other → noted ≡ other
 tells-same line noted other stamp stamp_other first second =
     let bits = bits-same line noted.protect.0 other.protect.0 first.dated second.dated first.bits second.bits in
-    let protect = low-same noted.protect.0 other.protect.0 first.eight second.eight bits.0 in
+    let protect : noted.protect.0 ≡ other.protect.0 = omega (arith, first.eight, second.eight, bits.0) in
     let date = begins-same first.dated noted.date other.date first.behind second.behind stamp stamp_other first.date (subst (λ x. BeginsWithDate x other.date second.behind) (sym bits.1) second.date) in
     let comment = first.comment ∙ ap comment_of date.1 ∙ sym second.comment in
     λ i. record { protect = record { 0 = protect i }; date = date.0 i; comment = comment i }
@@ -150,10 +131,6 @@ All-bits bits = All-from_recursion IsLineLetter (protection_letters bits) (
   ),
 )
 
-or-left : (a b : Bool) → (a || b) ≡ false → a ≡ false
-or-left true b is = is
-or-left false b is = refl
-
 escape_letter : (b : ℕ) → IsEscapeByte b → IsLineLetter b
 escape_letter b escape =
     let low : 32 ≤ b = grind arith in
@@ -163,7 +140,7 @@ escape_letter b escape =
 All-comment : (comment : List ℕ) → All IsByte comment → All IsLineLetter (escaped Comment comment)
 All-comment comment small =
     All-escaped IsLineLetter Comment escape_letter comment
-    (All-weaker IsByte (λ b. needs_escape Comment b ≡ false → IsLineLetter b) (λ b byte kept. record { byte = byte; plain = or-left (is_control b) (b == 37) kept }) comment small)
+    (All-weaker IsByte (λ b. needs_escape Comment b ≡ false → IsLineLetter b) (λ b byte kept. record { byte = byte; plain = (or_parts (is_control b) (b == 37) kept).0 }) comment small)
 
 letters-line : (front date shown : List ℕ) → letters front ≡ front → letters date ≡ date
     → letters ((front ++ 32 ∷ (date ++ 32 ∷ shown)) ++ 10 ∷ []) ≡ front ++ (32 ∷ (date ++ 32 ∷ (letters shown ++ 10 ∷ [])))
@@ -221,13 +198,9 @@ letters-of_bits line front back bits behind whole long begins =
       parts.1,
     )
 
-all-front : (P : ℕ → Type 0) (xs ys : List ℕ) → All P (xs ++ ys) → All P xs
-all-front P [] ys is = All-nil P
-all-front P (x ∷ xs) ys is = All-cons P x xs (All-head P x (xs ++ ys) is) (all-front P xs ys (All-tail P x (xs ++ ys) is))
-
 line-letters : (text line end : List ℕ) → All IsByte text → text ≡ line ++ end → All (λ c. is_control c ≡ false) line → All IsLineLetter line
 line-letters text line end small whole plain =
-    let bytes = all-front IsByte line end (All-same IsByte (line ++ end) text (sym whole) small) in
+    let bytes = All-same IsByte line _ (sym (take-append_seam line end)) (All-take IsByte (length line) (line ++ end) (All-same IsByte (line ++ end) text (sym whole) small)) in
     λ k d inside. record { byte = bytes k d inside; plain = plain k d inside }
 
 module _ (file text : List ℕ) (is : letters text ≡ file) (small : All IsByte text) where

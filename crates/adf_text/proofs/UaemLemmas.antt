@@ -1,15 +1,5 @@
 -- A line belongs to one content only.
-use Rattle.std.proofs.Common.{◌≡◌, ℕ, List, [], ◌∷◌, ◌++◌, drop, All, append_assoc, refl, sym, ap, ◌∙◌}
-use Rattle.std.specs.Prelude.{codes}
-use Rattle.std.proofs.lemmas.List.{same_from_push}
-use Rattle.std.proofs.lemmas.Str.{encodes_same}
-use Rattle.percent_encoding.specs.Percent.{percent_decode}
-use Rattle.adf_text.specs.declared.escapes.Place.TheVariants.{Comment}
-use Rattle.adf_text.specs.declared.uaem.Uaem.{Uaem}
-use Rattle.adf_text.specs.Letters.{IsByte, letters}
-use Rattle.adf_text.specs.Escapes.{escaped}
-use Rattle.adf_text.specs.ProtectionLetters.{protection_letters, protection_of}
-use Rattle.adf_text.specs.Uaem.{IsLineOf, IsNoted, TellsSame}
+use Rattle.adf_text.proofs.Common.{◌≡◌, ℕ, List, [], ◌∷◌, ◌++◌, drop, All, append_assoc, refl, sym, ap, ◌∙◌, codes, same_from_push, encodes_same, percent_decode, Comment, Uaem, IsByte, letters, escaped, protection_letters, protection_of, IsLineOf, IsNoted, TellsSame}
 use Rattle.adf_text.proofs.EscapesLemmas.{percent_decode-escaped}
 use Rattle.adf_text.proofs.ProtectionLettersLemmas.{protection_of-letters, letters-protection_letters}
 use Rattle.adf_text.proofs.DatedLemmas.{split-same, dates-same}

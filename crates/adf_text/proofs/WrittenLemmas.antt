@@ -1,11 +1,5 @@
 -- The date that a person wrote.
-use Rattle.std.proofs.Common.{ℕ, List, ◌++◌, Option, None, Some, inl, inr}
-use Rattle.std.specs.Prelude.{codes, MatchOption}
-use Rattle.std.specs.Option.{option_or}
-use Rattle.ados_name.specs.declared.stamp.Date3.{Date3}
-use Rattle.ados_name.specs.Date.{IsTextOf}
-use Rattle.adf_text.specs.Dated.{IsTextOfNone}
-use Rattle.adf_text.specs.Written.{HasNoWritten, IsWritten}
+use Rattle.adf_text.proofs.Common.{ℕ, List, ◌++◌, Option, None, Some, inl, inr, codes, MatchOption, option_or, Date3, IsTextOf, IsTextOfNone, HasNoWritten, IsWritten}
 
 -- what a text with a part after it is found to be
 abbrev pub Found : Option Date3 → List ℕ → Type 0

@@ -1,11 +1,8 @@
 //! Escapes of bytes: `%` and two upper-case hexadecimal digits.
-ghost use Rattle.std.specs.Prelude.{◌≡◌, IfOk, IfErr, OnOk, All, ◌++◌};
-ghost use Rattle.std.specs.Str.{chars};
-ghost use Rattle.adf_text.specs.Letters.{IsByte, IsFaultOf};
-ghost use Rattle.adf_text.specs.Escapes.{is_control, needs_escape, escaped_byte, escaped, unescaped};
+ghost use Rattle.std.specs.Prelude.{◌≡◌, IfOk, OnOk, ◌++◌};
+ghost use Rattle.adf_text.specs.Escapes.{is_control, needs_escape, escaped_byte, escaped};
 
-use crate::letters::{LettersFault, letter_bytes};
-use percent_encoding::{percent_decode, percent_encode_byte};
+use percent_encoding::percent_encode_byte;
 use std::alloc::{AllocError, Global};
 
 /// Where bytes are printed.
@@ -53,16 +50,4 @@ fn push_escaped(shown: &mut Vec<u8>, byte: u8, place: Place) -> Result<(), Alloc
     }
     shown.push(byte)?;
     Ok(())
-}
-
-/// The bytes of a text's letters. Each escape is the byte of its digits.
-pub(crate) fn unescaped(alloc: Global, text: &str) -> Result<Vec<u8>, LettersFault>
-    ensures ok { IfOk result (λ bytes. bytes.items ≡ unescaped text.now) }
-    ensures letters { OnOk result (All IsByte (chars text.now)) }
-    ensures fault { IfErr result (IsFaultOf text.now) }
-{
-    let letters = letter_bytes(alloc, text)?;
-    let mut bytes = Vec::new(alloc);
-    percent_decode(&letters).append_to(&mut bytes)?;
-    Ok(bytes)
 }

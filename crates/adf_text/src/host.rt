@@ -6,9 +6,10 @@ ghost use Rattle.adf_text.specs.Letters.{IsByte, IsFaultOf};
 ghost use Rattle.adf_text.specs.Escapes.{unescaped};
 ghost use Rattle.adf_text.specs.HostNames.{host_letters, host_name, IsHostName, HostNamesComeBack};
 
-use crate::escapes::{Place, escaped, unescaped};
-use crate::letters::{LettersFault, letter_text};
+use crate::escapes::{Place, escaped};
+use crate::letters::{LettersFault, letter_bytes, letter_text};
 use ados_name::Name;
+use percent_encoding::percent_decode;
 use std::alloc::{AllocError, Global};
 
 /// The name of an entry as the name of a host file: its letters in UTF-8. The bytes 00 to 1F and 7F to 9F, `%` and `\`
@@ -41,7 +42,10 @@ pub fn host_name_bytes(alloc: Global, text: &str) -> Result<Vec<u8>, LettersFaul
     ensures letters { OnOk result (All IsByte (chars text.now)) }
     ensures fault { IfErr result (IsFaultOf text.now) }
 {
-    unescaped(alloc, text)
+    let letters = letter_bytes(alloc, text)?;
+    let mut bytes = Vec::new(alloc);
+    percent_decode(&letters).append_to(&mut bytes)?;
+    Ok(bytes)
 }
 
 /// The host name of an entry is read back as the entry's name.

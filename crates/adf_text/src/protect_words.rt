@@ -67,25 +67,19 @@ pub fn protect_word(text: &[u8]) -> Option<ProtectWord<'_>>
     ensures { option_map (λ word. (word.form, word.letters.now)) result ≡ protect_word text.now }
 {
     let shown = bits_showing(text);
-    if are_same(text, &protection_letters(shown)) {
-        return Some(ProtectWord {
-            form: Form::Exactly,
-            letters: text,
-        });
-    }
-    if are_same(text, &shown.letters()) {
-        return Some(ProtectWord {
-            form: Form::ButHold,
-            letters: text,
-        });
-    }
-    if is_letter_set(text) {
-        return Some(ProtectWord {
-            form: Form::Exactly,
-            letters: text,
-        });
-    }
-    signed_word(text)
+    let form = if are_same(text, &protection_letters(shown)) {
+        Form::Exactly
+    } else if are_same(text, &shown.letters()) {
+        Form::ButHold
+    } else if is_letter_set(text) {
+        Form::Exactly
+    } else {
+        return signed_word(text);
+    };
+    Some(ProtectWord {
+        form,
+        letters: text,
+    })
 }
 
 // A sign and letters.
@@ -98,10 +92,7 @@ fn signed_word(text: &[u8]) -> Option<ProtectWord<'_>>
     if !is_letter_set(letters) {
         return None;
     }
-    match signed(*sign) {
-        Some(form) => Some(ProtectWord { form, letters }),
-        None => None,
-    }
+    signed(*sign).map(|form| ProtectWord { form, letters })
 }
 
 fn signed(sign: u8) -> Option<Form>

@@ -33,10 +33,7 @@ pub fn protection_of_letters(text: &[u8]) -> Option<Protect>
     ensures bits { IfSome result (λ protect. protect.0 ≡ protection_of text.now) }
 {
     let protect = spelled_bits(text);
-    if is_letter_set(text) {
-        return Some(protect);
-    }
-    if text == protection_letters(protect).as_slice() {
+    if is_letter_set(text) || text == protection_letters(protect).as_slice() {
         return Some(protect);
     }
     None

@@ -16,7 +16,7 @@ use std::alloc::{AllocError, Global};
 use std::str;
 
 /// Why a note cannot be read. Places count letters from 0; in `NotUtf8` they count bytes.
-#[derive(Clone, Copy, Debug, PartialEq, Eq)]
+#[derive(Clone, Copy, PartialEq, Eq)]
 pub enum UaemFault {
     /// The file is not UTF-8 from this byte.
     NotUtf8 { place: usize },

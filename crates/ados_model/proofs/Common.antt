@@ -18,10 +18,10 @@ pub use Rattle.ados_model.specs.Tree.{Content, LeadsToRoot, Node, Proper, Tree, 
 pub use Rattle.ados_model.specs.Tree.Content.{Directory, File}
 pub use Rattle.ados_model.specs.Tree.LeadsToRoot.{at_root, by_parent}
 pub use Rattle.ados_model.specs.declared.role.Role.{Role}
-unfoldable pub use Rattle.ados_name.specs.Name.{front, hash, last_name, steps, steps_along}
+unfoldable pub use Rattle.ados_name.specs.Name.{hash, steps, steps_along}
 pub use Rattle.ados_name.specs.Name.{IsComment, IsName, IsNameByte, Same, slot}
 pub use Rattle.ados_name.specs.declared.stamp.Date3.{Date3}
-pub use Rattle.std.proofs.Common.{All, AllPairs, Bool, Contains, Err, IsSome, List, None, Ok, Option, Some, [], add-one, ap, ap₂, arith, bit_and, codes, cond, drop, eq-eqb, eqb, eqb-true, false, filter, flat_map, get_or, if◌then◌else◌, inl, inr, is_some, le-leb, le-ltb, length, lt-ltb, ltb-true, min, mod-lt, nat_le, nat_lt, ne_eqb, not, option_and_then, option_map, refl, replicate, slice_get, slice_index, slice_index_or, subst, suc, sum_by, sym, take, true, zero, ℕ, ◌%◌, ◌&&◌, ◌*◌, ◌++◌, ◌+◌, ◌-◌, ◌/◌, ◌<◌, ◌==◌, ◌^◌, ◌||◌, ◌∙◌, ◌∷◌, ◌≡◌, ◌≢◌, ◌≤◌, ◌⊎◌}
+pub use Rattle.std.proofs.Common.{All, AllPairs, Bool, Contains, IsSome, List, None, Option, Some, [], add-one, ap, ap₂, arith, bit_and, codes, cond, drop, eq-eqb, eqb, eqb-true, false, filter, flat_map, get_or, if◌then◌else◌, inl, inr, is_some, le-leb, le-ltb, length, lt-ltb, ltb-true, min, mod-lt, nat_le, nat_lt, ne_eqb, not, option_and_then, option_map, refl, replicate, slice_get, slice_index, slice_index_or, subst, suc, sum_by, sym, take, true, zero, ℕ, ◌%◌, ◌&&◌, ◌*◌, ◌++◌, ◌+◌, ◌-◌, ◌/◌, ◌<◌, ◌==◌, ◌^◌, ◌||◌, ◌∙◌, ◌∷◌, ◌≡◌, ◌≢◌, ◌≤◌, ◌⊎◌}
 pub use Rattle.std.proofs.lemmas.Bool.{agree_below, agree_below_at, and_parts, cases_eq, cases_lt, cases_order, cond_both, false≢true, leb-true, lt-leb, or_cases}
 pub use Rattle.std.proofs.lemmas.Bool.Decides.{Decides-eqb, nat_tests}
 pub use Rattle.std.proofs.lemmas.List.{drop-drop, ext_get_or, get_or-append_right, get_or-drop, get_or-replicate, get_or-take, get_or_append_left, get_or_default, get_or_past, get_or_push, length-append, length-drop, length-take, length_push, nil_from_length, take-append-drop, take-take}

@@ -13,7 +13,6 @@ pub mod NoFaults
 pub mod Blank
 pub mod Blocks
 pub mod BlankWork
-pub mod WorkedWalks
 pub mod Totals
 pub mod Counting
 mod SmallBelow

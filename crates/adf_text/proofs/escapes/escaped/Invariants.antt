@@ -1,5 +1,4 @@
-use Rattle.std.proofs.Common.{◌≡◌, take}
-use Rattle.adf_text.specs.Escapes.{escaped}
+use Rattle.adf_text.proofs.Common.{◌≡◌, take, escaped}
 use Rattle.adf_text.proofs.escapes.escaped.Given as goal
 
 abbrev pub invariant-loop-byte : goal.invariant-loop-byte

@@ -1,7 +1,4 @@
-use Rattle.std.proofs.Common.{◌≢◌, ◌++◌, List, ℕ, Option, None, Some, IfNone}
-use Rattle.std.proofs.lemmas.Bool.Decides.{Decides-eqb}
-use Rattle.std.proofs.lemmas.Slice.Eq.{strip_prefix_is}
-use Rattle.adf_text.specs.Dated.{StandsApart}
+use Rattle.adf_text.proofs.Common.{◌≢◌, ◌++◌, List, ℕ, Option, None, Some, IfNone, Decides-eqb, strip_prefix_is, StandsApart}
 use Rattle.adf_text.proofs.front_date.behind_word.Goals as goal
 
 if-none : {A : Type 0} (o : Option A) (P : Type 0) → P → IfNone o P

@@ -1,7 +1,4 @@
-use Rattle.std.proofs.Common.{List, ℕ, Bor}
-use Rattle.std.specs.Bool.{⊤}
-use Rattle.ados_name.specs.declared.stamp.Date3.{Date3}
-use Rattle.adf_text.specs.Dated.{IsStamp, BeginsWithDate, HasNoDate}
+use Rattle.adf_text.proofs.Common.{List, ℕ, Bor, ⊤, Date3, IsStamp, BeginsWithDate, HasNoDate}
 use Rattle.adf_text.proofs.DatedLemmas.{alone-dated, has-length, no-length, none-alone, none-dated, none-in, some-in}
 use Rattle.adf_text.proofs.front_date.date_of_text.Goals as goal
 

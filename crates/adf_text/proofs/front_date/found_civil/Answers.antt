@@ -1,6 +1,5 @@
-use Rattle.std.proofs.Common.{◌≡◌, ℕ, Option, None, Some, ◌*◌, ◌/◌, ◌%◌, get_or, length, ap, ◌∙◌, arith}
-use Rattle.adf_text.specs.steps.Finds.{pair}
-use Rattle.adf_text.proofs.DatedLemmas.{civil-parts, length-time, pair-digits, whole-time, whole-minute}
+use Rattle.adf_text.proofs.Common.{◌≡◌, ℕ, Option, None, Some, ◌*◌, ◌/◌, ◌%◌, get_or, length, ap, ◌∙◌, arith, pair, ◌+◌}
+use Rattle.adf_text.proofs.DatedLemmas.{civil-parts, length-time, pair-digits}
 use Rattle.adf_text.proofs.front_date.found_civil.Goals as goal
 
 pub returns-in_default : goal.returns-in_default
@@ -31,6 +30,6 @@ returns c = λ date civil behind stamp of few_minutes few_ticks is.
     let minutes : c.pair-2.result ≡ m % 60 = c.pair-2.ensures.value ∙ ap (λ x. pair (get_or x 4 0) (get_or x 5 0)) parts.1 ∙ pair-digits (m % 60) (omega arith) in
     let seconds : c.pair-3.result ≡ t / 50 = c.pair-3.ensures.value ∙ ap (λ x. pair (get_or x 7 0) (get_or x 8 0)) parts.1 ∙ pair-digits (t / 50) (omega arith) in
     let hundredths : c.pair-4.result ≡ 2 * (t % 50) = c.pair-4.ensures.value ∙ ap (λ x. pair (get_or x 10 0) (get_or x 11 0)) parts.1 ∙ pair-digits (2 * (t % 50)) (omega arith) in
-    let of_minutes = whole-time c.pair.result c.pair-2.result m hours minutes in
-    let of_ticks = whole-minute c.pair-3.result c.pair-4.result t seconds hundredths in
+    let of_minutes : 60 * c.pair.result + c.pair-2.result ≡ m = omega (arith, hours, minutes) in
+    let of_ticks : 50 * c.pair-3.result + c.pair-4.result / 2 ≡ t = omega (arith, seconds, hundredths) in
     λ i. Some (record { days = days i; minutes = of_minutes i; ticks = of_ticks i })

@@ -1,6 +1,4 @@
-use Rattle.std.proofs.Common.{◌++◌, None, Some, sym, ap, ◌∙◌}
-use Rattle.std.proofs.lemmas.Bool.Decides.{Decides-eqb}
-use Rattle.std.proofs.lemmas.Slice.Eq.{strip_prefix_is}
+use Rattle.adf_text.proofs.Common.{◌++◌, None, Some, sym, ap, ◌∙◌, Decides-eqb, strip_prefix_is}
 use Rattle.adf_text.proofs.DatedLemmas.{finds-raw, finds-civil}
 use Rattle.adf_text.proofs.front_date.found_date.Goals as goal
 

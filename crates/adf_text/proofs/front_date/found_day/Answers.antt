@@ -1,13 +1,6 @@
-use Rattle.std.proofs.Common.{◌≡◌, ℕ, ℤ, pos, ◌<◌, ◌^◌, Some, Result, Ok, Err, w32, FitsSigned, sym, ap, subst, ◌∙◌, arith}
-use Rattle.std.specs.Result.{OkIff, result_ok}
-use Rattle.std.specs.Int.{FitsUnsignedBits}
-use Rattle.std.specs.Prelude.{unsigned_abs}
+use Rattle.adf_text.proofs.Common.{◌≡◌, ℕ, ℤ, pos, ◌<◌, ◌^◌, Some, Result, Ok, Err, w32, FitsSigned, sym, ap, subst, ◌∙◌, arith, OkIff, result_ok, FitsUnsignedBits, unsigned_abs, IsYmd, date_parts, parse_date, signed_arith, DateParts, parse_date-date_text}
 use Rattle.std.proofs.lemmas.Int.{to_z-of_z}
-use Rattle.jiff.specs.Words.{IsYmd, date_parts, parse_date}
-use Rattle.jiff.proofs.SpanFacts.{signed_arith}
 use Rattle.jiff_core.specs.declared.error.Error.{Error}
-use Rattle.jiff_fmt.specs.Temporal.{DateParts}
-use Rattle.jiff_fmt.proofs.RoundTrip.{parse_date-date_text}
 use Rattle.adf_text.proofs.DatedLemmas.{day-number}
 use Rattle.adf_text.proofs.front_date.found_day.Goals as goal
 

@@ -1,5 +1,4 @@
-use Rattle.std.proofs.Common.{◌≡◌, ℕ, ◌++◌, Option, None, Some, sym, ap, drop, ◌∙◌}
-use Rattle.std.specs.Fmt.{decimal}
+use Rattle.adf_text.proofs.Common.{◌≡◌, ℕ, ◌++◌, Option, None, Some, sym, ap, drop, ◌∙◌, decimal}
 use Rattle.adf_text.proofs.DatedLemmas.{word-found, All-decimal}
 use Rattle.adf_text.proofs.front_date.found_number.Goals as goal
 

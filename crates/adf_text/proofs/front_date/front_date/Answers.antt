@@ -1,5 +1,4 @@
-use Rattle.std.proofs.Common.{◌++◌, sym, ap, ◌∙◌}
-use Rattle.std.specs.String.{string_bytes}
+use Rattle.adf_text.proofs.Common.{◌++◌, sym, ap, ◌∙◌, string_bytes}
 use Rattle.adf_text.proofs.DatedLemmas.{no-date}
 use Rattle.adf_text.proofs.front_date.front_date.Goals as goal
 

@@ -1,9 +1,4 @@
-use Rattle.std.proofs.Common.{◌<◌, ◌^◌, sym, ap, subst, ◌∙◌, arith}
-use Rattle.std.specs.Fmt.{decimal}
-use Rattle.std.specs.Result.{result_ok}
-use Rattle.std.specs.Str.{IsUtf8}
-use Rattle.std.proofs.lemmas.Fmt.{IsAscii-decimal, parse-decimal}
-use Rattle.std.proofs.lemmas.Str.{IsUtf8-from_ascii}
+use Rattle.adf_text.proofs.Common.{◌<◌, ◌^◌, sym, ap, subst, ◌∙◌, arith, decimal, result_ok, IsUtf8, IsAscii-decimal, parse-decimal, IsUtf8-from_ascii}
 use Rattle.adf_text.proofs.front_date.number.Goals as goal
 
 pub returns-in-Err : goal.returns-in-Err

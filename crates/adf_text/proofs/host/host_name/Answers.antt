@@ -1,8 +1,4 @@
-use Rattle.std.proofs.Common.{◌≡◌, ap, ◌∙◌}
-use Rattle.std.proofs.lemmas.Result.{IfOk-weaker}
-use Rattle.std.specs.String.{string_bytes}
-use Rattle.adf_text.specs.Letters.{letters}
-use Rattle.adf_text.specs.HostNames.{host_letters, IsHostName}
+use Rattle.adf_text.proofs.Common.{◌≡◌, ap, ◌∙◌, IfOk-weaker, string_bytes, letters, host_letters, IsHostName}
 use Rattle.adf_text.proofs.HostLemmas.{IsHostName-text}
 use Rattle.adf_text.proofs.host.host_name.Goals as goal
 

@@ -1,9 +1,5 @@
-use Rattle.std.proofs.Common.{ap, ◌∙◌}
-use Rattle.std.proofs.lemmas.List.Elements.{All-same}
+use Rattle.adf_text.proofs.Common.{ap, ◌∙◌, All-same, percent_decode, IsByte, host_letters, host_name}
 use Rattle.std.specs.Str.{chars}
-use Rattle.percent_encoding.specs.Percent.{percent_decode}
-use Rattle.adf_text.specs.Letters.{IsByte}
-use Rattle.adf_text.specs.HostNames.{host_letters, host_name}
 use Rattle.adf_text.proofs.HostLemmas.{chars-host_name, All-host_bytes, percent_decode-host_letters}
 use Rattle.adf_text.proofs.host.host_names_come_back.Goals as goal
 

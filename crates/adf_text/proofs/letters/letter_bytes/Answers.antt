@@ -1,10 +1,6 @@
-use Rattle.std.proofs.Common.{◌≡◌, ℕ, ◌≤◌, List, ◌++◌, ◌∷◌, [], Bool, true, is_ok, length, sym, ap, ◌∙◌, arith}
-use Rattle.std.proofs.lemmas.Bool.{cond-true}
+use Rattle.adf_text.proofs.Common.{◌≡◌, ℕ, ◌≤◌, List, ◌++◌, ◌∷◌, [], Bool, true, is_ok, length, sym, ap, ◌∙◌, arith, cond-true, length_push, All-push, All-same, IsByte}
 use Rattle.std.proofs.lemmas.Iterator.{YieldsList-from_chars}
 use Rattle.std.proofs.lemmas.Iterator.Consumers.{YieldsList-turn, YieldsList-end}
-use Rattle.std.proofs.lemmas.List.{length_push}
-use Rattle.std.proofs.lemmas.List.Elements.{All-push, All-same}
-use Rattle.adf_text.specs.Letters.{IsByte}
 use Rattle.adf_text.proofs.LettersLemmas.{IsFirstForeign-here, front-more, front-whole, All-whole}
 use Rattle.adf_text.proofs.letters.letter_bytes.Goals as goal
 

@@ -1,6 +1,5 @@
-use Rattle.std.proofs.Common.{◌≡◌, length, take, All}
+use Rattle.adf_text.proofs.Common.{◌≡◌, length, take, All, IsByte}
 use Rattle.std.specs.Str.{chars}
-use Rattle.adf_text.specs.Letters.{IsByte}
 use Rattle.adf_text.proofs.letters.letter_bytes.Given as goal
 
 -- the letters so far are bytes

@@ -1,10 +1,4 @@
-use Rattle.std.proofs.Common.{◌≡◌, ℕ, ◌+◌, ◌-◌, List, [], ◌++◌, length, take, drop, sym, ap, ap₂, ◌∙◌, subst, subst₂, arith}
-use Rattle.std.proofs.lemmas.List.{take_rest}
-use Rattle.std.proofs.lemmas.Result.{on_ok_weaker}
-use Rattle.std.specs.Io.KnownBytes.{Appends}
-use Rattle.std.proofs.KnownBytes.{Appends-nil, Appends-trans}
-use Rattle.std.specs.Char.{encode_utf8}
-use Rattle.std.specs.Str.Iter.{char_indices_offset, char_indices_rest}
+use Rattle.adf_text.proofs.Common.{◌≡◌, ℕ, ◌+◌, ◌-◌, List, [], ◌++◌, length, take, drop, sym, ap, ap₂, ◌∙◌, subst, subst₂, arith, take_rest, on_ok_weaker, Appends, Appends-nil, Appends-trans, encode_utf8, char_indices_offset, char_indices_rest}
 use Rattle.adf_text.proofs.PlainLemmas.{IsWritten, written_none, written_as_it_is, written_escaped, written_all}
 use Rattle.adf_text.proofs.plain.put_plain.Goals as goal
 

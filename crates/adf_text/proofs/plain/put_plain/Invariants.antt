@@ -1,6 +1,4 @@
-use Rattle.std.proofs.Common.{List, ℕ}
-use Rattle.std.specs.Io.KnownBytes.{Appends}
-use Rattle.std.specs.Str.Iter.{char_indices_offset, char_indices_rest}
+use Rattle.adf_text.proofs.Common.{List, ℕ, Appends, char_indices_offset, char_indices_rest}
 use Rattle.adf_text.proofs.PlainLemmas.{IsWritten}
 use Rattle.adf_text.proofs.plain.put_plain.Given as goal
 

@@ -1,5 +1,4 @@
-use Rattle.std.specs.Bool.{one_answer}
-use Rattle.std.proofs.lemmas.Slice.Eq.{bytes_eq-Decides}
+use Rattle.adf_text.proofs.Common.{one_answer, bytes_eq-Decides}
 use Rattle.adf_text.proofs.protect_words.are_same.Goals as goal
 
 pub returns : goal.returns

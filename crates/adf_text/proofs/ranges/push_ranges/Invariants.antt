@@ -1,4 +1,4 @@
-use Rattle.std.proofs.Common.{◌≡◌, ◌++◌, drop}
+use Rattle.adf_text.proofs.Common.{◌≡◌, ◌++◌, drop}
 use Rattle.adf_text.specs.Ranges.{ranges_from}
 use Rattle.adf_text.proofs.ranges.push_ranges.Given as goal
 

@@ -1,11 +1,4 @@
-use Rattle.std.proofs.Common.{◌≡◌, ℕ, List, [], ◌∷◌, ◌++◌, append_assoc, ap, ◌∙◌}
-use Rattle.std.specs.Prelude.{codes}
-use Rattle.std.proofs.lemmas.Result.{IfOk-weaker}
-use Rattle.std.specs.String.{string_bytes}
-use Rattle.adf_text.specs.declared.escapes.Place.TheVariants.{Comment}
-use Rattle.adf_text.specs.Letters.{letters}
-use Rattle.adf_text.specs.Escapes.{escaped}
-use Rattle.adf_text.specs.ProtectionLetters.{protection_letters}
+use Rattle.adf_text.proofs.Common.{◌≡◌, ℕ, List, [], ◌∷◌, ◌++◌, append_assoc, ap, ◌∙◌, codes, IfOk-weaker, string_bytes, Comment, letters, escaped, protection_letters}
 use Rattle.adf_text.proofs.uaem.uaem_line.Goals as goal
 
 -- the parts of the line

@@ -1,7 +1,4 @@
-use Rattle.std.proofs.Common.{◌≡◌, ℕ, ◌∷◌, ◌++◌, List, take, drop, sym, ap, ◌∙◌, arith}
-use Rattle.std.proofs.lemmas.Bool.{both_ways}
-use Rattle.std.proofs.lemmas.List.{take-append-drop}
-use Rattle.adf_text.specs.ProtectionLetters.{protection_letters}
+use Rattle.adf_text.proofs.Common.{◌≡◌, ℕ, ◌∷◌, ◌++◌, List, take, drop, sym, ap, ◌∙◌, arith, both_ways, take-append-drop, protection_letters}
 use Rattle.adf_text.proofs.ReadsLemmas.{letters-of_bits}
 use Rattle.adf_text.proofs.uaem_reader.front_protection.Goals as goal
 

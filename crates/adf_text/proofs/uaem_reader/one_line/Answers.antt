@@ -1,6 +1,4 @@
-use Rattle.std.proofs.Common.{length, refl}
-use Rattle.std.proofs.lemmas.Bool.{both_ways}
-use Rattle.adf_text.specs.UaemReads.{IsLineEnd}
+use Rattle.adf_text.proofs.Common.{length, refl, both_ways, IsLineEnd}
 use Rattle.adf_text.proofs.ReadsLemmas.{breaks}
 use Rattle.adf_text.proofs.uaem_reader.one_line.Goals as goal
 

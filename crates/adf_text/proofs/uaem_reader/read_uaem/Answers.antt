@@ -1,12 +1,5 @@
-use Rattle.std.proofs.Common.{◌≡◌, ℕ, List, All, Bor, Result, Ok, Err, IfErr, IsErrAnd, sym, ap, refl, subst, ◌∙◌}
-use Rattle.std.specs.Bool.{⊤}
-use Rattle.std.specs.Str.{IsUtf8, chars}
-use Rattle.std.proofs.lemmas.List.Elements.{All-same}
-use Rattle.std.proofs.lemmas.Str.{chars_from_encodes}
-use Rattle.adf_text.specs.Letters.{IsByte, letters}
-use Rattle.ados_name.specs.declared.stamp.Date3.{Date3}
-use Rattle.adf_text.specs.Dated.{IsStamp, BeginsWithDate, HasNoDate}
-use Rattle.adf_text.specs.UaemReads.{IsUaemFaultOf}
+use Rattle.adf_text.proofs.Common.{◌≡◌, ℕ, List, All, Bor, Result, Ok, Err, IfErr, IsErrAnd, sym, ap, refl, subst, ◌∙◌, ⊤, IsUtf8, All-same, chars_from_encodes, IsByte, letters, Date3, IsStamp, BeginsWithDate, HasNoDate, IsUaemFaultOf}
+use Rattle.std.specs.Str.{chars}
 use Rattle.adf_text.proofs.DatedLemmas.{none-in, some-in}
 use Rattle.adf_text.proofs.ReadsLemmas.{line-read, line-fault, bits-fault, date-fault, comment-fault, note-read}
 use Rattle.adf_text.proofs.uaem_reader.read_uaem.Goals as goal

@@ -1,5 +1,4 @@
-use Rattle.std.proofs.Common.{◌<◌, ◌≤◌, length, refl, ⊎_elim}
-use Rattle.std.proofs.lemmas.Bool.{cases_lt, false≢true}
+use Rattle.adf_text.proofs.Common.{◌<◌, ◌≤◌, length, refl, ⊎_elim, cases_lt, false≢true}
 use Rattle.adf_text.proofs.LettersLemmas.{All-bytes}
 use Rattle.adf_text.proofs.uaem_reader.short_comment.Goals as goal
 

@@ -1,6 +1,4 @@
-use Rattle.std.proofs.Common.{◌++◌, IfOk, MatchOption, ℕ, List, ap, ◌∙◌, subst}
-use Rattle.ados_name.specs.Date.{IsTextOf}
-use Rattle.adf_text.specs.Dated.{IsTextOfNone}
+use Rattle.adf_text.proofs.Common.{◌++◌, IfOk, MatchOption, ℕ, List, ap, ◌∙◌, subst, IsTextOf, IsTextOfNone}
 use Rattle.adf_text.proofs.written.completed_date.Goals as goal
 
 pub returns : goal.returns

@@ -1,8 +1,4 @@
-use Rattle.std.proofs.Common.{Option, sym, ap, ◌∙◌, subst}
-use Rattle.std.specs.Prelude.{MatchOption}
-use Rattle.std.specs.Option.{option_or}
-use Rattle.ados_name.specs.declared.stamp.Date3.{Date3}
-use Rattle.adf_text.specs.Written.{HasNoWritten, IsWritten}
+use Rattle.adf_text.proofs.Common.{Option, sym, ap, ◌∙◌, subst, MatchOption, option_or, Date3, HasNoWritten, IsWritten}
 use Rattle.adf_text.proofs.WrittenLemmas.{first-written}
 use Rattle.adf_text.proofs.written.written_date.Goals as goal
 

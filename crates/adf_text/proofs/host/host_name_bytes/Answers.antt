@@ -1,7 +1,6 @@
-use Rattle.std.proofs.Common.{◌≡◌, refl}
-use Rattle.std.proofs.lemmas.Str.{chars_from_encodes}
+use Rattle.adf_text.proofs.Common.{◌≡◌, refl, chars_from_encodes}
 use Rattle.std.specs.Str.{chars}
-use Rattle.adf_text.proofs.escapes.unescaped.Goals as goal
+use Rattle.adf_text.proofs.host.host_name_bytes.Goals as goal
 
 pub returns-clause-ok : goal.returns-clause-ok
 returns-clause-ok c =
