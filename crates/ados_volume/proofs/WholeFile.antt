@@ -3,11 +3,11 @@ use Rattle.std.proofs.Common.{◌≡◌, ℕ, ◌-◌, List, [], ◌++◌, lengt
 use Rattle.std.proofs.Math.Seq.{take-length}
 use Rattle.ados_volume.proofs.Common.{drop_of_length-le, append-nil}
 
-pub read_whole : (file old new : List ℕ) (n size : ℕ) → length old ≡ size → size ≡ length file → n ≡ min (length old) (length file - 0) → new ≡ take n (drop 0 file) ++ drop n old → new ≡ file
-read_whole file old new n size room whole count is =
-    let all : n ≡ length file = omega (arith, room, whole, count) in
+pub read_whole : (file held old new : List ℕ) (n size : ℕ) → held ≡ file → length old ≡ size → size ≡ length file → n ≡ min (length old) (length held - 0) → new ≡ take n (drop 0 held) ++ drop n old → new ≡ file
+read_whole file held old new n size same room whole count is =
+    let all : n ≡ length file = omega (arith, room, whole, count, ap length same) in
     let none : drop n old ≡ [] = drop_of_length-le old (omega (arith, room, whole, all)) in
-    is ∙ ap₂ (λ (xs ys : List ℕ). xs ++ ys) (ap (λ (m : ℕ). take m file) all ∙ take-length file) none ∙ append-nil file
+    is ∙ ap₂ (λ (xs ys : List ℕ). xs ++ ys) (ap₂ (λ (m : ℕ) (xs : List ℕ). take m xs) all same ∙ take-length file) none ∙ append-nil file
 
 -- the buffer then has these bytes
 pub written_back : (file new old : List ℕ) (len : ℕ) → new ≡ file → length old ≡ length file → len ≡ length file → take len (new ++ drop (length new) old) ≡ file
