@@ -20,7 +20,7 @@ pub use Rattle.ados_sound.specs.steps.Parts.{AreOnce, AreUsersBelow, HasData, Ha
 pub use Rattle.ados_data.proofs.Sizes.{in_extensions}
 pub use Rattle.ados_model.specs.Accepted.{ShowsNoFault}
 unfoldable pub use Rattle.ados_model.specs.File.{contents, data_blocks, extension_blocks}
-pub use Rattle.ados_model.specs.File.{LawfulFile, data_block, file_byte, pointer_block}
+pub use Rattle.ados_model.specs.File.{AreApart, LawfulFile, data_block, file_byte, pointer_block}
 pub use Rattle.ados_model.specs.Stands.{HasExtension, HasOfsData}
 pub use Rattle.ados_model.specs.Tree.{data_count, extension_count}
 pub use Rattle.std.proofs.Math.ListN.{drop_of_length-le, set}
@@ -29,3 +29,11 @@ pub use Rattle.std.proofs.lemmas.List.{append-nil, append_assoc, ext_get_or, get
 pub use Rattle.std.proofs.lemmas.List.Elements.{All-from_get_or, All-map, All-nil, All-push, Contains-append_cases, Contains-append_left, Contains-append_right, Contains-push}
 pub use Rattle.std.proofs.lemmas.List.Quantifiers.{all_pairs_push}
 pub use Rattle.std.proofs.lemmas.Result.{on_ok_weaker}
+pub use Rattle.std.proofs.Common.{All, AllPairs, Bool, Contains, Global, IsTrue, List, MatchBool, Option, Some, Vec, [], ap, arith, below_more, cond, count_by, drop, false, get_or, get_or-append-add, get_or-set_other, get_or-set_same, inl, inr, length, length-set, map, min, ne_eqb, refl, rules, slice_index, subst, suc, sym, take, true, zero, ℕ, ◌%◌, ◌*◌, ◌++◌, ◌+◌, ◌-◌, ◌/◌, ◌<◌, ◌==◌, ◌↔◌, ◌∙◌, ◌∷◌, ◌≡◌, ◌≢◌, ◌≤◌, ◌⊎◌}
+pub use Rattle.ados_check.proofs.Counting.{AreDifferent, different_few}
+pub use Rattle.ados_sound.specs.declared.headers.Found.{Found}
+pub use Rattle.ados_sound.specs.Marks.{mark_at}
+pub use Rattle.std.specs.List.{range_with_len}
+pub use Rattle.std.proofs.lemmas.List.FromFn.{get_or-map-range_with_len, length-map-range_with_len, map-range_with_len_more}
+pub use Rattle.ados_model.specs.Faults.{InImage, IsReachedAndFree, PlaceNames, Reached, Shows, root_of}
+pub use Rattle.ados_sound.specs.steps.Deleting.{AreOfReached, IsDoubt, is_several}

@@ -1,6 +1,5 @@
 -- Blocks with a property, while they are listed in order.
-use Rattle.std.proofs.Common.{◌≡◌, ℕ, ◌+◌, ◌<◌, inl, inr, List, [], ◌∷◌, ◌++◌, All, AllPairs, Contains, sym, subst, arith}
-use Rattle.ados_sound.proofs.Common.{cases_lt, All-nil, All-push, Contains-append_left, Contains-push, all_pairs_push}
+use Rattle.ados_sound.proofs.Common.{◌≡◌, ℕ, ◌+◌, ◌<◌, inl, inr, List, [], ◌∷◌, ◌++◌, All, AllPairs, Contains, sym, subst, arith, cases_lt, All-nil, All-push, Contains-append_left, Contains-push, all_pairs_push}
 
 -- the blocks are exactly those below n with a property, in order
 pub record ListsBelow (P : ℕ → Type 0) (n : ℕ) (blocks : List ℕ) : Type 0 where

@@ -1,7 +1,5 @@
 -- Headers that are left out, one by one.
-use Rattle.std.proofs.Common.{◌≡◌, ℕ, zero, suc, ◌+◌, ◌<◌, inl, inr, Bool, true, false, MatchBool, All, List, [], ◌∷◌, ◌++◌, length, get_or, Contains, get_or-set_same, get_or-set_other, length-set, take, sym, ap, ◌∙◌, subst, arith}
-use Rattle.ados_sound.proofs.Common.{set, cases_eq, Contains-append_cases, Contains-append_left, Contains-append_right, take_more, AreMarked}
-use Rattle.ados_sound.specs.Marks.{mark_at}
+use Rattle.ados_sound.proofs.Common.{◌≡◌, ℕ, zero, suc, ◌+◌, ◌<◌, inl, inr, Bool, true, false, MatchBool, All, List, [], ◌∷◌, ◌++◌, length, get_or, Contains, get_or-set_same, get_or-set_other, length-set, take, sym, ap, ◌∙◌, subst, arith, mark_at, set, cases_eq, Contains-append_cases, Contains-append_left, Contains-append_right, take_more, AreMarked}
 
 -- no block is one of none
 pub none_contained : (block : ℕ) → ¬ Contains [] block

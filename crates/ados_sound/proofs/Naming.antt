@@ -1,6 +1,5 @@
 -- The blocks that can name entries.
-use Rattle.std.proofs.Common.{◌≡◌, ℕ, ◌<◌, ◌≤◌, ◌⊎◌, inl, inr, List, arith}
-use Rattle.ados_sound.proofs.Common.{block_count, long, parent_key, IsHeader, IsPlaceIn, IsRoot, LooksLikeHeader, MayBeHeader, NamesEntries, of_root, of_sound, of_named}
+use Rattle.ados_sound.proofs.Common.{◌≡◌, ℕ, ◌<◌, ◌≤◌, ◌⊎◌, inl, inr, List, arith, block_count, long, parent_key, IsHeader, IsPlaceIn, IsRoot, LooksLikeHeader, MayBeHeader, NamesEntries, of_root, of_sound, of_named}
 
 -- such a block is inside the image
 pub names_inside : (out image : List ℕ) {block : ℕ} → 2 ≤ block_count image → NamesEntries out image block → block < block_count image

@@ -1,8 +1,5 @@
 -- The blocks of a file, while they are gathered.
-use Rattle.std.proofs.Common.{All, Contains, ◌≡◌, ℕ, zero, suc, ◌+◌, ◌-◌, ◌/◌, ◌%◌, ◌<◌, ◌≤◌, inl, inr, Bool, true, false, MatchBool, List, [], ◌∷◌, ◌++◌, length, map, get_or, slice_index, refl, sym, ap, ◌∙◌, subst, arith}
-use Rattle.std.specs.List.{range_with_len}
-use Rattle.std.proofs.lemmas.List.FromFn.{map-range_with_len_more}
-use Rattle.ados_sound.proofs.Common.{All-from_get_or, cases_lt, ext_get_or, append_assoc, get_or_append_left, get_or_default, length-append, Ofs, block_count, long, IsInside, format_of, NEXT_DATA, pointer_block, data_block, data_blocks, extension_blocks, in_extensions, IsIntact, own_blocks, AreUsersBelow, IsHolder, HasHolders, IsDataBlock, HasData, data_needed, extensions_needed, data_before}
+use Rattle.ados_sound.proofs.Common.{All, Contains, ◌≡◌, ℕ, zero, suc, ◌+◌, ◌-◌, ◌/◌, ◌%◌, ◌<◌, ◌≤◌, inl, inr, Bool, true, false, MatchBool, List, [], ◌∷◌, ◌++◌, length, map, get_or, slice_index, refl, sym, ap, ◌∙◌, subst, arith, range_with_len, map-range_with_len_more, All-from_get_or, cases_lt, ext_get_or, append_assoc, get_or_append_left, get_or_default, length-append, Ofs, block_count, long, IsInside, format_of, NEXT_DATA, pointer_block, data_block, data_blocks, extension_blocks, in_extensions, IsIntact, own_blocks, AreUsersBelow, IsHolder, HasHolders, IsDataBlock, HasData, data_needed, extensions_needed, data_before}
 use Rattle.ados_sound.proofs.SoundParts.{length-extensions, header-is, length-own, own-header, own-data, data-at, lawful_holders, lawful_once}
 
 -- a result, by its meaning for true and for false

@@ -1,12 +1,8 @@
 -- A file is lawful exactly if its pointer blocks and data blocks have the right fields for their positions and are
 -- distinct.
-use Rattle.std.proofs.Common.{◌≡◌, ℕ, zero, suc, ◌+◌, ◌-◌, ◌*◌, ◌/◌, ◌%◌, ◌<◌, ◌≤◌, inl, inr, min, List, ◌∷◌, length, slice_index, get_or-append-add, refl, sym, ap, ◌∙◌, subst, arith}
-use Rattle.std.proofs.lemmas.List.FromFn.{length-map-range_with_len, get_or-map-range_with_len}
-use Rattle.ados_sound.proofs.Common.{cases_lt, cases_order, get_or_past, get_or_append_left, length-append, Ofs, block_count, long, IsInside, pointer, pointer_count, file_size, format_of, NEXT_EXTENSION, NEXT_DATA, data_count, extension_count, HasExtension, HasOfsData, file_byte, LawfulFile, pointer_block, data_block, data_blocks, extension_blocks, contents, in_extensions, own_blocks, HasHolders, HasData, AreOnce, data_needed, extensions_needed, data_before}
-use Rattle.ados_model.specs.File.{AreApart}
+use Rattle.ados_sound.proofs.Common.{◌≡◌, ℕ, zero, suc, ◌+◌, ◌-◌, ◌*◌, ◌/◌, ◌%◌, ◌<◌, ◌≤◌, inl, inr, min, List, ◌∷◌, length, slice_index, get_or-append-add, refl, sym, ap, ◌∙◌, subst, arith, length-map-range_with_len, get_or-map-range_with_len, AreApart, AreDifferent, different_few, cases_lt, cases_order, get_or_past, get_or_append_left, length-append, Ofs, block_count, long, IsInside, pointer, pointer_count, file_size, format_of, NEXT_EXTENSION, NEXT_DATA, data_count, extension_count, HasExtension, HasOfsData, file_byte, LawfulFile, pointer_block, data_block, data_blocks, extension_blocks, contents, in_extensions, own_blocks, HasHolders, HasData, AreOnce, data_needed, extensions_needed, data_before}
 use Rattle.ados_data.proofs.Chains.{chained, next_of}
 use Rattle.ados_data.proofs.Spelled.{link_of}
-use Rattle.ados_check.proofs.Counting.{AreDifferent, different_few}
 
 module _ (image : List ℕ) (file : ℕ) where
   pub length-data : length (data_blocks image file) ≡ data_needed image file

@@ -1,6 +1,5 @@
 -- Whether a bitmap can be trusted, by the faults of the image.
-use Rattle.std.proofs.Common.{◌≡◌, ℕ, ◌+◌, ◌-◌, ◌/◌, ◌<◌, inl, inr, Bool, true, false, MatchBool, List, [], get_or, All, Contains, Option, Some, refl, sym, ◌∙◌, subst, arith}
-use Rattle.ados_sound.proofs.Common.{cases_order, long, IsImage, ShowsNoFault, AreTrustedPages, IsTrustedBitmap}
+use Rattle.ados_sound.proofs.Common.{◌≡◌, ℕ, ◌+◌, ◌-◌, ◌/◌, ◌<◌, inl, inr, Bool, true, false, MatchBool, List, [], get_or, All, Contains, Option, Some, refl, sym, ◌∙◌, subst, arith, InImage, IsReachedAndFree, PlaceNames, Reached, Shows, root_of, AreOfReached, IsDoubt, cases_order, long, IsImage, ShowsNoFault, AreTrustedPages, IsTrustedBitmap}
 use Rattle.ados_check.specs.declared.mark.Mark.{Mark}
 use Rattle.ados_check.specs.Marks.{mark_at}
 use Rattle.ados_faults.specs.Listed.{AreMarks, ListsDoubts, fault_of, root_mark}
@@ -10,12 +9,10 @@ use Rattle.ados_model.specs.declared.fault.FaultKind.{FaultKind}
 use Rattle.ados_model.specs.declared.fault.FaultKind.TheVariants.{BlockUsedTwice, MarkedFree}
 use Rattle.ados_model.specs.declared.fault.VolumeFault.{VolumeFault}
 use Rattle.ados_model.specs.declared.role.Role.TheVariants.{Page, Root}
-use Rattle.ados_model.specs.Faults.{InImage, IsReachedAndFree, PlaceNames, Reached, Shows, root_of}
 use Rattle.ados_model.specs.Faults.IsPlace.{root_page}
 use Rattle.ados_model.specs.Faults.IsUsedTwice.{root_named}
 use Rattle.ados_model.specs.Faults.Reached.{named, start}
 use Rattle.ados_model.specs.Rebuilt.{HasValidBitmap}
-use Rattle.ados_sound.specs.steps.Deleting.{AreOfReached, IsDoubt}
 
 module _ (image : List ℕ) (pages : AreTrustedPages image) where
   used_once : (p q : ℕ) → p < pages_of image → q < pages_of image → page_block image p ≡ page_block image q → p ≡ q

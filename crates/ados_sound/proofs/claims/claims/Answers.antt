@@ -1,5 +1,4 @@
-use Rattle.std.proofs.Common.{◌≡◌, ℕ, ◌+◌, List, Vec, Global, length, sym, ap, ◌∙◌, subst, arith}
-use Rattle.ados_sound.proofs.Common.{block_count, Claim, own_blocks, AreClaims, IsNoted}
+use Rattle.ados_sound.proofs.Common.{◌≡◌, ℕ, ◌+◌, List, Vec, Global, length, sym, ap, ◌∙◌, subst, arith, block_count, Claim, own_blocks, AreClaims, IsNoted}
 use Rattle.ados_sound.proofs.Claiming.{claims_more, claims_same, all_within, refilled}
 use Rattle.ados_sound.proofs.claims.claims.Goals as goal
 use Rattle.ados_sound.proofs.claims.claims.Goals.{in-Some, in_default}

@@ -1,5 +1,4 @@
-use Rattle.std.proofs.Common.{◌≡◌, length}
-use Rattle.ados_sound.proofs.Common.{block_count, AreClaims, AreUsersBelow}
+use Rattle.ados_sound.proofs.Common.{◌≡◌, length, block_count, AreClaims, AreUsersBelow}
 use Rattle.ados_sound.proofs.claims.claims.Given as goal
 
 abbrev pub invariant-loop-file : goal.invariant-loop-file

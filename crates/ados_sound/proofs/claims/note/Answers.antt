@@ -1,5 +1,4 @@
-use Rattle.std.proofs.Common.{◌≡◌, ℕ, ◌<◌, List, length, take, slice_index, get_or-set_same, get_or-set_other, length-set, sym, ap, ◌∙◌, subst, arith}
-use Rattle.ados_sound.proofs.Common.{set, get_or_default, take_all, take_more, Free, IsNoted, claim_at, with_claim}
+use Rattle.ados_sound.proofs.Common.{◌≡◌, ℕ, ◌<◌, List, length, take, slice_index, get_or-set_same, get_or-set_other, length-set, sym, ap, ◌∙◌, subst, arith, set, get_or_default, take_all, take_more, Free, IsNoted, claim_at, with_claim}
 use Rattle.ados_sound.proofs.Claiming.{noted_more}
 use Rattle.ados_sound.proofs.claims.note.Goals as goal
 

@@ -1,5 +1,4 @@
-use Rattle.std.proofs.Common.{◌≡◌, ◌<◌, ◌+◌, ◌-◌, ℕ, suc, length, slice_index, sym, ap, ◌∙◌, subst, arith, below_more}
-use Rattle.ados_sound.proofs.Common.{long, NEXT_DATA, data_block, HasData, IsDataBlock, data_needed, data_before}
+use Rattle.ados_sound.proofs.Common.{◌≡◌, ◌<◌, ◌+◌, ◌-◌, ℕ, suc, length, slice_index, sym, ap, ◌∙◌, subst, arith, below_more, long, NEXT_DATA, data_block, HasData, IsDataBlock, data_needed, data_before}
 use Rattle.ados_sound.proofs.OwnBlocks.{file_below, before_below, decided, own_at, whole_data}
 use Rattle.ados_sound.proofs.SoundParts.{length-own}
 use Rattle.ados_sound.proofs.data.has_data.Goals as goal

@@ -1,5 +1,4 @@
-use Rattle.std.proofs.Common.{◌≡◌, ℕ, ◌<◌}
-use Rattle.ados_sound.proofs.Common.{data_block, IsDataBlock, data_before}
+use Rattle.ados_sound.proofs.Common.{◌≡◌, ℕ, ◌<◌, data_block, IsDataBlock, data_before}
 use Rattle.ados_sound.proofs.data.has_data.Given as goal
 
 abbrev pub invariant-loop-i : goal.invariant-loop-i

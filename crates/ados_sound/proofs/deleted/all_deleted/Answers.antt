@@ -1,5 +1,4 @@
-use Rattle.std.proofs.Common.{ℕ, List, [], ◌∷◌, ◌++◌, All, map, slice_index, sym, ap, ◌∙◌, subst, arith}
-use Rattle.ados_sound.proofs.Common.{map-append, take_all, take_more, All-push, Deleted, HasRecovery, AreDeleted}
+use Rattle.ados_sound.proofs.Common.{ℕ, List, [], ◌∷◌, ◌++◌, All, map, slice_index, sym, ap, ◌∙◌, subst, arith, map-append, take_all, take_more, All-push, Deleted, HasRecovery, AreDeleted}
 use Rattle.ados_sound.proofs.ListingDeleted.{lists_all}
 use Rattle.ados_sound.proofs.deleted.all_deleted.Goals as goal
 

@@ -1,5 +1,4 @@
-use Rattle.std.proofs.Common.{◌≡◌, ℕ, ◌<◌, ◌≤◌, All, map, take, slice_index}
-use Rattle.ados_sound.proofs.Common.{HasRecovery, AreUsersBelow}
+use Rattle.ados_sound.proofs.Common.{◌≡◌, ℕ, ◌<◌, ◌≤◌, All, map, take, slice_index, HasRecovery, AreUsersBelow}
 use Rattle.ados_sound.proofs.deleted.all_deleted.Given as goal
 
 -- the users of blocks are below each number behind the headers so far

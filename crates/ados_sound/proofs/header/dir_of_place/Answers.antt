@@ -1,4 +1,4 @@
-use Rattle.std.proofs.Common.{◌≡◌, ℕ, ◌-◌, ◌+◌, ◌<◌, ◌≤◌, arith}
+use Rattle.ados_sound.proofs.Common.{◌≡◌, ℕ, ◌-◌, ◌+◌, ◌<◌, ◌≤◌, arith}
 use Rattle.std.proofs.lemmas.Grind.{common_steps}
 use Rattle.adf_block.specs.declared.layout.TheConstants.{FIRST_SLOT, TABLE_LONGS}
 use Rattle.ados_sound.proofs.header.dir_of_place.Goals as goal

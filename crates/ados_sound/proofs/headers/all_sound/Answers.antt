@@ -1,6 +1,4 @@
-use Rattle.std.proofs.Common.{ℕ, below_more, inl, sym, subst, arith}
-use Rattle.ados_sound.proofs.Common.{IsToldHeader, AreFound, IsFound}
-use Rattle.ados_sound.specs.declared.headers.Found.{Found}
+use Rattle.ados_sound.proofs.Common.{ℕ, below_more, inl, sym, subst, arith, Found, IsToldHeader, AreFound, IsFound}
 use Rattle.ados_sound.proofs.headers.all_sound.Goals as goal
 use Rattle.ados_sound.proofs.headers.all_sound.Goals.{then-is_told_header+in_ok-note, else-is_told_header}
 

@@ -1,5 +1,4 @@
-use Rattle.std.proofs.Common.{ℕ, ◌<◌}
-use Rattle.ados_sound.proofs.Common.{IsToldHeader, AreFound, IsFound}
+use Rattle.ados_sound.proofs.Common.{ℕ, ◌<◌, IsToldHeader, AreFound, IsFound}
 use Rattle.ados_sound.proofs.headers.all_sound.Given as goal
 
 abbrev pub invariant-loop-block : goal.invariant-loop-block

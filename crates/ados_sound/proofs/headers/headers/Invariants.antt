@@ -1,5 +1,4 @@
-use Rattle.std.proofs.Common.{ℕ, ◌-◌, ◌<◌, ◌≤◌, length, slice_index}
-use Rattle.ados_sound.proofs.Common.{block_count, IsRoot, IsToldHeader, AreFound, AreSought, IsFound}
+use Rattle.ados_sound.proofs.Common.{ℕ, ◌-◌, ◌<◌, ◌≤◌, length, slice_index, block_count, IsRoot, IsToldHeader, AreFound, AreSought, IsFound}
 use Rattle.ados_sound.proofs.headers.headers.Given as goal
 
 abbrev pub invariant-loop-place : goal.invariant-loop-place

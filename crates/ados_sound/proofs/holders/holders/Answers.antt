@@ -1,5 +1,4 @@
-use Rattle.std.proofs.Common.{◌≡◌, ◌≤◌, ℕ, List, Contains, suc, sym, ap, ◌∙◌, subst, arith}
-use Rattle.ados_sound.proofs.Common.{extension_count, extensions_needed}
+use Rattle.ados_sound.proofs.Common.{◌≡◌, ◌≤◌, ℕ, List, Contains, suc, sym, ap, ◌∙◌, subst, arith, extension_count, extensions_needed}
 use Rattle.ados_sound.proofs.OwnBlocks.{all_holders, not_again, not_ended, not_holder}
 use Rattle.ados_sound.proofs.holders.holders.Goals as goal
 

@@ -1,5 +1,4 @@
-use Rattle.std.proofs.Common.{◌≡◌, ℕ, ◌<◌, length, slice_index}
-use Rattle.ados_sound.proofs.Common.{pointer_block, IsHolder}
+use Rattle.ados_sound.proofs.Common.{◌≡◌, ℕ, ◌<◌, length, slice_index, pointer_block, IsHolder}
 use Rattle.ados_sound.proofs.holders.holders.Given as goal
 
 abbrev pub invariant-loop-q : goal.invariant-loop-q

@@ -1,5 +1,4 @@
-use Rattle.std.proofs.Common.{◌≡◌, ◌<◌, ◌/◌, arith}
-use Rattle.ados_sound.proofs.Common.{in_extensions, data_needed}
+use Rattle.ados_sound.proofs.Common.{◌≡◌, ◌<◌, ◌/◌, arith, in_extensions, data_needed}
 use Rattle.ados_sound.proofs.OwnBlocks.{all_data, gathered_more, holder_below, holder_read, holder_there, named_block}
 use Rattle.ados_sound.proofs.SoundParts.{lawful_few}
 use Rattle.ados_sound.proofs.intact.named_blocks.Goals as goal

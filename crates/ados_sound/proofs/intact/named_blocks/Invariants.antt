@@ -1,5 +1,4 @@
-use Rattle.std.proofs.Common.{◌≡◌, ◌∷◌, ◌++◌, map}
-use Rattle.std.specs.List.{range_with_len}
+use Rattle.ados_sound.proofs.Common.{◌≡◌, ◌∷◌, ◌++◌, map, range_with_len}
 use Rattle.ados_model.specs.File.{data_block, extension_blocks}
 use Rattle.ados_sound.proofs.intact.named_blocks.Given as goal
 

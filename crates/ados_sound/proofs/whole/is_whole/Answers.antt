@@ -1,5 +1,4 @@
-use Rattle.std.proofs.Common.{rules, ◌≡◌, length, sym, ◌∙◌, subst}
-use Rattle.ados_sound.proofs.Common.{One, AreAllClaims, claim_at}
+use Rattle.ados_sound.proofs.Common.{rules, ◌≡◌, length, sym, ◌∙◌, subst, One, AreAllClaims, claim_at}
 use Rattle.ados_sound.proofs.Claiming.{all_within, alone_claims, claimed_whole, whole_decided}
 use Rattle.ados_sound.proofs.whole.is_whole.Goals as goal
 

@@ -1,5 +1,4 @@
-use Rattle.std.proofs.Common.{◌≡◌, ℕ, refl, sym, ◌∙◌, subst}
-use Rattle.ados_sound.proofs.Common.{on_ok_weaker, parent_key, IsPlaceIn, MayBeHeader}
+use Rattle.ados_sound.proofs.Common.{◌≡◌, ℕ, refl, sym, ◌∙◌, subst, on_ok_weaker, parent_key, IsPlaceIn, MayBeHeader}
 use Rattle.ados_sound.proofs.Naming.{named_header}
 use Rattle.ados_sound.proofs.headers.Found.follow_long.Goals as goal
 use Rattle.ados_sound.proofs.headers.Found.follow_long.Goals.{then-not-may_be_header-via-then-not-may_be_header, then-not-may_be_header-via-else-not-may_be_header+then-long-dir}

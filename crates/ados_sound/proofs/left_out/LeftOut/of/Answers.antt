@@ -1,5 +1,4 @@
-use Rattle.std.proofs.Common.{◌≡◌, ℕ, List, ◌+◌, length, get_or, true, take, sym, ap, subst, arith}
-use Rattle.ados_sound.proofs.Common.{set, take_all, block_count, AreMarked}
+use Rattle.ados_sound.proofs.Common.{◌≡◌, ℕ, List, ◌+◌, length, get_or, true, take, sym, ap, subst, arith, set, take_all, block_count, AreMarked}
 use Rattle.ados_sound.proofs.Leaving.{marked_next}
 use Rattle.ados_sound.proofs.left_out.LeftOut.of.Goals as goal
 

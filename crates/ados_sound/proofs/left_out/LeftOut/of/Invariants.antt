@@ -1,5 +1,4 @@
-use Rattle.std.proofs.Common.{◌≡◌, length, take}
-use Rattle.ados_sound.proofs.Common.{block_count, AreMarked}
+use Rattle.ados_sound.proofs.Common.{◌≡◌, length, take, block_count, AreMarked}
 use Rattle.ados_sound.proofs.left_out.LeftOut.of.Given as goal
 
 -- the headers before this one are marked
