@@ -1,5 +1,5 @@
 -- The bytes outside all fields that a cut leaves untouched.
-use Rattle.ados_data.proofs.Common.{◌≡◌, ◌≢◌, ℕ, suc, ◌-◌, ◌/◌, ◌<◌, ◌≤◌, ◌⊎◌, inl, inr, List, ◌∷◌, length, take, slice_index, sym, ap, ◌∙◌, arith, length-take-le, byte_at, long, block_count, pointer_count, file_size, format_of, POINTER_COUNT, FILE_SIZE, NEXT_EXTENSION, NEXT_DATA, Format, Ofs, Ffs, pages_of, page_block, extension_count, AtFields, AreApart, IsCutField, AtEnd, IsPointerField, IsHeaderField, data_end, KeepsUnnamed, get_or-take}
+use Rattle.ados_data.proofs.Common.{◌≡◌, ◌≢◌, ℕ, suc, ◌-◌, ◌/◌, ◌<◌, ◌≤◌, ◌⊎◌, inl, inr, List, ◌∷◌, length, take, slice_index, sym, ap, ◌∙◌, arith, length-take-le, byte_at, long, block_count, pointer_count, file_size, format_of, POINTER_COUNT, FILE_SIZE, NEXT_EXTENSION, NEXT_DATA, Format, Ofs, pages_of, page_block, extension_count, AtFields, AreApart, IsCutField, AtEnd, IsPointerField, IsHeaderField, data_end, KeepsUnnamed, get_or-take}
 use Rattle.ados_data.proofs.Lists.{head_taken}
 
 -- the bytes that a cut to d data blocks writes outside the bitmap: in the last remaining data and pointer blocks, and

@@ -1,5 +1,5 @@
 -- A file with enough blocks has a size below 2^32.
-use Rattle.ados_data.proofs.Common.{◌≡◌, ◌≢◌, ℕ, ◌+◌, ◌-◌, ◌/◌, ◌^◌, ◌<◌, ◌≤◌, List, Bool, true, false, cond, length, slice_index, ◌∙◌, subst, arith, get_or_default, Format, Ofs, Ffs, block_count, has_free_bit, format_of, free_bit_count, total-bound, block_cost, data_count, LawfulFile, contents, data_blocks, HasFree}
+use Rattle.ados_data.proofs.Common.{◌≡◌, ◌≢◌, ℕ, ◌+◌, ◌-◌, ◌/◌, ◌^◌, ◌<◌, ◌≤◌, List, Bool, cond, length, slice_index, ◌∙◌, subst, arith, get_or_default, Format, block_count, has_free_bit, format_of, free_bit_count, total-bound, block_cost, data_count, LawfulFile, contents, data_blocks, HasFree}
 use Rattle.std.proofs.lemmas.Bool.Decides.{Decides-eqb}
 use Rattle.std.proofs.lemmas.Map.Made.{IsDistinct-from_AllPairs}
 use Rattle.std.proofs.lemmas.Map.Steps.{length-le_from_distinct_below}
@@ -17,8 +17,7 @@ marked_bound : (image : List ℕ) → free_bit_count image ≤ block_count image
 marked_bound image = omega (arith, total-bound (λ k. cond (has_free_bit image (k + 2)) 1 0) 1 (block_count image - 2) (λ k. at_most (has_free_bit image (k + 2))))
   where
     at_most : (v : Bool) → cond v 1 0 ≤ 1
-    at_most true = omega arith
-    at_most false = omega arith
+    at_most v = grind arith
 
 -- this many blocks hold less than 4 GiB
 size_bound : (format : Format) (size count m n : ℕ) → n ≤ 101602 → m ≤ n - 2 → count ≤ n → block_cost format size ≤ m + (count + ((count + 71) / 72 - 1)) → size < 2 ^ 32

@@ -1,5 +1,5 @@
 -- A file that grew, or whose data and size were written, and the bytes that this leaves untouched.
-use Rattle.ados_data.proofs.Common.{◌≡◌, ℕ, zero, suc, ◌/◌, ◌<◌, ◌≤◌, inl, inr, List, ◌∷◌, length, take, slice_index, refl, sym, ap, ◌∙◌, subst, arith, ◌+◌, ◌-◌, ◌%◌, ◌⊎◌, cases_lt, cases_eq, length-take, get_or-take, take-take, Format, Ofs, Ffs, byte_at, long, block_count, pointer_count, file_size, format_of, SameBut, pages_of, page_block, IsPointerField, IsHeaderField, IsExtensionField, data_end, IsBeside, KeepsUnnamed, POINTER_COUNT, FILE_SIZE, NEXT_EXTENSION, NEXT_DATA, same_long, data_size, data_start, AtData, AtFields, IsResized, AtEnd}
+use Rattle.ados_data.proofs.Common.{◌≡◌, ℕ, zero, suc, ◌/◌, ◌<◌, ◌≤◌, inl, inr, List, ◌∷◌, length, take, slice_index, refl, sym, ap, ◌∙◌, subst, arith, ◌+◌, ◌-◌, ◌%◌, ◌⊎◌, cases_lt, cases_eq, length-take, get_or-take, take-take, Format, Ofs, byte_at, long, block_count, pointer_count, file_size, format_of, SameBut, pages_of, page_block, IsPointerField, IsHeaderField, IsExtensionField, data_end, IsBeside, KeepsUnnamed, POINTER_COUNT, FILE_SIZE, NEXT_EXTENSION, NEXT_DATA, same_long, data_size, data_start, AtData, AtFields, IsResized, AtEnd}
 use Rattle.ados_data.proofs.Skeleton.{Skeleton}
 use Rattle.ados_data.proofs.Standing.{Standing}
 

@@ -33,8 +33,7 @@ module _ (old new : List ℕ) (format : Format) (file : ℕ) (blocks extensions 
 
   -- the fields of the block itself
   field_beside : format ≡ Ofs → (k j : ℕ) → k / 4 ≡ j → j < 5 → ¬ Put (slice_index blocks i) k
-  field_beside f k j m l (e, inl z) = omega (arith, m, l, z.0, fields f)
-  field_beside f k j m l (e, inr z) = omega (arith, m, l, z.1)
+  field_beside f k j m l (e, z) = omega (arith, m, l, z, fields f)
 
   pub stands_put : Standing new format file blocks extensions size
   stands_put = record {

@@ -128,20 +128,14 @@ module _ (old new : List ℕ) (format : Format) (file : ℕ) where
       holders = λ q l. elim (cases_lt q (length extensions)) [
         | inl m ↦ holder_kept blocks extensions blocks (extensions ++ e ∷ []) q (head_pushed_before file extensions e q (omega arith)) (get_or_append_left extensions (e ∷ []) 0 q m) refl (λ p r t. (t, refl)) (holder_sum q (omega arith)) (before q m) (s.holders q (omega arith))
         | inr m ↦ elim (cases_lt (length extensions) q) [
-          | inr r ↦ subst (IsHolder new file blocks (extensions ++ e ∷ [])) (last_place q m r) last_holder
-          | inl r ↦ subst (IsHolder new file blocks (extensions ++ e ∷ [])) (new_place q r l) new_holder
+          | inr r ↦ subst (IsHolder new file blocks (extensions ++ e ∷ [])) (omega arith) last_holder
+          | inl r ↦ subst (IsHolder new file blocks (extensions ++ e ∷ [])) (omega (arith, length_push extensions e)) new_holder
         ]
       ];
       first = λ f. first ∙ s.first f;
       datas = λ f i l. data_kept blocks blocks size size i refl refl refl (datas f i l) (s.datas f i l);
     }
       where
-        last_place : (q : ℕ) → length extensions ≤ q → q ≤ length extensions → length extensions ≡ q
-        last_place q m r = omega arith
-
-        new_place : (q : ℕ) → length extensions < q → q ≤ length (extensions ++ e ∷ []) → suc (length extensions) ≡ q
-        new_place q r l = omega (arith, length_push extensions e)
-
         here : slice_index (file ∷ (extensions ++ e ∷ [])) (length extensions) ≡ slice_index (file ∷ extensions) (length extensions)
         here = head_pushed_before file extensions e (length extensions) (omega arith)
 
@@ -183,7 +177,7 @@ module _ (old new : List ℕ) (format : Format) (file : ℕ) where
       holders = λ q l. elim (cases_lt q (length extensions)) [
         | inl m ↦ holder_kept blocks extensions (blocks ++ b ∷ []) extensions q refl refl (omega (arith, m, placed, length_push blocks b))
             (λ r t u. (omega (arith, m, placed, t), get_or_append_left blocks (b ∷ []) 0 (72 * q + r) (omega (arith, m, placed, t)))) (holder_sum q l) (before q m) (s.holders q l)
-        | inr m ↦ subst (IsHolder new file (blocks ++ b ∷ []) extensions) (last_place q m l) last_holder
+        | inr m ↦ subst (IsHolder new file (blocks ++ b ∷ []) extensions) (omega arith) last_holder
       ];
       first = λ e. elim (cases_lt 0 (length blocks)) [
         | inl m ↦ first_kept m ∙ s.first e ∙ sym (get_or_append_left blocks (b ∷ []) 0 0 m)
@@ -193,17 +187,11 @@ module _ (old new : List ℕ) (format : Format) (file : ℕ) where
         | inl m ↦ data_kept blocks (blocks ++ b ∷ []) size size i (get_or_append_left blocks (b ∷ []) 0 i (omega arith)) (get_or_append_left blocks (b ∷ []) 0 (suc i) m) refl (datas e i m) (s.datas e i (omega arith))
         | inr m ↦ elim (cases_lt i (length blocks)) [
           | inl r ↦ last_data e i (omega arith)
-          | inr r ↦ subst (IsData new file (blocks ++ b ∷ []) size) (new_place i r l) (fresh_data e)
+          | inr r ↦ subst (IsData new file (blocks ++ b ∷ []) size) (omega (arith, length_push blocks b)) (fresh_data e)
         ]
       ];
     }
       where
-        last_place : (q : ℕ) → length extensions ≤ q → q ≤ length extensions → length extensions ≡ q
-        last_place q m r = omega arith
-
-        new_place : (i : ℕ) → length blocks ≤ i → i < length (blocks ++ b ∷ []) → length blocks ≡ i
-        new_place i r l = omega (arith, length_push blocks b)
-
         old_holder : IsHolder old file blocks extensions (length extensions)
         old_holder = s.holders (length extensions) (omega arith)
 
@@ -259,7 +247,7 @@ module _ (old new : List ℕ) (format : Format) (file : ℕ) where
       holders = λ q l. elim (cases_lt q x) [
         | inl m ↦ holder_kept blocks extensions (take d blocks) (take x extensions) q (head_taken file extensions x q (omega arith)) (get_or-take x extensions q 0 m) (omega (arith, m, least, strict, few, dl))
             (λ r t u. (omega (arith, u, dl, few), get_or-take d blocks (72 * q + r) 0 (omega (arith, u, dl)))) (holder_sum q (omega arith)) (before q m) (s.holders q (omega arith))
-        | inr m ↦ subst (IsHolder new file (take d blocks) (take x extensions)) (last_place q m l) last_holder
+        | inr m ↦ subst (IsHolder new file (take d blocks) (take x extensions)) (omega (arith, xl)) last_holder
       ];
       first = λ e. elim (cases_lt 0 d) [
         | inl m ↦ first_kept m ∙ s.first e ∙ sym (get_or-take d blocks 0 0 m)
@@ -276,9 +264,6 @@ module _ (old new : List ℕ) (format : Format) (file : ℕ) where
 
         xl : length (take x extensions) ≡ x
         xl = length-take-le x extensions fewer
-
-        last_place : (q : ℕ) → x ≤ q → q ≤ length (take x extensions) → x ≡ q
-        last_place q m r = omega (arith, m, r, xl)
 
         old_holder : IsHolder old file blocks extensions x
         old_holder = s.holders x fewer
