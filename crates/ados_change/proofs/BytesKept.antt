@@ -1,6 +1,6 @@
 -- A rewritten file leaves all bytes outside fields untouched, takes the lowest free blocks for its new ones, and leaves
 -- free blocks untouched.
-use Rattle.ados_change.proofs.Common.{is_some, ◌≡◌, ℕ, ◌+◌, ◌-◌, ◌*◌, ◌/◌, ◌<◌, ◌≤◌, inl, inr, min, List, length, slice_index, Some, refl, sym, ap, ◌∙◌, subst, arith, eq-eqb, ◌⊎◌, take, drop, ◌≢◌, zero, suc, true, false, ◌∷◌, ne_eqb, cases_eq, cases_lt, false≢true, Format, Ofs, Ffs, byte_at, has_free_bit, pointer_count, held_count, file_size, secondary_type, format_of, FILE_TYPE, boot_same, HasFile, Layout, Stands, type_of, KeepsUnnamed, IsPointerField, IsHeaderField, data_end, Node, Tree, File, Role, IsFile, IsOfs, Kept, IsField, Alike, KeepsFirstData, page_longs, file_longs, extension_longs, ofs_data_longs, ofs_data, ffs_data, StandsAt, reached_stands, serves_at, duty_of, root_at, entry_at, get_or-take, get_or_past, Duty, pointers_of, IsFileNode, slice_get-index, cases_order, false_from_ne_true, IsInside, block_count, HasFreeBit, page_block, data_blocks, extension_blocks, RisesBehind, data_blocks_are, extension_blocks_are, IsExtensionField, HasDuty, InImage, HasFileKey, IsTaken, TakenRise, TakesLowest}
+use Rattle.ados_change.proofs.Common.{is_some, ◌≡◌, ℕ, ◌+◌, ◌-◌, ◌*◌, ◌/◌, ◌<◌, ◌≤◌, inl, inr, min, List, length, slice_index, Some, refl, sym, ap, ◌∙◌, subst, arith, eq-eqb, ◌⊎◌, take, drop, ◌≢◌, zero, suc, true, false, ◌∷◌, ne_eqb, cases_eq, cases_lt, false≢true, Format, Ofs, Ffs, byte_at, has_free_bit, pointer_count, held_count, file_size, secondary_type, format_of, FILE_TYPE, boot_same, Layout, Stands, type_of, KeepsUnnamed, IsPointerField, IsHeaderField, data_end, Node, Tree, File, Role, IsFile, IsOfs, Kept, IsField, Alike, KeepsFirstData, page_longs, file_longs, extension_longs, ofs_data_longs, ofs_data, ffs_data, StandsAt, reached_stands, serves_at, duty_of, root_at, entry_at, get_or-take, get_or_past, Duty, pointers_of, IsFileNode, slice_get-index, cases_order, false_from_ne_true, IsInside, block_count, HasFreeBit, page_block, data_blocks, extension_blocks, RisesBehind, data_blocks_are, extension_blocks_are, IsExtensionField, HasDuty, InImage, HasFileKey, IsTaken, TakenRise, TakesLowest}
 use Rattle.ados_change.proofs.Writable.{named_used, page_serves}
 use Rattle.ados_change.proofs.FilesStay.{data_serves, extension_serves, file_of_key}
 use Rattle.ados_change.proofs.Keeping.{header_stays}
@@ -72,9 +72,6 @@ module _ (old new : List ℕ) (t : Tree) (s : Stands old t) (file : ℕ) (node :
   layout_is : after.layout ≡ relaid s.layout file blocks' extensions'
   layout_is = layout_after old new t s file node bytes found is_file blocks' extensions' bytes' h
 
-  after_file : HasFile new (format_of new) file blocks' extensions' bytes'
-  after_file = h.writable.lawful.holds
-
   -- ---- the header
 
   -- an entry that is the file has its type
@@ -103,8 +100,8 @@ module _ (old new : List ℕ) (t : Tree) (s : Stands old t) (file : ℕ) (node :
       go Ffs is = absurd (n (ffs_data (is_ffs new (h.format ∙ is))))
       go Ofs is =
           let a = data_field new block f i (is_ofs new (h.format ∙ is)) n in
-          let held : held_count new block ≡ min 488 (length bytes' - 488 * j) = ap (held_count new) (sym e) ∙ (after_file.ofs_data (h.format ∙ is) j l).held in
-          omega (arith, a, held, after_file.size)
+          let held : held_count new block ≡ min 488 (length bytes' - 488 * j) = ap (held_count new) (sym e) ∙ (h.writable.lawful.holds.ofs_data (h.format ∙ is) j l).held in
+          omega (arith, a, held, h.writable.lawful.holds.size)
 
   data_kept : (k k' f f' block i : ℕ) → i < 512 → StandsAt old t s (roles.Data f) k block → StandsAt new v after (roles.Data f') k' block → ¬ IsField new block (roles.Data f') i → byte_at new block i ≡ byte_at old block i
   data_kept k k' f f' block i l m m' n = elim (cases_eq f' file) [

@@ -1,5 +1,5 @@
 -- A rewritten file leaves untouched what no tree determines.
-use Rattle.ados_change.proofs.Common.{◌≡◌, ◌≢◌, ℕ, ◌+◌, ◌*◌, ◌/◌, ◌%◌, ◌^◌, ◌<◌, inl, inr, List, sym, ap, ◌∙◌, arith, cases_eq, IsImage, byte_at, long, block_sum, total, byte_at-below, long-below, long-bytes, total-one, zero, suc, ◌-◌, ◌≤◌, length, slice_index, Some, option_map, refl, ap₂, subst, cases_lt, ext_get_or, Format, Ofs, Ffs, file_size, format_of, long-same, data_size, data_start, data_count, extension_count, Node, Tree, content_at, HasFile, HasOfsData, Layout, Stands, file_byte, IsLawful, data_blocks, extension_blocks, KeepsUnnamed, data_end, next_of, data_blocks_are, extension_blocks_are, File, HasFileKey, AgreeInFront, HasFileBytes, IsBehindEnd, KeepsData, KeepsFileEnd, KeepsUntold, ne_eqb}
+use Rattle.ados_change.proofs.Common.{◌≡◌, ◌≢◌, ℕ, ◌+◌, ◌*◌, ◌/◌, ◌%◌, ◌^◌, ◌<◌, inl, inr, List, sym, ap, ◌∙◌, arith, cases_eq, IsImage, byte_at, long, block_sum, total, byte_at-below, long-below, long-bytes, total-one, zero, suc, ◌-◌, ◌≤◌, length, slice_index, Some, option_map, refl, ap₂, subst, cases_lt, ext_get_or, Format, Ofs, Ffs, file_size, format_of, long-same, data_size, data_start, data_count, extension_count, Node, Tree, content_at, HasFile, HasOfsData, Layout, Stands, file_byte, IsLawful, data_blocks, KeepsUnnamed, data_end, next_of, data_blocks_are, extension_blocks_are, File, HasFileKey, AgreeInFront, HasFileBytes, IsBehindEnd, KeepsData, KeepsFileEnd, KeepsUntold, ne_eqb}
 use Rattle.ados_change.proofs.Writable.{data_is, extensions_is, is_lawful}
 use Rattle.ados_change.proofs.FilesStay.{end_of_data, file_of_key}
 use Rattle.ados_change.proofs.Contents.{refilled, here, there}
@@ -93,14 +93,8 @@ module _ (old new : List ℕ) (t : Tree) (s : Stands old t) (file : ℕ) (node :
   old_blocks : data_blocks old file ≡ blocks
   old_blocks = data_is old t s file node bytes found is_file
 
-  old_extensions : extension_blocks old file ≡ extensions
-  old_extensions = extensions_is old t s file node bytes found is_file
-
   new_blocks : data_blocks new file ≡ blocks'
   new_blocks = data_blocks_are new file blocks' extensions' bytes' h.writable.lawful
-
-  new_extensions : extension_blocks new file ≡ extensions'
-  new_extensions = extension_blocks_are new file blocks' extensions' bytes' h.writable.lawful
 
   blocks_front : AgreeInFront (data_blocks old file) (data_blocks new file)
   blocks_front = rw (old_blocks, new_blocks) (front_agrees old blocks blocks' h.data_from)
@@ -115,7 +109,7 @@ module _ (old new : List ℕ) (t : Tree) (s : Stands old t) (file : ℕ) (node :
   file_end : KeepsFileEnd old new file
   file_end = record {
     blocks = blocks_front;
-    extensions = rw (old_extensions, new_extensions) (front_agrees old extensions extensions' h.extensions_from);
+    extensions = rw (extensions_is old t s file node bytes found is_file, extension_blocks_are new file blocks' extensions' bytes' h.writable.lawful) (front_agrees old extensions extensions' h.extensions_from);
     stays = λ q i x y.
         let l : q < length blocks = subst (λ (xs : List ℕ). q < length xs) old_blocks x in
         let m : q < length blocks' = subst (λ (xs : List ℕ). q < length xs) new_blocks y.block in
@@ -225,7 +219,7 @@ module _ (old new : List ℕ) (t : Tree) (s : Stands old t) (file : ℕ) (node :
     same_data : KeepsData old new file
     same_data = record {
       blocks = new_blocks ∙ same_blocks ∙ sym old_blocks;
-      extensions = new_extensions ∙ same_extensions ∙ sym old_extensions;
+      extensions = extension_blocks_are new file blocks' extensions' bytes' h.writable.lawful ∙ same_extensions ∙ sym (extensions_is old t s file node bytes found is_file);
       bytes = λ q i l m.
           let place = ap (λ (xs : List ℕ). slice_index xs q) old_blocks in
           ap (λ (c : ℕ). byte_at new c i) place

@@ -100,9 +100,6 @@ module _ (old new : List ℕ) (t u : Tree) (st : Stands old t) (after : Spells n
   abbrev now : Stands new u
   now = stands new u st.layout proper after
 
-  same_layout : now.layout ≡ st.layout
-  same_layout = layout_is new u st.layout proper after
-
   -- at these places there is no data block
   module _ (At : ℕ → ℕ → Type 0) (h : SameBut At old new) (unwritten : (b i file q : ℕ) → HasDuty t st.layout b (Duty.Data file q) → ¬ At b i) where
     data_stays : (file : ℕ) → HasFileKey old file → HasFileKey new file → KeepsData old new file
@@ -110,8 +107,8 @@ module _ (old new : List ℕ) (t u : Tree) (st : Stands old t) (after : Spells n
         let a = file_of_key old t st file was in
         let b = file_of_key new u now file is in
         record {
-          blocks = data_is new u now file b.node b.bytes b.at b.content ∙ ap (λ (l : Layout). l.file_data file) same_layout ∙ sym (data_is old t st file a.node a.bytes a.at a.content);
-          extensions = extensions_is new u now file b.node b.bytes b.at b.content ∙ ap (λ (l : Layout). l.extensions file) same_layout ∙ sym (extensions_is old t st file a.node a.bytes a.at a.content);
+          blocks = data_is new u now file b.node b.bytes b.at b.content ∙ ap (λ (l : Layout). l.file_data file) (layout_is new u st.layout proper after) ∙ sym (data_is old t st file a.node a.bytes a.at a.content);
+          extensions = extensions_is new u now file b.node b.bytes b.at b.content ∙ ap (λ (l : Layout). l.extensions file) (layout_is new u st.layout proper after) ∙ sym (extensions_is old t st file a.node a.bytes a.at a.content);
           bytes = λ q i l m. h.same_byte (data_at old file q) i m (unwritten (data_at old file q) i file q (data_serves old t st file a q l));
         }
 

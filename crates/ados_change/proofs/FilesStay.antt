@@ -11,9 +11,6 @@ module _ (old new : List ℕ) (links : (b : ℕ) → long new b 126 ≡ long old
   holder_stays zero = refl
   holder_stays (suc q) = links (pointer_block new file q) ∙ ap (λ (b : ℕ). long old b 126) (holder_stays q)
 
-  count_stays : data_count (format_of new) (file_size new file) ≡ data_count (format_of old) (file_size old file)
-  count_stays = ap₂ data_count format size
-
   same_list : (f g : ℕ → ℕ) (n m : ℕ) → n ≡ m → ((i : ℕ) → f i ≡ g i) → map f (range_with_len 0 n) ≡ map g (range_with_len 0 m)
   same_list f g n m e h =
       listed_is f n (map g (range_with_len 0 m)) (e ∙ sym (length-map-range_with_len g 0 m))
@@ -21,11 +18,11 @@ module _ (old new : List ℕ) (links : (b : ℕ) → long new b 126 ≡ long old
 
   pub data_blocks_stay : data_blocks new file ≡ data_blocks old file
   unfolding data_blocks
-  data_blocks_stay = same_list (data_block new file) (data_block old file) _ _ count_stays (λ i. pointers (pointer_block new file (i / 72)) (i % 72) (omega arith) ∙ ap (λ (b : ℕ). long old b (77 - i % 72)) (holder_stays (i / 72)))
+  data_blocks_stay = same_list (data_block new file) (data_block old file) _ _ (ap₂ data_count format size) (λ i. pointers (pointer_block new file (i / 72)) (i % 72) (omega arith) ∙ ap (λ (b : ℕ). long old b (77 - i % 72)) (holder_stays (i / 72)))
 
   pub extension_blocks_stay : extension_blocks new file ≡ extension_blocks old file
   unfolding extension_blocks
-  extension_blocks_stay = same_list (λ q. pointer_block new file (q + 1)) (λ q. pointer_block old file (q + 1)) _ _ (ap extension_count count_stays) (λ q. holder_stays (q + 1))
+  extension_blocks_stay = same_list (λ q. pointer_block new file (q + 1)) (λ q. pointer_block old file (q + 1)) _ _ (ap extension_count (ap₂ data_count format size)) (λ q. holder_stays (q + 1))
 
 -- ---- files of an image that represents a tree
 

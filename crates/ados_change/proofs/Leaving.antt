@@ -131,11 +131,8 @@ module _ (old : List ℕ) (t : Tree) (st : Stands old t) (moment : Date3) (key d
   abbrev pub entry : (a : Node) × (t.nodes key ≡ Some a) × (a.parent ≡ Some dir)
   entry = parent_in (t.nodes key) dir listed
 
-  in_dir : Contains (entries t dir) key
-  in_dir = in_list t st.proper key dir listed moment
-
   pub directory : (a : Node) × (keys : List ℕ) × (t.nodes dir ≡ Some a) × (a.content ≡ Directory keys)
-  directory = directory_node t st.proper dir key in_dir
+  directory = directory_node t st.proper dir key (in_list t st.proper key dir listed moment)
 
   pub in_tree : IsInside t.blocks key
   in_tree = st.proper.inside key entry.0 entry.1
@@ -164,7 +161,7 @@ module _ (old : List ℕ) (t : Tree) (st : Stands old t) (moment : Date3) (key d
     is_from = from_is ∙ (st.entries key dir entry.0 entry.1 entry.2).parent
 
     pub unlinkable : CanUnlink old from key
-    unlinkable = subst (λ (f : ℕ). CanUnlink old f key) (sym is_from) (can_unlink old t st.layout 0 s whole_loose dir directory.0 directory.1 directory.2 directory.3 key in_dir)
+    unlinkable = subst (λ (f : ℕ). CanUnlink old f key) (sym is_from) (can_unlink old t st.layout 0 s whole_loose dir directory.0 directory.1 directory.2 directory.3 key (in_list t st.proper key dir listed moment))
 
     module _ (m1 : List ℕ) (unlinks : (chains : ℕ → List ℕ) → LawfulChains old from chains → Unlinks from key chains old m1) where
       unlinked : Unlinks dir key (in_slot t dir) old m1
@@ -180,14 +177,11 @@ module _ (old : List ℕ) (t : Tree) (st : Stands old t) (moment : Date3) (key d
           (λ k m. subst (λ (xs : List ℕ). Contains xs k) (sym unlinked.split) (Contains-append_left unlinked.front (key ∷ unlinked.back) k m))
 
       module _ (m2 : List ℕ) (touched : Dated from 105 moment m1 m2) where
-        dated_from : Dated dir 105 moment m1 m2
-        dated_from = subst (λ (f : ℕ). Dated f 105 moment m1 m2) is_from touched
-
         pub count_out : block_count m2 ≡ t.blocks
         count_out = dated_count from 105 moment m1 m2 touched ∙ same_count _ old m1 unlinked.relinks.rest ∙ omega (arith, st.whole)
 
         pub out_spells : Spells m2 out st.layout
-        out_spells = left_spells old m1 m2 t st.layout 0 s whole_loose dir directory.0 directory.1 directory.2 directory.3 key entry.0 entry.1 entry.2 unlinked moment dated_from
+        out_spells = left_spells old m1 m2 t st.layout 0 s whole_loose dir directory.0 directory.1 directory.2 directory.3 key entry.0 entry.1 entry.2 unlinked moment (subst (λ (f : ℕ). Dated f 105 moment m1 m2) is_from touched)
 
         -- no bitmap block is written
         pub out_written : (last : List ℕ) → SameBut (IsWritten old t st last) old m2
@@ -195,4 +189,4 @@ module _ (old : List ℕ) (t : Tree) (st : Stands old t) (moment : Date3) (key d
             same_trans (IsWritten old t st last) old m1 m2
             (linked_kept old t st last t dir (link_block dir unlinked.front) (link_long (6 + slot_at old key) unlinked.front) (long old key NEXT_IN_CHAIN) key directory.0 directory.1 directory.2 directory.3 (λ k x e n. inl (x, e, n)) link_at
             (inl (entry.0, entry.1, no_root)) old m1 unlinked.relinks)
-            (dated_kept old t st last dir directory.0 directory.2 moment m1 m2 dated_from)
+            (dated_kept old t st last dir directory.0 directory.2 moment m1 m2 (subst (λ (f : ℕ). Dated f 105 moment m1 m2) is_from touched))
