@@ -13,10 +13,8 @@ rename_disk_edits t s name now alive is = record {
 }
 
 faulty : (a b c : Bool) (fault : NameFault) → cond a (Some faults.Empty) (cond b (Some faults.TooLong) (cond c (Some faults.Separator) None)) ≡ Some fault → not (a || b || c) ≡ false
-faulty true b c fault h = refl
-faulty false true c fault h = refl
-faulty false false true fault h = refl
 faulty false false false fault h = absurd (let conflict : None ≡ Some fault = h in cc)
+faulty a b c fault h = refl
 
 -- a text with a fault is no name
 pub unnamed : (name : List ℕ) (fault : NameFault) → first_fault name ≡ Some fault → is_name name ≡ false

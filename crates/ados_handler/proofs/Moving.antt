@@ -17,11 +17,10 @@ module _ (t : Tree) (s : Session) (from_lock : ℕ) (from : List ℕ) (to_lock :
     where
       go : (b c : Bool) (r : Result ℕ WalkFault) (p : Result (ℕ × List ℕ) PlaceFault) → cond (b && c) (both (walk_result r) (place_result p)) (Err InvalidLock) ≡ Err error
           → first_refusal (refuse InvalidLock (not b) ∷ refuse InvalidLock (not c) ∷ option_map walk_error (result_err r) ∷ option_map place_error (result_err p) ∷ move_refusals t s (result_unwrap_or r 0) (result_unwrap_or p (0, [])).0 (result_unwrap_or p (0, [])).1) ≡ Some error
-      go false c r p e = let is : InvalidLock ≡ error = cc e in ap Some is
-      go true false r p e = let is : InvalidLock ≡ error = cc e in ap Some is
       go true true (Err fault) p e = let is : walk_error fault ≡ error = cc e in ap Some is
       go true true (Ok key) (Err fault) e = let is : place_error fault ≡ error = cc e in ap Some is
       go true true (Ok key) (Ok there) e = absurd (cc e)
+      go b c r p e = let is : InvalidLock ≡ error = cc e in ap Some is
 
   module _ (key : ℕ) (there : ℕ × List ℕ) (found_both : source_and_place t s from_lock from to_lock to ≡ Ok (key, there)) where
     found_refusal : (refusal t s packet ≡ move_refusal t s key there.0 there.1) × (object t s from_lock from ≡ key) × (spot t s to_lock to ≡ there)
@@ -31,12 +30,9 @@ module _ (t : Tree) (s : Session) (from_lock : ℕ) (from : List ℕ) (to_lock :
         go : (b c : Bool) (r : Result ℕ WalkFault) (p : Result (ℕ × List ℕ) PlaceFault) → cond (b && c) (both (walk_result r) (place_result p)) (Err InvalidLock) ≡ Ok (key, there)
             → (first_refusal (refuse InvalidLock (not b) ∷ refuse InvalidLock (not c) ∷ option_map walk_error (result_err r) ∷ option_map place_error (result_err p) ∷ move_refusals t s (result_unwrap_or r 0) (result_unwrap_or p (0, [])).0 (result_unwrap_or p (0, [])).1) ≡ move_refusal t s key there.0 there.1)
             × (result_unwrap_or r 0 ≡ key) × (result_unwrap_or p (0, []) ≡ there)
-        go false c r p e = absurd (cc e)
-        go true false r p e = absurd (cc e)
-        go true true (Err fault) p e = absurd (cc e)
-        go true true (Ok k) (Err fault) e = absurd (cc e)
         go true true (Ok k) (Ok q) e =
             let pair : ◌≡◌ {A = ℕ × (ℕ × List ℕ)} (k, q) (key, there) = cc e in (λ i. move_refusal t s (pair i).0 (pair i).1.0 (pair i).1.1, λ i. (pair i).0, λ i. (pair i).1)
+        go b c r p e = absurd (cc e)
 
     -- the refusals by the object and the place
     pub move_refused : (error : DosError) → move_refusal t s key there.0 there.1 ≡ Some error → refusal t s packet ≡ Some error

@@ -16,9 +16,8 @@ lock_on : (t : Tree) (s : Session) (lock key : ℕ) → lock_object t s lock ≡
 lock_on t s lock key = go (lock == 0) (get s.locks lock)
   where
     go : (b : Bool) (o : Option LockHold) → cond b (Some (root t)) (option_map (λ l. l.key) o) ≡ Some key → (b || is_some o ≡ true) × (cond b (root t) (option_map_or (λ l. l.key) o 0) ≡ key)
-    go true o e = (refl, cc e)
     go false None e = absurd (none-some key e)
-    go false (Some l) e = (refl, cc e)
+    go b o e = (refl, cc e)
 
 -- EXAMINE_NEXT with a lock on a directory, for a living handler
 module _ (t : Tree) (s : Session) (lock dir key : ℕ) (alive : s.died ≡ false) (is : lock_object t s lock ≡ Some dir) (directory : is_file t dir ≡ false) where

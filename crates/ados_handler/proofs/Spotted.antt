@@ -6,9 +6,8 @@ use Rattle.ados_handler.proofs.Placed.{placed_on}
 
 -- a refusal after all others that does not hold
 behind_none : (rows : List (Option DosError)) → first_refusal (rows ++ (None ∷ [])) ≡ first_refusal rows
-behind_none [] = refl
 behind_none (None ∷ rows) = behind_none rows
-behind_none (Some code ∷ rows) = refl
+behind_none rows = refl
 
 -- the refusals that depend on the entry there
 update_rows : Tree → Session → Option ℕ → List (Option DosError)

@@ -15,37 +15,25 @@ passes rows = lacks_space_at_most (first_refusal rows)
 
 walk_bars : (fault : WalkFault) (rest : List (Option DosError)) → false ≡ passes (Some (walk_error fault) ∷ rest)
 walk_bars walks.DirectoryNotFound rest = refl
-walk_bars walks.ObjectNotFound rest = refl
-walk_bars walks.WrongType rest = refl
+walk_bars fault rest = refl
 
 place_bars : (fault : PlaceFault) (rest : List (Option DosError)) → false ≡ passes (Some (place_error fault) ∷ rest)
 place_bars places.DirectoryNotFound rest = refl
-place_bars places.ObjectNotFound rest = refl
-place_bars places.WrongType rest = refl
-place_bars places.InvalidName rest = refl
+place_bars fault rest = refl
 
 -- rows of refusals by their conditions
 remove_row : (r h e d : Bool) → is_none (first_refusal (refuse ObjectWrongType r ∷ refuse ObjectInUse h ∷ refuse DirectoryNotEmpty (not e) ∷ refuse DeleteProtected d ∷ [])) ≡ passes (refuse ObjectWrongType r ∷ refuse ObjectInUse h ∷ refuse DirectoryNotEmpty (not e) ∷ refuse DeleteProtected d ∷ [])
-remove_row true h e d = refl
-remove_row false true e d = refl
-remove_row false false false d = refl
 remove_row false false true true = refl
-remove_row false false true false = refl
+remove_row r h e d = refl
 
 move_row : (r o h u : Bool) → is_none (first_refusal (refuse ObjectWrongType r ∷ refuse ObjectExists o ∷ refuse ObjectInUse h ∷ refuse ObjectInUse u ∷ []))
     ≡ passes (refuse ObjectWrongType r ∷ refuse ObjectExists o ∷ refuse ObjectInUse h ∷ refuse ObjectInUse u ∷ [])
-move_row true o h u = refl
-move_row false true h u = refl
-move_row false false true u = refl
 move_row false false false true = refl
-move_row false false false false = refl
+move_row r o h u = refl
 
 empty_row : (f h d w : Bool) → f && not h && not d && not w ≡ passes (refuse ObjectWrongType (not f) ∷ refuse ObjectInUse h ∷ refuse DeleteProtected d ∷ refuse WriteProtected w ∷ refuse DiskFull false ∷ [])
-empty_row false h d w = refl
-empty_row true true d w = refl
-empty_row true false true w = refl
 empty_row true false false true = refl
-empty_row true false false false = refl
+empty_row f h d w = refl
 
 full_row : (m : Bool) → true ≡ passes (refuse DiskFull m ∷ [])
 full_row true = refl
@@ -56,12 +44,10 @@ write_row true m = refl
 write_row false m = full_row m
 
 size_row : (w b e m : Bool) → not w && not b && not e ≡ not e && passes (refuse WriteProtected w ∷ refuse SeekError b ∷ refuse DiskFull m ∷ [])
-size_row true b true m = refl
-size_row true b false m = refl
-size_row false true true m = refl
-size_row false true false m = refl
-size_row false false true m = refl
 size_row false false false m = full_row m
+size_row true b true m = refl
+size_row false true true m = refl
+size_row w b e m = refl
 
 module _ (t : Tree) (s : Session) where
   -- a living handler refuses a packet by the packet's row
@@ -95,12 +81,11 @@ module _ (t : Tree) (s : Session) where
         go : (b c : Bool) (r : Result ℕ WalkFault) (p : Result (ℕ × List ℕ) PlaceFault)
             → ok_and (λ spot. is_none (move_refusal t s spot.0 spot.1.0 spot.1.1)) (cond (b && c) (both (walk_result r) (place_result p)) (Err InvalidLock))
             ≡ passes (refuse InvalidLock (not b) ∷ refuse InvalidLock (not c) ∷ option_map walk_error (result_err r) ∷ option_map place_error (result_err p) ∷ move_refusals t s (result_unwrap_or r 0) (result_unwrap_or p (0, [])).0 (result_unwrap_or p (0, [])).1)
-        go false c r p = refl
-        go true false r p = refl
         go true true (Err fault) p = walk_bars fault (option_map place_error (result_err p) ∷ move_refusals t s 0 (result_unwrap_or p (0, [])).0 (result_unwrap_or p (0, [])).1)
         go true true (Ok key) (Err fault) = place_bars fault (move_refusals t s key 0 [])
         go true true (Ok key) (Ok spot) =
             move_row (key == root t) (is_some_and (λ other. not (other == key)) (child_of t spot.0 spot.1)) (is_held_exclusively s key) (is_under t key spot.0)
+        go b c r p = refl
 
     pub made_by : (lock : ℕ) (path : List ℕ) → can_make t s lock path ≡ would_write t s (CreateDir lock path)
     made_by lock path =

@@ -1,5 +1,5 @@
 use Rattle.std.proofs.Common.{rules}
-use Rattle.ados_handler.proofs.handler.Handler.results_of.Goals as goal
+use Rattle.ados_handler.proofs.handler.Handler.serve.Goals as goal
 
 pub returns-in-LocateObject : goal.returns-in-LocateObject
 returns-in-LocateObject c = let gives = c.locate_object.ensures.gives c.args.now in search rules
