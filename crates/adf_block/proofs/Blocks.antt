@@ -1,11 +1,5 @@
 -- A whole block: its bytes and longs in the list of its bytes, and the image after a write to it.
-use Rattle.std.proofs.Common.{◌≡◌, inl, inr, ℕ, ◌+◌, ◌-◌, ◌*◌, ◌/◌, ◌%◌, ◌<◌, ◌≤◌, ◌++◌, List, length, take, drop, slice_index, arith, ap, sym, ◌∙◌, append_assoc, length-append, length-take, length-drop}
-use Rattle.std.proofs.lemmas.Bool.{cases_lt}
-use Rattle.std.proofs.lemmas.List.{ext_get_or, get_or-take, get_or-drop, get_or_append_left, get_or-append_right, take_all}
-use Rattle.byteorder.specs.Endian.{big_number}
-use Rattle.adf_block.specs.Image.{byte_at, bytes_at, long, block_count}
-use Rattle.adf_block.specs.Frame.{OnlyBlock}
-use Rattle.adf_block.specs.Lending.{with_block}
+use Rattle.adf_block.proofs.Common.{◌≡◌, inl, inr, ℕ, ◌+◌, ◌-◌, ◌*◌, ◌/◌, ◌%◌, ◌<◌, ◌≤◌, ◌++◌, List, length, take, drop, slice_index, arith, ap, sym, ◌∙◌, append_assoc, length-append, length-take, length-drop, cases_lt, ext_get_or, get_or-take, get_or-drop, get_or_append_left, get_or-append_right, take_all, big_number, byte_at, bytes_at, long, block_count, OnlyBlock, with_block}
 use Rattle.adf_block.proofs.Longs.{long-bytes}
 
 -- a byte of a part of a block

@@ -1,13 +1,7 @@
 -- The boot blocks after code was written into them.
-use Rattle.std.proofs.Common.{◌≡◌, ℕ, inl, inr, ◌+◌, ◌-◌, ◌*◌, ◌%◌, ◌==◌, if◌then◌else◌, ◌/◌, ◌<◌, ◌≤◌, List, length, take, drop, min, slice_index, Option, Some, Ok, refl, sym, ap, ◌∙◌, subst, arith, length-take, length-drop}
-use Rattle.std.proofs.lemmas.Bool.{cases_eq, cases_lt}
-use Rattle.std.proofs.lemmas.List.{get_or-drop, get_or-take, get_or_past}
-use Rattle.adf_block.specs.Image.{byte_at, long}
-use Rattle.adf_block.specs.Boot.{boot_long, boot_sum, carried_sum}
-use Rattle.adf_block.specs.Frame.{OnlyBlock, OnlyLong, SameBut, Within}
+use Rattle.adf_block.proofs.Common.{◌≡◌, ℕ, inl, inr, ◌+◌, ◌-◌, ◌*◌, ◌%◌, ◌==◌, if◌then◌else◌, ◌/◌, ◌<◌, ◌≤◌, List, length, take, drop, min, slice_index, Option, Some, Ok, refl, sym, ap, ◌∙◌, subst, arith, length-take, length-drop, cases_eq, cases_lt, get_or-drop, get_or-take, get_or_past, byte_at, long, boot_long, boot_sum, carried_sum, OnlyBlock, OnlyLong, SameBut, Within, Boots, HasBoot, HoldsCode}
 use Rattle.adf_block.proofs.Frames.{same_long}
 use Rattle.adf_block.proofs.Totals.{total-same}
-use Rattle.adf_block.specs.HasBoot.{Boots, HasBoot, HoldsCode}
 
 -- a block that was cleared and then written from its start
 pub put_byte : (mid new : List ℕ) (b : ℕ) (bytes : List ℕ) → ((k : ℕ) → k < 512 → byte_at mid b k ≡ 0) → ((k : ℕ) → k < length bytes → byte_at new b (0 + k) ≡ slice_index bytes k)

@@ -1,7 +1,5 @@
 -- A list with some of its elements overwritten.
-use Rattle.std.proofs.Common.{◌≡◌, ℕ, ◌+◌, ◌-◌, ◌<◌, ◌≤◌, ◌^◌, ◌++◌, List, [], length, take, drop, slice_index, arith, ap, ap₂, sym, ◌∙◌, append_assoc, length-append, length-take, length-drop}
-use Rattle.std.proofs.lemmas.List.{take_rest, drop_all, drop-drop, take_at, drop_at, get_or-drop, get_or-take, append-nil, get_or_append_left, get_or-append_right}
-use Rattle.byteorder.specs.Endian.{big_bytes, big_number}
+use Rattle.adf_block.proofs.Common.{◌≡◌, ℕ, ◌+◌, ◌-◌, ◌<◌, ◌≤◌, ◌^◌, ◌++◌, List, [], length, take, drop, slice_index, arith, ap, ap₂, sym, ◌∙◌, append_assoc, length-append, length-take, length-drop, take_rest, drop_all, drop-drop, take_at, drop_at, get_or-drop, get_or-take, append-nil, get_or_append_left, get_or-append_right, big_bytes, big_number}
 use Rattle.byteorder.specs.Numbers.{big_number-reads_back}
 
 -- a whole list overwritten, then cut to the old length

@@ -1,12 +1,7 @@
 -- What a boot block is after the standard one was installed.
-use Rattle.std.proofs.Common.{◌≡◌, ℕ, inl, inr, ◌/◌, ◌%◌, ◌<◌, ◌≤◌, List, length, slice_index, sym, ap, ◌∙◌, arith, length-take}
-use Rattle.std.proofs.lemmas.Bool.{cases_lt}
-use Rattle.std.proofs.lemmas.List.{get_or-take, get_or_past}
-use Rattle.adf_block.specs.Image.{byte_at}
+use Rattle.adf_block.proofs.Common.{◌≡◌, ℕ, inl, inr, ◌/◌, ◌%◌, ◌<◌, ◌≤◌, List, length, slice_index, sym, ap, ◌∙◌, arith, length-take, cases_lt, get_or-take, get_or_past, byte_at, HasBoot, HoldsCode, Follows, IsBootCode, IsEmpty, boot_bytes}
 use Rattle.adf_block.specs.declared.standard.TheConstants.{STANDARD_BOOT}
 use Rattle.adf_block.specs.declared.code.BootCode.TheVariants.{Standard}
-use Rattle.adf_block.specs.HasBoot.{HasBoot, HoldsCode}
-use Rattle.adf_block.specs.BootCode.{Follows, IsBootCode, IsEmpty, boot_bytes}
 
 -- byte k of the image, by its block
 at_byte : (image : List ℕ) (k : ℕ) → byte_at image (k / 512) (k % 512) ≡ slice_index image k

@@ -1,18 +1,10 @@
 -- What stays the same when an image changes only at some places.
-use Rattle.std.proofs.Common.{◌≡◌, ◌≢◌, ◌⊎◌, inl, inr, ℕ, ◌+◌, ◌*◌, ◌/◌, ◌%◌, ◌<◌, ◌≤◌, ◌^◌, List, length, take, drop, slice_index, arith, ap, sym, ◌∙◌, refl, length-take, length-drop}
-use Rattle.std.proofs.lemmas.Bool.{cases_lt}
-use Rattle.std.proofs.lemmas.List.{ext_get_or, get_or-take, get_or-drop}
-use Rattle.adf_block.specs.Image.{byte_at, bytes_at, long, total, block_sum, block_count}
-use Rattle.adf_block.specs.Frame.{SameBut, AtLong, InBlock, OnlyLong, OnlyBlock}
+use Rattle.adf_block.proofs.Common.{◌≡◌, ◌≢◌, ◌⊎◌, inl, inr, ℕ, ◌+◌, ◌*◌, ◌/◌, ◌%◌, ◌<◌, ◌≤◌, ◌^◌, List, length, take, drop, slice_index, arith, ap, sym, ◌∙◌, length-take, length-drop, cases_lt, ext_get_or, get_or-take, get_or-drop, byte_at, bytes_at, long, total, block_sum, block_count, SameBut, AtLong, InBlock, OnlyLong, OnlyBlock}
 use Rattle.adf_block.proofs.Bytes.{with_number, length-with_number, before-with_number, behind-with_number}
 use Rattle.adf_block.proofs.Longs.{long-same}
 use Rattle.adf_block.proofs.Totals.{total-same, total-one}
 
 -- ---- the whole frame
-
--- an image is the same as itself, whatever may change
-pub same_refl : (changed : ℕ → ℕ → Type 0) (image : List ℕ) → SameBut changed image image
-same_refl changed image = record { same_length = refl; same_byte = λ b i lt un. refl }
 
 -- two changes, one after the other
 pub same_trans : (changed : ℕ → ℕ → Type 0) (old mid new : List ℕ) → SameBut changed old mid → SameBut changed mid new → SameBut changed old new

@@ -1,5 +1,6 @@
 -- Overwritten lists, longs and their sums, what a partial change leaves untouched, and writes of a whole block or a
 -- part.
+mod Common
 pub mod Bytes
 pub mod Longs
 pub mod Totals

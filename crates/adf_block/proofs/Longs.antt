@@ -1,7 +1,5 @@
 -- A long as its four bytes.
-use Rattle.std.proofs.Common.{◌≡◌, ℕ, ◌+◌, ◌*◌, ◌/◌, ◌<◌, ◌^◌, List, drop, slice_index, arith, ap, sym, ◌∙◌, refl}
-use Rattle.std.proofs.lemmas.List.{get_or-drop}
-use Rattle.adf_block.specs.Image.{byte_at, long}
+use Rattle.adf_block.proofs.Common.{◌≡◌, ℕ, ◌+◌, ◌*◌, ◌/◌, ◌<◌, ◌^◌, List, drop, slice_index, arith, ap, sym, ◌∙◌, refl, get_or-drop, byte_at, long}
 use Rattle.adf_block.specs.Whole.{IsImage}
 
 -- byte k of a long is a byte of its block

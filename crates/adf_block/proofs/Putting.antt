@@ -1,11 +1,5 @@
 -- A block with a part of it overwritten.
-use Rattle.std.proofs.Common.{◌≡◌, ℕ, ◌+◌, ◌-◌, ◌<◌, ◌≤◌, ◌++◌, ◌⊎◌, inl, inr, List, length, take, drop, slice_index, zero-add, refl, sym, ap, ◌∙◌, arith}
-use Rattle.std.proofs.lemmas.Bool.{cases_lt, cases_eq}
-use Rattle.std.proofs.lemmas.List.{get_or_append_left, get_or-append_right, get_or-take, get_or-drop, length-take, length-drop, length-append}
-use borrow.Rule.Slice.PartMut.{put_mid}
-use Rattle.adf_block.specs.Image.{byte_at, bytes_at, block_count}
-use Rattle.adf_block.specs.Frame.{SameBut, Within}
-use Rattle.adf_block.specs.Lending.{with_block}
+use Rattle.adf_block.proofs.Common.{◌≡◌, ℕ, ◌+◌, ◌-◌, ◌<◌, ◌≤◌, ◌++◌, ◌⊎◌, inl, inr, List, length, take, drop, slice_index, zero-add, refl, sym, ap, ◌∙◌, arith, cases_lt, cases_eq, get_or_append_left, get_or-append_right, get_or-take, get_or-drop, length-take, length-drop, length-append, put_mid, byte_at, bytes_at, block_count, SameBut, Within, with_block}
 use Rattle.adf_block.proofs.Blocks.{byte-bytes_at, byte_at-with_block, only-with_block}
 
 module _ (xs ys : List ℕ) (a n : ℕ) (room : a + length ys ≤ length xs) (n_is : n ≡ length ys) where

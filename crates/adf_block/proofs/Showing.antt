@@ -1,7 +1,6 @@
 -- The text of a boot block, line by line.
-use Rattle.std.proofs.Common.{◌≡◌, ℕ, ◌+◌, ◌*◌, ◌/◌, List, ◌++◌, take, drop, refl, ap, ap₂, ◌∙◌, add-one, append_assoc, arith}
+use Rattle.adf_block.proofs.Common.{◌≡◌, ℕ, ◌+◌, ◌*◌, ◌/◌, List, ◌++◌, take, drop, refl, ap, ap₂, ◌∙◌, add-one, append_assoc, arith, hex_line, hex_lines}
 use Rattle.std.specs.Int.{div_ceil}
-use Rattle.adf_block.specs.BootText.{hex_line, hex_lines}
 
 -- one more line
 pub more_lines : (old mid new bytes : List ℕ) (n : ℕ) → mid ≡ old ++ hex_lines bytes n → new ≡ mid ++ hex_line (16 * n) (take 16 (drop (16 * n) bytes)) → new ≡ old ++ hex_lines bytes (n + 1)

@@ -1,5 +1,9 @@
 -- The packets of a word.
-use Rattle.adf_script.proofs.Common.{◌≡◌, ◌≢◌, ℕ, List, ◌++◌, Option, Some, None, MatchOption, refl, sym, ap, subst, ◌∙◌, Packet, Word, Die, Locate, RenameDisk, Free, Delete, Rename, Copy, Protect, MakeDir, Examine, Next, DiskInfo, Info, Comment, Parent, Date, Same, Read, Write, Update, Input, Output, End, Seek, Size, Other, has_byte, IsCut, form_of, SpellsFields, IsPacketLine, IsFaulty, spelling, EachOf, Puts}
+use Rattle.adf_script.proofs.Common.{◌≡◌, ◌≢◌, ℕ, List, ◌++◌, Option, Some, None, MatchOption, refl, sym, ap, subst, ◌∙◌, Packet, Word, Die, Locate, RenameDisk, Free, Delete, Rename, Copy, Protect, MakeDir, Examine, Next, DiskInfo, Info, Comment, Parent, Date, Same, Read, Write, Update, Input, Output, End, Seek, Size, Other, has_byte, IsCut, form_of, SpellsFields, IsPacketLine, IsFaulty, spelling, EachOf, Puts, [], ◌∷◌, Value}
+use Rattle.std.specs.Option.{IsSomeAnd}
+use Rattle.adf_script.specs.Grammar.{Field}
+use Rattle.adf_script.specs.steps.Reading.{ReadsToEnd, SpellsNone, a_value}
+use Rattle.adf_script.specs.steps.Words.{PutsNone}
 use Rattle.ados_model.specs.declared.packet.Packet.TheVariants as packet
 use Rattle.adf_script.proofs.FieldLemmas.{cut_unique, behind_fields}
 use Rattle.adf_script.proofs.WordList.{spelled_once, word_plain}
@@ -59,3 +63,13 @@ module _ (values : List (Option ℕ)) (line front rest : List ℕ) (is_cut : IsC
       of_word word (λ q. SpellsFields values (form_of q).1 rest → ⊥) none p ((front_and_rest p s).0 ∙ is_front)
       (subst (SpellsFields values (form_of p).1) (front_and_rest p s).1 s.2)
   known_word word is_front (Some p) some = (rest, is_cut.whole ∙ ap (λ l. l ++ rest) (is_front ∙ sym some.0), some.1)
+
+-- a number up to the end of the line, of which a packet is made
+pub puts_one : (word : Word) (values : List (Option ℕ)) (rest : List ℕ) (make : ℕ → Packet) (found : Option ℕ) (result : Option Packet) (Post : ℕ → Packet → Type 0)
+    → ((n : ℕ) → form_of (make n) ≡ (spelling word, Value n ∷ [])) → (SpellsNone values a_value rest → PutsNone word values rest) → ((n : ℕ) (p : Packet) → Post n p → p ≡ make n)
+    → ReadsToEnd values a_value rest found → MatchOption found (result ≡ None) (λ n. IsSomeAnd result (Post n)) → Puts word values rest result
+puts_one word values rest make None result Post forms nones made none is = rw is (nones none)
+puts_one word values rest make (Some n) None Post forms nones made reads is = absurd is
+puts_one word values rest make (Some n) (Some p) Post forms nones made reads is =
+    let form : form_of p ≡ (spelling word, Value n ∷ []) = ap form_of (made n p is) ∙ forms n
+    in (ap (λ (f : List ℕ × List Field). f.0) form, subst (λ (f : List ℕ × List Field). SpellsFields values f.1 rest) (sym form) reads)

@@ -20,10 +20,7 @@ fn plain(rest: &[u8]) -> Option<(&[u8], &[u8])>
         ((line : List ℕ) → rest.now ≢ 32 ∷ line)
         (λ parts. (line : List ℕ) × (rest.now ≡ 32 ∷ line) × IsCut line parts.0.now parts.1.now) }
 {
-    match behind(rest, b' ') {
-        Some(line) => Some(cut(line)),
-        None => None,
-    }
+    behind(rest, b' ').map(cut)
 }
 
 /// The bytes of a text between quotes, and the rest after it.

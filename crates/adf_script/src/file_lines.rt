@@ -5,7 +5,7 @@ ghost use Rattle.adf_script.specs.steps.Words.{Puts, PutsNone};
 ghost use Rattle.adf_script.specs.declared.words.Word.TheVariants as word;
 
 use crate::fields::{long_text_field, value_field, zeros_field};
-use crate::shapes::{end, object, one_value, target};
+use crate::shapes::{end, object, target};
 use ados_model::{Buffer, Packet};
 use std::alloc::{AllocError, Global};
 
@@ -46,13 +46,6 @@ pub(crate) fn output(
         return Ok(None);
     };
     Ok(Some(Packet::FindOutput { lock, path }))
-}
-
-pub(crate) fn end_line(values: &[Option<u32>], rest: &[u8]) -> Option<Packet>
-    ensures { Puts word.End values.now rest.now result }
-{
-    let handle = one_value(values, rest)?;
-    Some(Packet::End { handle })
 }
 
 pub(crate) fn seek(values: &[Option<u32>], rest: &[u8]) -> Option<Packet>

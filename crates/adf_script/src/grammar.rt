@@ -3,12 +3,12 @@ ghost use Rattle.std.specs.Prelude.{IfOk, MatchOption};
 ghost use Rattle.adf_script.specs.Grammar.{IsPacketLine, IsFaulty};
 ghost use Rattle.adf_script.specs.steps.Words.{Puts};
 
-use crate::file_lines::{end_line, input, output, read, seek, size, update, write};
-use crate::lock_lines::{copy, examine, free, info, locate, next, parent, same};
+use crate::file_lines::{input, output, read, seek, size, update, write};
+use crate::lock_lines::{locate, next, same};
 use crate::object_lines::{comment, date, delete, make_dir, protect, rename, rename_disk};
 use crate::other_lines::other;
 use crate::pieces::cut;
-use crate::shapes::end;
+use crate::shapes::{end, one_value};
 use crate::words::Word;
 use ados_model::Packet;
 use std::alloc::{AllocError, Global};
@@ -45,12 +45,12 @@ fn packet_of(
         Word::DiskInfo => Ok(end(rest).map(|()| Packet::DiskInfo)),
         Word::Other => Ok(other(rest)),
         Word::Locate => locate(alloc, values, rest),
-        Word::Free => Ok(free(values, rest)),
-        Word::Copy => Ok(copy(values, rest)),
-        Word::Parent => Ok(parent(values, rest)),
-        Word::Examine => Ok(examine(values, rest)),
+        Word::Free => Ok(one_value(values, rest).map(|lock| Packet::FreeLock { lock })),
+        Word::Copy => Ok(one_value(values, rest).map(|lock| Packet::CopyDir { lock })),
+        Word::Parent => Ok(one_value(values, rest).map(|lock| Packet::Parent { lock })),
+        Word::Examine => Ok(one_value(values, rest).map(|lock| Packet::ExamineObject { lock })),
         Word::Next => Ok(next(values, rest)),
-        Word::Info => Ok(info(values, rest)),
+        Word::Info => Ok(one_value(values, rest).map(|lock| Packet::Info { lock })),
         Word::Same => Ok(same(values, rest)),
         Word::RenameDisk => rename_disk(alloc, rest),
         Word::Delete => delete(alloc, values, rest),
@@ -64,7 +64,7 @@ fn packet_of(
         Word::Output => output(alloc, values, rest),
         Word::Read => read(alloc, values, rest),
         Word::Write => write(alloc, values, rest),
-        Word::End => Ok(end_line(values, rest)),
+        Word::End => Ok(one_value(values, rest).map(|handle| Packet::End { handle })),
         Word::Seek => Ok(seek(values, rest)),
         Word::Size => Ok(size(values, rest)),
     }

@@ -4,7 +4,7 @@ ghost use Rattle.adf_script.specs.steps.Words.{Puts};
 ghost use Rattle.adf_script.specs.declared.words.Word.TheVariants as word;
 
 use crate::fields::{signed_field, text_field, text_of, value_field};
-use crate::shapes::{end, one_value, two_values};
+use crate::shapes::{end, two_values};
 use ados_model::Packet;
 use std::alloc::{AllocError, Global};
 
@@ -29,41 +29,6 @@ pub(crate) fn locate(
     };
     let path = text_of(alloc, text)?;
     Ok(Some(Packet::LocateObject { lock, path, mode }))
-}
-
-pub(crate) fn free(values: &[Option<u32>], rest: &[u8]) -> Option<Packet>
-    ensures { Puts word.Free values.now rest.now result }
-{
-    let lock = one_value(values, rest)?;
-    Some(Packet::FreeLock { lock })
-}
-
-pub(crate) fn copy(values: &[Option<u32>], rest: &[u8]) -> Option<Packet>
-    ensures { Puts word.Copy values.now rest.now result }
-{
-    let lock = one_value(values, rest)?;
-    Some(Packet::CopyDir { lock })
-}
-
-pub(crate) fn parent(values: &[Option<u32>], rest: &[u8]) -> Option<Packet>
-    ensures { Puts word.Parent values.now rest.now result }
-{
-    let lock = one_value(values, rest)?;
-    Some(Packet::Parent { lock })
-}
-
-pub(crate) fn examine(values: &[Option<u32>], rest: &[u8]) -> Option<Packet>
-    ensures { Puts word.Examine values.now rest.now result }
-{
-    let lock = one_value(values, rest)?;
-    Some(Packet::ExamineObject { lock })
-}
-
-pub(crate) fn info(values: &[Option<u32>], rest: &[u8]) -> Option<Packet>
-    ensures { Puts word.Info values.now rest.now result }
-{
-    let lock = one_value(values, rest)?;
-    Some(Packet::Info { lock })
 }
 
 pub(crate) fn next(values: &[Option<u32>], rest: &[u8]) -> Option<Packet>

@@ -22,13 +22,8 @@ pub(crate) fn number(field: &[u8]) -> Option<u32>
 fn reply_value(values: &[Option<u32>], number: u32) -> Option<u32>
     ensures { result ≡ reply_value values.now number }
 {
-    if number == 0 {
-        return None;
-    }
-    match values.get(number as usize - 1) {
-        Some(value) => *value,
-        None => None,
-    }
+    let place = (number as usize).checked_sub(1)?;
+    *values.get(place)?
 }
 
 /// The number in a field; after a `$`, the value of the reply with that number.

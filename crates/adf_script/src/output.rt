@@ -15,10 +15,7 @@ fn write_text<W: Write>(writer: &mut W, text: &[u8]) -> Result<(), TryFault>
     ensures no_script { result ≢ Err TryFault.Script }
     ensures no_limit { result ≢ Err TryFault.TurnLimit }
 {
-    match writer.write_all(text) {
-        Ok(()) => Ok(()),
-        Err(_) => Err(TryFault::Write),
-    }
+    writer.write_all(text).map_err(|_| TryFault::Write)
 }
 
 /// Writes the line for a reply to client 1.

@@ -12,9 +12,7 @@ pub fn answer_value(answer: &Answer) -> Option<u32>
     match &answer.body {
         Body::Handle(handle) => Some(*handle),
         Body::Entry(info) => Some(info.key),
-        Body::Empty => result_value(answer.res1),
-        Body::Buffer(_) => result_value(answer.res1),
-        Body::Disk(_) => result_value(answer.res1),
+        Body::Empty | Body::Buffer(_) | Body::Disk(_) => result_value(answer.res1),
     }
 }
 

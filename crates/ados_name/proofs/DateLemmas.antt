@@ -1,11 +1,7 @@
 -- The day number of 1 January 1978, and numbers of two digits.
-use Rattle.std.proofs.Common.{◌≡◌, ℕ, ◌+◌, ◌*◌, ◌/◌, ◌%◌, ◌<◌, pos, List, [], ◌∷◌, ◌++◌, false, refl, arith, ◌-◌, ◌^◌, ◌≤◌, Bool, true, nat_lt, append_assoc}
-use Rattle.std.proofs.lemmas.Bool.{ltb-true, ltb-false}
+use Rattle.ados_name.proofs.Common.{◌≡◌, ℕ, ◌+◌, ◌*◌, ◌/◌, ◌%◌, ◌<◌, pos, List, [], ◌∷◌, ◌++◌, false, refl, arith, ◌-◌, ◌^◌, ◌≤◌, Bool, true, nat_lt, append_assoc, ltb-true, ltb-false, Date, epoch_day, IsYmd, date_text, signed_arith}
 use Rattle.std.specs.Fmt.{decimal, padded_integral, format_spec, char_count}
 use Rattle.std.proofs.lemmas.Fmt.{decimal_digit, decimal_step}
-use Rattle.jiff.specs.Types.{Date}
-use Rattle.jiff.specs.Words.{epoch_day, IsYmd, date_text}
-use Rattle.jiff.proofs.SpanFacts.{signed_arith}
 use Rattle.jiff.proofs.OnLiterals.{jiff_on_literals}
 use Rattle.ados_name.specs.Date.{two_digits, civil_text}
 

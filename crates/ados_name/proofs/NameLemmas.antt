@@ -1,14 +1,7 @@
 -- The hash of a name, names in upper case, and which texts are names.
-use Rattle.std.proofs.Common.{◌≡◌, ◌≢◌, ◌↔◌, ℕ, ◌+◌, ◌*◌, ◌%◌, ◌<◌, ◌≤◌, ◌==◌, true, false, ◌||◌, List, [], ◌∷◌, map, length, fold, All, None, Some, refl, sym, ap, subst, ◌∙◌, arith}
-use Rattle.std.specs.List.{list_any}
+use Rattle.ados_name.proofs.Common.{◌≡◌, ◌≢◌, ◌↔◌, ℕ, ◌+◌, ◌*◌, ◌%◌, ◌<◌, ◌≤◌, ◌==◌, true, false, ◌||◌, List, [], ◌∷◌, map, length, fold, All, None, Some, refl, sym, ap, subst, ◌∙◌, arith, list_any, length-map, list_any_none, list_any_at, All-from_get_or, All-get_or, eq-eqb, eqb-true, le-ltb, false_from_ne_true, or_from, true≢false, Separator, upper, hash, is_separator, IsName, IsNameByte, Same}
 use Rattle.std.specs.Char.{to_ascii_lowercase}
-use Rattle.std.proofs.lemmas.List.{length-map}
-use Rattle.std.proofs.lemmas.List.Folds.{list_any_none, list_any_at}
-use Rattle.std.proofs.lemmas.List.Elements.{All-from_get_or, All-get_or}
-use Rattle.std.proofs.lemmas.Bool.{eq-eqb, eqb-true, le-ltb, false_from_ne_true, or_from, true≢false}
 use Rattle.ados_name.specs.declared.NameFault.{NameFault}
-use Rattle.ados_name.specs.declared.NameFault.TheVariants.{Separator}
-use Rattle.ados_name.specs.Name.{upper, hash, is_separator, IsName, IsNameByte, Same}
 use Rattle.ados_name.specs.Fault.{first_fault}
 use Rattle.ados_name.specs.Path.{SameNameSameSlot}
 

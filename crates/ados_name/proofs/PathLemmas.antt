@@ -1,17 +1,7 @@
 -- The steps of a path one by one, and its last name.
-use Rattle.std.proofs.Common.{◌≡◌, ℕ, ◌+◌, ◌-◌, ◌<◌, ◌==◌, true, false, not, List, [], ◌∷◌, length, take, drop, Option, refl, sym, ap, ◌∙◌, inl, inr, arith}
-use Rattle.std.specs.List.{before_first, after_first, list_any, slice_split}
+use Rattle.ados_name.proofs.Common.{◌≡◌, ℕ, ◌+◌, ◌-◌, ◌<◌, ◌==◌, true, false, not, List, [], ◌∷◌, length, take, drop, Option, refl, sym, ap, ◌∙◌, inl, inr, arith, before_first, after_first, list_any, slice_split, drop_of_length-le, take-length, eqb-true, true≢false, All-from_get_or, prefix_len-le-length, fails_before_first, length-drop, get_or-drop, list_any_none, IsLastByte, is_slash, is_separator, Step, Step.ToParent, Step.ToChild, steps_of_parts, steps_along, last_name, front}
 use Rattle.std.proofs.Math.Nat.{eq-or-lt_of_le}
-use Rattle.std.proofs.Math.ListN.{drop_of_length-le}
-use Rattle.std.proofs.Math.Seq.{take-length}
-use Rattle.std.proofs.lemmas.Bool.{eqb-true, true≢false}
-use Rattle.std.proofs.lemmas.List.Elements.{All-from_get_or}
 use Rattle.std.proofs.lemmas.List.Splits.{length-slice_split, slice_split_first, slice_split_none}
-use Rattle.std.proofs.lemmas.List.Sums.{prefix_len-le-length, fails_before_first}
-use Rattle.std.proofs.lemmas.List.{length-drop, get_or-drop}
-use Rattle.std.proofs.lemmas.List.Folds.{list_any_none}
-use Rattle.bstr.specs.Find.{IsLastByte}
-use Rattle.ados_name.specs.Name.{is_slash, is_separator, Step, Step.ToParent, Step.ToChild, steps_of_parts, steps_along, last_name, front}
 use Rattle.ados_name.proofs.SeparatorLemmas.{behind, suffix-found, behind-le, none-behind}
 
 -- the step of a component

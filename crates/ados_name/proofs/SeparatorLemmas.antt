@@ -1,17 +1,6 @@
 -- The result of a search for a byte, in terms of the list.
-use Rattle.std.proofs.Common.{◌≡◌, ℕ, ◌+◌, ◌-◌, ◌<◌, ◌≤◌, zero-le, ◌==◌, Bool, false, ◌||◌, not, List, [], ◌∷◌, length, take, drop, get_or, Option, None, Some, is_some, unwrap_or, sym, ap, ◌∙◌, arith}
-use Rattle.std.specs.List.{list_any, before_first, after_first, position_or_len, suffix_len}
+use Rattle.ados_name.proofs.Common.{◌≡◌, ℕ, ◌+◌, ◌-◌, ◌<◌, ◌≤◌, zero-le, ◌==◌, Bool, false, ◌||◌, not, List, [], ◌∷◌, length, take, drop, get_or, Option, None, Some, is_some, unwrap_or, sym, ap, ◌∙◌, arith, list_any, before_first, after_first, position_or_len, suffix_len, drop_of_length-le, take-length, length-drop, false_from_ne_true, not_from_false, not_from_true, All-from_get_or, list_any_none, list_any_at, position_or_len_is, suffix_len_is, IsFirstByte, IsLastByte, is_in, is_separator}
 use Rattle.std.proofs.Math.Bool.{or-false}
-use Rattle.std.proofs.Math.ListN.{drop_of_length-le}
-use Rattle.std.proofs.Math.Seq.{take-length}
-use Rattle.std.proofs.lemmas.List.{length-drop}
-use Rattle.std.proofs.lemmas.Bool.{false_from_ne_true, not_from_false, not_from_true}
-use Rattle.std.proofs.lemmas.List.Elements.{All-from_get_or}
-use Rattle.std.proofs.lemmas.List.Folds.{list_any_none, list_any_at}
-use Rattle.std.proofs.lemmas.List.Sums.{position_or_len_is, suffix_len_is}
-use Rattle.bstr.specs.Find.{IsFirstByte, IsLastByte}
-use Rattle.bstr.specs.Bytes.{is_in}
-use Rattle.ados_name.specs.Name.{is_separator}
 
 -- the position after the found byte, or 0
 abbrev pub behind : Option ℕ → ℕ

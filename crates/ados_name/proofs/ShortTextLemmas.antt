@@ -1,8 +1,5 @@
 -- Cells hold the text that was copied into them.
-use Rattle.std.proofs.Common.{ℕ, ◌<◌, ◌≤◌, List, ◌++◌, length, drop, replicate, get_or, All, Fits, w8, sym, ap, refl, arith}
-use Rattle.std.proofs.Math.Seq.{take-append_seam}
-use Rattle.std.proofs.lemmas.List.{drop-replicate}
-use Rattle.std.proofs.lemmas.List.Elements.{All-from_get_or}
+use Rattle.ados_name.proofs.Common.{ℕ, ◌<◌, ◌≤◌, List, ◌++◌, length, drop, replicate, get_or, All, Fits, w8, sym, ap, refl, arith, take-append_seam, drop-replicate, All-from_get_or}
 use Rattle.ados_name.specs.ShortText.{HoldsText}
 
 pub bytes_fit : (text : List ℕ) → ((k : ℕ) → Fits w8 (get_or text k 0)) → All (λ c. c < 256) text

@@ -1,5 +1,4 @@
-use Rattle.std.proofs.Common.{ap}
-use Rattle.std.specs.Prelude.{option_copied}
+use Rattle.adf_block.proofs.Common.{ap, option_copied}
 use Rattle.adf_block.proofs.Booting.{booted}
 use Rattle.adf_block.proofs.boot_blocks.boot_image.Goals as goal
 

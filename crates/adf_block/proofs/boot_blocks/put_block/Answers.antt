@@ -1,4 +1,4 @@
-use Rattle.std.proofs.Common.{◌+◌, length}
+use Rattle.adf_block.proofs.Common.{◌+◌, length}
 use Rattle.adf_block.proofs.Booting.{put_byte, put_rest}
 use Rattle.adf_block.proofs.boot_blocks.put_block.Goals as goal
 

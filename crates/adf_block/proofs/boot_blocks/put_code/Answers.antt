@@ -1,5 +1,4 @@
-use Rattle.std.proofs.Common.{ℕ, List, slice_index, ap, ◌∙◌}
-use Rattle.std.proofs.lemmas.List.{take_rest}
+use Rattle.adf_block.proofs.Common.{ℕ, List, slice_index, ap, ◌∙◌, take_rest}
 use Rattle.adf_block.proofs.Booting.{holds_code}
 use Rattle.adf_block.proofs.boot_blocks.put_code.Goals as goal
 

@@ -1,4 +1,4 @@
-use Rattle.std.proofs.Common.{sym, ◌∙◌}
+use Rattle.adf_block.proofs.Common.{sym, ◌∙◌}
 use Rattle.adf_block.proofs.Booting.{sum_is}
 use Rattle.adf_block.proofs.boot_blocks.settle_boot.Goals as goal
 

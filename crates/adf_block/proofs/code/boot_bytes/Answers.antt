@@ -1,4 +1,4 @@
-use Rattle.std.proofs.Common.{length, ap, arith, length-take}
+use Rattle.adf_block.proofs.Common.{length, ap, arith, length-take}
 use Rattle.adf_block.proofs.code.boot_bytes.Goals as goal
 
 pub slice_bounds-result-end : goal.slice_bounds-result-end

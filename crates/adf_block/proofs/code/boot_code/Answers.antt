@@ -1,5 +1,4 @@
-use Rattle.std.proofs.Common.{[], subst, sym}
-use Rattle.adf_block.specs.BootCode.{Follows}
+use Rattle.adf_block.proofs.Common.{[], subst, sym, Follows}
 use Rattle.adf_block.proofs.code.boot_code.Goals as goal
 
 pub returns-then-not-is_bootable : goal.returns-then-not-is_bootable

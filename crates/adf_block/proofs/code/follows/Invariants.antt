@@ -1,4 +1,4 @@
-use Rattle.std.proofs.Common.{◌≡◌, ℕ, ◌<◌, ◌≤◌, slice_index}
+use Rattle.adf_block.proofs.Common.{◌≡◌, ℕ, ◌<◌, ◌≤◌, slice_index}
 use Rattle.adf_block.proofs.code.follows.Given as goal
 
 abbrev pub invariant-loop-at : goal.invariant-loop-at

@@ -1,5 +1,4 @@
-use Rattle.std.proofs.Common.{ℕ, List, ◌++◌, ◌∙◌, ap₂, subst}
-use Rattle.adf_block.specs.BootText.{EndsAt}
+use Rattle.adf_block.proofs.Common.{ℕ, List, ◌++◌, ◌∙◌, ap₂, subst, EndsAt}
 use Rattle.adf_block.proofs.Showing.{all_lines, lines_of}
 use Rattle.adf_block.proofs.code_text.boot_text.Goals as goal
 

@@ -1,4 +1,4 @@
-use Rattle.std.proofs.Common.{◌≡◌, ℕ, ◌≤◌, length, slice_index}
+use Rattle.adf_block.proofs.Common.{◌≡◌, ℕ, ◌≤◌, length, slice_index}
 use Rattle.adf_block.proofs.code_text.end_of.Given as goal
 
 abbrev pub invariant-loop-end : goal.invariant-loop-end

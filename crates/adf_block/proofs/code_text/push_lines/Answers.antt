@@ -1,5 +1,4 @@
-use Rattle.std.proofs.Common.{ℕ, ◌≡◌, ◌++◌, ◌+◌, ◌-◌, ◌*◌, drop, subst, take, arith}
-use Rattle.adf_block.specs.BootText.{hex_line}
+use Rattle.adf_block.proofs.Common.{ℕ, ◌≡◌, ◌++◌, ◌+◌, ◌-◌, ◌*◌, drop, subst, take, arith, hex_line}
 use Rattle.adf_block.proofs.Showing.{more_lines}
 use Rattle.adf_block.proofs.code_text.push_lines.Goals as goal
 

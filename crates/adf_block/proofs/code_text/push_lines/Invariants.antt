@@ -1,5 +1,4 @@
-use Rattle.std.proofs.Common.{◌≡◌, ◌++◌}
-use Rattle.adf_block.specs.BootText.{hex_lines}
+use Rattle.adf_block.proofs.Common.{◌≡◌, ◌++◌, hex_lines}
 use Rattle.adf_block.proofs.code_text.push_lines.Given as goal
 
 abbrev pub invariant-loop-line : goal.invariant-loop-line

@@ -1,6 +1,4 @@
-use Rattle.std.proofs.Common.{◌≡◌, ◌++◌, take}
-use Rattle.std.specs.Prelude.{flat_map}
-use Rattle.adf_block.specs.BootText.{spaced_byte}
+use Rattle.adf_block.proofs.Common.{◌≡◌, ◌++◌, take, flat_map, spaced_byte}
 use Rattle.adf_block.proofs.hex.push_bytes.Given as goal
 
 abbrev pub invariant-loop-byte : goal.invariant-loop-byte

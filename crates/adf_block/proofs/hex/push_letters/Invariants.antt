@@ -1,5 +1,4 @@
-use Rattle.std.proofs.Common.{◌≡◌, ◌++◌, map, take}
-use Rattle.adf_block.specs.BootText.{letter}
+use Rattle.adf_block.proofs.Common.{◌≡◌, ◌++◌, map, take, letter}
 use Rattle.adf_block.proofs.hex.push_letters.Given as goal
 
 abbrev pub invariant-loop-byte : goal.invariant-loop-byte

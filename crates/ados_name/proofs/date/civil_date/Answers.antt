@@ -1,8 +1,5 @@
-use Rattle.std.proofs.Common.{◌≤◌, ℕ, pos, ◌+ℤ◌, arith, w64, ◌∙◌}
+use Rattle.ados_name.proofs.Common.{◌≤◌, ℕ, pos, ◌+ℤ◌, arith, w64, ◌∙◌, Date, epoch_day, IsEpochDay, IsYmd, signed_arith, date_add-days, can_add-days}
 use Rattle.std.proofs.lemmas.Int.{to_z_pos}
-use Rattle.jiff.specs.Types.{Date}
-use Rattle.jiff.specs.Words.{epoch_day, IsEpochDay, IsYmd}
-use Rattle.jiff.proofs.SpanFacts.{signed_arith, date_add-days, can_add-days}
 use Rattle.ados_name.proofs.DateLemmas.{epoch_day-1978}
 use Rattle.ados_name.proofs.date.civil_date.Goals as goal
 

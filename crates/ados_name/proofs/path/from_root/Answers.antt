@@ -1,5 +1,4 @@
-use Rattle.std.proofs.Common.{sym, ◌∙◌}
-use Rattle.ados_name.specs.Name.{is_colon}
+use Rattle.ados_name.proofs.Common.{sym, ◌∙◌, is_colon}
 use Rattle.ados_name.proofs.SeparatorLemmas.{list_any-found}
 use Rattle.ados_name.proofs.path.from_root.Goals as goal
 

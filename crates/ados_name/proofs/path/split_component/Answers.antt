@@ -1,4 +1,4 @@
-use Rattle.ados_name.specs.Name.{is_slash}
+use Rattle.ados_name.proofs.Common.{is_slash}
 use Rattle.ados_name.proofs.SeparatorLemmas.{before-found, after-found, before-none, after-none}
 use Rattle.ados_name.proofs.path.split_component.Goals as goal
 

@@ -1,7 +1,4 @@
-use Rattle.std.proofs.Common.{ℕ, Option, Some, None, List, [], ◌∷◌, subst, ◌∙◌}
-use Rattle.bstr.specs.Find.{IsLastByte}
-use Rattle.bstr.specs.Bytes.{is_in}
-use Rattle.ados_name.specs.Name.{is_separator}
+use Rattle.ados_name.proofs.Common.{ℕ, Option, Some, None, List, [], ◌∷◌, subst, ◌∙◌, IsLastByte, is_in, is_separator}
 use Rattle.ados_name.proofs.PathLemmas.{drop-behind, last_name-plain, take-behind}
 use Rattle.ados_name.proofs.SeparatorLemmas.{is_in-separators}
 use Rattle.ados_name.proofs.path.split_last.Goals as goal

@@ -1,5 +1,4 @@
-use Rattle.std.proofs.Common.{None, Some, refl}
-use Rattle.ados_name.specs.Name.{is_colon}
+use Rattle.ados_name.proofs.Common.{None, Some, refl, is_colon}
 use Rattle.ados_name.proofs.SeparatorLemmas.{list_any-found, after-found}
 use Rattle.ados_name.proofs.path.without_volume.Goals as goal
 

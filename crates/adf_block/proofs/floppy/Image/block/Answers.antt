@@ -1,5 +1,4 @@
-use Rattle.std.proofs.Common.{◌≡◌, ℕ, ◌+◌, ◌-◌, ◌*◌, ap, ap₂, ◌∙◌, take, drop, List, arith}
-use Rattle.adf_block.specs.Image.{bytes_at}
+use Rattle.adf_block.proofs.Common.{◌≡◌, ℕ, ◌+◌, ◌-◌, ◌*◌, ap, ap₂, ◌∙◌, take, drop, List, arith, bytes_at}
 use Rattle.adf_block.proofs.floppy.Image.block.Goals as goal
 
 pub returns-clause-bytes : goal.returns-clause-bytes

@@ -1,6 +1,4 @@
-use Rattle.std.proofs.Common.{◌≡◌, ◌+◌, ◌-◌, ◌*◌, ◌≤◌, ◌++◌, ℕ, List, length, take, drop, arith, refl, ap, ap₂, ◌∙◌, length-take, length-drop}
-use Rattle.adf_block.specs.Image.{bytes_at}
-use Rattle.adf_block.specs.Lending.{with_block}
+use Rattle.adf_block.proofs.Common.{◌≡◌, ◌+◌, ◌-◌, ◌*◌, ◌≤◌, ◌++◌, ℕ, List, length, take, drop, arith, refl, ap, ap₂, ◌∙◌, length-take, length-drop, bytes_at, with_block}
 use Rattle.adf_block.proofs.Bytes.{length-written, overlaid}
 use Rattle.adf_block.proofs.floppy.Image.block_mut.Goals as goal
 

@@ -1,4 +1,4 @@
-use Rattle.std.proofs.Common.{◌≡◌, ◌<◌, ℕ, List, slice_index, length, ap, sym, ◌∙◌, subst}
+use Rattle.adf_block.proofs.Common.{◌≡◌, ◌<◌, ℕ, List, slice_index, length, ap, sym, ◌∙◌, subst}
 use Rattle.adf_block.proofs.floppy.Image.blocks.Goals as goal
 
 pub returns-clause-image : goal.returns-clause-image

@@ -1,5 +1,4 @@
-use Rattle.std.proofs.Common.{ℕ, ◌-◌, ap, ◌∙◌}
-use Rattle.adf_block.specs.Boot.{boot_sum, carried_sum}
+use Rattle.adf_block.proofs.Common.{ℕ, ◌-◌, ap, ◌∙◌, boot_sum, carried_sum}
 use Rattle.adf_block.proofs.floppy.Image.boot_sum.Goals as goal
 
 -- the complement of the end-around-carry sum

@@ -1,7 +1,5 @@
-use Rattle.std.proofs.Common.{◌≡◌, ◌≢◌, ℕ, List, ◌/◌, ◌%◌, arith, ap, ◌∙◌, refl}
+use Rattle.adf_block.proofs.Common.{◌≡◌, ◌≢◌, ℕ, List, ◌/◌, ◌%◌, arith, ap, ◌∙◌, refl, total, long, boot_long}
 use Rattle.std.proofs.lemmas.Bool.Decides.{nat_tests}
-use Rattle.adf_block.specs.Image.{total, long}
-use Rattle.adf_block.specs.Boot.{boot_long}
 use Rattle.adf_block.proofs.Totals.{total-more}
 use Rattle.adf_block.proofs.floppy.Image.boot_total.Goals.{then-k-ne-BOOT_CHECKSUM, else-k-ne-BOOT_CHECKSUM}
 use Rattle.adf_block.proofs.floppy.Image.boot_total.Goals as goal

@@ -1,6 +1,4 @@
-use Rattle.std.proofs.Common.{◌≡◌, ◌≤◌, ◌*◌, ◌^◌}
-use Rattle.adf_block.specs.Image.{total}
-use Rattle.adf_block.specs.Boot.{boot_long}
+use Rattle.adf_block.proofs.Common.{◌≡◌, ◌≤◌, ◌*◌, ◌^◌, total, boot_long}
 use Rattle.adf_block.proofs.floppy.Image.boot_total.Given as goal
 
 abbrev pub invariant-loop-k : goal.invariant-loop-k

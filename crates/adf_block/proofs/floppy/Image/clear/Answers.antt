@@ -1,5 +1,4 @@
-use Rattle.std.proofs.Common.{ℕ, List, length, ap, ◌∙◌, arith, slice_index}
-use Rattle.std.proofs.lemmas.List.{get_or-replicate}
+use Rattle.adf_block.proofs.Common.{ℕ, List, length, ap, ◌∙◌, arith, slice_index, get_or-replicate}
 use Rattle.adf_block.proofs.Blocks.{byte_at-with_block, only-with_block}
 use Rattle.adf_block.proofs.floppy.Image.clear.Goals as goal
 

@@ -1,4 +1,4 @@
-use Rattle.std.proofs.Common.{◌≡◌, ◌<◌, ℕ, List, slice_index, length, arith, refl, ap, subst}
+use Rattle.adf_block.proofs.Common.{◌≡◌, ◌<◌, ℕ, List, slice_index, length, arith, refl, ap, subst}
 use Rattle.adf_block.proofs.floppy.Image.from_bytes.Goals as goal
 
 pub invariant_of-result : goal.invariant_of-result

@@ -1,8 +1,4 @@
-use Rattle.std.proofs.Common.{◌≡◌, ◌-◌, ◌+◌, ℕ, List, length, sym, ap, ◌∙◌, arith, subst}
-use borrow.Rule.Slice.PartMut.{put_mid}
-use Rattle.adf_block.specs.Image.{byte_at}
-use Rattle.adf_block.specs.Lending.{with_block}
-use Rattle.adf_block.specs.Frame.{SameBut, Within}
+use Rattle.adf_block.proofs.Common.{◌≡◌, ◌-◌, ◌+◌, ℕ, List, length, sym, ap, ◌∙◌, arith, subst, put_mid, byte_at, with_block, SameBut, Within}
 use Rattle.adf_block.proofs.Putting.{written_byte, only_written}
 use Rattle.adf_block.proofs.floppy.Image.put_bytes.Goals as goal
 

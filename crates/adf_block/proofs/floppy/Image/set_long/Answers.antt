@@ -1,7 +1,4 @@
-use Rattle.std.proofs.Common.{◌≡◌, ◌+◌, ◌-◌, ◌*◌, ◌/◌, ◌≤◌, ◌<◌, ◌++◌, ℕ, List, length, take, drop, arith, ap, ap₂, sym, ◌∙◌}
-use borrow.Rule.Slice.PartMut.{put_mid}
-use Rattle.byteorder.specs.Endian.{big_bytes, big_number}
-use Rattle.adf_block.specs.Image.{long}
+use Rattle.adf_block.proofs.Common.{◌≡◌, ◌+◌, ◌-◌, ◌*◌, ◌/◌, ◌≤◌, ◌<◌, ◌++◌, ℕ, List, length, take, drop, arith, ap, ap₂, sym, ◌∙◌, put_mid, big_bytes, big_number, long}
 use Rattle.adf_block.proofs.Bytes.{with_number, length-with_number, number-with_number, written_rest, written_whole}
 use Rattle.adf_block.proofs.Frames.{only-with_number, other_long}
 use Rattle.adf_block.proofs.floppy.Image.set_long.Goals as goal

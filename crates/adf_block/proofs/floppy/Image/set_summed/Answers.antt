@@ -1,5 +1,4 @@
-use Rattle.std.proofs.Common.{◌≡◌, ◌<◌, ℕ, ◌+◌, ◌-◌, ◌%◌, ◌^◌, inr, sym, arith}
-use Rattle.adf_block.specs.Image.{long, block_sum}
+use Rattle.adf_block.proofs.Common.{◌≡◌, ◌<◌, ℕ, ◌+◌, ◌-◌, ◌%◌, ◌^◌, inr, sym, arith, long, block_sum}
 use Rattle.adf_block.proofs.Frames.{changed_sum}
 use Rattle.adf_block.proofs.Totals.{sum_fits}
 use Rattle.adf_block.proofs.floppy.Image.set_summed.Goals as goal

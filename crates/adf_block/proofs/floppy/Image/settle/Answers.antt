@@ -1,5 +1,4 @@
-use Rattle.std.proofs.Common.{◌≡◌, ◌<◌, ℕ, ◌+◌, ◌-◌, ◌%◌, ◌^◌, inr, ap, ◌∙◌, arith}
-use Rattle.adf_block.specs.Image.{total, long, block_sum}
+use Rattle.adf_block.proofs.Common.{◌≡◌, ◌<◌, ℕ, ◌+◌, ◌-◌, ◌%◌, ◌^◌, inr, ap, ◌∙◌, arith, total, long, block_sum}
 use Rattle.adf_block.proofs.Totals.{total-one}
 use Rattle.adf_block.proofs.floppy.Image.settle.Goals as goal
 

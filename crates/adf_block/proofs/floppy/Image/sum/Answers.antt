@@ -1,5 +1,4 @@
-use Rattle.std.proofs.Common.{◌≡◌, ℕ, ◌%◌, ◌^◌, ap, ◌∙◌, arith}
-use Rattle.adf_block.specs.Image.{total, long, block_sum}
+use Rattle.adf_block.proofs.Common.{◌≡◌, ℕ, ◌%◌, ◌^◌, ap, ◌∙◌, arith, total, long, block_sum}
 use Rattle.adf_block.proofs.Totals.{total-more}
 use Rattle.adf_block.proofs.floppy.Image.sum.Goals as goal
 

@@ -1,5 +1,4 @@
-use Rattle.std.proofs.Common.{◌≡◌, ◌%◌, ◌^◌}
-use Rattle.adf_block.specs.Image.{total, long}
+use Rattle.adf_block.proofs.Common.{◌≡◌, ◌%◌, ◌^◌, total, long}
 use Rattle.adf_block.proofs.floppy.Image.sum.Given as goal
 
 abbrev pub invariant-loop-i : goal.invariant-loop-i

@@ -1,5 +1,4 @@
-use Rattle.std.proofs.Common.{◌≡◌, ◌<◌, ◌+◌, ◌*◌, ◌%◌, length, take, fold}
-use Rattle.ados_name.specs.Name.{upper}
+use Rattle.ados_name.proofs.Common.{◌≡◌, ◌<◌, ◌+◌, ◌*◌, ◌%◌, length, take, fold, upper}
 use Rattle.ados_name.proofs.name.Name.hash.Given as goal
 
 abbrev pub invariant-loop-byte : goal.invariant-loop-byte

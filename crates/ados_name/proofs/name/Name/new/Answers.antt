@@ -1,10 +1,4 @@
-use Rattle.std.proofs.Common.{ℕ, ◌≡◌, ◌≤◌, ◌==◌, Option, List, [], ◌∷◌, Bool, true, false, is_some, length, All, ◌<◌, refl, subst, sym, ◌∙◌}
-use Rattle.std.proofs.lemmas.Bool.{true≢false}
-use Rattle.std.specs.List.{list_any}
-use Rattle.bstr.specs.Find.{IsFirstByte}
-use Rattle.bstr.specs.Bytes.{is_in}
-use Rattle.ados_name.specs.declared.NameFault.TheVariants.{Separator}
-use Rattle.ados_name.specs.Name.{is_separator, IsName}
+use Rattle.ados_name.proofs.Common.{ℕ, ◌≡◌, ◌≤◌, ◌==◌, Option, List, [], ◌∷◌, Bool, true, false, is_some, length, All, ◌<◌, refl, subst, sym, ◌∙◌, true≢false, list_any, IsFirstByte, is_in, Separator, is_separator, IsName}
 use Rattle.ados_name.proofs.SeparatorLemmas.{is_in-separators, list_any-found}
 use Rattle.ados_name.proofs.NameLemmas.{IsName-from_plain, first_fault-separator, plain-from_IsName, no_name_is_same}
 use Rattle.ados_name.proofs.name.Name.new.Goals as goal

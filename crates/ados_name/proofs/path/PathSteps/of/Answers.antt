@@ -1,5 +1,4 @@
-use Rattle.std.proofs.Common.{ap}
-use Rattle.ados_name.specs.Name.{steps, steps_along}
+use Rattle.ados_name.proofs.Common.{ap, steps, steps_along}
 use Rattle.ados_name.proofs.path.PathSteps.of.Goals as goal
 
 pub returns : goal.returns

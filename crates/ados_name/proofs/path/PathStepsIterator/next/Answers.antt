@@ -1,4 +1,4 @@
-use Rattle.std.proofs.Common.{sym, ◌∙◌, rules}
+use Rattle.ados_name.proofs.Common.{sym, ◌∙◌, rules}
 use Rattle.ados_name.proofs.PathLemmas.{next-end, next-parent, next-child}
 use Rattle.ados_name.proofs.path.PathStepsIterator.next.Goals as goal
 

@@ -1,4 +1,4 @@
-use Rattle.std.proofs.Common.{◌∙◌}
+use Rattle.ados_name.proofs.Common.{◌∙◌}
 use Rattle.ados_name.proofs.ProtectionLemmas.{mask-bit}
 use Rattle.ados_name.proofs.protect.Protect.archive.Goals as goal
 

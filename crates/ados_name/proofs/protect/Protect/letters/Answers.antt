@@ -1,6 +1,5 @@
-use Rattle.std.proofs.Common.{◌≡◌, ℕ, ◌==◌, ◌^◌, Bool, not, ◌∷◌, [], ap, ◌∙◌}
+use Rattle.ados_name.proofs.Common.{◌≡◌, ℕ, ◌==◌, ◌^◌, Bool, not, ◌∷◌, [], ap, ◌∙◌, bit_and}
 use Rattle.std.specs.Prelude.{if◌then◌else◌}
-use Rattle.std.specs.Int.RustNames.{bit_and}
 use Rattle.ados_name.specs.Protection.{is_set, letter_or_dash}
 use Rattle.ados_name.proofs.ProtectionLemmas.{mask-bit}
 use Rattle.ados_name.proofs.protect.Protect.letters.Goals as goal

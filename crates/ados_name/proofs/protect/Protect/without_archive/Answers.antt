@@ -1,4 +1,4 @@
-use Rattle.std.proofs.Common.{◌<◌, ◌^◌, arith, ◌∙◌}
+use Rattle.ados_name.proofs.Common.{◌<◌, ◌^◌, arith, ◌∙◌}
 use Rattle.ados_name.proofs.ProtectionLemmas.{clear-archive}
 use Rattle.ados_name.proofs.protect.Protect.without_archive.Goals as goal
 

@@ -1,4 +1,4 @@
-use Rattle.std.proofs.Common.{rules, sym, append_assoc, ◌∙◌}
+use Rattle.ados_name.proofs.Common.{rules, sym, append_assoc, ◌∙◌}
 use Rattle.std.proofs.lemmas.Result.{IfOk-weaker}
 use Rattle.ados_name.proofs.DateLemmas.{civil_text-written}
 use Rattle.ados_name.proofs.stamp.Date3.text.Goals as goal
