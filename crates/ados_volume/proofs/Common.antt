@@ -57,6 +57,7 @@ pub use Rattle.ados_volume.specs.steps.Places.{AreKnown, Drops, IsKnown}
 pub use Rattle.lru.proofs.CallerLemmas.{Contains-lookup, Contains-promoted, Contains-put_entries, Contains-remove_entry}
 pub use Rattle.lru.proofs.Splits.{Contains-cons}
 pub use Rattle.lru.specs.LruCache.{LruCache, lru_cache, promoted, put_entries}
+pub use Rattle.std.proofs.Common.{AllPairs, Bool, Contains, Err, IfSome, IsErrAnd, List, MatchResult, None, Ok, OnErr, OnOk, Option, Result, Some, [], add-one, ap, append_assoc, ap₂, arith, bytes_eq, cond, drop, false, filter, get_or, if◌then◌else◌, inl, inr, is_some, le-leb, length, lt-ltb, map, min, nat_eq, nat_le, nat_lt, negsuc, not, of_z, option_map, pos, refl, replicate, reverse, rules, slice_index, slice_index_or, subst, suc, sym, take, to_z, true, vec_len, w32, zero, zero-add, ℕ, ℤ, ◌%◌, ◌&&◌, ◌*◌, ◌++◌, ◌+◌, ◌-◌, ◌/◌, ◌<◌, ◌==◌, ◌^◌, ◌∙◌, ◌∷◌, ◌≡◌, ◌≢◌, ◌≤◌, ◌⊎◌}
 pub use Rattle.std.proofs.Math.ListN.{drop_of_length-le, set}
 pub use Rattle.std.proofs.lemmas.Bool.{and_from, and_parts, both_ways, cases_eq, cases_lt, eq-eqb, eqb-true, false≢true, le-ltb, lt-leb, ltb-true, ne_eqb, not-false, true≢false}
 pub use Rattle.std.proofs.lemmas.List.{append-nil, drop-drop, drop-replicate, drop-take, get_or-replicate, get_or-set_other, get_or-set_same, get_or_default, get_or_past, length-append, length-drop, length-map, length-replicate, length-set, length-take, map-append, reverse-append, reverse-reverse, take-take, take_at}

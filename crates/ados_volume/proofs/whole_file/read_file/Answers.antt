@@ -1,5 +1,4 @@
-use Rattle.std.proofs.Common.{◌≡◌, ℕ, List, length, Option, Some, sym, subst, ap, ◌∙◌, rules}
-use Rattle.ados_volume.proofs.Common.{readable, HasFileKey, file_writable, Content, bytes_of, size_in, content_in, contents}
+use Rattle.ados_volume.proofs.Common.{Content, HasFileKey, List, Option, Some, ap, bytes_of, content_in, contents, file_writable, length, readable, rules, size_in, subst, sym, ℕ, ◌∙◌, ◌≡◌}
 use Rattle.ados_model.specs.File.{ReadableFile}
 use Rattle.ados_model.specs.Tree.{bytes_in}
 use Rattle.ados_change.proofs.Renewed.{bytes_in as bytes_held}
