@@ -1,6 +1,5 @@
 -- Lists without duplicates.
-use Rattle.ados_volume.proofs.Common.{Contains, Contains-append_cases, Contains-cases, Contains-here, Contains-later, List, Once, Once-append, Once-head, Once-tail, [], arith, inl, inr, reverse, reverse-append, subst, sym, ℕ, ◌++◌, ◌∷◌, ◌≡◌}
-use Rattle.ados_model.proofs.KeyLists.{Contains-nil}
+use Rattle.ados_volume.proofs.Common.{Contains, Contains-append_cases, Contains-cases, Contains-here, Contains-later, Contains-nil, List, Once, Once-append, Once-head, Once-tail, [], arith, inl, inr, reverse, reverse-append, subst, sym, ℕ, ◌++◌, ◌∷◌, ◌≡◌}
 
 pub Once-nil : Once []
 Once-nil i j d l m = absurd (omega arith)

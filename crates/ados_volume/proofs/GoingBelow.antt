@@ -1,7 +1,5 @@
 -- The progress of a walk over everything below a directory.
-use Rattle.ados_volume.proofs.Common.{AreBelow, Below, Contains, Contains-append_cases, Contains-append_left, Contains-append_right, Contains-cases, Contains-here, Contains-later, HasGrown, IsSome, IsUnder, List, Once, Once-append, Once-before, Once-front, Option, Proper, Some, Tree, [], ap, append-nil, append_assoc, arith, entries, inl, inr, is_some, itself, length, length-append, length-once, map, map-append, parent_in, parent_of, placed, refl, reverse, reverse-append, reverse-reverse, subst, suc, sym, ℕ, ◌++◌, ◌+◌, ◌<◌, ◌∙◌, ◌∷◌, ◌≡◌, ◌≢◌}
-use Rattle.ados_model.proofs.KeyLists.{Contains-nil}
-use Rattle.ados_change.specs.Conditions.IsUnder.{by_parent as under_parent}
+use Rattle.ados_volume.proofs.Common.{AreBelow, Below, Contains, Contains-append_cases, Contains-append_left, Contains-append_right, Contains-cases, Contains-here, Contains-later, Contains-nil, HasGrown, IsSome, IsUnder, List, Once, Once-append, Once-before, Once-front, Option, Proper, Some, Tree, [], ap, append-nil, append_assoc, arith, entries, inl, inr, is_some, itself, length, length-append, length-once, map, map-append, parent_in, parent_of, placed, refl, reverse, reverse-append, reverse-reverse, subst, suc, sym, under_parent, ℕ, ◌++◌, ◌+◌, ◌<◌, ◌∙◌, ◌∷◌, ◌≡◌, ◌≢◌}
 use Rattle.ados_volume.proofs.Loops.{no_loop}
 use Rattle.ados_volume.proofs.Distinct.{Once-nil, Once-one, Once-reverse, Contains-one, Contains-reverse}
 use Rattle.ados_volume.proofs.Waiting.{Following, inside, parted}

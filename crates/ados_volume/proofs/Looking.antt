@@ -1,9 +1,7 @@
 -- The tree, in terms of the hash chains, files and longs of its image.
-use Rattle.ados_volume.proofs.Common.{Bool, Contains, Contains-append_right, Contains-cases, Contains-here, Contains-later, Content, Entry, FILE_TYPE, FindsNamed, InChains, IsSome, LawfulChains, List, Node, None, Option, Same, Some, Stands, Tree, [], ap, append-nil, arith, behind, behind-later, bytes_eq, bytes_eq-Decides, chains_from, chains_from-split, child_of, content_at, content_in, entries, entries_after, entries_by_slot, entries_of, entry-in_chains, entry_node, eq-eqb, false, false≢true, find, first-entry, first_left, holds_file, in_slot, inl, inr, is_file, long, map, name_at, name_of, nat_eq, refl, root, root_or_parent, slot, some_in, subst, suc, sym, true, type_of, upper, zero, zero-add, ℕ, ◌++◌, ◌+◌, ◌==◌, ◌∙◌, ◌∷◌, ◌≡◌}
+use Rattle.ados_volume.proofs.Common.{Bool, Contains, Contains-append_right, Contains-cases, Contains-here, Contains-later, Contains-nil, Content, Directory, Entry, FILE_TYPE, File, FindsNamed, InChains, IsSome, LawfulChains, List, Node, None, Option, Same, Some, Stands, Tree, [], ap, append-nil, arith, behind, behind-later, bytes_eq, bytes_eq-Decides, chains_from, chains_from-split, child_of, content_at, content_in, entries, entries_after, entries_by_slot, entries_of, entry-in_chains, entry_node, eq-eqb, false, false≢true, find, first-entry, first_left, holds_file, in_slot, inl, inr, is_file, long, map, name_at, name_of, nat_eq, refl, root, root_or_parent, slot, some_in, subst, suc, sym, true, type_of, upper, zero, zero-add, ℕ, ◌++◌, ◌+◌, ◌==◌, ◌∙◌, ◌∷◌, ◌≡◌}
 use Rattle.ados_name.specs.Path.{SameNameSameSlot}
-use Rattle.ados_model.proofs.KeyLists.{Contains-nil}
 use Rattle.ados_chain.proofs.Found.{listed_same}
-use Rattle.ados_model.specs.Tree.Content.{Directory, File}
 use Rattle.ados_model.proofs.Lists.{joined}
 use Rattle.ados_volume.proofs.Bridge.{lawful_chains, name_is}
 use Rattle.ados_change.proofs.Entering.{Contains-part, Contains-passes}

@@ -1,6 +1,5 @@
 -- From which keys a directory can be listed further.
-use Rattle.ados_volume.proofs.Common.{Bool, Contains, Contains-cases, Contains-here, Contains-later, Entry, IsListed, IsSome, List, Some, Stands, Tree, [], behind, cond, entries, entries_after, eq-eqb, eqb-true, false, false≢true, first_left, inl, inr, refl, subst, sym, true, ℕ, ◌==◌, ◌∙◌, ◌∷◌, ◌≡◌, ◌≢◌}
-use Rattle.ados_model.proofs.KeyLists.{Contains-nil}
+use Rattle.ados_volume.proofs.Common.{Bool, Contains, Contains-cases, Contains-here, Contains-later, Contains-nil, Entry, IsListed, IsSome, List, Some, Stands, Tree, [], behind, cond, entries, entries_after, eq-eqb, eqb-true, false, false≢true, first_left, inl, inr, refl, subst, sym, true, ℕ, ◌==◌, ◌∙◌, ◌∷◌, ◌≡◌, ◌≢◌}
 use Rattle.ados_volume.specs.Order.{IsPlaceIn}
 use Rattle.ados_volume.proofs.Looking.{next_listed}
 

@@ -1,5 +1,4 @@
-use Rattle.ados_volume.proofs.Common.{Content, None, Option, Some, ap, entry_type, of_z, refl, to_z, w32, ℕ, ℤ, ◌∙◌, ◌≡◌}
-use Rattle.ados_model.specs.Tree.Content.{Directory, File}
+use Rattle.ados_volume.proofs.Common.{Content, Directory, File, None, Option, Some, ap, entry_type, of_z, refl, to_z, w32, ℕ, ℤ, ◌∙◌, ◌≡◌}
 use Rattle.ados_volume.proofs.examine.examine_in.Goals as goal
 
 -- a type is unchanged by a conversion to 32 bits and back
