@@ -1,8 +1,5 @@
 -- Everything below a directory: all keys whose parents lead up to it, each after its own directory.
-use Rattle.std.proofs.Common.{◌≡◌, ◌≢◌, ℕ, zero, suc, ◌+◌, ◌<◌, Option, None, Some, inl, inr, List, [], ◌∷◌, ◌++◌, length, get_or, Contains, IsSome, is_some, refl, sym, ap, subst, arith}
-use Rattle.ados_volume.proofs.Common.{get_or_default, map-append, Contains-append_cases, Contains-append_left, Contains-append_right, Contains-cases, Contains-here, Contains-later, Tree, Proper, entries, parent_of, parent_in, IsUnder, itself, Below, AreBelow, placed}
-use Rattle.ados_model.proofs.KeyLists.{Contains-nil}
-use Rattle.ados_change.specs.Conditions.IsUnder.{by_parent as under_parent}
+use Rattle.ados_volume.proofs.Common.{AreBelow, Below, Contains, Contains-append_cases, Contains-append_left, Contains-append_right, Contains-cases, Contains-here, Contains-later, Contains-nil, IsSome, IsUnder, List, None, Option, Proper, Some, Tree, [], ap, arith, entries, get_or, get_or_default, inl, inr, is_some, itself, length, map-append, parent_in, parent_of, placed, refl, subst, suc, sym, under_parent, zero, ℕ, ◌++◌, ◌+◌, ◌<◌, ◌∷◌, ◌≡◌, ◌≢◌}
 use Rattle.ados_volume.specs.Below.AreBelow.{none, entry}
 use Rattle.ados_volume.proofs.Loops.{no_loop}
 use Rattle.ados_volume.proofs.GoingBelow.{keys_of}

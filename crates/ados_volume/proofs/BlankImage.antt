@@ -1,6 +1,5 @@
 -- An image of zeros with the kind, a blank root and its bitmap blocks is a blank image.
-use Rattle.std.proofs.Common.{◌≡◌, ℕ, ◌+◌, ◌-◌, ◌*◌, ◌<◌, ◌≤◌, ◌⊎◌, inl, inr, Bool, true, false, List, [], ◌∷◌, length, replicate, slice_index, refl, sym, ap, ◌∙◌, arith, zero-add}
-use Rattle.ados_volume.proofs.Common.{cases_lt, false≢true, get_or-replicate, Format, IsInside, block_count, byte_at, bytes_at, long, block_sum, root_key, page_count, has_free_bit, HasText, IsSize, SameBut, InBlock, OnlyBlock, Within, same_count, same_long, same_bytes_at, same_sum, Date3, page_block, pages_of, HasBit, date_at, format_byte, IsBlankRoot, IsBetweenFields, NamesBlank}
+use Rattle.ados_volume.proofs.Common.{Bool, Date3, Format, HasBit, HasText, InBlock, IsBetweenFields, IsBlankRoot, IsInside, IsSize, List, NamesBlank, OnlyBlock, SameBut, Within, [], ap, arith, block_count, block_sum, byte_at, bytes_at, cases_lt, date_at, false, false≢true, format_byte, get_or-replicate, has_free_bit, inl, inr, length, long, page_block, page_count, pages_of, refl, replicate, root_key, same_bytes_at, same_count, same_long, same_sum, slice_index, sym, true, zero-add, ℕ, ◌*◌, ◌+◌, ◌-◌, ◌<◌, ◌∙◌, ◌∷◌, ◌≡◌, ◌≤◌, ◌⊎◌}
 use Rattle.ados_map.specs.Bits.{is_unnamed}
 use Rattle.ados_map.specs.Changes.{InPages, PagesRebuilt}
 use Rattle.ados_model.specs.declared.role.Role.TheVariants.{Root}

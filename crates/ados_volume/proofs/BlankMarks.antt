@@ -1,6 +1,5 @@
 -- The blocks in use in a blank volume.
-use Rattle.std.proofs.Common.{◌≡◌, ℕ, ◌+◌, ◌<◌, ◌≤◌, inl, inr, Bool, true, false, not, ◌&&◌, nat_le, nat_lt, List, length, slice_index_or, refl, ap, ◌∙◌, arith, lt-ltb, le-ltb, le-leb}
-use Rattle.ados_volume.proofs.Common.{lt-leb, get_or_past, root_key, page_count, NamesBlank}
+use Rattle.ados_volume.proofs.Common.{Bool, List, NamesBlank, ap, arith, false, get_or_past, inl, inr, le-leb, le-ltb, length, lt-leb, lt-ltb, nat_le, nat_lt, not, page_count, refl, root_key, slice_index_or, true, ℕ, ◌&&◌, ◌+◌, ◌<◌, ◌∙◌, ◌≡◌, ◌≤◌}
 use Rattle.ados_map.specs.Bits.{is_unnamed}
 
 pub names_blank : (n last : ℕ) (named : List Bool) → 16 ≤ n → last ≡ root_key n + 1 + page_count n → length named ≡ n

@@ -1,6 +1,5 @@
 -- The fields of a blank root, written one after the other.
-use Rattle.std.proofs.Common.{◌≡◌, ◌≢◌, ℕ, ◌+◌, ◌-◌, ◌*◌, ◌/◌, ◌^◌, ◌<◌, ◌≤◌, ◌⊎◌, inl, inr, List, length, refl, sym, ap, ◌∙◌, subst, arith}
-use Rattle.ados_volume.proofs.Common.{byte_at, long, block_sum, root_key, page_count, HasText, SameBut, AtLong, OnlyLong, Within, cases_lt, cases_eq, same_weaken, same_long, same_bytes_at, Date3, date_at, IsBlankRoot, HasBlankFields, IsBetweenFields}
+use Rattle.ados_volume.proofs.Common.{AtLong, Date3, HasBlankFields, HasText, IsBetweenFields, IsBlankRoot, List, OnlyLong, SameBut, Within, ap, arith, block_sum, byte_at, cases_eq, cases_lt, date_at, inl, inr, length, long, page_count, refl, root_key, same_bytes_at, same_long, same_weaken, subst, sym, ℕ, ◌*◌, ◌+◌, ◌-◌, ◌/◌, ◌<◌, ◌^◌, ◌∙◌, ◌≡◌, ◌≢◌, ◌≤◌, ◌⊎◌}
 use Rattle.adf_block.proofs.Longs.{long-bytes}
 
 -- a long is four bytes

@@ -1,6 +1,5 @@
 -- A bound below which no block is free, after a change.
-use Rattle.std.proofs.Common.{◌≡◌, ℕ, ◌/◌, ◌<◌, Bool, true, false, inl, inr, List, length, IsSome, refl, sym, ap, ◌∙◌, arith}
-use Rattle.ados_volume.proofs.Common.{false≢true, IsInside, block_count, has_free_bit, HasFreeBit, same_count, NoneFreeBelow, page_block, pages_of, Tree, Duty, Stands, KeepsRest, beside_pages, root_serves, OnlyRestamped, Restamped}
+use Rattle.ados_volume.proofs.Common.{Bool, Duty, HasFreeBit, IsInside, IsSome, KeepsRest, List, NoneFreeBelow, OnlyRestamped, Restamped, Stands, Tree, ap, arith, beside_pages, block_count, false, false≢true, has_free_bit, inl, inr, length, page_block, pages_of, refl, root_serves, same_count, sym, true, ℕ, ◌/◌, ◌<◌, ◌∙◌, ◌≡◌}
 use Rattle.ados_map.proofs.MarkLemmas.{bit_of_inside, mark_kept}
 use Rattle.ados_data.proofs.Bounds.{below_stays}
 use Rattle.ados_model.specs.Faults.{root_of}

@@ -1,8 +1,6 @@
 -- In an image that represents a tree, the hash chains of its directories are lawful.
-use Rattle.std.proofs.Common.{◌≡◌, ◌≢◌, ℕ, ◌<◌, ◌==◌, List, Contains, Some, None, sym, ap, ◌∙◌, subst}
 use Rattle.std.proofs.lemmas.List.Kept.{AllPairs-filter}
-use Rattle.ados_volume.proofs.Common.{get_or_default, NAME_BYTE, slot, IsName, LawfulChains, IsEntryBlock, name_at, inside, key_serves, Node, Tree, LeadsToRoot, entries, name_of, parent_of, at_root, by_parent, Duty, Stands, in_slot, root_is, entry_at, IsEntryNode}
-use Rattle.ados_model.specs.Tree.Content.{Directory}
+use Rattle.ados_volume.proofs.Common.{Contains, Directory, Duty, IsEntryBlock, IsEntryNode, IsName, LawfulChains, LeadsToRoot, List, NAME_BYTE, Node, None, Some, Stands, Tree, ap, at_root, by_parent, entries, entry_at, get_or_default, in_slot, inside, key_serves, name_at, name_of, parent_of, root_is, slot, subst, sym, ℕ, ◌<◌, ◌==◌, ◌∙◌, ◌≡◌, ◌≢◌}
 use Rattle.ados_model.proofs.NoFaults.{text_is}
 
 module _ (image : List ℕ) (t : Tree) (s : Stands image t) where

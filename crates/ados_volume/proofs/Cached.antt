@@ -1,9 +1,7 @@
 -- The results of the cache of children, and its contents.
-use Rattle.std.proofs.Common.{◌≡◌, ℕ, zero, suc, ◌-◌, Bool, true, ◌==◌, ◌&&◌, inl, inr, List, [], ◌∷◌, ◌++◌, map, length, take, drop, replicate, find, Contains, Option, Some, None, Result, OnOk, OnErr, IfSome, bytes_eq, refl, sym, ap, ap₂, ◌∙◌, subst, eq-eqb, arith}
 use Rattle.std.specs.Char.{to_ascii_uppercase}
 use Rattle.std.proofs.lemmas.Bool.Decides.{nat_tests}
-use Rattle.ados_volume.proofs.Common.{lookup, remove_entry, keys_of, IsDistinct, and_parts, and_from, eqb-true, length-map, map-append, take_at, drop-replicate, bytes_eq-Decides, LruCache, lru_cache, promoted, put_entries, Contains-promoted, Contains-remove_entry, upper, Same, Tree, entries, name_of, Stands, child_of, Sought, Seeks, HasPair, Adds, AddsNone, TakesOut, AreChildren}
-use Rattle.lru.proofs.Splits.{Contains-nil}
+use Rattle.ados_volume.proofs.Common.{Adds, AddsNone, AreChildren, Bool, Contains, Contains-nil, Contains-promoted, Contains-remove_entry, HasPair, IfSome, IsDistinct, List, LruCache, None, OnErr, OnOk, Option, Result, Same, Seeks, Some, Sought, Stands, TakesOut, Tree, [], and_from, and_parts, ap, ap₂, arith, bytes_eq, bytes_eq-Decides, child_of, drop, drop-replicate, entries, eq-eqb, eqb-true, find, inl, inr, keys_of, length, length-map, lookup, lru_cache, map, map-append, name_of, promoted, put_entries, refl, remove_entry, replicate, subst, suc, sym, take, take_at, true, upper, zero, ℕ, ◌&&◌, ◌++◌, ◌-◌, ◌==◌, ◌∙◌, ◌∷◌, ◌≡◌}
 use Rattle.ados_volume.proofs.Pairs.{found_pair, gone, put_pair}
 
 -- how keys of the cache are compared

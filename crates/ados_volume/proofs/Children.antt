@@ -1,6 +1,5 @@
 -- Cached children after a change of the tree.
-use Rattle.std.proofs.Common.{◌≡◌, ℕ, inl, inr, List, map, Contains, Option, Some, None, option_map, refl, sym, ap, ◌∙◌, subst, eq-eqb}
-use Rattle.ados_volume.proofs.Common.{ne_eqb, cases_eq, bytes_eq-Decides, upper, Same, Node, Tree, entries, entries_in, name_of, name_in, Stands, child_of, changed, one_tree, Sought, HasPair, AreChildren, AreListed}
+use Rattle.ados_volume.proofs.Common.{AreChildren, AreListed, Contains, HasPair, List, Node, None, Option, Same, Some, Sought, Stands, Tree, ap, bytes_eq-Decides, cases_eq, changed, child_of, entries, entries_in, eq-eqb, inl, inr, map, name_in, name_of, ne_eqb, one_tree, option_map, refl, subst, sym, upper, ℕ, ◌∙◌, ◌≡◌}
 use Rattle.ados_volume.proofs.Looking.{is_child}
 use Rattle.ados_volume.proofs.Walking.{find-is}
 

@@ -1,7 +1,5 @@
 -- A walk up from directory to directory, and whether it meets a key.
-use Rattle.std.proofs.Common.{◌≡◌, ◌≢◌, ℕ, zero, suc, ◌==◌, Bool, true, false, [], Some, None, ap}
-use Rattle.std.specs.Prelude.{◌||◌}
-use Rattle.ados_volume.proofs.Common.{list_any, option_map_or, eq-eqb, ne_eqb, Tree, parent_of, upward}
+use Rattle.ados_volume.proofs.Common.{Bool, None, Some, Tree, [], ap, eq-eqb, false, list_any, ne_eqb, option_map_or, parent_of, suc, true, upward, zero, ℕ, ◌==◌, ◌||◌, ◌≡◌, ◌≢◌}
 
 -- the key is `above`, or n steps up meet it
 abbrev pub meets : Tree → ℕ → ℕ → ℕ → Bool

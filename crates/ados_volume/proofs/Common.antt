@@ -12,10 +12,10 @@ unfoldable pub use Rattle.ados_chain.specs.Chains.{chains_from}
 pub use Rattle.ados_chain.specs.Chains.{InChains, IsEntryBlock, LawfulChains, entries_of, name_at}
 pub use Rattle.ados_chain.specs.Look.{FindsNamed, first_left}
 pub use Rattle.ados_chain.specs.declared.read.Next.TheVariants.{Entry}
-pub use Rattle.ados_change.proofs.Renewed.{file_writable}
+pub use Rattle.ados_change.proofs.Renewed.{bytes_in, file_writable}
 pub use Rattle.ados_change.proofs.Writable.{beside_pages, data_is, extensions_is, format_is, inside, key_serves, lawful_pages, page_serves, root_serves}
 pub use Rattle.ados_change.specs.Conditions.{CanMake, CanRemove, CanRename, IsDirectoryKey, IsNewName, IsUnder}
-pub use Rattle.ados_change.specs.Conditions.IsUnder.{itself}
+pub use Rattle.ados_change.specs.Conditions.IsUnder.{by_parent as under_parent, itself}
 pub use Rattle.ados_change.specs.NewBlocks.{KeepsRest}
 pub use Rattle.ados_change.specs.Places.{OnlyRestamped, Restamped}
 pub use Rattle.ados_change.specs.Renewed.{Grows, Writes}
@@ -38,6 +38,7 @@ pub use Rattle.ados_model.specs.Objects.{disk_info, entry_type, is_under, upward
 pub use Rattle.ados_model.specs.Parts.{name_in, protection_in, size_in}
 pub use Rattle.ados_model.specs.Stands.{Duty, HasDuty, HasEntry, Stands, date_at, format_byte, in_slot, type_of}
 pub use Rattle.ados_model.specs.Tree.{Content, LeadsToRoot, Node, Proper, Tree, behind, block_cost, bytes_of, content_at, cost_in, data_count, data_size, entries, entries_in, extension_count, name_of, parent_of, root, size_of}
+pub use Rattle.ados_model.specs.Tree.Content.{Directory, File}
 pub use Rattle.ados_model.specs.Tree.LeadsToRoot.{at_root, by_parent}
 unfoldable pub use Rattle.ados_name.specs.Name.{steps}
 pub use Rattle.ados_name.specs.Name.{IsName, IsNameByte, Same, Step, is_separator, slot, upper, without_archive}
@@ -55,8 +56,9 @@ pub use Rattle.ados_volume.specs.steps.Listed.{AreListed, IsListed}
 pub use Rattle.ados_volume.specs.steps.Owning.{AreKnownIn, AreKnownOwners, IsByBit, IsLeft, IsNextPlace, LeavesLess, LeavesNoPage, LeavesNone, LeavesNoneOf, LeavesNonePointed}
 pub use Rattle.ados_volume.specs.steps.Places.{AreKnown, Drops, IsKnown}
 pub use Rattle.lru.proofs.CallerLemmas.{Contains-lookup, Contains-promoted, Contains-put_entries, Contains-remove_entry}
-pub use Rattle.lru.proofs.Splits.{Contains-cons}
+pub use Rattle.lru.proofs.Splits.{Contains-cons, Contains-nil}
 pub use Rattle.lru.specs.LruCache.{LruCache, lru_cache, promoted, put_entries}
+pub use Rattle.std.proofs.Common.{AllPairs, Bool, Contains, Err, IfSome, IsErrAnd, List, MatchResult, None, Ok, OnErr, OnOk, Option, Result, Some, [], add-one, ap, append_assoc, ap₂, arith, bytes_eq, cond, drop, false, filter, get_or, if◌then◌else◌, inl, inr, is_some, le-leb, length, lt-ltb, map, min, nat_eq, nat_le, nat_lt, negsuc, not, of_z, option_map, pos, refl, replicate, reverse, rules, slice_index, slice_index_or, subst, suc, sym, take, to_z, true, vec_len, w32, zero, zero-add, ℕ, ℤ, ◌%◌, ◌&&◌, ◌*◌, ◌++◌, ◌+◌, ◌-◌, ◌/◌, ◌<◌, ◌==◌, ◌^◌, ◌||◌, ◌↔◌, ◌∙◌, ◌∷◌, ◌≡◌, ◌≢◌, ◌≤◌, ◌⊎◌}
 pub use Rattle.std.proofs.Math.ListN.{drop_of_length-le, set}
 pub use Rattle.std.proofs.lemmas.Bool.{and_from, and_parts, both_ways, cases_eq, cases_lt, eq-eqb, eqb-true, false≢true, le-ltb, lt-leb, ltb-true, ne_eqb, not-false, true≢false}
 pub use Rattle.std.proofs.lemmas.List.{append-nil, drop-drop, drop-replicate, drop-take, get_or-replicate, get_or-set_other, get_or-set_same, get_or_default, get_or_past, length-append, length-drop, length-map, length-replicate, length-set, length-take, map-append, reverse-append, reverse-reverse, take-take, take_at}

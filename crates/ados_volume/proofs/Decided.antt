@@ -1,6 +1,5 @@
 -- The result of `check` decides.
-use Rattle.std.proofs.Common.{ℕ, Bool, true, false, inl, inr, List, Ok, Err, refl}
-use Rattle.ados_volume.proofs.Common.{false≢true, Stands, Tree, one_tree}
+use Rattle.ados_volume.proofs.Common.{Bool, Err, List, Ok, Stands, Tree, false, false≢true, inl, inr, one_tree, refl, true, ℕ}
 use Rattle.ados_model.specs.Accepted.{Accepts, ShowsNoFault}
 use Rattle.ados_volume.specs.Checked.{StandsForOne, CheckDecides}
 

@@ -1,6 +1,5 @@
 -- The progress of a walk over one directory.
-use Rattle.std.proofs.Common.{◌≡◌, ◌≢◌, ℕ, ◌<◌, ◌≤◌, inl, inr, List, [], ◌∷◌, ◌++◌, length, Contains, Some, sym, ap, ◌∙◌, subst, arith, append_assoc, length-append}
-use Rattle.ados_volume.proofs.Common.{same_Some, Contains-append_right, behind, Tree, Proper, entries, parent_of, first_left, Entry, Once, Once-before, Contains-cases, Contains-here, length-once, behind-found, first-entry, entries_after, entry_node, itself}
+use Rattle.ados_volume.proofs.Common.{Contains, Contains-append_right, Contains-cases, Contains-here, Entry, List, Once, Once-before, Proper, Some, Tree, [], ap, append_assoc, arith, behind, behind-found, entries, entries_after, entry_node, first-entry, first_left, inl, inr, itself, length, length-append, length-once, parent_of, same_Some, subst, sym, ℕ, ◌++◌, ◌<◌, ◌∙◌, ◌∷◌, ◌≡◌, ◌≢◌, ◌≤◌}
 use Rattle.ados_volume.proofs.Loops.{no_loop}
 
 -- these keys of a directory were listed, and those after the last of them are left

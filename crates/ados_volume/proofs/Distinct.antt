@@ -1,7 +1,5 @@
 -- Lists without duplicates.
-use Rattle.std.proofs.Common.{◌≡◌, ℕ, inl, inr, List, [], ◌∷◌, ◌++◌, reverse, Contains, sym, subst, arith}
-use Rattle.ados_volume.proofs.Common.{reverse-append, Contains-append_cases, Once, Once-tail, Once-head, Contains-cases, Contains-here, Contains-later, Once-append}
-use Rattle.ados_model.proofs.KeyLists.{Contains-nil}
+use Rattle.ados_volume.proofs.Common.{Contains, Contains-append_cases, Contains-cases, Contains-here, Contains-later, Contains-nil, List, Once, Once-append, Once-head, Once-tail, [], arith, inl, inr, reverse, reverse-append, subst, sym, ℕ, ◌++◌, ◌∷◌, ◌≡◌}
 
 pub Once-nil : Once []
 Once-nil i j d l m = absurd (omega arith)

@@ -1,7 +1,5 @@
 -- The description of a node by its block.
-use Rattle.std.proofs.Common.{◌≡◌, ◌≢◌, ℕ, ◌+◌, ◌-◌, ◌*◌, ◌≤◌, inl, inr, true, false, List, length, take, drop, Option, Some, pos, negsuc, refl, sym, ap, ◌∙◌, arith}
-use Rattle.ados_volume.proofs.Common.{false≢true, true≢false, drop-drop, drop-take, take-take, Format, block_count, bytes_at, root_key, data_count, extension_count, Content, Node, Tree, cost_in, size_in, Stands, HasEntry, is_file, holds_file, root_or_parent, root_is, entry_type}
-use Rattle.ados_model.specs.Tree.Content.{Directory, File}
+use Rattle.ados_volume.proofs.Common.{Content, Directory, File, Format, HasEntry, List, Node, Option, Some, Stands, Tree, ap, arith, block_count, bytes_at, cost_in, data_count, drop, drop-drop, drop-take, entry_type, extension_count, false, false≢true, holds_file, inl, inr, is_file, length, negsuc, pos, refl, root_is, root_key, root_or_parent, size_in, sym, take, take-take, true, true≢false, ℕ, ◌*◌, ◌+◌, ◌-◌, ◌∙◌, ◌≡◌, ◌≢◌, ◌≤◌}
 
 -- bytes of a block, from the list of all its bytes
 pub part_of_block : (image : List ℕ) (b i n : ℕ) (xs : List ℕ) → xs ≡ bytes_at image b 0 512 → i + n ≤ 512 → take n (drop i xs) ≡ bytes_at image b i n

@@ -1,6 +1,5 @@
 -- Free space for one more entry, and its key.
-use Rattle.std.proofs.Common.{◌≡◌, ℕ, ◌+◌, ◌-◌, Bool, true, false, cond, nat_lt, List, Some, None, Option, is_some, refl, sym, ap, ◌∙◌, arith}
-use Rattle.ados_volume.proofs.Common.{block_count, has_free_bit, IsLowestFree, NoneFree, IsName, Tree, Stands, Duty, child_of, free_bits_count, CanMake, IsDirectoryKey}
+use Rattle.ados_volume.proofs.Common.{Bool, CanMake, Duty, IsDirectoryKey, IsLowestFree, IsName, List, None, NoneFree, Option, Some, Stands, Tree, ap, arith, block_count, child_of, cond, false, free_bits_count, has_free_bit, is_some, nat_lt, refl, sym, true, ℕ, ◌+◌, ◌-◌, ◌∙◌, ◌≡◌}
 use Rattle.ados_model.proofs.Totals.{total-zero}
 use Rattle.ados_change.proofs.Making.{unused}
 use Rattle.ados_model.specs.Reads.{lacks}

@@ -1,8 +1,5 @@
 -- The progress of a walk over everything below a directory.
-use Rattle.std.proofs.Common.{◌≡◌, ◌≢◌, ℕ, suc, ◌+◌, ◌<◌, Option, Some, inl, inr, List, [], ◌∷◌, ◌++◌, length, map, reverse, Contains, IsSome, is_some, refl, sym, ap, ◌∙◌, subst, arith, append_assoc, length-append}
-use Rattle.ados_volume.proofs.Common.{append-nil, map-append, reverse-append, reverse-reverse, Contains-append_cases, Contains-append_left, Contains-append_right, Once, Once-before, Once-front, Contains-cases, Contains-here, Contains-later, length-once, Once-append, Tree, Proper, entries, parent_of, parent_in, IsUnder, itself, Below, AreBelow, HasGrown, placed}
-use Rattle.ados_model.proofs.KeyLists.{Contains-nil}
-use Rattle.ados_change.specs.Conditions.IsUnder.{by_parent as under_parent}
+use Rattle.ados_volume.proofs.Common.{AreBelow, Below, Contains, Contains-append_cases, Contains-append_left, Contains-append_right, Contains-cases, Contains-here, Contains-later, Contains-nil, HasGrown, IsSome, IsUnder, List, Once, Once-append, Once-before, Once-front, Option, Proper, Some, Tree, [], ap, append-nil, append_assoc, arith, entries, inl, inr, is_some, itself, length, length-append, length-once, map, map-append, parent_in, parent_of, placed, refl, reverse, reverse-append, reverse-reverse, subst, suc, sym, under_parent, ℕ, ◌++◌, ◌+◌, ◌<◌, ◌∙◌, ◌∷◌, ◌≡◌, ◌≢◌}
 use Rattle.ados_volume.proofs.Loops.{no_loop}
 use Rattle.ados_volume.proofs.Distinct.{Once-nil, Once-one, Once-reverse, Contains-one, Contains-reverse}
 use Rattle.ados_volume.proofs.Waiting.{Following, inside, parted}

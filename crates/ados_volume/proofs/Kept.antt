@@ -1,7 +1,5 @@
 -- The results and contents of the caches of places and of listed entries.
-use Rattle.std.proofs.Common.{◌≡◌, ℕ, nat_eq, ◌==◌, inl, inr, List, [], Contains, Option, Some, Result, OnOk, OnErr, IsTrue, refl, sym, subst, eq-eqb, eqb-true}
-use Rattle.ados_volume.proofs.Common.{lookup, remove_entry, keys_of, IsDistinct, LruCache, lru_cache, put_entries, Contains-remove_entry, Place, IsPlace, AreKnown, Drops, AreListed}
-use Rattle.lru.proofs.Splits.{Contains-nil}
+use Rattle.ados_volume.proofs.Common.{AreKnown, AreListed, Contains, Contains-nil, Contains-remove_entry, Drops, IsDistinct, IsPlace, IsTrue, List, LruCache, OnErr, OnOk, Option, Place, Result, Some, [], eq-eqb, eqb-true, inl, inr, keys_of, lookup, lru_cache, nat_eq, put_entries, refl, remove_entry, subst, sym, ℕ, ◌==◌, ◌≡◌}
 use Rattle.ados_volume.proofs.Pairs.{found_pair, gone, put_pair}
 
 -- a found place is one in the file

@@ -1,11 +1,7 @@
 -- Cached places in files after a change.
-use Rattle.std.proofs.Common.{◌≡◌, ◌≢◌, ℕ, zero, suc, ◌+◌, ◌-◌, ◌≤◌, inl, inr, List, [], ◌∷◌, ◌++◌, length, take, drop, replicate, slice_index, Contains, Option, Some, None, option_map, refl, sym, ap, ap₂, ◌∙◌, subst, arith, eq-eqb}
-use Rattle.ados_volume.proofs.Common.{ne_eqb, cases_eq, length-append, length-take, length-drop, Format, Ofs, Ffs, Date3, data_count, extension_count, Content, Node, Tree, content_at, bytes_of, size_of, size_in, Place, LawfulFile, extension_blocks, IsAmong, HasFileKey, Stands, changed, rewritten, written, grown, overlaid, without_archive, KeepsRest, one_tree, format_is, file_writable, AreKnown, Drops, IsKnown}
-use Rattle.lru.proofs.Splits.{Contains-nil}
+use Rattle.ados_volume.proofs.Common.{AreKnown, Contains, Contains-nil, Content, Date3, Drops, Ffs, File, Format, HasFileKey, IsAmong, IsKnown, KeepsRest, LawfulFile, List, Node, None, Ofs, Option, Place, Some, Stands, Tree, [], ap, ap₂, arith, bytes_in, bytes_of, cases_eq, changed, content_at, data_count, drop, eq-eqb, extension_blocks, extension_count, file_writable, format_is, grown, inl, inr, length, length-append, length-drop, length-take, ne_eqb, one_tree, option_map, overlaid, refl, replicate, rewritten, size_in, size_of, slice_index, subst, suc, sym, take, without_archive, written, zero, ℕ, ◌++◌, ◌+◌, ◌-◌, ◌∙◌, ◌∷◌, ◌≡◌, ◌≢◌, ◌≤◌}
 use Rattle.ados_model.specs.Tree.{bytes_in as bytes_held}
-use Rattle.ados_model.specs.Tree.Content.{File}
 use Rattle.ados_change.specs.Untold.{AgreeInFront}
-use Rattle.ados_change.proofs.Renewed.{bytes_in}
 
 -- a file with at least as many bytes has at least as many extension blocks
 more_extensions : (format : Format) (m n : ℕ) → m ≤ n → extension_count (data_count format m) ≤ extension_count (data_count format n)

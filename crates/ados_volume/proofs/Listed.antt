@@ -1,6 +1,5 @@
 -- The next entry of a directory after a key is a node.
-use Rattle.std.proofs.Common.{◌≡◌, ℕ, List, Some, refl, sym}
-use Rattle.ados_volume.proofs.Common.{first_left, Entry, behind-later, first-entry, Node, Tree, Proper, entries, entries_after, Stands, HasKey, entry_node}
+use Rattle.ados_volume.proofs.Common.{Entry, HasKey, List, Node, Proper, Some, Stands, Tree, behind-later, entries, entries_after, entry_node, first-entry, first_left, refl, sym, ℕ, ◌≡◌}
 
 -- the entry after a key has a node
 pub next_node : (t : Tree) → Proper t → (dir key next : ℕ) → first_left (entries_after t dir key) ≡ Entry next → (node : Node) × (t.nodes next ≡ Some node)

@@ -1,10 +1,7 @@
 -- The tree, in terms of the hash chains, files and longs of its image.
-use Rattle.std.proofs.Common.{◌≡◌, ℕ, zero, suc, ◌+◌, inl, inr, Bool, true, false, nat_eq, ◌==◌, List, [], ◌∷◌, ◌++◌, map, find, Contains, Option, Some, None, IsSome, bytes_eq, refl, sym, ap, ◌∙◌, subst, arith, eq-eqb, zero-add}
-use Rattle.ados_volume.proofs.Common.{false≢true, append-nil, Contains-append_right, bytes_eq-Decides, upper, slot, Same, long, FILE_TYPE, InChains, LawfulChains, name_at, chains_from, entries_of, behind, Content, Node, Tree, root, content_at, entries, name_of, FindsNamed, first_left, Contains-here, Contains-later, Contains-cases, Entry, behind-later, chains_from-split, entry-in_chains, first-entry, Stands, type_of, in_slot, child_of, is_file, holds_file, entries_after, some_in, content_in, entry_node, entries_by_slot, root_or_parent}
+use Rattle.ados_volume.proofs.Common.{Bool, Contains, Contains-append_right, Contains-cases, Contains-here, Contains-later, Contains-nil, Content, Directory, Entry, FILE_TYPE, File, FindsNamed, InChains, IsSome, LawfulChains, List, Node, None, Option, Same, Some, Stands, Tree, [], ap, append-nil, arith, behind, behind-later, bytes_eq, bytes_eq-Decides, chains_from, chains_from-split, child_of, content_at, content_in, entries, entries_after, entries_by_slot, entries_of, entry-in_chains, entry_node, eq-eqb, false, false≢true, find, first-entry, first_left, holds_file, in_slot, inl, inr, is_file, long, map, name_at, name_of, nat_eq, refl, root, root_or_parent, slot, some_in, subst, suc, sym, true, type_of, upper, zero, zero-add, ℕ, ◌++◌, ◌+◌, ◌==◌, ◌∙◌, ◌∷◌, ◌≡◌}
 use Rattle.ados_name.specs.Path.{SameNameSameSlot}
-use Rattle.ados_model.proofs.KeyLists.{Contains-nil}
 use Rattle.ados_chain.proofs.Found.{listed_same}
-use Rattle.ados_model.specs.Tree.Content.{Directory, File}
 use Rattle.ados_model.proofs.Lists.{joined}
 use Rattle.ados_volume.proofs.Bridge.{lawful_chains, name_is}
 use Rattle.ados_change.proofs.Entering.{Contains-part, Contains-passes}

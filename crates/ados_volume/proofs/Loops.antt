@@ -1,7 +1,5 @@
 -- No object is below an object that it holds.
-use Rattle.std.proofs.Common.{◌≡◌, ℕ, Some, None, refl, sym, ap, ◌∙◌, subst}
-use Rattle.ados_volume.proofs.Common.{option_and_then, Tree, Proper, LeadsToRoot, parent_of, root, at_root, by_parent, IsUnder, itself}
-use Rattle.ados_change.specs.Conditions.IsUnder.{by_parent as under_parent}
+use Rattle.ados_volume.proofs.Common.{IsUnder, LeadsToRoot, None, Proper, Some, Tree, ap, at_root, by_parent, itself, option_and_then, parent_of, refl, root, subst, sym, under_parent, ℕ, ◌∙◌, ◌≡◌}
 
 module _ (t : Tree) (proper : Proper t) where
   pub no_parent : (key dir : ℕ) → key ≡ root t → parent_of t key ≡ Some dir → ⊥

@@ -1,8 +1,5 @@
 -- Cached children after an entry is made, removed or moved.
-use Rattle.std.proofs.Common.{◌≡◌, ◌≢◌, ℕ, inl, inr, List, [], filter, not, ◌==◌, Contains, Option, Some, None, IsSome, is_some, option_map, refl, sym, ap, ◌∙◌, subst}
-use Rattle.ados_volume.proofs.Common.{option_map_or, cases_eq, Date3, Same, slot, Content, Node, Tree, Proper, content_at, entries, entries_in, name_of, parent_of, name_in, Stands, child_of, with_node, changed, listed, enter, entered, left, made, removed, renamed, new_node, content_in, directory_in, entry_node, parent_in}
-use Rattle.ados_model.proofs.KeyLists.{Contains-nil}
-use Rattle.ados_model.specs.Tree.Content.{Directory}
+use Rattle.ados_volume.proofs.Common.{Contains, Contains-nil, Content, Date3, Directory, IsSome, List, Node, None, Option, Proper, Same, Some, Stands, Tree, [], ap, cases_eq, changed, child_of, content_at, content_in, directory_in, enter, entered, entries, entries_in, entry_node, filter, inl, inr, is_some, left, listed, made, name_in, name_of, new_node, not, option_map, option_map_or, parent_in, parent_of, refl, removed, renamed, slot, subst, sym, with_node, ℕ, ◌==◌, ◌∙◌, ◌≡◌, ◌≢◌}
 use Rattle.ados_change.proofs.Changed.{nodes_other, changed_keeps, listed_names, listed_here, listed_other}
 use Rattle.ados_change.proofs.Entering.{Contains-enter_kept, Contains-stays}
 use Rattle.ados_volume.proofs.Children.{Stays, AllStay, child_there}

@@ -1,7 +1,5 @@
 -- From which keys a directory can be listed further.
-use Rattle.std.proofs.Common.{◌≡◌, ◌≢◌, ℕ, inl, inr, Bool, true, false, cond, ◌==◌, List, [], ◌∷◌, Contains, Some, IsSome, refl, sym, ◌∙◌, subst, eq-eqb, eqb-true}
-use Rattle.ados_volume.proofs.Common.{false≢true, behind, Tree, entries, first_left, Entry, Contains-here, Contains-later, Contains-cases, Stands, entries_after, IsListed}
-use Rattle.ados_model.proofs.KeyLists.{Contains-nil}
+use Rattle.ados_volume.proofs.Common.{Bool, Contains, Contains-cases, Contains-here, Contains-later, Contains-nil, Entry, IsListed, IsSome, List, Some, Stands, Tree, [], behind, cond, entries, entries_after, eq-eqb, eqb-true, false, false≢true, first_left, inl, inr, refl, subst, sym, true, ℕ, ◌==◌, ◌∙◌, ◌∷◌, ◌≡◌, ◌≢◌}
 use Rattle.ados_volume.specs.Order.{IsPlaceIn}
 use Rattle.ados_volume.proofs.Looking.{next_listed}
 

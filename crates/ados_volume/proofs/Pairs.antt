@@ -1,7 +1,5 @@
 -- The pairs of a cache by its calls, for keys that are equal exactly if their comparison says so.
-use Rattle.std.proofs.Common.{◌≡◌, Bool, true, false, ◌⊎◌, inl, inr, List, [], ◌∷◌, Contains, Option, Some, Result, Ok, Err, OnOk, OnErr, refl, sym, ap, ◌∙◌, subst}
-use Rattle.ados_volume.proofs.Common.{lookup, remove_entry, keys_of, AllByRecursion, IsDistinct, false≢true, LruCache, lru_cache, put_entries, Contains-lookup, Contains-put_entries, Contains-cons}
-use Rattle.lru.proofs.Splits.{Contains-nil}
+use Rattle.ados_volume.proofs.Common.{AllByRecursion, Bool, Contains, Contains-cons, Contains-lookup, Contains-nil, Contains-put_entries, Err, IsDistinct, List, LruCache, Ok, OnErr, OnOk, Option, Result, Some, [], ap, false, false≢true, inl, inr, keys_of, lookup, lru_cache, put_entries, refl, remove_entry, subst, sym, true, ◌∙◌, ◌∷◌, ◌≡◌, ◌⊎◌}
 
 module _ {K V : Type 0} (eq : K → K → Bool) (same : (a b : K) → eq a b ≡ true → a ≡ b) (itself : (a : K) → eq a a ≡ true) where
   -- a found value belongs to a pair

@@ -1,6 +1,5 @@
 -- The progress of a walk along a path.
-use Rattle.std.proofs.Common.{◌≡◌, ℕ, Bool, true, false, if◌then◌else◌, List, [], ◌∷◌, ◌++◌, Option, Some, None, Result, Ok, Err, sym, ap, ◌∙◌, append_assoc}
-use Rattle.ados_volume.proofs.Common.{ok_or, Step, Tree, and_then, child_of, is_file, missing_before, step_from, walk_steps}
+use Rattle.ados_volume.proofs.Common.{Bool, Err, List, None, Ok, Option, Result, Some, Step, Tree, [], and_then, ap, append_assoc, child_of, false, if◌then◌else◌, is_file, missing_before, ok_or, step_from, sym, true, walk_steps, ℕ, ◌++◌, ◌∙◌, ◌∷◌, ◌≡◌}
 use Rattle.ados_name.specs.Name.Step.{ToParent, ToChild}
 use Rattle.ados_model.specs.declared.dos_error.WalkFault.{WalkFault}
 use Rattle.ados_model.specs.declared.dos_error.WalkFault.TheVariants.{WrongType}

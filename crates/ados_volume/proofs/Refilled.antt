@@ -1,7 +1,5 @@
 -- Cached children after a change of a file's bytes, and what contracts see of it.
-use Rattle.std.proofs.Common.{◌≡◌, ℕ, ◌+◌, ◌≤◌, Bool, List, [], ◌∷◌, length, Some, Result, Ok, Err, IsErrAnd, MatchResult, option_map, refl, sym, ap, ◌∙◌, arith}
-use Rattle.ados_volume.proofs.Common.{max, ltb-true, Date3, Node, Tree, block_cost, content_at, entries_in, bytes_of, size_of, Stands, rewritten, written, Writes, overlaid, without_archive, Shown}
-use Rattle.ados_model.specs.Tree.Content.{File}
+use Rattle.ados_volume.proofs.Common.{Bool, Date3, Err, File, IsErrAnd, List, MatchResult, Node, Ok, Result, Shown, Some, Stands, Tree, Writes, [], ap, arith, block_cost, bytes_of, content_at, entries_in, length, ltb-true, max, option_map, overlaid, refl, rewritten, size_of, sym, without_archive, written, ℕ, ◌+◌, ◌∙◌, ◌∷◌, ◌≡◌, ◌≤◌}
 use Rattle.ados_volume.proofs.Children.{AllStay, changed_stay}
 
 module _ (t : Tree) (key : ℕ) (file : (bytes : List ℕ) × (content_at t key ≡ Some (File bytes))) (moment : Date3) where

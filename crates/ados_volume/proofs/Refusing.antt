@@ -1,9 +1,7 @@
 -- Lists of refusals. An entry that none of them excludes can be made, removed or moved.
-use Rattle.std.proofs.Common.{◌≡◌, ◌≢◌, ℕ, inl, inr, Bool, true, false, cond, not, nat_eq, ◌==◌, List, [], ◌∷◌, length, map, Contains, Option, Some, None, IsSome, is_some, refl, sym, ap, ◌∙◌, subst, arith, eq-eqb, eqb-true}
 use Rattle.std.proofs.lemmas.List.Folds.{list_any_none}
-use Rattle.ados_volume.proofs.Common.{find, list_any, le-ltb, ne_eqb, not-false, true≢false, All-from_get_or, All-get_or, none-some, bytes_eq-Decides, IsName, IsNameByte, Same, is_separator, upper, Node, Tree, Proper, entries, name_of, parent_of, root, child_of, HasDirectory, Stands, Contains-cases, content_in, root_or_parent, some_in, CanMake, CanRemove, CanRename, IsDirectoryKey, IsNewName}
+use Rattle.ados_volume.proofs.Common.{All-from_get_or, All-get_or, Bool, CanMake, CanRemove, CanRename, Contains, Contains-cases, Contains-nil, HasDirectory, IsDirectoryKey, IsName, IsNameByte, IsNewName, IsSome, List, Node, None, Option, Proper, Same, Some, Stands, Tree, [], ap, arith, bytes_eq-Decides, child_of, cond, content_in, entries, eq-eqb, eqb-true, false, find, inl, inr, is_separator, is_some, le-ltb, length, list_any, map, name_of, nat_eq, ne_eqb, none-some, not, not-false, parent_of, refl, root, root_or_parent, some_in, subst, sym, true, true≢false, upper, ℕ, ◌==◌, ◌∙◌, ◌∷◌, ◌≡◌, ◌≢◌}
 use Rattle.ados_name.proofs.NameLemmas.{no_separator}
-use Rattle.ados_model.proofs.KeyLists.{Contains-nil}
 use Rattle.ados_model.specs.declared.dos_error.DosError.{DosError}
 use Rattle.ados_model.specs.declared.dos_error.DosError.TheVariants.{DirectoryNotEmpty, ObjectExists, ObjectInUse, ObjectWrongType}
 use Rattle.ados_model.specs.Refusals.{first_refusal, is_empty, is_name, is_some_and, refuse}

@@ -1,6 +1,5 @@
 -- A volume is still sound after a change.
-use Rattle.std.proofs.Common.{◌≡◌, ◌≢◌, ℕ, List, [], Contains, Some, IsSome, refl, sym, ap, ◌∙◌, subst}
-use Rattle.ados_volume.proofs.Common.{Date3, Place, NoneFreeBelow, Content, Node, Tree, entries, entries_in, Stands, changed, stamped, KeepsRest, OnlyRestamped, Sought, AreChildren, Forgets, AreListed, AreKnown}
+use Rattle.ados_volume.proofs.Common.{AreChildren, AreKnown, AreListed, Contains, Content, Date3, Forgets, IsSome, KeepsRest, List, Node, NoneFreeBelow, OnlyRestamped, Place, Some, Sought, Stands, Tree, [], ap, changed, entries, entries_in, refl, stamped, subst, sym, ℕ, ◌∙◌, ◌≡◌, ◌≢◌}
 use Rattle.ados_volume.specs.steps.SoundVolume.{IsSoundVolume}
 use Rattle.ados_volume.proofs.Bounds.{below_restamped}
 use Rattle.ados_volume.proofs.Children.{AllStay, Stays, carried, changed_stay, told_stay}

@@ -1,13 +1,9 @@
 -- A key is below another if a chain of parents leads to that. `is_under` finds this within as many steps as there are
 -- blocks.
-use Rattle.std.proofs.Common.{◌≡◌, ◌≢◌, ℕ, zero, suc, ◌+◌, ◌<◌, ◌≤◌, inl, inr, true, ◌==◌, List, [], ◌∷◌, length, Contains, Option, None, refl, sym, ap, ◌∙◌, subst, arith, eq-eqb, eqb-true}
-use Rattle.std.specs.Prelude.{◌↔◌}
 use Rattle.std.proofs.lemmas.List.Folds.{list_any_at}
 use Rattle.std.proofs.lemmas.List.Kept.{AllPairs-cons}
 use Rattle.std.proofs.lemmas.Map.Views.{Contains-from_any}
-use Rattle.ados_volume.proofs.Common.{IsSome, IsTrue, option_and_then, list_any, option_map_or, Contains-get_or, Once, Contains-cases, Contains-here, Contains-later, length-once, Tree, Proper, LeadsToRoot, parent_of, at_root, by_parent, parent_in, some_in, IsUnder, itself, is_under, upward}
-use Rattle.ados_model.proofs.KeyLists.{Contains-nil}
-use Rattle.ados_change.specs.Conditions.IsUnder.{by_parent as under_parent}
+use Rattle.ados_volume.proofs.Common.{Contains, Contains-cases, Contains-get_or, Contains-here, Contains-later, Contains-nil, IsSome, IsTrue, IsUnder, LeadsToRoot, List, None, Once, Option, Proper, Tree, [], ap, arith, at_root, by_parent, eq-eqb, eqb-true, inl, inr, is_under, itself, length, length-once, list_any, option_and_then, option_map_or, parent_in, parent_of, refl, some_in, subst, suc, sym, true, under_parent, upward, zero, ℕ, ◌+◌, ◌<◌, ◌==◌, ◌↔◌, ◌∙◌, ◌∷◌, ◌≡◌, ◌≢◌, ◌≤◌}
 use Rattle.ados_volume.proofs.Loops.{no_loop, no_parent}
 
 module _ (t : Tree) (proper : Proper t) where

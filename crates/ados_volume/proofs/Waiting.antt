@@ -1,6 +1,5 @@
 -- The walk over waiting entries visits exactly everything below.
-use Rattle.std.proofs.Common.{◌≡◌, ℕ, zero, suc, ◌+◌, ◌≤◌, Option, Some, List, [], ◌∷◌, ◌++◌, map, length, refl, sym, ap, ◌∙◌, subst, arith, append_assoc, length-append}
-use Rattle.ados_volume.proofs.Common.{Tree, entries, Below, AreBelow, placed}
+use Rattle.ados_volume.proofs.Common.{AreBelow, Below, List, Option, Some, Tree, [], ap, append_assoc, arith, entries, length, length-append, map, placed, refl, subst, suc, sym, zero, ℕ, ◌++◌, ◌+◌, ◌∙◌, ◌∷◌, ◌≡◌, ◌≤◌}
 use Rattle.ados_volume.specs.Below.AreBelow.{none, entry}
 
 -- the entries of an entry at a position

@@ -1,6 +1,5 @@
 -- Steps from node to node.
-use Rattle.std.proofs.Common.{◌≡◌, ◌≢◌, ℕ, inl, inr, Bool, true, false, cond, List, [], ◌∷◌, find, Contains, Option, Some, None, IsSome, is_some, Ok, Err, refl, sym, ap, ◌∙◌, subst}
-use Rattle.ados_volume.proofs.Common.{ok_or, long, block_count, root_key, IsName, Same, Step, Contains-here, Contains-later, Tree, Proper, entries, name_of, parent_of, Stands, child_of, is_file, step_from, some_in, entry_node, directory_node, root_or_parent, root_is}
+use Rattle.ados_volume.proofs.Common.{Bool, Contains, Contains-here, Contains-later, Err, IsName, IsSome, List, None, Ok, Option, Proper, Same, Some, Stands, Step, Tree, [], ap, block_count, child_of, cond, directory_node, entries, entry_node, false, find, inl, inr, is_file, is_some, long, name_of, ok_or, parent_of, refl, root_is, root_key, root_or_parent, some_in, step_from, subst, sym, true, ℕ, ◌∙◌, ◌∷◌, ◌≡◌, ◌≢◌}
 use Rattle.ados_name.specs.Name.Step.{ToParent, ToChild}
 use Rattle.ados_model.specs.declared.dos_error.WalkFault.{WalkFault}
 use Rattle.ados_model.specs.declared.dos_error.WalkFault.TheVariants.{ObjectNotFound, WrongType}

@@ -1,7 +1,6 @@
 -- A read of a file into a buffer of its size returns all of it.
-use Rattle.std.proofs.Common.{◌≡◌, ℕ, ◌-◌, List, [], ◌++◌, length, take, drop, min, ap, ap₂, ◌∙◌, arith}
 use Rattle.std.proofs.Math.Seq.{take-length}
-use Rattle.ados_volume.proofs.Common.{drop_of_length-le, append-nil}
+use Rattle.ados_volume.proofs.Common.{List, [], ap, append-nil, ap₂, arith, drop, drop_of_length-le, length, min, take, ℕ, ◌++◌, ◌-◌, ◌∙◌, ◌≡◌}
 
 pub read_whole : (file held old new : List ℕ) (n size : ℕ) → held ≡ file → length old ≡ size → size ≡ length file → n ≡ min (length old) (length held - 0) → new ≡ take n (drop 0 held) ++ drop n old → new ≡ file
 read_whole file held old new n size same room whole count is =

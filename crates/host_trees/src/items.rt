@@ -122,7 +122,7 @@ fn first_outside(items: &[HostItem]) -> Option<usize> {
 }
 
 /// Whether the item at a place is a directory.
-pub(crate) fn is_directory(items: &[HostItem], place: usize) -> bool {
+fn is_directory(items: &[HostItem], place: usize) -> bool {
     match items.get(place) {
         Some(item) => item.kind == ItemKind::Directory,
         None => false,

@@ -3,7 +3,7 @@ ghost use Rattle.std.specs.Prelude.{◌≤◌, length, IfErr};
 
 use crate::dates::host_time;
 use crate::faults::{ItemFault, WriteFault, WriteWhy};
-use crate::items::{Contents, HostItem, above, fault, is_directory, refuse_items, top_of};
+use crate::items::{Contents, HostItem, ItemKind, above, fault, refuse_items, top_of};
 use crate::order::depth_first;
 use crate::standing::{Standing, may_stand, standing_at};
 use crate::way::Way;
@@ -55,7 +55,12 @@ where
         Ok(way) => way,
         Err(fault) => return Err(fault.told(alloc, directory, items, 0)),
     };
-    let made = writer.write_items(&mut way, directory, items, &order, contents)?;
+    let mut made = Vec::new(alloc);
+    for (written, place) in order.iter().enumerate() {
+        if let Err(fault) = writer.write_item(&mut way, items, *place, contents, &mut made) {
+            return Err(fault.told(alloc, directory, items, written));
+        }
+    }
     match writer.set_times(&mut way, items, made.as_slice()) {
         Ok(()) => Ok(()),
         Err(fault) => Err(fault.told(alloc, directory, items, items.len())),
@@ -160,70 +165,35 @@ where
         }
     }
 
-    /// Writes the items in this order, and returns the places of new directories.
-    fn write_items<C: Contents>(
-        &self,
-        way: &mut Way<R::File>,
-        directory: &str,
-        items: &[HostItem],
-        order: &[usize],
-        contents: &mut C,
-    ) -> Result<Vec<usize>, WriteFault>
-        requires { length order.now ≤ length items.now }
-        ensures { IfErr result (λ fault. fault.written ≤ length items.now) }
-    {
-        let mut made = Vec::new(self.alloc);
-        for (written, place) in order.iter().enumerate() {
-            let done = if is_directory(items, *place) {
-                self.make_item(way, items, *place, &mut made)
-            } else {
-                self.write_item(way, items, *place, contents)
-            };
-            if let Err(fault) = done {
-                return Err(fault.told(self.alloc, directory, items, written));
-            }
-        }
-        Ok(made)
-    }
-
-    /// Makes the directory of an item unless it exists. A new one is added to those that were made.
-    fn make_item(
-        &self,
-        way: &mut Way<R::File>,
-        items: &[HostItem],
-        place: usize,
-        made: &mut Vec<usize>,
-    ) -> Result<(), ItemFault> {
-        let Some(item) = items.get(place) else {
-            return Ok(());
-        };
-        let directory = way.reach(self.rt, self.alloc, items, item.above)?;
-        match self.make_directory(directory, item.name.as_str()) {
-            Ok(true) => {
-                made.push(place)?;
-                Ok(())
-            }
-            Ok(false) => Ok(()),
-            Err(why) => Err(fault(place, why)),
-        }
-    }
-
-    /// Writes the file of an item.
+    /// Writes the file of an item, or makes its directory unless it exists. A new one is added to those that were made.
     fn write_item<C: Contents>(
         &self,
         way: &mut Way<R::File>,
         items: &[HostItem],
         place: usize,
         contents: &mut C,
+        made: &mut Vec<usize>,
     ) -> Result<(), ItemFault> {
         let Some(item) = items.get(place) else {
             return Ok(());
         };
         let directory = way.reach(self.rt, self.alloc, items, item.above)?;
-        let path = directory.path_of(self.alloc, item.name.as_str())?;
-        let bytes = contents.bytes_of(self.alloc, place)?;
-        match self.write_file(path.as_str(), bytes.as_slice(), host_time(item.date)) {
-            Ok(()) => Ok(()),
+        let name = item.name.as_str();
+        let is_new_directory = match item.kind {
+            ItemKind::Directory => self.make_directory(directory, name),
+            ItemKind::File => {
+                let path = directory.path_of(self.alloc, name)?;
+                let bytes = contents.bytes_of(self.alloc, place)?;
+                self.write_file(path.as_str(), bytes.as_slice(), host_time(item.date))
+                    .map(|()| false)
+            }
+        };
+        match is_new_directory {
+            Ok(true) => {
+                made.push(place)?;
+                Ok(())
+            }
+            Ok(false) => Ok(()),
             Err(why) => Err(fault(place, why)),
         }
     }

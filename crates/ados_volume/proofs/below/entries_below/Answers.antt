@@ -1,5 +1,4 @@
-use Rattle.std.proofs.Common.{◌≡◌, ◌≢◌, ℕ, None, List, [], ◌++◌, length, AllPairs, sym, ap, ◌∙◌, subst}
-use Rattle.ados_volume.proofs.Common.{Tree, entries, Below, AreBelow, HasGrown}
+use Rattle.ados_volume.proofs.Common.{AllPairs, AreBelow, Below, HasGrown, List, None, Tree, [], ap, entries, length, subst, sym, ℕ, ◌++◌, ◌∙◌, ◌≡◌, ◌≢◌}
 use Rattle.ados_volume.proofs.GoingBelow.{keys_of}
 use Rattle.ados_volume.proofs.below.entries_below.Goals as goal
 

@@ -1,5 +1,4 @@
-use Rattle.std.proofs.Common.{◌-◌, vec_len}
-use Rattle.ados_volume.proofs.Common.{block_count, Tree, Stands}
+use Rattle.ados_volume.proofs.Common.{Stands, Tree, block_count, vec_len, ◌-◌}
 use Rattle.ados_volume.proofs.DirectoryKeys.{IsListed}
 use Rattle.ados_volume.proofs.below.keys_in.Given as goal
 

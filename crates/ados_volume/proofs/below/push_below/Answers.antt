@@ -1,6 +1,5 @@
-use Rattle.std.proofs.Common.{◌≡◌, ℕ, Some, List, [], ◌++◌, length, sym, ap, ◌∙◌, subst, arith}
 use Rattle.std.proofs.lemmas.Grind.{common_steps}
-use Rattle.ados_volume.proofs.Common.{count_same, Below}
+use Rattle.ados_volume.proofs.Common.{Below, List, Some, [], ap, arith, count_same, length, subst, sym, ℕ, ◌++◌, ◌∙◌, ◌≡◌}
 use Rattle.ados_volume.specs.steps.Stack.{stacked}
 use Rattle.ados_volume.proofs.GoingBelow.{GrowsOn, grown_all, grows_few, grows_first, grows_on, grows_there}
 use Rattle.ados_volume.proofs.below.push_below.Goals as goal

@@ -1,5 +1,4 @@
-use Rattle.std.proofs.Common.{◌-◌, ◌+◌, vec_len}
-use Rattle.ados_volume.proofs.Common.{block_count, Tree, Stands}
+use Rattle.ados_volume.proofs.Common.{Stands, Tree, block_count, vec_len, ◌+◌, ◌-◌}
 use Rattle.ados_volume.proofs.GoingBelow.{GrowsOn}
 use Rattle.ados_volume.proofs.below.push_below.Given as goal
 

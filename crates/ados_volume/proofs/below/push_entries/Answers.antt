@@ -1,5 +1,4 @@
-use Rattle.std.proofs.Common.{◌∷◌, refl}
-use Rattle.ados_volume.proofs.Common.{entries, placed}
+use Rattle.ados_volume.proofs.Common.{entries, placed, refl, ◌∷◌}
 use Rattle.ados_volume.proofs.Taking.{pushed_more, taken_more}
 use Rattle.ados_volume.proofs.below.push_entries.Goals as goal
 

@@ -1,5 +1,4 @@
-use Rattle.std.proofs.Common.{◌≡◌, ◌++◌, List, ℕ, map, reverse, vec_len}
-use Rattle.ados_volume.proofs.Common.{Tree, entries, Stands, placed}
+use Rattle.ados_volume.proofs.Common.{List, Stands, Tree, entries, map, placed, reverse, vec_len, ℕ, ◌++◌, ◌≡◌}
 use Rattle.ados_volume.proofs.below.push_entries.Given as goal
 
 -- the last keys were popped, and their entries are on the stack

@@ -1,5 +1,4 @@
-use Rattle.std.proofs.Common.{◌≡◌, ℕ, List, Bool, sym, ◌∙◌, subst, arith}
-use Rattle.ados_volume.proofs.Common.{block_count, root_key, OnlyBlock, same_count, IsBlankRoot, NamesBlank}
+use Rattle.ados_volume.proofs.Common.{Bool, IsBlankRoot, List, NamesBlank, OnlyBlock, arith, block_count, root_key, same_count, subst, sym, ℕ, ◌∙◌, ◌≡◌}
 use Rattle.ados_volume.proofs.BlankImage.{blank_is}
 use Rattle.ados_volume.proofs.blank_volume.blank_image.Goals as goal
 

@@ -1,5 +1,4 @@
-use Rattle.std.proofs.Common.{◌≡◌, ◌<◌, ◌+◌, ◌*◌, ℕ}
-use Rattle.ados_volume.proofs.Common.{long, SameBut, Within}
+use Rattle.ados_volume.proofs.Common.{SameBut, Within, long, ℕ, ◌*◌, ◌+◌, ◌<◌, ◌≡◌}
 use Rattle.ados_volume.proofs.blank_volume.name_pages.Given as goal
 
 abbrev pub invariant-loop-p : goal.invariant-loop-p

@@ -1,5 +1,4 @@
-use Rattle.std.proofs.Common.{ℕ, ◌∷◌, [], ap, sym, ◌∙◌, arith}
-use Rattle.ados_volume.proofs.Common.{format_byte, same_count}
+use Rattle.ados_volume.proofs.Common.{[], ap, arith, format_byte, same_count, sym, ℕ, ◌∙◌, ◌∷◌}
 use Rattle.ados_change.proofs.Texts.{bytes_put}
 use Rattle.ados_volume.proofs.blank_volume.put_kind.Goals as goal
 use Rattle.ados_volume.proofs.blank_volume.put_kind.Goals.{in-Ofs, in-Ffs}

@@ -1,5 +1,4 @@
-use Rattle.std.proofs.Common.{◌≡◌, ℕ, ◌+◌, ◌*◌, ◌<◌, ◌≤◌, List, length, sym, ap, ◌∙◌, subst, arith}
-use Rattle.ados_volume.proofs.Common.{block_count, byte_at, page_count, SameBut, Within, same_count, IsBlankRoot}
+use Rattle.ados_volume.proofs.Common.{IsBlankRoot, List, SameBut, Within, ap, arith, block_count, byte_at, length, page_count, same_count, subst, sym, ℕ, ◌*◌, ◌+◌, ◌<◌, ◌∙◌, ◌≡◌, ◌≤◌}
 use Rattle.ados_volume.proofs.BlankRoot.{blank_root_is}
 use Rattle.ados_volume.proofs.blank_volume.put_root.Goals as goal
 

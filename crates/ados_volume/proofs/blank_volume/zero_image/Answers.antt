@@ -1,5 +1,4 @@
-use Rattle.std.proofs.Common.{◌≡◌, ◌+◌, ◌*◌, ℕ, List, replicate, slice_index, ap, ◌∙◌, inl, inr, arith}
-use Rattle.ados_volume.proofs.Common.{cases_lt, get_or-replicate, get_or_past, length-replicate, byte_at}
+use Rattle.ados_volume.proofs.Common.{List, ap, arith, byte_at, cases_lt, get_or-replicate, get_or_past, inl, inr, length-replicate, replicate, slice_index, ℕ, ◌*◌, ◌+◌, ◌∙◌, ◌≡◌}
 use Rattle.ados_volume.proofs.blank_volume.zero_image.Goals as goal
 
 zero_at : (n k : ℕ) → slice_index (replicate n 0) k ≡ 0

@@ -1,5 +1,4 @@
-use Rattle.std.proofs.Common.{◌≡◌, sym, ap, ◌∙◌}
-use Rattle.ados_volume.proofs.Common.{name_of, name_in, some_in}
+use Rattle.ados_volume.proofs.Common.{ap, name_in, name_of, some_in, sym, ◌∙◌, ◌≡◌}
 use Rattle.ados_volume.proofs.Moved.{forgets, no_child_here}
 use Rattle.ados_volume.proofs.entries.forget.Goals as goal
 

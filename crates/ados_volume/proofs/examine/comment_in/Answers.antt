@@ -1,5 +1,4 @@
-use Rattle.std.proofs.Common.{length, sym, ap, ◌∙◌, arith}
-use Rattle.ados_volume.proofs.Common.{Node, some_in}
+use Rattle.ados_volume.proofs.Common.{Node, ap, arith, length, some_in, sym, ◌∙◌}
 use Rattle.ados_volume.proofs.Examining.{entry_of, root_node_is}
 use Rattle.ados_model.proofs.NoFaults.{text_is}
 use Rattle.ados_volume.proofs.examine.comment_in.Goals as goal

@@ -1,5 +1,4 @@
-use Rattle.std.proofs.Common.{ℕ, ◌+◌, ap, ◌∙◌}
-use Rattle.ados_volume.proofs.Common.{data_count, extension_count, format_is}
+use Rattle.ados_volume.proofs.Common.{ap, data_count, extension_count, format_is, ℕ, ◌+◌, ◌∙◌}
 use Rattle.ados_volume.proofs.Examining.{file_is, file_cost_is}
 use Rattle.ados_volume.proofs.examine.cost_in.Goals as goal
 

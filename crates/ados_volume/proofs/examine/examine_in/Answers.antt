@@ -1,6 +1,4 @@
-use Rattle.std.proofs.Common.{◌≡◌, ℕ, ℤ, Option, Some, None, refl, ap, ◌∙◌, w32, to_z, of_z}
-use Rattle.ados_volume.proofs.Common.{Content, entry_type}
-use Rattle.ados_model.specs.Tree.Content.{Directory, File}
+use Rattle.ados_volume.proofs.Common.{Content, Directory, File, None, Option, Some, ap, entry_type, of_z, refl, to_z, w32, ℕ, ℤ, ◌∙◌, ◌≡◌}
 use Rattle.ados_volume.proofs.examine.examine_in.Goals as goal
 
 -- a type is unchanged by a conversion to 32 bits and back

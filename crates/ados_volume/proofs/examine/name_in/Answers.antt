@@ -1,5 +1,4 @@
-use Rattle.std.proofs.Common.{sym, ◌∙◌, subst, arith}
-use Rattle.ados_volume.proofs.Common.{false≢true, IsName, some_in}
+use Rattle.ados_volume.proofs.Common.{IsName, arith, false≢true, some_in, subst, sym, ◌∙◌}
 use Rattle.ados_volume.proofs.Bridge.{name_is, name_valid}
 use Rattle.ados_volume.proofs.examine.name_in.Goals as goal
 

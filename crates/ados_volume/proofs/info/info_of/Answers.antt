@@ -1,5 +1,4 @@
-use Rattle.std.proofs.Common.{◌≡◌, ℕ, ◌+◌, ◌-◌, ◌≤◌, Bool, true, false, cond, List, sym, ◌∙◌, arith}
-use Rattle.ados_volume.proofs.Common.{Format, Ffs, Ofs, block_count, has_free_bit, free_bit_count, Tree, data_size, Stands, format_byte, disk_info, count_same, free_bits_count, lawful_pages, format_is}
+use Rattle.ados_volume.proofs.Common.{Bool, Ffs, Format, List, Ofs, Stands, Tree, arith, block_count, cond, count_same, data_size, disk_info, false, format_byte, format_is, free_bit_count, free_bits_count, has_free_bit, lawful_pages, sym, true, ℕ, ◌+◌, ◌-◌, ◌∙◌, ◌≡◌, ◌≤◌}
 use Rattle.adf_block.specs.Fields.{format_of}
 use Rattle.adf_block.proofs.Totals.{total-bound}
 use Rattle.ados_volume.proofs.info.info_of.Goals as goal

@@ -1,5 +1,4 @@
-use Rattle.std.proofs.Common.{ℕ, sym, ap, ◌∙◌}
-use Rattle.ados_volume.proofs.Common.{first_left, in_slot, entries_after}
+use Rattle.ados_volume.proofs.Common.{ap, entries_after, first_left, in_slot, sym, ℕ, ◌∙◌}
 use Rattle.ados_volume.proofs.Looking.{chains_of, listed_in_chains, next_is}
 use Rattle.ados_volume.proofs.Ordered.{place_listed}
 use Rattle.ados_volume.proofs.look.next_at.Goals as goal

@@ -1,5 +1,4 @@
-use Rattle.std.proofs.Common.{◌≡◌, ℕ, suc, ◌-◌, ◌+◌, arith, None, Some, sym, ap, ◌∙◌}
-use Rattle.ados_volume.proofs.Common.{block_count, parent_of, count_same}
+use Rattle.ados_volume.proofs.Common.{None, Some, ap, arith, block_count, count_same, parent_of, suc, sym, ℕ, ◌+◌, ◌-◌, ◌∙◌, ◌≡◌}
 use Rattle.ados_volume.proofs.Climbing.{climbs, ends, meets, met}
 use Rattle.ados_volume.proofs.refusals.is_under.Goals as goal
 

@@ -1,5 +1,4 @@
-use Rattle.std.proofs.Common.{◌≡◌, ◌-◌}
-use Rattle.ados_volume.proofs.Common.{Tree, Stands, HasKey, is_under}
+use Rattle.ados_volume.proofs.Common.{HasKey, Stands, Tree, is_under, ◌-◌, ◌≡◌}
 use Rattle.ados_volume.proofs.Climbing.{meets}
 use Rattle.ados_volume.proofs.refusals.is_under.Given as goal
 

@@ -1,5 +1,4 @@
-use Rattle.std.proofs.Common.{sym, subst}
-use Rattle.ados_volume.proofs.Common.{IsLowestFree, NoneFree, Stands, RefusesEntry, Shown}
+use Rattle.ados_volume.proofs.Common.{IsLowestFree, NoneFree, RefusesEntry, Shown, Stands, subst, sym}
 use Rattle.ados_change.specs.Kinds.{Makes, content_of}
 use Rattle.ados_change.proofs.Making.{unused}
 use Rattle.ados_volume.proofs.Known.{none_known}

@@ -1,5 +1,4 @@
-use Rattle.std.proofs.Common.{refl, sym, subst}
-use Rattle.ados_volume.proofs.Common.{Stands, shortened, Shown}
+use Rattle.ados_volume.proofs.Common.{Shown, Stands, refl, shortened, subst, sym}
 use Rattle.ados_volume.proofs.Bounds.{below_boot}
 use Rattle.ados_volume.proofs.Known.{known_dropped, others_last}
 use Rattle.ados_volume.proofs.Refilled.{rewritten_stay}

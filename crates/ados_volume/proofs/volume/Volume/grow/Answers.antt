@@ -1,5 +1,4 @@
-use Rattle.std.proofs.Common.{refl, sym, subst}
-use Rattle.ados_volume.proofs.Common.{Stands, Grows, RefusesGrowth, Shown}
+use Rattle.ados_volume.proofs.Common.{Grows, RefusesGrowth, Shown, Stands, refl, subst, sym}
 use Rattle.ados_volume.proofs.Known.{grown_lasts}
 use Rattle.ados_volume.proofs.Refilled.{refuses, rewritten_stay, still_shown}
 use Rattle.ados_volume.proofs.Staying.{files_sound, unchanged_sound}

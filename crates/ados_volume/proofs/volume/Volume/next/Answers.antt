@@ -1,5 +1,4 @@
-use Rattle.std.proofs.Common.{ℕ, List, sym, subst, ◌∙◌}
-use Rattle.ados_volume.proofs.Common.{LawfulChains, in_slot}
+use Rattle.ados_volume.proofs.Common.{LawfulChains, List, in_slot, subst, sym, ℕ, ◌∙◌}
 use Rattle.ados_volume.proofs.Looking.{chains_of, next_is}
 use Rattle.ados_volume.proofs.volume.Volume.next.Goals as goal
 

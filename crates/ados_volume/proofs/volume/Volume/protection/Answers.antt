@@ -1,5 +1,4 @@
-use Rattle.std.proofs.Common.{List, ℕ, sym, ap, ◌∙◌, subst}
-use Rattle.ados_volume.proofs.Common.{some_in, protection_in, Stands}
+use Rattle.ados_volume.proofs.Common.{List, Stands, ap, protection_in, some_in, subst, sym, ℕ, ◌∙◌}
 use Rattle.ados_volume.proofs.volume.Volume.protection.Goals as goal
 
 pub returns : goal.returns

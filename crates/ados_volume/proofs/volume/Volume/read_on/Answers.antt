@@ -1,6 +1,4 @@
-use Rattle.std.proofs.Common.{ℕ, ◌-◌, ◌++◌, min, List, length, take, drop, sym, subst, ap, ◌∙◌}
-use Rattle.ados_volume.proofs.Common.{readable, HasFileKey, Stands, file_writable, Shown}
-use Rattle.ados_change.proofs.Renewed.{bytes_in}
+use Rattle.ados_volume.proofs.Common.{HasFileKey, List, Shown, Stands, ap, bytes_in, drop, file_writable, length, min, readable, subst, sym, take, ℕ, ◌++◌, ◌-◌, ◌∙◌}
 use Rattle.ados_volume.proofs.Staying.{with_places}
 use Rattle.ados_volume.proofs.volume.Volume.read_on.Goals as goal
 

@@ -1,5 +1,4 @@
-use Rattle.std.proofs.Common.{sym, subst}
-use Rattle.ados_volume.proofs.Common.{Stands, Shown}
+use Rattle.ados_volume.proofs.Common.{Shown, Stands, subst, sym}
 use Rattle.ados_volume.proofs.Bounds.{below_kept}
 use Rattle.ados_volume.proofs.Moved.{has_parent, renamed_stays}
 use Rattle.ados_volume.proofs.Staying.{forgotten_sound}

@@ -1,5 +1,4 @@
-use Rattle.std.proofs.Common.{ℕ, ◌+◌, length, is_some, refl, sym, ap, subst}
-use Rattle.ados_volume.proofs.Common.{NAME_BYTE, root, Stands, root_is, OnlyRestamped, Shown}
+use Rattle.ados_volume.proofs.Common.{NAME_BYTE, OnlyRestamped, Shown, Stands, ap, is_some, length, refl, root, root_is, subst, sym, ℕ, ◌+◌}
 use Rattle.ados_change.proofs.Retells.{entry_not_root}
 use Rattle.ados_volume.proofs.Staying.{restamped_sound}
 use Rattle.ados_volume.proofs.volume.Volume.rename_disk.Goals as goal

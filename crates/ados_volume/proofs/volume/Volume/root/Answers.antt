@@ -1,5 +1,4 @@
-use Rattle.std.proofs.Common.{◌≡◌, ℕ, List, ap, ◌∙◌}
-use Rattle.ados_volume.proofs.Common.{block_count, root_key, root_is}
+use Rattle.ados_volume.proofs.Common.{List, ap, block_count, root_is, root_key, ℕ, ◌∙◌, ◌≡◌}
 use Rattle.ados_volume.proofs.Looking.{root_directory, root_key_of}
 use Rattle.ados_volume.proofs.volume.Volume.root.Goals as goal
 

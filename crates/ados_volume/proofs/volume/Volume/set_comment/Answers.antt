@@ -1,5 +1,4 @@
-use Rattle.std.proofs.Common.{◌+◌, length, refl, sym, subst}
-use Rattle.ados_volume.proofs.Common.{COMMENT_BYTE, Stands, Shown}
+use Rattle.ados_volume.proofs.Common.{COMMENT_BYTE, Shown, Stands, length, refl, subst, sym, ◌+◌}
 use Rattle.ados_volume.proofs.Staying.{restamped_sound}
 use Rattle.ados_volume.proofs.volume.Volume.set_comment.Goals as goal
 

@@ -1,5 +1,4 @@
-use Rattle.std.proofs.Common.{◌+◌, refl, sym, subst}
-use Rattle.ados_volume.proofs.Common.{PROTECTION, long_byte, Stands, Shown}
+use Rattle.ados_volume.proofs.Common.{PROTECTION, Shown, Stands, long_byte, refl, subst, sym, ◌+◌}
 use Rattle.ados_volume.proofs.Staying.{restamped_sound}
 use Rattle.ados_volume.proofs.volume.Volume.set_protect.Goals as goal
 

@@ -1,5 +1,4 @@
-use Rattle.std.proofs.Common.{◌≡◌, Ok, sym, ◌∙◌}
-use Rattle.ados_volume.proofs.Common.{steps, Tree, Stands, step_from, missing_before}
+use Rattle.ados_volume.proofs.Common.{Ok, Stands, Tree, missing_before, step_from, steps, sym, ◌∙◌, ◌≡◌}
 use Rattle.ados_name.specs.StepView.{step_of}
 use Rattle.ados_volume.proofs.PathWalks.{comes_on, fails_here}
 use Rattle.ados_volume.proofs.Walking.{step_key}

@@ -1,5 +1,4 @@
-use Rattle.std.proofs.Common.{◌≡◌}
-use Rattle.ados_volume.proofs.Common.{steps, Tree, Stands, HasKey}
+use Rattle.ados_volume.proofs.Common.{HasKey, Stands, Tree, steps, ◌≡◌}
 use Rattle.ados_volume.proofs.PathWalks.{HasCome}
 use Rattle.ados_volume.proofs.volume.Volume.walk_steps.Given as goal
 

@@ -1,5 +1,4 @@
-use Rattle.std.proofs.Common.{ℕ, ◌==◌, List, length, sym, ap, ◌∙◌, subst, eqb-true}
-use Rattle.ados_volume.proofs.Common.{both_ways, Stands, Writes, RefusesWrite, Shown}
+use Rattle.ados_volume.proofs.Common.{List, RefusesWrite, Shown, Stands, Writes, ap, both_ways, eqb-true, length, subst, sym, ℕ, ◌==◌, ◌∙◌}
 use Rattle.ados_change.proofs.Keeping.{same_keeps}
 use Rattle.ados_volume.proofs.Known.{written_format, written_lasts}
 use Rattle.ados_volume.proofs.Refilled.{refuses, still_shown, written_none, written_stay}
