@@ -8,9 +8,8 @@ ghost use Rattle.adf_text.specs.Uaem.{IsLineOf};
 ghost use Rattle.adf_export.specs.declared.entry.Source.TheVariants.{Note};
 
 use crate::entry::Source;
-use adf_record::entry_bytes;
 use adf_text::{Uaem, uaem_line};
-use ados_volume::Volume;
+use ados_volume::{Volume, read_file};
 use host_trees::Contents;
 use std::alloc::{AllocError, Global};
 use std::marker::Model;
@@ -52,7 +51,7 @@ impl<'a> Contents for VolumeBytes<'a> {
         ensures same { self.new ≡ self.old }
     {
         match self.sources.get(place) {
-            Some(Source::Entry(key)) => entry_bytes(alloc, self.volume, *key),
+            Some(Source::Entry(key)) => read_file(alloc, self.volume, *key),
             Some(Source::Note(key)) => note_bytes(alloc, self.volume, *key),
             None => Ok(Vec::new(alloc)),
         }

@@ -25,20 +25,9 @@ fn bytes_of_all(alloc: Global, volume: &Volume, found: &[Below]) -> Result<Vec<V
 {
     let mut contents = Vec::new(alloc);
     for entry in found {
-        contents.push(entry_bytes(alloc, volume, entry.key)?)?;
+        contents.push(read_file(alloc, volume, entry.key)?)?;
     }
     Ok(contents)
-}
-
-/// All bytes of a file. A directory has none.
-pub fn entry_bytes(alloc: Global, volume: &Volume, key: u32) -> Result<Vec<u8>, AllocError>
-    requires { HasKey volume.now.image key }
-    ensures { IfOk result (λ bytes. (t : Tree) → Stands volume.now.image t → bytes.items ≡ bytes_of t key) }
-{
-    if !volume.is_file(key) {
-        return Ok(Vec::new(alloc));
-    }
-    read_file(alloc, volume, key)
 }
 
 /// Whether two lists of bytes are equal.

@@ -24,7 +24,7 @@ mod told;
 mod words;
 
 pub use bundle::{Bundle, BundleEntry, BundleHead};
-pub use bundle_contents::{contents_of, entry_bytes, same_contents};
+pub use bundle_contents::{contents_of, same_contents};
 pub use bundle_fault::{BundleFault, BundleWhy};
 pub use bundle_lines::{MOST_BUNDLE_BYTES, bundle_text};
 pub use bundle_reader::read_bundle;

@@ -41,7 +41,7 @@ returns-clause-bytes c = elim c.match-get.branch [
       let known = w.in-Some-Entry.ensures.lookup in
       let at = slice_get_read c.self.inside.sources.now (length c.self.inside.sources.now) c.args.place w.in-Some-Entry.field-0.now refl known.3.0 known.1 ∙ ap Some w.in-Some-Entry.field-0-is in
       found (λ (b : Vec ℕ Global). b.items) c.self.inside.volume.now.image c.self.inside.sources.now c.args.place c.args.self.now c.self.view_is
-      c.match-get.result w.entry_bytes.result w.result-is (Entry w.in-Some-Entry.key) at w.entry_bytes.ensures
+      c.match-get.result w.read_file.result w.result-is (Entry w.in-Some-Entry.key) at w.read_file.ensures
   | in-Some-Note w ↦
       let known = w.in-Some-Note.ensures.lookup in
       let at = slice_get_read c.self.inside.sources.now (length c.self.inside.sources.now) c.args.place w.in-Some-Note.field-0.now refl known.3.0 known.1 ∙ ap Some w.in-Some-Note.field-0-is in
