@@ -1,6 +1,5 @@
 -- The result of the check, in terms of the entries.
-use Rattle.std.proofs.Common.{ℕ, Bool, true, false, List, sym, ap, ◌∙◌, subst}
-use Rattle.adf_salvage.proofs.Common.{long, BITMAP_FLAG, Accepts, Stands, Tree}
+use Rattle.adf_salvage.proofs.Common.{ℕ, Bool, true, false, List, sym, ap, ◌∙◌, subst, long, BITMAP_FLAG, Accepts, Stands, Tree}
 use Rattle.ados_model.proofs.Standing.{root_is}
 
 -- an image that represents a tree is accepted with the same tree

@@ -1,9 +1,7 @@
 -- The bytes of a file, copied block by block.
-use Rattle.std.proofs.Common.{◌≡◌, ◌≢◌, ℕ, suc, ◌+◌, ◌-◌, ◌*◌, ◌/◌, ◌%◌, ◌<◌, ◌≤◌, ◌++◌, List, length, take, drop, min, sym, ap, ap₂, ◌∙◌, arith}
+use Rattle.adf_salvage.proofs.Common.{◌≡◌, ◌≢◌, ℕ, suc, ◌+◌, ◌-◌, ◌*◌, ◌/◌, ◌%◌, ◌<◌, ◌≤◌, ◌++◌, List, length, take, drop, min, sym, ap, ap₂, ◌∙◌, arith, data_counted, holder_of, take-take, length-take, Ofs, Ffs, NEXT_EXTENSION, block_count, bytes_at, long, format_of, ReadableFile, contents, data_block, pointer_block, data_count, data_size, data_start, whole_block}
 use Rattle.std.proofs.Math.Seq.{take-add, take-length}
-use Rattle.adf_salvage.proofs.Common.{take-take, length-take, Ofs, Ffs, NEXT_EXTENSION, block_count, bytes_at, long, format_of, ReadableFile, contents, data_block, pointer_block, data_count, data_size, data_start, whole_block}
 use Rattle.adf_block.specs.declared.layout.Format.{Format}
-use Rattle.ados_data.proofs.Places.{data_counted, holder_of}
 use Rattle.ados_data.proofs.Reading.{data_of_block, part_is}
 
 -- data block i of a file of this size, and how much of it is the file's

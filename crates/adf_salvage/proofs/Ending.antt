@@ -1,6 +1,5 @@
 -- A name with its endings.
-use Rattle.std.proofs.Common.{◌≡◌, ℕ, suc, ◌+◌, List, ◌∷◌, ◌++◌, decimal, refl, ap, ◌∙◌, arith}
-use Rattle.adf_salvage.specs.Salvaged.{ended}
+use Rattle.adf_salvage.proofs.Common.{◌≡◌, ℕ, suc, ◌+◌, List, ◌∷◌, ◌++◌, decimal, refl, ap, ◌∙◌, arith, ended}
 
 pub ended_none : (name : List ℕ) (header : ℕ) → ended name header 0 ≡ name
 unfolding ended

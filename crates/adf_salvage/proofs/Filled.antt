@@ -1,6 +1,5 @@
 -- The bytes of a broken file, block by block.
-use Rattle.std.proofs.Common.{◌≡◌, ℕ, ◌<◌, inl, inr, List, length, replicate, slice_index, Contains, sym, ap, ◌∙◌, subst, arith}
-use Rattle.adf_salvage.proofs.Common.{get_or-replicate, length-replicate, Piece, IsPutAt}
+use Rattle.adf_salvage.proofs.Common.{◌≡◌, ℕ, ◌<◌, inl, inr, List, length, replicate, slice_index, Contains, sym, ap, ◌∙◌, subst, arith, get_or-replicate, length-replicate, Piece, IsPutAt}
 use Rattle.adf_salvage.specs.Saved.{IsOfGiven, IsPieced}
 
 module _ (image : List ℕ) (given : List Piece) (place count : ℕ) where

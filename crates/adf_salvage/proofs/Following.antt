@@ -1,7 +1,5 @@
 -- The blocks that are named as entries, block by block.
-use Rattle.std.proofs.Common.{ℕ, ◌<◌, ◌≤◌, List, Option, IsSome}
-use Rattle.ados_sound.proofs.Naming.{names_inside}
-use Rattle.adf_salvage.proofs.Common.{block_count, Known, IsLost, AreAllHeaders, AreFollowed, IsFollowed, KeepsMet, place_at}
+use Rattle.adf_salvage.proofs.Common.{ℕ, ◌<◌, ◌≤◌, List, Option, IsSome, names_inside, block_count, Known, IsLost, AreAllHeaders, AreFollowed, IsFollowed, KeepsMet, place_at}
 
 module _ (known : Known) (old new : List (Option ℕ)) (kept : KeepsMet old new) where
   pub headers_kept : AreAllHeaders known old → AreAllHeaders known new

@@ -1,12 +1,9 @@
 -- What an entry of an accepted image holds.
-use Rattle.std.proofs.Common.{◌≡◌, ℕ, All, List, map, None, Some, refl, sym, ap, ◌∙◌, subst}
-use Rattle.adf_salvage.proofs.Common.{Stands, Content, Node, Tree, bytes_of, entries, root, Salvaged, AreOfTree, HoldsAll, IsOfTree, Saved, located_of}
+use Rattle.adf_salvage.proofs.Common.{◌≡◌, ℕ, All, List, map, None, Some, refl, sym, ap, ◌∙◌, subst, AreBelow, Below, Stands, Content, Node, Tree, bytes_of, entries, root, Salvaged, AreOfTree, HoldsAll, IsOfTree, Saved, located_of}
 use Rattle.ados_model.specs.Keys.{HasDirectory, HasFileKey}
 use Rattle.ados_model.specs.Tree.Content.{Directory, File}
 use Rattle.ados_model.proofs.Nodes.{content_in}
 use Rattle.ados_change.proofs.Renewed.{bytes_in}
-use Rattle.ados_volume.specs.Below.{AreBelow}
-use Rattle.ados_volume.specs.declared.below.Below.{Below}
 use Rattle.adf_salvage.specs.declared.salvaged.State.TheVariants as states
 
 module _ (image : List ℕ) (t : Tree) (s : Stands image t) (key : ℕ) (node : Node) (at : t.nodes key ≡ Some node) where

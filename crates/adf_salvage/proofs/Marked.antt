@@ -1,9 +1,6 @@
 -- A block is marked when it is given.
-use Rattle.std.proofs.Common.{◌≡◌, ◌≢◌, ℕ, inl, inr, Bool, true, false, All, List, [], ◌∷◌, ◌++◌, length, get_or, get_or-set_same, get_or-set_other, length-set, sym, ap, ◌∙◌, subst, arith}
+use Rattle.adf_salvage.proofs.Common.{◌≡◌, ◌≢◌, ℕ, inl, inr, Bool, true, false, All, List, [], ◌∷◌, ◌++◌, length, get_or, get_or-set_same, get_or-set_other, length-set, sym, ap, ◌∙◌, subst, arith, Giving, AreApart, set, cases_eq, all_pairs_push, All-push, Piece, IsGiving, IsMarked, IsOpen}
 use Rattle.ados_sound.specs.Marks.{mark_at}
-use Rattle.adf_salvage.proofs.Common.{set, cases_eq, all_pairs_push, All-push, Piece, IsGiving, IsMarked, IsOpen}
-use Rattle.adf_salvage.specs.declared.giving.Giving.{Giving}
-use Rattle.adf_salvage.specs.Salvaged.{AreApart}
 
 module _ (image : List ℕ) (old new : Giving) (piece : Piece) (g : IsGiving image old) (o : IsOpen old.given.items piece.block) (noted : new.given.items ≡ set old.given.items piece.block true) where
   long : length new.given.items ≡ length old.given.items

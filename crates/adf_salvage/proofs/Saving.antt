@@ -1,6 +1,5 @@
 -- The entries of all sound headers, and what can be read of them.
-use Rattle.std.proofs.Common.{◌≡◌, ℕ, ◌<◌, inl, inr, false, List, length, slice_index, Some, IsSome, sym, ap, ◌∙◌, subst, arith}
-use Rattle.adf_salvage.proofs.Common.{get_or_default, Gathered, Known, IsLost, AreDeleted, AreSalvaged, SavesSound, headers_of, AreAllHeaders, AreGathered, place_at, AreSettled}
+use Rattle.adf_salvage.proofs.Common.{◌≡◌, ℕ, ◌<◌, inl, inr, false, List, length, slice_index, Some, IsSome, sym, ap, ◌∙◌, subst, arith, get_or_default, Gathered, Known, IsLost, AreDeleted, AreSalvaged, SavesSound, headers_of, AreAllHeaders, AreGathered, place_at, AreSettled}
 
 module _ (known : Known) (gathered : Gathered) (g : AreGathered known.left_out known.image gathered) where
   pub all_salvaged : AreAllHeaders known gathered.places.items → ((block : ℕ) → IsLost known.left_out known.image block → IsSome (place_at gathered.places.items block)) → AreSalvaged known.left_out known.image gathered.entries.items

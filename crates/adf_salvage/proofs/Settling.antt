@@ -1,6 +1,5 @@
 -- Files without a header are added to the entries.
-use Rattle.std.proofs.Common.{◌≡◌, ◌≢◌, ℕ, zero, suc, ◌+◌, ◌<◌, ◌≤◌, ◌⊎◌, inl, inr, All, AllPairs, List, [], ◌∷◌, ◌++◌, length, slice_index, get_or, Contains, Option, IsSome, is_some, sym, ap, ◌∙◌, subst, arith}
-use Rattle.adf_salvage.proofs.Common.{set, get_or_default, get_or-map, map-append, map-set, set-get_or, All-push, All-set, Contains-append_cases, Contains-append_left, all_pairs_push, Gathered, Known, Salvaged, Lost, IsLost, AreSalvaged, IsListed, IsLoose, broken_length, broken_total, headers_of, AreAllHeaders, AreGatheredBy, place_at, IsGiving, AreSettled}
+use Rattle.adf_salvage.proofs.Common.{◌≡◌, ◌≢◌, ℕ, zero, suc, ◌+◌, ◌<◌, ◌≤◌, ◌⊎◌, inl, inr, All, AllPairs, List, [], ◌∷◌, ◌++◌, length, slice_index, get_or, Contains, Option, IsSome, is_some, sym, ap, ◌∙◌, subst, arith, set, get_or_default, get_or-map, map-append, map-set, set-get_or, All-push, All-set, Contains-append_cases, Contains-append_left, all_pairs_push, Gathered, Known, Salvaged, Lost, IsLost, AreSalvaged, IsListed, IsLoose, broken_length, broken_total, headers_of, AreAllHeaders, AreGatheredBy, place_at, IsGiving, AreSettled}
 use Rattle.adf_salvage.proofs.Growing.{broken_more}
 use Rattle.adf_salvage.proofs.Saving.{all_salvaged}
 

@@ -1,6 +1,5 @@
 -- The mended image is the old one with a new bitmap.
-use Rattle.std.proofs.Common.{◌≡◌, ℕ, ◌+◌, ◌-◌, ◌/◌, ◌<◌, ◌≤◌, Bool, true, false, List, ap, ◌∙◌, arith}
-use Rattle.ados_mend.proofs.Common.{get_or_default, SameBut, block_count, block_sum, long, root_key, HasFreeBit, same_trans, same_weaken, LawfulPages, MarkedFree, Role, Accepts, HasNoLost, InImage, Reached, root_of, HasValidBitmap, IsOfBitmap, Rebuilt, Stands, Tree, root, reached_stands, root_is, ShowsOnlyMendable, IsValidated, without_lost}
+use Rattle.ados_mend.proofs.Common.{◌≡◌, ℕ, ◌+◌, ◌-◌, ◌/◌, ◌<◌, ◌≤◌, Bool, true, false, List, ap, ◌∙◌, arith, get_or_default, SameBut, block_count, block_sum, long, root_key, HasFreeBit, same_trans, same_weaken, LawfulPages, MarkedFree, Role, Accepts, HasNoLost, InImage, Reached, root_of, HasValidBitmap, IsOfBitmap, Rebuilt, Stands, Tree, root, reached_stands, root_is, ShowsOnlyMendable, IsValidated, without_lost}
 use Rattle.ados_model.specs.declared.role.Role.TheVariants as roles
 use Rattle.ados_model.proofs.NoFaults.{faults_have_no_tree}
 use Rattle.ados_mend.proofs.Carry.{reached_a, reached_b}

@@ -1,9 +1,6 @@
 -- In an image that shows only faults which a new bitmap mends, no bitmap block is reached in another role, and so is not
 -- the root.
-use Rattle.std.proofs.Common.{◌≡◌, ◌≢◌, ℕ, ◌+◌, ◌/◌, inl, inr, List, refl, subst, arith}
-use Rattle.ados_mend.proofs.Common.{cases_eq, long, BlockUsedTwice, Role, Root, IsPlace, IsUsedTwice, PlaceNames, Reached, root_of, root_page, root_named, two_holders, two_longs, named, start, IsOfBitmap, IsPage, ShowsOnlyMendable}
-use Rattle.ados_model.specs.declared.role.Role.TheVariants.{Page}
-use Rattle.ados_check.proofs.PlaceLemmas.{of_root}
+use Rattle.ados_mend.proofs.Common.{◌≡◌, ◌≢◌, ℕ, ◌+◌, ◌/◌, inl, inr, List, refl, subst, arith, Page, of_root, cases_eq, long, BlockUsedTwice, Role, Root, IsPlace, IsUsedTwice, PlaceNames, Reached, root_of, root_page, root_named, two_holders, two_longs, named, start, IsOfBitmap, IsPage, ShowsOnlyMendable}
 use Rattle.ados_check.proofs.PlaceLemmas.OfRoot.{of_page, of_slot}
 use Rattle.ados_mend.proofs.PageFaults.{mendable_pages, not_shown}
 use Rattle.ados_mend.proofs.PageRoles.{page_of_reached}

@@ -1,9 +1,6 @@
 -- Two images of which one shows only faults that a new bitmap mends, and that differ only in its bitmap, reach the same
 -- blocks.
-use Rattle.std.proofs.Common.{◌≡◌, ◌≢◌, ℕ, ◌≤◌, List, sym, ap, ◌∙◌, subst, arith}
-use Rattle.ados_mend.proofs.Common.{block_count, long, root_key, SameBut, same_count, same_long, Role, Root, InImage, IsPlace, Reached, root_of, named, start, IsOfBitmap, ShowsOnlyMendable}
-use Rattle.ados_model.specs.declared.role.Role.TheVariants.{Page}
-use Rattle.ados_check.proofs.Untouched.{HasSameLongs, IsPlaceLong, place_long, place_moves}
+use Rattle.ados_mend.proofs.Common.{◌≡◌, ◌≢◌, ℕ, ◌≤◌, List, sym, ap, ◌∙◌, subst, arith, Page, HasSameLongs, IsPlaceLong, place_long, place_moves, block_count, long, root_key, SameBut, same_count, same_long, Role, Root, InImage, IsPlace, Reached, root_of, named, start, IsOfBitmap, ShowsOnlyMendable}
 use Rattle.ados_mend.proofs.BesidePages.{beside}
 
 module _ (a b : List ℕ) (few : block_count a ≤ 101602) (only : ShowsOnlyMendable a) (same : SameBut (IsOfBitmap a) a b) where

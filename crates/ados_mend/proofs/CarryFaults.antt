@@ -1,20 +1,16 @@
 -- An image that shows only faults which a new bitmap mends shows none when its bitmap is settled: each fault of the
 -- settled image but of the bitmap is one of the old image.
-use Rattle.std.proofs.Common.{◌≡◌, ◌≢◌, ℕ, zero, suc, ◌+◌, ◌-◌, ◌<◌, ◌≤◌, ◌==◌, inl, inr, Bool, true, not, ◌&&◌, nat_lt, List, [], ◌∷◌, ◌++◌, length, flat_map, sum_by, slice_index, Contains, refl, sym, ap, ap₂, ◌∙◌, subst, arith}
+use Rattle.ados_mend.proofs.Common.{◌≡◌, ◌≢◌, ℕ, zero, suc, ◌+◌, ◌-◌, ◌<◌, ◌≤◌, ◌==◌, inl, inr, Bool, true, not, ◌&&◌, nat_lt, List, [], ◌∷◌, ◌++◌, length, flat_map, sum_by, slice_index, Contains, refl, sym, ap, ap₂, ◌∙◌, subst, arith, Data, Entry, Extension, Page, first_data, further_data, outside, HasSameLongs, and_parts, cases_lt, eqb-false, lt-leb, ltb-true, not-true, All-from_get_or, All-get_or, format_of, held_count, pointer_count, block_count, block_sum, byte_at, bytes_at, long, IsImage, text_at, COMMENT_BYTE, NAME_BYTE, NEXT_EXTENSION, same_bytes_at, same_sum, BadComment, BadCount, BadName, BadOwnKey, BadParent, BadPointer, BadSequence, BadSum, BadType, BlockUsedTwice, DuplicateName, LinkEntry, MarkedFree, NoMemory, NotADosDisk, UnsupportedKind, WrongChain, Role, Root, ShowsNoFault, AreDataBlocks, HasBadComment, HasBadCount, HasBadName, HasBadOwnKey, HasBadParent, HasBadPointer, HasBadSequence, HasBadSum, HasBadType, HasDuplicateName, HasName, HasPointers, HasShortName, HasSum, HoldsOtherSize, InImage, IsContinued, IsDataAt, IsDirectory, IsEntry, IsFile, IsInWrongChain, IsInnerData, IsLinkType, IsOfs, IsPlace, IsUsedTwice, LinkedOnce, PlaceNames, Reached, first_pointers, last_link, pointers_of, root_of, first_extension, further_extension, root_named, two_holders, two_longs, named, start, IsOfBitmap, data_count, reached_inside, root_inside, ShowsOnlyMendable, IsSettled, only_root}
 use Rattle.std.proofs.lemmas.List.Sums.{sum_by-cons}
-use Rattle.ados_mend.proofs.Common.{and_parts, cases_lt, eqb-false, lt-leb, ltb-true, not-true, All-from_get_or, All-get_or, format_of, held_count, pointer_count, block_count, block_sum, byte_at, bytes_at, long, IsImage, text_at, COMMENT_BYTE, NAME_BYTE, NEXT_EXTENSION, same_bytes_at, same_sum, BadComment, BadCount, BadName, BadOwnKey, BadParent, BadPointer, BadSequence, BadSum, BadType, BlockUsedTwice, DuplicateName, LinkEntry, MarkedFree, NoMemory, NotADosDisk, UnsupportedKind, WrongChain, Role, Root, ShowsNoFault, AreDataBlocks, HasBadComment, HasBadCount, HasBadName, HasBadOwnKey, HasBadParent, HasBadPointer, HasBadSequence, HasBadSum, HasBadType, HasDuplicateName, HasName, HasPointers, HasShortName, HasSum, HoldsOtherSize, InImage, IsContinued, IsDataAt, IsDirectory, IsEntry, IsFile, IsInWrongChain, IsInnerData, IsLinkType, IsOfs, IsPlace, IsUsedTwice, LinkedOnce, PlaceNames, Reached, first_pointers, last_link, pointers_of, root_of, first_extension, further_extension, root_named, two_holders, two_longs, named, start, IsOfBitmap, data_count, reached_inside, root_inside, ShowsOnlyMendable, IsSettled, only_root}
-use Rattle.ados_model.specs.declared.role.Role.TheVariants.{Data, Entry, Extension, Page}
 use Rattle.ados_model.specs.Faults.HasBadComment.{directory_comment, file_comment}
 use Rattle.ados_model.specs.Faults.HasBadCount.{held_none, held_not_full, held_over, no_pointer, not_full, over, wrong_size, wrong_sum}
 use Rattle.ados_model.specs.Faults.HasBadName.{colon, empty, long_name, slash}
 use Rattle.ados_model.specs.Faults.HasBadOwnKey.{entry_key, extension_key}
 use Rattle.ados_model.specs.Faults.HasBadParent.{data_file, entry_parent, extension_file, root_parent}
-use Rattle.ados_model.specs.Faults.HasBadPointer.{first_data, further_data, outside}
 use Rattle.ados_model.specs.Faults.HasBadType.{data_primary, entry_primary, entry_secondary, extension_primary, extension_secondary, root_primary, root_secondary, root_table}
 use Rattle.ados_model.specs.Faults.HasName.{entry_name, root_name}
 use Rattle.ados_model.specs.Faults.HasPointers.{extension_pointers, file_pointers}
 use Rattle.ados_check.proofs.Pointers.{pointers_are}
-use Rattle.ados_check.proofs.Untouched.{HasSameLongs}
 use Rattle.ados_faults.proofs.Rooted.{data_reached}
 use Rattle.ados_mend.proofs.BesidePages.{apart, beside, not_page}
 use Rattle.ados_mend.proofs.Carry.{count, inside_a, longs, place_a, reached_a, root_same}

@@ -1,6 +1,5 @@
 -- What is counted at one place.
-use Rattle.std.proofs.Common.{ℕ, ◌+◌, List, ◌&&◌, not, bit_xor, count_ones, if◌then◌else◌}
-use Rattle.adf_block.specs.Image.{has_free_bit, long}
+use Rattle.ados_mend.proofs.Common.{ℕ, ◌+◌, List, ◌&&◌, not, bit_xor, count_ones, if◌then◌else◌, has_free_bit, long}
 
 -- the number of bits of a long of a bitmap block that differ
 abbrev pub bits_at : List ℕ → List ℕ → ℕ → ℕ → ℕ

@@ -1,6 +1,5 @@
 -- A block that the new bitmap marks free is no bitmap block and not the root, so no byte of it changed.
-use Rattle.std.proofs.Common.{◌≡◌, ℕ, ◌+◌, ◌*◌, ◌<◌, ◌≤◌, inl, inr, List, length, drop, min, sym, ap, ◌∙◌, subst, arith}
-use Rattle.ados_mend.proofs.Common.{length-drop, length-take, SameBut, block_count, byte_at, bytes_at, long, text_at, COMMENT_BYTE, NAME_BYTE, same_bytes_at, same_count, same_long, same_sum, IsSoundHeader, Reached, start, IsOfBitmap, FreedHeadersStay}
+use Rattle.ados_mend.proofs.Common.{◌≡◌, ℕ, ◌+◌, ◌*◌, ◌<◌, ◌≤◌, inl, inr, List, length, drop, min, sym, ap, ◌∙◌, subst, arith, length-drop, length-take, SameBut, block_count, byte_at, bytes_at, long, text_at, COMMENT_BYTE, NAME_BYTE, same_bytes_at, same_count, same_long, same_sum, IsSoundHeader, Reached, start, IsOfBitmap, FreedHeadersStay}
 use Rattle.ados_model.specs.declared.role.Role.TheVariants as roles
 use Rattle.ados_mend.proofs.Widened.{turned}
 

@@ -1,14 +1,10 @@
 -- The kept longs of the bitmap blocks.
-use Rattle.std.proofs.Common.{◌≡◌, ℕ, ◌+◌, ◌*◌, ◌/◌, ◌%◌, ◌<◌, ◌≤◌, List, [], ◌∷◌, ◌++◌, length, map, slice_index_or, sym, ap, ap₂, ◌∙◌, arith}
+use Rattle.ados_mend.proofs.Common.{◌≡◌, ℕ, ◌+◌, ◌*◌, ◌/◌, ◌%◌, ◌<◌, ◌≤◌, List, [], ◌∷◌, ◌++◌, length, map, slice_index_or, sym, ap, ap₂, ◌∙◌, arith, range_with_len, long, page_block, pages_of, AreKeptLongs, page_long}
 use Rattle.std.proofs.lemmas.List.FromFn.{get_or-map-range_with_len, length-map-range_with_len, map-range_with_len_more}
-use Rattle.ados_mend.proofs.Common.{range_with_len, long, page_block, pages_of, AreKeptLongs, page_long}
 
 module _ (image longs : List ℕ) (kept : AreKeptLongs image longs) where
   pub kept_length : length longs ≡ 128 * pages_of image
   kept_length = ap length kept.all ∙ length-map-range_with_len (page_long image) 0 (128 * pages_of image)
-
-  pub few_pages : pages_of image ≤ 25
-  few_pages = omega (arith, kept.whole.whole, kept.whole.size.1)
 
   pub within_kept : (p i : ℕ) → p < pages_of image → i < 128 → 128 * p + i < length longs
   within_kept p i l m = omega (arith, l, m, kept_length)

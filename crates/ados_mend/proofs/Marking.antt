@@ -1,7 +1,6 @@
 -- Marks of blocks, set one by one.
-use Rattle.std.proofs.Common.{◌≡◌, ◌≢◌, ℕ, zero, suc, ◌<◌, ◌⊎◌, inl, inr, Bool, true, false, List, [], ◌∷◌, length, get_or-set_same, get_or-set_other, sym, ap, ◌∙◌, arith}
+use Rattle.ados_mend.proofs.Common.{◌≡◌, ◌≢◌, ℕ, zero, suc, ◌<◌, ◌⊎◌, inl, inr, Bool, true, false, List, [], ◌∷◌, length, get_or-set_same, get_or-set_other, sym, ap, ◌∙◌, arith, cases_eq, IsMarked, mark_at, unmarked}
 use Rattle.std.proofs.Math.ListN.{set}
-use Rattle.ados_mend.proofs.Common.{cases_eq, IsMarked, mark_at, unmarked}
 
 module _ (marks : List Bool) (block : ℕ) (inside : block < length marks) where
   pub now_marked : mark_at (set marks block true) block ≡ true

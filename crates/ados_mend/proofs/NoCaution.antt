@@ -1,6 +1,5 @@
 -- If all bitmap blocks are safe and no header is lost, nothing is lost.
-use Rattle.std.proofs.Common.{◌≡◌, ℕ, Bool, true, false, List, Option, Some, None, MatchOption, refl, sym, ap, ◌∙◌, subst, arith}
-use Rattle.ados_mend.proofs.Common.{block_sum, has_free_bit, HasFreeBit, IsValidated, AreSafePages, HasNoLostHeader}
+use Rattle.ados_mend.proofs.Common.{◌≡◌, ℕ, Bool, true, false, List, Option, Some, None, MatchOption, refl, sym, ap, ◌∙◌, subst, arith, block_sum, has_free_bit, HasFreeBit, IsValidated, AreSafePages, HasNoLostHeader}
 use Rattle.ados_mend.specs.declared.caution.Caution.{Caution}
 use Rattle.ados_mend.specs.declared.caution.Caution.TheVariants.{Differs, LooksLike, LostHeader}
 use Rattle.ados_mend.specs.Cautions.{HasLook, HasNoCaution, IsCaution, IsLostBlock, changed_bits}

@@ -1,9 +1,6 @@
 -- The bitmap blocks of an image that shows only faults which a new bitmap mends.
-use Rattle.std.proofs.Common.{◌≡◌, ℕ, ◌+◌, ◌<◌, ◌⊎◌, inl, inr, Bool, true, false, List, refl, sym, ap, ◌∙◌, arith}
-use Rattle.ados_mend.proofs.Common.{cases_eq, cases_lt, IsInside, block_count, LawfulPages, page_block, pages_of, BadPointer, BadSum, BlockUsedTwice, MarkedFree, Root, InImage, PlaceNames, Shows, root_of, root_page, root_named, two_longs, start, ShowsOnlyMendable, MendableHasPages}
+use Rattle.ados_mend.proofs.Common.{◌≡◌, ℕ, ◌+◌, ◌<◌, ◌⊎◌, inl, inr, Bool, true, false, List, refl, sym, ap, ◌∙◌, arith, Page, outside, cases_eq, cases_lt, IsInside, block_count, LawfulPages, page_block, pages_of, BadPointer, BadSum, BlockUsedTwice, MarkedFree, Root, InImage, PlaceNames, Shows, root_of, root_page, root_named, two_longs, start, ShowsOnlyMendable, MendableHasPages}
 use Rattle.ados_model.specs.declared.fault.FaultKind.{FaultKind}
-use Rattle.ados_model.specs.declared.role.Role.TheVariants.{Page}
-use Rattle.ados_model.specs.Faults.HasBadPointer.{outside}
 
 inside_or_not : (n b : ℕ) → IsInside n b ⊎ ¬ IsInside n b
 inside_or_not n b = elim (cases_lt b 2) [

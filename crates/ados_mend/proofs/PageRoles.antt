@@ -1,7 +1,5 @@
 -- The reached bitmap blocks are those that the root names.
-use Rattle.std.proofs.Common.{◌≡◌, ℕ, ◌+◌, ◌<◌, List, refl, sym, ap₂, subst}
-use Rattle.ados_mend.proofs.Common.{block_count, long, page_count, LawfulPages, Role, Root, IsPlace, Reached, root_of, directory_slot, extension_pointer, first_extension, further_extension, header_pointer, next_entry, root_page, root_slot, named, start, only_root, IsPage}
-use Rattle.ados_model.specs.declared.role.Role.TheVariants.{Page}
+use Rattle.ados_mend.proofs.Common.{◌≡◌, ℕ, ◌+◌, ◌<◌, List, refl, sym, ap₂, subst, Page, block_count, long, page_count, LawfulPages, Role, Root, IsPlace, Reached, root_of, directory_slot, extension_pointer, first_extension, further_extension, header_pointer, next_entry, root_page, root_slot, named, start, only_root, IsPage}
 
 -- a place that names a bitmap block
 record PageLong (image : List ℕ) (i : ℕ) (role : Role) : Type 0 where

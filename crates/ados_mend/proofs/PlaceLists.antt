@@ -1,11 +1,9 @@
 -- The lists of places of the blocks that are asked for, each found one by one.
-use Rattle.std.proofs.Common.{◌≡◌, ◌≢◌, ℕ, ◌+◌, ◌*◌, ◌<◌, ◌≤◌, inl, inr, Option, Result, Ok, Err, List, [], ◌∷◌, ◌++◌, length, get_or, set, take, All, Contains, Vec, Global, sym, ap, ◌∙◌, subst, arith, get_or-set_other, get_or-set_same, length-set}
+use Rattle.ados_mend.proofs.Common.{◌≡◌, ◌≢◌, ℕ, ◌+◌, ◌*◌, ◌<◌, ◌≤◌, inl, inr, Option, Result, Ok, Err, List, [], ◌∷◌, ◌++◌, length, get_or, set, take, All, Contains, Vec, Global, sym, ap, ◌∙◌, subst, arith, get_or-set_other, get_or-set_same, length-set, AllPairs-from_increasing, AllZip, cases_eq, cases_lt, get_or_default, take_more, Contains-get_or, block_count, long, IsImage, Place, AreAllPlaces, AreAllPlacesOfEach, IsPlaceOfReached, AreListsBelow, ArePlacesBelow, IsListOf}
 use Rattle.std.specs.Option.{MatchOption}
 use Rattle.std.specs.Result.{MatchResult, result_ok}
 use Rattle.std.specs.List.Sorted.{IsStrictlyIncreasing}
-use Rattle.std.proofs.lemmas.List.Kept.{AllPairs-from_increasing}
 use Rattle.std.proofs.lemmas.Slice.Zip.{all_zipped_more}
-use Rattle.ados_mend.proofs.Common.{AllZip, cases_eq, cases_lt, get_or_default, take_more, Contains-get_or, block_count, long, IsImage, Place, AreAllPlaces, AreAllPlacesOfEach, IsPlaceOfReached, AreListsBelow, ArePlacesBelow, IsListOf}
 use Rattle.ados_mend.proofs.Placing.{all_places, holder_skipped, long_skipped, no_places}
 
 -- ---- where a block stands

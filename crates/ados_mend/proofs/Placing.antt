@@ -1,11 +1,9 @@
 -- The places that name a block, found one by one.
-use Rattle.std.proofs.Common.{◌≡◌, ◌≢◌, ℕ, ◌+◌, ◌*◌, ◌<◌, ◌≤◌, inl, inr, Bool, true, false, MatchBool, List, [], ◌∷◌, ◌++◌, Contains, refl, sym, ap, ◌∙◌, subst, arith}
-use Rattle.std.specs.Prelude.{◌==◌, if◌then◌else◌}
+use Rattle.ados_mend.proofs.Common.{few_pages, ◌≡◌, ◌≢◌, ℕ, ◌+◌, ◌*◌, ◌<◌, ◌≤◌, inl, inr, Bool, true, false, MatchBool, List, [], ◌∷◌, ◌++◌, Contains, refl, sym, ap, ◌∙◌, subst, arith, ◌==◌, if◌then◌else◌, cases_lt, All-push, Contains-append_left, Contains-push, block_count, long, IsImage, place_within, reached_inside, Role, IsPlace, Reached, root_page, root_slot, directory_slot, next_entry, header_pointer, first_extension, extension_pointer, further_extension, Place, AreAllPlaces, Gives, IsPlaceOfReached, NamesBlock, position, rank, mark_at, ArePlacesBelow, IsGivenIn, AreCells, form}
 use Rattle.std.proofs.lemmas.List.Quantifiers.{all_pairs_push}
-use Rattle.ados_mend.proofs.Common.{cases_lt, All-push, Contains-append_left, Contains-push, block_count, long, IsImage, place_within, reached_inside, Role, IsPlace, Reached, root_page, root_slot, directory_slot, next_entry, header_pointer, first_extension, extension_pointer, further_extension, Place, AreAllPlaces, Gives, IsPlaceOfReached, NamesBlock, position, rank, mark_at, ArePlacesBelow, IsGivenIn, AreCells, form}
 use Rattle.ados_mend.specs.declared.naming.Naming.{Naming}
 use Rattle.ados_mend.specs.declared.naming.Naming.TheVariants.{Entry, NextEntry, Extension, Data, Page}
-use Rattle.ados_mend.proofs.Reaching.{few_pages, form_small, same_place}
+use Rattle.ados_mend.proofs.Reaching.{form_small, same_place}
 
 -- ---- the order of places
 

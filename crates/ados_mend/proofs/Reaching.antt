@@ -1,12 +1,8 @@
 -- Reached blocks while a walk finds them, and that it finds all.
-use Rattle.std.proofs.Common.{◌≡◌, ℕ, ◌+◌, ◌*◌, ◌-◌, ◌<◌, ◌≤◌, inl, inr, Bool, true, false, List, [], ◌∷◌, ◌++◌, length, get_or, Some, set, refl, sym, ap, ap₂, ◌∙◌, subst, arith}
-use Rattle.ados_mend.proofs.Common.{slice_get, cases_lt, length_push, get_or_push, get_or_append_left, same_Some, slice_get-get_or, slice_get_within, FIRST_PAGE, FIRST_POINTER, FIRST_SLOT, NEXT_EXTENSION, NEXT_IN_CHAIN, block_count, long, page_count, IsImage, root_inside, place_within, Role, Root, InImage, IsPlace, LeadsInside, Reached, root_of, root_page, root_slot, directory_slot, next_entry, header_pointer, first_extension, extension_pointer, further_extension, named, start, IsReached, naming_of, IsMarked, mark_at, unmarked, AreCells, AreKept, AreVisited, AreWalked, IsPassed, IsStep, form}
-use Rattle.ados_model.specs.declared.role.Role.TheVariants.{Page, Entry, Data, Extension}
+use Rattle.ados_mend.proofs.Common.{few_pages, ◌≡◌, ℕ, ◌+◌, ◌*◌, ◌-◌, ◌<◌, ◌≤◌, inl, inr, Bool, true, false, List, [], ◌∷◌, ◌++◌, length, get_or, Some, set, refl, sym, ap, ap₂, ◌∙◌, subst, arith, Page, Entry, Data, Extension, cell, slice_get, cases_lt, length_push, get_or_push, get_or_append_left, same_Some, slice_get-get_or, slice_get_within, FIRST_PAGE, FIRST_POINTER, FIRST_SLOT, NEXT_EXTENSION, NEXT_IN_CHAIN, block_count, long, page_count, IsImage, root_inside, place_within, Role, Root, InImage, IsPlace, LeadsInside, Reached, root_of, root_page, root_slot, directory_slot, next_entry, header_pointer, first_extension, extension_pointer, further_extension, named, start, IsReached, naming_of, IsMarked, mark_at, unmarked, AreCells, AreKept, AreVisited, AreWalked, IsPassed, IsStep, form}
 use Rattle.ados_mend.specs.declared.reached.Step.{Step}
 use Rattle.ados_mend.specs.declared.reached.Walk.{Walk}
-use Rattle.ados_mend.specs.steps.Reaching.{cell}
-use Rattle.ados_mend.proofs.Marking.{still_marked}
-use Rattle.ados_mend.proofs.Marking.{fewer_unmarked}
+use Rattle.ados_mend.proofs.Marking.{fewer_unmarked, still_marked}
 
 -- ---- the forms of roles
 
@@ -105,9 +101,6 @@ kept_more walk later step c within free cells steps = record {
 }
 
 -- ---- the places of a step
-
-pub few_pages : (image : List ℕ) → IsImage image → page_count (block_count image) ≤ 25
-few_pages image im = omega (arith, im.whole, im.size.0, im.size.1)
 
 module _ (image : List ℕ) (cells : List Bool) (step : Step) (whole : IsImage image) where
   pub passed_below : (i : ℕ) → i < 6 → IsPassed image cells step i

@@ -1,7 +1,5 @@
 -- The bitmap of a checked image is written from its marks, once its root says that it is not valid.
-use Rattle.std.proofs.Common.{◌≡◌, ℕ, ◌≤◌, inr, true, List, Option, refl, ◌∙◌, subst, arith}
-use Rattle.ados_mend.proofs.Common.{SameBut, block_count, block_sum, IsImage, same_sum, same_weaken, Reached, root_of, HasValidBitmap, IsOfBitmap, reached_marked, ShowsOnlyMendable, IsValidated, IsRootMark}
-use Rattle.ados_model.specs.declared.role.Role.TheVariants.{Page}
+use Rattle.ados_mend.proofs.Common.{◌≡◌, ℕ, ◌≤◌, inr, true, List, Option, refl, ◌∙◌, subst, arith, Page, SameBut, block_count, block_sum, IsImage, same_sum, same_weaken, Reached, root_of, HasValidBitmap, IsOfBitmap, reached_marked, ShowsOnlyMendable, IsValidated, IsRootMark}
 use Rattle.ados_check.specs.declared.mark.Mark.{Mark}
 use Rattle.ados_check.specs.Laws.{IsMended}
 use Rattle.ados_check.specs.Marks.{IsChecked, IsSound}

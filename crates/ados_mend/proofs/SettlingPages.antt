@@ -1,7 +1,5 @@
 -- The bitmap blocks settled one after another, then the root's flag and checksum.
-use Rattle.std.proofs.Common.{◌≡◌, ℕ, ◌+◌, ◌<◌, inl, inr, List, sym, ap, ◌∙◌, arith}
-use Rattle.ados_mend.proofs.Common.{OnlyLong, SameBut, block_count, block_sum, long, root_key, cases_lt, other_long, same_count, same_long, same_sum, same_trans, same_weaken, LawfulPages, page_block, pages_of, root_of, HasValidBitmap, IsOfBitmap, HaveSums, IsRootMark, IsSettled}
-use Rattle.ados_map.specs.Changes.{InPages}
+use Rattle.ados_mend.proofs.Common.{◌≡◌, ℕ, ◌+◌, ◌<◌, inl, inr, List, sym, ap, ◌∙◌, arith, InPages, OnlyLong, SameBut, block_count, block_sum, long, root_key, cases_lt, other_long, same_count, same_long, same_sum, same_trans, same_weaken, LawfulPages, page_block, pages_of, root_of, HasValidBitmap, IsOfBitmap, HaveSums, IsRootMark, IsSettled}
 use Rattle.ados_mend.proofs.PageRoles.{reached_of_page}
 
 module _ (old mid : List ℕ) (pages : LawfulPages old) (same : SameBut (InPages old) old mid) where

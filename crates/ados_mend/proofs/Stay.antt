@@ -1,8 +1,7 @@
 -- An image that represents a tree without lost blocks, and one that differs from it only in its bitmap. If the other one
 -- has right checksums, a valid bitmap and no used block that is marked free, it represents the same tree with lost
 -- blocks.
-use Rattle.std.proofs.Common.{◌≡◌, ◌≢◌, ℕ, zero, suc, ◌+◌, ◌-◌, ◌/◌, ◌%◌, ◌<◌, ◌≤◌, ◌⊎◌, inl, inr, Bool, true, false, not, ◌&&◌, nat_le, nat_lt, if◌then◌else◌, List, ◌∷◌, length, slice_index, Option, Some, None, refl, sym, ap, ◌∙◌, subst, arith}
-use Rattle.ados_mend.proofs.Common.{and_parts, cases_Bool, cases_eq, cases_lt, false≢true, leb-true, le-leb, lt-ltb, ltb-true, not-true, get_or_default, get_or_past, COMMENT_BYTE, NAME_BYTE, NEXT_DATA, NEXT_EXTENSION, NEXT_IN_CHAIN, table_entry, SameBut, Chained, HasText, IsInside, block_count, block_sum, bytes_at, has_free_bit, long, page_count, HasFreeBit, same_bytes_at, same_long, same_sum, HasNoLost, InImage, Reached, root_of, root_page, named, start, file_byte, HasValidBitmap, IsOfBitmap, Duty, Fits, HasDuty, HasEntry, HasFile, HasNode, HasOfsData, HasRoot, Layout, Named, Stands, date_at, in_slot, LeadsToRoot, Node, Proper, Tree, root, StandsAt, count_same, reached_stands, root_is, serves_at, slice_get-index, without_lost}
+use Rattle.ados_mend.proofs.Common.{◌≡◌, ◌≢◌, ℕ, zero, suc, ◌+◌, ◌-◌, ◌/◌, ◌%◌, ◌<◌, ◌≤◌, ◌⊎◌, inl, inr, Bool, true, false, not, ◌&&◌, nat_le, nat_lt, if◌then◌else◌, List, ◌∷◌, length, slice_index, Option, Some, None, refl, sym, ap, ◌∙◌, subst, arith, and_parts, cases_Bool, cases_eq, cases_lt, false≢true, leb-true, le-leb, lt-ltb, ltb-true, not-true, get_or_default, get_or_past, COMMENT_BYTE, NAME_BYTE, NEXT_DATA, NEXT_EXTENSION, NEXT_IN_CHAIN, table_entry, SameBut, Chained, HasText, IsInside, block_count, block_sum, bytes_at, has_free_bit, long, page_count, HasFreeBit, same_bytes_at, same_long, same_sum, HasNoLost, InImage, Reached, root_of, root_page, named, start, file_byte, HasValidBitmap, IsOfBitmap, Duty, Fits, HasDuty, HasEntry, HasFile, HasNode, HasOfsData, HasRoot, Layout, Named, Stands, date_at, in_slot, LeadsToRoot, Node, Proper, Tree, root, StandsAt, count_same, reached_stands, root_is, serves_at, slice_get-index, without_lost}
 use Rattle.adf_block.specs.declared.layout.Format.{Format}
 use Rattle.adf_block.specs.declared.layout.Format.TheVariants.{Ffs, Ofs}
 use Rattle.ados_data.proofs.Chains.{chained, next_of}

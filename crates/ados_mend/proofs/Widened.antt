@@ -1,6 +1,5 @@
 -- Two images that differ only in the bitmap of one have the same bitmap blocks.
-use Rattle.std.proofs.Common.{◌≡◌, ℕ, ◌+◌, ◌/◌, ◌<◌, ◌≤◌, inl, inr, List, refl, sym, ap, ◌∙◌, arith}
-use Rattle.ados_mend.proofs.Common.{SameBut, block_count, long, root_key, same_count, same_long, LawfulPages, page_block, pages_of, root_of, IsOfBitmap, count_same, ValidatedHasPages}
+use Rattle.ados_mend.proofs.Common.{◌≡◌, ℕ, ◌+◌, ◌/◌, ◌<◌, ◌≤◌, inl, inr, List, refl, sym, ap, ◌∙◌, arith, SameBut, block_count, long, root_key, same_count, same_long, LawfulPages, page_block, pages_of, root_of, IsOfBitmap, count_same, ValidatedHasPages}
 use Rattle.ados_mend.proofs.PageFaults.{mendable_pages}
 use Rattle.ados_mend.proofs.PageRoles.{page_of_reached, reached_of_page}
 

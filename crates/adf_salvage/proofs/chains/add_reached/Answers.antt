@@ -1,5 +1,4 @@
-use Rattle.std.proofs.Common.{sym, subst}
-use Rattle.adf_salvage.proofs.Common.{Gathered, AreGatheredBy}
+use Rattle.adf_salvage.proofs.Common.{sym, subst, Gathered, AreGatheredBy}
 use Rattle.adf_salvage.proofs.chains.add_reached.Goals as goal
 use Rattle.adf_salvage.proofs.chains.add_reached.Goals.{then-matches+then-entry-blocks+in_ok-add_chains-2, else-matches, else-matches-via-then-matches+else-entry-blocks, else-matches-via-else-matches}
 

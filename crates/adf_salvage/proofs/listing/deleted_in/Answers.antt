@@ -1,6 +1,5 @@
-use Rattle.std.proofs.Common.{sym, subst}
+use Rattle.adf_salvage.proofs.Common.{sym, subst, ShowsNoFault}
 use Rattle.ados_model.proofs.NoFaults.{faults_have_no_tree}
-use Rattle.ados_model.specs.Accepted.{ShowsNoFault}
 use Rattle.adf_salvage.proofs.listing.deleted_in.Goals as goal
 
 -- the image of a volume represents a tree, so it shows no fault

@@ -1,6 +1,4 @@
-use Rattle.std.proofs.Common.{◌++◌, ◌∷◌, [], All, List, map, sym, ap, ap₂, ◌∙◌, subst}
-use Rattle.adf_salvage.proofs.Common.{map-append, take_all, take_more, All-push, IsOfTree, located_of, IsReadable}
-use Rattle.ados_volume.specs.declared.below.Below.{Below}
+use Rattle.adf_salvage.proofs.Common.{◌++◌, ◌∷◌, [], All, List, map, sym, ap, ap₂, ◌∙◌, subst, Below, map-append, take_all, take_more, All-push, IsOfTree, located_of, IsReadable}
 use Rattle.adf_salvage.proofs.listing.entries_of.Goals as goal
 
 pub loop-entry-preserved : goal.loop-entry-preserved

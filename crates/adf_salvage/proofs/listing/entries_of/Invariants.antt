@@ -1,5 +1,4 @@
-use Rattle.std.proofs.Common.{◌≡◌, All, map, take}
-use Rattle.adf_salvage.proofs.Common.{Tree, Stands, IsOfTree, located_of, IsReadable}
+use Rattle.adf_salvage.proofs.Common.{◌≡◌, All, map, take, Tree, Stands, IsOfTree, located_of, IsReadable}
 use Rattle.adf_salvage.proofs.listing.entries_of.Given as goal
 
 -- the entries before this one are described

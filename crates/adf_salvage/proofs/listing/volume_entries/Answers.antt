@@ -1,6 +1,4 @@
-use Rattle.std.proofs.Common.{ℕ, ◌<◌, None, List, All, refl, sym, subst}
-use Rattle.adf_salvage.proofs.Common.{All-nil, block_count, Accepts, Stands, entries, Piece, IsTrustedBitmap, IsReadable}
-use Rattle.ados_volume.specs.Below.{AreBelow}
+use Rattle.adf_salvage.proofs.Common.{ℕ, ◌<◌, None, List, All, refl, sym, subst, AreBelow, All-nil, block_count, Accepts, Stands, entries, Piece, IsTrustedBitmap, IsReadable}
 use Rattle.ados_volume.proofs.AllBelow.{there_below}
 use Rattle.adf_salvage.proofs.Holding.{of_tree}
 use Rattle.adf_salvage.proofs.listing.volume_entries.Goals as goal

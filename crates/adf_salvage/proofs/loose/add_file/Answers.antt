@@ -1,6 +1,4 @@
-use Rattle.std.proofs.Common.{◌≡◌, IfSome, MatchOption, Option, ◌+◌, true, false, sym, ap, ◌∙◌, subst, arith}
-use Rattle.adf_salvage.proofs.Common.{on_ok_weaker, State, IsLoose, broken_length, IsGiving}
-use Rattle.adf_salvage.specs.declared.giving.Giving.{Giving}
+use Rattle.adf_salvage.proofs.Common.{◌≡◌, IfSome, MatchOption, Option, ◌+◌, true, false, sym, ap, ◌∙◌, subst, arith, Giving, on_ok_weaker, State, IsLoose, broken_length, IsGiving}
 use Rattle.adf_salvage.proofs.Settling.{settles_more}
 use Rattle.adf_salvage.proofs.loose.add_file.Goals as goal
 

@@ -1,5 +1,4 @@
-use Rattle.std.proofs.Common.{ℕ, ◌+◌, sym, subst, arith}
-use Rattle.adf_salvage.specs.steps.Settling.{AreSettled}
+use Rattle.adf_salvage.proofs.Common.{ℕ, ◌+◌, sym, subst, arith, AreSettled}
 use Rattle.adf_salvage.proofs.loose.add_found.Goals as goal
 
 pub loop-part-preserved : goal.loop-part-preserved

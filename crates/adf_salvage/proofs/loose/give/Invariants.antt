@@ -1,6 +1,5 @@
-use Rattle.std.proofs.Common.{◌≡◌, IfSome}
+use Rattle.adf_salvage.proofs.Common.{◌≡◌, IfSome, IsGiving}
 use Rattle.adf_salvage.specs.Loose.{IsLooseData}
-use Rattle.adf_salvage.specs.steps.Giving.{IsGiving}
 use Rattle.adf_salvage.proofs.loose.give.Given as goal
 
 abbrev pub invariant-loop-part : goal.invariant-loop-part

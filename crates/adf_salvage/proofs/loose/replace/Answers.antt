@@ -1,5 +1,4 @@
-use Rattle.std.proofs.Common.{◌≡◌, ℕ, ◌+◌, get_or, IfSome, MatchOption, Option, refl, sym, ap, ◌∙◌, subst}
-use Rattle.adf_salvage.proofs.Common.{get_or_default, Salvaged, State, Lost, IsLoose, broken_length}
+use Rattle.adf_salvage.proofs.Common.{◌≡◌, ℕ, ◌+◌, get_or, IfSome, MatchOption, Option, refl, sym, ap, ◌∙◌, subst, get_or_default, Salvaged, State, Lost, IsLoose, broken_length}
 use Rattle.adf_salvage.proofs.Settling.{settles_lost}
 use Rattle.adf_salvage.proofs.loose.replace.Goals as goal
 

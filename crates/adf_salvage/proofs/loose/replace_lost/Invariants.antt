@@ -1,5 +1,4 @@
-use Rattle.std.proofs.Common.{◌≡◌, length}
-use Rattle.adf_salvage.specs.steps.Settling.{AreSettled}
+use Rattle.adf_salvage.proofs.Common.{◌≡◌, length, AreSettled}
 use Rattle.adf_salvage.proofs.loose.replace_lost.Given as goal
 
 abbrev pub invariant-loop-place : goal.invariant-loop-place

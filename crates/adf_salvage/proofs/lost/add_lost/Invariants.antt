@@ -1,5 +1,4 @@
-use Rattle.std.proofs.Common.{ℕ, ◌<◌}
-use Rattle.adf_salvage.specs.steps.Gathering.{AreAllHeaders, AreFollowed, AreGatheredBy}
+use Rattle.adf_salvage.proofs.Common.{ℕ, ◌<◌, AreAllHeaders, AreFollowed, AreGatheredBy}
 use Rattle.adf_salvage.proofs.lost.add_lost.Given as goal
 
 abbrev pub invariant-loop-block : goal.invariant-loop-block

@@ -1,5 +1,4 @@
-use Rattle.std.proofs.Common.{below_more, arith}
-use Rattle.ados_sound.proofs.Naming.{place_below}
+use Rattle.adf_salvage.proofs.Common.{below_more, arith, place_below}
 use Rattle.adf_salvage.proofs.Following.{long_kept, headers_kept}
 use Rattle.adf_salvage.proofs.lost.follow.Goals as goal
 

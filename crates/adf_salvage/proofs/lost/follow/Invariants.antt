@@ -1,5 +1,4 @@
-use Rattle.std.proofs.Common.{ℕ, ◌<◌}
-use Rattle.adf_salvage.specs.steps.Gathering.{AreAllHeaders, GathersMore, IsFollowed}
+use Rattle.adf_salvage.proofs.Common.{ℕ, ◌<◌, AreAllHeaders, GathersMore, IsFollowed}
 use Rattle.adf_salvage.proofs.lost.follow.Given as goal
 
 abbrev pub invariant-loop-at : goal.invariant-loop-at

@@ -1,5 +1,4 @@
-use Rattle.std.proofs.Common.{get_or, arith}
-use Rattle.std.proofs.lemmas.List.Elements.{Contains-get_or}
+use Rattle.adf_salvage.proofs.Common.{get_or, arith, Contains-get_or}
 use Rattle.adf_salvage.proofs.Filled.{pieced_more}
 use Rattle.adf_salvage.proofs.pieces.pieced.Goals as goal
 

@@ -1,5 +1,4 @@
-use Rattle.std.proofs.Common.{◌≡◌, ℕ, ◌<◌, length}
-use Rattle.adf_salvage.specs.steps.Keeping.{IsPutAt}
+use Rattle.adf_salvage.proofs.Common.{◌≡◌, ℕ, ◌<◌, length, IsPutAt}
 use Rattle.adf_salvage.proofs.pieces.put.Given as goal
 
 abbrev pub invariant-loop-at : goal.invariant-loop-at

@@ -1,5 +1,4 @@
-use Rattle.std.proofs.Common.{inl, inr, List, ℕ, subst}
-use Rattle.adf_salvage.proofs.Common.{IfOk-weaker, Stands, Tree, AreOfTree, IsReadAs, Salvages, SavesRest, SavesTree}
+use Rattle.adf_salvage.proofs.Common.{inl, inr, List, ℕ, subst, IfOk-weaker, Stands, Tree, AreOfTree, IsReadAs, Salvages, SavesRest, SavesTree}
 use Rattle.ados_model.proofs.NoFaults.{faults_have_no_tree}
 use Rattle.adf_salvage.proofs.Answering.{same_tree}
 use Rattle.adf_salvage.proofs.salvaging.salvage.Goals as goal

@@ -1,6 +1,4 @@
-use Rattle.std.proofs.Common.{List, ℕ, refl, sym, subst}
-use Rattle.ados_sound.specs.Deleted.{AreDeleted}
-use Rattle.adf_salvage.specs.Salvaged.{IsReadAs}
+use Rattle.adf_salvage.proofs.Common.{List, ℕ, refl, sym, subst, AreDeleted, IsReadAs}
 use Rattle.adf_salvage.proofs.Saving.{saves_sound}
 use Rattle.adf_salvage.proofs.Settling.{settles_none}
 use Rattle.adf_salvage.proofs.salvaging.told_headers.Goals as goal

@@ -1,6 +1,4 @@
-use Rattle.std.proofs.Common.{◌≡◌, ◌+◌, ◌-◌, length, min, refl, sym, ap, ◌∙◌, arith}
-use Rattle.adf_salvage.proofs.Common.{format_of, contents, data_count}
-use Rattle.ados_data.proofs.Places.{readable}
+use Rattle.adf_salvage.proofs.Common.{◌≡◌, ◌+◌, ◌-◌, length, min, refl, sym, ap, ◌∙◌, arith, readable, format_of, contents, data_count}
 use Rattle.adf_salvage.proofs.Copying.{block_inside, block_is, copied_all, copied_more, holder_inside, holder_on, holder_stays}
 use Rattle.adf_salvage.proofs.saved.whole_bytes.Goals as goal
 use Rattle.adf_salvage.proofs.saved.whole_bytes.Goals.{then-i-eq0, else-i-eq0}

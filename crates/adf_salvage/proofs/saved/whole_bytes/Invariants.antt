@@ -1,5 +1,4 @@
-use Rattle.std.proofs.Common.{◌≡◌, ◌*◌, ◌/◌, min, take}
-use Rattle.adf_salvage.proofs.Common.{format_of, contents, pointer_block, data_size}
+use Rattle.adf_salvage.proofs.Common.{◌≡◌, ◌*◌, ◌/◌, min, take, format_of, contents, pointer_block, data_size}
 use Rattle.adf_salvage.proofs.saved.whole_bytes.Given as goal
 
 abbrev pub invariant-loop-i : goal.invariant-loop-i

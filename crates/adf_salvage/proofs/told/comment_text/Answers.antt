@@ -1,5 +1,4 @@
-use Rattle.std.proofs.Common.{◌≡◌, ◌≤◌, ℕ, ◌+◌, ◌-◌, take, drop, length, ap, ◌∙◌, arith}
-use Rattle.adf_block.specs.Image.{bytes_at}
+use Rattle.adf_salvage.proofs.Common.{◌≡◌, ◌≤◌, ℕ, ◌+◌, ◌-◌, take, drop, length, ap, ◌∙◌, arith, bytes_at}
 use Rattle.ados_data.proofs.Reading.{length-bytes_at}
 use Rattle.ados_volume.proofs.Examining.{part_of_block}
 use Rattle.adf_salvage.proofs.told.comment_text.Goals as goal

@@ -1,6 +1,4 @@
-use Rattle.std.proofs.Common.{ℕ, List, All, Contains, map, None, IsSome, slice_index_or, refl, subst}
-use Rattle.std.proofs.lemmas.List.Elements.{All-map}
-use Rattle.adf_salvage.proofs.Common.{Deleted}
+use Rattle.adf_salvage.proofs.Common.{ℕ, List, All, Contains, map, None, IsSome, slice_index_or, refl, subst, All-map, Deleted}
 use Rattle.adf_salvage.proofs.undeleted.found.Goals as goal
 
 -- what is so of the headers of all entries is so of a block that is one of them

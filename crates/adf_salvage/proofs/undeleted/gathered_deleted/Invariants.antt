@@ -1,5 +1,4 @@
-use Rattle.std.proofs.Common.{◌≡◌, ℕ, ◌<◌, length, slice_index_or}
-use Rattle.adf_salvage.proofs.Common.{block_count, Deleted, AreGatheredBy}
+use Rattle.adf_salvage.proofs.Common.{◌≡◌, ℕ, ◌<◌, length, slice_index_or, block_count, Deleted, AreGatheredBy}
 use Rattle.adf_salvage.specs.steps.Undeleting.{IsThere}
 use Rattle.adf_salvage.proofs.undeleted.gathered_deleted.Given as goal
 

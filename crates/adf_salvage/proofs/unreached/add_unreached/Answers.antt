@@ -1,5 +1,4 @@
-use Rattle.std.proofs.Common.{arith}
-use Rattle.ados_sound.proofs.Naming.{header_inside}
+use Rattle.adf_salvage.proofs.Common.{arith, header_inside}
 use Rattle.adf_salvage.proofs.unreached.add_unreached.Goals as goal
 
 pub returns-clause-all : goal.returns-clause-all

@@ -1,5 +1,4 @@
-use Rattle.std.proofs.Common.{◌≡◌, ℕ, ◌<◌, length, IsSome}
-use Rattle.adf_salvage.proofs.Common.{block_count, IsHeader, AreGatheredBy, place_at}
+use Rattle.adf_salvage.proofs.Common.{◌≡◌, ℕ, ◌<◌, length, IsSome, block_count, IsHeader, AreGatheredBy, place_at}
 use Rattle.adf_salvage.proofs.unreached.add_unreached.Given as goal
 
 abbrev pub invariant-loop-block : goal.invariant-loop-block

@@ -1,5 +1,4 @@
-use Rattle.std.proofs.Common.{◌≡◌, length, vec_len}
-use Rattle.adf_salvage.proofs.Common.{block_count, GathersMore}
+use Rattle.adf_salvage.proofs.Common.{◌≡◌, length, vec_len, block_count, GathersMore}
 use Rattle.adf_salvage.proofs.unreached.add_with_parents.Given as goal
 
 abbrev pub invariant-loop-step : goal.invariant-loop-step

@@ -1,5 +1,4 @@
-use Rattle.std.proofs.Common.{◌≡◌, ℕ, Bool, List, ◌++◌, codes, sym, ap, ap₂, ◌∙◌}
-use Rattle.ados_mend.proofs.Common.{IfOk-weaker, Stands, Tree, IsMap, map_of, map_page, object_tokens, owner_letters}
+use Rattle.ados_mend.proofs.Common.{◌≡◌, ℕ, Bool, List, ◌++◌, codes, sym, ap, ap₂, ◌∙◌, IfOk-weaker, Stands, Tree, IsMap, map_of, map_page, object_tokens, owner_letters}
 use Rattle.json.specs.Print.{print}
 use Rattle.ados_volume.specs.declared.owner.Owner.{Owner}
 use Rattle.adf_text.specs.Letters.{letters}

@@ -1,4 +1,4 @@
-use Rattle.std.proofs.Common.{◌≡◌, ◌++◌, length}
+use Rattle.ados_mend.proofs.Common.{◌≡◌, ◌++◌, length}
 use Rattle.ados_mend.specs.BlockMap.{cell}
 use Rattle.ados_mend.proofs.Numbered.{rest_from}
 use Rattle.ados_mend.proofs.block_map.push_lines.Given as goal

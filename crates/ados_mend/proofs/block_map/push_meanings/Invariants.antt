@@ -1,5 +1,4 @@
-use Rattle.std.proofs.Common.{◌≡◌, ◌++◌, take}
-use Rattle.ados_mend.proofs.Common.{flat_map, meaning_line}
+use Rattle.ados_mend.proofs.Common.{◌≡◌, ◌++◌, take, flat_map, meaning_line}
 use Rattle.ados_mend.proofs.block_map.push_meanings.Given as goal
 
 -- the lines of the kinds before this one

@@ -1,7 +1,5 @@
-use Rattle.std.proofs.Common.{ℕ, ◌+◌, bit_xor, arith, ap, ap₂, ◌∙◌}
+use Rattle.ados_mend.proofs.Common.{long, ℕ, ◌+◌, bit_xor, arith, ap, ap₂, ◌∙◌, xor_of_32}
 use Rattle.std.specs.Int.Count.{ones, ones-le}
-use Rattle.std.proofs.lemmas.Nat.{xor_of_32}
-use Rattle.adf_block.specs.Image.{long}
 use Rattle.adf_block.proofs.Totals.{total-more}
 use Rattle.ados_mend.proofs.Counted.{bits_at}
 use Rattle.ados_mend.proofs.cautions.changed_bits.Goals as goal

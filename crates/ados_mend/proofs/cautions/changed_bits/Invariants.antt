@@ -1,5 +1,4 @@
-use Rattle.std.proofs.Common.{◌≡◌, ◌*◌, ◌≤◌}
-use Rattle.adf_block.specs.Image.{total}
+use Rattle.ados_mend.proofs.Common.{◌≡◌, ◌*◌, ◌≤◌, total}
 use Rattle.ados_mend.proofs.Counted.{bits_at}
 use Rattle.ados_mend.proofs.cautions.changed_bits.Given as goal
 

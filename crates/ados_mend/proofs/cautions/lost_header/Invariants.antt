@@ -1,5 +1,4 @@
-use Rattle.std.proofs.Common.{ℕ, ◌<◌, ◌≤◌}
-use Rattle.ados_mend.proofs.Common.{HasFreeBit, IsSoundHeader}
+use Rattle.ados_mend.proofs.Common.{ℕ, ◌<◌, ◌≤◌, HasFreeBit, IsSoundHeader}
 use Rattle.ados_mend.proofs.cautions.lost_header.Given as goal
 
 abbrev pub invariant-loop-block : goal.invariant-loop-block

@@ -1,5 +1,4 @@
-use Rattle.std.proofs.Common.{ℕ, ◌<◌}
-use Rattle.ados_mend.proofs.Common.{page_block, IsSafePage}
+use Rattle.ados_mend.proofs.Common.{ℕ, ◌<◌, page_block, IsSafePage}
 use Rattle.ados_mend.proofs.cautions.page_caution.Given as goal
 
 abbrev pub invariant-loop-p : goal.invariant-loop-p

@@ -1,5 +1,4 @@
-use Rattle.std.proofs.Common.{◌≡◌, ◌++◌}
-use Rattle.ados_mend.specs.BlockMap.{header_tokens}
+use Rattle.ados_mend.proofs.Common.{◌≡◌, ◌++◌, header_tokens}
 use Rattle.ados_mend.proofs.Numbered.{rest_from}
 use Rattle.ados_mend.proofs.map_object.put_headers.Given as goal
 

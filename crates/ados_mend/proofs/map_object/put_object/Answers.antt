@@ -1,5 +1,4 @@
-use Rattle.std.proofs.Common.{List, [], ◌∷◌, ◌++◌, codes}
-use Rattle.ados_mend.proofs.Common.{flat_map, enumerate_from, on_ok_weaker, header_tokens}
+use Rattle.ados_mend.proofs.Common.{List, [], ◌∷◌, ◌++◌, codes, flat_map, enumerate_from, on_ok_weaker, header_tokens}
 use Rattle.json.specs.Token.{Token, begin_array, begin_object, end_array, end_object, key, string}
 use Rattle.adf_record.proofs.Tokens.{behind}
 use Rattle.ados_mend.proofs.map_object.put_object.Goals as goal

@@ -1,6 +1,5 @@
-use Rattle.std.proofs.Common.{ℕ, ◌<◌, slice_index_or}
+use Rattle.ados_mend.proofs.Common.{ℕ, ◌<◌, slice_index_or, IsMendable}
 use Rattle.ados_model.specs.declared.fault.VolumeFault.{VolumeFault}
-use Rattle.ados_mend.specs.Mendable.{IsMendable}
 use Rattle.ados_mend.proofs.mendable.first_other.Given as goal
 
 abbrev pub invariant-loop-fault : goal.invariant-loop-fault

@@ -1,5 +1,4 @@
-use Rattle.std.proofs.Common.{◌≢◌, ℕ, ◌<◌}
-use Rattle.ados_map.specs.Pages.{page_block}
+use Rattle.ados_mend.proofs.Common.{◌≢◌, ℕ, ◌<◌, page_block}
 use Rattle.ados_mend.proofs.mendable.is_page.Given as goal
 
 abbrev pub invariant-loop-p : goal.invariant-loop-p

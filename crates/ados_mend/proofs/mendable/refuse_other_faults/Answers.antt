@@ -1,5 +1,4 @@
-use Rattle.std.proofs.Common.{inl, inr, All, Contains, subst}
-use Rattle.ados_mend.proofs.Common.{cases_Bool, All-contains, IsMendable}
+use Rattle.ados_mend.proofs.Common.{inl, inr, All, Contains, subst, cases_Bool, All-contains, IsMendable}
 use Rattle.ados_model.specs.declared.fault.VolumeFault.{VolumeFault}
 use Rattle.ados_faults.specs.Listed.{fault_of}
 use Rattle.ados_mend.proofs.mendable.refuse_other_faults.Goals as goal

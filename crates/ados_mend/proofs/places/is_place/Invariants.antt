@@ -1,5 +1,4 @@
-use Rattle.std.proofs.Common.{ℕ, ◌<◌}
-use Rattle.ados_mend.specs.steps.Placing.{IsGivenIn}
+use Rattle.ados_mend.proofs.Common.{ℕ, ◌<◌, IsGivenIn}
 use Rattle.ados_mend.proofs.places.is_place.Given as goal
 
 abbrev pub invariant-loop-form : goal.invariant-loop-form

@@ -1,5 +1,4 @@
-use Rattle.std.proofs.Common.{◌≡◌, ◌+◌, ◌*◌, true, arith}
-use Rattle.ados_sound.specs.Marks.{mark_at}
+use Rattle.ados_mend.proofs.Common.{◌≡◌, ◌+◌, ◌*◌, true, arith, mark_at}
 use Rattle.ados_mend.proofs.Placing.{given_in}
 use Rattle.ados_mend.proofs.places.is_place_in.Goals as goal
 

@@ -1,5 +1,4 @@
-use Rattle.std.proofs.Common.{◌≡◌, ◌+◌, ◌<◌, List, length, get_or, take, Vec, Global, sym, ◌∙◌, subst}
-use Rattle.ados_mend.proofs.Common.{Contains, AllZip, MatchOption-at_some, Place, IsListOf}
+use Rattle.ados_mend.proofs.Common.{◌≡◌, ◌+◌, ◌<◌, List, length, get_or, take, Vec, Global, sym, ◌∙◌, subst, Contains, AllZip, MatchOption-at_some, Place, IsListOf}
 use Rattle.ados_mend.proofs.PlaceLists.{zip_more}
 use Rattle.ados_mend.proofs.places.lists_of.Goals as goal
 

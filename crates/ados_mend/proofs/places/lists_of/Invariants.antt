@@ -1,5 +1,4 @@
-use Rattle.std.proofs.Common.{take}
-use Rattle.ados_mend.proofs.Common.{AllZip, IsListOf}
+use Rattle.ados_mend.proofs.Common.{take, AllZip, IsListOf}
 use Rattle.ados_mend.proofs.places.lists_of.Given as goal
 
 -- the lists of the blocks before this one

@@ -1,5 +1,4 @@
-use Rattle.std.proofs.Common.{◌≡◌, [], length, All, Vec, Global}
-use Rattle.ados_mend.specs.declared.naming.Place.{Place}
+use Rattle.ados_mend.proofs.Common.{◌≡◌, [], length, All, Vec, Global, Place}
 use Rattle.ados_mend.proofs.places.no_places.Given as goal
 
 abbrev pub invariant-loop-block : goal.invariant-loop-block

@@ -1,5 +1,4 @@
-use Rattle.std.proofs.Common.{ℕ, ◌≤◌, List, ◌∙◌, sym, ap, subst, refl, length, Vec, Global}
-use Rattle.ados_mend.proofs.Common.{All, Contains, AllZip, IfOk-weaker, block_count, Place, AreAllPlacesOfEach, IsListOf}
+use Rattle.ados_mend.proofs.Common.{ℕ, ◌≤◌, List, ◌∙◌, sym, ap, subst, refl, length, Vec, Global, All, Contains, AllZip, IfOk-weaker, block_count, Place, AreAllPlacesOfEach, IsListOf}
 use Rattle.ados_mend.proofs.PlaceLists.{each_listed, lists_begin}
 use Rattle.ados_mend.proofs.places.places_of.Goals as goal
 

@@ -1,5 +1,4 @@
-use Rattle.std.proofs.Common.{◌*◌}
-use Rattle.ados_mend.specs.steps.Placing.{AreListsBelow}
+use Rattle.ados_mend.proofs.Common.{◌*◌, AreListsBelow}
 use Rattle.ados_mend.proofs.places.places_of.Given as goal
 
 abbrev pub invariant-loop-holder : goal.invariant-loop-holder

@@ -1,5 +1,4 @@
-use Rattle.std.proofs.Common.{ℕ, refl, ◌∙◌, subst}
-use Rattle.ados_mend.proofs.Common.{on_ok_weaker, Contains}
+use Rattle.ados_mend.proofs.Common.{ℕ, refl, ◌∙◌, subst, on_ok_weaker, Contains}
 use Rattle.ados_mend.proofs.PlaceLists.{lists_with_long, lists_without_long}
 use Rattle.ados_mend.proofs.places.put_long.Goals as goal
 

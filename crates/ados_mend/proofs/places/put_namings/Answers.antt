@@ -1,5 +1,4 @@
-use Rattle.std.proofs.Common.{◌≡◌, ◌+◌, ◌*◌, Vec, Global, ap, ◌∙◌, sym, subst, arith}
-use Rattle.ados_mend.proofs.Common.{long, Place, position, ArePlacesBelow}
+use Rattle.ados_mend.proofs.Common.{◌≡◌, ◌+◌, ◌*◌, Vec, Global, ap, ◌∙◌, sym, subst, arith, long, Place, position, ArePlacesBelow}
 use Rattle.ados_mend.proofs.Placing.{place_added, place_skipped}
 use Rattle.ados_mend.proofs.places.put_namings.Goals as goal
 use Rattle.ados_mend.proofs.places.put_namings.Goals.{then-is_place+in_ok-push, else-is_place}

@@ -1,5 +1,4 @@
-use Rattle.std.proofs.Common.{◌+◌, ◌*◌}
-use Rattle.ados_mend.proofs.Common.{long, ArePlacesBelow}
+use Rattle.ados_mend.proofs.Common.{◌+◌, ◌*◌, long, ArePlacesBelow}
 use Rattle.ados_mend.proofs.places.put_namings.Given as goal
 
 abbrev pub invariant-loop-number : goal.invariant-loop-number

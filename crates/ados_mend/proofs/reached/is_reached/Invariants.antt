@@ -1,5 +1,4 @@
-use Rattle.std.proofs.Common.{◌≡◌, ℕ, ◌+◌, ◌*◌, ◌<◌, false}
-use Rattle.ados_sound.specs.Marks.{mark_at}
+use Rattle.ados_mend.proofs.Common.{◌≡◌, ℕ, ◌+◌, ◌*◌, ◌<◌, false, mark_at}
 use Rattle.ados_mend.proofs.reached.is_reached.Given as goal
 
 abbrev pub invariant-loop-form : goal.invariant-loop-form

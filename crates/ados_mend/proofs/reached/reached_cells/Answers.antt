@@ -1,6 +1,4 @@
-use Rattle.std.proofs.Common.{◌≡◌, ℕ, ◌<◌, length, Some, refl, subst, arith}
-use Rattle.ados_mend.proofs.Common.{slice_get, slice_get_read, Root, root_of, IsMarked}
-use Rattle.ados_mend.specs.steps.Reaching.{cell}
+use Rattle.ados_mend.proofs.Common.{◌≡◌, ℕ, ◌<◌, length, Some, refl, subst, arith, cell, slice_get, slice_get_read, Root, root_of, IsMarked}
 use Rattle.ados_mend.proofs.Reaching.{all_cells, root_step, visited_more}
 use Rattle.ados_mend.proofs.reached.reached_cells.Goals as goal
 

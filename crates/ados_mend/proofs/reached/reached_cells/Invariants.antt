@@ -1,6 +1,4 @@
-use Rattle.std.proofs.Common.{◌+◌, ◌-◌, length}
-use Rattle.ados_mend.proofs.Common.{Root, root_of, IsMarked, unmarked, AreVisited, AreWalked}
-use Rattle.ados_mend.specs.steps.Reaching.{cell}
+use Rattle.ados_mend.proofs.Common.{◌+◌, ◌-◌, length, cell, Root, root_of, IsMarked, unmarked, AreVisited, AreWalked}
 use Rattle.ados_mend.proofs.reached.reached_cells.Given as goal
 
 abbrev pub invariant-loop-done : goal.invariant-loop-done

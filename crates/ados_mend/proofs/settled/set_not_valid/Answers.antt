@@ -1,5 +1,4 @@
-use Rattle.std.proofs.Common.{sym, ap, ◌∙◌}
-use Rattle.adf_block.specs.Image.{block_sum}
+use Rattle.ados_mend.proofs.Common.{sym, ap, ◌∙◌, block_sum}
 use Rattle.ados_mend.proofs.SettlingPages.{root_not_valid, root_rest}
 use Rattle.ados_mend.proofs.settled.set_not_valid.Goals as goal
 

@@ -1,5 +1,4 @@
-use Rattle.std.proofs.Common.{ℕ, ◌+◌, ◌<◌, ap, ◌∙◌, arith}
-use Rattle.ados_mend.proofs.Common.{long, pages_of}
+use Rattle.ados_mend.proofs.Common.{ℕ, ◌+◌, ◌<◌, ap, ◌∙◌, arith, long, pages_of}
 use Rattle.ados_mend.proofs.SettlingPages.{page_within, settled_page, sums_more}
 use Rattle.ados_mend.proofs.settled.settle_pages.Goals as goal
 

@@ -1,5 +1,4 @@
-use Rattle.ados_mend.proofs.Common.{SameBut, HaveSums}
-use Rattle.ados_map.specs.Changes.{InPages}
+use Rattle.ados_mend.proofs.Common.{InPages, SameBut, HaveSums}
 use Rattle.ados_mend.proofs.settled.settle_pages.Given as goal
 
 abbrev pub invariant-loop-p : goal.invariant-loop-p

@@ -1,5 +1,4 @@
-use Rattle.std.proofs.Common.{List, ℕ, sym, subst}
-use Rattle.ados_mend.specs.Validated.{IsValidated}
+use Rattle.ados_mend.proofs.Common.{List, ℕ, sym, subst, IsValidated}
 use Rattle.ados_mend.proofs.PageFaults.{mendable_pages}
 use Rattle.ados_mend.proofs.Passed.{passed}
 use Rattle.ados_mend.proofs.validating.validate_faultless.Goals as goal

@@ -1,6 +1,4 @@
-use Rattle.std.proofs.Common.{inl, refl, ◌∙◌, ◌+◌, ap}
-use Rattle.ados_sound.proofs.Naming.{header_inside, header_looks}
-use Rattle.adf_salvage.proofs.Common.{broken_length, State}
+use Rattle.adf_salvage.proofs.Common.{inl, refl, ◌∙◌, ◌+◌, ap, header_inside, header_looks, broken_length, State}
 use Rattle.adf_salvage.proofs.Growing.{gathers_more}
 use Rattle.adf_salvage.proofs.gathered.Gathered.add.Goals as goal
 

@@ -1,5 +1,4 @@
-use Rattle.std.proofs.Common.{◌≡◌, ◌<◌, ◌≤◌, IfSome}
-use Rattle.adf_salvage.proofs.Common.{block_count, IsGiving}
+use Rattle.adf_salvage.proofs.Common.{◌≡◌, ◌<◌, ◌≤◌, IfSome, block_count, IsGiving}
 use Rattle.adf_salvage.proofs.giving.Giving.give.Given as goal
 
 abbrev pub invariant-loop-i : goal.invariant-loop-i

@@ -1,5 +1,4 @@
-use Rattle.std.proofs.Common.{◌≡◌}
-use Rattle.adf_salvage.specs.Salvaged.{ended}
+use Rattle.adf_salvage.proofs.Common.{◌≡◌, ended}
 use Rattle.adf_salvage.proofs.salvaged.Salvaged.own_name.Given as goal
 
 abbrev pub invariant-loop-ending : goal.invariant-loop-ending

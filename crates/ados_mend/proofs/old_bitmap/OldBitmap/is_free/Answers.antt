@@ -1,6 +1,4 @@
-use Rattle.std.proofs.Common.{◌≡◌, ◌*◌, ◌-◌, ◌%◌, ◌^◌, ◌<◌, ℕ, not, eqb, arith, ap₂, sym, ◌∙◌}
-use Rattle.std.specs.Prelude.{bit_and}
-use Rattle.std.proofs.lemmas.Nat.{pow_below}
+use Rattle.ados_mend.proofs.Common.{◌≡◌, ◌*◌, ◌-◌, ◌%◌, ◌^◌, ◌<◌, ℕ, not, eqb, arith, ap₂, sym, ◌∙◌, bit_and, pow_below}
 use Rattle.ados_map.proofs.BitLemmas.{marked-is}
 use Rattle.ados_mend.proofs.old_bitmap.OldBitmap.is_free.Goals as goal
 

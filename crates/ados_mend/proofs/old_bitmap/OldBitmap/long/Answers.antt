@@ -1,5 +1,4 @@
-use Rattle.std.proofs.Common.{List, ℕ, subst, arith}
-use Rattle.ados_mend.specs.steps.Kept.{AreKeptLongs}
+use Rattle.ados_mend.proofs.Common.{List, ℕ, subst, arith, AreKeptLongs}
 use Rattle.ados_mend.proofs.KeptLongs.{kept_long, within_kept}
 use Rattle.ados_mend.proofs.old_bitmap.OldBitmap.long.Goals as goal
 

@@ -1,5 +1,4 @@
-use Rattle.std.proofs.Common.{ℕ, ◌+◌, ◌/◌, ap, ◌∙◌}
-use Rattle.adf_block.specs.Image.{long}
+use Rattle.ados_mend.proofs.Common.{ℕ, ◌+◌, ◌/◌, ap, ◌∙◌, long}
 use Rattle.ados_mend.proofs.KeptLongs.{kept_more}
 use Rattle.ados_mend.proofs.old_bitmap.OldBitmap.of.Goals as goal
 

@@ -1,5 +1,4 @@
-use Rattle.std.proofs.Common.{◌≡◌, map}
-use Rattle.ados_mend.proofs.Common.{range_with_len, page_long}
+use Rattle.ados_mend.proofs.Common.{◌≡◌, map, range_with_len, page_long}
 use Rattle.ados_mend.proofs.old_bitmap.OldBitmap.of.Given as goal
 
 abbrev pub invariant-loop-k : goal.invariant-loop-k

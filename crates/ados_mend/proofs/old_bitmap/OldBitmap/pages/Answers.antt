@@ -1,10 +1,9 @@
-use Rattle.std.proofs.Common.{List, ℕ, subst, arith}
-use Rattle.ados_mend.specs.steps.Kept.{AreKeptLongs}
-use Rattle.ados_mend.proofs.KeptLongs.{few_pages, kept_length}
+use Rattle.ados_mend.proofs.Common.{List, ℕ, subst, arith, AreKeptLongs, few_pages}
+use Rattle.ados_mend.proofs.KeptLongs.{kept_length}
 use Rattle.ados_mend.proofs.old_bitmap.OldBitmap.pages.Goals as goal
 
 pub overflow_cast-result : goal.overflow_cast-result
-overflow_cast-result c = omega (arith, c.len.ensures, kept_length _ _ c.self.invariant, few_pages _ _ c.self.invariant)
+overflow_cast-result c = omega (arith, c.len.ensures, kept_length _ _ c.self.invariant, few_pages _ c.self.invariant.whole)
 
 pub returns-clause-pages : goal.returns-clause-pages
 returns-clause-pages c =

@@ -1,5 +1,4 @@
-use Rattle.std.proofs.Common.{◌≡◌, ℕ, ◌%◌, ◌^◌, ap, ◌∙◌, arith}
-use Rattle.ados_mend.proofs.Common.{total, long, block_sum, page_block}
+use Rattle.ados_mend.proofs.Common.{◌≡◌, ℕ, ◌%◌, ◌^◌, ap, ◌∙◌, arith, total, long, block_sum, page_block}
 use Rattle.ados_mend.proofs.old_bitmap.OldBitmap.sum.Goals as goal
 
 pub returns : goal.returns

@@ -1,5 +1,4 @@
-use Rattle.std.proofs.Common.{◌≡◌, ◌%◌, ◌^◌}
-use Rattle.ados_mend.proofs.Common.{total, long, page_block}
+use Rattle.ados_mend.proofs.Common.{◌≡◌, ◌%◌, ◌^◌, total, long, page_block}
 use Rattle.ados_mend.proofs.old_bitmap.OldBitmap.sum.Given as goal
 
 abbrev pub invariant-loop-i : goal.invariant-loop-i

@@ -1,6 +1,4 @@
-use Rattle.std.proofs.Common.{arith, below_more}
-use Rattle.adf_block.specs.Image.{long}
-use Rattle.ados_mend.specs.steps.Reaching.{cell}
+use Rattle.ados_mend.proofs.Common.{arith, below_more, long, cell}
 use Rattle.ados_mend.proofs.Reaching.{all_passed, kept_on, kept_same, passed_below}
 use Rattle.ados_mend.proofs.reached.Walk.go_through.Goals as goal
 

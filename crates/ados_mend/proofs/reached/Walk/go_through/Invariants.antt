@@ -1,5 +1,4 @@
-use Rattle.std.proofs.Common.{ℕ, ◌<◌}
-use Rattle.ados_mend.specs.steps.Reaching.{AreKept, AreWalked, IsPassed}
+use Rattle.ados_mend.proofs.Common.{ℕ, ◌<◌, AreKept, AreWalked, IsPassed}
 use Rattle.ados_mend.proofs.reached.Walk.go_through.Given as goal
 
 abbrev pub invariant-loop-i : goal.invariant-loop-i

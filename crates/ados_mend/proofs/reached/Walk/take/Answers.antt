@@ -1,5 +1,4 @@
-use Rattle.std.proofs.Common.{◌≡◌, ◌+◌, ◌*◌, ◌<◌, false, length, refl, sym, ◌∙◌, arith}
-use Rattle.ados_mend.proofs.Common.{get_or_default, mark_at}
+use Rattle.ados_mend.proofs.Common.{◌≡◌, ◌+◌, ◌*◌, ◌<◌, false, length, refl, sym, ◌∙◌, arith, get_or_default, mark_at}
 use Rattle.ados_mend.proofs.Reaching.{kept_more}
 use Rattle.ados_mend.proofs.reached.Walk.take.Goals as goal
 

@@ -1,7 +1,5 @@
-use Rattle.std.proofs.Common.{ℕ, refl, sym, ap₂, subst, arith}
-use Rattle.ados_mend.proofs.Common.{none-some, same_Some, InImage, IsPlace, Reached, named, IsMarked}
+use Rattle.ados_mend.proofs.Common.{ℕ, refl, sym, ap₂, subst, arith, cell, none-some, same_Some, InImage, IsPlace, Reached, named, IsMarked}
 use Rattle.ados_check.specs.Source.{SourceView}
-use Rattle.ados_mend.specs.steps.Reaching.{cell}
 use Rattle.ados_mend.proofs.reached.Walk.visit.Goals as goal
 
 pub take-requires-clause-step : goal.take-requires-clause-step
