@@ -26,12 +26,10 @@ module _ (t : Tree) (path : List ℕ) (valid : IsPathText path) where
     where
       go : (b : Bool) → is_file t key ≡ b → (c : Bool) → (length (last_name path) == 0) ≡ c → (d : Bool) → nat_lt 30 (length (last_name path)) ≡ d
           → cond b (Err faults.WrongType) (cond (c || d) (Err faults.InvalidName) (Ok (key, last_name path))) ≡ Ok p → IsSpot t p
-      go true f c g d h w = absurd (cc w)
-      go false f true g d h w = absurd (cc w)
-      go false f false g true h w = absurd (cc w)
       go false f false g false h w =
           let same : (key, last_name path) ≡ p = cc w in
           subst (IsSpot t) same (record { node = there; no_file = f; name = last_is_name path valid g h })
+      go b f c g d h w = absurd (cc w)
 
   from_walk : (r : Result ℕ WalkFault) → ((key : ℕ) → r ≡ Ok key → IsSome (t.nodes key)) → (p : ℕ × List ℕ) → place_in t r (last_name path) ≡ Ok p → IsSpot t p
   from_walk (Ok key) there p e = in_place key (there key refl) p e

@@ -19,9 +19,7 @@ plain_name text some short bytes plain = record {
 
 no_fault : (a b c : Bool) → not (a || b || c) ≡ true → (a ≡ false) × (b ≡ false) × (c ≡ false)
 no_fault false false false h = (refl, refl, refl)
-no_fault true b c h = absurd (true≢false (sym h))
-no_fault false true c h = absurd (true≢false (sym h))
-no_fault false false true h = absurd (true≢false (sym h))
+no_fault a b c h = absurd (true≢false (sym h))
 
 -- a text that is not refused as a name is a name
 pub text_is_name : (text : List ℕ) → IsPathText text → is_name text ≡ true → IsName text
