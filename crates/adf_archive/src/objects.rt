@@ -263,18 +263,12 @@ fn put_suspect(writer: &mut Writer, suspect: &Suspect) -> Result<(), AllocError>
 fn found_in(values: Option<FaultValues>) -> Option<u64>
     ensures { result ≡ found_in values }
 {
-    match values {
-        Some(values) => Some(u64::from(values.found)),
-        None => None,
-    }
+    Some(u64::from(values?.found))
 }
 
 /// The only right value of the long that shows a fault.
 fn wanted_in(values: Option<FaultValues>) -> Option<u64>
     ensures { result ≡ wanted_in values }
 {
-    match values {
-        Some(values) => values.wanted.map(u64::from),
-        None => None,
-    }
+    values?.wanted.map(u64::from)
 }

@@ -1,5 +1,6 @@
 //! The check of an archive.
-ghost use Rattle.std.specs.Prelude.{◌≡◌, ◌<◌, ◌≤◌, ℕ, true, false, IfOk, IfErr, length, map};
+ghost use Rattle.std.specs.Prelude.{◌≡◌, ◌<◌, ◌≤◌, ◌+◌, ◌^◌, ℕ, true, false, IfOk, IfErr, length, map};
+ghost use Rattle.std.specs.List.{range_with_len};
 ghost use Rattle.std.specs.String.{string_bytes};
 ghost use Rattle.adf_archive.specs.Archive.{IsDetailOf, LeavesOff, TellsAll, TellsArchive};
 ghost use Rattle.adf_archive.specs.Report.{IsReportOfSome};
@@ -15,7 +16,7 @@ use crate::report::ImageReport;
 use crate::telling::{Form, Tally, tell_reports};
 use adf_text::print_line;
 use adf_words::{CheckJob, ImageFile};
-use std::alloc::Global;
+use std::alloc::{AllocError, Global};
 use std::fs::File;
 use std::io::Write;
 use std::rt::Files;
@@ -146,7 +147,8 @@ where
         if shows {
             let _ = write!(faults, "{done} of {} images", paths.len());
         }
-        let reports = thread::map_indices(rt, alloc, count, &|place| report(done + place))?;
+        let places = places_from(alloc, done, count)?;
+        let reports = thread::map_vec(rt, places, report)?;
         if shows {
             let _ = write!(faults, "\r\x1b[K");
         }
@@ -159,4 +161,16 @@ where
         print_line(faults, tally);
     }
     Ok(tally)
+}
+
+/// The positions of `count` images from `start` on.
+fn places_from(alloc: Global, start: usize, count: usize) -> Result<Vec<usize>, AllocError>
+    requires { start + count < 2 ^ 64 }
+    ensures { IfOk result (λ places. places.items ≡ range_with_len start count) }
+{
+    let mut places = Vec::new(alloc);
+    for i in 0..count {
+        places.push(start + i)?;
+    }
+    Ok(places)
 }
