@@ -2,9 +2,11 @@
 use Rattle.std.specs.Prelude.{◌≡◌, ◌==◌, if◌then◌else◌, ◌∷◌, ◌++◌}
 use Rattle.std.proofs.Common.{ap₂, sym, ◌∙◌}
 use Rattle.std.specs.FinMap as numbered
-use Rattle.ados_handler.proofs.Common.{ℕ, List, [], pos, negsuc, codes, refl, replicate, Option, Some, None, true, map, nat_cmp, nil_from_length, Ffs, steps, steps_along, last_name, front, Content, Node, Tree, Directory, File, DosError, ActionNotKnown, CommentTooBig, DeleteProtected, DeviceNotMounted, InvalidComponentName, NoMoreEntries, ObjectExists, ObjectInUse, ObjectWrongType, Packet, LocateObject, RenameDisk, DeleteObject, RenameObject, CreateDir, SetComment, ExamineNext, FindInput, FindOutput, Other, holds, opening_session, LockHold, HandleHold, refusal}
+use Rattle.ados_handler.proofs.Common.{ℕ, Date3, List, [], pos, negsuc, codes, refl, replicate, Option, Some, None, true, map, nat_cmp, nil_from_length, Ffs, steps, steps_along, last_name, front, Content, Node, Tree, Directory, File, DosError, ActionNotKnown, CommentTooBig, DeleteProtected, DeviceNotMounted, InvalidComponentName, NoMoreEntries, ObjectExists, ObjectInUse, ObjectWrongType, Packet, LocateObject, RenameDisk, DeleteObject, RenameObject, CreateDir, SetComment, ExamineNext, FindInput, FindOutput, Other, holds, opening_session, LockHold, HandleHold, refusal}
 use Rattle.ados_model.specs.declared.dos_error.DosError.TheVariants.{DirectoryNotFound, ObjectNotFound}
-use Rattle.ados_model.proofs.WorkedWalks.{moment}
+
+abbrev moment : Date3
+moment = record { days = 0; minutes = 0; ticks = 0 }
 
 abbrev node : List ℕ → Option ℕ → ℕ → Content → Node
 node name parent bits content = record { name = name; parent = parent; protection = bits; date = moment; comment = []; content = content }
