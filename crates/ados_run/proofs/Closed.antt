@@ -1,8 +1,5 @@
 -- A text says that the port is closed only if the server has died, if the end knows it only then.
-use Rattle.std.proofs.Common.{◌≡◌, ℕ, ◌+◌, inl, inr, ⊎_elim, Bool, true, false, List, [], ◌++◌, length}
-use Rattle.std.specs.Bool.{MatchBool}
-use Rattle.ados_run.proofs.Common.{IsTrue, Packet, Answer, numbered, Reply, ClientEnding, Done, Script, Tries, kept_lines, is_too_long, reply_lines, closed_line, fault_line, ArePackets, NextPuts, NoneIsLeft, SpokenEnd, Spoken}
-use Rattle.adf_script.specs.Values.{answer_values}
+use Rattle.ados_run.proofs.Common.{IsTrue, Packet, Answer, numbered, Reply, ClientEnding, Done, Script, Tries, kept_lines, is_too_long, reply_lines, closed_line, fault_line, ArePackets, NextPuts, NoneIsLeft, SpokenEnd, Spoken, ◌≡◌, ℕ, ◌+◌, inl, inr, ⊎_elim, Bool, true, false, List, [], ◌++◌, length, MatchBool, answer_values}
 
 end_closed : (client : ℕ) (lines : List (ℕ × List ℕ)) (answers : List Answer) (puts : ℕ) (knows died : Bool) (text : List ℕ) (ending : ClientEnding) → (knows ≡ true → died ≡ true)
     → SpokenEnd client lines answers puts knows text ending → SpokenEnd client lines answers puts died text ending

@@ -3,17 +3,23 @@ pub use Rattle.adf_script.specs.Lines.{is_too_long, kept_lines}
 pub use Rattle.adf_script.specs.Packets.{ArePackets, NextIsFaulty, NextPuts, NoneIsLeft}
 pub use Rattle.adf_script.specs.Spoken.{Spoken, SpokenEnd}
 pub use Rattle.adf_script.specs.Text.{closed_line, fault_line, no_reply_line, no_room_line, reply_line, reply_lines}
+pub use Rattle.adf_script.specs.Values.{answer_value, answer_values}
 pub use Rattle.adf_script.specs.declared.ending.ClientEnding.{ClientEnding}
 pub use Rattle.adf_script.specs.declared.ending.ClientEnding.TheVariants.{Done, Script, Tries}
 pub use Rattle.ados_handler.specs.Gives.{HandlerGives}
+pub use Rattle.ados_handler.specs.steps.Closes.{serves_closing, serves_dead}
 pub use Rattle.ados_model.proofs.OneTree.{one_tree}
+pub use Rattle.ados_model.specs.Meaning.{IsRefused, Meaning, is_closing, is_number}
 pub use Rattle.ados_model.specs.Session.{HandlerState, Session, opening_session}
 pub use Rattle.ados_model.specs.Stands.{Stands}
 pub use Rattle.ados_model.specs.Tree.{Tree}
 pub use Rattle.ados_model.specs.declared.answer.Answer.{Answer}
 pub use Rattle.ados_model.specs.declared.packet.Packet.{Packet}
 pub use Rattle.ados_name.specs.declared.stamp.Date3.{Date3}
+pub use Rattle.ados_port.proofs.Gathers.{get_map}
+pub use Rattle.ados_port.proofs.Joins.{jobs_started, none_left}
 pub use Rattle.ados_port.specs.Ends.{AreEnds, ClientView, CloseMeansDeath, HandlerView, IsNew, Serves}
+pub use Rattle.ados_port.specs.Gathering.{all_lists, answers, lists_of}
 pub use Rattle.ados_port.specs.Grown.{EachDid, Grown}
 pub use Rattle.ados_port.specs.History.{Event, OutcomeFits, PortHistory, PortState, Run, ServerMeaning, Serving, events_of, last_server, opening_port, served_count}
 pub use Rattle.ados_port.specs.Lawful.{ClientLists, Lawful, numbered, served_by}
@@ -22,10 +28,17 @@ pub use Rattle.ados_port.specs.Reply.{Reply}
 pub use Rattle.ados_port.specs.Step.{Step}
 pub use Rattle.ados_run.specs.Asking.{Replied, Rests, StoppedBy, stop_ending, stop_line}
 pub use Rattle.ados_run.specs.Keeping.{KeepsServed, KeepsVolume, ServesBoth}
+pub use Rattle.ados_run.specs.Laws.{DeadHandlersRest, EachSideIsAHistory, EachSideIsLawful, HistoriesFollowTrees, ListsFollowTrees}
 pub use Rattle.ados_run.specs.Opened.{IsTooLate, SaysValid, port_over}
 pub use Rattle.ados_run.specs.Runs.{BothSides, FollowsTree, HandlerPort, MeansBoth, PacketOutcomes, PacketSteps, RestsAfter, RunsVolume, RunsWith, handler_after, handler_over, port_beside}
 pub use Rattle.ados_run.specs.Scripts.{AreUnused, EachTells, IsUnused, Tells}
+pub use Rattle.ados_run.specs.ServesVolume.{EachSpeaks, ServesVolume, ServesWith}
 pub use Rattle.ados_run.specs.TreeLists.{ListsFollowTree, beside, both_died, handler_died, handlers_of}
+pub use Rattle.ados_run.specs.TreePort.{TreeState, means, tree_died, with_tree}
+pub use Rattle.std.proofs.Common.{Bool, Global, IfOk, List, MatchOption, None, Some, [], ap, arith, drop, false, get_or, inl, inr, length, length-append, map, pos, refl, slice_get, subst, suc, sym, take, true, zero, ℕ, ⊎_elim, ◌++◌, ◌+◌, ◌-◌, ◌<◌, ◌∙◌, ◌∷◌, ◌≡◌, ◌≢◌, ◌≤◌}
 pub use Rattle.std.proofs.lemmas.List.{length-map, map-append, take-map}
 pub use Rattle.std.proofs.lemmas.Option.{none-some, same_Some, slice_get_cases, slice_get_within}
-pub use Rattle.std.specs.Prelude.{All, IsTrue, Option, Vec}
+pub use Rattle.std.proofs.lemmas.Result.{IfOk-weaker}
+pub use Rattle.std.specs.Bool.{MatchBool}
+pub use Rattle.std.specs.Prelude.{All, IsTrue, Ok, Option, Vec}
+pub use mathlib.Core.List.{map-map}

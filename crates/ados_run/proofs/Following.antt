@@ -1,9 +1,5 @@
 -- A history of a handler's port is one of its tree, side by side.
-use Rattle.std.proofs.Common.{◌≡◌, ℕ, Bool, List, [], ◌∷◌, map, take, refl, sym, ap, ◌∙◌, subst}
-use Rattle.ados_run.proofs.Common.{take-map, Date3, Tree, Stands, one_tree, PortState, Event, PortHistory, Serving, Run, last_server, events_of, served_count, OutcomeFits, served_by, Lawful, Step, Outcome, Packet, Answer, HandlerState, HandlerGives, BothSides, port_beside, both_died, handlers_of, beside, handler_died, ServesBoth}
-use Rattle.ados_model.specs.Meaning.{Meaning}
-use Rattle.ados_run.specs.TreePort.{TreeState, means, tree_died, with_tree}
-use Rattle.ados_run.specs.Laws.{EachSideIsAHistory, EachSideIsLawful, HistoriesFollowTrees, ListsFollowTrees}
+use Rattle.ados_run.proofs.Common.{take-map, Date3, Tree, Stands, one_tree, PortState, Event, PortHistory, Serving, Run, last_server, events_of, served_count, OutcomeFits, served_by, Lawful, Step, Outcome, Packet, Answer, HandlerState, HandlerGives, BothSides, port_beside, both_died, handlers_of, beside, handler_died, ServesBoth, ◌≡◌, ℕ, Bool, List, [], ◌∷◌, map, take, refl, sym, ap, ◌∙◌, subst, Meaning, TreeState, means, tree_died, with_tree, EachSideIsAHistory, EachSideIsLawful, HistoriesFollowTrees, ListsFollowTrees}
 
 -- servers, each seen as another
 module _ {S T : Type 0} (f : S → T) where

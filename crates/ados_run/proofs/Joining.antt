@@ -1,7 +1,5 @@
 -- The output of the clients, from the results of their threads.
-use Rattle.std.proofs.Common.{◌≡◌, ℕ, zero, suc, List, [], ◌∷◌, length, map, Some, slice_get, refl, sym, ap, subst, ◌∙◌}
-use Rattle.ados_run.proofs.Common.{length-map, none-some, Packet, Answer, ClientView, Grown, EachDid, ClientEnding, IsUnused, AreUnused, Tells, EachTells}
-use Rattle.ados_port.proofs.Gathers.{get_map}
+use Rattle.ados_run.proofs.Common.{length-map, none-some, Packet, Answer, ClientView, Grown, EachDid, ClientEnding, IsUnused, AreUnused, Tells, EachTells, ◌≡◌, ℕ, zero, suc, List, [], ◌∷◌, length, map, Some, slice_get, refl, sym, ap, subst, ◌∙◌, get_map}
 
 -- an element of a mapped list comes from an element of the list
 get_map_back : {X Y : Type 0} (f : X → Y) (xs : List X) (k : ℕ) (y : Y) → slice_get (map f xs) k ≡ Some y → (x : X) × (slice_get xs k ≡ Some x) × (f x ≡ y)

@@ -1,14 +1,10 @@
 -- After a handler's death each packet is refused and nothing changes.
-use Rattle.std.proofs.Common.{◌≡◌, ◌≢◌, ℕ, zero, suc, ◌+◌, pos, Bool, true, false, List, [], ◌∷◌, take, drop, slice_get, Some, MatchOption, arith, refl, sym, ap, ◌∙◌, subst, inl}
+use Rattle.ados_run.proofs.Common.{All, none-some, same_Some, Date3, Tree, Serving, Run, last_server, Packet, Answer, Session, HandlerState, HandlerGives, handler_after, RestsAfter, handler_died, IsTooLate, ◌≡◌, ◌≢◌, ℕ, zero, suc, ◌+◌, pos, Bool, true, false, List, [], ◌∷◌, take, drop, slice_get, Some, MatchOption, arith, refl, sym, ap, ◌∙◌, subst, inl, Meaning, IsRefused, is_closing, is_number, serves_closing, DeadHandlersRest}
 use Rattle.std.proofs.lemmas.List.Elements.{All-nil, All-cons}
 use Rattle.std.proofs.lemmas.Bool.{true≢false}
-use Rattle.ados_run.proofs.Common.{All, none-some, same_Some, Date3, Tree, Serving, Run, last_server, Packet, Answer, Session, HandlerState, HandlerGives, handler_after, RestsAfter, handler_died, IsTooLate}
 use Rattle.ados_model.specs.declared.dos_error.DosError.TheVariants.{DeviceNotMounted}
 use Rattle.ados_model.specs.Refusals.{first_refusal, refuse, refusals}
-use Rattle.ados_model.specs.Meaning.{Meaning, IsRefused, is_closing, is_number}
 use Rattle.ados_model.specs.Phrases.{ServedOrNoMemory}
-use Rattle.ados_handler.specs.steps.Closes.{serves_closing}
-use Rattle.ados_run.specs.Laws.{DeadHandlersRest}
 
 -- after death each packet is refused
 dead_refused : (t u : Tree) (s v : Session) (packet : Packet) (now : Date3) (answer : Answer) → s.died ≡ true → Meaning t s packet now u v answer → IsRefused t s packet DeviceNotMounted u v answer

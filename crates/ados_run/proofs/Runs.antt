@@ -1,9 +1,7 @@
 -- A run over the volume from `check`.
-use Rattle.std.proofs.Common.{◌≡◌, ℕ, Bool, true, false, List, ap, ◌∙◌, subst}
-use Rattle.ados_run.proofs.Common.{Date3, Tree, Stands, one_tree, PortState, opening_port, PortHistory, Step, Outcome, Packet, Answer, opening_session, HandlerState, HandlerGives, BothSides, FollowsTree, handler_over, port_beside, both_died, beside, handlers_of, handler_died, SaysValid, port_over, KeepsVolume, ServesBoth}
+use Rattle.ados_run.proofs.Common.{Date3, Tree, Stands, one_tree, PortState, opening_port, PortHistory, Step, Outcome, Packet, Answer, opening_session, HandlerState, HandlerGives, BothSides, FollowsTree, handler_over, port_beside, both_died, beside, handlers_of, handler_died, SaysValid, port_over, KeepsVolume, ServesBoth, ◌≡◌, ℕ, Bool, true, false, List, ap, ◌∙◌, subst, serves_dead}
 use Rattle.ados_model.specs.Accepted.{Accepts}
 use Rattle.ados_port.proofs.Closing.{closed_after_death}
-use Rattle.ados_handler.specs.steps.Closes.{serves_dead}
 use Rattle.ados_run.proofs.Following.{handlers_run, histories_follow_trees}
 use Rattle.ados_run.proofs.Resting.{dead_handlers_rest}
 

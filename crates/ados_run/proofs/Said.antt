@@ -1,9 +1,6 @@
 -- The output of a client's script so far, line by line.
-use Rattle.std.proofs.Common.{◌≡◌, ℕ, ◌+◌, inl, inr, Bool, true, false, List, [], ◌∷◌, ◌++◌, length, refl, sym, ap, subst, ◌∙◌, arith, length-append}
-use Rattle.std.specs.Bool.{MatchBool}
-use Rattle.ados_run.proofs.Common.{Option, map-append, Packet, Answer, numbered, Reply, ClientView, ClientEnding, Done, Script, Tries, kept_lines, is_too_long, reply_line, reply_lines, closed_line, fault_line, no_reply_line, no_room_line, ArePackets, NextPuts, NextIsFaulty, SpokenEnd, Spoken, Replied, StoppedBy, stop_line, stop_ending, Tells}
+use Rattle.ados_run.proofs.Common.{Option, map-append, Packet, Answer, numbered, Reply, ClientView, ClientEnding, Done, Script, Tries, kept_lines, is_too_long, reply_line, reply_lines, closed_line, fault_line, no_reply_line, no_room_line, ArePackets, NextPuts, NextIsFaulty, SpokenEnd, Spoken, Replied, StoppedBy, stop_line, stop_ending, Tells, ◌≡◌, ℕ, ◌+◌, inl, inr, Bool, true, false, List, [], ◌∷◌, ◌++◌, length, refl, sym, ap, subst, ◌∙◌, arith, length-append, MatchBool, answer_value, answer_values}
 use Rattle.ados_port.specs.Gathering.{answers as answers_of}
-use Rattle.adf_script.specs.Values.{answer_value, answer_values}
 use Rattle.adf_script.proofs.Pushing.{reply_lines-push, packets-push, packets-answered}
 use Rattle.ados_run.specs.declared.asking.Stopped.{Stopped}
 use Rattle.ados_run.specs.declared.asking.Stopped.TheVariants.{Closed, NoRoom, NoReply}

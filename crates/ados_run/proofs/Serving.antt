@@ -1,12 +1,6 @@
 -- Scripts over the volume of a handler, from the lists of the port's ends.
-use Rattle.std.proofs.Common.{◌≡◌, ℕ, zero, suc, ◌+◌, ◌<◌, ◌≤◌, Bool, List, [], ◌∷◌, ◌++◌, length, map, get_or, Some, None, slice_get, arith, refl, sym, ap, ◌∙◌, subst, ⊎_elim}
-use Rattle.std.specs.declared.alloc.Global.{Global}
-use Rattle.ados_run.proofs.Common.{Vec, length-map, slice_get_within, slice_get_cases, Date3, Tree, Stands, one_tree, ClientLists, Lawful, Serving, Reply, ClientView, HandlerView, AreEnds, CloseMeansDeath, IsNew, Serves, Packet, Answer, opening_session, HandlerState, HandlerGives, ClientEnding, Spoken, Tells, EachTells, handler_over, both_died, beside, handlers_of, ListsFollowTree, handler_died, KeepsServed, ServesBoth}
-use mathlib.Core.List.{map-map}
-use Rattle.ados_port.specs.Gathering.{all_lists, lists_of}
-use Rattle.ados_port.proofs.Gathers.{get_map}
+use Rattle.ados_run.proofs.Common.{Vec, length-map, slice_get_within, slice_get_cases, Date3, Tree, Stands, one_tree, ClientLists, Lawful, Serving, Reply, ClientView, HandlerView, AreEnds, CloseMeansDeath, IsNew, Serves, Packet, Answer, opening_session, HandlerState, HandlerGives, ClientEnding, Spoken, Tells, EachTells, handler_over, both_died, beside, handlers_of, ListsFollowTree, handler_died, KeepsServed, ServesBoth, ◌≡◌, ℕ, zero, suc, ◌+◌, ◌<◌, ◌≤◌, Bool, List, [], ◌∷◌, ◌++◌, length, map, get_or, Some, None, slice_get, arith, refl, sym, ap, ◌∙◌, subst, ⊎_elim, Global, map-map, all_lists, lists_of, get_map, EachSpeaks}
 use Rattle.ados_port.proofs.Replayed.{lists_have_a_history}
-use Rattle.ados_run.specs.ServesVolume.{EachSpeaks}
 use Rattle.ados_run.proofs.Closed.{spoken_closed}
 use Rattle.ados_run.proofs.Following.{handlers_run, lists_follow_trees}
 use Rattle.ados_run.proofs.Resting.{dead_handlers_rest}

@@ -1,7 +1,5 @@
 -- A packet served in one way was served in each way that follows from it, by the same servers.
-use Rattle.std.proofs.Common.{ℕ, Bool, List, [], ◌∷◌, length}
-use Rattle.ados_run.proofs.Common.{Date3, PortState, opening_port, PortHistory, Serving, ServerMeaning, Run, Step, Outcome, ClientLists, Lawful, Packet, Answer, HandlerState, ClientEnding, HandlerPort, PacketOutcomes, PacketSteps, BothSides, MeansBoth, handler_over, port_beside, RunsVolume, RunsWith, both_died, beside, port_over, ServesBoth}
-use Rattle.ados_run.specs.ServesVolume.{ServesVolume, ServesWith}
+use Rattle.ados_run.proofs.Common.{Date3, PortState, opening_port, PortHistory, Serving, ServerMeaning, Run, Step, Outcome, ClientLists, Lawful, Packet, Answer, HandlerState, ClientEnding, HandlerPort, PacketOutcomes, PacketSteps, BothSides, MeansBoth, handler_over, port_beside, RunsVolume, RunsWith, both_died, beside, port_over, ServesBoth, ℕ, Bool, List, [], ◌∷◌, length, ServesVolume, ServesWith}
 
 module _ {S Q M A : Type 0} (gives also : ServerMeaning S Q M A)
     (weaker : (old : S) (packet : Q) (moment : M) (new : S) (answer : A) → gives old packet moment new answer → also old packet moment new answer) where

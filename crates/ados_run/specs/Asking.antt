@@ -14,13 +14,6 @@ module _ {Q M A : Type 0} where
     pub put : new.put ≡ old.put ++ packet ∷ []
     pub taken : new.taken ≡ old.taken
 
-  -- a reply was taken, its number counts the replies of this end, and nothing was put
-  pub record HasTaken (old : ClientView Q M A) (reply : Reply A) (new : ClientView Q M A) : Type 0 where
-    pub put : new.put ≡ old.put
-    pub moment : M
-    pub taken : new.taken ≡ old.taken ++ (moment, reply.answer) ∷ []
-    pub number : reply.number ≡ length new.taken
-
   -- the packet was put and a reply taken
   pub record Replied (old : ClientView Q M A) (packet : Q) (reply : Reply A) (new : ClientView Q M A) : Type 0 where
     pub put : new.put ≡ old.put ++ packet ∷ []

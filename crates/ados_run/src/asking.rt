@@ -1,7 +1,7 @@
 //! One packet of a client, until its reply.
-ghost use Rattle.std.specs.Prelude.{◌≡◌, IfSome, IfNone, MatchResult};
+ghost use Rattle.std.specs.Prelude.{MatchResult};
 ghost use Rattle.ados_port.specs.Grown.{Grown};
-ghost use Rattle.ados_run.specs.Asking.{HasPut, HasTaken, Replied, StoppedBy};
+ghost use Rattle.ados_run.specs.Asking.{HasPut, Replied, StoppedBy};
 
 use crate::gate::Gate;
 use ados_port::{ClientEnd, PutRefused, Reply, Server};
@@ -41,19 +41,6 @@ fn put_packet<S: Server, R: Wait>(
     Err(Stopped::NoRoom)
 }
 
-/// Waits for the next reply, with this many tries.
-fn await_reply<S: Server, R: Wait>(
-    rt: &R,
-    end: &mut ClientEnd<S>,
-    turns: u64,
-) -> Option<Reply<S::Reply>>
-    ensures some { IfSome result (λ reply. HasTaken end.old reply end.new) }
-    ensures none { IfNone result (end.new ≡ end.old) }
-    ensures grown { Grown end.old end.new }
-{
-    end.take_within(rt, turns)
-}
-
 /// Puts the packet with this number and takes its reply.
 pub(crate) fn ask<S: Server, G: Gate, R: Wait>(
     rt: &R,
@@ -70,7 +57,7 @@ pub(crate) fn ask<S: Server, G: Gate, R: Wait>(
         return Err(Stopped::NoRoom);
     }
     put_packet(rt, end, packet, turns)?;
-    let Some(reply) = await_reply(rt, end, turns) else {
+    let Some(reply) = end.take_within(rt, turns) else {
         return Err(Stopped::NoReply);
     };
     gate.after(reply.number);

@@ -1,5 +1,4 @@
-use Rattle.std.proofs.Common.{◌≡◌}
-use Rattle.ados_run.proofs.Common.{Grown, Rests}
+use Rattle.ados_run.proofs.Common.{Grown, Rests, ◌≡◌}
 use Rattle.ados_run.proofs.asking.put_packet.Given as goal
 
 abbrev pub invariant-loop : goal.invariant-loop

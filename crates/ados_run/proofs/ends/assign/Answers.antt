@@ -1,5 +1,4 @@
-use Rattle.std.proofs.Common.{refl, ◌∙◌, arith}
-use Rattle.ados_port.proofs.Joins.{jobs_started, none_left}
+use Rattle.ados_run.proofs.Common.{refl, ◌∙◌, arith, jobs_started, none_left}
 use Rattle.ados_port.proofs.Parting.{gone_over, made_more, used_more}
 use Rattle.ados_run.proofs.ends.assign.Goals as goal
 

@@ -1,5 +1,4 @@
-use Rattle.std.proofs.Common.{arith}
-use Rattle.ados_port.proofs.Joins.{jobs_started}
+use Rattle.ados_run.proofs.Common.{arith, jobs_started}
 use Rattle.ados_run.proofs.ends.join.Goals as goal
 
 pub returns-clause-reports : goal.returns-clause-reports

@@ -1,5 +1,4 @@
-use Rattle.std.proofs.Common.{◌≡◌, ◌++◌, map}
-use Rattle.std.specs.Prelude.{Ok}
+use Rattle.ados_run.proofs.Common.{◌≡◌, ◌++◌, map, Ok}
 use Rattle.ados_run.proofs.ends.join.Given as goal
 
 abbrev pub invariant-loop-client : goal.invariant-loop-client

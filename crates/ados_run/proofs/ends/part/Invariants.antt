@@ -1,4 +1,4 @@
-use Rattle.std.proofs.Common.{◌≡◌, ◌++◌, map}
+use Rattle.ados_run.proofs.Common.{◌≡◌, ◌++◌, map}
 use Rattle.ados_run.proofs.ends.part.Given as goal
 
 abbrev pub invariant-loop-end : goal.invariant-loop-end

@@ -1,4 +1,4 @@
-use Rattle.std.proofs.Common.{◌≡◌, ◌++◌, map}
+use Rattle.ados_run.proofs.Common.{◌≡◌, ◌++◌, map}
 use Rattle.ados_run.proofs.ends.part_done.Given as goal
 
 abbrev pub invariant-loop-done : goal.invariant-loop-done

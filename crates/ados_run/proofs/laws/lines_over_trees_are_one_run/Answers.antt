@@ -1,5 +1,5 @@
 use Rattle.adf_script.proofs.OneRun.{lines_are_one_run}
-use Rattle.ados_run.specs.TreePort.{means, tree_died}
+use Rattle.ados_run.proofs.Common.{means, tree_died}
 use Rattle.ados_run.proofs.laws.lines_over_trees_are_one_run.Goals as goal
 
 pub returns : goal.returns

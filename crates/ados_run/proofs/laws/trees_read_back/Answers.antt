@@ -1,4 +1,4 @@
-use Rattle.std.proofs.Common.{inl, inr}
+use Rattle.ados_run.proofs.Common.{inl, inr}
 use Rattle.ados_model.proofs.NoFaults.{faults_have_no_tree}
 use Rattle.ados_run.proofs.laws.trees_read_back.Goals as goal
 

@@ -1,5 +1,4 @@
-use Rattle.std.proofs.Common.{ap, ◌∙◌}
-use Rattle.ados_model.specs.Session.{HandlerState}
+use Rattle.ados_run.proofs.Common.{ap, ◌∙◌, HandlerState}
 use Rattle.ados_run.proofs.Runs.{keeps_volume, opening_handler}
 use Rattle.ados_run.proofs.Weaker.{meant_run}
 use Rattle.ados_run.proofs.run.run_volume.Goals as goal

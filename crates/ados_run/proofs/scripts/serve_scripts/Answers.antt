@@ -1,5 +1,4 @@
-use Rattle.std.proofs.Common.{ℕ, Vec, Global, IfOk, sym, subst}
-use Rattle.ados_run.proofs.Common.{AreEnds, IsUnused, Tells}
+use Rattle.ados_run.proofs.Common.{AreEnds, IsUnused, Tells, ℕ, Vec, Global, IfOk, sym, subst}
 use Rattle.ados_run.proofs.Joining.{as_many_jobs, each_tells}
 use Rattle.ados_run.proofs.scripts.serve_scripts.Goals as goal
 

@@ -1,5 +1,4 @@
-use Rattle.std.proofs.Common.{sym, subst}
-use Rattle.ados_port.specs.Ends.{AreEnds}
+use Rattle.ados_run.proofs.Common.{sym, subst, AreEnds}
 use Rattle.ados_run.specs.steps.Gathered.{IsGathered}
 use Rattle.ados_run.proofs.serve.gather_done.Goals as goal
 

@@ -1,5 +1,4 @@
-use Rattle.std.proofs.Common.{sym, subst}
-use Rattle.ados_run.proofs.Common.{AreEnds, IsNew, AreUnused}
+use Rattle.ados_run.proofs.Common.{AreEnds, IsNew, AreUnused, sym, subst}
 use Rattle.ados_run.proofs.Runs.{opening_handler}
 use Rattle.ados_run.proofs.serve.open_clients.Goals as goal
 

@@ -1,7 +1,4 @@
-use Rattle.std.proofs.Common.{◌≡◌, ℕ, ◌+◌, List, ◌++◌, sym, ap, subst, ◌∙◌}
-use Rattle.std.proofs.lemmas.Result.{IfOk-weaker}
-use Rattle.ados_run.proofs.Common.{Script, fault_line, reply_line, NextPuts, NextIsFaulty, stop_line, stop_ending}
-use Rattle.ados_port.specs.Gathering.{answers}
+use Rattle.ados_run.proofs.Common.{Script, fault_line, reply_line, NextPuts, NextIsFaulty, stop_line, stop_ending, ◌≡◌, ℕ, ◌+◌, List, ◌++◌, sym, ap, subst, ◌∙◌, IfOk-weaker, answers}
 use Rattle.ados_port.proofs.Growth.{grown_more}
 use Rattle.adf_script.specs.Next.{LinesView}
 use Rattle.ados_run.proofs.Said.{SaidBy, tells_by, said_fault, replies, stops}

@@ -1,5 +1,4 @@
-use Rattle.std.proofs.Common.{◌≡◌, ◌-◌, length}
-use Rattle.ados_run.proofs.Common.{Grown, kept_lines, IsUnused}
+use Rattle.ados_run.proofs.Common.{Grown, kept_lines, IsUnused, ◌≡◌, ◌-◌, length}
 use Rattle.ados_run.proofs.Said.{SaidBy}
 use Rattle.ados_run.proofs.speaking.speak.Given as goal
 

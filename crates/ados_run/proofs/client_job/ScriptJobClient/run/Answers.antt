@@ -1,5 +1,4 @@
-use Rattle.std.proofs.Common.{List, ℕ, IfOk, subst}
-use Rattle.ados_run.specs.Scripts.{Tells}
+use Rattle.ados_run.proofs.Common.{List, ℕ, IfOk, subst, Tells}
 use Rattle.ados_run.proofs.client_job.ScriptJobClient.run.Goals as goal
 
 pub returns-clause-does : goal.returns-clause-does
