@@ -1,5 +1,6 @@
 -- A dead server stays dead, and its port stays closed.
 use Rattle.std.proofs.Common.{◌≡◌, ℕ, zero, suc, ◌+◌, ◌≤◌, Bool, true, List, [], ◌∷◌, take, drop, slice_get, Some, arith, subst, MatchOption, refl, sym, ap, ◌∙◌}
+use Rattle.std.proofs.Math.Seq.{take-nil}
 use Rattle.port_ends.specs.History.{ClientState, PortState, client_state, Serving, Run, last_server, Event, events_of, client_now, PutFits, server_by, served_count, PortHistory, ClosedOnceDead}
 use Rattle.port_ends.specs.Gives.{PutsAreClosed}
 use Rattle.port_ends.specs.Lawful.{served_by}
@@ -22,26 +23,18 @@ module _ {S Q M A : Type 0} (gives : S → Q → M → S → A → Type 0) (has_
   -- a dead server is still dead after it serves packets
   pub run-dead : (old : S) (served : List (Serving Q M A)) (servers : List S) → Run gives old served servers → has_died old ≡ true → has_died (last_server old servers) ≡ true
   run-dead old [] [] run dead = dead
-  run-dead old [] (new ∷ servers) run dead = elim run [ ]
-  run-dead old (s ∷ served) [] run dead = elim run [ ]
   run-dead old (s ∷ served) (new ∷ servers) run dead = run-dead new served servers run.1 (stays_dead old new s.packet s.moment s.answer run.0 dead)
+  run-dead old served servers run dead = absurd run
 
   -- a server that is dead after some packets is dead after more packets
   pub dead_later : (old : S) (served : List (Serving Q M A)) (servers : List S) → Run gives old served servers → (i j : ℕ) → i ≤ j
       → has_died (last_server old (take i servers)) ≡ true → has_died (last_server old (take j servers)) ≡ true
-  dead_later old [] [] run i j before dead = dead_nil i j dead
-    where
-      dead_nil : (i j : ℕ) → has_died (last_server old (take i [])) ≡ true → has_died (last_server old (take j [])) ≡ true
-      dead_nil zero zero d = d
-      dead_nil zero (suc j) d = d
-      dead_nil (suc i) zero d = d
-      dead_nil (suc i) (suc j) d = d
-  dead_later old [] (new ∷ servers) run i j before dead = elim run [ ]
-  dead_later old (s ∷ served) [] run i j before dead = elim run [ ]
+  dead_later old [] [] run i j before dead = ap (λ l. has_died (last_server old l)) (take-nil j ∙ sym (take-nil i)) ∙ dead
   dead_later old (s ∷ served) (new ∷ servers) run zero zero before dead = dead
   dead_later old (s ∷ served) (new ∷ servers) run zero (suc j) before dead = dead_later new served servers run.1 zero j (omega arith) (stays_dead old new s.packet s.moment s.answer run.0 dead)
   dead_later old (s ∷ served) (new ∷ servers) run (suc i) zero before dead = absurd (omega (arith, before))
   dead_later old (s ∷ served) (new ∷ servers) run (suc i) (suc j) before dead = dead_later new served servers run.1 i j (omega (arith, before)) dead
+  dead_later old served servers run i j before dead = absurd run
 
   module _ (opening : PortState S Q A) (steps : List (Step Q M)) (outcomes : List (Outcome Q A)) (closing : PortState S Q A) (h : PortHistory gives has_died opening steps outcomes closing) where
     -- after the server's death, each put by a client is refused as closed

@@ -1,6 +1,6 @@
 -- Replies are numbered in the order in which they are taken.
 use Rattle.std.proofs.Common.{◌≡◌, ℕ, suc, ◌+◌, List, [], ◌∷◌, ◌++◌, length, sym, refl, ap, ◌∙◌, arith, append_assoc, length-append}
-use Rattle.std.proofs.lemmas.List.{map-append}
+use Rattle.std.proofs.lemmas.List.{length-map, map-append}
 use Rattle.port_ends.specs.declared.step.Reply.{Reply}
 use Rattle.port_ends.specs.Lawful.{numbered}
 use Rattle.port_ends.specs.Gathering.{answers}
@@ -10,14 +10,10 @@ pub count_more : {X : Type 0} (past past' : List X) (e : X) (n : ℕ) → past' 
 count_more past past' e n is count = ap (λ (k : ℕ). k + 1) count ∙ (sym (length-append past (e ∷ [])) ∙ ap (λ l. length l) (sym is))
 
 module _ {M A : Type 0} where
-  length-answers : (xs : List (M × A)) → length (answers xs) ≡ length xs
-  length-answers [] = refl
-  length-answers (x ∷ xs) = ap suc (length-answers xs)
-
   pub numbered_answers : (n : ℕ) (xs ys : List (M × A)) → numbered n (answers (xs ++ ys)) ≡ numbered n (answers xs) ++ numbered (n + length xs) (answers ys)
   numbered_answers n xs ys =
       ap (λ l. numbered n l) (map-append (λ (r : M × A). r.1) xs ys)
-      ∙ (numbered-append n (answers xs) (answers ys) ∙ ap (λ (k : ℕ). numbered n (answers xs) ++ numbered (n + k) (answers ys)) (length-answers xs))
+      ∙ (numbered-append n (answers xs) (answers ys) ∙ ap (λ (k : ℕ). numbered n (answers xs) ++ numbered (n + k) (answers ys)) (length-map xs _))
 
   pub drain_more : (n c num : ℕ) (all rest rest' : List (M × A)) (items0 items items' : List (Reply A)) (xs : List (M × A)) (x : M × A)
       → all ≡ xs ++ rest → length xs ≡ c → items ≡ items0 ++ numbered (n + 1) (answers xs) → rest ≡ x ∷ rest' → num ≡ n + c → items' ≡ items ++ record { number = num + 1; answer = x.1 } ∷ []
@@ -45,7 +41,3 @@ module _ {M A : Type 0} where
   pub same_rest : (taken rest known sent : List (M × A)) → sent ≡ taken ++ rest → taken ++ known ≡ sent → length rest ≡ length known
   same_rest taken rest known sent a b =
       let l = length-append taken rest in let k = length-append taken known in let p = ap (λ z. length z) a in let q = ap (λ z. length z) b in omega arith
-
-  pub length-numbered : (n : ℕ) (xs : List (M × A)) → length (numbered n (answers xs)) ≡ length xs
-  length-numbered n [] = refl
-  length-numbered n (x ∷ xs) = ap suc (length-numbered (n + 1) xs)

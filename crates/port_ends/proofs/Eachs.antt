@@ -1,7 +1,8 @@
 -- Lists of outlets in which one outlet changes at a time.
 use Rattle.std.proofs.Common.{◌≡◌, ◌≢◌, ℕ, zero, suc, ◌+◌, ◌<◌, ◌≤◌, ◌==◌, true, false, List, [], ◌∷◌, ◌++◌, length, set, take, length-append, Some, slice_get, sym, refl, ap, ◌∙◌, subst, arith, ⊎_elim, ◌⊎◌, inl, inr, append_assoc, append-nil}
-use Rattle.std.proofs.lemmas.List.{length-set, take_more_set, take-append-drop}
-use Rattle.std.proofs.lemmas.Option.{slice_get_within, slice_get-get_or, get_or_from_slice_get}
+use Rattle.std.proofs.lemmas.List.{get_or-set_same, length-set, take_more_set, take-append-drop}
+use Rattle.std.proofs.lemmas.Bool.{eq-eqb, ne_eqb}
+use Rattle.std.proofs.lemmas.Option.{slice_get_within, slice_get-get_or, slice_get_read, get_or_from_slice_get}
 use Rattle.std.proofs.Math.ListN.{get_or}
 use native.Mathlib.Decide.{ℕ_discrete}
 use mathlib.Core.Logic.{dite}
@@ -10,23 +11,19 @@ use Rattle.port_ends.specs.History.{packets_by}
 use Rattle.port_ends.specs.steps.Rule.{total}
 use Rattle.port_ends.specs.Rings.{OutView, Each, EachLooked, EachOffers, EachOffersFirst, EachStaysPosted, Offers, OffersFirst, StaysPosted, all_of, waiting_count}
 use Rattle.port_ends.specs.steps.Sending.{EachGetsRoom, EachHasRoom, GetsRoom, SendsTo, UsesOne}
-use Rattle.port_ends.proofs.Packets.{put_lists, same_number, other_number}
+use Rattle.port_ends.proofs.Packets.{put_lists}
 
 same_or_not : (k i : ℕ) → (k ≡ i) ⊎ (k ≢ i)
 same_or_not k i = dite (ℕ_discrete k i) (λ e. inl e) (λ n. inr n)
 
 module _ {A : Type 0} where
   pub get_set_same : (xs : List A) (i : ℕ) (y : A) → i < length xs → slice_get (set xs i y) i ≡ Some y
-  get_set_same [] i y h = absurd (omega arith)
-  get_set_same (x ∷ xs) zero y h = refl
-  get_set_same (x ∷ xs) (suc i) y h = get_set_same xs i y (omega arith)
+  get_set_same xs i y h = slice_get_read (set xs i y) (length xs) i y (sym (length-set xs i y)) h (sym (get_or-set_same xs i y y h))
 
   pub get_set_other : (xs : List A) (i j : ℕ) (y : A) → j ≢ i → slice_get (set xs i y) j ≡ slice_get xs j
-  get_set_other [] i j y n = refl
   get_set_other (x ∷ xs) zero zero y n = absurd (n refl)
-  get_set_other (x ∷ xs) zero (suc j) y n = refl
-  get_set_other (x ∷ xs) (suc i) zero y n = refl
   get_set_other (x ∷ xs) (suc i) (suc j) y n = get_set_other xs i j y (λ e. n (ap suc e))
+  get_set_other xs i j y n = refl
 
 module _ {T : Type 0} where
   pub each_refl : (R : ℕ → OutView T → OutView T → Type 0) → ((k : ℕ) (o : OutView T) → R k o o) → (xs : List (OutView T)) → Each R xs xs
@@ -36,18 +33,29 @@ module _ {T : Type 0} where
   each_then R P Z t xs ys zs h g = (g.0 ∙ h.0, λ k o e. let a = h.1 k o e in let b = g.1 k a.0 a.1 in (b.0, b.1, t k o a.0 b.0 a.2 b.2))
 
   -- one more change, at index i
-  pub each_set : (R P : ℕ → OutView T → OutView T → Type 0) → ((k : ℕ) (a b c : OutView T) → R k a b → P k b c → R k a c) → (xs ys : List (OutView T)) (i : ℕ) (o p : OutView T)
-      → Each R xs ys → i < length ys → o ≡ get_or ys i o → P i o p → Each R xs (set ys i p)
-  each_set R P t xs ys i o p h within at step = (
+  each_at : (R Z : ℕ → OutView T → OutView T → Type 0) (xs ys : List (OutView T)) (i : ℕ) (o p : OutView T) → Each R xs ys → i < length ys → o ≡ get_or ys i o
+      → ((a : OutView T) → R i a o → Z i a p) → ((k : ℕ) (a b : OutView T) → k ≢ i → R k a b → Z k a b) → Each Z xs (set ys i p)
+  each_at R Z xs ys i o p h within at step stay = (
     length-set ys i p ∙ h.0,
     λ k a e. let b = h.1 k a e in ⊎_elim
         (λ (here : k ≡ i).
         let same : b.0 ≡ o = sym (get_or_from_slice_get ys i b.0 o (subst (λ (j : ℕ). slice_get ys j ≡ Some b.0) here b.1)) ∙ sym at in
-        let ra : R i a o = subst (λ (z : ℕ × OutView T). R z.0 a z.1) (λ l. (here l, same l)) b.2 in
-        (p, subst (λ (j : ℕ). slice_get (set ys i p) j ≡ Some p) (sym here) (get_set_same ys i p within), subst (λ (j : ℕ). R j a p) (sym here) (t i a o p ra step)))
-        (λ (other : k ≢ i). (b.0, get_set_other ys i k p other ∙ b.1, b.2))
+        let r : R i a o = subst (λ (z : ℕ × OutView T). R z.0 a z.1) (λ l. (here l, same l)) b.2 in
+        (p, subst (λ (j : ℕ). (slice_get (set ys i p) j ≡ Some p) × Z j a p) (sym here) (get_set_same ys i p within, step a r)))
+        (λ (other : k ≢ i). (b.0, get_set_other ys i k p other ∙ b.1, stay k a b.0 other b.2))
         (same_or_not k i),
   )
+
+  -- an outlet came from the old one at its index
+  pub each_back : (R : ℕ → OutView T → OutView T → Type 0) (xs ys : List (OutView T)) (k : ℕ) (p : OutView T) → Each R xs ys → slice_get ys k ≡ Some p
+      → (o : OutView T) × (slice_get xs k ≡ Some o) × R k o p
+  each_back R xs ys k p h at =
+      let within = slice_get_within ys k p at in
+      let o : OutView T = get_or xs k p in
+      let old : slice_get xs k ≡ Some o = slice_get-get_or xs k p (omega (arith, h.0)) in
+      let g = h.1 k o old in
+      let same : g.0 ≡ p = let e = g.1 in cc in
+      (o, old, subst (λ (q : OutView T). R k o q) same g.2)
 
   -- R relates the old and new outlets before index i; the others are unchanged
   abbrev pub DoneBelow : (OutView T → OutView T → Type 0) → ℕ → ℕ → OutView T → OutView T → Type 0
@@ -55,16 +63,9 @@ module _ {T : Type 0} where
 
   pub one_done : (R : OutView T → OutView T → Type 0) (xs ys : List (OutView T)) (i : ℕ) (o p : OutView T)
       → Each (DoneBelow R i) xs ys → i < length ys → o ≡ get_or ys i o → R o p → Each (DoneBelow R (i + 1)) xs (set ys i p)
-  one_done R xs ys i o p h within at step = (
-    length-set ys i p ∙ h.0,
-    λ k a e. let b = h.1 k a e in ⊎_elim
-        (λ (here : k ≡ i).
-        let same : b.0 ≡ o = sym (get_or_from_slice_get ys i b.0 o (subst (λ (j : ℕ). slice_get ys j ≡ Some b.0) here b.1)) ∙ sym at in
-        let was : o ≡ a = sym same ∙ b.2.1 (omega (arith, here)) in
-        (p, subst (λ (j : ℕ). slice_get (set ys i p) j ≡ Some p) (sym here) (get_set_same ys i p within), (λ _. subst (λ (q : OutView T). R q p) was step, λ l. absurd (omega (arith, here, l)))))
-        (λ (other : k ≢ i). (b.0, get_set_other ys i k p other ∙ b.1, (λ l. b.2.0 (omega (arith, other, l)), λ l. b.2.1 (omega (arith, l)))))
-        (same_or_not k i),
-  )
+  one_done R xs ys i o p h within at step = each_at (DoneBelow R i) (DoneBelow R (i + 1)) xs ys i o p h within at
+      (λ a r. (λ _. subst (λ (q : OutView T). R q p) (r.1 (omega arith)) step, λ l. absurd (omega arith)))
+      (λ k a b other r. (λ l. r.0 (omega arith), λ l. r.1 (omega arith)))
 
   -- the first waiting replies were posted, in order
   abbrev pub Posts : OutView T → OutView T → Type 0
@@ -90,7 +91,7 @@ module _ {T : Type 0} where
 
   -- one more outlet has room
   pub each_gets : (xs ys : List (OutView T)) (i : ℕ) (o p : OutView T) → EachGetsRoom xs ys → i < length ys → o ≡ get_or ys i o → GetsRoom o p → EachGetsRoom xs (set ys i p)
-  each_gets xs ys i o p h within at step = each_set (λ _ o p. GetsRoom o p) (λ _ o p. GetsRoom o p) (λ _ a b c. gets_gets a b c) xs ys i o p h within at step
+  each_gets xs ys i o p h within at step = each_at (λ _ o p. GetsRoom o p) (λ _ o p. GetsRoom o p) xs ys i o p h within at (λ a r. gets_gets a o p r step) (λ k a b other r. r)
 
   pub room_more : (more i : ℕ) (ys : List (OutView T)) (p : OutView T) → i < length ys → ((k : ℕ) (o : OutView T) → k < i → slice_get ys k ≡ Some o → more ≤ o.room) → more ≤ p.room
       → (k : ℕ) (o : OutView T) → k < i + 1 → slice_get (set ys i p) k ≡ Some o → more ≤ o.room
@@ -155,34 +156,17 @@ module _ {T : Type 0} where
   pub each_stays : (xs ys zs : List (OutView T)) → EachStaysPosted xs ys → EachStaysPosted ys zs → EachStaysPosted xs zs
   each_stays xs ys zs h g = each_then (λ _ o p. StaysPosted o p) (λ _ o p. StaysPosted o p) (λ _ o p. StaysPosted o p) (λ _ a b c. stays_stays a b c) xs ys zs h g
 
-  -- the old outlet at this index
-  pub before : (xs ys : List (OutView T)) (k : ℕ) (p : OutView T) → length ys ≡ length xs → slice_get ys k ≡ Some p → (o : OutView T) × (slice_get xs k ≡ Some o)
-  before xs ys k p len at = let within = slice_get_within ys k p at in (get_or xs k p, slice_get-get_or xs k p (omega arith))
-
   -- a statement on everything sent to each client also holds of what was posted
   pub posts_said : (f : ℕ → List T) (xs ys : List (OutView T)) → EachPosts xs ys
       → ((k : ℕ) (o : OutView T) → slice_get xs k ≡ Some o → all_of o ≡ f k) → (k : ℕ) (p : OutView T) → slice_get ys k ≡ Some p → all_of p ≡ f k
-  posts_said f xs ys h was k p at =
-      let o = before xs ys k p h.0 at in
-      let g = h.1 k o.0 o.1 in
-      let same : g.0 ≡ p = let e = g.1 in cc in
-      posts_all o.0 p (subst (λ (q : OutView T). Posts o.0 q) same g.2.1) ∙ was k o.0 o.1
+  posts_said f xs ys h was k p at = let b = each_back (λ _ o q. (q.ring ≡ o.ring) × Posts o q) xs ys k p h at in posts_all b.0 p b.2.1 ∙ was k b.0 b.1
 
   -- one client was sent a reply
   pub each_send : (xs : List (OutView T)) (client i : ℕ) (x : T) (o p : OutView T) → client ≡ i + 1 → i < length xs → o ≡ get_or xs i o
       → StaysPosted o p → all_of p ≡ all_of o ++ x ∷ [] → o.room ≤ p.room + 1 → p.looks ≡ o.looks → Each (SendsTo client x) xs (set xs i p)
-  each_send xs client i x o p is within at stays sent room looks = (
-    length-set xs i p,
-    λ k a e. ⊎_elim
-        (λ (here : k ≡ i).
-        let same : o ≡ a = at ∙ get_or_from_slice_get xs i a o (subst (λ (j : ℕ). slice_get xs j ≡ Some a) here e) in
-        let test : (client == k + 1) ≡ true = same_number client (k + 1) (is ∙ ap (λ (j : ℕ). j + 1) (sym here)) in
-        (p, subst (λ (j : ℕ). slice_get (set xs i p) j ≡ Some p) (sym here) (get_set_same xs i p within), rw test (subst (λ (b : OutView T). StaysPosted b p × (all_of p ≡ all_of b ++ x ∷ []) × (b.room ≤ p.room + 1) × (p.looks ≡ b.looks)) same (stays, sent, room, looks))))
-        (λ (other : k ≢ i).
-        let test : (client == k + 1) ≡ false = other_number client (k + 1) (λ same. other (omega arith)) in
-        (a, get_set_other xs i k p other ∙ e, rw test (stays_refl a, refl, omega arith, refl)))
-        (same_or_not k i),
-  )
+  each_send xs client i x o p is within at stays sent room looks = each_at (λ _ a b. a ≡ b) (SendsTo client x) xs xs i o p (each_refl (λ _ a b. a ≡ b) (λ _ a. refl) xs) within at
+      (λ a same. rw (eq-eqb client (i + 1) is) (subst (λ (b : OutView T). StaysPosted b p × (all_of p ≡ all_of b ++ x ∷ []) × (b.room ≤ p.room + 1) × (p.looks ≡ b.looks)) (sym same) (stays, sent, room, looks)))
+      (λ k a b other same. subst (λ (c : OutView T). SendsTo client x k a c) same (rw (ne_eqb client (k + 1) (λ e. other (omega arith))) (stays_refl a, refl, omega arith, refl)))
 
   pub sends_stays : (client : ℕ) (x : T) (xs ys : List (OutView T)) → Each (SendsTo client x) xs ys → EachStaysPosted xs ys
   sends_stays client x xs ys h = (h.0, λ k o e. let a = h.1 k o e in (a.0, a.1, a.2.0))
@@ -191,16 +175,10 @@ module _ {T : Type 0} where
   sends_one client x xs ys h = (h.0, λ k o e. let a = h.1 k o e in (a.0, a.1, a.2.2))
 
   pub room_step : (n m : ℕ) (xs ys : List (OutView T)) → m + 1 ≤ n → UsesOne xs ys → EachHasRoom n xs → EachHasRoom m ys
-  room_step n m xs ys less h room k p at =
-      let o = before xs ys k p h.0 at in
-      let g = h.1 k o.0 o.1 in
-      let same : g.0 ≡ p = let e = g.1 in cc in
-      let s = subst (λ (q : OutView T). o.0.room ≤ q.room + 1) same g.2 in
-      let r = room k o.0 o.1 in
-      omega arith
+  room_step n m xs ys less h room k p at = let b = each_back (λ _ o q. o.room ≤ q.room + 1) xs ys k p h at in omega (arith, b.2, room k b.0 b.1)
 
   pub has_room_less : (n m : ℕ) (xs : List (OutView T)) → m ≤ n → EachHasRoom n xs → EachHasRoom m xs
-  has_room_less n m xs less room k o at = let r = room k o at in omega arith
+  has_room_less n m xs less room k o at = omega (arith, room k o at)
 
   -- one more outlet posted what fits: the number of waiting replies so far, and in all
   pub waiting_step : (xs : List (OutView T)) (i n most : ℕ) (o p : OutView T) → n ≡ waiting_count (take i xs) → waiting_count xs ≤ most → i < length xs → o ≡ get_or xs i o → Offers o p

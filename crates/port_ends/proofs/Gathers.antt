@@ -1,12 +1,13 @@
 -- Lists that change at one place, and the lists of untaken replies.
 use Rattle.std.proofs.Common.{◌≡◌, ◌≢◌, ℕ, zero, suc, ◌+◌, ◌<◌, ◌≤◌, List, [], ◌∷◌, ◌++◌, length, set, Some, None, slice_get, sym, refl, ap, ◌∙◌, subst, arith, length-append, map, take, add-one, ⊎_elim}
 use Rattle.std.proofs.lemmas.List.{length-set, map-append, set-get_or}
-use Rattle.std.proofs.lemmas.Option.{slice_get_within, slice_get_read, slice_get_cases}
+use Rattle.std.proofs.lemmas.Option.{slice_get_within, slice_get_read, slice_get_cases, slice_get-map}
 use Rattle.std.proofs.Math.ListN.{get_or}
 use native.Mathlib.Decide.{ℕ_discrete}
 use mathlib.Core.Logic.{dite}
 use Rattle.port_ends.proofs.Eachs.{get_set_other}
 use Rattle.std.specs.declared.alloc.Global.{Global}
+use Rattle.std.specs.Option.{option_map}
 use Rattle.std.specs.Prelude.{Vec}
 use Rattle.port_ends.specs.declared.step.Reply.{Reply}
 use Rattle.port_ends.specs.Rings.{OutView, all_of}
@@ -14,10 +15,10 @@ use Rattle.port_ends.specs.History.{Serving, packets_by}
 use Rattle.port_ends.specs.Lawful.{packets_of, answers_to, ClientLists, Lawful, MeaningRun, numbered}
 use Rattle.port_ends.specs.steps.Rooms.{OnlyElement, SameFrom, Left}
 use Rattle.port_ends.specs.Gathering.{answers, lists_of, all_lists}
-use Rattle.port_ends.proofs.Moves.{get_end}
+use Rattle.port_ends.proofs.Moves.{get_end, get_mid}
 use Rattle.port_ends.specs.steps.Rule.{total}
 use Rattle.port_ends.specs.Ends.{OfClients, ClientView, replies_to}
-use Rattle.port_ends.proofs.Packets.{of_clients_place, packets_by_append, packets_by_here, packets_by_past}
+use Rattle.port_ends.proofs.Packets.{of_clients_place, packets_by-append, packets_by_here, packets_by_past}
 use Rattle.port_ends.proofs.Drains.{numbered_answers}
 use Rattle.port_ends.specs.steps.QueueEnds.{TakeView}
 
@@ -30,11 +31,6 @@ module _ {X : Type 0} where
 
   pub one_of : (xs : List X) (k : ℕ) (x y : X) → slice_get xs k ≡ Some x → slice_get xs k ≡ Some y → x ≡ y
   one_of xs k x y e f = cc
-
-  -- the element after xs
-  pub get_mid : (xs ys : List X) (x : X) → slice_get (xs ++ x ∷ ys) (length xs) ≡ Some x
-  get_mid [] ys x = refl
-  get_mid (z ∷ xs) ys x = get_mid xs ys x
 
   pub from_but : (k : ℕ) (first old new : List X) → SameFrom k first old → OnlyElement k old new → SameFrom (k + 1) first new
   from_but k first old new h g = (g.0 ∙ h.0, λ j less. g.1 j (λ e. omega arith) ∙ h.1 j (omega arith))
@@ -97,9 +93,7 @@ module _ {C O R : Type 0} where
 
 module _ {X Y : Type 0} where
   pub get_map : (f : X → Y) (xs : List X) (k : ℕ) (x : X) → slice_get xs k ≡ Some x → slice_get (map f xs) k ≡ Some (f x)
-  get_map f [] k x e = cc
-  get_map f (y ∷ ys) zero x e = ap (λ z. Some (f z)) (let s : y ≡ x = cc in s)
-  get_map f (y ∷ ys) (suc k) x e = get_map f ys k x e
+  get_map f xs k x e = slice_get-map f xs k ∙ ap (option_map f) e
 
 module _ {Q M A : Type 0} where
   pub replies_few : (k : ℕ) (xs : List (Serving Q M A)) → length (replies_to k xs) ≤ length xs
@@ -159,10 +153,9 @@ module _ {Q M A : Type 0} where
   -- the lists at an index are those of the client there
   lists_at : (cs : List (ClientView Q M A)) (us : List (Vec (Reply A) Global)) (place : ℕ) (lists : ClientLists Q A) → slice_get (all_lists cs us) place ≡ Some lists
       → (c : ClientView Q M A) × (u : Vec (Reply A) Global) × (slice_get cs place ≡ Some c) × (slice_get us place ≡ Some u) × (lists_of c u ≡ lists)
-  lists_at [] us place lists e = cc
-  lists_at (c ∷ cs) [] place lists e = cc
   lists_at (c ∷ cs) (u ∷ us) zero lists e = (c, u, refl, refl, (let s : lists_of c u ≡ lists = cc in s))
   lists_at (c ∷ cs) (u ∷ us) (suc place) lists e = lists_at cs us place lists e
+  lists_at cs us place lists e = cc
 
   length-all_lists : (cs : List (ClientView Q M A)) (us : List (Vec (Reply A) Global)) → length us ≡ length cs → length (all_lists cs us) ≡ length cs
   length-all_lists [] us h = refl
@@ -178,7 +171,7 @@ module _ {Q M A : Type 0} where
   is_lawful gives opening closing served unanswered cs us run long puts left clients = record {
     meaning = run;
     each_put = λ place lists at. let l = lists_at cs us place lists at in
-        sym (packets_by_append (place + 1) (packets_of served) unanswered) ∙ (sym (puts place l.0 l.2) ∙ ap (λ (x : ClientLists Q A). x.put) l.4);
+        sym (packets_by-append (place + 1) (packets_of served) unanswered) ∙ (sym (puts place l.0 l.2) ∙ ap (λ (x : ClientLists Q A). x.put) l.4);
     each_reply = λ place lists at. let l = lists_at cs us place lists at in
         ap (λ (x : ClientLists Q A). x.taken ++ x.untaken) (sym l.4) ∙ left_numbered (place + 1) l.0 served l.1.items (left place l.0 l.1 l.2 l.3);
     known = λ place packet at. let k = of_clients_place (length cs) (packets_of served ++ unanswered) clients place packet at in

@@ -1,21 +1,22 @@
 -- The lists of the handler stay consistent when one more packet is served.
 use Rattle.std.proofs.Common.{◌≡◌, ◌≢◌, ℕ, ◌+◌, ◌≤◌, ◌==◌, if◌then◌else◌, List, [], ◌∷◌, ◌++◌, map, length, Some, slice_get, sym, refl, ap, ◌∙◌, subst, ⊎_elim, arith, append_assoc, append-nil, length-append}
 use Rattle.std.proofs.lemmas.List.{map-append, length-map}
+use Rattle.std.proofs.lemmas.Bool.{eq-eqb, ne_eqb}
 use Rattle.std.proofs.lemmas.Option.{slice_get_within}
 use native.Mathlib.Decide.{ℕ_discrete}
 use mathlib.Core.Logic.{dite}
 use Rattle.port_ends.specs.History.{Serving, packets_by}
 use Rattle.port_ends.specs.Lawful.{packets_of}
-use Rattle.port_ends.proofs.Moves.{get_end}
-use Rattle.port_ends.proofs.Packets.{packets_by_append, packets_by_here, packets_by_past, same_number, other_number, lists_total, put_lists, of_clients_snoc}
+use Rattle.port_ends.proofs.Moves.{get_end, get_mid}
+use Rattle.port_ends.proofs.Packets.{packets_by-append, packets_by_here, packets_by_past, lists_total, put_lists, of_clients_snoc}
 use Rattle.port_ends.proofs.Runs.{meaning_none, meaning_one, meaning_append, all_at_append}
-use Rattle.port_ends.proofs.Eachs.{before, sends_stays, each_stays, each_stays_refl, each_posts_stays, each_offers_posts, EachPosts, waiting_few}
+use Rattle.port_ends.proofs.Eachs.{each_back, sends_stays, each_stays, each_stays_refl, each_posts_stays, each_offers_posts, waiting_few}
 use Rattle.port_ends.specs.Rings.{OutView, Each, EachOffers, all_of, waiting_count}
 use Rattle.port_ends.specs.steps.Sending.{SendsTo}
 use Rattle.port_ends.specs.steps.Desks.{DeskView}
-use Rattle.port_ends.specs.Ends.{OfClients}
 use Rattle.port_ends.specs.steps.Rule.{total}
-use Rattle.port_ends.specs.Ends.{replies_to, HandlerView, ClientView, IsEndOf, AreEnds, Serves}
+use Rattle.port_ends.specs.Ends.{OfClients, replies_to, HandlerView, ClientView, IsEndOf, AreEnds, Serves}
+use Rattle.port_ends.specs.Batches.{ServesSome, ServesSoMany, OnlyOffers}
 use Rattle.port_ends.specs.steps.QueueEnds.{TakeView}
 use Rattle.port_ends.specs.steps.QueueCalls.{TakesPacket}
 use Rattle.port_ends.specs.steps.Views.{Agree, handler_view}
@@ -26,10 +27,10 @@ module _ {Q M A : Type 0} where
   replies_snoc k xs x =
       let sent : List (Serving Q M A) → List (ℕ × (M × A)) = λ l. map (λ (s : Serving Q M A). (s.client, (s.moment, s.answer))) l in
       let all : replies_to k (xs ++ x ∷ []) ≡ replies_to k xs ++ replies_to k (x ∷ []) =
-      ap (λ l. packets_by k l) (map-append (λ (s : Serving Q M A). (s.client, (s.moment, s.answer))) xs (x ∷ [])) ∙ packets_by_append k (sent xs) (sent (x ∷ [])) in
+      ap (λ l. packets_by k l) (map-append (λ (s : Serving Q M A). (s.client, (s.moment, s.answer))) xs (x ∷ [])) ∙ packets_by-append k (sent xs) (sent (x ∷ [])) in
       dite (ℕ_discrete x.client k)
-      (λ (e : x.client ≡ k). rw (same_number x.client k e) (all ∙ ap (λ l. replies_to k xs ++ l) (packets_by_here (x.client, (x.moment, x.answer)) k [] e)))
-      (λ (n : x.client ≢ k). rw (other_number x.client k n) (all ∙ (ap (λ l. replies_to k xs ++ l) (packets_by_past (x.client, (x.moment, x.answer)) k [] n) ∙ append-nil (replies_to k xs))))
+      (λ (e : x.client ≡ k). rw (eq-eqb x.client k e) (all ∙ ap (λ l. replies_to k xs ++ l) (packets_by_here (x.client, (x.moment, x.answer)) k [] e)))
+      (λ (n : x.client ≢ k). rw (ne_eqb x.client k n) (all ∙ (ap (λ l. replies_to k xs ++ l) (packets_by_past (x.client, (x.moment, x.answer)) k [] n) ∙ append-nil (replies_to k xs))))
 
   replies_step : (served served' : List (Serving Q M A)) (x : Serving Q M A) (os os' : List (OutView (M × A)))
       → served' ≡ served ++ x ∷ []
@@ -37,11 +38,8 @@ module _ {Q M A : Type 0} where
       → ((k : ℕ) (o : OutView (M × A)) → slice_get os k ≡ Some o → all_of o ≡ replies_to (k + 1) served)
       → (k : ℕ) (p : OutView (M × A)) → slice_get os' k ≡ Some p → all_of p ≡ replies_to (k + 1) served'
   replies_step served served' x os os' longer each was k p at =
-      let o = before os os' k p each.0 at in
-      let sent = each.1 k o.0 o.1 in
-      let same : sent.0 ≡ p = let e = sent.1 in cc in
-      let so = subst (λ (q : OutView (M × A)). SendsTo x.client (x.moment, x.answer) k o.0 q) same sent.2 in
-      so.1 ∙ (rw (was k o.0 o.1) (sym (replies_snoc (k + 1) served x)) ∙ ap (λ l. replies_to (k + 1) l) (sym longer))
+      let b = each_back (SendsTo x.client (x.moment, x.answer)) os os' k p each at in
+      b.2.1 ∙ (rw (was k b.0 b.1) (sym (replies_snoc (k + 1) served x)) ∙ ap (λ l. replies_to (k + 1) l) (sym longer))
 
   abbrev sent_of : List (Serving Q M A) → List (ℕ × (M × A))
   sent_of served = map (λ (s : Serving Q M A). (s.client, (s.moment, s.answer))) served
@@ -72,10 +70,7 @@ module _ {Q M A : Type 0} where
 module _ {T : Type 0} where
   -- the ring of the last outlet
   pub last_ring : (os os' : List (OutView T)) (o p : OutView T) → os' ≡ os ++ o ∷ [] → slice_get os' (length os) ≡ Some p → o ≡ p
-  last_ring os os' o p longer at =
-      ⊎_elim (λ (e : slice_get os (length os) ≡ Some p). let within = slice_get_within os (length os) p e in absurd (omega arith))
-      (λ (e : (length os ≡ length os) × (o ≡ p)). e.1)
-      (get_end os o p (length os) (subst (λ (l : List (OutView T)). slice_get l (length os) ≡ Some p) longer at))
+  last_ring os os' o p longer at = let e : slice_get os' (length os) ≡ Some o = rw longer (get_mid os [] o) in cc
 
 module _ {S Q M A : Type 0} where
   pub serves_none : (gives : S → Q → M → S → A → Type 0) (m : M) (h : HandlerView S Q M A) → Serves gives m h [] h
@@ -92,16 +87,19 @@ module _ {S Q M A : Type 0} where
     rings = each_stays a.outlets b.outlets c.outlets h.rings g.rings;
   }
 
-  -- replies were posted, and nothing else changed
-  pub serves_posts : (gives : S → Q → M → S → A → Type 0) (m : M) (a b : HandlerView S Q M A) (os : List (OutView (M × A))) → b ≡ record a { outlets = os } → EachPosts a.outlets os → Serves gives m a [] b
-  serves_posts gives m a b os is posts =
-      let p : HandlerView S Q M A = record a { outlets = os } in
-      subst (λ (v : HandlerView S Q M A). Serves gives m a [] v) (sym is)
-      (record { port = refl; mark = refl; opening = refl; served_more = sym (append-nil a.served); moments = tt; run = meaning_none gives a.server; rings = each_posts_stays a.outlets os posts })
-
   -- waiting replies were offered to their rings, and nothing else changed
   pub serves_offers : (gives : S → Q → M → S → A → Type 0) (m : M) (a b : HandlerView S Q M A) (os : List (OutView (M × A))) → b ≡ record a { outlets = os } → EachOffers a.outlets os → Serves gives m a [] b
-  serves_offers gives m a b os is offers = serves_posts gives m a b os is (each_offers_posts a.outlets os offers)
+  serves_offers gives m a b os is offers =
+      let p : HandlerView S Q M A = record a { outlets = os } in
+      let rings = each_posts_stays a.outlets os (each_offers_posts a.outlets os offers) in
+      subst (λ (v : HandlerView S Q M A). Serves gives m a [] v) (sym is) (record { port = refl; mark = refl; opening = refl; served_more = sym (append-nil a.served); moments = tt; run = meaning_none gives a.server; rings = rings })
+
+  -- one more batch, or one that ran out of memory
+  pub some_more : (gives : S → Q → M → S → A → Type 0) (m : M) (a b c : HandlerView S Q M A) (n : ℕ) → ServesSome gives m a b → ServesSoMany gives m b n c → ServesSome gives m a c
+  some_more gives m a b c n h g = (h.0 ++ g.0, serves_more gives m a b c h.0 g.0 h.1 g.2)
+
+  pub some_offers : (gives : S → Q → M → S → A → Type 0) (m : M) (a b c : HandlerView S Q M A) → ServesSome gives m a b → OnlyOffers b c → ServesSome gives m a c
+  some_offers gives m a b c h g = (h.0 ++ [], serves_more gives m a b c h.0 [] h.1 (serves_offers gives m b c c.outlets g.0 g.1))
 
   pub only_outlets : (a b c : HandlerView S Q M A) → b ≡ record a { outlets = b.outlets } → c ≡ record b { outlets = c.outlets } → c ≡ record a { outlets = c.outlets }
   only_outlets a b c f g = g ∙ ap (λ (v : HandlerView S Q M A). record v { outlets = c.outlets }) f

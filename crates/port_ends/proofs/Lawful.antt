@@ -3,8 +3,8 @@ use Rattle.std.proofs.Common.{◌≡◌, ℕ, zero, suc, ◌+◌, ◌-◌, ◌<�
 use Rattle.std.specs.Prelude.{Bool, Option}
 use Rattle.std.specs.List.{filter_map, cons_option}
 use Rattle.std.specs.Option.{option_map}
-use Rattle.std.proofs.lemmas.List.{take-append-drop, length-replicate}
-use Rattle.std.proofs.lemmas.Option.{none-some, same_Some, slice_get_within}
+use Rattle.std.proofs.lemmas.List.{get_or-replicate, take-append-drop, length-replicate}
+use Rattle.std.proofs.lemmas.Option.{none-some, same_Some, slice_get_read, slice_get_within}
 use Rattle.std.proofs.lemmas.Bool.Decides.{eqb_tells}
 use Rattle.port_ends.specs.History.{ClientState, PortState, client_state, opening_port, Serving, packets_by, Event, events_of, packet_accepted, accepted_in, taken_in, taken_count, client_now, OutcomeFits, PutFits, PortHistory, server_by}
 use Rattle.port_ends.specs.Lawful.{served_by, packets_of, answers_to, numbered, ClientLists, Lawful}
@@ -13,24 +13,18 @@ use Rattle.port_ends.specs.declared.step.Step.{Step}
 use Rattle.port_ends.specs.declared.step.Step.TheVariants.{Put, Serve, Take}
 use Rattle.port_ends.specs.declared.step.Outcome.{Outcome}
 use Rattle.port_ends.specs.declared.step.Outcome.TheVariants.{Accepted, Refused, Served, Idle, Taken, Nothing, NoClient}
-use Rattle.port_ends.proofs.Numbers.{eq_false}
-use Rattle.port_ends.proofs.Serving.{packets_by-append}
-use Rattle.port_ends.proofs.Replies.{numbered-append, took_first}
+use Rattle.std.proofs.lemmas.Bool.{ne_eqb}
+use Rattle.port_ends.proofs.Packets.{packets_by-append}
+use Rattle.port_ends.proofs.Replies.{length-numbered, numbered-append, took_first}
 
 -- a client by its position
 pub client_at : {A : Type 0} (clients : List (ClientState A)) (place : ℕ) → client_state clients (place + 1) ≡ slice_get clients place
 client_at clients place =
-    ap (λ b. cond b None (slice_get clients (place + 1 - 1))) (eq_false (place + 1) 0 (λ e. absurd (omega (arith, e))))
+    ap (λ b. cond b None (slice_get clients (place + 1 - 1))) (ne_eqb (place + 1) 0 (λ e. absurd (omega (arith, e))))
     ∙ ap (slice_get clients) (omega arith)
 
 pub slice_get-replicate : {X : Type 0} (n k : ℕ) (x : X) → k < n → slice_get (replicate n x) k ≡ Some x
-slice_get-replicate zero k x h = absurd (omega (arith, h))
-slice_get-replicate (suc n) zero x h = refl
-slice_get-replicate (suc n) (suc k) x h = slice_get-replicate n k x (omega (arith, h))
-
-pub length-numbered : {A : Type 0} (n : ℕ) (xs : List A) → length (numbered n xs) ≡ length xs
-length-numbered n [] = refl
-length-numbered n (x ∷ xs) = ap suc (length-numbered (n + 1) xs)
+slice_get-replicate n k x h = slice_get_read (replicate n x) n k x (sym (length-replicate n x)) h (sym (get_or-replicate n k x x h))
 
 -- an element of a filtered list comes from the list
 from_filter_map : {X Y : Type 0} (f : X → Option Y) (xs : List X) (place : ℕ) (y : Y) → slice_get (filter_map f xs) place ≡ Some y → (i : ℕ) × (x : X) × (slice_get xs i ≡ Some x) × (f x ≡ Some y)
@@ -72,14 +66,7 @@ module _ {S Q M A : Type 0} (gives : S → Q → M → S → A → Type 0) (has_
           → (let outcome : Outcome Q A = Accepted number in MatchOption o (outcome ≡ NoClient (Some q)) (λ c. PutFits died q (client_now served before client c) outcome)) → (1 ≤ packet.0) × (packet.0 ≤ count)
       go None is_o f = cc
       go (Some c) is_o f = let P : ℕ × Q → Type 0 = λ p. (1 ≤ p.0) × (p.0 ≤ count) in subst P (same_Some (client, q) packet accepted) (numbers_in client c is_o)
-  accepted_known served died before (Put client q) (Refused r) packet fits accepted = absurd (none-some packet accepted)
-  accepted_known served died before (Put client q) Served packet fits accepted = absurd (none-some packet accepted)
-  accepted_known served died before (Put client q) Idle packet fits accepted = absurd (none-some packet accepted)
-  accepted_known served died before (Put client q) (Taken r) packet fits accepted = absurd (none-some packet accepted)
-  accepted_known served died before (Put client q) Nothing packet fits accepted = absurd (none-some packet accepted)
-  accepted_known served died before (Put client q) (NoClient r) packet fits accepted = absurd (none-some packet accepted)
-  accepted_known served died before (Serve moment) outcome packet fits accepted = absurd (none-some packet accepted)
-  accepted_known served died before (Take client) outcome packet fits accepted = absurd (none-some packet accepted)
+  accepted_known served died before step outcome packet fits accepted = absurd (none-some packet accepted)
 
   -- the served packets and the waiting ones are the accepted ones
   all_accepted : packets_of h.served ++ closing.waiting ≡ accepted_in events

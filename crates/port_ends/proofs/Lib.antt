@@ -1,15 +1,13 @@
 -- Lemmas on runs and counts of events: a dead port stays closed, replies come in order, a history is lawful, and lawful lists
 -- have a history. Then lemmas on the queue and its rule, on served packets, on the rings, on gathering the ends, and on the close.
-pub mod Numbers
-pub mod Serving
+pub mod Runs
+pub mod Packets
 pub mod Events
 pub mod Closing
 pub mod Replies
 pub mod Lawful
 pub mod Replayed
-pub mod Packets
 pub mod Moves
-pub mod Runs
 pub mod Handling
 pub mod Eachs
 pub mod Drains

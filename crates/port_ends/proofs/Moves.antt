@@ -18,6 +18,11 @@ get_end [] a u (suc j) e = cc
 get_end (x ∷ xs) a u zero e = inl e
 get_end {A} (x ∷ xs) a u (suc j) e = ⊎_elim (λ (y : slice_get xs j ≡ Some u). inl y) (λ (y : (j ≡ length xs) × (a ≡ u)). inr (ap suc y.0, y.1)) (get_end xs a u j e)
 
+-- the element after xs
+pub get_mid : {A : Type 0} (xs ys : List A) (x : A) → slice_get (xs ++ x ∷ ys) (length xs) ≡ Some x
+get_mid [] ys x = refl
+get_mid (z ∷ xs) ys x = get_mid xs ys x
+
 module _ {Q : Type 0} where
   at_within : (l : List (Seat Q)) (j : ℕ) (u : Seat Q) → get_elem? l j ≡ some u → j < length l
   at_within [] j u e = absurd (some-ne-none u (sym e))

@@ -1,39 +1,31 @@
 -- The packets of one client.
 use Rattle.std.proofs.Common.{◌≡◌, ◌≢◌, ℕ, zero, suc, ◌+◌, ◌<◌, ◌≤◌, ◌==◌, true, false, List, [], ◌∷◌, ◌++◌, map, filter, length, Some, slice_get, sym, refl, ap, ◌∙◌, subst, arith}
+use Rattle.std.proofs.lemmas.Bool.{eq-eqb, ne_eqb}
 use Rattle.std.proofs.lemmas.Bool.Decides.{nat_tests}
-use Rattle.std.proofs.lemmas.List.{map-append}
+use Rattle.std.proofs.lemmas.List.{append-nil, map-append}
 use Rattle.std.proofs.lemmas.List.Elements.{filter-append}
-use Rattle.port_ends.specs.History.{packets_by}
+use Rattle.port_ends.specs.History.{Serving, packets_by}
+use Rattle.port_ends.specs.Lawful.{answers_to}
 use Rattle.port_ends.specs.steps.Rule.{ArePutLists, total}
 use Rattle.port_ends.specs.Ends.{OfClients}
 use native.Mathlib.Decide.{ℕ_discrete}
 use mathlib.Core.Logic.{dite}
 
-pub same_number : (j k : ℕ) → j ≡ k → (j == k) ≡ true
-same_number j k e = grind (arith, nat_tests)
-
-pub other_number : (j k : ℕ) → j ≢ k → (j == k) ≡ false
-other_number j k n = grind (arith, nat_tests)
-
 module _ {Q : Type 0} where
-  pub packets_by_append : (k : ℕ) (xs ys : List (ℕ × Q)) → packets_by k (xs ++ ys) ≡ packets_by k xs ++ packets_by k ys
-  packets_by_append k xs ys = ap (λ l. map (λ (p : ℕ × Q). p.1) l) (filter-append (λ (p : ℕ × Q). p.0 == k) xs ys) ∙ map-append (λ (p : ℕ × Q). p.1) (filter (λ (p : ℕ × Q). p.0 == k) xs) (filter (λ (p : ℕ × Q). p.0 == k) ys)
+  pub packets_by-append : (k : ℕ) (xs ys : List (ℕ × Q)) → packets_by k (xs ++ ys) ≡ packets_by k xs ++ packets_by k ys
+  packets_by-append k xs ys = ap (map _) (filter-append _ xs ys) ∙ map-append _ _ _
 
   pub packets_by_here : (x : ℕ × Q) (k : ℕ) (xs : List (ℕ × Q)) → x.0 ≡ k → packets_by k (x ∷ xs) ≡ x.1 ∷ packets_by k xs
-  packets_by_here x k xs e = let t = same_number x.0 k e in grind (arith, nat_tests, t)
+  packets_by_here x k xs e = let t = eq-eqb x.0 k e in grind (arith, nat_tests, t)
 
   pub packets_by_past : (x : ℕ × Q) (k : ℕ) (xs : List (ℕ × Q)) → x.0 ≢ k → packets_by k (x ∷ xs) ≡ packets_by k xs
-  packets_by_past x k xs n = let t = other_number x.0 k n in grind (arith, nat_tests, t)
+  packets_by_past x k xs n = let t = ne_eqb x.0 k n in grind (arith, nat_tests, t)
 
   pub packets_by_same : (k : ℕ) (xs : List (ℕ × Q)) (q : Q) → packets_by k (xs ++ (k, q) ∷ []) ≡ packets_by k xs ++ q ∷ []
-  packets_by_same k xs q = packets_by_append k xs ((k, q) ∷ []) ∙ ap (λ l. packets_by k xs ++ l) (packets_by_here (k, q) k [] refl)
+  packets_by_same k xs q = packets_by-append k xs ((k, q) ∷ []) ∙ ap (λ l. packets_by k xs ++ l) (packets_by_here (k, q) k [] refl)
 
   pub packets_by_other : (k j : ℕ) (xs : List (ℕ × Q)) (q : Q) → j ≢ k → packets_by j (xs ++ (k, q) ∷ []) ≡ packets_by j xs
-  packets_by_other k j xs q n = packets_by_append j xs ((k, q) ∷ []) ∙ (ap (λ l. packets_by j xs ++ l) (packets_by_past (k, q) j [] (λ e. n (sym e))) ∙ append_none (packets_by j xs))
-    where
-      append_none : (l : List Q) → l ++ [] ≡ l
-      append_none [] = refl
-      append_none (y ∷ ys) = ap (λ z. y ∷ z) (append_none ys)
+  packets_by_other k j xs q n = packets_by-append j xs ((k, q) ∷ []) ∙ (ap (λ l. packets_by j xs ++ l) (packets_by_past (k, q) j [] (λ e. n (sym e))) ∙ append-nil (packets_by j xs))
 
   pub packets_by_beyond : (n k : ℕ) (xs : List (ℕ × Q)) → n < k → OfClients n xs → packets_by k xs ≡ []
   packets_by_beyond n k [] a h = refl
@@ -64,12 +56,11 @@ module _ {Q : Type 0} where
 
   is_put_lists : (n m : ℕ) (xs : List (ℕ × Q)) (known : List (List Q)) → length known ≡ n → ((k : ℕ) (put : List Q) → slice_get known k ≡ Some put → put ≡ packets_by (m + k + 1) xs) → known ≡ put_lists n m xs
   is_put_lists zero m xs [] len each = refl
-  is_put_lists zero m xs (p ∷ ps) len each = absurd (omega arith)
-  is_put_lists (suc n) m xs [] len each = absurd (omega arith)
   is_put_lists (suc n) m xs (p ∷ ps) len each =
       let head : p ≡ packets_by (m + 1) xs = subst (λ (j : ℕ). p ≡ packets_by (j + 1) xs) (let z : m + 0 ≡ m = omega arith in z) (each 0 p refl) in
       let tail : ps ≡ put_lists n (m + 1) xs = is_put_lists n (m + 1) xs ps (omega arith) (λ k put e. subst (λ (j : ℕ). put ≡ packets_by (j + 1) xs) (let z : m + suc k ≡ m + 1 + k = omega arith in z) (each (suc k) put e)) in
       λ i. head i ∷ tail i
+  is_put_lists n m xs known len each = absurd (omega arith)
 
   lists_skip : (n m : ℕ) (x : ℕ × Q) (xs : List (ℕ × Q)) → x.0 ≤ m → total (put_lists n m (x ∷ xs)) ≡ total (put_lists n m xs)
   lists_skip zero m x xs h = refl
@@ -98,3 +89,6 @@ module _ {Q : Type 0} where
   total_all n xs known h len each =
       let same : known ≡ put_lists n 0 xs = is_put_lists n 0 xs known len (λ k put e. subst (λ (j : ℕ). put ≡ packets_by (j + 1) xs) (let z : k ≡ 0 + k = omega arith in z) (each k put e)) in
       sym (lists_total n xs h) ∙ ap (λ (l : List (List Q)). total l) (sym same)
+
+pub answers_to-append : {Q M A : Type 0} (n : ℕ) (xs ys : List (Serving Q M A)) → answers_to n (xs ++ ys) ≡ answers_to n xs ++ answers_to n ys
+answers_to-append n xs ys = ap (packets_by n) (map-append _ xs ys) ∙ packets_by-append n _ _

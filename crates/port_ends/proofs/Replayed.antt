@@ -5,7 +5,7 @@ use Rattle.std.specs.Prelude.{Option}
 use Rattle.std.specs.Option.{option_map}
 use Rattle.std.proofs.lemmas.List.{append-nil, take_all, length-map, length-replicate, map-append}
 use Rattle.std.proofs.lemmas.List.Elements.{filter_map-append}
-use Rattle.std.proofs.lemmas.Option.{none-some, same_Some, slice_get-map, slice_get_past, slice_get_within}
+use Rattle.std.proofs.lemmas.Option.{none-some, same_Some, slice_get_cases, slice_get-map, slice_get_past, slice_get_within}
 use Rattle.std.proofs.Math.Seq.{take-append_seam, drop-append_seam}
 use Rattle.port_ends.specs.History.{ClientState, PortState, client_state, opening_port, Serving, packets_by, last_server, Event, events_of, accepted_in, moments_in, taken_in, served_count, taken_count, queue, client_now, PutFits, take_outcome, OutcomeFits, server_by, PortHistory}
 use Rattle.port_ends.specs.Lawful.{served_by, packets_of, answers_to, numbered, ClientLists, Lawful}
@@ -16,8 +16,8 @@ use Rattle.port_ends.specs.declared.step.Step.TheVariants.{Put, Serve, Take}
 use Rattle.port_ends.specs.declared.step.Reply.{Reply}
 use Rattle.port_ends.specs.declared.step.Outcome.{Outcome}
 use Rattle.port_ends.specs.declared.step.Outcome.TheVariants.{Accepted, Served, Idle, Taken, NoClient}
-use Rattle.port_ends.proofs.Numbers.{eq_false}
-use Rattle.port_ends.proofs.Serving.{packets_by-append, packets_by-own, packets_by-other}
+use Rattle.std.proofs.lemmas.Bool.{ne_eqb}
+use Rattle.port_ends.proofs.Packets.{packets_by-append, packets_by_here, packets_by_past}
 use Rattle.port_ends.proofs.Lawful.{client_at, slice_get-replicate, history-lawful}
 
 -- numbered replies, split in two
@@ -33,18 +33,17 @@ module _ {A : Type 0} where
 
   cut_at : (n : ℕ) (front : List (Reply A)) (reply : Reply A) (behind : List (Reply A)) (answers : List A) → front ++ reply ∷ behind ≡ numbered n answers
       → Cut (n + length front) reply (drop (length front) answers)
-  cut_at n [] reply behind [] e = cc
   cut_at n [] reply behind (a ∷ answers) e =
       let same : reply ≡ record { number = n; answer = a } = cc
       in let answer : a ≡ reply.answer = ap (λ (r : Reply A). r.answer) (sym same)
       in let own : reply ≡ record { number = n; answer = reply.answer } = same ∙ ap (λ x. record { number = n; answer = x }) answer
       in let k : n ≡ n + 0 = omega arith
       in record { rest = answers; first = ap (λ x. x ∷ answers) answer; number = own ∙ ap (λ m. record { number = m; answer = reply.answer }) k }
-  cut_at n (r ∷ front) reply behind [] e = cc
   cut_at n (r ∷ front) reply behind (a ∷ answers) e =
       let less : front ++ reply ∷ behind ≡ numbered (n + 1) answers = cc
       in let m : n + 1 + length front ≡ n + length (r ∷ front) = omega arith
       in subst (λ k. Cut k reply (drop (length front) answers)) m (cut_at (n + 1) front reply behind answers less)
+  cut_at n front reply behind answers e = cc
 
   numbers_behind : (n : ℕ) (front behind : List (Reply A)) (answers : List A) → front ++ behind ≡ numbered n answers
       → behind ≡ numbered (n + length front) (map (λ (r : Reply A). r.answer) behind)
@@ -65,12 +64,12 @@ module _ {X : Type 0} where
   tagged_own : (client : ℕ) (xs : List X) → packets_by client (tag client xs) ≡ xs
   tagged_own client [] = refl
   tagged_own client (x ∷ xs) =
-      packets_by-append client ((client, x) ∷ []) (tag client xs) ∙ simp (packets_by-own client client x refl, tagged_own client xs)
+      packets_by-append client ((client, x) ∷ []) (tag client xs) ∙ simp (packets_by_here (client, x) client [] refl, tagged_own client xs)
 
   tagged_other : (other client : ℕ) (xs : List X) → client ≢ other → packets_by client (tag other xs) ≡ []
   tagged_other other client [] apart = refl
   tagged_other other client (x ∷ xs) apart =
-      packets_by-append client ((other, x) ∷ []) (tag other xs) ∙ simp (packets_by-other other client x apart) (tagged_other other client xs apart)
+      packets_by-append client ((other, x) ∷ []) (tag other xs) ∙ simp (packets_by_past (other, x) client [] (λ e. apart (sym e))) (tagged_other other client xs apart)
 
 -- the events, what they put, serve and take, and that they fit
 module _ {S Q M A : Type 0} (gives : S → Q → M → S → A → Type 0) (has_died : S → Bool) (opening : S) (clients : List (ClientLists Q A)) (served : List (Serving Q M A)) (unanswered : List (ℕ × Q)) (closing : S)
@@ -238,7 +237,7 @@ module _ {S Q M A : Type 0} (gives : S → Q → M → S → A → Type 0) (has_
       simp (all, length-append, length-map)
       in let more : length served ≡ length done + suc (length rest) = ap length is ∙ length-append done (s ∷ rest)
       in let apart : length (served_by before served) ≢ length (accepted_in before) = λ same. absurd (omega (arith, same, ap length front, had, more))
-      in ap (λ b. cond b Idle Served) (sym (eq_false (length (served_by before served)) (length (accepted_in before)) apart))
+      in ap (λ b. cond b Idle Served) (sym (ne_eqb (length (served_by before served)) (length (accepted_in before)) apart))
 
   serves_fit : (before : List (Event Q M A)) (done rest : List (Serving Q M A)) → served ≡ done ++ rest
       → accepted_in before ≡ packets_of served ++ unanswered → served_count before ≡ length done → AllFit before (serves rest)
@@ -272,7 +271,7 @@ module _ {S Q M A : Type 0} (gives : S → Q → M → S → A → Type 0) (has_
   takes_fit before client (reply ∷ replies) left found all is =
       let e : Event Q M A = record { step = Take client; outcome = Taken reply }
       in let none : served_count (before ++ e ∷ []) ≡ served_count before = simp (filter_map-append, append-nil)
-      in let one : packets_by client (taken_in (before ++ e ∷ [])) ≡ packets_by client (taken_in before) ++ reply ∷ [] = simp (filter_map-append, packets_by-append, packets_by-own client client reply refl)
+      in let one : packets_by client (taken_in (before ++ e ∷ [])) ≡ packets_by client (taken_in before) ++ reply ∷ [] = simp (filter_map-append, packets_by-append, packets_by_here (client, reply) client [] refl)
       in (
         take_fits before client reply (replies ++ left) found all is,
         takes_fit (before ++ e ∷ []) client replies left found (omega (arith, all, none))
@@ -371,26 +370,18 @@ module _ {S Q M A : Type 0} (gives : S → Q → M → S → A → Type 0) (has_
   last_at : (place : ℕ) (lists : ClientLists Q A) → slice_get clients place ≡ Some lists → client_state last.clients (place + 1) ≡ Some (last_client lists)
   last_at place lists at = client_at (map last_client clients) place ∙ slice_get-map last_client clients place ∙ ap (option_map last_client) at
 
-  past : {X : Type 0} (xs : List X) (i : ℕ) → slice_get xs i ≡ None → length xs ≤ i
-  past [] i e = omega arith
-  past (x ∷ xs) zero e = absurd (none-some x (sym e))
-  past (x ∷ xs) (suc i) e = let more = past xs i e in omega (arith, more)
-
   abbrev IsCounted : ℕ → Type 0
   IsCounted number = client_state last.clients number ≡ option_map (client_now served events number) (client_state start.clients number)
 
   counted_at : (place : ℕ) → IsCounted (place + 1)
-  counted_at place = go (slice_get clients place) refl
-    where
-      go : (o : Option (ClientLists Q A)) → slice_get clients place ≡ o → IsCounted (place + 1)
-      go (Some lists) at =
-          let within : place < count = slice_get_within clients place lists at
-          in last_at place lists at ∙ ap Some (counted place lists at)
-          ∙ ap (option_map (client_now served events (place + 1))) (sym (fresh_client (place + 1) (omega arith) (omega (arith, within))))
-      go None at =
-          let beyond : length (replicate count fresh) ≤ place = omega (arith, past clients place at, length-replicate count fresh)
-          in client_at (map last_client clients) place ∙ slice_get-map last_client clients place ∙ ap (option_map last_client) at
-          ∙ ap (option_map (client_now served events (place + 1))) (sym (client_at (replicate count fresh) place ∙ slice_get_past (replicate count fresh) place beyond))
+  counted_at place = elim (slice_get_cases clients place).1 [
+    | inl w ↦ last_at place w.0 w.2 ∙ ap Some (counted place w.0 w.2)
+        ∙ ap (option_map (client_now served events (place + 1))) (sym (fresh_client (place + 1) (omega arith) (let within = w.1 in omega arith)))
+    | inr w ↦
+        let beyond : length (replicate count fresh) ≤ place = omega (arith, w.0, length-replicate count fresh)
+        in client_at (map last_client clients) place ∙ slice_get-map last_client clients place ∙ ap (option_map last_client) w.1
+        ∙ ap (option_map (client_now served events (place + 1))) (sym (client_at (replicate count fresh) place ∙ slice_get_past (replicate count fresh) place beyond))
+  ]
 
   all_counted : (number : ℕ) → IsCounted number
   all_counted zero = refl

@@ -1,9 +1,10 @@
 -- A client's replies come in the order of its packets, numbered from the first one not taken.
 use Rattle.std.proofs.Common.{◌≡◌, ℕ, zero, suc, ◌+◌, Bool, List, [], ◌∷◌, ◌++◌, length, take, drop, slice_get, Some, None, MatchOption, sym, ap, subst, ◌∙◌, refl, inl, inr, arith, append_assoc, length-append}
 use Rattle.std.specs.Prelude.{Option}
-use Rattle.std.proofs.lemmas.List.{append-nil, take_all, take-append-drop}
+use Rattle.std.proofs.Math.Seq.{take-add, take-suc}
+use Rattle.std.proofs.lemmas.List.{append-nil, drop-append-le, length-drop, length-take-le, take_all, take-append-drop}
 use Rattle.std.proofs.lemmas.List.Elements.{filter_map-append}
-use Rattle.std.proofs.lemmas.Option.{none-some, same_Some}
+use Rattle.std.proofs.lemmas.Option.{same_Some, slice_get_cases}
 use Rattle.std.proofs.lemmas.Bool.Decides.{eqb_tells}
 use Rattle.port_ends.specs.History.{ClientState, PortState, client_state, Serving, packets_by, Event, events_of, reply_taken, taken_in, taken_count, served_count, server_by, take_outcome, OutcomeFits, PortHistory}
 use Rattle.port_ends.specs.Lawful.{served_by, answers_to, numbered}
@@ -12,36 +13,22 @@ use Rattle.port_ends.specs.declared.step.Step.TheVariants.{Put, Serve, Take}
 use Rattle.port_ends.specs.declared.step.Reply.{Reply}
 use Rattle.port_ends.specs.declared.step.Outcome.{Outcome}
 use Rattle.port_ends.specs.declared.step.Outcome.TheVariants.{Accepted, Refused, Served, Idle, Taken, Nothing, NoClient}
-use Rattle.port_ends.proofs.Serving.{packets_by-append, packets_by-own, packets_by-other, answers_to-append}
+use Rattle.port_ends.proofs.Packets.{packets_by-append, packets_by_here, packets_by_past, answers_to-append}
 
 -- one more element of a list
-pub take-one_more : {X : Type 0} (k : ℕ) (xs : List X) (x : X) (rest : List X) → drop k xs ≡ x ∷ rest → take (suc k) xs ≡ take k xs ++ x ∷ []
-take-one_more zero [] x rest e = cc
-take-one_more zero (y ∷ ys) x rest e = ap (take 1) e
-take-one_more (suc k) [] x rest e = cc
-take-one_more (suc k) (y ∷ ys) x rest e = ap (λ l. y ∷ l) (take-one_more k ys x rest e)
+take-one_more : {X : Type 0} (k : ℕ) (xs : List X) (x : X) (rest : List X) → drop k xs ≡ x ∷ rest → take (suc k) xs ≡ take k xs ++ x ∷ []
+take-one_more k xs x rest e = ap (λ n. take n xs) (omega arith) ∙ (take-add k 1 xs ∙ ap (λ l. take k xs ++ take 1 l) e)
 
-pub take-at : {X : Type 0} (i : ℕ) (xs : List X) (x : X) → slice_get xs i ≡ Some x → take (suc i) xs ≡ take i xs ++ x ∷ []
-take-at i [] x e = absurd (none-some x e)
-take-at zero (y ∷ ys) x e = ap (λ v. v ∷ []) (same_Some y x e)
-take-at (suc i) (y ∷ ys) x e = ap (λ l. y ∷ l) (take-at i ys x e)
-
-pub take-past : {X : Type 0} (i : ℕ) (xs : List X) → slice_get xs i ≡ None → take (suc i) xs ≡ take i xs
-take-past zero [] e = refl
-take-past (suc i) [] e = refl
-take-past zero (y ∷ ys) e = absurd (none-some y (sym e))
-take-past (suc i) (y ∷ ys) e = ap (λ l. y ∷ l) (take-past i ys e)
+within_drop : {X : Type 0} (k : ℕ) (xs : List X) (x : X) (rest : List X) → drop k xs ≡ x ∷ rest → k ≤ length xs
+within_drop k xs x rest e = omega (arith, length-drop k xs, ap length e)
 
 -- the rest of a list is a prefix of the rest of a longer list
-pub drop-longer : {X : Type 0} (k : ℕ) (xs ys : List X) (x : X) (rest : List X) → drop k xs ≡ x ∷ rest → drop k (xs ++ ys) ≡ x ∷ (rest ++ ys)
-drop-longer zero xs ys x rest e = ap (λ l. l ++ ys) e
-drop-longer (suc k) [] ys x rest e = cc
-drop-longer (suc k) (z ∷ zs) ys x rest e = drop-longer k zs ys x rest e
+drop-longer : {X : Type 0} (k : ℕ) (xs ys : List X) (x : X) (rest : List X) → drop k xs ≡ x ∷ rest → drop k (xs ++ ys) ≡ x ∷ (rest ++ ys)
+drop-longer k xs ys x rest e = drop-append-le k xs ys (within_drop k xs x rest e) ∙ ap (λ l. l ++ ys) e
 
-pub length-take_of : {X : Type 0} (k : ℕ) (xs : List X) (x : X) (rest : List X) → drop k xs ≡ x ∷ rest → length (take k xs) ≡ k
-length-take_of zero xs x rest e = refl
-length-take_of (suc k) [] x rest e = cc
-length-take_of (suc k) (z ∷ zs) x rest e = ap suc (length-take_of k zs x rest e)
+pub length-numbered : {A : Type 0} (n : ℕ) (xs : List A) → length (numbered n xs) ≡ length xs
+length-numbered n [] = refl
+length-numbered n (x ∷ xs) = ap suc (length-numbered (n + 1) xs)
 
 -- the numbers continue
 pub numbered-append : {A : Type 0} (n : ℕ) (xs ys : List A) → numbered n (xs ++ ys) ≡ numbered n xs ++ numbered (n + length xs) ys
@@ -78,7 +65,7 @@ module _ {S Q M A : Type 0} (opening : PortState S Q A) (served : List (Serving 
       let k : ℕ = taken_count client before
       in let same : packets_by client (taken_in (before ++ e ∷ [])) ≡ packets_by client (taken_in before) ++ reply ∷ [] = simp (taken-push, one)
       in let count : taken_count client (before ++ e ∷ []) ≡ suc k = omega (arith, ap length same, length-append (packets_by client (taken_in before)) (reply ∷ []))
-      in let number : c.taken + k + 1 ≡ (c.taken + 1) + length (take k replies_for) = omega (arith, length-take_of k replies_for answer rest left)
+      in let number : c.taken + k + 1 ≡ (c.taken + 1) + length (take k replies_for) = omega (arith, length-take-le k replies_for (within_drop k replies_for answer rest left))
       in same ∙ ap (λ l. l ++ reply ∷ []) first
       ∙ ap (λ r. numbered (c.taken + 1) (take k replies_for) ++ r ∷ []) (is_reply ∙ ap (λ n. record { number = n; answer = answer }) number)
       ∙ sym (numbered-append (c.taken + 1) (take k replies_for) (answer ∷ []))
@@ -96,14 +83,6 @@ module _ {S Q M A : Type 0} (opening : PortState S Q A) (served : List (Serving 
 
   took_one_more : (before : List (Event Q M A)) (died : Bool) (step : Step Q M) (outcome : Outcome Q A) → OutcomeFits opening (served_by before served) died before step outcome
       → TookFirst before → TookFirst (before ++ record { step = step; outcome = outcome } ∷ [])
-  took_one_more before died (Put n packet) outcome fits first = took_none before (record { step = Put n packet; outcome = outcome }) refl first
-  took_one_more before died (Serve moment) outcome fits first = took_none before (record { step = Serve moment; outcome = outcome }) refl first
-  took_one_more before died (Take n) (Accepted number) fits first = took_none before (record { step = Take n; outcome = Accepted number }) refl first
-  took_one_more before died (Take n) (Refused refused) fits first = took_none before (record { step = Take n; outcome = Refused refused }) refl first
-  took_one_more before died (Take n) Served fits first = took_none before (record { step = Take n; outcome = Served }) refl first
-  took_one_more before died (Take n) Idle fits first = took_none before (record { step = Take n; outcome = Idle }) refl first
-  took_one_more before died (Take n) Nothing fits first = took_none before (record { step = Take n; outcome = Nothing }) refl first
-  took_one_more before died (Take n) (NoClient packet) fits first = took_none before (record { step = Take n; outcome = NoClient packet }) refl first
   took_one_more before died (Take n) (Taken reply) fits first = elim (eqb_tells client n) [
     | inl w ↦
         let taken : Outcome Q A = Taken reply
@@ -111,22 +90,25 @@ module _ {S Q M A : Type 0} (opening : PortState S Q A) (served : List (Serving 
         in let gave : taken ≡ take_outcome (c.taken + taken_count client before) (drop (taken_count client before) (c.untaken ++ answers_to client (served_by before served))) =
         subst (λ o. MatchOption o (taken ≡ NoClient None) (λ d. taken ≡ take_outcome (d.taken + taken_count client before) (drop (taken_count client before) (d.untaken ++ answers_to client (served_by before served))))) found mine
         in let next = taken-first (c.taken + taken_count client before) (drop (taken_count client before) (c.untaken ++ answers_to client (served_by before served))) reply gave
-        in took_next before (record { step = Take n; outcome = Taken reply }) reply next.0 (next.1 ++ answers_to client (drop (served_count before) served)) (packets_by-own n client reply w.1)
+        in took_next before (record { step = Take n; outcome = Taken reply }) reply next.0 (next.1 ++ answers_to client (drop (served_count before) served)) (packets_by_here (n, reply) client [] (sym w.1))
         (left_of_all before (taken_count client before) next.0 next.1 next.2) next.3 first
-    | inr w ↦ took_none before (record { step = Take n; outcome = Taken reply }) (packets_by-other n client reply w.1) first
+    | inr w ↦ took_none before (record { step = Take n; outcome = Taken reply }) (packets_by_past (n, reply) client [] (λ e. w.1 (sym e))) first
   ]
+  took_one_more before died step outcome fits first = took_none before (record { step = step; outcome = outcome }) refl first
 
 module _ {S Q M A : Type 0} (gives : S → Q → M → S → A → Type 0) (has_died : S → Bool) (opening : PortState S Q A) (steps : List (Step Q M)) (outcomes : List (Outcome Q A)) (closing : PortState S Q A) (h : PortHistory gives has_died opening steps outcomes closing)
     (client : ℕ) (c : ClientState A) (found : client_state opening.clients client ≡ Some c) where
-  took_first_by : (i : ℕ) → TookFirst opening h.served client c found (take i (events_of steps outcomes))
+  abbrev es : List (Event Q M A)
+  es = events_of steps outcomes
+
+  took_first_by : (i : ℕ) → TookFirst opening h.served client c found (take i es)
   took_first_by zero = refl
-  took_first_by (suc i) = go (slice_get (events_of steps outcomes) i) refl (took_first_by i)
-    where
-      go : (o : Option (Event Q M A)) → slice_get (events_of steps outcomes) i ≡ o → TookFirst opening h.served client c found (take i (events_of steps outcomes)) → TookFirst opening h.served client c found (take (suc i) (events_of steps outcomes))
-      go None at_i first = subst (TookFirst opening h.served client c found) (sym (take-past i (events_of steps outcomes) at_i)) first
-      go (Some e) at_i first = subst (TookFirst opening h.served client c found) (sym (take-at i (events_of steps outcomes) e at_i))
-          (took_one_more opening h.served client c found (take i (events_of steps outcomes)) (has_died (server_by (take i (events_of steps outcomes)) opening.server h.servers)) e.step e.outcome (h.fits i e at_i) first)
+  took_first_by (suc i) = elim (slice_get_cases es i).1 [
+    | inl w ↦ subst (TookFirst opening h.served client c found) (sym (take-suc es i w.0 w.1 ∙ ap (λ e. take i es ++ e ∷ []) w.3))
+        (took_one_more opening h.served client c found (take i es) (has_died (server_by (take i es) opening.server h.servers)) w.0.step w.0.outcome (h.fits i w.0 w.2) (took_first_by i))
+    | inr w ↦ subst (TookFirst opening h.served client c found) (take_all i es w.0 ∙ sym (take_all (suc i) es (let far = w.0 in omega arith))) (took_first_by i)
+  ]
 
   -- the replies that a client took in a history are the first ones for it
-  pub took_first : TookFirst opening h.served client c found (events_of steps outcomes)
-  took_first = subst (TookFirst opening h.served client c found) (take_all (length (events_of steps outcomes)) (events_of steps outcomes) (omega arith)) (took_first_by (length (events_of steps outcomes)))
+  pub took_first : TookFirst opening h.served client c found es
+  took_first = subst (TookFirst opening h.served client c found) (take_all (length es) es (omega arith)) (took_first_by (length es))

@@ -1,23 +1,31 @@
 -- Runs of a server, one after another.
-use Rattle.std.proofs.Common.{◌≡◌, Bool, true, false, List, [], ◌∷◌, ◌++◌, sym, refl, subst, ap, ◌∙◌}
+use Rattle.std.proofs.Common.{◌≡◌, Bool, true, false, List, [], ◌∷◌, ◌++◌, length, suc, sym, refl, subst, ap, ◌∙◌}
 use Rattle.std.proofs.lemmas.List.{map-append}
 use Rattle.port_ends.specs.declared.desk.Entry.{Entry}
 use Rattle.port_ends.specs.History.{Serving, Run, last_server}
 use Rattle.port_ends.specs.Lawful.{MeaningRun, AllAt}
 use Rattle.port_ends.specs.steps.Entries.{served_of}
-use Rattle.port_ends.proofs.Serving.{last_server-append}
 
 -- a server that is alive later was alive before
 pub still_alive : (a b : Bool) → (a ≡ true → b ≡ true) → b ≡ false → a ≡ b
 still_alive true b h e = sym (h refl)
 still_alive false b h e = sym e
 
+pub last_server-append : {S : Type 0} (old : S) (servers after : List S) → last_server old (servers ++ after) ≡ last_server (last_server old servers) after
+last_server-append old [] after = refl
+last_server-append old (n ∷ ns) after = last_server-append n ns after
+
 module _ {S Q M A : Type 0} (gives : S → Q → M → S → A → Type 0) where
-  run_append : (s : S) (xs ys : List (Serving Q M A)) (ts us : List S) → Run gives s xs ts → Run gives (last_server s ts) ys us → Run gives s (xs ++ ys) (ts ++ us)
-  run_append s [] ys [] us h g = g
-  run_append s [] ys (t ∷ ts) us h g = absurd h
-  run_append s (x ∷ xs) ys [] us h g = absurd h
-  run_append s (x ∷ xs) ys (t ∷ ts) us h g = (h.0, run_append t xs ys ts us h.1 g)
+  pub run-length : (old : S) (served : List (Serving Q M A)) (servers : List S) → Run gives old served servers → length servers ≡ length served
+  run-length old [] [] r = refl
+  run-length old (s ∷ ss) (n ∷ ns) r = ap suc (run-length n ss ns r.1)
+  run-length old served servers r = absurd r
+
+  pub run-append : (old : S) (served more : List (Serving Q M A)) (servers after : List S)
+      → Run gives old served servers → Run gives (last_server old servers) more after → Run gives old (served ++ more) (servers ++ after)
+  run-append old [] more [] after r q = q
+  run-append old (s ∷ ss) more (n ∷ ns) after r q = (r.0, run-append n ss more ns after r.1 q)
+  run-append old served more servers after r q = absurd r
 
   pub meaning_none : (s : S) → MeaningRun gives s [] s
   meaning_none s = ([], tt, refl)
@@ -28,7 +36,7 @@ module _ {S Q M A : Type 0} (gives : S → Q → M → S → A → Type 0) where
   pub meaning_append : (s t u : S) (xs ys : List (Serving Q M A)) → MeaningRun gives s xs t → MeaningRun gives t ys u → MeaningRun gives s (xs ++ ys) u
   meaning_append s t u xs ys h g = (
     h.0 ++ g.0,
-    run_append s xs ys h.0 g.0 h.1 (subst (λ (v : S). Run gives v ys g.0) (sym h.2) g.1),
+    run-append s xs ys h.0 g.0 h.1 (subst (λ (v : S). Run gives v ys g.0) (sym h.2) g.1),
     last_server-append s h.0 g.0 ∙ (ap (λ (v : S). last_server v g.0) h.2 ∙ g.2),
   )
 

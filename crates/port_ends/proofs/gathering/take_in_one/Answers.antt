@@ -5,17 +5,10 @@ use Rattle.port_ends.specs.steps.Rooms.{Left}
 use Rattle.port_ends.specs.Rings.{all_of}
 use Rattle.port_ends.proofs.gathering.take_in_one.Goals as goal
 
-pub leave-end-requires-clause-ring : goal.leave-end-requires-clause-ring
-leave-end-requires-clause-ring g c =
-    (c.requires.room _ _ (at_place _ _ _ c.requires.places.0 c.index_mut-outlet.ensures.value) (at_place _ _ _ c.requires.places.1 c.index_mut-room.ensures.value)).1.0
-
-pub leave-end-requires-clause-room : goal.leave-end-requires-clause-room
-leave-end-requires-clause-room g c =
-    (c.requires.room _ _ (at_place _ _ _ c.requires.places.0 c.index_mut-outlet.ensures.value) (at_place _ _ _ c.requires.places.1 c.index_mut-room.ensures.value)).0
-
-pub leave-end-requires-clause-numbers : goal.leave-end-requires-clause-numbers
-leave-end-requires-clause-numbers g c =
-    (c.requires.room _ _ (at_place _ _ _ c.requires.places.0 c.index_mut-outlet.ensures.value) (at_place _ _ _ c.requires.places.1 c.index_mut-room.ensures.value)).1.1
+pub leave-end-requires : goal.leave-end-requires
+leave-end-requires g c =
+    let fits = c.requires.room _ _ (at_place _ _ _ c.requires.places.0 c.index_mut-outlet.ensures.value) (at_place _ _ _ c.requires.places.1 c.index_mut-room.ensures.value) in
+    record { ring = fits.1.0; room = fits.0; numbers = fits.1.1 }
 
 pub returns-clause-outlets : goal.returns-clause-outlets
 returns-clause-outlets g c = same_but_set _ _ _

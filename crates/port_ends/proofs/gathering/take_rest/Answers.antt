@@ -3,11 +3,11 @@ use Rattle.port_ends.specs.Ends.{OfClients}
 use Rattle.port_ends.specs.steps.Rule.{ArePutLists}
 use Rattle.port_ends.proofs.gathering.take_rest.Goals as goal
 
-pub returns-in-None-take-clause-order : goal.returns-in-None-take-clause-order
-returns-in-None-take-clause-order g c = c.in-None-take.ensures.none.0 ∙ c.loop.invariant.queue
-
-pub returns-in-None-take-clause-clients : goal.returns-in-None-take-clause-clients
-returns-in-None-take-clause-clients g c = let n = c.in-None-take.ensures.none in subst (λ q. OfClients q.clients q.taken) (sym n.0) n.1
-
-pub returns-in-None-take-clause-puts : goal.returns-in-None-take-clause-puts
-returns-in-None-take-clause-puts g c = let n = c.in-None-take.ensures.none in subst (λ q. ArePutLists q.known q.taken) (sym n.0) n.2
+pub returns-in-None-take : goal.returns-in-None-take
+returns-in-None-take g c =
+    let none = c.in-None-take.ensures.none in
+    record {
+      order = none.0 ∙ c.loop.invariant.queue;
+      clients = subst (λ q. OfClients q.clients q.taken) (sym none.0) none.1;
+      puts = subst (λ q. ArePutLists q.known q.taken) (sym none.0) none.2;
+    }

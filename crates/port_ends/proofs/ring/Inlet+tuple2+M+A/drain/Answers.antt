@@ -1,8 +1,10 @@
 use Rattle.std.proofs.Common.{arith, ◌∙◌, ap, sym, ◌++◌, ◌+◌, ◌≡◌, length}
+use Rattle.std.proofs.lemmas.List.{length-map}
 use Rattle.rtrb.specs.Ring.{known_items}
 use Rattle.port_ends.specs.Lawful.{numbered}
 use Rattle.port_ends.specs.Gathering.{answers}
-use Rattle.port_ends.proofs.Drains.{drained, same_rest, length-numbered}
+use Rattle.port_ends.proofs.Drains.{drained, same_rest}
+use Rattle.port_ends.proofs.Replies.{length-numbered}
 use Rattle.port_ends.proofs.ring.Inlet+tuple2+M+A.drain.Goals as goal
 
 pub drain_list-requires-clause-room : goal.drain_list-requires-clause-room
@@ -15,7 +17,7 @@ drain_list-requires-clause-room g c =
     let room = c.requires.room.2 in
     let waits = ap (λ v. length v.waiting) c.outlet.view_is in
     let items = ap (λ l. length l) (c.drain_ring.ensures.items ∙ ap (λ l. l ++ numbered (c.args.count + 1) (answers known)) c.requires.empty) in
-    let len = length-numbered (c.args.count + 1) known in
+    let len = length-numbered (c.args.count + 1) (answers known) ∙ length-map known (λ r. r.1) in
     let cap = c.drain_ring.ensures.room in
     let ok = c.drain_ring.new.into.ok in
     omega arith
