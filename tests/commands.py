@@ -868,6 +868,26 @@ def closed_input(tried: Commands) -> None:
     tried.rows(row("add - of an empty input", "add --as empty kept.adf -"), row("print of it", "print kept.adf empty"))
 
 
+def images_from_input(tried: Commands) -> None:
+    """`-` is standard input as the image of a command that reads one, from a pipe or from a file; `./-` is a file."""
+    tried.rows(row("an image for standard input", "blank --ffs Piped piped.adf"), row("a directory in it", f"mkdir {AT} piped.adf d"))
+    image = tried.content("piped.adf")
+    for words in ("info IMAGE", "check IMAGE", "list IMAGE", "show IMAGE", "map IMAGE", "where IMAGE 880", "boot --show IMAGE", "extract --damaged --list IMAGE"):
+        wanted = tried.run(*words.replace("IMAGE", "piped.adf").split())
+        for kind, of in (("a pipe", {"input": image}), ("a file", {"before": redirected(os.open("piped.adf", os.O_RDONLY), 0)})):
+            ran = tried.run(*words.replace("IMAGE", "-").split(), **of)
+            tried.report.same(f"{words} with {kind} as standard input", (ran.status, ran.output), (wanted.status, wanted.output))
+    tried.report.check("the first blocks of a pipe", tried.run("check", "--blocks", "1760", "-", input=image + b"more"), 0, b"ok\n")
+    tried.report.check("a pipe with half a block more", tried.run("check", "-", input=image + bytes(256)), 3, b"refused NotWholeBlocks 0\n", "its bytes are no whole number of blocks")
+    tried.report.check("a refused image from a pipe", tried.run("info", "-", input=poked(image, 880, 100, b"\1")), 3, b"refused BadSum 880\n")
+    tried.report.check("standard input without bytes", tried.run("list", "-"), 3, b"refused TooFewBlocks 0\n")
+    tried.report.check("a closed standard input", tried.run("list", "-", before=partial(os.close, 0)), 2, b"", "cannot read '-'")
+    tried.write("-", image)
+    tried.rows(row("a file of that name", "check ./-", 0, "ok\n"))
+    tried.report.check("not the file of that name", tried.run("check", "-", input=bytes(512)), 3, b"refused TooFewBlocks 0\n", "its bytes are too few")
+    os.remove("-")
+
+
 # Words that are no commands, and are like harmless ones, or like `delete`, `blank` and `boot`.
 LIKE_COMMANDS = [
     *("select", "release", "complete", "create", "remove", "erase", "format", "black", "bank", "plank", "lank", "root", "book", "bot"),
@@ -1116,6 +1136,29 @@ def boot_options(tried: Commands) -> None:
 
 
 # ---- Files that cannot be used ----
+
+
+# The commands that only read an image, on a directory `d` and a file `f` in it.
+READERS = [
+    *("info IMAGE", "show IMAGE", "map IMAGE", "where IMAGE 880", "where --path d IMAGE", "check IMAGE", "list IMAGE", "print IMAGE f"),
+    *("extract --to held.out IMAGE", "extract --bundle held.bundle IMAGE", "extract --damaged --list IMAGE", "undelete --list IMAGE", "serve IMAGE write"),
+]
+
+
+def readers_of_held_images(tried: Commands) -> None:
+    """Each command that only reads an image says so if another one has it locked, and does its work."""
+    tried.rows(row("an image to be held", "blank --ffs Work held.adf"), row("a directory in it", f"mkdir {AT} held.adf d"), row("a file in it", "add --as f held.adf -"))
+    with open("held.adf", "rb") as held:
+        fcntl.flock(held, fcntl.LOCK_EX)
+        for words in READERS:
+            ran = tried.run(*words.replace("IMAGE", "held.adf").split())
+            told = ran.texts.count(b"'held.adf' is mounted or being changed: the state saved last is read")
+            tried.report.expect(f"{words} of an image that is held", ran.status == 0 and told == 1, ran)
+        for words in ("mkdir IMAGE x", "validate IMAGE", "boot IMAGE", "add IMAGE write"):
+            ran = tried.run(*words.replace("IMAGE", "held.adf").split())
+            tried.report.expect(f"{words} of an image that is held", ran.status == 2 and b"state saved last" not in ran.texts and HELD.encode() in ran.texts, ran)
+    for name in ("held.out", "held.bundle"):
+        shutil.rmtree(name)
 
 
 def held_images(tried: Commands) -> None:
@@ -1756,10 +1799,10 @@ PARTS: List[Callable[[Commands], None]] = [
     *(blank_images, moments, written_moments, wrong_words, wrong_numbers, wrong_dates),
     *(wrong_words_for_files, words_too_many_and_wrong_letters, refused_names),
     *(tips, clients, faulty_scripts, explained_lines, at_a_terminal, turns, growths, many_clients),
-    *(directories, directories_on_the_way, files_under_names, closed_input, refused_changes, changes_beside, precious_files),
+    *(directories, directories_on_the_way, files_under_names, closed_input, images_from_input, refused_changes, changes_beside, precious_files),
     *(named_entries, protect_words, boot_blocks),
     *(standard_boot, shown_boots, saved_boots, boot_options),
-    *(held_images, missing_files, denied_files, first_faults),
+    *(held_images, readers_of_held_images, missing_files, denied_files, first_faults),
     *(accepted_images, forms_of_lists, refused_images, stale_image, refused_output),
     *(shown_volumes, refused_shows, bold_letters, sorted_lists),
     *(first_blocks, first_blocks_of_several, changed_first_blocks, wrong_first_blocks, missing_blocks),

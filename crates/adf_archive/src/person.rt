@@ -6,7 +6,7 @@ use crate::report::{ImageReport, RefusedImage, WhyNot};
 use crate::telling::Form;
 use adf_block::layout::BLOCK_BYTES;
 use adf_block::{Image, MOST_BYTES, SizeFault};
-use adf_host::why_no_image;
+use adf_host::{input_path, why_no_image};
 use adf_io::read_bounded;
 use adf_record::Grouped;
 use adf_text::print_line;
@@ -285,7 +285,7 @@ fn front_of<R: Files>(rt: &R, alloc: Global, path: &str, length: u64) -> Vec<u8>
     } else {
         MOST_BYTES
     };
-    let Ok(mut file) = fs::open(rt, path) else {
+    let Ok(mut file) = fs::open(rt, input_path(path)) else {
         return Vec::new(alloc);
     };
     match read_bounded(alloc, &mut file, most) {
@@ -296,7 +296,7 @@ fn front_of<R: Files>(rt: &R, alloc: Global, path: &str, length: u64) -> Vec<u8>
 
 /// The length of a regular file. Anything else, as a pipe, may be read only once.
 pub(crate) fn regular_length<R: Files>(rt: &R, path: &str) -> Option<u64> {
-    match fs::metadata(rt, path) {
+    match fs::metadata(rt, input_path(path)) {
         Ok(found) if found.is_file() => Some(found.len()),
         _ => None,
     }

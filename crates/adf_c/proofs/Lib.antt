@@ -1,4 +1,5 @@
--- The memory that a handle or a salvage owns, the result of a call by those of its parts, the blocks that differ, and read-only handles.
+-- The memory that a handle or a salvage owns, the result of a call by those of its parts, the blocks that differ, read-only handles, and
+-- calls one after another.
 pub mod Values
 pub mod HandleValues
 pub mod HandleWalks
@@ -7,3 +8,4 @@ pub mod Coming
 pub mod Changing
 pub mod Guarding
 pub mod Saving
+pub mod History

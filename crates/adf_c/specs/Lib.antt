@@ -1,5 +1,5 @@
--- The contracts of the exports: what a handle owns, the packets and answers for C's structs, and the result of each
--- call. Definitions for the packets with texts are in `steps`.
+-- The contracts of the exports: what a handle owns, the packets and answers for C's structs, the result of each
+-- call, and what a list of calls amounts to. Definitions for the packets with texts are in `steps`.
 pub mod Holding
 pub mod ReadOnly
 pub mod Desk
@@ -8,4 +8,5 @@ pub mod Calls
 pub mod Changed
 pub mod Map
 pub mod Salvaging
+pub mod History
 pub mod steps

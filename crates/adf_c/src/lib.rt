@@ -10,6 +10,7 @@ pub mod desk;
 pub mod faults;
 pub mod handle;
 pub mod image;
+pub mod laws;
 pub mod loose;
 pub mod map;
 pub mod names;

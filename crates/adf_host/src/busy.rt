@@ -1,4 +1,5 @@
 //! Whether another command or a mount works on an image file.
+use crate::standard::input_path;
 use std::fs::{self, File, TryLockError};
 use std::rt::Files;
 
@@ -7,6 +8,7 @@ use std::rt::Files;
 /// A path that leads to no file, or to one that cannot be read, is not locked.
 pub fn is_held<R: Files<File = File>>(rt: &R, path: &str) -> bool {
     // A pipe can be read only once. It is not opened here.
+    let path = input_path(path);
     if !fs::metadata(rt, path).is_ok_and(|found| found.is_file()) {
         return false;
     }

@@ -4,9 +4,10 @@ ghost use Rattle.adf_host.specs.Images.{IsImageLength};
 ghost use Rattle.adf_io.specs.Loaded.{ReadsFilled, ReadsLoaded};
 ghost use Rattle.adf_block.specs.Size.{IsSizeFault};
 
+use crate::standard::input_path;
 use adf_block::layout::{BLOCK_BYTES, FEWEST_BLOCKS, MOST_BLOCKS};
 use adf_block::{MOST_BYTES, SizeFault, SizeRefused};
-use adf_io::{Filled, LoadFault, Loaded, load_filled, load_front};
+use adf_io::{Filled, LoadFault, Loaded, load_filled, load_front, load_image};
 use ados_check::whole_pages;
 use std::alloc::Global;
 use std::fs;
@@ -35,7 +36,7 @@ pub fn size_fault(length: u64) -> Option<SizeFault>
 const LARGE: usize = 524_288;
 
 /// Reads the image of an open file: its first `blocks` blocks, or without a number all of it. A regular file of a wrong length
-/// is refused by its length, and not read.
+/// is refused by its length, and not read. Of a pipe no length is known.
 pub(crate) fn read_open<F: Read + OpenFile>(
     alloc: Global,
     file: &mut F,
@@ -43,19 +44,32 @@ pub(crate) fn read_open<F: Read + OpenFile>(
 ) -> Result<Loaded, LoadFault>
     ensures { IfOk result (ReadsLoaded blocks (F.remaining file.old) (F.remaining file.new)) }
 {
-    let room = room_for(alloc, file, blocks.is_none())?;
-    load_front(alloc, file, room, blocks)
+    match (room_for(alloc, file, blocks.is_none())?, blocks) {
+        (None, None) => {
+            let image = load_image(alloc, file)?;
+            Ok(Loaded {
+                image,
+                behind: Vec::new(alloc),
+            })
+        }
+        (room, blocks) => load_front(alloc, file, room.unwrap_or(0), blocks),
+    }
 }
 
-/// The room for the bytes of an open file; 0 if they are not known. All of it is the image, or only some of its first blocks.
-fn room_for<F: OpenFile>(alloc: Global, file: &F, is_whole: bool) -> Result<usize, LoadFault> {
+/// The room for the bytes of an open file; `None` if they are not known. All of it is the image, or only some of its first
+/// blocks.
+fn room_for<F: OpenFile>(
+    alloc: Global,
+    file: &F,
+    is_whole: bool,
+) -> Result<Option<usize>, LoadFault> {
     let length = match file.metadata() {
         Ok(found) if found.is_file() => found.len(),
-        _ => return Ok(0),
+        _ => return Ok(None),
     };
     match length_fault(length, is_whole) {
         // With room for one more byte the end is reached before the memory is full.
-        None => Ok(whole_pages((length as usize).saturating_add(1), LARGE)),
+        None => Ok(Some(whole_pages((length as usize).saturating_add(1), LARGE))),
         Some(fault) => Err(LoadFault::Size(SizeRefused {
             fault,
             bytes: Vec::new(alloc),
@@ -76,13 +90,14 @@ fn length_fault(length: u64, is_whole: bool) -> Option<SizeFault>
 }
 
 /// Reads the image of a file, even if a command has locked the file: its first `blocks` blocks, or without a number all of it.
+/// The path `-` is standard input.
 pub fn read_image_file<R: Files>(
     rt: &R,
     alloc: Global,
     path: &str,
     blocks: Option<u32>,
 ) -> Result<Loaded, LoadFault> {
-    match fs::open(rt, path) {
+    match fs::open(rt, input_path(path)) {
         Ok(mut file) => read_open(alloc, &mut file, blocks),
         Err(_) => Err(LoadFault::Read),
     }
@@ -95,7 +110,7 @@ pub fn read_filled_file<R: Files>(
     path: &str,
     blocks: u32,
 ) -> Result<Filled, LoadFault> {
-    match fs::open(rt, path) {
+    match fs::open(rt, input_path(path)) {
         Ok(mut file) => read_filled(alloc, &mut file, blocks),
         Err(_) => Err(LoadFault::Read),
     }
@@ -109,6 +124,6 @@ fn read_filled<F: Read + OpenFile>(
 ) -> Result<Filled, LoadFault>
     ensures { IfOk result (ReadsFilled blocks (F.remaining file.old) (F.remaining file.new)) }
 {
-    let room = room_for(alloc, file, false)?;
+    let room = room_for(alloc, file, false)?.unwrap_or(0);
     load_filled(alloc, file, room, blocks)
 }

@@ -7,6 +7,7 @@ ghost use Rattle.adf_io.specs.Load.{ReadsAll};
 ghost use Rattle.adf_host.specs.Sketched.{ReadsBlocks};
 
 use crate::image_file::size_fault;
+use crate::standard::input_path;
 use adf_block::layout::BLOCK_BYTES;
 use adf_io::{InputFault, read_some};
 use ados_check::Sketch;
@@ -84,6 +85,7 @@ pub fn sketch_image_file<R: Files>(rt: &R, alloc: Global, path: &str) -> Option<
     ensures { IfSome result (λ sketch. IsSize (block_count sketch)) }
 {
     // A pipe can be read only once. It is not opened here, but left to the caller that reads it whole.
+    let path = input_path(path);
     if !fs::metadata(rt, path).ok()?.is_file() {
         return None;
     }

@@ -1,4 +1,5 @@
 //! Why a file of the host cannot be read.
+use crate::standard::input_path;
 use adf_block::layout::BLOCK_BYTES;
 use std::fs;
 use std::io::{Error, ErrorKind};
@@ -71,6 +72,7 @@ pub fn why_unreadable<R: Files>(rt: &R, path: &str) -> ReadReason {
 /// Why no image was read from the file at a path: of its first `blocks` blocks, or without a number of all of it. To be called
 /// after a failed read, as [`why_unreadable`].
 pub fn why_no_image<R: Files>(rt: &R, path: &str, blocks: Option<u32>) -> ReadReason {
+    let path = input_path(path);
     match (why_unreadable(rt, path), blocks) {
         (ReadReason::Read, Some(blocks)) => why_no_blocks(rt, path, blocks),
         (reason, _) => reason,

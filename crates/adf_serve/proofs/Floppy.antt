@@ -6,7 +6,7 @@ use Rattle.ados_name.specs.Name.{IsName, IsNameByte}
 use Rattle.ados_model.specs.Blank.{IsBlank, blank_tree}
 use Rattle.ados_model.specs.Stands.{Stands}
 use Rattle.ados_model.proofs.Blank.{blank_stands}
-use Rattle.adf_serve.specs.Texts.{first_moment}
+use Rattle.adf_serve.specs.Script.{first_moment}
 
 letter : (c : ℕ) → c < 256 → 58 < c → IsNameByte c
 letter c byte above = record { byte = byte; no_slash = λ e. omega (arith, above, e); no_colon = λ e. omega (arith, above, e) }

@@ -1,5 +1,6 @@
--- Lemmas about the blank floppy, about the output of a script over it, and about the output for an image.
+-- Lemmas about the blank floppy, the output of a script over it, the answer that a command takes, and the output for an image.
 pub mod Floppy
 pub mod Telling
 pub mod Printing
 pub mod Bitmaps
+pub mod Asked

@@ -18,8 +18,7 @@ use Rattle.adf_script.specs.Streams.{ReadsAndWrites}
 use Rattle.adf_script.specs.Text.{fault_line}
 use Rattle.adf_script.specs.Told.{LinesTell, Told}
 use Rattle.adf_script.specs.Told.LinesTell.{ended, answered, closed, faulty}
-use Rattle.adf_serve.specs.Texts.{first_moment}
-use Rattle.adf_serve.specs.Script.{RunsScript, TellsScript, work_floppy}
+use Rattle.adf_serve.specs.Script.{RunsScript, TellsScript, first_moment, work_floppy}
 use Rattle.std.proofs.KnownBytes.{Keeps-refl}
 use Rattle.std.proofs.lemmas.List.{append-nil}
 use Rattle.adf_io.specs.Front.{ReadsFront}

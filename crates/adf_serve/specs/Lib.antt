@@ -2,6 +2,7 @@
 -- of their faults, the boot blocks that they install, and how they and a command line end.
 pub mod Script
 pub mod Texts
+pub mod Asked
 pub mod Refusals
 pub mod Explained
 pub mod Faults

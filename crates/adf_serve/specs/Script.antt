@@ -2,13 +2,17 @@
 use Rattle.std.specs.Prelude.{ℕ, Bool, List, Option, codes}
 use Rattle.adf_block.specs.declared.layout.Format.TheVariants.{Ffs}
 use Rattle.ados_model.specs.Blank.{blank_tree}
+use Rattle.ados_name.specs.declared.stamp.Date3.{Date3}
 use Rattle.ados_port.specs.History.{opening_port}
 use Rattle.ados_model.specs.Session.{opening_session}
 use Rattle.ados_run.specs.TreePort.{TreeState, means, tree_died}
 use Rattle.adf_script.specs.Streams.{ReadsAndWrites}
 use Rattle.adf_io.specs.Prefix.{Writes}
 use Rattle.adf_script.specs.Told.{Told}
-use Rattle.adf_serve.specs.Texts.{first_moment}
+
+-- 1 January 1978
+abbrev pub first_moment : Date3
+first_moment = record { days = 0; minutes = 0; ticks = 0 }
 
 -- a blank double-density FFS floppy with the name `Work`, made at the first time stamp, without locks and handles
 abbrev pub work_floppy : TreeState

@@ -1,6 +1,5 @@
 -- The output of commands for an image, by its bytes.
 use Rattle.std.specs.Prelude.{◌≡◌, ℕ, pos, Bool, true, false, List, [], Option, Some, None, map, option_map}
-use Rattle.ados_name.specs.declared.stamp.Date3.{Date3}
 use Rattle.ados_model.specs.Packet.{dos_true}
 use Rattle.ados_model.specs.Actions.{action_number}
 use Rattle.ados_model.specs.declared.action.Action.TheVariants.{DiskInfo}
@@ -34,10 +33,6 @@ use Rattle.adf_serve.specs.declared.query.Query.TheVariants as queries
 use Rattle.ados_mend.specs.BlockMap.{IsMap}
 use Rattle.ados_mend.specs.Said.{validated_line}
 use Rattle.ados_mend.specs.Validated.{IsValidated, free_only_in}
-
--- 1 January 1978
-abbrev pub first_moment : Date3
-first_moment = record { days = 0; minutes = 0; ticks = 0 }
 
 -- a text for an accepted image: by whether its bitmap was rebuilt, by the checked image, and by its tree
 abbrev pub OfAccepted : (Bool → List ℕ → Tree → List ℕ → Type 0) → List ℕ → List ℕ → Type 0

@@ -12,17 +12,36 @@ pub(crate) fn tell_job<R: Files<File = File>, F: Write>(
     job: &ImageJob<'_>,
     faults: &mut F,
 ) {
+    if !only_reads(job) {
+        return;
+    }
+    if let Some(image) = job.image() {
+        tell_held(rt, image.path, faults);
+    }
+}
+
+/// Whether a job reads an image file without a lock on it.
+fn only_reads(job: &ImageJob<'_>) -> bool {
     match job {
-        ImageJob::Info { file } => tell_held(rt, file.path, faults),
-        ImageJob::Show { image, .. } => tell_held(rt, image.path, faults),
-        ImageJob::Map { image, .. } => tell_held(rt, image.path, faults),
-        ImageJob::List(job) => tell_held(rt, job.image.path, faults),
-        ImageJob::Print { image, .. } => tell_held(rt, image.path, faults),
-        ImageJob::Extract(job) => tell_held(rt, job.image.path, faults),
-        ImageJob::Salvage(job) => tell_held(rt, job.image.path, faults),
-        ImageJob::ExtractBundle { image, .. } => tell_held(rt, image.path, faults),
-        ImageJob::SaveBoot { image, .. } => tell_held(rt, image.path, faults),
-        ImageJob::ShowBoot { image } => tell_held(rt, image.path, faults),
-        _ => {}
+        ImageJob::Blank { .. }
+        | ImageJob::Check(_)
+        | ImageJob::Change(_)
+        | ImageJob::AddBundle { .. }
+        | ImageJob::Validate { .. }
+        | ImageJob::Boot { .. } => false,
+        ImageJob::Info { .. }
+        | ImageJob::Show { .. }
+        | ImageJob::Map { .. }
+        | ImageJob::Where(_)
+        | ImageJob::WherePath { .. }
+        | ImageJob::List(_)
+        | ImageJob::Extract(_)
+        | ImageJob::Salvage(_)
+        | ImageJob::Undelete(_)
+        | ImageJob::ExtractBundle { .. }
+        | ImageJob::Print { .. }
+        | ImageJob::SaveBoot { .. }
+        | ImageJob::ShowBoot { .. }
+        | ImageJob::Serve(_) => true,
     }
 }

@@ -3,8 +3,7 @@ ghost use Rattle.std.specs.Prelude.{◌≡◌, true, false, codes, IfOk, OnOk};
 ghost use Rattle.adf_block.specs.declared.layout.Format.TheVariants.{Ffs};
 ghost use Rattle.ados_model.specs.Blank.{IsBlank};
 ghost use Rattle.ados_model.specs.Session.{opening_session};
-ghost use Rattle.adf_serve.specs.Texts.{first_moment};
-ghost use Rattle.adf_serve.specs.Script.{RunsScript, TellsScript};
+ghost use Rattle.adf_serve.specs.Script.{RunsScript, TellsScript, first_moment};
 
 use crate::info::FIRST_MOMENT;
 use adf_block::Format;

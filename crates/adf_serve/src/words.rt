@@ -7,7 +7,7 @@ use crate::held::tell_job;
 use crate::jobs::run_job;
 use crate::output::end_job;
 use crate::screen::Screen;
-use crate::script::{faulty_number, run_bytes};
+use crate::script::{faulty_number, try_script};
 use adf_archive::ReadImages;
 use adf_import::StandardInput;
 use adf_script::{TryFault, read_script};
@@ -128,7 +128,8 @@ fn run_script<R: Read, W: Write, F: Write>(
             return 2;
         }
     };
-    match run_bytes(alloc, &script, writer) {
+    let mut lines = script.as_slice();
+    match try_script(alloc, &mut lines, writer) {
         Ok(()) => 0,
         Err(TryFault::Script) => {
             if let Some(number) = faulty_number(alloc, &script) {

@@ -22,9 +22,9 @@ pub use Rattle.ados_port.specs.Reply.{Reply}
 pub use Rattle.ados_port.specs.Step.{Step}
 pub use Rattle.ados_run.specs.Asking.{Replied, Rests, StoppedBy, stop_ending, stop_line}
 pub use Rattle.ados_run.specs.Keeping.{KeepsServed, KeepsVolume, ServesBoth}
-pub use Rattle.ados_run.specs.Opened.{IsTooLate, SaysValid, port_over}
-pub use Rattle.ados_run.specs.Runs.{BothSides, FollowsTree, HandlerPort, MeansBoth, PacketOutcomes, PacketSteps, RestsAfter, RunsVolume, RunsWith, handler_after, handler_over, port_beside}
+pub use Rattle.ados_run.specs.Runs.{BothSides, FollowsTree, HandlerPort, MeansBoth, PacketOutcomes, PacketSteps, RestsAfter, RunsVolume, RunsWith, handler_after, port_beside}
 pub use Rattle.ados_run.specs.Scripts.{AreUnused, EachTells, IsUnused, Tells}
+pub use Rattle.ados_run.specs.ServesVolume.{handler_over}
 pub use Rattle.ados_run.specs.TreeLists.{ListsFollowTree, beside, both_died, handler_died, handlers_of}
 pub use Rattle.std.proofs.lemmas.List.{length-map, map-append, take-map}
 pub use Rattle.std.proofs.lemmas.Option.{none-some, same_Some, slice_get_cases, slice_get_within}

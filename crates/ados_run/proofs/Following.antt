@@ -60,11 +60,10 @@ record BothRun (old : HandlerState) (t : Tree) (served : List (Serving Packet Da
   run : Run ServesBoth (beside t old) served states
   handlers : handlers_of states ≡ servers
   stands : Stands (last_server old servers).image (last_server (beside t old) states).tree
-  validated : (last_server old servers).was_validated ≡ old.was_validated
 
 both_run : (old : HandlerState) (t : Tree) → Stands old.image t → (served : List (Serving Packet Date3 Answer)) (servers : List HandlerState)
     → Run HandlerGives old served servers → BothRun old t served servers
-both_run old t stood [] [] run = record { states = []; run = tt; handlers = refl; stands = stood; validated = refl }
+both_run old t stood [] [] run = record { states = []; run = tt; handlers = refl; stands = stood }
 both_run old t stood [] (new ∷ servers) run = elim run [ ]
 both_run old t stood (s ∷ served) [] run = elim run [ ]
 both_run old t stood (s ∷ served) (new ∷ servers) run =
@@ -78,7 +77,6 @@ both_run old t stood (s ∷ served) (new ∷ servers) run =
       run = (served_first, rest.run);
       handlers = ap (λ l. new ∷ l) rest.handlers;
       stands = rest.stands;
-      validated = rest.validated ∙ first.validated;
     }
 
 -- the last of both is the last handler with its tree
@@ -100,7 +98,6 @@ histories_follow_trees t opening steps outcomes closing stood h =
           (ap (beside last) h.closing_server ∙ last_beside opening.server t h.served h.servers both)
           (λ n. ap handler_died (sym (last_server-take handler_side first both.states n) ∙ ap (λ l. last_server opening.server (take n l)) both.handlers));
       stands = subst (λ (s : HandlerState). Stands s.image last) (sym h.closing_server) both.stands;
-      validated = ap (λ (s : HandlerState). s.was_validated) h.closing_server ∙ both.validated;
     }
 
 pub lists_follow_trees : ListsFollowTrees
@@ -116,7 +113,6 @@ lists_follow_trees t opening clients served unanswered closing stood h =
         known = h.known;
       };
       stands = subst (λ (s : HandlerState). Stands s.image last) h.meaning.2 both.stands;
-      validated = sym (ap (λ (s : HandlerState). s.was_validated) h.meaning.2) ∙ both.validated;
     }
 
 -- a packet served side by side is served on each side

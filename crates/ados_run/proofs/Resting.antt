@@ -2,13 +2,18 @@
 use Rattle.std.proofs.Common.{◌≡◌, ◌≢◌, ℕ, zero, suc, ◌+◌, pos, Bool, true, false, List, [], ◌∷◌, take, drop, slice_get, Some, MatchOption, arith, refl, sym, ap, ◌∙◌, subst, inl}
 use Rattle.std.proofs.lemmas.List.Elements.{All-nil, All-cons}
 use Rattle.std.proofs.lemmas.Bool.{true≢false}
-use Rattle.ados_run.proofs.Common.{All, none-some, same_Some, Date3, Tree, Serving, Run, last_server, Packet, Answer, Session, HandlerState, HandlerGives, handler_after, RestsAfter, handler_died, IsTooLate}
+use Rattle.ados_run.proofs.Common.{All, none-some, same_Some, Date3, Tree, Serving, Run, last_server, Packet, Answer, Session, HandlerState, HandlerGives, handler_after, RestsAfter, handler_died}
 use Rattle.ados_model.specs.declared.dos_error.DosError.TheVariants.{DeviceNotMounted}
+use Rattle.ados_model.specs.Packet.{refused_answer}
 use Rattle.ados_model.specs.Refusals.{first_refusal, refuse, refusals}
 use Rattle.ados_model.specs.Meaning.{Meaning, IsRefused, is_closing, is_number}
 use Rattle.ados_model.specs.Phrases.{ServedOrNoMemory}
 use Rattle.ados_handler.specs.steps.Closes.{serves_closing}
 use Rattle.ados_run.specs.Laws.{DeadHandlersRest}
+
+-- a packet was refused because the handler was dead
+abbrev IsTooLate : Serving Packet Date3 Answer → Type 0
+IsTooLate s = s.answer ≡ refused_answer s.packet DeviceNotMounted
 
 -- after death each packet is refused
 dead_refused : (t u : Tree) (s v : Session) (packet : Packet) (now : Date3) (answer : Answer) → s.died ≡ true → Meaning t s packet now u v answer → IsRefused t s packet DeviceNotMounted u v answer

@@ -1,6 +1,6 @@
 -- A packet served in one way was served in each way that follows from it, by the same servers.
 use Rattle.std.proofs.Common.{ℕ, Bool, List, [], ◌∷◌, length}
-use Rattle.ados_run.proofs.Common.{Date3, PortState, opening_port, PortHistory, Serving, ServerMeaning, Run, Step, Outcome, ClientLists, Lawful, Packet, Answer, HandlerState, ClientEnding, HandlerPort, PacketOutcomes, PacketSteps, BothSides, MeansBoth, handler_over, port_beside, RunsVolume, RunsWith, both_died, beside, port_over, ServesBoth}
+use Rattle.ados_run.proofs.Common.{Date3, PortState, opening_port, PortHistory, Serving, ServerMeaning, Run, Step, Outcome, ClientLists, Lawful, Packet, Answer, HandlerState, ClientEnding, HandlerPort, PacketOutcomes, PacketSteps, BothSides, MeansBoth, handler_over, port_beside, RunsVolume, RunsWith, both_died, beside, ServesBoth}
 use Rattle.ados_run.specs.ServesVolume.{ServesVolume, ServesWith}
 
 module _ {S Q M A : Type 0} (gives also : ServerMeaning S Q M A)
@@ -42,17 +42,16 @@ meant old packet moment new answer given = given.meant
 pub meant_run : (image : List ℕ) (clients : ℕ) (steps : PacketSteps) (outcomes : PacketOutcomes) (closing : HandlerPort)
     → RunsWith ServesBoth image clients steps outcomes closing → RunsVolume image clients steps outcomes closing
 meant_run image clients steps outcomes closing r = record {
-  checked = r.checked;
-  was_validated = r.was_validated;
-  as_it_is = r.as_it_is;
+  opening = r.opening;
+  accepted = r.accepted;
+  unused = r.unused;
   tree = r.tree;
   stands = r.stands;
   only = r.only;
   follows = record {
     last_tree = r.follows.last_tree;
-    history = weaker_history ServesBoth MeansBoth meant both_died (port_beside r.tree (port_over r.checked r.was_validated clients)) steps outcomes (port_beside r.follows.last_tree closing) r.follows.history;
+    history = weaker_history ServesBoth MeansBoth meant both_died (port_beside r.tree (opening_port r.opening clients)) steps outcomes (port_beside r.follows.last_tree closing) r.follows.history;
     stands = r.follows.stands;
-    validated = r.follows.validated;
   };
   closed = r.closed;
   rests = r.rests;
@@ -76,7 +75,6 @@ meant_scripts image was_validated scripts moment told closing r =
         last_tree = r.follows.last_tree;
         lawful = weaker_lists ServesBoth MeansBoth meant (beside r.tree opening) r.clients r.served r.unanswered (beside r.follows.last_tree closing) r.follows.lawful;
         stands = r.follows.stands;
-        validated = r.follows.validated;
       };
       history = record {
         steps = r.history.steps;

@@ -1,7 +1,6 @@
 -- What no packet changes: packet by packet, the image of a handler next to the tree that it represents.
 use Rattle.std.specs.Prelude.{ℕ, Bool, List}
 use Rattle.ados_name.specs.declared.stamp.Date3.{Date3}
-use Rattle.ados_model.specs.Accepted.{Accepts}
 use Rattle.ados_model.specs.declared.packet.Packet.{Packet}
 use Rattle.ados_model.specs.declared.answer.Answer.{Answer}
 use Rattle.ados_handler.specs.Gives.{HandlerGives}
@@ -16,10 +15,9 @@ pub record ServesBoth (old : BothSides) (packet : Packet) (now : Date3) (new : B
   pub meant : MeansBoth old packet now new answer
   pub gives : HandlerGives old.handler packet now new.handler answer
 
--- the check accepted the image, and in this run each packet left everything else untouched
-pub record KeepsVolume (image : List ℕ) (clients : ℕ) (steps : PacketSteps) (outcomes : PacketOutcomes) (closing : HandlerPort) : Type 0 where
-  pub runs : RunsWith ServesBoth image clients steps outcomes closing
-  pub accepted : Accepts image runs.was_validated runs.checked
+-- in this run each packet left everything else untouched
+abbrev pub KeepsVolume : List ℕ → ℕ → PacketSteps → PacketOutcomes → HandlerPort → Type 0
+KeepsVolume = RunsWith ServesBoth
 
 -- with clients on their own threads, each packet left everything else untouched
 abbrev pub KeepsServed : List ℕ → Bool → List (List ℕ) → Date3 → List (List ℕ × ClientEnding) → HandlerState → Type 0

@@ -3,7 +3,6 @@
 pub mod Asking
 pub mod Scripts
 pub mod Runs
-pub mod Opened
 pub mod TreePort
 pub mod TreeLists
 pub mod Keeping

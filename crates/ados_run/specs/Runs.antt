@@ -1,7 +1,6 @@
 -- The headline: the result of a run of port steps over an image. First its terms: a handler beside its tree, and its death.
-use Rattle.std.specs.Prelude.{Bool, List, ◌≡◌, ℕ, map, ◌+◌, true, take, drop, slice_get, Some, All}
-use Rattle.adf_block.specs.Image.{block_count, long, root_key}
-use Rattle.adf_block.specs.declared.layout.TheConstants.{BITMAP_FLAG, BITMAP_VALID}
+use Rattle.std.specs.Prelude.{List, ◌≡◌, ℕ, map, ◌+◌, true, take, drop, slice_get, Some, All}
+use Rattle.ados_model.specs.Accepted.{Accepts}
 use Rattle.ados_model.specs.Tree.{Tree, Date3}
 use Rattle.ados_model.specs.Meaning.{Meaning, is_closing}
 use Rattle.ados_model.specs.{Session.HandlerState, Session.opening_session, Stands.Stands, Packet.refused_answer}
@@ -34,16 +33,11 @@ pub record MeansBoth (old : BothSides) (packet : Packet) (now : Date3) (new : Bo
 abbrev pub port_beside : Tree → HandlerPort → PortState BothSides Packet Answer
 port_beside t port = record { server = record { tree = t; handler = port.server }; clients = port.clients; waiting = port.waiting }
 
--- a handler over this image, alive and without locks and handles
-abbrev pub handler_over : List ℕ → Bool → HandlerState
-handler_over image was_validated = record { image = image; was_validated = was_validated; session = opening_session }
-
 -- from this tree, the steps had these outcomes; tree and image changed together, and the last image represents the last tree
 pub record FollowsTree (together : ServerMeaning BothSides Packet Date3 Answer) (t : Tree) (opening : HandlerPort) (steps : PacketSteps) (outcomes : PacketOutcomes) (closing : HandlerPort) : Type 0 where
   pub last_tree : Tree
   pub history : PortHistory together (λ (both : BothSides). both.handler.session.died) (port_beside t opening) steps outcomes (port_beside last_tree closing)
   pub stands : Stands closing.server.image last_tree
-  pub validated : closing.server.was_validated ≡ opening.server.was_validated
 
 -- this handler served packets one after the other, and each led to one of these handlers
 module _ (opening : HandlerState) (served : List (Serving Packet Date3 Answer)) (servers : List HandlerState) where
@@ -61,19 +55,22 @@ module _ (opening : HandlerState) (served : List (Serving Packet Date3 Answer)) 
     pub dead : (count : ℕ) → (handler_after count).session.died ≡ true → RestsAfter count
     pub closing : (place : ℕ) (s : Serving Packet Date3 Answer) → slice_get served place ≡ Some s → is_closing s.answer ≡ true → RestsAfter (place + 1)
 
--- The image, or that image with a new bitmap if its root says that the bitmap is not valid, represents exactly one
--- tree. At a port over it, image and tree went through the steps together in this way. After the handler's death each
--- put was refused as closed, each packet was refused, and no byte changed.
-pub record RunsWith (together : ServerMeaning BothSides Packet Date3 Answer) (image : List ℕ) (clients : ℕ) (steps : PacketSteps) (outcomes : PacketOutcomes) (closing : HandlerPort) : Type 0 where
-  pub checked : List ℕ
-  pub was_validated : Bool
-  pub as_it_is : long image (root_key (block_count image)) BITMAP_FLAG ≡ BITMAP_VALID → checked ≡ image
+-- `check` accepted the image: it shows no fault, and the handler's image is the same, byte for byte. Or, if its root says
+-- that the bitmap is not valid, the handler's image differs from it only in bitmap blocks and in the root's checksum and
+-- flag, and has no lost block. The handler is alive, without locks and handles. Its image represents exactly one tree. At
+-- a port over it, image and tree went through the steps together in this way. After the handler's death each put was
+-- refused as closed, each packet was refused, and no byte changed.
+pub record RunsWith (together : ServerMeaning BothSides Packet Date3 Answer) (image : List ℕ) (clients : ℕ)
+    (steps : PacketSteps) (outcomes : PacketOutcomes) (closing : HandlerPort) : Type 0 where
+  pub opening : HandlerState
+  pub accepted : Accepts image opening.was_validated opening.image
+  pub unused : opening.session ≡ opening_session
   pub tree : Tree
-  pub stands : Stands checked tree
-  pub only : (other : Tree) → Stands checked other → other ≡ tree
-  pub follows : FollowsTree together tree (opening_port (handler_over checked was_validated) clients) steps outcomes closing
+  pub stands : Stands opening.image tree
+  pub only : (other : Tree) → Stands opening.image other → other ≡ tree
+  pub follows : FollowsTree together tree (opening_port opening clients) steps outcomes closing
   pub closed : ClosedOnceDead follows.history
-  pub rests : RestsOnceDead (handler_over checked was_validated) follows.history.served (map (λ both. both.handler) follows.history.servers)
+  pub rests : RestsOnceDead opening follows.history.served (map (λ both. both.handler) follows.history.servers)
 
 -- each packet was answered according to its meaning for the tree, and the tree changed accordingly
 abbrev pub RunsVolume : List ℕ → ℕ → PacketSteps → PacketOutcomes → HandlerPort → Type 0

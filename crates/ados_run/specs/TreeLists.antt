@@ -41,4 +41,3 @@ pub record ListsFollowTree (together : ServerMeaning BothSides Packet Date3 Answ
   pub last_tree : Tree
   pub lawful : Lawful together (beside t opening) clients served unanswered (beside last_tree closing)
   pub stands : Stands closing.image last_tree
-  pub validated : closing.was_validated ≡ opening.was_validated

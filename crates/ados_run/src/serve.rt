@@ -2,10 +2,9 @@
 ghost use Rattle.std.specs.Prelude.{◌≡◌, ◌<◌, IfOk, length, map};
 ghost use Rattle.ados_port.specs.Ends.{AreEnds, IsNew};
 ghost use Rattle.ados_run.specs.Scripts.{AreUnused};
-ghost use Rattle.ados_run.specs.Runs.{handler_over};
 ghost use Rattle.ados_run.specs.steps.Gathered.{IsGathered};
 ghost use Rattle.ados_run.specs.Keeping.{KeepsServed};
-ghost use Rattle.ados_run.specs.ServesVolume.{ServesVolume, scripts_of, texts_of};
+ghost use Rattle.ados_run.specs.ServesVolume.{ServesVolume, handler_over, scripts_of, texts_of};
 
 use crate::ends::{assign, part_done};
 use crate::gate::Gate;

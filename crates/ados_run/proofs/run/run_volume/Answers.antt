@@ -1,16 +1,16 @@
 use Rattle.std.proofs.Common.{ap, ◌∙◌}
 use Rattle.ados_model.specs.Session.{HandlerState}
-use Rattle.ados_run.proofs.Runs.{keeps_volume, opening_handler}
+use Rattle.ados_run.proofs.Runs.{accepted_by, keeps_volume}
 use Rattle.ados_run.proofs.Weaker.{meant_run}
 use Rattle.ados_run.proofs.run.run_volume.Goals as goal
 
 pub returns-in-Ok-run : goal.returns-in-Ok-run
 returns-in-Ok-run c =
     let kept = keeps_volume c.args.image c.args.clients c.args.steps.items c.in-Ok-run.done.outcomes.items c.in-Ok-run.done.exchange
-    c.in_ok-volume.volume.image c.in_ok-volume.volume.was_validated c.in_ok-volume.ensures
-    c.new-handler.result (opening_handler c.new-handler.result c.in_ok-volume.volume.image c.in_ok-volume.volume.was_validated c.new-handler.ensures.image c.new-handler.ensures.validated c.new-handler.ensures.session)
+    c.new-handler.result (accepted_by c.args.image c.in_ok-volume.volume.image c.in_ok-volume.volume.was_validated c.new-handler.result c.new-handler.ensures.image c.new-handler.ensures.validated c.in_ok-volume.ensures)
+    c.new-handler.ensures.session
     c.in-Ok.exchange c.in-Ok.ensures c.in-Ok-run.ensures.history in
-    (meant_run c.args.image c.args.clients c.args.steps.items c.in-Ok-run.done.outcomes.items c.in-Ok-run.done.exchange kept.runs, kept)
+    (meant_run c.args.image c.args.clients c.args.steps.items c.in-Ok-run.done.outcomes.items c.in-Ok-run.done.exchange kept, kept)
 
 pub returns-in-Err-run : goal.returns-in-Err-run
 returns-in-Err-run c =

@@ -1,7 +1,7 @@
 use Rattle.std.proofs.Common.{sym, ap, ◌∙◌, map, refl}
 use Rattle.std.proofs.lemmas.Result.{IfOk-weaker}
 use mathlib.Core.List.{map-map}
-use Rattle.ados_run.specs.Runs.{handler_over}
+use Rattle.ados_run.specs.ServesVolume.{handler_over}
 use Rattle.ados_run.proofs.Serving.{keeps_served}
 use Rattle.ados_run.proofs.Weaker.{meant_scripts}
 use Rattle.ados_run.proofs.serve.serve_volume.Goals as goal
