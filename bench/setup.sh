@@ -31,7 +31,8 @@ tools() {
 over_library() {
     library=${LIBRARY:-$room/library}
     if [ -z "$LIBRARY" ]; then
-        "$here/../bindings/c/build.sh" ${BUILT:+--built} "$library" > "$room/log" 2>&1 || { cat "$room/log" >&2; exit 1; }
+        # (a library without proof takes longer for everything)
+        "$here/../bindings/c/build.sh" "$([ -n "$BUILT" ] && echo --built || echo --prove)" "$library" > "$room/log" 2>&1 || { cat "$room/log" >&2; exit 1; }
     fi
     for tool; do
         "${CC:-cc}" -O2 -std=c11 -Wall -Wextra -Wpedantic -Werror -I "$library/include" -o "$room/$tool" "$here/$tool.c" \

@@ -112,6 +112,14 @@ def files(tried: Elsewhere) -> None:
     report.expect("it says the kit and the gate", said, repr(build))
     notices = dist / "share/doc/jiponuwha/notices"
     report.expect("it has notices", notices.is_dir() and any(notices.iterdir()))
+    listed = (notices.parent / "NOTICES").read_text()
+    report.expect("it says that the repository states no licence", listed.startswith("The repository of jiponuwha states no licence"), listed)
+    lines = dict(re.findall(r"(?m)^(\w+): (.+)$", listed))
+    files_of = {it.name: sorted(file.name for file in it.iterdir()) for it in notices.iterdir()}
+    named = {name: sorted(re.findall(r"\(([^)]+)\)", line)) for name, line in lines.items() if "(" in line}
+    report.same("the list names the files with licences of each crate", named, files_of)
+    lacking = {"clap", "jiff", "std", "slab"} - {*lines}
+    report.expect("and the crates of the program and of the library", not lacking, lacking)
 
 
 def manual(tried: Elsewhere) -> None:

@@ -4,7 +4,7 @@
     tests/python.py
 
 It prints a line for each check, reports what it skipped, and ends with `N passed, M failed`. The status is 1 if a check failed.
-It proves nothing, and uses the built library.
+It proves nothing. It uses the proved library if that is current, and otherwise the one without proof, of which no wheel is made.
 """
 from __future__ import annotations
 
@@ -16,12 +16,12 @@ import sys
 import zipfile
 from functools import partial
 from pathlib import Path
-from typing import List, Optional
+from typing import List, Optional, Set
 
 sys.dont_write_bytecode = True
 
 from harness import TOP, Ran, Report, run
-from library import put_in_place
+from library import is_proved, put_in_place
 from shared import LIBRARY, PAGE, Place, version
 
 PACKAGE = TOP / "bindings" / "python"
@@ -62,6 +62,14 @@ for round in range(60):
     assert found == wanted[:1000], (round, found, wanted)
     faulty += bool(found)
 assert faulty > 20, faulty
+"""
+# Modules that take long to import, and that the package imports only if they are needed.
+HEAVY = {"dataclasses", "datetime", "inspect", "pathlib", "re", "subprocess", "tempfile"}
+# Prints the modules that `import jiponuwha` imports.
+IMPORTED = """import sys
+before = set(sys.modules)
+import jiponuwha
+print(*set(sys.modules) - before)
 """
 # Prints the names that the package exports, and those of its classes.
 NAMES = """import jiponuwha as jip
@@ -115,7 +123,8 @@ def types(tried: Place) -> None:
     where = ["--cache-dir", str(tried.top / "mypy"), "--python-version", "3.11", "jiponuwha", "tests"]
     ran = run([*words, "--strict", *where], before=partial(os.chdir, PACKAGE), longest=None)
     tried.report.expect("mypy --strict", ran.status == 0, ran)
-    tried.runs("mypy --strict of the tool", [*words, "--strict", "--cache-dir", "mypy", "--python-version", "3.11", WHEEL])
+    found = {"MYPYPATH": str(TOP / "tools")}
+    tried.runs("mypy --strict of the tool", [*words, "--strict", "--cache-dir", "mypy", "--python-version", "3.11", WHEEL], found)
 
 
 def names(tried: Place) -> None:
@@ -125,6 +134,14 @@ def names(tried: Place) -> None:
     page = PAGE.read_text()
     lacking = sorted({it for it in given if not re.search(rf"`[^`]*\b{it}\b[^`]*`", page)})
     tried.report.expect("docs/LIBRARY.md has each name of the package", bool(given) and not lacking, lacking)
+
+
+def imports(tried: Place) -> None:
+    """Checks that the package imports no module that takes long, where the machine's start of Python has not done so itself."""
+    found = {"PYTHONPATH": str(PACKAGE), "JIPONUWHA_LIBRARY": str(tried.top / LIBRARY), "PYTHONDONTWRITEBYTECODE": "1"}
+    ran = run([sys.executable, "-c", IMPORTED], env=found)
+    tried.report.same("it imports none of the modules that take long", HEAVY & {*ran.output.decode().split()}, set())
+    tried.report.expect("but its own", b"jiponuwha._volume" in ran.output, ran)
 
 
 def faults(tried: Place) -> None:
@@ -148,9 +165,35 @@ def pack(tried: Place) -> Optional[Path]:
     inside = set(zipfile.ZipFile(wheel).namelist())
     info = f"jiponuwha-{'.'.join(version())}.dist-info"
     wanted = {"jiponuwha/__init__.py", "jiponuwha/py.typed", "jiponuwha/libjiponuwha.so.1"}
-    wanted |= {f"{info}/{it}" for it in ("METADATA", "WHEEL", "RECORD")}
+    wanted |= {f"{info}/{it}" for it in ("METADATA", "WHEEL", "RECORD", "licenses/NOTICES")}
     tried.report.expect("it has the package, the library and what is said of them", wanted <= inside, sorted(inside))
+    notices(tried, wheel, info)
     return wheel
+
+
+def kit_crates() -> Set[str]:
+    """Returns the kit's crates that crates.txt names for adf_c and the crates below it."""
+    rows = [it.partition(":") for it in (TOP / "crates.txt").read_text().splitlines() if ":" in it and not it.startswith("#")]
+    below = {name.split()[0]: listed.split() for name, _, listed in rows}
+    found, waiting = set(), ["adf_c"]
+    while waiting:
+        more = {it for it in below.get(waiting.pop(), []) if it not in found}
+        found |= more
+        waiting += more
+    return found - {*below}
+
+
+def notices(tried: Place, wheel: Path, info: str) -> None:
+    """Checks that the wheel names the kit's crates in it with their licences, and says that the repository states none."""
+    packed = zipfile.ZipFile(wheel)
+    metadata, text = (packed.read(f"{info}/{it}").decode() for it in ("METADATA", "licenses/NOTICES"))
+    lines = dict(re.findall(r"(?m)^(\w+): (.+)$", text.partition("----")[0]))
+    lacking = kit_crates() - {*lines}
+    tried.report.expect("its notices name each crate of the kit", len(lines) > 20 and not lacking, (lacking, lines))
+    tried.report.same("with its licence", lines.get("jiff"), "MIT License (LICENSE-MIT)")
+    tried.report.expect("and have the text of it", "Copyright (c) 2015 Andrew Gallant" in text and "Version 2.0, January 2004" in text)
+    said = re.search(r"(?m)^License: The repository of jiponuwha states no licence", metadata) is not None
+    tried.report.expect("a packager sees that the repository states no licence", said and "states no licence" in text, metadata[:600])
 
 
 def page_lines() -> List[str]:
@@ -173,6 +216,12 @@ def installed(tried: Place, python: str) -> None:
 
 
 def wheel(tried: Place) -> None:
+    if not is_proved(Path("here")):
+        ran = run([sys.executable, WHEEL, "here", "wheels"])
+        refused = ran.status == 2 and b"is not proved" in ran.texts and not Path("wheels").exists()
+        tried.report.expect("a library without proof is not packed", refused, ran)
+        tried.report.skip("the wheel", "the library is not proved")
+        return
     packed = pack(tried)
     if packed is None:
         return
@@ -197,7 +246,7 @@ def main() -> int:
     with Place(report) as tried:
         report.ends("the types", partial(types, tried))
         if put_in_place(tried):
-            for name, part in (("the suite", suite), ("the faults", faults), ("the names", names), ("the wheel", wheel)):
+            for name, part in (("the suite", suite), ("the imports", imports), ("the faults", faults), ("the names", names), ("the wheel", wheel)):
                 report.ends(name, partial(part, tried))
     return report.end()
 

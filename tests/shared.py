@@ -5,7 +5,7 @@ header and of docs/LIBRARY.md.
     tests/shared.py
 
 It prints a line for each check, reports what it skipped, and ends with `N passed, M failed`. The status is 1 if a check failed.
-It proves nothing, and uses the built library.
+It proves nothing. It uses the proved library if that is current, and otherwise the one without proof.
 """
 from __future__ import annotations
 
@@ -41,7 +41,7 @@ add_executable(whole {})
 target_link_libraries(whole jiponuwha::shared)
 """
 # The programs that test the library, for each language.
-SOURCES = {"c11": ["whole.c", "account.c", "read_only.c", "names.c", "salvage.c"], "c++17": ["floppy.cc"]}
+SOURCES = {"c11": ["whole.c", "paths.c", "account.c", "read_only.c", "names.c", "salvage.c"], "c++17": ["floppy.cc"]}
 # The error that no packet of the program has: that of a read-only handle.
 OWN = {"DiskWriteProtected": "disk is write-protected"}
 # Makes work.adf with the file Docs/hello, and checks the results of the examples.
@@ -100,6 +100,18 @@ def inline() -> Set[str]:
     return set(re.findall(r"(?m)^static inline [a-z0-9_]+ \*?(jip_[a-z_]+)\(", header_text()))
 
 
+def exports() -> Set[str]:
+    """Returns the exports of the crate adf_c."""
+    texts = [it.read_text() for it in (TOP / "crates/adf_c/src").glob("*.rt")]
+    return {part.partition(" fn ")[2].partition("(")[0] for text in texts for part in text.split("no_mangle")[1:]}
+
+
+def exported(archive: Path) -> Set[str]:
+    """Returns the symbols that an archive of that crate defines for others."""
+    words = ["nm", "--extern-only", "--defined-only", str(archive)]
+    return set(re.findall(r"(?m) [A-Z] (jip_lib_\w+)$", run(words).output.decode()))
+
+
 def tables() -> List[List[str]]:
     """Returns the calls in the first column of each table in the section of all calls."""
     rows = section_of(PAGE.read_text(), "All calls in C").splitlines()
@@ -137,6 +149,8 @@ def texts(report: Report) -> None:
 
 def lists(report: Report) -> None:
     report.same("the list has the functions of the headers", listed(), declared())
+    used = {it for file in (C / "src").glob("*.c") for it in re.findall(r"\bjip_lib_[a-z_]+", file.read_text())}
+    report.same("the C names each export of adf_c", sorted(used), sorted(exports()))
     nodes = re.findall(r"(?m)^JIPONUWHA_([0-9.]+) \{$", SYMBOLS.read_text())
     report.expect("the list has the header's version", bool(nodes) and nodes[-1] == ".".join(version()[:2]), nodes)
     named = tables()
@@ -155,6 +169,7 @@ def symbols(tried: Place) -> None:
     ran = run(["nm", "-D", "--defined-only", LIBRARY])
     found = {it.split()[2].partition("@")[0] for it in ran.output.decode().splitlines() if it.split()[1] != "A"}
     tried.report.same("the library exports the symbols of the list", found, listed())
+    tried.report.same("the static library has each export of adf_c", exported(Path(STATIC[0])), exports())
     dynamic = run(["readelf", "-d", LIBRARY]).output.decode()
     tried.report.expect("its soname", "soname: [libjiponuwha.so.1]" in dynamic, dynamic)
     needed = re.findall(r"\(NEEDED\).*\[(.*)\]", dynamic)
@@ -196,7 +211,7 @@ def sanitized_library(tried: Place) -> None:
     """Runs the tests with the C code of the library under sanitizers too."""
     if not tried.has_sanitizers("gcc"):
         return
-    built = tried.runs("a sanitized library", [str(C / "build.sh"), "--built", "sane"], {"CC": "gcc", "CFLAGS": " ".join(SANITIZED)})
+    built = tried.runs("a sanitized library", [str(C / "build.sh"), "sane"], {"CC": "gcc", "CFLAGS": " ".join(SANITIZED)})
     for name in SOURCES["c11"] if built else []:
         program = f"sane-{Path(name).stem}"
         if tried.compile("gcc", TOP / "tests" / "c" / name, program, "sane/lib/libjiponuwha.a", *SANITIZED):
@@ -247,6 +262,17 @@ def examples(tried: Place, compiler: str) -> None:
                 tried.runs("the quick start copies a file", ["./work", "work.adf", "Docs/copy"])
 
 
+def odd_prefix(tried: Place, source: str) -> None:
+    """Builds programs by pkg-config over libraries in a directory whose name a shell has to quote."""
+    place = 'a "b" #c'
+    if not tried.runs("installed in a directory with a space", [str(C / "build.sh"), place]):
+        return
+    for name in ("jiponuwha", "jiponuwha-shared"):
+        line = f'eval "gcc -std=c11 {source} -o by-{name} $(pkg-config --cflags --libs {name})"'
+        if tried.runs(f"built there by {name}", ["bash", "-e", "-c", line], {"PKG_CONFIG_PATH": f"{place}/lib/pkgconfig"}):
+            tried.passes("it runs", [f"./by-{name}"])
+
+
 def builders(tried: Place) -> None:
     """Builds programs that find the shared library by pkg-config and by CMake."""
     source = str(TOP / "tests" / "c" / "whole.c")
@@ -257,6 +283,7 @@ def builders(tried: Place) -> None:
             tried.passes("it runs", ["./by-pkg-config"])
         said = [run(["pkg-config", "--modversion", it], env=found).output.decode().strip() for it in ("jiponuwha", "jiponuwha-shared")]
         tried.report.same("pkg-config says the header's version", said, [".".join(version())] * 2)
+        odd_prefix(tried, source)
     else:
         tried.report.skip("the pkg-config file", "there is no pkg-config")
     if shutil.which("cmake"):

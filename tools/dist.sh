@@ -6,8 +6,8 @@
 #   tools/dist.sh [TO]              into one archive, by default out/jiponuwha-COMMIT-KIND.tar.gz
 #   tools/dist.sh --debian [TO]     into Debian packages, in the directory TO, by default out/debian
 #
-# The script builds only the mount, where libfuse 3 is installed, and packs only a proved program, so run `./prove` or `./test`
-# first. GATE is a file with the output of `./test`, by default out/test.log. LIBRARY is another directory with the library, as
+# The script builds only the mount, where libfuse 3 is installed, and packs only a proved program and a proved library, so run
+# `./prove` or `./test` first. GATE is a file with the output of `./test`, by default out/test.log. LIBRARY is another directory with the library, as
 # bindings/c/build.sh makes it. PROGRAM is another program. SOURCE_DATE_EPOCH is the time of the files, by default that of the
 # commit. The same commit gives the same bytes.
 set -euo pipefail
@@ -15,9 +15,9 @@ top=$(cd "$(dirname "$0")/.." && pwd)
 room=$(mktemp -d)
 trap 'rm -rf "$room"' EXIT
 program=${PROGRAM:-$top/crates/adf_serve/out/adf_serve}
+archive=$top/crates/adf_c/out/libadf_c.a
 gate=${GATE:-$top/out/test.log}
 rt=$(command -v rt) || { echo "dist.sh: the Rattle kit's command 'rt' is not on the path" >&2; exit 2; }
-kit=$(dirname "$(dirname "$(readlink -f "$rt")")")
 commit=$(git -C "$top" rev-parse --short=12 HEAD)
 kind=$(uname -s | tr '[:upper:]' '[:lower:]')-$(uname -m)
 name=jiponuwha-$commit-$kind
@@ -35,7 +35,15 @@ export SOURCE_DATE_EPOCH="${SOURCE_DATE_EPOCH:-$(git -C "$top" log -1 --format=%
 # need FILE WHAT: fails if the file does not exist.
 need() { [ -e "$1" ] || { echo "dist.sh: there is no $1; $2" >&2; exit 2; }; }
 
-# The library, with a pkg-config file that works wherever the archive is unpacked.
+# is_current FILE OPTION..: fails if a built file is not proved, or not of the present sources.
+is_current() {
+    local file=$1
+    shift
+    "$top/tools/sources" "$@" current "$file" src specs proofs ||
+        { echo "dist.sh: $file is not proved, or is not of these sources; ./prove makes it" >&2; exit 2; }
+}
+
+# The library, with a pkg-config file that works wherever the archive is unpacked. tools/wheel refuses one that is not proved.
 library() {
     mkdir -p "$dist/lib" "$dist/include"
     if [ -n "${LIBRARY:-}" ]; then
@@ -80,41 +88,6 @@ completions() {
     cp "$room/completions/fish/"* "$dist/share/fish/vendor_completions.d/"
 }
 
-# The crates of the kit that the program and the library use, with their dependencies.
-kit_crates() {
-    awk '
-        /^[[:space:]]*(#|$)/ { next }
-        { split($0, parts, ":"); split(parts[1], head, " "); name[++count] = head[1]; stands_on[head[1]] = parts[2] }
-        END {
-            needed["adf_serve"] = needed["adf_c"] = 1
-            for (k = count; k >= 1; k--)
-                if (name[k] in needed) {
-                    many = split(stands_on[name[k]], below, " ")
-                    for (j = 1; j <= many; j++) needed[below[j]] = 1
-                }
-            for (k = 1; k <= count; k++) delete needed[name[k]]
-            delete needed["adf_serve"]
-            delete needed["adf_c"]
-            for (crate in needed) print crate
-        }' "$top/crates.txt" |
-        while read -r crate; do
-            echo "$crate"
-            if [ -d "$kit/rlibs/$crate.rlib/below" ]; then ls "$kit/rlibs/$crate.rlib/below"; fi
-        done | sort -u
-}
-
-# The licences and notices of each crate, under its own name.
-notices() {
-    local crate file
-    while read -r crate; do
-        for file in "$kit/rattle/$crate"/{LICENSE,LICENCE,NOTICE,COPYING,COPYRIGHT,UNLICENSE}*; do
-            [ -f "$file" ] || continue
-            mkdir -p "$dist/share/doc/jiponuwha/notices/$crate"
-            cp "$file" "$dist/share/doc/jiponuwha/notices/$crate/"
-        done
-    done
-}
-
 build_file() {
     echo "commit $(git -C "$top" rev-parse HEAD)"
     [ -z "$(git -C "$top" status --porcelain --untracked-files=no)" ] || echo 'with changes that are in no commit'
@@ -124,7 +97,8 @@ build_file() {
 }
 
 need "$program" './prove makes it'
-"$top/tools/sources" current "$program" src specs proofs || { echo "dist.sh: $program is not proved, or is not of these sources; ./prove makes it" >&2; exit 2; }
+is_current "$program"
+[ -n "${LIBRARY:-}" ] || { need "$archive" './prove makes it' && is_current "$archive" --library; }
 mkdir -p "$dist/bin" "$(dirname "$to")"
 install -m 755 "$program" "$dist/bin/adf_serve"
 library
@@ -132,7 +106,7 @@ package
 pages
 completions
 mount
-kit_crates | notices
+"$top/tools/notices.py" "$dist/share/doc/jiponuwha"
 build_file >"$dist/BUILD"
 (cd "$dist" && find . -type f -printf '%P\n' | sort | tee "$room/files" | xargs -d '\n' sha256sum >"$room/sums")
 cp "$room/sums" "$dist/SHA256SUMS"

@@ -55,7 +55,7 @@ extern "C" {
 /* The version of this header. jip_version returns that of the library. A program that was built for a library runs with
    any later library of the same major version. */
 #define JIP_VERSION_MAJOR 1
-#define JIP_VERSION_MINOR 2
+#define JIP_VERSION_MINOR 3
 #define JIP_VERSION_PATCH 0
 
 /* The status of a call. A refused packet is still answered: its results have the error, and the status is JIP_DONE. */
@@ -295,8 +295,8 @@ int32_t jip_copy_changed(jip_handle *handle, void *copy, size_t length, uint32_t
 
 /* ---- Versions and texts ---- */
 
-/* Returns the library's version, such as "1.2.0". Each text of the library is in English, ends with a zero byte, and stays
-   valid until the program ends. */
+/* Returns the library's version, such as "1.3.0", with " (not proved)" after it if the library was compiled without proof. Each text
+   of the library is in English, ends with a zero byte, and stays valid until the program ends. */
 const char *jip_version(void);
 
 /* Returns the message of AmigaDOS for a jip_error, or that of jip_status_text for a jip_status. Any other number is
@@ -309,11 +309,12 @@ const char *jip_fault_text(int32_t kind);
 /* Returns the message for a jip_status. Any other number is "unknown status". */
 const char *jip_status_text(int32_t status);
 
-/* ---- Whole files: C that sends packets ----
+/* ---- Whole files and whole paths: C that sends packets ----
  *
  * Each call returns JIP_DONE, another jip_status, or the jip_error of a refused packet, which is 103 or more. It frees all
  * its locks and file handles, except the lock that jip_reach returns. A path starts at the root and has the syntax of
- * packets, but any length. It ends after path_length bytes, or at its first zero byte if path_length is JIP_TO_ZERO. */
+ * packets, but any length. It ends after path_length bytes, or at its first zero byte if path_length is JIP_TO_ZERO. A refusal
+ * of a change leaves the image unchanged, unless the text says otherwise. */
 #define JIP_TO_ZERO SIZE_MAX
 
 /* Reads a file. The buffer gets its first `room` bytes, or the whole file if it is shorter. `*length` is set to the size
@@ -325,6 +326,25 @@ int32_t jip_read_file(jip_handle *handle, const char *path, size_t path_length, 
    unchanged. The one exception is running out of memory half way: then a new file is deleted again, and an old one may
    keep its old size. Errors include 202 (in use), 212 (a directory), 221 (disk full) and 223 (protected). */
 int32_t jip_write_file(jip_handle *handle, jip_date moment, const char *path, size_t path_length, const void *bytes, size_t length);
+
+/* Makes a directory. Errors include 203 (exists already), 204 (no parent) and 221 (disk full). */
+int32_t jip_make_directory(jip_handle *handle, jip_date moment, const char *path, size_t path_length);
+
+/* Deletes a file or an empty directory. Errors include 202 (in use), 205 (not found), 216 (not empty) and 222 (protected). */
+int32_t jip_delete(jip_handle *handle, jip_date moment, const char *path, size_t path_length);
+
+/* Moves a file or a directory to another path, under the last name of that. An existing object there is not replaced: that is
+   refused with 203. */
+int32_t jip_rename(jip_handle *handle, jip_date moment, const char *path, size_t path_length, const char *to, size_t to_length);
+
+/* Describes the object at a path. A refusal leaves the entry unchanged. Errors include 205 (not found) and 202 (an exclusive
+   lock). */
+int32_t jip_stat(jip_handle *handle, const char *path, size_t path_length, jip_entry *entry);
+
+/* Lists a directory: its entries are written to the start of an array, as many as it has room for, and `*count` is set to how
+   many there are, so room 0 asks for the count alone. A refusal leaves `*count` unchanged. Errors include 205 (not found), 212
+   (a file) and 202 (an exclusive lock). */
+int32_t jip_list(jip_handle *handle, const char *path, size_t path_length, jip_entry *entries, size_t room, size_t *count);
 
 /* jip_walk calls a visitor for each entry. The path starts at the root, and a zero byte follows it. Path and entry are
    valid until the visitor returns. It returns 0 to continue the walk, and any other number to end it. */

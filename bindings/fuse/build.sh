@@ -4,7 +4,7 @@
 #   bindings/fuse/build.sh [TO [PREFIX]]
 #
 # TO is the file to write, by default bindings/fuse/out/adf_mount. PREFIX is a directory in which bindings/c/build.sh has
-# installed the C library. Without PREFIX this script installs it first, and proves and builds it if needed. The script needs a C
+# installed the C library. Without PREFIX this script installs it first, the proved one if that is current. The script needs a C
 # compiler (CC, or cc) and libfuse 3 (Debian: libfuse3-dev and fuse3).
 set -euo pipefail
 here=$(cd "$(dirname "$0")" && pwd)

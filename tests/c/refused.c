@@ -1,4 +1,4 @@
-/* Refuses each growth of memory in turn, in each call for whole files, walks, files of the host, the map, faults, salvage and
+/* Refuses each growth of memory in turn, in each call for whole files and paths, walks, files of the host, the map, faults, salvage and
  * dates. A refused call leaves no lock and no file handle, and the file is unchanged or deleted. The program needs glibc, for
  * the second names of its heap functions. It writes to the current directory. */
 #include "asking.h"
@@ -43,6 +43,19 @@ static int32_t walks(jip_handle *h) {
     int count = 0;
     const int32_t result = jip_walk(h, visit, &count);
     return result == JIP_DONE && count != 2 ? -1 : result;
+}
+static int32_t makes(jip_handle *h) { return jip_make_directory(h, now, "d/new", JIP_TO_ZERO); }
+static int32_t moves(jip_handle *h) { return jip_rename(h, now, "d/old", JIP_TO_ZERO, "d/new", JIP_TO_ZERO); }
+static int32_t deletes(jip_handle *h) { return jip_delete(h, now, "d/old", JIP_TO_ZERO); }
+static int32_t describes(jip_handle *h) {
+    jip_entry entry;
+    return jip_stat(h, "d/old", JIP_TO_ZERO, &entry);
+}
+static int32_t lists(jip_handle *h) {
+    jip_entry entries[2];
+    size_t count = 0;
+    const int32_t result = jip_list(h, "d", JIP_TO_ZERO, entries, 2, &count);
+    return result == JIP_DONE && count != 1 ? -1 : result;
 }
 static int32_t stores(jip_handle *h) { return jip_store(h, "refused.adf"); }
 static int32_t loads(jip_handle *h) {
@@ -128,6 +141,11 @@ int main(void) {
     refuse_each("write_file, new", writes_new);
     refuse_each("write_file, old", writes_old);
     refuse_each("write_file, tried on a copy", writes_much);
+    refuse_each("make_directory", makes);
+    refuse_each("rename", moves);
+    refuse_each("delete", deletes);
+    refuse_each("stat", describes);
+    refuse_each("list", lists);
     refuse_each("walk", walks);
     refuse_each("store", stores);
     refuse_each("load", loads);

@@ -39,4 +39,31 @@ static inline int32_t unlock(jip_handle *handle, uint32_t lock, int32_t before) 
     return before == JIP_DONE ? result : before;
 }
 
+/* A short path: a lock, and the rest of the path from its object. */
+struct place {
+    uint32_t lock;
+    const char *path;
+    size_t length;
+};
+
+/* Splits a path into a short one. The caller frees its lock. */
+static inline int32_t reach(jip_handle *handle, const char *path, size_t path_length, struct place *at) {
+    return jip_reach(handle, path, path_length, &at->lock, &at->path, &at->length);
+}
+
+/* A packet about the object at a place. */
+static inline void begin_at(jip_packet *packet, int32_t action, jip_date moment, const struct place *at) {
+    jip_begin(packet, action, moment);
+    packet->lock = at->lock;
+    packet->path = (const uint8_t *)at->path;
+    packet->path_length = at->length;
+}
+
+/* Serves a packet about the object at a place. */
+static inline int32_t ask_at(jip_handle *handle, int32_t action, jip_date moment, const struct place *at, jip_answer *answer) {
+    jip_packet packet;
+    begin_at(&packet, action, moment, at);
+    return ask(handle, &packet, answer);
+}
+
 #endif

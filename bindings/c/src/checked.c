@@ -15,11 +15,6 @@ int32_t jip_lib_copy_image(jip_handle *handle, uint8_t *to, size_t length);
 uint64_t jip_lib_changes(jip_handle *handle);
 int32_t jip_lib_copy_changed(jip_handle *handle, uint8_t *copy, size_t length, uint32_t *numbers, size_t room, size_t *count);
 
-/* Whether a pointer can be that of a handle, which does not overlap these bytes. */
-static int may_be_handle(const jip_handle *handle, const void *bytes, size_t length) {
-    return may_stand(handle, _Alignof(jip_handle)) && apart(handle, sizeof *handle, bytes, length);
-}
-
 /* Whether a packet, its texts and its buffer can exist. */
 static int may_be_packet(const jip_packet *packet) {
     return may_stand(packet, _Alignof(jip_packet)) && may_hold(packet->path, packet->path_length) &&

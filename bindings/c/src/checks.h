@@ -12,10 +12,20 @@ static inline int may_hold(const void *at, size_t length) {
 /* Whether a pointer is not null and has this alignment. */
 static inline int may_stand(const void *at, size_t alignment) { return at != NULL && (uintptr_t)at % alignment == 0; }
 
+/* Returns the length of a path, which JIP_TO_ZERO leaves to its first zero byte. */
+static inline size_t length_of(const char *path, size_t length) {
+    return length == JIP_TO_ZERO && path != NULL ? strlen(path) : length;
+}
+
 /* Whether two ranges do not overlap. */
 static inline int apart(const void *first, size_t length, const void *second, size_t other_length) {
     const uintptr_t a = (uintptr_t)first, b = (uintptr_t)second;
     return length == 0 || other_length == 0 || (a < b ? length <= b - a : other_length <= a - b);
+}
+
+/* Whether a pointer can be that of a handle, which does not overlap these bytes. */
+static inline int may_be_handle(const jip_handle *handle, const void *bytes, size_t length) {
+    return may_stand(handle, _Alignof(jip_handle)) && apart(handle, sizeof *handle, bytes, length);
 }
 
 #endif

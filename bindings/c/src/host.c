@@ -1,6 +1,6 @@
 /* Reads images from files of the host, and replaces such files whole. */
 #define _XOPEN_SOURCE 700
-#include <jiponuwha.h>
+#include "checks.h"
 
 #include <errno.h>
 #include <fcntl.h>
@@ -58,7 +58,8 @@ static int32_t load_by(opener *open_bytes, const char *path, jip_handle *handle,
     struct gathered all = {NULL, 0, 0};
     int32_t result;
     int from, error;
-    if (path == NULL) return JIP_WRONG_ARGUMENT;
+    if (path == NULL || !may_be_handle(handle, path, strlen(path) + 1)) return JIP_WRONG_ARGUMENT;
+    if (!may_stand(fault, _Alignof(jip_fault)) || !apart(fault, sizeof *fault, path, strlen(path) + 1)) return JIP_WRONG_ARGUMENT;
     from = open(path, O_RDONLY | O_CLOEXEC);
     if (from < 0) return JIP_HOST_FAILED;
     result = gather(from, &all);
@@ -191,7 +192,7 @@ int32_t jip_store(jip_handle *handle, const char *path) {
     uint8_t *bytes;
     int32_t result;
     int error;
-    if (path == NULL || length == 0) return JIP_WRONG_ARGUMENT;
+    if (path == NULL || length == 0 || !may_be_handle(handle, path, strlen(path) + 1)) return JIP_WRONG_ARGUMENT;
     bytes = calloc(length, 1);
     if (bytes == NULL) return JIP_NO_MEMORY;
     result = jip_copy_image(handle, bytes, length);

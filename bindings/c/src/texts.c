@@ -4,6 +4,13 @@
 #define IN_WORDS(number) #number
 #define VERSION_OF(major, minor, patch) IN_WORDS(major) "." IN_WORDS(minor) "." IN_WORDS(patch)
 
+/* What the version says of a library that was compiled without proof. tools/wheel and tools/debian look for these bytes. */
+#ifdef JIP_NOT_PROVED
+#define PROOF " (not proved)"
+#else
+#define PROOF ""
+#endif
+
 struct text {
     int32_t number;
     const char *words;
@@ -20,6 +27,7 @@ static const struct text statuses[] = {
 /* The messages that AmigaDOS prints. They include errors of packets that are not served yet. */
 static const struct text errors[] = {
     {JIP_ERROR_NO_FREE_STORE, "not enough memory available"},
+    {115, "bad number"},
     {JIP_ERROR_OBJECT_IN_USE, "object is in use"},
     {JIP_ERROR_OBJECT_EXISTS, "object already exists"},
     {JIP_ERROR_DIR_NOT_FOUND, "directory not found"},
@@ -80,7 +88,7 @@ static const char *text_of(const struct text *rows, size_t count, int32_t number
 
 #define TEXT_OF(rows, number) text_of(rows, sizeof(rows) / sizeof(rows)[0], number)
 
-const char *jip_version(void) { return VERSION_OF(JIP_VERSION_MAJOR, JIP_VERSION_MINOR, JIP_VERSION_PATCH); }
+const char *jip_version(void) { return VERSION_OF(JIP_VERSION_MAJOR, JIP_VERSION_MINOR, JIP_VERSION_PATCH) PROOF; }
 
 const char *jip_status_text(int32_t status) {
     const char *text = TEXT_OF(statuses, status);

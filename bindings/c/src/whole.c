@@ -1,15 +1,9 @@
 /* Reads and writes whole files, by packets. */
 #include "asking.h"
+#include "checks.h"
 
 #include <stdbool.h>
 #include <stdlib.h>
-
-/* A short path: a lock, and the rest of the path from its object. */
-struct place {
-    uint32_t lock;
-    const char *path;
-    size_t length;
-};
 
 /* The new content of a file, and the time stamp of the change. */
 struct content {
@@ -26,11 +20,23 @@ static size_t step_of(const char *path) {
     return step;
 }
 
+/* Whether an output does not overlap a handle and a path, and is aligned. */
+static int may_fill(const void *at, size_t size, size_t alignment, const jip_handle *handle, const char *path, size_t path_length) {
+    return may_stand(at, alignment) && may_be_handle(handle, at, size) && apart(at, size, path, path_length);
+}
+
 int32_t jip_reach(jip_handle *handle, const char *path, size_t path_length, uint32_t *lock, const char **rest, size_t *rest_length) {
     uint32_t held = 0, next = 0;
     int32_t result = JIP_DONE;
-    if ((path == NULL && path_length != 0) || lock == NULL || rest == NULL || rest_length == NULL) return JIP_WRONG_ARGUMENT;
-    if (path_length == JIP_TO_ZERO) path_length = strlen(path);
+    path_length = length_of(path, path_length);
+    if (!may_hold(path, path_length) || !may_be_handle(handle, path, path_length)) return JIP_WRONG_ARGUMENT;
+    if (!may_fill(lock, sizeof *lock, _Alignof(uint32_t), handle, path, path_length) ||
+        !may_fill(rest, sizeof *rest, _Alignof(const char *), handle, path, path_length) ||
+        !may_fill(rest_length, sizeof *rest_length, _Alignof(size_t), handle, path, path_length))
+        return JIP_WRONG_ARGUMENT;
+    if (!apart(lock, sizeof *lock, rest, sizeof *rest) || !apart(lock, sizeof *lock, rest_length, sizeof *rest_length) ||
+        !apart(rest, sizeof *rest, rest_length, sizeof *rest_length))
+        return JIP_WRONG_ARGUMENT;
     while (result == JIP_DONE && path_length > JIP_PATH_BYTES) {
         const size_t step = step_of(path);
         result = step == 0 ? JIP_ERROR_INVALID_COMPONENT_NAME : lock_object(handle, held, path, step, &next);
@@ -46,16 +52,6 @@ int32_t jip_reach(jip_handle *handle, const char *path, size_t path_length, uint
     *rest = path;
     *rest_length = path_length;
     return JIP_DONE;
-}
-
-/* Serves a packet about the object at a place. */
-static int32_t ask_at(jip_handle *handle, int32_t action, jip_date moment, const struct place *at, jip_answer *answer) {
-    jip_packet packet;
-    jip_begin(&packet, action, moment);
-    packet.lock = at->lock;
-    packet.path = (const uint8_t *)at->path;
-    packet.path_length = at->length;
-    return ask(handle, &packet, answer);
 }
 
 /* Opens the file at a place by FINDINPUT, FINDOUTPUT or FINDUPDATE. */
@@ -97,8 +93,12 @@ int32_t jip_read_file(jip_handle *handle, const char *path, size_t path_length, 
     uint32_t file = 0;
     size_t size = 0;
     int32_t result;
-    if ((to == NULL && room != 0) || length == NULL) return JIP_WRONG_ARGUMENT;
-    result = jip_reach(handle, path, path_length, &at.lock, &at.path, &at.length);
+    path_length = length_of(path, path_length);
+    if (!may_hold(path, path_length) || !may_hold(to, room) || !may_be_handle(handle, to, room) || !apart(to, room, path, path_length))
+        return JIP_WRONG_ARGUMENT;
+    if (!may_fill(length, sizeof *length, _Alignof(size_t), handle, path, path_length) || !apart(length, sizeof *length, to, room))
+        return JIP_WRONG_ARGUMENT;
+    result = reach(handle, path, path_length, &at);
     if (result != JIP_DONE) return result;
     result = open_file(handle, JIP_ACTION_FINDINPUT, no_time, &at, &file);
     if (result == JIP_DONE) {
@@ -149,7 +149,7 @@ static int32_t write_at(jip_handle *handle, const struct place *at, const struct
 /* Writes the file at a path. */
 static int32_t write_along(jip_handle *handle, const char *path, size_t path_length, const struct content *content) {
     struct place at;
-    const int32_t result = jip_reach(handle, path, path_length, &at.lock, &at.path, &at.length);
+    const int32_t result = reach(handle, path, path_length, &at);
     return result == JIP_DONE ? unlock(handle, at.lock, write_at(handle, &at, content)) : result;
 }
 
@@ -185,7 +185,9 @@ int32_t jip_write_file(jip_handle *handle, jip_date moment, const char *path, si
     const struct content content = {moment, bytes, length};
     bool has = false;
     int32_t result;
-    if ((path == NULL && path_length != 0) || (bytes == NULL && length != 0)) return JIP_WRONG_ARGUMENT;
+    path_length = length_of(path, path_length);
+    if (!may_hold(path, path_length) || !may_be_handle(handle, path, path_length)) return JIP_WRONG_ARGUMENT;
+    if (!may_hold(bytes, length) || !may_be_handle(handle, bytes, length)) return JIP_WRONG_ARGUMENT;
     result = has_room(handle, length, &has);
     if (result == JIP_DONE && !has) result = try_on_copy(handle, path, path_length, &content);
     return result == JIP_DONE ? write_along(handle, path, path_length, &content) : result;

@@ -17,6 +17,8 @@ OSError. A refused call changes nothing, unless its text says otherwise.
 """
 from __future__ import annotations
 
+from typing import TYPE_CHECKING
+
 from ._errors import (
     DirectoryNotEmpty,
     DiskFull,
@@ -31,14 +33,16 @@ from ._errors import (
 )
 from ._file import File
 from ._library import version
-from ._names import Note, date_of_text, date_text, entry_name, host_name, protection_bits, protection_letters
 from ._numbers import DOUBLE_DENSITY, HIGH_DENSITY, EntryType, Error, FaultKind, Format, Role, State
 from ._path import Path
-from ._salvage import Salvaged, salvage
 from ._values import Date, Entry, Fault, Faults, Info, Owner
 from ._volume import Volume, check, create, open
 
-__version__ = version()
+if TYPE_CHECKING:
+    from ._names import Note, date_of_text, date_text, entry_name, host_name, protection_bits, protection_letters
+    from ._salvage import Salvaged, salvage
+
+__version__ = version().partition(" ")[0]
 
 __all__ = [
     "DOUBLE_DENSITY",
@@ -82,3 +86,31 @@ __all__ = [
     "salvage",
     "version",
 ]
+
+# The names of modules that are loaded when one of them is used.
+_LATER = {
+    "Note": "_names",
+    "Salvaged": "_salvage",
+    "date_of_text": "_names",
+    "date_text": "_names",
+    "entry_name": "_names",
+    "host_name": "_names",
+    "protection_bits": "_names",
+    "protection_letters": "_names",
+    "salvage": "_salvage",
+}
+
+
+if not TYPE_CHECKING:
+
+    def __getattr__(name: str) -> object:
+        if name not in _LATER:
+            raise AttributeError(f"module {__name__!r} has no attribute {name!r}")
+        import importlib
+
+        found = globals()[name] = getattr(importlib.import_module(f"{__name__}.{_LATER[name]}"), name)
+        return found
+
+
+def __dir__() -> list[str]:
+    return sorted({*globals(), *_LATER})

@@ -1,12 +1,14 @@
 """The exceptions. Each one is an OSError."""
 from __future__ import annotations
 
+import ctypes
 import errno
+import os
 from collections.abc import Sequence
 from typing import Any
 
 from ._library import error_text
-from ._numbers import Error
+from ._numbers import Error, Status
 from ._values import Fault, Faults
 
 # The errno nearest to each error of AmigaDOS.
@@ -71,7 +73,7 @@ class DirectoryNotEmpty(DosError):
     """A directory with entries cannot be deleted (216)."""
 
 
-class InvalidName(DosError):
+class InvalidName(DosError, ValueError):
     """The text is not a valid name (210)."""
 
 
@@ -119,3 +121,17 @@ _CLASSES: dict[int, type[DosError]] = {
 def dos_error(number: int, path: object = None) -> DosError:
     """Returns the exception for an error number of AmigaDOS."""
     return _CLASSES.get(number, DosError)(number, path)
+
+
+def settle(result: int, shown: object) -> None:
+    """Raises the exception for the result of a library call, unless the result is JIP_DONE."""
+    if result == Status.DONE:
+        return
+    if result == Status.NO_MEMORY:
+        raise MemoryError(error_text(result))
+    if result == Status.HOST_FAILED:
+        number = ctypes.get_errno()
+        raise OSError(number, os.strerror(number), shown)
+    if result == Status.WRONG_ARGUMENT:
+        raise ValueError(error_text(result))
+    raise dos_error(result, shown)

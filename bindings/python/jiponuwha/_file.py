@@ -8,6 +8,7 @@ from typing import TYPE_CHECKING
 from ._errors import dos_error
 from ._numbers import Action, Error, SeekMode
 from ._path import AnyPath, path_text
+from ._types import need_int, need_str, wrong_type
 
 if TYPE_CHECKING:
     from _typeshed import ReadableBuffer, WriteableBuffer
@@ -20,6 +21,8 @@ MODES = {
     "r+": Action.FINDINPUT,
     "w": Action.FINDOUTPUT,
     "w+": Action.FINDOUTPUT,
+    "x": Action.FINDOUTPUT,
+    "x+": Action.FINDOUTPUT,
     "a": Action.FINDUPDATE,
     "a+": Action.FINDUPDATE,
 }
@@ -31,22 +34,32 @@ _WHENCE = {
 _FARTHEST = 2**31 - 1
 
 
+def data_bytes(data: ReadableBuffer) -> bytes:
+    """Returns the bytes of an object with a buffer."""
+    try:
+        view = memoryview(data)
+    except TypeError:
+        raise wrong_type("the data", data, "an object with bytes") from None
+    return bytes(view)
+
+
 class File(io.RawIOBase):
     """An open file of a volume, as `open` returns it. It is not buffered, and io.BufferedReader, io.TextIOWrapper and the like
     can wrap it.
 
-    While a file is open in mode "w", every other open of it is refused with 202. A seek to outside the file is refused with
+    While a file is open in mode "w" or "x", every other open of it is refused with 202. A seek to outside the file is refused with
     219, and the position stays. Positions and sizes are in bytes. The file is usable until it or its volume is closed.
     """
 
     def __init__(self, volume: Volume, path: AnyPath, mode: str = "r") -> None:
         super().__init__()
+        need_str("the mode", mode)
         self._mode = mode.replace("b", "", 1)
         if self._mode not in MODES:
             raise ValueError(f"invalid mode: {mode!r}")
         self.volume = volume
         self.name = path_text(path)
-        self._number = volume._find(MODES[self._mode], path)
+        self._number = volume._find(MODES[self._mode], path, is_new=self._mode.startswith("x"))
         if self._mode.startswith("a"):
             self.seek(0, io.SEEK_END)
 
@@ -95,7 +108,7 @@ class File(io.RawIOBase):
     def write(self, data: ReadableBuffer) -> int:
         """Writes all of the data at the position, and returns its length. A refusal writes nothing."""
         self._open_for(self.writable(), "not writable")
-        given = bytes(memoryview(data).cast("B"))
+        given = data_bytes(data)
         if self._mode.startswith("a"):
             self.seek(0, io.SEEK_END)
         place = ctypes.cast(ctypes.c_char_p(given), ctypes.c_void_p)
@@ -108,6 +121,7 @@ class File(io.RawIOBase):
 
     def seek(self, offset: int, whence: int = io.SEEK_SET) -> int:
         self._open_for(True, "")
+        need_int("the offset", offset)
         if whence not in _WHENCE:
             raise ValueError(f"invalid whence: {whence}")
         self._move(Action.SEEK, offset, _WHENCE[whence])
@@ -121,5 +135,6 @@ class File(io.RawIOBase):
         """Sets the size in bytes, by default to the position, and returns it. New bytes are zero."""
         self._open_for(self.writable(), "not writable")
         wanted = self.tell() if size is None else size
+        need_int("the size", wanted)
         self._move(Action.SET_FILE_SIZE, wanted, SeekMode.OFFSET_BEGINNING)
         return wanted

@@ -1,20 +1,20 @@
 """The shared library, loaded by ctypes, with the structs and functions of jiponuwha.h.
 
 The library is the file that the environment variable JIPONUWHA_LIBRARY names. Without it, the library is next to this
-module, or else in the system's library path.
+module. In a checkout of the repository it is the one that `tools/program --shared` prints, which compiles it if necessary. Otherwise
+it is in the system's library path.
 """
 from __future__ import annotations
 
 import ctypes
 import os
-from pathlib import Path as HostPath
 from typing import Any
 
 from ._numbers import FaultKind
 
 NAME = "libjiponuwha.so.1"
 # The version of the header that this package was written for. The library has the same major version, and is not older.
-WRITTEN_FOR = (1, 2)
+WRITTEN_FOR = (1, 3)
 
 
 class CHandle(ctypes.Structure):
@@ -175,6 +175,11 @@ FUNCTIONS: dict[str, tuple[Any, list[Any]]] = {
     "jip_changes": (ctypes.c_uint64, [_HANDLE]),
     "jip_read_file": (ctypes.c_int32, [_HANDLE, *_PATH, ctypes.c_void_p, ctypes.c_size_t, _SIZE]),
     "jip_write_file": (ctypes.c_int32, [_HANDLE, CDate, *_PATH, ctypes.c_char_p, ctypes.c_size_t]),
+    "jip_make_directory": (ctypes.c_int32, [_HANDLE, CDate, *_PATH]),
+    "jip_delete": (ctypes.c_int32, [_HANDLE, CDate, *_PATH]),
+    "jip_rename": (ctypes.c_int32, [_HANDLE, CDate, *_PATH, *_PATH]),
+    "jip_stat": (ctypes.c_int32, [_HANDLE, *_PATH, ctypes.POINTER(CEntry)]),
+    "jip_list": (ctypes.c_int32, [_HANDLE, *_PATH, ctypes.POINTER(CEntry), ctypes.c_size_t, _SIZE]),
     "jip_walk": (ctypes.c_int32, [_HANDLE, Visitor, ctypes.c_void_p]),
     "jip_reach": (
         ctypes.c_int32,
@@ -219,9 +224,35 @@ FUNCTIONS: dict[str, tuple[Any, list[Any]]] = {
 }
 
 
+def _output_of(command: str, *arguments: str) -> bytes:
+    """Returns the output of a command, or nothing if it fails. (`subprocess` takes longer to import than this takes to run.)"""
+    ours, theirs = os.pipe()
+    try:
+        silence = (os.POSIX_SPAWN_OPEN, 0, os.devnull, os.O_RDONLY, 0)
+        actions = [silence, (os.POSIX_SPAWN_DUP2, theirs, 1)]
+        process = os.posix_spawn(command, [command, *arguments], os.environ, file_actions=actions)
+    finally:
+        os.close(theirs)
+    with open(ours, "rb") as output:
+        said = output.read()
+    return said if os.waitpid(process, 0)[1] == 0 else b""
+
+
+def _of_checkout() -> str | None:
+    """Returns the file of the library of the present sources, if this module is in a checkout that can make it."""
+    top, is_checkout = os.path.abspath(__file__), True
+    for name in (os.path.basename(__file__), "jiponuwha", "python", "bindings"):
+        top, last = os.path.split(top)
+        is_checkout = is_checkout and last == name
+    tool = os.path.join(top, "tools", "program")
+    if not is_checkout or not os.access(tool, os.X_OK):
+        return None
+    return os.fsdecode(_output_of(tool, "--shared").rstrip(b"\n")) or None
+
+
 def _found() -> ctypes.CDLL:
-    beside = HostPath(__file__).with_name(NAME)
-    file = os.environ.get("JIPONUWHA_LIBRARY") or (str(beside) if beside.exists() else NAME)
+    beside = os.path.join(os.path.dirname(__file__), NAME)
+    file = os.environ.get("JIPONUWHA_LIBRARY") or (beside if os.path.exists(beside) else _of_checkout() or NAME)
     try:
         return ctypes.CDLL(file, use_errno=True)
     except OSError as fault:
@@ -245,7 +276,7 @@ library = _loaded()
 
 
 def version() -> str:
-    """Returns the version of the library, such as `1.2.0`."""
+    """Returns the version of the library, such as `1.3.0`, with ` (not proved)` after it if it was compiled without proof."""
     return str(library.jip_version().decode("ascii"))
 
 

@@ -6,13 +6,13 @@ import os
 import threading
 from dataclasses import dataclass, field
 
-from ._errors import NotAnImage
+from ._errors import NotAnImage, settle
 from ._library import CSalvage, CSalvaged, library
 from ._names import text_by
 from ._numbers import State, Status
 from ._path import AnyBytes
 from ._values import Date, date_of, letters
-from ._volume import HostPath, check, image_bytes, settle
+from ._volume import HostPath, check, image_bytes
 
 
 class _List:

@@ -2,14 +2,17 @@
 from __future__ import annotations
 
 import ctypes
-import datetime
-from dataclasses import dataclass
-from typing import NamedTuple
+import time as clock
+from typing import TYPE_CHECKING, NamedTuple
 
 from ._library import CDate, CDisk, CEntry, CFault, CFinding, COwner, fault_text, library
 from ._numbers import EntryType, FaultKind, Format, Role
+from ._types import wrong_type
 
-_YEAR_1970 = datetime.datetime(1970, 1, 1)
+if TYPE_CHECKING:
+    import datetime
+
+_SECOND = 10**9
 
 
 def letters(data: bytes) -> str:
@@ -27,22 +30,34 @@ class Date(NamedTuple):
     @classmethod
     def of(cls, time: datetime.datetime) -> Date:
         """Converts a time. A time with a zone is converted to UTC. A time before 1978 becomes the first day."""
+        import datetime
+
+        if not isinstance(time, datetime.datetime):
+            raise wrong_type("the time", time, "a datetime")
         if time.tzinfo is not None:
             time = time.astimezone(datetime.timezone.utc).replace(tzinfo=None)
-        past, found = time - _YEAR_1970, CDate()
-        library.jip_date_of_time(past.days * 86_400 + past.seconds, past.microseconds * 1_000, found)
-        return date_of(found)
+        past = time - datetime.datetime(1970, 1, 1)
+        return cls._at(past.days * 86_400 + past.seconds, past.microseconds * 1_000)
 
     @classmethod
     def now(cls) -> Date:
         """Returns the date of the host's clock, in UTC."""
-        return cls.of(datetime.datetime.now(datetime.timezone.utc))
+        return cls._at(*divmod(clock.time_ns(), _SECOND))
+
+    @classmethod
+    def _at(cls, seconds: int, nanoseconds: int) -> Date:
+        found = CDate()
+        library.jip_date_of_time(seconds, nanoseconds, found)
+        return cls(found.days, found.minutes, found.ticks)
 
     def time(self) -> datetime.datetime:
         """Converts the date to a time without a zone. A date after the year 9999 raises OverflowError."""
+        import datetime
+
         seconds, nanoseconds = ctypes.c_int64(), ctypes.c_uint32()
         library.jip_time_of_date(self.as_c(), seconds, nanoseconds)
-        return _YEAR_1970 + datetime.timedelta(seconds=seconds.value, microseconds=nanoseconds.value // 1_000)
+        past = datetime.timedelta(seconds=seconds.value, microseconds=nanoseconds.value // 1_000)
+        return datetime.datetime(1970, 1, 1) + past
 
     def as_c(self) -> CDate:
         """Converts the date to the struct of the library. A number outside 0 to 2**32 - 1 raises ValueError."""
@@ -55,8 +70,7 @@ def date_of(given: CDate) -> Date:
     return Date(given.days, given.minutes, given.ticks)
 
 
-@dataclass(frozen=True)
-class Entry:
+class Entry(NamedTuple):
     """A file or a directory.
 
     `size` is in bytes, and 0 for a directory. `blocks` counts all blocks of the entry. `bits` are the protection bits: set
@@ -160,7 +174,6 @@ def finding_of(given: CFinding) -> Fault:
     return Fault(kind, block, given.at, given.found, given.wanted if given.known == 2 else None)
 
 
-@dataclass(frozen=True)
 class Owner:
     """Who owns a block.
 
@@ -168,9 +181,22 @@ class Owner:
     `index` says which data block, extension block or bitmap block it is, from 0.
     """
 
-    role: Role
-    header: int = 0
-    index: int = 0
+    __slots__ = ("role", "header", "index")
+
+    def __init__(self, role: Role, header: int = 0, index: int = 0) -> None:
+        self.role, self.header, self.index = role, header, index
+
+    def _fields(self) -> tuple[Role, int, int]:
+        return self.role, self.header, self.index
+
+    def __eq__(self, other: object) -> bool:
+        return isinstance(other, Owner) and self._fields() == other._fields()
+
+    def __hash__(self) -> int:
+        return hash(self._fields())
+
+    def __repr__(self) -> str:
+        return f"Owner(role={self.role!r}, header={self.header}, index={self.index})"
 
 
 def owner_of(given: COwner) -> Owner:

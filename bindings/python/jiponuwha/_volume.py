@@ -3,18 +3,17 @@ from __future__ import annotations
 
 import contextlib
 import ctypes
-import datetime
+import io
 import os
 import threading
 import warnings
 from collections import deque
-from collections.abc import Callable, Iterator, Mapping
-from pathlib import Path as HostFile
-from typing import Any, Union, overload
+from collections.abc import Callable, Iterable, Iterator, Mapping
+from typing import TYPE_CHECKING, Any, TypeVar, Union, overload
 
-from ._errors import DosError, NotAnImage, dos_error
-from ._file import File
-from ._library import CAnswer, CDate, CFault, CFinding, CHandle, COwner, CPacket, Visitor, error_text, library
+from ._errors import DosError, NotAnImage, dos_error, settle
+from ._file import File, data_bytes
+from ._library import CAnswer, CDate, CEntry, CFault, CFinding, CHandle, COwner, CPacket, Visitor, library
 from ._numbers import (
     BLOCK_BYTES,
     DOUBLE_DENSITY,
@@ -31,27 +30,25 @@ from ._numbers import (
     Status,
 )
 from ._path import AnyBytes, AnyPath, Path, name_bytes, path_bytes, path_text
+from ._types import need_int, wrong_type
 from ._values import Date, Entry, Fault, Faults, Info, Owner, entry_of, fault_of, finding_of, info_of, letters, owner_of
+
+if TYPE_CHECKING:
+    import datetime
 
 HostPath = Union[str, "os.PathLike[str]"]
 Clock = Callable[[], Date]
-# The largest file that is read in one call, in bytes.
+Default = TypeVar("Default")
+# What `Volume.update` takes.
+Files = Union[
+    Mapping[str, Union[AnyBytes, Path]], Mapping[AnyPath, Union[AnyBytes, Path]], Iterable[tuple[AnyPath, Union[AnyBytes, Path]]]
+]
+# The largest file that is read in one call, in bytes, and the most entries that are listed in one.
 _ROOM = 1 << 16
+_ENTRIES = 128
+# No default for `Volume.pop`.
+_NONE = object()
 _NOT_THERE = (Error.DIR_NOT_FOUND, Error.OBJECT_NOT_FOUND, Error.INVALID_COMPONENT_NAME, Error.OBJECT_WRONG_TYPE)
-
-
-def settle(result: int, shown: object) -> None:
-    """Raises the exception for the result of a library call, unless the result is JIP_DONE."""
-    if result == Status.DONE:
-        return
-    if result == Status.NO_MEMORY:
-        raise MemoryError(error_text(result))
-    if result == Status.HOST_FAILED:
-        number = ctypes.get_errno()
-        raise OSError(number, os.strerror(number), shown)
-    if result == Status.WRONG_ARGUMENT:
-        raise ValueError(error_text(result))
-    raise dos_error(result, shown)
 
 
 class Volume(Mapping[AnyPath, Path]):
@@ -61,19 +58,20 @@ class Volume(Mapping[AnyPath, Path]):
     `path in volume`. A loop visits the paths of all files and directories. Only `save` writes changes to a file of the host.
 
     One thread at a time uses a volume. A call during another thread's call raises RuntimeError. A call on a closed volume
-    raises ValueError. Closing or dropping a volume with unsaved changes gives a ResourceWarning. Changes get the date that
-    `clock` returns. A change of a read-only volume raises Protected (214).
+    raises ValueError. Closing or dropping a volume with unsaved changes, or one that was made and never saved, gives a
+    ResourceWarning. Changes get the date that `clock` returns. A change of a read-only volume raises Protected (214). A volume
+    cannot be copied or pickled.
     """
 
     def __init__(
-        self, handle: CHandle, path: HostPath | None = None, clock: Clock = Date.now, read_only: bool = False
+        self, handle: CHandle, path: HostPath | None, clock: Clock = Date.now, read_only: bool = False, is_new: bool = False
     ) -> None:
         self._handle = handle
         self._turns = threading.Lock()
         self._dropped: deque[int] = deque()
         self._is_open = True
         self._room = ctypes.create_string_buffer(_ROOM)
-        self._saved = int(library.jip_changes(handle))
+        self._saved = None if is_new else int(library.jip_changes(handle))
         self.path = None if path is None else os.fspath(path)
         self.clock = clock
         self._is_read_only = read_only
@@ -127,20 +125,24 @@ class Volume(Mapping[AnyPath, Path]):
         with self._place(path) as (lock, rest):
             return self._ask(action, path_text(path), lock=lock, path=rest, path_length=len(rest), **fields)
 
-    @contextlib.contextmanager
-    def _locked(self, path: AnyPath) -> Iterator[int]:
-        """Yields a shared lock on the object at a path, which is freed afterwards."""
-        lock = int(self._at(Action.LOCATE_OBJECT, path, mode=LockMode.SHARED_LOCK).res1)
-        try:
-            yield lock
-        finally:
-            self._free(lock)
-
     # ---- For open files ----
 
-    def _find(self, action: Action, path: AnyPath) -> int:
+    def _find(self, action: Action, path: AnyPath, is_new: bool) -> int:
+        """Opens a file, which may not exist if it has to be new, and returns the number of its handle."""
         with self._turn():
+            if is_new and self._is_there(path):
+                raise dos_error(Error.OBJECT_EXISTS, path_text(path))
             return int(self._at(action, path).handle)
+
+    def _is_there(self, path: AnyPath) -> bool:
+        """Whether a file or directory is at a path. A path that cannot have one raises DosError."""
+        raw = path_bytes(path)
+        found = library.jip_stat(self._handle, raw, len(raw), CEntry())
+        if found == Error.OBJECT_NOT_FOUND:
+            return False
+        if found != Error.OBJECT_IN_USE:
+            settle(found, path_text(path))
+        return True
 
     def _drop(self, number: int) -> None:
         """Closes a file handle. If the volume is in use, the next call closes it."""
@@ -159,10 +161,10 @@ class Volume(Mapping[AnyPath, Path]):
     # ---- Files and directories ----
 
     def open(self, path: AnyPath, mode: str = "r") -> File:
-        """Opens a file as a raw stream of io. The modes are "r", "w" and "a", with or without "+" and "b".
+        """Opens a file as a raw stream of io. The modes are "r", "w", "x" and "a", with or without "+" and "b".
 
         "r" and "r+" need an existing file, and raise ObjectNotFound otherwise. "w" empties the file, and needs that no one
-        else has it open (ObjectInUse).
+        else has it open (ObjectInUse). "x" makes a new file, and raises ObjectExists if there is one.
         """
         return File(self, path, mode)
 
@@ -182,7 +184,7 @@ class Volume(Mapping[AnyPath, Path]):
 
         A refusal, such as DiskFull, changes nothing. If memory runs out half way, an old file may keep its old size.
         """
-        raw, given = path_bytes(path), bytes(memoryview(data))
+        raw, given = path_bytes(path), data_bytes(data)
         with self._turn() as handle:
             result = library.jip_write_file(handle, self._moment(), raw, len(raw), given, len(given))
             settle(result, path_text(path))
@@ -190,23 +192,21 @@ class Volume(Mapping[AnyPath, Path]):
 
     def stat(self, path: AnyPath) -> Entry:
         """Returns the entry at a path."""
-        with self._turn(), self._locked(path) as lock:
-            return entry_of(self._ask(Action.EXAMINE_OBJECT, path_text(path), lock=lock).entry)
+        raw, entry = path_bytes(path), CEntry()
+        with self._turn() as handle:
+            settle(library.jip_stat(handle, raw, len(raw), entry), path_text(path))
+        return entry_of(entry)
 
     def entries(self, path: AnyPath = "") -> list[Entry]:
         """Returns the entries of a directory."""
-        found: list[Entry] = []
-        with self._turn(), self._locked(path) as lock:
-            key = self._ask(Action.EXAMINE_OBJECT, path_text(path), lock=lock).entry.key
-            while True:
-                try:
-                    entry = self._ask(Action.EXAMINE_NEXT, path_text(path), lock=lock, key=key).entry
-                except DosError as fault:
-                    if fault.dos != Error.NO_MORE_ENTRIES:
-                        raise
-                    return found
-                found.append(entry_of(entry))
-                key = entry.key
+        raw, count = path_bytes(path), ctypes.c_size_t()
+        with self._turn() as handle:
+            room = (CEntry * _ENTRIES)()
+            settle(library.jip_list(handle, raw, len(raw), room, len(room), count), path_text(path))
+            if count.value > len(room):
+                room = (CEntry * count.value)()
+                settle(library.jip_list(handle, raw, len(raw), room, len(room), count), path_text(path))
+        return [entry_of(room[at]) for at in range(count.value)]
 
     @overload
     def walk(self, names: type[str] = ...) -> Iterator[tuple[str, Entry]]: ...
@@ -251,25 +251,56 @@ class Volume(Mapping[AnyPath, Path]):
             for name in Path(self, path).parts[:-1]:
                 here = here / name
                 self.mkdir(here, exist_ok=True)
+        raw = path_bytes(path)
         try:
-            with self._turn():
-                self._free(int(self._at(Action.CREATE_DIR, path).res1))
+            with self._turn() as handle:
+                settle(library.jip_make_directory(handle, self._moment(), raw, len(raw)), path_text(path))
         except DosError as fault:
             if not exist_ok or fault.dos != Error.OBJECT_EXISTS or not self.stat(path).is_dir:
                 raise
 
     def remove(self, path: AnyPath) -> None:
         """Deletes a file or an empty directory."""
-        with self._turn():
-            self._at(Action.DELETE_OBJECT, path)
+        raw = path_bytes(path)
+        with self._turn() as handle:
+            settle(library.jip_delete(handle, self._moment(), raw, len(raw)), path_text(path))
 
     def rename(self, path: AnyPath, target: AnyPath) -> None:
         """Moves a file or a directory. An existing target is not replaced: it raises ObjectExists."""
-        with self._turn(), self._place(target) as (lock, rest):
-            self._at(Action.RENAME_OBJECT, path, to_lock=lock, text=rest, text_length=len(rest))
+        raw, to = path_bytes(path), path_bytes(target)
+        with self._turn() as handle:
+            settle(library.jip_rename(handle, self._moment(), raw, len(raw), to, len(to)), path_text(path))
+
+    def replace(self, path: AnyPath, target: AnyPath) -> None:
+        """Moves a file or a directory, in place of a file, or of an empty directory, at the target. A refusal changes nothing.
+
+        The target may be missing. If it is of another type, it raises WrongType. If there is one, the change is first tried on a copy
+        of the volume.
+        """
+        if not self._exists(target) or self.stat(path).key == self.stat(target).key:
+            return self.rename(path, target)
+        if self.stat(path).is_dir != self.stat(target).is_dir:
+            raise dos_error(Error.OBJECT_WRONG_TYPE, path_text(target))
+        self._need_unused(path)
+        with open(self.image(), clock=self.clock) as copy:
+            copy.remove(path_text(target))
+            copy.rename(path_text(path), path_text(target))
+            copy.close(discard=True)
+        self.remove(target)
+        self.rename(path, target)
+
+    def _exists(self, path: AnyPath) -> bool:
+        with self._turn():
+            return self._is_there(path)
+
+    def _need_unused(self, path: AnyPath) -> None:
+        """Raises ObjectInUse if something has a file or directory open."""
+        with self._turn():
+            self._free(int(self._at(Action.LOCATE_OBJECT, path, mode=LockMode.EXCLUSIVE_LOCK).res1))
 
     def protect(self, path: AnyPath, bits: int) -> None:
         """Sets the protection bits: 1, 2, 4 and 8 deny deleting, executing, writing and reading; 16 to 128 are a, p, s and h."""
+        need_int("the protection bits", bits)
         if not 0 <= bits < 2**32:
             raise ValueError(f"no protection bits: {bits}")
         with self._turn():
@@ -277,7 +308,7 @@ class Volume(Mapping[AnyPath, Path]):
 
     def comment(self, path: AnyPath, text: str | bytes) -> None:
         """Sets the comment. More than 79 bytes are refused with 220."""
-        raw = name_bytes(text)
+        raw = name_bytes(text, "the comment")
         if len(raw) > PATH_BYTES:
             raise dos_error(Error.COMMENT_TOO_BIG, path_text(path))
         with self._turn():
@@ -294,7 +325,7 @@ class Volume(Mapping[AnyPath, Path]):
     def label(self, name: str | bytes | None = None) -> str:
         """Returns the name of the volume. If a name is given, the volume is renamed first."""
         if name is not None:
-            raw = name_bytes(name)
+            raw = name_bytes(name, "the label")
             if len(raw) > PATH_BYTES:
                 raise dos_error(Error.INVALID_COMPONENT_NAME, name)
             with self._turn():
@@ -348,7 +379,7 @@ class Volume(Mapping[AnyPath, Path]):
 
     @property
     def is_changed(self) -> bool:
-        """Whether the volume may have unsaved changes."""
+        """Whether the volume may have unsaved changes, or was made and never saved."""
         return self._is_open and int(library.jip_changes(self._handle)) != self._saved
 
     @property
@@ -378,7 +409,8 @@ class Volume(Mapping[AnyPath, Path]):
         if not self._is_open:
             return
         if self.is_changed and not discard:
-            warnings.warn(f"{self!r} was changed and not saved", ResourceWarning, stacklevel=2, source=self)
+            done = "changed and not saved" if self._saved is not None else "made and never saved"
+            warnings.warn(f"{self!r} was {done}", ResourceWarning, stacklevel=2, source=self)
         with self._turn() as handle:
             self._is_open = False
             library.jip_close(handle)
@@ -393,6 +425,9 @@ class Volume(Mapping[AnyPath, Path]):
         if getattr(self, "_is_open", False):
             self.close()
 
+    def __reduce__(self) -> str:
+        raise TypeError("a Volume cannot be copied or pickled: `open(volume.image())` makes another one")
+
     def __repr__(self) -> str:
         return f"<Volume {self.path!r}>" if self._is_open else f"<closed Volume {self.path!r}>"
 
@@ -402,11 +437,39 @@ class Volume(Mapping[AnyPath, Path]):
         self.stat(path)
         return Path(self, path)
 
-    def __setitem__(self, path: AnyPath, data: AnyBytes) -> None:
-        self.write(path, data)
+    def __setitem__(self, path: AnyPath, data: AnyBytes | Path) -> None:
+        self.write(path, data.read() if isinstance(data, Path) else data)
 
     def __delitem__(self, path: AnyPath) -> None:
         self.remove(path)
+
+    @overload
+    def pop(self, path: AnyPath) -> bytes: ...
+
+    @overload
+    def pop(self, path: AnyPath, default: Default) -> bytes | Default: ...
+
+    def pop(self, path: AnyPath, default: Any = _NONE) -> Any:
+        """Deletes a file, and returns its bytes. If nothing is there, returns the default, or raises ObjectNotFound without one."""
+        try:
+            data = self.read(path)
+        except DosError as fault:
+            if default is _NONE or fault.dos not in (Error.DIR_NOT_FOUND, Error.OBJECT_NOT_FOUND):
+                raise
+            return default
+        self.remove(path)
+        return data
+
+    def update(self, files: Files) -> None:
+        """Writes the files of a mapping from paths to data, or of pairs of them. After a refusal, the files before it are written."""
+        for path, data in files.items() if isinstance(files, Mapping) else files:
+            self[path] = data
+
+    def setdefault(self, path: AnyPath, data: AnyBytes | Path = b"") -> Path:
+        """Writes a file if nothing is at the path. Returns the Path of what is there then."""
+        if not self._exists(path):
+            self[path] = data
+        return Path(self, path)
 
     def __contains__(self, path: object) -> bool:
         if not isinstance(path, (str, bytes, Path)):
@@ -442,7 +505,7 @@ def image_bytes(source: HostPath | AnyBytes) -> bytes:
     """Returns the bytes of an image, or the content of a file up to one byte more than the largest image."""
     if isinstance(source, (bytes, bytearray, memoryview)):
         return bytes(memoryview(source))
-    with HostFile(source).open("rb") as file:
+    with io.open(os.fspath(source), "rb") as file:
         return file.read(MOST_BLOCKS * BLOCK_BYTES + 1)
 
 
@@ -481,6 +544,7 @@ def open(source: HostPath | AnyBytes, *, read_only: bool = False, clock: Clock =
     dates changes. The image of a read-only volume never changes: calls that would change it raise Protected (214).
     """
     handle = CHandle()
+    checked_clock(clock)
     _opened(source, handle, read_only)
     return Volume(handle, None if isinstance(source, (bytes, bytearray, memoryview)) else source, clock, read_only)
 
@@ -498,11 +562,21 @@ def create(
     It has 16 to 101,602 blocks of 512 bytes. The label has 1 to 30 bytes, without `/` and `:`. A wrong argument raises
     ValueError.
     """
-    raw, handle = name_bytes(label), CHandle()
+    raw, handle = name_bytes(label, "the label"), CHandle()
+    need_int("the format", format)
+    need_int("the number of blocks", blocks)
     if not 0 <= blocks < 2**32:
         raise ValueError(f"no number of blocks: {blocks}")
-    settle(library.jip_blank(format, blocks, raw, len(raw), clock().as_c(), handle), path)
-    return Volume(handle, path, clock)
+    checked_clock(clock)
+    shown = None if path is None else os.fspath(path)
+    settle(library.jip_blank(format, blocks, raw, len(raw), clock().as_c(), handle), shown)
+    return Volume(handle, shown, clock, is_new=True)
+
+
+def checked_clock(clock: Clock) -> None:
+    """Raises TypeError if a clock is not a function."""
+    if not callable(clock):
+        raise wrong_type("the clock", clock, "a function")
 
 
 def check(source: HostPath | AnyBytes) -> Faults:

@@ -76,7 +76,7 @@ class Opened(unittest.TestCase):
         self.assertEqual(self.volume.read("f"), b"0123456789")
 
     def test_modes(self) -> None:
-        for mode in ("", "x", "rw", "rt", "rbb", "b"):
+        for mode in ("", "xx", "rx", "rw", "rt", "rbb", "b"):
             with self.assertRaises(ValueError):
                 self.volume.open("f", mode)
         with self.assertRaises(jip.WrongType):

@@ -90,7 +90,7 @@ class Header(unittest.TestCase):
 
     def test_version(self) -> None:
         numbers = [re.search(rf"#define JIP_VERSION_{it} (\d+)", self.text) for it in ("MAJOR", "MINOR", "PATCH")]
-        self.assertEqual(_library.version(), ".".join(it[1] for it in numbers if it))
+        self.assertEqual(_library.version().removesuffix(" (not proved)"), ".".join(it[1] for it in numbers if it))
         self.assertEqual(_library.version().split(".")[:2], [str(it) for it in _library.WRITTEN_FOR])
 
 

@@ -24,6 +24,14 @@ def blank(format: jip.Format = jip.Format.FFS) -> jip.Volume:
     return jip.create("Work", format=format, clock=lambda: NOW)
 
 
+def unchanged() -> bytes:
+    """Returns the image of a blank volume."""
+    volume = blank()
+    image = volume.image()
+    volume.close(discard=True)
+    return image
+
+
 class OnVolume(unittest.TestCase):
     """A test with a blank volume, which is not saved."""
 
@@ -193,7 +201,8 @@ class Directories(OnVolume):
         with self.assertRaises(KeyError):
             self.volume["g"]
         self.assertEqual({self.volume: 1}[self.volume], 1)
-        self.assertNotEqual(self.volume, blank())
+        with jip.open(self.volume.image()) as other:
+            self.assertNotEqual(self.volume, other)
 
 
 class Paths(OnVolume):
@@ -239,7 +248,7 @@ class Volumes(OnVolume):
             self.assertEqual((info.label, info.format, info.bytes_per_block), ("Work", format, bytes_per_block))
             self.assertEqual(info.free, info.blocks - info.used)
             self.assertEqual(len(volume.image()), 512 * jip.HIGH_DENSITY)
-            volume.close()
+            volume.close(discard=True)
 
     def test_wrong_volumes(self) -> None:
         for label, blocks in (("", 1760), ("a/b", 1760), ("Work", 15), ("Work", -1), ("Work", 2**33)):
@@ -268,7 +277,7 @@ class Volumes(OnVolume):
         self.assertIsInstance(fault, OSError)
 
     def test_closed(self) -> None:
-        self.volume.close()
+        self.volume.close(discard=True)
         self.volume.close()
         calls: list[Callable[[], object]] = [self.volume.info, self.volume.image, self.volume.save, lambda: self.volume.read("f")]
         for call in calls:
@@ -315,18 +324,21 @@ class OnHost(unittest.TestCase):
             jip.open(self.file.parent)
 
     def test_dropped(self) -> None:
-        floppy = jip.create("Work")
+        image = unchanged()
+        floppy = jip.open(image)
         floppy["f"] = b"x"
         with self.assertWarnsRegex(ResourceWarning, "was changed and not saved"):
             del floppy
             gc.collect()
-        with self.assertWarns(ResourceWarning), blank() as floppy:
-            floppy.mkdir("d")
+        with self.assertWarnsRegex(ResourceWarning, "was made and never saved"), blank() as floppy:
+            self.assertTrue(floppy.is_changed)
         with warnings.catch_warnings():
             warnings.simplefilter("error")
-            with jip.create("Work") as floppy:
+            with jip.open(image) as floppy:
                 with self.assertRaises(jip.ObjectNotFound):
                     floppy.read("f")
+            with jip.create("Work", self.file) as floppy:
+                floppy.save()
             with self.assertRaises(ZeroDivisionError), jip.create("Work") as floppy:
                 floppy["f"] = b"x"
                 raise ZeroDivisionError
