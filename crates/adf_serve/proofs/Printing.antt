@@ -24,7 +24,8 @@ use Rattle.adf_serve.specs.declared.fault.CommandFault.TheVariants.{Dos, Extract
 use Rattle.adf_serve.specs.declared.look.Look.{Look}
 use Rattle.adf_serve.specs.declared.refusal.Refusal.{Refusal}
 use Rattle.adf_serve.specs.declared.refusal.DosRefusal.{DosRefusal}
-use Rattle.adf_serve.specs.Texts.{AreDeletedLines, AreEntryBlocks, AreOwnedBlocks, BeginsJobText, BeginsListOf, BeginsListText, IsJobText, IsListed, IsListOf, IsListText, shown_form, IsLook, IsLookText, disk_answer, IsInfoText, IsPrintText}
+use Rattle.adf_serve.specs.Asked.{AnswersDisk}
+use Rattle.adf_serve.specs.Texts.{AreDeletedLines, AreEntryBlocks, AreOwnedBlocks, BeginsJobText, BeginsListOf, BeginsListText, IsJobText, IsListed, IsListOf, IsListText, shown_form, IsLook, IsLookText, IsInfoText, IsPrintText}
 use Rattle.adf_serve.specs.Faults.{IsBlankFault, IsNoImage, IsNoImageRefusal, IsNoRefusal, IsRefusedFor, IsToldAs, IsToldOut}
 use Rattle.adf_serve.specs.Commands.{Does, DoesJob, Ending, EndsJob, EndsOff, LeavesOff, Prints, prints, Tells, TellsFault, TellsJob, TellsOf, TellsSome}
 use Rattle.adf_serve.specs.Commands.Prints.{OnlyFaults, OfBlocks, OfBytes, OfImages, OfRescue, Unsaid}
@@ -120,6 +121,11 @@ accepted_tree : (image : List ℕ) (was_validated : Bool) (checked : List ℕ) �
 accepted_tree image false checked a = (a.3.0, a.3.1)
 accepted_tree image true checked a = (a.2.0, a.2.1)
 
+-- the answer of DISK_INFO for the tree of the image, printed
+pub info_told : (image : List ℕ) (answer : Answer) (last shown : List ℕ) → AnswersDisk image answer last → shown ≡ last → IsInfoText image (info_text answer shown)
+info_told image answer last shown (was_validated, checked, t, accepted, stands, (same, is)) shown_is =
+    (was_validated, checked, t, accepted, stands, ap₂ info_text is (shown_is ∙ same))
+
 -- the list that a job asks for, and the beginning of one
 module _ (image : List ℕ) (job : ListJob) (styled : Bool) (form : ListForm) (same : form ≡ shown_form styled job.form) (old new : Option (List ℕ)) where
   abbrev asked_path : Option (List ℕ)
@@ -149,10 +155,6 @@ module _ (image : List ℕ) (was_validated : Bool) (checked : List ℕ) (a : Acc
   print_text word old new h =
       let s = accepted_tree image was_validated checked a in
       let w = h s.0 s.1 in (bytes_of s.0 w.0, w.3, (was_validated, checked, s.0, a, s.1, (w.0, w.1, w.2, refl)))
-
-  pub info_told : (answer : Answer) (shown : List ℕ) → ((t : Tree) → Stands checked t → answer ≡ disk_answer t) → shown ≡ checked → IsInfoText image (info_text answer shown)
-  info_told answer shown is same =
-      let s = accepted_tree image was_validated checked a in (was_validated, checked, s.0, a, s.1, ap₂ info_text (is s.0 s.1) same)
 
   pub looked : (look : Look) (text : List ℕ) → ((t : Tree) → Stands checked t → IsLook look was_validated checked t text) → IsLookText look image text
   looked look text is =
