@@ -5,6 +5,7 @@ use Rattle.ados_change.proofs.Changed.{was, was_with}
 use Rattle.ados_change.proofs.Contents.{holding, refilled, file_not_root, proper_after, slots_same}
 use Rattle.ados_change.proofs.Unchanged.{StaysBut, Stays, long_stays, text_stays, date_stays, long_as, bytes_as, node_as, entry_as, root_as, file_stays}
 use Rattle.ados_change.proofs.Relaid.{IsRewritten, relaid, not_header, other, fits_after, marked_free_after, marked_used_after}
+use Rattle.ados_data.proofs.Untouched.{still_summed}
 
 -- a long of a header outside the fields of its data
 beside_fields : (j : ℕ) → (j < 2) ⊎ ((77 < j) × (j ≢ 81) × (j ≢ 126)) → ¬ IsDataField j
@@ -63,7 +64,7 @@ module _ (old new : List ℕ) (t : Tree) (s : Stands old t) (file : ℕ) (node :
       let short = (s.proper.name file a e).short in
       record {
         primary = header_long 0 (omega arith) (inl (omega arith)) ∙ n.primary;
-        sum = h.leaves.header_sum n.sum;
+        sum = still_summed old new file h.leaves.header_sum n.sum;
         name = text_stays IsDataField old new file header_stays NAME_BYTE a.name (omega (arith, short)) (λ j from below. beside_fields j (inr (omega (arith, from), λ z. omega (arith, z, from), λ z. omega (arith, z, below, short)))) n.name;
         date = date_stays IsDataField old new file header_stays 105 (omega arith) (λ j from below. beside_fields j (inr (omega (arith, from), λ z. omega (arith, z, from), λ z. omega (arith, z, below)))) ∙ n.date;
       }
@@ -169,7 +170,7 @@ module _ (old new : List ℕ) (t : Tree) (s : Stands old t) (file : ℕ) (node :
       let here : slice_index s.layout.pages m.0 ≡ page = get_or_default s.layout.pages m.0 0 page m.1 ∙ m.2 in
       let within : m.0 < pages_of old = omega (arith, m.1, s.fits.pages, ap page_count (count_same old t s)) in
       let is : page_block old m.0 ≡ page = cc (page_serves old t s m.0 within, slice_get-index s.layout.pages m.0 m.1, here) in
-      ap (block_sum new) (sym is) ∙ h.leaves.page_sums m.0 within (ap (block_sum old) is ∙ s.pages page m)
+      ap (block_sum new) (sym is) ∙ still_summed old new (page_block old m.0) (h.leaves.page_sums m.0 within) (ap (block_sum old) is ∙ s.pages page m)
 
   pub stands_after : Stands new v
   stands_after = record {

@@ -35,7 +35,7 @@ module _ (old new : List ℕ) (t : Tree) (lay : Layout) (key : ℕ) (s : Spells 
     bit = marked.bit;
     others = λ b i n. marked.others b (bit_of_inside old b (i.0, omega (arith, i.1, s.whole))) n;
     sums = λ page m. elim (cases_eq (page_block old (page_of key)) page) [
-      | inl e ↦ ap (block_sum new) (sym e) ∙ marked.sum ∙ ap (block_sum old) e ∙ s.pages page m
+      | inl e ↦ ap (block_sum new) (sym e) ∙ marked.sum
       | inr n ↦ same_sum (MapPlace old key) old new marked.rest page (λ k o w. n (sym w.0)) ∙ s.pages page m
     ];
   }

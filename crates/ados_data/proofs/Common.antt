@@ -11,10 +11,11 @@ pub use Rattle.adf_block.specs.Whole.{IsImage, IsSize, free_bit_count}
 pub use Rattle.adf_block.specs.declared.layout.Format.{Format}
 pub use Rattle.adf_block.specs.declared.layout.Format.TheVariants.{Ffs, Ofs}
 pub use Rattle.adf_block.specs.declared.layout.TheConstants.{FILE_SIZE, FIRST_POINTER, NEXT_DATA, NEXT_EXTENSION, PARENT, POINTER_COUNT, SECONDARY_TYPE}
-pub use Rattle.ados_data.specs.Changing.{HasFree, IsInUse, IsWritable, LawfulMap, PaysFor, SummedFile, WritableFile}
+pub use Rattle.ados_data.specs.Changing.{HasFree, IsInUse, IsWritable, LawfulMap, PaysFor, WritableFile}
 pub use Rattle.ados_data.specs.Cut.{CutsHeader, IsCutField}
 pub use Rattle.ados_data.specs.Growth.{GrowsFile}
-pub use Rattle.ados_data.specs.Others.{Gains, IsDataField, IsOther, IsOwn, Leaves, LeavesOthers, RisesBehind, WasFree}
+pub use Rattle.ados_data.specs.Others.{Gains, IsDataField, IsOther, IsOwn, KeptOrSummed, Leaves, LeavesOthers, RisesBehind, WasFree}
+pub use Rattle.ados_data.specs.Sums.{ChangedAreSummed}
 pub use Rattle.ados_data.specs.Unnamed.{IsBeside, IsExtensionField, IsHeaderField, IsPointerField, KeepsUnnamed, data_end}
 pub use Rattle.ados_data.specs.declared.grow.End.{End}
 pub use Rattle.ados_data.specs.steps.Blocks.{AtEnd, AtLink, HasPointerRoom, IsExtended, IsLengthened, IsNewBlock, IsResized}

@@ -49,8 +49,7 @@ grows_both {old} {mid} {new} {file} {size} {size'} w a b = record {
   longer = omega (arith, a.longer, a.sized, b.longer);
   sized = b.sized;
   free = omega (arith, a.free, b.free, ap (λ (f : Format). block_cost f size') a.format, ap₂ block_cost a.format a.sized);
-  leaves = leaves_both old mid new file (data_blocks old file) (extension_blocks old file) (data_blocks mid file) (extension_blocks mid file) a.leaves b.leaves
-      (beside_gains old mid file (data_blocks old file) (extension_blocks old file) (data_blocks mid file) (extension_blocks mid file) a.gains);
+  leaves = left;
   gains = gains_both old mid new file (data_blocks old file) (extension_blocks old file) (data_blocks mid file) (extension_blocks mid file) (data_blocks new file) (extension_blocks new file) (ap (λ (n : ℕ). n / 512) a.leaves.same_length)
       (λ q l. subst (λ (n : ℕ). IsInside n (slice_index (file ∷ extension_blocks new file) q)) counts (b.writable.lawful.places.headers_inside q l))
       (λ i l. subst (λ (n : ℕ). IsInside n (slice_index (data_blocks new file) i)) counts (b.writable.lawful.places.data_inside i l))
@@ -61,9 +60,14 @@ grows_both {old} {mid} {new} {file} {size} {size'} w a b = record {
   extensions = front_both (extension_blocks old file) (extension_blocks mid file) (extension_blocks new file) a.extensions b.extensions;
   keeps = keeps_both old mid new file (data_blocks old file) (extension_blocks old file) (data_blocks mid file) (extension_blocks mid file) (data_blocks new file) (extension_blocks new file)
       (grown old mid file size w.lawful a) (grown mid new file size' a.writable.lawful b) a.keeps b.keeps;
-  sums = λ s. b.sums (a.sums s);
+  sums = summed_after old new file b.writable left;
 }
   where
+    left : LeavesOthers old file new
+    left =
+        leaves_both old mid new file (data_blocks old file) (extension_blocks old file) (data_blocks mid file) (extension_blocks mid file) a.leaves b.leaves
+        (beside_gains old mid file (data_blocks old file) (extension_blocks old file) (data_blocks mid file) (extension_blocks mid file) a.gains)
+
     counts : block_count new ≡ block_count old
     counts = ap (λ (n : ℕ). n / 512) (b.leaves.same_length ∙ a.leaves.same_length)
 

@@ -1,6 +1,6 @@
 -- A file cut short, while the blocks after its new end are freed.
 use Rattle.ados_data.proofs.Common.{inl, inr, ◌≡◌, ◌≢◌, ℕ, ◌+◌, ◌<◌, ◌≤◌, true, cond, eqb, List, ◌∷◌, length, slice_index, sym, ap, ◌∙◌, subst, arith, suc, ◌-◌, ◌/◌, ◌%◌, ◌⊎◌, take, refl, FILE_SIZE, FIRST_POINTER, NEXT_EXTENSION, Format, Ofs, Ffs, long, block_count, root_key, IsInside, block_sum, byte_at, has_free_bit, IsSize, free_bit_count, format_of, same_count, LawfulPages, pages_of, page_block, page_of, MapPlace, BitChanged, AreApart, data_blocks, extension_blocks, contents, pointer_block, IsInUse, LawfulMap, WritableFile, cases_eq, cases_lt, IsOther, Leaves, LeavesOthers, bit_of_inside, get_or-take, length-take-le, data_count, extension_count, block_cost, data_size, data_start, IsResized, KeepsUnnamed, CutsHeader}
-use Rattle.ados_data.proofs.Untouched.{Untouched, untouched_long, untouched_sum}
+use Rattle.ados_data.proofs.Untouched.{Untouched, untouched_long}
 use Rattle.ados_data.proofs.Skeleton.{untouched_holder, untouched_data, skeleton_kept}
 use Rattle.ados_data.proofs.Marks.{page_kept, in_use_kept, map_after, one_more}
 use Rattle.ados_data.proofs.Standing.{Standing, standing_of, writable_of, writable_file, Owned, blocks_stay, pages_stay, count_stays, marks_stay, use_stays}
@@ -70,10 +70,10 @@ module _ (old : List ℕ) (b : ℕ) (new : List ℕ) (m : BitChanged old b true 
     used = λ c i o. m.others c (bit_of_inside old c i) (another c o) ∙ o.used i.0;
     past_end = λ j h l. m.others j h (λ e. omega (arith, e, l, inside.1));
     header = λ k l f. untouched_given file header_beside k l;
-    header_sum = λ e. untouched_sum old new file (untouched_given file header_beside) ∙ e;
-    page_sums = λ p l e. elim (cases_eq p (page_of b)) [
-      | inl same ↦ ap (λ (x : ℕ). block_sum new (page_block old x)) same ∙ m.sum ∙ ap (λ (x : ℕ). block_sum old (page_block old x)) (sym same) ∙ e
-      | inr ne ↦ untouched_sum old new (page_block old p) (λ k r. m.rest.same_byte (page_block old p) k r (λ at. ne (map.pages.apart p (page_of b) l page_within at.0))) ∙ e
+    header_sum = inl (untouched_given file header_beside);
+    page_sums = λ p l. elim (cases_eq p (page_of b)) [
+      | inl same ↦ inr (ap (λ (x : ℕ). block_sum new (page_block old x)) same ∙ m.sum)
+      | inr ne ↦ inl (λ k r. m.rest.same_byte (page_block old p) k r (λ at. ne (map.pages.apart p (page_of b) l page_within at.0)))
     ];
   }
 

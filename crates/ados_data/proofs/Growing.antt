@@ -35,7 +35,7 @@ module _ (old new : List ℕ) (format : Format) (file : ℕ) (blocks extensions 
     skeleton = skeleton_extended old new format file blocks extensions size s.skeleton e full
         (λ q l. untouched_holder old new (slice_index (file ∷ extensions) q) (λ k m. x.rest.same_byte (slice_index (file ∷ extensions) q) k m (extended_beside (slice_index (file ∷ extensions) q) k (beside_headers q (omega arith)) (s.places.headers_once q (length extensions) l (omega arith)))))
         (λ j l a b. other_long (slice_index (file ∷ extensions) (length extensions)) j l (beside_headers (length extensions) (omega arith)) a b)
-        x.link x.sum
+        x.link (λ z. x.sum)
         (other_long file FILE_SIZE (omega arith) (beside_headers 0 (omega arith)) (omega arith) (omega arith))
         (other_long file 4 (omega arith) (beside_headers 0 (omega arith)) (omega arith) (omega arith))
         (λ f i l. untouched_data old new (slice_index blocks i) (λ k m. x.rest.same_byte (slice_index blocks i) k m (extended_beside (slice_index blocks i) k (beside_data i l) (λ z. s.places.apart (length extensions) i (omega arith) l (sym z)))))
@@ -106,7 +106,7 @@ module _ (old new : List ℕ) (format : Format) (file : ℕ) (blocks extensions 
   keeps_holder : (q : ℕ) → q < length extensions → KeepsHolder old new (slice_index (file ∷ extensions) q)
   keeps_holder zero l = record {
     longs = λ j m a d e. header_long 0 j m (omega arith) (λ z. absurd (omega arith)) a d;
-    sum = x.file_sum;
+    sum = λ z. x.file_sum;
   }
   keeps_holder (suc q) l = untouched_holder old new (slice_index (file ∷ extensions) (suc q)) (λ k m. x.rest.same_byte (slice_index (file ∷ extensions) (suc q)) k m (other_extension (suc q) k (omega arith) l))
 
@@ -221,7 +221,7 @@ module _ (old new : List ℕ) (format : Format) (file : ℕ) (blocks extensions 
   resized_holder : (q : ℕ) → q < e → KeepsHolder old new (slice_index (file ∷ extensions) q)
   resized_holder zero l = record {
     longs = λ j m a f g. resized_long 0 j m (omega arith) (λ z. absurd (omega arith)) a f g;
-    sum = x.file_sum;
+    sum = λ z. x.file_sum;
   }
   resized_holder (suc q) l = untouched_holder old new (slice_index (file ∷ extensions) (suc q)) (λ k m. x.rest.same_byte (slice_index (file ∷ extensions) (suc q)) k m (resized_extension (suc q) k (omega arith) l))
 

@@ -1,7 +1,7 @@
 -- What the steps of a change leave untouched, and the checksums after it.
-use Rattle.ados_data.proofs.Common.{◌≡◌, ◌≢◌, ℕ, suc, ◌-◌, ◌/◌, ◌<◌, ◌≤◌, ◌⊎◌, inl, inr, true, false, List, [], ◌∷◌, ◌++◌, length, take, slice_index, refl, sym, ap, ◌∙◌, subst, arith, cases_Bool, cases_lt, cases_eq, cases_order, false≢true, true_from_ne_false, length_push, NEXT_EXTENSION, Format, block_sum, block_count, has_free_bit, IsInside, page_count, IsSize, same_sum, pages_of, page_block, page_of, HasBit, MapPlace, AtField, AtExtensionFields, IsInUse, LawfulMap, WritableFile, SummedFile, IsNewBlock, IsExtended, IsLengthened, IsResized, IsOther, IsDataField, Leaves, IsOwn, Gains, RisesBehind, WasFree, LeavesOthers, bit_of_inside, get_or_append_left, get_or_push}
+use Rattle.ados_data.proofs.Common.{◌≡◌, ◌≢◌, ℕ, suc, ◌-◌, ◌/◌, ◌<◌, ◌≤◌, ◌⊎◌, inl, inr, true, false, List, [], ◌∷◌, ◌++◌, length, take, slice_index, refl, sym, ap, ◌∙◌, subst, arith, cases_Bool, cases_lt, cases_eq, cases_order, false≢true, true_from_ne_false, length_push, NEXT_EXTENSION, Format, block_sum, block_count, has_free_bit, IsInside, IsSize, pages_of, page_block, page_of, HasBit, MapPlace, AtField, AtExtensionFields, IsInUse, LawfulMap, WritableFile, ChangedAreSummed, KeptOrSummed, IsNewBlock, IsExtended, IsLengthened, IsResized, IsOther, IsDataField, Leaves, IsOwn, Gains, RisesBehind, WasFree, LeavesOthers, bit_of_inside, get_or_append_left, get_or_push}
 use Rattle.ados_data.proofs.Lists.{head_pushed_before, head_pushed_last}
-use Rattle.ados_data.proofs.Untouched.{untouched_sum}
+use Rattle.ados_data.proofs.Untouched.{kept_both}
 use Rattle.ados_data.proofs.Grown.{front_length, front_at, front_header}
 use Rattle.ados_data.proofs.Growing.{extended_owned, Lengthened, longer_owned, Resized, resized_owned}
 use Rattle.ados_data.proofs.Standing.{Owned, Standing, pages_free, pages_same, pages_stay, marks_stay, beside_new, untaken}
@@ -15,8 +15,8 @@ leaves_same image file blocks extensions = record {
   used = λ c i o. o.used i.0;
   past_end = λ j h l. refl;
   header = λ k l n. refl;
-  header_sum = λ e. e;
-  page_sums = λ p l e. e;
+  header_sum = inl (λ k l. refl);
+  page_sums = λ p l. inl (λ k m. refl);
 }
 
 -- two changes, the second of a file with other lists
@@ -29,10 +29,8 @@ leaves_both old mid new file blocks extensions blocks' extensions' a b more = re
   used = λ c i o. b.used c (i.0, omega (arith, i.1, counts)) (other c o);
   past_end = λ j h l. b.past_end j (h.0, omega (arith, h.1, counts)) (omega (arith, l, counts)) ∙ a.past_end j h l;
   header = λ k l n. b.header k l n ∙ a.header k l n;
-  header_sum = λ e. b.header_sum (a.header_sum e);
-  page_sums = λ p l e.
-      let there : block_sum mid (page_block mid p) ≡ 0 = ap (block_sum mid) (a.pages p l) ∙ a.page_sums p l e in
-      ap (block_sum new) (sym (a.pages p l)) ∙ b.page_sums p (in_mid p l) there;
+  header_sum = kept_both old mid new file a.header_sum b.header_sum;
+  page_sums = λ p l. kept_both old mid new (page_block old p) (a.page_sums p l) (subst (KeptOrSummed mid new) (a.pages p l) (b.page_sums p (in_mid p l)));
 }
   where
     counts : block_count mid ≡ block_count old
@@ -52,7 +50,7 @@ leaves_both old mid new file blocks extensions blocks' extensions' a b more = re
 
 -- only blocks of the file change
 pub leaves_owned : {changed : ℕ → ℕ → Type 0} {old new : List ℕ} (file : ℕ) (blocks extensions : List ℕ) → Owned changed old new →
-    ((c k : ℕ) → IsOther old file blocks extensions c → ¬ changed c k) → ((k : ℕ) → changed file k → IsDataField (k / 4)) → (block_sum old file ≡ 0 → block_sum new file ≡ 0) → Leaves old file blocks extensions new
+    ((c k : ℕ) → IsOther old file blocks extensions c → ¬ changed c k) → ((k : ℕ) → changed file k → IsDataField (k / 4)) → KeptOrSummed old new file → Leaves old file blocks extensions new
 leaves_owned {changed} {old} {new} file blocks extensions h beside field summed = record {
   same_length = h.same.same_length;
   pages = pages_stay h;
@@ -61,7 +59,7 @@ leaves_owned {changed} {old} {new} file blocks extensions h beside field summed 
   past_end = λ j b l. marks_stay h j b;
   header = λ k l n. h.same.same_byte file k l (λ at. n (field k at));
   header_sum = summed;
-  page_sums = λ p l e. same_sum changed old new h.same (page_block old p) (λ k m. pages_free h p k l) ∙ e;
+  page_sums = λ p l. inl (λ k m. h.same.same_byte (page_block old p) k m (pages_free h p k l));
 }
 
 -- a block is allocated
@@ -73,10 +71,10 @@ leaves_taken old b new file blocks extensions n ok m header_used = record {
   used = λ c i o. n.others c (bit_of_inside old c i) (another c o) ∙ o.used i.0;
   past_end = λ j h l. n.others j h (λ e. omega (arith, e, l, n.lowest.inside.1));
   header = λ k l f. n.rest.same_byte file k l (untaken old b new n ok m file k header_used);
-  header_sum = λ e. untouched_sum old new file (λ k l. n.rest.same_byte file k l (untaken old b new n ok m file k header_used)) ∙ e;
-  page_sums = λ p l e. elim (cases_eq p (page_of b)) [
-    | inl same ↦ ap (λ (x : ℕ). block_sum new (page_block old x)) same ∙ n.page_sum ∙ ap (λ (x : ℕ). block_sum old (page_block old x)) (sym same) ∙ e
-    | inr ne ↦ untouched_sum old new (page_block old p) (λ k r. n.rest.same_byte (page_block old p) k r (no_page p k l ne)) ∙ e
+  header_sum = inl (λ k l. n.rest.same_byte file k l (untaken old b new n ok m file k header_used));
+  page_sums = λ p l. elim (cases_eq p (page_of b)) [
+    | inl same ↦ inr (ap (λ (x : ℕ). block_sum new (page_block old x)) same ∙ n.page_sum)
+    | inr ne ↦ inl (λ k r. n.rest.same_byte (page_block old p) k r (no_page p k l ne))
   ];
 }
   where
@@ -192,10 +190,10 @@ module _ (old new : List ℕ) (format : Format) (file : ℕ) (blocks extensions 
       field k (inl at) = absurd (beside_headers 0 (omega arith) at.0)
       field k (inr (at, z)) = grind arith
 
-      summed : block_sum old file ≡ 0 → block_sum new file ≡ 0
-      summed z = elim (cases_lt 0 (length extensions)) [
-        | inl l ↦ same_sum (λ c k. AtExtensionFields e c k ⊎ AtField (slice_index (file ∷ extensions) (length extensions)) NEXT_EXTENSION c k) old new x.rest file (λ k m. other k l) ∙ z
-        | inr l ↦ let here : length extensions ≡ 0 = omega arith in ap (λ (n : ℕ). block_sum new (slice_index (file ∷ extensions) n)) (sym here) ∙ x.sum (ap (λ (n : ℕ). block_sum old (slice_index (file ∷ extensions) n)) here ∙ z)
+      summed : KeptOrSummed old new file
+      summed = elim (cases_lt 0 (length extensions)) [
+        | inl l ↦ inl (λ k m. x.rest.same_byte file k m (other k l))
+        | inr l ↦ let here : length extensions ≡ 0 = omega arith in inr (ap (λ (n : ℕ). block_sum new (slice_index (file ∷ extensions) n)) (sym here) ∙ x.sum)
       ]
         where
           other : (k : ℕ) → 0 < length extensions → ¬ (AtExtensionFields e file k ⊎ AtField (slice_index (file ∷ extensions) (length extensions)) NEXT_EXTENSION file k)
@@ -206,7 +204,7 @@ module _ (old new : List ℕ) (format : Format) (file : ℕ) (blocks extensions 
     (inside : IsInside (block_count old) b) (used : IsInUse old b) (beside_headers : (q : ℕ) → q ≤ length extensions → slice_index (file ∷ extensions) q ≢ b) (beside_data : (i : ℕ) → i < length blocks → slice_index blocks i ≢ b) where
   pub leaves_longer : Leaves old file (blocks ++ b ∷ []) extensions new
   leaves_longer =
-      leaves_owned file (blocks ++ b ∷ []) extensions (longer_owned old new format file blocks extensions size b s x inside used beside_headers beside_data) beside field x.file_sum
+      leaves_owned file (blocks ++ b ∷ []) extensions (longer_owned old new format file blocks extensions size b s x inside used beside_headers beside_data) beside field (inr x.file_sum)
     where
       beside : (c k : ℕ) → IsOther old file (blocks ++ b ∷ []) extensions c → ¬ Lengthened old new format file blocks extensions size b s x inside used beside_headers beside_data c k
       beside c k o (inl at) = o.beside_data (length blocks) (omega (arith, length_push blocks b)) (at.1 ∙ sym (get_or_push blocks b 0 (length blocks) refl))
@@ -224,7 +222,7 @@ module _ (old new : List ℕ) (format : Format) (file : ℕ) (blocks extensions 
     (x : IsResized old format file (slice_index (file ∷ extensions) e) (slice_index blocks (d - 1)) d size' new) (few : d ≤ length blocks) (fewer : e ≤ length extensions) where
   pub leaves_resized : Leaves old file blocks extensions new
   leaves_resized =
-      leaves_owned file blocks extensions (resized_owned old new format file blocks extensions size d e size' s x few fewer) beside field x.file_sum
+      leaves_owned file blocks extensions (resized_owned old new format file blocks extensions size d e size' s x few fewer) beside field (inr x.file_sum)
     where
       beside : (c k : ℕ) → IsOther old file blocks extensions c → ¬ Resized old new format file blocks extensions size d e size' s x few fewer c k
       beside c k o (inl at) = o.beside_data (d - 1) (omega (arith, at.1)) at.2.0
@@ -268,15 +266,11 @@ gains_kept old new new' file blocks extensions blocks' extensions' counts same g
   extensions_rise = g.extensions_rise;
 }
 
--- right checksums stay right if those of the bitmap and the header do, and the file is lawful afterwards
-pub summed_after : (old new : List ℕ) (file : ℕ) → WritableFile new file → LeavesOthers old file new → SummedFile old file → SummedFile new file
-summed_after old new file w l s =
-    let count : block_count new ≡ block_count old = ap (λ (n : ℕ). n / 512) l.same_length in
-    record {
-      pages = λ p lt.
-          let below : p < pages_of old = omega (arith, lt, ap page_count count) in
-          ap (block_sum new) (l.pages p below) ∙ l.page_sums p below (s.pages p below);
-      header = l.header_sum s.header;
-      extension = λ q lt. (w.lawful.holds.extension q lt).sum;
-      ofs_data = λ ofs i lt. (w.lawful.holds.ofs_data ofs i lt).sum;
-    }
+-- the checksum of each changed block is right if those of the bitmap and the header are, and the file is lawful
+pub summed_after : (old new : List ℕ) (file : ℕ) → WritableFile new file → LeavesOthers old file new → ChangedAreSummed old file new
+summed_after old new file w l = record {
+  page = l.page_sums;
+  header = l.header_sum;
+  extension = λ q lt. inr (w.lawful.holds.extension q lt).sum;
+  ofs_data = λ ofs i lt. inr (w.lawful.holds.ofs_data ofs i lt).sum;
+}

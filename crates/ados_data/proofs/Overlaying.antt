@@ -1,5 +1,5 @@
 -- A file with some of its data bytes overwritten, and one step of a walk that does so.
-use Rattle.ados_data.proofs.Common.{◌≡◌, ◌≢◌, ℕ, ◌+◌, ◌-◌, ◌/◌, ◌%◌, ◌<◌, ◌≤◌, ◌⊎◌, inl, inr, List, ◌∷◌, length, slice_index, refl, sym, ap, ap₂, ◌∙◌, subst, arith, ◌*◌, ◌^◌, min, take, drop, cases_lt, cases_eq, take_all, length-take, length-drop, FILE_SIZE, FIRST_POINTER, NEXT_EXTENSION, Format, Ofs, Ffs, byte_at, long, block_sum, block_count, IsInside, IsSize, IsImage, format_of, SameBut, Within, OnlyLong, same_long, same_sum, same_count, block_cost, data_count, data_size, data_start, AreApart, data_blocks, extension_blocks, contents, file_byte, LawfulFile, pointer_block, IsInUse, WritableFile, NoneFreeBelow, Leaves, GrowsFile, AtData, overlaid, data_end, KeepsUnnamed, long-below}
+use Rattle.ados_data.proofs.Common.{◌≡◌, ◌≢◌, ℕ, ◌+◌, ◌-◌, ◌/◌, ◌%◌, ◌<◌, ◌≤◌, ◌⊎◌, inl, inr, List, ◌∷◌, length, slice_index, refl, sym, ap, ap₂, ◌∙◌, subst, arith, ◌*◌, ◌^◌, min, take, drop, cases_lt, cases_eq, take_all, length-take, length-drop, FILE_SIZE, FIRST_POINTER, NEXT_EXTENSION, Format, Ofs, Ffs, byte_at, long, block_sum, block_count, IsInside, IsSize, IsImage, format_of, SameBut, Within, OnlyLong, same_long, same_count, block_cost, data_count, data_size, data_start, AreApart, data_blocks, extension_blocks, contents, file_byte, LawfulFile, pointer_block, IsInUse, WritableFile, NoneFreeBelow, Leaves, GrowsFile, AtData, overlaid, data_end, KeepsUnnamed, long-below}
 use Rattle.ados_data.proofs.Skeleton.{KeepsData, untouched_holder, untouched_data, skeleton_kept}
 use Rattle.ados_data.proofs.Standing.{marks_stay, Owned, Standing, blocks_stay, standing_of, writable_of, format_kept, map_stays, use_stays, count_stays}
 use Rattle.ados_data.proofs.Composing.{grows_to, grows_over, below_grown}
@@ -70,7 +70,7 @@ module _ (old new : List ℕ) (format : Format) (file : ℕ) (blocks extensions 
   pub leaves_put : Leaves old file blocks extensions new
   leaves_put =
       leaves_owned file blocks extensions put_owned (λ c k o at. o.beside_data i within at.0) (λ k at. absurd (s.places.apart 0 i (omega arith) within at.0))
-      (λ z. same_sum Put old new h file (λ k l at. s.places.apart 0 i (omega arith) within at.0) ∙ z)
+      (inl (λ k l. h.same_byte file k l (λ at. s.places.apart 0 i (omega arith) within at.0)))
 
 -- ---- a part of a file overwritten
 

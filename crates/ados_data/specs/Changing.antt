@@ -1,11 +1,9 @@
 -- Which files can be changed.
 use Rattle.std.specs.Prelude.{◌≡◌, ◌≢◌, ℕ, ◌+◌, ◌<◌, ◌≤◌, List, ◌∷◌, length, slice_index, false}
-use Rattle.adf_block.specs.declared.layout.Format.TheVariants.{Ofs}
-use Rattle.adf_block.specs.Image.{block_count, block_sum, root_key, has_free_bit}
+use Rattle.adf_block.specs.Image.{block_count, root_key, has_free_bit}
 use Rattle.adf_block.specs.Fields.{format_of}
 use Rattle.adf_block.specs.Whole.{free_bit_count}
 use Rattle.ados_map.specs.Pages.{LawfulPages, pages_of, page_block}
-use Rattle.ados_map.specs.Changes.{SummedPages}
 use Rattle.ados_model.specs.Tree.{block_cost}
 use Rattle.ados_model.specs.File.{IsLawful, data_blocks, extension_blocks, contents}
 
@@ -31,17 +29,6 @@ pub record IsWritable (image : List ℕ) (file : ℕ) (blocks extensions bytes :
 -- the file with this header can be changed
 abbrev pub WritableFile : List ℕ → ℕ → Type 0
 WritableFile image file = IsWritable image file (data_blocks image file) (extension_blocks image file) (contents image file)
-
--- the checksums of the bitmap blocks are right, and those of the file's blocks; FFS data blocks have none
-pub record AreSummed (image : List ℕ) (file : ℕ) (blocks extensions : List ℕ) : Type 0 where
-  pub pages : SummedPages image
-  pub header : block_sum image file ≡ 0
-  pub extension : (q : ℕ) → q < length extensions → block_sum image (slice_index extensions q) ≡ 0
-  pub ofs_data : format_of image ≡ Ofs → (i : ℕ) → i < length blocks → block_sum image (slice_index blocks i) ≡ 0
-
--- the same for the file with this header
-abbrev pub SummedFile : List ℕ → ℕ → Type 0
-SummedFile image file = AreSummed image file (data_blocks image file) (extension_blocks image file)
 
 -- enough blocks are free for the file to grow to this size
 abbrev pub HasFree : List ℕ → ℕ → ℕ → Type 0

@@ -6,6 +6,7 @@ pub use Rattle.ados_model.specs.File
 pub mod Place
 pub mod Changing
 pub mod Others
+pub mod Sums
 pub mod Unnamed
 pub mod Growth
 pub mod Cut

@@ -10,6 +10,10 @@ use Rattle.ados_model.specs.File.{data_blocks, extension_blocks}
 abbrev pub SameByte : List ℕ → List ℕ → ℕ → ℕ → Type 0
 SameByte old new b k = byte_at new b k ≡ byte_at old b k
 
+-- block b is unchanged byte for byte, or its longs add up to 0 afterwards
+abbrev pub KeptOrSummed : List ℕ → List ℕ → ℕ → Type 0
+KeptOrSummed old new b = ((k : ℕ) → k < BLOCK_BYTES → SameByte old new b k) ⊎ (block_sum new b ≡ 0)
+
 -- another block: a boot block or a block in use, but neither a bitmap block nor a block of the file
 pub record IsOther (image : List ℕ) (file : ℕ) (blocks extensions : List ℕ) (c : ℕ) : Type 0 where
   pub inside : c < block_count image
@@ -26,7 +30,8 @@ IsDataField j =
     ⊎ (((FIRST_SLOT ≤ j) × (j ≤ FIRST_POINTER)) ⊎ ((j ≡ FILE_SIZE) ⊎ (j ≡ NEXT_EXTENSION)))))
 
 -- other blocks are unchanged and still marked used; bits past the volume's end are unchanged; in the header only the
--- fields of the data change; the bitmap blocks are the same blocks, and right checksums stay right
+-- fields of the data change; the bitmap blocks are the same blocks; the checksum of a changed bitmap block, and of a
+-- changed header, is right
 pub record Leaves (old : List ℕ) (file : ℕ) (blocks extensions : List ℕ) (new : List ℕ) : Type 0 where
   pub same_length : length new ≡ length old
   pub pages : (p : ℕ) → p < pages_of old → page_block new p ≡ page_block old p
@@ -34,8 +39,8 @@ pub record Leaves (old : List ℕ) (file : ℕ) (blocks extensions : List ℕ) (
   pub used : (c : ℕ) → IsInside (block_count old) c → IsOther old file blocks extensions c → has_free_bit new c ≡ false
   pub past_end : (j : ℕ) → HasBit old j → block_count old ≤ j → has_free_bit new j ≡ has_free_bit old j
   pub header : (k : ℕ) → k < BLOCK_BYTES → ¬ IsDataField (k / 4) → SameByte old new file k
-  pub header_sum : block_sum old file ≡ 0 → block_sum new file ≡ 0
-  pub page_sums : (p : ℕ) → p < pages_of old → block_sum old (page_block old p) ≡ 0 → block_sum new (page_block old p) ≡ 0
+  pub header_sum : KeptOrSummed old new file
+  pub page_sums : (p : ℕ) → p < pages_of old → KeptOrSummed old new (page_block old p)
 
 -- the same for the file with this header
 abbrev pub LeavesOthers : List ℕ → ℕ → List ℕ → Type 0

@@ -6,7 +6,7 @@ ghost use Rattle.adf_block.specs.Image.{block_count, block_sum, byte_at, long};
 ghost use Rattle.adf_block.specs.Frame.{SameBut};
 ghost use Rattle.ados_data.specs.steps.Blocks.{AtLink, IsExtended};
 
-use crate::edit::make_extension;
+use crate::edit::{make_extension, set_settled};
 use crate::grow::End;
 use adf_block::beside::CHECKSUM;
 use adf_block::layout::{NEXT_DATA, NEXT_EXTENSION};
@@ -21,7 +21,7 @@ pub fn attach_extension(image: &mut Image, file: u32, holder: u32, e: u32)
     ensures { IsExtended image.old file holder e image.new }
 {
     make_extension(image, e, file);
-    image.set_summed(holder, NEXT_EXTENSION, e, CHECKSUM);
+    set_settled(image, holder, NEXT_EXTENSION, e);
 }
 
 /// Sets the link from the last data block to the data block `b`. FFS has no such link.

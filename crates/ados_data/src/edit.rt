@@ -1,12 +1,13 @@
-//! The fields of a new block.
+//! The fields of a new block, and a field of an old one.
 
-ghost use Rattle.std.specs.Prelude.{◌≡◌, ◌<◌};
+ghost use Rattle.std.specs.Prelude.{◌≡◌, ◌≢◌, ◌<◌};
 ghost use Rattle.adf_block.specs.Image.{block_count, block_sum, long};
 ghost use Rattle.adf_block.specs.Fields.{primary_type, own_key, sequence_number, held_count};
 ghost use Rattle.adf_block.specs.Frame.{SameBut};
-ghost use Rattle.adf_block.specs.declared.layout.TheConstants.{NEXT_DATA};
+ghost use Rattle.adf_block.specs.declared.layout.TheConstants.{BLOCK_LONGS, NEXT_DATA};
+ghost use Rattle.adf_block.specs.declared.beside.TheConstants.{CHECKSUM};
 ghost use Rattle.ados_model.specs.Stands.{HasExtension};
-ghost use Rattle.ados_data.specs.steps.Edits.{AtExtensionFields, AtDataFields};
+ghost use Rattle.ados_data.specs.steps.Edits.{AtExtensionFields, AtDataFields, AtField};
 
 use adf_block::beside::CHECKSUM;
 use adf_block::layout::{
@@ -45,4 +46,18 @@ pub fn make_data(image: &mut Image, format: Format, b: u32, file: u32, sequence:
         image.set_long(b, SEQUENCE, sequence);
         image.settle(b, CHECKSUM);
     }
+}
+
+/// Sets long `i` of block `b`, and makes its checksum anew: its longs add up to 0 afterwards, also if the checksum was
+/// wrong before.
+pub fn set_settled(image: &mut Image, b: u32, i: u32, v: u32)
+    requires block { b < block_count image.old }
+    requires place { i < BLOCK_LONGS }
+    requires apart { i ≢ CHECKSUM }
+    ensures long { long image.new b i ≡ v }
+    ensures sum { block_sum image.new b ≡ 0 }
+    ensures rest { SameBut (AtField b i) image.old image.new }
+{
+    image.set_long(b, i, v);
+    image.settle(b, CHECKSUM);
 }

@@ -15,7 +15,7 @@ ghost use Rattle.ados_data.specs.steps.FileEnd.{IsEnd, IsLonger};
 use crate::attach::link_data;
 use crate::blocks::{new_block, pointer_room};
 use crate::cost::{data_count, data_size, extension_count};
-use crate::edit::make_data;
+use crate::edit::{make_data, set_settled};
 use crate::fields::data_block;
 use crate::place::{Place, pointer_block};
 use crate::resize::resize;
@@ -112,7 +112,7 @@ fn append(image: &mut Image, format: Format, file: u32, end: End, size: u32, fro
     } else {
         image.long(file, NEXT_DATA)
     };
-    image.set_summed(file, NEXT_DATA, first, CHECKSUM);
+    set_settled(image, file, NEXT_DATA, first);
     let longer = End {
         count: end.count + 1,
         holder,

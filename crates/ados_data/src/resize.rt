@@ -6,6 +6,7 @@ ghost use Rattle.adf_block.specs.Fields.{held_count};
 ghost use Rattle.adf_block.specs.Frame.{SameBut};
 ghost use Rattle.ados_data.specs.steps.Blocks.{AtEnd, IsResized};
 
+use crate::edit::set_settled;
 use crate::grow::End;
 use adf_block::beside::CHECKSUM;
 use adf_block::layout::{
@@ -13,7 +14,7 @@ use adf_block::layout::{
 };
 use adf_block::{Format, Image};
 
-/// Makes this the end of a file, and sets its size in bytes.
+/// Makes this the end of a file, and sets its size in bytes. The checksum of the header is made anew.
 pub fn resize(image: &mut Image, format: Format, file: u32, end: End, size: u32)
     requires file { file < block_count image.old }
     requires holder { end.holder < block_count image.old }
@@ -32,7 +33,7 @@ pub fn resize(image: &mut Image, format: Format, file: u32, end: End, size: u32)
         image.long(file, NEXT_DATA)
     };
     image.set_summed(file, NEXT_DATA, first, CHECKSUM);
-    image.set_summed(file, FILE_SIZE, size, CHECKSUM);
+    set_settled(image, file, FILE_SIZE, size);
 }
 
 /// Ends the data of a file with `size` bytes in its last data block. FFS data blocks have no fields for it.

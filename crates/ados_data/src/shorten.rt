@@ -7,8 +7,9 @@ ghost use Rattle.ados_map.specs.Pages.{LawfulPages};
 ghost use Rattle.ados_model.specs.Tree.{data_count, extension_count};
 ghost use Rattle.ados_model.specs.File.{contents, data_blocks, extension_blocks};
 ghost use Rattle.ados_data.specs.Cut.{CutsHeader, FreesData, FreesExtensions, KeepsData};
-ghost use Rattle.ados_data.specs.Changing.{PaysFor, SummedFile, WritableFile};
+ghost use Rattle.ados_data.specs.Changing.{PaysFor, WritableFile};
 ghost use Rattle.ados_data.specs.Others.{LeavesOthers};
+ghost use Rattle.ados_data.specs.Sums.{ChangedAreSummed};
 ghost use Rattle.ados_data.specs.Unnamed.{FileKeepsUnnamed};
 ghost use Rattle.ados_data.specs.steps.Giving.{IsEntered};
 
@@ -29,7 +30,7 @@ struct Cursor {
 }
 
 /// Cuts a file to `size` bytes and frees the blocks after them. The bytes of freed blocks are unchanged, and so is
-/// each byte outside all fields.
+/// each byte outside all fields. The checksum of each changed block is right afterwards, also if it was wrong before.
 pub fn cut(image: &mut Image, file: u32, size: u32)
     requires writable { WritableFile image.old file }
     requires shorter { size ≤ length (contents image.old file) }
@@ -46,7 +47,7 @@ pub fn cut(image: &mut Image, file: u32, size: u32)
     ensures extensions { extension_blocks image.new file ≡ take (extension_count (data_count (format_of image.old) size)) (extension_blocks image.old file) }
     ensures freed { FreesData image.old file size image.new }
     ensures freed_extensions { FreesExtensions image.old file size image.new }
-    ensures sums { SummedFile image.old file → SummedFile image.new file }
+    ensures sums { ChangedAreSummed image.old file image.new }
 {
     prove!(image.blocks() <= MOST_BLOCKS);
     let format = image.format();

@@ -23,7 +23,8 @@ const ROOM: usize = FFS_ROOM as usize;
 
 /// Writes bytes to a file from byte `pos`, at most its size. The file grows if they reach past its end.
 ///
-/// Each new block is the lowest free one. As in `extend`, bytes that need no change are unchanged.
+/// Each new block is the lowest free one. As in `extend`, bytes that need no change are unchanged, and the checksum of
+/// each changed block is right afterwards.
 pub fn write_at(image: &mut Image, file: u32, pos: u64, bytes: &[u8])
     requires writable { WritableFile image.old file }
     requires start { pos ≤ length (contents image.old file) }
@@ -85,7 +86,8 @@ pub fn write_near(
 /// Makes a file longer, to `size` bytes. The added bytes are 0, and each new block is the lowest free one.
 ///
 /// The file keeps its blocks. Their bytes outside all fields and after the file's end are unchanged, and so is each
-/// block that is neither the file's nor a bitmap block. Unused bytes of a new block are 0.
+/// block that is neither the file's nor a bitmap block. Unused bytes of a new block are 0. The checksum of each changed
+/// block is right afterwards, also if it was wrong before.
 pub fn extend(image: &mut Image, file: u32, size: u32)
     requires writable { WritableFile image.old file }
     requires longer { length (contents image.old file) ≤ size }

@@ -1,7 +1,6 @@
 -- The marks after a change, and the number of free blocks.
-use Rattle.ados_map.proofs.Common.{◌≡◌, ℕ, ◌-◌, ◌%◌, ◌<◌, ◌≤◌, Bool, inl, inr, List, arith, ap, sym, ◌∙◌, cases_eq, long, block_count, block_sum, page_count, IsInside, has_free_bit, SameBut, InBlock, OnlyBlock, same_count, same_long, same_weaken, other_block_sum, LawfulPages, page_block, pages_of, page_of, map_long, HasBit, MapPlace, BitChanged, SummedPages}
+use Rattle.ados_map.proofs.Common.{◌≡◌, ℕ, ◌-◌, ◌%◌, ◌<◌, List, arith, ap, sym, ◌∙◌, long, block_count, IsInside, has_free_bit, SameBut, same_long, page_block, pages_of, page_of, map_long, HasBit}
 use Rattle.ados_map.proofs.BitLemmas.{mark, marked-is}
-use Rattle.ados_map.proofs.PageLemmas.{same_page}
 
 -- ---- no bitmap block changed
 
@@ -19,22 +18,3 @@ mark_kept changed old new h named un k has =
 -- a block inside the volume has a bit
 pub bit_of_inside : (image : List ℕ) (k : ℕ) → IsInside (block_count image) k → HasBit image k
 bit_of_inside image k inside = (inside.0, omega (arith, inside.0, inside.1))
-
--- ---- one bit changed
-
--- only its bitmap block changed
-pub marked_page_only : (old : List ℕ) (k : ℕ) (free : Bool) (new : List ℕ) → BitChanged old k free new → OnlyBlock (page_block old (page_of k)) old new
-marked_page_only old k free new h = same_weaken (MapPlace old k) (InBlock (page_block old (page_of k))) old new (λ c i at. at.0) h.rest
-
--- the checksums of the bitmap blocks stay right
-pub marked_sums : (old : List ℕ) (k : ℕ) (free : Bool) (new : List ℕ) → LawfulPages old → block_count old ≤ 101602 → IsInside (block_count old) k → BitChanged old k free new
-    → SummedPages old → SummedPages new
-marked_sums old k free new lawful size inside h sums p lt =
-    let count : block_count new ≡ block_count old = same_count (MapPlace old k) old new h.rest in
-    let below : p < pages_of old = omega (arith, lt, ap page_count count) in
-    let k_page : page_of k < pages_of old = omega (arith, inside.0, inside.1) in
-    let named : page_block new p ≡ page_block old p = same_page (MapPlace old k) old new h.rest (λ i low high at. lawful.beside_root (page_of k) k_page (sym at.0)) p (omega arith) in
-    ap (block_sum new) named ∙ elim (cases_eq (page_block old p) (page_block old (page_of k))) [
-      | inl at ↦ ap (block_sum new) at ∙ h.sum ∙ ap (block_sum old) (sym at) ∙ sums p below
-      | inr apart ↦ other_block_sum (page_block old (page_of k)) old new (marked_page_only old k free new h) (page_block old p) apart ∙ sums p below
-    ]

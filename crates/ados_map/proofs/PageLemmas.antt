@@ -68,10 +68,10 @@ other_mark old new k free lawful size inside rest put j has ne =
       | inr other ↦ ap (λ (v : ℕ). mark v ((j - 2) % 32)) (kept (inl (λ e. other (lawful.apart (page_of j) (page_of k) in_page k_page e))))
     ]
 
--- the bit of a block written into its long, and the checksum changed by the opposite amount
+-- the bit of a block written into its long, and the checksum made anew
 pub marked_by : (old new : List ℕ) (k : ℕ) (free : Bool) → LawfulPages old → block_count old ≤ 101602 → IsInside (block_count old) k → SameBut (MapPlace old k) old new
     → IsBitPut (long old (page_block old (page_of k)) (map_long k)) ((k - 2) % 32) free (long new (page_block old (page_of k)) (map_long k))
-    → block_sum new (page_block old (page_of k)) ≡ block_sum old (page_block old (page_of k)) → BitChanged old k free new
+    → block_sum new (page_block old (page_of k)) ≡ 0 → BitChanged old k free new
 marked_by old new k free lawful size inside rest put sum =
     let b = page_block old (page_of k) in
     let k_page : page_of k < pages_of old = omega (arith, inside.0, inside.1) in

@@ -10,17 +10,13 @@ use Rattle.ados_map.specs.Pages.{page_block, page_of, pages_of, map_long, HasBit
 abbrev pub MapPlace : List ℕ → ℕ → ℕ → ℕ → Type 0
 MapPlace image k c i = (c ≡ page_block image (page_of k)) × ((i / 4 ≡ PAGE_CHECKSUM) ⊎ (i / 4 ≡ map_long k))
 
--- the bit of block k is set if `free`, else clear; the sum of its bitmap block, every other bit and every other
--- byte are unchanged
+-- the bit of block k is set if `free`, else clear; the longs of its bitmap block add up to 0, whatever they did before;
+-- every other bit and every other byte are unchanged
 pub record BitChanged (old : List ℕ) (k : ℕ) (free : Bool) (new : List ℕ) : Type 0 where
   pub bit : has_free_bit new k ≡ free
   pub others : (j : ℕ) → HasBit old j → j ≢ k → has_free_bit new j ≡ has_free_bit old j
-  pub sum : block_sum new (page_block old (page_of k)) ≡ block_sum old (page_block old (page_of k))
+  pub sum : block_sum new (page_block old (page_of k)) ≡ 0
   pub rest : SameBut (MapPlace old k) old new
-
--- the checksum of each bitmap block is right: its longs add up to 0
-abbrev pub SummedPages : List ℕ → Type 0
-SummedPages image = (p : ℕ) → p < pages_of image → block_sum image (page_block image p) ≡ 0
 
 -- the lowest free block was marked used; or no block is free, and nothing changed
 abbrev pub TakesFirst : List ℕ → Option ℕ → List ℕ → Type 0

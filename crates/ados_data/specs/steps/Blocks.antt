@@ -17,19 +17,19 @@ pub record IsNewBlock (old : List ℕ) (b : ℕ) (new : List ℕ) : Type 0 where
   pub marked : has_free_bit new b ≡ false
   pub others : (j : ℕ) → HasBit old j → j ≢ b → has_free_bit new j ≡ has_free_bit old j
   pub count : free_bit_count new + 1 ≡ free_bit_count old
-  pub page_sum : block_sum new (page_block old (page_of b)) ≡ block_sum old (page_block old (page_of b))
+  pub page_sum : block_sum new (page_block old (page_of b)) ≡ 0
   pub pages : LawfulPages new
   pub empty : (k : ℕ) → k < BLOCK_BYTES → byte_at new b k ≡ 0
   pub rest : SameBut (λ c k. MapPlace old b c k ⊎ (c ≡ b)) old new
 
--- extension block e, empty before and without pointers, follows the last pointer block `holder`; right checksums stay
+-- extension block e, empty before and without pointers, follows the last pointer block `holder`; their checksums are
 -- right
 pub record IsExtended (old : List ℕ) (file holder e : ℕ) (new : List ℕ) : Type 0 where
   pub fields : HasExtension new file e
   pub no_pointers : long new e POINTER_COUNT ≡ 0
   pub no_next : long new e NEXT_EXTENSION ≡ 0
   pub link : long new holder NEXT_EXTENSION ≡ e
-  pub sum : block_sum old holder ≡ 0 → block_sum new holder ≡ 0
+  pub sum : block_sum new holder ≡ 0
   pub rest : SameBut (λ c k. AtExtensionFields e c k ⊎ AtField holder NEXT_EXTENSION c k) old new
 
 -- the link to the next data block in the last one; only OFS has it
@@ -45,14 +45,14 @@ AtNewData format file holder last count b c k =
     ⊎ (AtFields holder (FIRST_POINTER - count % TABLE_LONGS) POINTER_COUNT c k ⊎ AtField file NEXT_DATA c k))
 
 -- data block b, empty before and without data, follows the file's count data blocks, the last of which was `last`; its
--- pointer is in `holder`; right checksums stay right
+-- pointer is in `holder`; the checksums of the header and of b are right, and other right ones stay right
 pub record IsLengthened (old : List ℕ) (format : Format) (file holder last count b : ℕ) (new : List ℕ) : Type 0 where
   pub pointer : long new holder (FIRST_POINTER - count % TABLE_LONGS) ≡ b
   pub counted : long new holder POINTER_COUNT ≡ count % TABLE_LONGS + 1
   pub holder_sum : block_sum old holder ≡ 0 → block_sum new holder ≡ 0
   pub new_first : count ≡ 0 → long new file NEXT_DATA ≡ b
   pub first : 0 < count → long new file NEXT_DATA ≡ long old file NEXT_DATA
-  pub file_sum : block_sum old file ≡ 0 → block_sum new file ≡ 0
+  pub file_sum : block_sum new file ≡ 0
   pub link : format ≡ Ofs → 0 < count → long new last NEXT_DATA ≡ b
   pub last_sum : format ≡ Ofs → 0 < count → block_sum old last ≡ 0 → block_sum new last ≡ 0
   pub primary : format ≡ Ofs → long new b PRIMARY_TYPE ≡ DATA_TYPE
@@ -74,7 +74,7 @@ AtResized format file holder last count c k =
     AtEnd format count last c k ⊎ (AtFields holder POINTER_COUNT NEXT_EXTENSION c k ⊎ AtFields file NEXT_DATA FILE_SIZE c k)
 
 -- the file has this size and count data blocks; `last` is the last one, and its pointer is in the last pointer block
--- `holder`; right checksums stay right
+-- `holder`; the checksum of the header is right, and other right ones stay right
 pub record IsResized (old : List ℕ) (format : Format) (file holder last count size : ℕ) (new : List ℕ) : Type 0 where
   pub counted : long new holder POINTER_COUNT ≡ count - TABLE_LONGS * ((count - 1) / TABLE_LONGS)
   pub no_next : long new holder NEXT_EXTENSION ≡ 0
@@ -82,7 +82,7 @@ pub record IsResized (old : List ℕ) (format : Format) (file holder last count 
   pub sized : long new file FILE_SIZE ≡ size
   pub no_first : count ≡ 0 → long new file NEXT_DATA ≡ 0
   pub first : 0 < count → long new file NEXT_DATA ≡ long old file NEXT_DATA
-  pub file_sum : block_sum old file ≡ 0 → block_sum new file ≡ 0
+  pub file_sum : block_sum new file ≡ 0
   pub held : format ≡ Ofs → 0 < count → long new last HELD ≡ size - OFS_ROOM * (count - 1)
   pub last_next : format ≡ Ofs → 0 < count → long new last NEXT_DATA ≡ 0
   pub last_sum : format ≡ Ofs → 0 < count → block_sum old last ≡ 0 → block_sum new last ≡ 0

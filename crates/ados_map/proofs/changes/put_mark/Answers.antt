@@ -1,18 +1,19 @@
-use Rattle.ados_map.proofs.Common.{inl, inr, AtTwoLongs, same_weaken, map_long, page_block, page_of, MapPlace}
+use Rattle.ados_map.proofs.Common.{inl, inr, ◌∙◌, arith, same_trans, same_weaken, AtLong, map_long, page_block, page_of, MapPlace}
 use Rattle.ados_map.proofs.PageLemmas.{marked_by}
-use Rattle.ados_map.proofs.MarkLemmas.{marked_sums}
 use Rattle.ados_map.proofs.changes.put_mark.Goals as goal
 
 pub returns-clause-marked : goal.returns-clause-marked
 returns-clause-marked c =
     let old = c.args.image.now in
-    let new = c.set_summed.new.self in
+    let mid = c.set_long.new.self in
+    let new = c.settle.new.self in
+    let b = page_block old (page_of c.args.b) in
+    let l = map_long c.args.b in
     let page = c.page_at-page.ensures.page in
+    let first = same_weaken (AtLong b l) (MapPlace old c.args.b) old mid (λ d i at. (at.0, inr at.1)) (rw (← page) c.set_long.ensures.rest) in
+    let second = same_weaken (AtLong b 0) (MapPlace old c.args.b) mid new (λ d i at. (at.0, inl at.1)) (rw (← page) c.settle.ensures.rest) in
+    let put = c.settle.ensures.others c.page_at-page.result l (omega arith) (inr (omega arith)) ∙ c.set_long.ensures.long in
     marked_by old new c.args.b c.args.free c.requires.pages c.page_at-page.ensures.size.1 c.requires.inside
-    (same_weaken (AtTwoLongs (page_block old (page_of c.args.b)) (map_long c.args.b) 0) (MapPlace old c.args.b) old new
-    (λ b i at. (at.0, elim at.1 [ inl long ↦ inr long | inr sum ↦ inl sum ])) (rw (← page) c.set_summed.ensures.rest))
-    (rw (← page, ← c.long-old.ensures, c.set_summed.ensures.long) c.with_bit-new.ensures)
-    (rw (← page) c.set_summed.ensures.sum)
-
-pub returns-clause-sums : goal.returns-clause-sums
-returns-clause-sums c = marked_sums c.args.image.now c.args.b c.args.free c.set_summed.new.self c.requires.pages c.page_at-page.ensures.size.1 c.requires.inside (returns-clause-marked c)
+    (same_trans (MapPlace old c.args.b) old mid new first second)
+    (rw (← page, ← c.long-old.ensures, put) c.with_bit-new.ensures)
+    (rw (← page) c.settle.ensures.sum)
