@@ -55,7 +55,7 @@ extern "C" {
 /* The version of this header. jip_version returns that of the library. A program that was built for a library runs with
    any later library of the same major version. */
 #define JIP_VERSION_MAJOR 1
-#define JIP_VERSION_MINOR 2
+#define JIP_VERSION_MINOR 3
 #define JIP_VERSION_PATCH 0
 
 /* The status of a call. A refused packet is still answered: its results have the error, and the status is JIP_DONE. */
@@ -295,7 +295,7 @@ int32_t jip_copy_changed(jip_handle *handle, void *copy, size_t length, uint32_t
 
 /* ---- Versions and texts ---- */
 
-/* Returns the library's version, such as "1.2.0". Each text of the library is in English, ends with a zero byte, and stays
+/* Returns the library's version, such as "1.3.0". Each text of the library is in English, ends with a zero byte, and stays
    valid until the program ends. */
 const char *jip_version(void);
 

@@ -14,7 +14,7 @@ from ._numbers import FaultKind
 
 NAME = "libjiponuwha.so.1"
 # The version of the header that this package was written for. The library has the same major version, and is not older.
-WRITTEN_FOR = (1, 2)
+WRITTEN_FOR = (1, 3)
 
 
 class CHandle(ctypes.Structure):
@@ -245,7 +245,7 @@ library = _loaded()
 
 
 def version() -> str:
-    """Returns the version of the library, such as `1.2.0`."""
+    """Returns the version of the library, such as `1.3.0`."""
     return str(library.jip_version().decode("ascii"))
 
 
