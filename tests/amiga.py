@@ -24,6 +24,8 @@ HEADER = TOP / "bindings/c/jiponuwha_amiga.h"
 SOURCE = Path("here/share/jiponuwha/amiga.c")
 # The other C files of the library, which are compiled with sanitizers too.
 OTHERS = [str(it) for it in sorted((TOP / "bindings/c/src").glob("*.c")) if it.name != "amiga.c"]
+# Worked packets, and disks that are changed while locks and files are held.
+WORKED = ("amiga", "stale")
 STRICT = ["-Wall", "-Wextra", "-Wpedantic", "-Wconversion", "-Werror", "-g", "-O1", "-Ihere/include"]
 LINKED = ["-Lhere/lib", "-ljiponuwha"]
 WRAPPED = [f"-Wl,--wrap={it}" for it in ("malloc", "calloc", "realloc")]
@@ -53,16 +55,18 @@ def quick_starts(tried: Library, compiler: str) -> None:
 
 def in_c(tried: Library, compiler: str) -> bool:
     """Runs the worked packets in C: with the library, and with its source under sanitizers. Returns whether they ran."""
-    report, test = tried.report, str(C / "amiga.c")
+    report = tried.report
     words = [compiler, "-std=c11", *STRICT]
-    if builds(report, f"{compiler} amiga", [*words, test, *LINKED, "-o", f"{compiler}-amiga"]):
-        tried.passes_checked(f"{compiler}-amiga")
+    for name in WORKED:
+        if builds(report, f"{compiler} {name}", [*words, str(C / f"{name}.c"), *LINKED, "-o", f"{compiler}-{name}"]):
+            tried.passes_checked(f"{compiler}-{name}")
     quick_starts(tried, compiler)
     if not tried.has_sanitizers(compiler):
         return False
-    sanitized = [*words, *SANITIZED, test, str(SOURCE), *OTHERS, *LINKED, "-o", f"{compiler}-sanitized"]
-    if builds(report, f"{compiler} amiga with sanitizers", sanitized):
-        tried.passes(f"{compiler} amiga with sanitizers runs", [f"./{compiler}-sanitized"])
+    for name in WORKED:
+        sanitized = [*words, *SANITIZED, str(C / f"{name}.c"), str(SOURCE), *OTHERS, *LINKED, "-o", f"{compiler}-{name}-sanitized"]
+        if builds(report, f"{compiler} {name} with sanitizers", sanitized):
+            tried.passes(f"{compiler} {name} with sanitizers runs", [f"./{compiler}-{name}-sanitized"])
     twin = [*words, *SANITIZED, str(C / "amiga_twin.c"), str(SOURCE), *OTHERS, *LINKED, "-o", f"{compiler}-twin"]
     if builds(report, f"{compiler} sessions beside a twin", twin):
         tried.passes(f"{compiler} sessions beside a twin run", [f"./{compiler}-twin", "1", "500"])

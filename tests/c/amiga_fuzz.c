@@ -4,7 +4,10 @@
  *   amiga_fuzz SEED 0 ROUND          runs this round alone; the same seed and round give the same packets
  *
  * Checks after each packet: the machine's memory has changed only where the packet may write. The two results are
- * consistent. A refused packet has not changed the image. Checks after each round: nothing is held, and the image is valid.
+ * consistent. A refused packet has not changed the image. A packet that names a lock or file of a removed disk is refused with
+ * 218, unless it frees it. Checks after each round: nothing is held, and the image is valid.
+ *
+ * Disks are removed, changed elsewhere, replaced and inserted again, also by INHIBIT.
  *
  * Link with --wrap for malloc, calloc and realloc, since some rounds refuse growths of memory. In other rounds the
  * machine's memory comes and goes. Those rounds check only the safety of the host. */
@@ -15,7 +18,7 @@
 #include <stdlib.h>
 #include <time.h>
 
-enum { RAM = 0x8000, PACKETS = 250, NAMES = 0x700, NAME_COUNT = 16, LOCKS = 16 };
+enum { RAM = 0x8000, PACKETS = 250, NAMES = 0x700, NAME_COUNT = 16, LOCKS = 16, MOST_PLACES = 32, SHELF = 3 };
 
 static uint8_t *ram, *shadow;
 static uint32_t base, rom, refusals;
@@ -24,6 +27,23 @@ static jip_handle floppy = JIP_CLOSED;
 static jip_guest guest;
 static uint32_t known_locks[LOCKS];
 static int refuses_growths, comes_and_goes;
+
+/* A lock or a file that the machine holds: its BPTR or fh_Arg1, and the number of its disk; the number is 0 for a free place. */
+struct held {
+    uint32_t name, disk;
+};
+
+static struct held held_locks[MOST_PLACES], held_files[MOST_PLACES];
+static uint32_t disk_number, disks, disk_changes;
+/* Whether INHIBIT is on; whether its callback has just opened a disk. */
+static int is_inhibited, was_allowed;
+
+/* A disk that was removed: its bytes and its number. */
+static struct {
+    uint8_t *bytes;
+    size_t length;
+    uint32_t number;
+} shelf[SHELF];
 
 static void fail(const char *what, int line) {
     printf("FAIL  %s, line %d: amiga_fuzz %" PRIu64 " 0 %" PRIu64 "\n%" PRIu64 " passed, 1 failed\n", what, line, seed, round_number, checks);
@@ -98,15 +118,114 @@ static void set_long(uint32_t at, uint32_t value) {
     for (uint32_t k = 0; k < 4; k++) ram[at - base + k] = (uint8_t)(value >> (24 - 8 * k));
 }
 
+/* ---- Disks ---- */
+
+static void blank_disk(void) {
+    const jip_date first = {1, 2, 3};
+    const uint32_t blocks = chance(10) ? 1760 : 16 + draw(200);
+    char name[16];
+    disk_number = ++disks;
+    (void)snprintf(name, sizeof name, "Work%" PRIu32, disks);
+    HOLDS("a blank volume", jip_blank((int32_t)draw(2), blocks, name, strlen(name), first, &floppy) == JIP_DONE);
+}
+
+static uint32_t held_of(uint32_t disk) {
+    uint32_t count = 0;
+    for (uint32_t k = 0; k < MOST_PLACES; k++) {
+        if (held_locks[k].disk == disk) count++;
+        if (held_files[k].disk == disk) count++;
+    }
+    return count;
+}
+
+/* Keeps the bytes of the disk that is in the drive. */
+static void keep_disk(void) {
+    const uint32_t at = draw(SHELF);
+    const size_t length = jip_image_length(&floppy);
+    uint8_t *bytes = __real_malloc(length);
+    HOLDS("room for the image", bytes != NULL);
+    HOLDS("the copy", jip_copy_image(&floppy, bytes, length) == JIP_DONE);
+    free(shelf[at].bytes);
+    shelf[at].bytes = bytes;
+    shelf[at].length = length;
+    shelf[at].number = disk_number;
+}
+
+static void clear_shelf(void) {
+    for (uint32_t k = 0; k < SHELF; k++) free(shelf[k].bytes);
+    memset(shelf, 0, sizeof shelf);
+}
+
+/* Opens a disk that was removed, with the bytes that it had then, or a new one. */
+static void open_disk(void) {
+    const uint32_t at = draw(SHELF);
+    jip_fault fault;
+    if (shelf[at].bytes == NULL || chance(30)) {
+        blank_disk();
+        return;
+    }
+    HOLDS("a kept image is accepted", jip_open(shelf[at].bytes, shelf[at].length, &floppy, &fault) == JIP_DONE);
+    /* (if nothing of it is held, the library has forgotten it) */
+    disk_number = held_of(shelf[at].number) != 0 ? shelf[at].number : ++disks;
+    free(shelf[at].bytes);
+    memset(&shelf[at], 0, sizeof shelf[at]);
+}
+
+static void remove_disk(void) {
+    keep_disk();
+    HOLDS("a removal", jip_remove_disk(&floppy, &guest) == JIP_DONE && jip_image_length(&floppy) == 0);
+    disk_number = 0;
+    disk_changes++;
+}
+
+static void insert_disk(void) {
+    const int refuses = refuses_growths;
+    refuses_growths = 0;
+    open_disk();
+    HOLDS("an insertion", jip_insert_disk(&floppy, &guest) == JIP_DONE);
+    refuses_growths = refuses;
+}
+
+/* Removes the disk, or inserts one. */
+static void change_disk(void) {
+    if (is_inhibited) return;
+    if (disk_number != 0) {
+        remove_disk();
+    } else {
+        insert_disk();
+    }
+}
+
+static int32_t inhibit(void *context, int32_t is_on) {
+    const int refuses = refuses_growths;
+    HOLDS("what is given to inhibit", context == &guest && is_on == !is_inhibited);
+    if (chance(20)) return 202;
+    refuses_growths = 0;
+    if (is_on && disk_number != 0) keep_disk();
+    if (!is_on && chance(80)) open_disk();
+    refuses_growths = refuses;
+    is_inhibited = is_on;
+    was_allowed = !is_on && jip_image_length(&floppy) != 0;
+    disk_changes++;
+    return 0;
+}
+
+/* After a packet that may have been INHIBIT: without memory the disk that the callback opened is not put in. */
+static void note_inhibition(void) {
+    if (was_allowed && jip_image_length(&floppy) == 0) is_inhibited = 1;
+    was_allowed = 0;
+    if (jip_image_length(&floppy) == 0) disk_number = 0;
+}
+
 /* ---- Packets, most of them as a program would send them ---- */
 
 /* Arguments in the order of the manual. l: a lock. p: a name. t: a text. m: a mode. b: a number. e: a FileInfoBlock. i: an
- * InfoData. f: a FileHandle. h: fh_Arg1. a: an address. n: a count. d: a DateStamp. */
+ * InfoData. f: a FileHandle. h: fh_Arg1. a: an address. n: a count. d: a DateStamp. s: a switch. */
 static const struct { uint32_t type; const char *arguments; } kinds[] = {
     {8, "lpm"}, {8, "lpm"}, {9, "t"}, {15, "l"}, {15, "l"}, {16, "lp"}, {17, "lplp"}, {19, "l"}, {21, "-lpb"}, {22, "lp"}, {23, "le"},
     {24, "le"}, {24, "le"}, {25, "i"}, {26, "li"}, {28, "-lpt"}, {29, "l"}, {34, "-lpd"}, {40, "ll"}, {82, "han"}, {82, "han"}, {87, "han"},
     {87, "han"}, {1004, "flp"}, {1005, "flp"}, {1006, "flp"}, {1007, "h"}, {1008, "hom"}, {1022, "hom"}, {7, ""}, {27, ""}, {1026, "fl"},
-    {1027, ""}, {1030, "h"}, {1031, "h"}, {1034, "he"}, {31, "b"}, {5, ""}};
+    {1027, ""}, {1030, "h"}, {1031, "h"}, {1034, "he"}, {18, "b"}, {31, "s"}, {1023, "ss"}, {5, ""}};
 static const char *const names[NAME_COUNT] = {"a", "b", "dir", "dir/a", "dir/deep", "dir/deep/x", "/a", "Work:a", "X:dir/b", "A:B:c", "", "dir/",
                                              "a name of more bytes than a name may have", "dir//b", ":", "\xe4/\xff"};
 
@@ -130,6 +249,7 @@ static uint32_t argument(char kind) {
     case 't': return (base + NAMES + 64 * draw(NAME_COUNT)) >> 2;
     case 'm': return modes[draw(5)];
     case 'b': return draw(16);
+    case 's': return draw(2);
     case 'o': return draw(5000) - 1000;
     case 'e': return (base + 0x200) >> 2;
     case 'i': return (base + 0x400) >> 2;
@@ -193,9 +313,68 @@ static void look_at_lock(uint32_t bptr) {
     known_locks[draw(LOCKS)] = bptr;
 }
 
+/* ---- What the machine holds ---- */
+
+static struct held *find(struct held *all, uint32_t name) {
+    for (uint32_t k = 0; k < MOST_PLACES; k++)
+        if (all[k].disk != 0 && all[k].name == name) return &all[k];
+    return NULL;
+}
+
+static void note(struct held *all, uint32_t name) {
+    for (uint32_t k = 0; k < MOST_PLACES; k++) {
+        if (all[k].disk != 0) continue;
+        all[k] = (struct held){name, disk_number};
+        return;
+    }
+    fail("more is held than the pool has places", __LINE__);
+}
+
+static void drop(struct held *all, uint32_t name) {
+    struct held *it = find(all, name);
+    if (it != NULL) it->disk = 0;
+}
+
+static int is_of_removed(struct held *all, uint32_t name) {
+    const struct held *it = find(all, name);
+    return it != NULL && it->disk != disk_number;
+}
+
+/* Whether a packet names a lock or a file of a removed disk. */
+static int is_dead(uint32_t type, const uint32_t *args) {
+    switch (type) {
+    case 17: return is_of_removed(held_locks, args[0]) || is_of_removed(held_locks, args[2]);
+    case 40: return is_of_removed(held_locks, args[0]) || is_of_removed(held_locks, args[1]);
+    case 8: case 15: case 16: case 19: case 22: case 23: case 24: case 26: case 29: return is_of_removed(held_locks, args[0]);
+    case 21: case 28: case 34: case 1004: case 1005: case 1006: case 1026: return is_of_removed(held_locks, args[1]);
+    case 82: case 87: case 1007: case 1008: case 1022: case 1030: case 1031: case 1034: return is_of_removed(held_files, args[0]);
+    default: return 0;
+    }
+}
+
+/* Notes what a served packet makes and frees. */
+static void note_served(uint32_t type, const uint32_t *args, uint32_t given) {
+    if (makes_lock(type) && given != 0) note(held_locks, given);
+    if (type == 15) drop(held_locks, args[0]);
+    if (type == 1007) drop(held_files, args[0]);
+    if (type == 1026) drop(held_locks, args[1]);
+    if ((type >= 1004 && type <= 1006) || type == 1026) {
+        const uint32_t argument = long_at((args[0] << 2) + 36);
+        HOLDS("a new fh_Arg1", find(held_files, argument) == NULL);
+        note(held_files, argument);
+    }
+}
+
+/* Checks the answer to a packet that names something of a removed disk, and to one without a disk. */
+static void look_at_disk(int was_dead, uint32_t type, int32_t res2, uint32_t number) {
+    if (was_dead) HOLDS("what is of a removed disk", type == 15 || type == 1007 ? res2 == 0 : res2 == 218);
+    else if (number == 0 && type != 5 && type != 31) HOLDS("no disk", res2 == 218);
+}
+
 static void one_packet(void) {
-    const uint32_t at = make_packet();
+    const uint32_t at = make_packet(), number = disk_number;
     const uint64_t before = jip_changes(&floppy);
+    int was_dead;
     uint32_t args[7] = {0}, type = 0;
     int32_t res1, res2, status;
     memcpy(shadow, ram, RAM);
@@ -203,8 +382,10 @@ static void one_packet(void) {
         type = long_at(at + 8);
         for (uint32_t k = 0; k < 7; k++) args[k] = long_at(at + 20 + 4 * k);
     }
+    was_dead = is_dead(type, args);
     status = jip_serve_guest(&floppy, &guest, at);
     packets++;
+    note_inhibition();
     if (comes_and_goes) {
         if (makes_lock(type) && status == JIP_DONE) known_locks[draw(LOCKS)] = long_at(at + 12);
         return;
@@ -216,8 +397,10 @@ static void one_packet(void) {
     res1 = (int32_t)long_at(at + 12);
     res2 = (int32_t)long_at(at + 16);
     look_at_memory(at, type, args, res1);
+    look_at_disk(was_dead, type, res2, number);
     if (res2 == 0) {
         answered++;
+        note_served(type, args, (uint32_t)res1);
         if (makes_lock(type) && res1 != 0) look_at_lock((uint32_t)res1);
     } else {
         HOLDS("an error", is_error(res2) && res1 == (type == 82 || type == 87 || type == 1008 ? -1 : 0));
@@ -227,10 +410,16 @@ static void one_packet(void) {
 
 /* ---- Rounds ---- */
 
+/* Nothing is held yet. The callback for INHIBIT may be set. */
+static void start(void) {
+    memset(held_locks, 0, sizeof held_locks);
+    memset(held_files, 0, sizeof held_files);
+    is_inhibited = 0;
+    if (chance(50)) HOLDS("a callback", jip_guest_on_inhibit(&guest, inhibit) == JIP_DONE);
+}
+
 static void set_up(void) {
     static const uint32_t bases[] = {0, 0x1000, 0x200000, 0x7fffc000, 0xffff8000};
-    const jip_date first = {1, 2, 3};
-    const uint32_t blocks = chance(10) ? 1760 : 16 + draw(200);
     base = bases[draw(5)];
     rom = chance(50) ? RAM : 0x7000;
     for (uint32_t k = 0; k < RAM; k++) ram[k] = (uint8_t)draw(256);
@@ -249,7 +438,9 @@ static void set_up(void) {
     guest.port = draw(0);
     guest.volume = draw(0) & ~(uint32_t)3;
     guest.now = (jip_date){draw(10000), draw(1440), draw(3000)};
-    HOLDS("a blank volume", jip_blank((int32_t)draw(2), blocks, "Work", 4, first, &floppy) == JIP_DONE);
+    disks = 0;
+    start();
+    blank_disk();
 }
 
 /* Releases the guest. Nothing is held afterwards, and the image is valid. */
@@ -259,7 +450,13 @@ static void tear_down(void) {
     jip_packet packet;
     jip_answer answer;
     const size_t length = jip_image_length(&floppy);
-    uint8_t *image = malloc(length);
+    uint8_t *image;
+    clear_shelf();
+    if (length == 0) {
+        HOLDS("the guest is given up", jip_release_guest(&floppy, &guest) == JIP_DONE && guest.state == NULL);
+        return;
+    }
+    image = malloc(length);
     HOLDS("room for the image", image != NULL);
     HOLDS("the copy", jip_copy_image(&floppy, image, length) == JIP_DONE);
     HOLDS("the image is accepted", jip_open(image, length, &again, &fault) == JIP_DONE);
@@ -273,7 +470,14 @@ static void tear_down(void) {
 }
 
 /* Resets the machine: its locks and files end, and their BPTRs and numbers stay in its memory. */
-static void reset(void) { HOLDS("a reset", jip_release_guest(&floppy, &guest) == JIP_DONE && guest.state == NULL); }
+static void reset(void) {
+    const int refuses = refuses_growths;
+    refuses_growths = 0;
+    HOLDS("a reset", jip_release_guest(&floppy, &guest) == JIP_DONE && guest.state == NULL);
+    if (jip_image_length(&floppy) == 0) blank_disk();
+    start();
+    refuses_growths = refuses;
+}
 
 static void one_round(void) {
     draws = seed * 0xd1342543de82ef95 + round_number * 0x2545f4914f6cdd1d + 1;
@@ -282,6 +486,8 @@ static void one_round(void) {
     comes_and_goes = chance(10);
     for (uint32_t k = 0; k < PACKETS; k++) {
         if (draw(400) == 0) reset();
+        if (draw(80) == 0) change_disk();
+        else if (disk_number == 0 && chance(20)) change_disk();
         one_packet();
     }
     refuses_growths = comes_and_goes = 0;
@@ -308,8 +514,8 @@ int main(int count, char **words) {
     } while (seconds() - begun < most);
     free(ram);
     free(shadow);
-    printf("seed %" PRIu64 ": %" PRIu64 " rounds, %" PRIu64 " packets, %" PRIu64 " of them served, %" PRIu32 " growths refused\n", seed,
-           round_number, packets, answered, refusals);
+    printf("seed %" PRIu64 ": %" PRIu64 " rounds, %" PRIu64 " packets, %" PRIu64 " of them served, %" PRIu32 " disk changes, %" PRIu32
+           " growths refused\n", seed, round_number, packets, answered, disk_changes, refusals);
     printf("%" PRIu64 " passed, 0 failed\n", checks);
     return 0;
 }

@@ -12,9 +12,29 @@ enum { READ_BYTES = 16384, GATHERED_BYTES = 4096, ARGUMENTS = 7 };
 /* A number that is never that of a lock or file handle. */
 static const uint32_t not_held = UINT32_MAX;
 
-/* An open file of the guest. Its place, counted from 1, is fh_Arg1. */
+/* A disk that is in the drive, or was removed while locks or files of it were held. Removed disks are a list. Each keeps its handle, so
+ * that it can be served again, and be compared with a disk that is inserted. */
+struct disk {
+    struct disk *next;
+    jip_handle handle;   /* closed while the disk is in the drive: the caller has its handle then */
+    uint32_t generation; /* its part of fh_Arg1 */
+    uint32_t held;       /* the number of its FileLocks and open files */
+    uint32_t volume;     /* of a removed disk: the address of its volume node */
+    uint32_t key;        /* of WRITE_PROTECT */
+    int is_protected;    /* by WRITE_PROTECT */
+};
+
+/* A FileLock of the guest. Its place in the pool is its identity. */
+struct held_lock {
+    uint32_t number; /* its number in the library; 0 if the place is free */
+    struct disk *disk;
+};
+
+/* An open file of the guest. */
 struct open_file {
     uint32_t handle;      /* its number in the library; 0 if the place is free */
+    struct disk *disk;
+    uint32_t argument;    /* fh_Arg1: from the place, counted from 1, and the generation of the disk */
     uint32_t lock;        /* a shared lock on the file, or on its directory if FINDOUTPUT opened it; 0 if there is none */
     int32_t error;        /* the DOS error if there is no lock */
     uint32_t name_length; /* for a file that FINDOUTPUT opened; otherwise 0 */
@@ -24,9 +44,13 @@ struct open_file {
 struct jip_guest_state {
     uint32_t places;   /* the number of FileLocks, and of open files */
     uint32_t lock, file; /* the places where the search for a free one starts */
-    uint32_t held;
-    uint32_t *locks; /* the number of each FileLock in the library; 0 if the place is free */
+    struct held_lock *locks;
     struct open_file *files;
+    struct disk *disk;    /* in the drive, or NULL */
+    struct disk *removed; /* the removed disks of which something is held */
+    uint32_t generation;  /* of the next disk */
+    jip_guest_inhibit inhibit;
+    int is_inhibited, has_died;
 };
 
 /* The packet that is served. */
@@ -38,6 +62,7 @@ struct serving {
     jip_packet packet;
     jip_answer answer;
     int32_t fault;          /* the error that refuses it before it gets to the handler, or 0 */
+    struct disk *removed;   /* a removed disk whose lock or file the packet names, or NULL */
     uint32_t place;         /* the place of the first lock */
     struct open_file *file; /* the open file that fh_Arg1 names, or NULL */
     uint32_t struct_at;     /* the address of the struct to be filled */
@@ -127,12 +152,16 @@ static jip_answer asked_of_handle(const struct serving *s, int32_t action, uint3
     return asked(s, &packet);
 }
 
-/* Refuses the packet with this error, or with 218 after DIE. FREE_LOCK of lock 0 shows that: it fails only after DIE. */
-static void refuse(struct serving *s, int32_t error) {
+static void set_refusal(struct serving *s, int32_t error) {
     const int32_t action = s->packet.action;
     const int counts = action == JIP_ACTION_READ || action == JIP_ACTION_WRITE || action == JIP_ACTION_SEEK;
+    set_results(s, counts ? -1 : (int32_t)JIP_DOSFALSE, error);
+}
+
+/* Refuses the packet with this error, or with 218 after DIE. FREE_LOCK of lock 0 shows that: it fails only after DIE. */
+static void refuse(struct serving *s, int32_t error) {
     const int32_t dead = asked_of_lock(s, JIP_ACTION_FREE_LOCK, 0).res2;
-    set_results(s, counts ? -1 : (int32_t)JIP_DOSFALSE, dead != 0 ? dead : error);
+    set_refusal(s, dead != 0 ? dead : error);
 }
 
 /* Answers the packet without the handler, or refuses it with 218 after DIE. */
@@ -157,14 +186,18 @@ static uint32_t place_of(const jip_guest *guest, uint32_t bptr) {
     uint32_t at, place;
     if (!address_of(bptr, &at) || (at - guest->pool) % JIP_FL_BYTES != 0) return state->places;
     place = (at - guest->pool) / JIP_FL_BYTES;
-    return place < state->places && state->locks[place] != 0 ? place : state->places;
+    return place < state->places && state->locks[place].number != 0 ? place : state->places;
 }
 
-/* Returns the number of a lock in the library, or not_held. */
-static uint32_t lock_of(const jip_guest *guest, uint32_t bptr) {
-    const uint32_t place = place_of(guest, bptr);
+/* Returns the number of a lock in the library, or not_held. Notes the disk of a lock whose disk is removed. */
+static uint32_t lock_of(struct serving *s, uint32_t bptr) {
+    const struct jip_guest_state *state = s->guest->state;
+    const uint32_t place = place_of(s->guest, bptr);
     if (bptr == 0) return 0;
-    return place < guest->state->places ? guest->state->locks[place] : not_held;
+    if (place == state->places) return not_held;
+    if (state->locks[place].disk == state->disk) return state->locks[place].number;
+    s->removed = state->locks[place].disk;
+    return not_held;
 }
 
 static int erase_place(const jip_guest *guest, uint32_t place) {
@@ -178,7 +211,7 @@ static int find_place(struct serving *s) {
     uint32_t k;
     for (k = 0; k < state->places; k++) {
         const uint32_t place = (state->lock + k) % state->places;
-        if (state->locks[place] != 0) continue;
+        if (state->locks[place].number != 0) continue;
         s->place = place;
         if (erase_place(s->guest, place)) return 1;
         refuse(s, JIP_GUEST_BAD_NUMBER);
@@ -207,17 +240,35 @@ static void give_lock(struct serving *s, uint32_t lock, int32_t mode) {
         refuse(s, JIP_GUEST_BAD_NUMBER);
         return;
     }
-    state->locks[s->place] = lock;
+    state->locks[s->place].number = lock;
+    state->locks[s->place].disk = state->disk;
     state->lock = (s->place + 1) % state->places;
-    state->held++;
+    state->disk->held++;
     set_results(s, (int32_t)(place_address(s->guest, s->place) >> 2), 0);
+}
+
+/* Forgets a disk that is not in the drive. */
+static void forget(struct disk *disk) {
+    (void)jip_close(&disk->handle);
+    free(disk);
+}
+
+/* One lock or file of the disk is gone. A removed disk is forgotten with its last one. */
+static void let_go(struct jip_guest_state *state, struct disk *disk) {
+    struct disk **at = &state->removed;
+    if (--disk->held != 0 || disk == state->disk) return;
+    while (*at != disk) at = &(*at)->next;
+    *at = disk->next;
+    forget(disk);
 }
 
 /* Frees the FileLock of the packet. */
 static void drop_place(struct serving *s) {
-    s->guest->state->locks[s->place] = 0;
-    s->guest->state->held--;
+    struct held_lock *lock = &s->guest->state->locks[s->place];
+    struct disk *disk = lock->disk;
+    memset(lock, 0, sizeof *lock);
     (void)erase_place(s->guest, s->place);
+    let_go(s->guest->state, disk);
 }
 
 static void serve_lock(struct serving *s) {
@@ -252,16 +303,19 @@ static struct open_file *find_file(struct serving *s) {
 
 /* Answers with an open file at this place. Returns 0 if the FileHandle cannot be written. */
 static int give_file(struct serving *s, struct open_file *file, uint32_t handle) {
-    const uint32_t number = (uint32_t)(file - s->guest->state->files) + 1;
+    struct jip_guest_state *state = s->guest->state;
+    const uint32_t number = (uint32_t)(file - state->files) + 1, argument = state->disk->generation * (state->places + 1) + number;
     memset(file, 0, sizeof *file);
-    if (!poke_long(s->guest, s->struct_at + JIP_FH_ARG1, number)) {
+    if (!poke_long(s->guest, s->struct_at + JIP_FH_ARG1, argument)) {
         (void)asked_of_handle(s, JIP_ACTION_END, handle);
         refuse(s, JIP_GUEST_BAD_NUMBER);
         return 0;
     }
     file->handle = handle;
-    s->guest->state->file = number % s->guest->state->places;
-    s->guest->state->held++;
+    file->disk = state->disk;
+    file->argument = argument;
+    state->file = number % state->places;
+    state->disk->held++;
     set_results(s, JIP_DOSTRUE, 0);
     return 1;
 }
@@ -298,12 +352,17 @@ static void serve_open(struct serving *s) {
     if (s->answer.res2 == 0 && give_file(s, file, s->answer.handle)) lock_beside(s, file);
 }
 
+/* Frees what an open file that is closed still holds, and its place. */
+static void drop_file(struct serving *s, struct open_file *file) {
+    struct disk *disk = file->disk;
+    if (file->lock != 0) (void)asked_of_lock(s, JIP_ACTION_FREE_LOCK, file->lock);
+    memset(file, 0, sizeof *file);
+    let_go(s->guest->state, disk);
+}
+
 static void serve_end(struct serving *s) {
     ask(s);
-    if (s->answer.res2 != 0 || s->file == NULL) return;
-    if (s->file->lock != 0) (void)asked_of_lock(s, JIP_ACTION_FREE_LOCK, s->file->lock);
-    memset(s->file, 0, sizeof *s->file);
-    s->guest->state->held--;
+    if (s->answer.res2 == 0 && s->file != NULL) drop_file(s, s->file);
 }
 
 /* ---- READ and WRITE ---- */
@@ -417,7 +476,7 @@ static void put_disk(struct serving *s) {
     put_long(bytes + JIP_ID_BYTES_PER_BLOCK, disk->bytes_per_block);
     put_long(bytes + JIP_ID_DISK_TYPE, disk->disk_type);
     put_long(bytes + JIP_ID_VOLUME_NODE, s->guest->volume >> 2);
-    put_long(bytes + JIP_ID_IN_USE, s->guest->state->held != 0 ? UINT32_MAX : 0);
+    put_long(bytes + JIP_ID_IN_USE, s->guest->state->disk->held != 0 ? UINT32_MAX : 0);
     if (!poke(s->guest, s->struct_at, bytes, sizeof bytes)) refuse(s, JIP_GUEST_BAD_NUMBER);
 }
 
@@ -519,12 +578,226 @@ static void serve_flush(struct serving *s) {
     if (error != 0) set_results(s, JIP_DOSFALSE, error);
 }
 
+/* There are no buffers: 0 more, and 0 in all. */
+static void serve_more_cache(struct serving *s) { accept(s, JIP_DOSTRUE); }
+
 static void serve_current_volume(struct serving *s) {
     if (s->guest->volume == 0) {
         refuse(s, JIP_ERROR_ACTION_NOT_KNOWN);
     } else {
         accept(s, (int32_t)(s->guest->volume >> 2));
     }
+}
+
+/* ---- Disks ---- */
+
+static struct disk *new_disk(struct jip_guest_state *state) {
+    struct disk *disk = (struct disk *)calloc(1, sizeof *disk);
+    if (disk == NULL) return NULL;
+    disk->generation = state->generation;
+    state->generation = (state->generation + 1) % (UINT32_MAX / (state->places + 1));
+    return disk;
+}
+
+/* Takes the disk out of the drive, with the caller's handle. */
+static void take_out(jip_handle *handle, jip_guest *guest) {
+    struct jip_guest_state *state = guest->state;
+    struct disk *disk = state->disk;
+    const jip_handle closed = JIP_CLOSED;
+    if (disk == NULL) return;
+    state->disk = NULL;
+    disk->handle = *handle;
+    *handle = closed;
+    disk->volume = guest->volume;
+    guest->volume = 0;
+    if (disk->held == 0) {
+        forget(disk);
+        return;
+    }
+    disk->next = state->removed;
+    state->removed = disk;
+}
+
+/* The state of a disk: 80 if it is write-protected. It is 0 for a closed handle, and if memory runs out. */
+static uint32_t state_of(jip_handle *handle, jip_date now) {
+    jip_packet packet;
+    jip_answer answer;
+    memset(&answer, 0, sizeof answer);
+    jip_disk_info(&packet, now);
+    return jip_serve(handle, &packet, &answer) == JIP_DONE ? answer.disk.state : 0;
+}
+
+/* Returns a copy of an image, which the caller frees, or NULL if memory runs out. */
+static uint8_t *copy_of(jip_handle *handle) {
+    const size_t length = jip_image_length(handle);
+    uint8_t *bytes = (uint8_t *)malloc(length);
+    if (bytes != NULL && jip_copy_image(handle, bytes, length) == JIP_DONE) return bytes;
+    free(bytes);
+    return NULL;
+}
+
+/* Whether a removed disk has these bytes, and the host opened it for writing or not, as this one. -1: out of memory. */
+static int is_same_disk(struct disk *disk, const uint8_t *bytes, size_t length, uint32_t state, jip_date now) {
+    uint8_t *kept;
+    int is_same;
+    if (jip_image_length(&disk->handle) != length) return 0;
+    if ((disk->is_protected ? (uint32_t)JIP_VALIDATED : state_of(&disk->handle, now)) != state) return 0;
+    kept = copy_of(&disk->handle);
+    if (kept == NULL) return -1;
+    is_same = memcmp(kept, bytes, length) == 0;
+    free(kept);
+    return is_same;
+}
+
+/* Finds the removed disk that the handle is now on: sets the place of its pointer in the list, or NULL. Returns 0 if memory
+ * runs out. */
+static int find_removed(jip_handle *handle, jip_guest *guest, struct disk ***found) {
+    const uint32_t state = state_of(handle, guest->now);
+    const size_t length = jip_image_length(handle);
+    struct disk **at = &guest->state->removed;
+    uint8_t *bytes;
+    int is_same = 0;
+    *found = NULL;
+    if (*at == NULL) return 1;
+    bytes = copy_of(handle);
+    if (bytes == NULL) return 0;
+    for (; *at != NULL && is_same == 0; at = &(*at)->next) {
+        is_same = is_same_disk(*at, bytes, length, state, guest->now);
+        if (is_same == 1) *found = at;
+    }
+    free(bytes);
+    return is_same != -1;
+}
+
+/* Puts the disk of an open handle into the drive. Returns 0 if memory runs out. */
+static int put_in(jip_handle *handle, jip_guest *guest) {
+    struct jip_guest_state *state = guest->state;
+    const jip_handle closed = JIP_CLOSED;
+    struct disk **found;
+    if (!find_removed(handle, guest, &found)) return 0;
+    if (found == NULL) {
+        state->disk = new_disk(state);
+        return state->disk != NULL;
+    }
+    state->disk = *found;
+    *found = state->disk->next;
+    state->disk->next = NULL;
+    (void)jip_close(handle);
+    *handle = state->disk->handle;
+    state->disk->handle = closed;
+    guest->volume = state->disk->volume;
+    return 1;
+}
+
+/* FREE_LOCK and END free what a program holds of a removed disk. Any other packet that names it is refused. */
+static void serve_removed(struct serving *s) {
+    s->handle = &s->removed->handle;
+    if (s->packet.action == JIP_ACTION_FREE_LOCK) {
+        (void)asked_of_lock(s, JIP_ACTION_FREE_LOCK, s->guest->state->locks[s->place].number);
+        drop_place(s);
+        set_results(s, JIP_DOSTRUE, 0);
+    } else if (s->packet.action == JIP_ACTION_END) {
+        (void)asked_of_handle(s, JIP_ACTION_END, s->file->handle);
+        drop_file(s, s->file);
+        set_results(s, JIP_DOSTRUE, 0);
+    } else {
+        set_refusal(s, JIP_ERROR_DEVICE_NOT_MOUNTED);
+    }
+}
+
+/* Ends the handler, unless something of a removed disk is held: its FileLocks name the handler's port. */
+static void serve_die(struct serving *s) {
+    struct jip_guest_state *state = s->guest->state;
+    if (state->removed != NULL) {
+        set_refusal(s, JIP_ERROR_OBJECT_IN_USE);
+        return;
+    }
+    if (state->disk != NULL) {
+        ask(s);
+    } else {
+        set_results(s, JIP_DOSTRUE, 0);
+    }
+    if (s->answer.res2 == 0) state->has_died = 1;
+}
+
+/* Ends the inhibition: the host opens the disk again, as it is now. */
+static void uninhibit(struct serving *s) {
+    struct jip_guest_state *state = s->guest->state;
+    const int32_t error = state->inhibit(s->guest->context, 0);
+    if (error == 0 && jip_image_length(s->handle) != 0 && !put_in(s->handle, s->guest)) {
+        (void)jip_close(s->handle);
+        set_refusal(s, JIP_ERROR_NO_FREE_STORE);
+    } else if (error != 0) {
+        set_refusal(s, error);
+    } else {
+        state->is_inhibited = 0;
+        set_results(s, JIP_DOSTRUE, 0);
+    }
+}
+
+static void serve_inhibit(struct serving *s) {
+    struct jip_guest_state *state = s->guest->state;
+    const int is_on = s->arguments[0] != 0;
+    if (state->inhibit == NULL) {
+        refuse(s, JIP_ERROR_ACTION_NOT_KNOWN);
+    } else if (is_on == state->is_inhibited) {
+        set_results(s, JIP_DOSTRUE, 0);
+    } else if (!is_on) {
+        uninhibit(s);
+    } else {
+        const int32_t error = state->inhibit(s->guest->context, 1);
+        if (error != 0) {
+            set_refusal(s, error);
+            return;
+        }
+        take_out(s->handle, s->guest);
+        state->is_inhibited = 1;
+        set_results(s, JIP_DOSTRUE, 0);
+    }
+}
+
+/* Opens the image of the caller's handle again, for writing or not. Returns a DOS error: 202 if anything on it is held. */
+static int32_t reopen(struct serving *s, int is_protected) {
+    const size_t length = jip_image_length(s->handle);
+    uint8_t *bytes = copy_of(s->handle);
+    jip_handle again = JIP_CLOSED;
+    jip_fault fault;
+    jip_packet packet;
+    int32_t error = JIP_ERROR_NO_FREE_STORE;
+    if (bytes != NULL && (is_protected ? jip_open_read_only : jip_open)(bytes, length, &again, &fault) == JIP_DONE) {
+        jip_die(&packet, s->guest->now);
+        error = asked(s, &packet).res2;
+    }
+    free(bytes);
+    if (error != 0) {
+        (void)jip_close(&again);
+        return error;
+    }
+    (void)jip_close(s->handle);
+    *s->handle = again;
+    return 0;
+}
+
+/* Protects the disk by a read-only handle, or ends that. The protection by the host, of a handle that it opened read-only, stays. */
+static void serve_write_protect(struct serving *s) {
+    struct disk *disk = s->guest->state->disk;
+    const int is_on = s->arguments[0] != 0;
+    const int is_host = !disk->is_protected && state_of(s->handle, s->guest->now) == JIP_WRITE_PROTECTED;
+    int32_t error = 0;
+    if (disk->is_protected ? disk->key != s->arguments[1] : is_host && !is_on) {
+        refuse(s, JIP_ERROR_DISK_WRITE_PROTECTED);
+        return;
+    }
+    if (is_on != disk->is_protected && !is_host) error = reopen(s, is_on);
+    if (error != 0) {
+        refuse(s, error);
+        return;
+    }
+    if (!is_host) {
+        disk->is_protected = is_on;
+        disk->key = s->arguments[1];
+    }
+    accept(s, JIP_DOSTRUE);
 }
 
 /* ---- Arguments ---- */
@@ -537,7 +810,7 @@ static const struct action {
     const char *arguments;
     void (*serve)(struct serving *s);
 } actions[] = {
-    {JIP_ACTION_DIE, "", ask},
+    {JIP_ACTION_DIE, "", serve_die},
     {JIP_ACTION_LOCATE_OBJECT, "lpm", serve_lock},
     {JIP_ACTION_RENAME_DISK, "v", ask},
     {JIP_ACTION_FREE_LOCK, "l", serve_free_lock},
@@ -563,7 +836,10 @@ static const struct action {
     {JIP_ACTION_SEEK, "hom", ask},
     {JIP_ACTION_SET_FILE_SIZE, "hom", ask},
     {JIP_GUEST_CURRENT_VOLUME, "", serve_current_volume},
+    {JIP_GUEST_MORE_CACHE, "", serve_more_cache},
     {JIP_GUEST_FLUSH, "", serve_flush},
+    {JIP_GUEST_INHIBIT, "", serve_inhibit},
+    {JIP_GUEST_WRITE_PROTECT, "", serve_write_protect},
     {JIP_GUEST_FH_FROM_LOCK, "fl", serve_fh_from_lock},
     {JIP_GUEST_IS_FILESYSTEM, "", serve_is_filesystem},
     {JIP_GUEST_COPY_DIR_FH, "h", serve_copy_dir_fh},
@@ -625,21 +901,29 @@ static void take_key(struct serving *s, uint32_t bptr) {
 }
 
 static void take_lock(struct serving *s, uint32_t bptr) {
-    s->packet.lock = lock_of(s->guest, bptr);
+    s->packet.lock = lock_of(s, bptr);
     s->place = place_of(s->guest, bptr);
 }
 
-static void take_file(struct serving *s, uint32_t number) {
+/* Finds the open file with this fh_Arg1, which has its place and the generation of its disk. */
+static void take_file(struct serving *s, uint32_t argument) {
     const struct jip_guest_state *state = s->guest->state;
-    const int there = number != 0 && number <= state->places && state->files[number - 1].handle != 0;
-    s->file = there ? &state->files[number - 1] : NULL;
-    s->packet.handle = there ? s->file->handle : not_held;
+    const uint32_t number = argument % (state->places + 1);
+    struct open_file *file = number == 0 ? NULL : &state->files[number - 1];
+    s->packet.handle = not_held;
+    s->file = file != NULL && file->handle != 0 && file->argument == argument ? file : NULL;
+    if (s->file == NULL) return;
+    if (file->disk == state->disk) {
+        s->packet.handle = file->handle;
+    } else {
+        s->removed = file->disk;
+    }
 }
 
 static void take(struct serving *s, char kind, uint32_t value) {
     switch (kind) {
     case 'l': take_lock(s, value); break;
-    case 'L': s->packet.to_lock = lock_of(s->guest, value); break;
+    case 'L': s->packet.to_lock = lock_of(s, value); break;
     case 'h': take_file(s, value); break;
     case 'v': s->packet.path_length = take_string(s, value, s->path); break;
     case 'p': s->packet.path_length = take_path(s, value, s->path); break;
@@ -676,25 +960,40 @@ static int read_packet(struct serving *s) {
 }
 
 static void free_state(jip_guest *guest) {
-    if (guest->state == NULL) return;
-    free(guest->state->locks);
-    free(guest->state->files);
-    free(guest->state);
+    struct jip_guest_state *state = guest->state;
+    if (state == NULL) return;
+    while (state->removed != NULL) {
+        struct disk *disk = state->removed;
+        state->removed = disk->next;
+        forget(disk);
+    }
+    free(state->disk);
+    free(state->locks);
+    free(state->files);
+    free(state);
     guest->state = NULL;
 }
 
-/* Allocates the host's memory for a guest at its first packet. Returns 0 if memory runs out. */
+/* Allocates the host's memory for a guest, with a disk in the drive. Returns 0 if memory runs out. */
 static int has_state(jip_guest *guest) {
     const uint32_t places = guest->pool_bytes / JIP_FL_BYTES;
     if (guest->state != NULL) return 1;
     guest->state = (struct jip_guest_state *)calloc(1, sizeof *guest->state);
     if (guest->state == NULL) return 0;
     guest->state->places = places;
-    guest->state->locks = (uint32_t *)calloc((size_t)places + 1, sizeof *guest->state->locks);
+    guest->state->locks = (struct held_lock *)calloc((size_t)places + 1, sizeof *guest->state->locks);
     guest->state->files = (struct open_file *)calloc((size_t)places + 1, sizeof *guest->state->files);
-    if (guest->state->locks != NULL && guest->state->files != NULL) return 1;
+    guest->state->disk = new_disk(guest->state);
+    if (guest->state->locks != NULL && guest->state->files != NULL && guest->state->disk != NULL) return 1;
     free_state(guest);
     return 0;
+}
+
+/* Whether the packet meets a disk. A drive without one, or an inhibited one, still serves INHIBIT and DIE. */
+static int has_disk(struct serving *s, const struct action *row) {
+    const struct jip_guest_state *state = s->guest->state;
+    const int has_one = state->disk != NULL && !state->is_inhibited;
+    return !state->has_died && (has_one || (row != NULL && (row->serve == serve_die || row->serve == serve_inhibit)));
 }
 
 /* Checks the arguments of the packet, and serves or refuses it. */
@@ -702,7 +1001,11 @@ static void serve(struct serving *s) {
     const struct action *row = row_of(s->packet.action);
     uint32_t k;
     for (k = 0; row != NULL && row->arguments[k] != 0; k++) take(s, row->arguments[k], s->arguments[k]);
-    if (s->fault != 0) {
+    if (s->removed != NULL) {
+        serve_removed(s);
+    } else if (!has_disk(s, row)) {
+        set_refusal(s, JIP_ERROR_DEVICE_NOT_MOUNTED);
+    } else if (s->fault != 0) {
         refuse(s, s->fault);
     } else if (row != NULL) {
         row->serve(s);
@@ -716,10 +1019,15 @@ static int is_set_up(const jip_guest *guest) {
            (guest->pool_bytes == 0 || (guest->pool != 0 && lies(guest->pool, guest->pool_bytes)));
 }
 
+/* Whether the handle is open, or the drive is empty. */
+static int fits(jip_handle *handle, const jip_guest *guest) {
+    return handle != NULL && (jip_image_length(handle) != 0 || (guest->state != NULL && guest->state->disk == NULL));
+}
+
 int32_t jip_serve_guest(jip_handle *handle, jip_guest *guest, uint32_t packet_address) {
     struct serving s;
     uint8_t results[JIP_DP_ARG1 - JIP_DP_RES1];
-    if (!is_set_up(guest) || jip_image_length(handle) == 0) return JIP_WRONG_ARGUMENT;
+    if (!is_set_up(guest) || !fits(handle, guest)) return JIP_WRONG_ARGUMENT;
     memset(&s, 0, sizeof s);
     s.handle = handle;
     s.guest = guest;
@@ -736,18 +1044,44 @@ int32_t jip_serve_guest(jip_handle *handle, jip_guest *guest, uint32_t packet_ad
 }
 
 int32_t jip_release_guest(jip_handle *handle, jip_guest *guest) {
+    struct jip_guest_state *state;
     struct serving s;
     uint32_t k;
     if (guest == NULL) return JIP_WRONG_ARGUMENT;
     memset(&s, 0, sizeof s);
     s.handle = handle;
     s.guest = guest;
-    for (k = 0; guest->state != NULL && k < guest->state->places; k++) {
-        const struct open_file *file = &guest->state->files[k];
-        if (file->handle != 0) (void)asked_of_handle(&s, JIP_ACTION_END, file->handle);
-        if (file->lock != 0) (void)asked_of_lock(&s, JIP_ACTION_FREE_LOCK, file->lock);
-        if (guest->state->locks[k] != 0) (void)asked_of_lock(&s, JIP_ACTION_FREE_LOCK, guest->state->locks[k]);
+    state = guest->state;
+    /* (what is held of removed disks ends with their handles) */
+    for (k = 0; state != NULL && state->disk != NULL && k < state->places; k++) {
+        const struct open_file *file = &state->files[k];
+        const struct held_lock *lock = &state->locks[k];
+        if (file->disk == state->disk) {
+            (void)asked_of_handle(&s, JIP_ACTION_END, file->handle);
+            if (file->lock != 0) (void)asked_of_lock(&s, JIP_ACTION_FREE_LOCK, file->lock);
+        }
+        if (lock->disk == state->disk) (void)asked_of_lock(&s, JIP_ACTION_FREE_LOCK, lock->number);
     }
     free_state(guest);
     return JIP_DONE;
+}
+
+int32_t jip_guest_on_inhibit(jip_guest *guest, jip_guest_inhibit inhibit) {
+    if (!is_set_up(guest)) return JIP_WRONG_ARGUMENT;
+    if (!has_state(guest)) return JIP_NO_MEMORY;
+    guest->state->inhibit = inhibit;
+    return JIP_DONE;
+}
+
+int32_t jip_remove_disk(jip_handle *handle, jip_guest *guest) {
+    if (handle == NULL || !is_set_up(guest)) return JIP_WRONG_ARGUMENT;
+    if (!has_state(guest)) return JIP_NO_MEMORY;
+    take_out(handle, guest);
+    return JIP_DONE;
+}
+
+int32_t jip_insert_disk(jip_handle *handle, jip_guest *guest) {
+    if (!is_set_up(guest) || jip_image_length(handle) == 0) return JIP_WRONG_ARGUMENT;
+    if (guest->state == NULL || guest->state->disk != NULL || guest->state->is_inhibited) return JIP_WRONG_ARGUMENT;
+    return put_in(handle, guest) ? JIP_DONE : JIP_NO_MEMORY;
 }
