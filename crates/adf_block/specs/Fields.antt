@@ -1,7 +1,9 @@
 -- The value of each field of a block, under a name of its own.
 use Rattle.std.specs.Prelude.{ℕ, ◌+◌, ◌-◌, List, ◌==◌, if◌then◌else◌}
 use Rattle.adf_block.specs.Image.{byte_at, long}
-use Rattle.adf_block.specs.declared.layout.TheConstants.{PRIMARY_TYPE, OWN_KEY, SECONDARY_TYPE, FIRST_SLOT, POINTER_COUNT, FIRST_POINTER, PROTECTION, FILE_SIZE, PARENT, SEQUENCE, HELD}
+use Rattle.adf_block.specs.declared.layout.TheConstants.{PRIMARY_TYPE, OWN_KEY, SECONDARY_TYPE, FIRST_SLOT}
+use Rattle.adf_block.specs.declared.layout.TheConstants.{POINTER_COUNT, FIRST_POINTER, PROTECTION, FILE_SIZE, PARENT}
+use Rattle.adf_block.specs.declared.layout.TheConstants.{SEQUENCE, HELD}
 use Rattle.adf_block.specs.declared.beside.TheConstants.{KIND_BYTE}
 use Rattle.adf_block.specs.declared.layout.Format.{Format}
 use Rattle.adf_block.specs.declared.layout.Format.TheVariants.{Ofs, Ffs}

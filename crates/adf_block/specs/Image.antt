@@ -1,8 +1,10 @@
--- An image is a list of bytes: n blocks of 512 bytes. A block has 128 big-endian longs, and its fields are longs and texts
--- at the positions of `src/layout.rt`.
-use Rattle.std.specs.Prelude.{◌≡◌, ℕ, zero, suc, ◌+◌, ◌-◌, ◌*◌, ◌/◌, ◌%◌, ◌^◌, ◌<◌, ◌≤◌, List, take, drop, length, slice_index, bit_and, Bool, not, ◌==◌, [], ◌∷◌}
+-- An image is a list of bytes: n blocks of 512 bytes. A block has 128 big-endian longs, and its fields are longs and
+-- texts at the positions of `src/layout.rt`.
+use Rattle.std.specs.Prelude.{◌≡◌, ℕ, zero, suc, ◌+◌, ◌-◌, ◌*◌, ◌/◌, ◌%◌, ◌^◌, ◌<◌, ◌≤◌, List, take, drop, length}
+use Rattle.std.specs.Prelude.{slice_index, bit_and, Bool, not, ◌==◌, [], ◌∷◌}
 use Rattle.byteorder.specs.Endian.{big_number}
-use Rattle.adf_block.specs.declared.layout.TheConstants.{BOOT_BLOCKS, BLOCK_BYTES, BLOCK_LONGS, FIRST_PAGE, FIRST_MAP_LONG, LONG_BITS, PAGE_BITS}
+use Rattle.adf_block.specs.declared.layout.TheConstants.{BOOT_BLOCKS, BLOCK_BYTES, BLOCK_LONGS, FIRST_PAGE}
+use Rattle.adf_block.specs.declared.layout.TheConstants.{FIRST_MAP_LONG, LONG_BITS, PAGE_BITS}
 
 -- the number of blocks
 abbrev pub block_count : List ℕ → ℕ
@@ -45,7 +47,8 @@ block_sum image b = total (long image b) BLOCK_LONGS % 2 ^ 32
 unfoldable pub has_free_bit : List ℕ → ℕ → Bool
 has_free_bit image b =
     let page = long image (root_key (block_count image)) (FIRST_PAGE + (b - BOOT_BLOCKS) / PAGE_BITS) in
-    not (bit_and (long image page (FIRST_MAP_LONG + (b - BOOT_BLOCKS) % PAGE_BITS / LONG_BITS)) (2 ^ ((b - BOOT_BLOCKS) % LONG_BITS)) == 0)
+    not (bit_and (long image page (FIRST_MAP_LONG + (b - BOOT_BLOCKS) % PAGE_BITS / LONG_BITS))
+    (2 ^ ((b - BOOT_BLOCKS) % LONG_BITS)) == 0)
 
 -- the list that starts at `first` and follows long `link` of each block is exactly these blocks; a link of 0 ends it
 abbrev pub Chained : List ℕ → ℕ → ℕ → List ℕ → Type 0

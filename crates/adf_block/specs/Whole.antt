@@ -26,7 +26,8 @@ pub record IsImage (bytes : List ℕ) : Type 0 where
 
 -- the number of blocks after the boot blocks that are marked free
 abbrev pub free_bit_count : List ℕ → ℕ
-free_bit_count image = total (λ k. if has_free_bit image (k + BOOT_BLOCKS) then 1 else 0) (block_count image - BOOT_BLOCKS)
+free_bit_count image =
+    total (λ k. if has_free_bit image (k + BOOT_BLOCKS) then 1 else 0) (block_count image - BOOT_BLOCKS)
 
 -- the text whose length is byte i and which starts at byte i + 1
 abbrev pub text_at : List ℕ → ℕ → ℕ → List ℕ

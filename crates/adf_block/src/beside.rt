@@ -1,5 +1,5 @@
-//! The numbers of the disk that no tree depends on: the boot block, the positions of checksums, links, and how the bitmap
-//! goes on. As in `layout`, a constant is the index of a long in its block unless its text names another unit.
+//! The numbers of the disk that no tree depends on: the boot block, the positions of checksums, links, and how the
+//! bitmap goes on. As in `layout`, a constant is the index of a long in its block unless its text names another unit.
 
 // The boot blocks.
 /// The kind of the disk: the bytes `DOS` and one more.

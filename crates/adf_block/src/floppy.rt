@@ -1,6 +1,7 @@
 //! The image: its bytes, blocks and longs.
 
-ghost use Rattle.std.specs.Prelude.{◌≡◌, ◌<◌, ◌≤◌, ◌*◌, ◌+◌, ◌-◌, ◌/◌, ◌++◌, ◌⊎◌, ◌≢◌, ℕ, length, take, drop, slice_index, IfOk, IfErr};
+ghost use Rattle.std.specs.Prelude.{◌≡◌, ◌<◌, ◌≤◌, ◌*◌, ◌+◌, ◌-◌, ◌/◌, ◌++◌, ◌⊎◌, ◌≢◌, ℕ, length, take, drop};
+ghost use Rattle.std.specs.Prelude.{slice_index, IfOk, IfErr};
 ghost use Rattle.std.specs.Borrow.{sem};
 ghost use Rattle.byteorder.specs.Endian.{big_bytes};
 ghost use Rattle.adf_block.specs.declared.layout.TheConstants.{BLOCK_LONGS};
@@ -40,7 +41,8 @@ impl Image {
     /// returns the bytes.
     pub fn from_bytes(bytes: Vec<u8>) -> Result<Image, SizeRefused>
         ensures ok { IfOk result (λ image. (image ≡ bytes.items) × IsImage image) }
-        ensures err { IfErr result (λ refused. (refused.bytes ≡ bytes) × IsSizeFault (length bytes.items) refused.fault) }
+        ensures err { IfErr result
+            (λ refused. (refused.bytes ≡ bytes) × IsSizeFault (length bytes.items) refused.fault) }
     {
         if bytes.len() % BLOCK != 0 {
             return Err(SizeRefused {

@@ -62,7 +62,8 @@ pub fn read_input<R: Read>(
     reader: &mut R,
     most: usize,
 ) -> Result<Vec<u8>, InputFault>
-    ensures bytes { IfOk result (λ bytes. ReadsFront most (R.remaining reader.old) (R.remaining reader.new) bytes.items) }
+    ensures bytes { IfOk result
+        (λ bytes. ReadsFront most (R.remaining reader.old) (R.remaining reader.new) bytes.items) }
     // An end within the limit is found.
     ensures endless { result ≡ Err InputFault.TurnLimit → GivesNoEnd (R.remaining reader.old) (R.remaining reader.new) }
 {
@@ -113,9 +114,11 @@ fn read_on<R: Read>(
     limit: u32,
 ) -> Result<u32, InputFault>
     requires { length bytes.old.items ≤ most }
-    ensures read { IfOk result (ReadsOn most (R.remaining reader.old) (R.remaining reader.new) bytes.old.items bytes.new.items) }
+    ensures read { IfOk result
+        (ReadsOn most (R.remaining reader.old) (R.remaining reader.new) bytes.old.items bytes.new.items) }
     ensures within { IfOk result (λ reads. reads ≤ limit) }
-    ensures endless { result ≡ Err InputFault.TurnLimit → GivesOn limit (R.remaining reader.old) (R.remaining reader.new) }
+    ensures endless { result ≡ Err InputFault.TurnLimit
+        → GivesOn limit (R.remaining reader.old) (R.remaining reader.new) }
 {
     let mut chunk = [0u8; CHUNK];
     for reads in 0..limit {
@@ -133,7 +136,8 @@ fn read_on<R: Read>(
 /// Counts the bytes of a reader up to its end, which must be within the limit of reads.
 fn count_rest<R: Read>(reader: &mut R, limit: u32) -> Result<u64, InputFault>
     ensures read { IfOk result (ReadsRest (R.remaining reader.old) (R.remaining reader.new)) }
-    ensures endless { result ≡ Err InputFault.TurnLimit → GivesOn limit (R.remaining reader.old) (R.remaining reader.new) }
+    ensures endless { result ≡ Err InputFault.TurnLimit
+        → GivesOn limit (R.remaining reader.old) (R.remaining reader.new) }
 {
     let mut crumb = [0u8; CRUMB];
     let mut count = 0;

@@ -1,8 +1,14 @@
 -- The packet that a line of a script stands for.
-use Rattle.std.specs.Prelude.{◌≡◌, ◌⊎◌, ℕ, zero, suc, ◌^◌, ◌<◌, ◌≤◌, ℤ, pos, negsuc, false, List, [], ◌∷◌, ◌++◌, length, replicate, Option, Some, codes}
+use Rattle.std.specs.Prelude.{◌≡◌, ◌⊎◌, ℕ, zero, suc, ◌^◌, ◌<◌, ◌≤◌, ℤ, pos, negsuc, false, List, [], ◌∷◌, ◌++◌}
+use Rattle.std.specs.Prelude.{length, replicate, Option, Some, codes}
 use Rattle.std.specs.Str.Parse.{IsNumeral, digits_value}
 use Rattle.ados_model.specs.declared.packet.Packet.{Packet}
-use Rattle.ados_model.specs.declared.packet.Packet.TheVariants.{Die, LocateObject, RenameDisk, FreeLock, DeleteObject, RenameObject, CopyDir, SetProtect, CreateDir, ExamineObject, ExamineNext, DiskInfo, Info, SetComment, Parent, SetDate, SameLock, Read, Write, FindUpdate, FindInput, FindOutput, End, Seek, SetFileSize, Other}
+use Rattle.ados_model.specs.declared.packet.Packet.TheVariants.{Die, LocateObject, RenameDisk, FreeLock, DeleteObject}
+use Rattle.ados_model.specs.declared.packet.Packet.TheVariants.{RenameObject, CopyDir, SetProtect, CreateDir}
+use Rattle.ados_model.specs.declared.packet.Packet.TheVariants.{ExamineObject, ExamineNext, DiskInfo, Info}
+use Rattle.ados_model.specs.declared.packet.Packet.TheVariants.{SetComment, Parent, SetDate, SameLock, Read, Write}
+use Rattle.ados_model.specs.declared.packet.Packet.TheVariants.{FindUpdate, FindInput, FindOutput, End, Seek}
+use Rattle.ados_model.specs.declared.packet.Packet.TheVariants.{SetFileSize, Other}
 use Rattle.adf_script.specs.Pieces.{has_byte}
 use Rattle.adf_script.specs.Values.{reply_value}
 
@@ -47,13 +53,15 @@ SpellsField values (Number n) bytes = IsNumber n bytes
 SpellsField values (Signed z) bytes = IsSigned z bytes
 SpellsField values (Text text) bytes = IsQuoted text bytes × (length text ≤ 255)
 SpellsField values (LongText text) bytes = IsQuoted text bytes
-SpellsField values (Zeros buffer) bytes = IsNumber (length buffer) bytes × (length buffer ≤ 1048576) × (buffer ≡ replicate (length buffer) 0)
+SpellsField values (Zeros buffer) bytes =
+    IsNumber (length buffer) bytes × (length buffer ≤ 1048576) × (buffer ≡ replicate (length buffer) 0)
 
 -- the bytes are these fields, each after one space, up to the end of the line
 abbrev pub SpellsFields : List (Option ℕ) → List Field → List ℕ → Type 0
 SpellsFields values [] bytes = bytes ≡ []
 SpellsFields values (field ∷ fields) bytes =
-    (spelled : List ℕ) × (behind : List ℕ) × (bytes ≡ 32 ∷ (spelled ++ behind)) × SpellsField values field spelled × SpellsFields values fields behind
+    (spelled : List ℕ) × (behind : List ℕ) × (bytes ≡ 32 ∷ (spelled ++ behind)) × SpellsField values field spelled
+    × SpellsFields values fields behind
 
 -- the word and the fields for each packet
 abbrev pub form_of : Packet → List ℕ × List Field
@@ -68,10 +76,12 @@ form_of (ExamineObject lock) = (codes "examine", Value lock ∷ [])
 form_of (Info lock) = (codes "info", Value lock ∷ [])
 form_of (DeleteObject lock path) = (codes "delete", Value lock ∷ Text path ∷ [])
 form_of (CreateDir lock path) = (codes "mkdir", Value lock ∷ Text path ∷ [])
-form_of (RenameObject from_lock from to_lock to) = (codes "rename", Value from_lock ∷ Text from ∷ Value to_lock ∷ Text to ∷ [])
+form_of (RenameObject from_lock from to_lock to) =
+    (codes "rename", Value from_lock ∷ Text from ∷ Value to_lock ∷ Text to ∷ [])
 form_of (SetProtect lock path bits) = (codes "protect", Value lock ∷ Text path ∷ Number bits ∷ [])
 form_of (SetComment lock path comment) = (codes "comment", Value lock ∷ Text path ∷ Text comment ∷ [])
-form_of (SetDate lock path date) = (codes "date", Value lock ∷ Text path ∷ Number date.days ∷ Number date.minutes ∷ Number date.ticks ∷ [])
+form_of (SetDate lock path date) =
+    (codes "date", Value lock ∷ Text path ∷ Number date.days ∷ Number date.minutes ∷ Number date.ticks ∷ [])
 form_of (ExamineNext lock key) = (codes "next", Value lock ∷ Value key ∷ [])
 form_of (FindUpdate lock path) = (codes "update", Value lock ∷ Text path ∷ [])
 form_of (FindInput lock path) = (codes "input", Value lock ∷ Text path ∷ [])
@@ -86,7 +96,8 @@ form_of (Other action) = (codes "other", Signed action ∷ [])
 
 -- with these values of earlier replies, the line stands for this packet
 abbrev pub IsPacketLine : List (Option ℕ) → Packet → List ℕ → Type 0
-IsPacketLine values packet line = (rest : List ℕ) × (line ≡ (form_of packet).0 ++ rest) × SpellsFields values (form_of packet).1 rest
+IsPacketLine values packet line =
+    (rest : List ℕ) × (line ≡ (form_of packet).0 ++ rest) × SpellsFields values (form_of packet).1 rest
 
 -- the line stands for no packet
 abbrev pub IsFaulty : List (Option ℕ) → List ℕ → Type 0

@@ -18,11 +18,14 @@ abbrev pub SpokenEnd : ℕ → List (ℕ × List ℕ) → List Answer → ℕ �
 SpokenEnd client lines answers puts knows text Done =
     (puts ≡ length answers)
     × ((NoneIsLeft lines puts × (text ≡ []))
-    ⊎ ((packet : Packet) × NextPuts lines (answer_values answers) puts packet × IsTrue knows × (text ≡ closed_line client (puts + 1))))
+    ⊎ ((packet : Packet) × NextPuts lines (answer_values answers) puts packet × IsTrue knows
+    × (text ≡ closed_line client (puts + 1))))
 SpokenEnd client lines answers puts knows text Script =
-    (puts ≡ length answers) × (number : ℕ) × NextIsFaulty lines (answer_values answers) puts number × (text ≡ fault_line client number)
+    (puts ≡ length answers) × (number : ℕ) × NextIsFaulty lines (answer_values answers) puts number
+    × (text ≡ fault_line client number)
 SpokenEnd client lines answers puts knows text Tries =
-    ((puts ≡ length answers) × (packet : Packet) × NextPuts lines (answer_values answers) puts packet × (text ≡ no_room_line client (puts + 1)))
+    ((puts ≡ length answers) × (packet : Packet) × NextPuts lines (answer_values answers) puts packet
+    × (text ≡ no_room_line client (puts + 1)))
     ⊎ ((puts ≡ length answers + 1) × (text ≡ no_reply_line client puts))
 
 -- the client put the packets of its script, took these replies, and its text has their lines

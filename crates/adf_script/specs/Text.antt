@@ -1,5 +1,6 @@
 -- The text for each reply, and for the end.
-use Rattle.std.specs.Prelude.{ℕ, ◌+◌, ◌/◌, ◌%◌, ◌^◌, ℤ, pos, negsuc, Bool, nat_lt, if◌then◌else◌, List, [], ◌∷◌, ◌++◌, take, flat_map, decimal, codes}
+use Rattle.std.specs.Prelude.{ℕ, ◌+◌, ◌/◌, ◌%◌, ◌^◌, ℤ, pos, negsuc, Bool, nat_lt, if◌then◌else◌, List, [], ◌∷◌, ◌++◌}
+use Rattle.std.specs.Prelude.{take, flat_map, decimal, codes}
 use Rattle.std.specs.Fmt.{signed_decimal}
 use Rattle.std.specs.Ordering.{int_eq}
 use Rattle.ados_model.specs.declared.answer.FileInfo.{FileInfo}
@@ -38,7 +39,9 @@ read_text count bytes = if nat_lt 0 count then spaced (flat_map hex_byte (take c
 
 -- an entry's key, type, size and name
 abbrev pub entry_text : FileInfo → List ℕ
-entry_text info = spaced (decimal info.key) ++ spaced (signed_decimal info.entry_type) ++ spaced (decimal info.size) ++ spaced info.name
+entry_text info =
+    spaced (decimal info.key) ++ spaced (signed_decimal info.entry_type) ++ spaced (decimal info.size)
+    ++ spaced info.name
 
 -- the description of the volume
 abbrev pub disk_text : DiskInfo → List ℕ
@@ -75,7 +78,8 @@ reply_line client number answer = line (label client number ++ spaced (results a
 -- the lines for replies, numbered from this number
 abbrev pub reply_lines : ℕ → ℕ → List Answer → List ℕ
 reply_lines client number [] = []
-reply_lines client number (answer ∷ answers) = reply_line client number answer ++ reply_lines client (number + 1) answers
+reply_lines client number (answer ∷ answers) =
+    reply_line client number answer ++ reply_lines client (number + 1) answers
 
 -- the line for a put refused as closed; the packet would have had this number
 abbrev pub closed_line : ℕ → ℕ → List ℕ

@@ -27,28 +27,35 @@ outcomes_of reply = Accepted reply.number ∷ Served ∷ Taken reply ∷ []
 module _ {S M : Type 0} (gives : S → Packet → M → S → Answer → Type 0) (has_died : S → Bool) (moment : M) where
   -- from this port, the remaining lines print this text; `whole` is false if a line is faulty; the replies so far have
   -- these values, and the next one has this number
-  pub data LinesTell : PortState S Packet Answer → List (ℕ × List ℕ) → List (Option ℕ) → ℕ → List ℕ → Bool → Type 0 where
+  pub data LinesTell : PortState S Packet Answer → List (ℕ × List ℕ) → List (Option ℕ) → ℕ → List ℕ → Bool
+      → Type 0 where
     -- no line is left: nothing more is printed, and the script is whole
-    ended : {port : PortState S Packet Answer} {values : List (Option ℕ)} {next : ℕ} → LinesTell port [] values next [] true
+    ended : {port : PortState S Packet Answer} {values : List (Option ℕ)} {next : ℕ}
+        → LinesTell port [] values next [] true
     -- the next line puts a packet; it is served and its reply taken; the reply's line is printed, then the text of the
     -- remaining lines
-    answered : {port new : PortState S Packet Answer} {line : ℕ × List ℕ} {lines : List (ℕ × List ℕ)} {values : List (Option ℕ)} {next : ℕ}
+    answered : {port new : PortState S Packet Answer} {line : ℕ
+        × List ℕ} {lines : List (ℕ × List ℕ)} {values : List (Option ℕ)} {next : ℕ}
         {packet : Packet} {answer : Answer} {text : List ℕ} {whole : Bool}
         → IsPacketLine values packet line.1
-        → PortHistory gives has_died port (steps_of moment packet) (outcomes_of (record { number = next; answer = answer })) new
+        → PortHistory gives has_died port (steps_of moment packet)
+        (outcomes_of (record { number = next; answer = answer })) new
         → LinesTell new lines (values ++ answer_value answer ∷ []) (next + 1) text whole
         → LinesTell port (line ∷ lines) values next (reply_line 1 next answer ++ text) whole
     -- the next line puts a packet, and the put is refused as closed: this is printed, and the script is whole
-    closed : {port new : PortState S Packet Answer} {line : ℕ × List ℕ} {lines : List (ℕ × List ℕ)} {values : List (Option ℕ)} {next : ℕ} {packet : Packet}
+    closed : {port new : PortState S Packet Answer} {line : ℕ
+        × List ℕ} {lines : List (ℕ × List ℕ)} {values : List (Option ℕ)} {next : ℕ} {packet : Packet}
         → IsPacketLine values packet line.1
         → PortHistory gives has_died port (Put 1 packet ∷ []) (Refused (Closed packet) ∷ []) new
         → LinesTell port (line ∷ lines) values next (closed_line 1 next) true
     -- the next line is faulty: its number is printed, and the script is not whole
-    faulty : {port : PortState S Packet Answer} {line : ℕ × List ℕ} {lines : List (ℕ × List ℕ)} {values : List (Option ℕ)} {next : ℕ}
+    faulty : {port : PortState S Packet Answer} {line : ℕ
+        × List ℕ} {lines : List (ℕ × List ℕ)} {values : List (Option ℕ)} {next : ℕ}
         → IsFaulty values line.1
         → LinesTell port (line ∷ lines) values next (fault_line 1 line.0) false
 
-module _ {S M : Type 0} (gives : S → Packet → M → S → Answer → Type 0) (has_died : S → Bool) (opening : PortState S Packet Answer) (moment : M) where
+module _ {S M : Type 0} (gives : S → Packet → M → S → Answer → Type 0) (has_died : S → Bool)
+    (opening : PortState S Packet Answer) (moment : M) where
   -- the written text is the output of the script's lines from this port; a script that is too long prints one line
   abbrev pub Told : List ℕ → List ℕ → Bool → Type 0
   Told read written whole =
@@ -62,8 +69,10 @@ module _ {S M : Type 0} (gives : S → Packet → M → S → Answer → Type 0)
 
 -- everything a reader has is read as a script, and its output written to a writer; the port opens with this server and
 -- one client; each stream is given by its data before and after
-abbrev pub ReadsAndTells : {S M R W : Type 0} (gives : S → Packet → M → S → Answer → Type 0) (has_died : S → Bool) (server : S) (moment : M) (whole : Bool)
-    (remaining : R → Option (List ℕ)) (reader_old reader_new : R) (contents : W → Option (List ℕ)) (writer_old writer_new : W) → Type 0
+abbrev pub ReadsAndTells : {S M R W : Type 0} (gives : S → Packet → M → S → Answer → Type 0) (has_died : S → Bool)
+    (server : S) (moment : M) (whole : Bool)
+    (remaining : R → Option (List ℕ)) (reader_old reader_new : R) (contents : W → Option (List ℕ))
+    (writer_old writer_new : W) → Type 0
 ReadsAndTells gives has_died server moment whole remaining reader_old reader_new contents writer_old writer_new =
     ReadsAndWrites (remaining reader_old) (remaining reader_new) (contents writer_old) (contents writer_new)
     (λ read written. Told gives has_died (opening_port server 1) moment read written whole)

@@ -24,8 +24,8 @@ use std::thread::Threads;
 /// Runs the program on the arguments after its own name, and returns its exit status: 0 success; 1 a wrong command
 /// line; 2 a file or stream that cannot be read or written, no memory, no thread, or a client that ran out of tries; 3
 /// a refused image, name, script or change. Faults of arguments, files and streams are printed on `faults`, and which
-/// image is read while another command has it locked. If that is a terminal, the progress of a check is printed there too.
-/// If the writer is a terminal, text for people may have bold letters.
+/// image is read while another command has it locked. If that is a terminal, the progress of a check is printed there
+/// too. If the writer is a terminal, text for people may have bold letters.
 pub fn run_words<T, R, W, F>(
     rt: &T,
     alloc: Global,
@@ -51,9 +51,11 @@ where
     W: Write + IsTerminal,
     F: Write + IsTerminal,
     ensures whole { words.now ≡ [] → result ≡ 0 →
-        RunsScript (R.remaining reader.old) (R.remaining reader.new) (W.contents writer.old) (W.contents writer.new) true }
+        RunsScript (R.remaining reader.old) (R.remaining reader.new) (W.contents writer.old)
+        (W.contents writer.new) true }
     ensures faulty { words.now ≡ [] → result ≡ 3 →
-        RunsScript (R.remaining reader.old) (R.remaining reader.new) (W.contents writer.old) (W.contents writer.new) false }
+        RunsScript (R.remaining reader.old) (R.remaining reader.new) (W.contents writer.old)
+        (W.contents writer.new) false }
     ensures command { words.now ≢ [] → RunsCommand result (W.contents writer.old) (W.contents writer.new) }
 {
     match read_words(alloc, words) {
@@ -118,8 +120,12 @@ fn run_script<R: Read, W: Write, F: Write>(
     writer: &mut W,
     faults: &mut F,
 ) -> u8
-    ensures whole { result ≡ 0 → RunsScript (R.remaining reader.old) (R.remaining reader.new) (W.contents writer.old) (W.contents writer.new) true }
-    ensures faulty { result ≡ 3 → RunsScript (R.remaining reader.old) (R.remaining reader.new) (W.contents writer.old) (W.contents writer.new) false }
+    ensures whole { result ≡ 0
+        → RunsScript (R.remaining reader.old) (R.remaining reader.new) (W.contents writer.old)
+        (W.contents writer.new) true }
+    ensures faulty { result ≡ 3
+        → RunsScript (R.remaining reader.old) (R.remaining reader.new) (W.contents writer.old)
+        (W.contents writer.new) false }
 {
     let script = match read_script(alloc, reader) {
         Ok(script) => script,

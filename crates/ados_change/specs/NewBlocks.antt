@@ -19,13 +19,16 @@ pub record IsTaken (old new : List ℕ) (block : ℕ) : Type 0 where
 -- the allocated blocks of a list are in rising order
 abbrev pub TakenRise : List ℕ → List ℕ → List ℕ → Type 0
 TakenRise old new blocks =
-    (i j : ℕ) → i < j → j < length blocks → IsTaken old new (slice_index blocks i) → IsTaken old new (slice_index blocks j) → slice_index blocks i < slice_index blocks j
+    (i j : ℕ) → i < j → j < length blocks → IsTaken old new (slice_index blocks i)
+    → IsTaken old new (slice_index blocks j) → slice_index blocks i < slice_index blocks j
 
 -- allocated blocks are below all blocks still free, and rise in each list of a file; their bytes outside fields are 0;
 -- the header of a new file has the number of its first data block, or 0
 pub record TakesLowest (old new : List ℕ) : Type 0 where
-  pub lowest : (block other : ℕ) → IsTaken old new block → InImage old other → HasFreeBit old other → HasFreeBit new other → block < other
-  pub zero_else : (block i : ℕ) (role : Role) → IsTaken old new block → Reached new block role → i < BLOCK_BYTES → ¬ IsField new block role i → byte_at new block i ≡ 0
+  pub lowest : (block other : ℕ) → IsTaken old new block → InImage old other → HasFreeBit old other
+      → HasFreeBit new other → block < other
+  pub zero_else : (block i : ℕ) (role : Role) → IsTaken old new block → Reached new block role → i < BLOCK_BYTES
+      → ¬ IsField new block role i → byte_at new block i ≡ 0
   pub first : (block : ℕ) → IsTaken old new block → IsFile new block → NamesFirstData new block
   pub data_rise : (file : ℕ) → HasFileKey new file → TakenRise old new (data_blocks new file)
   pub extensions_rise : (file : ℕ) → HasFileKey new file → TakenRise old new (extension_blocks new file)

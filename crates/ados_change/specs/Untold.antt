@@ -32,11 +32,13 @@ data_at image file q = slice_index (data_blocks image file) q
 pub record KeepsData (old new : List ℕ) (file : ℕ) : Type 0 where
   pub blocks : data_blocks new file ≡ data_blocks old file
   pub extensions : extension_blocks new file ≡ extension_blocks old file
-  pub bytes : (q i : ℕ) → HasData old file q → i < BLOCK_BYTES → byte_at new (data_at old file q) i ≡ byte_at old (data_at old file q) i
+  pub bytes : (q i : ℕ) → HasData old file q → i < BLOCK_BYTES
+      → byte_at new (data_at old file q) i ≡ byte_at old (data_at old file q) i
 
 -- each file with the same bytes before and after keeps its blocks and all bytes in its data blocks
 abbrev pub KeepsOtherData : List ℕ → List ℕ → Type 0
-KeepsOtherData old new = (file : ℕ) (bytes : List ℕ) → HasFileBytes old file bytes → HasFileBytes new file bytes → KeepsData old new file
+KeepsOtherData old new =
+    (file : ℕ) (bytes : List ℕ) → HasFileBytes old file bytes → HasFileBytes new file bytes → KeepsData old new file
 
 -- byte i of a file's data block q is after the end of the file's bytes
 pub record IsBehindEnd (image : List ℕ) (file q i : ℕ) : Type 0 where
@@ -53,7 +55,8 @@ AgreeInFront xs ys = (q : ℕ) → q < length xs → q < length ys → slice_ind
 pub record KeepsFileEnd (old new : List ℕ) (file : ℕ) : Type 0 where
   pub blocks : AgreeInFront (data_blocks old file) (data_blocks new file)
   pub extensions : AgreeInFront (extension_blocks old file) (extension_blocks new file)
-  pub stays : (q i : ℕ) → HasData old file q → IsBehindEnd new file q i → byte_at new (data_at new file q) i ≡ byte_at old (data_at old file q) i
+  pub stays : (q i : ℕ) → HasData old file q → IsBehindEnd new file q i
+      → byte_at new (data_at new file q) i ≡ byte_at old (data_at old file q) i
   pub zero : (q i : ℕ) → ¬ HasData old file q → IsBehindEnd new file q i → byte_at new (data_at new file q) i ≡ 0
 
 -- this holds for each file that exists before and after

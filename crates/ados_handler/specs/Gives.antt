@@ -19,12 +19,14 @@ pub record IsSoundHandler (image : List ℕ) (session : Session) : Type 0 where
 
 -- a packet leaves bytes outside all fields and the boot blocks untouched, and allocates the lowest free blocks; if it
 -- is refused or sets no disk date, it changes no byte at all
-pub record LeavesImage (t : Tree) (old : HandlerState) (packet : Packet) (new : HandlerState) (answer : Answer) : Type 0 where
+pub record LeavesImage (t : Tree) (old : HandlerState) (packet : Packet) (new : HandlerState) (answer : Answer)
+    : Type 0 where
   pub keeps : KeepsRest old.image new.image
   pub rest : (answer.res2 ≢ pos 0) ⊎ (sets_disk_date t old.session packet ≡ false) → new.image ≡ old.image
 
 -- a packet is served with a time stamp: its meaning leads from the old tree and holds to the new ones
-pub record HandlerGives (old : HandlerState) (packet : Packet) (now : Date3) (new : HandlerState) (answer : Answer) : Type 0 where
+pub record HandlerGives (old : HandlerState) (packet : Packet) (now : Date3) (new : HandlerState) (answer : Answer)
+    : Type 0 where
   pub old_tree : Tree
   pub new_tree : Tree
   pub stood : Stands old.image old_tree

@@ -20,8 +20,11 @@ hold_at s (ByHandle number) = option_map (λ h. (h.key, h.exclusive)) (numbered.
 -- the holds are proper for a tree
 pub record IsProperSession (t : Tree) (s : Session) : Type 0 where
   -- a hold is on a node
-  pub on_keys : (hold : HoldNumber) (key : ℕ) (exclusive : Bool) → hold_at s hold ≡ Some (key, exclusive) → IsSome (t.nodes key)
+  pub on_keys : (hold : HoldNumber) (key : ℕ) (exclusive : Bool) → hold_at s hold ≡ Some (key, exclusive)
+      → IsSome (t.nodes key)
   -- a handle is on a file, and its position is at most the file's size
-  pub on_files : (number : ℕ) (h : HandleHold) → numbered.get s.handles number ≡ Some h → IsTrue (is_file t h.key) × (h.position ≤ size_of t h.key)
+  pub on_files : (number : ℕ) (h : HandleHold) → numbered.get s.handles number ≡ Some h → IsTrue (is_file t h.key)
+      × (h.position ≤ size_of t h.key)
   -- an exclusive hold is the only hold on its object
-  pub alone : (a b : HoldNumber) (key : ℕ) (exclusive : Bool) → hold_at s a ≡ Some (key, true) → hold_at s b ≡ Some (key, exclusive) → a ≡ b
+  pub alone : (a b : HoldNumber) (key : ℕ) (exclusive : Bool) → hold_at s a ≡ Some (key, true)
+      → hold_at s b ≡ Some (key, exclusive) → a ≡ b

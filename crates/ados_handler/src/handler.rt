@@ -28,7 +28,11 @@ impl Model for Handler {
 
     ghost coded = { handler_code };
 
-    ghost view = { λ h. record { image = h.volume.image; was_validated = h.volume.was_validated; session = session_of h.locks.held h.handles.held h.died } };
+    ghost view = { λ h. record {
+      image = h.volume.image;
+      was_validated = h.volume.was_validated;
+      session = session_of h.locks.held h.handles.held h.died;
+    } };
 
     ghost invariant = { λ h. IsSoundHandler h.volume.image (session_of h.locks.held h.handles.held h.died) };
 }

@@ -7,7 +7,10 @@ use Rattle.adf_block.specs.Fields.{primary_type, table_entry, parent_key, second
 use Rattle.ados_name.specs.declared.stamp.Date3.{Date3}
 use Rattle.ados_model.specs.Tree.{Node, Tree}
 use Rattle.ados_model.specs.Tree.Content.{Directory}
-use Rattle.adf_block.specs.declared.layout.TheConstants.{BOOT_BLOCKS, BLOCK_BYTES, HEADER_TYPE, ROOT_TYPE, TABLE_LONGS, TABLE_SIZE, BITMAP_FLAG, BITMAP_VALID, FIRST_PAGE, DISK_DATE, CREATION_DATE, DATE, NAME_BYTE, PAGE_BITS}
+use Rattle.adf_block.specs.declared.layout.TheConstants.{BOOT_BLOCKS, BLOCK_BYTES, HEADER_TYPE, ROOT_TYPE}
+use Rattle.adf_block.specs.declared.layout.TheConstants.{TABLE_LONGS, TABLE_SIZE, BITMAP_FLAG, BITMAP_VALID}
+use Rattle.adf_block.specs.declared.layout.TheConstants.{FIRST_PAGE, DISK_DATE, CREATION_DATE, DATE, NAME_BYTE}
+use Rattle.adf_block.specs.declared.layout.TheConstants.{PAGE_BITS}
 use Rattle.ados_model.specs.Stands.{date_at}
 use Rattle.ados_model.specs.Phrases.{kind_bytes}
 use Rattle.ados_model.specs.declared.role.Role.TheVariants.{Root}
@@ -15,7 +18,8 @@ use Rattle.ados_model.specs.Kept.{IsField}
 
 -- an empty root with this name and date
 abbrev pub blank_root : List ℕ → Date3 → Node
-blank_root name moment = record { name = name; parent = None; protection = 0; date = moment; comment = []; content = Directory [] }
+blank_root name moment =
+    record { name = name; parent = None; protection = 0; date = moment; comment = []; content = Directory [] }
 
 -- a volume with an empty root; its three dates are `moment`
 abbrev pub blank_tree : Format → ℕ → List ℕ → Date3 → Tree
@@ -49,8 +53,11 @@ pub record IsBlank (format : Format) (n : ℕ) (name : List ℕ) (moment : Date3
   pub root_zero : (i : ℕ) → i < BLOCK_BYTES → ¬ IsField image (root_key n) Root i → byte_at image (root_key n) i ≡ 0
   pub page_sum : (i : ℕ) → i < page_count n → block_sum image (root_key n + 1 + i) ≡ 0
   pub free_below : (block : ℕ) → IsInside n block → block < root_key n → HasFreeBit image block
-  pub used : (block : ℕ) → IsInside n block → root_key n ≤ block → block ≤ root_key n + page_count n → ¬ HasFreeBit image block
+  pub used : (block : ℕ) → IsInside n block → root_key n ≤ block → block ≤ root_key n + page_count n
+      → ¬ HasFreeBit image block
   pub free_above : (block : ℕ) → IsInside n block → root_key n + page_count n < block → HasFreeBit image block
   pub past_end : (block : ℕ) → n ≤ block → block < BOOT_BLOCKS + PAGE_BITS * page_count n → ¬ HasFreeBit image block
-  pub others_below : (block : ℕ) → IsInside n block → block < root_key n → bytes_at image block 0 BLOCK_BYTES ≡ replicate BLOCK_BYTES 0
-  pub others_above : (block : ℕ) → IsInside n block → root_key n + page_count n < block → bytes_at image block 0 BLOCK_BYTES ≡ replicate BLOCK_BYTES 0
+  pub others_below : (block : ℕ) → IsInside n block → block < root_key n
+      → bytes_at image block 0 BLOCK_BYTES ≡ replicate BLOCK_BYTES 0
+  pub others_above : (block : ℕ) → IsInside n block → root_key n + page_count n < block
+      → bytes_at image block 0 BLOCK_BYTES ≡ replicate BLOCK_BYTES 0

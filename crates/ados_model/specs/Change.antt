@@ -1,10 +1,16 @@
--- Where a path leads in a tree, and the operations on a tree: each takes the time stamp `moment` first and the tree last.
-use Rattle.std.specs.Prelude.{ℕ, nat_lt, Bool, true, false, ◌==◌, ◌||◌, if◌then◌else◌, List, [], ◌∷◌, length, map, find, Option, Some, ok_or, Result, Ok, Err, bytes_eq, ◌+◌, ◌++◌, take, drop, not, nat_le, filter, None, option_map}
+-- Where a path leads in a tree, and the operations on a tree: each takes the time stamp `moment` first and the tree
+-- last.
+use Rattle.std.specs.Prelude.{ℕ, nat_lt, Bool, true, false, ◌==◌, ◌||◌, if◌then◌else◌, List, [], ◌∷◌, length, map}
+use Rattle.std.specs.Prelude.{find, Option, Some, ok_or, Result, Ok, Err, bytes_eq, ◌+◌, ◌++◌, take, drop, not}
+use Rattle.std.specs.Prelude.{nat_le, filter, None, option_map}
 use Rattle.std.specs.List.{list_any}
 use Rattle.std.specs.Option.{option_map_or}
-use Rattle.ados_name.specs.Name.{upper, Step, is_from_root, steps, front, last_name, slot, without_archive, Step.ToParent, Step.ToChild}
-use Rattle.ados_model.specs.Tree.{Date3, Content, Tree, root, content_at, entries, name_of, parent_of, behind, Node, bytes_of, Content.File, Content.Directory}
-pub use Rattle.ados_model.specs.declared.dos_error.WalkFault.{WalkFault, TheVariants.DirectoryNotFound, TheVariants.ObjectNotFound, TheVariants.WrongType}
+use Rattle.ados_name.specs.Name.{upper, Step, is_from_root, steps, front, last_name, slot, without_archive}
+use Rattle.ados_name.specs.Name.{Step.ToParent, Step.ToChild}
+use Rattle.ados_model.specs.Tree.{Date3, Content, Tree, root, content_at, entries, name_of, parent_of, behind, Node}
+use Rattle.ados_model.specs.Tree.{bytes_of, Content.File, Content.Directory}
+pub use Rattle.ados_model.specs.declared.dos_error.WalkFault.{WalkFault, TheVariants.DirectoryNotFound}
+pub use Rattle.ados_model.specs.declared.dos_error.WalkFault.{TheVariants.ObjectNotFound, TheVariants.WrongType}
 pub use Rattle.ados_model.specs.declared.dos_error.PlaceFault.{PlaceFault}
 use Rattle.ados_model.specs.declared.dos_error.PlaceFault.TheVariants as faults
 
@@ -39,7 +45,8 @@ missing_before (step ∷ rest) last = DirectoryNotFound
 -- the steps from a key
 abbrev pub walk_steps : Tree → ℕ → List Step → WalkFault → Result ℕ WalkFault
 walk_steps t key [] last = Ok key
-walk_steps t key (step ∷ rest) last = and_then (step_from t key step (missing_before rest last)) (λ next. walk_steps t next rest last)
+walk_steps t key (step ∷ rest) last =
+    and_then (step_from t key step (missing_before rest last)) (λ next. walk_steps t next rest last)
 
 -- the start of a path: the root if it has a `:`, else the given key
 abbrev pub start_of : Tree → ℕ → List ℕ → ℕ
@@ -64,7 +71,8 @@ place_in t (Ok key) name =
 
 -- the place that a path names: the directory at the end of its prefix, and its last name
 abbrev pub place : Tree → ℕ → List ℕ → Result (ℕ × List ℕ) PlaceFault
-place t start path = place_in t (walk_steps t (start_of t start path) (steps (front path)) DirectoryNotFound) (last_name path)
+place t start path =
+    place_in t (walk_steps t (start_of t start path) (steps (front path)) DirectoryNotFound) (last_name path)
 
 -- the tree with this node at a key, or without one
 abbrev pub with_node : ℕ → Option Node → Tree → Tree
@@ -81,7 +89,8 @@ stamped moment t = record t { disk_date = moment }
 -- the list with one more key, after the last entry whose slot is at most that of the key
 abbrev pub enter : (ℕ → ℕ) → ℕ → List ℕ → List ℕ
 enter slot_of key [] = key ∷ []
-enter slot_of key (k ∷ ks) = if list_any (λ j. nat_le (slot_of j) (slot_of key)) (k ∷ ks) then k ∷ enter slot_of key ks else key ∷ k ∷ ks
+enter slot_of key (k ∷ ks) =
+    if list_any (λ j. nat_le (slot_of j) (slot_of key)) (k ∷ ks) then k ∷ enter slot_of key ks else key ∷ k ∷ ks
 
 -- the list of a directory becomes `keys`, and its date `moment`
 abbrev pub listed : Date3 → ℕ → List ℕ → Tree → Tree
@@ -93,12 +102,14 @@ entered moment dir key t = listed moment dir (enter (λ k. slot (name_of t k)) k
 
 -- the node of a key is removed from the list of its directory
 abbrev pub left : Date3 → ℕ → Tree → Tree
-left moment key t = option_map_or (λ dir. listed moment dir (filter (λ k. not (k == key)) (entries t dir)) t) (parent_of t key) t
+left moment key t =
+    option_map_or (λ dir. listed moment dir (filter (λ k. not (k == key)) (entries t dir)) t) (parent_of t key) t
 
 -- a directory gets a new entry, with protection 0 and no comment
 abbrev pub made : Date3 → ℕ → ℕ → List ℕ → Content → Tree → Tree
 made moment dir key name content t =
-    let node : Node = record { name = name; parent = Some dir; protection = 0; date = moment; comment = []; content = content } in
+    let node : Node =
+    record { name = name; parent = Some dir; protection = 0; date = moment; comment = []; content = content } in
     stamped moment (entered moment dir key (with_node key (Some node) t))
 
 -- an entry is removed
@@ -108,12 +119,16 @@ removed moment key t = stamped moment (with_node key None (left moment key t))
 -- an entry moves into a directory, possibly its own, under a name
 abbrev pub renamed : Date3 → ℕ → ℕ → List ℕ → Tree → Tree
 renamed moment key dir name t =
-    stamped moment (entered moment dir key (changed key (λ node. record node { name = name; parent = Some dir }) (left moment key t)))
+    stamped moment
+    (entered moment dir key
+    (changed key (λ node. record node { name = name; parent = Some dir }) (left moment key t)))
 
 -- a file gets these bytes and the date `moment`, and its archive bit is cleared
 abbrev pub rewritten : Date3 → ℕ → List ℕ → Tree → Tree
 rewritten moment key bytes t =
-    stamped moment (changed key (λ node. record node { content = File bytes; date = moment; protection = without_archive node.protection }) t)
+    stamped moment
+    (changed key
+    (λ node. record node { content = File bytes; date = moment; protection = without_archive node.protection }) t)
 
 -- bytes are written into a file from a position; they may reach past its end; no bytes change nothing
 abbrev pub written : Date3 → ℕ → ℕ → List ℕ → Tree → Tree

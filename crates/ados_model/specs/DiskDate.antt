@@ -2,7 +2,9 @@
 use Rattle.std.specs.Prelude.{Bool, true, false, not, ◌==◌, nat_lt, length, is_none}
 use Rattle.ados_model.specs.Tree.{Tree, size_of}
 use Rattle.ados_model.specs.declared.packet.Packet.{Packet}
-use Rattle.ados_model.specs.declared.packet.Packet.TheVariants.{RenameDisk, DeleteObject, RenameObject, SetProtect, CreateDir, SetComment, SetDate, Write, FindUpdate, FindOutput, SetFileSize}
+use Rattle.ados_model.specs.declared.packet.Packet.TheVariants.{RenameDisk, DeleteObject, RenameObject, SetProtect}
+use Rattle.ados_model.specs.declared.packet.Packet.TheVariants.{CreateDir, SetComment, SetDate, Write, FindUpdate}
+use Rattle.ados_model.specs.declared.packet.Packet.TheVariants.{FindOutput, SetFileSize}
 use Rattle.ados_model.specs.Session.{Session, handle_key}
 use Rattle.ados_model.specs.Objects.{standing, handle_target, target_number}
 
@@ -18,5 +20,6 @@ sets_disk_date t s (SetDate lock path date) = true
 sets_disk_date t s (FindOutput lock path) = true
 sets_disk_date t s (FindUpdate lock path) = is_none (standing t s lock path)
 sets_disk_date t s (Write handle bytes) = nat_lt 0 (length bytes)
-sets_disk_date t s (SetFileSize handle offset mode) = not (target_number (handle_target t s handle offset mode) == size_of t (handle_key s handle))
+sets_disk_date t s (SetFileSize handle offset mode) =
+    not (target_number (handle_target t s handle offset mode) == size_of t (handle_key s handle))
 sets_disk_date t s _ = false

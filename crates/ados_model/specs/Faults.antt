@@ -1,17 +1,28 @@
 -- The faults of an image, defined without a tree.
-use Rattle.std.specs.Prelude.{◌≡◌, ◌≢◌, nat_le, if◌then◌else◌, ℕ, zero, suc, ◌+◌, ◌-◌, ◌/◌, ◌<◌, ◌≤◌, ◌⊎◌, ⊤, List, [], ◌∷◌, ◌++◌, length, flat_map, slice_index, sum_by, All, AllPairs, Contains, Option, Some, None, ℤ, pos}
+use Rattle.std.specs.Prelude.{◌≡◌, ◌≢◌, nat_le, if◌then◌else◌, ℕ, zero, suc, ◌+◌, ◌-◌, ◌/◌, ◌<◌, ◌≤◌, ◌⊎◌, ⊤, List}
+use Rattle.std.specs.Prelude.{[], ◌∷◌, ◌++◌, length, flat_map, slice_index, sum_by, All, AllPairs, Contains, Option}
+use Rattle.std.specs.Prelude.{Some, None, ℤ, pos}
 use Rattle.adf_block.specs.Image.{block_count, root_key, page_count, byte_at, bytes_at, long, block_sum, IsInside}
 use Rattle.adf_block.specs.Whole.{HasFreeBit, text_at}
-use Rattle.adf_block.specs.Fields.{format_of, primary_type, own_key, pointer_count, sequence_number, held_count, table_entry, pointer, file_size, parent_key, secondary_type}
+use Rattle.adf_block.specs.Fields.{format_of, primary_type, own_key, pointer_count, sequence_number, held_count}
+use Rattle.adf_block.specs.Fields.{table_entry, pointer, file_size, parent_key, secondary_type}
 use Rattle.ados_name.specs.Name.{Same, slot}
 use Rattle.ados_model.specs.declared.role.Role.{Role}
 use Rattle.ados_model.specs.declared.role.Role.TheVariants.{Root, Page, Entry, Data, Extension}
 use Rattle.ados_model.specs.declared.fault.FaultKind.{FaultKind}
-use Rattle.ados_model.specs.declared.fault.FaultKind.TheVariants.{NotADosDisk, UnsupportedKind, BadSum, BadType, BadOwnKey, BadParent, BadPointer, BlockUsedTwice, WrongChain, BadName, DuplicateName, BadComment, BadCount, BadSequence, LinkEntry, MarkedFree, NoMemory}
+use Rattle.ados_model.specs.declared.fault.FaultKind.TheVariants.{NotADosDisk, UnsupportedKind, BadSum, BadType}
+use Rattle.ados_model.specs.declared.fault.FaultKind.TheVariants.{BadOwnKey, BadParent, BadPointer, BlockUsedTwice}
+use Rattle.ados_model.specs.declared.fault.FaultKind.TheVariants.{WrongChain, BadName, DuplicateName, BadComment}
+use Rattle.ados_model.specs.declared.fault.FaultKind.TheVariants.{BadCount, BadSequence, LinkEntry, MarkedFree}
+use Rattle.ados_model.specs.declared.fault.FaultKind.TheVariants.{NoMemory}
 use Rattle.ados_model.specs.Packet.{error_number}
 use Rattle.ados_model.specs.declared.dos_error.DosError.TheVariants as errors
 use Rattle.ados_model.specs.Tree.{data_count}
-use Rattle.adf_block.specs.declared.layout.TheConstants.{BOOT_BLOCKS, HEADER_TYPE, DATA_TYPE, LIST_TYPE, ROOT_TYPE, DIRECTORY_TYPE, FILE_TYPE, TABLE_LONGS, TABLE_SIZE, FIRST_SLOT, FIRST_POINTER, BITMAP_FLAG, BITMAP_VALID, FIRST_PAGE, COMMENT_BYTE, NAME_BYTE, NEXT_IN_CHAIN, NEXT_EXTENSION, NEXT_DATA, OFS_ROOM, PAGE_BITS}
+use Rattle.adf_block.specs.declared.layout.TheConstants.{BOOT_BLOCKS, HEADER_TYPE, DATA_TYPE, LIST_TYPE, ROOT_TYPE}
+use Rattle.adf_block.specs.declared.layout.TheConstants.{DIRECTORY_TYPE, FILE_TYPE, TABLE_LONGS, TABLE_SIZE}
+use Rattle.adf_block.specs.declared.layout.TheConstants.{FIRST_SLOT, FIRST_POINTER, BITMAP_FLAG, BITMAP_VALID}
+use Rattle.adf_block.specs.declared.layout.TheConstants.{FIRST_PAGE, COMMENT_BYTE, NAME_BYTE, NEXT_IN_CHAIN}
+use Rattle.adf_block.specs.declared.layout.TheConstants.{NEXT_EXTENSION, NEXT_DATA, OFS_ROOM, PAGE_BITS}
 use Rattle.adf_block.specs.declared.beside.TheConstants.{KIND_BYTE, SOFT_LINK_TYPE, DIRECTORY_LINK_TYPE, FILE_LINK_TYPE}
 
 -- the block number of the root
@@ -50,19 +61,26 @@ IsPointer image block i = (i < pointer_count image block) × (pointer_count imag
 -- role
 pub data IsPlace (image : List ℕ) : ℕ → Role → ℕ → Role → Type 0 where
   root_page : {block i : ℕ} → i < page_count (block_count image) → IsPlace image block Root (FIRST_PAGE + i) Page
-  root_slot : {block s : ℕ} → s < TABLE_LONGS → HasChain image block s → IsPlace image block Root (FIRST_SLOT + s) (Entry block s)
+  root_slot : {block s : ℕ} → s < TABLE_LONGS → HasChain image block s
+      → IsPlace image block Root (FIRST_SLOT + s) (Entry block s)
   directory_slot : {block dir r s : ℕ} → HasDirectoryType image block → s < TABLE_LONGS → HasChain image block s
       → IsPlace image block (Entry dir r) (FIRST_SLOT + s) (Entry block s)
-  next_entry : {block dir s : ℕ} → long image block NEXT_IN_CHAIN ≢ 0 → IsPlace image block (Entry dir s) NEXT_IN_CHAIN (Entry dir s)
-  header_pointer : {block dir s i : ℕ} → HasFileType image block → IsPointer image block i → IsPlace image block (Entry dir s) (FIRST_POINTER - i) (Data block)
-  first_extension : {block dir s : ℕ} → HasFileType image block → IsContinued image block → IsPlace image block (Entry dir s) NEXT_EXTENSION (Extension block)
-  extension_pointer : {block file i : ℕ} → IsPointer image block i → IsPlace image block (Extension file) (FIRST_POINTER - i) (Data file)
-  further_extension : {block file : ℕ} → IsContinued image block → IsPlace image block (Extension file) NEXT_EXTENSION (Extension file)
+  next_entry : {block dir s : ℕ} → long image block NEXT_IN_CHAIN ≢ 0
+      → IsPlace image block (Entry dir s) NEXT_IN_CHAIN (Entry dir s)
+  header_pointer : {block dir s i : ℕ} → HasFileType image block → IsPointer image block i
+      → IsPlace image block (Entry dir s) (FIRST_POINTER - i) (Data block)
+  first_extension : {block dir s : ℕ} → HasFileType image block → IsContinued image block
+      → IsPlace image block (Entry dir s) NEXT_EXTENSION (Extension block)
+  extension_pointer : {block file i : ℕ} → IsPointer image block i
+      → IsPlace image block (Extension file) (FIRST_POINTER - i) (Data file)
+  further_extension : {block file : ℕ} → IsContinued image block
+      → IsPlace image block (Extension file) NEXT_EXTENSION (Extension file)
 
 -- the reached blocks, each with a role: the root, and each block that a place of a reached block names
 pub data Reached (image : List ℕ) : ℕ → Role → Type 0 where
   start : Reached image (root_of image) Root
-  named : {block i : ℕ} {role next : Role} → Reached image block role → IsPlace image block role i next → LeadsInside image block i
+  named : {block i : ℕ} {role next : Role} → Reached image block role → IsPlace image block role i next
+      → LeadsInside image block i
       → Reached image (long image block i) next
 
 -- an entry that is a directory
@@ -97,7 +115,8 @@ IsOfs image = byte_at image 0 KIND_BYTE ≡ 0
 
 -- the link of each block but the last is the next block
 abbrev pub LeadOn : List ℕ → ℕ → List ℕ → Type 0
-LeadOn image link blocks = (i : ℕ) → i + 1 < length blocks → long image (slice_index blocks i) link ≡ slice_index blocks (i + 1)
+LeadOn image link blocks =
+    (i : ℕ) → i + 1 < length blocks → long image (slice_index blocks i) link ≡ slice_index blocks (i + 1)
 
 -- each block but the first is in the image
 abbrev pub FurtherAreInside : List ℕ → List ℕ → Type 0
@@ -117,7 +136,8 @@ last_link image link blocks = long image (slice_index blocks (length blocks - 1)
 
 -- the link of the last block is outside the image, or leads back to one of the blocks
 abbrev pub LeadsOutOrBack : List ℕ → ℕ → List ℕ → Type 0
-LeadsOutOrBack image link blocks = InImage image (last_link image link blocks) → Contains blocks (last_link image link blocks)
+LeadsOutOrBack image link blocks =
+    InImage image (last_link image link blocks) → Contains blocks (last_link image link blocks)
 
 -- the blocks along the links from a first block, in order, each once
 pub record LinkedOnce (image : List ℕ) (link first : ℕ) (blocks : List ℕ) : Type 0 where
@@ -135,7 +155,9 @@ first_pointers image block (suc n) = first_pointers image block n ++ pointer ima
 
 -- the data pointers of a block; none if their number is more than 72
 abbrev pub pointers_of : List ℕ → ℕ → List ℕ
-pointers_of image block = if nat_le (pointer_count image block) TABLE_LONGS then first_pointers image block (pointer_count image block) else []
+pointers_of image block =
+    if nat_le (pointer_count image block) TABLE_LONGS then first_pointers image block
+    (pointer_count image block) else []
 
 -- the data blocks of a file: the pointers of its header, then of each extension block
 pub record AreDataBlocks (image : List ℕ) (file : ℕ) (blocks : List ℕ) : Type 0 where
@@ -196,7 +218,8 @@ pub data HasBadType (image : List ℕ) (block : ℕ) : Type 0 where
   root_table : block ≡ root_of image → long image block TABLE_SIZE ≢ TABLE_LONGS → HasBadType image block
   root_secondary : block ≡ root_of image → secondary_type image block ≢ ROOT_TYPE → HasBadType image block
   entry_primary : IsEntry image block → primary_type image block ≢ HEADER_TYPE → HasBadType image block
-  entry_secondary : IsEntry image block → ¬ HasDirectoryType image block → ¬ HasFileType image block → ¬ HasLinkType image block → HasBadType image block
+  entry_secondary : IsEntry image block → ¬ HasDirectoryType image block → ¬ HasFileType image block
+      → ¬ HasLinkType image block → HasBadType image block
   extension_primary : IsExtension image block → primary_type image block ≢ LIST_TYPE → HasBadType image block
   extension_secondary : IsExtension image block → ¬ HasFileType image block → HasBadType image block
   data_primary : IsOfs image → IsData image block → primary_type image block ≢ DATA_TYPE → HasBadType image block
@@ -209,15 +232,21 @@ pub data HasBadOwnKey (image : List ℕ) (block : ℕ) : Type 0 where
 -- the parent or file header in the block is not the block that holds it
 pub data HasBadParent (image : List ℕ) (block : ℕ) : Type 0 where
   root_parent : block ≡ root_of image → parent_key image block ≢ 0 → HasBadParent image block
-  entry_parent : {dir s : ℕ} → Reached image block (Entry dir s) → parent_key image block ≢ dir → HasBadParent image block
-  extension_file : {file : ℕ} → Reached image block (Extension file) → parent_key image block ≢ file → HasBadParent image block
-  data_file : {file : ℕ} → IsOfs image → Reached image block (Data file) → own_key image block ≢ file → HasBadParent image block
+  entry_parent : {dir s : ℕ} → Reached image block (Entry dir s) → parent_key image block ≢ dir
+      → HasBadParent image block
+  extension_file : {file : ℕ} → Reached image block (Extension file) → parent_key image block ≢ file
+      → HasBadParent image block
+  data_file : {file : ℕ} → IsOfs image → Reached image block (Data file) → own_key image block ≢ file
+      → HasBadParent image block
 
 -- a place names a block outside the image; or, in OFS, the link from one data block to the next is wrong
 pub data HasBadPointer (image : List ℕ) (block : ℕ) : Type 0 where
-  outside : {i : ℕ} {role next : Role} → Reached image block role → IsPlace image block role i next → ¬ LeadsInside image block i → HasBadPointer image block
-  first_data : IsOfs image → IsFile image block → long image block NEXT_DATA ≢ slice_index (pointers_of image block) 0 → HasBadPointer image block
-  further_data : {file i : ℕ} {blocks : List ℕ} → IsOfs image → IsDataAt image file blocks i block → ¬ LinksOn image block blocks i → HasBadPointer image block
+  outside : {i : ℕ} {role next : Role} → Reached image block role → IsPlace image block role i next
+      → ¬ LeadsInside image block i → HasBadPointer image block
+  first_data : IsOfs image → IsFile image block → long image block NEXT_DATA ≢ slice_index (pointers_of image block) 0
+      → HasBadPointer image block
+  further_data : {file i : ℕ} {blocks : List ℕ} → IsOfs image → IsDataAt image file blocks i block
+      → ¬ LinksOn image block blocks i → HasBadPointer image block
 
 -- long i of a reached block is a place that names the block
 pub record PlaceNames (image : List ℕ) (holder i block : ℕ) : Type 0 where
@@ -233,8 +262,10 @@ IsNamedBy image block holder = (i : ℕ) × PlaceNames image holder i block
 
 -- two places name the block, or a place names the root
 pub data IsUsedTwice (image : List ℕ) (block : ℕ) : Type 0 where
-  two_holders : {holder other : ℕ} → InImage image block → IsNamedBy image block holder → IsNamedBy image block other → holder ≢ other → IsUsedTwice image block
-  two_longs : {holder i j : ℕ} → InImage image block → PlaceNames image holder i block → PlaceNames image holder j block → i ≢ j → IsUsedTwice image block
+  two_holders : {holder other : ℕ} → InImage image block → IsNamedBy image block holder → IsNamedBy image block other
+      → holder ≢ other → IsUsedTwice image block
+  two_longs : {holder i j : ℕ} → InImage image block → PlaceNames image holder i block → PlaceNames image holder j block
+      → i ≢ j → IsUsedTwice image block
   root_named : {holder i : ℕ} → block ≡ root_of image → PlaceNames image holder i block → IsUsedTwice image block
 
 -- the length of an entry's name is at most 30; a longer name is bad, and is no fault of the chain or a duplicate
@@ -287,12 +318,16 @@ pub data HasPointers (image : List ℕ) (block : ℕ) : Type 0 where
 -- a count or a size does not match the blocks of the file
 pub data HasBadCount (image : List ℕ) (block : ℕ) : Type 0 where
   over : HasPointers image block → TABLE_LONGS < pointer_count image block → HasBadCount image block
-  not_full : HasPointers image block → pointer_count image block < TABLE_LONGS → IsContinued image block → HasBadCount image block
+  not_full : HasPointers image block → pointer_count image block < TABLE_LONGS → IsContinued image block
+      → HasBadCount image block
   no_pointer : IsExtension image block → pointer_count image block ≡ 0 → HasBadCount image block
-  wrong_size : {blocks : List ℕ} → AreDataBlocks image block blocks → length blocks ≢ count_of_size image block → HasBadCount image block
+  wrong_size : {blocks : List ℕ} → AreDataBlocks image block blocks → length blocks ≢ count_of_size image block
+      → HasBadCount image block
   held_not_full : IsOfs image → IsInnerData image block → held_count image block ≢ OFS_ROOM → HasBadCount image block
-  held_none : {file i : ℕ} {blocks : List ℕ} → IsOfs image → IsDataAt image file blocks i block → held_count image block ≡ 0 → HasBadCount image block
-  held_over : {file i : ℕ} {blocks : List ℕ} → IsOfs image → IsDataAt image file blocks i block → OFS_ROOM < held_count image block → HasBadCount image block
+  held_none : {file i : ℕ} {blocks : List ℕ} → IsOfs image → IsDataAt image file blocks i block
+      → held_count image block ≡ 0 → HasBadCount image block
+  held_over : {file i : ℕ} {blocks : List ℕ} → IsOfs image → IsDataAt image file blocks i block
+      → OFS_ROOM < held_count image block → HasBadCount image block
   wrong_sum : IsOfs image → HoldsOtherSize image block → HasBadCount image block
 
 -- an OFS data block whose sequence number is not its position in the file, from 1
@@ -315,7 +350,8 @@ pub record IsReachedAndFree (image : List ℕ) (block : ℕ) : Type 0 where
 -- the image shows the fault at the block
 abbrev pub Shows : List ℕ → FaultKind → ℕ → Type 0
 Shows image NotADosDisk block = (bytes_at image 0 0 3 ≢ 68 ∷ 79 ∷ 83 ∷ []) × (block ≡ 0)
-Shows image UnsupportedKind block = (bytes_at image 0 0 3 ≡ 68 ∷ 79 ∷ 83 ∷ []) × (1 < byte_at image 0 KIND_BYTE) × (block ≡ 0)
+Shows image UnsupportedKind block =
+    (bytes_at image 0 0 3 ≡ 68 ∷ 79 ∷ 83 ∷ []) × (1 < byte_at image 0 KIND_BYTE) × (block ≡ 0)
 Shows image BadSum block = HasBadSum image block
 Shows image BadType block = HasBadType image block
 Shows image BadOwnKey block = HasBadOwnKey image block

@@ -2,7 +2,13 @@
 use Rattle.std.specs.Prelude.{◌≡◌, ◌≢◌, ℕ, ◌+◌, ◌-◌, ◌*◌, ◌<◌, ◌≤◌, ⊤, List, [], ◌∷◌, length, slice_index, Any}
 use Rattle.adf_block.specs.Image.{block_count, page_count, byte_at, bytes_at, long}
 use Rattle.adf_block.specs.Fields.{pointer_count, held_count, secondary_type}
-use Rattle.adf_block.specs.declared.layout.TheConstants.{BOOT_BLOCKS, BLOCK_BYTES, PRIMARY_TYPE, OWN_KEY, SECONDARY_TYPE, DIRECTORY_TYPE, FILE_TYPE, TABLE_LONGS, TABLE_SIZE, FIRST_SLOT, POINTER_COUNT, FIRST_POINTER, BITMAP_FLAG, FIRST_PAGE, DISK_DATE, CREATION_DATE, PROTECTION, FILE_SIZE, COMMENT_BYTE, DATE, NAME_BYTE, NEXT_IN_CHAIN, PARENT, NEXT_DATA, OFS_DATA_BYTE, FIRST_MAP_LONG, MAP_LONGS}
+use Rattle.adf_block.specs.declared.layout.TheConstants.{BOOT_BLOCKS, BLOCK_BYTES, PRIMARY_TYPE, OWN_KEY}
+use Rattle.adf_block.specs.declared.layout.TheConstants.{SECONDARY_TYPE, DIRECTORY_TYPE, FILE_TYPE, TABLE_LONGS}
+use Rattle.adf_block.specs.declared.layout.TheConstants.{TABLE_SIZE, FIRST_SLOT, POINTER_COUNT, FIRST_POINTER}
+use Rattle.adf_block.specs.declared.layout.TheConstants.{BITMAP_FLAG, FIRST_PAGE, DISK_DATE, CREATION_DATE}
+use Rattle.adf_block.specs.declared.layout.TheConstants.{PROTECTION, FILE_SIZE, COMMENT_BYTE, DATE, NAME_BYTE}
+use Rattle.adf_block.specs.declared.layout.TheConstants.{NEXT_IN_CHAIN, PARENT, NEXT_DATA, OFS_DATA_BYTE}
+use Rattle.adf_block.specs.declared.layout.TheConstants.{FIRST_MAP_LONG, MAP_LONGS}
 use Rattle.adf_block.specs.declared.beside.TheConstants.{CHECKSUM, PAGE_CHECKSUM}
 use Rattle.ados_model.specs.declared.role.Role.{Role}
 use Rattle.ados_model.specs.Faults.{Reached, IsFile, IsOfs, pointers_of}
@@ -49,20 +55,26 @@ file_runs count =
 
 -- the runs of fields in an extension block with this many data pointers
 abbrev pub extension_runs : ℕ → List (ℕ × ℕ)
-extension_runs count = (PRIMARY_TYPE, POINTER_COUNT) ∷ one_long CHECKSUM ∷ pointer_run count ∷ (PARENT, SECONDARY_TYPE) ∷ []
+extension_runs count =
+    (PRIMARY_TYPE, POINTER_COUNT) ∷ one_long CHECKSUM ∷ pointer_run count ∷ (PARENT, SECONDARY_TYPE) ∷ []
 
 -- byte i of a block in a role is in a field
 pub data IsField (image : List ℕ) (block : ℕ) : Role → ℕ → Type 0 where
   root_longs : {i : ℕ} → InLongs (root_runs (page_count (block_count image))) i → IsField image block Root i
   root_name : {i : ℕ} → InText image block NAME_BYTE i → IsField image block Root i
   page_longs : {i : ℕ} → InLongs ((PAGE_CHECKSUM, FIRST_MAP_LONG + (MAP_LONGS - 1)) ∷ []) i → IsField image block Page i
-  directory_longs : {dir s i : ℕ} → secondary_type image block ≡ DIRECTORY_TYPE → InLongs directory_runs i → IsField image block (Entry dir s) i
-  file_longs : {dir s i : ℕ} → secondary_type image block ≡ FILE_TYPE → InLongs (file_runs (pointer_count image block)) i → IsField image block (Entry dir s) i
+  directory_longs : {dir s i : ℕ} → secondary_type image block ≡ DIRECTORY_TYPE → InLongs directory_runs i
+      → IsField image block (Entry dir s) i
+  file_longs : {dir s i : ℕ} → secondary_type image block ≡ FILE_TYPE
+      → InLongs (file_runs (pointer_count image block)) i → IsField image block (Entry dir s) i
   entry_name : {dir s i : ℕ} → InText image block NAME_BYTE i → IsField image block (Entry dir s) i
   entry_comment : {dir s i : ℕ} → InText image block COMMENT_BYTE i → IsField image block (Entry dir s) i
-  extension_longs : {file i : ℕ} → InLongs (extension_runs (pointer_count image block)) i → IsField image block (Extension file) i
-  ofs_data_longs : {file i : ℕ} → IsOfs image → InLongs ((PRIMARY_TYPE, CHECKSUM) ∷ []) i → IsField image block (Data file) i
-  ofs_data : {file i : ℕ} → IsOfs image → OFS_DATA_BYTE ≤ i → i < OFS_DATA_BYTE + held_count image block → IsField image block (Data file) i
+  extension_longs : {file i : ℕ} → InLongs (extension_runs (pointer_count image block)) i
+      → IsField image block (Extension file) i
+  ofs_data_longs : {file i : ℕ} → IsOfs image → InLongs ((PRIMARY_TYPE, CHECKSUM) ∷ []) i
+      → IsField image block (Data file) i
+  ofs_data : {file i : ℕ} → IsOfs image → OFS_DATA_BYTE ≤ i → i < OFS_DATA_BYTE + held_count image block
+      → IsField image block (Data file) i
   ffs_data : {file i : ℕ} → ¬ IsOfs image → IsField image block (Data file) i
 
 -- the same kind of role, in any directory, slot or file

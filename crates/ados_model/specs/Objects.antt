@@ -1,15 +1,18 @@
 -- The terms of packets: objects of locks and paths, and positions; the descriptions of an object and of a volume.
-use Rattle.std.specs.Prelude.{ℕ, zero, suc, ◌+◌, ℤ, pos, negsuc, ◌+ℤ◌, nat_abs, int_le, Bool, true, false, not, ◌&&◌, ◌==◌, if◌then◌else◌, List, [], ◌∷◌, length, Option, None, Some, option_map, Result, ◌-◌}
+use Rattle.std.specs.Prelude.{ℕ, zero, suc, ◌+◌, ℤ, pos, negsuc, ◌+ℤ◌, nat_abs, int_le, Bool, true, false, not, ◌&&◌}
+use Rattle.std.specs.Prelude.{◌==◌, if◌then◌else◌, List, [], ◌∷◌, length, Option, None, Some, option_map, Result, ◌-◌}
 use Rattle.std.specs.List.{list_any}
 use Rattle.std.specs.Option.{option_map_or}
 use Rattle.std.specs.Result.{result_unwrap_or}
 use Rattle.std.specs.FinMap as numbered
 use Rattle.adf_block.specs.declared.layout.TheConstants.{BOOT_BLOCKS}
-use Rattle.ados_model.specs.Tree.{Format, Node, Tree, root, free, parent_of, size_of, Content, cost_in, bytes_in, data_size, Content.Directory, Content.File}
+use Rattle.ados_model.specs.Tree.{Format, Node, Tree, root, free, parent_of, size_of, Content, cost_in, bytes_in}
+use Rattle.ados_model.specs.Tree.{data_size, Content.Directory, Content.File}
 use Rattle.ados_model.specs.Change.{WalkFault, PlaceFault, child_of, place, walk}
 use Rattle.ados_model.specs.declared.dos_error.WalkFault.TheVariants as walks
 use Rattle.ados_model.specs.declared.dos_error.PlaceFault.TheVariants as places
-use Rattle.ados_model.specs.Packet.{NO_LOCK, DosError, DirectoryNotFound, InvalidComponentName, ObjectNotFound, ObjectWrongType}
+use Rattle.ados_model.specs.Packet.{NO_LOCK, DosError, DirectoryNotFound, InvalidComponentName, ObjectNotFound}
+use Rattle.ados_model.specs.Packet.{ObjectWrongType}
 use Rattle.ados_model.specs.Session.{Session, handle_key, handle_position}
 use Rattle.ados_model.specs.Stands.{format_byte}
 use Rattle.ados_model.specs.declared.answer.{FileInfo.FileInfo, DiskInfo.DiskInfo}
@@ -79,7 +82,8 @@ seek_base position size _ = None
 -- the target of a packet with a handle, if the mode is one of these
 abbrev pub handle_target : Tree → Session → ℕ → ℤ → ℤ → Option ℤ
 handle_target t s handle offset mode =
-    option_map (λ base. pos base +ℤ offset) (seek_base (handle_position s handle) (size_of t (handle_key s handle)) mode)
+    option_map (λ base. pos base +ℤ offset)
+    (seek_base (handle_position s handle) (size_of t (handle_key s handle)) mode)
 
 -- there is no target, or it is not between 0 and the limit
 abbrev pub is_bad_target : ℕ → Option ℤ → Bool

@@ -1,9 +1,22 @@
--- The numbers of errors and of actions (AmigaDOS Technical Reference), the first result of a refusal, and what it returns.
+-- The numbers of errors and of actions (AmigaDOS Technical Reference), the first result of a refusal, and what it
+-- returns.
 use Rattle.std.specs.Prelude.{ℕ, ℤ, pos, negsuc}
 pub use Rattle.ados_model.specs.declared.dos_error.DosError.{DosError}
-pub use Rattle.ados_model.specs.declared.dos_error.DosError.TheVariants.{NoFreeStore, ObjectInUse, ObjectExists, DirectoryNotFound, ObjectNotFound, ActionNotKnown, InvalidComponentName, InvalidLock, ObjectWrongType, DirectoryNotEmpty, DeviceNotMounted, SeekError, CommentTooBig, DiskFull, DeleteProtected, WriteProtected, ReadProtected, NotADosDisk, NoMoreEntries}
+pub use Rattle.ados_model.specs.declared.dos_error.DosError.TheVariants.{NoFreeStore, ObjectInUse, ObjectExists}
+pub use Rattle.ados_model.specs.declared.dos_error.DosError.TheVariants.{DirectoryNotFound, ObjectNotFound}
+pub use Rattle.ados_model.specs.declared.dos_error.DosError.TheVariants.{ActionNotKnown, InvalidComponentName}
+pub use Rattle.ados_model.specs.declared.dos_error.DosError.TheVariants.{InvalidLock, ObjectWrongType}
+pub use Rattle.ados_model.specs.declared.dos_error.DosError.TheVariants.{DirectoryNotEmpty, DeviceNotMounted}
+pub use Rattle.ados_model.specs.declared.dos_error.DosError.TheVariants.{SeekError, CommentTooBig, DiskFull}
+pub use Rattle.ados_model.specs.declared.dos_error.DosError.TheVariants.{DeleteProtected, WriteProtected}
+pub use Rattle.ados_model.specs.declared.dos_error.DosError.TheVariants.{ReadProtected, NotADosDisk, NoMoreEntries}
 pub use Rattle.ados_model.specs.declared.packet.{TheConstants.NO_LOCK, Packet.Packet}
-pub use Rattle.ados_model.specs.declared.packet.Packet.TheVariants.{Die, LocateObject, RenameDisk, FreeLock, DeleteObject, RenameObject, CopyDir, SetProtect, CreateDir, ExamineObject, ExamineNext, DiskInfo, Info, SetComment, Parent, SetDate, SameLock, Read, Write, FindUpdate, FindInput, FindOutput, End, Seek, SetFileSize, Other}
+pub use Rattle.ados_model.specs.declared.packet.Packet.TheVariants.{Die, LocateObject, RenameDisk, FreeLock}
+pub use Rattle.ados_model.specs.declared.packet.Packet.TheVariants.{DeleteObject, RenameObject, CopyDir, SetProtect}
+pub use Rattle.ados_model.specs.declared.packet.Packet.TheVariants.{CreateDir, ExamineObject, ExamineNext, DiskInfo}
+pub use Rattle.ados_model.specs.declared.packet.Packet.TheVariants.{Info, SetComment, Parent, SetDate, SameLock, Read}
+pub use Rattle.ados_model.specs.declared.packet.Packet.TheVariants.{Write, FindUpdate, FindInput, FindOutput, End}
+pub use Rattle.ados_model.specs.declared.packet.Packet.TheVariants.{Seek, SetFileSize, Other}
 pub use Rattle.ados_model.specs.declared.answer.{Answer.Answer, Body.Body}
 use Rattle.ados_model.specs.declared.answer.Body.TheVariants as body
 
@@ -80,4 +93,10 @@ handed_back _ = body.Empty
 
 -- the answer to a packet that is refused with this error
 abbrev pub refused_answer : Packet → DosError → Answer
-refused_answer packet error = record { action = action_of packet; res1 = failure_of packet; res2 = pos (error_number error); body = handed_back packet }
+refused_answer packet error =
+    record {
+      action = action_of packet;
+      res1 = failure_of packet;
+      res2 = pos (error_number error);
+      body = handed_back packet;
+    }

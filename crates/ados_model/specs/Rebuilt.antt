@@ -29,4 +29,5 @@ pub record Rebuilt (old new : List ℕ) : Type 0 where
   pub free : (block : ℕ) → InImage old block → HasFreeBit new block → (role : Role) → ¬ Reached old block role
   pub in_use : (block : ℕ) → InImage old block → ¬ HasFreeBit new block → (role : Role) × Reached old block role
   -- the bits past the volume's end are clear
-  pub past_end : (block : ℕ) → block_count old ≤ block → block < BOOT_BLOCKS + PAGE_BITS * page_count (block_count old) → ¬ HasFreeBit new block
+  pub past_end : (block : ℕ) → block_count old ≤ block → block < BOOT_BLOCKS + PAGE_BITS * page_count (block_count old)
+      → ¬ HasFreeBit new block

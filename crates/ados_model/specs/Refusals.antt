@@ -1,7 +1,8 @@
--- The refusals of each packet. All rows have them in this order: the handler has died (`refusal`), an unknown action, a lock or
--- handle that is not held, the walk or the place, the name or the comment, the type, the two of EXAMINE_NEXT, what exists, what
--- is in use, what is not empty, the protection, the position, the free space, the memory (`Meaning`).
-use Rattle.std.specs.Prelude.{ℕ, ◌+◌, Bool, true, false, not, ◌&&◌, ◌||◌, ◌==◌, nat_le, nat_lt, max, if◌then◌else◌, List, [], ◌∷◌, length, Option, None, Some, is_some, is_none, option_map}
+-- The refusals of each packet. All rows have them in this order: the handler has died (`refusal`), an unknown action, a
+-- lock or handle that is not held, the walk or the place, the name or the comment, the type, the two of EXAMINE_NEXT,
+-- what exists, what is in use, what is not empty, the protection, the position, the free space, the memory (`Meaning`).
+use Rattle.std.specs.Prelude.{ℕ, ◌+◌, Bool, true, false, not, ◌&&◌, ◌||◌, ◌==◌, nat_le, nat_lt, max, if◌then◌else◌}
+use Rattle.std.specs.Prelude.{List, [], ◌∷◌, length, Option, None, Some, is_some, is_none, option_map}
 use Rattle.std.specs.List.{list_any}
 use Rattle.std.specs.Option.{option_map_or}
 use Rattle.std.specs.Result.{result_err}
@@ -9,10 +10,19 @@ use Rattle.std.specs.FinMap as numbered
 use Rattle.ados_name.specs.Name.{is_separator, denies_delete, denies_write, denies_read}
 use Rattle.ados_model.specs.Tree.{Tree, root, entries, parent_of, size_of, free, needs_more}
 use Rattle.ados_model.specs.Change.{is_file, entries_after}
-use Rattle.ados_model.specs.Packet.{DosError, ActionNotKnown, CommentTooBig, DeleteProtected, DeviceNotMounted, DirectoryNotEmpty, DiskFull, InvalidComponentName, InvalidLock, NoMoreEntries, ObjectExists, ObjectInUse, ObjectNotFound, ObjectWrongType, ReadProtected, SeekError, WriteProtected}
-use Rattle.ados_model.specs.Packet.{Packet, Die, LocateObject, RenameDisk, FreeLock, DeleteObject, RenameObject, CopyDir, SetProtect, CreateDir, ExamineObject, ExamineNext, DiskInfo, Info, SetComment, Parent, SetDate, SameLock, Read, Write, FindUpdate, FindInput, FindOutput, End, Seek, SetFileSize, Other}
-use Rattle.ados_model.specs.Session.{Session, holds, is_held, is_held_exclusively, is_in_use, is_lock, is_exclusive_lock, handle_key, handle_position}
-use Rattle.ados_model.specs.Objects.{walk_error, place_error, lock_key, found, object, placed, spot_directory, standing, protection_of, is_under, is_exclusive_mode, handle_target, is_bad_target, target_number}
+use Rattle.ados_model.specs.Packet.{DosError, ActionNotKnown, CommentTooBig, DeleteProtected, DeviceNotMounted}
+use Rattle.ados_model.specs.Packet.{DirectoryNotEmpty, DiskFull, InvalidComponentName, InvalidLock, NoMoreEntries}
+use Rattle.ados_model.specs.Packet.{ObjectExists, ObjectInUse, ObjectNotFound, ObjectWrongType, ReadProtected}
+use Rattle.ados_model.specs.Packet.{SeekError, WriteProtected}
+use Rattle.ados_model.specs.Packet.{Packet, Die, LocateObject, RenameDisk, FreeLock, DeleteObject, RenameObject}
+use Rattle.ados_model.specs.Packet.{CopyDir, SetProtect, CreateDir, ExamineObject, ExamineNext, DiskInfo, Info}
+use Rattle.ados_model.specs.Packet.{SetComment, Parent, SetDate, SameLock, Read, Write, FindUpdate, FindInput}
+use Rattle.ados_model.specs.Packet.{FindOutput, End, Seek, SetFileSize, Other}
+use Rattle.ados_model.specs.Session.{Session, holds, is_held, is_held_exclusively, is_in_use, is_lock}
+use Rattle.ados_model.specs.Session.{is_exclusive_lock, handle_key, handle_position}
+use Rattle.ados_model.specs.Objects.{walk_error, place_error, lock_key, found, object, placed, spot_directory}
+use Rattle.ados_model.specs.Objects.{standing, protection_of, is_under, is_exclusive_mode, handle_target}
+use Rattle.ados_model.specs.Objects.{is_bad_target, target_number}
 
 -- this error if the condition holds
 abbrev pub refuse : DosError → Bool → Option DosError
@@ -106,7 +116,8 @@ module _ (t : Tree) (s : Session) where
       ∷ refuse CommentTooBig (not (nat_le (length comment) 79))
       ∷ refuse ObjectWrongType (object t s lock path == root t) ∷ []
   refusals (Parent lock) =
-      unknown_lock lock ∷ refuse ObjectInUse (is_some_and (λ dir. is_held_exclusively s dir) (parent_of t (lock_key t s lock))) ∷ []
+      unknown_lock lock ∷ refuse ObjectInUse
+      (is_some_and (λ dir. is_held_exclusively s dir) (parent_of t (lock_key t s lock))) ∷ []
   refusals (SetDate lock path date) =
       unknown_lock lock ∷ walk_refusal lock path ∷ refuse ObjectWrongType (object t s lock path == root t) ∷ []
   refusals (SameLock first second) = unknown_lock first ∷ unknown_lock second ∷ []
@@ -138,7 +149,8 @@ module _ (t : Tree) (s : Session) where
       ∷ refuse DiskFull (has_no_room t there) ∷ []
   refusals (End handle) = unknown_handle handle ∷ []
   refusals (Seek handle offset mode) =
-      unknown_handle handle ∷ refuse SeekError (is_bad_target (size_of t (handle_key s handle)) (handle_target t s handle offset mode)) ∷ []
+      unknown_handle handle ∷ refuse SeekError
+      (is_bad_target (size_of t (handle_key s handle)) (handle_target t s handle offset mode)) ∷ []
   refusals (SetFileSize handle offset mode) =
       let key = handle_key s handle in
       let target = handle_target t s handle offset mode in

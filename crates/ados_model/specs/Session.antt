@@ -19,7 +19,9 @@ opening_session = record { locks = numbered.empty; handles = numbered.empty; die
 
 -- every hold: the key of its object, and whether it is exclusive
 abbrev pub holds : Session → List (ℕ × Bool)
-holds s = map (λ l. (l.key, l.exclusive)) (numbered.values s.locks) ++ map (λ h. (h.key, h.exclusive)) (numbered.values s.handles)
+holds s =
+    map (λ l. (l.key, l.exclusive)) (numbered.values s.locks)
+    ++ map (λ h. (h.key, h.exclusive)) (numbered.values s.handles)
 
 -- some hold is on the object, and some exclusive hold is
 abbrev pub is_held : Session → ℕ → Bool
@@ -38,7 +40,8 @@ is_lock s lock = (lock == NO_LOCK) || numbered.contains_key s.locks lock
 
 -- the lock is exclusive; `NO_LOCK` is not
 abbrev pub is_exclusive_lock : Session → ℕ → Bool
-is_exclusive_lock s lock = if lock == NO_LOCK then false else option_map_or (λ l. l.exclusive) (numbered.get s.locks lock) false
+is_exclusive_lock s lock =
+    if lock == NO_LOCK then false else option_map_or (λ l. l.exclusive) (numbered.get s.locks lock) false
 
 -- the file of a handle, and its position
 abbrev pub handle_key : Session → ℕ → ℕ
@@ -53,14 +56,16 @@ IsFreeNumber held number = (1 ≤ number) × (number ≤ 2147483647) × (numbere
 
 -- one more lock, and one less
 abbrev pub with_lock : ℕ → ℕ → Bool → Session → Session
-with_lock number key exclusive s = record s { locks = numbered.insert s.locks number (record { key = key; exclusive = exclusive }) }
+with_lock number key exclusive s =
+    record s { locks = numbered.insert s.locks number (record { key = key; exclusive = exclusive }) }
 
 abbrev pub without_lock : ℕ → Session → Session
 without_lock number s = record s { locks = numbered.remove s.locks number }
 
 -- one more handle, at position 0, and one less
 abbrev pub with_handle : ℕ → ℕ → Bool → Session → Session
-with_handle number key exclusive s = record s { handles = numbered.insert s.handles number (record { key = key; position = 0; exclusive = exclusive }) }
+with_handle number key exclusive s =
+    record s { handles = numbered.insert s.handles number (record { key = key; position = 0; exclusive = exclusive }) }
 
 abbrev pub without_handle : ℕ → Session → Session
 without_handle number s = record s { handles = numbered.remove s.handles number }
@@ -68,12 +73,16 @@ without_handle number s = record s { handles = numbered.remove s.handles number 
 -- a handle at another position
 abbrev pub at_position : ℕ → ℕ → Session → Session
 at_position handle position s =
-    record s { handles = option_map_or (λ h. numbered.insert s.handles handle (record h { position = position })) (numbered.get s.handles handle) s.handles }
+    record s {
+      handles = option_map_or (λ h. numbered.insert s.handles handle (record h { position = position }))
+          (numbered.get s.handles handle) s.handles;
+    }
 
 -- each handle of the file past this size is moved to it
 abbrev pub positions_within : ℕ → ℕ → Session → Session
 positions_within key size s =
-    let within : HandleHold → HandleHold = λ h. if (h.key == key) && nat_lt size h.position then record h { position = size } else h in
+    let within : HandleHold → HandleHold =
+    λ h. if (h.key == key) && nat_lt size h.position then record h { position = size } else h in
     record s { handles = numbered.from_entries (map (λ e. (e.0, within e.1)) (numbered.entries s.handles)) }
 
 -- the image of its volume, whether `check` rebuilt the bitmap, and the holds

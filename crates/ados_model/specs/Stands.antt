@@ -1,9 +1,19 @@
 -- When an image represents a tree: the use of each block, the bytes in a file's blocks, and the fields of each block.
-use Rattle.std.specs.Prelude.{◌≡◌, ℕ, List, length, slice_get, Some, IsSome, IsTrue, ◌+◌, ◌-◌, ◌*◌, ◌/◌, ◌%◌, ◌<◌, ◌≤◌, min, ◌∷◌, slice_index, ◌==◌, [], filter, Contains}
-use Rattle.adf_block.specs.declared.layout.TheConstants.{BLOCK_BYTES, PRIMARY_TYPE, OWN_KEY, SECONDARY_TYPE, HEADER_TYPE, DATA_TYPE, LIST_TYPE, ROOT_TYPE, DIRECTORY_TYPE, FILE_TYPE, TABLE_LONGS, TABLE_SIZE, FIRST_SLOT, POINTER_COUNT, FIRST_POINTER, BITMAP_FLAG, BITMAP_VALID, FIRST_PAGE, DISK_DATE, CREATION_DATE, PROTECTION, FILE_SIZE, COMMENT_BYTE, DATE, NAME_BYTE, NEXT_IN_CHAIN, PARENT, NEXT_EXTENSION, SEQUENCE, HELD, NEXT_DATA, OFS_ROOM}
-use Rattle.adf_block.specs.Image.{page_count, IsInside, long, byte_at, block_sum, Chained, bytes_at, has_free_bit, HasText}
+use Rattle.std.specs.Prelude.{◌≡◌, ℕ, List, length, slice_get, Some, IsSome, IsTrue, ◌+◌, ◌-◌, ◌*◌, ◌/◌, ◌%◌, ◌<◌}
+use Rattle.std.specs.Prelude.{◌≤◌, min, ◌∷◌, slice_index, ◌==◌, [], filter, Contains}
+use Rattle.adf_block.specs.declared.layout.TheConstants.{BLOCK_BYTES, PRIMARY_TYPE, OWN_KEY, SECONDARY_TYPE}
+use Rattle.adf_block.specs.declared.layout.TheConstants.{HEADER_TYPE, DATA_TYPE, LIST_TYPE, ROOT_TYPE, DIRECTORY_TYPE}
+use Rattle.adf_block.specs.declared.layout.TheConstants.{FILE_TYPE, TABLE_LONGS, TABLE_SIZE, FIRST_SLOT}
+use Rattle.adf_block.specs.declared.layout.TheConstants.{POINTER_COUNT, FIRST_POINTER, BITMAP_FLAG, BITMAP_VALID}
+use Rattle.adf_block.specs.declared.layout.TheConstants.{FIRST_PAGE, DISK_DATE, CREATION_DATE, PROTECTION, FILE_SIZE}
+use Rattle.adf_block.specs.declared.layout.TheConstants.{COMMENT_BYTE, DATE, NAME_BYTE, NEXT_IN_CHAIN, PARENT}
+use Rattle.adf_block.specs.declared.layout.TheConstants.{NEXT_EXTENSION, SEQUENCE, HELD, NEXT_DATA, OFS_ROOM}
+use Rattle.adf_block.specs.Image.{page_count, IsInside, long, byte_at, block_sum, Chained, bytes_at, has_free_bit}
+use Rattle.adf_block.specs.Image.{HasText}
 use Rattle.ados_name.specs.Name.{slot}
-use Rattle.ados_model.specs.Tree.{Format, Ofs, Ffs, Date3, data_count, extension_count, Tree, size_of, data_size, data_start, Content, Node, Proper, root, entries, name_of, Content.Directory, Content.File}
+use Rattle.ados_model.specs.Tree.{Format, Ofs, Ffs, Date3, data_count, extension_count, Tree, size_of, data_size}
+use Rattle.ados_model.specs.Tree.{data_start, Content, Node, Proper, root, entries, name_of, Content.Directory}
+use Rattle.ados_model.specs.Tree.{Content.File}
 
 -- the bitmap blocks, and the data blocks and extension blocks of each file, in order
 pub record Layout : Type 0 where
@@ -42,7 +52,8 @@ pub record Fits (t : Tree) (l : Layout) : Type 0 where
 
 -- the date whose first long is long i
 abbrev pub date_at : List ℕ → ℕ → ℕ → Date3
-date_at image block i = record { days = long image block i; minutes = long image block (i + 1); ticks = long image block (i + 2) }
+date_at image block i =
+    record { days = long image block i; minutes = long image block (i + 1); ticks = long image block (i + 2) }
 
 -- the fields of an extension block of a file
 pub record HasExtension (image : List ℕ) (file block : ℕ) : Type 0 where
@@ -60,16 +71,23 @@ pub record HasOfsData (image : List ℕ) (file size i block : ℕ) : Type 0 wher
   pub held : long image block HELD ≡ min OFS_ROOM (size - OFS_ROOM * i)
   pub sum : block_sum image block ≡ 0
 
--- a file: its pointer blocks are its header and its extension blocks; all but the last are full, and so are its data blocks
+-- a file: its pointer blocks are its header and its extension blocks; all but the last are full, and so are its data
+-- blocks
 pub record HasFile (image : List ℕ) (format : Format) (file : ℕ) (blocks extensions bytes : List ℕ) : Type 0 where
   pub size : long image file FILE_SIZE ≡ length bytes
   pub chain : Chained image NEXT_EXTENSION (long image file NEXT_EXTENSION) extensions
   pub extension : (i : ℕ) → i < length extensions → HasExtension image file (slice_index extensions i)
-  pub counts : (i : ℕ) → i ≤ length extensions → long image (slice_index (file ∷ extensions) i) POINTER_COUNT ≡ min TABLE_LONGS (length blocks - TABLE_LONGS * i)
-  pub pointers : (i : ℕ) → i < length blocks → long image (slice_index (file ∷ extensions) (i / TABLE_LONGS)) (FIRST_POINTER - i % TABLE_LONGS) ≡ slice_index blocks i
-  pub contents : (k : ℕ) → k < length bytes → slice_index bytes k ≡ byte_at image (slice_index blocks (k / data_size format)) (data_start format + k % data_size format)
+  pub counts : (i : ℕ) → i ≤ length extensions
+      → long image (slice_index (file ∷ extensions) i) POINTER_COUNT ≡ min TABLE_LONGS (length blocks - TABLE_LONGS * i)
+  pub pointers : (i : ℕ) → i < length blocks
+      → long image (slice_index (file ∷ extensions) (i / TABLE_LONGS))
+      (FIRST_POINTER - i % TABLE_LONGS) ≡ slice_index blocks i
+  pub contents : (k : ℕ) → k < length bytes
+      → slice_index bytes k ≡ byte_at image (slice_index blocks (k / data_size format))
+      (data_start format + k % data_size format)
   pub ofs_chain : format ≡ Ofs → Chained image NEXT_DATA (long image file NEXT_DATA) blocks
-  pub ofs_data : format ≡ Ofs → (i : ℕ) → i < length blocks → HasOfsData image file (length bytes) i (slice_index blocks i)
+  pub ofs_data : format ≡ Ofs → (i : ℕ) → i < length blocks
+      → HasOfsData image file (length bytes) i (slice_index blocks i)
 
 -- the byte after `DOS` for a format
 abbrev pub format_byte : Format → ℕ
@@ -120,11 +138,13 @@ pub record Stands (image : List ℕ) (t : Tree) : Type 0 where
   pub boot : bytes_at image 0 0 4 ≡ 68 ∷ 79 ∷ 83 ∷ format_byte t.format ∷ []
   pub root_fields : HasRoot image t layout
   pub nodes : (key : ℕ) (node : Node) → t.nodes key ≡ Some node → HasNode image key node
-  pub entries : (key dir : ℕ) (node : Node) → t.nodes key ≡ Some node → node.parent ≡ Some dir → HasEntry image key node dir
+  pub entries : (key dir : ℕ) (node : Node) → t.nodes key ≡ Some node → node.parent ≡ Some dir
+      → HasEntry image key node dir
   pub pages : (page : ℕ) → Contains layout.pages page → block_sum image page ≡ 0
   pub lost : (block : ℕ) (bytes : List ℕ) → t.lost block ≡ Some bytes → bytes_at image block 0 BLOCK_BYTES ≡ bytes
   -- the hash chain of each slot of a directory has exactly the directory's entries of that slot
-  pub chains : (dir : ℕ) (node : Node) (keys : List ℕ) (s : ℕ) → t.nodes dir ≡ Some node → node.content ≡ Directory keys → s < TABLE_LONGS
+  pub chains : (dir : ℕ) (node : Node) (keys : List ℕ) (s : ℕ) → t.nodes dir ≡ Some node → node.content ≡ Directory keys
+      → s < TABLE_LONGS
       → Chained image NEXT_IN_CHAIN (long image dir (FIRST_SLOT + s)) (in_slot t dir s)
   -- the pointers of each file are its data blocks, and these hold its bytes
   pub files : (file : ℕ) (node : Node) (bytes : List ℕ) → t.nodes file ≡ Some node → node.content ≡ File bytes

@@ -1,12 +1,20 @@
 -- The effect of each packet that is not refused.
-use Rattle.std.specs.Prelude.{◌≡◌, ℕ, ◌+◌, ◌-◌, ℤ, pos, Bool, true, false, ◌==◌, nat_lt, if◌then◌else◌, List, [], ◌∷◌, ◌++◌, take, drop, length, replicate, None, Some, MatchOption, MatchBool}
+use Rattle.std.specs.Prelude.{◌≡◌, ℕ, ◌+◌, ◌-◌, ℤ, pos, Bool, true, false, ◌==◌, nat_lt, if◌then◌else◌, List, [], ◌∷◌}
+use Rattle.std.specs.Prelude.{◌++◌, take, drop, length, replicate, None, Some, MatchOption, MatchBool}
 use Rattle.adf_block.specs.Image.{IsInside}
-use Rattle.ados_model.specs.Tree.{Date3, Node, Tree, root, bytes_of, parent_of, size_of, Content.Directory, Content.File}
+use Rattle.ados_model.specs.Tree.{Date3, Node, Tree, root, bytes_of, parent_of, size_of, Content.Directory}
+use Rattle.ados_model.specs.Tree.{Content.File}
 use Rattle.ados_model.specs.Change.{changed, entries_after, made, removed, renamed, rewritten, stamped, written}
-use Rattle.ados_model.specs.Objects.{file_info, disk_info, lock_key, object, spot_directory, spot_name, standing, is_exclusive_mode, handle_target, target_number}
-use Rattle.ados_model.specs.Packet.{NO_LOCK, Packet, Die, LocateObject, RenameDisk, FreeLock, DeleteObject, RenameObject, CopyDir, SetProtect, CreateDir, ExamineObject, ExamineNext, DiskInfo, Info, SetComment, Parent, SetDate, SameLock, Read, Write, FindUpdate, FindInput, FindOutput, End, Seek, SetFileSize, Other, dos_true, dos_false}
-use Rattle.ados_model.specs.declared.answer.Body.{Body, TheVariants.Empty, TheVariants.Buffer, TheVariants.Handle, TheVariants.Entry, TheVariants.Disk}
-use Rattle.ados_model.specs.Session.{Session, IsFreeNumber, with_lock, without_lock, with_handle, without_handle, at_position, positions_within, handle_key, handle_position}
+use Rattle.ados_model.specs.Objects.{file_info, disk_info, lock_key, object, spot_directory, spot_name, standing}
+use Rattle.ados_model.specs.Objects.{is_exclusive_mode, handle_target, target_number}
+use Rattle.ados_model.specs.Packet.{NO_LOCK, Packet, Die, LocateObject, RenameDisk, FreeLock, DeleteObject}
+use Rattle.ados_model.specs.Packet.{RenameObject, CopyDir, SetProtect, CreateDir, ExamineObject, ExamineNext}
+use Rattle.ados_model.specs.Packet.{DiskInfo, Info, SetComment, Parent, SetDate, SameLock, Read, Write, FindUpdate}
+use Rattle.ados_model.specs.Packet.{FindInput, FindOutput, End, Seek, SetFileSize, Other, dos_true, dos_false}
+use Rattle.ados_model.specs.declared.answer.Body.{Body, TheVariants.Empty, TheVariants.Buffer, TheVariants.Handle}
+use Rattle.ados_model.specs.declared.answer.Body.{TheVariants.Entry, TheVariants.Disk}
+use Rattle.ados_model.specs.Session.{Session, IsFreeNumber, with_lock, without_lock, with_handle, without_handle}
+use Rattle.ados_model.specs.Session.{at_position, positions_within, handle_key, handle_position}
 
 -- the result of a served packet: the tree, the session, the first result and the body
 pub record After : Type 0 where
@@ -25,12 +33,14 @@ IsNewKey t key = IsInside t.blocks key × (t.nodes key ≡ None) × (t.lost key 
 -- a new lock on an object, under a free number
 abbrev pub GivesLock : Tree → Session → ℕ → Bool → After → Type 0
 GivesLock t s key exclusive result =
-    (number : ℕ) × IsFreeNumber s.locks number × (result ≡ after t (with_lock number key exclusive s) (pos number) Empty)
+    (number : ℕ) × IsFreeNumber s.locks number
+    × (result ≡ after t (with_lock number key exclusive s) (pos number) Empty)
 
 -- a new handle on a file, under a free number
 abbrev pub GivesHandle : Tree → Session → ℕ → Bool → After → Type 0
 GivesHandle t s key exclusive result =
-    (number : ℕ) × IsFreeNumber s.handles number × (result ≡ after t (with_handle number key exclusive s) dos_true (Handle number))
+    (number : ℕ) × IsFreeNumber s.handles number
+    × (result ≡ after t (with_handle number key exclusive s) dos_true (Handle number))
 
 -- a new file at a place, under a new key, and a new handle on it
 abbrev pub MakesFile : Tree → Session → ℕ → List ℕ → Bool → Date3 → After → Type 0
@@ -53,31 +63,42 @@ module _ (t : Tree) (s : Session) where
   -- one row for each packet; `now` is its time stamp
   abbrev pub Success : Packet → Date3 → After → Type 0
   Success Die now result = result ≡ after t (record s { died = true }) dos_true Empty
-  Success (LocateObject lock path mode) now result = GivesLock t s (object t s lock path) (is_exclusive_mode mode) result
+  Success (LocateObject lock path mode) now result =
+      GivesLock t s (object t s lock path) (is_exclusive_mode mode) result
   Success (RenameDisk name) now result =
       result ≡ after (stamped now (changed (root t) (λ node. record node { name = name }) t)) s dos_true Empty
-  Success (FreeLock lock) now result = result ≡ after t (if lock == NO_LOCK then s else without_lock lock s) dos_true Empty
+  Success (FreeLock lock) now result =
+      result ≡ after t (if lock == NO_LOCK then s else without_lock lock s) dos_true Empty
   Success (DeleteObject lock path) now result = result ≡ after (removed now (object t s lock path) t) s dos_true Empty
   Success (RenameObject from_lock from to_lock to) now result =
-      result ≡ after (renamed now (object t s from_lock from) (spot_directory t s to_lock to) (spot_name t s to_lock to) t) s dos_true Empty
+      result ≡ after
+      (renamed now (object t s from_lock from) (spot_directory t s to_lock to)
+      (spot_name t s to_lock to) t) s dos_true Empty
   Success (CopyDir lock) now result =
-      MatchBool (lock == NO_LOCK) (result ≡ after t s (pos NO_LOCK) Empty) (GivesLock t s (lock_key t s lock) false result)
+      MatchBool (lock == NO_LOCK) (result ≡ after t s (pos NO_LOCK) Empty)
+      (GivesLock t s (lock_key t s lock) false result)
   Success (SetProtect lock path bits) now result =
-      result ≡ after (stamped now (changed (object t s lock path) (λ node. record node { protection = bits }) t)) s dos_true Empty
+      result ≡ after
+      (stamped now (changed (object t s lock path) (λ node. record node { protection = bits }) t)) s dos_true Empty
   Success (CreateDir lock path) now result =
       (key : ℕ) × IsNewKey t key
-      × GivesLock (made now (spot_directory t s lock path) key (spot_name t s lock path) (Directory []) t) s key true result
+      × GivesLock
+      (made now (spot_directory t s lock path) key (spot_name t s lock path) (Directory []) t) s key true result
   Success (ExamineObject lock) now result = Examines t s (lock_key t s lock) result
   Success (ExamineNext lock key) now result =
-      (next : ℕ) × (rest : List ℕ) × (entries_after t (lock_key t s lock) key ≡ Some (next ∷ rest)) × Examines t s next result
+      (next : ℕ) × (rest : List ℕ) × (entries_after t (lock_key t s lock) key ≡ Some (next ∷ rest))
+      × Examines t s next result
   Success DiskInfo now result = result ≡ after t s dos_true (Disk (disk_info t))
   Success (Info lock) now result = result ≡ after t s dos_true (Disk (disk_info t))
   Success (SetComment lock path comment) now result =
-      result ≡ after (stamped now (changed (object t s lock path) (λ node. record node { comment = comment }) t)) s dos_true Empty
+      result ≡ after
+      (stamped now (changed (object t s lock path) (λ node. record node { comment = comment }) t)) s dos_true Empty
   Success (Parent lock) now result =
-      MatchOption (parent_of t (lock_key t s lock)) (result ≡ after t s (pos NO_LOCK) Empty) (λ dir. GivesLock t s dir false result)
+      MatchOption (parent_of t (lock_key t s lock)) (result ≡ after t s (pos NO_LOCK) Empty)
+      (λ dir. GivesLock t s dir false result)
   Success (SetDate lock path date) now result =
-      result ≡ after (stamped now (changed (object t s lock path) (λ node. record node { date = date }) t)) s dos_true Empty
+      result ≡ after
+      (stamped now (changed (object t s lock path) (λ node. record node { date = date }) t)) s dos_true Empty
   Success (SameLock first second) now result =
       result ≡ after t s (if lock_key t s first == lock_key t s second then dos_true else dos_false) Empty
   Success (Read handle buffer) now result =
@@ -98,7 +119,8 @@ module _ (t : Tree) (s : Session) where
       (λ key. GivesHandle (rewritten now key [] t) s key true result)
   Success (End handle) now result = result ≡ after t (without_handle handle s) dos_true Empty
   Success (Seek handle offset mode) now result =
-      result ≡ after t (at_position handle (target_number (handle_target t s handle offset mode)) s) (pos (handle_position s handle)) Empty
+      result ≡ after t (at_position handle (target_number (handle_target t s handle offset mode)) s)
+      (pos (handle_position s handle)) Empty
   Success (SetFileSize handle offset mode) now result =
       let key = handle_key s handle in
       let size = target_number (handle_target t s handle offset mode) in

@@ -1,7 +1,10 @@
 -- A volume as a tree, without blocks, and the number of blocks that it needs.
-use Rattle.std.specs.Prelude.{ℕ, ◌+◌, ◌-◌, ◌/◌, ◌==◌, if◌then◌else◌, List, [], ◌∷◌, Option, Some, None, ◌≡◌, ◌≢◌, ◌≤◌, ◌↔◌, length, Contains, AllPairs, is_some, option_map, option_and_then, cond, Bool, nat_lt}
+use Rattle.std.specs.Prelude.{ℕ, ◌+◌, ◌-◌, ◌/◌, ◌==◌, if◌then◌else◌, List, [], ◌∷◌, Option, Some, None, ◌≡◌, ◌≢◌, ◌≤◌}
+use Rattle.std.specs.Prelude.{◌↔◌, length, Contains, AllPairs, is_some, option_map, option_and_then, cond, Bool}
+use Rattle.std.specs.Prelude.{nat_lt}
 use Rattle.std.specs.Option.{option_map_or}
-use Rattle.adf_block.specs.declared.layout.TheConstants.{FEWEST_BLOCKS, MOST_BLOCKS, BOOT_BLOCKS, TABLE_LONGS, OFS_DATA_BYTE, OFS_ROOM, FFS_ROOM}
+use Rattle.adf_block.specs.declared.layout.TheConstants.{FEWEST_BLOCKS, MOST_BLOCKS, BOOT_BLOCKS, TABLE_LONGS}
+use Rattle.adf_block.specs.declared.layout.TheConstants.{OFS_DATA_BYTE, OFS_ROOM, FFS_ROOM}
 pub use Rattle.adf_block.specs.declared.layout.Format.{Format, TheVariants.Ofs, TheVariants.Ffs}
 use Rattle.adf_block.specs.Image.{root_key, page_count, IsInside, total}
 pub use Rattle.ados_name.specs.declared.stamp.Date3.{Date3}
@@ -118,7 +121,8 @@ pub record Proper (t : Tree) : Type 0 where
   pub listed : (dir key : ℕ) → Contains (entries t dir) key ↔ (parent_of t key ≡ Some dir)
   pub once : (dir : ℕ) → AllPairs (λ j k. j ≢ k) (entries t dir)
   -- two entries of a directory with the same name are the same entry
-  pub unlike : (dir j k : ℕ) → Contains (entries t dir) j → Contains (entries t dir) k → Same (name_of t j) (name_of t k) → j ≡ k
+  pub unlike : (dir j k : ℕ) → Contains (entries t dir) j → Contains (entries t dir) k
+      → Same (name_of t j) (name_of t k) → j ≡ k
   pub rising : (dir : ℕ) → AllPairs (λ j k. slot (name_of t j) ≤ slot (name_of t k)) (entries t dir)
   pub rooted : (key : ℕ) (node : Node) → t.nodes key ≡ Some node → LeadsToRoot t key
   pub name : (key : ℕ) (node : Node) → t.nodes key ≡ Some node → IsName node.name

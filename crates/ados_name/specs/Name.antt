@@ -1,5 +1,6 @@
 -- Names and comments, as lists of bytes; the steps of a path, its last name and the prefix before it; protection bits.
-use Rattle.std.specs.Prelude.{◌≡◌, ◌≢◌, ℕ, ◌+◌, ◌-◌, ◌*◌, ◌%◌, ◌<◌, ◌≤◌, ◌==◌, ◌&&◌, ◌||◌, Bool, nat_le, if◌then◌else◌, List, map, length, fold, All, [], ◌∷◌, take}
+use Rattle.std.specs.Prelude.{◌≡◌, ◌≢◌, ℕ, ◌+◌, ◌-◌, ◌*◌, ◌%◌, ◌<◌, ◌≤◌, ◌==◌, ◌&&◌, ◌||◌, Bool, nat_le}
+use Rattle.std.specs.Prelude.{if◌then◌else◌, List, map, length, fold, All, [], ◌∷◌, take}
 use Rattle.std.specs.List.{list_any, after_first, after_last, slice_split}
 use Rattle.std.specs.Int.{bit_at}
 

@@ -35,7 +35,11 @@ impl<S: Server> Model for Exchange<S> {
 
     ghost use Rattle.ados_port.specs.View.{clients_view, waiting_view, IsKept};
 
-    ghost view = { λ e. record { server = e.server; clients = clients_view e.clients.items; waiting = waiting_view e.waiting.items } };
+    ghost view = { λ e. record {
+      server = e.server;
+      clients = clients_view e.clients.items;
+      waiting = waiting_view e.waiting.items;
+    } };
 
     ghost invariant = { λ e. IsKept e.clients.items e.waiting.items };
 }
@@ -50,7 +54,8 @@ impl<S: Server> Exchange<S> {
     /// Makes an exchange over this server, with clients 1 to `clients`, in which nothing was put.
     pub fn new(alloc: Global, server: S, clients: usize) -> Result<Self, NewRefused<S>>
         requires { 1 ≤ clients }
-        ensures { MatchResult result (λ exchange. exchange ≡ opening_port server clients) (λ refused. refused.server ≡ server) }
+        ensures { MatchResult result (λ exchange. exchange ≡ opening_port server clients)
+            (λ refused. refused.server ≡ server) }
     {
         let Ok(mut list) = Vec::with_capacity(alloc, clients) else {
             return Err(NewRefused { server });

@@ -11,7 +11,8 @@ use Rattle.ados_run.specs.ServesVolume.{ServesWith}
 
 -- a packet is served according to its meaning, and the image changes as a handler may change it: bytes outside fields
 -- are untouched, the lowest free blocks are allocated, and a refused packet or one that only reads changes no byte
-pub record ServesBoth (old : BothSides) (packet : Packet) (now : Date3) (new : BothSides) (answer : Answer) : Type 0 where
+pub record ServesBoth (old : BothSides) (packet : Packet) (now : Date3) (new : BothSides) (answer : Answer)
+    : Type 0 where
   pub meant : MeansBoth old packet now new answer
   pub gives : HandlerGives old.handler packet now new.handler answer
 

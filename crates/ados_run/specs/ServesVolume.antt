@@ -12,7 +12,8 @@ use Rattle.ados_model.specs.declared.answer.Answer.{Answer}
 use Rattle.ados_model.specs.Session.{HandlerState, opening_session}
 use Rattle.adf_script.specs.declared.ending.ClientEnding.{ClientEnding}
 use Rattle.adf_script.specs.Spoken.{Spoken}
-use Rattle.ados_run.specs.TreeLists.{PacketLists, ListsFollowTree, ServedPackets, beside, handlers_of, both_died, handler_died}
+use Rattle.ados_run.specs.TreeLists.{PacketLists, ListsFollowTree, ServedPackets, beside, handlers_of, both_died}
+use Rattle.ados_run.specs.TreeLists.{handler_died}
 use Rattle.ados_run.specs.Runs.{BothSides, MeansBoth, RestsOnceDead}
 
 -- a handler over this image, alive and without locks and handles
@@ -33,14 +34,16 @@ abbrev pub EachSpeaks : List (List ℕ) → PacketLists → Bool → List (List 
 EachSpeaks scripts clients died told =
     (length clients ≡ length scripts) × (length told ≡ length scripts)
     × ((place : ℕ) (script : List ℕ) → slice_get scripts place ≡ Some script
-    → (lists : ClientLists Packet Answer) × (end : List ℕ × ClientEnding) × (slice_get clients place ≡ Some lists) × (slice_get told place ≡ Some end)
+    → (lists : ClientLists Packet Answer) × (end : List ℕ × ClientEnding) × (slice_get clients place ≡ Some lists)
+    × (slice_get told place ≡ Some end)
     × Spoken (place + 1) script lists.put lists.taken died end.0 end.1)
 
 -- The volume's image represents exactly one tree. Each client's text is the output of its script. What all clients put
 -- and took is one history from that tree; each packet was served with this time stamp, and image and tree changed
 -- together in this way. Some sequence of steps has that history. After the handler's death each packet was refused,
 -- and no byte changed.
-pub record ServesWith (together : ServerMeaning BothSides Packet Date3 Answer) (image : List ℕ) (was_validated : Bool) (scripts : List (List ℕ)) (moment : Date3)
+pub record ServesWith (together : ServerMeaning BothSides Packet Date3 Answer) (image : List ℕ) (was_validated : Bool)
+    (scripts : List (List ℕ)) (moment : Date3)
     (told : List (List ℕ × ClientEnding)) (closing : HandlerState) : Type 0 where
   pub tree : Tree
   pub stands : Stands image tree
@@ -51,7 +54,8 @@ pub record ServesWith (together : ServerMeaning BothSides Packet Date3 Answer) (
   pub speaks : EachSpeaks scripts clients (handler_died closing) told
   pub moments : AllAt moment served
   pub follows : ListsFollowTree together tree (handler_over image was_validated) clients served unanswered closing
-  pub history : HasHistory together both_died (beside tree (handler_over image was_validated)) clients served unanswered (beside follows.last_tree closing)
+  pub history : HasHistory together both_died (beside tree (handler_over image was_validated)) clients served unanswered
+      (beside follows.last_tree closing)
   pub rests : RestsOnceDead (handler_over image was_validated) served (handlers_of follows.lawful.meaning.0)
 
 -- each packet was answered according to its meaning for the tree, and the tree changed accordingly

@@ -36,7 +36,8 @@ PacketLists = List (ClientLists Packet Answer)
 
 -- the lists of all ends belong to one history from this tree; at each packet tree and image changed together in this
 -- way, and at the end the image represents the resulting tree
-pub record ListsFollowTree (together : ServerMeaning BothSides Packet Date3 Answer) (t : Tree) (opening : HandlerState) (clients : PacketLists) (served : ServedPackets)
+pub record ListsFollowTree (together : ServerMeaning BothSides Packet Date3 Answer) (t : Tree) (opening : HandlerState)
+    (clients : PacketLists) (served : ServedPackets)
     (unanswered : List (ℕ × Packet)) (closing : HandlerState) : Type 0 where
   pub last_tree : Tree
   pub lawful : Lawful together (beside t opening) clients served unanswered (beside last_tree closing)

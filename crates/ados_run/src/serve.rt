@@ -89,8 +89,10 @@ where
     R: Threads + Wait + Copy + Send + Drop + 'static,
     requires some { 0 < length scripts.items }
     ensures { IfOk result
-        (λ done. ServesVolume volume.image volume.was_validated (scripts_of scripts.items) moment (texts_of done.texts.items) done.handler
-        × KeepsServed volume.image volume.was_validated (scripts_of scripts.items) moment (texts_of done.texts.items) done.handler) }
+        (λ done. ServesVolume volume.image volume.was_validated (scripts_of scripts.items) moment
+        (texts_of done.texts.items) done.handler
+        × KeepsServed volume.image volume.was_validated (scripts_of scripts.items) moment
+        (texts_of done.texts.items) done.handler) }
 {
     // This calls `image`, whose contract says that there is a tree.
     prove!(volume.image().blocks() >= 16);

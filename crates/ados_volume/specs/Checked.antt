@@ -10,7 +10,8 @@ use Rattle.ados_check.specs.declared.accept.Rejected.{Rejected}
 -- a volume over the accepted image, or the image returned with the reason
 abbrev pub Checks : List ℕ → Result Shown Rejected → Type 0
 Checks image answer =
-    MatchResult answer (λ volume. Accepts image volume.was_validated volume.image) (λ rejected. HandsBack image rejected.image rejected.fault)
+    MatchResult answer (λ volume. Accepts image volume.was_validated volume.image)
+    (λ rejected. HandsBack image rejected.image rejected.fault)
 
 -- the image represents exactly one tree
 abbrev pub StandsForOne : List ℕ → Type 0
@@ -23,7 +24,8 @@ WantsMemory answer = IsErrAnd answer (λ rejected. rejected.fault.kind ≡ NoMem
 -- the check ran out of memory; or the result is Ok exactly if the image shows no fault, and then the volume's image
 -- represents exactly one tree
 abbrev pub Decides : List ℕ → Result Shown Rejected → Type 0
-Decides image answer = WantsMemory answer ⊎ ((IsOk answer ↔ ShowsNoFault image) × IfOk answer (λ volume. StandsForOne volume.image))
+Decides image answer =
+    WantsMemory answer ⊎ ((IsOk answer ↔ ShowsNoFault image) × IfOk answer (λ volume. StandsForOne volume.image))
 
 -- each result of `check` decides
 abbrev pub CheckDecides : Type 0
