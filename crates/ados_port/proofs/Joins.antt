@@ -86,3 +86,9 @@ module _ {Q M A J T : Type 0} (does : J → ClientView Q M A → ClientView Q M 
 pub first_ok : {F : Type 0} (P : Type 0) (first second : Result (Unit {0}) F) (done : Unit {0}) → result_and first second ≡ Ok done → OnOk first P → P
 first_ok P (Ok x) second done both p = p
 first_ok P (Err f) second done both p = absurd (cc both)
+
+-- and one that follows from the success of the second
+pub second_ok : {F : Type 0} (P : Type 0) (first second : Result (Unit {0}) F) (done : Unit {0}) → result_and first second ≡ Ok done → OnOk second P → P
+second_ok P (Ok x) (Ok y) done both p = p
+second_ok P (Ok x) (Err f) done both p = absurd (cc both)
+second_ok P (Err f) second done both p = absurd (cc both)

@@ -1,7 +1,7 @@
 //! The clients' threads, and the handler's batches meanwhile.
 ghost use Rattle.std.specs.Prelude.{◌≡◌, ◌≤◌, [], IfOk, OnOk, length, map, vec_capacity};
 ghost use Rattle.port_ends.specs.Ends.{AreEnds};
-ghost use Rattle.port_ends.specs.Batches.{ServesSome};
+ghost use Rattle.port_ends.specs.Batches.{ServesSome, LastFoundNothing};
 ghost use Rattle.ados_port.specs.Grown.{Did, EachDid};
 
 use crate::client::Client;
@@ -185,8 +185,41 @@ where
     (ends, reports)
 }
 
-/// Runs each client on a thread of its own, and the handler on this thread, until every client has ended and a batch
-/// found nothing.
+// Serves batches until all threads have ended and then a batch found nothing, as `serve_clients` says.
+fn serve_until_ended<S: Server, R: Wait>(
+    rt: &R,
+    handler: &mut HandlerEnd<S>,
+    moment: S::Moment,
+    ended: &AtomicUsize,
+    threads: usize,
+) -> Result<(), ServeClientsFault>
+    ensures served { ServesSome S.gives moment handler.old handler.new }
+    ensures last { OnOk result (LastFoundNothing 1 handler.new) }
+{
+    let mut looks = 0u64;
+    for _ in rt.forever() {
+        let rest = Rest::after(looks);
+        handler.announce(rest);
+        let all = ended.load(Ordering::SeqCst) == threads;
+        match handler.serve_batch(rt, moment, BATCH) {
+            Ok(0) if all => return Ok(()),
+            Ok(0) => {
+                handler.rest(rt, rest);
+                looks = looks.saturating_add(1);
+            }
+            Ok(_) => looks = 0,
+            Err(_) if all => return Err(ServeClientsFault::Memory),
+            Err(_) => {
+                handler.wake_clients();
+                thread::yield_now();
+            }
+        }
+    }
+    unreachable!()
+}
+
+/// Runs each client on a thread of its own, and the handler on this thread, until every client has ended and then a
+/// batch found nothing.
 ///
 /// After empty batches the handler sleeps until a client wakes it. A batch that runs out of memory is repeated as long
 /// as a thread runs, and wakes the clients. After the last thread has ended it is a fault.
@@ -212,6 +245,7 @@ where
     requires all { AreEnds handler ends.items }
     requires jobs { length jobs.items ≡ length ends.items }
     ensures handler { IfOk result (λ r. ServesSome S.gives moment handler r.handler) }
+    ensures last { IfOk result (λ r. LastFoundNothing 1 r.handler) }
     ensures clients { IfOk result (λ r. EachDid C.does jobs.items ends.items r.ends.items r.reports.items) }
     ensures all { IfOk result (λ r. AreEnds r.handler r.ends.items) }
 {
@@ -223,29 +257,7 @@ where
     } = room_for(alloc, ends.len())?;
     let started = start_clients(rt, ends, jobs, &ended, &mut handles);
     let mut handler = handler;
-    let mut looks = 0u64;
-    let mut served = Ok(());
-    for _ in rt.forever() {
-        let rest = Rest::after(looks);
-        handler.announce(rest);
-        let all = ended.load(Ordering::SeqCst) == handles.len();
-        match handler.serve_batch(rt, moment, BATCH) {
-            Ok(0) if all => break,
-            Ok(0) => {
-                handler.rest(rt, rest);
-                looks = looks.saturating_add(1);
-            }
-            Ok(_) => looks = 0,
-            Err(_) if all => {
-                served = Err(ServeClientsFault::Memory);
-                break;
-            }
-            Err(_) => {
-                handler.wake_clients();
-                thread::yield_now();
-            }
-        }
-    }
+    let served = serve_until_ended(rt, &mut handler, moment, &ended, handles.len());
     let (ends, reports) = join_clients(rt, handles, kept, reports);
     started.and(served)?;
     Ok(Served {

@@ -1,6 +1,8 @@
 -- The lists of the handler stay consistent when one more packet is served.
-use Rattle.std.proofs.Common.{◌≡◌, ◌≢◌, ℕ, ◌+◌, ◌≤◌, ◌==◌, if◌then◌else◌, List, [], ◌∷◌, ◌++◌, map, length, Some, slice_get, sym, refl, ap, ◌∙◌, subst, ⊎_elim, arith, append_assoc, append-nil, length-append}
+use Rattle.std.proofs.Common.{◌≡◌, ◌≢◌, ℕ, ◌+◌, ◌≤◌, ◌==◌, if◌then◌else◌, List, [], ◌∷◌, ◌++◌, map, length, Some, None, slice_get, sym, refl, ap, ◌∙◌, subst, ⊎_elim, arith, append_assoc, append-nil, length-append}
 use Rattle.std.proofs.lemmas.List.{map-append, length-map}
+use Rattle.std.proofs.lemmas.List.Elements.{filter_map-append}
+use Rattle.std.specs.Prelude.{Option}
 use Rattle.std.proofs.lemmas.Option.{slice_get_within}
 use native.Mathlib.Decide.{ℕ_discrete}
 use mathlib.Core.Logic.{dite}
@@ -15,7 +17,7 @@ use Rattle.port_ends.specs.steps.Sending.{SendsTo}
 use Rattle.port_ends.specs.steps.Desks.{DeskView}
 use Rattle.port_ends.specs.Ends.{OfClients}
 use Rattle.port_ends.specs.steps.Rule.{total}
-use Rattle.port_ends.specs.Ends.{replies_to, HandlerView, ClientView, IsEndOf, AreEnds, Serves}
+use Rattle.port_ends.specs.Ends.{replies_to, HandlerView, ClientView, IsEndOf, AreEnds, Serves, found_in}
 use Rattle.port_ends.specs.steps.QueueEnds.{TakeView}
 use Rattle.port_ends.specs.steps.QueueCalls.{TakesPacket}
 use Rattle.port_ends.specs.steps.Views.{Agree, handler_view}
@@ -77,9 +79,24 @@ module _ {T : Type 0} where
       (λ (e : (length os ≡ length os) × (o ≡ p)). e.1)
       (get_end os o p (length os) (subst (λ (l : List (OutView T)). slice_get l (length os) ≡ Some p) longer at))
 
+module _ {X : Type 0} where
+  pub found_append : (xs ys : List (Option X)) → found_in (xs ++ ys) ≡ found_in xs ++ found_in ys
+  found_append xs ys = filter_map-append (λ found. found) xs ys
+
+  -- some takes, and then some more
+  takes_more : (a b c : List (Option X)) (ps qs rs : List X) → rs ≡ ps ++ qs → ((xs : List (Option X)) × (b ≡ a ++ xs) × (found_in xs ≡ ps))
+      → ((ys : List (Option X)) × (c ≡ b ++ ys) × (found_in ys ≡ qs)) → (zs : List (Option X)) × (c ≡ a ++ zs) × (found_in zs ≡ rs)
+  takes_more a b c ps qs rs both h g = (h.0 ++ g.0, g.1 ∙ (ap (λ l. l ++ g.0) h.1 ∙ append_assoc a h.0 g.0), found_append h.0 g.0 ∙ ((λ i. h.2 i ++ g.2 i) ∙ sym both))
+
+module _ {Q : Type 0} where
+  -- a take that found this packet
+  found_step : (q q' : TakeView Q) (x : ℕ × Q) → q' ≡ record q { taken = q.taken ++ x ∷ []; takes = q.takes ++ Some x ∷ [] } → found_in q.takes ≡ q.taken → found_in q'.takes ≡ q'.taken
+  found_step q q' x is h =
+      subst (λ (v : TakeView Q). found_in v.takes ≡ v.taken) (sym is) (found_append q.takes (Some x ∷ []) ∙ ap (λ l. l ++ x ∷ []) h)
+
 module _ {S Q M A : Type 0} where
   pub serves_none : (gives : S → Q → M → S → A → Type 0) (m : M) (h : HandlerView S Q M A) → Serves gives m h [] h
-  serves_none gives m h = record { port = refl; mark = refl; opening = refl; served_more = sym (append-nil h.served); moments = tt; run = meaning_none gives h.server; rings = each_stays_refl h.outlets }
+  serves_none gives m h = record { port = refl; mark = refl; opening = refl; served_more = sym (append-nil h.served); moments = tt; run = meaning_none gives h.server; rings = each_stays_refl h.outlets; takes = ([], sym (append-nil h.takes), refl) }
 
   pub serves_more : (gives : S → Q → M → S → A → Type 0) (m : M) (a b c : HandlerView S Q M A) (xs ys : List (Serving Q M A)) → Serves gives m a xs b → Serves gives m b ys c → Serves gives m a (xs ++ ys) c
   serves_more gives m a b c xs ys h g = record {
@@ -90,6 +107,7 @@ module _ {S Q M A : Type 0} where
     moments = all_at_append m xs ys h.moments g.moments;
     run = meaning_append gives a.server b.server c.server xs ys h.run g.run;
     rings = each_stays a.outlets b.outlets c.outlets h.rings g.rings;
+    takes = takes_more a.takes b.takes c.takes (packets_of xs) (packets_of ys) (packets_of (xs ++ ys)) (map-append (λ (s : Serving Q M A). (s.client, s.packet)) xs ys) h.takes g.takes;
   }
 
   -- replies were posted, and nothing else changed
@@ -97,7 +115,7 @@ module _ {S Q M A : Type 0} where
   serves_posts gives m a b os is posts =
       let p : HandlerView S Q M A = record a { outlets = os } in
       subst (λ (v : HandlerView S Q M A). Serves gives m a [] v) (sym is)
-      (record { port = refl; mark = refl; opening = refl; served_more = sym (append-nil a.served); moments = tt; run = meaning_none gives a.server; rings = each_posts_stays a.outlets os posts })
+      (record { port = refl; mark = refl; opening = refl; served_more = sym (append-nil a.served); moments = tt; run = meaning_none gives a.server; rings = each_posts_stays a.outlets os posts; takes = ([], sym (append-nil a.takes), refl) })
 
   -- waiting replies were offered to their rings, and nothing else changed
   pub serves_offers : (gives : S → Q → M → S → A → Type 0) (m : M) (a b : HandlerView S Q M A) (os : List (OutView (M × A))) → b ≡ record a { outlets = os } → EachOffers a.outlets os → Serves gives m a [] b
@@ -108,9 +126,9 @@ module _ {S Q M A : Type 0} where
 
   -- one packet was served, and its reply was sent
   pub serves_one : (gives : S → Q → M → S → A → Type 0) (q q' : TakeView Q) (d d' : DeskView S Q M A) (os os' : List (OutView (M × A))) (x : Serving Q M A)
-      → q'.port ≡ q.port → d'.opening ≡ d.opening → d'.mark ≡ d.mark → d'.served ≡ d.served ++ x ∷ [] → gives d.server x.packet x.moment d'.server x.answer
+      → q'.port ≡ q.port → q'.takes ≡ q.takes ++ Some (x.client, x.packet) ∷ [] → d'.opening ≡ d.opening → d'.mark ≡ d.mark → d'.served ≡ d.served ++ x ∷ [] → gives d.server x.packet x.moment d'.server x.answer
       → Each (SendsTo x.client (x.moment, x.answer)) os os' → Serves gives x.moment (handler_view q d os) (x ∷ []) (handler_view q' d' os')
-  serves_one gives q q' d d' os os' x port opening mark served meaning sends = record {
+  serves_one gives q q' d d' os os' x port takes opening mark served meaning sends = record {
     port = port;
     mark = mark;
     opening = opening;
@@ -118,6 +136,7 @@ module _ {S Q M A : Type 0} where
     moments = (refl, tt);
     run = meaning_one gives d.server d'.server x meaning;
     rings = sends_stays x.client (x.moment, x.answer) os os' sends;
+    takes = (Some (x.client, x.packet) ∷ [], takes, refl);
   }
 
   -- the parts still belong together after a packet was taken and served, and its reply was sent
@@ -130,13 +149,26 @@ module _ {S Q M A : Type 0} where
     sends.0 ∙ (h.2 ∙ sym (ap (λ (v : TakeView Q). v.clients) took.0)),
     replies_step d.served d'.served x os os' served sends h.3,
     subst (λ (v : TakeView Q). OfClients v.clients v.taken) (sym took.0) (of_clients_snoc q.clients x.client q.taken x.packet took.1 took.2 h.4),
+    found_step q q' (x.client, x.packet) took.0 h.5,
   )
+
+  -- a take found nothing, and nothing else changed
+  pub agree_none : (q q' : TakeView Q) (d : DeskView S Q M A) (os : List (OutView (M × A))) → q' ≡ record q { takes = q.takes ++ None ∷ [] } → Agree q d os → Agree q' d os
+  agree_none q q' d os is h =
+      subst (λ (v : TakeView Q). Agree v d os) (sym is)
+      (h.0, h.1, h.2, h.3, h.4, found_append q.takes (None ∷ []) ∙ (append-nil (found_in q.takes) ∙ h.5))
+
+  pub serves_nothing : (gives : S → Q → M → S → A → Type 0) (m : M) (a b c : HandlerView S Q M A) (xs : List (Serving Q M A)) → Serves gives m a xs b → c ≡ record b { takes = b.takes ++ None ∷ [] } → Serves gives m a xs c
+  serves_nothing gives m a b c xs h is =
+      let last : HandlerView S Q M A = record b { takes = b.takes ++ None ∷ [] } in
+      let one : Serves gives m b [] last = record { port = refl; mark = refl; opening = refl; served_more = sym (append-nil b.served); moments = tt; run = meaning_none gives b.server; rings = each_stays_refl b.outlets; takes = (None ∷ [], refl, refl) } in
+      subst (λ (v : HandlerView S Q M A). Serves gives m a xs v) (sym is) (subst (λ ys. Serves gives m a ys last) (append-nil xs) (serves_more gives m a b last xs [] h one))
 
   pub added_view : (q q' : TakeView Q) (d : DeskView S Q M A) (os os' : List (OutView (M × A))) (o : OutView (M × A)) (h : HandlerView S Q M A)
       → handler_view q d os ≡ h → q' ≡ record q { clients = q.clients + 1 } → os' ≡ os ++ o ∷ [] → handler_view q' d os' ≡ record h { outlets = h.outlets ++ o ∷ [] }
   added_view q q' d os os' o h is eq eos =
       subst (λ (x : HandlerView S Q M A). handler_view q' d os' ≡ record x { outlets = x.outlets ++ o ∷ [] }) is
-      (λ i. record { port = (eq i).port; mark = d.mark; opening = d.opening; served = d.served; server = d.server; outlets = eos i; knows = d.knows })
+      (λ i. record { port = (eq i).port; mark = d.mark; opening = d.opening; served = d.served; server = d.server; outlets = eos i; knows = d.knows; takes = (eq i).takes })
 
   pub added_end : (q q' : TakeView Q) (d : DeskView S Q M A) (os os' : List (OutView (M × A))) (o : OutView (M × A)) (h : HandlerView S Q M A) (e : ClientView Q M A)
       → handler_view q d os ≡ h → q' ≡ record q { clients = q.clients + 1 } → os' ≡ os ++ o ∷ [] → length os ≡ q.clients

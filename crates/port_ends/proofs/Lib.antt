@@ -1,5 +1,5 @@
 -- Lemmas on runs and counts of events: a dead port stays closed, replies come in order, a history is lawful, and lawful lists
--- have a history. Then lemmas on the queue and its rule, on served packets, on the rings, on gathering the ends, and on the close.
+-- have a history. Then lemmas on the queue and its rule, on served packets, on the handler's takes, on the rings, on gathering the ends, and on the close.
 pub mod Numbers
 pub mod Serving
 pub mod Events
@@ -11,6 +11,7 @@ pub mod Packets
 pub mod Moves
 pub mod Runs
 pub mod Handling
+pub mod Takes
 pub mod Eachs
 pub mod Drains
 pub mod Gathers

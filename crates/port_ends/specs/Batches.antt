@@ -1,6 +1,7 @@
 -- The results of the handler's batches.
-use Rattle.std.specs.Prelude.{◌≡◌, ◌⊎◌, ℕ, Bool, true, false, List, length}
+use Rattle.std.specs.Prelude.{◌≡◌, ◌⊎◌, ℕ, Bool, true, false, List, [], ◌∷◌, ◌++◌, length, map, replicate, Option, Some, None}
 use Rattle.port_ends.specs.History.{ServerMeaning, Serving}
+use Rattle.port_ends.specs.Lawful.{packets_of}
 use Rattle.port_ends.specs.declared.handler.ServeEnd.{ServeEnd}
 use Rattle.port_ends.specs.declared.handler.ServeEnd.TheVariants.{Closed, Idle}
 use Rattle.port_ends.specs.Rings.{EachOffers}
@@ -18,6 +19,19 @@ module _ {S Q M A : Type 0} where
   -- waiting replies were offered to their rings, and nothing else changed
   abbrev pub OnlyOffers : HandlerView S Q M A → HandlerView S Q M A → Type 0
   OnlyOffers old new = (new ≡ record old { outlets = new.outlets }) × EachOffers old.outlets new.outlets
+
+  -- the takes of a batch that served this many packets: each packet was found by one, in order. If they are fewer than the
+  -- limit, one more take found nothing, or the count of served packets is at its maximum
+  abbrev pub TakesUpTo : ℕ → HandlerView S Q M A → ℕ → HandlerView S Q M A → Type 0
+  TakesUpTo limit old count new =
+      (packets : List (ℕ × Q)) × (length packets ≡ count) × (packets_of new.served ≡ packets_of old.served ++ packets)
+      × (((new.takes ≡ old.takes ++ map Some packets) × ((count ≡ limit) ⊎ (length new.served ≡ 18446744073709551615)))
+      ⊎ (new.takes ≡ old.takes ++ (map Some packets ++ None ∷ [])))
+
+  -- the last takes, this many, found nothing, or the count of served packets is at its maximum
+  abbrev pub LastFoundNothing : ℕ → HandlerView S Q M A → Type 0
+  LastFoundNothing times h =
+      ((before : List (Option (ℕ × Q))) × (h.takes ≡ before ++ replicate times None)) ⊎ (length h.served ≡ 18446744073709551615)
 
 -- batches end as closed if the server has died, and otherwise as idle
 abbrev pub EndsAs : ServeEnd → Bool → Type 0

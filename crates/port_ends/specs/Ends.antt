@@ -1,5 +1,5 @@
 -- The visible state of a port's ends.
-use Rattle.std.specs.Prelude.{◌≡◌, ◌⊎◌, ◌||◌, ℕ, ◌+◌, ◌≤◌, Bool, true, false, List, [], ◌∷◌, ◌++◌, length, map, Some, slice_get}
+use Rattle.std.specs.Prelude.{◌≡◌, ◌⊎◌, ◌||◌, ℕ, ◌+◌, ◌≤◌, Bool, true, false, List, [], ◌∷◌, ◌++◌, length, map, filter_map, Option, Some, slice_get}
 use Rattle.std.specs.declared.alloc.Global.{Global}
 use Rattle.crossbeam_queue.specs.SegTies.{SegId}
 use Rattle.port_ends.specs.declared.step.Reply.{Reply}
@@ -21,7 +21,8 @@ pub record ClientView (Q M A : Type 0) : Type 0 where
   pub knows : Bool
 
 -- the handler's end: its port and mark, the opening server, the served packets, the current server, the posted and
--- waiting replies of each client, and whether it knows that the mark is set
+-- waiting replies of each client, whether it knows that the mark is set, and what each take of the port's queue found: a
+-- client's packet, or nothing
 pub record HandlerView (S Q M A : Type 0) : Type 0 where
   pub port : SegId Global
   pub mark : ℕ
@@ -30,6 +31,11 @@ pub record HandlerView (S Q M A : Type 0) : Type 0 where
   pub server : S
   pub outlets : List (OutView (M × A))
   pub knows : Bool
+  pub takes : List (Option (ℕ × Q))
+
+-- the packets that these takes found, in order
+abbrev pub found_in : {X : Type 0} → List (Option X) → List X
+found_in takes = filter_map (λ found. found) takes
 
 -- each packet belongs to one of the clients 1 to n
 abbrev pub OfClients : {Q : Type 0} → ℕ → List (ℕ × Q) → Type 0
@@ -80,9 +86,9 @@ module _ {S Q M A : Type 0} where
   abbrev pub AreEnds : HandlerView S Q M A → List (ClientView Q M A) → Type 0
   AreEnds h cs = (length cs ≡ length h.outlets) × ((k : ℕ) (c : ClientView Q M A) → slice_get cs k ≡ Some c → IsEndOf h k c)
 
-  -- a port over this server, with nothing served
+  -- a port over this server, with nothing taken or served
   abbrev pub IsNew : S → HandlerView S Q M A → Type 0
-  IsNew server h = (h.opening ≡ server) × (h.server ≡ server) × (h.served ≡ []) × (h.knows ≡ false)
+  IsNew server h = (h.opening ≡ server) × (h.server ≡ server) × (h.served ≡ []) × (h.knows ≡ false) × (h.takes ≡ [])
 
   -- a port over this server with this many clients and ring places; nothing was put, served or taken
   abbrev pub IsOpened : S → ℕ → ℕ → HandlerView S Q M A → List (ClientView Q M A) → Type 0
@@ -99,6 +105,8 @@ module _ {S Q M A : Type 0} where
     pub replies : (k : ℕ) (o : OutView (M × A)) → slice_get h.outlets k ≡ Some o → all_of o ≡ replies_to (k + 1) h.served
     -- each served packet belongs to one of these clients
     pub clients : OfClients (length h.outlets) (packets_of h.served)
+    -- the packets that its takes found are the served ones, in this order
+    pub taken : found_in h.takes ≡ packets_of h.served
 
   -- these packets were served at this time stamp, from the old server to the new one; posted replies stay posted
   pub record Serves (gives : ServerMeaning S Q M A) (moment : M)
@@ -110,3 +118,5 @@ module _ {S Q M A : Type 0} where
     pub moments : AllAt moment served
     pub run : MeaningRun gives old.server served new.server
     pub rings : EachStaysPosted old.outlets new.outlets
+    -- the takes meanwhile found these packets, in this order
+    pub takes : (more : List (Option (ℕ × Q))) × (new.takes ≡ old.takes ++ more) × (found_in more ≡ packets_of served)

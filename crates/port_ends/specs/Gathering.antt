@@ -1,9 +1,13 @@
 -- What remains of a port when all its ends are held at once.
-use Rattle.std.specs.Prelude.{List, [], ◌∷◌, map, Vec}
+use Rattle.std.specs.Prelude.{◌≡◌, List, [], ◌∷◌, ◌++◌, map, Option, Some, None, Vec}
 use Rattle.std.specs.declared.alloc.Global.{Global}
 use Rattle.port_ends.specs.declared.step.Reply.{Reply}
 use Rattle.port_ends.specs.Lawful.{ClientLists, numbered}
 use Rattle.port_ends.specs.Ends.{ClientView}
+
+-- after the old takes, one take found each of these packets, in their order, and then one found nothing
+abbrev pub TakesRest : {X : Type 0} → List (Option X) → List X → List (Option X) → Type 0
+TakesRest old packets new = new ≡ old ++ (map Some packets ++ None ∷ [])
 
 module _ {M A : Type 0} where
   -- the answers in these replies

@@ -1,15 +1,15 @@
 //! Gathers the ends of a port.
-ghost use Rattle.std.specs.Prelude.{◌≡◌, ℕ, ◌+◌, ◌<◌, ◌≤◌, ◌++◌, ◌∷◌, [], map, length, vec_capacity, Some, slice_get, IfOk, IfErr, IfSome, IsTrue};
+ghost use Rattle.std.specs.Prelude.{◌≡◌, ℕ, ◌+◌, ◌<◌, ◌≤◌, ◌++◌, ◌∷◌, [], map, length, vec_capacity, Some, None, slice_get, IfOk, IfErr, IfSome, IsTrue};
 ghost use Rattle.port_ends.specs.Lawful.{Lawful};
 ghost use Rattle.port_ends.specs.Ends.{OfClients, AreEnds, CloseMeansDeath};
 ghost use Rattle.port_ends.specs.steps.Rule.{ArePutLists, total};
 ghost use Rattle.port_ends.specs.steps.Rooms.{OnlyElement, RoomsFit, HasRoomAt, AreOutletsOf, LeftAt, AllLeft};
 ghost use Rattle.port_ends.specs.steps.HandlerEnds.{AllHeard};
-ghost use Rattle.port_ends.specs.Gathering.{all_lists};
+ghost use Rattle.port_ends.specs.Gathering.{all_lists, TakesRest};
 
 use crate::client::ClientEnd;
 use crate::handler::HandlerEnd;
-use crate::queue::TakeEnd;
+use crate::queue::{TakeEnd, TakeHistory};
 use crate::ring::Outlet;
 use crate::{Reply, Server};
 use std::alloc::Global;
@@ -50,7 +50,7 @@ fn take_rest<Q: Drop, R: Wait>(
     requires gathered { length queue.old.known ≡ queue.old.clients }
     requires empty { unanswered.items ≡ [] }
     requires room { total queue.old.known ≤ length queue.old.taken + vec_capacity unanswered }
-    ensures order { queue.new ≡ record queue.old { taken = queue.old.taken ++ result.items } }
+    ensures order { queue.new ≡ record queue.old { taken = queue.old.taken ++ result.items; takes = queue.old.takes ++ (map Some result.items ++ None ∷ []) } }
     ensures clients { OfClients queue.new.clients queue.new.taken }
     ensures puts { ArePutLists queue.new.known queue.new.taken }
 {
@@ -92,12 +92,13 @@ fn take_in<S: Server>(
 }
 
 /// What remains of a port: the server, the unserved packets, each with its client's number and in the order of the
-/// port, and each client's untaken replies.
+/// port, each client's untaken replies, and what each take of the port's queue found, which only contracts see.
 #[derive(Drop)]
 pub struct Gathered<S: Server> {
     pub server: S,
     pub unanswered: Vec<(usize, S::Request)>,
     pub untaken: Vec<Replies<S>>,
+    pub takes: TakeHistory<S::Request>,
 }
 
 /// Ends that were not gathered, unchanged.
@@ -180,6 +181,7 @@ fn finish<S: Server, R: Wait>(
     requires heard { AllHeard S.is_closing (S.has_died handler.server) clients.items }
     ensures lawful { Lawful S.gives handler.opening (all_lists clients.items result.untaken.items) handler.served
         result.unanswered.items result.server }
+    ensures order { TakesRest handler.takes result.unanswered.items result.takes }
     ensures clients { length result.untaken.items ≡ length clients.items }
     ensures closed { CloseMeansDeath clients.items (S.has_died result.server) }
 {
@@ -191,12 +193,14 @@ fn finish<S: Server, R: Wait>(
         server,
         unanswered,
         untaken,
+        takes: queue.into_takes(),
     }
 }
 
 /// Gathers all ends of one port, in order of client, after their threads have handed them back.
 ///
-/// If an end knows of the close, the returned server has died.
+/// The unserved packets are in the order of the port: they are what further takes found, one after another, until one
+/// found nothing. If an end knows of the close, the returned server has died.
 ///
 /// All memory is reserved before the first change. A refusal means that memory ran out, or that an end finds the
 /// closing mark set and the handler's end has not set it, which no run can show. It hands all ends back unchanged, so
@@ -210,6 +214,7 @@ pub fn gather<S: Server, R: Wait>(
     requires { AreEnds handler clients.items }
     ensures lawful { IfOk result (λ r. Lawful S.gives handler.opening (all_lists clients.items r.untaken.items) handler.served
         r.unanswered.items r.server) }
+    ensures order { IfOk result (λ r. TakesRest handler.takes r.unanswered.items r.takes) }
     ensures clients { IfOk result (λ r. length r.untaken.items ≡ length clients.items) }
     ensures closed { IfOk result (λ r. CloseMeansDeath clients.items (S.has_died r.server)) }
     ensures refused { IfErr result (λ e. (e.handler ≡ handler) × (e.clients.items ≡ clients.items)) }

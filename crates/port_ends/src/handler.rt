@@ -5,7 +5,7 @@ ghost use Rattle.port_ends.specs.steps.Sending.{EachGetsRoom, EachHasRoom};
 ghost use Rattle.port_ends.specs.steps.HandlerEnds.{AddsClientEnd, Heard, IsQueueOf};
 ghost use Rattle.port_ends.specs.steps.Rooms.{HasUntaken};
 ghost use Rattle.port_ends.specs.Ends.{HandlerView, IsNew, IsSound};
-ghost use Rattle.port_ends.specs.Batches.{ServesSome, ServesSoMany, OnlyOffers, EndsAs, empty_batches};
+ghost use Rattle.port_ends.specs.Batches.{ServesSome, ServesSoMany, OnlyOffers, TakesUpTo, LastFoundNothing, EndsAs, empty_batches};
 
 use crate::Server;
 use crate::bell::Rest;
@@ -84,8 +84,9 @@ impl<S: Server> HandlerEnd<S> {
     /// Posts waiting replies, then takes at most `limit` packets, serves each at this time stamp, and returns their
     /// number.
     ///
-    /// It takes fewer packets if a take finds none. A reply waits in the list beside its ring if the ring is full or
-    /// other replies of its client still wait. After `NoMemory` nothing was served; posted replies stay posted.
+    /// It takes fewer packets only if a take found none, or the count of served packets is at its maximum. A reply waits
+    /// in the list beside its ring if the ring is full or other replies of its client still wait. After `NoMemory`
+    /// nothing was served; posted replies stay posted.
     pub fn serve_batch<R: Wait>(
         &mut self,
         rt: &R,
@@ -93,6 +94,7 @@ impl<S: Server> HandlerEnd<S> {
         limit: usize,
     ) -> Result<usize, ServeFault>
         ensures ok { IfOk result (λ m. (m ≤ limit) × ServesSoMany S.gives moment self.old m self.new) }
+        ensures takes { IfOk result (λ m. TakesUpTo limit self.old m self.new) }
         ensures err { OnErr result (OnlyOffers self.old self.new) }
         ensures first { EachOffersFirst self.old.outlets self.new.outlets }
         ensures sound { IsSound S.gives S.has_died self.new }
@@ -158,6 +160,7 @@ impl<S: Server> HandlerEnd<S> {
         requires { 0 < idle_limit }
         ensures served { ServesSome S.gives moment self.old self.new }
         ensures end { IfOk result (λ end. EndsAs end (S.has_died self.new.server)) }
+        ensures takes { IfOk result (λ end. LastFoundNothing (empty_batches end idle_limit) self.new) }
         ensures batches { IfOk result (λ end. EachLooked (empty_batches end idle_limit) self.old.outlets self.new.outlets) }
         ensures sound { IsSound S.gives S.has_died self.new }
     {

@@ -24,5 +24,6 @@ pub use gathering::{GatherRefused, Gathered, gather};
 pub use handler::{HandlerEnd, ServeEnd, ServeFault};
 pub use laws::{closed_after_death, lists_have_a_history};
 pub use open::{OpenRefused, open_port};
+pub use queue::TakeHistory;
 pub use server::Server;
 pub use step::{Outcome, PutRefused, Reply, Step};

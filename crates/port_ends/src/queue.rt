@@ -4,8 +4,10 @@ ghost use Rattle.port_ends.specs.steps.QueueCalls.{AddsPacket, HandsBack, AddsPu
 
 use crate::bell::Bell;
 use crate::seat::{Gathers, Opens, Port, PortPass, Puts, Takes};
+use crate::trail::Trail;
 use std::alloc::{AllocError, Global};
 use std::marker::Model;
+use std::snapshot::Snapshot;
 use std::sync::{Arc, Wait};
 
 // The queue that all ends share, and the handler's bell.
@@ -86,12 +88,42 @@ impl<Q: Drop> PutEnd<Q> {
     }
 }
 
-/// The handler's end of the queue.
+/// What each take of a port's queue found, oldest first: a packet with its client's number, or nothing. Only contracts
+/// see it, it takes no bytes, and only a take adds to it.
+#[derive(Drop)]
+pub struct TakeHistory<Q> {
+    past: Trail<Snapshot<Option<(usize, Q)>>>,
+}
+
+impl<Q> Model for TakeHistory<Q> {
+    ghost use Rattle.std.specs.Prelude.{ℕ, List, Option, map};
+
+    ghost Value = { List (Option (ℕ × Q)) };
+
+    ghost view = { λ t. map (λ found. found.value) t.past };
+}
+
+impl<Q: Drop> TakeHistory<Q> {
+    fn new() -> TakeHistory<Q>
+        ensures { result ≡ [] }
+    {
+        TakeHistory { past: Trail::new() }
+    }
+
+    fn note(&mut self, found: &Option<(usize, Q)>)
+        ensures { self.new ≡ self.old ++ found.now ∷ [] }
+    {
+        self.past.push(Snapshot::of(found));
+    }
+}
+
+/// The handler's end of the queue. It notes what each take found.
 #[derive(Drop)]
 pub struct TakeEnd<Q: Drop> {
     port: Arc<PortBox<Q>, Global>,
     pass: PortPass<Q>,
     clients: usize,
+    takes: TakeHistory<Q>,
 }
 
 impl<Q: Drop> Model for TakeEnd<Q> {
@@ -102,14 +134,14 @@ impl<Q: Drop> Model for TakeEnd<Q> {
 
     ghost Value = { TakeView Q };
 
-    ghost view = { λ e. take_view (arc_value e.port).queue e.clients e.pass.me.view.client };
+    ghost view = { λ e. take_view (arc_value e.port).queue e.clients e.takes e.pass.me.view.client };
 
     ghost invariant = { λ e. IsSegPassOf (arc_value e.port).queue e.pass × IsTakePass e.clients e.pass.me.view.client };
 }
 
 /// Makes a queue with no client yet.
 pub fn open_queue<Q: Drop>(alloc: Global) -> Result<TakeEnd<Q>, AllocError>
-    ensures { IfOk result (λ e. (e.clients ≡ 0) × (e.taken ≡ []) × (e.known ≡ [])) }
+    ensures { IfOk result (λ e. (e.clients ≡ 0) × (e.taken ≡ []) × (e.known ≡ []) × (e.takes ≡ [])) }
 {
     let (queue, pass) = Port::with_rule(alloc)?;
     let bell = Bell::new();
@@ -118,6 +150,7 @@ pub fn open_queue<Q: Drop>(alloc: Global) -> Result<TakeEnd<Q>, AllocError>
         port,
         pass,
         clients: 0,
+        takes: TakeHistory::new(),
     })
 }
 
@@ -144,12 +177,14 @@ impl<Q: Drop> TakeEnd<Q> {
         })
     }
 
-    /// Takes the first packet. If none waits, everything that gathered clients put was taken.
+    /// Takes the first packet, and notes what it found. If none waits, everything that gathered clients put was taken.
     pub fn take<R: Wait>(&mut self, rt: &R) -> Option<(usize, Q)>
         ensures took { IfSome result (λ packet. TakesPacket self.old self.new packet) }
         ensures none { IfNone result (FindsNothing self.old self.new) }
     {
-        self.port.queue.pop_as::<Takes, R>(rt, &mut self.pass)
+        let found = self.port.queue.pop_as::<Takes, R>(rt, &mut self.pass);
+        self.takes.note(&found);
+        found
     }
 
     /// Takes in the end of the next client.
@@ -160,5 +195,13 @@ impl<Q: Drop> TakeEnd<Q> {
     {
         let PutEnd { pass, .. } = end;
         self.port.queue.absorb::<Gathers>(&mut self.pass, pass);
+    }
+
+    /// Gives up the end, and hands out what its takes found.
+    pub fn into_takes(self) -> TakeHistory<Q>
+        ensures { result ≡ self.takes }
+    {
+        let TakeEnd { takes, .. } = self;
+        takes
     }
 }

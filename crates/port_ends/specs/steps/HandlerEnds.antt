@@ -26,6 +26,6 @@ module _ {S Q M A : Type 0} where
   abbrev pub AddsClientEnd : ℕ → HandlerView S Q M A → HandlerView S Q M A → ClientView Q M A → Type 0
   AddsClientEnd ring old new end = IsFresh end × ((o : OutView (M × A)) × AddsOutlet ring old new end o)
 
-  -- this queue's end took the served packets, and no client is gathered
+  -- this queue's end took the served packets, by the handler's takes, and no client is gathered
   abbrev pub IsQueueOf : HandlerView S Q M A → TakeView Q → Type 0
-  IsQueueOf h q = (q.port ≡ h.port) × (q.taken ≡ packets_of h.served) × (q.known ≡ []) × (q.clients ≡ length h.outlets)
+  IsQueueOf h q = (q.port ≡ h.port) × (q.taken ≡ packets_of h.served) × (q.known ≡ []) × (q.clients ≡ length h.outlets) × (q.takes ≡ h.takes)

@@ -1,5 +1,5 @@
 -- The effect of the calls of the queue's ends.
-use Rattle.std.specs.Prelude.{◌≡◌, ℕ, ◌+◌, ◌≤◌, [], ◌∷◌, ◌++◌, length}
+use Rattle.std.specs.Prelude.{◌≡◌, ℕ, ◌+◌, ◌≤◌, [], ◌∷◌, ◌++◌, Some, None, length}
 use Rattle.port_ends.specs.Ends.{OfClients}
 use Rattle.port_ends.specs.steps.QueueEnds.{PutView, TakeView}
 use Rattle.port_ends.specs.steps.Rule.{ArePutLists, total}
@@ -17,12 +17,12 @@ module _ {Q : Type 0} where
   abbrev pub AddsPutEnd : TakeView Q → TakeView Q → PutView Q → Type 0
   AddsPutEnd old new end = (end ≡ record { port = old.port; number = old.clients + 1; put = [] }) × (new ≡ record old { clients = old.clients + 1 })
 
-  -- a client's packet was taken; if all clients are gathered, no more packets were taken than they put
+  -- a take found a client's packet; if all clients are gathered, no more packets were taken than they put
   abbrev pub TakesPacket : TakeView Q → TakeView Q → ℕ × Q → Type 0
   TakesPacket old new packet =
-      (new ≡ record old { taken = old.taken ++ packet ∷ [] })
+      (new ≡ record old { taken = old.taken ++ packet ∷ []; takes = old.takes ++ Some packet ∷ [] })
       × (1 ≤ packet.0) × (packet.0 ≤ old.clients) × (length old.known ≡ old.clients → length new.taken ≤ total old.known)
 
-  -- nothing waits: the taken packets are the clients', and include everything that gathered clients put
+  -- a take found nothing: the taken packets are the clients', and include everything that gathered clients put
   abbrev pub FindsNothing : TakeView Q → TakeView Q → Type 0
-  FindsNothing old new = (new ≡ old) × OfClients old.clients old.taken × ArePutLists old.known old.taken
+  FindsNothing old new = (new ≡ record old { takes = old.takes ++ None ∷ [] }) × OfClients old.clients old.taken × ArePutLists old.known old.taken

@@ -2,7 +2,7 @@
 use Rattle.std.specs.Prelude.{◌≡◌, ◌+◌, ◌||◌, ℕ, Bool, List, [], length, Some, slice_get}
 use Rattle.port_ends.specs.Lawful.{packets_of}
 use Rattle.port_ends.specs.Rings.{OutView, all_of}
-use Rattle.port_ends.specs.Ends.{ClientView, HandlerView, OfClients, replies_to}
+use Rattle.port_ends.specs.Ends.{ClientView, HandlerView, OfClients, found_in, replies_to}
 use Rattle.port_ends.specs.steps.ClosingMark.{CloseView}
 use Rattle.port_ends.specs.steps.QueueEnds.{PutView, TakeView}
 use Rattle.port_ends.specs.steps.Sending.{InView}
@@ -31,12 +31,14 @@ handler_view queue desk outlets = record {
   server = desk.server;
   outlets = outlets;
   knows = desk.knows;
+  takes = queue.takes;
 }
 
 -- these parts belong together: the taken packets, each of a client, are those that were served, no client is gathered,
--- and each client has an outlet, with the replies to its packets
+-- each client has an outlet, with the replies to its packets, and the taken packets are those that the takes found
 abbrev pub Agree : {S Q M A : Type 0} → TakeView Q → DeskView S Q M A → List (OutView (M × A)) → Type 0
 Agree {M = M} {A = A} queue desk outlets =
     (packets_of desk.served ≡ queue.taken) × (queue.known ≡ []) × (length outlets ≡ queue.clients)
     × ((k : ℕ) (o : OutView (M × A)) → slice_get outlets k ≡ Some o → all_of o ≡ replies_to (k + 1) desk.served)
     × OfClients queue.clients queue.taken
+    × (found_in queue.takes ≡ queue.taken)

@@ -1,28 +1,12 @@
-use Rattle.std.proofs.Common.{◌≡◌, [], map, sym}
-use Rattle.port_ends.proofs.Handling.{serves_none}
-use Rattle.ados_port.proofs.Growth.{ends_after, some_more, some_offers}
-use Rattle.ados_port.proofs.Joins.{did_alike, first_ok}
+use Rattle.std.proofs.Common.{◌≡◌, map, sym}
+use Rattle.port_ends.specs.Batches.{LastFoundNothing}
+use Rattle.ados_port.proofs.Growth.{ends_after}
+use Rattle.ados_port.proofs.Joins.{did_alike, first_ok, second_ok}
 use Rattle.ados_port.proofs.serve.serve_clients.Goals as goal
-use Rattle.ados_port.proofs.serve.serve_clients.Goals.{in-None, in-Some+in-Ok-eq0, in-Some+in-Err}
 
-pub loop-init : goal.loop-init
-loop-init g c = ([], serves_none g.S.Server.gives _ _)
-
-pub loop-preserved-in-Ok-eq0-2 : goal.loop-preserved-in-Ok-eq0-2
-loop-preserved-in-Ok-eq0-2 g c = some_more g.S.Server.gives _ _ _ _ _ c.loop.invariant c.in-Ok-eq0-2.ensures-1.ok.1
-
-pub loop-preserved-in-Ok : goal.loop-preserved-in-Ok
-loop-preserved-in-Ok g c = some_more g.S.Server.gives _ _ _ _ _ c.loop.invariant c.in-Ok.ensures.ok.1
-
-pub loop-preserved : goal.loop-preserved
-loop-preserved g c = some_offers g.S.Server.gives _ _ _ _ c.loop.invariant c.in-Err-2.ensures.err
-
-pub returns-clause-handler : goal.returns-clause-handler
-returns-clause-handler g c = elim c.match-next.branch [
-  | in-None w ↦ rw w.handler-is c.loop.invariant
-  | in-Some+in-Ok-eq0 w ↦ rw w.handler-is (some_more g.S.Server.gives _ _ _ _ _ c.loop.invariant w.in-Ok-eq0.ensures.ok.1)
-  | in-Some+in-Err w ↦ rw w.handler-is (some_offers g.S.Server.gives _ _ _ _ c.loop.invariant w.in-Err.ensures.err)
-]
+pub returns-clause-last : goal.returns-clause-last
+returns-clause-last g c =
+    second_ok (LastFoundNothing 1 c.serve_until_ended-served.new.handler) _ _ _ (sym c.in_ok-and.ensures) c.serve_until_ended-served.ensures.last
 
 pub returns-clause-clients : goal.returns-clause-clients
 returns-clause-clients g c =
@@ -35,5 +19,5 @@ returns-clause-clients g c =
 pub returns-clause-all : goal.returns-clause-all
 returns-clause-all g c =
     let d = returns-clause-clients g c in
-    let s = returns-clause-handler g c in
+    let s = c.serve_until_ended-served.ensures.served in
     ends_after g.S.Server.gives _ _ _ s.0 _ _ c.requires.all s.1 d.0 (λ k o at. let e = d.2 k o at in (e.1, e.4, e.6.0))

@@ -11,7 +11,7 @@ loop-preserved g c =
     let is = added.0 in
     let items = c.push_reserved.ensures.items ∙ ap (λ l. l ++ c.in-Ok.end ∷ []) c.reserve.ensures.items in
     record {
-      new = (ap (λ v. v.opening) is ∙ h.new.0, ap (λ v. v.server) is ∙ h.new.1, ap (λ v. v.served) is ∙ h.new.2, ap (λ v. v.knows) is ∙ h.new.3);
+      new = (ap (λ v. v.opening) is ∙ h.new.0, ap (λ v. v.server) is ∙ h.new.1, ap (λ v. v.served) is ∙ h.new.2, ap (λ v. v.knows) is ∙ h.new.3, ap (λ v. v.takes) is ∙ h.new.4);
       empty = each_more (λ o. (o.posted ≡ []) × (o.waiting ≡ [])) _ _ a.1.0 (ap (λ v. v.outlets) is) h.empty (added.1, added.2);
       ends = subst (λ l. AreEnds c.add_client.new.self l) (sym items) (ends_more _ _ _ _ _ is h.ends added.3);
       fresh = each_more IsFresh _ _ _ items h.fresh a.0;

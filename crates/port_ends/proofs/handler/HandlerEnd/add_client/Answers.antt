@@ -1,7 +1,7 @@
 use Rattle.std.proofs.Common.{ap, sym, subst, ◌∙◌, ◌+◌, ℕ, length, length-append, ◌∷◌, [], ◌++◌}
 use Rattle.port_ends.proofs.Handling.{fresh_step, added_view, added_end}
 use Rattle.port_ends.proofs.Packets.{of_clients_more}
-use Rattle.port_ends.specs.Ends.{OfClients}
+use Rattle.port_ends.specs.Ends.{OfClients, found_in}
 use Rattle.port_ends.proofs.handler.HandlerEnd.add_client.Goals as goal
 
 pub invariant_of-self-2 : goal.invariant_of-self-2
@@ -14,6 +14,7 @@ invariant_of-self-2 g c =
       ap (λ l. length l) items ∙ (length-append _ _ ∙ (ap (λ (n : ℕ). n + 1) h.2 ∙ sym (ap (λ v. v.clients) q))),
       fresh_step _ _ _ _ (ap (λ v. v.served) c.self.view_is ∙ c.requires.served) items c.in_ok-outlet.ensures.1 c.in_ok-outlet.ensures.2 h.3,
       subst (λ v. OfClients v.clients v.taken) (sym q) (of_clients_more _ _ h.4),
+      ap (λ v. found_in v.takes) q ∙ (h.5 ∙ sym (ap (λ v. v.taken) q)),
     )
 
 pub returns-clause-ok : goal.returns-clause-ok

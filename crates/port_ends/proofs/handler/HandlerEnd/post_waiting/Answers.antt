@@ -14,4 +14,4 @@ post_all-requires g c =
 pub invariant_of-self : goal.invariant_of-self
 invariant_of-self g c =
     let h = c.self.invariant in
-    (h.0, h.1, c.post_all.ensures.offers.0 ∙ h.2, posts_said _ _ _ (each_offers_posts _ _ c.post_all.ensures.offers) h.3, h.4)
+    (h.0, h.1, c.post_all.ensures.offers.0 ∙ h.2, posts_said _ _ _ (each_offers_posts _ _ c.post_all.ensures.offers) h.3, h.4, h.5)
