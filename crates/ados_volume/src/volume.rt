@@ -34,7 +34,8 @@ impl Model for Volume {
 
     ghost view = { λ volume. record { image = volume.image; was_validated = volume.was_validated } };
 
-    ghost invariant = { λ volume. IsSoundVolume volume.image volume.names.pairs.entries volume.told.entries.entries volume.places.places.entries volume.free_from };
+    ghost invariant = { λ volume. IsSoundVolume volume.image volume.names.pairs.entries volume.told.entries.entries
+        volume.places.places.entries volume.free_from };
 }
 
 impl Volume {

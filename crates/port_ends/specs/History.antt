@@ -1,6 +1,8 @@
--- A port, the packets that its server has served, and its history, by counts of the events before each step. A put appends
--- its packet and a serve removes the first one, as PutMsg and GetMsg do (ROM Kernel Manual, message ports).
-use Rattle.std.specs.Prelude.{ℕ, ◌-◌, ◌==◌, if◌then◌else◌, List, [], slice_get, replicate, Option, option_map, None, ◌≡◌, ◌∷◌, map, filter, ◌⊎◌, ◌+◌, Bool, ◌++◌, length, take, drop, Some, MatchOption, MatchBool, true, filter_map}
+-- A port, the packets that its server has served, and its history, by counts of the events before each step. A put
+-- appends its packet and a serve removes the first one, as PutMsg and GetMsg do (ROM Kernel Manual, message ports).
+use Rattle.std.specs.Prelude.{ℕ, ◌-◌, ◌==◌, if◌then◌else◌, List, [], slice_get, replicate, Option, option_map, None}
+use Rattle.std.specs.Prelude.{◌≡◌, ◌∷◌, map, filter, ◌⊎◌, ◌+◌, Bool, ◌++◌, length, take, drop, Some, MatchOption}
+use Rattle.std.specs.Prelude.{MatchBool, true, filter_map}
 pub use Rattle.port_ends.specs.declared.step.{Step.Step, Outcome.Outcome, Reply.Reply}
 use Rattle.port_ends.specs.declared.step.Step.TheVariants.{Put, Serve, Take}
 use Rattle.port_ends.specs.declared.step.PutRefused.TheVariants.{Closed, NoRoom}
@@ -24,7 +26,12 @@ client_state clients number = if number == 0 then None else slice_get clients (n
 
 -- a port with this many clients, before any put
 abbrev pub opening_port : {S Q A : Type 0} → S → ℕ → PortState S Q A
-opening_port server clients = record { server = server; clients = replicate clients (record { accepted = 0; taken = 0; untaken = [] }); waiting = [] }
+opening_port server clients =
+    record {
+      server = server;
+      clients = replicate clients (record { accepted = 0; taken = 0; untaken = [] });
+      waiting = [];
+    }
 
 -- a served packet: its client, the time stamp, and the answer
 pub record Serving (Q M A : Type 0) : Type 0 where
@@ -109,7 +116,8 @@ client_now served before number c = record {
   untaken = drop (taken_count number before) (c.untaken ++ packets_by number (map (λ s. (s.client, s.answer)) served));
 }
 
--- the outcome of a put: closed exactly if the server is dead; otherwise accepted with the client's next number, or no room
+-- the outcome of a put: closed exactly if the server is dead; otherwise accepted with the client's next number, or no
+-- room
 abbrev pub PutFits : {Q A : Type 0} → Bool → Q → ClientState A → Outcome Q A → Type 0
 PutFits died packet c outcome =
     MatchBool died (outcome ≡ Refused (Closed packet))
@@ -121,7 +129,8 @@ take_outcome taken [] = Nothing
 take_outcome taken (answer ∷ answers) = Taken (record { number = taken + 1; answer = answer })
 
 -- the outcome fits the state before the step: the packets served so far, whether the server was dead, and the events
-abbrev pub OutcomeFits : {S Q M A : Type 0} → PortState S Q A → List (Serving Q M A) → Bool → List (Event Q M A) → Step Q M → Outcome Q A → Type 0
+abbrev pub OutcomeFits : {S Q M A : Type 0} → PortState S Q A → List (Serving Q M A) → Bool → List (Event Q M A)
+    → Step Q M → Outcome Q A → Type 0
 OutcomeFits opening served died before (Put client packet) outcome =
     MatchOption (client_state opening.clients client) (outcome ≡ NoClient (Some packet))
     (λ c. PutFits died packet (client_now served before client c) outcome)
@@ -137,19 +146,22 @@ server_by before opening servers = last_server opening (take (served_count befor
 
 -- these steps at a port had these outcomes, and led to the closing port
 pub record PortHistory {S Q M A : Type 0} (gives : ServerMeaning S Q M A) (has_died : S → Bool)
-    (opening : PortState S Q A) (steps : List (Step Q M)) (outcomes : List (Outcome Q A)) (closing : PortState S Q A) : Type 0 where
+    (opening : PortState S Q A) (steps : List (Step Q M)) (outcomes : List (Outcome Q A)) (closing : PortState S Q A)
+    : Type 0 where
   -- each served packet with its answer, and the server after it
   pub served : List (Serving Q M A)
   pub servers : List S
   pub meaning : Run gives opening.server served servers
   -- the served packets are the first ones of the port, each with the time stamp of its serve
-  pub in_order : map (λ s. (s.client, s.packet)) served ≡ take (length served) (queue opening (events_of steps outcomes))
+  pub in_order : map (λ s. (s.client, s.packet)) served ≡ take (length served)
+      (queue opening (events_of steps outcomes))
   pub moments : map (λ s. s.moment) served ≡ moments_in (events_of steps outcomes)
   -- there is an outcome for each step, and it fits the state before it
   pub as_long : length outcomes ≡ length steps
   pub fits : (i : ℕ) (e : Event Q M A) → slice_get (events_of steps outcomes) i ≡ Some e
       → let before = take i (events_of steps outcomes)
-      in OutcomeFits opening (take (served_count before) served) (has_died (server_by before opening.server servers)) before e.step e.outcome
+      in OutcomeFits opening (take (served_count before) served)
+      (has_died (server_by before opening.server servers)) before e.step e.outcome
   -- the closing port: the server after the last packet, the packets not served, and the counts of each client
   pub closing_server : closing.server ≡ last_server opening.server servers
   pub closing_waiting : closing.waiting ≡ drop (length served) (queue opening (events_of steps outcomes))
@@ -163,5 +175,6 @@ abbrev pub ClosedOnceDead : {S Q M A : Type 0} {gives : ServerMeaning S Q M A} {
 ClosedOnceDead {Q = Q} {A = A} {has_died = has_died} {opening = opening} {steps = steps} {outcomes = outcomes} history =
     (count : ℕ) → has_died (server_by (take count (events_of steps outcomes)) opening.server history.servers) ≡ true
     → (i client : ℕ) (packet : Q) (outcome : Outcome Q A) (c : ClientState A)
-    → slice_get (drop count (events_of steps outcomes)) i ≡ Some (record { step = Put client packet; outcome = outcome })
+    → slice_get (drop count (events_of steps outcomes)) i ≡ Some
+    (record { step = Put client packet; outcome = outcome })
     → client_state opening.clients client ≡ Some c → outcome ≡ Refused (Closed packet)

@@ -1,6 +1,7 @@
 -- When the lists of a port's ends belong to one history.
 use Rattle.std.specs.Prelude.{◌≡◌, ℕ, List, [], ◌∷◌, ◌+◌, ◌≤◌, ◌++◌, length, map, slice_get, Some, take}
-use Rattle.port_ends.specs.History.{Event, Serving, accepted_in, packets_by, served_count, ServerMeaning, Run, last_server}
+use Rattle.port_ends.specs.History.{Event, Serving, accepted_in, packets_by, served_count, ServerMeaning, Run}
+use Rattle.port_ends.specs.History.{last_server}
 use Rattle.port_ends.specs.declared.step.Reply.{Reply}
 
 -- the packets served in these events
@@ -22,7 +23,8 @@ module _ {Q M A : Type 0} where
 
 -- these packets may get these answers, and lead from the opening server to the closing one
 abbrev pub MeaningRun : {S Q M A : Type 0} → ServerMeaning S Q M A → S → List (Serving Q M A) → S → Type 0
-MeaningRun {S} gives opening served closing = (servers : List S) × Run gives opening served servers × (last_server opening servers ≡ closing)
+MeaningRun {S} gives opening served closing =
+    (servers : List S) × Run gives opening served servers × (last_server opening servers ≡ closing)
 
 -- the answers, numbered from this number
 abbrev pub numbered : {A : Type 0} → ℕ → List A → List (Reply A)
