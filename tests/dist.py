@@ -232,7 +232,7 @@ def packed(tried: Elsewhere) -> List[Path]:
         tried.report.expect(f"{folder} are packed", ran.status == 0, ran)
     files, again = (sorted(Path(it).glob("*.deb")) for it in ("packages", "packages again"))
     names = [it.name.partition("_")[0] for it in files]
-    tried.report.same("the packages", names, ["jiponuwha", "libjiponuwha-dev", "libjiponuwha1", "python3-jiponuwha"])
+    tried.report.same("the packages", names, ["jiponuwha", "jiponuwha-tools", "libjiponuwha-dev", "libjiponuwha1", "python3-jiponuwha"])
     same = [it.read_bytes() for it in files] == [it.read_bytes() for it in again]
     tried.report.expect("packed again they have the same bytes", same)
     return [it.resolve() for it in files]
@@ -308,6 +308,9 @@ def use_installed(tried: Elsewhere, root: Path, multiarch: str) -> None:
     if sys.version_info >= (3, 11):
         imported = {"PYTHONPATH": str(root / "usr/lib/python3/dist-packages"), "LD_LIBRARY_PATH": str(lib), "JIPONUWHA_LIBRARY": ""}
         report.succeeds("the packages: Python imports", [sys.executable, "-B", "-c", IMPORTS, str(root)], env=imported)
+        words = [sys.executable, "-B", str(root / "usr/bin/jip")]
+        report.succeeds("the packages: the tool makes an image", [*words, "new", "-q", "tool.adf", "Work"], env=imported)
+        report.check("the packages: the tool reads it", run([*words, "label", "tool.adf"], env=imported), 0, b"Work\n")
     else:
         report.skip("the packages: Python imports", "this is no Python 3.11 or later")
 

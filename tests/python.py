@@ -101,10 +101,11 @@ def run_suite(tried: Place, name: str, python: str, library: Optional[str]) -> N
 def suite(tried: Place) -> None:
     """Runs the suite with the package of the repository, next to its header and elsewhere."""
     library = str(tried.top / LIBRARY)
-    shutil.copytree(PACKAGE / "tests", "suite/tests")
+    # (tests/jip.py runs the tests of the tool)
+    shutil.copytree(PACKAGE / "tests", "suite/tests", ignore=shutil.ignore_patterns("tool"))
     run_suite(tried, "the suite, away from the repository", sys.executable, library)
     here = {"JIPONUWHA_LIBRARY": library, "PYTHONDONTWRITEBYTECODE": "1"}
-    words = [sys.executable, "-m", "unittest", "discover", "-s", "tests", "-t", "."]
+    words = [sys.executable, "-m", "unittest", *(f"tests.{it.stem}" for it in sorted((PACKAGE / "tests").glob("test_*.py")))]
     tried.report.hold("the suite beside the header", suite_fault(run(words, before=partial(os.chdir, PACKAGE), env=here, longest=None)))
     lost = run([sys.executable, "-c", "import jiponuwha"], env={"PYTHONPATH": str(PACKAGE), "JIPONUWHA_LIBRARY": "/none"})
     said = lost.status == 1 and b"ImportError" in lost.texts and b"JIPONUWHA_LIBRARY" in lost.texts
@@ -165,8 +166,9 @@ def pack(tried: Place) -> Optional[Path]:
     inside = set(zipfile.ZipFile(wheel).namelist())
     info = f"jiponuwha-{'.'.join(version())}.dist-info"
     wanted = {"jiponuwha/__init__.py", "jiponuwha/py.typed", "jiponuwha/libjiponuwha.so.1"}
-    wanted |= {f"{info}/{it}" for it in ("METADATA", "WHEEL", "RECORD", "licenses/NOTICES")}
-    tried.report.expect("it has the package, the library and what is said of them", wanted <= inside, sorted(inside))
+    wanted |= {f"{info}/{it}" for it in ("METADATA", "WHEEL", "RECORD", "entry_points.txt", "licenses/NOTICES")}
+    wanted |= {"jiponuwha/tool/cli.py", "jiponuwha/tool/commands/listing.py"}
+    tried.report.expect("it has the package, the tool, the library and what is said of them", wanted <= inside, sorted(inside))
     notices(tried, wheel, info)
     return wheel
 
@@ -205,6 +207,10 @@ def installed(tried: Place, python: str) -> None:
     """Returns the files that the wheel installs into an empty environment."""
     plain = {"PYTHONPATH": "", "JIPONUWHA_LIBRARY": "", "PYTHONDONTWRITEBYTECODE": "1"}
     run_suite(tried, "the suite over what is installed", python, None)
+    tool = str(tried.top / "empty/bin/jip")
+    if tried.runs("the tool that is installed makes an image", [tool, "new", "tool.adf", "Work"], plain):
+        ran = run([tool, "label", "tool.adf"], env=plain)
+        tried.report.check("and reads it", ran, 0, b"Work\n")
     lines = page_lines()
     tried.report.expect("docs/LIBRARY.md has Python", bool(lines))
     for at, program in enumerate(lines):

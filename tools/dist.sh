@@ -77,7 +77,7 @@ pages() {
     cp "$top"/examples/c/*.c "$dist/share/doc/jiponuwha/examples/c/"
     for page in "$top"/docs/*.1; do gzip -9n <"$page" >"$dist/share/man/man1/${page##*/}.gz"; done
     cp "$top/README.md" "$dist/share/doc/jiponuwha/"
-    cp "$top"/docs/{QUICKSTART,COMMANDS,LIBRARY,SECURITY,CHANGELOG}.md "$top"/docs/*.svg "$dist/share/doc/jiponuwha/docs/"
+    cp "$top"/docs/{QUICKSTART,COMMANDS,LIBRARY,ARCHIVES,SECURITY,CHANGELOG}.md "$top"/docs/*.{svg,png} "$dist/share/doc/jiponuwha/docs/"
 }
 
 completions() {

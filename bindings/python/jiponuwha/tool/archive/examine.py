@@ -1,0 +1,266 @@
+"""What is recorded of one image. Every worker runs this code, here and on other machines."""
+from __future__ import annotations
+
+import functools
+import hashlib
+import zlib
+from collections.abc import Iterator
+from dataclasses import dataclass
+from enum import IntEnum, StrEnum
+from typing import NamedTuple
+
+from ... import Entry, Fault, Faults, Format, NotAnImage, Protected, Role, Salvaged, State, Volume, create, date_text, salvage
+from ... import open as open_volume
+from ..._numbers import BLOCK_BYTES
+
+
+class Verdict(StrEnum):
+    """What is said of an image. A validated one is accepted, with a bitmap that was rebuilt. A fatal one ended each process that
+    examined it."""
+
+    OK = "ok"
+    VALIDATED = "validated"
+    REFUSED = "refused"
+    UNREADABLE = "unreadable"
+    FATAL = "fatal"
+
+
+class Depth(IntEnum):
+    """How much of an image is recorded: the verdict alone, also the names of its files, or also all sums."""
+
+    VERDICT = 0
+    NAMES = 1
+    SUMS = 2
+
+
+class Sums(NamedTuple):
+    """The sums of some bytes, as hexadecimal digits."""
+
+    crc32: str
+    md5: str
+    sha1: str
+    sha256: str
+
+
+class FileRow(NamedTuple):
+    """A file or directory of an accepted image. A directory has no sums."""
+
+    path: str
+    type: str
+    size: int
+    bits: int
+    date: str
+    comment: str
+    crc32: str | None
+    md5: str | None
+    sha1: str | None
+    sha256: str | None
+
+
+class FaultRow(NamedTuple):
+    """A fault of a refused image."""
+
+    kind: str
+    block: int
+    text: str
+    at: int | None
+    found: int | None
+    wanted: int | None
+
+
+class SavedRow(NamedTuple):
+    """A file or directory that salvage gives of a refused image."""
+
+    path: str
+    state: str
+    size: int
+    missing: int
+    is_cut: int
+    is_found: int
+    bits: int
+    date: str
+    comment: str
+    crc32: str | None
+    md5: str | None
+    sha1: str | None
+    sha256: str | None
+
+
+@dataclass(frozen=True)
+class Record:
+    """An image as the archive commands know it. What is not known is None, and what was not asked for is empty."""
+
+    verdict: Verdict
+    reason: str | None = None
+    bytes: int | None = None
+    sums: Sums | None = None
+    kind: str | None = None
+    label: str | None = None
+    blocks: int | None = None
+    used: int | None = None
+    free: int | None = None
+    boot_sha1: str | None = None
+    boot: str | None = None
+    more_faults: bool = False
+    files: tuple[FileRow, ...] = ()
+    faults: tuple[FaultRow, ...] = ()
+    salvaged: tuple[SavedRow, ...] = ()
+
+
+def sums_of(data: bytes) -> Sums:
+    """Returns the sums of some bytes."""
+    md5, sha1 = hashlib.md5(data, usedforsecurity=False), hashlib.sha1(data, usedforsecurity=False)
+    return Sums(f"{zlib.crc32(data):08x}", md5.hexdigest(), sha1.hexdigest(), hashlib.sha256(data).hexdigest())
+
+
+_NO_SUMS = (None, None, None, None)
+# The SHA-1 of the boot blocks that `adf_serve boot --install` writes.
+STANDARD_BOOTS = frozenset({"1e5d70472d2d69ecd688976921cb5da63916e5f3", "d36f4b17e5fba46a5e8923298d34f898774a2fea"})
+
+
+def fault_row(fault: Fault) -> FaultRow:
+    """Returns the row of a fault. Its kind is written as `adf_serve check` writes it."""
+    kind = "".join(it.capitalize() for it in fault.kind.name.split("_"))
+    return FaultRow(kind, fault.block, fault.text, fault.at, fault.found, fault.wanted)
+
+
+def reason_of(faults: Faults) -> str:
+    """Returns the first fault in words, and how many others there are."""
+    if not faults:
+        return "the library refuses the image"
+    others = len(faults) - 1
+    more = f", and {others:,}{' or more' if faults.more else ''} other fault{'s' * (others != 1)}" if others else ""
+    return f"block {faults[0].block}: {faults[0].text}{more}"
+
+
+# ---- The boot block ----
+
+
+@functools.cache
+def _blank_boots() -> tuple[int, frozenset[bytes]]:
+    """Returns the number of bytes of a boot block, and the boot blocks of blank volumes, which have no code."""
+    length, found = 0, set()
+    for format in Format:
+        volume = create("Blank", format=format, blocks=16)
+        image = volume.image()
+        length = BLOCK_BYTES * sum(it.role == Role.BOOT for it in volume.map())
+        found.add(image[:length])
+        volume.close(discard=True)
+    return length, frozenset(found)
+
+
+def boot_of(image: bytes) -> tuple[str | None, str | None]:
+    """Returns the SHA-1 of the boot block of an image, and what it is: `none` if it has no code, `standard` or `other`."""
+    length, blank = _blank_boots()
+    if len(image) < length:
+        return None, None
+    boot = image[:length]
+    sha1 = hashlib.sha1(boot, usedforsecurity=False).hexdigest()
+    return sha1, "none" if boot in blank else "standard" if sha1 in STANDARD_BOOTS else "other"
+
+
+# ---- Accepted and refused images ----
+
+
+def contents(volume: Volume, image: bytes) -> Iterator[tuple[bytes, Entry, bytes]]:
+    """Iterates over the paths, entries and bytes of all files and directories. Protection bits do not hide the bytes of a file."""
+    saved: dict[int, Salvaged] = {}
+    for path, entry in volume.walk(bytes):
+        data = b""
+        if entry.is_file:
+            try:
+                data = volume.read(path)
+            except Protected:
+                saved = saved or {it.header: it for it in salvage(image)}
+                data = saved[entry.key].read()
+        yield path, entry, data
+
+
+def _file_row(path: bytes, entry: Entry, data: bytes | None) -> FileRow:
+    kind = "file" if entry.is_file else "directory"
+    sums = sums_of(data) if entry.is_file and data is not None else _NO_SUMS
+    return FileRow(path.decode("iso-8859-1"), kind, entry.size, entry.bits, date_text(entry.date), entry.comment, *sums)
+
+
+def _saved_row(entry: Salvaged, depth: Depth) -> SavedRow:
+    state = State(entry.state).name.lower() if entry.state in list(State) else str(entry.state)
+    sums = sums_of(entry.read()) if entry.is_file and depth == Depth.SUMS else _NO_SUMS
+    flags = (int(entry.is_cut), int(entry.is_found))
+    return SavedRow(entry.path, state, entry.size, entry.missing, *flags, entry.bits, date_text(entry.date), entry.comment, *sums)
+
+
+def _file_rows(volume: Volume, image: bytes, depth: Depth) -> tuple[FileRow, ...]:
+    if depth == Depth.SUMS:
+        return tuple(_file_row(*it) for it in contents(volume, image))
+    if depth == Depth.NAMES:
+        return tuple(_file_row(path, entry, None) for path, entry in volume.walk(bytes))
+    return ()
+
+
+def _accepted(volume: Volume, data: bytes, depth: Depth) -> Record:
+    image, info = volume.image(), volume.info()
+    boot_sha1, boot = boot_of(data)
+    return Record(
+        verdict=Verdict.OK if image == data else Verdict.VALIDATED,
+        reason=None if image == data else "the bitmap is not marked valid; it is rebuilt in memory",
+        bytes=len(data),
+        sums=sums_of(data) if depth == Depth.SUMS else None,
+        kind=info.format.name,
+        label=info.label,
+        blocks=len(image) // BLOCK_BYTES,
+        used=info.used,
+        free=info.free,
+        boot_sha1=boot_sha1,
+        boot=boot,
+        files=_file_rows(volume, image, depth),
+    )
+
+
+def _saved_rows(data: bytes, depth: Depth) -> tuple[SavedRow, ...]:
+    if depth == Depth.VERDICT:
+        return ()
+    try:
+        return tuple(_saved_row(it, depth) for it in salvage(data))
+    except NotAnImage:
+        return ()
+
+
+def _refused(faults: Faults, data: bytes, depth: Depth) -> Record:
+    boot_sha1, boot = boot_of(data)
+    return Record(
+        verdict=Verdict.REFUSED,
+        reason=reason_of(faults),
+        bytes=len(data),
+        sums=sums_of(data) if depth == Depth.SUMS else None,
+        boot_sha1=boot_sha1,
+        boot=boot,
+        more_faults=faults.more,
+        faults=tuple(fault_row(it) for it in faults),
+        salvaged=_saved_rows(data, depth),
+    )
+
+
+def _examined(data: bytes, depth: Depth) -> Record:
+    try:
+        volume = open_volume(data, read_only=True)
+    except NotAnImage as refused:
+        return _refused(refused.faults, data, depth)
+    try:
+        return _accepted(volume, data, depth)
+    finally:
+        volume.close(discard=True)
+
+
+def check(data: bytes) -> Record:
+    """Returns the verdict on an image, with its faults."""
+    return _examined(data, Depth.VERDICT)
+
+
+def names(data: bytes) -> Record:
+    """Returns the record of an image with its files, without sums."""
+    return _examined(data, Depth.NAMES)
+
+
+def examine(data: bytes) -> Record:
+    """Returns the whole record of an image."""
+    return _examined(data, Depth.SUMS)

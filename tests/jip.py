@@ -1,0 +1,295 @@
+#!/usr/bin/env python3
+"""Tests the tool jip: its own suite, the first hour of docs/ARCHIVES.md line by line, images that other programs wrote beside other
+readers, the page for `man`, the completions, the script ./jip, and how long it takes to start.
+
+    tests/jip.py [MODULE..]     runs only these modules of the suite, such as test_listing
+
+It uses a Python that has `rich` and `jinja2`: that of the path, or else the system's. Without one it says so and runs what needs none.
+It proves nothing, and uses the built library.
+"""
+from __future__ import annotations
+
+import hashlib
+import os
+import re
+import resource
+import shutil
+import subprocess
+import sys
+from collections import Counter
+from concurrent.futures import ThreadPoolExecutor
+from functools import partial
+from pathlib import Path
+from typing import Dict, Iterable, Iterator, List, Optional, Tuple
+
+sys.dont_write_bytecode = True
+
+from bundles import SHAPES, adflib_peer
+from drawn_volume import Entry, draw, read
+from harness import TOP, Ran, Report, fault_of, processors, run
+from library import put_in_place
+from shared import LIBRARY, Place
+from walk import commands_of, page_of, section_of, walk
+
+PACKAGE = TOP / "bindings" / "python"
+SUITE = PACKAGE / "tests" / "tool"
+PAGE = "docs/ARCHIVES.md"
+# How many volumes of each kind are copied out and in.
+DRAWN, BY_ADFLIB = 12, 12
+# The processor seconds of `jip ls`. A busy machine takes more, so that only twice as much is a failure.
+START = 0.2
+NEEDS = "import sys; sys.exit(not (sys.version_info >= (3, 11) and all(map(__import__('importlib.util').util.find_spec, sys.argv[1:]))))"
+SHELLS = {"bash": ["bash/jip"], "zsh": ["zsh/_jip"], "fish": ["fish/jip.fish"]}
+BASH = """source bash/jip
+compopt() { :; }
+complete_line() { COMP_LINE=$1 COMP_POINT=${#1} COMPREPLY=(); _jip; printf '%s\\n' "${COMPREPLY[@]}"; }
+"""
+# Lines, and what bash offers for their last words. It keeps by itself what is before a colon.
+LINES: List[Tuple[str, List[str]]] = [
+    ("jip l", ["ls", "label"]),
+    ("jip ls --s", ["--sort"]),
+    ("jip ls --sort d", ["date", "disk"]),
+    ("jip ls floppy.adf:", ["Docs/", "S/"]),
+    ("jip cp -r floppy.adf:d", ["Docs/"]),
+    ("jip cat floppy.adf:docs/", ["docs/one two"]),
+    ("jip cat floppy.adf:docs/one\\ ", ["docs/one two"]),
+    ("jip ls none.adf:", []),
+    ("jip ls flop", []),
+    ("jip none ", []),
+]
+
+
+class Tool(Place):
+    """The room for the tool: the library, a Python, and the script `jip` on the path."""
+
+    python = ""
+
+    @property
+    def env(self) -> Dict[str, str]:
+        return {
+            "JIPONUWHA_LIBRARY": str(self.top / LIBRARY),
+            "PYTHONPATH": str(PACKAGE),
+            "PYTHONDONTWRITEBYTECODE": "1",
+            "PATH": f"{self.top}/bin:{os.environ['PATH']}",
+            "LC_ALL": "C.UTF-8",
+        }
+
+    def jip(self, *words: str) -> Ran:
+        return run([self.python, "-m", "jiponuwha.tool", *words], env=self.env)
+
+
+def python_with(*libraries: str) -> Optional[str]:
+    """Returns a Python that has these libraries: that of the path, or the system's."""
+    for python in (shutil.which("python3"), "/usr/bin/python3"):
+        if python and run([python, "-c", NEEDS, *libraries]).status == 0:
+            return python
+    return None
+
+
+# ---- The suite ----
+
+
+def tried_module(tried: Tool, name: str) -> Ran:
+    # (each line of what was skipped has its reason)
+    return run([tried.python, "-m", "unittest", "-v", f"tests.tool.{name}"], before=partial(os.chdir, PACKAGE), env=tried.env, longest=600)
+
+
+def suite(tried: Tool, names: List[str]) -> None:
+    """Runs the modules of the suite side by side."""
+    found = names or sorted(it.stem for it in SUITE.glob("test_*.py"))
+    with ThreadPoolExecutor(processors()) as pool:
+        runs = list(pool.map(partial(tried_module, tried), found))
+    for name, ran in zip(found, runs):
+        text = ran.texts.decode(errors="replace")
+        count = re.search(r"(?m)^Ran ([0-9]+) tests?", text)
+        good = ran.status == 0 and count is not None and count[1] != "0"
+        tried.report.expect(f"{name}: {count[1] if count else 0} tests", good, f"status {ran.status}, printed {text[-2000:]}")
+        for reason in sorted(set(re.findall(r"\.\.\. skipped (.+)$", text, re.M))):
+            tried.report.skip(name, reason.strip("'\""))
+
+
+# ---- The pages ----
+
+
+def first_hour(tried: Tool) -> None:
+    """The lines of docs/ARCHIVES.md, with the script ./jip of this repository as `jip`."""
+    os.makedirs("hour")
+    words = ["env", "-C", "hour", *(f"{name}={value}" for name, value in tried.env.items())]
+    page = section_of(page_of(PAGE), "A first hour")
+    walk(tried.report, PAGE, page, words)
+    listed = {it.split()[1] for it, _ in commands_of(page) if it.startswith("jip ")}
+    tried.report.expect(f"{PAGE} shows each command for one disk", len(listed) >= 14, sorted(listed))
+
+
+def reference(tried: Tool) -> None:
+    """Each command of the tool has its row in docs/ARCHIVES.md, and its section in the page for `man`."""
+    ran = tried.jip("--complete", "")
+    names = [it for it in ran.output.decode().split() if not it.startswith("-")]
+    page = page_of(PAGE)
+    lacking = [it for it in names if f"`jip {it}" not in page]
+    tried.report.expect(f"{PAGE} has each command", bool(names) and not lacking, lacking)
+    manual = [tried.python, str(TOP / "tools/jip_manual.py"), "--check"]
+    tried.report.check("docs/jip.1 has the commands and options of the tool", run(manual, env=tried.env), 0)
+    if shutil.which("mandoc"):
+        ran = run(["mandoc", "-Tlint", "-Wwarning", str(TOP / "docs/jip.1")])
+        tried.report.expect("mandoc has no warning about docs/jip.1", ran.status == 0, ran)
+    else:
+        tried.report.lacks("mandoc of docs/jip.1", "mandoc (Debian: mandoc)")
+
+
+# ---- Completions ----
+
+
+def completions(tried: Tool) -> None:
+    tried.report.succeeds("the completions are written", [str(TOP / "tools/completions/make"), "."])
+    tried.jip("new", "-q", "floppy.adf", "Work")
+    tried.jip("mkdir", "-q", "floppy.adf:Docs", "floppy.adf:S", "floppy.adf:Docs/one two")
+    tried.jip("rm", "-qr", "floppy.adf:Docs/one two")
+    tried.jip("touch", "-q", "floppy.adf:Docs/one two")
+    tried.write("rc", BASH.encode())
+    for shell, files in SHELLS.items():
+        if not shutil.which(shell):
+            tried.report.lacks(f"completions of {shell}", shell)
+            continue
+        for it in files:
+            tried.report.succeeds(f"{it} can be read", [shell, "-n", it])
+    for line, wanted in LINES:
+        ran = run(["bash", "-c", 'source rc; complete_line "$1"', "bash", line], env=tried.env)
+        tried.report.same(f"bash: {line}", ran.output.decode().split("\n")[:-1] if wanted else ran.output, wanted or b"\n")
+
+
+# ---- The script ./jip ----
+
+
+def script(tried: Tool) -> None:
+    ran = run([str(TOP / "jip"), "--version"], env=tried.env)
+    tried.report.expect("./jip runs the tool", ran.status == 0 and ran.output.startswith(b"jip 1."), ran)
+    ran = run(["env", "-C", "/", str(TOP / "jip"), "ls", str(tried.top / "none.adf")], env=tried.env)
+    tried.report.check("and passes its status on", ran, 2, b"", "none.adf: No such file")
+    os.makedirs("empty-path")
+    tools = ("bash", "env", "dirname", "readlink", "mkdir", "mv")
+    for it in tools:
+        os.symlink(shutil.which(it) or it, f"empty-path/{it}")
+    ran = run([str(TOP / "jip"), "--version"], env={**tried.env, "PATH": f"{tried.top}/empty-path"})
+    known = Path("/usr/bin/python3").exists()
+    tried.report.expect("without python3 on the path it takes the system's, or says what is missing", ran.status == (0 if known else 2), ran)
+
+
+def start(tried: Tool) -> None:
+    """The processor time of `jip ls`, from the script to the end, at its best of some runs."""
+    tried.jip("new", "-q", "start.adf", "Work")
+    taken = []
+    # (the files that Python compiles are kept, as for a user)
+    env = {**os.environ, **tried.env, "PYTHONPYCACHEPREFIX": str(tried.top / "cache"), "PYTHONDONTWRITEBYTECODE": ""}
+    for _ in range(7):
+        before = resource.getrusage(resource.RUSAGE_CHILDREN)
+        subprocess.run([str(TOP / "jip"), "ls", "start.adf"], env=env, check=True, stdout=subprocess.DEVNULL)
+        after = resource.getrusage(resource.RUSAGE_CHILDREN)
+        taken.append(after.ru_utime + after.ru_stime - before.ru_utime - before.ru_stime)
+    best = min(taken)
+    tried.report.expect(f"jip ls takes under {START} seconds of a processor, or twice that on a busy machine ({best:.2f})", best < 2 * START, best)
+
+
+# ---- Images of other programs ----
+
+
+def out_and_in(tried: Tool, data: bytes) -> Optional[str]:
+    """What is wrong with an image that was copied out to the host, and into a new image."""
+    old = read(data)
+    tried.write("old.adf", data)
+    shutil.rmtree("out", ignore_errors=True)
+    Path("new.adf").unlink(missing_ok=True)
+    kind = ["--ffs"] if old.kind[3] else []
+    made = ["new", "-q", *kind, "--blocks", str(old.blocks), "new.adf", "Other"]
+    for words in (made, ["cp", "-q", "-r", "-p", "old.adf:", "out"], ["cp", "-q", "-r", "-p", "out/.", "new.adf:"]):
+        fault = fault_of(tried.jip(*words))
+        if fault:
+            return f"{words[0]}: {fault}"
+    wanted, found = entries_of(data), entries_of(tried.content("new.adf"))
+    differing = [it for it in sorted({*wanted, *found}) if wanted.get(it) != found.get(it)]
+    return f"{differing[0]!r} is {str(found.get(differing[0]))[:200]}, and was {str(wanted.get(differing[0]))[:200]}" if differing else None
+
+
+def entries_of(data: bytes) -> Dict[bytes, Entry]:
+    """Returns the entries of a volume, as a reader in Python finds them, by their paths. A note of the host keeps 8 of the 32 protection
+    bits."""
+    return {it.path: it._replace(bits=it.bits & 0xFF) for it in read(data).entries}
+
+
+def sums_of(files: Iterable[bytes]) -> Counter[str]:
+    """Returns the checksums of files, each with how often it is there. (unadf writes names in bytes of its own.)"""
+    return Counter(hashlib.sha256(it).hexdigest() for it in files)
+
+
+def files_below(folder: str) -> Iterator[bytes]:
+    return (it.read_bytes() for it in Path(folder).rglob("*") if it.is_file())
+
+
+def beside_unadf(tried: Tool, data: bytes) -> Optional[str]:
+    """What is wrong if the files that `unadf` extracts have other sums than those that jip copies."""
+    tried.write("old.adf", data)
+    for it in ("ours", "theirs"):
+        shutil.rmtree(it, ignore_errors=True)
+        os.mkdir(it)
+    ours = tried.jip("cp", "-q", "-r", "old.adf:", "ours")
+    theirs = run(["unadf", "old.adf", "-d", "theirs"])
+    if ours.status or theirs.status:
+        return f"jip: {ours}; unadf: {theirs}"
+    # (of a file that is protected from reading unadf writes an empty one)
+    hidden = [it.data for it in read(data).entries if it.data is not None and it.bits & 8]
+    found = sums_of(files_below("ours")) - sums_of(hidden) + sums_of([b""] * len(hidden))
+    wanted = sums_of(files_below("theirs"))
+    return None if found == wanted and found else f"{sum(found.values())} files, of which {sum((found & wanted).values())} are among the {sum(wanted.values())} of unadf"
+
+
+def drawn(tried: Tool) -> None:
+    """Volumes that Python draws."""
+    for seed in range(DRAWN):
+        tried.report.ends(f"drawn volume {seed}", lambda: out_and_in(tried, draw(seed)))
+
+
+def by_adflib(tried: Tool) -> None:
+    """Volumes that ADFlib writes, also beside its own reader."""
+    os.mkdir("adflib")
+    peer = adflib_peer(Path("adflib").absolute())
+    if peer is None:
+        tried.report.lacks("volumes by ADFlib", "source of unadf, or no compiler")
+        return
+    for seed in range(BY_ADFLIB):
+        data = written(peer, seed)
+        tried.report.ends(f"volume {seed} by ADFlib", lambda: out_and_in(tried, data))
+        # (unadf knows floppies of both densities)
+        if shutil.which("unadf") and SHAPES[seed % len(SHAPES)][0] == 80:
+            tried.report.ends(f"volume {seed} by ADFlib beside unadf", lambda: beside_unadf(tried, data))
+    if not shutil.which("unadf"):
+        tried.report.lacks("sums of files", "unadf (Debian: unadf)")
+
+
+def written(peer: Path, seed: int) -> bytes:
+    """Returns a volume that ADFlib writes."""
+    words = [str(peer), str(seed), "peer.adf", *map(str, SHAPES[seed % len(SHAPES)]), "ofs" if seed % 2 else "ffs"]
+    subprocess.run(words, check=True, capture_output=True)
+    return Path("peer.adf").read_bytes()
+
+
+def main(words: List[str]) -> int:
+    report = Report()
+    with Tool(report) as tried:
+        tried.python = python_with("rich", "jinja2") or python_with() or ""
+        if not tried.python:
+            report.skip("the tool", "there is no Python 3.11 or later")
+            return report.end()
+        if not python_with("rich", "jinja2"):
+            report.lacks("tables and pages", "Python with rich and jinja2 (Debian: python3-rich, python3-jinja2)")
+        if not put_in_place(tried):
+            return report.end()
+        os.makedirs("bin")
+        os.symlink(TOP / "jip", "bin/jip")
+        suite(tried, words)
+        for part in () if words else (first_hour, reference, completions, script, start, drawn, by_adflib):
+            tried.part(part)
+    return report.end()
+
+
+if __name__ == "__main__":
+    sys.exit(main(sys.argv[1:]))
