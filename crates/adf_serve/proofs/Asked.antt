@@ -1,6 +1,8 @@
 -- A port's only client puts DISK_INFO, it is served, and the reply is taken: the answer is that for the image's tree.
-use Rattle.std.proofs.Common.{◌≡◌, ◌⊎◌, inl, inr, ℕ, zero, suc, pos, Bool, true, false, List, [], ◌∷◌, ◌++◌, length, map, take, drop, slice_get, Option, Some, None, arith, refl, sym, ap, ◌∙◌, subst}
-use Rattle.std.proofs.lemmas.Option.{same_Some}
+use Rattle.std.proofs.Common.{◌≡◌, ◌⊎◌, inl, inr, ℕ, zero, suc, pos, Bool, true, false, List, [], ◌∷◌, ◌++◌, ◌+◌, ◌-◌, get_or, length, map, take, drop, slice_get, Option, Some, None, arith, refl, sym, ap, ◌∙◌, subst}
+use Rattle.std.proofs.lemmas.List.{length-append}
+use Rattle.std.proofs.lemmas.Option.{same_Some, slice_get-get_or}
+use Rattle.std.proofs.Math.Seq.{get_or-append_seam}
 use Rattle.adf_block.specs.declared.layout.Format.{Format}
 use Rattle.ados_name.specs.declared.stamp.Date3.{Date3}
 use Rattle.ados_model.specs.Accepted.{Accepts}
@@ -28,6 +30,14 @@ use Rattle.adf_serve.specs.Texts.{disk_answer}
 -- the steps: the only client puts DISK_INFO, it is served, and the client takes the reply
 abbrev pub disk_steps : PacketSteps
 disk_steps = Put 1 DiskInfo ∷ Serve first_moment ∷ Take 1 ∷ []
+
+-- the last element of a list
+pub last_of : {X : Type 0} (xs : List X) (y : X) → slice_get (xs ++ y ∷ []) (length (xs ++ y ∷ []) - 1) ≡ Some y
+last_of xs y =
+    let long : length (xs ++ y ∷ []) ≡ length xs + 1 = length-append xs (y ∷ []) in
+    let at : length (xs ++ y ∷ []) - 1 ≡ length xs = omega (arith, long) in
+    slice_get-get_or (xs ++ y ∷ []) (length (xs ++ y ∷ []) - 1) y (omega (arith, long))
+    ∙ ap Some (ap (λ n. get_or (xs ++ y ∷ []) n y) at ∙ get_or-append_seam xs y [] y)
 
 -- the packet that the first of these steps adds to the port, at most
 at_most_one : (o1 o2 o3 : Outcome Packet Answer) → (accepted_in (events_of disk_steps (o1 ∷ o2 ∷ o3 ∷ [])) ≡ []) ⊎ (accepted_in (events_of disk_steps (o1 ∷ o2 ∷ o3 ∷ [])) ≡ (1, DiskInfo) ∷ [])

@@ -134,7 +134,7 @@ fn run_script<R: Read, W: Write, F: Write>(
             return 2;
         }
     };
-    let mut lines = script.as_slice();
+    let mut lines: &[u8] = &script;
     match try_script(alloc, &mut lines, writer) {
         Ok(()) => 0,
         Err(TryFault::Script) => {
