@@ -1,6 +1,6 @@
 #!/usr/bin/env python3
 """Tests the tool jip: its own suite, the first hour of docs/ARCHIVES.md line by line, images that other programs wrote beside other
-readers, the page for `man`, the completions, the script ./jip, and how long it takes to start.
+readers, the page for `man`, the completions, the script ./jip, and what it loads.
 
     tests/jip.py [MODULE..]     runs only these modules of the suite, such as test_listing
 
@@ -12,7 +12,6 @@ from __future__ import annotations
 import hashlib
 import os
 import re
-import resource
 import shutil
 import subprocess
 import sys
@@ -36,8 +35,6 @@ SUITE = PACKAGE / "tests" / "tool"
 PAGE = "docs/ARCHIVES.md"
 # How many volumes of each kind are copied out and in.
 DRAWN, BY_ADFLIB = 12, 12
-# The processor seconds of `jip ls`. A busy machine takes more, so that only twice as much is a failure.
-START = 0.2
 NEEDS = "import sys; sys.exit(not (sys.version_info >= (3, 11) and all(map(__import__('importlib.util').util.find_spec, sys.argv[1:]))))"
 SHELLS = {"bash": ["bash/jip"], "zsh": ["zsh/_jip"], "fish": ["fish/jip.fish"]}
 BASH = """source bash/jip
@@ -175,19 +172,16 @@ def script(tried: Tool) -> None:
     tried.report.expect("without python3 on the path it takes the system's, or says what is missing", ran.status == (0 if known else 2), ran)
 
 
+# What `jip ls` must not load: the libraries that take long, and the modules that only a catalogue needs.
+HEAVY = ("rich", "jinja2", "distributed", "sqlite3", "concurrent.futures")
+
+
 def start(tried: Tool) -> None:
-    """The processor time of `jip ls`, from the script to the end, at its best of some runs."""
+    """`jip ls` loads nothing that only other commands need. How long it takes is measured by bench/jip_start."""
     tried.jip("new", "-q", "start.adf", "Work")
-    taken = []
-    # (the files that Python compiles are kept, as for a user)
-    env = {**os.environ, **tried.env, "PYTHONPYCACHEPREFIX": str(tried.top / "cache"), "PYTHONDONTWRITEBYTECODE": ""}
-    for _ in range(7):
-        before = resource.getrusage(resource.RUSAGE_CHILDREN)
-        subprocess.run([str(TOP / "jip"), "ls", "start.adf"], env=env, check=True, stdout=subprocess.DEVNULL)
-        after = resource.getrusage(resource.RUSAGE_CHILDREN)
-        taken.append(after.ru_utime + after.ru_stime - before.ru_utime - before.ru_stime)
-    best = min(taken)
-    tried.report.expect(f"jip ls takes under {START} seconds of a processor, or twice that on a busy machine ({best:.2f})", best < 2 * START, best)
+    loads = f"import sys; from jiponuwha.tool.cli import main; status = main(['ls', 'start.adf']); print(sorted({set(HEAVY)} & set(sys.modules))); sys.exit(status)"
+    ran = run([tried.python, "-c", loads], env=tried.env)
+    tried.report.expect("jip ls loads only what it needs", ran.status == 0 and ran.output.endswith(b"[]\n"), ran)
 
 
 # ---- Images of other programs ----

@@ -6,9 +6,9 @@ import ctypes
 from typing import Any
 
 from .. import Entry, Volume
+from .._errors import settle
 from .._library import Visitor, library
 from .._values import entry_of, letters
-from .._volume import settle
 from .errors import RefusedError
 
 # The most bytes of a path, and of all paths together.

@@ -41,7 +41,7 @@ def blank(label: str, format: Format, blocks: int) -> Volume:
     except ValueError:
         # (the library does not say which of both is wrong)
         raise RefusedError(
-            f"no volume '{label}' of {blocks:,} blocks: the name has 1 to 30 letters without / and :, the size is 16 to 101,602 blocks"
+            f"no volume '{label}' of {blocks:,} blocks: the name has 1 to 30 letters of ISO 8859-1 without / and :, the size is 16 to 101,602 blocks"
         ) from None
 
 
