@@ -172,8 +172,12 @@ static void open_disk(void) {
 }
 
 static void remove_disk(void) {
+    const int refuses = refuses_growths;
     keep_disk();
+    /* (the first call of a guest makes its state) */
+    refuses_growths = 0;
     HOLDS("a removal", jip_remove_disk(&floppy, &guest) == JIP_DONE && jip_image_length(&floppy) == 0);
+    refuses_growths = refuses;
     disk_number = 0;
     disk_changes++;
 }
