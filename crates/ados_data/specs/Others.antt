@@ -1,6 +1,6 @@
 -- What a call on a file leaves untouched in other blocks.
-use Rattle.std.specs.Prelude.{◌≡◌, ◌≢◌, ℕ, ◌/◌, ◌<◌, ◌≤◌, ◌⊎◌, List, ◌∷◌, length, slice_index, false, true}
-use Rattle.adf_block.specs.declared.layout.TheConstants.{BOOT_BLOCKS, BLOCK_BYTES, FIRST_SLOT, POINTER_COUNT, FIRST_POINTER, FILE_SIZE, NEXT_EXTENSION, NEXT_DATA}
+use Rattle.std.specs.Prelude.{◌≡◌, ◌≢◌, ℕ, ◌+◌, ◌*◌, ◌/◌, ◌<◌, ◌≤◌, ◌⊎◌, List, ◌∷◌, length, slice_index, false, true}
+use Rattle.adf_block.specs.declared.layout.TheConstants.{BOOT_BLOCKS, BLOCK_BYTES, TABLE_LONGS, FIRST_SLOT, POINTER_COUNT, FIRST_POINTER, FILE_SIZE, NEXT_EXTENSION, NEXT_DATA}
 use Rattle.adf_block.specs.declared.beside.TheConstants.{CHECKSUM}
 use Rattle.adf_block.specs.Image.{byte_at, block_sum, block_count, has_free_bit, IsInside}
 use Rattle.ados_map.specs.Pages.{pages_of, page_block, HasBit}
@@ -59,8 +59,14 @@ IsKeptOrTaken old known c d = (known × (d ≡ c)) ⊎ WasFree old d
 abbrev pub RisesBehind : List ℕ → List ℕ → Type 0
 RisesBehind front blocks = (i j : ℕ) → length front ≤ i → i < j → j < length blocks → slice_index blocks i < slice_index blocks j
 
+-- extension block q is higher than the data block at position i if an earlier pointer block has the pointer to it, and
+-- lower if extension block q or a later one has it
+abbrev pub InTurn : ℕ → ℕ → ℕ → ℕ → Type 0
+InTurn q extension i block = (i < TABLE_LONGS * (q + 1) → block < extension) × (TABLE_LONGS * (q + 1) ≤ i → extension < block)
+
 -- a file's lists grew: it keeps its blocks; each new one was free before; no block became free; only the file's blocks
--- were allocated, each lower than every block still free; the new blocks of each list rise
+-- were allocated, each lower than every block still free; the new blocks of each list rise, and a new extension block
+-- has its place among the new data blocks
 pub record Gains (old : List ℕ) (file : ℕ) (blocks extensions : List ℕ) (new : List ℕ) (blocks' extensions' : List ℕ) : Type 0 where
   pub headers : (q : ℕ) → q ≤ length extensions'
       → IsKeptOrTaken old (q ≤ length extensions) (slice_index (file ∷ extensions) q) (slice_index (file ∷ extensions') q)
@@ -70,6 +76,8 @@ pub record Gains (old : List ℕ) (file : ℕ) (blocks extensions : List ℕ) (n
   pub lowest : (c d : ℕ) → IsInside (block_count old) d → BOOT_BLOCKS ≤ c → c < d → has_free_bit old d ≡ true → has_free_bit new d ≡ false → has_free_bit new c ≡ false
   pub data_rises : RisesBehind blocks blocks'
   pub extensions_rise : RisesBehind extensions extensions'
+  pub in_turn : (q i : ℕ) → length extensions ≤ q → q < length extensions' → length blocks ≤ i → i < length blocks'
+      → InTurn q (slice_index extensions' q) i (slice_index blocks' i)
 
 -- the same for the file with this header
 abbrev pub FileGains : List ℕ → ℕ → List ℕ → Type 0

@@ -9,3 +9,6 @@ mod Weaker
 pub mod Runs
 pub mod Closed
 pub mod Serving
+mod SameTrees
+pub mod SameAnswers
+pub mod SameRuns

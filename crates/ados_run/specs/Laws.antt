@@ -1,6 +1,7 @@
 -- Laws about the definitions.
-use Rattle.std.specs.Prelude.{◌≡◌, ℕ, List}
-use Rattle.ados_model.specs.Tree.{Tree}
+use Rattle.std.specs.Prelude.{◌≡◌, ℕ, List, All, map}
+use Rattle.adf_block.specs.Whole.{IsImage}
+use Rattle.ados_model.specs.Tree.{Tree, Date3}
 use Rattle.ados_model.specs.Stands.{Stands}
 use Rattle.ados_model.specs.Accepted.{IsRefusal}
 use Rattle.ados_model.specs.declared.fault.FaultKind.TheVariants.{NoMemory}
@@ -8,6 +9,7 @@ use Rattle.ados_model.specs.declared.fault.VolumeFault.{VolumeFault}
 use Rattle.ados_port.specs.History.{PortHistory, Run}
 use Rattle.ados_port.specs.Lawful.{Lawful}
 use Rattle.ados_model.specs.declared.packet.Packet.{Packet}
+use Rattle.ados_model.specs.declared.answer.Answer.{Answer}
 use Rattle.ados_model.specs.Session.{HandlerState}
 use Rattle.ados_handler.specs.Gives.{HandlerGives}
 use Rattle.adf_script.specs.Ran.{LinesAreOneRun}
@@ -57,3 +59,27 @@ TreesReadBack = (image : List ℕ) (t : Tree) (fault : VolumeFault) → Stands i
 -- the output of a script at the port of a tree, line by line, is that of one run, in one history of that port
 abbrev pub LinesOverTreesAreOneRun : Type 0
 LinesOverTreesAreOneRun = LinesAreOneRun means tree_died
+
+-- a handler over an image of bytes
+abbrev pub HasBytes : HandlerState → Type 0
+HasBytes handler = IsImage handler.image
+
+-- a packet, its time stamp and its answer determine the handler after it: the image byte for byte, and the holds
+abbrev pub SameAnswerSameHandler : Type 0
+SameAnswerSameHandler =
+    (old new other : HandlerState) (packet : Packet) (now : Date3) (answer : Answer)
+    → HandlerGives old packet now new answer → HandlerGives old packet now other answer → HasBytes new → HasBytes other → other ≡ new
+
+-- the served packets with their answers determine each handler on the way
+abbrev pub SameAnswersSameHandlers : Type 0
+SameAnswersSameHandlers =
+    (opening : HandlerState) (served : ServedPackets) (servers others : List HandlerState) → Run HandlerGives opening served servers → Run HandlerGives opening served others
+    → All HasBytes servers → All HasBytes others → others ≡ servers
+
+-- at a port, the steps, their outcomes and the answers of the served packets determine the closing handler, its image
+-- byte for byte; an answer that no client has taken is in no outcome, and the number of a lock in it is a free choice
+abbrev pub SameStepsSameBytes : Type 0
+SameStepsSameBytes =
+    (opening closing other : HandlerPort) (steps : PacketSteps) (outcomes : PacketOutcomes)
+    (history : PortHistory HandlerGives handler_died opening steps outcomes closing) (again : PortHistory HandlerGives handler_died opening steps outcomes other)
+    → map (λ s. s.answer) again.served ≡ map (λ s. s.answer) history.served → All HasBytes history.servers → All HasBytes again.servers → other.server ≡ closing.server

@@ -1,6 +1,7 @@
 use Rattle.ados_change.proofs.Common.{◌≡◌, ◌≢◌, ℕ, ◌-◌, ◌++◌, List, length, replicate, ap, ◌∙◌, subst, refl, arith, bytes_of, data_blocks, extension_blocks, contents, Stands, rewritten}
 use Rattle.ados_change.proofs.Relaid.{of_gains, IsRewritten}
 use Rattle.ados_change.proofs.Renewed.{bytes_in, size_in, room_enough, lacks_room, mid_writable, below_mid, same_contents, same_place, same_room, stands_rewritten, keeps_rest}
+use Rattle.ados_change.proofs.Keeping.{same_keeps}
 use Rattle.ados_change.proofs.content.grow.Goals as goal
 
 pub returns-then-not-has_room-clause-done : goal.returns-then-not-has_room-clause-done
@@ -44,4 +45,7 @@ returns-clause-done c = λ t s.
 pub returns-clause-keeps : goal.returns-clause-keeps
 returns-clause-keeps c =
     keeps_rest c.args.moment c.args.image.now c.stamp.new.image c.args.file c.requires.tree c.requires.file c.stamp.ensures c.extend_near.new.image (grown_long c) c.extend_near.ensures.grown.keeps
-    (λ same. absurd (not_as_long c same)) c.extend_near.ensures.grown.gains.lowest c.extend_near.ensures.grown.gains.data_rises c.extend_near.ensures.grown.gains.extensions_rise
+    (λ same. absurd (not_as_long c same)) c.extend_near.ensures.grown.gains.lowest c.extend_near.ensures.grown.gains.data_rises c.extend_near.ensures.grown.gains.extensions_rise c.extend_near.ensures.grown.gains.in_turn
+
+pub returns-then-not-has_room-clause-keeps : goal.returns-then-not-has_room-clause-keeps
+returns-then-not-has_room-clause-keeps c = same_keeps c.args.image.now
