@@ -5,7 +5,7 @@ ghost use Rattle.std.specs.Prelude.{IsTrue};
 ghost use Rattle.ados_map.specs.Pages.{LawfulPages};
 
 use crate::desk::serve_line;
-use crate::drawn::settle;
+use crate::drawn::{put, settle};
 use crate::fixtures::{FLOPPY, START, blank_handler, blank_image, work};
 use crate::rows::holds;
 use adf_block::Image;
@@ -72,6 +72,25 @@ fn expect_first_free(rt: &impl Abort, image: &mut Image) {
 #[test]
 fn first_free(rt: HostRuntime) {
     expect_first_free(&rt, &mut blank_image(&rt, rt.alloc(), FLOPPY));
+}
+
+/// A bit that changes makes a wrong checksum of the bitmap block right.
+fn expect_right_bitmap_sums(rt: &impl Abort, image: &mut Image) {
+    put(image, 881, 0, 1);
+    holds(rt, bitmap_sum(image) != Some(0), "wrong");
+    assert!(rt; has_one_bitmap_block(image) && image.blocks() == FLOPPY);
+    holds(rt, take_first(image) == Some(2), "taken");
+    holds(rt, bitmap_sum(image) == Some(0), "right when taken");
+    put(image, 881, 0, 1);
+    holds(rt, bitmap_sum(image) != Some(0), "wrong again");
+    assert!(rt; has_one_bitmap_block(image) && image.blocks() == FLOPPY);
+    give_back(image, 2);
+    holds(rt, bitmap_sum(image) == Some(0), "right when given back");
+}
+
+#[test]
+fn right_bitmap_sums(rt: HostRuntime) {
+    expect_right_bitmap_sums(&rt, &mut blank_image(&rt, rt.alloc(), FLOPPY));
 }
 
 /// Whether the root has no entries, by its hash chains alone.
