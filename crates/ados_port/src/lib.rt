@@ -16,8 +16,8 @@ pub use client::Client;
 pub use exchange::{Exchange, NewRefused};
 pub use port_ends::{
     ClientEnd, GatherRefused, Gathered, HandlerEnd, OpenRefused, Outcome, PutRefused, Reply, Rest,
-    ServeEnd, ServeFault, Server, Step, TakeHistory, closed_after_death, gather,
-    lists_have_a_history, open_port,
+    ServeEnd, ServeFault, Server, Step, TakeHistory, closed_after_death, gather, lists_have_a_history,
+    open_port,
 };
 pub use serve::{ServeClientsFault, Served, serve_clients};
 pub use steps::{RunDone, RunRefused, run};

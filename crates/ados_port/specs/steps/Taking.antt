@@ -1,7 +1,12 @@
--- The effect of a put and a take on a client.
-use Rattle.std.specs.Prelude.{◌≡◌, ℕ, ◌+◌, [], ◌∷◌}
+-- The free places of a client, and the effect of a put and a take on it.
+use Rattle.std.specs.Prelude.{◌≡◌, ℕ, ◌+◌, ◌-◌, [], ◌∷◌}
+use Rattle.std.specs.VecDeque.{deque_len, deque_capacity}
 use Rattle.port_ends.specs.declared.step.Reply.{Reply}
 use Rattle.ados_port.specs.declared.counts.Client.{Client}
+
+-- the free places of a client's list of replies, without those that are kept for replies to its waiting packets
+abbrev pub free_replies : {A : Type 0} → Client A → ℕ
+free_replies c = deque_capacity c.replies - (deque_len c.replies + c.waiting)
 
 -- one more packet was accepted, and this is its number
 abbrev pub CountsOne : {A : Type 0} → Client A → Client A → ℕ → Type 0

@@ -1,5 +1,4 @@
-use Rattle.std.proofs.Common.{[], ℕ, arith, subst}
-use Rattle.port_ends.specs.Batches.{TakesUpTo}
+use Rattle.std.proofs.Common.{[], arith}
 use Rattle.port_ends.proofs.Handling.{serves_none}
 use Rattle.port_ends.proofs.Takes.{nothing_last}
 use Rattle.ados_port.proofs.Growth.{some_more, some_offers}
@@ -21,9 +20,7 @@ pub returns-in-Ok-eq0-clause-served : goal.returns-in-Ok-eq0-clause-served
 returns-in-Ok-eq0-clause-served g c = some_more g.S.Server.gives _ _ _ _ _ c.loop.invariant c.in-Ok-eq0.ensures.ok.1
 
 pub returns-in-Ok-eq0-clause-last : goal.returns-in-Ok-eq0-clause-last
-returns-in-Ok-eq0-clause-last g c =
-    nothing_last 64 c.loop.handler c.serve_batch.new.self (omega arith)
-    (subst (λ (n : ℕ). TakesUpTo 64 c.loop.handler n c.serve_batch.new.self) c.in-Ok-eq0.field-0-test c.in-Ok-eq0.ensures.takes)
+returns-in-Ok-eq0-clause-last g c = nothing_last 64 c.loop.handler c.serve_batch.new.self (omega arith) c.in-Ok-eq0.ensures.takes
 
 pub returns-in-Err-clause-served : goal.returns-in-Err-clause-served
 returns-in-Err-clause-served g c = some_offers g.S.Server.gives _ _ _ _ c.loop.invariant c.in-Err.ensures.err
