@@ -232,7 +232,7 @@ def packed(tried: Elsewhere) -> List[Path]:
         tried.report.expect(f"{folder} are packed", ran.status == 0, ran)
     files, again = (sorted(Path(it).glob("*.deb")) for it in ("packages", "packages again"))
     names = [it.name.partition("_")[0] for it in files]
-    tried.report.same("the packages", names, ["jiponuwha", "jiponuwha-tools", "libjiponuwha-dev", "libjiponuwha1", "python3-jiponuwha"])
+    tried.report.same("the packages", sorted(names), ["jiponuwha", "jiponuwha-tools", "libjiponuwha-dev", "libjiponuwha1", "python3-jiponuwha"])
     same = [it.read_bytes() for it in files] == [it.read_bytes() for it in again]
     tried.report.expect("packed again they have the same bytes", same)
     return [it.resolve() for it in files]

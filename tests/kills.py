@@ -139,15 +139,15 @@ def changes(room: Room) -> Iterator[Change]:
 
 def writes_of(change: Change) -> List[Tuple[Call, bool]]:
     """The calls that write, each with whether it may fail without harm. After the file has its place, only the names in
-    its directory are synced to disk."""
+    its directory are synced to disk. A shared lock only asks whether another command has the file locked, and is given back."""
     writes: List[Tuple[Call, bool]] = []
     placed = False
     for call in traced(change.room, change.words, [*WRITES, *OPENS, *HARMLESS]):
         opens_to_read = call.name in OPENS and not placed and not re.search("O_WRONLY|O_RDWR|O_CREAT", call.about)
         prints = call.name == "write" and re.match("[12]<", call.about)
         if not (opens_to_read or prints or call.answer.startswith("-")):
-            locks_beside = call.name == "flock" and "/.adf_serve-" in call.about
-            writes.append((call, placed or locks_beside or call.name in HARMLESS))
+            asks = call.name == "flock" and re.search("/\\.adf_serve-|LOCK_SH|LOCK_UN", call.about) is not None
+            writes.append((call, placed or asks or call.name in HARMLESS))
             placed = placed or call.name.startswith("rename")
     change.restore()
     return writes
