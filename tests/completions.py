@@ -26,7 +26,9 @@ MAKE = str(TOP / "tools/completions/make")
 # How long a shell may take, in seconds.
 LONGEST = 60
 ODD = "s/sub dir/caf\xe9 (1) $x;&*"
-BELOW_S = ["s", "s/it's", "s/one two", 's/say "hi"', "s/sub dir", ODD]
+# What is in the directory s, and what is in it at the next level.
+BELOW_S = ["s/it's", "s/one two", 's/say "hi"', "s/sub dir/", ODD]
+IN_S = BELOW_S[:-1]
 
 
 class Row(NamedTuple):
@@ -40,6 +42,10 @@ class Row(NamedTuple):
     def typed(self, mark: str = "") -> str:
         """The line, with a mark at the cursor."""
         return f"{self.start} {self.word}{mark}{self.behind and ' '}{self.behind}"
+
+    def has(self, found: Sequence[str]) -> bool:
+        """Whether a shell offers what it should. A directory of an image ends in a slash, and one of the host may."""
+        return sorted(it if it in self.offered else it.rstrip("/") for it in found) == sorted(self.offered)
 
 
 ROWS = [
@@ -61,25 +67,56 @@ ROWS = [
     Row("adf_serve extract --to", "ho", ["host"]),
     Row("adf_serve extract --bundle", "ho", ["host"]),
     # Paths inside an image.
-    Row("adf_serve print work.adf", "", ["libs", *BELOW_S]),
-    Row("adf_serve print work.adf", "s", BELOW_S),
+    Row("adf_serve print work.adf", "", ["libs/", "s/"]),
+    Row("adf_serve print work.adf", "s", ["s/"]),
+    Row("adf_serve print work.adf", "s/", IN_S),
     Row("adf_serve print work.adf", "s/o", ["s/one two"]),
+    Row("adf_serve print work.adf", "s/su", ["s/sub dir/"]),
     Row("adf_serve print work.adf", "s/one\\ ", ["s/one two"]),
     Row("adf_serve print work.adf", "s/it", ["s/it's"]),
     Row("adf_serve print work.adf", "s/it\\'", ["s/it's"]),
     Row("adf_serve print work.adf", "s/sub\\ dir/", [ODD]),
     Row("adf_serve print work.adf", "'s/it", ["s/it's"]),
     Row("adf_serve print work.adf", "'s/sub dir/", [ODD]),
+    Row("adf_serve print work.adf", "'s/su", ["s/sub dir/"]),
     Row("adf_serve print work.adf", '"s/sub dir/', [ODD]),
-    Row("adf_serve delete --all work.adf s", "l", ["libs"]),
-    Row("adf_serve rename work.adf libs", "l", ["libs"]),
+    Row("adf_serve delete --all work.adf s", "l", ["libs/"]),
+    Row("adf_serve rename work.adf libs", "l", ["libs/"]),
     # The image: behind options with values, with blanks in its name, below the home directory, or behind the cursor.
-    Row("adf_serve mkdir --out other.adf work.adf", "l", ["libs"]),
-    Row("adf_serve print my\\ disk.adf", "e", ["elsewhere"]),
-    Row("adf_serve print 'my disk.adf'", "e", ["elsewhere"]),
-    Row("adf_serve print ~/host/home.adf", "e", ["elsewhere"]),
-    Row("adf_serve add --to", "l", ["libs"], "work.adf"),
-    Row("adf_serve add --to", "e", ["elsewhere"], "my\\ disk.adf"),
+    Row("adf_serve mkdir --out other.adf work.adf", "l", ["libs/"]),
+    Row("adf_serve print my\\ disk.adf", "e", ["elsewhere/"]),
+    Row("adf_serve print 'my disk.adf'", "e", ["elsewhere/"]),
+    Row("adf_serve print ~/host/home.adf", "e", ["elsewhere/"]),
+    Row("adf_serve add --to", "l", ["libs/"], "work.adf"),
+    Row("adf_serve add --to", "e", ["elsewhere/"], "my\\ disk.adf"),
+    # What was deleted, level by level: nothing that is still there.
+    Row("adf_serve undelete bin.adf", "", ["a/", "gone", "kept/"]),
+    Row("adf_serve undelete --list bin.adf", "k", ["kept/"]),
+    Row("adf_serve undelete bin.adf gone", "kept/", ["kept/old one"]),
+    Row("adf_serve undelete bin.adf", "a/", ["a/b/"]),
+    Row("adf_serve undelete bin.adf", "a/b/", ["a/b/first", "a/b/second"]),
+    Row("adf_serve extract bin.adf", "", ["kept/"]),
+    Row("adf_serve undelete work.adf", "", []),
+    # A program that is run by a path is asked itself.
+    Row("host/adf_serve", "pr", ["print", "protect"]),
+    Row("./host/adf_serve print work.adf", "", ["by path"]),
+    Row("~/host/adf_serve print work.adf", "b", ["by path"]),
+    Row("./host/adf_serve undelete work.adf", "", ["deleted by path"]),
+    # Standard input as an image is not read.
+    Row("adf_serve print -", "l", []),
+    # Where an option excludes an argument or another option, nothing is offered for it.
+    Row("adf_serve boot --show work.adf", "wo", []),
+    Row("adf_serve boot --install work.adf", "wo", []),
+    Row("adf_serve boot --save new work.adf", "wo", []),
+    Row("adf_serve boot --show", "wo", ["work.adf"]),
+    Row("adf_serve boot work.adf", "wo", ["work.adf"]),
+    Row("adf_serve boot --show work.adf", "--s", []),
+    Row("adf_serve boot work.adf", "--s", ["--save", "--show"]),
+    Row("adf_serve extract --damaged --list work.adf", "s", []),
+    Row("adf_serve extract --damaged work.adf", "s", []),
+    Row("adf_serve extract --bundle new work.adf", "s", []),
+    Row("adf_serve add --bundle host work.adf", "wo", []),
+    Row("adf_serve add --bundle", "ho", ["host"]),
     # Where a path is expected no file of the host is offered, and where nothing is expected nothing.
     Row("adf_serve delete work.adf", "my", []),
     Row("adf_serve print none.adf", "s", []),
@@ -90,6 +127,9 @@ ROWS = [
     Row("adf_mount", "wo", ["work.adf"]),
     Row("adf_mount work.adf", "ho", ["host"]),
 ]
+
+# In bash, which closes the quotes behind a directory.
+BASH_ROWS = [*ROWS, Row("adf_serve print work.adf", "'s/sub dir/'", [ODD])]
 
 # Prints a line after its completion; the keys that complete, insert all that is offered, and print.
 BASH = """PS1='> '
@@ -159,11 +199,12 @@ def fault_of_line(row: Row, completed: str) -> Optional[str]:
     """What is wrong with a completed line: the words that are offered stand in place of the word, each quoted as a shell reads it."""
     if not row.offered:
         return None if completed.rstrip() == row.typed().rstrip() else f"the line is {completed!r}"
-    # (shlex keeps the backslash of a dollar in double quotes)
-    start, behind, words = shlex.split(row.start), shlex.split(row.behind), shlex.split(completed.replace("\\$", "$"))
-    found = sorted(it.rstrip("/") for it in words[len(start) : len(words) - len(behind)])
+    # (shlex keeps the backslash of a dollar in double quotes; a shell may leave the quotes of a directory open)
+    closed = completed.replace("\\$", "$") + (row.word[:1] if row.word[:1] in ("'", '"') and completed.endswith("/") else "")
+    start, behind, words = shlex.split(row.start), shlex.split(row.behind), shlex.split(closed)
     whole = words[: len(start)] == start and words[len(words) - len(behind) :] == behind
-    return None if whole and found == sorted(row.offered) else f"the line is {completed!r}"
+    same = row.has(words[len(start) : len(words) - len(behind)])
+    return None if whole and same else f"the line is {completed!r}"
 
 
 def check_lines(room: Room, shell: str, rows: Sequence[Row], completed: Sequence[str]) -> None:
@@ -174,10 +215,10 @@ def check_lines(room: Room, shell: str, rows: Sequence[Row], completed: Sequence
 
 def in_bash(room: Room, env: Dict[str, str]) -> None:
     room.write("rc", BASH.encode())
-    keys = [f"{it.typed()}{LEFT * (len(it.typed('|')) - 1 - it.typed('|').index('|'))}" for it in ROWS]
-    ends = [COMPLETE if it.word[:1] in ("'", '"') else COMPLETE_ALL for it in ROWS]
+    keys = [f"{it.typed()}{LEFT * (len(it.typed('|')) - 1 - it.typed('|').index('|'))}" for it in BASH_ROWS]
+    ends = [COMPLETE if it.word[:1] in ("'", '"') else COMPLETE_ALL for it in BASH_ROWS]
     typed = [f"{line}{key}{PRINT}{CLEAR}" for line, key in zip(keys, ends)]
-    check_lines(room, "bash", ROWS, at_terminal(["bash", "--rcfile", "rc", "-i"], {**env, "INPUTRC": "/dev/null"}, [*typed, "exit\n"]))
+    check_lines(room, "bash", BASH_ROWS, at_terminal(["bash", "--rcfile", "rc", "-i"], {**env, "INPUTRC": "/dev/null"}, [*typed, "exit\n"]))
 
 
 def in_zsh(room: Room, env: Dict[str, str]) -> None:
@@ -193,12 +234,21 @@ def in_fish(room: Room, env: Dict[str, str]) -> None:
     lines = done(["fish", "offers.fish"], env={**env, "XDG_CONFIG_HOME": str(room.top), "XDG_DATA_HOME": str(room.top)}).decode().splitlines()
     room.report.same("fish completes each line", len(lines), len(rows))
     for row, line in zip(rows, lines):
-        found = sorted(it.rstrip("/") for it in line.split("\t") if it)
-        room.report.same(f"fish: {row.typed('|')}", found, sorted(row.offered))
+        found = [it for it in line.split("\t") if it]
+        room.report.expect(f"fish: {row.typed('|')}", row.has(found), found)
+
+
+# A program that is run by its path: what it prints is not what the one of the path would print.
+BY_PATH = """#!/bin/sh
+case $1 in
+list) printf 'Volume Other\\n       1 ---rwed 2002-08-23 01:01:00.14 by path\\n' ;;
+undelete) echo 'deleted by path: all 2 blocks are free' ;;
+esac
+"""
 
 
 def images(room: Room) -> None:
-    """The images of the rows, and the program in a directory of the path."""
+    """The images of the rows, the program in a directory of the path, and another one in a directory that is not."""
     os.makedirs("host/inner")
     os.mkdir("bin")
     os.symlink(room.program, "bin/adf_serve")
@@ -210,8 +260,20 @@ def images(room: Room) -> None:
         room.done("mkdir", *MOMENT, image, *directories)
     for path in BELOW_S:
         where, _, name = path.rpartition("/")
-        if path not in ("s", "s/sub dir"):
+        if name:
             room.done("add", *MOMENT, "--to", where, "--as", name, "work.adf", "-")
+    room.write("host/adf_serve", BY_PATH.encode())
+    os.chmod("host/adf_serve", 0o755)
+    deleted(room)
+
+
+def deleted(room: Room) -> None:
+    """An image with deleted files in its root, in a directory that is still there, and in one that is deleted too."""
+    room.done("blank", "--ffs", "Bin", "bin.adf")
+    room.done("mkdir", *MOMENT, "bin.adf", "kept", "a", "a/b")
+    for where, name in (("", "gone"), ("kept", "old one"), ("kept", "new"), ("a/b", "first"), ("a/b", "second")):
+        room.done("add", *MOMENT, "--to", where, "--as", name, "bin.adf", "-")
+    room.done("delete", *MOMENT, "--all", "bin.adf", "gone", "kept/old one", "a")
 
 
 def completions(room: Room) -> None:

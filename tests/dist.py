@@ -1,7 +1,8 @@
 #!/usr/bin/env python3
-"""Packs the archive of tools/dist.sh, unpacks it elsewhere, and tests its contents without the kit: the checksums, the tours of
-README and QUICKSTART, the library with the first program of its page, the mount, the manual pages and the completions. Packs
-the Debian packages of tools/dist.sh too, tests them with lintian, installs them in an empty directory, and uses them there.
+"""Packs the archive of tools/dist.sh, unpacks it elsewhere, and tests its contents without the kit: the checksums, the lines of its
+INSTALL, the tours of README and QUICKSTART, the library with the first program of its page, the mount, the manual pages, the links
+of all pages, and the completions. Packs the Debian packages of tools/dist.sh too, tests them with lintian, installs them in an empty
+directory, and uses them there: the first hour of QUICKSTART runs with the installed program on the path.
 
     tests/dist.py [ARCHIVE]     tests this archive instead of a new one, and no packages
 
@@ -20,12 +21,10 @@ from typing import List, Optional, Tuple
 
 sys.dont_write_bytecode = True
 
-from harness import TOP, Failed, Report, Room, built_program, done, run, wait_until_free
-from walk import first_program, link_lines, section_of, walk
+from harness import TOP, Failed, Ran, Report, Room, built_program, done, run, wait_until_free
+from walk import FLOPPY, anchors_of, code_of, first_program, link_lines, links_of, readme, section_of, walk
 
 DIST = str(TOP / "tools" / "dist.sh")
-# What lintian may say of the packages, with the reasons.
-ALLOWED = TOP / "tools" / "debian.lintian"
 COMPILER = os.environ.get("CC") or "cc"
 BARE_PATH = "/usr/bin:/bin"
 PAGES = "share/doc/jiponuwha"
@@ -56,6 +55,7 @@ class Elsewhere(Room):
     def __init__(self, program: Path, report: Report) -> None:
         super().__init__(program, report)
         self.dist = self.top / "dist"
+        self.archive = self.top / "archive.tar.gz"
 
     def bare(self, place: str = ".") -> List[str]:
         """The start of a command line that runs the rest in a directory without the kit, with only the machine's own
@@ -82,7 +82,7 @@ def pack(tried: Elsewhere) -> Optional[Path]:
     if lacks:
         tried.report.skip("the archive", lacks)
         return None
-    archive, again = tried.top / "archive.tar.gz", tried.top / "again.tar.gz"
+    archive, again = tried.archive, tried.top / "again.tar.gz"
     ran = run([DIST, str(archive)], longest=None)
     tried.report.expect("the archive is packed", ran.status == 0, ran)
     ran = run([DIST, str(again)], longest=None)
@@ -92,6 +92,7 @@ def pack(tried: Elsewhere) -> Optional[Path]:
 
 
 def unpack(tried: Elsewhere, archive: Path) -> None:
+    tried.archive = archive
     os.mkdir("elsewhere")
     tried.report.succeeds("it is unpacked", ["tar", "-xzf", str(archive), "-C", "elsewhere"])
     folders = [it.resolve() for it in Path("elsewhere").iterdir()]
@@ -133,17 +134,53 @@ def manual(tried: Elsewhere) -> None:
             tried.report.expect(f"the page {page}(1) is there", file.is_file())
 
 
+def dead_links(top: Path) -> List[str]:
+    """The links of the pages below a directory that lead nowhere."""
+    found = []
+    for page in sorted(top.rglob("*.md")):
+        for path, anchor in links_of(page.read_text(encoding="utf-8")):
+            to = page.parent / path if path else page
+            if not to.is_file() or anchor and anchor not in anchors_of(to.read_text(encoding="utf-8")):
+                found.append(f"{page.relative_to(top)}: {path}#{anchor}")
+    return found
+
+
+def links(report: Report, name: str, pages: Path, top: Path) -> None:
+    """Each link of each page below a directory leads to a page there, and the guides that the page for `man` names are there. The
+    README is that of the packages."""
+    report.same(f"{name}: each link leads somewhere", dead_links(top), [])
+    told = re.findall(r"(?m)^\.Pa ([A-Z]+\.md)", (TOP / "docs/adf_serve.1").read_text(encoding="utf-8"))
+    report.expect(f"{name}: the guides of adf_serve(1)", bool(told) and all((pages / it).is_file() for it in told), told)
+    text = (pages / "README.md").read_text(encoding="utf-8")
+    report.expect(f"{name}: README is that of the packages", "./prove" not in text and "@" not in text, "it is not")
+
+
+def pages_of_archive(tried: Elsewhere) -> None:
+    links(tried.report, "the archive", tried.dist / PAGES, tried.dist)
+
+
 # ---- What is in it ----
 
 
+def install(tried: Elsewhere) -> None:
+    """The lines of INSTALL for the archive put its program on the path."""
+    page = section_of((tried.dist / "INSTALL.md").read_text(encoding="utf-8"), "The archive")
+    (lines,) = code_of(page, "sh")
+    os.mkdir("install")
+    shutil.copy(tried.archive, "install/jiponuwha-here.tar.gz")
+    ran = run(["env", "-C", "install", "bash", "-e", "-c", f"{lines}command -v adf_serve; man -w adf_serve"])
+    folder = tried.top / "install" / tried.dist.name
+    wanted = [str(folder / "bin/adf_serve"), *([str(folder / "share/man/man1/adf_serve.1.gz")] if shutil.which("man") else [])]
+    tried.report.same("INSTALL.md: its lines", ran.output.decode().split("\n")[: len(wanted)], wanted)
+
+
 def walks(tried: Elsewhere) -> None:
-    """README's tour and QUICKSTART, each in a directory with only a link to the program."""
+    """README's tour and QUICKSTART, each in an empty directory, with the program on the path."""
     pages = tried.dist / PAGES
-    tour = section_of((pages / "README.md").read_text(), "A tour")
-    for name, page in (("README.md", tour), ("QUICKSTART.md", (pages / "docs/QUICKSTART.md").read_text())):
+    for name in ("README.md", "QUICKSTART.md"):
         os.mkdir(name)
-        os.symlink(tried.dist / "bin/adf_serve", f"{name}/adf_serve")
-        walk(tried.report, name, page, tried.bare(name))
+    readme(tried.report, "README.md", (pages / "README.md").read_text(), tried.bare("README.md"), FLOPPY)
+    walk(tried.report, "QUICKSTART.md", (pages / "QUICKSTART.md").read_text(), tried.bare("QUICKSTART.md"))
 
 
 Options = List[Tuple[str, List[str]]]
@@ -184,7 +221,7 @@ def library(tried: Elsewhere) -> None:
     if not shutil.which("pkg-config") or not shutil.which(COMPILER):
         tried.report.lacks("the library", "C compiler, or no pkg-config")
         return
-    page = (tried.dist / PAGES / "docs/LIBRARY.md").read_text()
+    page = (tried.dist / PAGES / "LIBRARY.md").read_text()
     tried.write("QUICKSTART.md/first.c", first_program(page))
     front = tried.bare("QUICKSTART.md")
     tried.report.succeeds("LIBRARY.md: the first program", [*front, "bash", "-e", "-c", link_lines(page, tried.dist, COMPILER)])
@@ -239,17 +276,12 @@ def packed(tried: Elsewhere) -> List[Path]:
 
 
 def lintian(report: Report, files: List[Path]) -> None:
-    """lintian says of the packages only what the list allows, and each tag of the list."""
+    """lintian says nothing of the packages, and no package has an override."""
     if not shutil.which("lintian"):
         report.lacks("what lintian says", "lintian")
         return
-    words = ["lintian", "--allow-root", "--no-cfg", "--color", "never", "--tag-display-limit", "0", *map(str, files)]
-    lines = re.findall(r"(?m)^[EWX]: ([a-z0-9-]+): ([a-z0-9-]+)(.*)$", run(words, longest=None).output.decode())
-    rows = [it.split(None, 1) for it in ALLOWED.read_text().splitlines() if it and not it.startswith("#")]
-    report.expect("the list gives reasons", all(len(it) == 2 for it in rows), rows)
-    listed = {it[0] for it in rows}
-    report.same("lintian says no more than the list", [it for it in lines if it[1] not in listed], [])
-    report.same("lintian says all of the list", sorted({it[1] for it in lines}), sorted(listed))
+    words = ["lintian", "--allow-root", "--no-cfg", "--show-overrides", "--tag-display-limit", "0", *map(str, files)]
+    report.same("lintian says nothing", run(words, longest=None), Ran(0, b"", b""))
 
 
 def put_in(report: Report, files: List[Path], root: Path) -> None:
@@ -288,12 +320,15 @@ def same_code(tried: Elsewhere, root: Path) -> Optional[str]:
 
 
 def use_installed(tried: Elsewhere, root: Path, multiarch: str) -> None:
-    """Runs README's tour, builds a C program by pkg-config and by CMake, and imports the package for Python."""
+    """Runs README's tour and the first hour of QUICKSTART, builds a C program by pkg-config and by CMake, and imports the package for
+    Python."""
     report, lib, example = tried.report, root / "usr/lib" / multiarch, root / "usr/share/doc/libjiponuwha-dev/examples/tour.c"
-    os.mkdir("by packages")
-    os.symlink(root / "usr/bin/adf_serve", "by packages/adf_serve")
-    front = ["env", "-i", "-C", "by packages", f"PATH={BARE_PATH}", "LC_ALL=C.UTF-8", f"HOME={tried.top}"]
-    walk(report, "the packages: README.md", section_of((root / "usr/share/doc/jiponuwha/README.md").read_text(), "A tour"), front)
+    for name in ("tour", "hour"):
+        os.makedirs(f"by packages/{name}")
+    front, pages = [f"PATH={root}/usr/bin:{BARE_PATH}", "LC_ALL=C.UTF-8", f"HOME={tried.top}"], root / "usr/share/doc/jiponuwha"
+    in_tour, in_hour = (["env", "-i", "-C", f"by packages/{it}", *front] for it in ("tour", "hour"))
+    readme(report, "the packages: README.md", (pages / "README.md").read_text(), in_tour, FLOPPY)
+    walk(report, "the packages: QUICKSTART.md", (pages / "QUICKSTART.md").read_text(), in_hour)
     found = {"PKG_CONFIG_SYSROOT_DIR": str(root), "PKG_CONFIG_LIBDIR": str(lib / "pkgconfig"), "LD_LIBRARY_PATH": str(lib)}
     if shutil.which("pkg-config") and shutil.which(COMPILER):
         for name in ("jiponuwha", "jiponuwha-shared"):
@@ -340,6 +375,11 @@ def packages(tried: Elsewhere) -> None:
         root = tried.top / "root"
         root.mkdir()
         put_in(tried.report, files, root)
+        links(tried.report, "the packages", root / "usr/share/doc/jiponuwha", root / "usr")
+        for it in sorted(root.glob("usr/share/man/man1/*.gz")) if shutil.which("mandoc") else []:
+            tried.report.same(f"the packages: mandoc about {it.name}", run(["mandoc", "-Tlint", str(it)]), Ran(0, b"", b""))
+        beside = {it.name for it in files[0].parent.iterdir()} - {it.name for it in files}
+        tried.report.same("INSTALL.md stands beside the packages", beside, {"INSTALL.md"})
         tried.report.ends("the installed program has the code of the proved one", partial(same_code, tried, root))
         use_installed(tried, root, done(["dpkg-architecture", "-qDEB_HOST_MULTIARCH"]).decode().strip())
         taken_out(tried.report, files, root)
@@ -354,7 +394,7 @@ def main(words: List[str]) -> int:
         if archive:
             unpack(tried, archive)
             report.same("the kit is not in the path", shutil.which("rt", path=BARE_PATH), None)
-            for part in (files, manual, walks, options, library, mount):
+            for part in (files, manual, pages_of_archive, install, walks, options, library, mount):
                 tried.part(part)
         if not words:
             tried.part(packages)

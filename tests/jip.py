@@ -128,8 +128,7 @@ def reference(tried: Tool) -> None:
     manual = [tried.python, str(TOP / "tools/jip_manual.py"), "--check"]
     tried.report.check("docs/jip.1 has the commands and options of the tool", run(manual, env=tried.env), 0)
     if shutil.which("mandoc"):
-        ran = run(["mandoc", "-Tlint", "-Wwarning", str(TOP / "docs/jip.1")])
-        tried.report.expect("mandoc has no warning about docs/jip.1", ran.status == 0, ran)
+        tried.report.check("mandoc says nothing of docs/jip.1", run(["mandoc", "-Tlint", str(TOP / "docs/jip.1")]))
     else:
         tried.report.lacks("mandoc of docs/jip.1", "mandoc (Debian: mandoc)")
 

@@ -17,7 +17,7 @@ from typing import List, Optional, Sequence, Tuple
 sys.dont_write_bytecode = True
 
 from harness import TOP, Report, Room, Variables, built_program, fault_of, run
-from walk import LIBRARY, code_of, first_floppy, first_program, link_lines, page_of, walk
+from walk import LIBRARY, code_of, first_floppy, first_program, in_new, link_lines, page_of, walk
 
 TESTS, EXAMPLES = TOP / "tests" / "c", TOP / "examples" / "c"
 HEADER = TOP / "bindings/c/jiponuwha.h"
@@ -250,12 +250,10 @@ def examples(tried: Library, compiler: str) -> None:
 
 def program_of_page(tried: Library, compiler: str) -> None:
     """The first program of docs/LIBRARY.md, built as the page says and run on the page's floppy."""
-    page, front = page_of(LIBRARY), ["env", "-C", f"{compiler}-first"]
-    os.mkdir(front[-1])
-    tried.write(f"{front[-1]}/first.c", first_program(page))
+    page, front = page_of(LIBRARY), in_new(tried, f"{compiler}-first")
+    tried.write(f"{compiler}-first/first.c", first_program(page))
     lines = link_lines(page, tried.top / "here", f"{compiler} -std=c11 -Wall -Wextra -Werror")
     tried.report.succeeds(f"{compiler} LIBRARY.md: the first program", [*front, "bash", "-e", "-c", lines])
-    os.symlink(tried.program, f"{front[-1]}/adf_serve")
     first_floppy(front)
     walk(tried.report, f"{compiler} LIBRARY.md", page, front)
 

@@ -30,6 +30,8 @@ class Argument(NamedTuple):
     value: Optional[str]
     default: Optional[str]
     help: str
+    # The arguments that may not stand beside it, as its row has them.
+    excludes: Tuple[str, ...]
 
     def is_option(self) -> bool:
         return self.kind in ("Flag", "With", "Option", "Instead")
@@ -56,6 +58,10 @@ class Command(NamedTuple):
     changes: bool
     options: List[Argument]
     words: List[Argument]
+
+    def excluded_by(self, one: Argument) -> List[Argument]:
+        """The arguments that may not stand beside an argument: its row names them, or theirs name it."""
+        return [it for it in [*self.options, *self.words] if it.name in one.excludes or one.name in it.excludes]
 
 
 class Reader:
@@ -127,13 +133,15 @@ def rows_of(value: Value) -> List[Struct]:
 def argument(row: Struct) -> Argument:
     kind = row.fields["kind"]
     assert isinstance(kind, Struct)
-    value, default = kind.fields.get("value"), kind.fields.get("default")
+    value, default, excludes = kind.fields.get("value"), kind.fields.get("default"), kind.fields.get("excludes", [])
+    assert isinstance(excludes, list)
     return Argument(
         text_of(row.fields["name"]),
         kind.name,
         None if value is None else text_of(value),
         None if default is None else text_of(default),
         text_of(row.fields["help"]),
+        tuple(text_of(it) for it in excludes),
     )
 
 

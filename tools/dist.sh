@@ -1,10 +1,10 @@
 #!/usr/bin/env bash
 # Packs the built files for machines of this type: the program, the C library with its header and examples, the Python package,
-# the mount, manual pages, completions, the guides, the notices of the linked code, the commit with its gate result, and the
-# checksums of the files.
+# the mount, manual pages, completions, the guides, how to install them, the notices of the linked code, the commit with its gate
+# result, and the checksums of the files.
 #
 #   tools/dist.sh [TO]              into one archive, by default out/jiponuwha-COMMIT-KIND.tar.gz
-#   tools/dist.sh --debian [TO]     into Debian packages, in the directory TO, by default out/debian
+#   tools/dist.sh --debian [TO]     into Debian packages, in the directory TO, by default out/debian, with INSTALL.md beside them
 #
 # The script builds only the mount, where libfuse 3 is installed, and packs only a proved program and a proved library, so run
 # `./prove` or `./test` first. GATE is a file with the output of `./test`, by default out/test.log. LIBRARY is another directory with the library, as
@@ -73,11 +73,11 @@ mount() {
 
 pages() {
     local page
-    mkdir -p "$dist/share/man/man1" "$dist/share/doc/jiponuwha/docs" "$dist/share/doc/jiponuwha/examples/c"
+    mkdir -p "$dist/share/man/man1" "$dist/share/doc/jiponuwha/examples/c"
     cp "$top"/examples/c/*.c "$dist/share/doc/jiponuwha/examples/c/"
     for page in "$top"/docs/*.1; do gzip -9n <"$page" >"$dist/share/man/man1/${page##*/}.gz"; done
-    cp "$top/README.md" "$dist/share/doc/jiponuwha/"
-    cp "$top"/docs/{QUICKSTART,COMMANDS,LIBRARY,ARCHIVES,SECURITY,CHANGELOG}.md "$top"/docs/*.{svg,png} "$dist/share/doc/jiponuwha/docs/"
+    "$top/tools/guides.py" "$dist/share/doc/jiponuwha"
+    cp "$top/docs/package/INSTALL.md" "$dist/"
 }
 
 completions() {
@@ -112,6 +112,7 @@ build_file >"$dist/BUILD"
 cp "$room/sums" "$dist/SHA256SUMS"
 if $debian; then
     "$top/tools/debian" "$dist" "$to"
+    cp "$dist/INSTALL.md" "$to/"
 else
     tar -C "$room" --sort=name --owner=0 --group=0 --numeric-owner --mtime="@$SOURCE_DATE_EPOCH" -cf - "$name" | gzip -9n >"$to"
     echo "$to"

@@ -49,7 +49,7 @@ The image may be packed by gzip
 a member of a ZIP file
 .Pq Ql set.zip/disk1.adf ,
 or a DMS file
-.Pq by Xr xdms 1 .
+.Pq by Ql xdms .
 A
 .Ql \\&:
 in the name of a file is written with a directory before it, as
@@ -87,7 +87,7 @@ The file of the shared library, if it is not that of the package or of the
 system.
 .It Ev JIPONUWHA_PROGRAM
 The program
-.Xr adf_serve 1 ,
+.Nm adf_serve Ns (1) ,
 if it is not on the path.
 .El
 .Sh EXIT STATUS
@@ -105,8 +105,8 @@ An image, a name or a change is refused.
 The command was interrupted.
 .El
 .Sh SEE ALSO
-.Xr adf_mount 1 ,
-.Xr adf_serve 1
+.Nm adf_mount Ns (1) ,
+.Nm adf_serve Ns (1)
 """
 
 
