@@ -4,6 +4,9 @@
     tools/contracts.py           writes the pages
     tools/contracts.py --check   prints each page that differs from the sources, and exits with 1 then
 
+At its end a page lists the definitions that its clauses cite, and those of its crate that clauses of any page stand on through
+others. Each has the checksum of its text, without comments, so that a change of it shows in the page.
+
 A public call is a function that the crate's lib.rt or main.rt exports by `pub use` or `pub mod`, a method of an exported type,
 or a member of an exported trait. The sources must have the layout of rustfmt: items of a file begin in the first
 column, and members of an `impl` or a trait in the fifth.
@@ -14,6 +17,10 @@ import re
 import sys
 from dataclasses import dataclass
 from pathlib import Path
+
+sys.dont_write_bytecode = True
+
+from definitions import Definition, below, cited, imports_of  # noqa: E402
 
 TOP = Path(__file__).resolve().parent.parent
 PAGES = TOP / "docs/contracts"
@@ -33,6 +40,12 @@ class Call:
     file: str
     doc: str
     text: str
+    imports: str
+
+    def cites(self) -> set[Definition]:
+        """The definitions that the clauses of this call cite."""
+        clauses = self.text if self.name.startswith("trait ") else "".join(re.split(r"\b(?=requires\b|ensures\b)", self.text)[1:])
+        return set(cited(clauses, *imports_of(self.imports)))
 
     def markdown(self, crate: str) -> str:
         """The text of this call on the page of its crate."""
@@ -121,15 +134,18 @@ def calls_of(file: Path, exports: Exports) -> list[Call]:
     for line in lines:
         starts.append(starts[-1] + len(line) + 1)
     calls, owner, is_trait = [], "", False
+    outer = "\n".join(line for line in lines if line.startswith("ghost use "))
+    inner = ""
     for at, line in enumerate(lines):
         if line.startswith("}"):
-            owner = ""
+            owner = inner = ""
         elif re.match(r"(impl|pub trait)\b", line):
             owner = owner_of(text[starts[at] : text.index("{", starts[at])])
             owner, is_trait = owner if owner in exports.names else "", line.startswith("pub trait")
+            inner = "\n".join(it for it in text[starts[at] :].partition("\n}")[0].split("\n") if it.startswith("    ghost use "))
             ghosts = ghosts_of(lines, at) if is_trait and owner else ""
             if ghosts:
-                calls.append(Call(owner, f"trait {owner}", file.name, doc_above(lines, at), ghosts))
+                calls.append(Call(owner, f"trait {owner}", file.name, doc_above(lines, at), ghosts, f"{outer}\n{inner}"))
         call = CALL.match(line)
         if not call:
             continue
@@ -139,23 +155,45 @@ def calls_of(file: Path, exports: Exports) -> list[Call]:
             head = text[starts[at] : end_of_head(text, starts[at])].rstrip()
             head = "\n".join(part[indent:] for part in head.split("\n"))
             whose = owner if indent else name
-            calls.append(Call(whose, f"{owner}::{name}" if indent else name, file.name, doc_above(lines, at), head))
+            calls.append(Call(whose, f"{owner}::{name}" if indent else name, file.name, doc_above(lines, at), head, f"{outer}\n{inner}"))
     return calls
 
 
-def page_of(crate: Path) -> str:
-    """Returns the page of a crate, or nothing if the crate has no public call."""
-    root = crate / "src/lib.rt" if (crate / "src/lib.rt").is_file() else crate / "src/main.rt"
-    exports = exports_of(root)
-    calls = [call for file in sorted((crate / "src").glob("*.rt")) for call in calls_of(file, exports)]
-    order = {name: at for at, name in enumerate(exports.names)}
-    calls.sort(key=lambda call: order.get(call.owner, len(order)))
-    if not calls:
-        return ""
-    parts = [f"# {crate.name}\n", "Its public calls with their clauses, made by `tools/contracts.py`.\n"]
-    for other, names in exports.passed_on.items():
-        parts.append(f"From [{other}]({other}.md) it exports {', '.join(f'`{name}`' for name in names)}.\n")
-    return "\n".join([*parts, *(call.markdown(crate.name) for call in calls)])
+@dataclass
+class Crate:
+    """A crate with its exports and its public calls, in their order."""
+
+    path: Path
+    exports: Exports
+    calls: list[Call]
+
+    @staticmethod
+    def read(path: Path) -> Crate:
+        root = path / "src/lib.rt" if (path / "src/lib.rt").is_file() else path / "src/main.rt"
+        exports = exports_of(root)
+        calls = [call for file in sorted((path / "src").glob("*.rt")) for call in calls_of(file, exports)]
+        order = {name: at for at, name in enumerate(exports.names)}
+        return Crate(path, exports, sorted(calls, key=lambda call: order.get(call.owner, len(order))))
+
+    def cites(self) -> set[Definition]:
+        return {it for call in self.calls for it in call.cites()}
+
+    def page(self, known: set[Definition]) -> str:
+        """Returns the page of this crate. `known` are all definitions that clauses of any crate stand on."""
+        parts = [f"# {self.path.name}\n", "Its public calls with their clauses, made by `tools/contracts.py`.\n"]
+        for other, names in self.exports.passed_on.items():
+            parts.append(f"From [{other}]({other}.md) it exports {', '.join(f'`{name}`' for name in names)}.\n")
+        direct = self.cites()
+        further = {it for it in known if it.crate == self.path.name} - direct
+        lists = list_of("Definitions that these clauses cite", direct)
+        lists += list_of("Definitions of this crate below those of clauses", further)
+        return "\n".join([*parts, *(call.markdown(self.path.name) for call in self.calls), *lists])
+
+
+def list_of(heading: str, definitions: set[Definition]) -> list[str]:
+    """The part of a page that lists definitions, if there are some."""
+    lines = "".join(f"{it.line()}\n" for it in sorted(definitions))
+    return [f"## {heading}\n", f"```text\n{lines}```\n"] if definitions else []
 
 
 def main(arguments: list[str]) -> int:
@@ -163,9 +201,9 @@ def main(arguments: list[str]) -> int:
     if arguments not in ([], ["--check"]):
         print(__doc__)
         return 0 if arguments in (["-h"], ["--help"]) else 1
-    crates = [crate for crate in sorted((TOP / "crates").iterdir()) if (crate / "src").is_dir()]
-    pages = {PAGES / f"{crate.name}.md": page_of(crate) for crate in crates}
-    pages = {page: text for page, text in pages.items() if text}
+    crates = [Crate.read(path) for path in sorted((TOP / "crates").iterdir()) if (path / "src").is_dir()]
+    known = below({it for crate in crates for it in crate.cites()})
+    pages = {PAGES / f"{crate.path.name}.md": crate.page(known) for crate in crates if crate.calls}
     left_over = [page for page in sorted(PAGES.glob("*.md")) if page not in pages]
     if arguments:
         stale = [page for page, text in pages.items() if not page.is_file() or page.read_text() != text]
