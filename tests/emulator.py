@@ -37,6 +37,9 @@ SERVED = """DIE LOCATE_OBJECT RENAME_DISK FREE_LOCK DELETE_OBJECT RENAME_OBJECT 
 DISK_INFO INFO SET_COMMENT PARENT SET_DATE SAME_LOCK READ WRITE FINDUPDATE FINDINPUT FINDOUTPUT END SEEK SET_FILE_SIZE CURRENT_VOLUME
 MORE_CACHE FLUSH INHIBIT WRITE_PROTECT FH_FROM_LOCK IS_FILESYSTEM COPY_DIR_FH PARENT_FH EXAMINE_FH""".split()
 
+# Other packets that the programs send. Each is refused with 209.
+REFUSED = ["EXAMINE_ALL", "CHANGE_MODE", "MAKE_LINK", "SET_OWNER", "LOCK_RECORD", "ADD_NOTIFY", "unknown action"]
+
 
 class InMemory(Library):
     """A room in memory if that is possible: the host syncs the image after each packet that changes it."""
@@ -106,7 +109,10 @@ def look_at_log(tried: Library, kind: str, log: str) -> None:
     tried.report.same(f"{kind}: the table of the README has each packet", sorted(named), sorted(SERVED))
     wrong = [name for name, line in named.items() if (name, line) not in served]
     tried.report.expect(f"{kind}: each by the line that the table names", not wrong, wrong)
-    tried.report.expect(f"{kind}: each packet was answered", "not served" not in log, "a packet was not served")
+    unserved = re.findall(r"(?m)^.* not served$", log)
+    tried.report.same(f"{kind}: only the packet at an odd address was not served", unserved, ["DISK_INFO 0 0 not served"])
+    refused = {name: set(re.findall(rf"(?m)^{name} (-?[0-9]+ [0-9]+)$", log)) for name in REFUSED}
+    tried.report.same(f"{kind}: each other packet was sent and refused with 209", refused, {name: {"0 209"} for name in REFUSED})
 
 
 def look_at_images(tried: Library, kind: str, out: Path, built: Path) -> None:
@@ -140,7 +146,8 @@ def look_from_floppy(tried: Library, kind: str, out: Path) -> None:
     sums = f"SYS:mid: {len(mid)} bytes, sum {sum_of(mid):X}\n".encode()
     report.same(f"{kind}: its own handler reads a file", tried.run("print", image, "sums").output, sums)
     names = re.findall(r"(?m)^(\S+) ", tried.run("print", image, "listing").output.decode("latin-1"))
-    report.same(f"{kind}: its own handler lists a directory", sorted(it for it in names if it != ":"), ["GREETING", "deep", "here", "program"])
+    listed = sorted(it for it in names if it != ":")
+    report.same(f"{kind}: its own handler lists a directory", listed, ["GREETING", "deep", "here", "program"])
     report.check(f"{kind}: what that machine wrote", tried.run("check", image), 0, b"ok\n")
 
 

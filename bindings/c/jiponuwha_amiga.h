@@ -67,7 +67,8 @@
  * again with the bytes that it had, and write-protected or not as it was, its locks and files work again; a file is at its
  * old position. If its bytes differ, they stay dead. DIE is refused with 202 while any of them is held.
  *
- * Without a disk every packet is refused with 218, except FREE_LOCK and END as above, DIE, and INHIBIT.
+ * Without a disk every packet is refused with 218, except FREE_LOCK and END as above, DIE, and INHIBIT. A removal needs no
+ * memory of the host, so a disk can always be taken out.
  *
  * The library keeps the image of a removed disk in the host's memory while something of it is held, so at most one image for
  * each FileLock and each open file.
@@ -144,7 +145,8 @@ typedef int32_t (*jip_guest_save)(void *context);
  * is refused and stays as it was. To stop access, the host saves the image. The disk is then taken out of the drive as by
  * jip_remove_disk, so programs may write to it by other means. To allow access, the host opens the handle of
  * jip_serve_guest, which is closed, on the image as it is now. The disk is then put in as by jip_insert_disk. If the host
- * leaves the handle closed, the drive is empty. */
+ * leaves the handle closed, the drive is empty. If the host has no memory to put the disk in, INHIBIT is refused with 103 and
+ * stays on, and the handle is closed. If the user changes the disk while INHIBIT is on, the callback opens the new one. */
 typedef int32_t (*jip_guest_inhibit)(void *context, int32_t is_on);
 
 /* An emulated machine that sends packets to one handle. */
@@ -179,15 +181,16 @@ int32_t jip_serve_guest(jip_handle *handle, jip_guest *guest, uint32_t packet_ad
 
 /* Frees all locks and closes all files of a guest, those of removed disks too, and frees the host's memory for the guest. The
  * handle may be closed already. The guest may be used again, as a new one: numbers of files start anew. Call it before
- * jip_close, and when the machine is reset. When a disk is removed, call jip_remove_disk. JIP_WRONG_ARGUMENT: the guest is
- * a null pointer. */
+ * jip_close, and when the machine is reset. When a disk is removed, call jip_remove_disk. What WRITE_PROTECT protects stays so,
+ * as if the host had opened it read-only: to end that, open another handle on the image. JIP_WRONG_ARGUMENT: the guest is a
+ * null pointer. */
 int32_t jip_release_guest(jip_handle *handle, jip_guest *guest);
 
 /* Takes the disk out of the drive, as described above, and sets guest->volume to 0. The handle is closed afterwards: the
  * library has its image now, or has freed it. So save the image first, and free the locks and files of the host itself. If
- * there is no disk, nothing happens; with a closed handle before the first packet, the drive is empty from the start.
- * JIP_NO_MEMORY: only before the first packet; nothing has changed. JIP_WRONG_ARGUMENT: a null pointer or callback, a wrong
- * pool or volume, as for jip_serve_guest. */
+ * there is no disk, nothing happens; with a closed handle before the first packet, the drive is empty from the start. The
+ * call needs no memory, so it never returns JIP_NO_MEMORY. JIP_WRONG_ARGUMENT: a null pointer or callback, a wrong pool or
+ * volume, as for jip_serve_guest; nothing has changed. There is no other refusal. */
 int32_t jip_remove_disk(jip_handle *handle, jip_guest *guest);
 
 /* Puts the disk of an open handle into the empty drive. If it is a removed disk that is back, its locks and files work again,
@@ -198,8 +201,8 @@ int32_t jip_remove_disk(jip_handle *handle, jip_guest *guest);
  * or volume; a closed handle; a disk is in the drive; or INHIBIT is on, whose callback opens the disk. */
 int32_t jip_insert_disk(jip_handle *handle, jip_guest *guest);
 
-/* Sets the callback for INHIBIT, or removes it with NULL. jip_release_guest forgets it. While INHIBIT is on, every packet is
- * refused with 218. JIP_NO_MEMORY, and JIP_WRONG_ARGUMENT as for jip_remove_disk: nothing has changed. */
+/* Sets the callback for INHIBIT, or removes it with NULL. jip_release_guest forgets it. While INHIBIT is on, packets are answered
+ * as without a disk: 218. JIP_NO_MEMORY, and JIP_WRONG_ARGUMENT as for jip_remove_disk: nothing has changed. */
 int32_t jip_guest_on_inhibit(jip_guest *guest, jip_guest_inhibit inhibit);
 
 /* What a volume node has of the disk. */

@@ -19,7 +19,8 @@ trap 'rm -rf "$room"' EXIT
 # One hunk of code without relocations: its own texts and functions are found from the program counter.
 for name in task commands; do
     m68k-linux-gnu-gcc -std=gnu11 -m68020 -Os -mpcrel -Wall -Wextra -ffreestanding -fno-builtin -fno-jump-tables -fomit-frame-pointer \
-        -fno-pic -fno-stack-protector -fno-tree-loop-distribute-patterns -fno-asynchronous-unwind-tables --param=min-pagesize=0 -c "$here/$name.c" -o "$room/$name.o"
+        -fno-pic -fno-stack-protector -fno-tree-loop-distribute-patterns -fno-asynchronous-unwind-tables --param=min-pagesize=0 \
+        -c "$here/$name.c" -o "$room/$name.o"
     m68k-linux-gnu-ld -T "$here/flat.ld" --no-warn-rwx-segments -o "$room/$name.elf" "$room/$name.o"
     m68k-linux-gnu-objcopy -O binary "$room/$name.elf" "$room/$name.bin"
     python3 "$here/hunk.py" "$room/$name.bin" "$out/$name"

@@ -3,7 +3,8 @@
  *     commands COMMAND FROM TO ALL NUMBER n
  *
  * dir, list, type, sum, copy, delete, rename, makedir, protect, filenote, setdate, relabel, info, assign: as the commands in C: of
- * an Amiga, with less. The others are for tests: calls, packet, hold, insert, lock, mark, wait, device. */
+ * an Amiga, with less. The others are for tests: calls, packet, odd, hold, inhibit, insert, lock, mark, wait,
+ * device. */
 #include "amiga.h"
 
 /* Functions of dos.library. */
@@ -29,6 +30,7 @@ enum dos_function {
     PARENT_DIR = -210,
     ALLOC_DOS_OBJECT = -228,
     DO_PKT = -240,
+    WAIT_PKT = -252,
     LOCK_RECORD = -270,
     F_GETS = -336,
     DUP_LOCK_FROM_FH = -372,
@@ -60,6 +62,7 @@ enum dos_function {
     MATCH_END = -834,
     FREE_ARGS = -858,
     ADD_PART = -882,
+    START_NOTIFY = -888,
     PUT_STR = -948,
     V_PRINTF = -954,
     SET_OWNER = -996
@@ -72,8 +75,12 @@ enum { FIB_TYPE = 4, FIB_NAME = 8, FIB_BITS = 116, FIB_SIZE = 124, FIB_DATE = 13
 /* Fields of an AnchorPath with a buffer for a path. */
 enum { AP_BREAK = 8, AP_FLAGS = 16, AP_LENGTH = 18, AP_FIB = 20, AP_PATH = 280, PATH_BYTES = 256, AP_BYTES = AP_PATH + PATH_BYTES };
 enum { DO_DIR = 4, DID_DIR = 8, ARCHIVED = 16 };
+/* Fields of a NotifyRequest and its length. */
+enum { NR_NAME = 0, NR_FLAGS = 12, NR_TASK = 16, NR_BYTES = 48, SEND_SIGNAL = 2 };
+/* Fields of a Process, a Message and a DosPacket, and the lengths of the last two. */
+enum { PR_MSG_PORT = 92, MN_NAME = 10, MN_BYTES = 20, DP_LINK = 0, DP_PORT = 4, DP_TYPE = 8, DP_RES1 = 12, DP_RES2 = 16, DP_BYTES = 48 };
 /* Actions that are sent as packets, two of them to host.c alone. */
-enum { ACTION_DIE = 5, ACTION_CHANGE_DISK = 30001, ACTION_WRITE_LOG = 30002 };
+enum { ACTION_DIE = 5, ACTION_DISK_INFO = 25, ACTION_CHANGE_DISK = 30001, ACTION_WRITE_LOG = 30002 };
 enum { BUFFER_BYTES = 16384, TEXT_BYTES = 300, EX_ALL_BYTES = 2048, LONGEST_WAIT = 1500 };
 
 /* The arguments of the command. */
@@ -241,7 +248,8 @@ static s32 delete(const char *pattern, s32 all) {
 /* ---- Files ---- */
 
 static s32 copy_bytes(const char *from, const char *to) {
-    const u32 in = (u32)dos(OPEN, (u32)from, OLD_FILE), out = in == 0 ? 0 : (u32)dos(OPEN, (u32)to, NEW_FILE), buffer = allocate(BUFFER_BYTES);
+    const u32 in = (u32)dos(OPEN, (u32)from, OLD_FILE), buffer = allocate(BUFFER_BYTES);
+    const u32 out = in == 0 ? 0 : (u32)dos(OPEN, (u32)to, NEW_FILE);
     s32 count = 0, code = 0;
     if (in == 0) return fail(from);
     if (out == 0) code = fail(to);
@@ -364,8 +372,25 @@ static s32 packet(const char *device, u32 action) {
     return 0;
 }
 
+/* Sends a packet at an odd address, which the host does not serve, and waits until it is back. */
+static s32 odd(const char *device) {
+    const u32 process = (u32)dos(GET_DEVICE_PROC, (u32)device, 0), message = allocate(MN_BYTES), at = allocate(DP_BYTES + 1) + 1;
+    if (process == 0) return fail(device);
+    set_long(message + MN_NAME, at);
+    set_long(at + DP_LINK, message);
+    set_long(at + DP_PORT, exec(FIND_TASK, 0, 0, 0, 0) + PR_MSG_PORT);
+    set_long(at + DP_TYPE, ACTION_DISK_INFO);
+    exec(PUT_MSG, 0, 0, get_long(process), message);
+    dos(WAIT_PKT, 0);
+    print("odd packet: %ld, error %ld\n", get_long(at + DP_RES1), get_long(at + DP_RES2), 0);
+    dos(FREE_DEVICE_PROC, process);
+    return 0;
+}
+
 /* Puts an image into the drive; without a name the drive is empty. */
-static s32 insert(const char *device, const char *image) { return ended(send(device, ACTION_CHANGE_DISK, bstr(image == 0 ? "" : image), 0), device); }
+static s32 insert(const char *device, const char *image) {
+    return ended(send(device, ACTION_CHANGE_DISK, bstr(image == 0 ? "" : image), 0), device);
+}
 
 /* Prints whether a call succeeded. */
 static void tell(const char *name, s32 result) {
@@ -409,6 +434,29 @@ static s32 hold(const char *directory, const char *file_name, const char *image)
     return 0;
 }
 
+/* Holds a lock and a file while another disk, and then the first one, is put in under INHIBIT. */
+static s32 hold_inhibited(const char *directory, const char *file_name, const char *image) {
+    const u32 lock = (u32)dos(LOCK, (u32)directory, (u32)SHARED), file = (u32)dos(OPEN, (u32)file_name, READ_WRITE);
+    if (lock == 0 || file == 0) return fail("inhibit");
+    tell("Inhibit", dos(INHIBIT, (u32) "JIP:", (u32)YES));
+    try_held(lock, file);
+    tell("another disk", send("JIP:", ACTION_CHANGE_DISK, bstr(image), 0));
+    try_held(lock, file);
+    dir("JIP:", 0, 0);
+    tell("Inhibit off", dos(INHIBIT, (u32) "JIP:", NO));
+    dir("JIP:", 0, 0);
+    try_held(lock, file);
+    tell("Inhibit", dos(INHIBIT, (u32) "JIP:", (u32)YES));
+    tell("the first disk", send("JIP:", ACTION_CHANGE_DISK, bstr("work.adf"), 0));
+    try_held(lock, file);
+    tell("Inhibit off", dos(INHIBIT, (u32) "JIP:", NO));
+    dir("JIP:", 0, 0);
+    try_held(lock, file);
+    tell("Close", dos(CLOSE, file));
+    dos(UNLOCK, lock);
+    return 0;
+}
+
 /* ---- One call of each kind ---- */
 
 static void call_files(const char *path) {
@@ -446,17 +494,21 @@ static void call_locks(const char *path) {
 }
 
 static void call_volume(const char *path, const char *device) {
-    const u32 data = allocate(36);
+    const u32 data = allocate(36), request = allocate(NR_BYTES);
     tell("IsFileSystem", dos(IS_FILE_SYSTEM, (u32)device));
     tell("AddBuffers", dos(ADD_BUFFERS, (u32)device, 10));
-    tell("DISK_INFO", send(device, 25, data >> 2, 0));
+    tell("DISK_INFO", send(device, ACTION_DISK_INFO, data >> 2, 0));
     tell("CURRENT_VOLUME", send(device, 7, 0, 0));
     tell("FLUSH", send(device, 27, 0, 0));
     tell("Inhibit", dos(INHIBIT, (u32)device, (u32)YES));
-    tell("DISK_INFO", send(device, 25, data >> 2, 0));
+    tell("DISK_INFO", send(device, ACTION_DISK_INFO, data >> 2, 0));
     tell("Inhibit", dos(INHIBIT, (u32)device, NO));
     tell("SetOwner", dos(SET_OWNER, (u32)path, 0x10002));
     tell("MakeLink", dos(MAKE_LINK, (u32)joined(device, "link"), (u32)path, 1));
+    set_long(request + NR_NAME, (u32)path);
+    set_long(request + NR_FLAGS, SEND_SIGNAL);
+    set_long(request + NR_TASK, exec(FIND_TASK, 0, 0, 0, 0));
+    tell("StartNotify", dos(START_NOTIFY, request));
     tell("an unknown packet", send(device, 999, 0, 0));
 }
 
@@ -514,8 +566,10 @@ static s32 run_on_files(const struct arguments *a) {
 static s32 run_test(const struct arguments *a) {
     const char *c = a->command;
     if (is_same(c, "packet")) return packet(a->from, (u32)*a->number);
+    if (is_same(c, "odd")) return odd(a->from);
     if (is_same(c, "insert")) return insert(a->from, a->to);
     if (is_same(c, "hold")) return hold(a->from, a->to, "other.adf");
+    if (is_same(c, "inhibit")) return hold_inhibited(a->from, a->to, "other.adf");
     if (is_same(c, "lock")) return ended(send(a->from, 1023, a->all ? (u32)YES : NO, (u32)*a->number), a->from);
     if (is_same(c, "mark")) return mark(a->from);
     if (is_same(c, "wait")) return wait_for(a->from, 0);

@@ -97,8 +97,9 @@ static void get_string(uint32_t bptr, char text[256]) {
 
 static jip_handle floppy = JIP_CLOSED;
 static jip_guest guest;
-static char path[4096];
-static uint64_t saved; /* the count of changes of the image that is in the file */
+static char path[4096]; /* of the image in the drive; empty without one */
+static uint64_t saved;  /* the count of changes of the image that is in the file */
+static int is_inhibited;
 static FILE *said;
 
 /* Writes the image to its file if it has changed. The file is replaced whole, so it has the old image or the new one at any time.
@@ -113,27 +114,40 @@ static int32_t save(void *context) {
     return result == JIP_DONE ? 0 : JIP_ERROR_DISK_FULL;
 }
 
-/* Opens the handle on the image in the file. Returns a DOS error. */
+/* Opens the handle on the image in the file, if there is one. Returns a DOS error. */
 static int32_t open_disk(void) {
     struct stat file;
     jip_fault fault;
-    const int is_protected = stat(path, &file) == 0 && (file.st_mode & 0222) == 0;
-    const int32_t result = (is_protected ? jip_load_read_only : jip_load)(path, &floppy, &fault);
+    int is_protected;
+    int32_t result;
+    if (path[0] == 0) return 0;
+    is_protected = stat(path, &file) == 0 && (file.st_mode & 0222) == 0;
+    result = (is_protected ? jip_load_read_only : jip_load)(path, &floppy, &fault);
     if (result != JIP_DONE) fprintf(said, "# %s: %s\n", path, jip_error_text(result));
     /* (the first save writes an image whose bitmap was rebuilt) */
     saved = jip_changes(&floppy);
     return result == JIP_DONE ? 0 : JIP_ERROR_NOT_A_DOS_DISK;
 }
 
-/* Puts the image of this name into the drive in place of the one that is there. No name leaves the drive empty. A name is one
- * of the directory, so the machine reaches no other file. */
-static int32_t change_disk(const char *name) {
+/* Sets the path of the image of this name. A name is one of the directory, so the machine reaches no other file. Returns a DOS error. */
+static int32_t set_path(const char *name) {
     const char *disks = getenv("JIP_DISKS");
-    int32_t error = save(NULL);
-    if (error == 0 && jip_remove_disk(&floppy, &guest) != JIP_DONE) error = JIP_ERROR_NO_FREE_STORE;
-    if (error != 0 || name[0] == 0) return error;
+    path[0] = 0;
+    if (name[0] == 0) return 0;
     if (strchr(name, '/') != NULL || name[0] == '.' || disks == NULL) return JIP_ERROR_OBJECT_NOT_FOUND;
-    if ((size_t)snprintf(path, sizeof path, "%s/%s", disks, name) >= sizeof path) return JIP_ERROR_OBJECT_NOT_FOUND;
+    if ((size_t)snprintf(path, sizeof path, "%s/%s", disks, name) < sizeof path) return 0;
+    path[0] = 0;
+    return JIP_ERROR_OBJECT_NOT_FOUND;
+}
+
+/* Puts the image of this name into the drive in place of the one that is there. No name leaves the drive empty. While INHIBIT is on,
+ * the image is opened when that ends. */
+static int32_t change_disk(const char *name) {
+    int32_t error = save(NULL);
+    if (error != 0) return error;
+    (void)jip_remove_disk(&floppy, &guest);
+    error = set_path(name);
+    if (error != 0 || path[0] == 0 || is_inhibited) return error;
     error = open_disk();
     if (error != 0) return error;
     if (jip_insert_disk(&floppy, &guest) != JIP_DONE) {
@@ -144,9 +158,11 @@ static int32_t change_disk(const char *name) {
     return 0;
 }
 
-/* INHIBIT: each change is in the file already, and the file is read again afterwards. */
+/* INHIBIT: each change is in the file already, and the file is read again afterwards. If that is no image then, the drive is empty. */
 static int32_t inhibit(void *context, int32_t is_on) {
-    return is_on ? save(context) : open_disk();
+    if (is_on) return save(context);
+    (void)open_disk();
+    return 0;
 }
 
 /* ---- What task.c calls ---- */
@@ -158,7 +174,7 @@ static jip_date moment(void) {
     return date;
 }
 
-/* Begins. D1, D2: the address of the pool and its length. D3: the port. Returns 0 if there is a drive to serve. */
+/* Begins. Registers d1 and d2: the address of the pool and its length; d3: the port. Returns 0 if there is a drive to serve. */
 int32_t jip_amiga_begin(struct uni *u) {
     const char *log = getenv("JIP_LOG"), *first = getenv("JIP_FIRST");
     const jip_guest fresh = {.read = peek, .write = poke, .save = save, .pool = u->d1, .pool_bytes = u->d2, .port = u->d3};
@@ -167,7 +183,8 @@ int32_t jip_amiga_begin(struct uni *u) {
     (void)setvbuf(said, NULL, _IOLBF, 0);
     guest = fresh;
     guest.now = moment();
-    if (jip_remove_disk(&floppy, &guest) != JIP_DONE || jip_guest_on_inhibit(&guest, inhibit) != JIP_DONE) return 1;
+    (void)jip_remove_disk(&floppy, &guest);
+    if (jip_guest_on_inhibit(&guest, inhibit) != JIP_DONE) return 1;
     return first == NULL ? 0 : change_disk(first);
 }
 
@@ -185,6 +202,7 @@ static int32_t serve(uint32_t packet, int32_t action) {
     int32_t bits = 0, error;
     if (jip_serve_guest(&floppy, &guest, packet) != JIP_DONE) return NOT_SERVED;
     error = (int32_t)get_long(packet + JIP_DP_RES2);
+    if (action == JIP_GUEST_INHIBIT && error == 0) is_inhibited = get_long(packet + JIP_DP_ARG1) != 0;
     if (action == JIP_GUEST_INHIBIT && had_disk != (jip_image_length(&floppy) != 0)) saved = jip_changes(&floppy);
     (void)save(NULL);
     if (volume != guest.volume || (action == JIP_ACTION_RENAME_DISK && error == 0) || action == JIP_GUEST_INHIBIT) bits |= DISK_CHANGED;
@@ -192,7 +210,7 @@ static int32_t serve(uint32_t packet, int32_t action) {
     return bits;
 }
 
-/* Serves the packet at D1. Returns what task.c does then. */
+/* Serves the packet whose address is in register d1. Returns what task.c does then. */
 int32_t jip_amiga_serve(struct uni *u) {
     const uint32_t packet = u->d1;
     const int32_t action = (int32_t)get_long(packet + JIP_DP_TYPE);
@@ -205,12 +223,13 @@ int32_t jip_amiga_serve(struct uni *u) {
         return answer(packet, 0, 0);
     }
     bits = action == CHANGE_DISK ? answer(packet, change_disk(text), DISK_CHANGED) : serve(packet, action);
-    fprintf(said, "%s %d %d%s\n", action == CHANGE_DISK ? "(another disk)" : jip_action_name(action), (int)(int32_t)get_long(packet + JIP_DP_RES1),
-            (int)(int32_t)get_long(packet + JIP_DP_RES2), bits & NOT_SERVED ? " not served" : "");
+    fprintf(said, "%s %d %d%s\n", action == CHANGE_DISK ? "(another disk)" : jip_action_name(action),
+            (int)(int32_t)get_long(packet + JIP_DP_RES1), (int)(int32_t)get_long(packet + JIP_DP_RES2),
+            bits & NOT_SERVED ? " not served" : "");
     return bits;
 }
 
-/* Describes the disk in the drive, at D1: whether there is one, its volume node or 0, its type, date and name. */
+/* Describes the disk in the drive, at the address in register d1: whether there is one, its volume node or 0, its type, date and name. */
 int32_t jip_amiga_disk(struct uni *u) {
     jip_volume volume;
     const int32_t result = jip_volume_of(&floppy, &volume);
@@ -225,7 +244,7 @@ int32_t jip_amiga_disk(struct uni *u) {
     return 0;
 }
 
-/* The volume node of the disk in the drive is at D1. */
+/* The address of the volume node of the disk in the drive is in register d1. */
 int32_t jip_amiga_node(struct uni *u) {
     guest.volume = u->d1;
     return 0;
@@ -237,5 +256,7 @@ int32_t jip_amiga_end(struct uni *u) {
     (void)save(NULL);
     (void)jip_release_guest(&floppy, &guest);
     (void)jip_close(&floppy);
+    path[0] = 0;
+    is_inhibited = 0;
     return 0;
 }

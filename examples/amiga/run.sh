@@ -27,7 +27,7 @@ end() {
     # (the emulator has nothing to save: the host has written each image)
     [ -z "$emulator" ] || kill -KILL "$emulator" 2>/dev/null || true
     [ -z "$screen" ] || kill "$screen" 2>/dev/null || true
-    wait
+    wait 2>/dev/null || true
     rm -rf "$room"
 }
 trap end EXIT

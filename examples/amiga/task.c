@@ -6,7 +6,8 @@
 #include "amiga.h"
 
 /* Functions of dos.library. */
-enum { LOCK_DOS_LIST = -654, UNLOCK_DOS_LIST = -660, REM_DOS_ENTRY = -672, ADD_DOS_ENTRY = -678, MAKE_DOS_ENTRY = -696, FREE_DOS_ENTRY = -702 };
+enum { LOCK_DOS_LIST = -654, UNLOCK_DOS_LIST = -660, REM_DOS_ENTRY = -672, ADD_DOS_ENTRY = -678 };
+enum { MAKE_DOS_ENTRY = -696, FREE_DOS_ENTRY = -702 };
 enum { DEVICE = 0, VOLUME = 2, LISTS_TO_CHANGE = 2 | 4 | 8 }; /* LDF_WRITE, LDF_DEVICES, LDF_VOLUMES */
 
 /* Fields of a Message, a DosPacket and a DosList. */

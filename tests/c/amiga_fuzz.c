@@ -1,13 +1,15 @@
 /* Random packets in random memory of an emulated machine, for sanitizers.
  *
  *   amiga_fuzz SEED SECONDS          runs rounds from 0 on for SECONDS
- *   amiga_fuzz SEED 0 ROUND          runs this round alone; the same seed and round give the same packets
+ *   amiga_fuzz SEED 0 ROUND [COUNT]  runs this round alone, or COUNT rounds from it on; the same seed and round give the same packets
  *
  * Checks after each packet: the machine's memory has changed only where the packet may write. The two results are
  * consistent. A refused packet has not changed the image. A packet that names a lock or file of a removed disk is refused with
- * 218, unless it frees it. Checks after each round: nothing is held, and the image is valid.
+ * 218, unless it frees it. No other packet is, while a disk is in the drive and before DIE. Checks after each round: nothing is held,
+ * and the image is valid.
  *
- * Disks are removed, changed elsewhere, replaced and inserted again, also by INHIBIT.
+ * Disks are removed, changed elsewhere, replaced and inserted again, also by INHIBIT. A removal asks for no memory. An insertion that
+ * has too little of it changes nothing.
  *
  * Link with --wrap for malloc, calloc and realloc, since some rounds refuse growths of memory. In other rounds the
  * machine's memory comes and goes. Those rounds check only the safety of the host. */
@@ -21,7 +23,7 @@
 enum { RAM = 0x8000, PACKETS = 250, NAMES = 0x700, NAME_COUNT = 16, LOCKS = 16, MOST_PLACES = 32, SHELF = 3 };
 
 static uint8_t *ram, *shadow;
-static uint32_t base, rom, refusals;
+static uint32_t base, rom, refusals, growths;
 static uint64_t seed, round_number, draws, checks, packets, answered;
 static jip_handle floppy = JIP_CLOSED;
 static jip_guest guest;
@@ -37,16 +39,24 @@ static struct held held_locks[MOST_PLACES], held_files[MOST_PLACES];
 static uint32_t disk_number, disks, disk_changes;
 /* Whether INHIBIT is on; whether its callback has just opened a disk. */
 static int is_inhibited, was_allowed;
+/* Whether a DIE of this guest succeeded; whether one succeeded on the handle that is in the drive. */
+static int guest_died, handle_died;
 
-/* A disk that was removed: its bytes and its number. */
+/* Whether the disk in the drive is protected by WRITE_PROTECT; whether it was, before a reset: it stays so as by the host. */
+static int is_protected, stays_protected;
+
+/* A disk that was removed: its bytes and its number, and whether WRITE_PROTECT protected it. The number is 0 if it is not the same disk
+ * when it is back: it is opened for writing then, and was protected as by the host. */
 static struct {
     uint8_t *bytes;
     size_t length;
     uint32_t number;
+    int is_protected;
 } shelf[SHELF];
 
 static void fail(const char *what, int line) {
-    printf("FAIL  %s, line %d: amiga_fuzz %" PRIu64 " 0 %" PRIu64 "\n%" PRIu64 " passed, 1 failed\n", what, line, seed, round_number, checks);
+    printf("FAIL  %s, line %d: amiga_fuzz %" PRIu64 " 0 %" PRIu64 "\n", what, line, seed, round_number);
+    printf("%" PRIu64 " passed, 1 failed\n", checks);
     exit(1);
 }
 
@@ -75,6 +85,7 @@ void *__wrap_calloc(size_t count, size_t size);
 void *__wrap_realloc(void *at, size_t size);
 
 static int is_refused(void) {
+    growths++;
     if (!refuses_growths || draw(4) != 0) return 0;
     refusals++;
     return 1;
@@ -148,7 +159,8 @@ static void keep_disk(void) {
     free(shelf[at].bytes);
     shelf[at].bytes = bytes;
     shelf[at].length = length;
-    shelf[at].number = disk_number;
+    shelf[at].number = stays_protected ? 0 : disk_number;
+    shelf[at].is_protected = is_protected;
 }
 
 static void clear_shelf(void) {
@@ -160,34 +172,47 @@ static void clear_shelf(void) {
 static void open_disk(void) {
     const uint32_t at = draw(SHELF);
     jip_fault fault;
+    int is_back;
+    is_protected = stays_protected = 0;
     if (shelf[at].bytes == NULL || chance(30)) {
         blank_disk();
         return;
     }
     HOLDS("a kept image is accepted", jip_open(shelf[at].bytes, shelf[at].length, &floppy, &fault) == JIP_DONE);
     /* (if nothing of it is held, the library has forgotten it) */
-    disk_number = held_of(shelf[at].number) != 0 ? shelf[at].number : ++disks;
+    is_back = shelf[at].number != 0 && held_of(shelf[at].number) != 0;
+    disk_number = is_back ? shelf[at].number : ++disks;
+    is_protected = is_back && shelf[at].is_protected;
     free(shelf[at].bytes);
     memset(&shelf[at], 0, sizeof shelf[at]);
 }
 
 static void remove_disk(void) {
-    const int refuses = refuses_growths;
+    uint32_t before;
     keep_disk();
-    /* (the first call of a guest makes its state) */
-    refuses_growths = 0;
-    HOLDS("a removal", jip_remove_disk(&floppy, &guest) == JIP_DONE && jip_image_length(&floppy) == 0);
-    refuses_growths = refuses;
+    before = growths;
+    HOLDS("a removal", jip_remove_disk(&floppy, &guest) == JIP_DONE && jip_image_length(&floppy) == 0 && guest.volume == 0);
+    HOLDS("a removal asks for no memory", growths == before);
     disk_number = 0;
+    handle_died = 0;
     disk_changes++;
 }
 
 static void insert_disk(void) {
     const int refuses = refuses_growths;
+    const uint32_t volume = guest.volume;
+    int32_t status;
     refuses_growths = 0;
     open_disk();
-    HOLDS("an insertion", jip_insert_disk(&floppy, &guest) == JIP_DONE);
     refuses_growths = refuses;
+    status = jip_insert_disk(&floppy, &guest);
+    if (status == JIP_NO_MEMORY) {
+        HOLDS("an insertion without memory", refuses && jip_image_length(&floppy) != 0 && guest.volume == volume);
+        refuses_growths = 0;
+        status = jip_insert_disk(&floppy, &guest);
+        refuses_growths = refuses;
+    }
+    HOLDS("an insertion", status == JIP_DONE);
 }
 
 /* Removes the disk, or inserts one. */
@@ -206,6 +231,7 @@ static int32_t inhibit(void *context, int32_t is_on) {
     if (chance(20)) return 202;
     refuses_growths = 0;
     if (is_on && disk_number != 0) keep_disk();
+    if (is_on) handle_died = 0;
     if (!is_on && chance(80)) open_disk();
     refuses_growths = refuses;
     is_inhibited = is_on;
@@ -230,8 +256,8 @@ static const struct { uint32_t type; const char *arguments; } kinds[] = {
     {24, "le"}, {24, "le"}, {25, "i"}, {26, "li"}, {28, "-lpt"}, {29, "l"}, {34, "-lpd"}, {40, "ll"}, {82, "han"}, {82, "han"}, {87, "han"},
     {87, "han"}, {1004, "flp"}, {1005, "flp"}, {1006, "flp"}, {1007, "h"}, {1008, "hom"}, {1022, "hom"}, {7, ""}, {27, ""}, {1026, "fl"},
     {1027, ""}, {1030, "h"}, {1031, "h"}, {1034, "he"}, {18, "b"}, {31, "s"}, {1023, "ss"}, {5, ""}};
-static const char *const names[NAME_COUNT] = {"a", "b", "dir", "dir/a", "dir/deep", "dir/deep/x", "/a", "Work:a", "X:dir/b", "A:B:c", "", "dir/",
-                                             "a name of more bytes than a name may have", "dir//b", ":", "\xe4/\xff"};
+static const char *const names[NAME_COUNT] = {"a", "b", "dir", "dir/a", "dir/deep", "dir/deep/x", "/a", "Work:a", "X:dir/b",
+                                             "A:B:c", "", "dir/", "a name of more bytes than a name may have", "dir//b", ":", "\xe4/\xff"};
 
 static uint32_t strange(void) {
     static const uint32_t edges[] = {0, 1, 2, 4, 0x3fffffff, 0x40000000, 0x7fffffff, 0x80000000, 0xfffffffc, 0xffffffff};
@@ -273,7 +299,10 @@ static uint32_t make_packet(void) {
     set_long(at + 8, chance(2) ? draw(1100) : kinds[kind].type);
     /* (DIE is rare, because packets after it are all refused) */
     if (long_at(at + 8) == 5 && !chance(5)) set_long(at + 8, 8);
-    for (uint32_t k = 0; k < 7; k++) set_long(at + 20 + 4 * k, k < strlen(kinds[kind].arguments) ? argument(kinds[kind].arguments[k]) : draw(0));
+    for (uint32_t k = 0; k < 7; k++) {
+        const char *arguments = kinds[kind].arguments;
+        set_long(at + 20 + 4 * k, k < strlen(arguments) ? argument(arguments[k]) : draw(0));
+    }
     if (chance(5)) ram[at - base + draw(48)] ^= (uint8_t)draw(256);
     if (chance(3)) ram[draw(RAM)] = (uint8_t)draw(256);
     if (chance(2)) ram[NAMES + 64 * draw(NAME_COUNT)] = (uint8_t)draw(256);
@@ -362,6 +391,7 @@ static void note_served(uint32_t type, const uint32_t *args, uint32_t given) {
     if (type == 15) drop(held_locks, args[0]);
     if (type == 1007) drop(held_files, args[0]);
     if (type == 1026) drop(held_locks, args[1]);
+    if (type == 1023 && !stays_protected) is_protected = args[0] != 0;
     if ((type >= 1004 && type <= 1006) || type == 1026) {
         const uint32_t argument = long_at((args[0] << 2) + 36);
         HOLDS("a new fh_Arg1", find(held_files, argument) == NULL);
@@ -369,10 +399,13 @@ static void note_served(uint32_t type, const uint32_t *args, uint32_t given) {
     }
 }
 
-/* Checks the answer to a packet that names something of a removed disk, and to one without a disk. */
+/* Checks the answer to a packet that names something of a removed disk, to one without a disk, and to one with a disk. */
 static void look_at_disk(int was_dead, uint32_t type, int32_t res2, uint32_t number) {
     if (was_dead) HOLDS("what is of a removed disk", type == 15 || type == 1007 ? res2 == 0 : res2 == 218);
     else if (number == 0 && type != 5 && type != 31) HOLDS("no disk", res2 == 218);
+    else HOLDS("a disk, or a drive", (res2 == 218) == (guest_died || handle_died));
+    if (type == 5 && res2 == 0) guest_died = 1;
+    if (type == 5 && res2 == 0 && number != 0) handle_died = 1;
 }
 
 static void one_packet(void) {
@@ -395,7 +428,8 @@ static void one_packet(void) {
         return;
     }
     if (status != JIP_DONE) {
-        HOLDS("what is no packet changes nothing", status == JIP_WRONG_ARGUMENT && memcmp(ram, shadow, RAM) == 0 && jip_changes(&floppy) == before);
+        HOLDS("what is no packet", status == JIP_WRONG_ARGUMENT);
+        HOLDS("it changes nothing", memcmp(ram, shadow, RAM) == 0 && jip_changes(&floppy) == before);
         return;
     }
     res1 = (int32_t)long_at(at + 12);
@@ -418,7 +452,7 @@ static void one_packet(void) {
 static void start(void) {
     memset(held_locks, 0, sizeof held_locks);
     memset(held_files, 0, sizeof held_files);
-    is_inhibited = 0;
+    is_inhibited = guest_died = 0;
     if (chance(50)) HOLDS("a callback", jip_guest_on_inhibit(&guest, inhibit) == JIP_DONE);
 }
 
@@ -443,6 +477,7 @@ static void set_up(void) {
     guest.volume = draw(0) & ~(uint32_t)3;
     guest.now = (jip_date){draw(10000), draw(1440), draw(3000)};
     disks = 0;
+    handle_died = is_protected = stays_protected = 0;
     start();
     blank_disk();
 }
@@ -478,7 +513,12 @@ static void reset(void) {
     const int refuses = refuses_growths;
     refuses_growths = 0;
     HOLDS("a reset", jip_release_guest(&floppy, &guest) == JIP_DONE && guest.state == NULL);
-    if (jip_image_length(&floppy) == 0) blank_disk();
+    stays_protected |= is_protected;
+    is_protected = 0;
+    if (jip_image_length(&floppy) == 0) {
+        blank_disk();
+        handle_died = stays_protected = 0;
+    }
     start();
     refuses_growths = refuses;
 }
@@ -488,6 +528,7 @@ static void one_round(void) {
     set_up();
     refuses_growths = chance(10);
     comes_and_goes = chance(10);
+    if (chance(20)) change_disk(); /* before the first packet */
     for (uint32_t k = 0; k < PACKETS; k++) {
         if (draw(400) == 0) reset();
         if (draw(80) == 0) change_disk();
@@ -506,6 +547,7 @@ static double seconds(void) {
 
 int main(int count, char **words) {
     const double begun = seconds(), most = count > 2 ? strtod(words[2], NULL) : 0;
+    uint64_t rounds = count > 4 ? strtoull(words[4], NULL, 10) : 1;
     if (count < 3) return 2;
     seed = strtoull(words[1], NULL, 10);
     round_number = count > 3 ? strtoull(words[3], NULL, 10) : 0;
@@ -515,7 +557,8 @@ int main(int count, char **words) {
     do {
         one_round();
         round_number++;
-    } while (seconds() - begun < most);
+        if (rounds > 0) rounds--;
+    } while (rounds > 0 || seconds() - begun < most);
     free(ram);
     free(shadow);
     printf("seed %" PRIu64 ": %" PRIu64 " rounds, %" PRIu64 " packets, %" PRIu64 " of them served, %" PRIu32 " disk changes, %" PRIu32

@@ -215,6 +215,7 @@ static void no_disk(int32_t format) {
     static const uint32_t types[] = {7, 8, 9, 16, 18, 22, 25, 27, 999, 1006, 1023, 1027};
     for (size_t k = 0; k < sizeof types / sizeof types[0]; k++) GIVES(DOSFALSE, 218, types[k], 0, 0, 0, 0);
     GIVES(DOSFALSE, 218, 15, 0, 0, 0, 0);
+    GIVES(DOSFALSE, 209, 31, ON, 0, 0, 0); /* without a callback */
     GIVES(-1, 218, 82, 1, 0, 0, 0);
     GIVES(DOSFALSE, 202, 5, 0, 0, 0, 0);
     jip_handle closed = JIP_CLOSED;
@@ -225,6 +226,7 @@ static void no_disk(int32_t format) {
     SENT(5, 0, 0, 0, 0);
     insert_other("Late");
     GIVES(DOSFALSE, 218, 8, 0, bstr(""), (uint32_t)-2, 0); /* after DIE */
+    GIVES(DOSFALSE, 218, 31, ON, 0, 0, 0);
     EXPECT("a disk is in the drive", jip_insert_disk(&floppy, &guest) == JIP_WRONG_ARGUMENT);
     tear_down();
     set_up(format);
@@ -236,6 +238,34 @@ static void no_disk(int32_t format) {
     insert_other("First");
     SENT(25, DISK >> 2, 0, 0, 0);
     tear_down();
+}
+
+/* A removal as the first call of a guest, with a disk and without one. What follows is as after any other removal. */
+static void removed_first(int32_t format) {
+    for (int turn = 0; turn < 5; turn++) {
+        set_up(format);
+        keep();
+        if (turn == 1) EXPECT("close", jip_close(&floppy) == JIP_DONE);
+        remove_disk();
+        remove_disk();
+        if (turn == 2) {
+            SENT(5, 0, 0, 0, 0); /* DIE */
+        } else if (turn == 3) {
+            EXPECT("a callback", jip_guest_on_inhibit(&guest, NULL) == JIP_DONE);
+            GIVES(DOSFALSE, 209, 31, ON, 0, 0, 0);
+        } else if (turn == 4) {
+            EXPECT("release", jip_release_guest(&floppy, &guest) == JIP_DONE && guest.state == NULL);
+            EXPECT("no disk was removed", jip_serve_guest(&floppy, &guest, PACKET) == JIP_WRONG_ARGUMENT);
+            remove_disk();
+        }
+        GIVES(DOSFALSE, 218, 8, 0, bstr(""), (uint32_t)-2, 0);
+        GIVES(-1, 218, 82, 1, BYTES, 1, 0);
+        EXPECT("it is another disk", !insert_kept(0));
+        EXPECT("a disk is in the drive", jip_insert_disk(&floppy, &guest) == JIP_WRONG_ARGUMENT);
+        if (turn == 2) GIVES(DOSFALSE, 218, 8, 0, bstr(""), (uint32_t)-2, 0);
+        else GIVES((int32_t)place(0), 0, 8, 0, bstr(""), (uint32_t)-2, 0);
+        tear_down();
+    }
 }
 
 /* ---- INHIBIT ---- */
@@ -348,7 +378,8 @@ static void nodes(int32_t format) {
     set_up(format);
     EXPECT("closed", jip_volume_of(&closed, &volume) == JIP_WRONG_ARGUMENT && jip_volume_of(&floppy, NULL) == JIP_WRONG_ARGUMENT);
     (void)locked("", -1);
-    EXPECT("the volume, under an exclusive lock", jip_volume_of(&floppy, &volume) == JIP_DONE && volume.disk_type == 0x444f5300 + (uint32_t)format);
+    EXPECT("the volume, under an exclusive lock", jip_volume_of(&floppy, &volume) == JIP_DONE);
+    EXPECT("its type", volume.disk_type == 0x444f5300 + (uint32_t)format);
     EXPECT("its name", volume.name_length == 4 && strcmp((const char *)volume.name, "Work") == 0);
     EXPECT("its date", volume.date.days == 1 && volume.date.minutes == 2 && volume.date.ticks == 3);
     SENT(15, place(0), 0, 0, 0);
@@ -361,7 +392,8 @@ static void nodes(int32_t format) {
 }
 
 int main(void) {
-    static void (*const parts[])(int32_t) = {other_disk, full_of_dead, same_disk, changed_disk, three_disks, no_disk, inhibited, protected_disk, nodes};
+    static void (*const parts[])(int32_t) = {other_disk, full_of_dead, same_disk, changed_disk, three_disks, no_disk, removed_first,
+                                             inhibited, protected_disk, nodes};
     ram = malloc(RAM);
     if (ram == NULL) return 1;
     for (int32_t format = JIP_OFS; format <= JIP_FFS; format++)

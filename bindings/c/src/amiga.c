@@ -53,6 +53,10 @@ struct jip_guest_state {
     int is_inhibited, has_died;
 };
 
+/* The state of a guest whose disk was removed before the guest needed memory: the drive is empty, and nothing is held. It belongs to
+ * all such guests, and is never written. So a removal takes no memory. */
+static struct jip_guest_state empty_drive;
+
 /* The packet that is served. */
 struct serving {
     jip_handle *handle;
@@ -158,15 +162,20 @@ static void set_refusal(struct serving *s, int32_t error) {
     set_results(s, counts ? -1 : (int32_t)JIP_DOSFALSE, error);
 }
 
-/* Refuses the packet with this error, or with 218 after DIE. FREE_LOCK of lock 0 shows that: it fails only after DIE. */
+/* Returns 218 after DIE, and otherwise 0, also for an empty drive. FREE_LOCK of lock 0 shows that: it fails only after DIE. */
+static int32_t death_of(const struct serving *s) {
+    return jip_image_length(s->handle) == 0 ? 0 : asked_of_lock(s, JIP_ACTION_FREE_LOCK, 0).res2;
+}
+
+/* Refuses the packet with this error, or with 218 after DIE. */
 static void refuse(struct serving *s, int32_t error) {
-    const int32_t dead = asked_of_lock(s, JIP_ACTION_FREE_LOCK, 0).res2;
+    const int32_t dead = death_of(s);
     set_refusal(s, dead != 0 ? dead : error);
 }
 
 /* Answers the packet without the handler, or refuses it with 218 after DIE. */
 static void accept(struct serving *s, int32_t res1) {
-    const int32_t dead = asked_of_lock(s, JIP_ACTION_FREE_LOCK, 0).res2;
+    const int32_t dead = death_of(s);
     set_results(s, dead != 0 ? (int32_t)JIP_DOSFALSE : res1, dead);
 }
 
@@ -599,7 +608,7 @@ static struct disk *new_disk(struct jip_guest_state *state) {
     return disk;
 }
 
-/* Takes the disk out of the drive, with the caller's handle. */
+/* Takes the disk out of the drive, with the caller's handle. It takes no memory. */
 static void take_out(jip_handle *handle, jip_guest *guest) {
     struct jip_guest_state *state = guest->state;
     struct disk *disk = state->disk;
@@ -738,7 +747,7 @@ static void uninhibit(struct serving *s) {
 static void serve_inhibit(struct serving *s) {
     struct jip_guest_state *state = s->guest->state;
     const int is_on = s->arguments[0] != 0;
-    if (state->inhibit == NULL) {
+    if (state->inhibit == NULL || death_of(s) != 0) {
         refuse(s, JIP_ERROR_ACTION_NOT_KNOWN);
     } else if (is_on == state->is_inhibited) {
         set_results(s, JIP_DOSTRUE, 0);
@@ -959,9 +968,8 @@ static int read_packet(struct serving *s) {
     return 1;
 }
 
-static void free_state(jip_guest *guest) {
-    struct jip_guest_state *state = guest->state;
-    if (state == NULL) return;
+static void free_state(struct jip_guest_state *state) {
+    if (state == NULL || state == &empty_drive) return;
     while (state->removed != NULL) {
         struct disk *disk = state->removed;
         state->removed = disk->next;
@@ -971,29 +979,39 @@ static void free_state(jip_guest *guest) {
     free(state->locks);
     free(state->files);
     free(state);
-    guest->state = NULL;
 }
 
-/* Allocates the host's memory for a guest, with a disk in the drive. Returns 0 if memory runs out. */
+/* Allocates the host's memory for a guest, with a disk in the drive or without one. Returns NULL if memory runs out. */
+static struct jip_guest_state *new_state(uint32_t places, int has_disk) {
+    struct jip_guest_state *state = (struct jip_guest_state *)calloc(1, sizeof *state);
+    if (state == NULL) return NULL;
+    state->places = places;
+    state->locks = (struct held_lock *)calloc((size_t)places + 1, sizeof *state->locks);
+    state->files = (struct open_file *)calloc((size_t)places + 1, sizeof *state->files);
+    if (has_disk) state->disk = new_disk(state);
+    if (state->locks != NULL && state->files != NULL && (state->disk != NULL || !has_disk)) return state;
+    free_state(state);
+    return NULL;
+}
+
+/* Whether the guest has the host's memory. It gets it when it first needs it; a disk is in the drive then, unless it was removed before.
+ * If memory runs out, the guest is unchanged. */
 static int has_state(jip_guest *guest) {
-    const uint32_t places = guest->pool_bytes / JIP_FL_BYTES;
-    if (guest->state != NULL) return 1;
-    guest->state = (struct jip_guest_state *)calloc(1, sizeof *guest->state);
-    if (guest->state == NULL) return 0;
-    guest->state->places = places;
-    guest->state->locks = (struct held_lock *)calloc((size_t)places + 1, sizeof *guest->state->locks);
-    guest->state->files = (struct open_file *)calloc((size_t)places + 1, sizeof *guest->state->files);
-    guest->state->disk = new_disk(guest->state);
-    if (guest->state->locks != NULL && guest->state->files != NULL && guest->state->disk != NULL) return 1;
-    free_state(guest);
-    return 0;
+    struct jip_guest_state *state;
+    if (guest->state != NULL && guest->state != &empty_drive) return 1;
+    state = new_state(guest->pool_bytes / JIP_FL_BYTES, guest->state == NULL);
+    if (state == NULL) return 0;
+    guest->state = state;
+    return 1;
 }
 
-/* Whether the packet meets a disk. A drive without one, or an inhibited one, still serves INHIBIT and DIE. */
-static int has_disk(struct serving *s, const struct action *row) {
+/* Whether the packet is served without a disk: DIE and INHIBIT. */
+static int is_for_drive(const struct action *row) { return row != NULL && (row->serve == serve_die || row->serve == serve_inhibit); }
+
+/* Whether the packet has what it needs: a disk in the drive that is not inhibited, or nothing. */
+static int has_disk(const struct serving *s, const struct action *row) {
     const struct jip_guest_state *state = s->guest->state;
-    const int has_one = state->disk != NULL && !state->is_inhibited;
-    return !state->has_died && (has_one || (row != NULL && (row->serve == serve_die || row->serve == serve_inhibit)));
+    return !state->has_died && (is_for_drive(row) || (state->disk != NULL && !state->is_inhibited));
 }
 
 /* Checks the arguments of the packet, and serves or refuses it. */
@@ -1033,7 +1051,8 @@ int32_t jip_serve_guest(jip_handle *handle, jip_guest *guest, uint32_t packet_ad
     s.guest = guest;
     s.at = packet_address;
     if (!read_packet(&s)) return JIP_WRONG_ARGUMENT;
-    if (has_state(guest)) {
+    /* (the empty drive refuses the other packets without memory) */
+    if (has_state(guest) || (guest->state == &empty_drive && !is_for_drive(row_of(s.packet.action)))) {
         serve(&s);
     } else {
         refuse(&s, JIP_ERROR_NO_FREE_STORE);
@@ -1062,7 +1081,8 @@ int32_t jip_release_guest(jip_handle *handle, jip_guest *guest) {
         }
         if (lock->disk == state->disk) (void)asked_of_lock(&s, JIP_ACTION_FREE_LOCK, lock->number);
     }
-    free_state(guest);
+    free_state(state);
+    guest->state = NULL;
     return JIP_DONE;
 }
 
@@ -1075,13 +1095,18 @@ int32_t jip_guest_on_inhibit(jip_guest *guest, jip_guest_inhibit inhibit) {
 
 int32_t jip_remove_disk(jip_handle *handle, jip_guest *guest) {
     if (handle == NULL || !is_set_up(guest)) return JIP_WRONG_ARGUMENT;
-    if (!has_state(guest)) return JIP_NO_MEMORY;
-    take_out(handle, guest);
+    if (guest->state != NULL) {
+        take_out(handle, guest);
+    } else {
+        (void)jip_close(handle);
+        guest->volume = 0;
+        guest->state = &empty_drive;
+    }
     return JIP_DONE;
 }
 
 int32_t jip_insert_disk(jip_handle *handle, jip_guest *guest) {
     if (!is_set_up(guest) || jip_image_length(handle) == 0) return JIP_WRONG_ARGUMENT;
     if (guest->state == NULL || guest->state->disk != NULL || guest->state->is_inhibited) return JIP_WRONG_ARGUMENT;
-    return put_in(handle, guest) ? JIP_DONE : JIP_NO_MEMORY;
+    return has_state(guest) && put_in(handle, guest) ? JIP_DONE : JIP_NO_MEMORY;
 }
