@@ -463,6 +463,12 @@ def many_clients(tried: Commands) -> None:
         tried.write(it, b"other 999\n" * 500)
     wanted = "".join(f"{client}.{packet} 0 209\n" for client in range(1, 9) for packet in range(1, 501))
     tried.rows(row("eight clients with 500 packets each", ["serve", "ffs.adf", *scripts], 0, wanted))
+    tried.write("hundred", b"other 999\n" * 100)
+    wanted = "".join(f"{client}.{packet} 0 209\n" for client in range(1, 201) for packet in range(1, 101))
+    tried.rows(row("200 clients with 100 packets each", ["serve", "ffs.adf", *["hundred"] * 200], 0, wanted))
+    ran = tried.run(input=b"other 999\n" * 20000)
+    wanted = "".join(f"1.{packet} 0 209\n" for packet in range(1, 20001))
+    tried.report.check("a script of 20,000 packets", ran, 0, wanted.encode())
 
 
 # ---- Refused growths of memory ----

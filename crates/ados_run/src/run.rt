@@ -44,8 +44,8 @@ pub fn run_volume(
 ) -> Result<RunDone<Handler>, RunFault>
     requires { 1 ≤ clients }
     ensures { MatchResult result
-        (λ done. RunsVolume image clients steps.items done.outcomes.items done.exchange
-        × KeepsVolume image clients steps.items done.outcomes.items done.exchange)
+        (λ done. RunsVolume image clients steps.items done.outcomes.items done.exchange.port
+        × KeepsVolume image clients steps.items done.outcomes.items done.exchange.port)
         (IsRunFault image) }
 {
     let volume = check(alloc, image)?;
