@@ -49,6 +49,7 @@ pub fn run_volume(
         (IsRunFault image) }
 {
     let volume = check(alloc, image)?;
+    prove!(volume.image().blocks() >= 16);
     let handler = Handler::new(alloc, volume);
     let exchange = match Exchange::new(alloc, handler, clients) {
         Ok(exchange) => exchange,

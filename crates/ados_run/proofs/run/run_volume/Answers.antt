@@ -1,4 +1,5 @@
-use Rattle.std.proofs.Common.{ap, ◌∙◌}
+use Rattle.std.proofs.Common.{ap, ◌∙◌, subst, sym}
+use Rattle.adf_block.specs.Whole.{IsImage}
 use Rattle.ados_model.specs.Session.{HandlerState}
 use Rattle.ados_run.proofs.Runs.{accepted_by, keeps_volume}
 use Rattle.ados_run.proofs.Weaker.{meant_run}
@@ -8,7 +9,7 @@ pub returns-in-Ok-run : goal.returns-in-Ok-run
 returns-in-Ok-run c =
     let kept = keeps_volume c.args.image c.args.clients c.args.steps.items c.in-Ok-run.done.outcomes.items c.in-Ok-run.done.exchange.port
     c.new-handler.result (accepted_by c.args.image c.in_ok-volume.volume.image c.in_ok-volume.volume.was_validated c.new-handler.result c.new-handler.ensures.image c.new-handler.ensures.validated c.in_ok-volume.ensures)
-    c.new-handler.ensures.session
+    (subst IsImage (c.image.ensures.same ∙ sym c.new-handler.ensures.image) c.blocks-2.ensures.image) c.new-handler.ensures.session
     c.in-Ok.exchange.port c.in-Ok.ensures c.in-Ok-run.ensures.history in
     (meant_run c.args.image c.args.clients c.args.steps.items c.in-Ok-run.done.outcomes.items c.in-Ok-run.done.exchange.port kept, kept)
 
