@@ -4,7 +4,7 @@ use Rattle.adf_block.specs.Whole.{IsImage}
 use Rattle.ados_name.specs.declared.stamp.Date3.{Date3}
 use Rattle.ados_model.specs.declared.packet.Packet.{Packet}
 use Rattle.ados_model.specs.declared.answer.Answer.{Answer}
-use Rattle.ados_model.specs.Session.{HandlerState}
+use Rattle.ados_handler.specs.HandlerState.{HandlerState}
 use Rattle.ados_port.specs.History.{ClientState, PortHistory, Run, client_state, opening_port}
 use Rattle.ados_handler.specs.Gives.{HandlerGives}
 use Rattle.ados_run.specs.Runs.{HandlerPort, PacketOutcomes, PacketSteps}
