@@ -15,6 +15,7 @@ use crate::output::tell;
 use crate::refusal::Refusal;
 use adf_archive::ReadImages;
 use adf_block::Image;
+use adf_host::PromptFiles;
 use adf_text::print_line;
 use adf_where::{WhereFault, faulty_where_text, where_path_text, where_text};
 use adf_words::WhereJob;
@@ -34,7 +35,7 @@ pub(crate) fn tell_where<'a, R, W, F>(
     faults: &mut F,
 ) -> Result<(), CommandFault<'a>>
 where
-    R: Files<File = File> + ReadImages,
+    R: Files<File = File> + PromptFiles + ReadImages,
     W: Write,
     F: Write,
     ensures { DoesWhere job.now (W.contents writer.old) (W.contents writer.new) result }

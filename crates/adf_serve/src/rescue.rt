@@ -7,7 +7,7 @@ ghost use Rattle.adf_serve.specs.Rescues.{DoesRescue, IsRescueEnd};
 use crate::fault::CommandFault;
 use crate::images::{read_image, unread};
 use adf_block::Image;
-use adf_host::read_filled_file;
+use adf_host::{PromptFiles, read_filled_file};
 use adf_io::{Filled, PrintFault, write_output};
 use adf_record::Grouped;
 use adf_rescue::{Doubt, Rescue, RescueFault, extract_damaged};
@@ -27,7 +27,7 @@ pub(crate) fn take_rescue<'a, R, W, F>(
     faults: &mut F,
 ) -> Result<(), CommandFault<'a>>
 where
-    R: Files<File = File>,
+    R: Files<File = File> + PromptFiles,
     W: Write,
     F: Write,
     ensures { DoesRescue job.now (W.contents writer.old) (W.contents writer.new) result }
@@ -150,7 +150,7 @@ const GONE: &str = "doubtful: its header is gone, and it is made of the data blo
 const CUT: &str = "cut short: all files that are not whole have four times the bytes of the image";
 
 /// The rescue of an image.
-fn rescue_of<'a, R: Files<File = File>>(
+fn rescue_of<'a, R: Files<File = File> + PromptFiles>(
     rt: &R,
     alloc: Global,
     image: Image,
