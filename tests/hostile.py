@@ -68,7 +68,9 @@ from harmful import (
     ends_late,
     extensions_round,
     grows_by_one,
+    hang,
     headers_of,
+    join,
     long_names,
     names_alike,
     names_of_one_chain,
@@ -86,6 +88,7 @@ from harness import (
     FILE,
     LONGEST,
     MOMENT,
+    POINTERS,
     TOP,
     Call,
     Ended,
@@ -1418,6 +1421,44 @@ def deep_images(blocks: int, room: Shared) -> None:
     room.report.expect(f"what is left of {title} of {blocks} blocks", listed == b"Volume Work\n", f"{listed[:200]!r}")
 
 
+def counted(room: Room, words: Sequence[str]) -> Tuple[int, int, bytes]:
+    """Runs a command with the memory for the largest image. Returns its status, the bytes that it printed, and what it said."""
+
+    def within_bounds() -> None:
+        resource.setrlimit(resource.RLIMIT_AS, (WORST_MEMORY, WORST_MEMORY))
+
+    with open("texts", "w+b") as texts:
+        began = subprocess.Popen([str(room.program), *words], stdin=subprocess.DEVNULL, stdout=subprocess.PIPE, stderr=texts, preexec_fn=within_bounds)
+        assert began.stdout
+        count = 0
+        while piece := began.stdout.read(1 << 20):
+            count += len(piece)
+        return began.wait(), count, room.content("texts")
+
+
+def asked_blocks(blocks: int, room: Shared) -> None:
+    """`where` prints far more than it may keep: of an image in which all headers name one block again and again, and of one whose
+    paths are too long to be printed."""
+    room.done("blank", "--ffs", "--blocks", str(blocks), *MOMENT, "Work", "blank.adf")
+    image = Image(room.content("blank.adf"))
+    places = places_in(image)
+    named = places[-1]
+    for block in places[:-1]:
+        put_header(image, block, POINTERS * BLOCK, [named] * POINTERS)
+    join(image, places[:-1])
+    hang(image, image.root, places[0])
+    room.write("shares.adf", bytes(image.data))
+    for times in (1, 3):
+        for form in ([], ["--json"]):
+            status, count, said = counted(room, ["where", *form, "shares.adf", *[str(named)] * times])
+            name = f"where {' '.join(form)} of a block that all name, {times} times, of {blocks} blocks"
+            room.report.expect(name, status == 3 and count > times * len(places) * POINTERS * 20, (status, count, said[-200:]))
+    room.write("deep.adf", deep_chain(room.content("blank.adf")))
+    asked = [str(it) for it in range(blocks)]
+    for form in ([], ["--json"]):
+        bounded(room, blocks, f"where {' '.join(form)} of all blocks of a chain of directories", ["where", *form, "deep.adf", *asked], 0)
+
+
 # The blocks that stay free in an image whose names are all in one hash chain.
 SPARE = 8
 
@@ -1481,6 +1522,7 @@ def disks() -> List[Task[Shared]]:
     for blocks in sorted(WORST_TIMES, reverse=True):
         found.append((f"one hash chain of {blocks} blocks", partial(one_hash_chain, blocks)))
         found.append((f"a chain of directories of {blocks} blocks", partial(deep_images, blocks)))
+        found.append((f"blocks that are asked for of {blocks} blocks", partial(asked_blocks, blocks)))
     for size, (title, _, _) in reversed(list(enumerate(SIZES))):
         found.append((f"{title}, files that claim more", partial(floppies, size)))
         found.append((f"{title}, chains", partial(chains, size)))

@@ -2,4 +2,5 @@
 pub mod Common
 pub mod Belonging
 pub mod FaultsThere
+mod Deep
 mod Zipped

@@ -2,7 +2,7 @@
 use Rattle.std.specs.Prelude.{◌≡◌, ℕ, ◌-◌, ◌==◌, nat_lt, Bool, false, if◌then◌else◌, List, [], ◌∷◌, ◌++◌, length, All, AllPairs, Contains, flat_map, codes, decimal, Option, Some, None}
 use Rattle.std.specs.Option.{option_map_or}
 use Rattle.std.specs.List.{AllZip}
-use Rattle.json.specs.Token.{Token, begin_object, boolean, end_object, key, number, string}
+use Rattle.json.specs.Token.{Token, begin_array, begin_object, boolean, end_array, end_object, key, number, string}
 use Rattle.adf_block.specs.Image.{block_count}
 use Rattle.adf_block.specs.declared.layout.TheConstants.{BOOT_BLOCKS, FIRST_PAGE, FIRST_POINTER}
 use Rattle.ados_faults.specs.Listed.{ListsEach, ListsFaults, StandsBefore, fault_of}
@@ -13,9 +13,12 @@ use Rattle.ados_model.specs.Faults.{Shows, root_of}
 use Rattle.ados_mend.specs.declared.naming.Naming.{Naming}
 use Rattle.ados_mend.specs.declared.naming.Naming.TheVariants.{Entry, NextEntry, Extension, Data, Page}
 use Rattle.ados_mend.specs.declared.naming.Place.{Place}
-use Rattle.ados_mend.specs.Places.{AreAllPlaces}
+use Rattle.json.specs.Print.{print}
+use Rattle.std.specs.List.Sorted.{IsStrictlyIncreasing}
+use Rattle.ados_mend.specs.Places.{AreAllPlaces, AreAllPlacesOfEach}
 use Rattle.adf_archive.specs.Words.{kind_word}
 use Rattle.adf_words.specs.declared.block_word.BlockWord.{BlockWord}
+use Rattle.adf_where.specs.declared.faulty.AskedBlocks.{AskedBlocks}
 use Rattle.adf_where.specs.declared.faulty.FaultyBlock.{FaultyBlock}
 use Rattle.adf_where.specs.Where.{AreNamed, array_of, place_text, place_tokens, told_as}
 
@@ -41,8 +44,8 @@ pub record IsFaultyBlock (image : List ℕ) (more : Bool) (block : ℕ) (told : 
   pub block_is : told.block ≡ block
   pub more_is : told.more ≡ more
   pub root : told.is_root ≡ (block == root_of image)
-  pub places : AreAllPlaces image block told.places.items
-  pub faults : AreFaultsAt image block more told.faults.items
+  pub places : AreAllPlaces image block told.places.now
+  pub faults : AreFaultsAt image block more told.faults.now
 
 -- `of block N`
 abbrev pub of_block : ℕ → List ℕ
@@ -63,7 +66,7 @@ place_words place = naming_words place.naming place
 abbrev pub first_words : FaultyBlock → Option (List ℕ)
 first_words told =
     if nat_lt told.block BOOT_BLOCKS then Some (codes "boot block")
-    else (if told.is_root then Some (codes "root") else (if length told.places.items == 0 then Some (codes "named by nothing") else None))
+    else (if told.is_root then Some (codes "root") else (if length told.places.now == 0 then Some (codes "named by nothing") else None))
 
 -- a line of a block
 abbrev pub block_line : ℕ → ℕ → List ℕ → List ℕ
@@ -74,7 +77,7 @@ first_line blocks told = option_map_or (block_line blocks told.block) (first_wor
 
 -- a line for each place
 abbrev pub place_lines : ℕ → FaultyBlock → List ℕ
-place_lines blocks told = flat_map (λ place. block_line blocks told.block (place_words place)) told.places.items
+place_lines blocks told = flat_map (λ place. block_line blocks told.block (place_words place)) told.places.now
 
 -- `BLOCK  fault KIND`
 abbrev pub fault_line : VolumeFault → List ℕ
@@ -86,7 +89,7 @@ more_line more block = if more then decimal block ++ codes "  more\n" else []
 
 -- the lines of a block
 abbrev pub block_lines : ℕ → FaultyBlock → List ℕ
-block_lines blocks told = first_line blocks told ++ (place_lines blocks told ++ (flat_map fault_line told.faults.items ++ more_line told.more told.block))
+block_lines blocks told = first_line blocks told ++ (place_lines blocks told ++ (flat_map fault_line told.faults.now ++ more_line told.more told.block))
 
 -- what a place makes of the block that it names, as one word
 abbrev pub naming_word : Naming → List ℕ
@@ -116,11 +119,22 @@ faults_tokens faults = key (codes "faults") ∷ array_of fault_word faults
 -- the object of a block
 abbrev pub faulty_tokens : ℕ → FaultyBlock → List Token
 faulty_tokens blocks told =
-    begin_object ∷ place_tokens blocks told.block ++ (places_tokens told.places.items ++ (faults_tokens told.faults.items ++ key (codes "more") ∷ boolean told.more ∷ end_object ∷ []))
+    begin_object ∷ place_tokens blocks told.block ++ (places_tokens told.places.now ++ (faults_tokens told.faults.now ++ key (codes "more") ∷ boolean told.more ∷ end_object ∷ []))
 
 -- what is told of blocks in one of the forms
 abbrev pub faulty_of : Bool → ℕ → List FaultyBlock → List ℕ
 faulty_of json blocks told = told_as json (faulty_tokens blocks) (block_lines blocks) told
+
+-- the tokens of the object before the first place and behind the last one
+abbrev pub head_tokens : ℕ → FaultyBlock → List Token
+head_tokens blocks told = begin_object ∷ place_tokens blocks told.block ++ key (codes "places") ∷ begin_array ∷ []
+
+abbrev pub tail_tokens : FaultyBlock → List Token
+tail_tokens told = end_array ∷ faults_tokens told.faults.now ++ key (codes "more") ∷ boolean told.more ∷ end_object ∷ []
+
+-- what is told of a block in one of the forms
+abbrev pub block_part : Bool → ℕ → FaultyBlock → List ℕ
+block_part json blocks told = if json then print (faulty_tokens blocks told) else block_lines blocks told
 
 -- the text tells of the blocks that these arguments name in the image
 pub record IsFaultyWhere (json : Bool) (image : List ℕ) (words : List BlockWord) (text : List ℕ) : Type 0 where
@@ -130,3 +144,13 @@ pub record IsFaultyWhere (json : Bool) (image : List ℕ) (words : List BlockWor
   pub told : List FaultyBlock
   pub are_told : AllZip (IsFaultyBlock image more) blocks told
   pub text_is : text ≡ faulty_of json (block_count image) told
+
+-- the text is a line, and behind it such a text
+abbrev pub IsFaultyWhereBehind : List ℕ → Bool → List ℕ → List BlockWord → List ℕ → Type 0
+IsFaultyWhereBehind line json image words text = (rest : List ℕ) × IsFaultyWhere json image words rest × (text ≡ line ++ rest)
+
+-- the blocks that are asked for, each with all places that name it
+pub record AreAsked (image blocks : List ℕ) (asked : AskedBlocks) : Type 0 where
+  pub increasing : IsStrictlyIncreasing asked.asked.items
+  pub all : All (Contains asked.asked.items) blocks
+  pub places : AreAllPlacesOfEach image asked.asked.items asked.lists

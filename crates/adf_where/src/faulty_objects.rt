@@ -1,6 +1,7 @@
 //! The JSON objects of blocks of a refused image.
-ghost use Rattle.std.specs.Prelude.{◌≡◌};
-ghost use Rattle.adf_where.specs.Faulty.{naming_word};
+ghost use Rattle.std.specs.Prelude.{◌≡◌, ◌++◌, OnOk};
+ghost use Rattle.json.specs.Print.{print};
+ghost use Rattle.adf_where.specs.Faulty.{head_tokens, naming_word, place_object, tail_tokens};
 
 use crate::faulty::FaultyBlock;
 use crate::forms::{Put, put_array};
@@ -10,24 +11,53 @@ use adf_record::{put_flag, put_number, put_text};
 use ados_mend::{Naming, Place};
 use ados_model::VolumeFault;
 use json::Writer;
-use std::alloc::AllocError;
+use std::alloc::{AllocError, Global};
 
-impl Put for FaultyBlock {
-    ghost use Rattle.adf_where.specs.Faulty.{faulty_tokens};
+/// Appends the object of a block up to the first of its places.
+pub(crate) fn push_head(
+    alloc: Global,
+    text: &mut Vec<u8>,
+    blocks: u32,
+    told: &FaultyBlock<'_>,
+) -> Result<(), AllocError>
+    ensures { OnOk result (text.new.items ≡ text.old.items ++ print (head_tokens blocks told.now)) }
+{
+    let mut writer = Writer::new(Vec::new(alloc));
+    writer.begin_object()?;
+    put_place(&mut writer, blocks, told.block)?;
+    writer.key("places")?;
+    writer.begin_array()?;
+    text.extend_from_slice(writer.into_inner().as_slice())
+}
 
-    ghost tokens_of = { faulty_tokens };
+/// Appends the object of a place.
+pub(crate) fn push_place_object(
+    alloc: Global,
+    text: &mut Vec<u8>,
+    place: Place,
+) -> Result<(), AllocError>
+    ensures { OnOk result (text.new.items ≡ text.old.items ++ print (place_object place)) }
+{
+    let mut writer = Writer::new(Vec::new(alloc));
+    place.put(&mut writer, 0)?;
+    text.extend_from_slice(writer.into_inner().as_slice())
+}
 
-    /// Writes the object of a block.
-    fn put(&self, writer: &mut Writer, blocks: u32) -> Result<(), AllocError> {
-        writer.begin_object()?;
-        put_place(writer, blocks, self.block)?;
-        writer.key("places")?;
-        put_array(writer, blocks, &self.places)?;
-        writer.key("faults")?;
-        put_array(writer, blocks, &self.faults)?;
-        put_flag(writer, "more", self.more)?;
-        writer.end_object()
-    }
+/// Appends the object of a block behind the last of its places.
+pub(crate) fn push_tail(
+    alloc: Global,
+    text: &mut Vec<u8>,
+    told: &FaultyBlock<'_>,
+) -> Result<(), AllocError>
+    ensures { OnOk result (text.new.items ≡ text.old.items ++ print (tail_tokens told.now)) }
+{
+    let mut writer = Writer::new(Vec::new(alloc));
+    writer.end_array()?;
+    writer.key("faults")?;
+    put_array(&mut writer, 0, told.faults)?;
+    put_flag(&mut writer, "more", told.more)?;
+    writer.end_object()?;
+    text.extend_from_slice(writer.into_inner().as_slice())
 }
 
 impl Put for Place {

@@ -1,7 +1,7 @@
 //! The forms in which blocks are told: lines, or an array of JSON objects.
-ghost use Rattle.std.specs.Prelude.{◌≡◌, ◌++◌, ℕ, List, IfOk, OnOk};
+ghost use Rattle.std.specs.Prelude.{◌≡◌, ◌++◌, ℕ, List, OnOk};
 ghost use Rattle.json.specs.Token.{Token};
-ghost use Rattle.adf_where.specs.Where.{array_of, told_as};
+ghost use Rattle.adf_where.specs.Where.{array_of, closing, comma, opening, part};
 
 use json::Writer;
 use std::alloc::{AllocError, Global};
@@ -25,27 +25,49 @@ pub(crate) trait Tell: Put {
         ensures { OnOk result (text.new.items ≡ text.old.items ++ lines_of blocks self.now) };
 }
 
-/// What is told of blocks of a disk with so many blocks: lines for each block, or with `json` an array on a line of its own.
-pub(crate) fn told_text<T: Tell>(
-    alloc: Global,
-    blocks: u32,
-    told: &[T],
-    json: bool,
-) -> Result<Vec<u8>, AllocError>
-    ensures { IfOk result (λ text. text.items ≡ told_as json (T.tokens_of blocks) (T.lines_of blocks) told.now) }
+/// What is before what is told of all blocks: with `json` the bracket of an array.
+pub(crate) fn opening(json: bool) -> &'static [u8]
+    ensures { result.now ≡ opening json }
 {
-    if json {
-        let mut writer = Writer::new(Vec::new(alloc));
-        put_array(&mut writer, blocks, told)?;
-        let mut text = writer.into_inner();
-        text.push(b'\n')?;
-        return Ok(text);
+    if json { b"[" } else { b"" }
+}
+
+/// What is behind what is told of all blocks: with `json` the bracket of an array, and the end of its line.
+pub(crate) fn closing(json: bool) -> &'static [u8]
+    ensures { result.now ≡ closing json }
+{
+    if json { b"]\n" } else { b"" }
+}
+
+/// Appends what is told of a block: its lines, or with `json` its object, behind a comma unless it is the first.
+pub(crate) fn push_told<T: Tell>(
+    alloc: Global,
+    text: &mut Vec<u8>,
+    blocks: u32,
+    told: &T,
+    json: bool,
+    is_first: bool,
+) -> Result<(), AllocError>
+    ensures { OnOk result (text.new.items ≡ text.old.items ++ part json is_first (T.tokens_of blocks) (T.lines_of blocks) told.now) }
+{
+    if !json {
+        return told.push_lines(alloc, text, blocks);
     }
-    let mut text = Vec::new(alloc);
-    for block in told {
-        block.push_lines(alloc, &mut text, blocks)?;
+    push_comma(text, is_first)?;
+    let mut writer = Writer::new(Vec::new(alloc));
+    told.put(&mut writer, blocks)?;
+    text.extend_from_slice(writer.into_inner().as_slice())
+}
+
+/// Appends a comma, unless what follows is the first element.
+pub(crate) fn push_comma(text: &mut Vec<u8>, is_first: bool) -> Result<(), AllocError>
+    ensures { OnOk result (text.new.items ≡ text.old.items ++ comma is_first) }
+{
+    if is_first {
+        return Ok(());
     }
-    Ok(text)
+    text.push(b',')?;
+    Ok(())
 }
 
 /// Writes an array.
