@@ -143,12 +143,12 @@ impl<S: Server> ClientEnd<S> {
         self.queue.bell().ring();
     }
 
-    // Announces that this end sleeps if `rest` is a sleep and the next poll fails.
+    // Announces that this end sleeps if `rest` is a sleep and the next poll is in vain.
     fn announce(&self, rest: Rest) {
         self.inlet.announce(rest);
     }
 
-    // Rests after a failed poll.
+    // Rests after a poll in vain.
     fn nap<R: Wait>(&self, rt: &R, rest: Rest) {
         self.inlet.nap(rt, rest);
     }
