@@ -1,18 +1,20 @@
-//! Calls that no packet makes: a block that is borrowed for writing, the lowest free block, and hash chains that are
-//! asked whether they are empty.
+//! Calls that no packet makes: a block that is borrowed for writing, the lowest free block, checksums that were wrong, the
+//! census, and hash chains that are asked whether they are empty.
 
 ghost use Rattle.std.specs.Prelude.{IsTrue};
 ghost use Rattle.ados_map.specs.Pages.{LawfulPages};
 
 use crate::desk::serve_line;
-use crate::drawn::settle;
+use crate::drawn::{put, settle};
 use crate::fixtures::{FLOPPY, START, blank_handler, blank_image, work};
 use crate::rows::holds;
 use adf_block::Image;
 use adf_block::layout::{BOOT_BLOCKS, FIRST_PAGE, PAGE_BITS};
+use ados_census::take_census;
 use ados_chain::is_empty;
 use ados_map::{count_free, give_back, is_free, take_first};
 use ados_volume::Volume;
+use std::alloc::Global;
 use std::process::Abort;
 
 /// Writes the last byte of the first long of the bitmap block of a blank floppy.
@@ -72,6 +74,44 @@ fn expect_first_free(rt: &impl Abort, image: &mut Image) {
 #[test]
 fn first_free(rt: HostRuntime) {
     expect_first_free(&rt, &mut blank_image(&rt, rt.alloc(), FLOPPY));
+}
+
+/// A bit that changes makes a wrong checksum of the bitmap block right.
+fn expect_right_bitmap_sums(rt: &impl Abort, image: &mut Image) {
+    put(image, 881, 0, 1);
+    holds(rt, bitmap_sum(image) != Some(0), "wrong");
+    assert!(rt; has_one_bitmap_block(image) && image.blocks() == FLOPPY);
+    holds(rt, take_first(image) == Some(2), "taken");
+    holds(rt, bitmap_sum(image) == Some(0), "right when taken");
+    put(image, 881, 0, 1);
+    holds(rt, bitmap_sum(image) != Some(0), "wrong again");
+    assert!(rt; has_one_bitmap_block(image) && image.blocks() == FLOPPY);
+    give_back(image, 2);
+    holds(rt, bitmap_sum(image) == Some(0), "right when given back");
+}
+
+#[test]
+fn right_bitmap_sums(rt: HostRuntime) {
+    expect_right_bitmap_sums(&rt, &mut blank_image(&rt, rt.alloc(), FLOPPY));
+}
+
+/// The number of the naming by which the root names the bitmap block of a blank floppy: long 79 of block 880.
+const BITMAP_NAMING: u32 = 112_719;
+
+/// Only the root names the bitmap block of a blank floppy, and no block names the root.
+fn expect_one_naming(rt: &impl Abort, alloc: Global, image: &Image) {
+    let census = take_census(alloc, image).expect(rt, "memory");
+    assert!(rt; 881 < image.blocks());
+    let namings = census.namings_of(881);
+    holds(rt, namings.len() == 1, "one naming");
+    holds(rt, namings.first() == Some(&BITMAP_NAMING), "by the root");
+    holds(rt, census.namings_of(880).is_empty(), "the root");
+}
+
+#[test]
+fn namings_of_a_blank_floppy(rt: HostRuntime) {
+    let image = blank_image(&rt, rt.alloc(), FLOPPY);
+    expect_one_naming(&rt, rt.alloc(), &image);
 }
 
 /// Whether the root has no entries, by its hash chains alone.

@@ -7,8 +7,10 @@ ghost use Rattle.ados_data.specs.Changing.{HasFree, WritableFile};
 
 use crate::drawn::{checked, drawn};
 use crate::fixtures::FLOPPY;
-use crate::rows::holds;
+use crate::rows::{cut, holds, long_of};
 use adf_block::Image;
+use adf_block::beside::CHECKSUM;
+use adf_block::layout::MOST_BLOCKS;
 use ados_data::{blocks_of, extend, format_of, read_at, write_at};
 use ados_map::count_free;
 use ados_name::PathText;
@@ -150,6 +152,58 @@ fn expect_changes(rt: &impl Abort, image: &mut Image, file: u32)
     holds(rt, size_of(image, file) == Some(600), "600 bytes");
 }
 
+/// Makes the checksum of the header wrong.
+fn spoil(image: &mut Image, file: u32)
+    requires { WritableFile image.old file }
+    ensures { WritableFile image.new file }
+{
+    prove!(image.blocks() <= MOST_BLOCKS);
+    let sum = image.long(file, CHECKSUM);
+    image.set_long(file, CHECKSUM, sum.wrapping_add(1));
+}
+
+/// The sum of the longs of the header, 0 if its checksum is right.
+fn header_sum(image: &Image, file: u32) -> u32
+    requires { WritableFile image.now file }
+{
+    image.sum(file)
+}
+
+/// Changes a file as a row says: `write`, `extend` or `cut`, and a number of bytes.
+fn change(image: &mut Image, file: u32, row: &str)
+    requires { WritableFile image.old file }
+    ensures { WritableFile image.new file }
+{
+    let (word, size) = cut(row);
+    let size = long_of(size);
+    match word {
+        "write" => write(image, file, size, b"0123"),
+        "extend" => extend_to(image, file, size),
+        _ => cut_to(image, file, size),
+    }
+}
+
+/// Changes of a file of 600 bytes that change its size, and so its header.
+const CHANGES: &str = "\
+write 598
+extend 1000
+cut 700
+cut 0
+write 0
+extend 900";
+
+/// The checksum of the header is right after each change, though it was wrong before.
+fn expect_right_header_sums(rt: &impl Abort, image: &mut Image, file: u32)
+    requires { WritableFile image.old file }
+{
+    for row in CHANGES.lines() {
+        spoil(image, file);
+        holds(rt, header_sum(image, file) == 1, "wrong");
+        change(image, file, row);
+        holds(rt, header_sum(image, file) == 0, row);
+    }
+}
+
 #[test]
 fn read_at_the_end(rt: HostRuntime) {
     let mut volume = file_of_600_bytes(&rt, rt.alloc());
@@ -171,4 +225,12 @@ fn changed_file(rt: HostRuntime) {
     let file = file(&rt, &mut volume);
     let mut image = volume.into_image();
     expect_changes(&rt, &mut image, file);
+}
+
+#[test]
+fn right_header_sums(rt: HostRuntime) {
+    let mut volume = file_of_600_bytes(&rt, rt.alloc());
+    let file = file(&rt, &mut volume);
+    let mut image = volume.into_image();
+    expect_right_header_sums(&rt, &mut image, file);
 }

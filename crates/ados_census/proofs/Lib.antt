@@ -1,0 +1,4 @@
+-- The numbers that pass a test, below a bound; longs that are namings; and namings while they are sorted.
+pub mod Below
+pub mod NamedLongs
+pub mod Sorting
