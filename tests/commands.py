@@ -463,6 +463,12 @@ def many_clients(tried: Commands) -> None:
         tried.write(it, b"other 999\n" * 500)
     wanted = "".join(f"{client}.{packet} 0 209\n" for client in range(1, 9) for packet in range(1, 501))
     tried.rows(row("eight clients with 500 packets each", ["serve", "ffs.adf", *scripts], 0, wanted))
+    tried.write("hundred", b"other 999\n" * 100)
+    wanted = "".join(f"{client}.{packet} 0 209\n" for client in range(1, 201) for packet in range(1, 101))
+    tried.rows(row("200 clients with 100 packets each", ["serve", "ffs.adf", *["hundred"] * 200], 0, wanted))
+    ran = tried.run(input=b"other 999\n" * 20000)
+    wanted = "".join(f"1.{packet} 0 209\n" for packet in range(1, 20001))
+    tried.report.check("a script of 20,000 packets", ran, 0, wanted.encode())
 
 
 # ---- Refused growths of memory ----
@@ -874,8 +880,10 @@ def images_from_input(tried: Commands) -> None:
     image = tried.content("piped.adf")
     for words in ("info IMAGE", "check IMAGE", "list IMAGE", "show IMAGE", "map IMAGE", "where IMAGE 880", "boot --show IMAGE", "extract --damaged --list IMAGE"):
         wanted = tried.run(*words.replace("IMAGE", "piped.adf").split())
-        for kind, of in (("a pipe", {"input": image}), ("a file", {"before": redirected(os.open("piped.adf", os.O_RDONLY), 0)})):
-            ran = tried.run(*words.replace("IMAGE", "-").split(), **of)
+        given = words.replace("IMAGE", "-").split()
+        piped = tried.run(*given, input=image)
+        held = tried.run(*given, before=redirected(os.open("piped.adf", os.O_RDONLY), 0))
+        for kind, ran in (("a pipe", piped), ("a file", held)):
             tried.report.same(f"{words} with {kind} as standard input", (ran.status, ran.output), (wanted.status, wanted.output))
     tried.report.check("the first blocks of a pipe", tried.run("check", "--blocks", "1760", "-", input=image + b"more"), 0, b"ok\n")
     tried.report.check("a pipe with half a block more", tried.run("check", "-", input=image + bytes(256)), 3, b"refused NotWholeBlocks 0\n", "its bytes are no whole number of blocks")

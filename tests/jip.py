@@ -12,6 +12,7 @@ from __future__ import annotations
 import hashlib
 import os
 import re
+import shlex
 import shutil
 import subprocess
 import sys
@@ -24,6 +25,7 @@ from typing import Dict, Iterable, Iterator, List, Optional, Tuple
 sys.dont_write_bytecode = True
 
 from bundles import SHAPES, adflib_peer
+from completions import FISH, ZSH, at_terminal
 from drawn_volume import Entry, draw, read
 from harness import TOP, Ran, Report, fault_of, processors, run
 from library import put_in_place
@@ -152,6 +154,48 @@ def completions(tried: Tool) -> None:
     for line, wanted in LINES:
         ran = run(["bash", "-c", 'source rc; complete_line "$1"', "bash", line], env=tried.env)
         tried.report.same(f"bash: {line}", ran.output.decode().split("\n")[:-1] if wanted else ran.output, wanted or b"\n")
+    tried.write("lines", "".join(f"{line}|\n" for line, _ in LINES).encode())
+    for shell, offers in (("zsh", zsh_offers), ("fish", fish_offers)):
+        if shutil.which(shell):
+            found = offers(tried)
+            tried.report.same(f"{shell} completes each line", len(found), len(LINES))
+            for (line, wanted), words in zip(LINES, found):
+                tried.report.same(f"{shell}: {line}", words, sorted(it.rstrip("/") for it in whole_words(line, wanted)))
+
+
+def split_line(line: str) -> Tuple[str, str]:
+    """Returns what is before the last word of a line, and that word. A blank behind a backslash is part of a word."""
+    found = re.fullmatch(r"(.*(?<!\\) )((?:[^ ]|\\ )*)", line)
+    assert found is not None
+    return found[1], found[2]
+
+
+def whole_words(line: str, offered: Iterable[str]) -> List[str]:
+    """Returns the words that are offered, each with what bash leaves out: all before the colon. Where the tool offers nothing, a shell offers
+    files of the host, except for paths in an image."""
+    word = split_line(line)[1]
+    start, colon, _ = word.rpartition(":")
+    if colon:
+        return [f"{start}:{it}" for it in offered]
+    return [*offered] or [it for it in os.listdir() if it.startswith(word) and not it.startswith(".")]
+
+
+def zsh_offers(tried: Tool) -> List[List[str]]:
+    """Returns the words that zsh inserts for each line: all that is offered."""
+    tried.write(".zshrc", ZSH.encode())
+    env = {**tried.env, "ZDOTDIR": str(tried.top), "HOME": str(tried.top), "TERM": "xterm"}
+    lines = at_terminal(["zsh", "-d", "-i"], env)
+    # (a line to which nothing is added ends in what was typed)
+    words = [shlex.split(found)[len(shlex.split(split_line(line)[0])) :] for (line, _), found in zip(LINES, lines)]
+    return [sorted(it.rstrip("/") for it in its if it != split_line(line)[1]) for (line, _), its in zip(LINES, words)]
+
+
+def fish_offers(tried: Tool) -> List[List[str]]:
+    """Returns the words that fish offers for each line."""
+    tried.write("offers.fish", FISH.encode())
+    env = {**tried.env, "XDG_CONFIG_HOME": str(tried.top), "XDG_DATA_HOME": str(tried.top), "HOME": str(tried.top)}
+    lines = run(["fish", "offers.fish"], env=env).output.decode().split("\n")[:-1]
+    return [sorted(it.rstrip("/") for it in line.split("\t") if it) for line in lines]
 
 
 # ---- The script ./jip ----

@@ -680,6 +680,63 @@ int32_t jip_salvage_path(jip_salvage *salvage, size_t place, void *path, size_t 
 /* The bytes of a file: all of a whole file; of one that is not whole those that are left, in their places, with zeros between. */
 int32_t jip_salvage_read(jip_salvage *salvage, size_t place, void *to, size_t room, size_t *length);
 
+/* What a block is to jip_salvage_blocks, besides what a jip_role says: the header of a deleted entry. */
+#define JIP_ROLE_DELETED 9
+
+/* A block with what it is. */
+typedef struct jip_told {
+    uint32_t block;  /* a block that an image names may be past its end */
+    uint32_t role;   /* JIP_ROLE_DELETED or another jip_role */
+    uint32_t header; /* the block number of the header of the root, file or deleted entry that it belongs to; else 0 */
+    uint32_t index;  /* which data block or bitmap block it is, from 0; else 0 */
+    uint32_t holder; /* the block with the pointer to a data block of a whole file: the header or an extension block; else 0 */
+} jip_told;
+
+/* Lists what the blocks of the image are, whatever faults it has: the boot blocks; the root; the bitmap blocks that it names; the data
+   blocks of whole files; the blocks given to files that are not whole, and the extension blocks of these; the lost blocks, which are
+   used and part of nothing; and the headers of deleted entries. Headers of entries are not in the list. A block that is several of these
+   is there several times. The blocks are written to the start of an array with `room` elements, as many as fit, and `*count` is how many
+   there are. */
+int32_t jip_salvage_blocks(jip_salvage *salvage, jip_told *told, size_t room, size_t *count);
+
+/* Whether the bitmap of the image can be trusted: 1 or 0, and 0 for a closed list. If so, all blocks that it does not mark free are
+   used, and deleted entries are known. If not, all blocks are used that are not filled with zeros or that the root leads to. */
+int32_t jip_salvage_trusts_bitmap(jip_salvage *salvage);
+
+/* ---- Labels and boot blocks of any image ----
+ *
+ * These calls read the bytes of an image, whether jip_open accepts it or not. JIP_NOT_AN_IMAGE: the bytes are not whole blocks, or too
+ * few or too many of them. A refusal leaves everything unchanged. */
+
+/* The label: the name in the root block, whatever else is wrong there. It has at most JIP_NAME_BYTES bytes, and is written as
+   jip_salvage_name writes a name. JIP_WRONG_ARGUMENT: there is no valid name. */
+int32_t jip_label(const void *bytes, size_t length, void *label, size_t room, size_t *label_length);
+
+/* What a boot block is. */
+enum jip_boot_code {
+    JIP_BOOT_NONE = 0,  /* only zeros follow the DOS type */
+    JIP_BOOT_WRONG = 1, /* a wrong checksum: no machine boots from it */
+    JIP_BOOT_STANDARD = 2,
+    JIP_BOOT_CUSTOM = 3 /* another one with the right checksum */
+};
+
+/* The kind of a jip_boot without the letters `DOS`. */
+#define JIP_NO_DOS 256
+
+/* The boot block of an image. */
+typedef struct jip_boot {
+    uint32_t kind;      /* the byte after the letters `DOS`: a jip_format or another number; or JIP_NO_DOS */
+    uint32_t code;      /* a jip_boot_code */
+    uint32_t sum;       /* the checksum in it */
+    uint32_t right_sum; /* the checksum that belongs there */
+} jip_boot;
+
+/* Tells what the boot block of an image is. */
+int32_t jip_boot_block(const void *bytes, size_t length, jip_boot *boot);
+
+/* Installs the standard boot block in the bytes of an image. The DOS type stays, and so does everything after the two boot blocks. */
+int32_t jip_install_boot(void *bytes, size_t length);
+
 /* ---- Read-only handles ----
  *
  * The image of a read-only handle never changes. A packet that would set the disk's date is refused with 214 (disk is

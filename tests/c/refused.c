@@ -71,6 +71,7 @@ static int32_t loads(jip_handle *h) {
 static int32_t salvages_byte(jip_handle *h, uint8_t first) {
     static uint8_t image[800 * JIP_BLOCK_BYTES];
     jip_salvage list = JIP_CLOSED;
+    static jip_told told[1600];
     size_t length;
     int32_t result = jip_copy_image(h, image, sizeof image);
     image[0] = first;
@@ -78,11 +79,23 @@ static int32_t salvages_byte(jip_handle *h, uint8_t first) {
     if (result == JIP_DONE && jip_salvage_count(&list) != 2) result = -1;
     if (result == JIP_DONE) result = jip_salvage_path(&list, 1, found, sizeof found, &length);
     if (result == JIP_DONE) result = jip_salvage_read(&list, 1, found, sizeof found, &length);
+    if (result == JIP_DONE) result = jip_salvage_blocks(&list, told, 1600, &length);
     (void)jip_salvage_close(&list);
     return result;
 }
 static int32_t salvages(jip_handle *h) { return salvages_byte(h, 'D'); }
 static int32_t salvages_damaged(jip_handle *h) { return salvages_byte(h, 'K'); }
+/* The label and the boot block of a copy of the image. */
+static int32_t looks(jip_handle *h) {
+    static uint8_t image[800 * JIP_BLOCK_BYTES];
+    jip_boot boot;
+    size_t length;
+    int32_t result = jip_copy_image(h, image, sizeof image);
+    if (result == JIP_DONE) result = jip_label(image, sizeof image, found, sizeof found, &length);
+    if (result == JIP_DONE) result = jip_install_boot(image, sizeof image);
+    if (result == JIP_DONE) result = jip_boot_block(image, sizeof image, &boot);
+    return result == JIP_DONE && boot.code != JIP_BOOT_STANDARD ? -1 : result;
+}
 static int32_t maps(jip_handle *h) {
     static jip_owner owners[800];
     size_t count = 0;
@@ -153,6 +166,7 @@ int main(void) {
     refuse_each("check", checks);
     refuse_each("salvage", salvages);
     refuse_each("salvage, damaged", salvages_damaged);
+    refuse_each("label and boot block", looks);
     refuse_each("date of a text", dates);
     (void)remove("refused.adf");
     return summed_up();

@@ -1,4 +1,5 @@
-/* Tests salvage: an image without faults, a lost root, a file with a lost block, names that occur twice, and wrong arguments.
+/* Tests salvage: an image without faults, a lost root, a file with a lost block, names that occur twice, the blocks of an image, labels and
+ * boot blocks, and wrong arguments.
  * First it makes a floppy, changes it, checks it, damages it, and salvages it. It writes salvage.adf to the current directory. */
 #include "asking.h"
 
@@ -183,6 +184,109 @@ static void same_names(void) {
     EXPECT("close", jip_salvage_close(&s) == JIP_DONE && jip_close(&h) == JIP_DONE);
 }
 
+enum { MOST_TOLD = 2 * JIP_DOUBLE_DENSITY };
+
+static jip_told told[MOST_TOLD];
+
+static size_t blocks_of(jip_salvage *s) {
+    size_t count = 0;
+    memset(told, 0x77, sizeof told);
+    EXPECT("the blocks", jip_salvage_blocks(s, told, MOST_TOLD, &count) == JIP_DONE && count <= MOST_TOLD);
+    return count;
+}
+
+/* Whether the list says that a block has this role and this header. */
+static int says(size_t count, uint32_t block, uint32_t role, uint32_t header) {
+    for (size_t i = 0; i < count; i++)
+        if (told[i].block == block && told[i].role == role && told[i].header == header) return 1;
+    return 0;
+}
+
+/* Of a sound image the blocks are those of its map. Headers are in the entries, and free blocks in neither. */
+static void blocks(int32_t format) {
+    static jip_owner owners[JIP_DOUBLE_DENSITY];
+    jip_handle h = prepared(format);
+    jip_salvage s = JIP_CLOSED;
+    size_t length, count, mapped, found = 0, known = 0;
+    make_file(&h, "long", 50000);
+    make_file(&h, "gone", 10);
+    const uint32_t gone = key_of(&h, "gone");
+    EXPECT("deleted", jip_delete(&h, now, "gone", JIP_TO_ZERO) == JIP_DONE);
+    uint8_t *image = image_of(&h, &length);
+    EXPECT("the map", jip_map(&h, owners, JIP_DOUBLE_DENSITY, &mapped) == JIP_DONE && mapped == JIP_DOUBLE_DENSITY);
+    EXPECT("open", jip_salvage_open(image, length, &s) == JIP_DONE && jip_salvage_trusts_bitmap(&s) == 1);
+    count = blocks_of(&s);
+    for (size_t i = 0; i < count; i++) {
+        if (told[i].role == JIP_ROLE_DELETED) continue;
+        const jip_owner *const owner = owners + told[i].block;
+        found += told[i].role == owner->role && told[i].header == owner->header && told[i].index == owner->index;
+        known += told[i].role != JIP_ROLE_DATA || owners[told[i].holder].role == JIP_ROLE_FILE ||
+                 (owners[told[i].holder].role == JIP_ROLE_EXTENSION && owners[told[i].holder].header == told[i].header);
+    }
+    EXPECT("all are as in the map", found == count - 1 && known == count - 1 && says(count, gone, JIP_ROLE_DELETED, gone));
+    for (uint32_t i = 0; i < JIP_DOUBLE_DENSITY; i++)
+        if (owners[i].role == JIP_ROLE_DATA || owners[i].role == JIP_ROLE_BITMAP || owners[i].role == JIP_ROLE_BOOT) found -= 1;
+    EXPECT("none is missing", found == 1 && says(count, ROOT, JIP_ROLE_ROOT, ROOT));
+    memset(told, 0x77, sizeof told);
+    EXPECT("as many as fit", jip_salvage_blocks(&s, told, 1, &mapped) == JIP_DONE && mapped == count && told[0].role == JIP_ROLE_BOOT);
+    EXPECT("and no more", told[1].role == 0x77777777);
+    EXPECT("none", jip_salvage_blocks(&s, NULL, 0, &mapped) == JIP_DONE && mapped == count);
+    EXPECT("close", jip_salvage_close(&s) == JIP_DONE && jip_salvage_trusts_bitmap(&s) == 0 && jip_salvage_trusts_bitmap(NULL) == 0);
+    EXPECT("closed", jip_salvage_blocks(&s, told, 1, &mapped) == JIP_WRONG_ARGUMENT && mapped == count);
+    /* Without its root the bitmap block is used and part of nothing. */
+    memset(image + 512 * ROOT, 0, 512);
+    EXPECT("open", jip_salvage_open(image, length, &s) == JIP_DONE && jip_salvage_trusts_bitmap(&s) == 0);
+    count = blocks_of(&s);
+    for (uint32_t i = 2; i < JIP_DOUBLE_DENSITY; i++) {
+        if (owners[i].role == JIP_ROLE_DATA) EXPECT("data", says(count, i, JIP_ROLE_DATA, owners[i].header));
+        if (owners[i].role == JIP_ROLE_BITMAP) EXPECT("lost", says(count, i, JIP_ROLE_LOST, 0));
+    }
+    EXPECT("null", jip_salvage_blocks(&s, NULL, 1, &mapped) == JIP_WRONG_ARGUMENT && jip_salvage_blocks(&s, told, 1, NULL) == JIP_WRONG_ARGUMENT);
+    EXPECT("too many", jip_salvage_blocks(&s, told, SIZE_MAX / 2, &mapped) == JIP_WRONG_ARGUMENT);
+    EXPECT("itself", jip_salvage_blocks(&s, (jip_told *)(void *)&s, 1, &mapped) == JIP_WRONG_ARGUMENT);
+    EXPECT("its count", jip_salvage_blocks(&s, told, 1, (size_t *)(void *)told) == JIP_WRONG_ARGUMENT);
+    EXPECT("crooked", jip_salvage_blocks(&s, (jip_told *)(void *)((uint8_t *)told + 1), 1, &mapped) == JIP_WRONG_ARGUMENT);
+    free(image);
+    EXPECT("close", jip_salvage_close(&s) == JIP_DONE && jip_close(&h) == JIP_DONE);
+}
+
+/* The label and the boot block of an image that is refused. */
+static void disk(void) {
+    jip_handle h = prepared(JIP_FFS);
+    jip_boot boot;
+    char label[JIP_NAME_BYTES];
+    size_t length, label_length = 99;
+    uint8_t *image = image_of(&h, &length);
+    image[512 * ROOT + 20] ^= 1;
+    EXPECT("a label", jip_label(image, length, label, sizeof label, &label_length) == JIP_DONE && label_length > 0);
+    EXPECT("its letters", label_length == image[512 * ROOT + 432] && memcmp(label, image + 512 * ROOT + 433, label_length) == 0);
+    memset(label, 0x77, sizeof label);
+    EXPECT("its length", jip_label(image, length, NULL, 0, &label_length) == JIP_DONE && label[0] == 0x77);
+    EXPECT("null", jip_label(NULL, 1, label, 1, &label_length) == JIP_WRONG_ARGUMENT && jip_label(image, length, label, 1, NULL) == JIP_WRONG_ARGUMENT);
+    EXPECT("itself", jip_label(image, length, image, 30, &label_length) == JIP_WRONG_ARGUMENT);
+    image[512 * ROOT + 432] = 31;
+    label_length = 99;
+    EXPECT("no label", jip_label(image, length, label, sizeof label, &label_length) == JIP_WRONG_ARGUMENT && label_length == 99);
+    EXPECT("no image", jip_label(image, length - 1, label, sizeof label, &label_length) == JIP_NOT_AN_IMAGE && label_length == 99);
+    memset(&boot, 0x77, sizeof boot);
+    EXPECT("no image", jip_boot_block(image, 512, &boot) == JIP_NOT_AN_IMAGE && boot.kind == 0x77777777);
+    EXPECT("no boot block", jip_boot_block(image, length, &boot) == JIP_DONE && boot.kind == JIP_FFS && boot.code == JIP_BOOT_NONE);
+    EXPECT("installed", jip_install_boot(image, length) == JIP_DONE && jip_boot_block(image, length, &boot) == JIP_DONE);
+    EXPECT("the standard one", boot.code == JIP_BOOT_STANDARD && boot.sum == boot.right_sum && boot.sum == long_in(image, 0, 1));
+    image[1000] ^= 1;
+    EXPECT("a wrong sum", jip_boot_block(image, length, &boot) == JIP_DONE && boot.code == JIP_BOOT_WRONG && boot.sum != boot.right_sum);
+    for (int i = 0; i < 4; i++) image[4 + i] = (uint8_t)(boot.right_sum >> (24 - 8 * i));
+    EXPECT("another one", jip_boot_block(image, length, &boot) == JIP_DONE && boot.code == JIP_BOOT_CUSTOM && boot.sum == boot.right_sum);
+    image[0] = 0;
+    EXPECT("no DOS disk", jip_boot_block(image, length, &boot) == JIP_DONE && boot.kind == JIP_NO_DOS);
+    EXPECT("null", jip_boot_block(image, length, NULL) == JIP_WRONG_ARGUMENT && jip_boot_block(NULL, 1, &boot) == JIP_WRONG_ARGUMENT);
+    EXPECT("itself", jip_boot_block(image, length, (jip_boot *)(void *)image) == JIP_WRONG_ARGUMENT);
+    EXPECT("no image", jip_install_boot(image, 512) == JIP_NOT_AN_IMAGE && jip_install_boot(NULL, 0) == JIP_NOT_AN_IMAGE);
+    EXPECT("null", jip_install_boot(NULL, 1) == JIP_WRONG_ARGUMENT);
+    free(image);
+    EXPECT("close", jip_close(&h) == JIP_DONE);
+}
+
 static void arguments(void) {
     jip_handle h = prepared(JIP_FFS);
     jip_salvage s = JIP_CLOSED;
@@ -226,6 +330,9 @@ int main(void) {
     doubtful();
     lost();
     same_names();
+    blocks(JIP_OFS);
+    blocks(JIP_FFS);
+    disk();
     arguments();
     return summed_up();
 }

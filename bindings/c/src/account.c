@@ -7,12 +7,6 @@ int32_t jip_lib_check(const uint8_t *bytes, size_t length, jip_fault *faults, si
 int32_t jip_lib_check_values(const uint8_t *bytes, size_t length, jip_finding *findings, size_t room, size_t *count, int32_t *more);
 int32_t jip_lib_map(jip_handle *handle, jip_owner *owners, size_t room, size_t *count);
 
-/* Whether an array of these elements can exist at a pointer, next to a count. Each element has the alignment of uint32_t. */
-static int may_be_list(const void *at, size_t room, size_t size, const size_t *count) {
-    return room <= (size_t)PTRDIFF_MAX / size && may_hold(at, room * size) && (room == 0 || may_stand(at, _Alignof(uint32_t))) &&
-           may_stand(count, _Alignof(size_t)) && apart(count, sizeof *count, at, room * size);
-}
-
 /* Whether a list of faults with elements of this size can be told. */
 static int may_check(const void *bytes, size_t length, const void *at, size_t room, size_t size, const size_t *count, const int32_t *more) {
     return may_hold(bytes, length) && may_be_list(at, room, size, count) && may_stand(more, _Alignof(int32_t)) &&

@@ -28,4 +28,10 @@ static inline int may_be_handle(const jip_handle *handle, const void *bytes, siz
     return may_stand(handle, _Alignof(jip_handle)) && apart(handle, sizeof *handle, bytes, length);
 }
 
+/* Whether an array of these elements can exist at a pointer, next to a count. Each element has the alignment of uint32_t. */
+static inline int may_be_list(const void *at, size_t room, size_t size, const size_t *count) {
+    return room <= (size_t)PTRDIFF_MAX / size && may_hold(at, room * size) && (room == 0 || may_stand(at, _Alignof(uint32_t))) &&
+           may_stand(count, _Alignof(size_t)) && apart(count, sizeof *count, at, room * size);
+}
+
 #endif

@@ -10,6 +10,9 @@ int32_t jip_lib_salvage_close(jip_salvage *salvage);
 size_t jip_lib_salvage_count(jip_salvage *salvage);
 int32_t jip_lib_salvage_entry(jip_salvage *salvage, size_t place, jip_salvaged *entry);
 
+int32_t jip_lib_salvage_blocks(jip_salvage *salvage, jip_told *told, size_t room, size_t *count);
+int32_t jip_lib_salvage_trusts_bitmap(jip_salvage *salvage);
+
 /* A proved function that tells a text of an entry. */
 typedef int32_t teller(jip_salvage *salvage, size_t place, uint8_t *to, size_t room, size_t *length);
 
@@ -67,6 +70,21 @@ int32_t jip_salvage_name(jip_salvage *salvage, size_t place, void *name, size_t 
 
 int32_t jip_salvage_read(jip_salvage *salvage, size_t place, void *to, size_t room, size_t *length) {
     return tell(jip_lib_salvage_read, salvage, place, to, room, length);
+}
+
+int32_t jip_salvage_blocks(jip_salvage *salvage, jip_told *told, size_t room, size_t *count) {
+    jip_told no_block = {0, 0, 0, 0, 0};
+    size_t number = 0;
+    int32_t status;
+    if (!may_be_list(told, room, sizeof *told, count)) return JIP_WRONG_ARGUMENT;
+    if (!may_be_salvage(salvage, told, room * sizeof *told) || !may_be_salvage(salvage, count, sizeof *count)) return JIP_WRONG_ARGUMENT;
+    status = jip_lib_salvage_blocks(salvage, room == 0 ? &no_block : told, room, &number);
+    if (status == JIP_DONE) *count = number;
+    return status;
+}
+
+int32_t jip_salvage_trusts_bitmap(jip_salvage *salvage) {
+    return may_be_salvage(salvage, NULL, 0) ? jip_lib_salvage_trusts_bitmap(salvage) : 0;
 }
 
 /* A path that is put together from its end. */

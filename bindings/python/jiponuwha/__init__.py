@@ -33,20 +33,23 @@ from ._errors import (
 )
 from ._file import File
 from ._library import version
-from ._numbers import DOUBLE_DENSITY, HIGH_DENSITY, EntryType, Error, FaultKind, Format, Role, State
+from ._numbers import DOUBLE_DENSITY, HIGH_DENSITY, BootCode, EntryType, Error, FaultKind, Format, Role, State
 from ._path import Path
 from ._values import Date, Entry, Fault, Faults, Info, Owner
 from ._volume import Volume, check, create, open
 
 if TYPE_CHECKING:
+    from ._disk import Boot, boot_block, label_of, with_boot_block
     from ._names import Note, date_of_text, date_text, entry_name, host_name, protection_bits, protection_letters
-    from ._salvage import Salvaged, salvage
+    from ._salvage import Salvage, Salvaged, salvage
 
 __version__ = version().partition(" ")[0]
 
 __all__ = [
     "DOUBLE_DENSITY",
     "HIGH_DENSITY",
+    "Boot",
+    "BootCode",
     "Date",
     "DirectoryNotEmpty",
     "DiskFull",
@@ -70,34 +73,43 @@ __all__ = [
     "Path",
     "Protected",
     "Role",
+    "Salvage",
     "Salvaged",
     "State",
     "Volume",
     "WrongType",
+    "boot_block",
     "check",
     "create",
     "date_of_text",
     "date_text",
     "entry_name",
     "host_name",
+    "label_of",
     "open",
     "protection_bits",
     "protection_letters",
     "salvage",
     "version",
+    "with_boot_block",
 ]
 
 # The names of modules that are loaded when one of them is used.
 _LATER = {
+    "Boot": "_disk",
     "Note": "_names",
+    "Salvage": "_salvage",
     "Salvaged": "_salvage",
+    "boot_block": "_disk",
     "date_of_text": "_names",
     "date_text": "_names",
     "entry_name": "_names",
     "host_name": "_names",
+    "label_of": "_disk",
     "protection_bits": "_names",
     "protection_letters": "_names",
     "salvage": "_salvage",
+    "with_boot_block": "_disk",
 }
 
 

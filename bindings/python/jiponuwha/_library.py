@@ -129,6 +129,25 @@ class CFinding(ctypes.Structure):
     ]
 
 
+class CTold(ctypes.Structure):
+    _fields_ = [
+        ("block", ctypes.c_uint32),
+        ("role", ctypes.c_uint32),
+        ("header", ctypes.c_uint32),
+        ("index", ctypes.c_uint32),
+        ("holder", ctypes.c_uint32),
+    ]
+
+
+class CBoot(ctypes.Structure):
+    _fields_ = [
+        ("kind", ctypes.c_uint32),
+        ("code", ctypes.c_uint32),
+        ("sum", ctypes.c_uint32),
+        ("right_sum", ctypes.c_uint32),
+    ]
+
+
 # The structs, by their names in the header without `jip_`.
 STRUCTS: dict[str, type[ctypes.Structure]] = {
     "handle": CHandle,
@@ -143,6 +162,8 @@ STRUCTS: dict[str, type[ctypes.Structure]] = {
     "finding": CFinding,
     "salvage": CSalvage,
     "salvaged": CSalvaged,
+    "told": CTold,
+    "boot": CBoot,
 }
 
 Visitor = ctypes.CFUNCTYPE(
@@ -207,6 +228,11 @@ FUNCTIONS: dict[str, tuple[Any, list[Any]]] = {
     "jip_salvage_name": (ctypes.c_int32, [_SALVAGE, ctypes.c_size_t, *_ROOM]),
     "jip_salvage_path": (ctypes.c_int32, [_SALVAGE, ctypes.c_size_t, *_ROOM]),
     "jip_salvage_read": (ctypes.c_int32, [_SALVAGE, ctypes.c_size_t, *_ROOM]),
+    "jip_salvage_blocks": (ctypes.c_int32, [_SALVAGE, ctypes.POINTER(CTold), ctypes.c_size_t, _SIZE]),
+    "jip_salvage_trusts_bitmap": (ctypes.c_int32, [_SALVAGE]),
+    "jip_label": (ctypes.c_int32, [*_TEXT, *_ROOM]),
+    "jip_boot_block": (ctypes.c_int32, [*_TEXT, ctypes.POINTER(CBoot)]),
+    "jip_install_boot": (ctypes.c_int32, [ctypes.c_void_p, ctypes.c_size_t]),
     "jip_is_name": (ctypes.c_int32, [*_TEXT]),
     "jip_host_of_name": (ctypes.c_int32, [*_TEXT, *_ROOM]),
     "jip_name_of_host": (ctypes.c_int32, [*_TEXT, *_ROOM]),

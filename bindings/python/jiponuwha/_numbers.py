@@ -125,6 +125,15 @@ class State(IntEnum):
     DOUBTFUL_DIRECTORY = 6
 
 
+class BootCode(IntEnum):
+    """What a boot block is: none, one with a wrong checksum, the standard one, or another one with the right checksum."""
+
+    NONE = 0
+    WRONG = 1
+    STANDARD = 2
+    CUSTOM = 3
+
+
 class FaultKind(IntEnum):
     """Why bytes are not a valid image."""
 

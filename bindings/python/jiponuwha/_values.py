@@ -2,6 +2,7 @@
 from __future__ import annotations
 
 import ctypes
+import struct
 import time as clock
 from typing import TYPE_CHECKING, NamedTuple
 
@@ -199,5 +200,15 @@ class Owner:
         return f"Owner(role={self.role!r}, header={self.header}, index={self.index})"
 
 
-def owner_of(given: COwner) -> Owner:
-    return Owner(Role(given.role), given.header, given.index)
+# (looked up, since an image has many blocks)
+_ROLES = {int(it): it for it in Role}
+_PLAIN = {int(it): Owner(it) for it in Role}
+
+
+def owner_of(role: int, header: int, index: int) -> Owner:
+    return Owner(_ROLES[role], header, index) if header or index else _PLAIN[role]
+
+
+def owners_of(given: ctypes.Array[COwner]) -> list[Owner]:
+    # (faster than by the fields of each struct)
+    return [owner_of(*it) for it in struct.iter_unpack("=3I", given)]

@@ -31,7 +31,7 @@ from ._numbers import (
 )
 from ._path import AnyBytes, AnyPath, Path, name_bytes, path_bytes, path_text
 from ._types import need_int, wrong_type
-from ._values import Date, Entry, Fault, Faults, Info, Owner, entry_of, fault_of, finding_of, info_of, letters, owner_of
+from ._values import Date, Entry, Fault, Faults, Info, Owner, entry_of, fault_of, finding_of, info_of, letters, owners_of
 
 if TYPE_CHECKING:
     import datetime
@@ -342,10 +342,9 @@ class Volume(Mapping[AnyPath, Path]):
         """Returns the owner of each block of the image, block 0 first."""
         count = ctypes.c_size_t()
         with self._turn() as handle:
-            settle(library.jip_map(handle, None, 0, count), self.path)
-            room = (COwner * count.value)()
+            room = (COwner * (library.jip_image_length(handle) // BLOCK_BYTES))()
             settle(library.jip_map(handle, room, len(room), count), self.path)
-        return [owner_of(it) for it in room]
+        return owners_of(room)
 
     @overload
     def where(self, place: int) -> tuple[Owner, str | None]: ...

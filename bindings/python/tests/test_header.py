@@ -7,7 +7,7 @@ import unittest
 from enum import IntEnum
 from pathlib import Path
 
-from jiponuwha import _library, _numbers
+from jiponuwha import _disk, _library, _numbers, _salvage
 
 HEADER = Path(__file__).resolve().parents[2] / "c" / "jiponuwha.h"
 # The ctypes of fields, by their types in C.
@@ -36,6 +36,7 @@ PREFIXES: dict[type[IntEnum], str] = {
     _numbers.FaultKind: "JIP_FAULT_",
     _numbers.Role: "JIP_ROLE_",
     _numbers.State: "JIP_STATE_",
+    _numbers.BootCode: "JIP_BOOT_",
 }
 
 
@@ -74,6 +75,8 @@ class Header(unittest.TestCase):
         ):
             self.assertRegex(self.text, rf"\bJIP_{name} = {value}\b")
         self.assertRegex(self.text, rf"#define JIP_MOST_FAULTS {_numbers.MOST_FAULTS}\b")
+        self.assertRegex(self.text, rf"#define JIP_ROLE_DELETED {_salvage.DELETED}\b")
+        self.assertRegex(self.text, rf"#define JIP_NO_DOS {_disk.NO_DOS}\b")
 
     def test_structs(self) -> None:
         for name, struct in _library.STRUCTS.items():

@@ -2,6 +2,7 @@
 from __future__ import annotations
 
 import gc
+import random
 import tempfile
 import threading
 import unittest
@@ -126,6 +127,103 @@ class Salvage(unittest.TestCase):
         for it in readers:
             it.join()
         self.assertEqual(found, [DATA] * 200)
+
+
+class Blocks(unittest.TestCase):
+    """What the blocks of an image are. A sound image has a map, which is another way to the same owners."""
+
+    def setUp(self) -> None:
+        self.maps: dict[jip.Format, list[jip.Owner]] = {}
+        self.images: dict[jip.Format, bytes] = {}
+        self.gone: dict[jip.Format, int] = {}
+        for format in jip.Format:
+            with jip.create("Work", format=format, clock=lambda: jip.Date(4383, 720)) as floppy:
+                floppy.mkdir("Docs")
+                floppy["Docs/long"] = bytes(range(1, 251)) * 400
+                floppy["Docs/short"] = b"text"
+                floppy["none"] = b""
+                floppy["gone"] = b"deleted"
+                self.gone[format] = floppy.stat("gone").key
+                floppy.remove("gone")
+                # (both have the same blocks)
+                self.key = floppy.stat("Docs/long").key
+                self.maps[format] = floppy.map()
+                self.images[format] = floppy.image()
+                floppy.close(discard=True)
+
+    def without(self, format: jip.Format, *blocks: int) -> jip.Salvage:
+        image = bytearray(self.images[format])
+        for it in blocks:
+            image[512 * it : 512 * (it + 1)] = bytes(512)
+        return jip.salvage(image)
+
+    def place(self, format: jip.Format, role: jip.Role, index: int = 0) -> int:
+        return self.maps[format].index(jip.Owner(role, self.key, index))
+
+    def test_a_sound_image(self) -> None:
+        for format, owners in self.maps.items():
+            saved = jip.salvage(self.images[format])
+            self.assertGreater(sum(it.role == jip.Role.EXTENSION for it in owners), 1)
+            self.assertEqual(saved.owners, owners)
+            self.assertEqual((saved.trusts_bitmap, saved.deleted), (True, [self.gone[format]]))
+
+    def test_lost_blocks(self) -> None:
+        """The bit of the last block is the lowest bit of the last long of the bitmap, and a set bit is a free block."""
+        for format, owners in self.maps.items():
+            image = bytearray(self.images[format])
+            page = next(at for at, it in enumerate(owners) if it.role == jip.Role.BITMAP)
+            at = 512 * page + 4 + 4 * ((1759 - 2) // 32)
+            bits = int.from_bytes(image[at : at + 4], "big")
+            bit = 1 << (1759 - 2) % 32
+            image[at : at + 4] = (bits & ~bit).to_bytes(4, "big")
+            total = int.from_bytes(image[512 * page : 512 * page + 4], "big")
+            image[512 * page : 512 * page + 4] = ((total + bit) % 2**32).to_bytes(4, "big")
+            saved = jip.salvage(image)
+            self.assertEqual(saved.owners, [*owners[:1759], jip.Owner(jip.Role.LOST)])
+
+    def test_without_a_root(self) -> None:
+        """Headers, data and extensions have the owners that they had. The bitmap is one block with data that nothing names."""
+        for format, owners in self.maps.items():
+            saved = self.without(format, ROOT)
+            self.assertEqual((saved.trusts_bitmap, saved.deleted), (False, None))
+            for block, (was, now) in enumerate(zip(owners, saved.owners, strict=True)):
+                if was.role in (jip.Role.DIRECTORY, jip.Role.FILE, jip.Role.EXTENSION, jip.Role.DATA, jip.Role.BOOT, jip.Role.ROOT):
+                    self.assertEqual(now, was, block)
+                elif was.role == jip.Role.BITMAP:
+                    self.assertEqual(now.role, jip.Role.LOST)
+            self.assertEqual(saved.owners[self.gone[format]], jip.Owner(jip.Role.FILE, self.gone[format]))
+
+    def test_a_broken_file(self) -> None:
+        """The blocks that are left have the same owners. A block of zeros has none in the Old File System, where blocks have headers."""
+        owners = self.maps[jip.Format.OFS]
+        lost = self.place(jip.Format.OFS, jip.Role.DATA, 100)
+        saved = self.without(jip.Format.OFS, lost)
+        self.assertEqual(next(it.state for it in saved if it.header == self.key), jip.State.BROKEN)
+        for block, (was, now) in enumerate(zip(owners, saved.owners, strict=True)):
+            if was.role == jip.Role.EXTENSION:
+                self.assertEqual((now.role, now.header), (was.role, was.header))
+            elif block != lost:
+                self.assertEqual(now, was, block)
+        self.assertNotEqual(saved.owners[lost].role, jip.Role.DATA)
+
+    def test_a_doubtful_header(self) -> None:
+        for format, owners in self.maps.items():
+            image = bytearray(self.images[format])
+            image[512 * self.key + 400] ^= 1
+            saved = jip.salvage(image)
+            self.assertEqual(saved.owners[self.key], jip.Owner(jip.Role.FILE, self.key))
+            data = [block for block, it in enumerate(owners) if it.role == jip.Role.DATA]
+            self.assertEqual([saved.owners[it] for it in data], [owners[it] for it in data])
+
+    def test_any_bytes(self) -> None:
+        """Each block of an image has an owner, whatever is in it."""
+        for seed in range(20):
+            image = random.Random(seed).randbytes(512 * 40)
+            self.assertEqual(len(jip.salvage(image).owners), 40)
+            mixed = bytearray(self.images[jip.Format.OFS])
+            for it in random.Random(seed).sample(range(len(mixed)), 300):
+                mixed[it] ^= 255
+            self.assertEqual(len(jip.salvage(mixed).owners), 1760)
 
 
 if __name__ == "__main__":

@@ -10,12 +10,15 @@ use Rattle.adf_salvage.specs.Saved.{IsAt}
 use Rattle.adf_salvage.specs.declared.salvaged.Salvaged.{Salvaged}
 use Rattle.c_values.specs.Buffers.{Refuses}
 use Rattle.c_values.specs.Owners.{MapsOwners}
+use Rattle.c_values.specs.Told.{TellsAll}
+use Rattle.c_values.specs.declared.told.JipTold.{JipTold}
 use Rattle.c_values.specs.declared.owners.JipOwner.{JipOwner}
 use Rattle.c_values.specs.declared.refusal.Refusal.{Refusal}
 use Rattle.c_values.specs.declared.refusal.Refusal.TheVariants.{NotAnImage, NoMemory, WrongArgument}
 use Rattle.c_values.specs.declared.salvaged.JipSalvaged.{JipSalvaged}
 use Rattle.adf_c.specs.Map.{MapsHeld, RefusesMap}
 use Rattle.adf_c.specs.Salvaging.{AtPlace, InSaved, IsNoPlace, IsOpened, IsPast, IsToldAs, Opens, RefusesPlace}
+use Rattle.adf_c.specs.Telling.{RefusesBlocks, TellsHeld}
 use Rattle.adf_c.specs.declared.desk.Desk.{Desk}
 
 -- the owners are those of the handle's image
@@ -23,6 +26,12 @@ pub maps : {A : Type 0} (r : Result A Refusal) (items : A → List JipOwner) (he
     → MatchResult r (λ told. MapsOwners image (items told)) (λ refusal. refusal ≡ NoMemory) → MatchResult r (λ told. MapsHeld held (items told)) (RefusesMap held)
 maps (Ok told) items held desk image holds is mapped = (desk, holds, subst (λ (i : List ℕ). MapsOwners i (items told)) is mapped)
 maps (Err refusal) items held desk image holds is why = subst (RefusesMap held) (sym why) tt
+
+-- the blocks are those of the image of a salvage that C holds
+pub tells : {A : Type 0} (r : Result A Refusal) (items : A → List JipTold) (held : Option Saved) (saved lent : Saved) → held ≡ Some saved → lent ≡ saved
+    → MatchResult r (λ told. TellsAll lent (items told)) (λ refusal. refusal ≡ NoMemory) → MatchResult r (λ told. TellsHeld held (items told)) (RefusesBlocks held)
+tells (Ok told) items held saved lent holds lends fact = (saved, holds, subst (λ (s : Saved). TellsAll s (items told)) lends fact)
+tells (Err refusal) items held saved lent holds lends why = subst (RefusesBlocks held) (sym why) tt
 
 -- a salvage is open if it has a value
 pub some_is_opened : (held : Option Saved) → is_some held ≡ true → IsOpened held

@@ -8,5 +8,6 @@ pub mod Calls
 pub mod Changed
 pub mod Map
 pub mod Salvaging
+pub mod Telling
 pub mod History
 pub mod steps

@@ -5,11 +5,13 @@
 //! be a reference, such as null pointers and lengths beyond memory, and then call these.
 #![tactic(auto)]
 
+pub mod boot;
 pub mod changed;
 pub mod desk;
 pub mod faults;
 pub mod handle;
 pub mod image;
+pub mod label;
 pub mod laws;
 pub mod loose;
 pub mod map;
@@ -21,9 +23,11 @@ pub mod read_only;
 pub mod salvage;
 pub mod serve;
 pub mod texts;
+pub mod told;
 
 pub use c_values::{
-    JipAnswer, JipDate, JipDisk, JipEntry, JipFault, JipFinding, JipOwner, JipSalvaged, Refusal,
+    JipAnswer, JipBoot, JipDate, JipDisk, JipEntry, JipFault, JipFinding, JipOwner, JipSalvaged,
+    JipTold, Refusal,
 };
 pub use desk::Desk;
 pub use handle::{JipHandle, JipSalvage};

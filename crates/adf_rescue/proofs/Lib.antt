@@ -1,8 +1,3 @@
--- Lemmas about the marks of the account, asked paths, and the objects of a report.
-mod Common
-mod Marking
-mod Walking
-mod OwnBlocks
-mod AllKinds
+-- Lemmas about asked paths, and the objects of a report.
 mod TellingObjects
 mod Asking

@@ -1,5 +1,4 @@
--- What is saved of a damaged image, its account, and deleted entries. Definitions for steps are in `steps`.
-pub mod Account
+-- What is saved of a damaged image, and deleted entries. Definitions for steps are in `steps`.
 pub mod Rescue
 pub mod RescueObject
 pub mod Undelete

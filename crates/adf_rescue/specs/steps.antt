@@ -1,4 +1,3 @@
--- Definitions for steps: the marks of the account, the entries that an argument asks for, and the objects of a report, written one after the other.
-pub mod Accounting
+-- Definitions for steps: the entries that an argument asks for, and the objects of a report, written one after the other.
 pub mod Asking
 pub mod Reporting

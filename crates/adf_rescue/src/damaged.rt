@@ -7,9 +7,9 @@ ghost use Rattle.adf_rescue.specs.RescueObject.{is_told};
 ghost use Rattle.adf_text.specs.Ranges.{ranges};
 ghost use Rattle.adf_rescue.specs.steps.Reporting.{IsPart, rest_of};
 
-use crate::account::unaccounted_blocks;
 use crate::plan::Plan;
 use crate::rescue_object::{entry_object, front_text, is_told, rest_object};
+use adf_account::unaccounted_blocks;
 use adf_block::Image;
 use adf_host::OwnedFile;
 use adf_io::{PrintFault, write_text, write_when_long};

@@ -1,14 +1,10 @@
-//! What is saved of a damaged image, and deleted entries, as files and directories of the host. And the account of the image: its
-//! blocks that are used and belong to nothing that is told.
+//! What is saved of a damaged image, and deleted entries, as files and directories of the host.
 #![tactic(auto)]
 
-mod account;
-mod accounted;
 mod asked;
 mod chosen;
 mod damaged;
 mod deleted_lines;
-mod extensions;
 mod idle;
 mod placing;
 mod plan;

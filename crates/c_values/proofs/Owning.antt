@@ -1,10 +1,15 @@
--- The owners of blocks for C, one after the other.
-use Rattle.std.proofs.Common.{◌≡◌, ℕ, ◌+◌, ◌<◌, ◌≤◌, List, [], ◌∷◌, ◌++◌, Result, Ok, Err, IfOk, length, drop, get_or, append_assoc, append-nil, sym, ap, ◌∙◌}
+-- The owners of blocks for C, one after the other; and what the blocks of an image are.
+use Rattle.std.proofs.Common.{◌≡◌, ℕ, ◌+◌, ◌<◌, ◌≤◌, List, [], ◌∷◌, ◌++◌, Result, Ok, Err, IfOk, length, map, drop, get_or, append_assoc, append-nil, sym, ap, ◌∙◌}
 use Rattle.std.proofs.lemmas.List.{at_drop_all, at_drop_more}
 use Rattle.ados_model.specs.Stands.{Stands}
 use Rattle.ados_model.specs.Tree.{Tree}
 use Rattle.ados_volume.specs.Owners.{AreOwners}
 use Rattle.ados_volume.specs.declared.owner.Owner.{Owner}
+use Rattle.adf_account.specs.Told.{TellsBlocks}
+use Rattle.adf_account.specs.declared.told.Told.{Told}
+use Rattle.adf_salvage.specs.Salvaged.{Saved}
+use Rattle.c_values.specs.Told.{TellsAll, told_block}
+use Rattle.c_values.specs.declared.told.JipTold.{JipTold}
 use Rattle.c_values.specs.Owners.{MapsOwners, told_owner, told_owners}
 use Rattle.c_values.specs.declared.owners.JipOwner.{JipOwner}
 
@@ -35,3 +40,9 @@ pub mapped : {A E : Type 0} (r : Result A E) (items : A → List JipOwner) (imag
     → IfOk r (λ told. items told ≡ told_owners 0 given) → IfOk r (λ told. MapsOwners image (items told))
 mapped (Ok told) items image owners given are same is = record { owners = owners; are = are; told_are = is ∙ ap (told_owners 0) same }
 mapped (Err fault) items image owners given are same is = tt
+
+-- the told blocks are those of the salvage
+pub all_tell : {A E : Type 0} (r : Result A E) (items : A → List JipTold) (saved : Saved) (blocks given : List Told) → TellsBlocks saved blocks → given ≡ blocks
+    → IfOk r (λ told. items told ≡ map told_block given) → IfOk r (λ told. TellsAll saved (items told))
+all_tell (Ok told) items saved blocks given tells same is = record { blocks = blocks; tells = tells; told_are = is ∙ ap (map told_block) same }
+all_tell (Err fault) items saved blocks given tells same is = tt

@@ -1,4 +1,4 @@
--- What C sees of values: the status of a call, texts in a buffer, lists in an array, dates, answers, faults, owners of blocks, and entries of a salvage.
+-- What C sees of values: the status of a call, texts in a buffer, lists in an array, dates, answers, faults, owners of blocks, entries of a salvage, what the blocks of its image are, labels, and boot blocks.
 pub mod Status
 pub mod Ends
 pub mod Lists
@@ -10,3 +10,6 @@ pub mod Findings
 pub mod Names
 pub mod Owners
 pub mod Salvaged
+pub mod Told
+pub mod Images
+pub mod Boots

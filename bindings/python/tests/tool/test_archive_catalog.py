@@ -17,6 +17,7 @@ import zlib
 import jiponuwha as jip
 
 from .archive_help import BLOCK, DAY, DAY_TEXT, LONGEST, PACKAGE, Room, environment, image, is_plain, jip_process, query, refused, root_of, rows, words_of
+from .tool_help import with_boot
 
 PAGE = PACKAGE.parents[1] / "docs" / "ARCHIVES.md"
 NAME = "in/jip-catalogue.sqlite"
@@ -25,17 +26,6 @@ NAME = "in/jip-catalogue.sqlite"
 def sums(data: bytes) -> tuple[str, str, str, str]:
     named = [hashlib.new(it, data).hexdigest() for it in ("md5", "sha1", "sha256")]
     return (f"{zlib.crc32(data):08x}", named[0], named[1], named[2])
-
-
-def with_boot(data: bytes) -> bytes:
-    """Installs the standard boot block. Its checksum is the complement of the end-around-carry sum of the two blocks."""
-    code = bytes.fromhex("00000370 43fa0018 4eaeffa0 4a80 6604 5380 4e75 2240 20690016 7000 4e75") + b"dos.library\0"
-    boot = bytearray((data[:4] + bytes(4) + code).ljust(2 * BLOCK, b"\0"))
-    total = sum(int.from_bytes(boot[it : it + 4], "big") for it in range(0, len(boot), 4))
-    while total >= 2**32:
-        total = total % 2**32 + total // 2**32
-    boot[4:8] = (2**32 - 1 - total).to_bytes(4, "big")
-    return bytes(boot) + data[2 * BLOCK :]
 
 
 class Rows(Room):
@@ -51,9 +41,9 @@ class Rows(Room):
         self.write("in/a.adf", data)
         self.write("in/b.adz", gzip.compress(data))
         self.here("catalog", "--jobs", "1", "in", status=0)
-        said = "path, container, bytes, crc32, md5, sha1, sha256, verdict, reason, kind, label, blocks, free, boot_sha1, boot, gone"
+        said = "path, container, bytes, crc32, md5, sha1, sha256, verdict, reason, kind, label, blocks, free, boot_sha1, boot, boot_sum, gone"
         boot = hashlib.sha1(data[: 2 * BLOCK]).hexdigest()
-        rest = (len(data), *sums(data), "ok", None, "OFS", "Label", 40, 40 - 2 - 2 - 5, boot, "none", 0)
+        rest = (len(data), *sums(data), "ok", None, "OFS", "Label", 40, 40 - 2 - 2 - 5, boot, "none", 0, 0)
         self.assertEqual(query(NAME, f"SELECT {said} FROM images ORDER BY path"), [("a.adf", "", *rest), ("b.adz", "gzip", *rest)])
         said = "type, files.path, size, bits, date, comment, files.crc32, files.md5, files.sha1, files.sha256"
         found = set(query(NAME, f"SELECT {said} FROM files JOIN images ON images.id = image WHERE images.path = 'a.adf'"))
@@ -75,7 +65,7 @@ class Rows(Room):
         data = data[: BLOCK * block] + bytes(BLOCK) + data[BLOCK * (block + 1) :]
         self.write("in/a.adf", data)
         self.here("catalog", "--jobs", "1", "in", status=0)
-        self.assertEqual(query(NAME, "SELECT verdict, sha1, label FROM images"), [("refused", hashlib.sha1(data).hexdigest(), None)])
+        self.assertEqual(query(NAME, "SELECT verdict, sha1, label FROM images"), [("refused", hashlib.sha1(data).hexdigest(), "Label")])
         self.assertIn(("BadSum", root_of(data), 5, 0x12345678), query(NAME, "SELECT kind, block, at, found FROM faults"))
         saved = query(NAME, "SELECT path, state, size, missing, sha1 FROM salvaged WHERE state != 'directory'")
         self.assertIn(("d/whole", "whole", 9, 0, hashlib.sha1(b"all of it").hexdigest()), saved)
@@ -95,12 +85,16 @@ class Rows(Room):
         for number, format in enumerate(jip.Format):
             self.write(f"in/{number}.adf", image(format=format))
             self.write(f"in/{2 + number}.adf", with_boot(image(format=format)))
-        code = bytearray(image())
-        code[12:16] = b"code"
-        self.write("in/4.adf", bytes(code))
+        code = with_boot(image())
+        self.write("in/4.adf", code[:100] + b"code" + code[104:])
+        self.write("in/5.adf", with_boot(image(), b"another code"))
+        self.write("in/6.adf", refused(with_boot(image())))
+        self.write("in/7.adf", b"no image")
         self.here("catalog", "--jobs", "1", "in", status=0)
-        found = [it[0] for it in query(NAME, "SELECT boot FROM images ORDER BY path")]
-        self.assertEqual(found, ["none", "none", "standard", "standard", "other"])
+        found = query(NAME, "SELECT boot, boot_sum FROM images ORDER BY path")
+        self.assertEqual([it[0] for it in found], ["none", "none", "standard", "standard", "wrong", "custom", "standard", None])
+        self.assertEqual(found[3][1], int.from_bytes(with_boot(image())[4:8], "big"))
+        self.assertEqual((found[0][1], found[7][1]), (0, None))
 
 
 class Again(Room):

@@ -56,7 +56,7 @@ class Verdicts(Room):
         self.write("in/bad.adf", refused(data))
         self.write("in/good.adf", data)
         bad, good = (json.loads(it) for it in self.here("check", "--json", "in", status=3).out.splitlines())
-        self.assertEqual((bad["path"], bad["verdict"], bad["kind"]), ("in/bad.adf", "refused", None))
+        self.assertEqual((bad["path"], bad["verdict"], bad["kind"]), ("in/bad.adf", "refused", "FFS"))
         self.assertEqual((bad["faults"][0]["kind"], bad["faults"][0]["block"]), ("BadSum", root_of(data)))
         self.assertEqual((bad["faults"][0]["at"], bad["faults"][0]["found"]), (5, 0x12345678))
         self.assertEqual((good["kind"], good["label"], good["blocks"], good["faults"]), ("FFS", "Work", 32, []))

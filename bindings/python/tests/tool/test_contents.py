@@ -58,8 +58,18 @@ class Bytes(ToolCase):
         data[880 * 512 + 20] ^= 1
         (self.top / "bad.adf").write_bytes(data)
         lines = self.done("hex", "bad.adf:@880").lines
-        self.assertIn("owner unknown, since the image is refused; the checksum of the block is wrong", lines[0])
+        self.assertTrue(lines[0].endswith(": root; the image is refused; the checksum of the block is wrong"), lines[0])
         self.assertEqual(len(lines), 33)
+        with jip.open("work.adf") as volume:
+            block = next(at for at, it in enumerate(volume.map()) if it.role == jip.Role.DATA)
+            owner = volume.where(block)[1]
+        self.assertTrue(self.done("hex", f"bad.adf:@{block}").lines[0].endswith(f": data 0 of {owner}; the image is refused"))
+        self.write_short()
+
+    def write_short(self) -> None:
+        """A file that no image is has blocks without owners."""
+        (self.top / "short.adf").write_bytes(bytes(1024))
+        self.assertIn("owner unknown", self.done("hex", "short.adf:@1").lines[0])
 
     def test_hostile_names(self) -> None:
         self.floppy()

@@ -3,19 +3,11 @@ from __future__ import annotations
 
 import gzip
 import os
-import stat
 import unittest
-from unittest import mock
 
 import jiponuwha as jip
 
-from .tool_help import DATE, ToolCase
-
-# A stand-in for the program adf_serve: it writes the standard boot block of its own.
-STAND_IN = """#!/bin/sh
-[ "$1 $2" = 'boot --install' ] || exit 9
-printf 'booted' | dd of="$3" bs=1 seek=12 conv=notrunc 2>/dev/null
-"""
+from .tool_help import DATE, ToolCase, with_boot
 
 
 class New(ToolCase):
@@ -67,17 +59,13 @@ class New(ToolCase):
         self.assertEqual(self.done("new", "-n", "x.adf", "Work").lines, ["would be done: made 'x.adf': Work, OFS, 1,760 blocks"])
         self.assertEqual(os.listdir("."), [])
 
-    def test_the_boot_block_is_that_of_the_program(self) -> None:
-        (self.top / "adf_serve").write_text(STAND_IN)
-        os.chmod("adf_serve", stat.S_IRWXU)
-        with mock.patch.dict(os.environ, JIPONUWHA_PROGRAM=str(self.top / "adf_serve")):
-            self.done("new", "--boot", "x.adf", "Work")
-        self.assertEqual((self.top / "x.adf").read_bytes()[12:18], b"booted")
-        with mock.patch.dict(os.environ, JIPONUWHA_PROGRAM="", PATH="/none"):
-            self.refused(2, "'adf_serve', which is not on the path", "new", "--boot", "y.adf", "Work")
-        with mock.patch.dict(os.environ, JIPONUWHA_PROGRAM="/bin/false"):
-            self.refused(2, "adf_serve cannot write the boot block", "new", "--boot", "y.adf", "Work")
-        self.assertFalse(os.path.exists("y.adf"))
+    def test_the_standard_boot_block(self) -> None:
+        for number, kind in enumerate(((), ("--ffs",))):
+            name = f"{number}.adf"
+            self.done("new", "--boot", *kind, name, "Work")
+            made = (self.top / name).read_bytes()
+            self.assertEqual(made[:1024], with_boot(made[:4] + bytes(len(made) - 4))[:1024])
+            self.assertEqual((made[3], jip.boot_block(made).code, jip.check(made)), (number, jip.BootCode.STANDARD, ()))
 
 
 if __name__ == "__main__":

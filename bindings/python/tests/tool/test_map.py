@@ -87,7 +87,18 @@ class Map(Tried):
         self.assertEqual(lines[1][40], "!")
         self.assertEqual(lines[header % 22][header // 22], "!")
         self.assertIn("refused, ", lines[22])
-        self.assertIn("! 2 fault", lines[23])
+        self.assertRegex(lines[23], "! (2 )?fault")
+
+    def test_refused_blocks_have_their_letters(self) -> None:
+        """All blocks but the root and the bitmap block are as before. Without a root, blocks of deleted files belong to them."""
+        with jip.create("Work", format=jip.Format.OFS) as floppy:
+            floppy["long"] = bytes(range(1, 251)) * 400
+            sound = floppy.image()
+            floppy.close(discard=True)
+        lines = self.grid(pictured.without(sound, ROOT)).output.splitlines()
+        wanted = [list(it) for it in self.grid(sound).output.splitlines()[:22]]
+        wanted[0][40], wanted[1][40] = "!", "L"
+        self.assertEqual(lines[:22], ["".join(it) for it in wanted])
 
     def test_json(self) -> None:
         sound = pictured.sound()
@@ -98,7 +109,9 @@ class Map(Tried):
         self.assertEqual((found["headers"][header], found["paths"][str(header)]), (header, "Docs/long"))
         ran = self.jip("map", "--json", self.write("bad.adf", pictured.damaged(sound, 512 * BITMAP + 20)))
         refused = json.loads(ran.output)
-        self.assertEqual((ran.status, refused["label"], refused["map"][BITMAP]), (3, None, "!"))
+        self.assertEqual((ran.status, refused["label"], refused["kind"], refused["map"][BITMAP]), (3, "Work", "FFS", "!"))
+        owned = [(block, header) for block, header in enumerate(found["headers"]) if header and block != BITMAP]
+        self.assertEqual([(block, refused["headers"][block]) for block, _ in owned], owned)
         self.assertIn({"block": BITMAP, "kind": "BadSum", "text": "the checksum of the block is wrong"}, refused["faults"])
 
     def test_no_disk(self) -> None:

@@ -117,7 +117,7 @@ class Page(ReportCase):
         for block in blocks:
             self.assertTrue(cells[block][1].endswith(" of Docs/long"), cells[block])
         self.assertEqual(sum(look == "free" for look, _ in cells.values()), info.free)
-        for text in ("Work", "FFS", "double density", f"{info.used:,} blocks of 1,758", f"{info.free:,} blocks", "read \xe9t"):
+        for text in ("Work", "FFS", "boot block: none", "double density", f"{info.used:,} blocks of 1,758", f"{info.free:,} blocks", "read \xe9t"):
             self.assertIn(text, page.text)
 
     def test_the_tree(self) -> None:
@@ -152,7 +152,7 @@ class Page(ReportCase):
         image[total : total + 4] = ((int.from_bytes(image[total : total + 4], "big") - 1) % 2**32).to_bytes(4, "big")
         page = self.page(bytes(image))
         self.assertIn("Bitmap not valid", page.text)
-        self.assertIn("Only a valid bitmap says which entries are deleted.", page.text)
+        self.assertIn("Only a bitmap that can be trusted says which entries are deleted.", page.text)
         self.assertEqual(need_of(disk_of("", bytes(image))), Need.REMARKS)
 
     def test_a_damaged_disk(self) -> None:
@@ -170,10 +170,37 @@ class Page(ReportCase):
         self.assertEqual(sum(value == "mark" for name, value in page.attributes if name == "class"), 2)
 
     def test_no_root(self) -> None:
-        page = self.page(without(sound(), ROOT))
+        """Data blocks keep their owners. The bitmap block is the only one that has data and is part of nothing."""
+        image = sound()
+        with jip.open(image) as floppy:
+            owners, key = floppy.map(), floppy.stat("Docs/long").key
+        page = self.page(without(image, ROOT))
+        cells = cells_of(page.cells)
         self.assertEqual(len(page.cells), 1760)
         self.assertIn("Found outside the tree", page.text)
-        self.assertIn("Docs/long", page.text)
+        for block, owner in enumerate(owners):
+            if owner.role == Role.DATA and owner.header == key:
+                self.assertEqual(cells[block][0][:6], "data t")
+                self.assertTrue(cells[block][1].endswith(f"data {owner.index} of Docs/long"), cells[block])
+            elif owner.role == Role.EXTENSION:
+                self.assertEqual(cells[block][0], "ext")
+        self.assertEqual(cells[BITMAP][0], "lost")
+        self.assertIn("1 lost block", page.text)
+        for text in ("deletedunknown", "unaccounted1 block"):
+            self.assertIn(text, page.text.replace("\n", ""))
+
+    def test_a_refused_disk_has_its_label_and_deleted_files(self) -> None:
+        """A fault in a file leaves the bitmap trusted."""
+        image = damaged(sound(), 512 * header(sound(), "Docs/long") + 350)
+        disk = disk_of("work.adf", image)
+        self.assertEqual((disk.is_accepted, disk.title, disk.facts), (False, "Work", "FFS, double density, 1,760 blocks"))
+        self.assertEqual([(it.path, it.size, it.state) for it in disk.deleted or ()], [("gone", 3_000, "whole")])
+        page = self.page(image)
+        for text in ("Deleted files", "gone", "0 blocks", "work.adf", "checksum 0x00000000"):
+            self.assertIn(text, page.text)
+        with jip.open(sound()) as floppy:
+            info = floppy.info()
+        self.assertEqual(sum(look == "free" for look, _ in page.cells), info.free)
 
     def test_broken_and_lost_files(self) -> None:
         image = sound(jip.Format.OFS)

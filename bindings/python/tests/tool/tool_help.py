@@ -93,3 +93,17 @@ class ToolCase(unittest.TestCase):
             return {
                 path: (volume.read(path) if it.is_file else None, it.bits, it.date, it.comment) for path, it in volume.walk()
             }
+
+
+# The code of the standard boot block, which opens the library of DOS.
+BOOT = bytes.fromhex("00000370 43fa0018 4eaeffa0 4a80 6604 5380 4e75 2240 20690016 7000 4e75") + b"dos.library\0"
+
+
+def with_boot(data: bytes, code: bytes = BOOT) -> bytes:
+    """Installs a boot block. Its checksum is the complement of the end-around-carry sum of the two blocks."""
+    boot = bytearray((data[:4] + bytes(4) + code).ljust(1024, b"\0"))
+    total = sum(int.from_bytes(boot[it : it + 4], "big") for it in range(0, len(boot), 4))
+    while total >= 2**32:
+        total = total % 2**32 + total // 2**32
+    boot[4:8] = (2**32 - 1 - total).to_bytes(4, "big")
+    return bytes(boot) + data[1024 :]

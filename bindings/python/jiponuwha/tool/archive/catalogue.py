@@ -17,7 +17,7 @@ from .schema import APPLICATION, TABLES, VERSION
 NAME = "jip-catalogue.sqlite"
 _IMAGE = (
     "path, member, container, file_size, file_time, bytes, crc32, md5, sha1, sha256, verdict, reason, kind, label, blocks, used, free, "
-    "boot_sha1, boot, more_faults"
+    "boot_sha1, boot, boot_sum, more_faults"
 )
 TEMPORARY = ""
 # The first bytes of each file of SQLite.
@@ -215,7 +215,7 @@ class Catalogue:
         sums = record.sums or (None, None, None, None)
         values = (
             *(path, source.member, container_of(source), *stamp, record.bytes, *sums, record.verdict, record.reason),
-            *(record.kind, record.label, record.blocks, record.used, record.free, record.boot_sha1, record.boot, int(record.more_faults)),
+            *(record.kind, record.label, record.blocks, record.used, record.free, *record.boot, int(record.more_faults)),
         )
         with reported(self.file), self._transaction():
             self._connection.execute("DELETE FROM images WHERE path = ?", (path,))

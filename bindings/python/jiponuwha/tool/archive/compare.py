@@ -42,7 +42,7 @@ class Blocks(NamedTuple):
 
 @dataclass
 class Side:
-    """An image that is compared. A refused one has the files that salvage gives of it, and no owners of blocks."""
+    """An image that is compared. A refused one has the files and the owners of blocks that salvage gives of it."""
 
     data: bytes
     files: dict[bytes, Content] = field(default_factory=dict)
@@ -76,6 +76,7 @@ class Side:
             found = salvage(self.data)
         except NotAnImage:
             return
+        self.owners = found.owners
         for it in found:
             self._paths.setdefault(it.header, it.path)
             if it.state != State.LOST:
@@ -83,7 +84,7 @@ class Side:
                 self.files[folded(it.path)] = Content(it.path, data, it.bits, date_text(it.date), it.comment)
 
     def owner_of(self, block: int) -> str | None:
-        """Returns who owns a block, in words; None if that is not known, since the image is refused or ends before the block."""
+        """Returns who owns a block, in words; None if the image ends before the block, or has a size that no image has."""
         if self.owners is None or block >= len(self.owners):
             return None
         owner = self.owners[block]

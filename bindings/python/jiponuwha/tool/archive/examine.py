@@ -7,9 +7,9 @@ import zlib
 from collections.abc import Iterator
 from dataclasses import dataclass
 from enum import IntEnum, StrEnum
-from typing import NamedTuple
+from typing import Any, NamedTuple
 
-from ... import Entry, Fault, Faults, Format, NotAnImage, Protected, Role, Salvaged, State, Volume, create, date_text, salvage
+from ... import Entry, Fault, Faults, Format, NotAnImage, Protected, Role, Salvaged, State, Volume, boot_block, create, date_text, label_of, salvage
 from ... import open as open_volume
 from ..._numbers import BLOCK_BYTES
 
@@ -86,6 +86,14 @@ class SavedRow(NamedTuple):
     sha256: str | None
 
 
+class BootRow(NamedTuple):
+    """The boot block of an image: its SHA-1, what it is, and the checksum in it."""
+
+    sha1: str | None = None
+    kind: str | None = None
+    sum: int | None = None
+
+
 @dataclass(frozen=True)
 class Record:
     """An image as the archive commands know it. What is not known is None, and what was not asked for is empty."""
@@ -99,8 +107,7 @@ class Record:
     blocks: int | None = None
     used: int | None = None
     free: int | None = None
-    boot_sha1: str | None = None
-    boot: str | None = None
+    boot: BootRow = BootRow()
     more_faults: bool = False
     files: tuple[FileRow, ...] = ()
     faults: tuple[FaultRow, ...] = ()
@@ -114,8 +121,6 @@ def sums_of(data: bytes) -> Sums:
 
 
 _NO_SUMS = (None, None, None, None)
-# The SHA-1 of the boot blocks that `adf_serve boot --install` writes.
-STANDARD_BOOTS = frozenset({"1e5d70472d2d69ecd688976921cb5da63916e5f3", "d36f4b17e5fba46a5e8923298d34f898774a2fea"})
 
 
 def fault_row(fault: Fault) -> FaultRow:
@@ -137,26 +142,22 @@ def reason_of(faults: Faults) -> str:
 
 
 @functools.cache
-def _blank_boots() -> tuple[int, frozenset[bytes]]:
-    """Returns the number of bytes of a boot block, and the boot blocks of blank volumes, which have no code."""
-    length, found = 0, set()
-    for format in Format:
-        volume = create("Blank", format=format, blocks=16)
-        image = volume.image()
+def _boot_bytes() -> int:
+    """Returns the number of bytes of a boot block: those of the boot blocks of a blank volume."""
+    with create("Blank", blocks=16) as volume:
         length = BLOCK_BYTES * sum(it.role == Role.BOOT for it in volume.map())
-        found.add(image[:length])
         volume.close(discard=True)
-    return length, frozenset(found)
+    return length
 
 
-def boot_of(image: bytes) -> tuple[str | None, str | None]:
-    """Returns the SHA-1 of the boot block of an image, and what it is: `none` if it has no code, `standard` or `other`."""
-    length, blank = _blank_boots()
-    if len(image) < length:
-        return None, None
-    boot = image[:length]
-    sha1 = hashlib.sha1(boot, usedforsecurity=False).hexdigest()
-    return sha1, "none" if boot in blank else "standard" if sha1 in STANDARD_BOOTS else "other"
+def boot_of(image: bytes) -> BootRow:
+    """Returns the row of the boot block of an image. Its kind is `none`, `wrong`, `standard` or `custom`."""
+    try:
+        boot = boot_block(image)
+    except NotAnImage:
+        return BootRow()
+    sha1 = hashlib.sha1(image[: _boot_bytes()], usedforsecurity=False).hexdigest()
+    return BootRow(sha1, boot.code.name.lower(), boot.sum)
 
 
 # ---- Accepted and refused images ----
@@ -199,7 +200,6 @@ def _file_rows(volume: Volume, image: bytes, depth: Depth) -> tuple[FileRow, ...
 
 def _accepted(volume: Volume, data: bytes, depth: Depth) -> Record:
     image, info = volume.image(), volume.info()
-    boot_sha1, boot = boot_of(data)
     return Record(
         verdict=Verdict.OK if image == data else Verdict.VALIDATED,
         reason=None if image == data else "the bitmap is not marked valid; it is rebuilt in memory",
@@ -210,8 +210,7 @@ def _accepted(volume: Volume, data: bytes, depth: Depth) -> Record:
         blocks=len(image) // BLOCK_BYTES,
         used=info.used,
         free=info.free,
-        boot_sha1=boot_sha1,
-        boot=boot,
+        boot=boot_of(data),
         files=_file_rows(volume, image, depth),
     )
 
@@ -225,15 +224,23 @@ def _saved_rows(data: bytes, depth: Depth) -> tuple[SavedRow, ...]:
         return ()
 
 
+def _about(data: bytes) -> dict[str, Any]:
+    """Returns what is known of a refused image with the size of one: its kind, its label and its blocks."""
+    try:
+        kind, label = boot_block(data).kind, label_of(data)
+    except NotAnImage:
+        return {}
+    return {"kind": kind.name if isinstance(kind, Format) else None, "label": label, "blocks": len(data) // BLOCK_BYTES}
+
+
 def _refused(faults: Faults, data: bytes, depth: Depth) -> Record:
-    boot_sha1, boot = boot_of(data)
     return Record(
         verdict=Verdict.REFUSED,
         reason=reason_of(faults),
         bytes=len(data),
         sums=sums_of(data) if depth == Depth.SUMS else None,
-        boot_sha1=boot_sha1,
-        boot=boot,
+        **_about(data),
+        boot=boot_of(data),
         more_faults=faults.more,
         faults=tuple(fault_row(it) for it in faults),
         salvaged=_saved_rows(data, depth),

@@ -3,7 +3,7 @@ from __future__ import annotations
 
 # "jipC", which SQLite keeps in the header of the file, and the number of this schema.
 APPLICATION = 0x6A697043
-VERSION = 1
+VERSION = 2
 
 TABLES = """
 CREATE TABLE about (
@@ -32,6 +32,7 @@ CREATE TABLE images (
     free INTEGER,
     boot_sha1 TEXT,
     boot TEXT,
+    boot_sum INTEGER,
     more_faults INTEGER NOT NULL DEFAULT 0,
     gone INTEGER NOT NULL DEFAULT 0
 );

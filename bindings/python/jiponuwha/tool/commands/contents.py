@@ -5,7 +5,7 @@ import argparse
 import re
 from collections.abc import Iterator
 
-from ... import DOUBLE_DENSITY, HIGH_DENSITY, NotAnImage, Owner, Role, Volume
+from ... import DOUBLE_DENSITY, HIGH_DENSITY, NotAnImage, Owner, Role, Volume, salvage
 from ..._numbers import BLOCK_BYTES
 from ..change import in_image
 from ..console import Console
@@ -113,7 +113,19 @@ def owner_of(source: Source, block: int) -> str:
             return owner_line(*volume.where(block))
     except NotAnImage as fault:
         here = [it for it in fault.faults if it.block == block]
-        return f"owner unknown, since the image is refused{''.join(f'; {it.text}' for it in here)}"
+        return f"{salvaged_owner(source.read(), block)}; the image is refused{''.join(f'; {it.text}' for it in here)}"
+
+
+def salvaged_owner(image: bytes, block: int) -> str:
+    """Returns what a block of a refused image is used for, as far as salvage tells."""
+    try:
+        saved = salvage(image)
+    except NotAnImage:
+        return "owner unknown"
+    owner = saved.owners[block]
+    if owner.role == Role.FREE and not saved.trusts_bitmap:
+        return "empty"
+    return owner_line(owner, next((it.path for it in saved if it.header == owner.header), None))
 
 
 def print_block(source: Source, text: str, console: Console) -> None:

@@ -4,7 +4,7 @@ from __future__ import annotations
 import argparse
 import os
 
-from ... import DOUBLE_DENSITY, HIGH_DENSITY, Format, Volume, create
+from ... import DOUBLE_DENSITY, HIGH_DENSITY, Format, Volume, create, with_boot_block
 from ..change import Change, report
 from ..console import Console
 from ..declare import Subparsers, add_changes, command
@@ -29,7 +29,7 @@ def register(subparsers: Subparsers) -> None:
     size = made.add_mutually_exclusive_group()
     size.add_argument("--hd", action="store_true", help=f"high density, {HIGH_DENSITY:,} blocks; default: {DOUBLE_DENSITY:,}")
     size.add_argument("--blocks", type=int, metavar="N", help="another number of blocks, from 16 to 101,602")
-    made.add_argument("--boot", action="store_true", help="install the standard boot block (by the program adf_serve)")
+    made.add_argument("--boot", action="store_true", help="install the standard boot block")
     made.add_argument("--from", dest="folder", metavar="DIR", help="put everything in this directory into the image")
     add_changes(made)
 
@@ -79,8 +79,6 @@ def new(arguments: argparse.Namespace, console: Console) -> int:
         volume.close(discard=True)
     if not arguments.dry_run:
         if arguments.boot:
-            from ..boot import with_boot_block
-
             image = with_boot_block(image)
         source.write(image)
     report(lines, arguments, console)

@@ -29,8 +29,8 @@ def as_object(disk: Disk) -> dict[str, object]:
     faults = [{"block": it.block, "kind": kind_name(it.kind), "text": it.text} for it in disk.faults]
     return {
         "image": disk.name,
-        "label": disk.info.label if disk.info else None,
-        "kind": disk.info.format.name if disk.info else None,
+        "label": disk.label,
+        "kind": disk.format.name if disk.format is not None else None,
         "blocks": len(blocks),
         "map": "".join(letter(disk, it) for it in blocks),
         "headers": headers,

@@ -6,7 +6,7 @@ from collections import Counter
 from dataclasses import dataclass, field
 from functools import cached_property
 
-from ... import Fault, FaultKind, Faults, Info, NotAnImage, Owner, Role, Volume, open, salvage
+from ... import Boot, Fault, FaultKind, Faults, Format, Info, NotAnImage, Owner, Role, Salvage, State, Volume, boot_block, label_of, open, salvage
 from ..._numbers import BLOCK_BYTES, MOST_BLOCKS
 from . import items
 from .items import Item
@@ -23,7 +23,8 @@ class Disk:
     """An image: its blocks, its files and directories, and its faults.
 
     `info` and `pieces` are None for an image that is refused, and `deleted` for one whose bitmap cannot be trusted. `owners` has
-    the owner of each block; of a refused image it has those that are known, which are headers.
+    the owner of each block, in a refused image as far as salvage tells. It is empty for bytes that are no image. `label` is
+    the name in the root block, if that is valid.
     """
 
     name: str
@@ -33,6 +34,8 @@ class Disk:
     owners: dict[int, Owner] = field(repr=False)
     faults: Faults = Faults()
     items: list[Item] = field(default_factory=list)
+    label: str | None = None
+    boot: Boot | None = None
     info: Info | None = None
     pieces: Pieces | None = None
     deleted: list[Item] | None = None
@@ -53,17 +56,22 @@ class Disk:
     @property
     def title(self) -> str:
         """The label, or the name of the image if it has none."""
-        return clean(self.info.label) if self.info else self.shown_name
+        return clean(self.label) if self.label else self.shown_name
+
+    @property
+    def format(self) -> Format | None:
+        """The file system that the boot block names."""
+        return self.boot.kind if self.boot and isinstance(self.boot.kind, Format) else None
 
     @property
     def facts(self) -> str:
         """The file system, the density and the number of blocks."""
         count = f"{len(self.kinds):,} blocks"
-        return ", ".join(it for it in (self.info.format.name if self.info else "", self.shape.density, count) if it)
+        return ", ".join(it for it in (self.format.name if self.format is not None else "", self.shape.density, count) if it)
 
     @property
     def lost(self) -> int:
-        """The number of blocks that are marked used and part of nothing."""
+        """The number of blocks that are used and part of nothing."""
         return self.kinds.count(Kind.LOST)
 
     @cached_property
@@ -90,7 +98,10 @@ class Disk:
 
     def said(self, block: int) -> str:
         """Returns what a block is, with the path of its owner."""
-        kind, owner = self.kinds[block], self.owners.get(block, _NOBODY)
+        kind = self.kinds[block]
+        if kind is Kind.FREE and block not in self._deleted_at:
+            return _PLAIN[kind]
+        owner = self.owners.get(block, _NOBODY)
         path = self.paths.get(owner.header, "?")
         if kind is Kind.DATA:
             return f"data {owner.index} of {path}"
@@ -104,14 +115,16 @@ class Disk:
             return f"lost header of {path}"
         if kind is Kind.BITMAP:
             return f"bitmap block {owner.index}"
-        if kind is Kind.FREE and block in self._deleted_at:
+        if kind is Kind.FREE:
             return f"free, header of the deleted {self._deleted_at[block]}"
         return _PLAIN[kind]
 
     def about(self, block: int) -> str:
         """Returns the number of a block, where it is, what it is, and its faults."""
         place = self.shape.place(block)
-        faults = "".join(f"; fault: {it.text}" for it in self.faults_at.get(block, ()))
+        if block not in self.faults_at:
+            return f"block {block:,}; {place}{place and '; '}{self.said(block)}"
+        faults = "".join(f"; fault: {it.text}" for it in self.faults_at[block])
         return f"block {block:,}; {place}{place and '; '}{self.said(block)}{faults}"
 
     def runs(self) -> list[range]:
@@ -134,7 +147,7 @@ _NOBODY = Owner(Role.FREE)
 _PLAIN = {
     Kind.BOOT: "boot block",
     Kind.ROOT: "root block",
-    Kind.LOST: "lost: marked used, and part of nothing",
+    Kind.LOST: "lost: used, and part of nothing",
     Kind.FREE: "free",
     Kind.BYTES: "has data of an unknown owner",
     Kind.ZEROS: "empty, all bytes are 0",
@@ -162,7 +175,7 @@ def _sum(data: bytes) -> str:
 
 
 def _accepted(name: str, data: bytes, volume: Volume) -> Disk:
-    image, owners = volume.image(), volume.map()
+    image, owners, info = volume.image(), volume.map(), volume.info()
     pieces = pieces_of(owners)
     found = items.as_tree(items.of_entry(path, it, pieces.of_file.get(it.key)) for path, it in volume.walk())
     is_rebuilt = image != data
@@ -173,41 +186,60 @@ def _accepted(name: str, data: bytes, volume: Volume) -> Disk:
         kinds=[OF_ROLE[it.role] for it in owners],
         owners=dict(enumerate(owners)),
         items=found,
-        info=volume.info(),
+        label=info.label,
+        boot=boot_block(data),
+        info=info,
         pieces=pieces,
-        deleted=None if is_rebuilt else deleted_of(image, owners),
+        deleted=None if is_rebuilt else deleted_of(image, owners, {it for it, owner in enumerate(owners) if owner.role == Role.FREE}),
         is_rebuilt=is_rebuilt,
     )
 
 
-def deleted_of(image: bytes, owners: list[Owner]) -> list[Item]:
-    """Returns the deleted files and directories of an image that is accepted.
+def deleted_of(image: bytes, owners: list[Owner], headers: set[int]) -> list[Item]:
+    """Returns the deleted files and directories of an image: the entries with one of these headers.
 
-    They have sound headers in free blocks. What is saved of a damaged image has them too, if the bitmap cannot be trusted. So a
-    bit of each bitmap block is changed in a copy: what is saved of that copy, and has a free block as its header, is deleted.
+    They have sound headers in free blocks. What is saved of an image has them too, if the bitmap cannot be trusted. So a bit of
+    each bitmap block is changed in a copy, and that is salvaged.
     """
     copy = bytearray(image)
     for block, owner in enumerate(owners):
         if owner.role == Role.BITMAP:
             copy[BLOCK_BYTES * (block + 1) - 1] ^= 1
-    return items.as_tree(items.of_salvaged(it) for it in salvage(copy) if owners[it.header].role == Role.FREE)
+    return items.as_tree(items.of_salvaged(it) for it in salvage(copy) if it.header in headers)
 
 
 def _refused(name: str, data: bytes, faults: Faults) -> Disk:
+    try:
+        saved = salvage(data)
+    except NotAnImage:
+        return Disk(name, len(data), _sum(data), _shapeless(data), {}, faults)
+    deleted = saved.deleted
+    return Disk(
+        name=name,
+        length=len(data),
+        sum=_sum(data),
+        kinds=_kinds(saved),
+        owners=dict(enumerate(saved.owners)),
+        faults=faults,
+        items=items.as_tree(items.of_salvaged(it) for it in saved),
+        label=label_of(data),
+        boot=boot_block(data),
+        deleted=deleted_of(data, saved.owners, set(deleted)) if deleted else None if deleted is None else [],
+    )
+
+
+def _kinds(saved: Salvage) -> list[Kind]:
+    """Returns the kind of each block of a refused image."""
+    free = Kind.FREE if saved.trusts_bitmap else Kind.ZEROS
+    kinds = [free if it.role == Role.FREE else OF_ROLE[it.role] for it in saved.owners]
+    for it in saved:
+        if it.state == State.LOST and it.header < len(kinds) and kinds[it.header] is Kind.FILE and saved.owners[it.header].header == it.header:
+            kinds[it.header] = Kind.GONE
+    return kinds
+
+
+def _shapeless(data: bytes) -> list[Kind]:
+    """Returns the kinds of the blocks of bytes that are no image."""
     blocks = min(len(data) // BLOCK_BYTES, MOST_BLOCKS)
     pieces = (data[at : at + BLOCK_BYTES] for at in range(0, BLOCK_BYTES * blocks, BLOCK_BYTES))
-    kinds = [Kind.ZEROS if it == _ZEROS else Kind.BYTES for it in pieces]
-    found = _saved(data)
-    owners = {}
-    for item in found:
-        if item.header < blocks:
-            kinds[item.header] = Kind.GONE if item.state == "lost" else Kind.DIRECTORY if item.is_dir else Kind.FILE
-            owners[item.header] = Owner(Role.DIRECTORY if item.is_dir else Role.FILE, item.header)
-    return Disk(name, len(data), _sum(data), kinds, owners, faults, found)
-
-
-def _saved(data: bytes) -> list[Item]:
-    try:
-        return items.as_tree(items.of_salvaged(it) for it in salvage(data))
-    except NotAnImage:
-        return []
+    return [Kind.ZEROS if it == _ZEROS else Kind.BYTES for it in pieces]

@@ -66,7 +66,7 @@ def heading(disk: Disk) -> str:
     else:
         said = f"refused, {len(disk.faults):,} fault{'' if len(disk.faults) == 1 else 's'}"
     name = disk.title if len(disk.title) <= 36 else f"{disk.title[:34]}.."
-    parts = [disk.info.format.name if disk.info else "", said, "down: head 0, then head 1" if disk.shape.is_floppy else ""]
+    parts = [disk.format.name if disk.format is not None else "", said, "down: head 0, then head 1" if disk.shape.is_floppy else ""]
     line = name
     for part in filter(None, parts):
         line = f"{line}, {part}" if len(line) + 2 + len(part) <= COLUMNS else line

@@ -7,7 +7,7 @@ from ... import Role
 
 
 class Kind(Enum):
-    """A kind of block. The last four are of an image that is refused: nobody knows the owner of each of its blocks."""
+    """A kind of block. The last three are of an image that is refused. `BYTES` is for a size that no image has, where nothing is known."""
 
     BOOT = ("B", "boot", "boot block", "boot blocks")
     ROOT = ("R", "root", "root block", "root blocks")

@@ -8,7 +8,7 @@ from itertools import groupby
 from pathlib import Path
 from typing import TYPE_CHECKING
 
-from ... import Fault, FaultKind, version
+from ... import BootCode, Fault, FaultKind, version
 from ..errors import lacking
 from . import svg, views
 from .disk import Disk
@@ -19,6 +19,9 @@ if TYPE_CHECKING:
     from jinja2 import Environment
 
 _HERE = Path(__file__).parent
+
+
+_BOOT_WORDS = {BootCode.NONE: "none", BootCode.WRONG: "wrong", BootCode.STANDARD: "standard", BootCode.CUSTOM: "custom"}
 
 
 @lru_cache(maxsize=1)
@@ -35,6 +38,7 @@ def _environment() -> Environment:
     styles = "".join((_HERE / it).read_text(encoding="utf-8") for it in ("picture.css", "page.css"))
     made.globals.update(style=Markup(styles), version=version(), plural=views.plural, percent=views.percent, kind_name=kind_name)
     made.globals["kind_text"] = lambda kind: Fault(kind, 0).text
+    made.globals["boot_words"] = _BOOT_WORDS
     made.filters["drawn"] = Markup
     return made
 

@@ -84,14 +84,15 @@ def saved_rows(disk: Disk) -> list[SavedRow]:
 
 def _deleted_row(disk: Disk) -> SavedRow:
     if disk.deleted is None:
-        return SavedRow("deleted", "not counted", "", "Only a valid bitmap says which entries are deleted.")
+        return SavedRow("deleted", "unknown", "", "Only a bitmap that can be trusted says which entries are deleted.")
     return SavedRow("deleted", _counts(disk.deleted), _bytes(disk.deleted), "The header is left, in a free block.")
 
 
 def _unaccounted_row(disk: Disk) -> SavedRow:
-    if disk.is_accepted:
-        return SavedRow("unaccounted", plural(disk.lost, "block"), "", "Marked used, and part of nothing.")
-    return SavedRow("unaccounted", "not counted", "", "'adf_serve extract --damaged --list' counts the blocks of a refused disk.")
+    meaning = "Used, and part of nothing."
+    if disk.deleted is None and not disk.is_accepted:
+        meaning = "Part of nothing, and not filled with zeros. The bitmap cannot be trusted."
+    return SavedRow("unaccounted", plural(disk.lost, "block") if disk.owners else "unknown", "", meaning)
 
 
 def _counts(its: Iterable[Item]) -> str:

@@ -1,0 +1,2 @@
+-- Definitions for steps: the marks of the account.
+pub mod Accounting

@@ -1,6 +1,0 @@
-use Rattle.std.proofs.Common.{take}
-use Rattle.adf_rescue.specs.steps.Accounting.{Adds, IsOwn, OfOne}
-use Rattle.adf_rescue.proofs.accounted.mark_entries.Given as goal
-
-abbrev pub invariant-loop-entry : goal.invariant-loop-entry
-invariant-loop-entry l = Adds (OfOne (IsOwn l.image) (take l.entry-index l.entries)) l.fn.marks.items l.marks.items

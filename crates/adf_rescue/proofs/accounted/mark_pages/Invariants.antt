@@ -1,6 +1,0 @@
-use Rattle.adf_rescue.specs.steps.Accounting.{Adds}
-use Rattle.adf_rescue.proofs.Marking.{IsPageBelow}
-use Rattle.adf_rescue.proofs.accounted.mark_pages.Given as goal
-
-abbrev pub invariant-loop-p : goal.invariant-loop-p
-invariant-loop-p l = Adds (IsPageBelow l.image l.p) l.fn.marks.items l.marks.items

@@ -1,9 +1,0 @@
-use Rattle.ados_mend.specs.steps.Marks.{unmarked}
-use Rattle.adf_rescue.proofs.Walking.{Walks}
-use Rattle.adf_rescue.proofs.extensions.follow.Given as goal
-
-abbrev pub invariant-loop-next : goal.invariant-loop-next
-invariant-loop-next l = Walks l.image l.file l.fn.marks.items l.marks.items l.holder
-
-abbrev pub decreases-loop-next : goal.decreases-loop-next
-decreases-loop-next l = unmarked l.marks.items
