@@ -897,7 +897,7 @@ def used_by_children() -> float:
 def endless(room: Shared) -> None:
     """Images and scripts without an end, or as long as a disk."""
     little = limited(resource.RLIMIT_AS, MEMORY + 3 * LARGEST)
-    said = b"'/dev/zero' did not end after 2,097,152 reads"
+    said = b"'/dev/zero' gave no end within 2,097,152 reads"
     cases: List[List[str]] = [["list", "/dev/zero"], ["mkdir", "--out", "x", "/dev/zero", "n"], ["serve", "empty.adf", "/dev/zero"], []]
     for words in cases:
         name, before = " ".join(words[:1]) or "standard input", used_by_children()

@@ -89,10 +89,10 @@ impl Display for WrongLength {
                 "are no whole number of blocks: cut short, or not an ADF file"
             }
             SizeFault::TooFewBlocks => {
-                "are too few: a volume has 16 to 101,602 blocks of 512 bytes"
+                "are too few for a volume, which has 16 to 101,602 blocks of 512 bytes"
             }
             SizeFault::TooManyBlocks => {
-                "are too many: a volume has 16 to 101,602 blocks of 512 bytes"
+                "are too many for a volume, which has 16 to 101,602 blocks of 512 bytes"
             }
         })
     }

@@ -75,7 +75,7 @@ fn tell_missing<F: Write>(path: &str, blocks: u32, filled: &Filled, faults: &mut
     print_line(
         faults,
         format_args!(
-            "adf_serve: '{path}' has {found} of the {all} bytes of its {blocks} blocks: missing bytes are read as zeros"
+            "adf_serve: '{path}' has {found} of the {all} bytes of its {blocks} blocks: zeros are taken for the others"
         ),
     );
 }
@@ -117,7 +117,9 @@ fn tell_unaccounted<F: Write>(alloc: Global, rescue: &Rescue, faults: &mut F) {
         if !ranges.is_empty() {
             print_line(
                 faults,
-                format_args!("adf_serve: blocks in use that belong to no reported entry:"),
+                format_args!(
+                    "adf_serve: blocks that are used, but belong to nothing that is told:"
+                ),
             );
             let _ = write_output(&ranges, faults);
         }
@@ -145,8 +147,7 @@ const BLOCKS: &str =
 const GONE: &str = "doubtful: its header is gone, and it is made of the data blocks that name it";
 
 /// A file is cut short because of the bound for all of them.
-const CUT: &str =
-    "cut short: incomplete files may have at most four times the bytes of the image in all";
+const CUT: &str = "cut short: all files that are not whole have four times the bytes of the image";
 
 /// The rescue of an image.
 fn rescue_of<'a, R: Files<File = File>>(

@@ -35,8 +35,3 @@ pub mod Emptier
 pub mod Writable
 pub mod FilesStay
 pub mod Keeping
-pub mod Uses
-pub mod Reaching
-pub mod SameFields
-pub mod SameLayout
-pub mod SameBytes

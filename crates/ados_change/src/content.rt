@@ -98,7 +98,5 @@ pub fn grow(
         return Err(Full);
     }
     stamp(image, file, moment);
-    let bound = extend_near(image, file, near, size, from);
-    prove!(image.blocks() >= 16);
-    Ok(bound)
+    Ok(extend_near(image, file, near, size, from))
 }

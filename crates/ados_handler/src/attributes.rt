@@ -1,6 +1,5 @@
 //! Packets that change an object's metadata.
 
-ghost use Rattle.std.specs.Prelude.{◌≡◌};
 ghost use Rattle.ados_model.specs.declared.packet.Packet.TheVariants.{RenameDisk, SetComment, SetDate, SetProtect};
 ghost use Rattle.ados_handler.specs.steps.Methods.{MethodGives};
 
@@ -11,8 +10,7 @@ use ados_name::{Comment, Date3, Name, PathText, Protect};
 impl Handler {
     /// RENAME_DISK.
     pub(crate) fn rename_disk(&mut self, name: &PathText, now: Date3) -> Results
-        ensures gives { MethodGives self.old (RenameDisk name.now) now self.new result }
-        ensures places { self.new.places ≡ self.old.places }
+        ensures { MethodGives self.old (RenameDisk name.now) now self.new result }
     {
         if self.died {
             return Results::refused(DosError::DeviceNotMounted);
@@ -33,8 +31,7 @@ impl Handler {
         bits: u32,
         now: Date3,
     ) -> Results
-        ensures gives { MethodGives self.old (SetProtect lock path.now bits) now self.new result }
-        ensures places { self.new.places ≡ self.old.places }
+        ensures { MethodGives self.old (SetProtect lock path.now bits) now self.new result }
     {
         if self.died {
             return Results::refused(DosError::DeviceNotMounted);
@@ -58,8 +55,7 @@ impl Handler {
         comment: &PathText,
         now: Date3,
     ) -> Results
-        ensures gives { MethodGives self.old (SetComment lock path.now comment.now) now self.new result }
-        ensures places { self.new.places ≡ self.old.places }
+        ensures { MethodGives self.old (SetComment lock path.now comment.now) now self.new result }
     {
         if self.died {
             return Results::refused(DosError::DeviceNotMounted);
@@ -87,8 +83,7 @@ impl Handler {
         date: Date3,
         now: Date3,
     ) -> Results
-        ensures gives { MethodGives self.old (SetDate lock path.now date) now self.new result }
-        ensures places { self.new.places ≡ self.old.places }
+        ensures { MethodGives self.old (SetDate lock path.now date) now self.new result }
     {
         if self.died {
             return Results::refused(DosError::DeviceNotMounted);

@@ -27,8 +27,7 @@ impl Handler {
         mode: i32,
         now: Date3,
     ) -> Results
-        ensures gives { MethodGives self.old (SetFileSize handle offset mode) now self.new result }
-        ensures places { self.new.places ≡ self.old.places }
+        ensures { MethodGives self.old (SetFileSize handle offset mode) now self.new result }
     {
         if self.died {
             return Results::refused(DosError::DeviceNotMounted);

@@ -1,6 +1,5 @@
--- Definitions for the contracts of a port: the visible state of an exchange with the places of its lists, a refused run,
--- and what a client's thread may do to its end. Definitions for steps are in `steps`.
-pub mod Exchanges
+-- Definitions for the contracts of a port: the visible state of an exchange, a refused run, and what a client's thread
+-- may do to its end. Definitions for steps are in `steps`.
 pub mod View
 pub mod Refused
 pub mod Grown

@@ -9,7 +9,3 @@ mod Weaker
 pub mod Runs
 pub mod Closed
 pub mod Serving
-mod SameTrees
-pub mod SameAnswers
-pub mod SameRuns
-mod SameOutcomes

@@ -9,5 +9,4 @@ pub mod Keeping
 pub mod Refused
 pub mod ServesVolume
 pub mod Laws
-pub mod Replays
 pub mod steps
