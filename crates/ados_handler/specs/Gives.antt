@@ -6,10 +6,12 @@ use Rattle.ados_model.specs.Tree.{Tree}
 use Rattle.ados_model.specs.Stands.{Stands}
 use Rattle.ados_model.specs.declared.packet.Packet.{Packet}
 use Rattle.ados_model.specs.declared.answer.Answer.{Answer}
-use Rattle.ados_model.specs.Session.{Session, HandlerState}
+use Rattle.ados_model.specs.Session.{Session}
+use Rattle.ados_handler.specs.HandlerState.{HandlerState}
 use Rattle.ados_handler.specs.ProperSession.{IsProperSession}
 use Rattle.ados_model.specs.Meaning.{Meaning}
 use Rattle.ados_model.specs.DiskDate.{sets_disk_date}
+use Rattle.ados_handler.specs.Room.{TellsRoom}
 
 -- the image represents a tree, and the holds are proper for that tree
 pub record IsSoundHandler (image : List ℕ) (session : Session) : Type 0 where
@@ -34,3 +36,4 @@ pub record HandlerGives (old : HandlerState) (packet : Packet) (now : Date3) (ne
   pub means : Meaning old_tree old.session packet now new_tree new.session answer
   pub leaves : LeavesImage old_tree old packet new answer
   pub validated : new.was_validated ≡ old.was_validated
+  pub room : TellsRoom old.places new.places packet answer

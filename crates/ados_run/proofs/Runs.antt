@@ -2,6 +2,8 @@
 use Rattle.std.proofs.Common.{◌≡◌, ℕ, Bool, true, false, List, sym, ap, ◌∙◌, subst}
 use Rattle.ados_run.proofs.Common.{Date3, Tree, Stands, one_tree, PortState, opening_port, PortHistory, Step, Outcome, Packet, Answer, opening_session, HandlerState, HandlerGives, BothSides, FollowsTree, port_beside, both_died, beside, handlers_of, handler_died, KeepsVolume, ServesBoth}
 use Rattle.ados_model.specs.Accepted.{Accepts}
+use Rattle.ados_handler.specs.HandlerState.{no_places}
+use Rattle.ados_run.specs.ServesVolume.{handler_over}
 use Rattle.ados_port.proofs.Closing.{closed_after_death}
 use Rattle.ados_handler.specs.steps.Closes.{serves_dead}
 use Rattle.ados_run.proofs.Following.{handlers_run, histories_follow_trees}
@@ -13,9 +15,9 @@ accepted_tree image checked false a = a.3
 accepted_tree image checked true a = (a.2.0, a.2.1)
 
 -- the opening handler, by its image, its validation and its holds
-pub opening_handler : (handler : HandlerState) (image : List ℕ) (was_validated : Bool) → handler.image ≡ image → handler.was_validated ≡ was_validated → handler.session ≡ opening_session
-    → handler ≡ record { image = image; was_validated = was_validated; session = opening_session }
-opening_handler handler image was_validated i v s j = record { image = i j; was_validated = v j; session = s j }
+pub opening_handler : (handler : HandlerState) (image : List ℕ) (was_validated : Bool) → handler.image ≡ image → handler.was_validated ≡ was_validated → handler.session ≡ opening_session → handler.places ≡ no_places
+    → handler ≡ handler_over image was_validated
+opening_handler handler image was_validated i v s p j = record { image = i j; was_validated = v j; session = s j; places = p j }
 
 -- a handler over an accepted image has an accepted image
 pub accepted_by : (image checked : List ℕ) (was_validated : Bool) (handler : HandlerState) → handler.image ≡ checked → handler.was_validated ≡ was_validated

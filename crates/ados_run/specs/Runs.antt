@@ -4,7 +4,8 @@ use Rattle.std.specs.Prelude.{List, ◌≡◌, ℕ, map, ◌+◌, true, take, dr
 use Rattle.ados_model.specs.Accepted.{Accepts}
 use Rattle.ados_model.specs.Tree.{Tree, Date3}
 use Rattle.ados_model.specs.Meaning.{Meaning, is_closing}
-use Rattle.ados_model.specs.{Session.HandlerState, Session.opening_session, Stands.Stands, Packet.refused_answer}
+use Rattle.ados_model.specs.{Session.opening_session, Stands.Stands, Packet.refused_answer}
+use Rattle.ados_handler.specs.HandlerState.{HandlerState}
 use Rattle.ados_model.specs.declared.{packet.Packet.Packet, answer.Answer.Answer}
 use Rattle.ados_model.specs.declared.{dos_error.DosError.TheVariants.DeviceNotMounted}
 use Rattle.ados_port.specs.{Step.Step, Outcome.Outcome}

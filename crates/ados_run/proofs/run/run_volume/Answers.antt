@@ -1,5 +1,5 @@
 use Rattle.std.proofs.Common.{ap, ◌∙◌}
-use Rattle.ados_model.specs.Session.{HandlerState}
+use Rattle.ados_handler.specs.HandlerState.{HandlerState}
 use Rattle.ados_run.proofs.Runs.{accepted_by, keeps_volume}
 use Rattle.ados_run.proofs.Weaker.{meant_run}
 use Rattle.ados_run.proofs.run.run_volume.Goals as goal
