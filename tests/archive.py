@@ -737,7 +737,7 @@ def texts_told(room: Room) -> None:
 
 
 def bounded(room: Room) -> None:
-    endless = "'/dev/zero' gave no end within 2,097,152 reads"
+    endless = "'/dev/zero' did not end after 2,097,152 reads"
     room.report.check("a device that never ends", room.run("check", "/dev/zero"), 2, b"", endless)
     for words in (["info"], ["list"], ["print"]):
         more = ["x"] if words == ["print"] else []

@@ -385,8 +385,8 @@ def faulty_scripts(tried: Commands) -> None:
 
 # Faulty lines, with the text that explains each. `BYTES` stands for 256 letters, and `MANY` for 70.
 FAULTY_LINES = [
-    *(("loc", "expected a keyword, as locate or write, found loc"), (" die", "expected a keyword, as locate or write, found a space")),
-    *(("Die", "expected a keyword, as locate or write, found Die"), ("die now", "die: expected the end of the line, found now")),
+    *(("loc", "expected a keyword, such as locate or write, found loc"), (" die", "expected a keyword, such as locate or write, found a space")),
+    *(("Die", "expected a keyword, such as locate or write, found Die"), ("die now", "die: expected the end of the line, found now")),
     *(("die ", "die: expected the end of the line, found a space"), ("diskinfo 1", "diskinfo: expected the end of the line, found 1")),
     ('locate 0 "f"', 'locate LOCK MODE "NAME": expected a number, found "f"'),
     ("locate 0 -2", 'locate LOCK MODE "NAME": expected a text in quotes, found the end of the line'),
@@ -1106,10 +1106,10 @@ def saved_boots(tried: Commands) -> None:
     saved = tried.content("saved.boot")
     os.symlink("nowhere", "link.boot")
     tried.rows(
-        lacking("boot --save over a file", "boot --save saved.boot other.adf", "'saved.boot' is there already"),
-        lacking("boot --save over its image", "boot --save boots.adf boots.adf", "'boots.adf' is there already"),
-        lacking("boot --save through a link that leads nowhere", "boot --save link.boot boots.adf", "'link.boot' is there already"),
-        lacking("boot --save over a directory", ["boot", "--save", str(tried.top), "boots.adf"], f"'{tried.top}' is there already"),
+        lacking("boot --save over a file", "boot --save saved.boot other.adf", "'saved.boot' already exists"),
+        lacking("boot --save over its image", "boot --save boots.adf boots.adf", "'boots.adf' already exists"),
+        lacking("boot --save through a link that leads nowhere", "boot --save link.boot boots.adf", "'link.boot' already exists"),
+        lacking("boot --save over a directory", ["boot", "--save", str(tried.top), "boots.adf"], f"'{tried.top}' already exists"),
         lacking("boot --save in a folder that is not there", "boot --save none/x boots.adf", "cannot write 'none/x': no such directory"),
         lacking("boot --save under a file", "boot --save saved.boot/x boots.adf", "cannot write 'saved.boot/x': a part of the path is no directory"),
         lacking("boot --save of an image that is not there", "boot --save x.boot none.adf", "cannot read 'none.adf': no such file"),
@@ -1405,7 +1405,7 @@ def forms_of_lists(tried: Commands) -> None:
 def refused_images(tried: Commands) -> None:
     """Refused images, with each command that reads one: the line of each, and on standard error why."""
     blank = tried.content("ffs.adf")
-    few, many = " bytes are too few for a volume, which has 16 to 101,602 blocks of 512 bytes\n", " bytes are too many for a volume"
+    few, many = " bytes are too few: a volume has 16 to 101,602 blocks of 512 bytes\n", " bytes are too many: a volume"
     for name, image, told, text in (
         ("empty.adf", b"", "TooFewBlocks 0", f"0{few}"),
         ("short.adf", blank[:7680], "TooFewBlocks 0", f"7,680{few}"),
@@ -1544,7 +1544,7 @@ def refused_shows(tried: Commands) -> None:
     blank = tried.content("ffs.adf")
     size = ", double density, 1,760 blocks"
     rows: List[Tuple[str, bytes, str, List[str]]] = [
-        ("short.adf", blank[:7680], "TooFewBlocks 0", ["7,680 bytes are too few for a volume, which has 16 to 101,602 blocks of 512 bytes\n"]),
+        ("short.adf", blank[:7680], "TooFewBlocks 0", ["7,680 bytes are too few: a volume has 16 to 101,602 blocks of 512 bytes\n"]),
         ("odd.adf", blank[:901119], "NotWholeBlocks 0", [f"901,119{WHY_NOT_BLOCKS}", "block 880 fits 1,760 blocks; the file has 1,759 and 511 bytes\n"]),
         ("kind.adf", poked(blank, 0, 0, b"DOS\2"), "UnsupportedKind 0", [f"DOS\\2{size}\n", "block 0"]),
         ("nodos.adf", poked(blank, 0, 0, b"\0"), "NotADosDisk 0", [f"no AmigaDOS format{size}\n", "DOS"]),
@@ -1760,7 +1760,7 @@ def wrong_first_blocks(tried: Commands) -> None:
     os.truncate("long.adf", 101602 * BLOCK)
     tried.rows(row("a file of 101,602 blocks", "check --blocks 1760 long.adf", 0, "ok\n"))
     os.truncate("long.adf", 101603 * BLOCK)
-    tried.rows(row("a file of 101,603 blocks", "check --blocks 1760 long.adf", 3, "refused TooManyBlocks 0\n", "are too many for a volume"))
+    tried.rows(row("a file of 101,603 blocks", "check --blocks 1760 long.adf", 3, "refused TooManyBlocks 0\n", "are too many: a volume"))
     os.remove("long.adf")
 
 
@@ -1771,7 +1771,7 @@ def missing_blocks(tried: Commands) -> None:
         tried.write("short.adf", front[:count])
         tried.write("full.adf", front[:count] + bytes(1760 * BLOCK - count))
         full, ran = (tried.run("extract", "--damaged", "--list", *words) for words in (["full.adf"], ["--blocks", "1760", "short.adf"]))
-        said = f"adf_serve: 'short.adf' has {count:,} of the 901,120 bytes of its 1760 blocks: zeros are taken for the others\n".encode()
+        said = f"adf_serve: 'short.adf' has {count:,} of the 901,120 bytes of its 1760 blocks: missing bytes are read as zeros\n".encode()
         tried.report.same(f"--damaged --blocks of {count} bytes", ran, Ran(full.status, full.output, said + full.texts))
         tried.stays("a short file stays", "short.adf", front[:count])
     plain, ran = (tried.run("extract", "--damaged", "--list", *words, "front.adf") for words in (list[str](), ["--blocks", "1760"]))

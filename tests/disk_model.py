@@ -51,7 +51,7 @@ PAGE = Rules()
 # What the program does with files and used blocks.
 NOW = Rules(links=True, typed=True, capped=True, again=True, stale=True)
 # What stands on standard error before the numbers of the blocks that are used and belong to nothing.
-HEADING = b"adf_serve: blocks that are used, but belong to nothing that is told:\n"
+HEADING = b"adf_serve: blocks in use that belong to no reported entry:\n"
 
 
 class Place(NamedTuple):

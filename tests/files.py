@@ -519,7 +519,7 @@ def bad_input(room: Room) -> None:
     for words in (["check"], ["list"], ["info"], ["extract"], ["print"], ["mkdir", "--out", "x"]):
         more = ["x"] if words[0] in ("print", "mkdir") else []
         ran = room.run(*words, "/dev/zero", *more, before=limited(resource.RLIMIT_AS, HALF_A_GIBIBYTE))
-        room.report.check(f"a device that never ends: {words[0]}", ran, 2, b"", "'/dev/zero' gave no end within 2,097,152 reads")
+        room.report.check(f"a device that never ends: {words[0]}", ran, 2, b"", "'/dev/zero' did not end after 2,097,152 reads")
 
 
 def manual(room: Room) -> None:

@@ -68,7 +68,9 @@ from harmful import (
     ends_late,
     extensions_round,
     grows_by_one,
+    hang,
     headers_of,
+    join,
     long_names,
     names_alike,
     names_of_one_chain,
@@ -86,6 +88,7 @@ from harness import (
     FILE,
     LONGEST,
     MOMENT,
+    POINTERS,
     TOP,
     Call,
     Ended,
@@ -249,16 +252,18 @@ def as_another(room: Shared, change: Callable[[], None]) -> bool:
     return os.waitpid(process, 0)[1] == 0
 
 
-def stopped_at(room: Shared, words: Sequence[str], call: Call, change: Callable[[], None]) -> Tuple[Ran, Optional[str]]:
+def stopped_at(
+    room: Shared, words: Sequence[str], call: Call, change: Callable[[], None], longest: float = LONGEST
+) -> Tuple[Ran, Optional[str]]:
     """Runs the program, and lets the other user make a change directly after this call. Returns how it ended, and why the change was
-    not made.
+    not made, or that it did not end in so many seconds.
 
     The order is exact, however busy the machine is. `strace` sends the signal to stop when the call begins; the call is done, and the
     program stops before its next instruction. The change is made once strace says that it has stopped, and only then it goes on. A
     delay of 0.3 seconds in place of the stop at times ended before the change was made: by then the program had opened the directory,
     and rightly ended well.
     """
-    ready, ends = "stops", time.monotonic() + LONGEST
+    ready, ends = "stops", time.monotonic() + longest
     front = ["strace", "-f", "-o", ready, "-e", f"trace={call.name}", "-e", f"inject={call.name}:signal=STOP:when={call.number}"]
     room.write(ready)
     with open("lines", "w+b") as lines, open("texts", "w+b") as texts:
@@ -423,6 +428,181 @@ def others_in_place(room: Shared) -> None:
         room.refresh()
         fault = swapped_after(room, words, call, lambda: os.remove(PLACE))
         room.report.hold(f"a held file is removed, {name}", fault or ("it is there again" if os.path.exists(PLACE) else None))
+
+
+# ---- files that are swapped while they are read
+
+# What only this user may read, and the seconds in which a command ends that meets a pipe, also on a busy machine.
+SECRET, NO_WAIT = b"for this user only\n" * 40, 60.0
+SECRET_NOTE = b"----rwed 2000-01-01 00:00:00.00 for this user only"
+# What shows that it was read: in an image, and in what is printed of one.
+MARKS = [b"for this user only", b"Hidden"]
+
+
+class Reading(NamedTuple):
+    """A command that reads a file of the other user, that file, and the file of this user with which it is confused."""
+
+    name: str
+    words: List[str]
+    place: str
+    secret: str
+
+
+IN_BUNDLE = "theirs/bundle/files/one"
+READINGS = [
+    Reading("add --bundle", ["add", "--out", "got.adf", "--bundle", "theirs/bundle", "bare.adf"], IN_BUNDLE, "secret"),
+    Reading("the description of a bundle", ["add", "--out", "got.adf", "--bundle", "theirs/bundle", "bare.adf"], "theirs/bundle/volume.json", "secret"),
+    Reading("add of a tree", ["add", *MOMENT, "--out", "got.adf", "bare.adf", "theirs/tree"], "theirs/tree/below/one", "secret"),
+    Reading("add of a file", ["add", *MOMENT, "--out", "got.adf", "bare.adf", "theirs/tree/below/one"], "theirs/tree/below/one", "secret"),
+    Reading("add of a note", ["add", *MOMENT, "--out", "got.adf", "bare.adf", "theirs/tree"], "theirs/tree/below/one.uaem", "secret.uaem"),
+    Reading("check of a directory", ["check", "--json", "theirs/archive"], "theirs/archive/below/one.adf", "secret.adf"),
+]
+FORCED = Reading("extract --force", ["extract", "--force", "--to", "theirs/out", "full.adf"], "theirs/out/one", "victim")
+
+
+def put_readings(room: Shared) -> None:
+    """The files of this user that nobody may read, and those of the other user that commands read."""
+    room.done("blank", "--ffs", *MOMENT, "Hidden", "secret.adf")
+    room.done("blank", "--ffs", *MOMENT, "Work", "bare.adf")
+    room.put("secret", SECRET, 0o600)
+    room.put("secret.uaem", SECRET_NOTE, 0o600)
+    os.chmod("secret.adf", 0o600)
+    room.write("open", SECRET.replace(b"for", b"not"))
+    room.done("add", *MOMENT, "--as", "one", "--out", "bundled.adf", "bare.adf", "open")
+
+
+def with_readings(room: Shared) -> None:
+    """Everything as it was before a file is swapped."""
+    room.refresh()
+    room.done("extract", "--bundle", "theirs/bundle", "bundled.adf")
+    os.makedirs("theirs/tree/below")
+    room.write("theirs/tree/below/one", SECRET.replace(b"for", b"not"))
+    room.write("theirs/tree/below/one.uaem", SECRET_NOTE.replace(b"for", b"not"))
+    os.makedirs("theirs/archive/below")
+    room.write("theirs/archive/below/one.adf", room.full)
+    for folder, below, files in os.walk("theirs"):
+        for it in below + files:
+            room.give(f"{folder}/{it}")
+
+
+def beside_place(room: Shared, reading: Reading, is_pipe: bool) -> None:
+    """Puts beside a file what takes its place: a pipe, or a link to the file of this user."""
+    if is_pipe:
+        os.mkfifo(f"{reading.place}.link")
+        room.give(f"{reading.place}.link")
+    else:
+        os.symlink(room.top / reading.secret, f"{reading.place}.link")
+
+
+def fault_of_read(room: Room, ran: Ran, began: float) -> Optional[str]:
+    """What is wrong after a file was swapped while it was read: what only this user may read is told or in the image, or the command
+    ended in another way than well or with a fault of the file, or it waited."""
+    took = time.monotonic() - began
+    told = ran.output + (room.content("got.adf") if os.path.exists("got.adf") else b"")
+    with suppress(FileNotFoundError):
+        os.remove("got.adf")
+    if any(it in told for it in MARKS):
+        return f"what only this user may read was read: {ran}"
+    if ran.status not in (0, 2) or (ran.status == 2 and not ran.texts):
+        return f"status 0, or 2 and a text are wanted: {ran}"
+    return f"{took} seconds: {ran}" if took > NO_WAIT else None
+
+
+def swapped_reads(room: Shared, reading: Reading, is_pipe: bool) -> Optional[str]:
+    """What is wrong after the file was swapped directly after any of the calls that look at it or open it."""
+    with_readings(room)
+    name = f'/{os.path.basename(reading.place)}"'
+    looks = ["statx", "newfstatat", "lstat", "stat", "open", "openat"]
+    calls = [it for it in traced(room, reading.words, looks) if name in it.about]
+    for call in calls[:12]:
+        with_readings(room)
+        beside_place(room, reading, is_pipe)
+        began = time.monotonic()
+        ran, late = stopped_at(room, reading.words, call, exchanged(reading.place), 2 * NO_WAIT)
+        fault = late or fault_of_read(room, ran, began) or fault_of_secret(room)
+        if fault:
+            return f"after {call.name} {call.number}: {fault}"
+    return None if calls else "no call looks at the file"
+
+
+def fault_of_secret(room: Room) -> Optional[str]:
+    """What is wrong if a file of this user has changed."""
+    return None if (room.content("victim"), room.content("secret")) == (b"kept", SECRET) else "a file of this user is changed"
+
+
+def swapped_files(room: Shared) -> None:
+    """A link or a pipe takes the place of a file between a look at it and the next."""
+    put_readings(room)
+    for reading in (*READINGS, FORCED):
+        for what, is_pipe in (("a link", False), ("a pipe", True)):
+            room.report.hold(f"{what} in the place of a file, {reading.name}", swapped_reads(room, reading, is_pipe))
+
+
+def raced_files(room: Shared) -> None:
+    """A link or a pipe takes the place of a file, and the file its place, again and again while a command runs."""
+    put_readings(room)
+    for reading in (*READINGS, FORCED):
+        for what, is_pipe in (("a link", False), ("a pipe", True)):
+            fault = raced_reads(room, reading, is_pipe)
+            room.report.hold(f"{what} in the place of a file again and again, {reading.name}", fault)
+
+
+def raced_reads(room: Shared, reading: Reading, is_pipe: bool) -> Optional[str]:
+    """What is wrong after a file was swapped at any time, for a second."""
+    with_readings(room)
+    beside_place(room, reading, is_pipe)
+    swap = Swap(room, lambda: None, lambda: swap_for(reading.place, NO_WAIT))
+    ends, turns = time.monotonic() + RACE / 4, 0
+    fault: Optional[str] = None
+    try:
+        while fault is None and time.monotonic() < ends:
+            began = time.monotonic()
+            fault = fault_of_read(room, run_within(room, reading.words, NO_WAIT), began) or fault_of_secret(room)
+            turns += 1
+    finally:
+        swap.end()
+    return fault and f"in turn {turns}: {fault}"
+
+
+def swap_for(place: str, seconds: float) -> None:
+    """Swaps a file and what is beside it for some seconds."""
+    change, ends = exchanged(place), time.monotonic() + seconds
+    while time.monotonic() < ends:
+        change()
+
+
+def run_within(room: Room, words: Sequence[str], seconds: float) -> Ran:
+    """Runs the program. If it does not end in so many seconds, it is killed, and its status is -9."""
+    with open("lines", "w+b") as lines, open("texts", "w+b") as texts:
+        began = subprocess.Popen([str(room.program), *words], stdin=subprocess.DEVNULL, stdout=lines, stderr=texts)
+        try:
+            status = began.wait(seconds)
+        except subprocess.TimeoutExpired:
+            began.kill()
+            began.wait()
+            status = -9
+        return Ran(status, room.content("lines"), room.content("texts"))
+
+
+def links_of_others(room: Shared) -> None:
+    """A link is followed to a file that its maker may read, and not to one that only this user may read."""
+    put_readings(room)
+    with_readings(room)
+    os.symlink(room.top / "secret", "theirs/tree/a")
+    os.symlink("one", "theirs/tree/below/b")
+    ran = room.run("add", *MOMENT, "--out", "got.adf", "bare.adf", "theirs/tree")
+    fault = fault_of(ran, 0, b"", "skipped 'theirs/tree/a': it is a symbolic link of another user")
+    room.report.hold("a link of another user is skipped", fault or fault_of_read(room, ran, time.monotonic()))
+    os.remove("theirs/tree/a")
+    room.done("add", *MOMENT, "--out", "got.adf", "bare.adf", "theirs/tree")
+    own = SECRET.replace(b"for", b"not")
+    room.report.same("a link to a file of its maker", room.done("print", "got.adf", "tree/below/b"), own)
+    os.symlink(room.top / "secret", "mine")
+    room.done("add", *MOMENT, "--out", "got.adf", "bare.adf", "mine")
+    room.report.same("a link of this user", room.done("print", "got.adf", "mine"), SECRET)
+    os.symlink(room.top / "secret.adf", "theirs/archive/two.adf")
+    ran = room.run("check", "theirs/archive")
+    room.report.hold("a link of another user to an image", fault_of(ran, 2, None, "two.adf': it is a symbolic link of another user"))
 
 
 # ---- directories that are swapped
@@ -897,7 +1077,7 @@ def used_by_children() -> float:
 def endless(room: Shared) -> None:
     """Images and scripts without an end, or as long as a disk."""
     little = limited(resource.RLIMIT_AS, MEMORY + 3 * LARGEST)
-    said = b"'/dev/zero' gave no end within 2,097,152 reads"
+    said = b"'/dev/zero' did not end after 2,097,152 reads"
     cases: List[List[str]] = [["list", "/dev/zero"], ["mkdir", "--out", "x", "/dev/zero", "n"], ["serve", "empty.adf", "/dev/zero"], []]
     for words in cases:
         name, before = " ".join(words[:1]) or "standard input", used_by_children()
@@ -1241,6 +1421,44 @@ def deep_images(blocks: int, room: Shared) -> None:
     room.report.expect(f"what is left of {title} of {blocks} blocks", listed == b"Volume Work\n", f"{listed[:200]!r}")
 
 
+def counted(room: Room, words: Sequence[str]) -> Tuple[int, int, bytes]:
+    """Runs a command with the memory for the largest image. Returns its status, the bytes that it printed, and what it said."""
+
+    def within_bounds() -> None:
+        resource.setrlimit(resource.RLIMIT_AS, (WORST_MEMORY, WORST_MEMORY))
+
+    with open("texts", "w+b") as texts:
+        began = subprocess.Popen([str(room.program), *words], stdin=subprocess.DEVNULL, stdout=subprocess.PIPE, stderr=texts, preexec_fn=within_bounds)
+        assert began.stdout
+        count = 0
+        while piece := began.stdout.read(1 << 20):
+            count += len(piece)
+        return began.wait(), count, room.content("texts")
+
+
+def asked_blocks(blocks: int, room: Shared) -> None:
+    """`where` prints far more than it may keep: of an image in which all headers name one block again and again, and of one whose
+    paths are too long to be printed."""
+    room.done("blank", "--ffs", "--blocks", str(blocks), *MOMENT, "Work", "blank.adf")
+    image = Image(room.content("blank.adf"))
+    places = places_in(image)
+    named = places[-1]
+    for block in places[:-1]:
+        put_header(image, block, POINTERS * BLOCK, [named] * POINTERS)
+    join(image, places[:-1])
+    hang(image, image.root, places[0])
+    room.write("shares.adf", bytes(image.data))
+    for times in (1, 3):
+        for form in ([], ["--json"]):
+            status, count, said = counted(room, ["where", *form, "shares.adf", *[str(named)] * times])
+            name = f"where {' '.join(form)} of a block that all name, {times} times, of {blocks} blocks"
+            room.report.expect(name, status == 3 and count > times * len(places) * POINTERS * 20, (status, count, said[-200:]))
+    room.write("deep.adf", deep_chain(room.content("blank.adf")))
+    asked = [str(it) for it in range(blocks)]
+    for form in ([], ["--json"]):
+        bounded(room, blocks, f"where {' '.join(form)} of all blocks of a chain of directories", ["where", *form, "deep.adf", *asked], 0)
+
+
 # The blocks that stay free in an image whose names are all in one hash chain.
 SPARE = 8
 
@@ -1294,6 +1512,7 @@ def races() -> List[Task[Shared]]:
     if hasattr(LIBC, "renameat2"):
         found.append(("a race for a directory on the way", Shared, race_on_the_way))
         found.append(("a race for the directory of an image", Shared, race_of_an_image))
+        found.append(("a race for files that are read", Shared, raced_files))
     return found
 
 
@@ -1303,6 +1522,7 @@ def disks() -> List[Task[Shared]]:
     for blocks in sorted(WORST_TIMES, reverse=True):
         found.append((f"one hash chain of {blocks} blocks", partial(one_hash_chain, blocks)))
         found.append((f"a chain of directories of {blocks} blocks", partial(deep_images, blocks)))
+        found.append((f"blocks that are asked for of {blocks} blocks", partial(asked_blocks, blocks)))
     for size, (title, _, _) in reversed(list(enumerate(SIZES))):
         found.append((f"{title}, files that claim more", partial(floppies, size)))
         found.append((f"{title}, chains", partial(chains, size)))
@@ -1316,19 +1536,26 @@ def disks() -> List[Task[Shared]]:
 def commands() -> List[Task[Shared]]:
     """What is not a disk."""
     parts = [endless, killed, at_once, leftovers, short_files, held_images, readers_stopped, links_to_nothing, terminals, listings, holes]
-    parts += [long_paths, without_proc, modes, not_kept, owners, links_beside, others_in_place]
+    parts += [long_paths, without_proc, modes, not_kept, owners, links_beside, others_in_place, links_of_others, swapped_files]
     found: List[Task[Shared]] = [(it.__name__.replace("_", " "), Shared, it) for it in parts]
     return found + [(it.__name__.replace("_", " "), InMemory, it) for it in (swapped_directories, deep_directories, opened_again)]
 
 
 # Those that need another user than the test's own, and those that need `strace` to stop or to end the program.
-BY_OTHERS = {owners: "owners and groups that stay", links_beside: "links in the place of the file beside"}
+BY_OTHERS = {
+    owners: "owners and groups that stay",
+    links_beside: "links in the place of the file beside",
+    links_of_others: "links of another user",
+    raced_files: "files that are swapped while they are read",
+    swapped_files: "files that are swapped while they are read, step by step",
+}
 BY_STRACE = {
     killed: "commands that are killed",
     swapped_directories: "links for directories, while the program is stopped",
     opened_again: "a directory that is opened again",
     links_beside: "links in the place of the file beside",
     others_in_place: "other files in the place of those that are held",
+    swapped_files: "files that are swapped while they are read, step by step",
 }
 
 
@@ -1361,7 +1588,9 @@ def main(words: Sequence[str]) -> int:
     signal.signal(signal.SIGTERM, lambda *_: sys.exit(1))
     program, report, parts = program_of(words[:1]), Report(), words[1:]
     ended: List[Ended] = []
-    for tasks, most in ((races(), processors() // 2), (can_be_tried(report, [*disks(), *commands()]), processors())):
+    tried, front = can_be_tried(report, [*races(), *disks(), *commands()]), {it[0] for it in races()}
+    first, others = [it for it in tried if it[0] in front], [it for it in tried if it[0] not in front]
+    for tasks, most in ((first, processors() // 2), (others, processors())):
         named = [it for it in tasks if not parts or any(part in it[0] for part in parts)]
         ended += try_side_by_side(report, program, named, max(1, most))
     if "TIMES" in os.environ:

@@ -406,7 +406,7 @@ def by_the_program(room: Room) -> None:
         notes = {it: data for it, data in after.items() if it in before}
         room.report.same(f"the files of {name}", (notes, after.keys() - before.keys()), (before, set()))
         room.report.same(f"{name} stays", room.content(name), data)
-        room.report.check(f"files of {name} that are there", room.run("undelete", "--to", "after", name), 2, b"", "is there already")
+        room.report.check(f"files of {name} that are there", room.run("undelete", "--to", "after", name), 2, b"", "already exists")
         room.succeeds(f"files of {name} that are replaced", "undelete", "--force", "--to", "after", name, output=text)
         one = [it for it in lines if it.path == "Docs/old/short"][0].line.encode()
         room.succeeds(f"one file of {name}", "undelete", "--to", "one", name, "DOCS/old//OLD/short", output=one)

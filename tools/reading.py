@@ -34,6 +34,7 @@ PARTS = [
     Part("## The headline: `run_volume`", ["ados_run/src/run.rt", "ados_run/specs/Runs.antt", "ados_run/specs/Refused.antt"]),
     Part("## Clients on threads: `serve_volume`", ["ados_run/src/serve.rt", "ados_run/specs/ServesVolume.antt"]),
     Part("## What no packet changes: `KeepsVolume`", ["ados_run/specs/Keeping.antt"]),
+    Part("## The same steps give the same bytes: `same_steps_same_bytes`", ["ados_run/specs/Replays.antt"]),
     Part("## The check: `check`", ["ados_volume/src/checking.rt", "ados_volume/specs/Checked.antt"]),
     Part("## The program without arguments", ["adf_serve/src/words.rt", "adf_serve/specs/Script.antt"]),
 ]

@@ -5,13 +5,13 @@ ghost use Rattle.adf_archive.specs.Report.{IsReportFor, IsReportOfSome};
 ghost use Rattle.adf_archive.specs.declared.checking.Detail.{Detail};
 
 use crate::faults::refused;
+use crate::found_file::FoundFile;
 use crate::reading::ReadImages;
 use crate::report::{AcceptedImage, Contents, ImageReport, WhyNot};
 use crate::suspects::suspects_of;
 use adf_block::Image;
 use adf_io::LoadFault;
 use adf_record::counts_of;
-use adf_words::ImageFile;
 use ados_check::accepted_kind;
 use ados_model::FaultKind;
 use ados_volume::{Rejected, Volume, check, free_blocks};
@@ -35,7 +35,7 @@ pub struct Detail {
 pub fn report_file<R: ReadImages>(
     rt: &R,
     alloc: Global,
-    file: ImageFile<'_>,
+    found: FoundFile<'_>,
     is_hosts: bool,
     detail: Detail,
 ) -> ImageReport
@@ -45,7 +45,7 @@ pub fn report_file<R: ReadImages>(
         return ImageReport::NotChecked(WhyNot::Name);
     }
     if !detail.contents && !detail.filler {
-        if let Some(sketch) = rt.read_sketch(alloc, file) {
+        if let Some(sketch) = rt.read_sketch(alloc, found) {
             if let Some(kind) = accepted_kind(alloc, &sketch) {
                 return ImageReport::Accepted(AcceptedImage {
                     kind,
@@ -57,7 +57,7 @@ pub fn report_file<R: ReadImages>(
             }
         }
     }
-    match rt.read_image(alloc, file) {
+    match rt.read_image(alloc, found) {
         Ok(image) => report_image(alloc, image, detail),
         Err(fault) => unread(fault),
     }

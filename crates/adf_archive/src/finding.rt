@@ -2,8 +2,10 @@
 ghost use Rattle.std.specs.Prelude.{◌≡◌, ◌↔◌, ◌≤◌, ◌+◌, false, IfOk, OnOk, IsTrue, length, vec_len};
 ghost use Rattle.adf_archive.specs.Endings.{EndsIn, HasImageEnding};
 
+use crate::found_file::FoundFile;
 use crate::names::{TextName, names_in, text_name};
 use adf_host::read_names;
+use adf_words::ImageFile;
 use std::alloc::{AllocError, Global};
 use std::fs;
 use std::io::ErrorKind;
@@ -18,6 +20,9 @@ pub struct FoundImages {
     /// For each of these paths, whether it is the host's. Otherwise the name of the file is not UTF-8, and the path has
     /// escapes for its bytes.
     pub are_hosts: Vec<bool>,
+    /// For each of these paths, the number of its bytes that are the argument's directory in which it was found; `None` for
+    /// an argument.
+    pub tops: Vec<Option<usize>>,
     /// Whether an argument names a directory.
     pub in_directory: bool,
     /// What a person is told of the search.
@@ -67,6 +72,7 @@ pub fn image_files<R: Files>(
     let mut found = FoundImages {
         paths: Vec::new(alloc),
         are_hosts: Vec::new(alloc),
+        tops: Vec::new(alloc),
         in_directory: false,
         remarks: Vec::new(alloc),
     };
@@ -76,7 +82,7 @@ pub fn image_files<R: Files>(
             find_below(rt, alloc, word, &mut found)?;
             found.in_directory = true;
         } else {
-            found.add(String::from_str(alloc, word)?, true)?;
+            found.add(String::from_str(alloc, word)?, true, None)?;
         }
     }
     Ok(found)
@@ -84,11 +90,12 @@ pub fn image_files<R: Files>(
 
 impl FoundImages {
     /// Adds a path.
-    fn add(&mut self, path: String, is_hosts: bool) -> Result<(), AllocError>
+    fn add(&mut self, path: String, is_hosts: bool, top: Option<usize>) -> Result<(), AllocError>
         ensures grows { OnOk result (vec_len self.new.paths ≡ vec_len self.old.paths + 1) }
         ensures directory { OnOk result (self.new.in_directory ≡ self.old.in_directory) }
     {
         self.are_hosts.push(is_hosts)?;
+        self.tops.push(top)?;
         self.paths.push(path)?;
         Ok(())
     }
@@ -96,6 +103,19 @@ impl FoundImages {
     /// Whether the path at a position is the host's.
     pub(crate) fn is_hosts(&self, place: usize) -> bool {
         self.are_hosts.get(place).copied().unwrap_or(true)
+    }
+
+    /// The file at a position, with its path.
+    pub(crate) fn file<'a>(
+        &self,
+        place: usize,
+        path: &'a str,
+        blocks: Option<u32>,
+    ) -> FoundFile<'a> {
+        FoundFile {
+            file: ImageFile { path, blocks },
+            top: self.tops.get(place).copied().unwrap_or(None),
+        }
     }
 }
 
@@ -107,11 +127,13 @@ fn find_below<R: Files>(
     found: &mut FoundImages,
 ) -> Result<(), AllocError> {
     let before = found.paths.len();
+    let top = Some(word.len());
     let mut waiting = Vec::new(alloc);
     wait_for_names(
         rt,
         alloc,
         String::from_str(alloc, word)?,
+        top,
         found,
         &mut waiting,
     )?;
@@ -120,8 +142,8 @@ fn find_below<R: Files>(
             break;
         };
         match look_at(rt, &next) {
-            Look::Image => found.add(next.path, next.is_hosts)?,
-            Look::Directory => wait_for_names(rt, alloc, next.path, found, &mut waiting)?,
+            Look::Image => found.add(next.path, next.is_hosts, top)?,
+            Look::Directory => wait_for_names(rt, alloc, next.path, top, found, &mut waiting)?,
             Look::Compressed => found.remarks.push(Remark::Compressed(next.path))?,
             Look::Neither => {}
         }
@@ -182,6 +204,7 @@ fn wait_for_names<R: Files>(
     rt: &R,
     alloc: Global,
     path: String,
+    top: Option<usize>,
     found: &mut FoundImages,
     waiting: &mut Vec<Waiting>,
 ) -> Result<(), AllocError> {
@@ -199,6 +222,6 @@ fn wait_for_names<R: Files>(
     match read {
         Ok(()) => Ok(()),
         Err(error) if error.kind() == ErrorKind::OutOfMemory => Err(AllocError),
-        Err(_) => found.add(path, true),
+        Err(_) => found.add(path, true, top),
     }
 }

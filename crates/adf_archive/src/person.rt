@@ -1,13 +1,13 @@
 //! What a person is told of images beside the reports.
 use crate::finding::Remark;
+use crate::found_file::FoundFile;
 use crate::likeness::{filling, likeness_of, other_root, root_in};
 use crate::reading::ReadImages;
 use crate::report::{ImageReport, RefusedImage, WhyNot};
 use crate::telling::Form;
 use adf_block::layout::BLOCK_BYTES;
 use adf_block::{Image, MOST_BYTES, SizeFault};
-use adf_host::{input_path, why_no_image};
-use adf_io::read_bounded;
+use adf_host::input_path;
 use adf_record::Grouped;
 use adf_text::print_line;
 use adf_words::ImageFile;
@@ -26,15 +26,28 @@ const BLOCK: u64 = BLOCK_BYTES as u64;
 
 /// How a person is told of images.
 #[derive(Clone, Copy)]
-pub struct Manner {
+pub struct Manner<'a> {
     /// The form of the reports. With paths, each line begins with the path.
     pub form: Form,
     /// What explains the faults is told too; otherwise only which images were not checked.
     pub texts: bool,
     /// The number of blocks at the start of a file that are its image; by default all of it is.
     pub blocks: Option<u32>,
+    /// For each image, the number of bytes of its path that are the argument's directory in which it was found; `None` for
+    /// an argument.
+    pub tops: &'a [Option<usize>],
     /// Of several images, how many are done is shown on a terminal.
     pub terminal: bool,
+}
+
+impl<'a> Manner<'a> {
+    /// How a person is told of the images from this one on.
+    pub(crate) fn from(self, first: usize) -> Manner<'a> {
+        Manner {
+            tops: self.tops.get(first..).unwrap_or(&[]),
+            ..self
+        }
+    }
 }
 
 /// Prints what a search for images found beside them.
@@ -51,14 +64,15 @@ pub(crate) fn tell_person<R: Files + ReadImages, F: Write>(
     alloc: Global,
     paths: &[String],
     reports: &[ImageReport],
-    manner: Manner,
+    manner: Manner<'_>,
     faults: &mut F,
 ) {
-    for (path, report) in paths.iter().zip(reports) {
+    for (place, (path, report)) in paths.iter().zip(reports).enumerate() {
         let path = path.as_str();
-        let about = About { path, manner };
+        let top = manner.tops.get(place).copied().unwrap_or(None);
+        let about = About { path, top, manner };
         match report {
-            ImageReport::NotChecked(why) => about.tell_unread(rt, *why, faults),
+            ImageReport::NotChecked(why) => about.tell_unread(rt, alloc, *why, faults),
             ImageReport::WrongSize(fault) if manner.texts => {
                 about.tell_size(rt, alloc, *fault, faults);
             }
@@ -89,10 +103,10 @@ impl Display for WrongLength {
                 "are no whole number of blocks: cut short, or not an ADF file"
             }
             SizeFault::TooFewBlocks => {
-                "are too few for a volume, which has 16 to 101,602 blocks of 512 bytes"
+                "are too few: a volume has 16 to 101,602 blocks of 512 bytes"
             }
             SizeFault::TooManyBlocks => {
-                "are too many for a volume, which has 16 to 101,602 blocks of 512 bytes"
+                "are too many: a volume has 16 to 101,602 blocks of 512 bytes"
             }
         })
     }
@@ -145,10 +159,23 @@ impl Display for PartOfBlock {
 #[derive(Clone, Copy)]
 pub(crate) struct About<'a> {
     pub(crate) path: &'a str,
-    pub(crate) manner: Manner,
+    /// The number of bytes of the path that are the argument's directory in which it was found; `None` for an argument.
+    pub(crate) top: Option<usize>,
+    pub(crate) manner: Manner<'a>,
 }
 
-impl About<'_> {
+impl<'a> About<'a> {
+    /// The file of the image.
+    fn found(self) -> FoundFile<'a> {
+        FoundFile {
+            file: ImageFile {
+                path: self.path,
+                blocks: self.manner.blocks,
+            },
+            top: self.top,
+        }
+    }
+
     /// Prints a text on the image, with its path if it is one of several.
     fn tell<F: Write, T: Display + Drop>(self, text: T, faults: &mut F) {
         if self.manner.form.paths {
@@ -159,11 +186,17 @@ impl About<'_> {
     }
 
     /// Prints why the image was not checked.
-    fn tell_unread<R: Files, F: Write>(self, rt: &R, why: WhyNot, faults: &mut F) {
+    fn tell_unread<R: ReadImages, F: Write>(
+        self,
+        rt: &R,
+        alloc: Global,
+        why: WhyNot,
+        faults: &mut F,
+    ) {
         let path = self.path;
         match why {
             WhyNot::Read => {
-                let reason = why_no_image(rt, path, self.manner.blocks);
+                let reason = rt.why_unread(alloc, self.found());
                 print_line(
                     faults,
                     format_args!("adf_serve: cannot read '{path}': {reason}"),
@@ -182,7 +215,7 @@ impl About<'_> {
     }
 
     /// Prints what explains a wrong size, and what the file looks like.
-    pub(crate) fn tell_size<R: Files, F: Write>(
+    pub(crate) fn tell_size<R: Files + ReadImages, F: Write>(
         self,
         rt: &R,
         alloc: Global,
@@ -192,7 +225,7 @@ impl About<'_> {
         let length = regular_length(rt, self.path);
         self.tell(WrongLength { fault, length }, faults);
         if let Some(length) = length {
-            let front = front_of(rt, alloc, self.path, length);
+            let front = rt.read_front(alloc, self.found(), most_of(length));
             self.tell_bytes(&front, length, faults);
             self.tell_root(root_in(front), "the file has", length, faults);
         }
@@ -223,7 +256,7 @@ impl About<'_> {
         told: &RefusedImage,
         faults: &mut F,
     ) {
-        let About { path, manner } = self;
+        let About { path, manner, .. } = self;
         let may_be_other = told.faults.iter().any(|shown| {
             let fault = shown.fault;
             let is_root = fault.block == told.blocks.div_ceil(2);
@@ -233,7 +266,7 @@ impl About<'_> {
             return;
         }
         let blocks = manner.blocks;
-        if let Ok(image) = rt.read_image(alloc, ImageFile { path, blocks }) {
+        if let Ok(image) = rt.read_image(alloc, self.found()) {
             let length = image.as_bytes().len() as u64;
             self.tell_bytes(image.as_bytes(), length, faults);
             let holder = match blocks {
@@ -277,20 +310,13 @@ impl About<'_> {
     }
 }
 
-/// The bytes of a file of this length; none if they cannot be read. Of a longer file than an image, only the first ones are
-/// read, which tell its kind.
-fn front_of<R: Files>(rt: &R, alloc: Global, path: &str, length: u64) -> Vec<u8> {
-    let most = if length > MOST_BYTES as u64 {
+/// The number of bytes that are read of a file of this length. Of a longer file than an image, only the first ones are read,
+/// which tell its kind.
+fn most_of(length: u64) -> usize {
+    if length > MOST_BYTES as u64 {
         KIND_BYTES
     } else {
         MOST_BYTES
-    };
-    let Ok(mut file) = fs::open(rt, input_path(path)) else {
-        return Vec::new(alloc);
-    };
-    match read_bounded(alloc, &mut file, most) {
-        Ok(front) => front,
-        Err(_) => Vec::new(alloc),
     }
 }
 

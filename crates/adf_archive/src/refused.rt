@@ -1,5 +1,6 @@
 //! What is printed of a refused image.
 use crate::checking::{Detail, report_file};
+use crate::found_file::FoundFile;
 use crate::person::{About, Manner, regular_length};
 use crate::reading::ReadImages;
 use crate::report::{ImageReport, RefusedImage};
@@ -49,19 +50,22 @@ pub fn explain_refused<R: Files + ReadImages, F: Write>(
     }
     let about = About {
         path: file.path,
+        top: None,
         manner: Manner {
             form: ALONE,
             texts: true,
             blocks: file.blocks,
+            tops: &[],
             terminal: false,
         },
     };
-    match report_file(rt, alloc, file, true, FIRST_FAULT) {
+    let found = FoundFile::named(file);
+    match report_file(rt, alloc, found, true, FIRST_FAULT) {
         ImageReport::Refused(told) => {
             tell_size_of(alloc, &told, faults);
             if !tell_fault(&told, kind, block, faults) {
                 // It is not the first fault of the image.
-                if let ImageReport::Refused(all) = report_file(rt, alloc, file, true, EACH_FAULT) {
+                if let ImageReport::Refused(all) = report_file(rt, alloc, found, true, EACH_FAULT) {
                     tell_fault(&all, kind, block, faults);
                 }
             }

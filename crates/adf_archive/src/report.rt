@@ -72,6 +72,6 @@ pub enum WhyNot {
     Name,
     #[error("is not checked: there is not enough memory")]
     Memory,
-    #[error("gave no end within 2,097,152 reads")]
+    #[error("did not end after 2,097,152 reads")]
     Endless,
 }

@@ -14,8 +14,9 @@ use crate::person::{Manner, tell_person, tell_remarks};
 use crate::reading::ReadImages;
 use crate::report::ImageReport;
 use crate::telling::{Form, Tally, tell_reports};
+use adf_host::PromptFiles;
 use adf_text::print_line;
-use adf_words::{CheckJob, ImageFile};
+use adf_words::CheckJob;
 use std::alloc::{AllocError, Global};
 use std::fs::File;
 use std::io::Write;
@@ -37,7 +38,7 @@ pub fn check_archive<R, W, F>(
     faults: &mut F,
 ) -> Result<(), ArchiveFault>
 where
-    R: Files<File = File> + ReadImages + Threads + Sync,
+    R: Files<File = File> + PromptFiles + ReadImages + Threads + Sync,
     W: Write,
     F: Write,
     ensures { TellsArchive job.now (W.contents writer.old) (W.contents writer.new) result }
@@ -47,7 +48,7 @@ where
     let detail = detail_of(job, form);
     let paths = found.paths.as_slice();
     tell_remarks(&found.remarks, faults);
-    tell_each_held(rt, paths, faults);
+    tell_each_held(rt, alloc, &found, faults);
     let tally = check_each(
         rt,
         alloc,
@@ -60,10 +61,7 @@ where
             report_file(
                 rt,
                 alloc,
-                ImageFile {
-                    path: paths[place].as_str(),
-                    blocks: job.blocks,
-                },
+                found.file(place, paths[place].as_str(), job.blocks),
                 found.is_hosts(place),
                 detail,
             )
@@ -72,6 +70,7 @@ where
             form,
             texts: detail.texts,
             blocks: job.blocks,
+            tops: found.tops.as_slice(),
             terminal,
         },
         writer,
@@ -124,7 +123,7 @@ pub fn check_each<R, C, W, F>(
     paths: &[String],
     jobs: usize,
     report: &C,
-    manner: Manner,
+    manner: Manner<'_>,
     writer: &mut W,
     faults: &mut F,
 ) -> Result<Tally, ArchiveFault>
@@ -134,8 +133,8 @@ where
     W: Write,
     F: Write,
     requires { (i : ℕ) → i < length paths.now → C.pre report.now i }
-    ensures ok { IfOk result (TellsAll C.Fn report.now manner.form (map string_bytes paths.now) (W.contents writer.old) (W.contents writer.new)) }
-    ensures fault { IfErr result (λ _. LeavesOff C.Fn report.now manner.form (map string_bytes paths.now) (W.contents writer.old) (W.contents writer.new)) }
+    ensures ok { IfOk result (TellsAll C.Fn report.now manner.entry.form (map string_bytes paths.now) (W.contents writer.old) (W.contents writer.new)) }
+    ensures fault { IfErr result (λ _. LeavesOff C.Fn report.now manner.entry.form (map string_bytes paths.now) (W.contents writer.old) (W.contents writer.new)) }
     ensures broken { IfErr result IsBroken }
 {
     let form = manner.form;
@@ -153,7 +152,14 @@ where
             let _ = write!(faults, "\r\x1b[K");
         }
         tell_reports(alloc, paths, done, &reports, form, writer)?;
-        tell_person(rt, alloc, &paths[done..], &reports, manner, faults);
+        tell_person(
+            rt,
+            alloc,
+            &paths[done..],
+            &reports,
+            manner.from(done),
+            faults,
+        );
         tally.add(&reports);
         done += count;
     }

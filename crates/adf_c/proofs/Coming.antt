@@ -9,7 +9,8 @@ use Rattle.ados_name.specs.Name.{IsName}
 use Rattle.ados_model.specs.declared.packet.Packet.{Packet}
 use Rattle.ados_model.specs.Accepted.{Accepts}
 use Rattle.ados_model.specs.Blank.{IsBlank}
-use Rattle.ados_model.specs.Session.{HandlerState, opening_session}
+use Rattle.ados_model.specs.Session.{opening_session}
+use Rattle.ados_handler.specs.HandlerState.{HandlerState}
 use Rattle.adf_c.specs.Calls.{IsOpen, Seats, Opens, RefusesOpen, Blanks, RefusesBlank, format_number, SpellsFitting, ServedBy, Serves, CopiesBytes, RefusesBytes, CopiesImage, RefusesCopy}
 use Rattle.c_values.specs.Dates.{date_of}
 use Rattle.c_values.specs.Ends.{Comes}

@@ -10,7 +10,7 @@ use Rattle.ados_model.specs.Meaning.{IsRefused}
 use Rattle.ados_model.specs.Phrases.{ServedOrNoMemory}
 use Rattle.ados_model.specs.Packet.{error_number}
 use Rattle.ados_model.specs.Refusals.{refusal}
-use Rattle.ados_model.specs.Session.{HandlerState}
+use Rattle.ados_handler.specs.HandlerState.{HandlerState}
 use Rattle.ados_model.specs.declared.answer.Answer.{Answer}
 use Rattle.ados_model.specs.declared.dos_error.DosError.{DosError}
 use Rattle.ados_model.specs.declared.dos_error.DosError.TheVariants.{NoFreeStore, ObjectInUse, ObjectExists, DirectoryNotFound, ObjectNotFound, ActionNotKnown, InvalidComponentName, InvalidLock, ObjectWrongType, DirectoryNotEmpty, DeviceNotMounted, SeekError, CommentTooBig, DiskFull, DeleteProtected, WriteProtected, ReadProtected, NotADosDisk, NoMoreEntries}

@@ -6,7 +6,7 @@ use Rattle.ados_name.specs.declared.stamp.Date3.{Date3}
 use Rattle.ados_handler.specs.Gives.{HandlerGives}
 use Rattle.ados_model.proofs.OneTree.{one_tree}
 use Rattle.ados_model.specs.Meaning.{Meaning}
-use Rattle.ados_model.specs.Session.{HandlerState}
+use Rattle.ados_handler.specs.HandlerState.{HandlerState}
 use Rattle.ados_model.specs.Stands.{Stands}
 use Rattle.ados_model.specs.Tree.{Tree}
 use Rattle.ados_model.specs.declared.answer.Answer.{Answer}

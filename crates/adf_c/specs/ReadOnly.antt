@@ -4,7 +4,7 @@ use Rattle.ados_name.specs.declared.stamp.Date3.{Date3}
 use Rattle.ados_model.specs.Tree.{Tree}
 use Rattle.ados_model.specs.Stands.{Stands}
 use Rattle.ados_model.specs.Packet.{action_of, failure_of, handed_back}
-use Rattle.ados_model.specs.Session.{HandlerState}
+use Rattle.ados_handler.specs.HandlerState.{HandlerState}
 use Rattle.ados_model.specs.declared.packet.Packet.{Packet}
 use Rattle.ados_model.specs.declared.answer.Answer.{Answer}
 use Rattle.ados_model.specs.declared.answer.Body.{Body}

@@ -5,7 +5,7 @@ use crate::bundle_items::{BundleBytes, bundle_items};
 use crate::bytes::VolumeBytes;
 use crate::entry::Outgoing;
 use crate::items::outgoing;
-use adf_host::OwnedFile;
+use adf_host::{OwnedFile, PromptFiles};
 use adf_record::{Bundle, BundleFault, bundle_of, bundle_text};
 use ados_volume::Volume;
 use host_trees::{WriteFault, write_tree};
@@ -43,7 +43,7 @@ impl From<AllocError> for BundleOutFault {
 /// writes them, and then the text of the volume's bundle in `volume.json`.
 ///
 /// It refuses before anything is written, as `extract` does. The volume does not change.
-pub fn extract_bundle<R: Files>(
+pub fn extract_bundle<R: PromptFiles>(
     rt: &R,
     alloc: Global,
     volume: &mut Volume,

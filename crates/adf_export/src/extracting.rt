@@ -7,19 +7,18 @@ ghost use Rattle.adf_export.specs.Words.{IsExtractFault};
 use crate::bytes::VolumeBytes;
 use crate::fault::OutFault;
 use crate::items::outgoing;
-use adf_host::OwnedFile;
+use adf_host::{OwnedFile, PromptFiles};
 use adf_words::ExtractJob;
 use ados_volume::Volume;
 use host_trees::write_tree;
 use std::alloc::Global;
-use std::rt::Files;
 
 /// Writes the entries of the job's paths, with everything below them, below a directory of the host. Without a path,
 /// or for the root, it writes all entries of the root. With `meta`, a note is written beside each.
 ///
 /// Nothing is written if a path leads nowhere, if an existing file or directory of the host is in the way, or if two
 /// entries would have one path. The volume does not change.
-pub fn extract<R: Files>(
+pub fn extract<R: PromptFiles>(
     rt: &R,
     alloc: Global,
     volume: &mut Volume,

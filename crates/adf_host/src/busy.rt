@@ -1,5 +1,8 @@
 //! Whether another command or a mount works on an image file.
+use crate::image_file::open_below;
+use crate::prompt::PromptFiles;
 use crate::standard::input_path;
+use std::alloc::Global;
 use std::fs::{self, File, TryLockError};
 use std::rt::Files;
 
@@ -13,6 +16,20 @@ pub fn is_held<R: Files<File = File>>(rt: &R, path: &str) -> bool {
         return false;
     }
     match fs::open(rt, path) {
+        Ok(file) => is_locked(&file),
+        Err(_) => false,
+    }
+}
+
+/// Whether another command or a mount has a file below a directory locked, as [`is_held`]. The file is opened as by
+/// [`open_below`].
+pub fn is_held_below<R: Files<File = File> + PromptFiles>(
+    rt: &R,
+    alloc: Global,
+    directory: &str,
+    path: &str,
+) -> bool {
+    match open_below(rt, alloc, directory, path) {
         Ok(file) => is_locked(&file),
         Err(_) => false,
     }

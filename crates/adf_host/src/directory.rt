@@ -59,11 +59,14 @@ impl<F: OwnedFile> HeldDirectory<F> {
         name: &str,
     ) -> Result<HeldDirectory<F>, Error> {
         let path = self.path_of(alloc, name)?;
-        let opened = HeldDirectory::at(rt, alloc, path.as_str())?;
+        let opened = match HeldDirectory::at(rt, alloc, path.as_str()) {
+            Ok(opened) => opened,
+            Err(error) => return Err(why_closed(rt, path.as_str(), error)),
+        };
         // A link has a number of its own. So the name itself stands for the directory that was opened.
         let standing = fs::symlink_metadata(rt, path.as_str())?;
         if FileNumber::of(&standing) != opened.number()? {
-            return Err(Error::new(ErrorKind::NotADirectory, "a link is in the way"));
+            return Err(in_the_way());
         }
         Ok(opened)
     }
@@ -85,6 +88,11 @@ impl<F: OwnedFile> HeldDirectory<F> {
         format!(in alloc; "{}/{name}", self.path.as_str())
     }
 
+    /// The description of this directory, by its handle.
+    pub(crate) fn metadata(&self) -> Result<Metadata, Error> {
+        self.file.metadata()
+    }
+
     /// The number of this directory.
     pub fn number(&self) -> Result<FileNumber, Error> {
         Ok(FileNumber::of(&self.file.metadata()?))
@@ -94,6 +102,19 @@ impl<F: OwnedFile> HeldDirectory<F> {
     pub fn set_modified(&self, time: SystemTime) -> Result<(), Error> {
         self.file.set_times(FileTimes::new().set_modified(time))
     }
+}
+
+/// The error for a link in the place of a directory.
+fn in_the_way() -> Error {
+    Error::new(ErrorKind::NotADirectory, "a link is in the way")
+}
+
+/// Why a directory is not opened, with this error: a link that leads nowhere is in the way, and nothing is missing.
+fn why_closed<R: Files>(rt: &R, path: &str, error: Error) -> Error {
+    if error.kind() == ErrorKind::NotFound && fs::symlink_metadata(rt, path).is_ok() {
+        return in_the_way();
+    }
+    error
 }
 
 /// A file by its name in its directory, which is held open.

@@ -4,6 +4,10 @@ ghost use Rattle.adf_host.specs.Images.{IsImageLength};
 ghost use Rattle.adf_io.specs.Loaded.{ReadsFilled, ReadsLoaded};
 ghost use Rattle.adf_block.specs.Size.{IsSizeFault};
 
+use crate::held_tree::HeldTree;
+use crate::opening::OpenFault;
+use crate::owned::OwnedFile;
+use crate::prompt::PromptFiles;
 use crate::standard::input_path;
 use adf_block::layout::{BLOCK_BYTES, FEWEST_BLOCKS, MOST_BLOCKS};
 use adf_block::{MOST_BYTES, SizeFault, SizeRefused};
@@ -101,6 +105,38 @@ pub fn read_image_file<R: Files>(
         Ok(mut file) => read_open(alloc, &mut file, blocks),
         Err(_) => Err(LoadFault::Read),
     }
+}
+
+/// Reads the image of a file below a directory, as [`read_image_file`] does, whatever takes the place of the file, or of a
+/// directory on the way to it, meanwhile. A link there is followed if [`HeldTree::open_linked`] follows it.
+pub fn read_image_below<R: PromptFiles>(
+    rt: &R,
+    alloc: Global,
+    directory: &str,
+    path: &str,
+    blocks: Option<u32>,
+) -> Result<Loaded, LoadFault>
+where
+    R::File: OwnedFile + Drop,
+{
+    match open_below(rt, alloc, directory, path) {
+        Ok(mut file) => read_open(alloc, &mut file, blocks),
+        Err(OpenFault::Memory) => Err(LoadFault::Memory),
+        Err(_) => Err(LoadFault::Read),
+    }
+}
+
+/// Opens the file at a path below a directory for reading, as [`HeldTree::open_linked`] does.
+pub fn open_below<R: PromptFiles>(
+    rt: &R,
+    alloc: Global,
+    directory: &str,
+    path: &str,
+) -> Result<R::File, OpenFault>
+where
+    R::File: OwnedFile + Drop,
+{
+    HeldTree::at(rt, alloc, directory)?.open_linked(rt, alloc, path)
 }
 
 /// Reads an image of this number of blocks from a file that may be longer or shorter. What is missing is taken as zeros.

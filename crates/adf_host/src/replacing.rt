@@ -3,8 +3,10 @@ use crate::directory::HeldPlace;
 use crate::held::{HeldFile, is_same};
 use crate::limit::refuse_length;
 use crate::new_bytes::NewBytes;
+use crate::opening::{OpenFault, open_regular, reopen};
 use crate::owned::OwnedFile;
-use crate::temporary::{make_beside, remove_first_leftovers, remove_leftovers};
+use crate::prompt::PromptFiles;
+use crate::temporary::{make_beside, remove_first_leftovers, remove_leftovers, this_user};
 use crate::unwritable::WriteReason;
 use adf_block::Image;
 use std::alloc::{AllocError, Global};
@@ -65,6 +67,16 @@ impl From<AllocError> for ReplaceFault {
     }
 }
 
+impl From<OpenFault> for ReplaceFault {
+    fn from(fault: OpenFault) -> ReplaceFault {
+        match fault {
+            OpenFault::Host(error) => ReplaceFault::Target(error),
+            OpenFault::Memory => ReplaceFault::Memory,
+            OpenFault::NoFile | OpenFault::Moved | OpenFault::ForeignLink => ReplaceFault::Moved,
+        }
+    }
+}
+
 /// The mode bits that a new file takes over from the file that it replaces: the rights to read, write and run it.
 const ACCESS_BITS: u32 = 0o777;
 
@@ -79,7 +91,7 @@ const ACCESS_BITS: u32 = 0o777;
 ///
 /// The directory of the file is opened once, and the temporary file is made, renamed and removed through its handle. So
 /// a directory that is swapped for a link meanwhile leads nowhere else. Without `/proc` all that goes by path.
-pub fn replace_file<R: Files>(
+pub fn replace_file<R: PromptFiles>(
     rt: &R,
     alloc: Global,
     path: &str,
@@ -106,7 +118,7 @@ where
 }
 
 /// Replaces the regular file at a path without links.
-fn replace_real<R: Files>(
+fn replace_real<R: PromptFiles>(
     rt: &R,
     alloc: Global,
     path: &str,
@@ -126,7 +138,7 @@ where
 }
 
 /// Writes a file to a path where none was found. A link that is there leads nowhere, and gives the error of the search.
-fn write_first<R: Files>(
+fn write_first<R: PromptFiles>(
     rt: &R,
     alloc: Global,
     path: &str,
@@ -152,20 +164,15 @@ fn may_be(held: Option<&HeldFile>, found: &Metadata) -> bool {
     }
 }
 
-/// Opens the file that was found at a path for writing, if it is still there, and returns the description by its
-/// handle.
-fn open_found<R: Files>(
-    rt: &R,
-    path: &str,
-    found: &Metadata,
-) -> Result<(R::File, Metadata), ReplaceFault> {
+/// Opens the file that was found at a path for writing, if it is still there.
+fn open_found<R: Files>(rt: &R, path: &str, found: &Metadata) -> Result<R::File, ReplaceFault> {
     let file = OpenOptions::new()
         .write(true)
         .open(rt, path)
         .map_err(ReplaceFault::Target)?;
     let opened = file.metadata().map_err(ReplaceFault::Target)?;
     if is_same(&opened, found) {
-        Ok((file, opened))
+        Ok(file)
     } else {
         Err(ReplaceFault::Moved)
     }
@@ -178,13 +185,63 @@ fn write_straight<R: Files>(
     found: &Metadata,
     bytes: NewBytes<'_>,
 ) -> Result<(), ReplaceFault> {
-    let (mut file, _) = open_found(rt, path, found)?;
+    let mut file = open_found(rt, path, found)?;
     bytes.put(&mut file).map_err(ReplaceFault::Write)
+}
+
+/// The description of the regular file that was found at a path, by its handle. Fails if it is no longer there, or if the
+/// process may not write it. Nothing that takes its place is opened for writing.
+fn writable<R: PromptFiles>(
+    rt: &R,
+    alloc: Global,
+    path: &str,
+    found: &Metadata,
+) -> Result<Metadata, ReplaceFault>
+where
+    R::File: OwnedFile,
+{
+    let file = match open_regular(rt, alloc, path) {
+        Ok(file) => file,
+        Err(OpenFault::Host(error)) if error.kind() == ErrorKind::PermissionDenied => {
+            return only_writable(rt, found, error);
+        }
+        Err(fault) => return Err(ReplaceFault::from(fault)),
+    };
+    let opened = file.metadata().map_err(ReplaceFault::Target)?;
+    if !is_same(&opened, found) {
+        return Err(ReplaceFault::Moved);
+    }
+    match reopen(rt, alloc, &file) {
+        Ok(_) => Ok(opened),
+        // The host has no paths for handles.
+        Err(OpenFault::Host(error)) if error.kind() == ErrorKind::NotFound => {
+            open_found(rt, path, found)?;
+            Ok(opened)
+        }
+        Err(fault) => Err(ReplaceFault::from(fault)),
+    }
+}
+
+/// The mode bit for the right of the owner to write.
+const OWNER_WRITES: u32 = 0o200;
+
+/// The description that was found of a file that the process may not read, if it is this user's, who may write it.
+/// Otherwise this error.
+fn only_writable<R: Files>(
+    rt: &R,
+    found: &Metadata,
+    error: Error,
+) -> Result<Metadata, ReplaceFault> {
+    if found.mode() & OWNER_WRITES != 0 && this_user(rt) == Some(found.uid()) {
+        Ok(found.clone()?)
+    } else {
+        Err(ReplaceFault::Target(error))
+    }
 }
 
 /// Replaces a regular file that was found at a path by these bytes, as [`replace_file`] does. A link that is there by
 /// now is refused. The new file gets this time.
-pub fn replace_found<R: Files>(
+pub fn replace_found<R: PromptFiles>(
     rt: &R,
     alloc: Global,
     path: &str,
@@ -200,7 +257,7 @@ where
 }
 
 /// Writes a new file over the regular file that was found at a path.
-fn write_over<R: Files>(
+fn write_over<R: PromptFiles>(
     rt: &R,
     alloc: Global,
     path: &str,
@@ -211,7 +268,7 @@ fn write_over<R: Files>(
 where
     R::File: OwnedFile,
 {
-    let (_, old) = open_found(rt, path, found)?;
+    let old = writable(rt, alloc, path, found)?;
     write_beside(rt, alloc, path, Some(old), bytes, time)
 }
 

@@ -6,7 +6,9 @@ ghost use Rattle.adf_block.specs.Whole.{IsSize};
 ghost use Rattle.adf_io.specs.Load.{ReadsAll};
 ghost use Rattle.adf_host.specs.Sketched.{ReadsBlocks};
 
-use crate::image_file::size_fault;
+use crate::image_file::{open_below, size_fault};
+use crate::owned::OwnedFile;
+use crate::prompt::PromptFiles;
 use crate::standard::input_path;
 use adf_block::layout::BLOCK_BYTES;
 use adf_io::{InputFault, read_some};
@@ -90,6 +92,29 @@ pub fn sketch_image_file<R: Files>(rt: &R, alloc: Global, path: &str) -> Option<
         return None;
     }
     let mut file = fs::open(rt, path).ok()?;
-    let blocks = blocks_of(&file)?;
-    read_sketch(alloc, &mut file, blocks).ok()?
+    sketch_open(alloc, &mut file)
+}
+
+/// The sketch of the image of a file below a directory, as [`sketch_image_file`] makes it. The file is opened as by
+/// [`read_image_below`](crate::read_image_below).
+pub fn sketch_image_below<R: PromptFiles>(
+    rt: &R,
+    alloc: Global,
+    directory: &str,
+    path: &str,
+) -> Option<Sketch>
+where
+    R::File: OwnedFile + Drop,
+    ensures { IfSome result (λ sketch. IsSize (block_count sketch)) }
+{
+    let mut file = open_below(rt, alloc, directory, path).ok()?;
+    sketch_open(alloc, &mut file)
+}
+
+/// The sketch of the image of an open file, if it has one.
+fn sketch_open<F: Read + OpenFile>(alloc: Global, file: &mut F) -> Option<Sketch>
+    ensures { IfSome result (λ sketch. IsSize (block_count sketch)) }
+{
+    let blocks = blocks_of(file)?;
+    read_sketch(alloc, file, blocks).ok()?
 }

@@ -2,7 +2,9 @@
 use crate::beside::{beside_number, beside_path};
 use crate::directory::directory_and_name;
 use crate::held::is_same;
+use crate::opening::{open_regular, reopen};
 use crate::owned::OwnedFile;
+use crate::prompt::PromptFiles;
 use crate::replacing::ReplaceFault;
 use adf_io::read_some;
 use std::alloc::Global;
@@ -70,7 +72,7 @@ fn is_at<R: Files>(rt: &R, file: &R::File, path: &str) -> bool {
 /// Removes the temporary files beside a file that commands of this user left when they were killed: regular files
 /// that no command has locked. One that cannot be removed stays. So do all if the host does not say who this user is,
 /// or which names the directory has. It is read once.
-pub(crate) fn remove_leftovers<R: Files>(rt: &R, alloc: Global, path: &str)
+pub(crate) fn remove_leftovers<R: PromptFiles>(rt: &R, alloc: Global, path: &str)
 where
     R::File: OwnedFile,
 {
@@ -88,7 +90,7 @@ where
 }
 
 /// Removes them up to the first number that is not in use. The directory is not read.
-pub(crate) fn remove_first_leftovers<R: Files>(rt: &R, alloc: Global, path: &str)
+pub(crate) fn remove_first_leftovers<R: PromptFiles>(rt: &R, alloc: Global, path: &str)
 where
     R::File: OwnedFile,
 {
@@ -103,7 +105,7 @@ where
 }
 
 /// The user of this process, if the host says it: the directory of a process belongs to its user.
-fn this_user<R: Files>(rt: &R) -> Option<u32> {
+pub(crate) fn this_user<R: Files>(rt: &R) -> Option<u32> {
     match fs::metadata(rt, "/proc/self") {
         Ok(process) => Some(process.uid()),
         Err(_) => None,
@@ -140,7 +142,13 @@ fn note_numbers(names: &[u8], are_there: &mut [bool]) {
 }
 
 /// Removes the temporary file with this number, if a command of this user left it. Returns whether the name was in use.
-fn remove_numbered<R: Files>(rt: &R, alloc: Global, path: &str, number: u32, user: u32) -> bool
+fn remove_numbered<R: PromptFiles>(
+    rt: &R,
+    alloc: Global,
+    path: &str,
+    number: u32,
+    user: u32,
+) -> bool
 where
     R::File: OwnedFile,
 {
@@ -151,18 +159,22 @@ where
         return false;
     };
     if found.is_file() && found.uid() == user {
-        remove_leftover(rt, beside.as_str(), &found);
+        remove_leftover(rt, alloc, beside.as_str(), &found);
     }
     true
 }
 
 /// Removes the regular file that was found at a path, unless a command has locked it. A file that took its place
 /// meanwhile stays.
-fn remove_leftover<R: Files>(rt: &R, path: &str, found: &Metadata)
+fn remove_leftover<R: PromptFiles>(rt: &R, alloc: Global, path: &str, found: &Metadata)
 where
     R::File: OwnedFile,
 {
-    let Ok(file) = OpenOptions::new().read(true).write(true).open(rt, path) else {
+    let Ok(read) = open_regular(rt, alloc, path) else {
+        return;
+    };
+    // A network may lock only what is open for writing.
+    let Ok(file) = reopen(rt, alloc, &read) else {
         return;
     };
     let is_found = match file.metadata() {

@@ -1,7 +1,14 @@
 //! Why a file of the host cannot be read.
+use crate::held_tree::HeldTree;
+use crate::image_file::open_below;
+use crate::opening::OpenFault;
+use crate::owned::OwnedFile;
+use crate::prompt::PromptFiles;
 use crate::standard::input_path;
 use adf_block::layout::BLOCK_BYTES;
+use std::alloc::Global;
 use std::fs;
+use std::fs::OpenFile;
 use std::io::{Error, ErrorKind};
 use std::rt::Files;
 use thiserror::Error;
@@ -17,6 +24,15 @@ pub enum ReadReason {
     NoDirectory,
     #[error("permission denied")]
     Denied,
+    /// It is a link, a pipe, a device or a directory where a regular file is needed.
+    #[error("is no regular file")]
+    NoFile,
+    /// Something else took its place while it was opened.
+    #[error("another file has taken its place")]
+    Moved,
+    /// A link that another user may have made, to a file that this user may read.
+    #[error("it is a symbolic link of another user")]
+    ForeignLink,
     /// Any other reason that the host gives.
     #[error("{0}")]
     Host(Error),
@@ -50,6 +66,18 @@ impl From<Error> for ReadReason {
     }
 }
 
+impl From<OpenFault> for ReadReason {
+    fn from(fault: OpenFault) -> ReadReason {
+        match fault {
+            OpenFault::NoFile => ReadReason::NoFile,
+            OpenFault::Moved => ReadReason::Moved,
+            OpenFault::ForeignLink => ReadReason::ForeignLink,
+            OpenFault::Host(error) => ReadReason::from(error),
+            OpenFault::Memory => ReadReason::Host(Error::from(ErrorKind::OutOfMemory)),
+        }
+    }
+}
+
 /// Why the file at a path could not be read, by asking the host once more. To be called after a failed read.
 ///
 /// The host may have changed since. Then it may be another reason.
@@ -76,6 +104,53 @@ pub fn why_no_image<R: Files>(rt: &R, path: &str, blocks: Option<u32>) -> ReadRe
     match (why_unreadable(rt, path), blocks) {
         (ReadReason::Read, Some(blocks)) => why_no_blocks(rt, path, blocks),
         (reason, _) => reason,
+    }
+}
+
+/// Why no image was read from a file below a directory, as [`why_no_image`].
+pub fn why_no_image_below<R: PromptFiles>(
+    rt: &R,
+    alloc: Global,
+    directory: &str,
+    path: &str,
+    blocks: Option<u32>,
+) -> ReadReason
+where
+    R::File: OwnedFile + Drop,
+{
+    match (open_below(rt, alloc, directory, path), blocks) {
+        (Ok(file), Some(blocks)) => match file.metadata() {
+            Ok(found) if found.len() / u64::from(BLOCK_BYTES) < u64::from(blocks) => {
+                ReadReason::Short(blocks)
+            }
+            _ => ReadReason::Read,
+        },
+        (Ok(_), None) => ReadReason::Read,
+        (Err(fault), _) => why_not_opened(rt, alloc, directory, path, fault),
+    }
+}
+
+/// Why a file below a directory was not opened, with this fault. It may be a directory, which may be closed to this user.
+fn why_not_opened<R: PromptFiles>(
+    rt: &R,
+    alloc: Global,
+    directory: &str,
+    path: &str,
+    fault: OpenFault,
+) -> ReadReason
+where
+    R::File: OwnedFile + Drop,
+{
+    let entered = match HeldTree::at(rt, alloc, directory) {
+        Ok(mut tree) => tree.enter(rt, alloc, path),
+        Err(fault) => Err(fault),
+    };
+    match entered {
+        Ok(_) => ReadReason::Directory,
+        Err(OpenFault::Host(error)) if error.kind() == ErrorKind::PermissionDenied => {
+            ReadReason::Denied
+        }
+        Err(_) => ReadReason::from(fault),
     }
 }
 

@@ -11,15 +11,14 @@ use crate::words::Word;
 use adf_block::layout::BLOCK_BYTES;
 use ados_model::DosError;
 use ados_volume::Volume;
-use host_trees::{HostEntry, PassedOver, host_tree};
+use host_trees::{HostEntry, HostReader, OwnedFile, PassedOver, PromptFiles, host_tree};
 use std::alloc::Global;
-use std::rt::Files;
 
 /// Puts files and directories of the host, with everything below them, into a directory. It returns what was skipped.
 ///
 /// An existing directory is used, and keeps its metadata. That of new directories is set last, because each entry put into a
 /// directory sets its date.
-pub(crate) fn add<R: Files>(
+pub(crate) fn add<R: PromptFiles>(
     rt: &R,
     alloc: Global,
     volume: &mut Volume,
@@ -27,11 +26,14 @@ pub(crate) fn add<R: Files>(
     to: &str,
     how: How,
 ) -> Result<Vec<PassedOver>, InFault>
+where
+    R::File: OwnedFile,
     ensures { OnOk result (KeepsKeys volume.old.image volume.new.image) }
 {
     let top = Word::new(alloc, to)?.directory(alloc, volume)?;
     let tree = host_tree(rt, alloc, files)?;
     refuse_names(alloc, &tree.entries)?;
+    let mut reader = HostReader::new(alloc);
     let mut progress = Progress::new(alloc, volume.image().blocks())?;
     for entry in tree.entries.iter() {
         let dir = progress.directory(entry.parent, top);
@@ -39,7 +41,7 @@ pub(crate) fn add<R: Files>(
         if let Some(place) = progress.place_of(volume.child(dir, &name)) {
             return Err(twins(alloc, entry, tree.entries.get(place)));
         }
-        let given = read_entry(rt, alloc, entry, most_bytes(volume))?;
+        let given = read_entry(rt, alloc, &mut reader, entry, most_bytes(volume))?;
         let item = Item {
             path: entry.path.as_str(),
             dir,

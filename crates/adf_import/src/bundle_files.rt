@@ -1,36 +1,45 @@
 //! The files of a bundle on the host.
 
 use crate::fault::{FileWhy, InFault, unusable};
-use crate::host_files::{read_host, unread};
+use crate::host_files::{read_host, unopened};
 use adf_block::layout::BLOCK_BYTES;
 use adf_record::{Bundle, BundleEntry};
 use adf_text::host_name;
 use ados_name::Name;
+use host_trees::{HeldTree, OpenFault, OwnedFile, PromptFiles};
 use std::alloc::{AllocError, Global};
-use std::fs;
-use std::rt::Files;
+use std::fs::OpenFile;
+use std::io::{ErrorKind, Read};
 
 /// The bytes of each entry of a bundle, from below `files` in a directory of the host. A directory has none.
 ///
 /// A file that is missing, that is no regular file, or that has another size than its entry is refused. So is one that no
-/// volume of this size has room for, before it is read. `files` and each directory of the bundle are looked at before
-/// what is in them, and no link is followed.
-pub(crate) fn read_files<R: Files>(
+/// volume of this size has room for, before it is read. `files` and each directory of the bundle are opened before what
+/// is in them, each by its name in the one above it, and no link is followed.
+pub(crate) fn read_files<R: PromptFiles>(
     rt: &R,
     alloc: Global,
+    tree: &mut HeldTree<R::File>,
     bundle: &Bundle,
     directory: &str,
-) -> Result<Vec<Vec<u8>>, InFault> {
+) -> Result<Vec<Vec<u8>>, InFault>
+where
+    R::File: OwnedFile,
+{
     let top = format!(in alloc; "{directory}/files")?;
-    refuse_no_directory(rt, alloc, top.as_str())?;
+    refuse_no_directory(rt, alloc, tree, "files", top.as_str())?;
     let mut contents = Vec::new(alloc);
     let mut room = bundle.head.blocks as u64 * BLOCK_BYTES as u64;
     for entry in bundle.entries.iter() {
-        let path = host_path(alloc, directory, &bundle.entries, entry)?;
+        let below = below_path(alloc, &bundle.entries, entry)?;
+        let path = format!(in alloc; "{directory}/{below}")?;
         let bytes = match entry.size {
-            Some(size) => read_file(rt, alloc, path.as_str(), size, room)?,
+            Some(size) => match tree.open(rt, alloc, below.as_str()) {
+                Ok(file) => read_file(alloc, file, path.as_str(), size, room)?,
+                Err(fault) => return Err(unopened(alloc, path.as_str(), fault)),
+            },
             None => {
-                refuse_no_directory(rt, alloc, path.as_str())?;
+                refuse_no_directory(rt, alloc, tree, below.as_str(), path.as_str())?;
                 Vec::new(alloc)
             }
         };
@@ -40,15 +49,18 @@ pub(crate) fn read_files<R: Files>(
     Ok(contents)
 }
 
-/// The bytes of a file with this size, if there is so much room.
-fn read_file<R: Files>(
-    rt: &R,
+/// The bytes of an open file with this size, if there is so much room.
+fn read_file<F: Read + OpenFile + Drop>(
     alloc: Global,
+    file: F,
     path: &str,
     size: u32,
     room: u64,
 ) -> Result<Vec<u8>, InFault> {
-    let found = refuse_no_file(rt, alloc, path)?;
+    let found = match file.metadata() {
+        Ok(found) => found.len(),
+        Err(error) => return Err(unopened(alloc, path, OpenFault::from(error))),
+    };
     if found != size as u64 {
         return Err(unusable(alloc, path, FileWhy::Size { found, told: size }));
     }
@@ -60,7 +72,7 @@ fn read_file<R: Files>(
             free: u32::try_from(room / block).unwrap_or(u32::MAX),
         });
     }
-    let bytes = read_host(rt, alloc, path, size as usize + 1)?;
+    let bytes = read_host(alloc, file, path, size as usize + 1)?;
     let read = bytes.len() as u64;
     if read != size as u64 {
         let why = FileWhy::Size {
@@ -72,20 +84,21 @@ fn read_file<R: Files>(
     Ok(bytes)
 }
 
-/// The length of a regular file of the host. Anything else is refused, a symbolic link too.
-pub(crate) fn refuse_no_file<R: Files>(rt: &R, alloc: Global, path: &str) -> Result<u64, InFault> {
-    match fs::symlink_metadata(rt, path) {
-        Ok(found) if found.is_file() => Ok(found.len()),
-        Ok(_) => Err(unusable(alloc, path, FileWhy::NoFile)),
-        Err(_) => Err(unread(rt, alloc, path)),
-    }
-}
-
 /// Refuses what stands in place of a directory of the host, a symbolic link too. A directory may be missing.
-fn refuse_no_directory<R: Files>(rt: &R, alloc: Global, path: &str) -> Result<(), InFault> {
-    match fs::symlink_metadata(rt, path) {
-        Ok(found) if !found.is_dir() => Err(unusable(alloc, path, FileWhy::NoDirectory)),
-        _ => Ok(()),
+fn refuse_no_directory<R: PromptFiles>(
+    rt: &R,
+    alloc: Global,
+    tree: &mut HeldTree<R::File>,
+    below: &str,
+    path: &str,
+) -> Result<(), InFault>
+where
+    R::File: OwnedFile,
+{
+    match tree.enter(rt, alloc, below) {
+        Ok(_) => Ok(()),
+        Err(OpenFault::Host(error)) if error.kind() == ErrorKind::NotFound => Ok(()),
+        Err(fault) => Err(unopened(alloc, path, fault)),
     }
 }
 
@@ -96,7 +109,17 @@ pub(crate) fn host_path(
     entries: &[BundleEntry],
     entry: &BundleEntry,
 ) -> Result<String, AllocError> {
-    let mut path = format!(in alloc; "{directory}/files")?;
+    let below = below_path(alloc, entries, entry)?;
+    format!(in alloc; "{directory}/{below}")
+}
+
+/// The path of an entry of a bundle below the directory of the bundle.
+fn below_path(
+    alloc: Global,
+    entries: &[BundleEntry],
+    entry: &BundleEntry,
+) -> Result<String, AllocError> {
+    let mut path = String::from_str(alloc, "files")?;
     for name in names_up(alloc, entries, entry)?.iter().rev() {
         let name = host_name(alloc, name)?;
         path.push('/')?;

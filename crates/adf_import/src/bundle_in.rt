@@ -1,28 +1,37 @@
 //! A bundle read from a directory of the host, in place of an empty volume.
 
-use crate::bundle_files::{read_files, refuse_no_file};
+use crate::bundle_files::read_files;
 use crate::bundle_put::volume_of_bundle;
 use crate::fault::{InFault, SourceFault, WrongVolume};
-use crate::host_files::read_host;
+use crate::host_files::{read_host, unopened, unread};
 use adf_record::{MOST_BUNDLE_BYTES, bundle_of, format_word, read_bundle};
 use ados_volume::Volume;
+use host_trees::{HeldTree, OwnedFile, PromptFiles, ReadReason};
 use std::alloc::Global;
-use std::rt::Files;
 
 /// The volume that a directory of the host describes, in place of an empty volume of the same kind and size. The files are
 /// below `files` there, and the description is `volume.json`.
 ///
 /// The new volume has the description's label, dates and boot block, and no lost blocks. No link is followed, but for
 /// the directory itself.
-pub fn add_bundle<R: Files>(
+pub fn add_bundle<R: PromptFiles>(
     rt: &R,
     alloc: Global,
     old: &Volume,
     directory: &str,
-) -> Result<Volume, InFault> {
+) -> Result<Volume, InFault>
+where
+    R::File: OwnedFile,
+{
     let path = format!(in alloc; "{directory}/volume.json")?;
-    refuse_no_file(rt, alloc, path.as_str())?;
-    let text = read_host(rt, alloc, path.as_str(), MOST_BUNDLE_BYTES + 1)?;
+    let mut tree = match HeldTree::at(rt, alloc, directory) {
+        Ok(tree) => tree,
+        Err(fault) => return Err(unread(alloc, path.as_str(), ReadReason::from(fault))),
+    };
+    let text = match tree.open(rt, alloc, "volume.json") {
+        Ok(file) => read_host(alloc, file, path.as_str(), MOST_BUNDLE_BYTES + 1)?,
+        Err(fault) => return Err(unopened(alloc, path.as_str(), fault)),
+    };
     let bundle = match read_bundle(alloc, &text) {
         Ok(bundle) => bundle,
         Err(fault) if fault.is_memory() => return Err(InFault::Memory),
@@ -39,6 +48,6 @@ pub fn add_bundle<R: Files>(
             blocks: head.blocks,
         })));
     }
-    let contents = read_files(rt, alloc, &bundle, directory)?;
+    let contents = read_files(rt, alloc, &mut tree, &bundle, directory)?;
     volume_of_bundle(alloc, &bundle, &contents, directory)
 }

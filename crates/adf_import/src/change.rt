@@ -12,20 +12,21 @@ use crate::single::{rename, set_bits, set_comment};
 use adf_words::Change;
 use ados_name::Date3;
 use ados_volume::Volume;
-use host_trees::PassedOver;
+use host_trees::{OwnedFile, PassedOver, PromptFiles};
 use std::alloc::Global;
-use std::rt::Files;
 
 /// Makes a change with this time stamp. For `add`, it returns what was skipped.
 ///
 /// After a fault the volume may be changed in part, and its image must not be written.
-pub fn change_volume<R: Files + StandardInput>(
+pub fn change_volume<R: PromptFiles + StandardInput>(
     rt: &R,
     alloc: Global,
     volume: &mut Volume,
     change: &Change<'_>,
     moment: Date3,
 ) -> Result<Vec<PassedOver>, InFault>
+where
+    R::File: OwnedFile,
     ensures { ChangesVolume change.now moment volume.old volume.new (without_answer result) }
 {
     match change {

@@ -56,7 +56,7 @@ pub enum SourceFault {
     #[error("'{path}' {fault}")]
     Description { path: String, fault: BundleFault },
     /// What was made is not what the bundle describes.
-    #[error("the description has entries in an order that no disk has")]
+    #[error("volume.json lists its entries in an order that no disk has")]
     Unlike,
     #[error("{0}")]
     Volume(WrongVolume),
@@ -81,7 +81,7 @@ pub enum FileWhy {
     Control,
     #[error("does not begin with eight protection letters and a space")]
     NoProtection,
-    #[error("has no date behind the protection letters")]
+    #[error("has no date after the protection letters")]
     NoDate,
 }
 

@@ -9,10 +9,10 @@ use ados_data::blocks_of;
 use ados_model::DosError;
 use ados_name::{Comment, Date3, Name, Protect};
 use ados_volume::Volume;
-use host_trees::{HostEntry, HostKind, why_unreadable};
+use host_trees::{HostEntry, HostReader, OpenFault, OwnedFile, PromptFiles, ReadReason};
 use std::alloc::Global;
-use std::fs;
-use std::rt::Files;
+use std::fs::OpenFile;
+use std::io::{ErrorKind, Read};
 
 /// The entry's name for a host file's name.
 ///
@@ -41,11 +41,23 @@ const MOST_NOTED: usize = 4_096;
 
 /// The metadata of a file or directory of the host: from its note, or else its time stamp, no protection bits and no
 /// comment.
-fn noted_of<R: Files>(rt: &R, alloc: Global, entry: &HostEntry) -> Result<Uaem, InFault> {
+fn noted_of<R: PromptFiles>(
+    rt: &R,
+    alloc: Global,
+    reader: &mut HostReader<R::File>,
+    entry: &HostEntry,
+) -> Result<Uaem, InFault>
+where
+    R::File: OwnedFile,
+{
     let Some(note) = &entry.note else {
         return Ok(without_note(entry.date));
     };
-    let line = read_host(rt, alloc, note.as_str(), MOST_NOTED)?;
+    let line = match reader.open_note(rt, alloc, entry) {
+        Ok(Some(file)) => read_host(alloc, file, note.as_str(), MOST_NOTED)?,
+        Ok(None) => return Ok(without_note(entry.date)),
+        Err(fault) => return Err(unopened(alloc, note.as_str(), fault)),
+    };
     let why = match read_uaem(alloc, &line) {
         Ok(noted) => return Ok(noted),
         Err(UaemFault::Memory) => return Err(InFault::Memory),
@@ -84,25 +96,37 @@ impl Given {
 }
 
 /// Reads a file or directory of the host with its metadata, and at most this many bytes of a file.
-pub(crate) fn read_entry<R: Files>(
+pub(crate) fn read_entry<R: PromptFiles>(
     rt: &R,
     alloc: Global,
+    reader: &mut HostReader<R::File>,
     entry: &HostEntry,
     most: usize,
-) -> Result<Given, InFault> {
-    let noted = noted_of(rt, alloc, entry)?;
-    let HostKind::File { length } = entry.kind else {
-        return Ok(Given {
+) -> Result<Given, InFault>
+where
+    R::File: OwnedFile,
+{
+    let noted = noted_of(rt, alloc, reader, entry)?;
+    let path = entry.path.as_str();
+    match reader.open(rt, alloc, entry) {
+        Ok(None) => Ok(Given {
             noted,
             bytes: Vec::new(alloc),
             length: None,
-        });
-    };
-    Ok(Given {
-        noted,
-        bytes: read_host(rt, alloc, entry.path.as_str(), most)?,
-        length: Some(length),
-    })
+        }),
+        Ok(Some(file)) => {
+            let length = match file.metadata() {
+                Ok(found) => found.len(),
+                Err(error) => return Err(unopened(alloc, path, OpenFault::from(error))),
+            };
+            Ok(Given {
+                noted,
+                bytes: read_host(alloc, file, path, most)?,
+                length: Some(length),
+            })
+        }
+        Err(fault) => Err(unopened(alloc, path, fault)),
+    }
 }
 
 /// The metadata of a file without a note: this date, no protection bits and no comment.
@@ -114,26 +138,34 @@ pub(crate) fn without_note(date: Date3) -> Uaem {
     }
 }
 
-/// The bytes of a host file, at most this many.
-pub(crate) fn read_host<R: Files>(
-    rt: &R,
+/// The bytes of an open host file, at most this many.
+pub(crate) fn read_host<F: Read + Drop>(
     alloc: Global,
+    mut file: F,
     path: &str,
     most: usize,
 ) -> Result<Vec<u8>, InFault> {
-    let Ok(mut file) = fs::open(rt, path) else {
-        return Err(unread(rt, alloc, path));
-    };
     match read_bounded(alloc, &mut file, most) {
         Ok(bytes) => Ok(bytes),
         Err(InputFault::Memory) => Err(InFault::Memory),
-        Err(_) => Err(unread(rt, alloc, path)),
+        Err(_) => Err(unread(alloc, path, ReadReason::Read)),
+    }
+}
+
+/// The fault of a host file that was not opened.
+pub(crate) fn unopened(alloc: Global, path: &str, fault: OpenFault) -> InFault {
+    match fault {
+        OpenFault::Memory => InFault::Memory,
+        OpenFault::NoFile => unusable(alloc, path, FileWhy::NoFile),
+        OpenFault::Host(error) if error.kind() == ErrorKind::NotADirectory => {
+            unusable(alloc, path, FileWhy::NoDirectory)
+        }
+        fault => unread(alloc, path, ReadReason::from(fault)),
     }
 }
 
 /// The fault of a host file that could not be read.
-pub(crate) fn unread<R: Files>(rt: &R, alloc: Global, path: &str) -> InFault {
-    let reason = why_unreadable(rt, path);
+pub(crate) fn unread(alloc: Global, path: &str, reason: ReadReason) -> InFault {
     match String::from_str(alloc, path) {
         Ok(path) => InFault::Source(SourceFault::Read { path, reason }),
         Err(_) => InFault::Memory,

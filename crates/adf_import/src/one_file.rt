@@ -16,11 +16,10 @@ use adf_words::Source;
 use ados_model::DosError;
 use ados_name::{Date3, Name};
 use ados_volume::Volume;
-use host_trees::{HostKind, host_tree};
+use host_trees::{HostKind, HostReader, OwnedFile, PromptFiles, host_tree};
 use std::alloc::Global;
 use std::fs;
 use std::io::Read;
-use std::rt::Files;
 
 /// A host with standard input.
 pub trait StandardInput {
@@ -53,7 +52,7 @@ pub(crate) struct Target<'a> {
 /// Puts one file into a directory under a name: a new one, or with `force` in place of the existing one.
 ///
 /// Refusals have the path of the directory or the name. What is no regular file is a fault.
-pub(crate) fn add_as<R: Files + StandardInput>(
+pub(crate) fn add_as<R: PromptFiles + StandardInput>(
     rt: &R,
     alloc: Global,
     volume: &mut Volume,
@@ -61,6 +60,8 @@ pub(crate) fn add_as<R: Files + StandardInput>(
     target: Target<'_>,
     how: How,
 ) -> Result<(), InFault>
+where
+    R::File: OwnedFile,
     ensures { OnOk result (PutsAs how.moment (chars target.entry.to.now) (chars target.entry.name.now) how.force volume.old volume.new) }
 {
     let to = Word::new(alloc, target.to)?;
@@ -112,15 +113,23 @@ fn read_input<R: StandardInput>(
 }
 
 /// Reads a regular file of the host, with its metadata.
-fn read_file<R: Files>(rt: &R, alloc: Global, path: &str, most: usize) -> Result<Given, InFault> {
+fn read_file<R: PromptFiles>(
+    rt: &R,
+    alloc: Global,
+    path: &str,
+    most: usize,
+) -> Result<Given, InFault>
+where
+    R::File: OwnedFile,
+{
     if fs::metadata(rt, path).is_ok_and(|found| !found.is_file()) {
         return Err(unusable(alloc, path, FileWhy::NotOneFile));
     }
     let tree = host_tree(rt, alloc, &[path])?;
     match tree.entries.as_slice() {
-        [entry] if matches!(entry.kind, HostKind::File { .. }) => read_entry(
-            rt, alloc, entry, most,
-        ),
+        [entry] if matches!(entry.kind, HostKind::File { .. }) => {
+            read_entry(rt, alloc, &mut HostReader::new(alloc), entry, most)
+        }
         _ => Err(unusable(alloc, path, FileWhy::NotOneFile)),
     }
 }

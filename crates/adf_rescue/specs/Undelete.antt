@@ -121,7 +121,7 @@ label_of None header = codes "the entry at block " ++ decimal header
 abbrev pub label_in : List (Option ℕ) → List Place → ℕ → List ℕ
 label_in positions places header = label_of (path_of positions places header) header
 
--- how much of an entry can be had back
+-- how much of an entry can be recovered
 abbrev pub recovery_words : Recovery → List ℕ
 recovery_words Directory = codes "/: a directory"
 recovery_words (Free all) = codes ": all " ++ (decimal all ++ codes " blocks are free")

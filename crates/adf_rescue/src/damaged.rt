@@ -11,7 +11,7 @@ use crate::plan::Plan;
 use crate::rescue_object::{entry_object, front_text, is_told, rest_object};
 use adf_account::unaccounted_blocks;
 use adf_block::Image;
-use adf_host::OwnedFile;
+use adf_host::{OwnedFile, PromptFiles};
 use adf_io::{PrintFault, write_text, write_when_long};
 use adf_salvage::{HeaderState, Salvage, Salvaged, State, salvage};
 use adf_text::ranges_text;
@@ -19,7 +19,6 @@ use adf_words::SalvageJob;
 use host_trees::WriteFault;
 use std::alloc::{AllocError, Global};
 use std::io::Write;
-use std::rt::Files;
 
 /// What was written of a damaged image. It can be reported, entry by entry.
 #[derive(Drop)]
@@ -39,7 +38,7 @@ pub enum RescueFault {
 
 /// Writes everything in an image that can be trusted below a directory of the host. With `meta`, a note is written beside
 /// each entry. Nothing is written if the job only lists, or if an existing file or directory of the host is in the way.
-pub fn extract_damaged<R: Files>(
+pub fn extract_damaged<R: PromptFiles>(
     rt: &R,
     alloc: Global,
     image: Image,

@@ -93,7 +93,7 @@ fn behind_slash(path: &[u8]) -> &[u8]
     }
 }
 
-/// How much of an entry can be had back.
+/// How much of an entry can be recovered.
 fn recovery_words(alloc: Global, recovery: Recovery) -> Result<String, AllocError>
     ensures { IfOk result (λ text. string_bytes text ≡ recovery_words recovery) }
 {

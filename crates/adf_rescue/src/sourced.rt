@@ -4,13 +4,12 @@ ghost use Rattle.adf_rescue.specs.Rescue.{HasSource};
 ghost use Rattle.adf_rescue.specs.Undelete.{file_in};
 
 use crate::plan::name_of;
-use adf_host::OwnedFile;
+use adf_host::{OwnedFile, PromptFiles};
 use adf_salvage::{Salvage, Salvaged};
 use adf_text::{Uaem, uaem_line};
 use ados_name::Date3;
 use host_trees::{Contents, HostItem, HostName, ItemKind, WriteFault, write_tree};
 use std::alloc::{AllocError, Global};
-use std::rt::Files;
 
 /// Where the bytes of an item are.
 #[derive(Clone, Copy)]
@@ -103,7 +102,7 @@ impl SourcedItems {
     }
 
     /// Writes them below a directory of the host, with bytes of this salvage.
-    pub(crate) fn write<R: Files>(
+    pub(crate) fn write<R: PromptFiles>(
         &self,
         rt: &R,
         alloc: Global,

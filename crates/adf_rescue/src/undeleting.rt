@@ -12,11 +12,10 @@ use crate::placing::placed_entries;
 use crate::saving::Saving;
 use crate::undelete_fault::UndeleteFault;
 use adf_block::Image;
-use adf_host::OwnedFile;
+use adf_host::{OwnedFile, PromptFiles};
 use adf_salvage::{Undeleted, UndeletedEntries, undelete};
 use adf_words::UndeleteJob;
 use std::alloc::Global;
-use std::rt::Files;
 
 /// The deleted entries that arguments choose, the files and directories of the host for them, and the lines about them.
 #[derive(Drop)]
@@ -37,7 +36,7 @@ pub struct Undeletion {
 ///
 /// Time and memory grow as a sort of the blocks does, however deep the directories are: a path of more than 255 bytes is
 /// not told.
-pub fn undelete_entries<R: Files>(
+pub fn undelete_entries<R: PromptFiles>(
     rt: &R,
     alloc: Global,
     image: Image,

@@ -13,8 +13,9 @@ pub(crate) fn call<S>(
 ) -> Result<Reply<Answer>, PutRefused<Packet>>
 where
     S: Server<Request = Packet, Reply = Answer>,
-    requires { (count : ℕ) × IsQuiet exchange.old count }
-    ensures { (count : ℕ) → IsQuiet exchange.old count → CallGives S.gives S.has_died moment exchange.old count packet result exchange.new }
+    requires { (count : ℕ) × IsQuiet exchange.old.port count }
+    ensures { (count : ℕ) → IsQuiet exchange.old.port count
+        → CallGives S.gives S.has_died moment exchange.old.port count packet result exchange.new.port }
 {
     match exchange.step(Step::Put { client: 1, packet }) {
         Outcome::Accepted(_) => {}

@@ -32,12 +32,12 @@ fn run_lines<S, W>(
 where
     S: Server<Request = Packet, Reply = Answer>,
     W: Write,
-    requires quiet { IsQuiet exchange.old 0 }
+    requires quiet { IsQuiet exchange.old.port 0 }
     requires short { is_too_long script.now ≡ false }
     ensures whole { OnOk result
-        (WritesTold S.gives S.has_died exchange.old moment script.now true (W.contents writer.old) (W.contents writer.new)) }
+        (WritesTold S.gives S.has_died exchange.old.port moment script.now true (W.contents writer.old) (W.contents writer.new)) }
     ensures faulty { result ≡ Err TryFault.Script →
-        WritesTold S.gives S.has_died exchange.old moment script.now false (W.contents writer.old) (W.contents writer.new) }
+        WritesTold S.gives S.has_died exchange.old.port moment script.now false (W.contents writer.old) (W.contents writer.new) }
     ensures no_limit { result ≢ Err TryFault.TurnLimit }
 {
     let mut lines = PacketLines::of(script);

@@ -11,7 +11,8 @@ use Rattle.ados_model.specs.DiskDate.{sets_disk_date}
 use Rattle.ados_model.specs.Meaning.{Meaning}
 use Rattle.ados_model.specs.Packet.{dos_true}
 use Rattle.ados_model.specs.Objects.{disk_info}
-use Rattle.ados_model.specs.Session.{HandlerState, Session, opening_session}
+use Rattle.ados_model.specs.Session.{Session, opening_session}
+use Rattle.ados_handler.specs.HandlerState.{HandlerState}
 use Rattle.ados_model.specs.Tree.{Tree}
 use Rattle.ados_model.specs.declared.answer.Answer.{Answer}
 use Rattle.ados_model.specs.declared.answer.Body.TheVariants.{Disk}

@@ -25,7 +25,7 @@ use Rattle.adf_serve.specs.declared.look.Look.{Look}
 use Rattle.adf_serve.specs.declared.refusal.Refusal.{Refusal}
 use Rattle.adf_serve.specs.declared.refusal.DosRefusal.{DosRefusal}
 use Rattle.adf_serve.specs.Asked.{AnswersDisk}
-use Rattle.adf_serve.specs.Texts.{AreDeletedLines, AreEntryBlocks, AreOwnedBlocks, BeginsJobText, BeginsListOf, BeginsListText, IsJobText, IsListed, IsListOf, IsListText, shown_form, IsLook, IsLookText, IsInfoText, IsPrintText}
+use Rattle.adf_serve.specs.Texts.{AreDeletedLines, AreEntryBlocks, BeginsJobText, BeginsListOf, BeginsListText, IsJobText, IsListed, IsListOf, IsListText, shown_form, IsLook, IsLookText, IsInfoText, IsPrintText}
 use Rattle.adf_serve.specs.Faults.{IsBlankFault, IsNoImage, IsNoImageRefusal, IsNoRefusal, IsRefusedFor, IsToldAs, IsToldOut}
 use Rattle.adf_serve.specs.Commands.{Does, DoesJob, Ending, EndsJob, EndsOff, LeavesOff, Prints, prints, Tells, TellsFault, TellsJob, TellsOf, TellsSome}
 use Rattle.adf_serve.specs.Commands.Prints.{OnlyFaults, OfBlocks, OfBytes, OfImages, OfRescue, Unsaid}
@@ -42,11 +42,16 @@ use Rattle.adf_words.specs.declared.query.WhereJob.{WhereJob}
 use Rattle.adf_words.specs.declared.query.UndeleteJob.{UndeleteJob}
 use Rattle.adf_rescue.specs.declared.undeleting.Undeletion.{Undeletion}
 use Rattle.adf_rescue.specs.Undelete.{IsUndeletion, key_of}
-use Rattle.adf_where.specs.Where.{IsWhere, IsWhereOf}
+use Rattle.adf_block.specs.Image.{block_count}
+use Rattle.adf_where.specs.Faulty.{IsFaultyWhere, IsFaultyWhereBehind}
+use Rattle.adf_where.specs.Where.{IsWhere, IsWhereFault, IsWhereOf, LeavesWhere}
+use Rattle.adf_where.specs.declared.where_fault.WhereFault.{WhereFault}
+use Rattle.adf_where.specs.declared.where_fault.WhereFault.TheVariants as places
+use Rattle.adf_words.specs.declared.block_word.BlockWord.{BlockWord}
 use Rattle.adf_export.specs.Words.{LeadsTo}
 use Rattle.adf_serve.specs.Archives.{EndsArchive, IsToldArchive}
-use Rattle.adf_serve.specs.Placed.{DoesWhere, IsBareLine, IsUnplaced, IsWhereText, MayEnd}
-use Rattle.adf_serve.specs.Reports.{DoesReport, TellsReport}
+use Rattle.adf_serve.specs.Placed.{DoesWhere, IsBareLine, IsPlacedIn, IsUnasked, IsWhereText, LeavesPlaced, MayEnd}
+use Rattle.adf_serve.specs.Reports.{DoesReport, IsSomeText, TellsReport}
 use Rattle.adf_serve.specs.Rescues.{IsHostEnd, IsRescueText, IsSizeLine}
 use Rattle.adf_serve.specs.Refusals.{dos_line, IsDosText, IsImageRefusal, IsRefusalText, IsSizeRefusal, refusal_line, refused_line, told_line}
 
@@ -160,9 +165,31 @@ module _ (image : List ℕ) (was_validated : Bool) (checked : List ℕ) (a : Acc
   looked look text is =
       let s = accepted_tree image was_validated checked a in (was_validated, checked, s.0, a, s.1, is s.0 s.1)
 
-  pub blocks_told : (job : WhereJob) (text : List ℕ) → ((t : Tree) → Stands checked t → IsWhere job.json checked t job.blocks.items text) → AreOwnedBlocks job image text
-  blocks_told job text is =
-      let s = accepted_tree image was_validated checked a in (was_validated, checked, s.0, a, s.1, is s.0 s.1)
+  -- the owners of blocks, written whole, or as far as the writer accepts them
+  module _ (job : WhereJob) (words : List BlockWord) (asked : words ≡ job.blocks.items) (old new : Option (List ℕ)) where
+    owned : (t : Tree) → Stands checked t → (text : List ℕ) → IsWhere job.json checked t words text → IsWhereText job true text
+    owned t s text is = (image, (was_validated, checked, t, a, s, subst (λ (blocks : List BlockWord). IsWhere job.json checked t blocks text) asked is))
+
+    pub owners_written : ((t : Tree) → Stands checked t → Writes old new (IsWhere job.json checked t words)) → Writes old new (IsWhereText job true)
+    owners_written told =
+        let s = accepted_tree image was_validated checked a in
+        let w = told s.0 s.1 in (w.0, w.1, owned s.0 s.1 w.0 w.2)
+
+    pub owners_left : (fault : WhereFault) → ((t : Tree) → Stands checked t → LeavesWhere (IsWhere job.json checked t words) old new fault)
+        → Keeps old new ⊎ WritesFrontOf old new (IsSomeText (IsWhereText job))
+    owners_left fault told =
+        let s = accepted_tree image was_validated checked a in
+        go fault (told s.0 s.1)
+      where
+        some : (t : Tree) → Stands checked t → Keeps old new ⊎ WritesFrontOf old new (IsWhere job.json checked t words) → Keeps old new ⊎ WritesFrontOf old new (IsSomeText (IsWhereText job))
+        some t s (inl keeps) = inl keeps
+        some t s (inr (text, is, written)) = inr (text, (true, owned t s text is), written)
+
+        go : (fault : WhereFault) → LeavesWhere (IsWhere job.json checked (accepted_tree image was_validated checked a).0 words) old new fault
+            → Keeps old new ⊎ WritesFrontOf old new (IsSomeText (IsWhereText job))
+        go (places.NoBlock word) keeps = inl keeps
+        go places.Memory left = some (accepted_tree image was_validated checked a).0 (accepted_tree image was_validated checked a).1 left
+        go places.Output left = some (accepted_tree image was_validated checked a).0 (accepted_tree image was_validated checked a).1 left
 
   pub entry_told : (word : List ℕ) (key : ℕ) (text : List ℕ) → ((t : Tree) → Stands checked t → LeadsTo t word key) → ((t : Tree) → Stands checked t → IsWhereOf checked t key text)
       → AreEntryBlocks word image text
@@ -252,12 +279,13 @@ module _ (IsText : Bool → List ℕ → Type 0) (IsPlain : List ℕ → Type 0)
   report_unsaid old new fault may (ends, inl keeps) = (may, inl keeps)
   report_unsaid old new fault may (ends, inr (text, is, front)) = (may, inr (text, inl is, front))
 
-  -- nothing is written for a fault without a report
-  pub reports_nothing : (w : Option (List ℕ)) (fault : CommandFault) → IsNoRefusal fault → fault ≢ NotWhole → MayEnd fault → DoesReport IsText IsPlain MayEnd w w (Err fault)
-  reports_nothing w NotWhole plain other may = absurd (other refl)
-  reports_nothing w (Refused refusal) plain other may = absurd (cc plain)
-  reports_nothing w (Dos refusal) plain other may = Keeps-refl w
-  reports_nothing w fault plain other may = (may, inl (Keeps-refl w))
+  -- nothing is written, or a prefix of a report, at a fault without a line
+  pub report_left : (old new : Option (List ℕ)) (fault : CommandFault) → IsNoRefusal fault → fault ≢ NotWhole → MayEnd fault → Keeps old new ⊎ WritesFrontOf old new (IsSomeText IsText)
+      → DoesReport IsText IsPlain MayEnd old new (Err fault)
+  report_left old new NotWhole plain other may left = absurd (other refl)
+  report_left old new (Refused refusal) plain other may left = absurd (cc plain)
+  report_left old new (Dos refusal) plain other may left = absurd (cc plain)
+  report_left old new fault plain other may left = (may, left)
 
   -- nothing is written if no image was read
   no_image_reported : (w : Option (List ℕ)) (fault : CommandFault) → ((bytes text : List ℕ) → IsSizeRefusal bytes text → IsPlain text) → (IsNoImage fault → MayEnd fault) → IsNoImage fault
@@ -272,31 +300,10 @@ module _ (IsText : Bool → List ℕ → Type 0) (IsPlain : List ℕ → Type 0)
   reports_no_image w fault (Ok x) plain may is same = absurd same
   reports_no_image w fault (Err told) plain may is same = no_image_reported w told plain (may told) (subst IsNoImage (sym same) is)
 
-  -- a report is written, whole or as far as the writer accepts it
-  pub report_front : (whole : Bool) (old new : Option (List ℕ)) (text : List ℕ) (fault : CommandFault) → IsText whole text → WritesFront old new text → MayEnd Output → fault ≡ Output
-      → DoesReport IsText IsPlain MayEnd old new (Err fault)
-  report_front whole old new text fault is front may output = subst (λ (f : CommandFault). DoesReport IsText IsPlain MayEnd old new (Err f)) (sym output) (may, inr (text, (whole, is), front))
-
-  pub front_reported : (whole : Bool) (old new : Option (List ℕ)) (text : List ℕ) (fault : CommandFault) (done : Ending) → IsText whole text → WritesFront old new text → MayEnd Output → fault ≡ Output
-      → IsErrAnd done (λ told. told ≡ fault) → DoesReport IsText IsPlain MayEnd old new done
-  front_reported whole old new text fault (Ok x) is front may output same = absurd same
-  front_reported whole old new text fault (Err told) is front may output same = report_front whole old new text told is front may (same ∙ output)
-
-  pub reported : (old new : Option (List ℕ)) (text : List ℕ) (done : Ending) → IsText true text → OnOk done (Appends old new text) → OnErr done (WritesFront old new text)
-      → MayEnd Output → IfErr done (λ fault. fault ≡ Output) → DoesReport IsText IsPlain MayEnd old new done
-  reported old new text (Ok x) is told front may output = (text, told, is)
-  reported old new text (Err fault) is told front may output = report_front true old new text fault is front may output
-
 -- a rescue ends for the host only if it writes
 pub host_ends : (list : Bool) (fault : CommandFault) → IsNoImage fault → IsHostEnd fault list
 host_ends list (Extracted why) is = absurd is
 host_ends list fault is = tt
-
--- two texts that are pushed one after the other
-pub pushed : (text front none first second line rest : List ℕ) → text ≡ front ++ second → front ≡ none ++ first → none ≡ [] → first ≡ line → second ≡ rest → text ≡ line ++ rest
-pushed text front none first second line rest is front_is none_is first_is second_is =
-    let join = λ (a b : List ℕ). a ++ b in
-    is ∙ ap₂ join (front_is ∙ ap₂ join none_is first_is) second_is
 
 -- the report on a refused image, or why there is none
 module _ (job : WhereJob) (image : List ℕ) where
@@ -306,16 +313,60 @@ module _ (job : WhereJob) (image : List ℕ) where
   refusal_shown old fault refusal handed kind block memory =
       refused_for image fault (Refused refusal) (subst (λ (i : List ℕ). IsRefusal i fault) (sym handed.0) handed.1) (memory, ap₂ refused_line kind block)
 
-  unplaced : (w : Option (List ℕ)) (fault : CommandFault) → IsUnplaced job image fault → DoesWhere job w w (Err fault)
-  unplaced w (Refused refusal) is = (Keeps-refl w, (image, inr is))
-  unplaced w (Dos refusal) is = Keeps-refl w
-  unplaced w NotWhole is = absurd (cc is)
-  unplaced w fault is = (tt, inl (Keeps-refl w))
+  -- the line and the places, as the output for the refused image
+  module _ (refusal : Refusal) (line : List ℕ) (words : List BlockWord) (same : line ≡ refusal_line refusal) (asked : words ≡ job.blocks.items) (refused : IsImageRefusal image (refusal_line refusal))
+      (old new : Option (List ℕ)) where
+    is_placed : (text : List ℕ) → IsFaultyWhereBehind line job.json image words text → IsPlacedIn job image text
+    is_placed text (rest, told, is) = record {
+      line = refusal_line refusal;
+      refused = refused;
+      rest = rest;
+      placed = subst (λ (blocks : List BlockWord). IsFaultyWhere job.json image blocks rest) asked told;
+      text_is = is ∙ ap (λ (l : List ℕ). l ++ rest) same;
+    }
 
-  pub reports_unplaced : (w : Option (List ℕ)) (fault : CommandFault) (done : Ending) → IsUnplaced job image fault → IsErrAnd done (λ told. told ≡ fault)
-      → DoesWhere job w w done
-  reports_unplaced w fault (Ok x) is same = absurd same
-  reports_unplaced w fault (Err told) is same = unplaced w told (subst (IsUnplaced job image) (sym same) is)
+    pub placed_written : Writes old new (IsFaultyWhereBehind line job.json image words) → Writes old new (IsPlacedIn job image)
+    placed_written (text, written, told) = (text, written, is_placed text told)
+
+    some_placed : Keeps old new ⊎ WritesFrontOf old new (IsFaultyWhereBehind line job.json image words) → Keeps old new ⊎ WritesFrontOf old new (IsPlacedIn job image)
+    some_placed (inl keeps) = inl keeps
+    some_placed (inr (text, told, front)) = inr (text, is_placed text told, front)
+
+    pub placed_left : (fault : WhereFault) → LeavesWhere (IsFaultyWhereBehind line job.json image words) old new fault → Keeps old new ⊎ WritesFrontOf old new (IsPlacedIn job image)
+    placed_left (places.NoBlock word) keeps = inl keeps
+    placed_left places.Memory left = some_placed left
+    placed_left places.Output left = some_placed left
+
+    -- nothing, if an argument names no block
+    pub placed_none : (fault : WhereFault) (word : BlockWord) → fault ≡ places.NoBlock word → LeavesWhere (IsFaultyWhereBehind line job.json image words) old new fault
+        → IsWhereFault (block_count image) words fault → Keeps old new × IsUnasked job image (refusal_line refusal)
+    placed_none fault word is left none = (
+      subst (LeavesWhere (IsFaultyWhereBehind line job.json image words) old new) is left,
+      (
+        refused,
+        (
+          word,
+          subst (λ (blocks : List BlockWord). IsWhereFault (block_count image) blocks (places.NoBlock word)) asked (subst (IsWhereFault (block_count image) words) is none),
+        ),
+      ),
+    )
+
+  -- what a fault leaves of it, as the end of the command
+  module _ (old new : Option (List ℕ)) where
+    some_report : Keeps old new ⊎ WritesFrontOf old new (IsPlacedIn job image) → Keeps old new ⊎ WritesFrontOf old new (IsSomeText (IsWhereText job))
+    some_report (inl keeps) = inl keeps
+    some_report (inr (text, is, front)) = inr (text, (false, (image, is)), front)
+
+    left_ends : (fault : CommandFault) → LeavesPlaced job image old new fault → DoesWhere job old new (Err fault)
+    left_ends NotWhole (is, left) = absurd (cc is)
+    left_ends (Refused refusal) (keeps, is) = (keeps, (image, inr is))
+    left_ends (Dos refusal) (is, left) = absurd (cc is)
+    left_ends Memory left = (tt, some_report left)
+    left_ends fault (is, left) = (tt, some_report left)
+
+    pub placed_ends : (fault : CommandFault) (done : Ending) → LeavesPlaced job image old new fault → IsErrAnd done (λ told. told ≡ fault) → DoesWhere job old new done
+    placed_ends fault (Ok x) left same = absurd same
+    placed_ends fault (Err told) left same = left_ends told (subst (LeavesPlaced job image old new) (sym same) left)
 
 -- for jobs with such texts for bytes
 module _ (IsText BeginsText : List ℕ → List ℕ → Type 0) where

@@ -8,7 +8,8 @@ use Rattle.ados_model.specs.Stands.{Stands}
 use Rattle.ados_port.specs.History.{PortState, opening_port}
 use Rattle.ados_model.specs.declared.packet.Packet.{Packet}
 use Rattle.ados_model.specs.declared.answer.Answer.{Answer}
-use Rattle.ados_model.specs.Session.{Session, opening_session, HandlerState}
+use Rattle.ados_model.specs.Session.{Session, opening_session}
+use Rattle.ados_handler.specs.HandlerState.{HandlerState}
 use Rattle.ados_handler.specs.Gives.{HandlerGives}
 use Rattle.ados_run.specs.TreePort.{means, tree_died, over_tree}
 use Rattle.ados_run.specs.TreeLists.{handler_died}

@@ -1,5 +1,7 @@
 -- How `where` ends for blocks: the output for an accepted image, and for a refused one.
 use Rattle.std.specs.Prelude.{◌≡◌, ◌⊎◌, ℕ, Bool, true, false, List, ◌++◌, Option, Result, ⊤}
+use Rattle.std.specs.Io.KnownBytes.{Keeps}
+use Rattle.adf_io.specs.Prefix.{WritesFrontOf}
 use Rattle.adf_block.specs.Image.{block_count}
 use Rattle.adf_where.specs.declared.where_fault.WhereFault.TheVariants.{NoBlock}
 use Rattle.adf_where.specs.Faulty.{IsFaultyWhere}
@@ -7,7 +9,7 @@ use Rattle.adf_where.specs.Where.{IsWhereFault}
 use Rattle.adf_words.specs.declared.block_word.BlockWord.{BlockWord}
 use Rattle.adf_words.specs.declared.query.WhereJob.{WhereJob}
 use Rattle.adf_serve.specs.declared.fault.CommandFault.{CommandFault}
-use Rattle.adf_serve.specs.declared.fault.CommandFault.TheVariants.{Memory, Refused}
+use Rattle.adf_serve.specs.declared.fault.CommandFault.TheVariants.{Memory, Output, Refused}
 use Rattle.adf_serve.specs.Refusals.{IsImageRefusal, IsSizeRefusal, refusal_line}
 use Rattle.adf_serve.specs.Reports.{DoesReport, TellsReport}
 use Rattle.adf_serve.specs.Texts.{AreOwnedBlocks}
@@ -33,10 +35,11 @@ IsUnasked job image text = IsImageRefusal image text × ((word : BlockWord) × I
 abbrev pub IsBareLine : WhereJob → List ℕ → Type 0
 IsBareLine job text = (image : List ℕ) × (IsSizeRefusal image text ⊎ IsUnasked job image text)
 
--- why there is no text for a refused image
-abbrev pub IsUnplaced : WhereJob → List ℕ → CommandFault → Type 0
-IsUnplaced job image (Refused refusal) = IsUnasked job image (refusal_line refusal)
-IsUnplaced job image fault = fault ≡ Memory
+-- what such a fault leaves: nothing is written if an argument names no block; otherwise nothing, or a prefix of the output
+abbrev pub LeavesPlaced : WhereJob → List ℕ → Option (List ℕ) → Option (List ℕ) → CommandFault → Type 0
+LeavesPlaced job image old new (Refused refusal) = Keeps old new × IsUnasked job image (refusal_line refusal)
+LeavesPlaced job image old new Memory = Keeps old new ⊎ WritesFrontOf old new (IsPlacedIn job image)
+LeavesPlaced job image old new fault = (fault ≡ Output) × (Keeps old new ⊎ WritesFrontOf old new (IsPlacedIn job image))
 
 -- it may end by any fault without a line
 abbrev pub MayEnd : CommandFault → Type 0

@@ -8,7 +8,7 @@ use crate::changing::given_or_now;
 use crate::fault::CommandFault;
 use crate::images::write_held;
 use adf_block::{Format, size_ok};
-use adf_host::hold_target;
+use adf_host::{PromptFiles, hold_target};
 use adf_text::{LettersFault, letter_bytes};
 use ados_name::{Date3, Name};
 use ados_volume::{Volume, blank};
@@ -28,7 +28,7 @@ pub(crate) struct NewVolume<'a> {
 }
 
 /// Writes the image of a blank volume in place of a file. An existing file is locked meanwhile.
-pub(crate) fn make_blank<'a, R: Files<File = File> + Clock>(
+pub(crate) fn make_blank<'a, R: Files<File = File> + PromptFiles + Clock>(
     rt: &R,
     alloc: Global,
     new: NewVolume<'a>,

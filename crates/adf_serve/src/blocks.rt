@@ -1,10 +1,11 @@
 //! The command `where`.
-ghost use Rattle.std.specs.Prelude.{◌≢◌, ℕ, List, IfErr, IfOk};
+ghost use Rattle.std.specs.Prelude.{◌≢◌, ℕ, List, IfErr, OnOk};
 ghost use Rattle.ados_model.specs.Accepted.{Accepts};
 ghost use Rattle.adf_serve.specs.Commands.{TellsOf};
 ghost use Rattle.adf_serve.specs.Faults.{IsNoRefusal};
 ghost use Rattle.adf_serve.specs.declared.fault.CommandFault.TheVariants.{NotWhole};
-ghost use Rattle.adf_serve.specs.Placed.{DoesWhere, IsPlacedIn, IsUnplaced};
+ghost use Rattle.adf_io.specs.Prefix.{Writes};
+ghost use Rattle.adf_serve.specs.Placed.{DoesWhere, IsPlacedIn, LeavesPlaced};
 ghost use Rattle.adf_serve.specs.Refusals.{IsImageRefusal, refusal_line};
 ghost use Rattle.adf_serve.specs.Texts.{AreEntryBlocks};
 
@@ -15,8 +16,9 @@ use crate::output::tell;
 use crate::refusal::Refusal;
 use adf_archive::ReadImages;
 use adf_block::Image;
+use adf_host::PromptFiles;
 use adf_text::print_line;
-use adf_where::{WhereFault, faulty_where_text, where_path_text, where_text};
+use adf_where::{WhereFault, where_path_text, write_faulty_where, write_where};
 use adf_words::WhereJob;
 use ados_volume::{Volume, check};
 use std::alloc::Global;
@@ -34,7 +36,7 @@ pub(crate) fn tell_where<'a, R, W, F>(
     faults: &mut F,
 ) -> Result<(), CommandFault<'a>>
 where
-    R: Files<File = File> + ReadImages,
+    R: Files<File = File> + PromptFiles + ReadImages,
     W: Write,
     F: Write,
     ensures { DoesWhere job.now (W.contents writer.old) (W.contents writer.new) result }
@@ -47,9 +49,8 @@ where
     let Some(refusal) = Refusal::of_volume(rejected.fault) else {
         return Err(CommandFault::Memory);
     };
-    let text = placed_text(alloc, &rejected.image, refusal, job, faults)?;
+    tell_placed(alloc, &rejected.image, refusal, job, writer, faults)?;
     refusal.explain(rt, alloc, job.image, faults);
-    tell(writer, &text)?;
     Err(CommandFault::NotWhole)
 }
 
@@ -64,28 +65,28 @@ fn tell_owners<'a, W: Write>(
         DoesWhere job.now (W.contents writer.old) (W.contents writer.new) result }
 {
     let blocks = volume.image().blocks();
-    let text = match where_text(alloc, volume, &job.blocks, job.json) {
-        Ok(text) => text,
-        Err(fault) => return Err(no_block(alloc, fault, job.image.path, blocks)),
-    };
-    tell(writer, &text)
+    match write_where(alloc, volume, &job.blocks, job.json, writer) {
+        Ok(()) => Ok(()),
+        Err(fault) => Err(no_block(alloc, fault, job.image.path, blocks)),
+    }
 }
 
-/// The line of a refusal, and then the places that name blocks of the refused image, and the faults of these blocks. If an
-/// argument names no block, it says so on `faults`, and the refusal is what is left.
-fn placed_text<'a, F: Write>(
+/// Prints the line of a refusal, and then the places that name blocks of the refused image, and the faults of these blocks. If
+/// an argument names no block, it says so on `faults`, and the refusal is what is left.
+fn tell_placed<'a, W: Write, F: Write>(
     alloc: Global,
     image: &Image,
     refusal: Refusal,
     job: &WhereJob<'a>,
+    writer: &mut W,
     faults: &mut F,
-) -> Result<Vec<u8>, CommandFault<'a>>
-    ensures text { IfOk result (λ text. IsImageRefusal image.now (refusal_line refusal) → IsPlacedIn job.now image.now text.items) }
-    ensures fault { IfErr result (λ fault. IsImageRefusal image.now (refusal_line refusal) → IsUnplaced job.now image.now fault) }
+) -> Result<(), CommandFault<'a>>
+    ensures ok { OnOk result (IsImageRefusal image.now (refusal_line refusal) → Writes (W.contents writer.old) (W.contents writer.new) (IsPlacedIn job.now image.now)) }
+    ensures fault { IfErr result (λ fault. IsImageRefusal image.now (refusal_line refusal) → LeavesPlaced job.now image.now (W.contents writer.old) (W.contents writer.new) fault) }
 {
-    let placed = match faulty_where_text(alloc, image, &job.blocks, job.json) {
-        Ok(placed) => placed,
-        Err(WhereFault::Memory) => return Err(CommandFault::Memory),
+    let line = refusal.line(alloc)?;
+    match write_faulty_where(alloc, image, &job.blocks, job.json, line.as_str(), writer) {
+        Ok(()) => Ok(()),
         Err(WhereFault::NoBlock(word)) => {
             let fault = no_block(
                 alloc,
@@ -94,17 +95,14 @@ fn placed_text<'a, F: Write>(
                 image.blocks(),
             );
             print_line(faults, format_args!("adf_serve: {fault}"));
-            return Err(CommandFault::Refused(refusal));
+            Err(CommandFault::Refused(refusal))
         }
-    };
-    let line = refusal.line(alloc)?;
-    let mut text = Vec::new(alloc);
-    text.extend_from_slice(line.as_bytes())?;
-    text.extend_from_slice(&placed)?;
-    Ok(text)
+        Err(WhereFault::Memory) => Err(CommandFault::Memory),
+        Err(WhereFault::Output) => Err(CommandFault::Output),
+    }
 }
 
-/// The fault of an argument that names no block of a file's image, which has so many.
+/// The fault of an argument that names no block of a file's image, which has so many; or that of memory or of the output.
 fn no_block<'a>(alloc: Global, fault: WhereFault, file: &'a str, blocks: u32) -> CommandFault<'a>
     ensures plain { IsNoRefusal result }
     ensures other { result ≢ NotWhole }
@@ -115,6 +113,7 @@ fn no_block<'a>(alloc: Global, fault: WhereFault, file: &'a str, blocks: u32) ->
             Err(_) => CommandFault::Memory,
         },
         WhereFault::Memory => CommandFault::Memory,
+        WhereFault::Output => CommandFault::Output,
     }
 }
 

@@ -5,7 +5,7 @@ use crate::fault::CommandFault;
 use crate::images::{Work, accept, open_volume};
 use crate::refusal::Refusal;
 use adf_block::{Image, boot_bytes, boot_image, install_standard};
-use adf_host::{refuse_length, why_unreadable};
+use adf_host::{PromptFiles, refuse_length, why_unreadable};
 use adf_io::read_bounded;
 use adf_words::{BootBlock, ImageFile, Rewrite};
 use host_trees::{WriteFault, WriteWhy};
@@ -18,7 +18,7 @@ use std::rt::{Clock, Files};
 const BOOT_BYTES: usize = 1_024;
 
 /// Installs a boot block in an image file that is accepted, or removes it.
-pub(crate) fn change_boot<'a, R: Files<File = File> + Clock>(
+pub(crate) fn change_boot<'a, R: Files<File = File> + PromptFiles + Clock>(
     rt: &R,
     alloc: Global,
     target: Rewrite<'a>,
@@ -97,7 +97,7 @@ fn read_code<'a, R: Files>(
 }
 
 /// Writes the boot block of an image file that is accepted to a new file of the host.
-pub(crate) fn save_boot<'a, R: Files<File = File>>(
+pub(crate) fn save_boot<'a, R: Files<File = File> + PromptFiles>(
     rt: &R,
     alloc: Global,
     image: ImageFile<'a>,
@@ -115,7 +115,11 @@ pub(crate) fn save_boot<'a, R: Files<File = File>>(
 }
 
 /// Writes a new file. What is there already stays. A file that cannot be written whole is removed.
-fn write_new<R: Files<File = File>>(rt: &R, path: &str, bytes: &[u8]) -> Result<(), WriteWhy> {
+fn write_new<R: Files<File = File> + PromptFiles>(
+    rt: &R,
+    path: &str,
+    bytes: &[u8],
+) -> Result<(), WriteWhy> {
     refuse_length(rt, bytes.len() as u64)?;
     let file = match File::create_new(rt, path) {
         Ok(file) => file,

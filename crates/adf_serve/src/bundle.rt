@@ -3,6 +3,7 @@
 use crate::fault::CommandFault;
 use crate::images::{Work, accept, open_volume};
 use adf_export::extract_bundle;
+use adf_host::PromptFiles;
 use adf_import::add_bundle;
 use adf_words::{ImageFile, Rewrite};
 use std::alloc::Global;
@@ -10,7 +11,7 @@ use std::fs::File;
 use std::rt::{Clock, Files};
 
 /// Writes everything in an image file to a new directory of the host.
-pub(crate) fn take_bundle<'a, R: Files<File = File>>(
+pub(crate) fn take_bundle<'a, R: Files<File = File> + PromptFiles>(
     rt: &R,
     alloc: Global,
     image: ImageFile<'a>,
@@ -24,7 +25,7 @@ pub(crate) fn take_bundle<'a, R: Files<File = File>>(
 }
 
 /// Makes the volume that a directory of the host describes, in place of the empty volume of an image file.
-pub(crate) fn put_bundle<'a, R: Files<File = File> + Clock>(
+pub(crate) fn put_bundle<'a, R: Files<File = File> + PromptFiles + Clock>(
     rt: &R,
     alloc: Global,
     target: Rewrite<'a>,

@@ -5,6 +5,7 @@ ghost use Rattle.adf_serve.specs.Faults.{IsNoRefusal};
 use crate::explaining::explained;
 use crate::fault::CommandFault;
 use crate::images::{Work, accept};
+use adf_host::PromptFiles;
 use adf_import::{SourceFault, StandardInput, change_volume};
 use adf_text::print_line;
 use adf_words::{Change, ChangeJob, Source};
@@ -23,7 +24,7 @@ pub(crate) fn change<'a, R, F>(
     faults: &mut F,
 ) -> Result<(), CommandFault<'a>>
 where
-    R: Files<File = File> + Clock + StandardInput,
+    R: Files<File = File> + PromptFiles + Clock + StandardInput,
     F: Write,
 {
     if reads_input(&job.change) && !rt.has_standard_input() {

@@ -5,6 +5,7 @@ ghost use Rattle.adf_serve.specs.Texts.{AreDeletedLines};
 use crate::fault::CommandFault;
 use crate::output::tell;
 use adf_block::Image;
+use adf_host::PromptFiles;
 use adf_rescue::undelete_entries;
 use adf_words::UndeleteJob;
 use std::alloc::Global;
@@ -13,7 +14,7 @@ use std::io::Write;
 use std::rt::Files;
 
 /// Writes deleted entries of an image to files and directories of the host, and prints a line for each.
-pub(crate) fn tell_deleted<'a, R: Files<File = File>, W: Write>(
+pub(crate) fn tell_deleted<'a, R: Files<File = File> + PromptFiles, W: Write>(
     rt: &R,
     alloc: Global,
     image: Image,

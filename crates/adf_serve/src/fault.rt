@@ -28,7 +28,7 @@ use thiserror::Error;
 pub enum CommandFault<'a> {
     #[error("cannot read '{0}': {1}")]
     Read(&'a str, ReadReason),
-    #[error("'{0}' gave no end within 2,097,152 reads")]
+    #[error("'{0}' did not end after 2,097,152 reads")]
     Endless(&'a str),
     #[error("cannot write '{0}': {1}")]
     Write(&'a str, ReplaceFault),
@@ -45,7 +45,7 @@ pub enum CommandFault<'a> {
     Memory,
     #[error("a volume has 16 to 101,602 blocks, and not {}", Grouped(u64::from(*.0)))]
     Blocks(u32),
-    #[error("'{0}' is no name of a volume, which has 1 to 30 bytes without `/` and `:`")]
+    #[error("'{0}' is not a volume name, which has 1 to 30 bytes without `/` and `:`")]
     Name(&'a str),
     #[error("'{0}' has a letter past U+00FF, which stands for no byte")]
     Letter(String),

@@ -7,7 +7,7 @@ use crate::fault::CommandFault;
 use crate::refusal::Refusal;
 use adf_block::Image;
 use adf_host::{
-    HeldFile, HoldFault, ReadReason, hold, hold_target, read_image_file, replace_file,
+    HeldFile, HoldFault, PromptFiles, ReadReason, hold, hold_target, read_image_file, replace_file,
     why_no_image, why_unreadable,
 };
 use adf_io::{LoadFault, Loaded};
@@ -83,7 +83,7 @@ pub(crate) fn accept<'a>(alloc: Global, image: Image) -> Result<Volume, CommandF
 }
 
 /// Writes an image, and then what is behind it, whole in place of a file. The file is locked if possible.
-pub(crate) fn write_image<'a, R: Files<File = File>>(
+pub(crate) fn write_image<'a, R: Files<File = File> + PromptFiles>(
     rt: &R,
     alloc: Global,
     image: &Image,
@@ -100,7 +100,7 @@ pub(crate) fn write_image<'a, R: Files<File = File>>(
 }
 
 /// Writes an image, and then what is behind it, whole in place of a file that was locked for it, if it exists.
-pub(crate) fn write_held<'a, R: Files<File = File>>(
+pub(crate) fn write_held<'a, R: Files<File = File> + PromptFiles>(
     rt: &R,
     alloc: Global,
     image: &Image,
@@ -140,7 +140,7 @@ impl Drop for Work<'_> {
 impl<'a> Work<'a> {
     /// Starts to change an image file: locks it, and reads it once. The new image goes to `out`, or else to the file itself, and
     /// what is behind the image goes with it.
-    pub(crate) fn begin<R: Files<File = File> + Clock>(
+    pub(crate) fn begin<R: Files<File = File> + PromptFiles + Clock>(
         rt: &R,
         alloc: Global,
         target: Rewrite<'a>,
@@ -159,7 +159,7 @@ impl<'a> Work<'a> {
     }
 
     /// Locks an image file to change, and the file for the new image: `out`, or else the file itself.
-    fn lock<R: Files<File = File> + Clock>(
+    fn lock<R: Files<File = File> + PromptFiles + Clock>(
         rt: &R,
         alloc: Global,
         target: Rewrite<'a>,
@@ -199,7 +199,7 @@ impl<'a> Work<'a> {
     }
 
     /// Writes the new image and ends the work.
-    pub(crate) fn end<R: Files<File = File>>(
+    pub(crate) fn end<R: Files<File = File> + PromptFiles>(
         self,
         rt: &R,
         alloc: Global,
@@ -220,7 +220,7 @@ impl<'a> Work<'a> {
 
 /// Refuses to write over a regular file that is neither empty nor begins as an image does. One that cannot be read may be
 /// precious too.
-fn refuse_precious<'a, R: Files<File = File>>(
+fn refuse_precious<'a, R: Files<File = File> + PromptFiles>(
     rt: &R,
     out: &'a str,
     held: Option<&mut HeldFile>,

@@ -15,6 +15,7 @@ use crate::screen::Screen;
 use crate::serving::serve;
 use crate::validate::validate_file;
 use adf_archive::{ReadImages, check_archive};
+use adf_host::PromptFiles;
 use adf_import::StandardInput;
 use adf_words::ImageJob;
 use std::alloc::Global;
@@ -36,7 +37,7 @@ pub fn run_job<'a, R, W, F>(
     faults: &mut F,
 ) -> Result<(), CommandFault<'a>>
 where
-    R: Files<File = File> + Clock + Threads + Wait + ReadImages + StandardInput + Copy + Send + Sync + Drop + 'static,
+    R: Files<File = File> + PromptFiles + Clock + Threads + Wait + ReadImages + StandardInput + Copy + Send + Sync + Drop + 'static,
     W: Write,
     F: Write,
     ensures { DoesJob job.now (W.contents writer.old) (W.contents writer.new) result }

@@ -12,6 +12,7 @@ use crate::images::{accept, open_volume};
 use crate::refusal::{Detail, DosRefusal};
 use adf_block::Image;
 use adf_export::{OutFault, extract, locate_word, print_file, write_list};
+use adf_host::PromptFiles;
 use adf_words::{ExtractJob, ListForm, ListJob};
 use ados_volume::Volume;
 use std::alloc::Global;
@@ -107,7 +108,7 @@ fn unprinted<'a>(
 }
 
 /// Writes entries of an image file to files and directories of the host.
-pub(crate) fn take_out<'a, R: Files<File = File>>(
+pub(crate) fn take_out<'a, R: Files<File = File> + PromptFiles>(
     rt: &R,
     alloc: Global,
     job: &ExtractJob<'a>,

@@ -9,6 +9,7 @@ use crate::images::read_image;
 use crate::info::tell_info;
 use crate::look::{Look, tell_look};
 use crate::moving::{tell_bytes, tell_list};
+use adf_host::PromptFiles;
 use adf_words::{ImageFile, ListJob, UndeleteJob};
 use std::alloc::Global;
 use std::fs::File;
@@ -33,7 +34,7 @@ pub(crate) enum Query<'a, 'b> {
 }
 
 /// Prints what is asked of the image of a file. With `styled` text for people has bold letters.
-pub(crate) fn print_query<'a, R: Files<File = File>, W: Write>(
+pub(crate) fn print_query<'a, R: Files<File = File> + PromptFiles, W: Write>(
     rt: &R,
     alloc: Global,
     file: ImageFile<'a>,

@@ -7,7 +7,7 @@ ghost use Rattle.adf_serve.specs.Rescues.{DoesRescue, IsRescueEnd};
 use crate::fault::CommandFault;
 use crate::images::{read_image, unread};
 use adf_block::Image;
-use adf_host::read_filled_file;
+use adf_host::{PromptFiles, read_filled_file};
 use adf_io::{Filled, PrintFault, write_output};
 use adf_record::Grouped;
 use adf_rescue::{Doubt, Rescue, RescueFault, extract_damaged};
@@ -27,7 +27,7 @@ pub(crate) fn take_rescue<'a, R, W, F>(
     faults: &mut F,
 ) -> Result<(), CommandFault<'a>>
 where
-    R: Files<File = File>,
+    R: Files<File = File> + PromptFiles,
     W: Write,
     F: Write,
     ensures { DoesRescue job.now (W.contents writer.old) (W.contents writer.new) result }
@@ -75,7 +75,7 @@ fn tell_missing<F: Write>(path: &str, blocks: u32, filled: &Filled, faults: &mut
     print_line(
         faults,
         format_args!(
-            "adf_serve: '{path}' has {found} of the {all} bytes of its {blocks} blocks: zeros are taken for the others"
+            "adf_serve: '{path}' has {found} of the {all} bytes of its {blocks} blocks: missing bytes are read as zeros"
         ),
     );
 }
@@ -117,9 +117,7 @@ fn tell_unaccounted<F: Write>(alloc: Global, rescue: &Rescue, faults: &mut F) {
         if !ranges.is_empty() {
             print_line(
                 faults,
-                format_args!(
-                    "adf_serve: blocks that are used, but belong to nothing that is told:"
-                ),
+                format_args!("adf_serve: blocks in use that belong to no reported entry:"),
             );
             let _ = write_output(&ranges, faults);
         }
@@ -147,10 +145,11 @@ const BLOCKS: &str =
 const GONE: &str = "doubtful: its header is gone, and it is made of the data blocks that name it";
 
 /// A file is cut short because of the bound for all of them.
-const CUT: &str = "cut short: all files that are not whole have four times the bytes of the image";
+const CUT: &str =
+    "cut short: incomplete files may have at most four times the bytes of the image in all";
 
 /// The rescue of an image.
-fn rescue_of<'a, R: Files<File = File>>(
+fn rescue_of<'a, R: Files<File = File> + PromptFiles>(
     rt: &R,
     alloc: Global,
     image: Image,

@@ -4,7 +4,7 @@ ghost use Rattle.std.specs.Prelude.{◌≡◌, length, IfOk};
 use crate::changing::given_or_now;
 use crate::fault::CommandFault;
 use crate::images::{accept, read_loaded, write_held};
-use adf_host::{HeldFile, HoldFault, hold_target, why_unreadable};
+use adf_host::{HeldFile, HoldFault, PromptFiles, hold_target, why_unreadable};
 use adf_io::{Loaded, read_bounded, write_output};
 use adf_script::{LONGEST_SCRIPT, read_script};
 use adf_words::{ServeJob, last_number, tell_faulty_line};
@@ -53,7 +53,7 @@ pub(crate) fn serve<'a, R, W, F>(
     faults: &mut F,
 ) -> Result<(), CommandFault<'a>>
 where
-    R: Files<File = File> + Clock + Threads + Wait + Copy + Send + Drop + 'static,
+    R: Files<File = File> + PromptFiles + Clock + Threads + Wait + Copy + Send + Drop + 'static,
     W: Write,
     F: Write,
 {
@@ -130,7 +130,7 @@ fn tell_faulty_script<F: Write>(
 }
 
 /// Prints the output of each client, writes the image and what is behind it if requested, and judges how the clients ended.
-fn finish<'a, R: Files<File = File>, W: Write>(
+fn finish<'a, R: Files<File = File> + PromptFiles, W: Write>(
     rt: &R,
     alloc: Global,
     served: &VolumeServed,

@@ -9,6 +9,7 @@ use crate::fault::CommandFault;
 use crate::images::Work;
 use crate::output::tell;
 use adf_block::Image;
+use adf_host::PromptFiles;
 use adf_words::Rewrite;
 use ados_mend::{NotValidated, Validated, validate};
 use std::alloc::Global;
@@ -17,7 +18,7 @@ use std::io::Write;
 use std::rt::{Clock, Files};
 
 /// Writes the bitmap of an image file anew. It then prints how many bits changed.
-pub(crate) fn validate_file<'a, R: Files<File = File> + Clock, W: Write>(
+pub(crate) fn validate_file<'a, R: Files<File = File> + PromptFiles + Clock, W: Write>(
     rt: &R,
     alloc: Global,
     target: Rewrite<'a>,

@@ -9,6 +9,7 @@ use crate::output::end_job;
 use crate::screen::Screen;
 use crate::script::{faulty_number, try_script};
 use adf_archive::ReadImages;
+use adf_host::PromptFiles;
 use adf_import::StandardInput;
 use adf_script::{TryFault, read_script};
 use adf_text::{print_line, print_lines};
@@ -36,6 +37,7 @@ pub fn run_words<T, R, W, F>(
 ) -> u8
 where
     T: Files<File = File>
+        + PromptFiles
         + Clock
         + Env
         + Threads

@@ -1,5 +1,13 @@
--- Lemmas about owned blocks, the faults of a block, and a loop over a `zip`.
+-- Lemmas about owned blocks, their paths, the faults and the places of a block, a loop over a `zip`, and texts in parts.
 pub mod Common
 pub mod Belonging
 pub mod FaultsThere
+mod AskedPlaces
+mod Deep
+mod Leaving
+mod Objects
+mod Parts
+mod Passing
+mod TellingFaulty
+mod TellingOwned
 mod Zipped

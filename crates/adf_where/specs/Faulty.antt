@@ -41,8 +41,8 @@ pub record IsFaultyBlock (image : List ℕ) (more : Bool) (block : ℕ) (told : 
   pub block_is : told.block ≡ block
   pub more_is : told.more ≡ more
   pub root : told.is_root ≡ (block == root_of image)
-  pub places : AreAllPlaces image block told.places.items
-  pub faults : AreFaultsAt image block more told.faults.items
+  pub places : AreAllPlaces image block told.places.now
+  pub faults : AreFaultsAt image block more told.faults.now
 
 -- `of block N`
 abbrev pub of_block : ℕ → List ℕ
@@ -63,7 +63,7 @@ place_words place = naming_words place.naming place
 abbrev pub first_words : FaultyBlock → Option (List ℕ)
 first_words told =
     if nat_lt told.block BOOT_BLOCKS then Some (codes "boot block")
-    else (if told.is_root then Some (codes "root") else (if length told.places.items == 0 then Some (codes "named by nothing") else None))
+    else (if told.is_root then Some (codes "root") else (if length told.places.now == 0 then Some (codes "named by nothing") else None))
 
 -- a line of a block
 abbrev pub block_line : ℕ → ℕ → List ℕ → List ℕ
@@ -74,7 +74,7 @@ first_line blocks told = option_map_or (block_line blocks told.block) (first_wor
 
 -- a line for each place
 abbrev pub place_lines : ℕ → FaultyBlock → List ℕ
-place_lines blocks told = flat_map (λ place. block_line blocks told.block (place_words place)) told.places.items
+place_lines blocks told = flat_map (λ place. block_line blocks told.block (place_words place)) told.places.now
 
 -- `BLOCK  fault KIND`
 abbrev pub fault_line : VolumeFault → List ℕ
@@ -86,7 +86,7 @@ more_line more block = if more then decimal block ++ codes "  more\n" else []
 
 -- the lines of a block
 abbrev pub block_lines : ℕ → FaultyBlock → List ℕ
-block_lines blocks told = first_line blocks told ++ (place_lines blocks told ++ (flat_map fault_line told.faults.items ++ more_line told.more told.block))
+block_lines blocks told = first_line blocks told ++ (place_lines blocks told ++ (flat_map fault_line told.faults.now ++ more_line told.more told.block))
 
 -- what a place makes of the block that it names, as one word
 abbrev pub naming_word : Naming → List ℕ
@@ -116,7 +116,7 @@ faults_tokens faults = key (codes "faults") ∷ array_of fault_word faults
 -- the object of a block
 abbrev pub faulty_tokens : ℕ → FaultyBlock → List Token
 faulty_tokens blocks told =
-    begin_object ∷ place_tokens blocks told.block ++ (places_tokens told.places.items ++ (faults_tokens told.faults.items ++ key (codes "more") ∷ boolean told.more ∷ end_object ∷ []))
+    begin_object ∷ place_tokens blocks told.block ++ (places_tokens told.places.now ++ (faults_tokens told.faults.now ++ key (codes "more") ∷ boolean told.more ∷ end_object ∷ []))
 
 -- what is told of blocks in one of the forms
 abbrev pub faulty_of : Bool → ℕ → List FaultyBlock → List ℕ
@@ -130,3 +130,7 @@ pub record IsFaultyWhere (json : Bool) (image : List ℕ) (words : List BlockWor
   pub told : List FaultyBlock
   pub are_told : AllZip (IsFaultyBlock image more) blocks told
   pub text_is : text ≡ faulty_of json (block_count image) told
+
+-- the text is a line, and behind it such a text
+abbrev pub IsFaultyWhereBehind : List ℕ → Bool → List ℕ → List BlockWord → List ℕ → Type 0
+IsFaultyWhereBehind line json image words text = (rest : List ℕ) × IsFaultyWhere json image words rest × (text ≡ line ++ rest)

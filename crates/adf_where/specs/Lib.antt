@@ -1,3 +1,4 @@
--- Who owns a block: of an image that is accepted, and of one that is not.
+-- Who owns a block: of an image that is accepted, and of one that is not. Definitions for steps are in `steps`.
 pub mod Where
 pub mod Faulty
+pub mod steps

@@ -1,5 +1,5 @@
 -- Who owns a block, and the blocks of an entry.
-use Rattle.std.specs.Prelude.{◌≡◌, ⊤, ℕ, ◌+◌, ◌*◌, ◌-◌, ◌/◌, ◌%◌, ◌==◌, ◌&&◌, nat_lt, min, Bool, false, if◌then◌else◌, List, [], ◌∷◌, ◌++◌, flat_map, map, take, slice_get, codes, decimal, Option, Some, None, option_map}
+use Rattle.std.specs.Prelude.{◌≡◌, ⊤, ℕ, ◌+◌, ◌*◌, ◌-◌, ◌/◌, ◌%◌, ◌==◌, ◌&&◌, ◌⊎◌, nat_lt, min, Bool, false, if◌then◌else◌, List, [], ◌∷◌, ◌++◌, flat_map, length, map, take, slice_get, codes, decimal, Option, Some, None, option_map}
 use Rattle.std.specs.Option.{option_map_or}
 use Rattle.std.specs.String.{string_bytes}
 use Rattle.json.specs.Token.{Token, begin_array, begin_object, end_array, end_object, key, number, string}
@@ -15,9 +15,12 @@ use Rattle.adf_words.specs.declared.block_word.BlockWord.TheVariants.{Number, Se
 use Rattle.adf_words.specs.declared.floppy.TheConstants.{DOUBLE_TRACK, HEADS, HIGH_DENSITY, HIGH_TRACK}
 use Rattle.adf_record.specs.Members.{number_token, string_token}
 use Rattle.adf_where.specs.declared.owned.OwnedBlock.{OwnedBlock}
+use Rattle.adf_where.specs.declared.short_path.TheConstants.{LONGEST_PATH}
 use Rattle.adf_where.specs.declared.owned.Span.{Span}
 use Rattle.adf_where.specs.declared.where_fault.WhereFault.{WhereFault}
-use Rattle.adf_where.specs.declared.where_fault.WhereFault.TheVariants.{Memory, NoBlock}
+use Rattle.adf_where.specs.declared.where_fault.WhereFault.TheVariants.{NoBlock}
+use Rattle.adf_io.specs.Prefix.{WritesFrontOf}
+use Rattle.std.specs.Io.KnownBytes.{Keeps}
 use Rattle.adf_text.specs.Ranges.{ranges}
 use Rattle.adf_export.specs.Listing.{path_of}
 
@@ -44,7 +47,7 @@ AreNamed blocks words found = map (named blocks) words ≡ map Some found
 abbrev pub IsWhereFault : ℕ → List BlockWord → WhereFault → Type 0
 IsWhereFault blocks words (NoBlock word) =
     (n : ℕ) × (before : List ℕ) × (slice_get words n ≡ Some word) × (named blocks word ≡ None) × AreNamed blocks (take n words) before
-IsWhereFault blocks words Memory = ⊤
+IsWhereFault blocks words fault = ⊤
 
 -- the entry that a block with this owner belongs to, if it belongs to one
 abbrev pub entry_of : ℕ → Owner → Option ℕ
@@ -54,9 +57,14 @@ entry_of block (Data file k) = Some file
 entry_of block (Extension file k) = Some file
 entry_of block owner = None
 
--- the path of an entry in letters
+-- a path in letters, if it is not too long
+abbrev pub short_path : List ℕ → Option (List ℕ)
+short_path path = if nat_lt LONGEST_PATH (length path) then None else Some (letters path)
+
+-- the path of an entry in letters, if it is not too long
 abbrev pub entry_path : Tree → Option ℕ → Option (List ℕ)
-entry_path t entry = option_map (λ entry. letters (path_of t entry)) entry
+entry_path t None = None
+entry_path t (Some entry) = short_path (path_of t entry)
 
 -- the bytes of its file that are in a data block
 abbrev pub span_of : Tree → Owner → Option Span
@@ -115,14 +123,20 @@ owner_text (Extension file k) = codes "extension " ++ (decimal k ++ codes " of "
 owner_text Lost = codes "lost"
 owner_text Free = codes "free"
 
--- the path, with escapes for control characters
-abbrev pub path_text : Option (List ℕ) → List ℕ
-path_text path = option_map_or (plain false) path []
-
 -- the slash behind the path of a directory
 abbrev pub slash : Owner → List ℕ
 slash Directory = codes "/"
 slash owner = []
+
+-- an entry by its header block
+abbrev pub header_text : ℕ → List ℕ
+header_text entry = codes "the entry at block " ++ decimal entry
+
+-- the path of the entry that the block belongs to, with escapes for control characters, and a slash behind that of a
+-- directory; if the path is too long, the header block; nothing for other blocks
+abbrev pub path_text : ℕ → Owner → Option (List ℕ) → List ℕ
+path_text block owner (Some path) = plain false path ++ slash owner
+path_text block owner None = option_map_or header_text (entry_of block owner) []
 
 -- the bytes in a data block
 abbrev pub bytes_text : Span → List ℕ
@@ -134,7 +148,7 @@ span_text span = option_map_or bytes_text span []
 -- the line of a block
 abbrev pub where_line : ℕ → Told → List ℕ
 where_line blocks told =
-    place_text blocks told.block ++ owner_text told.owner ++ path_text told.path ++ slash told.owner ++ span_text told.span ++ codes "\n"
+    place_text blocks told.block ++ owner_text told.owner ++ path_text told.block told.owner told.path ++ span_text told.span ++ codes "\n"
 
 -- what the block is, as one word
 abbrev pub owner_word : Owner → List ℕ
@@ -193,6 +207,11 @@ pub record IsWhere (json : Bool) (image : List ℕ) (t : Tree) (words : List Blo
   pub told : List Told
   pub are_told : AreTold t owners blocks told
   pub text_is : text ≡ where_of json t.blocks told
+
+-- nothing is written if an argument names no block; otherwise nothing, or a prefix of such a text
+abbrev pub LeavesWhere : (IsText : List ℕ → Type 0) → Option (List ℕ) → Option (List ℕ) → WhereFault → Type 0
+LeavesWhere IsText old new (NoBlock word) = Keeps old new
+LeavesWhere IsText old new fault = Keeps old new ⊎ WritesFrontOf old new IsText
 
 -- a block with this owner belongs to the file or directory with this key; the root is its own
 abbrev pub belongs : ℕ → ℕ → Owner → Bool

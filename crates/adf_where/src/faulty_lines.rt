@@ -4,27 +4,12 @@ ghost use Rattle.std.specs.String.{string_bytes};
 ghost use Rattle.adf_where.specs.Faulty.{block_line, fault_line, first_line, first_words, more_line, place_lines, place_words};
 
 use crate::faulty::FaultyBlock;
-use crate::forms::Tell;
 use crate::where_lines::place_text;
 use adf_archive::kind_word;
 use adf_block::layout::{BOOT_BLOCKS, FIRST_PAGE, FIRST_POINTER};
 use ados_mend::{Naming, Place};
 use ados_model::VolumeFault;
 use std::alloc::{AllocError, Global};
-
-impl Tell for FaultyBlock {
-    ghost use Rattle.adf_where.specs.Faulty.{block_lines};
-
-    ghost lines_of = { block_lines };
-
-    /// Appends the lines of a block.
-    fn push_lines(&self, alloc: Global, text: &mut Vec<u8>, blocks: u32) -> Result<(), AllocError> {
-        push_first(alloc, text, blocks, self)?;
-        push_places(alloc, text, blocks, self)?;
-        push_faults(alloc, text, &self.faults)?;
-        push_more(alloc, text, self.more, self.block)
-    }
-}
 
 /// Appends a line of a block.
 fn push_line(
@@ -44,11 +29,11 @@ fn push_line(
 }
 
 /// Appends the line before the places of a block, if there is one.
-fn push_first(
+pub(crate) fn push_first(
     alloc: Global,
     text: &mut Vec<u8>,
     blocks: u32,
-    told: &FaultyBlock,
+    told: &FaultyBlock<'_>,
 ) -> Result<(), AllocError>
     ensures { OnOk result (text.new.items ≡ text.old.items ++ first_line blocks told.now) }
 {
@@ -59,7 +44,7 @@ fn push_first(
 }
 
 /// What is said of a block before its places: what it always is, or that nothing names it.
-fn first_words(told: &FaultyBlock) -> Option<&'static str>
+fn first_words(told: &FaultyBlock<'_>) -> Option<&'static str>
     ensures { option_map (λ words. words.now) result ≡ first_words told.now }
 {
     if told.block < BOOT_BLOCKS {
@@ -74,20 +59,18 @@ fn first_words(told: &FaultyBlock) -> Option<&'static str>
     None
 }
 
-/// Appends a line for each place.
-fn push_places(
+/// Appends the line of a place that names a block.
+pub(crate) fn push_place_line(
     alloc: Global,
     text: &mut Vec<u8>,
     blocks: u32,
-    told: &FaultyBlock,
+    block: u32,
+    place: Place,
 ) -> Result<(), AllocError>
-    ensures { OnOk result (text.new.items ≡ text.old.items ++ place_lines blocks told.now) }
+    ensures { OnOk result (text.new.items ≡ text.old.items ++ block_line blocks block (place_words place)) }
 {
-    for place in &told.places {
-        let words = place_words(alloc, *place)?;
-        push_line(alloc, text, blocks, told.block, words.as_str())?;
-    }
-    Ok(())
+    let words = place_words(alloc, place)?;
+    push_line(alloc, text, blocks, block, words.as_str())
 }
 
 /// What a place makes of the block that it names, and of which block it is.
@@ -112,6 +95,19 @@ fn place_words(alloc: Global, place: Place) -> Result<String, AllocError>
             format!(in alloc; "bitmap block {number} of block {holder}")
         }
     }
+}
+
+/// Appends the lines behind those of the places: one for each fault, and one that says that there may be more faults, if
+/// that is so.
+pub(crate) fn push_behind(
+    alloc: Global,
+    text: &mut Vec<u8>,
+    told: &FaultyBlock<'_>,
+) -> Result<(), AllocError>
+    ensures { OnOk result (text.new.items ≡ text.old.items ++ flat_map fault_line told.now.faults.now ++ more_line told.now.more told.now.block) }
+{
+    push_faults(alloc, text, told.faults)?;
+    push_more(alloc, text, told.more, told.block)
 }
 
 /// Appends a line for each fault.

@@ -1,8 +1,9 @@
 //! The JSON objects of blocks of a refused image.
-ghost use Rattle.std.specs.Prelude.{◌≡◌};
+ghost use Rattle.std.specs.Prelude.{◌≡◌, ◌++◌, IfOk, OnOk};
+ghost use Rattle.json.specs.Print.{print};
 ghost use Rattle.adf_where.specs.Faulty.{naming_word};
+ghost use Rattle.adf_where.specs.steps.Parts.{head_tokens, tail_tokens};
 
-use crate::faulty::FaultyBlock;
 use crate::forms::{Put, put_array};
 use crate::where_objects::put_place;
 use adf_archive::kind_word;
@@ -10,24 +11,51 @@ use adf_record::{put_flag, put_number, put_text};
 use ados_mend::{Naming, Place};
 use ados_model::VolumeFault;
 use json::Writer;
-use std::alloc::AllocError;
+use std::alloc::{AllocError, Global};
 
-impl Put for FaultyBlock {
-    ghost use Rattle.adf_where.specs.Faulty.{faulty_tokens};
+/// The object of a block up to the first of its places.
+pub(crate) fn head_text(alloc: Global, blocks: u32, block: u32) -> Result<Vec<u8>, AllocError>
+    ensures { IfOk result (λ text. text.items ≡ print (head_tokens blocks block)) }
+{
+    let mut writer = Writer::new(Vec::new(alloc));
+    put_head(&mut writer, blocks, block)?;
+    Ok(writer.into_inner())
+}
 
-    ghost tokens_of = { faulty_tokens };
+/// Writes the object of a block up to the first of its places.
+fn put_head(writer: &mut Writer, blocks: u32, block: u32) -> Result<(), AllocError>
+    ensures before { writer.new.before ≡ writer.old.before }
+    ensures tokens { OnOk result (writer.new.tokens ≡ writer.old.tokens ++ head_tokens blocks block) }
+{
+    writer.begin_object()?;
+    put_place(writer, blocks, block)?;
+    writer.key("places")?;
+    writer.begin_array()
+}
 
-    /// Writes the object of a block.
-    fn put(&self, writer: &mut Writer, blocks: u32) -> Result<(), AllocError> {
-        writer.begin_object()?;
-        put_place(writer, blocks, self.block)?;
-        writer.key("places")?;
-        put_array(writer, blocks, &self.places)?;
-        writer.key("faults")?;
-        put_array(writer, blocks, &self.faults)?;
-        put_flag(writer, "more", self.more)?;
-        writer.end_object()
-    }
+/// The object of a block behind the last of its places.
+pub(crate) fn tail_text(
+    alloc: Global,
+    faults: &[VolumeFault],
+    more: bool,
+) -> Result<Vec<u8>, AllocError>
+    ensures { IfOk result (λ text. text.items ≡ print (tail_tokens faults.now more)) }
+{
+    let mut writer = Writer::new(Vec::new(alloc));
+    put_tail(&mut writer, faults, more)?;
+    Ok(writer.into_inner())
+}
+
+/// Writes the object of a block behind the last of its places.
+fn put_tail(writer: &mut Writer, faults: &[VolumeFault], more: bool) -> Result<(), AllocError>
+    ensures before { writer.new.before ≡ writer.old.before }
+    ensures tokens { OnOk result (writer.new.tokens ≡ writer.old.tokens ++ tail_tokens faults.now more) }
+{
+    writer.end_array()?;
+    writer.key("faults")?;
+    put_array(writer, 0, faults)?;
+    put_flag(writer, "more", more)?;
+    writer.end_object()
 }
 
 impl Put for Place {

@@ -1,11 +1,12 @@
 //! The places that name blocks of a refused image, and the faults of these blocks.
-ghost use Rattle.std.specs.Prelude.{IfErr, IfOk};
+ghost use Rattle.std.specs.Prelude.{IfErr, OnOk};
 ghost use Rattle.adf_block.specs.Image.{block_count};
-ghost use Rattle.adf_where.specs.Faulty.{IsFaultyWhere};
-ghost use Rattle.adf_where.specs.Where.{IsWhereFault};
+ghost use Rattle.adf_io.specs.Prefix.{Writes};
+ghost use Rattle.adf_where.specs.Faulty.{IsFaultyWhereBehind};
+ghost use Rattle.adf_where.specs.Where.{IsWhereFault, LeavesWhere};
 
-use crate::faulty::faulty_blocks;
-use crate::forms::told_text;
+use crate::faulty::{AskedBlocks, faulty_blocks};
+use crate::faulty_text::write_faulty;
 use crate::places::named_blocks;
 use crate::where_fault::WhereFault;
 use adf_block::Image;
@@ -13,20 +14,25 @@ use adf_words::BlockWord;
 use ados_faults::faults_of_any_disk;
 use ados_mend::reached_cells;
 use std::alloc::Global;
+use std::io::Write;
 
-/// Which places name the blocks that these arguments name, and what their faults are, in any image: lines for each block, or
-/// with `json` an array of objects on a line of its own.
+/// Writes a line, and then which places name the blocks that these arguments name, and what their faults are, in any image:
+/// lines for each block, or with `json` an array of objects on a line of its own.
 ///
-/// The image is gone through once for all blocks. Time grows almost linearly with the size of the image, the number of blocks
-/// and the length of the text.
-pub fn faulty_where_text(
+/// If an argument names no block, nothing is written. If the writer fails or memory runs out, a prefix of the text is written.
+/// Memory holds the places that name each block once, and not the text. The image is gone through once for all blocks. Time
+/// grows almost linearly with the size of the image, the number of blocks and the length of the text.
+pub fn write_faulty_where<W: Write>(
     alloc: Global,
     image: &Image,
     words: &[BlockWord],
     json: bool,
-) -> Result<Vec<u8>, WhereFault>
-    ensures text { IfOk result (λ text. IsFaultyWhere json image.now words.now text.items) }
+    line: &str,
+    writer: &mut W,
+) -> Result<(), WhereFault>
+    ensures ok { OnOk result (Writes (W.contents writer.old) (W.contents writer.new) (IsFaultyWhereBehind line.now json image.now words.now)) }
     ensures fault { IfErr result (IsWhereFault (block_count image.now) words.now) }
+    ensures front { IfErr result (LeavesWhere (IsFaultyWhereBehind line.now json image.now words.now) (W.contents writer.old) (W.contents writer.new)) }
 {
     let count = image.blocks();
     let blocks = match named_blocks(alloc, count, words) {
@@ -35,7 +41,10 @@ pub fn faulty_where_text(
     };
     let cells = reached_cells(alloc, image)?;
     let found = faults_of_any_disk(alloc, image)?;
-    let told = faulty_blocks(alloc, image, &cells, &found, &blocks)?;
-    let text = told_text(alloc, count, &told, json)?;
-    Ok(text)
+    let asked = AskedBlocks::of(alloc, image, &cells, &blocks)?;
+    let told = faulty_blocks(alloc, image, &asked, &found, &blocks)?;
+    match write_faulty(alloc, count, &told, json, line, writer) {
+        Ok(()) => Ok(()),
+        Err(fault) => Err(WhereFault::from(fault)),
+    }
 }

@@ -1,7 +1,9 @@
 //! The forms in which blocks are told: lines, or an array of JSON objects.
 ghost use Rattle.std.specs.Prelude.{◌≡◌, ◌++◌, ℕ, List, IfOk, OnOk};
+ghost use Rattle.json.specs.Print.{print};
 ghost use Rattle.json.specs.Token.{Token};
-ghost use Rattle.adf_where.specs.Where.{array_of, told_as};
+ghost use Rattle.adf_where.specs.Where.{array_of};
+ghost use Rattle.adf_where.specs.steps.Parts.{closing, comma, opening, part};
 
 use json::Writer;
 use std::alloc::{AllocError, Global};
@@ -25,27 +27,61 @@ pub(crate) trait Tell: Put {
         ensures { OnOk result (text.new.items ≡ text.old.items ++ lines_of blocks self.now) };
 }
 
-/// What is told of blocks of a disk with so many blocks: lines for each block, or with `json` an array on a line of its own.
-pub(crate) fn told_text<T: Tell>(
+/// What is before what is told of all blocks: with `json` the bracket of an array.
+pub(crate) fn opening(json: bool) -> &'static [u8]
+    ensures { result.now ≡ opening json }
+{
+    if json { b"[" } else { b"" }
+}
+
+/// What is behind what is told of all blocks: with `json` the bracket of an array, and the end of its line.
+pub(crate) fn closing(json: bool) -> &'static [u8]
+    ensures { result.now ≡ closing json }
+{
+    if json { b"]\n" } else { b"" }
+}
+
+/// Appends what is before an element: in an array a comma, unless it is the first.
+pub(crate) fn push_comma(text: &mut Vec<u8>, json: bool, is_first: bool) -> Result<(), AllocError>
+    ensures { OnOk result (text.new.items ≡ text.old.items ++ comma json is_first) }
+{
+    if !json || is_first {
+        return Ok(());
+    }
+    text.push(b',')?;
+    Ok(())
+}
+
+/// Appends what is told of a block: its lines, or with `json` its object, behind a comma unless it is the first.
+pub(crate) fn push_told<T: Tell>(
+    alloc: Global,
+    text: &mut Vec<u8>,
+    blocks: u32,
+    told: &T,
+    json: bool,
+    is_first: bool,
+) -> Result<(), AllocError>
+    ensures { OnOk result (text.new.items ≡ text.old.items ++ part json is_first (T.tokens_of blocks) (T.lines_of blocks) told.now) }
+{
+    push_comma(text, json, is_first)?;
+    if !json {
+        return told.push_lines(alloc, text, blocks);
+    }
+    let object = object_text(alloc, blocks, told)?;
+    text.extend_from_slice(&object)
+}
+
+/// The JSON of an element.
+pub(crate) fn object_text<T: Put>(
     alloc: Global,
     blocks: u32,
-    told: &[T],
-    json: bool,
+    element: &T,
 ) -> Result<Vec<u8>, AllocError>
-    ensures { IfOk result (λ text. text.items ≡ told_as json (T.tokens_of blocks) (T.lines_of blocks) told.now) }
+    ensures { IfOk result (λ text. text.items ≡ print (T.tokens_of blocks element.now)) }
 {
-    if json {
-        let mut writer = Writer::new(Vec::new(alloc));
-        put_array(&mut writer, blocks, told)?;
-        let mut text = writer.into_inner();
-        text.push(b'\n')?;
-        return Ok(text);
-    }
-    let mut text = Vec::new(alloc);
-    for block in told {
-        block.push_lines(alloc, &mut text, blocks)?;
-    }
-    Ok(text)
+    let mut writer = Writer::new(Vec::new(alloc));
+    element.put(&mut writer, blocks)?;
+    Ok(writer.into_inner())
 }
 
 /// Writes an array.

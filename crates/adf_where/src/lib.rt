@@ -4,17 +4,19 @@
 mod faulty;
 mod faulty_lines;
 mod faulty_objects;
+mod faulty_text;
 mod faulty_where;
 mod forms;
 mod own_blocks;
 mod owned;
 mod places;
+mod short_path;
 mod where_blocks;
 mod where_fault;
 mod where_lines;
 mod where_objects;
 
-pub use faulty_where::faulty_where_text;
+pub use faulty_where::write_faulty_where;
 pub use own_blocks::where_path_text;
-pub use where_blocks::where_text;
+pub use where_blocks::write_where;
 pub use where_fault::WhereFault;

@@ -1,16 +1,15 @@
 //! Blocks with their owners.
-ghost use Rattle.std.specs.Prelude.{◌≡◌, ◌<◌, All, IfOk, Some, option_map, map, slice_get};
+ghost use Rattle.std.specs.Prelude.{◌≡◌, ◌<◌, IfOk, Some, option_map, slice_get};
 ghost use Rattle.std.specs.String.{string_bytes};
 ghost use Rattle.adf_block.specs.Image.{block_count};
 ghost use Rattle.ados_model.specs.Stands.{Stands};
 ghost use Rattle.ados_model.specs.Tree.{Tree, data_size};
 ghost use Rattle.ados_volume.specs.Owners.{AreOwners, Owns};
-ghost use Rattle.adf_where.specs.Where.{AreTold, entry_of, entry_path, seen, span_of, told_at};
+ghost use Rattle.adf_where.specs.Where.{entry_of, entry_path, seen, span_of, told_at};
 
+use crate::short_path::short_path;
 use adf_block::Format;
 use adf_block::layout::{FFS_ROOM, OFS_ROOM};
-use adf_export::path_of;
-use adf_text::letter_text;
 use ados_volume::{Owner, Volume};
 use std::alloc::{AllocError, Global};
 
@@ -19,7 +18,7 @@ use std::alloc::{AllocError, Global};
 pub(crate) struct OwnedBlock {
     pub(crate) block: u32,
     pub(crate) owner: Owner,
-    /// The path of the file or directory that it belongs to, in letters.
+    /// The path of the file or directory that it belongs to, in letters, if it is not too long.
     pub(crate) path: Option<String>,
     /// The bytes of the file that are in a data block.
     pub(crate) span: Option<Span>,
@@ -32,26 +31,8 @@ pub(crate) struct Span {
     pub(crate) last: u64,
 }
 
-/// These blocks with their owners.
-pub(crate) fn owned_blocks(
-    alloc: Global,
-    volume: &Volume,
-    owners: &[Owner],
-    blocks: &[u32],
-) -> Result<Vec<OwnedBlock>, AllocError>
-    requires owners { (t : Tree) → Stands volume.now.image t → AreOwners volume.now.image t owners.now }
-    requires inside { All (λ block. block < block_count volume.now.image) blocks.now }
-    ensures { IfOk result (λ told. (t : Tree) → Stands volume.now.image t → AreTold t owners.now blocks.now (map seen told.items)) }
-{
-    let mut told = Vec::new(alloc);
-    for block in blocks {
-        told.push(owned_block(alloc, volume, owners, *block)?)?;
-    }
-    Ok(told)
-}
-
 /// A block with its owner.
-fn owned_block(
+pub(crate) fn owned_block(
     alloc: Global,
     volume: &Volume,
     owners: &[Owner],
@@ -82,7 +63,7 @@ fn owner_of(volume: &Volume, owners: &[Owner], block: u32) -> Owner
     owners[block as usize]
 }
 
-/// The path of the entry that a block with this owner belongs to, in letters, if there is one.
+/// The path of the entry that a block with this owner belongs to, in letters, if there is one and its path is not too long.
 fn entry_path(
     alloc: Global,
     volume: &Volume,
@@ -95,12 +76,11 @@ fn entry_path(
     let Some(key) = entry_of(block, owner) else {
         return Ok(None);
     };
-    let path = path_of(alloc, volume, key)?;
-    Ok(Some(letter_text(alloc, &path)?))
+    short_path(alloc, volume, key)
 }
 
 /// The entry that a block with this owner belongs to, if there is one.
-fn entry_of(block: u32, owner: Owner) -> Option<u32>
+pub(crate) fn entry_of(block: u32, owner: Owner) -> Option<u32>
     ensures { result ≡ entry_of block owner }
 {
     match owner {

@@ -1,28 +1,39 @@
 //! Who owns the blocks that arguments name.
-ghost use Rattle.std.specs.Prelude.{IfErr, IfOk};
+ghost use Rattle.std.specs.Prelude.{◌<◌, All, IfErr, OnErr, OnOk};
 ghost use Rattle.adf_block.specs.Image.{block_count};
 ghost use Rattle.ados_model.specs.Stands.{Stands};
 ghost use Rattle.ados_model.specs.Tree.{Tree};
-ghost use Rattle.adf_where.specs.Where.{IsWhere, IsWhereFault};
+ghost use Rattle.ados_volume.specs.Owners.{AreOwners};
+ghost use Rattle.adf_io.specs.Prefix.{Writes, WritesFrontOf};
+ghost use Rattle.adf_where.specs.Where.{IsWhere, IsWhereFault, LeavesWhere};
+ghost use Rattle.adf_where.specs.steps.Parts.{IsTextOf};
 
-use crate::forms::told_text;
-use crate::owned::owned_blocks;
+use crate::forms::{closing, opening, push_told};
+use crate::owned::owned_block;
 use crate::places::named_blocks;
 use crate::where_fault::WhereFault;
+use adf_io::{PrintFault, write_text, write_when_long};
 use adf_words::BlockWord;
-use ados_volume::{Volume, owners};
+use ados_volume::{Owner, Volume, owners};
 use std::alloc::Global;
+use std::io::Write;
 
-/// Who owns the blocks that these arguments name: a line for each block, or with `json` an array of objects on a line of
-/// its own.
-pub fn where_text(
+/// Writes who owns the blocks that these arguments name: a line for each block, or with `json` an array of objects on a line
+/// of its own. A block is written before the next one is looked up.
+///
+/// If an argument names no block, nothing is written. If the writer fails or memory runs out, a prefix of the text is written.
+pub fn write_where<W: Write>(
     alloc: Global,
     volume: &Volume,
     words: &[BlockWord],
     json: bool,
-) -> Result<Vec<u8>, WhereFault>
-    ensures text { IfOk result (λ text. (t : Tree) → Stands volume.now.image t → IsWhere json volume.now.image t words.now text.items) }
+    writer: &mut W,
+) -> Result<(), WhereFault>
+    ensures ok { OnOk result ((t : Tree) → Stands volume.now.image t
+        → Writes (W.contents writer.old) (W.contents writer.new) (IsWhere json volume.now.image t words.now)) }
     ensures fault { IfErr result (IsWhereFault (block_count volume.now.image) words.now) }
+    ensures front { IfErr result (λ fault. (t : Tree) → Stands volume.now.image t
+        → LeavesWhere (IsWhere json volume.now.image t words.now) (W.contents writer.old) (W.contents writer.new) fault) }
 {
     let count = volume.image().blocks();
     let blocks = match named_blocks(alloc, count, words) {
@@ -30,7 +41,35 @@ pub fn where_text(
         Err(fault) => return Err(fault),
     };
     let owners = owners(alloc, volume)?;
-    let told = owned_blocks(alloc, volume, &owners, &blocks)?;
-    let text = told_text(alloc, count, &told, json)?;
-    Ok(text)
+    match write_owned(alloc, volume, &owners, &blocks, json, writer) {
+        Ok(()) => Ok(()),
+        Err(fault) => Err(WhereFault::from(fault)),
+    }
+}
+
+/// Writes these blocks with their owners.
+fn write_owned<W: Write>(
+    alloc: Global,
+    volume: &Volume,
+    owners: &[Owner],
+    blocks: &[u32],
+    json: bool,
+    writer: &mut W,
+) -> Result<(), PrintFault>
+    requires owners { (t : Tree) → Stands volume.now.image t → AreOwners volume.now.image t owners.now }
+    requires inside { All (λ block. block < block_count volume.now.image) blocks.now }
+    ensures ok { OnOk result ((t : Tree) → Stands volume.now.image t
+        → Writes (W.contents writer.old) (W.contents writer.new) (IsTextOf json t owners.now blocks.now)) }
+    ensures front { OnErr result ((t : Tree) → Stands volume.now.image t
+        → WritesFrontOf (W.contents writer.old) (W.contents writer.new) (IsTextOf json t owners.now blocks.now)) }
+{
+    let count = volume.image().blocks();
+    let mut text = Vec::from_slice(alloc, opening(json))?;
+    for place in 0..blocks.len() {
+        let told = owned_block(alloc, volume, owners, blocks[place])?;
+        push_told(alloc, &mut text, count, &told, json, place == 0)?;
+        write_when_long(&mut text, writer)?;
+    }
+    text.extend_from_slice(closing(json))?;
+    write_text(text.as_slice(), writer)
 }

@@ -1,4 +1,5 @@
 //! Why nothing is told of blocks.
+use adf_io::PrintFault;
 use adf_words::BlockWord;
 use std::alloc::AllocError;
 
@@ -9,6 +10,8 @@ pub enum WhereFault {
     NoBlock(BlockWord),
     /// Out of memory.
     Memory,
+    /// The output cannot be written.
+    Output,
 }
 
 impl From<AllocError> for WhereFault {
@@ -19,5 +22,19 @@ impl From<AllocError> for WhereFault {
 
     fn from(_error: AllocError) -> WhereFault {
         WhereFault::Memory
+    }
+}
+
+impl From<PrintFault> for WhereFault {
+    ghost use Rattle.std.specs.Prelude.{◌≡◌};
+    ghost use Rattle.adf_where.specs.steps.Parts.{where_fault};
+
+    ghost from_gives = { λ fault given. given ≡ where_fault fault };
+
+    fn from(fault: PrintFault) -> WhereFault {
+        match fault {
+            PrintFault::Memory => WhereFault::Memory,
+            PrintFault::Write => WhereFault::Output,
+        }
     }
 }

@@ -4,7 +4,7 @@ ghost use Rattle.std.specs.String.{string_bytes};
 ghost use Rattle.adf_where.specs.Where.{owner_text, path_text, place_text, slash, span_text};
 
 use crate::forms::Tell;
-use crate::owned::{OwnedBlock, Span};
+use crate::owned::{OwnedBlock, Span, entry_of};
 use crate::places::{cylinder_of, head_of, sector_of};
 use adf_text::push_plain;
 use ados_volume::Owner;
@@ -21,8 +21,7 @@ impl Tell for OwnedBlock {
         let owner = owner_text(alloc, self.owner)?;
         text.extend_from_slice(place.as_bytes())?;
         text.extend_from_slice(owner.as_bytes())?;
-        push_path(text, &self.path)?;
-        text.extend_from_slice(slash(self.owner).as_bytes())?;
+        push_path(alloc, text, self)?;
         push_span(alloc, text, self.span)?;
         text.push(b'\n')?;
         Ok(())
@@ -57,12 +56,20 @@ fn owner_text(alloc: Global, owner: Owner) -> Result<String, AllocError>
     }
 }
 
-/// Appends a path, with escapes for control characters.
-fn push_path(text: &mut Vec<u8>, path: &Option<String>) -> Result<(), AllocError>
-    ensures { OnOk result (text.new.items ≡ text.old.items ++ path_text (option_map string_bytes path.now)) }
+/// Appends the path of the entry that a block belongs to, with escapes for control characters, and a slash for a directory;
+/// or the header block of the entry, if its path is too long.
+fn push_path(alloc: Global, text: &mut Vec<u8>, owned: &OwnedBlock) -> Result<(), AllocError>
+    ensures { OnOk result (text.new.items ≡ text.old.items ++ path_text owned.now.block owned.now.owner (option_map string_bytes owned.now.path)) }
 {
-    match path {
-        Some(path) => push_plain(text, path.as_str()),
+    if let Some(path) = &owned.path {
+        push_plain(text, path.as_str())?;
+        return text.extend_from_slice(slash(owned.owner).as_bytes());
+    }
+    match entry_of(owned.block, owned.owner) {
+        Some(entry) => {
+            let words = format!(in alloc; "the entry at block {entry}")?;
+            text.extend_from_slice(words.as_bytes())
+        }
         None => Ok(()),
     }
 }

@@ -49,7 +49,7 @@ fn with_commands<'a>(
         .about(
             "Serves Amiga floppy images as an AmigaDOS file system handler does. Without a command it runs a script from standard input over a blank floppy `Work`.",
         )
-        .after_help("`adf_serve COMMAND --help` shows the words of a command, and an example.")
+        .after_help("`adf_serve COMMAND --help` shows its arguments and an example.")
         .subcommands(commands)?
         .bin_name("adf_serve")
 }

@@ -102,7 +102,7 @@ fn fault_in(line: &str) -> LineFault<'_> {
         return LineFault {
             shown: "",
             wrong: Wrong {
-                expected: "a keyword, as locate or write",
+                expected: "a keyword, such as locate or write",
                 found: if keyword.is_empty() { line } else { keyword },
             },
         };

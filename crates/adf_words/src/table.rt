@@ -129,7 +129,7 @@ const IMAGE: ArgumentRow = ArgumentRow { name: "IMAGE", kind: Kind::One, help: "
 
 /// The first blocks of a file that are its image.
 #[rattlefmt::skip]
-const FRONT: ArgumentRow = ArgumentRow { name: "blocks", kind: NUMBER, help: "Takes the first N blocks of the file as the image, from 16 to 101,602. What is behind them is left as it is" };
+const FRONT: ArgumentRow = ArgumentRow { name: "blocks", kind: NUMBER, help: "Takes the first N blocks of the file as the image, from 16 to 101,602. The rest of the file is unchanged" };
 
 #[rattlefmt::skip]
 const FORCE: ArgumentRow = ArgumentRow { name: "force", kind: FLAG, help: "Replaces files that already exist" };

@@ -3,9 +3,11 @@
 #![tactic(auto)]
 
 mod census;
+mod class;
 mod counting;
 mod laws;
 mod naming;
 
 pub use census::{Census, take_census};
+pub use class::{BLOCK_KINDS, BlockClass, BlockKind, WrongLong, class_as, class_of};
 pub use laws::places_are_namings;

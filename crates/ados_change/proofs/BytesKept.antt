@@ -1,11 +1,13 @@
 -- A rewritten file leaves all bytes outside fields untouched, takes the lowest free blocks for its new ones, and leaves
 -- free blocks untouched.
-use Rattle.ados_change.proofs.Common.{is_some, ◌≡◌, ℕ, ◌+◌, ◌-◌, ◌*◌, ◌/◌, ◌<◌, ◌≤◌, inl, inr, min, List, length, slice_index, Some, refl, sym, ap, ◌∙◌, subst, arith, eq-eqb, ◌⊎◌, take, drop, ◌≢◌, zero, suc, true, false, ◌∷◌, ne_eqb, cases_eq, cases_lt, false≢true, Format, Ofs, Ffs, byte_at, has_free_bit, pointer_count, held_count, file_size, secondary_type, format_of, FILE_TYPE, boot_same, Layout, Stands, type_of, KeepsUnnamed, IsPointerField, IsHeaderField, data_end, Node, Tree, File, Role, IsFile, IsOfs, Kept, IsField, Alike, KeepsFirstData, page_longs, file_longs, extension_longs, ofs_data_longs, ofs_data, ffs_data, StandsAt, reached_stands, serves_at, duty_of, root_at, entry_at, get_or-take, get_or_past, Duty, pointers_of, IsFileNode, slice_get-index, cases_order, false_from_ne_true, IsInside, block_count, HasFreeBit, page_block, data_blocks, extension_blocks, RisesBehind, data_blocks_are, extension_blocks_are, IsExtensionField, HasDuty, InImage, HasFileKey, IsTaken, TakenRise, TakesLowest}
-use Rattle.ados_change.proofs.Writable.{named_used, page_serves}
+use Rattle.ados_change.proofs.Common.{is_some, ◌≡◌, ℕ, ◌+◌, ◌-◌, ◌*◌, ◌/◌, ◌<◌, ◌≤◌, inl, inr, min, List, length, slice_index, Some, refl, sym, ap, ◌∙◌, subst, arith, eq-eqb, ◌⊎◌, take, drop, ◌≢◌, zero, suc, true, false, ◌∷◌, ne_eqb, cases_eq, cases_lt, false≢true, Format, Ofs, Ffs, byte_at, has_free_bit, pointer_count, held_count, file_size, secondary_type, format_of, FILE_TYPE, boot_same, Layout, Stands, type_of, KeepsUnnamed, IsPointerField, IsHeaderField, data_end, Node, Tree, File, Role, IsFile, IsOfs, Kept, IsField, Alike, KeepsFirstData, page_longs, file_longs, extension_longs, ofs_data_longs, ofs_data, ffs_data, StandsAt, reached_stands, serves_at, duty_of, root_at, entry_at, get_or-take, get_or_past, Duty, pointers_of, IsFileNode, slice_get-index, cases_order, false_from_ne_true, IsInside, block_count, HasFreeBit, page_block, data_blocks, extension_blocks, RisesBehind, data_blocks_are, extension_blocks_are, IsExtensionField, HasDuty, InImage, HasFileKey, IsTaken, TakenInTurn, TakenRise, TakesLowest, InTurn, IsBehindEnd, KeepsUses, data_at, Bool, cond, ◌==◌, slice_get, slice_get-back, KeepsKinds, option_map}
+use Rattle.ados_change.proofs.Writable.{data_is, named_used, page_serves}
+use Rattle.ados_change.proofs.BytesUntold.{file_end}
+use Rattle.ados_change.proofs.Uses.{has_key, uses_of}
 use Rattle.ados_change.proofs.FilesStay.{data_serves, extension_serves, file_of_key}
 use Rattle.ados_change.proofs.Keeping.{header_stays}
 use Rattle.ados_change.proofs.Changed.{changed_keeps, each_keeps}
-use Rattle.ados_change.proofs.Contents.{refilled, holding, here}
+use Rattle.ados_change.proofs.Contents.{refilled, holding, here, there}
 use Rattle.ados_change.proofs.Relaid.{ComesFrom, IsRewritten, relaid, IsIn, serves_data, serves_extension}
 use Rattle.ados_change.proofs.Unchanged.{long_as}
 use Rattle.ados_change.proofs.Refilled.{boot_stays, key_stays, root_stays, data_stays, extension_stays, stands_after, layout_after}
@@ -55,7 +57,7 @@ is_ffs : (image : List ℕ) → format_of image ≡ Ffs → ¬ IsOfs image
 is_ffs image e z = let other : Format.Ofs ≡ Ffs = sym (rw (eq-eqb (byte_at image 0 3) 0 z) refl) ∙ e in cc other
 
 -- the first data block of a file is the first pointer of its header
-first_pointer : (image : List ℕ) (t : Tree) (s : Stands image t) (file : ℕ) → IsFileNode image t s file → slice_index (pointers_of image file) 0 ≡ slice_index (s.layout.file_data file) 0
+pub first_pointer : (image : List ℕ) (t : Tree) (s : Stands image t) (file : ℕ) → IsFileNode image t s file → slice_index (pointers_of image file) 0 ≡ slice_index (s.layout.file_data file) 0
 first_pointer image t s file f =
     let all : drop (72 * 0) (s.layout.file_data file) ≡ s.layout.file_data file = refl in
     ap (λ (xs : List ℕ). slice_index xs 0) (pointers_are image t.format file (s.layout.file_data file) (s.layout.extensions file) f.bytes (s.files file f.node f.bytes f.at f.content) 0 (omega arith) ∙ ap (take 72) all) ∙ get_or-take 72 (s.layout.file_data file) 0 0 (omega arith)
@@ -306,11 +308,31 @@ module _ (old new : List ℕ) (t : Tree) (s : Stands old t) (file : ℕ) (node :
       let here : extension_blocks new f ≡ extensions' = ap (extension_blocks new) same ∙ extension_blocks_are new file blocks' extensions' bytes' h.writable.lawful in
       subst (TakenRise old new) (sym here) (λ p q x y c d. rises p q (new_extension p (slice_index extensions' p) c (omega (arith, x, y)) refl) x y) i j l m a b
 
+  in_turn : ((q i : ℕ) → length (s.layout.extensions file) ≤ q → q < length extensions' → length (s.layout.file_data file) ≤ i → i < length blocks' → InTurn q (slice_index extensions' q) i (slice_index blocks' i))
+      → (f : ℕ) → HasFileKey new f → TakenInTurn old new (extension_blocks new f) (data_blocks new f)
+  in_turn turns f k q i l m a b =
+      let same = of_data (slice_index (data_blocks new f) i) f i b (data_serves new v after f (file_of_key new v after f k) i m) in
+      let here : data_blocks new f ≡ blocks' = ap (data_blocks new) same ∙ data_blocks_are new file blocks' extensions' bytes' h.writable.lawful in
+      let there : extension_blocks new f ≡ extensions' = ap (extension_blocks new) same ∙ extension_blocks_are new file blocks' extensions' bytes' h.writable.lawful in
+      subst (λ (xs : List ℕ). TakenInTurn old new xs (data_blocks new f)) (sym there)
+      (subst (TakenInTurn old new extensions') (sym here) (λ p j x y c d. turns p j (new_extension p (slice_index extensions' p) c x refl) x (new_data j (slice_index blocks' j) d y refl) y)) q i l m a b
+
+  zero_end : (f q i : ℕ) → HasFileKey new f → IsTaken old new (data_at new f q) → IsBehindEnd new f q i → byte_at new (data_at new f q) i ≡ 0
+  zero_end f q i k m y =
+      let same = of_data (data_at new f q) f q m (data_serves new v after f (file_of_key new v after f k) q y.block) in
+      let here : data_blocks new f ≡ blocks' = ap (data_blocks new) same ∙ data_blocks_are new file blocks' extensions' bytes' h.writable.lawful in
+      let over = new_data q (data_at new f q) m (subst (λ (xs : List ℕ). q < length xs) here y.block) (ap (λ (xs : List ℕ). slice_index xs q) (sym here)) in
+      subst (λ (g : ℕ). byte_at new (data_at new g q) i ≡ 0) (sym same)
+      ((file_end old new t s file node bytes found is_file blocks' extensions' bytes' h keeps).zero q i (λ l. omega (arith, over, l, ap length (data_is old t s file node bytes found is_file))) (subst (λ (g : ℕ). IsBehindEnd new g q i) same y))
+
   pub takes_lowest : ((c d : ℕ) → IsInside (block_count old) d → 2 ≤ c → c < d → has_free_bit old d ≡ true → has_free_bit new d ≡ false → has_free_bit new c ≡ false)
-      → RisesBehind (s.layout.file_data file) blocks' → RisesBehind (s.layout.extensions file) extensions' → TakesLowest old new
-  takes_lowest lowest rises rises' = record {
+      → RisesBehind (s.layout.file_data file) blocks' → RisesBehind (s.layout.extensions file) extensions'
+      → ((q i : ℕ) → length (s.layout.extensions file) ≤ q → q < length extensions' → length (s.layout.file_data file) ≤ i → i < length blocks' → InTurn q (slice_index extensions' q) i (slice_index blocks' i)) → TakesLowest old new
+  takes_lowest lowest rises rises' turns = record {
     data_rise = data_rise rises;
     extensions_rise = extensions_rise rises';
+    in_turn = in_turn turns;
+    zero_end = zero_end;
     lowest = lowest_of lowest;
     zero_else = λ b i role taken r small n.
         let at = reached_stands new v after r in
@@ -323,6 +345,43 @@ module _ (old new : List ℕ) (t : Tree) (s : Stands old t) (file : ℕ) (node :
         let own = own_duty b Duty.Key taken (serves_at new v after (roles.Entry f.dir f.slot_of_chain) at.0 b at.1) in
         elim own [ inl d ↦ absurd (let same = d.1 in cc same) | inr d ↦ absurd (let same = d.1 in cc same) ];
   }
+
+  -- ---- the uses of blocks
+
+  -- a block in one of the file's lists was at its place there, or free
+  came_from : (xs ys : List ℕ) (i b : ℕ) → ((j : ℕ) → j < length ys → ComesFrom old xs ys j) → slice_get ys i ≡ Some b → (slice_get xs i ≡ Some b) ⊎ HasFreeBit old b
+  came_from xs ys i b from m =
+      let at = slice_get-back ys i b m in
+      elim (from i at.0) [
+        | inl was ↦ inl (slice_get-index xs i was.0 ∙ ap Some (sym was.1 ∙ at.1))
+        | inr free ↦ inr (ap (has_free_bit old) (sym at.1) ∙ free.1)
+      ]
+
+  -- the same for the lists of each file
+  came : (lists : ℕ → List ℕ) (ys : List ℕ) (f i b : ℕ) → ((j : ℕ) → j < length ys → ComesFrom old (lists file) ys j) → slice_get (cond (f == file) ys (lists f)) i ≡ Some b → (slice_get (lists f) i ≡ Some b) ⊎ HasFreeBit old b
+  came lists ys f i b from m = elim (cases_eq f file) [
+    | inl e ↦
+        let there : slice_get ys i ≡ Some b = subst (λ (c : Bool). slice_get (cond c ys (lists f)) i ≡ Some b) (eq-eqb f file e) m in
+        elim (came_from (lists file) ys i b from there) [ inl was ↦ inl (ap (λ (g : ℕ). slice_get (lists g) i) e ∙ was) | inr free ↦ inr free ]
+    | inr n ↦ inl (subst (λ (c : Bool). slice_get (cond c ys (lists f)) i ≡ Some b) (ne_eqb f file n) m)
+  ]
+
+  pub uses : KeepsUses old new
+  uses = uses_of old new t v s after (λ b duty m. go b duty (subst (λ (l : Layout). HasDuty v l b duty) layout_is m))
+    where
+      go : (b : ℕ) (duty : Duty) → HasDuty v (relaid s.layout file blocks' extensions') b duty → HasDuty t s.layout b duty ⊎ HasFreeBit old b
+      go b (Duty.Page i) m = inl m
+      go b Duty.Key m = inl (sym (changed_keeps is_some (holding bytes') file t (each_keeps is_some (holding bytes') (λ a. refl)) b) ∙ m)
+      go b (Duty.Data f i) m = came s.layout.file_data blocks' f i b h.data_from m
+      go b (Duty.Extension f i) m = came s.layout.extensions extensions' f i b h.extensions_from m
+      go b Duty.Lost m = inl m
+
+  -- the file was a file
+  pub kinds : KeepsKinds old new
+  kinds f is = elim (cases_eq f file) [
+    | inl e ↦ inl (subst (HasFileKey old) (sym e) (has_key old t s file (ap (option_map (λ (a : Node). a.content)) found ∙ ap Some is_file)))
+    | inr n ↦ let c = is v after in inl (has_key old t s f (sym (ap (option_map (λ (a : Node). a.content)) (there t file node bytes bytes' found is_file f n)) ∙ c.1))
+  ]
 
   -- ---- the bytes of free blocks
 

@@ -6,7 +6,7 @@ use Rattle.ados_change.proofs.Contents.{refilled, here, there}
 use Rattle.ados_change.proofs.Relaid.{ComesFrom, IsRewritten}
 use Rattle.ados_change.proofs.Refilled.{data_stays, layout_after, stands_after}
 
--- ---- a block with a right checksum before and after has the same checksum if all its other bytes are unchanged
+-- ---- a block with a right checksum before and after has the same bytes if its other longs are the same
 
 -- two right sums that differ in one long only do not differ
 same_rest : (t u x y : ℕ) → u + x ≡ t + y → t % 2 ^ 32 ≡ 0 → u % 2 ^ 32 ≡ 0 → x < 2 ^ 32 → y < 2 ^ 32 → y ≡ x
@@ -23,27 +23,17 @@ same_four a b c d a' b' c' d' la lb lc ld la' lb' lc' ld' e =
     let z : c ≡ c' = omega (arith, e, x, y, lc, ld, lc', ld') in
     (x, y, z, omega (arith, e, x, y, z))
 
-module _ (old new : List ℕ) (was : IsImage old) (is : IsImage new) (b : ℕ) (settled : block_sum old b ≡ 0) (still : block_sum new b ≡ 0)
-    (others : (j : ℕ) → j < 128 → j ≢ 5 → long new b j ≡ long old b j) where
-  sum_same : long new b 5 ≡ long old b 5
-  unfolding block_sum
-  sum_same =
-      let one = total-one (long old b) (long new b) 5 128 (omega arith) others in
-      same_rest (total (long old b) 128) (total (long new b) 128) (long old b 5) (long new b 5) one settled still (long-below old b 5 was) (long-below new b 5 is)
-
-  long_same : (j : ℕ) → j < 128 → long new b j ≡ long old b j
-  long_same j l = elim (cases_eq j 5) [ inl e ↦ ap (long new b) e ∙ sum_same ∙ ap (long old b) (sym e) | inr n ↦ others j l n ]
-
-  pub bytes_same : (k : ℕ) → k < 512 → byte_at new b k ≡ byte_at old b k
-  bytes_same k l =
-      let j = k / 4 in
+-- equal longs of images have equal bytes
+module _ (old new : List ℕ) (was : IsImage old) (is : IsImage new) (b : ℕ) where
+  pub byte_of_long : (k : ℕ) → long new b (k / 4) ≡ long old b (k / 4) → byte_at new b k ≡ byte_at old b k
+  byte_of_long k longs =
       let now : (i : ℕ) → byte_at new b i < 256 = λ i. byte_at-below new b i is in
       let then : (i : ℕ) → byte_at old b i < 256 = λ i. byte_at-below old b i was in
       let all =
       same_four (byte_at new b (4 * (k / 4) + 0)) (byte_at new b (4 * (k / 4) + 1)) (byte_at new b (4 * (k / 4) + 2)) (byte_at new b (4 * (k / 4) + 3))
       (byte_at old b (4 * (k / 4) + 0)) (byte_at old b (4 * (k / 4) + 1)) (byte_at old b (4 * (k / 4) + 2)) (byte_at old b (4 * (k / 4) + 3))
       (now _) (now _) (now _) (now _) (then _) (then _) (then _) (then _)
-      (sym (long-bytes new b (k / 4)) ∙ long_same (k / 4) (omega (arith, l)) ∙ long-bytes old b (k / 4)) in
+      (sym (long-bytes new b (k / 4)) ∙ longs ∙ long-bytes old b (k / 4)) in
       let at : (r : ℕ) → k % 4 ≡ r → byte_at new b (4 * (k / 4) + r) ≡ byte_at old b (4 * (k / 4) + r) → byte_at new b k ≡ byte_at old b k =
       λ r e same. let here : k ≡ 4 * (k / 4) + r = omega (arith, e) in ap (byte_at new b) here ∙ same ∙ ap (byte_at old b) (sym here) in
       elim (cases_eq (k % 4) 0) [
@@ -56,6 +46,20 @@ module _ (old new : List ℕ) (was : IsImage old) (is : IsImage new) (b : ℕ) (
           ]
         ]
       ]
+
+module _ (old new : List ℕ) (was : IsImage old) (is : IsImage new) (b c : ℕ) (low : c < 128) (settled : block_sum old b ≡ 0) (still : block_sum new b ≡ 0)
+    (others : (j : ℕ) → j < 128 → j ≢ c → long new b j ≡ long old b j) where
+  sum_same : long new b c ≡ long old b c
+  unfolding block_sum
+  sum_same =
+      let one = total-one (long old b) (long new b) c 128 low others in
+      same_rest (total (long old b) 128) (total (long new b) 128) (long old b c) (long new b c) one settled still (long-below old b c was) (long-below new b c is)
+
+  long_same : (j : ℕ) → j < 128 → long new b j ≡ long old b j
+  long_same j l = elim (cases_eq j c) [ inl e ↦ ap (long new b) e ∙ sum_same ∙ ap (long old b) (sym e) | inr n ↦ others j l n ]
+
+  pub bytes_same : (k : ℕ) → k < 512 → byte_at new b k ≡ byte_at old b k
+  bytes_same k l = byte_of_long old new was is b k (long_same (k / 4) (omega (arith, l)))
 
 -- a byte of the file's block that is after the file's bytes is after their end in that block
 end_here : (f : Format) (a q i : ℕ) → q < data_count f a → a + data_start f ≤ data_size f * q + i → data_end f a q ≤ i
@@ -106,7 +110,7 @@ module _ (old new : List ℕ) (t : Tree) (s : Stands old t) (file : ℕ) (node :
       let place : q < data_count (format_of old) (file_size new file) = omega (arith, m, h.writable.lawful.data_fits ∙ ap₂ data_count h.format (sym h.writable.lawful.holds.size)) in
       end_here (format_of old) (file_size new file) q i place (subst (λ (f : Format). file_size new file + data_start f ≤ data_size f * q + i) h.format y.behind)
 
-  file_end : KeepsFileEnd old new file
+  pub file_end : KeepsFileEnd old new file
   file_end = record {
     blocks = blocks_front;
     extensions = rw (extensions_is old t s file node bytes found is_file, extension_blocks_are new file blocks' extensions' bytes' h.writable.lawful) (front_agrees old extensions extensions' h.extensions_from);
@@ -209,7 +213,7 @@ module _ (old new : List ℕ) (t : Tree) (s : Stands old t) (file : ℕ) (node :
     block_same : (f : Format) → format_of old ≡ f → (q i : ℕ) → q < length blocks → i < 512 → byte_at new (slice_index blocks q) i ≡ byte_at old (slice_index blocks q) i
     block_same Ffs e q i l m = data_same Ffs e q i l m (omega arith)
     block_same Ofs e q i l m =
-        bytes_same old new was is (slice_index blocks q) (before.holds.ofs_data e q l).sum (same_file.ofs_data e q l).sum
+        bytes_same old new was is (slice_index blocks q) 5 (omega arith) (before.holds.ofs_data e q l).sum (same_file.ofs_data e q l).sum
         (λ j n o. elim (cases_lt j 5) [
           | inl x ↦ front_same e q l j x
           | inr x ↦ long-same old new (slice_index blocks q) j (λ k y. data_same Ofs e q k l (omega (arith, n, y)) (omega (arith, x, o, y)))

@@ -1,9 +1,10 @@
 -- Each change of a field: how it changes the node's block, and the tree that the image then represents.
-use Rattle.ados_change.proofs.Common.{◌≡◌, ◌≢◌, ℕ, ◌+◌, ◌<◌, ◌≤◌, ◌⊎◌, inl, inr, List, length, Some, option_map, refl, sym, ap, ◌∙◌, subst, arith, eq-eqb, block_sum, HasText, protection, COMMENT_BYTE, NAME_BYTE, SameBut, same_weaken, Date3, IsName, IsComment, Node, Tree, Proper, IsRoot, root, HasEntry, Stands, date_at, changed, stamped, with_node, KeepsRest, root_or_parent, Summed, Restamped, IsPlain, IsWritten, of_node}
-use Rattle.ados_change.proofs.Retells.{retold, Retells, Telling, Tells, stands_retold}
-use Rattle.ados_change.proofs.FieldsKept.{IsTold, keeps_fields, telling_told, telling_written}
+use Rattle.ados_change.proofs.Common.{◌≡◌, ◌≢◌, ℕ, ◌+◌, ◌<◌, ◌≤◌, ◌⊎◌, inl, inr, List, length, Some, option_map, refl, sym, ap, ◌∙◌, subst, arith, eq-eqb, block_sum, HasText, protection, COMMENT_BYTE, NAME_BYTE, SameBut, same_weaken, Date3, IsName, IsComment, Node, Tree, Proper, IsRoot, root, HasEntry, Stands, date_at, changed, stamped, with_node, KeepsRest, root_or_parent, Summed, Restamped, IsPlain, IsWritten, of_node, same_count, IsSome, is_some, some_in, content_at, File, KeepsUntold, IsImage}
+use Rattle.ados_change.proofs.Retells.{retold, Retells, Telling, Tells, stands_retold, contents, was}
+use Rattle.ados_change.proofs.FieldsKept.{IsTold, keeps_fields, telling_told, telling_written, fields_untold}
 use Rattle.ados_change.proofs.Summing.{text_beside, long_beside, date_beside}
 use Rattle.ados_change.proofs.Changed.{same_with}
+use Rattle.ados_change.proofs.Uses.{kinds_stay, uses_stay}
 
 -- bytes low to high - 1 of the key's block may differ between the two nodes
 pub record Case (t : Tree) (key : ℕ) (node after : Node) (d : Date3) (low high : ℕ) : Type 0 where
@@ -164,9 +165,18 @@ module _ (old new : List ℕ) (t : Tree) (s : Stands old t) (key : ℕ) (node : 
     told_at b i (inl w) = subst (λ (k : ℕ). IsTold t k i) (sym w.0) (telling_told old new t s key after c.retells.name c.retells.comment i (c.within i w.1 w.2))
     told_at b i (inr w) = inl w.1
 
-    keeps_retold : (r : ℕ) → r ≡ root t → SameBut (Restamped r key low high) old new → KeepsRest old new
-    keeps_retold r e rest = keeps_fields old new t s (Restamped r key low high) rest restamped told
+    keeps_retold : (r : ℕ) → r ≡ root t → SameBut (Restamped r key low high) old new → IsImage new → KeepsRest old new
+    keeps_retold r e rest is =
+        keeps_fields old new t s (Restamped r key low high) rest restamped told
+        (uses_stay old new t (retold key after moment t) s u (same_count (Restamped r key low high) old new rest) stays was_there (λ b. refl) was_file)
+        (kinds_stay old new t (retold key after moment t) s u (same_count (Restamped r key low high) old new rest) stays was_there (λ b. refl) was_file) is
       where
+        was_there : (k : ℕ) → IsSome ((retold key after moment t).nodes k) → IsSome (t.nodes k)
+        was_there k m =
+            let a = some_in ((retold key after moment t).nodes k) m in
+            let b = was t key node after d c.retells k a.0 a.1 in
+            ap is_some b.1
+
         root_at : (b : ℕ) → b ≡ r → t.nodes b ≡ Some s.proper.root_node.0
         root_at b d = ap t.nodes (d ∙ e) ∙ s.proper.root_node.1
 
@@ -180,7 +190,13 @@ module _ (old new : List ℕ) (t : Tree) (s : Stands old t) (key : ℕ) (node : 
         told b i (inr (inl w)) = inr (omega (arith, w.1), omega (arith, w.2), λ z. omega (arith, w.1, z))
         told b i (inr (inr w)) = inl w.1
 
+        stays : KeepsUntold old new
+        stays = fields_untold old new t s (Restamped r key low high) rest restamped told
+
+        was_file : (file : ℕ) (bytes : List ℕ) → content_at (retold key after moment t) file ≡ Some (File bytes) → content_at t file ≡ Some (File bytes)
+        was_file file bytes is = sym (contents t key node after d c.retells file) ∙ is
+
   -- a field is changed, and then the disk date
   pub keeps_restamped : (f : Node → Node) → Case t key node (f node) t.disk_date low high → (moment : Date3) → Stands new (stamped moment (changed key f t))
-      → (r : ℕ) → r ≡ root t → SameBut (Restamped r key low high) old new → KeepsRest old new
-  keeps_restamped f c moment h r e rest = keeps_retold (f node) t.disk_date moment c (subst (λ o. Stands new (stamped moment (with_node key o t))) (ap (option_map f) at) h) r e rest
+      → (r : ℕ) → r ≡ root t → SameBut (Restamped r key low high) old new → IsImage new → KeepsRest old new
+  keeps_restamped f c moment h r e rest is = keeps_retold (f node) t.disk_date moment c (subst (λ o. Stands new (stamped moment (with_node key o t))) (ap (option_map f) at) h) r e rest is

@@ -1,5 +1,5 @@
 -- The nodes of a changed tree.
-use Rattle.ados_change.proofs.Common.{◌≡◌, ◌≢◌, ℕ, ◌⊎◌, inl, inr, List, Option, Some, None, is_some, IsSome, option_map, option_and_then, refl, sym, ap, ◌∙◌, subst, eq-eqb, ne_eqb, cases_eq, slot, Date3, Content, Node, Tree, entries, entries_in, name_of, parent_of, name_in, Directory, with_node, changed, enter, listed, made, new_node}
+use Rattle.ados_change.proofs.Common.{◌≡◌, ◌≢◌, ℕ, ◌⊎◌, inl, inr, List, Option, Some, None, is_some, IsSome, option_map, option_and_then, refl, sym, ap, ◌∙◌, subst, eq-eqb, ne_eqb, cases_eq, slot, Date3, Content, Node, Tree, entries, entries_in, name_of, parent_of, name_in, Directory, with_node, changed, enter, listed, made, new_node, content_at, File}
 
 pub nodes_here : (key : ℕ) (o : Option Node) (t : Tree) → (with_node key o t).nodes key ≡ o
 nodes_here key o t = rw (eq-eqb key key refl) refl
@@ -56,6 +56,19 @@ was_with P f key t k node keeps w h = elim (w.how) [
 -- a directory with this list and date
 abbrev pub relisted : Date3 → List ℕ → Node → Node
 relisted moment keys node = record node { content = Directory keys; date = moment }
+
+-- a file of the tree with a new list is a file of the tree
+pub listed_file : (moment : Date3) (dir : ℕ) (keys : List ℕ) (t : Tree) (file : ℕ) (bytes : List ℕ) → content_at (listed moment dir keys t) file ≡ Some (File bytes) → content_at t file ≡ Some (File bytes)
+listed_file moment dir keys t file bytes is = elim (cases_eq file dir) [
+  | inr n ↦ sym (ap (option_map (λ (a : Node). a.content)) (nodes_other dir (option_map (relisted moment keys) (t.nodes dir)) t file n)) ∙ is
+  | inl e ↦
+      let here = ap (listed moment dir keys t).nodes e ∙ nodes_here dir (option_map (relisted moment keys) (t.nodes dir)) t in
+      absurd (none (t.nodes dir) (sym (ap (option_map (λ (a : Node). a.content)) here) ∙ is))
+]
+  where
+    none : (o : Option Node) → option_map (λ (a : Node). a.content) (option_map (relisted moment keys) o) ≡ Some (File bytes) → ⊥
+    none None e = cc e
+    none (Some a) e = let other : Some (Directory keys) ≡ Some (File bytes) = e in cc other
 
 -- the parent of a node
 abbrev pub parent_field : Option Node → Option ℕ

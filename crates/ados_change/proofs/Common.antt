@@ -20,7 +20,7 @@ pub use Rattle.ados_change.specs.Behind.{KeepsBehindName}
 pub use Rattle.ados_change.specs.Conditions.{CanMake, CanRemove, CanRename, IsDirectoryKey, IsEmpty, IsUnder}
 pub use Rattle.ados_change.specs.FieldTold.{commented, dated, protected}
 pub use Rattle.ados_change.specs.Kinds.{content_of}
-pub use Rattle.ados_change.specs.NewBlocks.{IsTaken, KeepsBlock, KeepsFreed, KeepsRest, TakenRise, TakesLowest, TakesNone}
+pub use Rattle.ados_change.specs.NewBlocks.{IsTaken, KeepsBlock, KeepsFreed, KeepsKinds, KeepsRest, KeepsUses, TakenInTurn, TakenRise, TakesLowest, TakesNone}
 pub use Rattle.ados_change.specs.Places.{Restamped, Summed}
 pub use Rattle.ados_change.specs.Renewed.{IsStamped, NeedsMore}
 pub use Rattle.ados_change.specs.Stamps.{AtStamps, IsDiskStamp, IsFileStamp, touched}
@@ -34,6 +34,7 @@ pub use Rattle.ados_change.specs.steps.Writes.{AtTitle, Dated, Titled}
 pub use Rattle.ados_data.proofs.Chains.{chained, next_of}
 pub use Rattle.ados_data.proofs.Spelled.{contents_are, data_blocks_are, extension_blocks_are, listed_is}
 pub use Rattle.ados_data.specs.Changing.{HasFree, IsInUse, IsWritable, LawfulMap, WritableFile}
+pub use Rattle.ados_data.specs.Order.{InTurn}
 pub use Rattle.ados_data.specs.Others.{IsDataField, IsOther, Leaves, LeavesOthers, RisesBehind}
 pub use Rattle.ados_data.specs.Unnamed.{IsBeside, IsExtensionField, IsHeaderField, IsPointerField, KeepsUnnamed, data_end}
 pub use Rattle.ados_map.proofs.MarkLemmas.{bit_of_inside, mark_kept}

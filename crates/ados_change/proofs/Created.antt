@@ -1,22 +1,23 @@
 -- The steps that make an entry: a free block is allocated and filled, and the entry is listed. The image represents the
 -- tree with it.
-use Rattle.ados_change.proofs.Common.{no_data, ◌≡◌, ◌≢◌, ℕ, ◌+◌, ◌*◌, ◌/◌, ◌<◌, inl, inr, List, false, Some, refl, sym, ap, ◌∙◌, subst, arith, zero, suc, ◌-◌, ◌≤◌, ◌⊎◌, min, ◌∷◌, length, slice_index, [], cases_eq, OnlyBlock, SameBut, IsInside, block_count, has_free_bit, root_key, HasFreeBit, same_count, same_trans, MapPlace, BitChanged, IsLowestFree, NoneFreeBelow, page_of, pages_of, Date3, slot_at-small, LawfulChains, slot_at, CanInsert, InsertsLast, link_block, link_long, bit_of_inside, InImage, made, with_node, new_node, Stands, Duty, HasDuty, in_slot, Node, Tree, root, IsUnused, size_in, KeepsRest, TakesLowest, KeepsPastEnd, CanMake, IsEmpty, content_of, IsNewEntry, Dated, nil_from_length, Chained, bytes_at, long, table_entry, NEXT_IN_CHAIN, InBlock, page_block, data_count, extension_count, Content, HasFile, HasNode, HasEntry, Directory, File, entered, slice_get-index, IsChanged, IsWritten}
+use Rattle.ados_change.proofs.Common.{no_data, ◌≡◌, ◌≢◌, ℕ, ◌+◌, ◌*◌, ◌/◌, ◌<◌, inl, inr, List, false, Some, refl, sym, ap, ◌∙◌, subst, arith, zero, suc, ◌-◌, ◌≤◌, ◌⊎◌, min, ◌∷◌, length, slice_index, [], cases_eq, OnlyBlock, SameBut, IsInside, block_count, has_free_bit, root_key, HasFreeBit, same_count, same_trans, MapPlace, BitChanged, IsLowestFree, NoneFreeBelow, page_of, pages_of, Date3, slot_at-small, LawfulChains, slot_at, CanInsert, InsertsLast, link_block, link_long, bit_of_inside, InImage, made, with_node, new_node, Stands, Duty, HasDuty, in_slot, Node, Tree, root, IsUnused, size_in, KeepsRest, TakesLowest, KeepsPastEnd, CanMake, IsEmpty, content_of, IsNewEntry, Dated, nil_from_length, Chained, bytes_at, long, table_entry, NEXT_IN_CHAIN, InBlock, page_block, data_count, extension_count, Content, HasFile, HasNode, HasEntry, Directory, File, entered, slice_get-index, IsChanged, IsWritten, enter, entries, name_of, slot, is_some, IsSome, KeepsKinds, option_map, IsImage}
 use Rattle.ados_change.proofs.Making.{zero_long, no_duty, unused, AtLink, dated_there, linked_there, stamped_there, takes_key}
 use Rattle.ados_change.proofs.Unchanged.{at_root, dated_count}
 use Rattle.ados_change.proofs.Writable.{lawful_pages}
 use Rattle.ados_change.proofs.FilesStay.{past_end_trans}
 use Rattle.ados_change.specs.declared.node_kind.NodeKind.{NodeKind}
-use Rattle.ados_change.proofs.Changed.{made_here, nodes_here, nodes_other}
+use Rattle.ados_change.proofs.Changed.{listed_file, made_here, nodes_here, nodes_other, changed_keeps, each_keeps, relisted}
 use Rattle.ados_change.proofs.Lawful.{lawful_chains, page_is, page_within, count}
 use Rattle.ados_change.proofs.EntriesKept.{changed_kept, page_changed, written_changed, IsKnown, dated_kept, filled_kept, linked_kept, marked_kept, stamped_kept}
 use Rattle.ados_change.proofs.Leaving.{can_insert, place_behind, entered_spells, stamped_spells}
-use Rattle.ados_change.proofs.Loose.{Loose, proper_is_loose, unused_is_loose, Spells, spells, stands}
+use Rattle.ados_change.proofs.Loose.{Loose, layout_is, proper_is_loose, unused_is_loose, Spells, spells, stands}
 use Rattle.ados_change.proofs.ProperChanges.{IsDirectoryNode, begun_is_loose, dir_not_key, directory_at, entered_proper, made_is_proper}
 use Rattle.ados_change.proofs.Relisted.{IsLinkPlace}
 use Rattle.ados_change.proofs.EntriesUntold.{HasPages, IsOffMap, bit_past_end, freed_stays, off_marks, off_past_end, old_pages, pages_after, untold_kept, written_off}
 use Rattle.ados_data.proofs.Marks.{mark_kept}
 use Rattle.ados_change.proofs.Remarked.{IsAlone, Remarks, filled_remarks, marked_remarks, remarked}
 use Rattle.ados_change.specs.declared.node_kind.NodeKind.TheVariants as kinds
+use Rattle.ados_change.proofs.Uses.{has_key, uses_laid}
 
 no_text : (image : List ℕ) (b : ℕ) → bytes_at image b 329 0 ≡ []
 unfolding bytes_at
@@ -183,6 +184,10 @@ module _ (old m1 m2 : List ℕ) (t : Tree) (st : Stands old t) (moment : Date3) 
       pub created : Stands m5 (made moment dir key name (content_of kind) t)
       created = stands m5 (made moment dir key name (content_of kind) t) st.layout (made_is_proper t moment dir key name (content_of kind) st.proper can fresh no_contents.0) after
 
+      laid : created.layout ≡ st.layout
+      unfolding created
+      laid = layout_is m5 (made moment dir key name (content_of kind) t) st.layout (made_is_proper t moment dir key name (content_of kind) st.proper can fresh no_contents.0) after
+
       -- ---- what is written
 
       in_use : ¬ HasFreeBit m5 key
@@ -227,13 +232,34 @@ module _ (old m1 m2 : List ℕ) (t : Tree) (st : Stands old t) (moment : Date3) 
           (stamped_there key dir t apart loose.not_root moment m4 m5 restamped))
           old t low loose.not_root other_mark created
 
-      pub created_keeps : KeepsRest old m5
-      created_keeps = record {
+      -- each node but the new one was there
+      was_there : (k : ℕ) → IsSome ((made moment dir key name (content_of kind) t).nodes k) → IsSome (t.nodes k) ⊎ HasFreeBit old k
+      was_there k m = elim (cases_eq k key) [
+        | inl e ↦ inr (ap (has_free_bit old) e ∙ low.free)
+        | inr n ↦
+            let keys = enter (λ j. slot (name_of begun j)) key (entries begun dir) in
+            inl (sym (changed_keeps is_some (relisted moment keys) dir begun (each_keeps is_some (relisted moment keys) (λ a. refl)) k ∙ ap is_some (nodes_other key (Some new) t k n)) ∙ m)
+      ]
+
+      was_file : KeepsKinds old m5
+      was_file file is = elim (cases_eq file key) [
+        | inl e ↦ inr (ap (has_free_bit old) e ∙ low.free)
+        | inr n ↦
+            let c = is (made moment dir key name (content_of kind) t) created in
+            let keys = enter (λ j. slot (name_of begun j)) key (entries begun dir) in
+            inl (has_key old t st file (sym (ap (option_map (λ (a : Node). a.content)) (nodes_other key (Some new) t file n)) ∙ listed_file moment dir keys begun file c.0 c.1))
+      ]
+
+      pub created_keeps : IsImage m5 → KeepsRest old m5
+      created_keeps is = record {
         kept = changed_kept old m5 t st created_changed;
         lowest = created_lowest;
         freed = λ b inside free. freed_stays old m5 t st created_changed b inside (sym (other_mark b inside (λ e. in_use (subst (HasFreeBit m5) e free))) ∙ free) free;
         untold = untold_kept old m5 t (made moment dir key name (content_of kind) t) st after created.proper created_changed
             (past_end_trans old m1 m5 count_m1 mark_end (off_past_end old t st m1 m5 marked_map off_map));
+        uses = uses_laid old m5 t (made moment dir key name (content_of kind) t) st created laid was_there (λ b. refl);
+        kinds = was_file;
+        bytes = λ was. is;
       }
 
       -- the key was the lowest free block, and no block became free

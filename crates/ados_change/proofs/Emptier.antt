@@ -1,6 +1,6 @@
 -- A file is emptied before its removal; a directory has nothing to empty.
-use Rattle.ados_change.proofs.Common.{no_data, ◌≡◌, ◌≢◌, ℕ, List, slice_index, Option, None, option_map, refl, sym, ap, ◌∙◌, subst, arith, InBlock, OnlyBlock, IsInside, block_count, has_free_bit, HasFreeBit, same_count, same_weaken, page_block, bit_of_inside, InImage, size_in, Duty, HasDuty, Stands, Node, Tree, entries_in, count_same, slice_get-index, KeepsPastEnd, KeepsUntold, mark_kept, inl, inr, ◌==◌, not, filter, Some, ap₂, option_map_or, cases_eq, Date3, changed, listed, removed, stamped, with_node, entries, parent_of, zero, suc, ◌+◌, ◌*◌, ◌/◌, ◌<◌, ◌≤◌, ◌∷◌, length, take, option_and_then, [], cases_lt, nil_from_length, data_count, extension_count, data_blocks, extension_blocks, IsBeside, root_key, page_count, pages_of, root_is, root, NAME_BYTE, COMMENT_BYTE, SameBut, IsDiskStamp, byte_at, secondary_type, FILE_TYPE, left, shortened, without_archive, type_of, Content, bytes_of, content_at, size_of, Directory, File, HasFileKey, HasFileBytes, KeepsBlock, KeepsRest, TakesNone, directory_node, parent_in, CanRemove, get_or_past, root_of, slice_get-back, IsChanged, IsPage, IsPlain, IsWritten, of_none, of_node, of_name, of_comment, Empties, GivesBack, IsEmptied, WritesOnlyEntry}
-use Rattle.ados_change.proofs.Changed.{same_with, nodes_here, nodes_other, changed_keeps, each_keeps, parent_field, relisted, same_nodes}
+use Rattle.ados_change.proofs.Common.{no_data, ◌≡◌, ◌≢◌, ℕ, List, slice_index, Option, None, option_map, refl, sym, ap, ◌∙◌, subst, arith, InBlock, OnlyBlock, IsInside, block_count, has_free_bit, HasFreeBit, same_count, same_weaken, page_block, bit_of_inside, InImage, size_in, Duty, HasDuty, Stands, Node, Tree, entries_in, count_same, slice_get-index, KeepsPastEnd, KeepsUntold, mark_kept, inl, inr, ◌==◌, not, filter, Some, ap₂, option_map_or, cases_eq, Date3, changed, listed, removed, stamped, with_node, entries, parent_of, zero, suc, ◌+◌, ◌*◌, ◌/◌, ◌<◌, ◌≤◌, ◌∷◌, length, take, option_and_then, [], cases_lt, nil_from_length, data_count, extension_count, data_blocks, extension_blocks, IsBeside, root_key, page_count, pages_of, root_is, root, NAME_BYTE, COMMENT_BYTE, SameBut, IsDiskStamp, byte_at, secondary_type, FILE_TYPE, left, shortened, without_archive, type_of, Content, bytes_of, content_at, size_of, Directory, File, HasFileKey, HasFileBytes, KeepsBlock, KeepsRest, TakesNone, directory_node, parent_in, CanRemove, get_or_past, root_of, slice_get-back, IsChanged, IsPage, IsPlain, IsWritten, of_none, of_node, of_name, of_comment, Empties, GivesBack, IsEmptied, WritesOnlyEntry, is_some, IsSome, false≢true, IsImage}
+use Rattle.ados_change.proofs.Changed.{same_with, nodes_here, nodes_other, changed_keeps, each_keeps, parent_field, relisted, same_nodes, listed_file}
 use Rattle.ados_change.proofs.EntriesUntold.{IsOffMap, off_past_end, old_pages, untold_beside}
 use Rattle.ados_change.proofs.Loose.{unused_is_loose, Spells, spells, stands}
 use Rattle.ados_change.proofs.Making.{no_node as none_in}
@@ -10,6 +10,7 @@ use Rattle.ados_change.proofs.EntriesKept.{changed_kept}
 use Rattle.ados_change.proofs.FilesStay.{has_bytes, untold_trans}
 use Rattle.ados_change.proofs.Keeping.{none_taken}
 use Rattle.ados_change.proofs.Loose.{left_is, not_own_parent, kept as remaining}
+use Rattle.ados_change.proofs.Uses.{uses_stay, kinds_stay}
 
 -- ---- a block that is marked free gets other bytes: the image represents the same tree
 
@@ -292,8 +293,33 @@ module _ (moment : Date3) (key : ℕ) (old mid away new : List ℕ) (t : Tree) (
         ∙ nodes_other can.dir (option_map (relisted moment (remaining t st.proper key can.dir can.listed moment)) (t.nodes can.dir)) t file (not_dir file bytes (was t st)) in
         has_bytes away (removed moment key t) gone file bytes (ap (option_map (λ (a : Node). a.content)) node ∙ was t st)
 
-    pub keeps_away : KeepsRest old new
-    keeps_away = record {
+    untold_away : KeepsUntold old new
+    untold_away = untold_trans old away new t st count_away afterwards (untold_trans old mid away t st count_mid in_between empties.untold untold) (untold_still away new (removed moment key t) gone key key_in_away gives.free back)
+
+    -- each node was there, and each file had the same bytes
+    abbrev was_left : List ℕ
+    was_left = remaining t st.proper key can.dir can.listed moment
+
+    node_left : (k : ℕ) → k ≢ key → (removed moment key t).nodes k ≡ (listed moment can.dir was_left t).nodes k
+    node_left k n = nodes_other key None (left moment key t) k n ∙ ap (λ (u : Tree). u.nodes k) (left_is t st.proper key can.dir can.listed moment)
+
+    was_there : (k : ℕ) → IsSome ((removed moment key t).nodes k) → IsSome (t.nodes k)
+    was_there k m = elim (cases_eq k key) [
+      | inl e ↦ absurd (false≢true (sym (ap is_some (ap (removed moment key t).nodes e ∙ nodes_here key None (left moment key t))) ∙ m))
+      | inr n ↦ sym (ap is_some (node_left k n) ∙ changed_keeps is_some (relisted moment was_left) can.dir t (each_keeps is_some (relisted moment was_left) (λ a. refl)) k) ∙ m
+    ]
+
+    lost_same : (b : ℕ) → (removed moment key t).lost b ≡ t.lost b
+    lost_same b = ap (λ (u : Tree). u.lost b) (left_is t st.proper key can.dir can.listed moment)
+
+    was_file : (file : ℕ) (bytes : List ℕ) → content_at (removed moment key t) file ≡ Some (File bytes) → content_at t file ≡ Some (File bytes)
+    was_file file bytes is = listed_file moment can.dir was_left t file bytes (sym (ap (option_map (λ (a : Node). a.content)) (node_left file apart)) ∙ is)
+      where
+        apart : file ≢ key
+        apart = not_key file new stands_away (λ u r. (bytes, has_bytes new (removed moment key t) stands_away file bytes is u r))
+
+    pub keeps_away : IsImage new → KeepsRest old new
+    keeps_away is = record {
       kept = changed_kept old new t st whole_change;
       lowest = none_taken old new takes_none;
       freed = λ b inside free i l. elim (cases_eq b key) [
@@ -302,5 +328,8 @@ module _ (moment : Date3) (key : ℕ) (old mid away new : List ℕ) (t : Tree) (
             let was : HasFreeBit away b = sym (mark b inside) ∙ free in
             back.same_byte b i l other ∙ gives.freed b (in_mid b inside) other was i l ∙ empties.freed b inside (gives.given b (in_mid b inside) other was) i l
       ];
-      untold = untold_trans old away new t st count_away afterwards (untold_trans old mid away t st count_mid in_between empties.untold untold) (untold_still away new (removed moment key t) gone key key_in_away gives.free back);
+      untold = untold_away;
+      uses = uses_stay old new t (removed moment key t) st stands_away (ap (λ (n : ℕ). n / 512) whole_change.same_length) untold_away was_there lost_same was_file;
+      kinds = kinds_stay old new t (removed moment key t) st stands_away (ap (λ (n : ℕ). n / 512) whole_change.same_length) untold_away was_there lost_same was_file;
+      bytes = λ was. is;
     }

@@ -1,5 +1,5 @@
 -- A change of fields in blocks of keys leaves all bytes outside fields and the bitmap untouched.
-use Rattle.ados_change.proofs.Common.{◌≡◌, ◌≢◌, ℕ, ◌-◌, ◌/◌, ◌<◌, ◌≤◌, ◌⊎◌, inl, inr, List, Some, refl, ◌∙◌, arith, byte_at, long, HasText, format_of, COMMENT_BYTE, NAME_BYTE, SameBut, same_long, same_weaken, IsName, IsComment, Node, Tree, root, Duty, Stands, HasFileKey, KeepsRest, KeepsData, data_at, IsWritten, of_node, of_name, of_comment, sum, bits, date, disk}
+use Rattle.ados_change.proofs.Common.{◌≡◌, ◌≢◌, ℕ, ◌-◌, ◌/◌, ◌<◌, ◌≤◌, ◌⊎◌, inl, inr, List, Some, refl, ◌∙◌, arith, byte_at, long, HasText, format_of, COMMENT_BYTE, NAME_BYTE, SameBut, same_long, same_weaken, IsName, IsComment, Node, Tree, root, Duty, Stands, HasFileKey, IsImage, Kept, KeepsRest, KeepsUntold, KeepsUses, KeepsData, data_at, IsWritten, of_node, of_name, of_comment, sum, bits, date, disk, KeepsKinds}
 use Rattle.ados_change.proofs.EntriesKept.{changed_kept, unwritten, written_changed}
 use Rattle.ados_change.proofs.EntriesUntold.{keeps_freed, marks_stay, past_end}
 use Rattle.ados_change.proofs.FilesStay.{data_blocks_stay, data_serves, extension_blocks_stay, file_of_key, files_stay}
@@ -36,12 +36,21 @@ module _ (old new : List ℕ) (t : Tree) (s : Stands old t) where
           bytes = λ q i l m. footprint.same_byte (data_at old file q) i m (unwritten old t s new (data_at old file q) i (Duty.Data file q) (data_serves old t s file (file_of_key old t s file key) q l) (λ z. cc z));
         }
 
-    pub keeps_fields : KeepsRest old new
-    keeps_fields = record {
-      kept = changed_kept old new t s (written_changed old t s new old new footprint);
+    pub fields_kept : Kept old new
+    fields_kept = changed_kept old new t s (written_changed old t s new old new footprint)
+
+    pub fields_untold : KeepsUntold old new
+    fields_untold = files_stay old new (past_end old new t s footprint) (λ file was is. data_stays file was)
+
+    pub keeps_fields : KeepsUses old new → KeepsKinds old new → IsImage new → KeepsRest old new
+    keeps_fields uses kinds is = record {
+      kept = fields_kept;
       lowest = none_taken old new (λ b inside free. marks_stay old new t s footprint b inside ∙ free);
       freed = keeps_freed old new t s footprint;
-      untold = files_stay old new (past_end old new t s footprint) (λ file was is. data_stays file was);
+      untold = fields_untold;
+      uses = uses;
+      kinds = kinds;
+      bytes = λ was. is;
     }
 
   -- ---- the bytes for a node

@@ -1,6 +1,7 @@
 -- What is unchanged when nothing changes, and in headers with unchanged pointers.
-use Rattle.ados_change.proofs.Common.{◌≡◌, ℕ, zero, suc, ◌<◌, ◌≤◌, true, false, List, ◌∷◌, slice_index, refl, ap, ◌∙◌, arith, ◌-◌, ap₂, long, nat_le, Bool, cond, ◌++◌, [], leb-true, pointer_count, first_pointers, pointers_of, KeepsFirstData, first_data, KeepsRest, TakesLowest, TakesNone}
+use Rattle.ados_change.proofs.Common.{inl, ◌≡◌, ℕ, zero, suc, ◌<◌, ◌≤◌, true, false, List, ◌∷◌, slice_index, refl, ap, ◌∙◌, arith, ◌-◌, ap₂, long, nat_le, Bool, cond, ◌++◌, [], leb-true, pointer_count, first_pointers, pointers_of, KeepsFirstData, first_data, KeepsRest, TakesLowest, TakesNone}
 use Rattle.ados_change.proofs.FilesStay.{same_untold}
+use Rattle.ados_change.proofs.Uses.{uses_same}
 
 -- ---- the first data block
 
@@ -33,6 +34,8 @@ none_taken old new none = record {
   first = λ block m f. absurd (m.in_use (none block m.inside m.was_free));
   data_rise = λ file f i j l m a b. absurd (a.in_use (none _ a.inside a.was_free));
   extensions_rise = λ file f i j l m a b. absurd (a.in_use (none _ a.inside a.was_free));
+  in_turn = λ file f q i l m a b. absurd (a.in_use (none _ a.inside a.was_free));
+  zero_end = λ file q i f a m. absurd (a.in_use (none _ a.inside a.was_free));
 }
 
 -- an unchanged image
@@ -47,4 +50,7 @@ same_keeps image = record {
   lowest = none_taken image image (λ block i free. free);
   freed = λ block inside free i l. refl;
   untold = same_untold image;
+  uses = uses_same image;
+  kinds = λ file key. inl key;
+  bytes = λ image. image;
 }

@@ -35,3 +35,8 @@ pub mod Emptier
 pub mod Writable
 pub mod FilesStay
 pub mod Keeping
+pub mod Uses
+pub mod Reaching
+pub mod SameFields
+pub mod SameLayout
+pub mod SameBytes

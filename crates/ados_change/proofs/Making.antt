@@ -131,4 +131,12 @@ module _ (filled new : List ℕ) (key dir : ℕ) (name : List ℕ) (content : Co
           let serves : HasDuty u after.layout key (Duty.Extension f i) = subst (λ (c : ℕ). HasDuty u after.layout c (Duty.Extension f i)) (is_key _ a) (extension_serves new u after f (file_of_key new u after f k) i (omega (arith, l, m))) in
           let duty : Duty.Extension f i ≡ Duty.Key = after.fits.one_duty key (Duty.Extension f i) Duty.Key serves key_serves in
           absurd (cc duty);
+      in_turn = λ f k q i l m a b.
+          let serves : HasDuty u after.layout key (Duty.Data f i) = subst (λ (c : ℕ). HasDuty u after.layout c (Duty.Data f i)) (is_key _ b) (data_serves new u after f (file_of_key new u after f k) i m) in
+          let duty : Duty.Data f i ≡ Duty.Key = after.fits.one_duty key (Duty.Data f i) Duty.Key serves key_serves in
+          absurd (cc duty);
+      zero_end = λ f q i k a m.
+          let serves : HasDuty u after.layout key (Duty.Data f q) = subst (λ (c : ℕ). HasDuty u after.layout c (Duty.Data f q)) (is_key _ a) (data_serves new u after f (file_of_key new u after f k) q m.block) in
+          let duty : Duty.Data f q ≡ Duty.Key = after.fits.one_duty key (Duty.Data f q) Duty.Key serves key_serves in
+          absurd (cc duty);
     }

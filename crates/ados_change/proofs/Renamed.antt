@@ -1,8 +1,8 @@
 -- An entry in no list gets another name and directory: the image represents the tree with them.
-use Rattle.ados_change.proofs.Common.{◌≡◌, ◌≢◌, ℕ, ◌+◌, ◌/◌, ◌<◌, ◌≤◌, ◌⊎◌, inl, inr, List, length, Option, Some, is_some, option_map, refl, sym, ap, ◌∙◌, subst, arith, block_sum, long, Chained, HasText, table_entry, parent_key, COMMENT_BYTE, NAME_BYTE, NEXT_IN_CHAIN, same_weaken, IsName, Node, Tree, root, size_in, Directory, changed, Layout, HasNode, HasEntry, in_slot, SameBut, AtTitle, Titled, Chained-kept, block_count, byte_at, root_key, HasFreeBit, same_count, same_trans, Date3, slot_at-small, LawfulChains, slot_at, CanInsert, InsertsLast, Unlinks, link_block, link_long, InImage, entered, renamed, KeepsRest, TakesNone, Stands, CanRename, Dated, stamped, IsChanged, IsWritten, KeepsBehindName}
+use Rattle.ados_change.proofs.Common.{◌≡◌, ◌≢◌, ℕ, ◌+◌, ◌/◌, ◌<◌, ◌≤◌, ◌⊎◌, inl, inr, List, length, Option, Some, is_some, option_map, refl, sym, ap, ◌∙◌, subst, arith, block_sum, long, Chained, HasText, table_entry, parent_key, COMMENT_BYTE, NAME_BYTE, NEXT_IN_CHAIN, same_weaken, IsName, Node, Tree, root, size_in, Directory, changed, Layout, HasNode, HasEntry, in_slot, SameBut, AtTitle, Titled, Chained-kept, block_count, byte_at, root_key, HasFreeBit, same_count, same_trans, Date3, slot_at-small, LawfulChains, slot_at, CanInsert, InsertsLast, Unlinks, link_block, link_long, InImage, entered, renamed, KeepsRest, TakesNone, Stands, CanRename, Dated, stamped, IsChanged, IsWritten, KeepsBehindName, enter, entries, name_of, slot, IsSome, content_at, File, Content, IsImage}
 use Rattle.ados_change.proofs.Unchanged.{AtLongs, sum-kept, long-kept, at_root, dated_count}
-use Rattle.ados_change.proofs.Changed.{changed_keeps, each_keeps, was, nodes_other, relisted}
-use Rattle.ados_change.proofs.Loose.{Loose, Spells, slots_beside, kept, left_is, proper_is_loose, stands}
+use Rattle.ados_change.proofs.Changed.{changed_keeps, each_keeps, listed_file, was, nodes_other, relisted}
+use Rattle.ados_change.proofs.Loose.{Loose, Spells, slots_beside, kept, layout_is, left_is, proper_is_loose, stands}
 use Rattle.ados_change.proofs.Reframed.{TellsOnly, first_kept, last_kept, text_stays, date_stays, node_stays, entry_stays, reframed}
 use Rattle.ados_change.proofs.Leaving.{entry, in_tree, no_root, out, out_is_loose, out_entry, count_out, out_spells, out_written, place_behind, can_insert, entered_spells, stamped_spells}
 use Rattle.ados_change.proofs.Keeping.{none_taken}
@@ -10,6 +10,7 @@ use Rattle.ados_change.proofs.Lawful.{lawful_chains}
 use Rattle.ados_change.proofs.EntriesKept.{behind_name, changed_kept, written_changed, IsKnown, dated_kept, linked_kept, stamped_kept, titled_kept}
 use Rattle.ados_change.proofs.ProperChanges.{dir_is_other, directory_at, moved_here, moved, moved_is_loose, moved_entered_proper, into_directory, renamed_is_proper}
 use Rattle.ados_change.proofs.EntriesUntold.{keeps_freed, marks_stay, past_end, untold_kept}
+use Rattle.ados_change.proofs.Uses.{has_key, uses_laid}
 
 module _ (old new : List ℕ) (t : Tree) (lay : Layout) (key dir : ℕ) (name : List ℕ) (s : Spells old t lay) (loose : Loose t key) (entry : Node) (from : ℕ) (at : t.nodes key ≡ Some entry) (below : entry.parent ≡ Some from) (valid : IsName name) (r : Titled key dir name old new) where
   -- the longs of an entry's name, directory and checksum
@@ -156,6 +157,10 @@ module _ (old : List ℕ) (t : Tree) (st : Stands old t) (moment : Date3) (key d
         pub moved_stands : Stands m6 (renamed moment key dir name t)
         moved_stands = stands m6 (renamed moment key dir name t) st.layout (renamed_is_proper t moment key dir name st.proper can) after
 
+        laid : moved_stands.layout ≡ st.layout
+        unfolding moved_stands
+        laid = layout_is m6 (renamed moment key dir name t) st.layout (renamed_is_proper t moment key dir name st.proper can) after
+
         -- ---- what is written
 
         known : (k : ℕ) (x : Node) → there.nodes k ≡ Some x → k ≢ root t → IsKnown old t st m6 k
@@ -202,10 +207,35 @@ module _ (old : List ℕ) (t : Tree) (st : Stands old t) (moment : Date3) (key d
         pub moved_behind : KeepsBehindName key name old m6
         moved_behind = behind_name old m6 t st moved_changed key the_entry.0 the_entry.1 name counted
 
-        pub moved_keeps : KeepsRest old m6
-        moved_keeps = record {
+        -- each node was there
+        was_there : (k : ℕ) → IsSome ((renamed moment key dir name t).nodes k) → IsSome (t.nodes k)
+        was_there =
+            let keys = enter (λ j. slot (name_of there j)) key (entries there dir) in
+            let remaining = kept t st.proper key can.from can.listed moment in
+            subst (λ (u : Tree). (k : ℕ) → IsSome ((stamped moment (entered moment dir key (changed key (titling dir name) u))).nodes k) → IsSome (t.nodes k)) (sym (left_is t st.proper key can.from can.listed moment))
+            (λ k m. sym (
+            changed_keeps is_some (relisted moment keys) dir there (each_keeps is_some (relisted moment keys) (λ a. refl)) k
+            ∙ changed_keeps is_some (titling dir name) key (out old t st moment key can.from can.listed) (each_keeps is_some (titling dir name) (λ a. refl)) k
+            ∙ changed_keeps is_some (relisted moment remaining) can.from t (each_keeps is_some (relisted moment remaining) (λ a. refl)) k
+            )
+            ∙ m)
+
+        was_file : (file : ℕ) (bytes : List ℕ) → content_at (renamed moment key dir name t) file ≡ Some (File bytes) → content_at t file ≡ Some (File bytes)
+        was_file =
+            let keys = enter (λ j. slot (name_of there j)) key (entries there dir) in
+            let remaining = kept t st.proper key can.from can.listed moment in
+            let content : Option Node → Option Content = option_map (λ (a : Node). a.content) in
+            subst (λ (u : Tree). (file : ℕ) (bytes : List ℕ) → content_at (stamped moment (entered moment dir key (changed key (titling dir name) u))) file ≡ Some (File bytes) → content_at t file ≡ Some (File bytes)) (sym (left_is t st.proper key can.from can.listed moment))
+            (λ file bytes is. listed_file moment can.from remaining t file bytes
+            (sym (changed_keeps content (titling dir name) key (out old t st moment key can.from can.listed) (each_keeps content (titling dir name) (λ a. refl)) file) ∙ listed_file moment dir keys there file bytes is))
+
+        pub moved_keeps : IsImage m6 → KeepsRest old m6
+        moved_keeps is = record {
           kept = changed_kept old m6 t st moved_changed;
           lowest = none_taken old m6 moved_none;
           freed = keeps_freed old m6 t st moved_written;
           untold = untold_kept old m6 t (renamed moment key dir name t) st after moved_stands.proper moved_changed (past_end old m6 t st moved_written);
+          uses = uses_laid old m6 t (renamed moment key dir name t) st moved_stands laid (λ k m. inl (was_there k m)) (λ b. ap (λ (u : Tree). u.lost b) (left_is t st.proper key can.from can.listed moment));
+          kinds = λ file still. let c = still (renamed moment key dir name t) moved_stands in inl (has_key old t st file (was_file file c.0 c.1));
+          bytes = λ was. is;
         }

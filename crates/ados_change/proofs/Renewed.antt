@@ -1,5 +1,5 @@
 -- A file that gets its time stamp and is then rewritten: consequences for the tree and the image.
-use Rattle.ados_change.proofs.Common.{◌≡◌, ◌≢◌, ℕ, ◌+◌, ◌/◌, ◌<◌, ◌≤◌, inl, inr, true, false, List, length, Option, Some, None, option_map, refl, sym, ap, ap₂, ◌∙◌, subst, arith, eq-eqb, [], ne_eqb, stamped, cases_eq, lt-ltb, ltb-true, false≢true, IsImage, free_bit_count, IsInside, block_count, byte_at, long, has_free_bit, secondary_type, format_of, SameBut, FILE_TYPE, same_count, long-same, Date3, NoneFreeBelow, block_cost, Content, Node, Tree, root, free, content_at, size_of, bytes_of, data_blocks, extension_blocks, contents, HasFree, WritableFile, IsDataField, RisesBehind, IsBeside, KeepsUnnamed, pages_of, page_count, File, Duty, Stands, HasFileKey, HasTree, rewritten, without_archive, KeepsRest, root_is, IsFileNode, one_tree, AtStamps, IsFileStamp, touched, IsStamped, NeedsMore, free_bits_count}
+use Rattle.ados_change.proofs.Common.{◌≡◌, ◌≢◌, ℕ, ◌+◌, ◌/◌, ◌<◌, ◌≤◌, inl, inr, true, false, List, length, Option, Some, None, option_map, refl, sym, ap, ap₂, ◌∙◌, subst, arith, eq-eqb, [], ne_eqb, stamped, cases_eq, lt-ltb, ltb-true, false≢true, IsImage, free_bit_count, IsInside, block_count, byte_at, long, has_free_bit, secondary_type, format_of, SameBut, FILE_TYPE, same_count, long-same, Date3, InTurn, slice_index, NoneFreeBelow, block_cost, Content, Node, Tree, root, free, content_at, size_of, bytes_of, data_blocks, extension_blocks, contents, HasFree, WritableFile, IsDataField, RisesBehind, IsBeside, KeepsUnnamed, pages_of, page_count, File, Duty, Stands, HasFileKey, HasTree, rewritten, without_archive, KeepsRest, root_is, IsFileNode, one_tree, AtStamps, IsFileStamp, touched, IsStamped, NeedsMore, free_bits_count, is_some, KeepsUses, KeepsKinds}
 use Rattle.ados_data.proofs.Bounds.{below_stays}
 use Rattle.ados_model.specs.Tree.{bytes_in as bytes_held}
 use Rattle.ados_data.specs.declared.place.Place.{Place}
@@ -10,9 +10,10 @@ use Rattle.ados_change.proofs.Changed.{each_keeps, same_nodes, changed_keeps}
 use Rattle.ados_change.proofs.Contents.{refilled, holding, file_not_root}
 use Rattle.ados_change.proofs.Relaid.{IsRewritten}
 use Rattle.ados_change.proofs.Refilled.{stands_after}
-use Rattle.ados_change.proofs.BytesKept.{kept, takes_lowest, freed_stays, key_used}
-use Rattle.ados_change.proofs.Stamping.{kept_before, type_stamped, count_marked, lowest_before, marks_same, format_same, stamps_keep}
+use Rattle.ados_change.proofs.BytesKept.{kept, kinds, takes_lowest, freed_stays, key_used, uses}
+use Rattle.ados_change.proofs.Stamping.{kept_before, type_stamped, count_marked, lowest_before, marks_same, format_same, stamps_kept, stamps_untold}
 use Rattle.ados_change.proofs.BytesUntold.{untold_kept}
+use Rattle.ados_change.proofs.Uses.{has_key, kinds_both, uses_both, uses_stay}
 
 pub bytes_in : (image : List ℕ) (t : Tree) (s : Stands image t) (file : ℕ) → HasFileKey image file → contents image file ≡ bytes_of t file
 bytes_in image t s file key =
@@ -120,7 +121,7 @@ module _ (moment : Date3) (old mid : List ℕ) (file : ℕ) (tree : HasTree old)
   pub beside_mid : (blocks extensions : List ℕ) (b : ℕ) → IsBeside old file blocks extensions b → IsBeside mid file blocks extensions b
   beside_mid blocks extensions b n =
       let count = same_count (AtStamps (root tree.0) file) old mid rest in
-      let past = (stamps_keep old mid tree.0 tree.1 file node.node node.at file_is_no_root rest).untold.past_end in
+      let past = (stamps_untold old mid tree.0 tree.1 file node.node node.at file_is_no_root rest).past_end in
       record {
         inside = omega (arith, n.inside, count);
         beside_pages = λ p l e.
@@ -141,7 +142,7 @@ module _ (moment : Date3) (old mid : List ℕ) (file : ℕ) (tree : HasTree old)
   pub same_place : (place : Place) → IsPlace old file place → IsPlace mid file place
   same_place place =
       let c = key tree.0 tree.1 in
-      let stays = (stamps_keep old mid tree.0 tree.1 file node.node node.at file_is_no_root rest).untold in
+      let stays = (stamps_untold old mid tree.0 tree.1 file node.node node.at file_is_no_root rest) in
       let same = stays.other_data file c.0 (has_bytes old tree.0 tree.1 file c.0 c.1) (has_bytes mid mid_tree.0 mid_tree.1 file c.0 (touched_contents tree.0 file ∙ c.1)) in
       subst (λ (xs : List ℕ). IsAmong file xs place) (sym same.extensions)
 
@@ -152,6 +153,18 @@ module _ (moment : Date3) (old mid : List ℕ) (file : ℕ) (tree : HasTree old)
       let need = ap (λ f. block_cost f size) format in
       let held : block_cost (format_of mid) (length (contents mid file)) ≡ block_cost (format_of old) (length (contents old file)) = ap₂ block_cost format (ap length same_contents) in
       omega (arith, free, marked, need, held)
+
+  -- the uses of its blocks are the same
+  stamp_uses : KeepsUses old mid
+  stamp_uses =
+      uses_stay old mid tree.0 (touched moment file tree.0) tree.1 mid_tree.1 (same_count (AtStamps (root tree.0) file) old mid rest) (stamps_untold old mid tree.0 tree.1 file node.node node.at file_is_no_root rest)
+      (λ k m. sym (changed_keeps is_some touch file tree.0 (each_keeps is_some touch (λ a. refl)) k) ∙ m) (λ b. refl) (λ g bytes is. sym (touched_contents tree.0 g) ∙ is)
+    where
+      touch : Node → Node
+      touch a = record a { date = moment; protection = without_archive a.protection }
+
+  stamp_kinds : KeepsKinds old mid
+  stamp_kinds g is = let c = is mid_tree.0 mid_tree.1 in inl (has_key old tree.0 tree.1 g (sym (touched_contents tree.0 g) ∙ c.1))
 
   module _ (new : List ℕ) (r : IsRewritten mid file (data_blocks mid file) (extension_blocks mid file) new (data_blocks new file) (extension_blocks new file) (contents new file)) where
     -- for each tree of the old image, the new one represents the tree with the file rewritten
@@ -175,9 +188,10 @@ module _ (moment : Date3) (old mid : List ℕ) (file : ℕ) (tree : HasTree old)
         beside_data j e f = omega (arith, e, f)
 
     module _ (keeps : KeepsUnnamed mid file (data_blocks mid file) (extension_blocks mid file) new (data_blocks new file) (extension_blocks new file))
-        (images : contents new file ≡ contents mid file → IsImage mid × IsImage new)
+        (images : contents new file ≡ contents mid file → IsImage mid) (is : IsImage new)
         (lowest : (c d : ℕ) → IsInside (block_count mid) d → 2 ≤ c → c < d → has_free_bit mid d ≡ true → has_free_bit new d ≡ false → has_free_bit new c ≡ false)
-        (rises : RisesBehind (data_blocks mid file) (data_blocks new file)) (rises' : RisesBehind (extension_blocks mid file) (extension_blocks new file)) where
+        (rises : RisesBehind (data_blocks mid file) (data_blocks new file)) (rises' : RisesBehind (extension_blocks mid file) (extension_blocks new file))
+        (turns : (q i : ℕ) → length (extension_blocks mid file) ≤ q → q < length (extension_blocks new file) → length (data_blocks mid file) ≤ i → i < length (data_blocks new file) → InTurn q (slice_index (extension_blocks new file) q) i (slice_index (data_blocks new file) i)) where
       pub keeps_rest : KeepsRest old new
       keeps_rest =
           let u = touched moment file tree.0 in
@@ -187,11 +201,12 @@ module _ (moment : Date3) (old mid : List ℕ) (file : ℕ) (tree : HasTree old)
           let laid : IsRewritten mid file (mid_tree.1.layout.file_data file) (mid_tree.1.layout.extensions file) new (data_blocks new file) (extension_blocks new file) (contents new file) = rw (← blocks, ← lists) r in
           let unnamed : KeepsUnnamed mid file (mid_tree.1.layout.file_data file) (mid_tree.1.layout.extensions file) new (data_blocks new file) (extension_blocks new file) = rw (← blocks, ← lists) keeps in
           record {
-            kept = kept_before old mid tree.0 tree.1 file node.node node.at file_is_no_root rest node.bytes node.content new still_file (stamps_keep old mid tree.0 tree.1 file node.node node.at file_is_no_root rest).kept
+            kept = kept_before old mid tree.0 tree.1 file node.node node.at file_is_no_root rest node.bytes node.content new still_file (stamps_kept old mid tree.0 tree.1 file node.node node.at file_is_no_root rest)
                 (kept mid new u mid_tree.1 file f.node f.bytes f.at f.content (data_blocks new file) (extension_blocks new file) (contents new file) laid unnamed);
             lowest = lowest_before old mid tree.0 tree.1 file node.node node.at file_is_no_root rest new
                 (takes_lowest mid new u mid_tree.1 file f.node f.bytes f.at f.content (data_blocks new file) (extension_blocks new file) (contents new file) laid unnamed lowest
-                (subst (λ (xs : List ℕ). RisesBehind xs (data_blocks new file)) blocks rises) (subst (λ (xs : List ℕ). RisesBehind xs (extension_blocks new file)) lists rises'));
+                (subst (λ (xs : List ℕ). RisesBehind xs (data_blocks new file)) blocks rises) (subst (λ (xs : List ℕ). RisesBehind xs (extension_blocks new file)) lists rises')
+                (λ q i l m n k. turns q i (omega (arith, l, ap length lists)) m (omega (arith, n, ap length blocks)) k));
             freed = λ b inside free i l.
                 let used = key_used mid new u mid_tree.1 file f.node f.bytes f.at f.content (data_blocks new file) (extension_blocks new file) (contents new file) laid unnamed in
                 let at_root = used (root u) mid_tree.1.proper.root_node.0 mid_tree.1.proper.root_node.1 in
@@ -202,7 +217,16 @@ module _ (moment : Date3) (old mid : List ℕ) (file : ℕ) (tree : HasTree old)
                 ]);
             untold = untold_trans old mid new tree.0 tree.1 (same_count (AtStamps (root tree.0) file) old mid rest)
                 (λ g bs is was. has_bytes mid u mid_tree.1 g bs (touched_contents tree.0 g ∙ was tree.0 tree.1))
-                (stamps_keep old mid tree.0 tree.1 file node.node node.at file_is_no_root rest).untold
+                (stamps_untold old mid tree.0 tree.1 file node.node node.at file_is_no_root rest)
                 (untold_kept mid new u mid_tree.1 file f.node f.bytes f.at f.content (data_blocks new file) (extension_blocks new file) (contents new file) laid unnamed
-                (λ same. images (same ∙ sym (bytes_is mid u mid_tree.1 file f.node f.bytes f.at f.content))));
+                (λ same. (images (same ∙ sym (bytes_is mid u mid_tree.1 file f.node f.bytes f.at f.content)), is)));
+            uses = uses_both old mid new u mid_tree.1 (ap (λ (n : ℕ). n / 512) r.leaves.same_length ∙ same_count (AtStamps (root tree.0) file) old mid rest) stamp_uses
+                (uses mid new u mid_tree.1 file f.node f.bytes f.at f.content (data_blocks new file) (extension_blocks new file) (contents new file) laid unnamed)
+                (λ b inside free. sym (marks_mid b inside) ∙ free);
+            kinds = kinds_both old mid new (refilled file (contents new file) u)
+                (stands_after mid new u mid_tree.1 file f.node f.bytes f.at f.content (data_blocks new file) (extension_blocks new file) (contents new file) laid)
+                (ap (λ (n : ℕ). n / 512) r.leaves.same_length ∙ same_count (AtStamps (root tree.0) file) old mid rest) stamp_kinds
+                (kinds mid new u mid_tree.1 file f.node f.bytes f.at f.content (data_blocks new file) (extension_blocks new file) (contents new file) laid unnamed)
+                (λ b inside free. sym (marks_mid b inside) ∙ free);
+            bytes = λ was. is;
           }

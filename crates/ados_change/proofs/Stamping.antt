@@ -1,11 +1,11 @@
 -- An image with the time stamp of a change written into it: everything else is unchanged.
-use Rattle.ados_change.proofs.Common.{◌≡◌, ◌≢◌, ℕ, ◌+◌, ◌-◌, ◌/◌, ◌<◌, ◌≤◌, ◌⊎◌, inl, inr, Bool, cond, List, Some, refl, sym, ap, ◌∙◌, subst, arith, block_count, root_key, page_count, IsInside, long, has_free_bit, total, pointer_count, secondary_type, format_of, free_bit_count, FILE_TYPE, SameBut, same_long, same_count, same_weaken, Node, Tree, root, File, Stands, type_of, Role, IsFile, Reached, root_page, root_slot, directory_slot, next_entry, header_pointer, first_extension, extension_pointer, further_extension, start, Kept, IsField, Alike, IsTaken, KeepsRest, TakesLowest, root_or_parent, count_same, reached_stands, root_at, IsFileStamp, IsDiskStamp, AtStamps, total-same, IsWritten, of_node, [], IsSome, eq-eqb, ne_eqb, cases_eq, same_trans, Date3, HasFileKey, HasEntryKey, HasKey, HasTree, root_of, stamped, without_archive, root_is, IsFileNode, one_tree, Summed, dated, protected, touched, IsStamped, IsPlain}
+use Rattle.ados_change.proofs.Common.{◌≡◌, ◌≢◌, ℕ, ◌+◌, ◌-◌, ◌/◌, ◌<◌, ◌≤◌, ◌⊎◌, inl, inr, Bool, cond, List, Some, refl, sym, ap, ◌∙◌, subst, arith, block_count, root_key, page_count, IsInside, long, has_free_bit, total, pointer_count, secondary_type, format_of, free_bit_count, FILE_TYPE, SameBut, same_long, same_count, same_weaken, Node, Tree, root, File, Stands, type_of, Role, IsFile, Reached, root_page, root_slot, directory_slot, next_entry, header_pointer, first_extension, extension_pointer, further_extension, start, Kept, IsField, Alike, IsTaken, KeepsRest, TakesLowest, root_or_parent, count_same, reached_stands, root_at, IsFileStamp, IsDiskStamp, AtStamps, total-same, IsWritten, of_node, [], IsSome, eq-eqb, ne_eqb, cases_eq, same_trans, Date3, HasFileKey, HasEntryKey, HasKey, HasTree, root_of, stamped, without_archive, root_is, IsFileNode, one_tree, Summed, dated, protected, touched, IsStamped, IsPlain, KeepsUntold}
 use Rattle.ados_model.specs.declared.role.Role.TheVariants as roles
 use Rattle.ados_model.specs.Faults.{IsPlace}
 use Rattle.ados_model.specs.Faults.Reached.{named}
 use Rattle.ados_change.proofs.EntriesKept.{alike_field, changed_field}
 use Rattle.ados_change.proofs.EntriesUntold.{marks_stay}
-use Rattle.ados_change.proofs.FieldsKept.{IsTold, keeps_fields}
+use Rattle.ados_change.proofs.FieldsKept.{IsTold, fields_kept, fields_untold}
 use Rattle.ados_change.proofs.FilesStay.{file_of_key}
 use Rattle.ados_change.proofs.Keeping.{first_stays}
 use Rattle.ados_change.proofs.Changed.{same_nodes}
@@ -102,14 +102,17 @@ module _ (old new : List ℕ) (t : Tree) (s : Stands old t) (file : ℕ) (node :
 
   -- ---- all that an image keeps
 
-  pub stamps_keep : KeepsRest old new
-  stamps_keep = keeps_fields old new t s (AtStamps (root t) file) h (stamps_written new) told
-    where
-      told : (b i : ℕ) → AtStamps (root t) file b i → IsTold t b i
-      told b i (inl (e, inl f)) = inl f
-      told b i (inl (e, inr f)) = inr (omega (arith, f), omega (arith, f), λ z. omega (arith, f, z))
-      told b i (inr (e, inl f)) = inl f
-      told b i (inr (e, inr f)) = inr (omega (arith, f.0), omega (arith, f.1), λ z. omega (arith, f.0, z))
+  stamps_told : (b i : ℕ) → AtStamps (root t) file b i → IsTold t b i
+  stamps_told b i (inl (e, inl f)) = inl f
+  stamps_told b i (inl (e, inr f)) = inr (omega (arith, f), omega (arith, f), λ z. omega (arith, f, z))
+  stamps_told b i (inr (e, inl f)) = inl f
+  stamps_told b i (inr (e, inr f)) = inr (omega (arith, f.0), omega (arith, f.1), λ z. omega (arith, f.0, z))
+
+  pub stamps_kept : Kept old new
+  stamps_kept = fields_kept old new t s (AtStamps (root t) file) h (stamps_written new) stamps_told
+
+  pub stamps_untold : KeepsUntold old new
+  stamps_untold = fields_untold old new t s (AtStamps (root t) file) h (stamps_written new) stamps_told
 
   pub marks_same : (b : ℕ) → IsInside (block_count old) b → has_free_bit new b ≡ has_free_bit old b
   marks_same = marks_stay old new t s (same_weaken (AtStamps (root t) file) (IsWritten old t s new) old new (stamps_written new) h)
@@ -129,6 +132,8 @@ module _ (old new : List ℕ) (t : Tree) (s : Stands old t) (file : ℕ) (node :
     first = λ b m f. g.first b (moved b m) f;
     data_rise = λ f k i j l m a b. g.data_rise f k i j l m (moved _ a) (moved _ b);
     extensions_rise = λ f k i j l m a b. g.extensions_rise f k i j l m (moved _ a) (moved _ b);
+    in_turn = λ f k q i l m a b. g.in_turn f k q i l m (moved _ a) (moved _ b);
+    zero_end = λ f q i k a m. g.zero_end f q i k (moved _ a) m;
   }
     where
       moved : (b : ℕ) → IsTaken old last b → IsTaken new last b

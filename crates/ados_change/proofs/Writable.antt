@@ -1,5 +1,5 @@
 -- An image that represents a tree has lawful bitmap blocks, and each of its files can be changed.
-use Rattle.ados_change.proofs.Common.{◌≡◌, ◌≢◌, ℕ, zero, suc, ◌<◌, ◌≤◌, ◌==◌, true, false, List, ◌∷◌, length, slice_index, Some, refl, sym, ap, ◌∙◌, subst, arith, eq-eqb, ne_eqb, false_from_ne_true, Format, Ofs, Ffs, IsInside, block_count, byte_at, root_key, has_free_bit, format_of, byte-bytes_at, LawfulPages, page_block, pages_of, data_count, Node, Tree, size_of, HasFile, Duty, HasDuty, Stands, format_byte, IsLawful, AreApart, data_blocks, extension_blocks, contents, IsInUse, LawfulMap, WritableFile, data_blocks_are, extension_blocks_are, contents_are, File, count_same, root_is, slice_get-index, map, []}
+use Rattle.ados_change.proofs.Common.{◌≡◌, ◌≢◌, ℕ, zero, suc, ◌<◌, ◌≤◌, ◌==◌, true, false, List, ◌∷◌, length, slice_index, Some, refl, sym, ap, ◌∙◌, subst, arith, eq-eqb, ne_eqb, false_from_ne_true, Format, Ofs, Ffs, IsInside, block_count, byte_at, root_key, has_free_bit, format_of, byte-bytes_at, LawfulPages, page_block, pages_of, data_count, Node, Tree, size_of, HasFile, Duty, HasDuty, Stands, format_byte, IsLawful, AreApart, data_blocks, extension_blocks, contents, IsInUse, LawfulMap, WritableFile, data_blocks_are, extension_blocks_are, contents_are, File, count_same, root_is, slice_get-index, []}
 use Rattle.ados_change.proofs.Contents.{file_not_root}
 use Rattle.ados_change.proofs.Lawful.{lawful_pages as lawful_by, page_serves as page_named}
 use Rattle.ados_change.proofs.Loose.{proper_is_loose, spells}

@@ -98,5 +98,7 @@ pub fn grow(
         return Err(Full);
     }
     stamp(image, file, moment);
-    Ok(extend_near(image, file, near, size, from))
+    let bound = extend_near(image, file, near, size, from);
+    prove!(image.blocks() >= 16);
+    Ok(bound)
 }

@@ -34,6 +34,7 @@ pub fn remove(image: &mut Image, key: u32, moment: Date3)
     empty(image, key, moment);
     remove_empty(image, key, moment);
     image.put_bytes(key, 0, &header);
+    prove!(image.blocks() >= 16);
 }
 
 /// Frees the blocks of a file's data. A directory that can be removed has none.

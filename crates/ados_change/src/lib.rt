@@ -33,5 +33,5 @@ pub use entry_made::create;
 pub use entry_removed::remove;
 pub use entry_renamed::rename;
 pub use fields::{rename_disk, set_comment, set_date, set_protection};
-pub use laws::{made_is_proper, removed_is_proper, renamed_is_proper};
+pub use laws::{made_is_proper, removed_is_proper, renamed_is_proper, same_rest_same_bytes};
 pub use node_kind::NodeKind;

@@ -2,6 +2,7 @@
 
 ghost use Rattle.std.specs.Prelude.{◌+◌, length};
 ghost use Rattle.adf_block.specs.Frame.{SameBut, long_byte};
+ghost use Rattle.adf_block.specs.Whole.{IsImage};
 ghost use Rattle.ados_model.specs.Tree.{Tree};
 ghost use Rattle.ados_model.specs.Stands.{Stands};
 ghost use Rattle.ados_model.specs.Keys.{HasEntryKey, HasKey, HasTree};
@@ -63,6 +64,7 @@ pub fn stamp_disk(image: &mut Image, moment: Date3)
     requires { HasTree image.old }
     ensures stands { (t : Tree) → Stands image.old t → Stands image.new (stamped moment t) }
     ensures rest { SameBut (Summed (root_of image.old) (long_byte DISK_DATE) (long_byte (DISK_DATE + 3))) image.old image.new }
+    ensures image { IsImage image.new }
 {
     prove!(image.blocks() >= 16);
     let root = image.root();

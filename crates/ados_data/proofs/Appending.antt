@@ -56,7 +56,7 @@ module _ (old : List ℕ) (format : Format) (file : ℕ) (blocks extensions : Li
         | inl m ↦ inl (omega arith, head_pushed_before file extensions holder q (omega arith))
         | inr m ↦ inr (head_pushed_last file extensions holder q (omega (arith, l, m, length_push extensions holder)))
       ])
-      (λ i l. inl (l, refl)) (inl (suc (length extensions), omega (arith, length_push extensions holder), sym (head_pushed_last file extensions holder (suc (length extensions)) refl))) (omega arith) (omega (arith, length_push extensions holder)) in
+      (λ i l. inl (l, refl)) (inl (suc (length extensions), omega (arith, length_push extensions holder), sym (head_pushed_last file extensions holder (suc (length extensions)) refl))) (omega arith) (omega (arith, length_push extensions holder)) (inl (omega arith)) in
       let stands_new : Standing new format file blocks (extensions ++ holder ∷ []) size = stands_extended mid new format file blocks extensions size holder t x inside used headers datas (omega (arith, fits, some, full)) in
       let leaves_new : Leaves old file blocks extensions new = leaves_both old mid new file blocks extensions blocks (extensions ++ holder ∷ []) (leaves_taken old holder mid file blocks extensions n s.size_ok s.map (s.headers_used 0 (omega arith)))
       (leaves_extended mid new format file blocks extensions size holder t x inside used headers datas)
@@ -180,7 +180,7 @@ module _ (i0 i1 i2 i3 i4 : List ℕ) (format : Format) (file : ℕ) (blocks was 
           (λ q l. subst (λ (m : ℕ). IsInside m (slice_index (file ∷ r.extensions) q)) counts04 (t4.places.headers_inside q l))
           (λ i l. subst (λ (m : ℕ). IsInside m (slice_index (blocks ++ b ∷ []) i)) counts04 (t4.places.data_inside i l))
           (take_at blocks (b ∷ []) (length blocks) refl) (take_all (length r.extensions) r.extensions (omega arith))
-          (λ i l. (r.stands.data_used i l).marked) (λ q l. (r.stands.headers_used (suc q) (omega (arith, l))).marked) r.gains
+          (λ i l. (r.stands.data_used i l).marked) (λ q l. (r.stands.headers_used (suc q) (omega (arith, l))).marked) r.least (omega (arith, r.room)) r.gains
           (gains_kept i1 i3 i4 file blocks r.extensions (blocks ++ b ∷ []) r.extensions counts13 (marks_stay (resized_owned i3 i4 format file (blocks ++ b ∷ []) r.extensions size (length blocks + 1) (length r.extensions) size' t3 y' few (omega arith)))
           (gains_kept i1 i2 i3 file blocks r.extensions (blocks ++ b ∷ []) r.extensions (same_blocks i1 b i2 n r.stands.size_ok r.stands.map) (marks_stay (longer_owned i2 i3 format file blocks r.extensions size b t2 x' inside used headers datas)) new_gains));
     }
@@ -192,7 +192,7 @@ module _ (i0 i1 i2 i3 i4 : List ℕ) (format : Format) (file : ℕ) (blocks was 
               | inr m ↦ inr (get_or_push blocks b 0 i (omega (arith, l, m, length_push blocks b)))
             ])
             (inr (length blocks, omega (arith, length_push blocks b), sym (get_or_push blocks b 0 (length blocks) refl)))
-            (omega (arith, length_push blocks b)) (omega arith)
+            (omega (arith, length_push blocks b)) (omega arith) (inr (omega arith))
 
         later_leaves : Leaves i1 file blocks r.extensions i4
         later_leaves =

@@ -55,6 +55,7 @@ grows_both {old} {mid} {new} {file} {size} {size'} w a b = record {
       (λ i l. subst (λ (n : ℕ). IsInside n (slice_index (data_blocks new file) i)) counts (b.writable.lawful.places.data_inside i l))
       b.blocks b.extensions
       (λ i l. (a.writable.data_used i l).marked) (λ q l. (a.writable.headers_used (suc q) (omega (arith, l))).marked)
+      (omega (arith, a.writable.lawful.extensions_fit)) (omega (arith, a.writable.lawful.extensions_fit))
       a.gains b.gains;
   blocks = front_both (data_blocks old file) (data_blocks mid file) (data_blocks new file) a.blocks b.blocks;
   extensions = front_both (extension_blocks old file) (extension_blocks mid file) (extension_blocks new file) a.extensions b.extensions;

@@ -1,5 +1,5 @@
 -- What the steps of a change leave untouched, and the checksums after it.
-use Rattle.ados_data.proofs.Common.{◌≡◌, ◌≢◌, ℕ, suc, ◌-◌, ◌/◌, ◌<◌, ◌≤◌, ◌⊎◌, inl, inr, true, false, List, [], ◌∷◌, ◌++◌, length, take, slice_index, refl, sym, ap, ◌∙◌, subst, arith, cases_Bool, cases_lt, cases_eq, cases_order, false≢true, true_from_ne_false, length_push, NEXT_EXTENSION, Format, block_sum, block_count, has_free_bit, IsInside, IsSize, pages_of, page_block, page_of, HasBit, MapPlace, AtField, AtExtensionFields, IsInUse, LawfulMap, WritableFile, ChangedAreSummed, KeptOrSummed, IsNewBlock, IsExtended, IsLengthened, IsResized, IsOther, IsDataField, Leaves, IsOwn, Gains, RisesBehind, WasFree, LeavesOthers, bit_of_inside, get_or_append_left, get_or_push}
+use Rattle.ados_data.proofs.Common.{◌≡◌, ◌≢◌, ℕ, suc, ◌-◌, ◌*◌, ◌/◌, ◌<◌, ◌≤◌, ◌⊎◌, inl, inr, true, false, List, [], ◌∷◌, ◌++◌, length, take, slice_index, refl, sym, ap, ◌∙◌, subst, arith, cases_Bool, cases_lt, cases_eq, cases_order, false≢true, true_from_ne_false, length_push, NEXT_EXTENSION, Format, block_sum, block_count, has_free_bit, IsInside, IsSize, pages_of, page_block, page_of, HasBit, MapPlace, AtField, AtExtensionFields, IsInUse, LawfulMap, WritableFile, ChangedAreSummed, KeptOrSummed, IsNewBlock, IsExtended, IsLengthened, IsResized, IsOther, IsDataField, Leaves, IsOwn, Gains, RisesBehind, WasFree, LeavesOthers, bit_of_inside, get_or_append_left, get_or_push}
 use Rattle.ados_data.proofs.Lists.{head_pushed_before, head_pushed_last}
 use Rattle.ados_data.proofs.Untouched.{kept_both}
 use Rattle.ados_data.proofs.Grown.{front_length, front_at, front_header}
@@ -108,7 +108,16 @@ beside_gains old new file blocks extensions blocks' extensions' g c o = (
 )
 
 pub gains_same : (image : List ℕ) (file : ℕ) (blocks extensions : List ℕ) → Gains image file blocks extensions image blocks extensions
-gains_same image file blocks extensions = record { headers = λ q l. inl (l, refl); data_blocks_of = λ i l. inl (l, refl); marks = λ c i u. u; taken = λ c i f u. absurd (false≢true (sym u ∙ f)); lowest = λ c d i p l f u. absurd (false≢true (sym u ∙ f)); data_rises = λ i j l m n. absurd (omega (arith, l, m, n)); extensions_rise = λ i j l m n. absurd (omega (arith, l, m, n)) }
+gains_same image file blocks extensions = record { headers = λ q l. inl (l, refl); data_blocks_of = λ i l. inl (l, refl); marks = λ c i u. u; taken = λ c i f u. absurd (false≢true (sym u ∙ f)); lowest = λ c d i p l f u. absurd (false≢true (sym u ∙ f)); data_rises = λ i j l m n. absurd (omega (arith, l, m, n)); extensions_rise = λ i j l m n. absurd (omega (arith, l, m, n)); in_turn = λ q i l m n k. absurd (omega (arith, l, m)) }
+
+-- a block allocated in a first step is lower than each one still free after it
+taken_below : (old mid : List ℕ) (c d : ℕ) → IsInside (block_count old) c → has_free_bit old c ≡ true → has_free_bit mid c ≡ false → WasFree mid d
+    → ((c d : ℕ) → IsInside (block_count old) d → 2 ≤ c → c < d → has_free_bit old d ≡ true → has_free_bit mid d ≡ false → has_free_bit mid c ≡ false) → c < d
+taken_below old mid c d inside was_free used free lowest = elim (cases_order c d) [
+  | inl one ↦ absurd (false≢true (sym used ∙ ap (has_free_bit mid) one ∙ free.1))
+  | inr (inl below) ↦ below
+  | inr (inr above) ↦ absurd (false≢true (sym (lowest d c inside free.0 above was_free used) ∙ free.1))
+]
 
 -- a rising list that grows by blocks that were free when its own no longer were
 rises_both : (old mid : List ℕ) (front xs ys : List ℕ) → take (length xs) ys ≡ xs → ((i : ℕ) → i < length ys → IsInside (block_count old) (slice_index ys i))
@@ -122,20 +131,14 @@ rises_both old mid front xs ys same inside were_free used are_free lowest a b i 
     | inr t ↦ b i j t m n
     | inl t ↦
         let here : slice_index ys i ≡ slice_index xs i = front_at xs ys same i t in
-        let free = are_free j s n in
-        elim (cases_order (slice_index ys i) (slice_index ys j)) [
-          | inl one ↦ absurd (false≢true (sym (used i t) ∙ ap (has_free_bit mid) (sym here ∙ one) ∙ free.1))
-          | inr (inl below) ↦ below
-          | inr (inr above) ↦
-              let within = subst (IsInside (block_count old)) here (inside i (omega (arith, m, n))) in
-              absurd (false≢true (sym (lowest (slice_index ys j) (slice_index xs i) within free.0 (omega (arith, above, here)) (were_free i l t) (used i t)) ∙ free.1))
-        ]
+        let within = subst (IsInside (block_count old)) here (inside i (omega (arith, m, n))) in
+        omega (arith, here, taken_below old mid (slice_index xs i) (slice_index ys j) within (were_free i l t) (used i t) (are_free j s n) lowest)
   ]
 ]
 
 pub gains_both : (old mid new : List ℕ) (file : ℕ) (blocks extensions blocks' extensions' blocks'' extensions'' : List ℕ) → block_count mid ≡ block_count old → ((q : ℕ) → q ≤ length extensions'' → IsInside (block_count old) (slice_index (file ∷ extensions'') q)) → ((i : ℕ) → i < length blocks'' → IsInside (block_count old) (slice_index blocks'' i)) →
-    take (length blocks') blocks'' ≡ blocks' → take (length extensions') extensions'' ≡ extensions' → ((i : ℕ) → i < length blocks' → has_free_bit mid (slice_index blocks' i) ≡ false) → ((q : ℕ) → q < length extensions' → has_free_bit mid (slice_index extensions' q) ≡ false) → Gains old file blocks extensions mid blocks' extensions' → Gains mid file blocks' extensions' new blocks'' extensions'' → Gains old file blocks extensions new blocks'' extensions''
-gains_both old mid new file blocks extensions blocks' extensions' blocks'' extensions'' counts inside_headers inside_data front front' used used' a b = record {
+    take (length blocks') blocks'' ≡ blocks' → take (length extensions') extensions'' ≡ extensions' → ((i : ℕ) → i < length blocks' → has_free_bit mid (slice_index blocks' i) ≡ false) → ((q : ℕ) → q < length extensions' → has_free_bit mid (slice_index extensions' q) ≡ false) → 72 * length extensions' ≤ length blocks' → length blocks' ≤ 72 * suc (length extensions') → Gains old file blocks extensions mid blocks' extensions' → Gains mid file blocks' extensions' new blocks'' extensions'' → Gains old file blocks extensions new blocks'' extensions''
+gains_both old mid new file blocks extensions blocks' extensions' blocks'' extensions'' counts inside_headers inside_data front front' used used' least most a b = record {
   headers = λ q l. elim (b.headers q l) [
     | inr f ↦ inr (f.0, was (slice_index (file ∷ extensions'') q) (inside_headers q l) f.1)
     | inl s ↦ elim (a.headers q s.0) [
@@ -165,6 +168,28 @@ gains_both old mid new file blocks extensions blocks' extensions' blocks'' exten
   extensions_rise = rises_both old mid extensions extensions' extensions'' front' (λ q l. inside_headers (suc q) (omega (arith, l)))
       (λ q l m. elim (a.headers (suc q) (omega (arith, m))) [ inl s ↦ absurd (omega (arith, s.0, l)) | inr f ↦ f.1 ]) used'
       (λ q l m. elim (b.headers (suc q) (omega (arith, m))) [ inl s ↦ absurd (omega (arith, s.0, l)) | inr f ↦ f ]) a.lowest a.extensions_rise b.extensions_rise;
+  in_turn = λ q i l m n k. elim (cases_lt q (length extensions')) [
+    | inl in_first ↦
+        let here = front_at extensions' extensions'' front' q in_first in
+        elim (cases_lt i (length blocks')) [
+          | inl s ↦ let there = front_at blocks' blocks'' front i s in
+              let turn = a.in_turn q i l in_first n s in (λ few. omega (arith, here, there, turn.0 few), λ many. omega (arith, here, there, turn.1 many))
+          | inr s ↦
+              let lower = taken_below old mid (slice_index extensions' q) (slice_index blocks'' i) (subst (IsInside (block_count old)) here (inside_headers (suc q) (omega (arith, m))))
+              (elim (a.headers (suc q) (omega (arith, in_first))) [ inl t ↦ absurd (omega (arith, t.0, l)) | inr f ↦ f.1 ]) (used' q in_first)
+              (elim (b.data_blocks_of i k) [ inl t ↦ absurd (omega (arith, t.0, s)) | inr f ↦ f ]) a.lowest in
+              (λ few. absurd (omega (arith, few, s, in_first, least)), λ many. omega (arith, here, lower))
+        ]
+    | inr in_second ↦ elim (cases_lt i (length blocks')) [
+      | inr s ↦ b.in_turn q i in_second m s k
+      | inl s ↦
+          let there = front_at blocks' blocks'' front i s in
+          let lower = taken_below old mid (slice_index blocks' i) (slice_index extensions'' q) (subst (IsInside (block_count old)) there (inside_data i k))
+          (elim (a.data_blocks_of i s) [ inl t ↦ absurd (omega (arith, t.0, n)) | inr f ↦ f.1 ]) (used i s)
+          (elim (b.headers (suc q) (omega (arith, m))) [ inl t ↦ absurd (omega (arith, t.0, in_second)) | inr f ↦ f ]) a.lowest in
+          (λ few. omega (arith, there, lower), λ many. absurd (omega (arith, many, s, in_second, most)))
+    ]
+  ];
 }
   where
     was : (c : ℕ) → IsInside (block_count old) c → has_free_bit mid c ≡ true → has_free_bit old c ≡ true
@@ -237,8 +262,8 @@ module _ (old new : List ℕ) (format : Format) (file : ℕ) (blocks extensions 
 -- ---- a new block joins the lists
 
 pub gains_taken : (old : List ℕ) (b : ℕ) (new : List ℕ) (file : ℕ) (blocks extensions blocks' extensions' : List ℕ) → IsNewBlock old b new → ((q : ℕ) → q ≤ length extensions' → ((q ≤ length extensions) × (slice_index (file ∷ extensions') q ≡ slice_index (file ∷ extensions) q)) ⊎ (slice_index (file ∷ extensions') q ≡ b)) →
-    ((i : ℕ) → i < length blocks' → ((i < length blocks) × (slice_index blocks' i ≡ slice_index blocks i)) ⊎ (slice_index blocks' i ≡ b)) → IsOwn file blocks' extensions' b → length blocks' ≤ suc (length blocks) → length extensions' ≤ suc (length extensions) → Gains old file blocks extensions new blocks' extensions'
-gains_taken old b new file blocks extensions blocks' extensions' n headers datas own one one' = record {
+    ((i : ℕ) → i < length blocks' → ((i < length blocks) × (slice_index blocks' i ≡ slice_index blocks i)) ⊎ (slice_index blocks' i ≡ b)) → IsOwn file blocks' extensions' b → length blocks' ≤ suc (length blocks) → length extensions' ≤ suc (length extensions) → (length blocks' ≤ length blocks) ⊎ (length extensions' ≤ length extensions) → Gains old file blocks extensions new blocks' extensions'
+gains_taken old b new file blocks extensions blocks' extensions' n headers datas own one one' alone = record {
   headers = λ q l. elim (headers q l) [ inl s ↦ inl s | inr e ↦ inr (omega (arith, e, n.lowest.inside.0), ap (has_free_bit old) e ∙ n.lowest.free) ];
   data_blocks_of = λ i l. elim (datas i l) [ inl s ↦ inl s | inr e ↦ inr (omega (arith, e, n.lowest.inside.0), ap (has_free_bit old) e ∙ n.lowest.free) ];
   marks = λ c i u. n.others c (bit_of_inside old c i) (λ e. false≢true (sym u ∙ ap (has_free_bit old) e ∙ n.lowest.free)) ∙ u;
@@ -252,6 +277,7 @@ gains_taken old b new file blocks extensions blocks' extensions' n headers datas
   ];
   data_rises = λ i j l m k. absurd (omega (arith, l, m, k, one));
   extensions_rise = λ i j l m k. absurd (omega (arith, l, m, k, one'));
+  in_turn = λ q i l m k h. elim alone [ inl none ↦ absurd (omega (arith, k, h, none)) | inr none ↦ absurd (omega (arith, l, m, none)) ];
 }
 
 -- all marks are unchanged
@@ -264,6 +290,7 @@ gains_kept old new new' file blocks extensions blocks' extensions' counts same g
   lowest = λ c d i p l f u. same c (bit_of_inside new c (p, omega (arith, l, i.1, counts))) ∙ g.lowest c d i p l f (sym (same d (bit_of_inside new d (i.0, omega (arith, i.1, counts)))) ∙ u);
   data_rises = g.data_rises;
   extensions_rise = g.extensions_rise;
+  in_turn = g.in_turn;
 }
 
 -- the checksum of each changed block is right if those of the bitmap and the header are, and the file is lawful

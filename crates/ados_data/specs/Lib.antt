@@ -5,6 +5,7 @@ pub use Rattle.ados_model.specs.Parts
 pub use Rattle.ados_model.specs.File
 pub mod Place
 pub mod Changing
+pub mod Order
 pub mod Others
 pub mod Sums
 pub mod Unnamed

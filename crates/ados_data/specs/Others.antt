@@ -5,6 +5,7 @@ use Rattle.adf_block.specs.declared.beside.TheConstants.{CHECKSUM}
 use Rattle.adf_block.specs.Image.{byte_at, block_sum, block_count, has_free_bit, IsInside}
 use Rattle.ados_map.specs.Pages.{pages_of, page_block, HasBit}
 use Rattle.ados_model.specs.File.{data_blocks, extension_blocks}
+use Rattle.ados_data.specs.Order.{InTurn}
 
 -- byte k of block b is the same in both images
 abbrev pub SameByte : List ℕ → List ℕ → ℕ → ℕ → Type 0
@@ -65,7 +66,8 @@ abbrev pub RisesBehind : List ℕ → List ℕ → Type 0
 RisesBehind front blocks = (i j : ℕ) → length front ≤ i → i < j → j < length blocks → slice_index blocks i < slice_index blocks j
 
 -- a file's lists grew: it keeps its blocks; each new one was free before; no block became free; only the file's blocks
--- were allocated, each lower than every block still free; the new blocks of each list rise
+-- were allocated, each lower than every block still free; the new blocks of each list rise, and a new extension block
+-- has its place among the new data blocks
 pub record Gains (old : List ℕ) (file : ℕ) (blocks extensions : List ℕ) (new : List ℕ) (blocks' extensions' : List ℕ) : Type 0 where
   pub headers : (q : ℕ) → q ≤ length extensions'
       → IsKeptOrTaken old (q ≤ length extensions) (slice_index (file ∷ extensions) q) (slice_index (file ∷ extensions') q)
@@ -75,6 +77,8 @@ pub record Gains (old : List ℕ) (file : ℕ) (blocks extensions : List ℕ) (n
   pub lowest : (c d : ℕ) → IsInside (block_count old) d → BOOT_BLOCKS ≤ c → c < d → has_free_bit old d ≡ true → has_free_bit new d ≡ false → has_free_bit new c ≡ false
   pub data_rises : RisesBehind blocks blocks'
   pub extensions_rise : RisesBehind extensions extensions'
+  pub in_turn : (q i : ℕ) → length extensions ≤ q → q < length extensions' → length blocks ≤ i → i < length blocks'
+      → InTurn q (slice_index extensions' q) i (slice_index blocks' i)
 
 -- the same for the file with this header
 abbrev pub FileGains : List ℕ → ℕ → List ℕ → Type 0

@@ -4,13 +4,15 @@ pub use Rattle.ados_change.proofs.Changed.{nodes_here, nodes_other, relisted}
 pub use Rattle.ados_change.specs.Conditions.{CanMake, CanRename, IsDirectoryKey, IsEmpty}
 pub use Rattle.ados_change.specs.NewBlocks.{KeepsRest}
 pub use Rattle.ados_handler.specs.Gives.{HandlerGives, IsSoundHandler, LeavesImage}
+pub use Rattle.ados_handler.specs.HandlerState.{HandlerState, Places}
 pub use Rattle.ados_handler.specs.Keeps.{HasPathTexts, KeepsProper, MeaningKeepsProper}
 pub use Rattle.ados_handler.specs.ProperSession.{HoldNumber, IsProperSession, hold_at}
 pub use Rattle.ados_handler.specs.ProperSession.HoldNumber.{ByHandle, ByLock}
-pub use Rattle.ados_handler.specs.steps.Methods.{MethodGives, MethodMeans, answer_to}
+pub use Rattle.ados_handler.specs.Room.{has_place, room_for}
+pub use Rattle.ados_handler.specs.steps.Methods.{MethodGives, MethodMeans, ServedOrFull, answer_to}
 pub use Rattle.ados_handler.specs.steps.Moves.{both, move_refusal, move_refusals, remove_refusal, remove_refusals, source_and_place}
-pub use Rattle.ados_handler.specs.steps.Opening.{BringsHandle, IsOpened, IsUnopened, Opens, empty_refusals, make_refusals, open_refusals}
-pub use Rattle.ados_handler.specs.steps.Table.{IsTestBy, numbered_from_one}
+pub use Rattle.ados_handler.specs.steps.Opening.{BringsHandle, IsOpened, IsUnopened, OpenedOrFull, Opens, empty_refusals, make_refusals, open_refusals}
+pub use Rattle.ados_handler.specs.steps.Table.{IsTestBy, NumbersFit, TableState, numbered_from_one, table_view}
 pub use Rattle.ados_model.proofs.Nodes.{content_in, directory_node, some_in}
 pub use Rattle.ados_model.proofs.OneTree.{one_tree}
 pub use Rattle.ados_model.specs.Change.{and_then, changed, child_of, entries_after, holds_file, is_file, left, listed, made, missing_before, place_in, removed, renamed, rewritten, stamped, start_of, step_from, walk_steps, with_node, written}
@@ -25,7 +27,7 @@ pub use Rattle.ados_model.specs.Phrases.{ServedOrNoMemory, is_comment, is_handle
 pub use Rattle.ados_model.specs.Reads.{bytes_read, lacks, seek_target}
 pub use Rattle.ados_model.specs.Refusals.{first_refusal, has_no_room, is_directory_there, is_empty, is_name, is_some_and, refusal, refusals, refuse}
 pub use Rattle.ados_model.specs.Resolved.{lock_object, place_result, placed_at, walk_result, walked}
-pub use Rattle.ados_model.specs.Session.{HandlerState, IsFreeNumber, Session, at_position, handle_key, handle_position, holds, is_held, is_held_exclusively, is_in_use, is_lock, opening_session, positions_within, with_handle, with_lock, without_handle, without_lock}
+pub use Rattle.ados_model.specs.Session.{IsFreeNumber, Session, at_position, handle_key, handle_position, holds, is_held, is_held_exclusively, is_in_use, is_lock, opening_session, positions_within, with_handle, with_lock, without_handle, without_lock}
 pub use Rattle.ados_model.specs.Stands.{Duty, Stands}
 pub use Rattle.ados_model.specs.Success.{After, GivesHandle, GivesLock, IsNewKey, MakesFile, Success, after, resized}
 pub use Rattle.ados_model.specs.Tree.{Content, Node, Proper, Tree, block_cost, bytes_in, bytes_of, content_at, data_count, free, needs_more, parent_of, root, size_of}

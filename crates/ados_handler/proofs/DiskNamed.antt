@@ -1,7 +1,7 @@
 -- RENAME_DISK with a valid name.
-use Rattle.std.proofs.Common.{◌≡◌, ℕ, Bool, false, true, cond, nat_lt, not, ◌==◌, List, [], ◌∷◌, length, None, Some, refl}
+use Rattle.std.proofs.Common.{◌≡◌, ℕ, Bool, false, cond, nat_lt, not, ◌==◌, List, [], ◌∷◌, length, None, Some, refl}
 use Rattle.std.specs.Prelude.{◌||◌}
-use Rattle.ados_handler.proofs.Common.{list_any, Date3, IsName, is_separator, first_fault, Tree, disk_renamed, DeviceNotMounted, InvalidComponentName, RenameDisk, Empty, Session, first_refusal, is_name, refusal, refuse, is_named}
+use Rattle.ados_handler.proofs.Common.{list_any, Date3, IsName, is_separator, first_fault, Tree, disk_renamed, DeviceNotMounted, InvalidComponentName, RenameDisk, Session, first_refusal, is_name, refusal, refuse, is_named}
 use Rattle.ados_name.specs.declared.NameFault.{NameFault}
 use Rattle.ados_name.specs.declared.NameFault.TheVariants as faults
 use Rattle.ados_handler.proofs.Meant.{IsEdit}

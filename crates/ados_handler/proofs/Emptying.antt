@@ -1,6 +1,6 @@
 -- A file emptied for a handle.
-use Rattle.std.proofs.Common.{◌≡◌, ◌≢◌, ℕ, Bool, true, false, not, List, [], ◌∷◌, Some, None, is_some, refl, ap, ◌∙◌, subst}
-use Rattle.ados_handler.proofs.Common.{nat_cmp, FinMap, Date3, denies_delete, denies_write, Tree, Proper, Stands, KeepsRest, is_file, rewritten, shortened, DeleteProtected, ObjectInUse, ObjectWrongType, WriteProtected, Results, HandleHold, Session, is_in_use, HandlerState, protection_of, first_refusal, refuse, GivesHandle, HoldNumber, hold_at, IsProperSession, IsSoundHandler, BringsHandle, Opens, empty_refusals}
+use Rattle.std.proofs.Common.{◌≡◌, ◌≢◌, ℕ, Bool, true, false, not, List, [], ◌∷◌, Some, None, is_some, inr, refl, ap, ◌∙◌, subst}
+use Rattle.ados_handler.proofs.Common.{nat_cmp, FinMap, Date3, denies_delete, denies_write, Tree, Proper, Stands, KeepsRest, is_file, rewritten, shortened, DeleteProtected, ObjectInUse, ObjectWrongType, WriteProtected, Results, HandleHold, Session, is_in_use, HandlerState, protection_of, first_refusal, refuse, GivesHandle, HoldNumber, hold_at, IsProperSession, IsSoundHandler, Places, BringsHandle, Opens, empty_refusals}
 use Rattle.ados_handler.proofs.Holding.{not_held}
 use Rattle.ados_handler.proofs.Carrying.{carried_session}
 use Rattle.ados_handler.proofs.Rewriting.{file_node, rewritten_here, rewritten_is_file, rewritten_other}
@@ -41,18 +41,18 @@ module _ (was : List ℕ) (s : Session) (key : ℕ) (now : Date3) (image : List 
             (ap is_some (rewritten_here t proper key f [] now)) (rewritten_is_file t proper key f [] now) free;
       }
 
-  pub emptied_opens : (old : HandlerState) (was_validated : Bool) → record { image = was; was_validated = was_validated; session = s } ≡ old → (t : Tree) → Stands was t → is_file t key ≡ true → is_in_use s key true ≡ false
+  pub emptied_opens : (old : HandlerState) (was_validated : Bool) (before after : Places) → record { image = was; was_validated = was_validated; session = s; places = before } ≡ old → (t : Tree) → Stands was t → is_file t key ≡ true → is_in_use s key true ≡ false
       → (bits : ℕ) → protection_of t key ≡ bits → denies_delete bits ≡ false → denies_write bits ≡ false → KeepsRest was image → (validated : Bool) → validated ≡ was_validated
-      → Opens (empty_refusals old.session key) (λ t left. GivesHandle (rewritten now key [] t) old.session key true left) old (record { image = image; was_validated = validated; session = record s { handles = held } }) results
-  emptied_opens old was_validated view t stood file free bits told delete write keeps validated checked =
-      let new : HandlerState = record { image = image; was_validated = validated; session = record s { handles = held } } in
+      → Opens (empty_refusals old.session key) (λ t left. GivesHandle (rewritten now key [] t) old.session key true left) old (record { image = image; was_validated = validated; session = record s { handles = held }; places = after }) results
+  emptied_opens old was_validated before after view t stood file free bits told delete write keeps validated checked =
+      let new : HandlerState = record { image = image; was_validated = validated; session = record s { handles = held }; places = after } in
       let u = rewritten now key [] t in
-      let opens = done_opens (empty_refusals s key) (λ t left. GivesHandle (rewritten now key [] t) s key true left) (record { image = was; was_validated = was_validated; session = s }) new results t stood (no_refusal s key t bits file free told delete write) (record {
+      let opens = done_opens (empty_refusals s key) (λ t left. GivesHandle (rewritten now key [] t) s key true left) (record { image = was; was_validated = was_validated; session = s; places = before }) new results t stood (no_refusal s key t bits file free told delete write) (record {
         tree = u;
         stands = subst (Stands image) (cut_is_emptied now key t) (stands t stood);
         success = gives_handle key true s ready held results a same u;
         res2 = ap (λ (r : Results). r.res2) a.told;
-        keeps = keeps;
+        keeps = inr keeps;
         validated = checked;
       }) in
       subst (λ (h : HandlerState). Opens (empty_refusals h.session key) (λ t left. GivesHandle (rewritten now key [] t) h.session key true left) h new results) view opens

@@ -1,7 +1,7 @@
 -- The file of a handle.
 use Rattle.std.proofs.Common.{◌≡◌, ℕ, ◌≤◌, Bool, true, false, not, List, ◌∷◌, Option, Some, None, is_some, option_map, refl, sym, ap, ap₂, ◌∙◌, subst}
 use Rattle.std.specs.FinMap.{get}
-use Rattle.ados_handler.proofs.Common.{option_map_or, IfSome, nat_cmp, FinMap, Date3, Content, Node, Tree, size_of, size_in, File, Stands, is_file, HasFileKey, HasKey, one_tree, content_in, some_in, DosError, DeviceNotMounted, InvalidLock, Packet, Results, Shown, Session, handle_key, handle_position, HandlerState, is_handle, HandleHold, HasPathTexts, IsSoundHandler, MethodGives, MethodMeans, first_refusal, refuse}
+use Rattle.ados_handler.proofs.Common.{option_map_or, IfSome, nat_cmp, FinMap, Date3, Content, Node, Tree, size_of, size_in, File, Stands, is_file, HasFileKey, HasKey, one_tree, content_in, some_in, DosError, DeviceNotMounted, InvalidLock, Packet, Results, Shown, Session, handle_key, handle_position, HandlerState, is_handle, HandleHold, HasPathTexts, IsSoundHandler, MethodGives, MethodMeans, Places, first_refusal, refuse}
 use Rattle.ados_handler.proofs.Rewriting.{file_node}
 use Rattle.ados_handler.proofs.ImageKept.{meaning_keeps_proper}
 use Rattle.ados_handler.proofs.Leaving.{leaves_all}
@@ -52,26 +52,26 @@ module _ (image : List ℕ) (key : ℕ) (file : HasFileKey image key) where
       told t n.0 stands n.1 ∙ ap (λ (o : Option Node). size_in (option_map (λ node. node.content) o)) (sym n.1)
 
 -- a packet without a time stamp that changes only the handles
-module _ (old given : HandlerState) (same : old ≡ given) (handles : FinMap nat_cmp HandleHold) (packet : Packet) (results : Results) where
-  pub gives_moved : (t : Tree) → Stands old.image t → (now : Date3) → MethodMeans t old.session packet now t (record old.session { handles = handles }) results
-      → MethodGives given packet now (record old { session = record old.session { handles = handles } }) results
+module _ (old given : HandlerState) (same : old ≡ given) (handles : FinMap nat_cmp HandleHold) (places : Places) (packet : Packet) (results : Results) where
+  pub gives_moved : (t : Tree) → Stands old.image t → (now : Date3) → MethodMeans old.places t old.session packet now t (record old.session { handles = handles }) results
+      → MethodGives given packet now (record old { session = record old.session { handles = handles }; places = places }) results
   gives_moved t stood now means =
-      let new : HandlerState = record old { session = record old.session { handles = handles } } in
+      let new : HandlerState = record old { session = record old.session { handles = handles }; places = places } in
       subst (λ (h : HandlerState). MethodGives h packet now new results) same
       (record { old_tree = t; new_tree = t; stood = stood; stands = stood; means = means; leaves = leaves_all t old packet new results refl; validated = refl })
 
   pub sound_moved : HasPathTexts packet → IsSoundHandler old.image old.session
-      → ((now : Date3) → MethodGives given packet now (record old { session = record old.session { handles = handles } }) results)
+      → ((now : Date3) → MethodGives given packet now (record old { session = record old.session { handles = handles }; places = places }) results)
       → IsSoundHandler old.image (record old.session { handles = handles })
   sound_moved texts sound gives =
       let moment : Date3 = record { days = 0; minutes = 0; ticks = 0 } in
-      sound_on {new = record old { session = record old.session { handles = handles } }} same (gives moment) (meaning_keeps_proper packet texts) sound
+      sound_on {new = record old { session = record old.session { handles = handles }; places = places }} same (gives moment) (meaning_keeps_proper packet texts) sound
 
   -- the same if the volume caches another place in a file
   pub sound_read : (volume : Shown) → volume ≡ record { image = old.image; was_validated = old.was_validated } → HasPathTexts packet → IsSoundHandler old.image old.session
-      → ((now : Date3) → MethodGives given packet now (record { image = volume.image; was_validated = volume.was_validated; session = record old.session { handles = handles } }) results)
+      → ((now : Date3) → MethodGives given packet now (record { image = volume.image; was_validated = volume.was_validated; session = record old.session { handles = handles }; places = places }) results)
       → IsSoundHandler volume.image (record old.session { handles = handles })
   sound_read volume stays texts sound gives =
       let new : Session = record old.session { handles = handles } in
       subst (λ (v : Shown). IsSoundHandler v.image new) (sym stays)
-      (sound_moved texts sound (λ now. subst (λ (v : Shown). MethodGives given packet now (record { image = v.image; was_validated = v.was_validated; session = new }) results) stays (gives now)))
+      (sound_moved texts sound (λ now. subst (λ (v : Shown). MethodGives given packet now (record { image = v.image; was_validated = v.was_validated; session = new; places = places }) results) stays (gives now)))

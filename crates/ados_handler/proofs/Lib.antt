@@ -13,6 +13,8 @@ pub mod ImageKept
 pub mod Tables
 pub mod RefusalRows
 pub mod Sound
+pub mod Rooms
+pub mod Freed
 pub mod Meant
 pub mod Leaving
 pub mod HeldObjects
@@ -25,6 +27,7 @@ pub mod Locating
 pub mod NextEntry
 pub mod Resizing
 pub mod MovedHandles
+pub mod MovedEach
 pub mod Sizes
 pub mod HandleFiles
 pub mod Seeking

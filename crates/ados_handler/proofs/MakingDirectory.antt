@@ -1,6 +1,6 @@
 -- CREATE_DIR.
 use Rattle.std.proofs.Common.{◌≡◌, ℕ, pos, true, false, List, [], ◌∷◌, Option, None, Ok, refl, sym, ap, ◌∙◌}
-use Rattle.ados_handler.proofs.Common.{is_some, Date3, Tree, Proper, Directory, Stands, child_of, made, CanMake, DosError, DeviceNotMounted, DiskFull, ObjectExists, CreateDir, Empty, Session, IsFreeNumber, with_lock, passed, IsProperSession, spot, lacks, placed_at, first_refusal, refusal, refusals, refuse, GivesLock, IsNewKey, after, IsSoundHandler, MethodMeans}
+use Rattle.ados_handler.proofs.Common.{is_some, Date3, Tree, Proper, Directory, Stands, child_of, made, CanMake, DosError, DeviceNotMounted, DiskFull, ObjectExists, CreateDir, Empty, Session, IsFreeNumber, with_lock, passed, IsProperSession, spot, lacks, placed_at, first_refusal, refusal, refusals, refuse, GivesLock, IsNewKey, after, IsSoundHandler, MethodMeans, Places}
 use Rattle.ados_handler.proofs.Making.{made_lock}
 use Rattle.ados_handler.proofs.Meant.{counted, served_means}
 use Rattle.ados_handler.proofs.Placed.{placed_on}
@@ -22,12 +22,12 @@ create_dir_passes t s there lock path alive place none room =
 
 -- a directory is made at the place, and the new session has a lock on it
 module _ (t : Tree) (s new : Session) (now : Date3) (there : ℕ × List ℕ) (key number : ℕ) (fresh : IsNewKey t key) (free : IsFreeNumber s.locks number) (same : new ≡ with_lock number key true s) where
-  pub create_dir_means : (lock : ℕ) (path : List ℕ) → s.died ≡ false → placed_at t s lock path ≡ Ok there → is_some (child_of t there.0 there.1) ≡ false → lacks t 1 ≡ false
-      → MethodMeans t s (CreateDir lock path) now (made now there.0 key there.1 (Directory []) t) new (counted number Empty)
-  create_dir_means lock path alive place none room =
+  pub create_dir_means : (places : Places) (lock : ℕ) (path : List ℕ) → s.died ≡ false → placed_at t s lock path ≡ Ok there → is_some (child_of t there.0 there.1) ≡ false → lacks t 1 ≡ false
+      → MethodMeans places t s (CreateDir lock path) now (made now there.0 key there.1 (Directory []) t) new (counted number Empty)
+  create_dir_means places lock path alive place none room =
       let p = placed_on t s lock path there [] place in
       let not_refused = create_dir_passes t s there lock path alive place none room in
-      served_means t (made now there.0 key there.1 (Directory []) t) s new (CreateDir lock path) now (counted number Empty) not_refused
+      served_means places t (made now there.0 key there.1 (Directory []) t) s new (CreateDir lock path) now (counted number Empty) not_refused
       (record {
         success = (key, fresh, (number, free, λ i. after (made now (sym p.1 i).0 key (sym p.1 i).1 (Directory []) t) (same i) (pos number) Empty));
         action = refl;

@@ -1,6 +1,6 @@
 -- The results of a packet that opens a file; and FINDINPUT.
-use Rattle.std.proofs.Common.{◌≡◌, ℕ, pos, Bool, true, false, List, ◌∷◌, Option, Some, None, IsSome, Ok, MatchOption, ◌⊎◌, inl, inr, refl, sym, ap, ◌∙◌, subst}
-use Rattle.ados_handler.proofs.Common.{IsTrue, nat_cmp, FinMap, insert, Date3, Tree, Stands, is_file, DosError, DeviceNotMounted, NoFreeStore, error_number, dos_false, failure_of, handed_back, Packet, FindInput, Results, Empty, HandleHold, Session, IsFreeNumber, is_in_use, HandlerState, object, walked, first_refusal, refusal, refuse, refusals, After, after, GivesHandle, Success, IsRefused, makes_hold, ServedOrNoMemory, sets_disk_date, IsProperSession, MethodGives, MethodMeans, answer_to, BringsHandle, IsOpened, IsUnopened, Opens, open_refusals}
+use Rattle.std.proofs.Common.{◌≡◌, ℕ, pos, Bool, true, false, List, ◌∷◌, Option, Some, None, IsSome, Ok, MatchOption, inl, inr, refl, sym, ap, ◌∙◌, subst}
+use Rattle.ados_handler.proofs.Common.{IsTrue, nat_cmp, FinMap, insert, Date3, Tree, Stands, is_file, DosError, DeviceNotMounted, NoFreeStore, error_number, dos_false, failure_of, handed_back, Packet, FindInput, Results, Empty, HandleHold, Session, IsFreeNumber, is_in_use, HandlerState, object, walked, first_refusal, refusal, refuse, refusals, After, after, GivesHandle, Success, IsRefused, makes_hold, ServedOrFull, room_for, sets_disk_date, IsProperSession, MethodGives, MethodMeans, answer_to, BringsHandle, IsOpened, IsUnopened, OpenedOrFull, Opens, open_refusals}
 use Rattle.ados_handler.proofs.Holding.{not_in_use, proper_with_handle}
 use Rattle.ados_handler.proofs.Meant.{walked_on, meaning_by, stays_gives}
 
@@ -12,6 +12,7 @@ module _ (packet : Packet) (now : Date3) (rows : Tree → List (Option DosError)
     pub fails : failure_of packet ≡ dos_false
     pub back : handed_back packet ≡ Empty
     pub makes : IsTrue (makes_hold t old.session packet)
+    pub takes : room_for old.places packet ≡ old.places.for_handle
     pub row : refusal t old.session packet ≡ first_refusal (rows t)
     pub serves : (left : After) → success t left → Success t old.session packet now left
     pub quiet : sets_disk_date t old.session packet ≡ false → new.image ≡ old.image
@@ -22,16 +23,16 @@ module _ (packet : Packet) (now : Date3) (rows : Tree → List (Option DosError)
       refused : (code : DosError) → IsUnopened code old new results → IsRefused o.tree old.session packet code o.tree new.session (answer_to packet results)
       refused code u = record {
         tree = refl;
-        session = ap (λ (h : HandlerState). h.session) u.same;
+        session = u.session;
         answered = ap (answer_to packet) (u.told ∙ (λ i. record { res1 = sym is.fails i; res2 = pos (error_number code); body = sym is.back i }));
       }
 
-      meaning : (u : Tree) (r : Option DosError) → first_refusal (rows o.tree) ≡ r → MatchOption r (ServedOrNoMemory o.tree old.session packet now u new.session (answer_to packet results)) (λ code. IsRefused o.tree old.session packet code u new.session (answer_to packet results)) → MethodMeans o.tree old.session packet now u new.session results
-      meaning u r e m = meaning_by o.tree u old.session new.session packet now results r (is.row ∙ e) m
+      meaning : (u : Tree) (r : Option DosError) → first_refusal (rows o.tree) ≡ r → MatchOption r (ServedOrFull old.places o.tree old.session packet now u new.session (answer_to packet results)) (λ code. IsRefused o.tree old.session packet code u new.session (answer_to packet results)) → MethodMeans old.places o.tree old.session packet now u new.session results
+      meaning u r e m = meaning_by old.places o.tree u old.session new.session packet now results r (is.row ∙ e) m
 
-      go : (r : Option DosError) → first_refusal (rows o.tree) ≡ r → MatchOption r (IsOpened (success o.tree) old new results ⊎ IsUnopened NoFreeStore old new results) (λ code. IsUnopened code old new results) → MethodGives old packet now new results
-      go (Some code) e u = stays_gives old new packet now results o.tree o.stood u.same (meaning o.tree (Some code) e (refused code u))
-      go None e (inr u) = stays_gives old new packet now results o.tree o.stood u.same (meaning o.tree None e (inr (is.makes, refused NoFreeStore u)))
+      go : (r : Option DosError) → first_refusal (rows o.tree) ≡ r → MatchOption r (OpenedOrFull (success o.tree) old new results) (λ code. IsUnopened code old new results) → MethodGives old packet now new results
+      go (Some code) e u = stays_gives old new packet now results o.tree o.stood u.image u.validated (meaning o.tree (Some code) e (refused code u))
+      go None e (inr w) = stays_gives old new packet now results o.tree o.stood w.1.image w.1.validated (meaning o.tree None e (inr (is.makes, is.takes ∙ w.0, refused NoFreeStore w.1)))
       go None e (inl d) = record {
         old_tree = o.tree;
         new_tree = d.tree;
@@ -48,7 +49,7 @@ pub done_opens : (rows : Tree → List (Option DosError)) (gives : Tree → Afte
 done_opens rows gives old new results t stood none done = record {
   tree = t;
   stood = stood;
-  means = subst (λ (r : Option DosError). MatchOption r (IsOpened (gives t) old new results ⊎ IsUnopened NoFreeStore old new results) (λ code. IsUnopened code old new results)) (sym none) (inl done);
+  means = subst (λ (r : Option DosError). MatchOption r (OpenedOrFull (gives t) old new results) (λ code. IsUnopened code old new results)) (sym none) (inl done);
 }
 
 -- ---- FINDINPUT
@@ -69,6 +70,7 @@ module _ (old : HandlerState) (lock : ℕ) (path : List ℕ) (key : ℕ) (alive 
         fails = refl;
         back = refl;
         makes = refl;
+        takes = refl;
         row = row.0;
         serves = λ left w. subst (λ (k : ℕ). GivesHandle o.tree old.session k false left) (sym row.1) w;
         quiet = λ _. image ∙ ap (λ (h : HandlerState). h.image) same;

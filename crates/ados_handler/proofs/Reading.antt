@@ -1,5 +1,5 @@
 -- Packets that change no tree keep tree and session proper.
-use Rattle.std.proofs.Common.{◌≡◌, ℕ, ◌+◌, ◌≤◌, ℤ, pos, negsuc, Bool, true, false, cond, not, List, ◌∷◌, length, take, drop, nat_eq, Some, None, refl, sym, ap, inl, inr, arith, subst, MatchOption, length-take, length-drop}
+use Rattle.std.proofs.Common.{◌≡◌, ℕ, ◌+◌, ◌≤◌, ℤ, pos, negsuc, Bool, true, false, cond, List, ◌∷◌, length, take, drop, nat_eq, Some, None, refl, sym, ap, inl, inr, arith, subst, MatchOption, length-take, length-drop}
 use Rattle.std.specs.Prelude.{◌||◌, option_map}
 use Rattle.std.specs.Bool.{MatchBool}
 use Rattle.std.specs.FinMap.{get}

@@ -1,14 +1,11 @@
 -- SET_FILE_SIZE.
-use Rattle.std.proofs.Common.{◌≡◌, MutBor, ℕ, ◌+◌, ◌-◌, ◌/◌, ◌<◌, ◌≤◌, ℤ, pos, Bool, true, false, cond, List, [], ◌∷◌, Option, Some, None, Result, Ok, Err, MatchResult, inl, inr, refl, sym, ap, ap₂, ◌∙◌, subst, arith, nat_lt, eq-eqb}
-use Rattle.std.specs.Prelude.{option_map}
-use Rattle.std.specs.FinMap as numbered
+use Rattle.std.proofs.Common.{◌≡◌, ℕ, ◌+◌, ◌-◌, ◌/◌, ◌<◌, ◌≤◌, ℤ, pos, Bool, true, false, cond, List, [], ◌∷◌, Option, Some, Result, Ok, Err, MatchResult, inl, inr, refl, sym, ap, ap₂, ◌∙◌, subst, arith, nat_lt, eq-eqb}
 use Rattle.std.specs.FinMap.{get}
-use Rattle.ados_handler.proofs.Common.{map, nat_cmp, nat_cmp_total, find, nat_cmp-IsAntisymmetric, get-from_sorted, get-from_entries, entries-from_sorted, same_map, eqb-true, false_from_ne_true, le-ltb, lt-ltb, ne_eqb, not-false, Slab, RetainsFrom, entries_from, Ofs, Ffs, block_cost, Tree, free, size_of, needs_more, Date3, denies_write, Stands, KeepsRest, grown, shortened, DosError, DiskFull, SeekError, WriteProtected, error_number, dos_true, Packet, SetFileSize, Results, Empty, HandleHold, handle_key, positions_within, HandlerState, numbered_from_one, handle_target, is_bad_target, protection_of, target_number, seek_target, first_refusal, refusal, refuse, after, resized, MethodGives}
+use Rattle.ados_handler.proofs.Common.{eqb-true, false_from_ne_true, le-ltb, lt-ltb, ne_eqb, not-false, Ofs, Ffs, block_cost, Tree, free, size_of, needs_more, Date3, denies_write, Stands, KeepsRest, grown, shortened, DosError, DiskFull, SeekError, WriteProtected, error_number, dos_true, Packet, SetFileSize, Results, Empty, HandleHold, handle_key, positions_within, HandlerState, handle_target, is_bad_target, protection_of, target_number, seek_target, first_refusal, refusal, refuse, after, resized, MethodGives}
 use Rattle.adf_block.specs.declared.layout.Format.{Format}
 use Rattle.ados_change.specs.Renewed.{NeedsMore}
 use Rattle.ados_handler.proofs.Meant.{done, refused_gives, served_means}
 use Rattle.ados_handler.proofs.HandleFiles.{key_is, opened_on, position_is}
-use Rattle.ados_handler.proofs.Tables.{sorted_entries}
 
 -- a smaller size needs at most as many blocks
 cost_below : (format : Format) (a b : ℕ) → a ≤ b → block_cost format a ≤ block_cost format b
@@ -101,14 +98,14 @@ module _ (old given : HandlerState) (same : old ≡ given) (t : Tree) (stood : S
           new_tree = u;
           stood = stood;
           stands = stands;
-          means = served_means t u old.session new.session packet now results (row false false good (ap (needs_more t hold.key) (sym there) ∙ room)) (record {
+          means = served_means old.places t u old.session new.session packet now results (row false false good (ap (needs_more t hold.key) (sym there) ∙ room)) (record {
             success = (λ i. after u (holds i) (told i).res1 (told i).body)
                 ∙ (λ i. after (resized now (sym file_is i) (sym size_is i) t) (positions_within (sym file_is i) (sym size_is i) old.session) dos_true Empty);
             action = refl;
             res2 = ap (λ (r : Results). r.res2) told;
           });
           leaves = record {
-            keeps = keeps;
+            keeps = inr keeps;
             rest = λ why. elim why [
               | inl failed ↦ absurd (failed (ap (λ (r : Results). r.res2) told))
               | inr none ↦ stays (sym size_is ∙ eqb-true _ _ (not-false _ none) ∙ ap (size_of t) file_is)
@@ -116,31 +113,3 @@ module _ (old given : HandlerState) (same : old ≡ given) (t : Tree) (stood : S
           };
           validated = validated;
         })
-
--- ---- the handles of the file
-
--- a slab whose values are each changed by a closure that stays the same
-module _ {T F : Type 0} (step : F → ℕ → MutBor T → Bool → MutBor T → F → Type 0) (change : T → T) (f : F)
-    (calls : (k : ℕ) (shown : MutBor T) (keep : Bool) (left : MutBor T) (next : F) → step f k shown keep left next → (keep ≡ true) × (left.now ≡ change shown.now) × (next ≡ f)) where
-  pub all_changed : (g : F) → g ≡ f → (k : ℕ) (slots kept : List (Option T)) → RetainsFrom step g k slots kept → kept ≡ map (option_map change) slots
-  all_changed g e k [] kept r = r
-  all_changed g e k (None ∷ rest) kept (later, is, more) = is ∙ ap (λ (l : List (Option T)). None ∷ l) (all_changed g e (k + 1) rest later more)
-  all_changed g e k (Some old ∷ rest) kept (keep, new, next, called, later, is, more) =
-      let c = calls k called.shown keep called.left next (subst (λ (y : F). step y k called.shown keep called.left next) e called.called) in
-      let changed : new ≡ change old = sym called.leaves ∙ c.1 ∙ ap change called.shows in
-      let others = all_changed next c.2 (k + 1) rest later more in
-      is ∙ (λ i. cond (c.0 i) (Some (changed i)) None ∷ others i)
-
-entries_changed : {T : Type 0} (f : T → T) (slots : List (Option T)) (i : ℕ) → entries_from i (map (option_map f) slots) ≡ map (λ e. (e.0, f e.1)) (entries_from i slots)
-entries_changed f [] i = refl
-entries_changed f (None ∷ rest) i = entries_changed f rest (i + 1)
-entries_changed f (Some x ∷ rest) i = ap (λ l. (i, f x) ∷ l) (entries_changed f rest (i + 1))
-
--- the changed values have the same numbers
-pub numbers_changed : {T : Type 0} (f : T → T) (old new : Slab T) → new.slots ≡ map (option_map f) old.slots
-    → numbered_from_one new ≡ numbered.from_entries (map (λ e. (e.0, f e.1)) (numbered.entries (numbered_from_one old)))
-numbers_changed f old new is = same_map nat_cmp_total nat_cmp-IsAntisymmetric _ _ (λ q.
-    get-from_sorted nat_cmp (entries_from 1 new.slots) q (sorted_entries new.slots 1)
-    ∙ ap (λ slots. find nat_cmp q (entries_from 1 slots)) is ∙ ap (find nat_cmp q) (entries_changed f old.slots 1)
-    ∙ ap (λ es. find nat_cmp q (map (λ e. (e.0, f e.1)) es)) (sym (entries-from_sorted nat_cmp (entries_from 1 old.slots) (sorted_entries old.slots 1)))
-    ∙ sym (get-from_entries nat_cmp_total (map (λ e. (e.0, f e.1)) (numbered.entries (numbered_from_one old))) q))

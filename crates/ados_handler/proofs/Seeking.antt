@@ -1,7 +1,7 @@
 -- The meaning of SEEK if it is not refused.
 use Rattle.std.proofs.Common.{◌≡◌, ℕ, ℤ, pos, Bool, false, [], ◌∷◌, Option, Some, None, refl, sym, ap, ap₂, ◌∙◌, subst}
 use Rattle.std.specs.FinMap.{get}
-use Rattle.ados_handler.proofs.Common.{nat_cmp, FinMap, Date3, Tree, size_of, Stands, SeekError, Packet, Seek, Results, Empty, Session, at_position, handle_key, HandlerState, HandleHold, handle_target, is_bad_target, target_number, seek_target, first_refusal, refuse, refusal, after, MethodGives, MethodMeans}
+use Rattle.ados_handler.proofs.Common.{nat_cmp, FinMap, Date3, Tree, size_of, Stands, SeekError, Packet, Seek, Results, Empty, Session, at_position, handle_key, HandlerState, HandleHold, handle_target, is_bad_target, target_number, seek_target, first_refusal, refuse, refusal, after, MethodGives, MethodMeans, Places}
 use Rattle.ados_handler.proofs.HandleFiles.{key_is, position_is, opened_on, gives_moved}
 use Rattle.ados_handler.proofs.Meant.{counted, served_means}
 
@@ -10,10 +10,10 @@ module _ (old given : HandlerState) (same : old ≡ given) (t : Tree) (stood : S
   abbrev target : Option ℤ
   target = seek_target hold.position size offset mode
 
-  pub seek_gives : (position : ℕ) (handles : FinMap nat_cmp HandleHold) (results : Results) → old.session.died ≡ false → is_bad_target size target ≡ false → position ≡ target_number target
+  pub seek_gives : (position : ℕ) (handles : FinMap nat_cmp HandleHold) (places : Places) (results : Results) → old.session.died ≡ false → is_bad_target size target ≡ false → position ≡ target_number target
       → handles ≡ (at_position handle position old.session).handles → results ≡ counted hold.position Empty
-      → (now : Date3) → MethodGives given (Seek handle offset mode) now (record old { session = record old.session { handles = handles } }) results
-  seek_gives position handles results alive good there moved told now =
+      → (now : Date3) → MethodGives given (Seek handle offset mode) now (record old { session = record old.session { handles = handles }; places = places }) results
+  seek_gives position handles places results alive good there moved told now =
       let s : Session = old.session in
       let new : Session = record s { handles = handles } in
       let packet : Packet = Seek handle offset mode in
@@ -27,6 +27,6 @@ module _ (old given : HandlerState) (same : old ≡ given) (t : Tree) (stood : S
       let arrives : position ≡ target_number (handle_target t s handle offset mode) = there ∙ sym (ap target_number leads) in
       let moves : new ≡ at_position handle position s = λ i. record s { handles = moved i } in
       let reached = moves ∙ ap (λ (p : ℕ). at_position handle p s) arrives in
-      gives_moved old given same handles packet results t stood now
-      (subst (λ (r : Results). MethodMeans t s packet now t new r) (sym told)
-      (served_means t t s new packet now (counted hold.position Empty) none (record { success = λ i. after t (reached i) (pos (sym stands i)) Empty; action = refl; res2 = refl })))
+      gives_moved old given same handles places packet results t stood now
+      (subst (λ (r : Results). MethodMeans old.places t s packet now t new r) (sym told)
+      (served_means old.places t t s new packet now (counted hold.position Empty) none (record { success = λ i. after t (reached i) (pos (sym stands i)) Empty; action = refl; res2 = refl })))

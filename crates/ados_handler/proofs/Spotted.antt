@@ -1,6 +1,6 @@
 -- FINDUPDATE and FINDOUTPUT at the place of their path.
 use Rattle.std.proofs.Common.{◌≡◌, ℕ, Bool, true, false, not, List, [], ◌∷◌, ◌++◌, Option, Some, None, Ok, MatchOption, option_map, refl, sym, ap, ◌∙◌, subst}
-use Rattle.ados_handler.proofs.Common.{is_none, result_err, true≢false, Date3, Tree, Stands, rewritten, child_of, denies_delete, denies_write, DosError, DeleteProtected, DeviceNotMounted, DiskFull, InvalidLock, ObjectInUse, ObjectWrongType, WriteProtected, FindOutput, FindUpdate, Results, Session, is_in_use, is_lock, HandlerState, place_error, placed, protection_of, spot_directory, spot_name, standing, spot, placed_at, first_refusal, has_no_room, is_directory_there, is_some_and, refuse, After, GivesHandle, MakesFile, MethodGives, Opens, empty_refusals, make_refusals, open_refusals, Shown}
+use Rattle.ados_handler.proofs.Common.{is_none, result_err, true≢false, Date3, Tree, Stands, rewritten, child_of, denies_delete, denies_write, DosError, DeleteProtected, DeviceNotMounted, DiskFull, InvalidLock, ObjectInUse, ObjectWrongType, WriteProtected, FindOutput, FindUpdate, Results, Session, is_in_use, is_lock, HandlerState, place_error, placed, protection_of, spot_directory, spot_name, standing, spot, placed_at, first_refusal, has_no_room, is_directory_there, is_some_and, refuse, After, GivesHandle, MakesFile, MethodGives, Places, Opens, empty_refusals, make_refusals, open_refusals, Shown}
 use Rattle.ados_handler.proofs.Opening.{opening_gives}
 use Rattle.ados_handler.proofs.Placed.{placed_on}
 
@@ -54,15 +54,15 @@ module _ (old : HandlerState) (lock : ℕ) (path : List ℕ) (now : Date3) (ther
   makes_at t exclusive left led w = subst (λ (p : ℕ × List ℕ). MakesFile t s p.0 p.1 exclusive now left) (sym led) w
 
   -- the volume found the entry there, and the handler continued with it
-  module _ (shown found : Shown) (session : Session) (same : found ≡ shown) (view : record { image = shown.image; was_validated = shown.was_validated; session = session } ≡ old) (new : HandlerState) (results : Results) where
+  module _ (shown found : Shown) (session : Session) (places : Places) (same : found ≡ shown) (view : record { image = shown.image; was_validated = shown.was_validated; session = session; places = places } ≡ old) (new : HandlerState) (results : Results) where
     abbrev HasChild : Option ℕ → Type 0
     HasChild o = (t : Tree) → Stands shown.image t → child_of t there.0 there.1 ≡ o
 
     abbrev at : HandlerState
-    at = record { image = found.image; was_validated = found.was_validated; session = session }
+    at = record { image = found.image; was_validated = found.was_validated; session = session; places = places }
 
     at_old : at ≡ old
-    at_old = ap (λ (v : Shown). record { image = v.image; was_validated = v.was_validated; session = session }) same ∙ view
+    at_old = ap (λ (v : Shown). record { image = v.image; was_validated = v.was_validated; session = session; places = places }) same ∙ view
 
     spotted : (o : Option ℕ) → HasChild o → (t : Tree) → Stands old.image t → IsSpotWith t o
     spotted o child t stood = spot_with t o stood (child t (subst (λ (h : HandlerState). Stands h.image t) (sym view) stood))
@@ -77,6 +77,7 @@ module _ (old : HandlerState) (lock : ℕ) (path : List ℕ) (now : Date3) (ther
           fails = refl;
           back = refl;
           makes = refl;
+          takes = refl;
           row = w.row (update_rows o.tree s) ∙ behind_none (open_refusals s key o.tree);
           serves = λ left m. subst (λ (k : Option ℕ). MatchOption k (MakesFile o.tree s (spot_directory o.tree s lock path) (spot_name o.tree s lock path) false now left) (λ key. GivesHandle o.tree s key false left)) (sym w.standing_is) m;
           quiet = λ _. image ∙ ap (λ (h : HandlerState). h.image) at_old;
@@ -92,6 +93,7 @@ module _ (old : HandlerState) (lock : ℕ) (path : List ℕ) (now : Date3) (ther
           fails = refl;
           back = refl;
           makes = refl;
+          takes = refl;
           row = w.row (update_rows o.tree s);
           serves = λ left m. subst (λ (k : Option ℕ). MatchOption k (MakesFile o.tree s (spot_directory o.tree s lock path) (spot_name o.tree s lock path) false now left) (λ key. GivesHandle o.tree s key false left)) (sym w.standing_is)
               (makes_at o.tree false left w.spot_is m);
@@ -108,6 +110,7 @@ module _ (old : HandlerState) (lock : ℕ) (path : List ℕ) (now : Date3) (ther
           fails = refl;
           back = refl;
           makes = refl;
+          takes = refl;
           row = w.row (output_rows o.tree s) ∙ behind_none (empty_refusals s key o.tree);
           serves = λ left m. subst (λ (k : Option ℕ). MatchOption k (MakesFile o.tree s (spot_directory o.tree s lock path) (spot_name o.tree s lock path) true now left) (λ key. GivesHandle (rewritten now key [] o.tree) s key true left)) (sym w.standing_is) m;
           quiet = λ e. absurd (true≢false e);
@@ -123,6 +126,7 @@ module _ (old : HandlerState) (lock : ℕ) (path : List ℕ) (now : Date3) (ther
           fails = refl;
           back = refl;
           makes = refl;
+          takes = refl;
           row = w.row (output_rows o.tree s);
           serves = λ left m. subst (λ (k : Option ℕ). MatchOption k (MakesFile o.tree s (spot_directory o.tree s lock path) (spot_name o.tree s lock path) true now left) (λ key. GivesHandle (rewritten now key [] o.tree) s key true left)) (sym w.standing_is)
               (makes_at o.tree true left w.spot_is m);

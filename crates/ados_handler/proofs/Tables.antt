@@ -1,10 +1,10 @@
 -- The values of a slab under numbers from 1.
-use Rattle.std.proofs.Common.{◌≡◌, ◌≢◌, ℕ, zero, suc, ◌+◌, ◌-◌, ◌<◌, Bool, true, false, cond, List, [], ◌∷◌, map, get_or, Some, None, refl, sym, ap, ◌∙◌, inl, inr, arith, add-zero}
-use Rattle.std.specs.Prelude.{◌&&◌}
+use Rattle.std.proofs.Common.{◌≡◌, ◌≢◌, ℕ, zero, suc, ◌+◌, ◌-◌, ◌<◌, ◌≤◌, Bool, true, false, cond, List, [], ◌∷◌, map, get_or, Some, None, refl, sym, ap, ap₂, ◌∙◌, inl, inr, subst, arith, add-zero}
+use Rattle.std.specs.Prelude.{◌&&◌, nat_le}
 use Rattle.std.specs.FinMap as numbered
 use Rattle.std.specs.FinMap.Entries.{below_all}
 use Rattle.std.proofs.lemmas.List.Sums.{length-filter}
-use Rattle.ados_handler.proofs.Common.{Option, T, nat_cmp, eq_by_cmp, is_lt, nat_cmp_total, nat_cmp-IsAntisymmetric, find, is_sorted, get-from_sorted, entries-from_sorted, get-empty, get-insert, get-remove, same_map, nat_tests, eqb_tells, length, filter, is_some, Slab, entries_from, slab_len, Updates, numbered_from_one}
+use Rattle.ados_handler.proofs.Common.{Option, IsSome, NumbersFit, T, nat_cmp, eq_by_cmp, is_lt, nat_cmp_total, nat_cmp-IsAntisymmetric, find, is_sorted, get-from_sorted, entries-from_sorted, get-empty, get-insert, get-remove, same_map, nat_tests, eqb_tells, length, filter, is_some, and_parts, cases_eq, le-leb, le-ltb, leb-true, lt-ltb, true≢false, Slab, entries_from, slab_len, Updates, numbered_from_one, table_view}
 use Rattle.slab.specs.Slab.{get}
 use Rattle.ados_handler.proofs.Holding.{number_tells}
 
@@ -117,3 +117,43 @@ filtered (Some x ∷ rest) i = ap suc (filtered rest (i + 1))
 -- equally many values as in the slab
 pub values_counted : {X : Type 0} (s : Slab X) → slab_len s ≡ length (numbered.values (numbered_from_one s))
 values_counted s = sym (ap length (values_are s) ∙ filtered s.slots 0 ∙ length-filter is_some s.slots)
+
+-- ---- the numbers, and a place for one more
+
+module _ {X : Type 0} where
+  -- an empty slab has no number
+  pub fits_empty : (s : Slab X) → s.slots ≡ [] → NumbersFit s
+  fits_empty s none = record { fits = λ key there. absurd (true≢false (sym there ∙ ap (λ (slots : List (Option X)). is_some (get_or slots key None)) none)) }
+
+  -- the same values have the same numbers
+  pub fits_same : (old new : Slab X) → NumbersFit old → new.slots ≡ old.slots → NumbersFit new
+  fits_same old new fits same = record { fits = λ key there. fits.fits key (subst (λ (slots : List (Option X)). IsSome (get_or slots key None)) same there) }
+
+  -- an update brings at most one number
+  pub fits_updated : (old new : Slab X) (key : ℕ) (slot : Option X) → NumbersFit old → Updates old new key slot → (IsSome slot → key < 2147483647) → NumbersFit new
+  fits_updated old new key slot fits updates within = record {
+    fits = λ k there. elim (cases_eq k key) [
+      | inl same ↦ subst (λ i. i < 2147483647) (sym same) (within (subst IsSome (ap (get new) same ∙ updates.changed) there))
+      | inr other ↦ fits.fits k (subst IsSome (updates.others k other) there)
+    ];
+  }
+
+  -- there is a place with a number and room
+  pub is_ready : (s : Slab X) → s.vacant_key < 2147483647 → slab_len s + 1 ≤ s.capacity → (table_view s).ready ≡ true
+  is_ready s number room = ap₂ (λ (a b : Bool). a && b) (lt-ltb s.vacant_key 2147483647 number) (le-leb (slab_len s + 1) s.capacity room)
+
+  -- no place without a number
+  pub no_number : (s : Slab X) → 2147483647 ≤ s.vacant_key → (table_view s).ready ≡ false
+  no_number s most = ap (λ (a : Bool). a && nat_le (slab_len s + 1) s.capacity) (le-ltb s.vacant_key 2147483647 most)
+
+  -- and none without room
+  pub no_room : (s : Slab X) → (slab_len s + 1 ≤ s.capacity → ⊥) → (table_view s).ready ≡ false
+  no_room s full = cases (table_view s).ready refl
+    where
+      cases : (b : Bool) → (table_view s).ready ≡ b → b ≡ false
+      cases false is = refl
+      cases true is = absurd (full (leb-true (slab_len s + 1) s.capacity (and_parts _ _ is).1))
+
+  -- a new slab has none
+  pub empty_full : (s : Slab X) → s.slots ≡ [] → s.capacity ≡ 0 → (table_view s).ready ≡ false
+  empty_full s none room = no_room s (λ fits. omega (arith, fits, room))

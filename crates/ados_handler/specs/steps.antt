@@ -1,6 +1,8 @@
--- Definitions for steps: the results of a packet's method, opening and writing of files, moves of objects, new locks,
+-- Definitions for steps: the results of a packet's method, its places, opening and writing of files, moves of objects, new locks,
 -- the table of holds and its positions, replies that close, and what objects, places and handles allow.
 pub mod Methods
+pub mod Places
+pub mod NoRow
 pub mod Table
 pub mod Positions
 pub mod NewLock

@@ -1,5 +1,6 @@
 //! Packets that change an object's metadata.
 
+ghost use Rattle.std.specs.Prelude.{◌≡◌};
 ghost use Rattle.ados_model.specs.declared.packet.Packet.TheVariants.{RenameDisk, SetComment, SetDate, SetProtect};
 ghost use Rattle.ados_handler.specs.steps.Methods.{MethodGives};
 
@@ -10,7 +11,8 @@ use ados_name::{Comment, Date3, Name, PathText, Protect};
 impl Handler {
     /// RENAME_DISK.
     pub(crate) fn rename_disk(&mut self, name: &PathText, now: Date3) -> Results
-        ensures { MethodGives self.old (RenameDisk name.now) now self.new result }
+        ensures gives { MethodGives self.old (RenameDisk name.now) now self.new result }
+        ensures places { self.new.places ≡ self.old.places }
     {
         if self.died {
             return Results::refused(DosError::DeviceNotMounted);
@@ -31,7 +33,8 @@ impl Handler {
         bits: u32,
         now: Date3,
     ) -> Results
-        ensures { MethodGives self.old (SetProtect lock path.now bits) now self.new result }
+        ensures gives { MethodGives self.old (SetProtect lock path.now bits) now self.new result }
+        ensures places { self.new.places ≡ self.old.places }
     {
         if self.died {
             return Results::refused(DosError::DeviceNotMounted);
@@ -55,7 +58,8 @@ impl Handler {
         comment: &PathText,
         now: Date3,
     ) -> Results
-        ensures { MethodGives self.old (SetComment lock path.now comment.now) now self.new result }
+        ensures gives { MethodGives self.old (SetComment lock path.now comment.now) now self.new result }
+        ensures places { self.new.places ≡ self.old.places }
     {
         if self.died {
             return Results::refused(DosError::DeviceNotMounted);
@@ -83,7 +87,8 @@ impl Handler {
         date: Date3,
         now: Date3,
     ) -> Results
-        ensures { MethodGives self.old (SetDate lock path.now date) now self.new result }
+        ensures gives { MethodGives self.old (SetDate lock path.now date) now self.new result }
+        ensures places { self.new.places ≡ self.old.places }
     {
         if self.died {
             return Results::refused(DosError::DeviceNotMounted);

@@ -1,5 +1,6 @@
 //! Packets that read, write and seek in the file of a handle.
 
+ghost use Rattle.std.specs.Prelude.{◌≡◌};
 ghost use Rattle.ados_name.specs.declared.stamp.Date3.{Date3 as Moment};
 ghost use Rattle.ados_model.specs.declared.packet.Packet.TheVariants.{Read, Seek, Write};
 ghost use Rattle.ados_handler.specs.steps.Methods.{MethodGives};
@@ -13,6 +14,7 @@ impl Handler {
     /// SEEK. The result is the old position.
     pub(crate) fn seek(&mut self, handle: u32, offset: i32, mode: i32) -> Results
         ensures gives { (now : Moment) → MethodGives self.old (Seek handle offset mode) now self.new result }
+        ensures places { self.new.places ≡ self.old.places }
     {
         if self.died {
             return Results::failed(DosError::DeviceNotMounted, Body::Empty);
@@ -32,6 +34,7 @@ impl Handler {
     /// READ.
     pub(crate) fn read(&mut self, handle: u32, buffer: Buffer) -> Results
         ensures gives { (now : Moment) → MethodGives self.old (Read handle buffer) now self.new result }
+        ensures places { self.new.places ≡ self.old.places }
     {
         if self.died {
             return Results::failed(DosError::DeviceNotMounted, Body::Buffer(buffer));
@@ -54,7 +57,8 @@ impl Handler {
 
     /// WRITE. It writes all of the bytes, or none.
     pub(crate) fn write(&mut self, handle: u32, bytes: Buffer, now: Date3) -> Results
-        ensures { MethodGives self.old (Write handle bytes) now self.new result }
+        ensures gives { MethodGives self.old (Write handle bytes) now self.new result }
+        ensures places { self.new.places ≡ self.old.places }
     {
         if self.died {
             return Results::failed(DosError::DeviceNotMounted, Body::Buffer(bytes));

@@ -7,6 +7,7 @@ ghost use Rattle.ados_model.specs.Stands.{Stands};
 ghost use Rattle.ados_model.specs.declared.packet.Packet.TheVariants.{CreateDir, DeleteObject};
 ghost use Rattle.ados_handler.specs.steps.Methods.{MethodGives};
 ghost use Rattle.ados_handler.specs.steps.Moves.{remove_refusal};
+ghost use Rattle.ados_handler.specs.steps.Places.{MayTakeLock};
 
 use crate::handler::Handler;
 use ados_model::{Body, DosError, LockHold, Results};
@@ -16,7 +17,8 @@ use ados_volume::{NodeKind, remove_refusal};
 impl Handler {
     /// DELETE_OBJECT.
     pub(crate) fn delete_object(&mut self, lock: u32, path: &PathText, now: Date3) -> Results
-        ensures { MethodGives self.old (DeleteObject lock path.now) now self.new result }
+        ensures gives { MethodGives self.old (DeleteObject lock path.now) now self.new result }
+        ensures places { self.new.places ≡ self.old.places }
     {
         if self.died {
             return Results::refused(DosError::DeviceNotMounted);
@@ -34,7 +36,8 @@ impl Handler {
 
     /// CREATE_DIR. The new lock is exclusive.
     pub(crate) fn create_dir(&mut self, lock: u32, path: &PathText, now: Date3) -> Results
-        ensures { MethodGives self.old (CreateDir lock path.now) now self.new result }
+        ensures gives { MethodGives self.old (CreateDir lock path.now) now self.new result }
+        ensures room { MayTakeLock self.old.places self.new.places result }
     {
         if self.died {
             return Results::refused(DosError::DeviceNotMounted);

@@ -1,11 +1,12 @@
 //! Packets that open and close files.
 
-ghost use Rattle.std.specs.Prelude.{◌≡◌, IsTrue};
+ghost use Rattle.std.specs.Prelude.{◌≡◌, pos, IsTrue};
 ghost use Rattle.ados_name.specs.declared.stamp.Date3.{Date3 as Moment};
 ghost use Rattle.ados_model.specs.Keys.{HasKey};
 ghost use Rattle.ados_model.specs.declared.packet.Packet.TheVariants.{End, FindInput};
 ghost use Rattle.ados_handler.specs.steps.Methods.{MethodGives};
 ghost use Rattle.ados_handler.specs.steps.Opening.{BringsHandle, OpensShared};
+ghost use Rattle.ados_handler.specs.steps.Places.{FreesHandle, MayTakeHandle};
 
 use crate::handler::Handler;
 use crate::table::Table;
@@ -16,6 +17,7 @@ impl Handler {
     /// FINDINPUT.
     pub(crate) fn find_input(&mut self, lock: u32, path: &PathText) -> Results
         ensures gives { (now : Moment) → MethodGives self.old (FindInput lock path.now) now self.new result }
+        ensures room { MayTakeHandle self.old.places self.new.places result }
     {
         if self.died {
             return Results::refused(DosError::DeviceNotMounted);
@@ -31,6 +33,7 @@ impl Handler {
         requires { HasKey self.old.image key }
         ensures opens { OpensShared key self.old self.new result }
         ensures image { self.new.image ≡ self.old.image }
+        ensures room { MayTakeHandle self.old.places self.new.places result }
     {
         if !self.volume.is_file(key) {
             return Results::refused(DosError::ObjectWrongType);
@@ -47,6 +50,7 @@ impl Handler {
     /// END.
     pub(crate) fn end_handle(&mut self, handle: u32) -> Results
         ensures gives { (now : Moment) → MethodGives self.old (End handle) now self.new result }
+        ensures room { FreesHandle self.old.places self.new.places result }
     {
         if self.died {
             return Results::refused(DosError::DeviceNotMounted);
@@ -62,7 +66,8 @@ impl Handler {
 /// The results with a new handle at the start of a file. The place for it is reserved.
 pub(crate) fn opened(handles: &mut Table<HandleHold>, key: u32, exclusive: bool) -> Results
     requires { IsTrue handles.old.ready }
-    ensures { BringsHandle key exclusive handles.old.held handles.new.held result }
+    ensures brings { BringsHandle key exclusive handles.old.held handles.new.held result }
+    ensures served { result.res2 ≡ pos 0 }
 {
     let number = handles.insert_reserved(HandleHold {
         key,

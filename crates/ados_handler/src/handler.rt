@@ -2,6 +2,7 @@
 
 ghost use Rattle.std.specs.Prelude.{◌≡◌};
 ghost use Rattle.ados_model.specs.Session.{opening_session};
+ghost use Rattle.ados_handler.specs.HandlerState.{no_places};
 
 use crate::table::Table;
 use ados_model::{HandleHold, LockHold};
@@ -9,8 +10,8 @@ use ados_volume::Volume;
 use std::alloc::Global;
 use std::marker::Model;
 
-/// A handler over a volume. Contracts see the volume's image and the holds, and are about the tree that the image
-/// represents.
+/// A handler over a volume. Contracts see the volume's image, the holds and whether there are places for more, and are
+/// about the tree that the image represents.
 #[derive(Drop)]
 pub struct Handler {
     pub(crate) volume: Volume,
@@ -20,8 +21,9 @@ pub struct Handler {
 }
 
 impl Model for Handler {
-    ghost use Rattle.ados_model.specs.Codes.{session_of, handler_code};
-    ghost use Rattle.ados_model.specs.Session.{HandlerState};
+    ghost use Rattle.ados_model.specs.Codes.{session_of};
+    ghost use Rattle.ados_handler.specs.Codes.{handler_code};
+    ghost use Rattle.ados_handler.specs.HandlerState.{HandlerState};
     ghost use Rattle.ados_handler.specs.Gives.{IsSoundHandler};
 
     ghost Value = { HandlerState };
@@ -32,6 +34,7 @@ impl Model for Handler {
       image = h.volume.image;
       was_validated = h.volume.was_validated;
       session = session_of h.locks.held h.handles.held h.died;
+      places = record { for_lock = h.locks.ready; for_handle = h.handles.ready };
     } };
 
     ghost invariant = { λ h. IsSoundHandler h.volume.image (session_of h.locks.held h.handles.held h.died) };
@@ -43,6 +46,7 @@ impl Handler {
         ensures image { result.image ≡ volume.image }
         ensures validated { result.was_validated ≡ volume.was_validated }
         ensures session { result.session ≡ opening_session }
+        ensures places { result.places ≡ no_places }
     {
         prove!(volume.image().blocks() >= 16);
         Handler {

@@ -8,6 +8,7 @@ ghost use Rattle.ados_model.specs.Session.{is_in_use};
 ghost use Rattle.ados_model.specs.Objects.{is_exclusive_mode};
 ghost use Rattle.ados_handler.specs.steps.NewLock.{BringsLock};
 ghost use Rattle.ados_handler.specs.steps.Methods.{MethodGives};
+ghost use Rattle.ados_handler.specs.steps.Places.{FreesLock, MayTakeLock};
 
 use crate::handler::Handler;
 use ados_model::{Body, DosError, LockHold, NO_LOCK, Results};
@@ -17,6 +18,7 @@ impl Handler {
     /// LOCATE_OBJECT.
     pub(crate) fn locate_object(&mut self, lock: u32, path: &PathText, mode: i32) -> Results
         ensures gives { (now : Moment) → MethodGives self.old (LocateObject lock path.now mode) now self.new result }
+        ensures room { MayTakeLock self.old.places self.new.places result }
     {
         if self.died {
             return Results::refused(DosError::DeviceNotMounted);
@@ -35,6 +37,7 @@ impl Handler {
     /// FREE_LOCK. `NO_LOCK` is no hold: it succeeds and changes nothing.
     pub(crate) fn free_lock(&mut self, lock: u32) -> Results
         ensures gives { (now : Moment) → MethodGives self.old (FreeLock lock) now self.new result }
+        ensures room { FreesLock self.old.places self.new.places result lock }
     {
         if self.died {
             return Results::refused(DosError::DeviceNotMounted);
@@ -51,6 +54,7 @@ impl Handler {
     /// COPY_DIR. `NO_LOCK` is no hold: its copy is `NO_LOCK`.
     pub(crate) fn copy_dir(&mut self, lock: u32) -> Results
         ensures gives { (now : Moment) → MethodGives self.old (CopyDir lock) now self.new result }
+        ensures room { MayTakeLock self.old.places self.new.places result }
     {
         if self.died {
             return Results::refused(DosError::DeviceNotMounted);
@@ -95,6 +99,7 @@ impl Handler {
     /// PARENT. The parent of the root is `NO_LOCK`.
     pub(crate) fn parent(&mut self, lock: u32) -> Results
         ensures gives { (now : Moment) → MethodGives self.old (Parent lock) now self.new result }
+        ensures room { MayTakeLock self.old.places self.new.places result }
     {
         if self.died {
             return Results::refused(DosError::DeviceNotMounted);
@@ -111,13 +116,14 @@ impl Handler {
         self.bring_lock(dir, false)
     }
 
-    /// A new lock on an object, or `NoFreeStore` (103) if there is no memory or no number for it.
+    /// A new lock on an object, or `NoFreeStore` (103) if there was no place for it: no memory, or no number.
     fn bring_lock(&mut self, key: u32, exclusive: bool) -> Results
         requires key { HasKey self.old.image key }
         requires free { is_in_use self.old.session key exclusive ≡ false }
-        ensures brings { BringsLock self.old.session key exclusive self.new.session result }
+        ensures brings { BringsLock self.old.places.for_lock self.old.session key exclusive self.new.session result }
         ensures image { self.new.image ≡ self.old.image }
         ensures validated { self.new.was_validated ≡ self.old.was_validated }
+        ensures room { MayTakeLock self.old.places self.new.places result }
     {
         if self.locks.reserve().is_err() {
             return Results::refused(DosError::NoFreeStore);

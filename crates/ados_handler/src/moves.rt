@@ -23,7 +23,8 @@ impl Handler {
         to: &PathText,
         now: Date3,
     ) -> Results
-        ensures { MethodGives self.old (RenameObject from_lock from.now to_lock to.now) now self.new result }
+        ensures gives { MethodGives self.old (RenameObject from_lock from.now to_lock to.now) now self.new result }
+        ensures places { self.new.places ≡ self.old.places }
     {
         if self.died {
             return Results::refused(DosError::DeviceNotMounted);

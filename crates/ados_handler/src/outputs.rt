@@ -8,6 +8,7 @@ ghost use Rattle.ados_model.specs.Change.{child_of};
 ghost use Rattle.ados_model.specs.declared.packet.Packet.TheVariants.{FindOutput, FindUpdate};
 ghost use Rattle.ados_handler.specs.steps.Methods.{MethodGives};
 ghost use Rattle.ados_handler.specs.steps.Opening.{Opens, OpensEmptied, make_refusals};
+ghost use Rattle.ados_handler.specs.steps.Places.{MayTakeHandle};
 ghost use Rattle.ados_model.specs.Success.{MakesFile};
 
 use crate::files::opened;
@@ -19,7 +20,8 @@ use ados_volume::NodeKind;
 impl Handler {
     /// FINDUPDATE.
     pub(crate) fn find_update(&mut self, lock: u32, path: &PathText, now: Date3) -> Results
-        ensures { MethodGives self.old (FindUpdate lock path.now) now self.new result }
+        ensures gives { MethodGives self.old (FindUpdate lock path.now) now self.new result }
+        ensures room { MayTakeHandle self.old.places self.new.places result }
     {
         if self.died {
             return Results::refused(DosError::DeviceNotMounted);
@@ -36,7 +38,8 @@ impl Handler {
 
     /// FINDOUTPUT.
     pub(crate) fn find_output(&mut self, lock: u32, path: &PathText, now: Date3) -> Results
-        ensures { MethodGives self.old (FindOutput lock path.now) now self.new result }
+        ensures gives { MethodGives self.old (FindOutput lock path.now) now self.new result }
+        ensures room { MayTakeHandle self.old.places self.new.places result }
     {
         if self.died {
             return Results::refused(DosError::DeviceNotMounted);
@@ -54,7 +57,8 @@ impl Handler {
     /// An exclusive handle on an existing file, which is emptied.
     fn empty_file(&mut self, key: u32, now: Date3) -> Results
         requires { HasKey self.old.image key }
-        ensures { OpensEmptied key now self.old self.new result }
+        ensures opens { OpensEmptied key now self.old self.new result }
+        ensures room { MayTakeHandle self.old.places self.new.places result }
     {
         if !self.volume.is_file(key) {
             return Results::refused(DosError::ObjectWrongType);
@@ -80,7 +84,8 @@ impl Handler {
     fn make_file(&mut self, dir: u32, name: Name, exclusive: bool, now: Date3) -> Results
         requires directory { HasDirectory self.old.image dir }
         requires new_name { (t : Tree) → Stands self.old.image t → child_of t dir name ≡ None }
-        ensures { Opens make_refusals (λ t left. MakesFile t self.old.session dir name exclusive now left) self.old self.new result }
+        ensures opens { Opens make_refusals (λ t left. MakesFile t self.old.session dir name exclusive now left) self.old self.new result }
+        ensures room { MayTakeHandle self.old.places self.new.places result }
     {
         if !self.has_room() {
             return Results::refused(DosError::DiskFull);

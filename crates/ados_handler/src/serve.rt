@@ -1,10 +1,11 @@
 //! The handler as a server of packets.
 
-ghost use Rattle.std.specs.Prelude.{ℤ};
+ghost use Rattle.std.specs.Prelude.{◌≡◌, ℤ};
 ghost use Rattle.ados_name.specs.declared.stamp.Date3.{Date3 as Moment};
 ghost use Rattle.ados_model.specs.declared.packet.Packet.TheVariants.{Die, Other};
 ghost use Rattle.ados_handler.specs.Gives.{HandlerGives};
 ghost use Rattle.ados_handler.specs.steps.Methods.{MethodGives};
+ghost use Rattle.ados_handler.specs.steps.Places.{MethodRoom};
 
 use crate::handler::Handler;
 use ados_model::{Action, Answer, Body, DosError, Packet, Results};
@@ -15,6 +16,7 @@ impl Handler {
     /// DIE. It is refused while any lock or handle is held.
     pub(crate) fn die(&mut self) -> Results
         ensures gives { (now : Moment) → MethodGives self.old Die now self.new result }
+        ensures places { self.new.places ≡ self.old.places }
     {
         if self.died {
             return Results::refused(DosError::DeviceNotMounted);
@@ -41,66 +43,44 @@ impl Handler {
         ensures { HandlerGives self.old packet now self.new result }
     {
         let action = packet.action();
+        self.results_of(packet, now).to(action)
+    }
+
+    /// Serves a packet by its method.
+    #[rattlefmt::skip]
+    fn results_of(&mut self, packet: Packet, now: Date3) -> Results
+        ensures gives { MethodGives self.old packet now self.new result }
+        ensures room { MethodRoom self.old.places self.new.places result packet }
+    {
         match packet {
-            Packet::Die => self.die().to(action),
-            Packet::LocateObject { lock, path, mode } => self
-                .locate_object(lock, path.path(), mode)
-                .to(action),
-            Packet::RenameDisk { name } => self.rename_disk(name.path(), now).to(action),
-            Packet::FreeLock { lock } => self.free_lock(lock).to(action),
-            Packet::DeleteObject { lock, path } => self
-                .delete_object(lock, path.path(), now)
-                .to(action),
-            Packet::RenameObject {
-                from_lock,
-                from,
-                to_lock,
-                to,
-            } => self
-                .rename_object(from_lock, from.path(), to_lock, to.path(), now)
-                .to(action),
-            Packet::CopyDir { lock } => self.copy_dir(lock).to(action),
-            Packet::SetProtect { lock, path, bits } => self
-                .set_protect(lock, path.path(), bits, now)
-                .to(action),
-            Packet::CreateDir { lock, path } => self.create_dir(lock, path.path(), now).to(action),
-            Packet::ExamineObject { lock } => self.examine_object(lock).to(action),
-            Packet::ExamineNext { lock, key } => self.examine_next(lock, key).to(action),
-            Packet::DiskInfo => self.disk_info().to(action),
-            Packet::Info { lock } => self.info(lock).to(action),
-            Packet::SetComment {
-                lock,
-                path,
-                comment,
-            } => self
-                .set_comment(lock, path.path(), comment.path(), now)
-                .to(action),
-            Packet::Parent { lock } => self.parent(lock).to(action),
-            Packet::SetDate { lock, path, date } => self
-                .set_date(lock, path.path(), date, now)
-                .to(action),
-            Packet::SameLock { first, second } => self.same_lock(first, second).to(action),
-            Packet::Read { handle, buffer } => self.read(handle, buffer).to(action),
-            Packet::Write { handle, bytes } => self.write(handle, bytes, now).to(action),
-            Packet::FindUpdate { lock, path } => self
-                .find_update(lock, path.path(), now)
-                .to(action),
-            Packet::FindInput { lock, path } => self.find_input(lock, path.path()).to(action),
-            Packet::FindOutput { lock, path } => self
-                .find_output(lock, path.path(), now)
-                .to(action),
-            Packet::End { handle } => self.end_handle(handle).to(action),
-            Packet::Seek {
-                handle,
-                offset,
-                mode,
-            } => self.seek(handle, offset, mode).to(action),
-            Packet::SetFileSize {
-                handle,
-                offset,
-                mode,
-            } => self.set_file_size(handle, offset, mode, now).to(action),
-            Packet::Other { .. } => self.unknown().to(action),
+            Packet::Die => self.die(),
+            Packet::LocateObject { lock, path, mode } => self.locate_object(lock, path.path(), mode),
+            Packet::RenameDisk { name } => self.rename_disk(name.path(), now),
+            Packet::FreeLock { lock } => self.free_lock(lock),
+            Packet::DeleteObject { lock, path } => self.delete_object(lock, path.path(), now),
+            Packet::RenameObject { from_lock, from, to_lock, to } => {
+                self.rename_object(from_lock, from.path(), to_lock, to.path(), now)
+            }
+            Packet::CopyDir { lock } => self.copy_dir(lock),
+            Packet::SetProtect { lock, path, bits } => self.set_protect(lock, path.path(), bits, now),
+            Packet::CreateDir { lock, path } => self.create_dir(lock, path.path(), now),
+            Packet::ExamineObject { lock } => self.examine_object(lock),
+            Packet::ExamineNext { lock, key } => self.examine_next(lock, key),
+            Packet::DiskInfo => self.disk_info(),
+            Packet::Info { lock } => self.info(lock),
+            Packet::SetComment { lock, path, comment } => self.set_comment(lock, path.path(), comment.path(), now),
+            Packet::Parent { lock } => self.parent(lock),
+            Packet::SetDate { lock, path, date } => self.set_date(lock, path.path(), date, now),
+            Packet::SameLock { first, second } => self.same_lock(first, second),
+            Packet::Read { handle, buffer } => self.read(handle, buffer),
+            Packet::Write { handle, bytes } => self.write(handle, bytes, now),
+            Packet::FindUpdate { lock, path } => self.find_update(lock, path.path(), now),
+            Packet::FindInput { lock, path } => self.find_input(lock, path.path()),
+            Packet::FindOutput { lock, path } => self.find_output(lock, path.path(), now),
+            Packet::End { handle } => self.end_handle(handle),
+            Packet::Seek { handle, offset, mode } => self.seek(handle, offset, mode),
+            Packet::SetFileSize { handle, offset, mode } => self.set_file_size(handle, offset, mode, now),
+            Packet::Other { .. } => self.unknown(),
         }
     }
 }

@@ -27,7 +27,8 @@ impl Handler {
         mode: i32,
         now: Date3,
     ) -> Results
-        ensures { MethodGives self.old (SetFileSize handle offset mode) now self.new result }
+        ensures gives { MethodGives self.old (SetFileSize handle offset mode) now self.new result }
+        ensures places { self.new.places ≡ self.old.places }
     {
         if self.died {
             return Results::refused(DosError::DeviceNotMounted);

@@ -1,5 +1,5 @@
 //! A table of values under numbers from 1 to 2,147,483,647. The table chooses the numbers.
-ghost use Rattle.std.specs.Prelude.{◌≡◌, ◌==◌, Bool, IsTrue, OnOk, length};
+ghost use Rattle.std.specs.Prelude.{◌≡◌, ◌==◌, Bool, false, IsTrue, IfNone, OnErr, OnOk, OnSome, length};
 ghost use Rattle.std.specs.Fn.{FnReturnsAt};
 ghost use Rattle.std.specs.List.{list_any};
 ghost use Rattle.std.specs.Option.{option_copied};
@@ -11,20 +11,23 @@ use std::marker::Model;
 
 /// Values under their numbers. A freed number may be used again.
 ///
-/// Contracts see the finite map from numbers to values, and whether a place for one more value is reserved.
+/// Contracts see the finite map from numbers to values, and whether there is a place for one more value: memory, and a
+/// number.
 #[derive(Drop)]
 pub struct Table<T> {
     pub(crate) slab: Slab<T>,
 }
 
 impl<T> Model for Table<T> {
-    ghost use Rattle.ados_handler.specs.steps.Table.{TableState, table_code, table_view};
+    ghost use Rattle.ados_handler.specs.steps.Table.{NumbersFit, TableState, table_code, table_view};
 
     ghost Value = { TableState T };
 
     ghost coded = { table_code T.code };
 
     ghost view = { λ a. table_view a.slab };
+
+    ghost invariant = { λ a. NumbersFit a.slab };
 }
 
 /// There is no memory, or no free number below 2^31.
@@ -35,9 +38,10 @@ impl<T> Table<T> {
     ghost use Rattle.ados_model.specs.Session.{IsFreeNumber};
     ghost use Rattle.ados_handler.specs.steps.Table.{IsTestBy};
 
-    /// An empty table.
+    /// An empty table, without a place.
     pub fn new(alloc: Global) -> Self
-        ensures { result.held ≡ numbered.empty }
+        ensures held { result.held ≡ numbered.empty }
+        ensures full { result.ready ≡ false }
     {
         Table {
             slab: Slab::new(alloc),
@@ -55,10 +59,12 @@ impl<T> Table<T> {
         slab.get(number as usize - 1)
     }
 
-    /// Reserves a place for one more value.
+    /// Reserves a place for one more value. It fails only where there is none.
     pub fn reserve(&mut self) -> Result<(), NoPlace>
         ensures held { self.new.held ≡ self.old.held }
         ensures ready { OnOk result (IsTrue self.new.ready) }
+        ensures full { OnErr result (self.old.ready ≡ false) }
+        ensures stays { IsTrue self.old.ready → IsTrue self.new.ready }
     {
         if self.slab.vacant_key() >= 2_147_483_647 {
             return Err(NoPlace);
@@ -79,10 +85,12 @@ impl<T> Table<T> {
         key as u32 + 1
     }
 
-    /// Removes the value under a number and returns it.
+    /// Removes the value under a number and returns it. Its place is free then.
     pub fn remove(&mut self, number: u32) -> Option<T>
         ensures value { result ≡ numbered.get self.old.held number }
         ensures held { self.new.held ≡ numbered.remove self.old.held number }
+        ensures place { OnSome result (IsTrue self.new.ready) }
+        ensures none { IfNone result (self.new ≡ self.old) }
     {
         let slab = &mut self.slab;
         if number == 0 {

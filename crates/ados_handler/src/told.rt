@@ -54,6 +54,7 @@ impl Handler {
     /// EXAMINE_NEXT.
     pub(crate) fn examine_next(&mut self, lock: u32, key: u32) -> Results
         ensures gives { (now : Moment) → MethodGives self.old (ExamineNext lock key) now self.new result }
+        ensures places { self.new.places ≡ self.old.places }
     {
         if self.died {
             return Results::refused(DosError::DeviceNotMounted);

@@ -34,6 +34,6 @@ pub use answer::{NotValidated, Validated};
 pub use block_map::map_text;
 pub use caution::{Caution, Look};
 pub use naming::{Naming, Place};
-pub use places::places_of;
+pub use places::{in_order, places_of};
 pub use reached::{is_reached, reached_cells};
 pub use validating::validate;

@@ -41,7 +41,7 @@ pub fn places_of(
 }
 
 /// These blocks in order, each once.
-fn in_order(alloc: Global, blocks: &[u32]) -> Result<Vec<u32>, AllocError>
+pub fn in_order(alloc: Global, blocks: &[u32]) -> Result<Vec<u32>, AllocError>
     ensures increasing { IfOk result (λ asked. IsStrictlyIncreasing asked.items) }
     ensures all { IfOk result (λ asked. All (Contains asked.items) blocks.now) }
 {

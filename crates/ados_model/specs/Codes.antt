@@ -1,11 +1,11 @@
--- Codes for sessions and handlers, which a model needs.
-use Rattle.std.specs.Prelude.{ℕ, Bool, List, refl}
+-- Codes for sessions, which a model needs.
+use Rattle.std.specs.Prelude.{ℕ, Bool, refl}
 use Rattle.std.specs.Ordering.{nat_cmp}
 use Rattle.std.specs.FinMap as numbered
-use Rattle.std.specs.Coded.{Coded, code_by, coded×, coded_ℕ, coded_bool, coded_list}
+use Rattle.std.specs.Coded.{Coded, code_by, coded×, coded_ℕ, coded_bool}
 use Rattle.ados_model.specs.declared.holds.LockHold.{LockHold}
 use Rattle.ados_model.specs.declared.holds.HandleHold.{HandleHold}
-use Rattle.ados_model.specs.Session.{Session, HandlerState}
+use Rattle.ados_model.specs.Session.{Session}
 
 -- codes for sessions, which a model needs
 abbrev pub lock_code : Coded LockHold
@@ -28,10 +28,3 @@ session_code =
 -- the locks and handles of a handler, and whether it has died
 abbrev pub session_of : numbered.FinMap nat_cmp LockHold → numbered.FinMap nat_cmp HandleHold → Bool → Session
 session_of locks handles died = record { locks = locks; handles = handles; died = died }
-
--- a code for handlers, which a model needs
-abbrev pub handler_code : Coded HandlerState
-handler_code =
-    code_by (List ℕ × (Bool × Session)) (coded× (coded_list coded_ℕ) (coded× coded_bool session_code))
-    (λ h. (h.image, (h.was_validated, h.session)))
-    (λ p. record { image = p.0; was_validated = p.1.0; session = p.1.1 }) (λ _. refl)

@@ -1,4 +1,4 @@
--- The locks and handles in use, and how contracts see a handler.
+-- The locks and handles in use.
 use Rattle.std.specs.Prelude.{◌≡◌, ℕ, ◌≤◌, Bool, false, ◌==◌, ◌&&◌, ◌||◌, nat_lt, if◌then◌else◌, List, ◌++◌, map, None}
 use Rattle.std.specs.List.{list_any}
 use Rattle.std.specs.Option.{option_map_or}
@@ -84,9 +84,3 @@ positions_within key size s =
     let within : HandleHold → HandleHold =
     λ h. if (h.key == key) && nat_lt size h.position then record h { position = size } else h in
     record s { handles = numbered.from_entries (map (λ e. (e.0, within e.1)) (numbered.entries s.handles)) }
-
--- the image of its volume, whether `check` rebuilt the bitmap, and the holds
-pub record HandlerState : Type 0 where
-  pub image : List ℕ
-  pub was_validated : Bool
-  pub session : Session

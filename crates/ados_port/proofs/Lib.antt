@@ -1,6 +1,7 @@
 -- Lemmas for callers of a port: on its histories, its steps, its ends, and its clients in threads.
 pub mod Kept
 pub mod Views
+pub mod Places
 pub mod Histories
 pub mod Joining
 pub mod Grows

@@ -1,5 +1,6 @@
--- Definitions for the contracts of a port: the visible state of an exchange, a refused run, and what a client's thread
--- may do to its end. Definitions for steps are in `steps`.
+-- Definitions for the contracts of a port: the visible state of an exchange with the places of its lists, a refused run,
+-- and what a client's thread may do to its end. Definitions for steps are in `steps`.
+pub mod Exchanges
 pub mod View
 pub mod Refused
 pub mod Grown

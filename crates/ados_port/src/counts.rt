@@ -1,5 +1,5 @@
 //! What an exchange keeps for one client.
-ghost use Rattle.std.specs.Prelude.{◌≡◌, ◌+◌, ◌≤◌, ◌<◌, [], ◌∷◌, ◌++◌, MatchOption};
+ghost use Rattle.std.specs.Prelude.{◌≡◌, ◌+◌, ◌≤◌, ◌<◌, [], ◌∷◌, ◌++◌, IfNone, MatchOption};
 ghost use Rattle.std.specs.VecDeque.{deque_len, deque_capacity};
 
 use port_ends::Reply;
@@ -19,7 +19,7 @@ pub(crate) struct Client<A> {
 }
 
 impl<A: Drop> Client<A> {
-    ghost use Rattle.ados_port.specs.steps.Taking.{CountsOne, HasNoReply, HandsOut};
+    ghost use Rattle.ados_port.specs.steps.Taking.{CountsOne, HasNoPlace, HasNoReply, HandsOut, places_of};
 
     pub(crate) fn new(alloc: Global) -> Self
         ensures accepted { result.accepted ≡ 0 }
@@ -35,12 +35,14 @@ impl<A: Drop> Client<A> {
         }
     }
 
-    /// Counts one more packet, and reserves room for its reply. Returns its number, or `None` if memory ran out or the
-    /// count is at its maximum.
+    /// Counts one more packet, and reserves room for its reply. Returns its number, or `None` if no place is left and
+    /// memory ran out, or if the count is at its maximum.
     pub(crate) fn accept(&mut self) -> Option<u64>
         ensures replies { self.new.replies.items ≡ self.old.replies.items }
         ensures taken { self.new.taken ≡ self.old.taken }
         ensures counts { MatchOption result (self.new.accepted ≡ self.old.accepted) (λ number. CountsOne self.old self.new number) }
+        ensures full { IfNone result (HasNoPlace self.old) }
+        ensures places { places_of self.old ≤ places_of self.new }
         ensures waits { MatchOption result (self.new.waiting ≡ self.old.waiting) (λ number. self.new.waiting ≡ self.old.waiting + 1) }
     {
         if self.accepted == u64::MAX {
@@ -62,6 +64,7 @@ impl<A: Drop> Client<A> {
         ensures taken { self.new.taken ≡ self.old.taken }
         ensures accepted { self.new.accepted ≡ self.old.accepted }
         ensures waits { self.new.waiting + 1 ≡ self.old.waiting }
+        ensures places { places_of self.new ≡ places_of self.old }
     {
         self.replies.push_back_reserved(reply);
         self.waiting -= 1;
@@ -72,6 +75,7 @@ impl<A: Drop> Client<A> {
     pub(crate) fn take(&mut self) -> Option<Reply<A>>
         ensures accepted { self.new.accepted ≡ self.old.accepted }
         ensures waiting { self.new.waiting ≡ self.old.waiting }
+        ensures places { places_of self.new ≡ places_of self.old }
         ensures cases { MatchOption result (HasNoReply self.old self.new) (λ reply. HandsOut self.old self.new reply) }
     {
         let answer = self.replies.pop_front()?;

@@ -3,6 +3,7 @@ ghost use Rattle.std.specs.Prelude.{◌≡◌, true, IfOk, MatchResult};
 ghost use Rattle.port_ends.specs.History.{PortHistory, events_of};
 ghost use Rattle.port_ends.specs.Gives.{FirstAreServed, PutsAreClosed};
 ghost use Rattle.ados_port.specs.Refused.{HandsBack};
+ghost use Rattle.ados_port.specs.Exchanges.{CanCount, HasPlacesFor, NoneIsFull, put_count};
 
 use crate::exchange::Exchange;
 use port_ends::{Outcome, Server, Step};
@@ -30,13 +31,19 @@ pub fn run<S: Server>(
     steps: Vec<Step<S::Request, S::Moment>>,
 ) -> Result<RunDone<S>, RunRefused<S>>
     ensures history { MatchResult result
-        (λ done. PortHistory S.gives S.has_died exchange steps.items done.outcomes.items done.exchange)
+        (λ done. PortHistory S.gives S.has_died exchange.port steps.items done.outcomes.items done.exchange.port)
         (HandsBack exchange steps.items) }
-    ensures first_served { IfOk result (λ done. FirstAreServed exchange (events_of steps.items done.outcomes.items) done.exchange) }
+    ensures first_served { IfOk result
+        (λ done. FirstAreServed exchange.port (events_of steps.items done.outcomes.items) done.exchange.port) }
+
+    // If there are places for all packets, no put is refused as `NoRoom`.
+    ensures ample { HasPlacesFor (put_count steps.items) exchange → CanCount (put_count steps.items) exchange
+        → IfOk result (λ done. NoneIsFull done.outcomes.items) }
 
     // After a death no packet is accepted, in this run and in later ones.
-    ensures stays_dead { S.has_died exchange.server ≡ true → IfOk result (λ done. S.has_died done.exchange.server ≡ true) }
-    ensures stays_closed { S.has_died exchange.server ≡ true → IfOk result (λ done. PutsAreClosed exchange (events_of steps.items done.outcomes.items)) }
+    ensures stays_dead { S.has_died exchange.port.server ≡ true → IfOk result (λ done. S.has_died done.exchange.port.server ≡ true) }
+    ensures stays_closed { S.has_died exchange.port.server ≡ true
+        → IfOk result (λ done. PutsAreClosed exchange.port (events_of steps.items done.outcomes.items)) }
 {
     let mut exchange = exchange;
     let Ok(mut outcomes) = Vec::with_capacity(alloc, steps.len()) else {

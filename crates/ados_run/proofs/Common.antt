@@ -7,7 +7,8 @@ pub use Rattle.adf_script.specs.declared.ending.ClientEnding.{ClientEnding}
 pub use Rattle.adf_script.specs.declared.ending.ClientEnding.TheVariants.{Done, Script, Tries}
 pub use Rattle.ados_handler.specs.Gives.{HandlerGives}
 pub use Rattle.ados_model.proofs.OneTree.{one_tree}
-pub use Rattle.ados_model.specs.Session.{HandlerState, Session, opening_session}
+pub use Rattle.ados_model.specs.Session.{Session, opening_session}
+pub use Rattle.ados_handler.specs.HandlerState.{HandlerState}
 pub use Rattle.ados_model.specs.Stands.{Stands}
 pub use Rattle.ados_model.specs.Tree.{Tree}
 pub use Rattle.ados_model.specs.declared.answer.Answer.{Answer}

@@ -9,3 +9,7 @@ mod Weaker
 pub mod Runs
 pub mod Closed
 pub mod Serving
+mod SameTrees
+pub mod SameAnswers
+pub mod SameRuns
+mod SameOutcomes

@@ -1,7 +1,7 @@
 -- Scripts over the volume of a handler, from the lists of the port's ends.
 use Rattle.std.proofs.Common.{◌≡◌, ℕ, zero, suc, ◌+◌, ◌<◌, ◌≤◌, Bool, List, [], ◌∷◌, ◌++◌, length, map, get_or, Some, None, slice_get, arith, refl, sym, ap, ◌∙◌, subst, ⊎_elim}
 use Rattle.std.specs.declared.alloc.Global.{Global}
-use Rattle.ados_run.proofs.Common.{Vec, length-map, slice_get_within, slice_get_cases, Date3, Tree, Stands, one_tree, ClientLists, Lawful, Serving, Reply, ClientView, HandlerView, AreEnds, CloseMeansDeath, IsNew, Serves, Packet, Answer, opening_session, HandlerState, HandlerGives, ClientEnding, Spoken, Tells, EachTells, handler_over, both_died, beside, handlers_of, ListsFollowTree, handler_died, KeepsServed, ServesBoth}
+use Rattle.ados_run.proofs.Common.{Vec, length-map, slice_get_within, slice_get_cases, Date3, Tree, Stands, one_tree, ClientLists, Lawful, Serving, Reply, ClientView, HandlerView, AreEnds, CloseMeansDeath, IsNew, Serves, Packet, Answer, HandlerState, HandlerGives, ClientEnding, Spoken, Tells, EachTells, handler_over, both_died, beside, handlers_of, ListsFollowTree, handler_died, KeepsServed, ServesBoth}
 use mathlib.Core.List.{map-map}
 use Rattle.ados_port.specs.Gathering.{all_lists, lists_of}
 use Rattle.ados_port.proofs.Gathers.{get_map}
@@ -74,7 +74,7 @@ module _ {C D : Type 0} (end_of : C → ClientView Packet Date3 Answer) (script_
   pub keeps_served : (image : List ℕ) (was_validated : Bool) (moment : Date3) (opening : HandlerState) (first last : HandlerView HandlerState Packet Date3 Answer) (served : List (Serving Packet Date3 Answer))
       (clients : List C) (done : List D) (scripts : List (List ℕ)) (ends : List (ClientView Packet Date3 Answer)) (told : List (List ℕ × ClientEnding)) (untaken : List (Vec (Reply Answer) Global)) (unanswered : List (ℕ × Packet)) (closing : HandlerState)
       → (t : Tree) × Stands image t
-      → opening ≡ record { image = image; was_validated = was_validated; session = opening_session }
+      → opening ≡ handler_over image was_validated
       → IsNew opening first → Serves HandlerGives moment first served last
       → scripts ≡ map script_of clients → ends ≡ map client_of done → told ≡ map told_of done
       → EachTells (map (λ c. (end_of c, script_of c)) clients) (map (λ d. (client_of d, told_of d)) done) → AreEnds last ends → length untaken ≡ length ends

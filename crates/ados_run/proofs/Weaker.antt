@@ -44,6 +44,7 @@ pub meant_run : (image : List ℕ) (clients : ℕ) (steps : PacketSteps) (outcom
 meant_run image clients steps outcomes closing r = record {
   opening = r.opening;
   accepted = r.accepted;
+  bytes = r.bytes;
   unused = r.unused;
   tree = r.tree;
   stands = r.stands;

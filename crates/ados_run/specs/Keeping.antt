@@ -6,7 +6,7 @@ use Rattle.ados_model.specs.declared.answer.Answer.{Answer}
 use Rattle.ados_handler.specs.Gives.{HandlerGives}
 use Rattle.ados_run.specs.Runs.{HandlerPort, PacketOutcomes, PacketSteps, BothSides, MeansBoth, RunsWith}
 use Rattle.adf_script.specs.declared.ending.ClientEnding.{ClientEnding}
-use Rattle.ados_model.specs.Session.{HandlerState}
+use Rattle.ados_handler.specs.HandlerState.{HandlerState}
 use Rattle.ados_run.specs.ServesVolume.{ServesWith}
 
 -- a packet is served according to its meaning, and the image changes as a handler may change it: bytes outside fields

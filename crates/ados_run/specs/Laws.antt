@@ -8,7 +8,7 @@ use Rattle.ados_model.specs.declared.fault.VolumeFault.{VolumeFault}
 use Rattle.ados_port.specs.History.{PortHistory, Run}
 use Rattle.ados_port.specs.Lawful.{Lawful}
 use Rattle.ados_model.specs.declared.packet.Packet.{Packet}
-use Rattle.ados_model.specs.Session.{HandlerState}
+use Rattle.ados_handler.specs.HandlerState.{HandlerState}
 use Rattle.ados_handler.specs.Gives.{HandlerGives}
 use Rattle.adf_script.specs.Ran.{LinesAreOneRun}
 use Rattle.ados_run.specs.Runs.{HandlerPort, PacketOutcomes, PacketSteps, FollowsTree, RestsOnceDead}

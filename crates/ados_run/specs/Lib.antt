@@ -9,4 +9,5 @@ pub mod Keeping
 pub mod Refused
 pub mod ServesVolume
 pub mod Laws
+pub mod Replays
 pub mod steps

@@ -1,10 +1,12 @@
 -- The headline: the result of a run of port steps over an image. First its terms: a handler beside its tree, and its
 -- death.
 use Rattle.std.specs.Prelude.{List, ◌≡◌, ℕ, map, ◌+◌, true, take, drop, slice_get, Some, All}
+use Rattle.adf_block.specs.Whole.{IsImage}
 use Rattle.ados_model.specs.Accepted.{Accepts}
 use Rattle.ados_model.specs.Tree.{Tree, Date3}
 use Rattle.ados_model.specs.Meaning.{Meaning, is_closing}
-use Rattle.ados_model.specs.{Session.HandlerState, Session.opening_session, Stands.Stands, Packet.refused_answer}
+use Rattle.ados_model.specs.{Session.opening_session, Stands.Stands, Packet.refused_answer}
+use Rattle.ados_handler.specs.HandlerState.{HandlerState}
 use Rattle.ados_model.specs.declared.{packet.Packet.Packet, answer.Answer.Answer}
 use Rattle.ados_model.specs.declared.{dos_error.DosError.TheVariants.DeviceNotMounted}
 use Rattle.ados_port.specs.{Step.Step, Outcome.Outcome}
@@ -67,13 +69,14 @@ module _ (opening : HandlerState) (served : List (Serving Packet Date3 Answer)) 
 
 -- `check` accepted the image: it shows no fault, and the handler's image is the same, byte for byte. Or, if its root
 -- says that the bitmap is not valid, the handler's image differs from it only in bitmap blocks and in the root's
--- checksum and flag, and has no lost block. The handler is alive, without locks and handles. Its image represents
--- exactly one tree. At a port over it, image and tree went through the steps together in this way. After the handler's
--- death each put was refused as closed, each packet was refused, and no byte changed.
+-- checksum and flag, and has no lost block. The handler's image is a list of bytes. The handler is alive, without locks
+-- and handles. Its image represents exactly one tree. At a port over it, image and tree went through the steps together
+-- in this way. After the handler's death each put was refused as closed, each packet was refused, and no byte changed.
 pub record RunsWith (together : ServerMeaning BothSides Packet Date3 Answer) (image : List ℕ) (clients : ℕ)
     (steps : PacketSteps) (outcomes : PacketOutcomes) (closing : HandlerPort) : Type 0 where
   pub opening : HandlerState
   pub accepted : Accepts image opening.was_validated opening.image
+  pub bytes : IsImage opening.image
   pub unused : opening.session ≡ opening_session
   pub tree : Tree
   pub stands : Stands opening.image tree

@@ -9,16 +9,18 @@ use Rattle.ados_port.specs.Lawful.{ClientLists, AllAt}
 use Rattle.ados_port.specs.Lists.{HasHistory}
 use Rattle.ados_model.specs.declared.packet.Packet.{Packet}
 use Rattle.ados_model.specs.declared.answer.Answer.{Answer}
-use Rattle.ados_model.specs.Session.{HandlerState, opening_session}
+use Rattle.ados_model.specs.Session.{opening_session}
+use Rattle.ados_handler.specs.HandlerState.{HandlerState, no_places}
 use Rattle.adf_script.specs.declared.ending.ClientEnding.{ClientEnding}
 use Rattle.adf_script.specs.Spoken.{Spoken}
 use Rattle.ados_run.specs.TreeLists.{PacketLists, ListsFollowTree, ServedPackets, beside, handlers_of, both_died}
 use Rattle.ados_run.specs.TreeLists.{handler_died}
 use Rattle.ados_run.specs.Runs.{BothSides, MeansBoth, RestsOnceDead}
 
--- a handler over this image, alive and without locks and handles
+-- a handler over this image, alive, without locks and handles and without places for them
 abbrev pub handler_over : List ℕ → Bool → HandlerState
-handler_over image was_validated = record { image = image; was_validated = was_validated; session = opening_session }
+handler_over image was_validated =
+    record { image = image; was_validated = was_validated; session = opening_session; places = no_places }
 
 -- the bytes of each script
 abbrev pub scripts_of : {G : Type 0} → List (Vec ℕ Global × G) → List (List ℕ)

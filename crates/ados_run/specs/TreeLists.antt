@@ -1,10 +1,10 @@
 -- The lists of a running port's ends, with a tree beside the handler's image.
-use Rattle.std.specs.Prelude.{Bool, List, map, ◌≡◌, ℕ}
+use Rattle.std.specs.Prelude.{Bool, List, map, ℕ}
 use Rattle.ados_name.specs.declared.stamp.Date3.{Date3}
 use Rattle.ados_model.specs.Tree.{Tree}
 use Rattle.ados_model.specs.declared.packet.Packet.{Packet}
 use Rattle.ados_model.specs.declared.answer.Answer.{Answer}
-use Rattle.ados_model.specs.Session.{HandlerState}
+use Rattle.ados_handler.specs.HandlerState.{HandlerState}
 use Rattle.ados_model.specs.Stands.{Stands}
 use Rattle.ados_port.specs.Lawful.{ClientLists, Lawful}
 use Rattle.ados_port.specs.History.{ServerMeaning, Serving}

@@ -4,7 +4,8 @@ use Rattle.ados_name.specs.declared.stamp.Date3.{Date3}
 use Rattle.ados_model.specs.Tree.{Tree}
 use Rattle.ados_model.specs.declared.packet.Packet.{Packet}
 use Rattle.ados_model.specs.declared.answer.Answer.{Answer}
-use Rattle.ados_model.specs.Session.{Session, HandlerState}
+use Rattle.ados_model.specs.Session.{Session}
+use Rattle.ados_handler.specs.HandlerState.{HandlerState}
 use Rattle.ados_model.specs.Meaning.{Meaning}
 use Rattle.ados_port.specs.History.{PortState}
 use Rattle.ados_run.specs.Runs.{HandlerPort}

@@ -20,7 +20,8 @@ pub use ends::{assign, part_done};
 pub use gate::{Gate, OpenGate};
 pub use laws::{
     dead_handlers_rest, each_side_is_a_history, each_side_is_lawful, histories_follow_trees,
-    lines_over_trees_are_one_run, lists_follow_trees, trees_read_back,
+    lines_over_trees_are_one_run, lists_follow_trees, same_answer_same_handler,
+    same_answers_same_handlers, same_outcomes_same_bytes, same_steps_same_bytes, trees_read_back,
 };
 pub use run::{RunFault, run_volume};
 pub use scripts::{ClientDone, ScriptsDone, ScriptsFault, serve_scripts};

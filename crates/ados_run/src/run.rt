@@ -44,11 +44,12 @@ pub fn run_volume(
 ) -> Result<RunDone<Handler>, RunFault>
     requires { 1 ≤ clients }
     ensures { MatchResult result
-        (λ done. RunsVolume image clients steps.items done.outcomes.items done.exchange
-        × KeepsVolume image clients steps.items done.outcomes.items done.exchange)
+        (λ done. RunsVolume image clients steps.items done.outcomes.items done.exchange.port
+        × KeepsVolume image clients steps.items done.outcomes.items done.exchange.port)
         (IsRunFault image) }
 {
     let volume = check(alloc, image)?;
+    prove!(volume.image().blocks() >= 16);
     let handler = Handler::new(alloc, volume);
     let exchange = match Exchange::new(alloc, handler, clients) {
         Ok(exchange) => exchange,

@@ -1,7 +1,7 @@
--- The deleted entries, each with what can be had back of it.
+-- The deleted entries, each with what can be recovered of it.
 use Rattle.ados_sound.proofs.Common.{◌≡◌, ℕ, ◌<◌, List, length, map, get_or, All, Contains, subst, arith, get_or-map, length-map, All-map, Deleted, HasRecovery, IsDeleted, ListsDeleted, AreDeleted}
 
--- entries with these headers in their order, and what can be had back of each
+-- entries with these headers in their order, and what can be recovered of each
 pub lists_all : (image : List ℕ) (entries : List Deleted) → AreDeleted image (map (λ entry. entry.header) entries) → All (λ entry. HasRecovery image entry.header entry.recovery) entries → ListsDeleted image entries
 lists_all image entries h told = record {
   told = λ k d l. (subst (IsDeleted image) (at k d l) (h.deleted k d.header (omega (arith, l, count))), told k d l);

@@ -1,4 +1,4 @@
--- How much of a sound file can be had back, by its blocks and their claims.
+-- How much of a sound file can be recovered, by its blocks and their claims.
 use Rattle.ados_sound.proofs.Common.{◌≡◌, ℕ, ◌<◌, inl, inr, Bool, true, false, cond, MatchBool, count_by, List, [], length, get_or, All, refl, sym, ap, ◌∙◌, subst, arith, InImage, is_several, cases_eq, get_or_default, block_count, has_free_bit, HasFreeBit, Claim, Free, One, Several, AreAllFree, HasCount, IsShared, IsUsed, IsClaimant, IsIntact, IsWhole, Names, own_blocks, AreAllClaims, IsClaim, claim_at}
 use Rattle.std.proofs.lemmas.List.Sums.{get_or-le-sum_by}
 use Rattle.ados_sound.proofs.Claiming.{own_within}

@@ -1,4 +1,4 @@
--- Deleted entries: what is left of an entry that was removed, and how much of a deleted file can be had back.
+-- Deleted entries: what is left of an entry that was removed, and how much of a deleted file can be recovered.
 use Rattle.std.specs.Prelude.{◌≡◌, ◌≢◌, ℕ, ◌<◌, ◌&&◌, nat_le, nat_lt, not, Bool, MatchBool, IfSome, List, [], length, map, count_by, All, AllPairs, Contains, Option, Some, None}
 use Rattle.adf_block.specs.Image.{block_count, block_sum, has_free_bit}
 use Rattle.adf_block.specs.declared.layout.TheConstants.{BOOT_BLOCKS}
@@ -92,7 +92,7 @@ pub record IsPart (P : ℕ → Type 0) (image : List ℕ) (file count all : ℕ)
   pub counted : HasCount P (own_blocks image file) count
   pub total : all ≡ length (own_blocks image file)
 
--- how much of a deleted entry can be had back. `Free`: all blocks of the file are marked free, and no other sound file
+-- how much of a deleted entry can be recovered. `Free`: all blocks of the file are marked free, and no other sound file
 -- names one of them. `Used`: some are marked used, and if there is an entry, it has one of them
 abbrev pub HasRecovery : List ℕ → ℕ → Recovery → Type 0
 HasRecovery image file recoveries.Directory = HasDirectoryType image file
@@ -101,7 +101,7 @@ HasRecovery image file (recoveries.Used used all by) = HasFileType image file ×
 HasRecovery image file (recoveries.Shared shared all) = IsIntact image file × AreAllFree image file × IsPart (IsShared image file) image file shared all
 HasRecovery image file recoveries.NotIntact = HasFileType image file × ¬ IsIntact image file
 
--- a deleted entry with what can be had back of it
+-- a deleted entry with what can be recovered of it
 abbrev pub IsToldDeleted : List ℕ → Deleted → Type 0
 IsToldDeleted image entry = IsDeleted image entry.header × HasRecovery image entry.header entry.recovery
 

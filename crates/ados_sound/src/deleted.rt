@@ -1,4 +1,4 @@
-//! The deleted entries of an image, and how much of each can be had back.
+//! The deleted entries of an image, and how much of each can be recovered.
 ghost use Rattle.std.specs.Prelude.{[], IfOk};
 ghost use Rattle.ados_sound.specs.Deleted.{AreDeleted, ListsDeleted};
 ghost use Rattle.ados_sound.specs.Known.{AreAllClaims};
@@ -15,7 +15,7 @@ use adf_block::Image;
 use ados_check::Mark;
 use std::alloc::{AllocError, Global};
 
-/// How much of a deleted entry can be had back.
+/// How much of a deleted entry can be recovered.
 #[derive(Clone, Copy, PartialEq, Eq)]
 pub enum Recovery {
     /// The entry is a directory, which has no bytes.
@@ -59,7 +59,7 @@ pub enum DeletedEntries {
     NoTrustedBitmap,
 }
 
-/// The deleted entries of an image, each with how much of it can be had back.
+/// The deleted entries of an image, each with how much of it can be recovered.
 ///
 /// Time and memory grow about linearly with the size of the image.
 pub fn deleted_entries(alloc: Global, image: Image) -> Result<DeletedEntries, AllocError>
@@ -78,7 +78,7 @@ pub fn deleted_entries(alloc: Global, image: Image) -> Result<DeletedEntries, Al
     Ok(DeletedEntries::Found(known, deleted))
 }
 
-/// How much of each deleted entry of an image can be had back.
+/// How much of each deleted entry of an image can be recovered.
 fn all_deleted(
     known: &Known,
     headers: &[u32],

@@ -1,5 +1,5 @@
 //! What the blocks of a damaged image are by themselves: its sound headers, the files that are sound and whole, and the doubtful
-//! headers. And whether its bitmap can be trusted, which entries this says are deleted, and how much of each can be had back.
+//! headers. And whether its bitmap can be trusted, which entries this says are deleted, and how much of each can be recovered.
 #![tactic(auto)]
 
 // Headers.

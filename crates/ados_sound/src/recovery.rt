@@ -1,4 +1,4 @@
-//! How much of a deleted entry can be had back.
+//! How much of a deleted entry can be recovered.
 ghost use Rattle.std.specs.Prelude.{[], ◌≡◌, ◌+◌, ◌<◌, ℕ, All, IfOk, IfSome, MatchOption, OnOk, count_by, length};
 ghost use Rattle.adf_block.specs.Image.{block_count};
 ghost use Rattle.ados_model.specs.Faults.{HasFileType};
@@ -20,7 +20,7 @@ use ados_check::Mark;
 use ados_model::Role;
 use std::alloc::AllocError;
 
-/// How much of the entry with a sound header can be had back.
+/// How much of the entry with a sound header can be recovered.
 pub(crate) fn recovery_of(
     known: &Known,
     header: u32,
@@ -70,7 +70,7 @@ fn sound_blocks(
     named_blocks(known.alloc, &known.image, file)
 }
 
-/// How much of a sound file with these blocks can be had back.
+/// How much of a sound file with these blocks can be recovered.
 fn recovery_of_intact(known: &Known, file: u32, marks: &[Option<Mark>], blocks: &[u32]) -> Recovery
     requires trusted { IsTrustedBitmap known.now.image }
     requires intact { IsIntact known.now.image file }

@@ -25,7 +25,7 @@ module _ {S Q M A : Type 0} where
 
   -- after a put
   pub ends_put : (h : HandlerView S Q M A) (cs : List (ClientView Q M A)) (k : ℕ) (o n : ClientView Q M A) → AreEnds h cs → k < length cs → o ≡ get_or cs k o
-      → n ≡ record o { put = n.put; knows = n.knows } → AreEnds h (set cs k n)
+      → n ≡ record o { put = n.put; knows = n.knows; full = n.full } → AreEnds h (set cs k n)
   ends_put h cs k o n ends within at same = ends_set h cs k o n ends within at (ap (λ (v : ClientView Q M A). v.port) same) (ap (λ (v : ClientView Q M A). v.mark) same) (ap (λ (v : ClientView Q M A). v.number) same) (ap (λ (v : ClientView Q M A). v.ring) same)
 
   -- after a take

@@ -1,16 +1,17 @@
 //! Calls that no packet makes: a block that is borrowed for writing, the lowest free block, checksums that were wrong, the
-//! census, and hash chains that are asked whether they are empty.
+//! census, classes of blocks, and hash chains that are asked whether they are empty.
 
-ghost use Rattle.std.specs.Prelude.{IsTrue};
+ghost use Rattle.std.specs.Prelude.{◌<◌, IsTrue};
+ghost use Rattle.adf_block.specs.Image.{block_count};
 ghost use Rattle.ados_map.specs.Pages.{LawfulPages};
 
 use crate::desk::serve_line;
 use crate::drawn::{put, settle};
 use crate::fixtures::{FLOPPY, START, blank_handler, blank_image, work};
-use crate::rows::holds;
+use crate::rows::{Table, cut, expect_rows, holds, long_of};
 use adf_block::Image;
 use adf_block::layout::{BOOT_BLOCKS, FIRST_PAGE, PAGE_BITS};
-use ados_census::take_census;
+use ados_census::{BlockKind, WrongLong, class_as, class_of, take_census};
 use ados_chain::is_empty;
 use ados_map::{count_free, give_back, is_free, take_first};
 use ados_volume::Volume;
@@ -112,6 +113,96 @@ fn expect_one_naming(rt: &impl Abort, alloc: Global, image: &Image) {
 fn namings_of_a_blank_floppy(rt: HostRuntime) {
     let image = blank_image(&rt, rt.alloc(), FLOPPY);
     expect_one_naming(&rt, rt.alloc(), &image);
+}
+
+/// Block 882 of a blank floppy, of which each turn changes one long.
+#[derive(Drop)]
+struct Changed {
+    image: Image,
+}
+
+impl Table for Changed {
+    fn is_right<R: Abort>(&mut self, _rt: &R, turn: &str, wanted: &str) -> bool {
+        let (long, value) = cut(turn);
+        put(&mut self.image, 882, long_of(long), long_of(value));
+        let (kind, wrong) = cut(wanted);
+        882 < self.image.blocks() && has_class(&self.image, kind, wrong)
+    }
+}
+
+/// Whether block 882 has this class, and as this kind the same wrong long.
+fn has_class(image: &Image, kind: &str, wrong: &str) -> bool
+    requires { 882 < block_count image.now }
+{
+    match class_of(image, 882) {
+        None => kind == "none",
+        Some(class) => {
+            kind_word(class.kind) == kind
+                && is_wrong_long(class.wrong, wrong)
+                && class_as(image, 882, class.kind) == Some(class)
+        }
+    }
+}
+
+/// The word for a kind of block.
+fn kind_word(kind: BlockKind) -> &'static str {
+    match kind {
+        BlockKind::FileHeader => "file",
+        BlockKind::DirectoryHeader => "directory",
+        BlockKind::Extension => "extension",
+        BlockKind::OfsData => "data",
+        BlockKind::Bitmap => "bitmap",
+    }
+}
+
+/// Whether a wrong long is that of a text: its index and what it should hold.
+fn is_wrong_long(wrong: Option<WrongLong>, text: &str) -> bool {
+    let (long, wanted) = cut(text);
+    match wrong {
+        None => text.is_empty(),
+        Some(wrong) => wrong.long == long_of(long) && wrong.wanted == long_of(wanted),
+    }
+}
+
+/// An empty block, the header of a file `a`, of a directory, an extension block and an OFS data block, each made long by
+/// long and damaged. The sums are worked out by hand.
+const CLASSES: &str = "\
+0 0 = bitmap
+0 2 = none
+1 882 = none
+108 x01610000 = none
+127 xfffffffd = file 5 xfe9efc8f
+5 xfe9efc8f = file
+0 3 = file 0 2
+1 883 = none
+0 2 = file 1 882
+1 882 = file
+108 x012f0000 = file 108 x01610000
+108 x81610000 = file 108 x01610000
+108 x01610000 = file
+82 x50000000 = file 82 0
+82 0 = file
+127 2 = file 127 xfffffffd
+5 xfe9efc8a = directory
+0 16 = directory 0 2
+2 1 = none
+125 883 = none
+127 xfffffffd = extension 5 xfe9ef90d
+5 xfe9ef90d = extension
+125 1760 = extension 125 883
+125 883 = extension
+2 73 = extension 2 1
+2 1 = extension
+0 8 = extension 0 16
+1 883 = data 3 7
+3 488 = data 5 xfe9ef72c
+5 xfe9ef72c = data
+3 489 = data 3 488";
+
+#[test]
+fn classes_of_a_block(rt: HostRuntime) {
+    let image = blank_image(&rt, rt.alloc(), FLOPPY);
+    expect_rows(&rt, &mut Changed { image }, CLASSES);
 }
 
 /// Whether the root has no entries, by its hash chains alone.

@@ -130,6 +130,26 @@ batch 64 = served 0
 post = waiting 999
 gather = alive, untaken 1 1-1000 0 209";
 
+/// No put is refused with ample memory: one of 200 clients puts 20,000 packets before any is served. The other clients
+/// are at the end of the last row.
+const MANY_PUTS: &str = "\
+open 200 1
+many 1 20000 other 999 = numbered 20000
+put 200 other 999 = accepted 1
+batch 20002 = served 20001
+take 200 = 1 0 209
+gather = alive, untaken 1 1-20000 0 209";
+
+/// A case whose last row goes on with clients 2 to `count`, which have taken all their replies.
+fn with_clients<R: Abort>(rt: &R, alloc: Global, case: &str, count: u64) -> String {
+    let mut rows = String::new(alloc);
+    rows.push_str(case).expect(rt, "error");
+    for number in 2..=count {
+        write!(rows, ", untaken {number}").expect(rt, "error");
+    }
+    rows
+}
+
 /// Packets after a DIE are unanswered if no batch reaches them.
 const UNANSWERED_AFTER_DIE: &str = "\
 open 2 8
@@ -210,6 +230,12 @@ fn idle_limit(rt: HostRuntime) {
 #[test]
 fn a_thousand_puts(rt: HostRuntime) {
     expect(&rt, rt.alloc(), A_THOUSAND_PUTS);
+}
+
+#[test]
+fn many_puts_of_200_clients(rt: HostRuntime) {
+    let case = with_clients(&rt, rt.alloc(), MANY_PUTS, 200);
+    expect(&rt, rt.alloc(), case.as_str());
 }
 
 #[test]

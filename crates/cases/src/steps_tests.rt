@@ -167,11 +167,21 @@ fn replies_in_order(rt: HostRuntime) {
     expect(&rt, rt.alloc(), 2, REPLIES_IN_ORDER);
 }
 
-/// No put is refused with ample memory, however many packets wait.
+/// No put is refused with ample memory, however many packets wait, and however many clients the port has.
 #[test]
 fn many_puts(rt: HostRuntime) {
-    let rows = many(&rt, rt.alloc(), 500);
-    expect(&rt, rt.alloc(), 1, rows.as_str());
+    let rows = many(&rt, rt.alloc(), 20_000);
+    expect(&rt, rt.alloc(), 200, rows.as_str());
+}
+
+/// Each of 200 clients has a place for its packet.
+#[test]
+fn many_clients(rt: HostRuntime) {
+    let mut rows = String::new(rt.alloc());
+    push_numbered(&rt, &mut rows, 200, "put ", " other 999 = accepted 1");
+    rows.push_str("put 201 other 999 = no-client 999")
+        .expect(&rt, "error");
+    expect(&rt, rt.alloc(), 200, rows.as_str());
 }
 
 /// A disk that is not a DOS disk, another kind of disk, and a root with a wrong checksum: what is drawn on the blank

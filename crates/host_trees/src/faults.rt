@@ -63,7 +63,7 @@ impl WriteWhy {
 impl Display for WriteWhy {
     fn fmt<W: fmt::Write>(&self, f: &mut Formatter<W>) -> fmt::Result {
         match self {
-            WriteWhy::Exists => write!(f, "is there already"),
+            WriteWhy::Exists => write!(f, "already exists"),
             WriteWhy::Link => write!(f, "is a symbolic link"),
             WriteWhy::Directory => write!(f, "is a directory"),
             WriteWhy::NoDirectory => write!(f, "is no directory"),

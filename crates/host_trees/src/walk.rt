@@ -4,7 +4,7 @@ ghost use Rattle.std.specs.String.{string_cmp};
 
 use crate::dates::date_of_time;
 use crate::notes::{note_name, noted_name};
-use adf_host::ReadReason;
+use adf_host::{FileNumber, ReadReason, may_follow_at};
 use ados_name::Date3;
 use std::alloc::{AllocError, AllocFailed, Global};
 use std::fmt::{Display, Formatter};
@@ -37,6 +37,11 @@ pub struct HostEntry {
     pub date: Date3,
     /// The path of its note, if there is one.
     pub note: Option<String>,
+    /// The number of bytes at the start of the path that lead to the directory in which it was found: an argument's
+    /// directory, or that of an argument's file.
+    pub(crate) top: usize,
+    /// What it was when it was found.
+    pub(crate) number: FileNumber,
 }
 
 /// What an entry of the host is.
@@ -65,6 +70,8 @@ impl Display for PassedOver {
 pub enum PassedWhy {
     #[error("it is a symbolic link to a directory")]
     LinkToDirectory,
+    #[error("it is a symbolic link of another user")]
+    ForeignLink,
     #[error("it is neither a file nor a directory")]
     NeitherKind,
     #[error("it is a note of a file that is not there")]
@@ -107,6 +114,8 @@ struct Waiting {
     /// entries.
     name: String,
     parent: Option<usize>,
+    /// The number of bytes of the path that lead to the directory of an argument; `None` for an argument.
+    top: Option<usize>,
 }
 
 /// What a path leads to.
@@ -118,8 +127,8 @@ enum Look {
 
 /// The files and directories that these arguments name, with everything below them.
 ///
-/// A symbolic link to a regular file counts as that file. One that leads nowhere is a fault, as a path without a file
-/// is. Any other link, and anything that is neither a file nor a directory, is skipped. A file whose name ends in
+/// A symbolic link to a regular file counts as that file, unless another user may have made it to have a file read that
+/// only this user may read. One that leads nowhere is a fault, as a path without a file is. Any other link, and anything that is neither a file nor a directory, is skipped. A file whose name ends in
 /// `.uaem` is the note of the file beside it, and not an entry.
 pub fn host_tree<R: Files>(rt: &R, alloc: Global, words: &[&str]) -> Result<HostTree, WalkFault> {
     let mut tree = HostTree {
@@ -144,6 +153,7 @@ fn waiting_words(alloc: Global, words: &[&str]) -> Result<Vec<Waiting>, AllocErr
             path: String::from_str(alloc, *word)?,
             name: String::from_str(alloc, name_of(*word))?,
             parent: None,
+            top: None,
         })?;
     }
     Ok(waiting)
@@ -174,18 +184,16 @@ fn visit<R: Files>(
         Look::Directory(found) => {
             let path = String::from_str(alloc, next.path.as_str())?;
             let place = tree.entries.len();
+            let top = next.top.unwrap_or(path.len());
             let parent = if next.name.is_empty() {
                 None
             } else {
-                add_entry(rt, alloc, next, HostKind::Directory, &found, tree)?;
+                add_entry(rt, alloc, next, HostKind::Directory, &found, top, tree)?;
                 Some(place)
             };
-            wait_for_names(rt, alloc, path.as_str(), parent, waiting)
+            wait_for_names(rt, alloc, path.as_str(), parent, top, waiting)
         }
-        Look::File(found) => {
-            let length = found.len();
-            add_file(rt, alloc, next, length, &found, tree)
-        }
+        Look::File(found) => add_file(rt, alloc, next, &found, tree),
         Look::Other(why) => pass_over(next, why, tree),
     }
 }
@@ -214,6 +222,9 @@ fn look_at<R: Files>(rt: &R, alloc: Global, path: &str) -> Result<Look, WalkFaul
         return Ok(Look::Other(PassedWhy::NeitherKind));
     }
     match fs::metadata(rt, path) {
+        Ok(behind) if behind.is_file() && !may_follow_at(rt, alloc, path, &behind)? => {
+            Ok(Look::Other(PassedWhy::ForeignLink))
+        }
         Ok(behind) if behind.is_file() => Ok(Look::File(behind)),
         Ok(behind) if behind.is_dir() => Ok(Look::Other(PassedWhy::LinkToDirectory)),
         Ok(_) => Ok(Look::Other(PassedWhy::NeitherKind)),
@@ -237,12 +248,13 @@ fn add_file<R: Files>(
     rt: &R,
     alloc: Global,
     next: Waiting,
-    length: u64,
     found: &Metadata,
     tree: &mut HostTree,
 ) -> Result<(), WalkFault> {
     let Some(noted) = noted_name(next.name.as_str()) else {
-        return add_entry(rt, alloc, next, HostKind::File { length }, found, tree);
+        let length = found.len();
+        let top = next.top.unwrap_or(length_above(next.path.as_str()));
+        return add_entry(rt, alloc, next, HostKind::File { length }, found, top, tree);
     };
     let path = Path::new(next.path.as_str()).with_file_name(alloc, noted)?;
     if !noted.is_empty() && fs::symlink_metadata(rt, path.as_str()).is_ok() {
@@ -257,6 +269,7 @@ fn add_entry<R: Files>(
     next: Waiting,
     kind: HostKind,
     found: &Metadata,
+    top: usize,
     tree: &mut HostTree,
 ) -> Result<(), WalkFault> {
     let note = note_beside(rt, alloc, next.path.as_str(), next.name.as_str())?;
@@ -267,8 +280,19 @@ fn add_entry<R: Files>(
         kind,
         date: date_of(found),
         note,
+        top,
+        number: FileNumber::of(found),
     })?;
     Ok(())
+}
+
+/// The number of bytes of a path that lead to the directory of its last name; none if the path is that name.
+pub(crate) fn length_above(path: &str) -> usize {
+    match path.rsplit_once('/') {
+        Some(("", _)) => 1,
+        Some((above, _)) => above.len(),
+        None => 0,
+    }
 }
 
 /// The path of a file's note, if it is a regular file.
@@ -304,6 +328,7 @@ fn wait_for_names<R: Files>(
     alloc: Global,
     path: &str,
     parent: Option<usize>,
+    top: usize,
     waiting: &mut Vec<Waiting>,
 ) -> Result<(), WalkFault> {
     let mut names = match names_in(rt, alloc, path) {
@@ -318,6 +343,7 @@ fn wait_for_names<R: Files>(
             path: String::from_str(alloc, path.as_str())?,
             name,
             parent,
+            top: Some(top),
         })?;
     }
     Ok(())

@@ -7,12 +7,11 @@ use crate::items::{Contents, HostItem, ItemKind, above, fault, refuse_items, top
 use crate::order::depth_first;
 use crate::standing::{Standing, may_stand, standing_at};
 use crate::way::Way;
-use adf_host::{HeldDirectory, LengthLimit, OwnedFile, replace_found};
+use adf_host::{HeldDirectory, LengthLimit, OwnedFile, PromptFiles, replace_found};
 use std::alloc::Global;
 use std::fs;
 use std::fs::{File, FileTimes, OpenFile};
 use std::io::{Error, ErrorKind, Write};
-use std::rt::Files;
 use std::time::SystemTime;
 
 /// Writes these items below a directory, which is made if it does not exist. The directory of an item comes before the
@@ -28,7 +27,7 @@ use std::time::SystemTime;
 ///
 /// The directory may be, or lead through, a link: it is opened once. Everything below it is reached from there by
 /// directories that are open, and no link is followed, whatever another program puts there meanwhile.
-pub fn write_tree<R: Files, C: Contents>(
+pub fn write_tree<R: PromptFiles, C: Contents>(
     rt: &R,
     alloc: Global,
     directory: &str,
@@ -77,7 +76,7 @@ struct Writer<'a, R> {
     limit: LengthLimit,
 }
 
-impl<R: Files> Writer<'_, R>
+impl<R: PromptFiles> Writer<'_, R>
 where
     R::File: OwnedFile,
 {

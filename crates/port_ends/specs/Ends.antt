@@ -9,8 +9,8 @@ use Rattle.port_ends.specs.History.{ServerMeaning, Serving, packets_by}
 use Rattle.port_ends.specs.Lawful.{packets_of, MeaningRun, AllAt}
 use Rattle.port_ends.specs.Rings.{RingId, OutView, all_of, AreEmpty, EachStaysPosted, HavePlaces}
 
--- a client's end: its port, mark and ring, its number, its put list, its taken list with time stamps, and whether it
--- knows of the close
+-- a client's end: its port, mark and ring, its number, its put list, its taken list with time stamps, whether it knows
+-- of the close, and whether its last put found the port's queue full
 pub record ClientView (Q M A : Type 0) : Type 0 where
   pub port : SegId Global
   pub mark : ℕ
@@ -19,6 +19,7 @@ pub record ClientView (Q M A : Type 0) : Type 0 where
   pub put : List Q
   pub taken : List (M × A)
   pub knows : Bool
+  pub full : Bool
 
 -- the handler's end: its port and mark, the opening server, the served packets, the current server, the posted and
 -- waiting replies of each client, whether it knows that the mark is set, and what each take of the port's queue found: a
@@ -49,13 +50,16 @@ module _ {Q M A : Type 0} where
 
   -- a put was accepted: the packet is the last one put, its number is the count of puts, and this end knows of no close
   abbrev pub PutAccepted : ClientView Q M A → Q → ClientView Q M A → ℕ → Type 0
-  PutAccepted old packet new number = (new ≡ record old { put = old.put ++ packet ∷ []; knows = false }) × (number ≡ length new.put)
+  PutAccepted old packet new number =
+      (new ≡ record old { put = old.put ++ packet ∷ []; knows = false; full = false }) × (number ≡ length new.put)
 
-  -- a put was refused: the packet is handed back, as `Closed` if this end knows of the close, otherwise as `NoRoom`
+  -- a put was refused: the packet is handed back, as `Closed` if this end knows of the close, otherwise as `NoRoom`: the
+  -- port's queue is full, or the count of puts is at its maximum
   abbrev pub PutIsRefused : ClientView Q M A → Q → ClientView Q M A → PutRefused Q → Type 0
   PutIsRefused old packet new refused =
       ((refused ≡ Closed packet) × (new ≡ record old { knows = true }))
-      ⊎ ((refused ≡ NoRoom packet) × (new ≡ record old { knows = false }))
+      ⊎ ((refused ≡ NoRoom packet) × (new ≡ record old { knows = false; full = new.full })
+      × ((new.full ≡ true) ⊎ (length old.put ≡ 18446744073709551615)))
 
   -- a reply was taken: its answer is the last one taken, its number is the count of takes, and after a closing reply
   -- the end knows of the close

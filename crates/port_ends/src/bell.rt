@@ -7,13 +7,13 @@ use std::sync::atomic::{AtomicU64, Ordering};
 use std::time::Duration;
 use std::{hint, thread};
 
-/// The number of polls in vain that are followed at once by another one, and the number that are followed by a yield.
+/// The number of failed polls that are followed at once by another one, and the number that are followed by a yield.
 /// Both numbers are this project's own choice: the polls last some microseconds, in which most packets are served.
 const LOOKS: u64 = 64;
 
 const YIELDS: u64 = 64;
 
-/// What an end does between two polls, if the first was in vain.
+/// What an end does between two polls, if the first failed.
 #[derive(Clone, Copy, PartialEq, Eq)]
 pub enum Rest {
     Look,
@@ -22,7 +22,7 @@ pub enum Rest {
 }
 
 impl Rest {
-    /// The rest after this many polls in vain, one after another.
+    /// The rest after this many failed polls, one after another.
     pub fn after(looks: u64) -> Rest
         ensures look { result ≡ Look → looks < 64 }
         ensures sleep { 128 ≤ looks → result ≡ Sleep }

@@ -78,7 +78,8 @@ impl<S: Server> ClientEnd<S> {
     /// Puts a packet, and returns its number, from 1.
     ///
     /// A refusal hands the packet back, and changes no list. It is `Closed` exactly if this end knows of the close when
-    /// the call ends, and `NoRoom` only if memory ran out or the count of puts is at its maximum.
+    /// the call ends. It is `NoRoom` only if the port's queue is full, so that a packet more needs memory, and memory ran
+    /// out; or if the count of puts is at its maximum. A client's own replies never refuse its put.
     pub fn put<R: Wait>(
         &mut self,
         rt: &R,
@@ -86,7 +87,7 @@ impl<S: Server> ClientEnd<S> {
     ) -> Result<u64, PutRefused<S::Request>>
         ensures put { MatchResult result (λ number. PutAccepted self.old packet self.new number) (λ refused. PutIsRefused self.old packet self.new refused) }
         ensures stays { self.old.knows ≡ true → self.new.knows ≡ true }
-        ensures same { self.new ≡ record self.old { put = self.new.put; knows = self.new.knows } }
+        ensures same { self.new ≡ record self.old { put = self.new.put; knows = self.new.knows; full = self.new.full } }
     {
         if self.is_shut() {
             return Err(PutRefused::Closed(packet));
@@ -143,12 +144,12 @@ impl<S: Server> ClientEnd<S> {
         self.queue.bell().ring();
     }
 
-    // Announces that this end sleeps if `rest` is a sleep and the next poll is in vain.
+    // Announces that this end sleeps if `rest` is a sleep and the next poll fails.
     fn announce(&self, rest: Rest) {
         self.inlet.announce(rest);
     }
 
-    // Rests after a poll in vain.
+    // Rests after a failed poll.
     fn nap<R: Wait>(&self, rt: &R, rest: Rest) {
         self.inlet.nap(rt, rest);
     }
@@ -186,7 +187,7 @@ impl<S: Server> ClientEnd<S> {
         requires ring { outlet.old.ring ≡ self.ring }
         requires room { RoomFits self outlet.old room.old }
         requires numbers { length (all_of outlet.old) < 2 ^ 64 }
-        ensures put { result ≡ record { port = self.port; number = self.number; put = self.put } }
+        ensures put { result ≡ record { port = self.port; number = self.number; put = self.put; full = self.full } }
         ensures replies { Left self (all_of outlet.old) room.new.items }
     {
         let ClientEnd {

@@ -122,7 +122,7 @@ impl<S: Server> HandlerEnd<S> {
         Ok(served)
     }
 
-    /// Announces that the handler sleeps if `rest` is a sleep and the next poll is in vain. Poll everything that the
+    /// Announces that the handler sleeps if `rest` is a sleep and the next poll fails. Poll everything that the
     /// handler waits for between this call and `rest`.
     pub fn announce(&self, rest: Rest) {
         if rest != Rest::Sleep {
@@ -140,7 +140,7 @@ impl<S: Server> HandlerEnd<S> {
         ring_all(&self.outlets);
     }
 
-    /// Rests after a poll in vain. A sleep ends with a put, with a take that makes room for a waiting reply, or when a
+    /// Rests after a failed poll. A sleep ends with a put, with a take that makes room for a waiting reply, or when a
     /// client wakes the handler.
     pub fn rest<R: Wait>(&self, rt: &R, rest: Rest) {
         self.queue.bell().rest(rt, rest);
@@ -184,7 +184,7 @@ impl<S: Server> HandlerEnd<S> {
         unreachable!()
     }
 
-    // Rests after a poll in vain, and sleeps for at most a millisecond.
+    // Rests after a failed poll, and sleeps for at most a millisecond.
     fn nap<R: Wait>(&self, rt: &R, rest: Rest) {
         self.queue.bell().nap(rt, rest);
     }

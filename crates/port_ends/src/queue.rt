@@ -41,7 +41,7 @@ impl<Q: Drop> Model for PutEnd<Q> {
 
     ghost Value = { PutView Q };
 
-    ghost view = { λ e. put_view (arc_value e.port).queue e.number e.pass.me.view.client };
+    ghost view = { λ e. put_view (arc_value e.port).queue e.number e.pass.me.view };
 
     ghost invariant = { λ e. IsSegPassOf (arc_value e.port).queue e.pass × IsPutPass e.number e.count e.pass.me.view.client };
 }
@@ -65,8 +65,8 @@ impl<Q: Drop> PutEnd<Q> {
         &self.port.bell
     }
 
-    /// Puts a packet, and wakes the handler. Returns the packet's number. A refusal hands the packet back and changes
-    /// nothing.
+    /// Puts a packet, and wakes the handler. Returns the packet's number. A refusal hands the packet back: the queue
+    /// needs a new block for it and memory ran out, or the count of puts is at its maximum.
     pub fn put<R: Wait>(&mut self, rt: &R, packet: Q) -> Result<u64, Q>
         ensures put { MatchResult result (λ number. AddsPacket self.old packet self.new number) (λ back. HandsBack self.old packet self.new back) }
     {

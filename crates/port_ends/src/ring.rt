@@ -145,14 +145,14 @@ impl<T: Drop> Outlet<T> {
 }
 
 impl<T: Drop> Inlet<T> {
-    /// Announces that this end sleeps if `rest` is a sleep and the next poll is in vain.
+    /// Announces that this end sleeps if `rest` is a sleep and the next poll fails.
     pub fn announce(&self, rest: Rest) {
         if rest == Rest::Sleep {
             self.bell.announce();
         }
     }
 
-    /// Rests after a poll in vain, and sleeps for at most a millisecond.
+    /// Rests after a failed poll, and sleeps for at most a millisecond.
     pub fn nap<R: Wait>(&self, rt: &R, rest: Rest) {
         self.bell.nap(rt, rest);
     }

@@ -14,7 +14,8 @@ use Rattle.ados_model.specs.Packet.{error_number, dos_true, dos_false}
 use Rattle.ados_model.specs.declared.results.Results.{Results}
 use Rattle.ados_model.specs.declared.answer.Body.TheVariants.{Empty, Handle}
 use Rattle.ados_model.specs.declared.holds.HandleHold.{HandleHold}
-use Rattle.ados_model.specs.Session.{Session, IsFreeNumber, is_in_use, HandlerState}
+use Rattle.ados_model.specs.Session.{Session, IsFreeNumber, is_in_use}
+use Rattle.ados_handler.specs.HandlerState.{HandlerState}
 use Rattle.ados_model.specs.Objects.{protection_of}
 use Rattle.ados_model.specs.Reads.{lacks}
 use Rattle.ados_model.specs.Refusals.{first_refusal, refuse}
@@ -42,9 +43,11 @@ make_refusals t =
     refuse DiskFull (lacks t 1)
     ∷ []
 
--- no handle for this reason, and nothing changed
+-- no handle for this reason, and image and holds are the same
 pub record IsUnopened (error : DosError) (old new : HandlerState) (results : Results) : Type 0 where
-  pub same : new ≡ old
+  pub image : new.image ≡ old.image
+  pub validated : new.was_validated ≡ old.was_validated
+  pub session : new.session ≡ old.session
   pub told : results ≡ record { res1 = dos_false; res2 = pos (error_number error); body = Empty }
 
 -- a handle, and the other effects
@@ -53,18 +56,19 @@ pub record IsOpened (gives : After → Type 0) (old new : HandlerState) (results
   pub stands : Stands new.image tree
   pub success : gives (after tree new.session results.res1 results.body)
   pub res2 : results.res2 ≡ pos 0
-  pub keeps : KeepsRest old.image new.image
+  pub keeps : (new.image ≡ old.image) ⊎ KeepsRest old.image new.image
   pub validated : new.was_validated ≡ old.was_validated
 
--- a handle, or none because memory ran out
-abbrev pub OpenedOrNoMemory : (After → Type 0) → HandlerState → HandlerState → Results → Type 0
-OpenedOrNoMemory gives old new results = IsOpened gives old new results ⊎ IsUnopened NoFreeStore old new results
+-- a handle, or none because there was no place for it
+abbrev pub OpenedOrFull : (After → Type 0) → HandlerState → HandlerState → Results → Type 0
+OpenedOrFull gives old new results =
+    IsOpened gives old new results ⊎ ((old.places.for_handle ≡ false) × IsUnopened NoFreeStore old new results)
 
--- a handle unless one of these refusals holds or memory runs out
+-- a handle unless one of these refusals holds or there was no place for it
 pub record Opens (refusals : Tree → List (Option DosError)) (gives : Tree → After → Type 0) (old new : HandlerState) (results : Results) : Type 0 where
   pub tree : Tree
   pub stood : Stands old.image tree
-  pub means : MatchOption (first_refusal (refusals tree)) (OpenedOrNoMemory (gives tree) old new results) (λ error. IsUnopened error old new results)
+  pub means : MatchOption (first_refusal (refusals tree)) (OpenedOrFull (gives tree) old new results) (λ error. IsUnopened error old new results)
 
 -- a shared handle on an existing object
 abbrev pub OpensShared : ℕ → HandlerState → HandlerState → Results → Type 0

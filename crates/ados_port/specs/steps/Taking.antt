@@ -1,7 +1,16 @@
--- The effect of a put and a take on a client.
-use Rattle.std.specs.Prelude.{◌≡◌, ℕ, ◌+◌, [], ◌∷◌}
+-- The places of a client's list of replies, and the effect of a put and a take on a client.
+use Rattle.std.specs.Prelude.{◌≡◌, ◌⊎◌, ℕ, ◌+◌, [], ◌∷◌}
+use Rattle.std.specs.VecDeque.{deque_len, deque_capacity}
 use Rattle.port_ends.specs.declared.step.Reply.{Reply}
 use Rattle.ados_port.specs.declared.counts.Client.{Client}
+
+-- the number of places in its list of replies
+abbrev pub places_of : {A : Type 0} → Client A → ℕ
+places_of c = deque_capacity c.replies
+
+-- each place has a reply or is kept for that to a waiting packet, or the count is at its maximum
+abbrev pub HasNoPlace : {A : Type 0} → Client A → Type 0
+HasNoPlace c = (deque_len c.replies + c.waiting ≡ places_of c) ⊎ (c.accepted ≡ 18446744073709551615)
 
 -- one more packet was accepted, and this is its number
 abbrev pub CountsOne : {A : Type 0} → Client A → Client A → ℕ → Type 0

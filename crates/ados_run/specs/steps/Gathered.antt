@@ -8,7 +8,7 @@ use Rattle.ados_port.specs.Reply.{Reply}
 use Rattle.ados_port.specs.Lawful.{Lawful}
 use Rattle.ados_port.specs.Ends.{ClientView, CloseMeansDeath, HandlerView}
 use Rattle.ados_port.specs.Gathering.{all_lists}
-use Rattle.ados_model.specs.Session.{HandlerState}
+use Rattle.ados_handler.specs.HandlerState.{HandlerState}
 use Rattle.ados_handler.specs.Gives.{HandlerGives}
 use Rattle.ados_run.specs.TreeLists.{handler_died}
 

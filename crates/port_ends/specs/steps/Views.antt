@@ -18,6 +18,7 @@ client_view queue inlet mark shut = record {
   put = queue.put;
   taken = inlet.taken;
   knows = shut || mark.knows;
+  full = queue.full;
 }
 
 -- the handler's end consists of its end of the queue, the server with its history and the mark, and the outlets of all

@@ -1,5 +1,7 @@
 use Rattle.std.proofs.Common.{◌≡◌, false, [], is_some, rules, sym, ap, ◌∙◌, subst, arith, le-ltb}
 use Rattle.adf_import.proofs.Common.{true≢false, IsName, DiskFull, ObjectExists, free as free_of, Stands, child_of, Shown, lacks, none_free_lacks, can_make_in, none_there, passed}
+use Rattle.ados_change.specs.NewBlocks.{KeepsRest}
+use Rattle.ados_change.proofs.Keeping.{same_keeps}
 use Rattle.adf_import.proofs.entries.make_directory.Goals as goal
 
 pub create-requires : goal.create-requires
@@ -25,3 +27,9 @@ returns-clause-made c = λ t s.
       passed ObjectExists (is_some (child_of t c.args.dir c.args.name)) _ absent ∙ passed DiskFull (lacks t 1) [] (le-ltb (free_of t) 1 (omega (arith, free, c.if-free_blocks-lt1.false))),
       c.in-Ok.ensures.done.1 t there,
     )
+
+pub returns-then-is_some-clause-keeps : goal.returns-then-is_some-clause-keeps
+returns-then-is_some-clause-keeps c = subst (λ (v : Shown). KeepsRest c.args.volume.now.image v.image) (sym c.child.ensures.same) (same_keeps c.args.volume.now.image)
+
+pub returns-then-free_blocks-lt1-clause-keeps : goal.returns-then-free_blocks-lt1-clause-keeps
+returns-then-free_blocks-lt1-clause-keeps c = subst (λ (v : Shown). KeepsRest c.args.volume.now.image v.image) (sym c.child.ensures.same) (same_keeps c.args.volume.now.image)

@@ -1,4 +1,4 @@
-use Rattle.adf_where.proofs.Common.{◌≡◌, Vec, Global, ltb, leb, true, false, ◌∙◌, arith, rules, filter, ◌==◌, between, IsPartitionPoint, IfOk-weaker, VolumeFault}
+use Rattle.adf_where.proofs.Common.{◌≡◌, ltb, leb, true, false, arith, rules, IsPartitionPoint, VolumeFault}
 use Rattle.std.proofs.lemmas.List.Sorted.{IsPartitionPoint-from_clause, IsPartitionedBy-leb, IsPartitionedBy-ltb}
 use Rattle.adf_where.proofs.FaultsThere.{blocks_rise, faults_between, first_before_end}
 use Rattle.adf_where.proofs.faulty.faults_at.Goals as goal
@@ -24,7 +24,4 @@ returns c =
     IsPartitionPoint-from_clause (λ (fault : VolumeFault). ltb fault.block block) _ _ c.partition_point-first.ensures.partitioned (IsPartitionedBy-ltb (λ (fault : VolumeFault). fault.block) faults block rise) (λ a r q k. search rules) in
     let to : IsPartitionPoint (λ (fault : VolumeFault). leb fault.block block ≡ true) (λ (fault : VolumeFault). leb fault.block block ≡ false) faults c.partition_point-end.result =
     IsPartitionPoint-from_clause (λ (fault : VolumeFault). leb fault.block block) _ _ c.partition_point-end.ensures.partitioned (IsPartitionedBy-leb (λ (fault : VolumeFault). fault.block) faults block rise) (λ a r q k. search rules) in
-    IfOk-weaker c.from_slice.result (λ (found : Vec VolumeFault Global). found.items ≡ between c.partition_point-first.result c.partition_point-end.result faults)
-    (λ (found : Vec VolumeFault Global). found.items ≡ filter (λ fault. fault.block == block) faults)
-    (λ found is. is ∙ faults_between faults c.requires block c.partition_point-first.result c.partition_point-end.result from to c.partition_point-first.ensures.bound c.partition_point-end.ensures.bound)
-    c.from_slice.ensures.items
+    faults_between faults c.requires block c.partition_point-first.result c.partition_point-end.result from to c.partition_point-first.ensures.bound c.partition_point-end.ensures.bound

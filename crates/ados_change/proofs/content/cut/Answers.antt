@@ -28,10 +28,11 @@ returns c = record {
       (stands_rewritten c.args.moment c.args.image.now c.stamp.new.image c.args.file c.requires.tree c.requires.file c.stamp.ensures c.cut.new.image (cut_short c) t s);
   keeps =
       keeps_rest c.args.moment c.args.image.now c.stamp.new.image c.args.file c.requires.tree c.requires.file c.stamp.ensures c.cut.new.image (cut_short c) c.cut.ensures.keeps
-      (λ same. (c.blocks-2.ensures.image, c.blocks-3.ensures.image))
+      (λ same. c.blocks-2.ensures.image) c.blocks-3.ensures.image
       (λ a b i two below was is. absurd (false≢true (sym is ∙ c.cut.ensures.free_stays b i was)))
       (λ i j l m n. absurd (omega (arith, l, m, n, ap length c.cut.ensures.blocks, length-take (data_count (format_of c.stamp.new.image) c.args.size) (data_blocks c.stamp.new.image c.args.file))))
-      (λ i j l m n. absurd (omega (arith, l, m, n, ap length c.cut.ensures.extensions, length-take (extension_count (data_count (format_of c.stamp.new.image) c.args.size)) (extension_blocks c.stamp.new.image c.args.file))));
+      (λ i j l m n. absurd (omega (arith, l, m, n, ap length c.cut.ensures.extensions, length-take (extension_count (data_count (format_of c.stamp.new.image) c.args.size)) (extension_blocks c.stamp.new.image c.args.file))))
+      (λ q i l m n k. absurd (omega (arith, n, k, ap length c.cut.ensures.blocks, length-take (data_count (format_of c.stamp.new.image) c.args.size) (data_blocks c.stamp.new.image c.args.file))));
   none = λ b inside free.
       c.cut.ensures.free_stays b (inside_mid c.args.moment c.args.image.now c.stamp.new.image c.args.file c.requires.tree c.requires.file c.stamp.ensures b inside)
       (marks_mid c.args.moment c.args.image.now c.stamp.new.image c.args.file c.requires.tree c.requires.file c.stamp.ensures b inside ∙ free);

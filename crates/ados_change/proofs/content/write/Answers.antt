@@ -1,6 +1,7 @@
 use Rattle.ados_change.proofs.Common.{◌≡◌, ◌≢◌, ℕ, ◌+◌, ◌≤◌, max, List, [], ◌∷◌, length, ap, ◌∙◌, sym, subst, refl, arith, eqb-true, eqb-false, ltb-true, Date3, block_cost, Tree, bytes_of, size_of, data_blocks, extension_blocks, contents, rewritten, written, overlaid, HasFree, Stands, NeedsMore}
 use Rattle.ados_change.proofs.Relaid.{of_gains, IsRewritten}
 use Rattle.ados_change.proofs.Renewed.{bytes_in, size_in, room_enough, lacks_room, mid_writable, below_mid, same_contents, same_place, same_room, stands_rewritten, keeps_rest}
+use Rattle.ados_change.proofs.Keeping.{same_keeps}
 use Rattle.ados_change.proofs.content.write.Goals as goal
 
 -- no bytes: nothing is written, and no blocks are needed
@@ -67,4 +68,10 @@ returns-clause-done c = λ t s.
 pub returns-clause-keeps : goal.returns-clause-keeps
 returns-clause-keeps c =
     keeps_rest c.args.moment c.args.image.now c.stamp.new.image c.args.file c.requires.tree c.requires.file c.stamp.ensures c.write_near-bound.new.image (written_over c) c.write_near-bound.ensures.grown.keeps
-    (λ same. (c.blocks-2.ensures.image, c.blocks-3.ensures.image)) c.write_near-bound.ensures.grown.gains.lowest c.write_near-bound.ensures.grown.gains.data_rises c.write_near-bound.ensures.grown.gains.extensions_rise
+    (λ same. c.blocks-2.ensures.image) c.blocks-3.ensures.image c.write_near-bound.ensures.grown.gains.lowest c.write_near-bound.ensures.grown.gains.data_rises c.write_near-bound.ensures.grown.gains.extensions_rise c.write_near-bound.ensures.grown.gains.in_turn
+
+pub returns-then-is_empty-clause-keeps : goal.returns-then-is_empty-clause-keeps
+returns-then-is_empty-clause-keeps c = same_keeps c.args.image.now
+
+pub returns-then-not-has_room-clause-keeps : goal.returns-then-not-has_room-clause-keeps
+returns-then-not-has_room-clause-keeps c = same_keeps c.args.image.now

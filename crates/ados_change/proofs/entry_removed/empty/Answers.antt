@@ -1,5 +1,6 @@
 use Rattle.ados_change.proofs.Common.{refl, ◌≡◌, ◌≢◌, sym, ◌∙◌, FILE_TYPE, secondary_type, shortened}
 use Rattle.ados_change.proofs.Emptier.{beside_none, cut_to_nothing, is_file, key_inside, not_file}
+use Rattle.ados_change.proofs.Keeping.{same_keeps}
 use Rattle.ados_change.proofs.entry_removed.empty.Goals as goal
 
 pub long-requires-clause-block : goal.long-requires-clause-block
@@ -23,3 +24,6 @@ returns-clause-only c = λ b i l beside apart.
     let t = c.requires.tree.0 in
     let s = c.requires.tree.1 in
     c.cut.ensures.others b i l (beside_none c.args.image.now t s c.args.key (c.requires.can t s) c.args.moment c.cut.new.image (c.cut.ensures.stands t s) b beside) apart
+
+pub returns-then-long-clause-keeps : goal.returns-then-long-clause-keeps
+returns-then-long-clause-keeps c = same_keeps c.args.image.now

@@ -22,7 +22,7 @@ put_bytes-requires-clause-inside c =
     omega (arith, inside, ap (λ (n : ℕ). n / 512) size)
 
 -- only the entry's own block is written again
-written_back : (c : goal.After-put_bytes) → OnlyBlock c.args.key c.remove_empty.new.image c.put_bytes.new.self
+written_back : (c : goal.Else-prove) → OnlyBlock c.args.key c.remove_empty.new.image c.put_bytes.new.self
 written_back c = same_weaken _ (InBlock c.args.key) c.remove_empty.new.image c.put_bytes.new.self (λ b i w. w.0) c.put_bytes.ensures.rest
 
 pub returns : goal.returns
@@ -44,7 +44,7 @@ returns c =
           keeps_away c.args.moment c.args.key c.args.image.now c.empty.new.image c.remove_empty.new.image c.put_bytes.new.self t st (c.requires.can t st) c.empty.ensures.keeps c.empty.ensures.none
           c.empty.ensures.empties c.remove_empty.ensures.changed c.remove_empty.ensures.gives
           (taken_away c.args.moment c.args.key c.args.image.now c.empty.new.image t st c.empty.ensures.empties c.remove_empty.new.image c.remove_empty.ensures.stands) (written_back c)
-          c.remove_empty.ensures.untold c.empty.ensures.only dead;
+          c.remove_empty.ensures.untold c.empty.ensures.only dead c.blocks-2.ensures.image;
       none =
           takes_none c.args.moment c.args.key c.args.image.now c.empty.new.image c.remove_empty.new.image c.put_bytes.new.self t st (c.requires.can t st) c.empty.ensures.keeps c.empty.ensures.none
           c.empty.ensures.empties c.remove_empty.ensures.changed c.remove_empty.ensures.gives

@@ -27,7 +27,7 @@ returns c = record {
       c.insert_last.new.image c.insert_last.ensures.inserts c.touch-2.new.image c.stamp.new.image c.touch-2.ensures.dated c.stamp.ensures.dated;
   keeps =
       moved_keeps c.args.image.now c.requires.tree.0 c.requires.tree.1 c.args.moment c.args.key c.args.dir c.args.name.now (c.requires.can c.requires.tree.0 c.requires.tree.1) c.long-from.result c.long-from.ensures c.unlink.new.image c.unlink.ensures.unlinks c.touch.new.image c.touch.ensures.dated c.put_title.new.image c.put_title.ensures.titled
-      c.insert_last.new.image c.insert_last.ensures.inserts c.touch-2.new.image c.stamp.new.image c.touch-2.ensures.dated c.stamp.ensures.dated;
+      c.insert_last.new.image c.insert_last.ensures.inserts c.touch-2.new.image c.stamp.new.image c.touch-2.ensures.dated c.stamp.ensures.dated c.stamp.ensures.image;
   none =
       moved_none c.args.image.now c.requires.tree.0 c.requires.tree.1 c.args.moment c.args.key c.args.dir c.args.name.now (c.requires.can c.requires.tree.0 c.requires.tree.1) c.long-from.result c.long-from.ensures c.unlink.new.image c.unlink.ensures.unlinks c.touch.new.image c.touch.ensures.dated c.put_title.new.image c.put_title.ensures.titled
       c.insert_last.new.image c.insert_last.ensures.inserts c.touch-2.new.image c.stamp.new.image c.touch-2.ensures.dated c.stamp.ensures.dated;

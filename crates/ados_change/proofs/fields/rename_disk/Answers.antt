@@ -20,4 +20,4 @@ returns-clause-keeps c =
     (restamped (root_of c.args.image.now) 432 (433 + length c.args.name.now) c.args.image.now c.put_disk_name.new.image c.stamp_disk.new.image c.put_disk_name.ensures.rest c.stamp_disk.ensures.rest) in
     keeps_restamped c.args.image.now c.stamp_disk.new.image t s (root t) m.0 m.1 432 (433 + length c.args.name.now) (λ a. record a { name = c.args.name.now })
     (name_case t s.proper (root t) m.0 m.1 c.args.name.now valid refl) c.args.moment (returns-clause-stands c t s)
-    (root_of c.args.image.now) (root_is c.args.image.now t s) rest
+    (root_of c.args.image.now) (root_is c.args.image.now t s) rest c.stamp_disk.ensures.image

@@ -19,4 +19,4 @@ returns-clause-keeps c =
     keeps_restamped c.args.image.now c.stamp_disk.new.image t s c.args.key n.0 n.1 328 (329 + length c.args.comment.now) (λ a. record a { comment = c.args.comment.now })
     (comment_case t s.proper c.args.key n.0 n.1 c.args.comment.now valid entry.1) c.args.moment (returns-clause-stands c t s)
     (root_of c.args.image.now) (root_is c.args.image.now t s)
-    (restamped c.args.key 328 (329 + length c.args.comment.now) c.args.image.now c.put_comment.new.image c.stamp_disk.new.image c.put_comment.ensures.rest c.stamp_disk.ensures.rest)
+    (restamped c.args.key 328 (329 + length c.args.comment.now) c.args.image.now c.put_comment.new.image c.stamp_disk.new.image c.put_comment.ensures.rest c.stamp_disk.ensures.rest) c.stamp_disk.ensures.image

@@ -18,4 +18,4 @@ returns-clause-keeps c =
     keeps_restamped c.args.image.now c.stamp_disk.new.image t s c.args.key n.0 n.1 420 432 (λ a. record a { date = c.args.date })
     (date_case t s.proper c.args.key n.0 n.1 c.args.date) c.args.moment (returns-clause-stands c t s)
     (root_of c.args.image.now) (root_is c.args.image.now t s)
-    (restamped c.args.key 420 432 c.args.image.now c.touch.new.image c.stamp_disk.new.image c.touch.ensures.rest c.stamp_disk.ensures.rest)
+    (restamped c.args.key 420 432 c.args.image.now c.touch.new.image c.stamp_disk.new.image c.touch.ensures.rest c.stamp_disk.ensures.rest) c.stamp_disk.ensures.image

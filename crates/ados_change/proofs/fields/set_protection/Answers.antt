@@ -18,4 +18,4 @@ returns-clause-keeps c =
     keeps_restamped c.args.image.now c.stamp_disk.new.image t s c.args.key n.0 n.1 320 324 (λ a. record a { protection = c.args.bits.0 })
     (bits_case t s.proper c.args.key n.0 n.1 c.args.bits.0 entry.1) c.args.moment (returns-clause-stands c t s)
     (root_of c.args.image.now) (root_is c.args.image.now t s)
-    (restamped c.args.key 320 324 c.args.image.now c.put_protection.new.image c.stamp_disk.new.image c.put_protection.ensures.rest c.stamp_disk.ensures.rest)
+    (restamped c.args.key 320 324 c.args.image.now c.put_protection.new.image c.stamp_disk.new.image c.put_protection.ensures.rest c.stamp_disk.ensures.rest) c.stamp_disk.ensures.image

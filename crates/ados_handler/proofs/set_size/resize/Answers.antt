@@ -1,6 +1,7 @@
 use Rattle.std.proofs.Common.{sym, ◌∙◌, subst, arith}
 use Rattle.ados_model.specs.Stands.{Stands}
 use Rattle.ados_handler.proofs.Resizing.{full_or_grown, needs_no_more, resized_same, resized_shorter}
+use Rattle.ados_change.proofs.Keeping.{same_keeps}
 use Rattle.ados_handler.proofs.set_size.resize.Goals as goal
 
 pub returns-then-size-held-clause-done : goal.returns-then-size-held-clause-done
@@ -9,6 +10,9 @@ returns-then-size-held-clause-done c = λ t stands.
       needs_no_more t c.args.key c.args.size (omega (arith, same)),
       subst (Stands c.args.volume.now.image) (sym (resized_same c.args.moment c.args.key c.args.size t same)) stands,
     )
+
+pub returns-then-size-held-clause-keeps : goal.returns-then-size-held-clause-keeps
+returns-then-size-held-clause-keeps c = same_keeps c.args.volume.now.image
 
 pub cut-requires-clause-shorter : goal.cut-requires-clause-shorter
 cut-requires-clause-shorter c = λ t stands. omega (arith, c.requires.held t stands)

@@ -5,7 +5,7 @@ use Rattle.ados_run.proofs.serve.open_clients.Goals as goal
 
 pub returns-in_ok-assign-in-Ok-clause-handler : goal.returns-in_ok-assign-in-Ok-clause-handler
 returns-in_ok-assign-in-Ok-clause-handler g c =
-    let is = opening_handler c.new-server.result c.args.volume.image c.args.volume.was_validated c.new-server.ensures.image c.new-server.ensures.validated c.new-server.ensures.session in
+    let is = opening_handler c.new-server.result c.args.volume.image c.args.volume.was_validated c.new-server.ensures.image c.new-server.ensures.validated c.new-server.ensures.session c.new-server.ensures.places in
     subst (λ h. IsNew h c.in-Ok.handler) is c.in-Ok.ensures.0
 
 pub returns-in_ok-assign-in-Ok-clause-ends : goal.returns-in_ok-assign-in-Ok-clause-ends

@@ -1,8 +1,8 @@
-use Rattle.std.proofs.Common.{◌≡◌, [], not, true, sym, ap, ◌∙◌, subst, refl, rules}
+use Rattle.std.proofs.Common.{◌≡◌, [], not, true, false, sym, ap, ◌∙◌, subst, refl, rules}
 use Rattle.ados_handler.proofs.Common.{is_some, FinMap, insert, nat_cmp, true≢false, not-true, IsName, Directory, Stands, KeepsRest, made, Shown, CreateDir, Results, Session, IsFreeNumber, with_lock, HandlerState, LockHold, lacks, can_make_new, new_key, none_free_lacks, MethodMeans}
 use Rattle.ados_handler.proofs.Leaving.{leaves_rest}
 use Rattle.ados_handler.proofs.MakingDirectory.{create_dir_means, create_dir_passes, create_dir_sound}
-use Rattle.ados_handler.proofs.Meant.{no_memory_gives, refused_gives}
+use Rattle.ados_handler.proofs.Meant.{no_place_gives, refused_gives}
 use Rattle.ados_handler.proofs.Placed.{place_refused}
 use Rattle.ados_handler.proofs.handler.Handler.create_dir.Goals as goal
 
@@ -21,8 +21,8 @@ unreachable-requires c =
     let lack = none_free_lacks c.child.new.self.image t stands c.in_default.ensures.done.0 in
     true≢false (sym c.if-not-has_room.false ∙ c.has_room.ensures t stands ∙ ap not lack)
 
-pub returns-in-Err : goal.returns-in-Err
-returns-in-Err c =
+pub returns-in-Err-clause-gives : goal.returns-in-Err-clause-gives
+returns-in-Err-clause-gives c =
     let t = c.self.invariant.tree in
     let old = c.args.self.now in
     let stood = subst (λ (h : HandlerState). Stands h.image t) c.self.view_is c.self.invariant.stands in
@@ -31,8 +31,8 @@ returns-in-Err c =
     refused_gives old c.placed.new.self (CreateDir c.args.lock c.args.path.now) c.args.now c.refused-in-Err.result t c.in-Err.error stood c.placed.ensures.same
     (place_refused t old.session (CreateDir c.args.lock c.args.path.now) c.args.lock c.args.path.now c.in-Err.error _ refl alive none) c.refused-in-Err.ensures
 
-pub returns-then-is_err : goal.returns-then-is_err
-returns-then-is_err c =
+pub returns-then-is_err-clause-gives : goal.returns-then-is_err-clause-gives
+returns-then-is_err-clause-gives c =
     let same = c.self-2.view_is ∙ c.placed.ensures.same in
     let t = c.self-2.invariant.tree in
     let opened = c.self-2.invariant.stands in
@@ -42,12 +42,16 @@ returns-then-is_err c =
     let place = sym (c.placed.ensures.place t stood) ∙ c.in-Ok.is in
     let none = ap is_some (sym (c.child.ensures.child t opened)) ∙ sym c.is_some.ensures ∙ c.if-is_some.false in
     let room = not-true (lacks t 1) (sym (c.has_room.ensures t stands) ∙ c.if-not-has_room.false) in
-    let held : ◌≡◌ {A = HandlerState} (record { image = c.child.new.self.image; was_validated = c.child.new.self.was_validated; session = record { locks = c.reserve.new.self.held; handles = c.self-2.inside.handles.held; died = c.self-2.inside.died } }) (record { image = c.self-2.inside.volume.image; was_validated = c.self-2.inside.volume.was_validated; session = record { locks = c.self-2.inside.locks.held; handles = c.self-2.inside.handles.held; died = c.self-2.inside.died } }) = λ i. record { image = (c.child.ensures.same i).image; was_validated = (c.child.ensures.same i).was_validated; session = record { locks = c.reserve.ensures.held i; handles = c.self-2.inside.handles.held; died = c.self-2.inside.died } } in
-    no_memory_gives c.args.self.now _ (CreateDir c.args.lock c.args.path.now) c.args.now c.refused-then-is_err.result t stood (held ∙ same)
-    (create_dir_passes t c.args.self.now.session c.in-Ok.found c.args.lock c.args.path.now alive place none room) refl c.refused-then-is_err.ensures
+    let held : ◌≡◌ {A = Session} (record { locks = c.reserve.new.self.held; handles = c.self-2.inside.handles.held; died = c.self-2.inside.died }) (record { locks = c.self-2.inside.locks.held; handles = c.self-2.inside.handles.held; died = c.self-2.inside.died }) = λ i. record { locks = c.reserve.ensures.held i; handles = c.self-2.inside.handles.held; died = c.self-2.inside.died } in
+    let full : c.self-2.inside.locks.ready ≡ false = search rules in
+    no_place_gives c.args.self.now _ (CreateDir c.args.lock c.args.path.now) c.args.now c.refused-then-is_err.result t stood
+    (ap (λ (v : Shown). v.image) c.child.ensures.same ∙ ap (λ (h : HandlerState). h.image) same) (ap (λ (v : Shown). v.was_validated) c.child.ensures.same ∙ ap (λ (h : HandlerState). h.was_validated) same)
+    (held ∙ ap (λ (h : HandlerState). h.session) same)
+    (create_dir_passes t c.args.self.now.session c.in-Ok.found c.args.lock c.args.path.now alive place none room) refl
+    (sym (ap (λ (h : HandlerState). h.places.for_lock) same) ∙ full) c.refused-then-is_err.ensures
 
-pub returns : goal.returns
-returns c =
+pub returns-clause-gives : goal.returns-clause-gives
+returns-clause-gives c =
     let same = c.self-2.view_is ∙ c.placed.ensures.same in
     let t = c.self-2.invariant.tree in
     let s = c.args.self.now.session in
@@ -76,8 +80,8 @@ returns c =
       new_tree = u;
       stood = stood;
       stands = c.in-Ok-create.ensures.done.1 t stands;
-      means = subst (λ (r : Results). MethodMeans t s (CreateDir c.args.lock c.args.path.now) c.args.now u new r) (sym c.counted.ensures)
-          (create_dir_means t s new c.args.now there key number fresh free is c.args.lock c.args.path.now alive place none room);
+      means = subst (λ (r : Results). MethodMeans c.args.self.now.places t s (CreateDir c.args.lock c.args.path.now) c.args.now u new r) (sym c.counted.ensures)
+          (create_dir_means t s new c.args.now there key number fresh free is c.args.self.now.places c.args.lock c.args.path.now alive place none room);
       leaves = leaves_rest t c.args.self.now (CreateDir c.args.lock c.args.path.now) _ c.counted.result (subst (λ (h : HandlerState). KeepsRest h.image c.create.new.self.image) same keeps) (ap (λ (r : Results). r.res2) c.counted.ensures) refl;
       validated = c.create.ensures.validated ∙ ap (λ (v : Shown). v.was_validated) c.child.ensures.same ∙ ap (λ (h : HandlerState). h.was_validated) same;
     }

@@ -12,8 +12,8 @@ remove-requires c = λ t s.
     let none : c.remove_refusal.result ≡ None = c.in_default.is in
     can_remove t s.proper c.in-Ok.key there (is_held c.walked.new.self.session c.in-Ok.key) false (none_refuses (remove_refusals t c.walked.new.self.session c.in-Ok.key) (sym (c.remove_refusal.ensures t between) ∙ none))
 
-pub returns-in-Some : goal.returns-in-Some
-returns-in-Some c =
+pub returns-in-Some-clause-gives : goal.returns-in-Some-clause-gives
+returns-in-Some-clause-gives c =
     let t = c.self.invariant.tree in
     let old = c.args.self.now in
     let stood : Stands old.image t = subst (λ (h : HandlerState). Stands h.image t) c.self.view_is c.self.invariant.stands in
@@ -26,8 +26,8 @@ returns-in-Some c =
     refused_gives old c.walked.new.self (DeleteObject c.args.lock c.args.path.now) c.args.now c.refused-in-Some.result t c.in-Some.error stood first
     (delete_refusal t old.session c.args.lock c.args.path.now c.in-Ok.key alive walk ∙ against) told
 
-pub returns : goal.returns
-returns c =
+pub returns-clause-gives : goal.returns-clause-gives
+returns-clause-gives c =
     let same = c.self-2.view_is ∙ c.walked.ensures.same in
     let t = c.self-2.invariant.tree in
     let s = c.args.self.now.session in
@@ -41,4 +41,4 @@ returns c =
     edit_gives c.args.self.now _ same edit refl opened c.remove.new.self (c.remove.ensures.stands t opened) c.remove.ensures.keeps c.remove.ensures.validated c.done.result c.done.ensures
 
 pub invariant_of-self : goal.invariant_of-self
-invariant_of-self c = sound_on (c.self-2.view_is ∙ c.walked.ensures.same) (returns c) (delete_keeps c.args.lock c.args.path.now) c.self-2.invariant
+invariant_of-self c = sound_on (c.self-2.view_is ∙ c.walked.ensures.same) (returns-clause-gives c) (delete_keeps c.args.lock c.args.path.now) c.self-2.invariant

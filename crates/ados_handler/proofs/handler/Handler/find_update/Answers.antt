@@ -5,8 +5,8 @@ use Rattle.ados_handler.proofs.Placed.{place_refused}
 use Rattle.ados_handler.proofs.Spotted.{update_opens, update_makes}
 use Rattle.ados_handler.proofs.handler.Handler.find_update.Goals as goal
 
-pub returns-in-Err : goal.returns-in-Err
-returns-in-Err c =
+pub returns-in-Err-clause-gives : goal.returns-in-Err-clause-gives
+returns-in-Err-clause-gives c =
     let t = c.self.invariant.tree in
     let old = c.args.self.now in
     let stood = subst (λ (h : HandlerState). Stands h.image t) c.self.view_is c.self.invariant.stands in
@@ -20,16 +20,16 @@ open_file-requires c t stands =
     let stood = subst (λ (v : Shown). Stands v.image t) c.child.ensures.same stands in
     child_is_key t stood.proper c.in-Ok.found.0 c.in-Ok.found.1 c.in-Some.key (sym (c.child.ensures.child t stood) ∙ c.in-Some.is)
 
-pub returns-in-Some : goal.returns-in-Some
-returns-in-Some c =
+pub returns-in-Some-clause-gives : goal.returns-in-Some-clause-gives
+returns-in-Some-clause-gives c =
     let alive = sym (ap (λ (h : HandlerState). h.session.died) c.self.view_is) ∙ c.if-self.false in
     let session : Session = record { locks = c.self-2.inside.locks.held; handles = c.self-2.inside.handles.held; died = c.self-2.inside.died } in
-    update_opens c.args.self.now c.args.lock c.args.path.now c.args.now c.in-Ok.found alive (λ t stood. sym (c.placed.ensures.place t stood) ∙ c.in-Ok.is) c.self-2.inside.volume c.child.new.self session
+    update_opens c.args.self.now c.args.lock c.args.path.now c.args.now c.in-Ok.found alive (λ t stood. sym (c.placed.ensures.place t stood) ∙ c.in-Ok.is) c.self-2.inside.volume c.child.new.self session _
     c.child.ensures.same (c.self-2.view_is ∙ c.placed.ensures.same) _ c.open_file.result c.in-Some.key (λ t stands. sym (c.child.ensures.child t stands) ∙ c.in-Some.is) c.open_file.ensures.opens c.open_file.ensures.image
 
-pub returns-in-None : goal.returns-in-None
-returns-in-None c =
+pub returns-in-None-clause-gives : goal.returns-in-None-clause-gives
+returns-in-None-clause-gives c =
     let alive = sym (ap (λ (h : HandlerState). h.session.died) c.self.view_is) ∙ c.if-self.false in
     let session : Session = record { locks = c.self-2.inside.locks.held; handles = c.self-2.inside.handles.held; died = c.self-2.inside.died } in
-    update_makes c.args.self.now c.args.lock c.args.path.now c.args.now c.in-Ok.found alive (λ t stood. sym (c.placed.ensures.place t stood) ∙ c.in-Ok.is) c.self-2.inside.volume c.child.new.self session
-    c.child.ensures.same (c.self-2.view_is ∙ c.placed.ensures.same) _ c.make_file.result (λ t stands. sym (c.child.ensures.child t stands) ∙ c.in-None.is) c.make_file.ensures
+    update_makes c.args.self.now c.args.lock c.args.path.now c.args.now c.in-Ok.found alive (λ t stood. sym (c.placed.ensures.place t stood) ∙ c.in-Ok.is) c.self-2.inside.volume c.child.new.self session _
+    c.child.ensures.same (c.self-2.view_is ∙ c.placed.ensures.same) _ c.make_file.result (λ t stands. sym (c.child.ensures.child t stands) ∙ c.in-None.is) c.make_file.ensures.opens

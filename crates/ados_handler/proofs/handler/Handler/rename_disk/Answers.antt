@@ -5,8 +5,8 @@ use Rattle.ados_handler.proofs.Meant.{edit_gives, refused_gives, sound_on}
 use Rattle.ados_handler.proofs.Telling.{rename_disk_keeps}
 use Rattle.ados_handler.proofs.handler.Handler.rename_disk.Goals as goal
 
-pub returns-in-Err : goal.returns-in-Err
-returns-in-Err c =
+pub returns-in-Err-clause-gives : goal.returns-in-Err-clause-gives
+returns-in-Err-clause-gives c =
     let t = c.self.invariant.tree in
     let stood = subst (λ (h : HandlerState). Stands h.image t) c.self.view_is c.self.invariant.stands in
     let alive = sym (ap (λ (h : HandlerState). h.session.died) c.self.view_is) ∙ c.if-self.false in
@@ -14,8 +14,8 @@ returns-in-Err c =
     refused_gives c.args.self.now c.args.self.now (RenameDisk c.args.name.now) c.args.now c.refused-in-Err.result t InvalidComponentName stood refl
     (no_name_refused t c.args.self.now.session c.args.name.now c.in-Err.field-0 alive fault) c.refused-in-Err.ensures
 
-pub returns : goal.returns
-returns c =
+pub returns-clause-gives : goal.returns-clause-gives
+returns-clause-gives c =
     let t = c.self.invariant.tree in
     let opened = c.self.invariant.stands in
     let alive = sym (ap (λ (h : HandlerState). h.session.died) c.self.view_is) ∙ c.if-self.false in
@@ -26,4 +26,4 @@ returns c =
     c.rename_disk.new.self stands c.rename_disk.ensures.keeps c.rename_disk.ensures.validated c.done.result c.done.ensures
 
 pub invariant_of-self : goal.invariant_of-self
-invariant_of-self c = sound_on c.self.view_is (returns c) (rename_disk_keeps c.args.name.now c.bytes.ensures.valid) c.self.invariant
+invariant_of-self c = sound_on c.self.view_is (returns-clause-gives c) (rename_disk_keeps c.args.name.now c.bytes.ensures.valid) c.self.invariant

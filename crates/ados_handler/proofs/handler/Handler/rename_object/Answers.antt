@@ -6,8 +6,8 @@ use Rattle.ados_handler.proofs.Meant.{edit_gives, refused_gives, sound_on}
 use Rattle.ados_handler.proofs.Moving.{move_refused, rename_object_edits, source_refused}
 use Rattle.ados_handler.proofs.handler.Handler.rename_object.Goals as goal
 
-pub returns-in-Err : goal.returns-in-Err
-returns-in-Err c =
+pub returns-in-Err-clause-gives : goal.returns-in-Err-clause-gives
+returns-in-Err-clause-gives c =
     let t = c.self.invariant.tree in
     let old = c.args.self.now in
     let stood : Stands old.image t = subst (λ (h : HandlerState). Stands h.image t) c.self.view_is c.self.invariant.stands in
@@ -17,8 +17,8 @@ returns-in-Err c =
     refused_gives old c.source_and_place.new.self (RenameObject c.args.from_lock c.args.from.now c.args.to_lock c.args.to.now) c.args.now c.refused-in-Err.result t c.in-Err.error stood c.source_and_place.ensures.same
     (source_refused t old.session c.args.from_lock c.args.from.now c.args.to_lock c.args.to.now alive c.in-Err.error none) told
 
-pub returns-in-Some : goal.returns-in-Some
-returns-in-Some c =
+pub returns-in-Some-clause-gives : goal.returns-in-Some-clause-gives
+returns-in-Some-clause-gives c =
     let t = c.self.invariant.tree in
     let old = c.args.self.now in
     let stood : Stands old.image t = subst (λ (h : HandlerState). Stands h.image t) c.self.view_is c.self.invariant.stands in
@@ -41,8 +41,8 @@ rename-requires c = λ t stands.
     can_move t stands.proper c.in-Ok.found.0 (c.in-Ok.ensures.key t stood) (is_held_exclusively c.source_and_place.new.self.session c.in-Ok.found.0) c.in-Ok.found.1.0 c.in-Ok.found.1.1
     (c.in-Ok.ensures.directory t stood) valid (none_refuses (move_refusals t c.source_and_place.new.self.session c.in-Ok.found.0 c.in-Ok.found.1.0 c.in-Ok.found.1.1) (sym (c.move_refusal.ensures.refusal t between) ∙ none))
 
-pub returns : goal.returns
-returns c =
+pub returns-clause-gives : goal.returns-clause-gives
+returns-clause-gives c =
     let first = c.source_and_place.ensures.same in
     let same = c.self-2.view_is ∙ c.move_refusal.ensures.same ∙ first in
     let t = c.self-2.invariant.tree in
@@ -59,5 +59,5 @@ returns c =
 
 pub invariant_of-self : goal.invariant_of-self
 invariant_of-self c =
-    sound_on (c.self-2.view_is ∙ c.move_refusal.ensures.same ∙ c.source_and_place.ensures.same) (returns c)
+    sound_on (c.self-2.view_is ∙ c.move_refusal.ensures.same ∙ c.source_and_place.ensures.same) (returns-clause-gives c)
     (rename_keeps c.args.from_lock c.args.from.now c.args.to_lock c.args.to.now c.bytes.ensures.valid) c.self-2.invariant

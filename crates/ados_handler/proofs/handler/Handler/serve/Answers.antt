@@ -1,17 +1,11 @@
-use Rattle.std.proofs.Common.{rules}
+use Rattle.std.proofs.Common.{◌≡◌, rules, sym, subst}
+use Rattle.ados_handler.proofs.Common.{HandlerGives, answer_to}
+use Rattle.ados_model.specs.declared.answer.Answer.{Answer}
+use Rattle.ados_handler.proofs.Rooms.{answers_give}
 use Rattle.ados_handler.proofs.handler.Handler.serve.Goals as goal
 
-pub returns-in-LocateObject : goal.returns-in-LocateObject
-returns-in-LocateObject c = let gives = c.locate_object.ensures.gives c.args.now in search rules
-
-pub returns-in-ExamineNext : goal.returns-in-ExamineNext
-returns-in-ExamineNext c = let gives = c.examine_next.ensures.gives c.args.now in search rules
-
-pub returns-in-Read : goal.returns-in-Read
-returns-in-Read c = let gives = c.read.ensures.gives c.args.now in search rules
-
-pub returns-in-Seek : goal.returns-in-Seek
-returns-in-Seek c = let gives = c.seek.ensures.gives c.args.now in search rules
-
-pub returns-in-Other : goal.returns-in-Other
-returns-in-Other c = let gives = c.unknown.ensures c.in-Other.action c.args.now in search rules
+pub returns : goal.returns
+returns c =
+    let answer : ◌≡◌ {A = Answer} c.to.result (answer_to c.args.packet c.results_of.result) = search rules in
+    subst (λ (a : Answer). HandlerGives c.args.self.now c.args.packet c.args.now c.results_of.new.self a) (sym answer)
+    (answers_give c.args.self.now c.results_of.new.self c.args.packet c.args.now c.results_of.result c.results_of.ensures.gives c.results_of.ensures.room)

@@ -1,11 +1,11 @@
-use Rattle.std.proofs.Common.{◌≡◌, ◌≢◌, refl, sym, ap, ◌∙◌, subst}
+use Rattle.std.proofs.Common.{◌≢◌, refl, sym, ap, ◌∙◌, subst}
 use Rattle.ados_handler.proofs.Common.{root, Stands, HandlerState}
 use Rattle.ados_handler.proofs.Meant.{edit_gives, set_date_edits, sound_on}
 use Rattle.ados_handler.proofs.Telling.{set_date_keeps}
 use Rattle.ados_handler.proofs.handler.Handler.set_date.Goals as goal
 
-pub returns : goal.returns
-returns c =
+pub returns-clause-gives : goal.returns-clause-gives
+returns-clause-gives c =
     let same = c.self-2.view_is ∙ c.walked.ensures.same in
     let t = c.self-2.invariant.tree in
     let opened = c.self-2.invariant.stands in
@@ -16,4 +16,4 @@ returns c =
     edit_gives c.args.self.now _ same edit refl opened c.set_date.new.self (c.set_date.ensures.stands t opened) c.set_date.ensures.keeps c.set_date.ensures.validated c.done.result c.done.ensures
 
 pub invariant_of-self : goal.invariant_of-self
-invariant_of-self c = sound_on (c.self-2.view_is ∙ c.walked.ensures.same) (returns c) (set_date_keeps c.args.lock c.args.path.now c.args.date) c.self-2.invariant
+invariant_of-self c = sound_on (c.self-2.view_is ∙ c.walked.ensures.same) (returns-clause-gives c) (set_date_keeps c.args.lock c.args.path.now c.args.date) c.self-2.invariant

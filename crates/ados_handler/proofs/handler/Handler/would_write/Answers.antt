@@ -1,6 +1,6 @@
 use Rattle.std.proofs.Common.{Bool, List, ℕ, length, nat_eq, sym, ap, ◌∙◌}
 use Rattle.std.specs.Prelude.{◌&&◌}
-use Rattle.ados_model.specs.Session.{HandlerState}
+use Rattle.ados_handler.specs.HandlerState.{HandlerState}
 use Rattle.ados_handler.specs.Writes.{would_write}
 use Rattle.ados_handler.specs.steps.Allowed.{can_make, can_move, can_output, can_write, removes}
 use Rattle.ados_handler.proofs.WouldWrite.{deleted_by, made_by, moved_by, output_by, sized_by, some_bytes, updated_by, written_by}

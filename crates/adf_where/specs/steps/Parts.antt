@@ -1,0 +1,68 @@
+-- The text that is told of blocks, in parts.
+use Rattle.std.specs.Prelude.{◌≡◌, ℕ, Bool, if◌then◌else◌, List, [], ◌∷◌, ◌++◌, flat_map, codes}
+use Rattle.json.specs.Token.{Token, begin_array, begin_object, boolean, end_array, end_object, key}
+use Rattle.json.specs.Print.{print}
+use Rattle.ados_mend.specs.declared.naming.Place.{Place}
+use Rattle.ados_model.specs.Tree.{Tree}
+use Rattle.ados_model.specs.declared.fault.VolumeFault.{VolumeFault}
+use Rattle.ados_volume.specs.declared.owner.Owner.{Owner}
+use Rattle.adf_io.specs.declared.printing.PrintFault.{PrintFault}
+use Rattle.adf_io.specs.declared.printing.PrintFault.TheVariants.{Write}
+use Rattle.adf_where.specs.declared.faulty.FaultyBlock.{FaultyBlock}
+use Rattle.adf_where.specs.declared.where_fault.WhereFault.{WhereFault}
+use Rattle.adf_where.specs.declared.where_fault.WhereFault.TheVariants.{Memory, Output}
+use Rattle.adf_where.specs.Faulty.{block_line, block_lines, fault_line, faults_tokens, faulty_tokens, first_line, more_line, place_object, place_words}
+use Rattle.adf_where.specs.Where.{AreTold, Told, place_tokens, where_of}
+
+-- what is before the elements, and what is behind them
+abbrev pub opening : Bool → List ℕ
+opening json = if json then codes "[" else []
+
+abbrev pub closing : Bool → List ℕ
+closing json = if json then codes "]\n" else []
+
+-- what is before an element: in an array a comma, unless it is the first
+abbrev pub comma : Bool → Bool → List ℕ
+comma json first = if json then (if first then [] else codes ",") else []
+
+-- what is told of an element in one of the forms
+abbrev pub element : {A : Type 0} → Bool → (A → List Token) → (A → List ℕ) → A → List ℕ
+element json tokens lines one = if json then print (tokens one) else lines one
+
+-- the same with what is before it
+abbrev pub part : {A : Type 0} → Bool → Bool → (A → List Token) → (A → List ℕ) → A → List ℕ
+part json first tokens lines one = comma json first ++ element json tokens lines one
+
+-- the text tells of these blocks, by the owners of all blocks
+pub record IsTextOf (json : Bool) (t : Tree) (owners : List Owner) (blocks text : List ℕ) : Type 0 where
+  pub told : List Told
+  pub are_told : AreTold t owners blocks told
+  pub text_is : text ≡ where_of json t.blocks told
+
+-- what is told of a block of a refused image
+abbrev pub block_part : Bool → ℕ → FaultyBlock → List ℕ
+block_part json blocks told = element json (faulty_tokens blocks) (block_lines blocks) told
+
+-- what is told of it before its places
+abbrev pub head_tokens : ℕ → ℕ → List Token
+head_tokens blocks block = begin_object ∷ place_tokens blocks block ++ key (codes "places") ∷ begin_array ∷ []
+
+abbrev pub head_part : Bool → ℕ → FaultyBlock → List ℕ
+head_part json blocks told = if json then print (head_tokens blocks told.block) else first_line blocks told
+
+-- what is told of one of its places
+abbrev pub place_part : Bool → Bool → ℕ → ℕ → Place → List ℕ
+place_part json first blocks block place = part json first place_object (λ one. block_line blocks block (place_words one)) place
+
+-- what is told of it behind its places
+abbrev pub tail_tokens : List VolumeFault → Bool → List Token
+tail_tokens faults more = end_array ∷ faults_tokens faults ++ key (codes "more") ∷ boolean more ∷ end_object ∷ []
+
+abbrev pub tail_part : Bool → FaultyBlock → List ℕ
+tail_part json told =
+    if json then print (tail_tokens told.faults.now told.more) else flat_map fault_line told.faults.now ++ more_line told.more told.block
+
+-- why a text is not written whole
+abbrev pub where_fault : PrintFault → WhereFault
+where_fault Write = Output
+where_fault want = Memory
