@@ -231,7 +231,7 @@ def other_files(room: Room) -> None:
         room.report.same(f"other files: {name}", room.run("check", "other.adf"), Ran(3, f"refused {answer}\n".encode(), said))
 
     whole = "are no whole number of blocks: cut short, or not an ADF file"
-    few, many = (f"are too {it} for a volume, which has 16 to 101,602 blocks of 512 bytes" for it in ("few", "many"))
+    few, many = (f"are too {it}: a volume has 16 to 101,602 blocks of 512 bytes" for it in ("few", "many"))
     fits = "the root at block 880 fits 1,760 blocks; the file has"
     check("an image without its last byte", good[:-1], "NotWholeBlocks 0", f"901,119 bytes {whole}", f"{fits} 1,759 and 511 bytes")
     check("an image and 100 bytes", good + bytes(100), "NotWholeBlocks 0", f"901,220 bytes {whole}", f"{fits} 1,760 and 100 bytes: try --blocks 1760")
