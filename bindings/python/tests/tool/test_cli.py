@@ -87,7 +87,11 @@ class Lines(ToolCase):
 
     def test_ls_imports_nothing_slow(self) -> None:
         self.floppy()
-        program = f"import sys\nfrom jiponuwha.tool.cli import main\nmain(['ls', 'work.adf'])\nprint([it for it in {SLOW!r} if it in sys.modules], file=sys.stderr)"
+        # (what a start of Python on this machine loads by itself does not count)
+        program = (
+            "import sys\nbefore = {*sys.modules}\nfrom jiponuwha.tool.cli import main\nmain(['ls', 'work.adf'])\n"
+            f"print([it for it in {SLOW!r} if it in sys.modules and it not in before], file=sys.stderr)"
+        )
         ran = subprocess.run([sys.executable, "-c", program], capture_output=True, text=True, env=self.environment())
         self.assertEqual(ran.stderr, "[]\n")
 
