@@ -43,7 +43,7 @@ named blocks (Sector cylinder head sector) =
 abbrev pub AreNamed : ℕ → List BlockWord → List ℕ → Type 0
 AreNamed blocks words found = map (named blocks) words ≡ map Some found
 
--- the argument is the first that names no block, or memory ran out
+-- the argument is the first that names no block; or memory ran out, or the writer failed
 abbrev pub IsWhereFault : ℕ → List BlockWord → WhereFault → Type 0
 IsWhereFault blocks words (NoBlock word) =
     (n : ℕ) × (before : List ℕ) × (slice_get words n ≡ Some word) × (named blocks word ≡ None) × AreNamed blocks (take n words) before
