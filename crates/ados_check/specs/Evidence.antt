@@ -32,28 +32,21 @@ sum_evidence image block role =
 abbrev pub IsOther : List ℕ → ℕ → ℕ → ℕ → Evidence → Type 0
 IsOther image block i right evidence = (long image block i ≢ right) × (evidence ≡ evidence_of image block i (Some right))
 
--- the first wrong one of an entry's types. Its secondary type may have several values
-abbrev pub IsEntryTypeEvidence : List ℕ → ℕ → Evidence → Type 0
-IsEntryTypeEvidence image block evidence =
-    IsOther image block PRIMARY_TYPE HEADER_TYPE evidence
-    ⊎ ((primary_type image block ≡ HEADER_TYPE) × HasNoType image block × (evidence ≡ evidence_of image block SECONDARY_TYPE None))
-
--- the first wrong one of the types of an extension block
-abbrev pub IsExtensionTypeEvidence : List ℕ → ℕ → Evidence → Type 0
-IsExtensionTypeEvidence image block evidence =
-    IsOther image block PRIMARY_TYPE LIST_TYPE evidence
-    ⊎ ((primary_type image block ≡ LIST_TYPE) × IsOther image block SECONDARY_TYPE FILE_TYPE evidence)
-
--- the first of the block's types, and the size of a root's table, that is not the one of its role
+-- the first of the block's types, and the size of a root's table, that is not the one of its role. The secondary type of
+-- an entry may have several values
 abbrev pub IsTypeEvidence : List ℕ → ℕ → Role → Evidence → Type 0
 IsTypeEvidence image block Root evidence =
     IsOther image block PRIMARY_TYPE HEADER_TYPE evidence
     ⊎ ((primary_type image block ≡ HEADER_TYPE)
     × (IsOther image block TABLE_SIZE TABLE_LONGS evidence ⊎ ((long image block TABLE_SIZE ≡ TABLE_LONGS) × IsOther image block SECONDARY_TYPE ROOT_TYPE evidence)))
 IsTypeEvidence image block Page evidence = ⊥
-IsTypeEvidence image block (Entry dir s) evidence = IsEntryTypeEvidence image block evidence
+IsTypeEvidence image block (Entry dir s) evidence =
+    IsOther image block PRIMARY_TYPE HEADER_TYPE evidence
+    ⊎ ((primary_type image block ≡ HEADER_TYPE) × HasNoType image block × (evidence ≡ evidence_of image block SECONDARY_TYPE None))
 IsTypeEvidence image block (Data file) evidence = evidence ≡ evidence_of image block PRIMARY_TYPE (Some DATA_TYPE)
-IsTypeEvidence image block (Extension file) evidence = IsExtensionTypeEvidence image block evidence
+IsTypeEvidence image block (Extension file) evidence =
+    IsOther image block PRIMARY_TYPE LIST_TYPE evidence
+    ⊎ ((primary_type image block ≡ LIST_TYPE) × IsOther image block SECONDARY_TYPE FILE_TYPE evidence)
 
 -- the place of the first slash or colon of a text
 pub record IsFirstSeparator (text : List ℕ) (place : ℕ) : Type 0 where

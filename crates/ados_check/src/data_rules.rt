@@ -1,7 +1,7 @@
 //! The rules that a data block of an OFS file keeps at its place in the file, each with the long that shows that it is
 //! broken: one table, for the check, which stops at the first fault, and for the list of all faults.
 ghost use Rattle.std.specs.Prelude.{◌≡◌, ◌≢◌, ◌<◌, ◌^◌, ◌↔◌, IfSome, IsTrue, if◌then◌else◌, is_some, nat_lt};
-ghost use Rattle.adf_block.specs.Fields.{held_count, sequence_number};
+ghost use Rattle.adf_block.specs.Fields.{sequence_number};
 ghost use Rattle.adf_block.specs.Image.{block_count};
 ghost use Rattle.ados_check.specs.DataRules.{BreaksRule, HoldsTooLittle, TellsHeader, data_evidence, kind_of_data};
 ghost use Rattle.ados_check.specs.Evidence.{evidence_of};
@@ -67,7 +67,10 @@ pub fn data_evidence(source: &Source<'_>, place: Place, rule: DataRule) -> Optio
     match rule {
         DataRule::Sequence => number_evidence(source, place.block, place.position + 1),
         DataRule::TooFew => held_evidence(source, place, holds_too_little(source, place)),
-        DataRule::TooMany => held_evidence(source, place, holds_too_much(source, place.block)),
+        DataRule::TooMany => {
+            let is_wrong = source.long(place.block, HELD) > OFS_ROOM;
+            held_evidence(source, place, is_wrong)
+        }
         DataRule::Link => other_at(source, place.block, NEXT_DATA, place.next.unwrap_or(0)),
     }
 }
@@ -83,18 +86,12 @@ fn number_evidence(source: &Source<'_>, block: u32, number: u64) -> Option<Evide
     if u64::from(source.long(block, SEQUENCE)) == number {
         return None;
     }
-    Some(Evidence::of(source, block, SEQUENCE, as_long(number)))
-}
-
-/// The number, if a long can hold it.
-fn as_long(number: u64) -> Option<u32>
-    ensures { result ≡ (if nat_lt number (2 ^ 32) then Some number else None) }
-{
-    if number < 0x1_0000_0000 {
+    let wanted = if number <= u64::from(u32::MAX) {
         Some(number as u32)
     } else {
         None
-    }
+    };
+    Some(Evidence::of(source, block, SEQUENCE, wanted))
 }
 
 /// The number of bytes in a data block, if it is wrong. Before another block only the full number is right.
@@ -108,26 +105,11 @@ fn held_evidence(source: &Source<'_>, place: Place, is_wrong: bool) -> Option<Ev
     if !is_wrong {
         return None;
     }
-    Some(Evidence::of(source, place.block, HELD, full_data(place)))
-}
-
-/// The one right number of bytes in a data block before another one.
-fn full_data(place: Place) -> Option<u32>
-    ensures { result ≡ (if is_some place.next then Some OFS_ROOM else None) }
-{
-    match place.next {
+    let full = match place.next {
         Some(_) => Some(OFS_ROOM),
         None => None,
-    }
-}
-
-/// Whether a data block says that it has more bytes than fit into it.
-fn holds_too_much(source: &Source<'_>, block: u32) -> bool
-    requires inside { block < block_count source.now.bytes }
-    requires told { TellsHeader source.now block }
-    ensures { IsTrue result ↔ (OFS_ROOM < held_count source.now.bytes block) }
-{
-    source.long(block, HELD) > OFS_ROOM
+    };
+    Some(Evidence::of(source, place.block, HELD, full))
 }
 
 /// Whether a data block is empty, or is not full and not the last one.

@@ -77,18 +77,11 @@ fn first_separator(text: &[u8]) -> Option<u32>
     ensures { MatchOption result ((k : ℕ) → k < length text.now → is_separator (slice_index text.now k) ≡ false) (IsFirstSeparator text.now) }
 {
     for place in 0..text.len() as u32 {
-        if is_separator(text[place as usize]) {
+        if matches!(text[place as usize], b'/' | b':') {
             return Some(place);
         }
     }
     None
-}
-
-/// Whether no name may have the byte.
-fn is_separator(byte: u8) -> bool
-    ensures { result ≡ is_separator byte }
-{
-    byte == b'/' || byte == b':'
 }
 
 /// Whether the entry is in the hash chain of another slot than its name's.

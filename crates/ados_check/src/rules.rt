@@ -1,14 +1,14 @@
 //! The rules that a block keeps in its role, as far as they need no other block, each with the long that shows that it
 //! is broken: one table, for the check, which stops at the first fault, and for the list of all faults.
 ghost use Rattle.std.specs.Prelude.{◌≡◌, ◌≢◌, ◌<◌, ◌⊎◌, ◌↔◌, IfSome, IsTrue, is_some, slice_index};
-ghost use Rattle.adf_block.specs.Fields.{own_key, pointer_count, primary_type};
+ghost use Rattle.adf_block.specs.Fields.{own_key};
 ghost use Rattle.adf_block.specs.Image.{block_count, block_sum, byte_at};
-ghost use Rattle.ados_check.specs.Evidence.{IsEntryTypeEvidence, IsExtensionTypeEvidence, IsFieldEvidence, IsTypeEvidence, evidence_of, full_count, sum_evidence};
+ghost use Rattle.ados_check.specs.Evidence.{IsFieldEvidence, IsTypeEvidence, evidence_of, full_count, sum_evidence};
 ghost use Rattle.ados_check.specs.Marks.{HasEntryType};
 ghost use Rattle.ados_check.specs.PlacesTold.{TellsAll};
 ghost use Rattle.ados_check.specs.Rules.{HasBadExtensionField, HasBadField, HasBadSumAs, HasBadTypeAs, HasNoType, HasOtherCount, HasOtherFirst, TellsFields, TellsTypes, kind_of};
 ghost use Rattle.ados_model.specs.Faults.{HasFileType, HasLinkType, IsOfs, pointers_of};
-ghost use Rattle.ados_model.specs.declared.role.Role.TheVariants.{Extension, Root};
+ghost use Rattle.ados_model.specs.declared.role.Role.TheVariants.{Extension};
 
 use crate::evidence::{Evidence, broken_at, other_at};
 use crate::naming::{is_of_other_slot, name_evidence};
@@ -116,77 +116,29 @@ pub fn type_evidence(source: &Source<'_>, block: u32, role: Role) -> Option<Evid
     ensures broken { IsTrue (is_some result) ↔ HasBadTypeAs source.now.bytes block role }
     ensures evidence { IfSome result (IsTypeEvidence source.now.bytes block role) }
 {
+    let primary = match role {
+        Role::Page => return None,
+        Role::Data(_) if source.kind_byte() != 0 => return None,
+        Role::Root | Role::Entry(_, _) => HEADER_TYPE,
+        Role::Data(_) => DATA_TYPE,
+        Role::Extension(_) => LIST_TYPE,
+    };
+    if source.long(block, PRIMARY_TYPE) != primary {
+        return Some(Evidence::of(source, block, PRIMARY_TYPE, Some(primary)));
+    }
     match role {
-        Role::Root => root_types(source, block),
-        Role::Page => None,
-        Role::Entry(_, _) => entry_types(source, block),
-        Role::Data(_) => data_types(source, block),
-        Role::Extension(_) => extension_types(source, block),
+        Role::Root => {
+            if source.long(block, TABLE_SIZE) != TABLE_LONGS {
+                return Some(Evidence::of(source, block, TABLE_SIZE, Some(TABLE_LONGS)));
+            }
+            other_at(source, block, SECONDARY_TYPE, ROOT_TYPE)
+        }
+        Role::Entry(_, _) => {
+            broken_at(source, block, SECONDARY_TYPE, has_no_type(source, block))
+        }
+        Role::Extension(_) => other_at(source, block, SECONDARY_TYPE, FILE_TYPE),
+        Role::Page | Role::Data(_) => None,
     }
-}
-
-/// The first wrong one of a root's types and the size of its table.
-fn root_types(source: &Source<'_>, block: u32) -> Option<Evidence>
-    requires inside { block < block_count source.now.bytes }
-    requires told { IsTrue source.now.whole ⊎ (block_sum source.now.bytes block ≡ 0) }
-    ensures broken { IsTrue (is_some result) ↔ HasBadTypeAs source.now.bytes block Root }
-    ensures evidence { IfSome result (IsTypeEvidence source.now.bytes block Root) }
-{
-    if source.long(block, PRIMARY_TYPE) != HEADER_TYPE {
-        return Some(Evidence::of(source, block, PRIMARY_TYPE, Some(HEADER_TYPE)));
-    }
-    if source.long(block, TABLE_SIZE) != TABLE_LONGS {
-        return Some(Evidence::of(source, block, TABLE_SIZE, Some(TABLE_LONGS)));
-    }
-    if source.long(block, SECONDARY_TYPE) != ROOT_TYPE {
-        return Some(Evidence::of(source, block, SECONDARY_TYPE, Some(ROOT_TYPE)));
-    }
-    None
-}
-
-/// The first wrong one of an entry's types: a secondary type of no directory, no file and no link is wrong.
-fn entry_types(source: &Source<'_>, block: u32) -> Option<Evidence>
-    requires inside { block < block_count source.now.bytes }
-    requires told { IsTrue source.now.whole ⊎ (block_sum source.now.bytes block ≡ 0) }
-    ensures broken { IsTrue (is_some result) ↔ ((primary_type source.now.bytes block ≢ HEADER_TYPE) ⊎ HasNoType source.now.bytes block) }
-    ensures evidence { IfSome result (IsEntryTypeEvidence source.now.bytes block) }
-{
-    if source.long(block, PRIMARY_TYPE) != HEADER_TYPE {
-        return Some(Evidence::of(source, block, PRIMARY_TYPE, Some(HEADER_TYPE)));
-    }
-    if has_no_type(source, block) {
-        return Some(Evidence::of(source, block, SECONDARY_TYPE, None));
-    }
-    None
-}
-
-/// The wrong type of a data block, which has one only in OFS.
-fn data_types(source: &Source<'_>, block: u32) -> Option<Evidence>
-    requires inside { block < block_count source.now.bytes }
-    requires told { IsTrue source.now.whole ⊎ (IsOfs source.now.bytes → block_sum source.now.bytes block ≡ 0) }
-    ensures broken { IsTrue (is_some result) ↔ (IsOfs source.now.bytes × (primary_type source.now.bytes block ≢ DATA_TYPE)) }
-    ensures evidence { IfSome result (λ e. e ≡ evidence_of source.now.bytes block PRIMARY_TYPE (Some DATA_TYPE)) }
-{
-    if source.kind_byte() != 0 {
-        return None;
-    }
-    other_at(source, block, PRIMARY_TYPE, DATA_TYPE)
-}
-
-/// The first wrong one of the types of an extension block.
-fn extension_types(source: &Source<'_>, block: u32) -> Option<Evidence>
-    requires inside { block < block_count source.now.bytes }
-    requires told { IsTrue source.now.whole ⊎ (block_sum source.now.bytes block ≡ 0) }
-    ensures broken { IsTrue (is_some result) ↔ ((primary_type source.now.bytes block ≢ LIST_TYPE) ⊎ ¬ HasFileType source.now.bytes block) }
-    ensures evidence { IfSome result (IsExtensionTypeEvidence source.now.bytes block) }
-{
-    if source.long(block, PRIMARY_TYPE) != LIST_TYPE {
-        return Some(Evidence::of(source, block, PRIMARY_TYPE, Some(LIST_TYPE)));
-    }
-    if source.long(block, SECONDARY_TYPE) != FILE_TYPE {
-        return Some(Evidence::of(source, block, SECONDARY_TYPE, Some(FILE_TYPE)));
-    }
-    None
 }
 
 /// The field of a block that breaks a rule in this role. Each block is asked for each rule, so it is inlined.
@@ -222,16 +174,30 @@ pub fn field_evidence(
                 broken_at(source, block, NAME_BYTE / 4, is_other)
             }
             FieldRule::Comment => {
-                let is_long = has_long_comment(source, block);
-                broken_at(source, block, COMMENT_BYTE / 4, is_long)
+                let length = usize::from(source.byte(block, COMMENT_BYTE));
+                if has_entry_type(source, block) && length > Comment::MAX_LEN {
+                    Some(Evidence::of(source, block, COMMENT_BYTE / 4, None))
+                } else {
+                    None
+                }
             }
             FieldRule::PointerCount => {
-                count_evidence(source, block, is_file_of_other_count(source, block))
+                if is_file(source, block) && has_other_count(source, block) {
+                    count_of(source, block)
+                } else {
+                    None
+                }
             }
             FieldRule::FirstData => first_data(source, block),
         },
         Role::Data(file) => match rule {
-            FieldRule::Parent => data_holder(source, block, file),
+            FieldRule::Parent => {
+                if source.kind_byte() == 0 {
+                    other_at(source, block, OWN_KEY, file)
+                } else {
+                    None
+                }
+            }
             _ => None,
         },
         Role::Extension(file) => extension_evidence(source, block, file, rule),
@@ -255,7 +221,11 @@ fn extension_evidence(
         FieldRule::OwnKey => other_at(source, block, OWN_KEY, block),
         FieldRule::Parent => other_at(source, block, PARENT, file),
         FieldRule::PointerCount => {
-            count_evidence(source, block, is_empty_or_other(source, block))
+            if source.long(block, POINTER_COUNT) == 0 || has_other_count(source, block) {
+                count_of(source, block)
+            } else {
+                None
+            }
         }
         _ => None,
     }
@@ -269,65 +239,24 @@ fn first_data(source: &Source<'_>, block: u32) -> Option<Evidence>
     ensures broken { IsTrue (is_some result) ↔ (HasFileType source.now.bytes block × HasOtherFirst source.now.bytes block) }
     ensures evidence { IfSome result (λ e. e ≡ evidence_of source.now.bytes block NEXT_DATA (Some (slice_index (pointers_of source.now.bytes block) 0))) }
 {
-    if !is_file(source, block) {
-        return None;
-    }
-    if source.kind_byte() != 0 {
-        return None;
-    }
-    other_at(source, block, NEXT_DATA, first_pointer(source, block))
-}
-
-/// The file header that an OFS data block names, if it is not that of its file.
-#[inline(always)]
-fn data_holder(source: &Source<'_>, block: u32, file: u32) -> Option<Evidence>
-    requires inside { block < block_count source.now.bytes }
-    requires told { IsTrue source.now.whole ⊎ (IsOfs source.now.bytes → block_sum source.now.bytes block ≡ 0) }
-    ensures broken { IsTrue (is_some result) ↔ (IsOfs source.now.bytes × (own_key source.now.bytes block ≢ file)) }
-    ensures evidence { IfSome result (λ e. e ≡ evidence_of source.now.bytes block OWN_KEY (Some file)) }
-{
-    if source.kind_byte() != 0 {
-        return None;
-    }
-    other_at(source, block, OWN_KEY, file)
-}
-
-/// The number of pointers of a block, if it is wrong. Before an extension block only 72 is right.
-#[inline(always)]
-fn count_evidence(source: &Source<'_>, block: u32, is_wrong: bool) -> Option<Evidence>
-    requires inside { block < block_count source.now.bytes }
-    requires told { TellsAll source.now block }
-    ensures broken { is_some result ≡ is_wrong }
-    ensures evidence { IfSome result (λ e. e ≡ evidence_of source.now.bytes block POINTER_COUNT (full_count source.now.bytes block)) }
-{
-    if !is_wrong {
-        return None;
-    }
-    let full = full_count(source, block);
-    Some(Evidence::of(source, block, POINTER_COUNT, full))
-}
-
-/// The one right number of pointers of a block that an extension block follows.
-fn full_count(source: &Source<'_>, block: u32) -> Option<u32>
-    requires inside { block < block_count source.now.bytes }
-    requires told { TellsAll source.now block }
-    ensures { result ≡ full_count source.now.bytes block }
-{
-    if source.long(block, NEXT_EXTENSION) == 0 {
-        None
+    if is_file(source, block) && source.kind_byte() == 0 {
+        other_at(source, block, NEXT_DATA, first_pointer(source, block))
     } else {
-        Some(TABLE_LONGS)
+        None
     }
 }
 
-/// Whether the comment of a directory or file has more than 79 bytes.
-fn has_long_comment(source: &Source<'_>, block: u32) -> bool
+/// The wrong number of pointers of a block. Before an extension block only 72 is right.
+fn count_of(source: &Source<'_>, block: u32) -> Option<Evidence>
     requires inside { block < block_count source.now.bytes }
     requires told { TellsAll source.now block }
-    ensures { IsTrue result ↔ (HasEntryType source.now.bytes block × (Comment.MAX_LEN < byte_at source.now.bytes block COMMENT_BYTE)) }
+    ensures { result ≡ Some (evidence_of source.now.bytes block POINTER_COUNT (full_count source.now.bytes block)) }
 {
-    has_entry_type(source, block)
-        && usize::from(source.byte(block, COMMENT_BYTE)) > Comment::MAX_LEN
+    let full = match source.long(block, NEXT_EXTENSION) {
+        0 => None,
+        _ => Some(TABLE_LONGS),
+    };
+    Some(Evidence::of(source, block, POINTER_COUNT, full))
 }
 
 /// Whether the header is that of a file.
@@ -366,24 +295,6 @@ fn has_link_type(source: &Source<'_>, block: u32) -> bool
 {
     let kind = source.long(block, SECONDARY_TYPE);
     kind == SOFT_LINK_TYPE || kind == DIRECTORY_LINK_TYPE || kind == FILE_LINK_TYPE
-}
-
-/// Whether a file's header has a wrong number of pointers.
-fn is_file_of_other_count(source: &Source<'_>, block: u32) -> bool
-    requires inside { block < block_count source.now.bytes }
-    requires told { TellsAll source.now block }
-    ensures { IsTrue result ↔ (HasFileType source.now.bytes block × HasOtherCount source.now.bytes block) }
-{
-    is_file(source, block) && has_other_count(source, block)
-}
-
-/// Whether an extension block has no pointer, or another wrong number of them.
-fn is_empty_or_other(source: &Source<'_>, block: u32) -> bool
-    requires inside { block < block_count source.now.bytes }
-    requires told { TellsAll source.now block }
-    ensures { IsTrue result ↔ ((pointer_count source.now.bytes block ≡ 0) ⊎ HasOtherCount source.now.bytes block) }
-{
-    source.long(block, POINTER_COUNT) == 0 || has_other_count(source, block)
 }
 
 /// Whether there are more than 72 pointers, or fewer although another block follows.
