@@ -1,20 +1,6 @@
--- The evidence of a fault, or none.
-use Rattle.ados_faults.proofs.Common.{◌≡◌, ℕ, ◌<◌, inl, inr, List, Option, Some, None, refl, sym, ◌∙◌, subst, is_some, option_or, same_Some, block_count, mark_at, Mark, Evidence, FaultKind, Marks, AreValues, FirstOf, HasFields, IsEvidenceOf, IsTheEvidence, NoneShows, ShowsDisk}
-use Rattle.std.specs.Prelude.{◌↔◌, IfSome, IsTrue, MatchOption}
-
--- a rule that is broken exactly if there is evidence
-pub the_evidence : (found : Option Evidence) (B : Type 0) (E : Evidence → Type 0) → (IsTrue (is_some found) ↔ B) → IfSome found E → IsTheEvidence (λ e. B × E e) found
-the_evidence None B E broken is = λ e h. let t = broken.1 h.0 in absurd (cc t)
-the_evidence (Some x) B E broken is = (broken.0 refl, is)
-
-pub first_of : (a b : Option Evidence) (P Q : Evidence → Type 0) → IsTheEvidence P a → IsTheEvidence Q b → IsTheEvidence (FirstOf P Q) (option_or a b)
-first_of None None P Q p q = go
-  where
-    go : (e : Evidence) → ¬ FirstOf P Q e
-    go e (inl x) = p e x
-    go e (inr x) = q e x.1
-first_of None (Some x) P Q p q = inr (p, q)
-first_of (Some x) b P Q p q = inl p
+-- The evidence of a fault in the role of a mark, and its values.
+use Rattle.ados_faults.proofs.Common.{◌≡◌, ℕ, ◌<◌, List, Option, Some, None, sym, ◌∙◌, subst, same_Some, block_count, mark_at, Mark, Evidence, FaultKind, Marks, AreValues, HasFields, IsEvidenceOf, IsTheEvidence, NoneShows, ShowsDisk}
+use Rattle.std.specs.Prelude.{MatchOption}
 
 -- what is known of a block with a mark, that is no disk of another kind, is known of its fault
 module _ (image : List ℕ) (marks : Marks) (kind : FaultKind) (block : ℕ) (mark : Mark) (disk : ¬ ShowsDisk image kind block) (at : mark_at marks block ≡ Some mark) where
