@@ -8,7 +8,7 @@ use Rattle.adf_block.specs.declared.boot.BootKind.{BootKind}
 use Rattle.adf_block.specs.declared.boot.BootKind.TheVariants.{Ofs, Ffs, OtherDos, NotDos}
 use Rattle.adf_record.specs.Members.{number_token, string_token}
 use Rattle.adf_text.specs.Letters.{letters}
-use Rattle.ados_faults.specs.declared.values.FaultValues.{FaultValues}
+use Rattle.ados_check.specs.declared.evidence.Evidence.{Evidence}
 use Rattle.adf_archive.specs.declared.objects.Members.{Members}
 use Rattle.adf_archive.specs.declared.report.Contents.{Contents}
 use Rattle.adf_archive.specs.declared.report.ImageReport.{ImageReport}
@@ -52,17 +52,17 @@ members_of (WrongSize fault) = record { ok = false; validated = false; kind = No
 members_of (NotChecked why) = record { ok = false; validated = false; kind = None; blocks = None; contents = None }
 
 -- the value of the long that shows a fault
-abbrev pub found_in : Option FaultValues → Option ℕ
+abbrev pub found_in : Option Evidence → Option ℕ
 found_in (Some values) = Some values.found
 found_in None = None
 
 -- the only right value of that long
-abbrev pub wanted_in : Option FaultValues → Option ℕ
+abbrev pub wanted_in : Option Evidence → Option ℕ
 wanted_in (Some values) = values.wanted
 wanted_in None = None
 
 -- the object of a fault
-abbrev pub fault_tokens : List ℕ → ℕ → Option (List ℕ) → Option FaultValues → Option (List ℕ) → List Token
+abbrev pub fault_tokens : List ℕ → ℕ → Option (List ℕ) → Option Evidence → Option (List ℕ) → List Token
 fault_tokens kind block path values text =
     begin_object ∷ key (codes "kind") ∷ string kind ∷ key (codes "block") ∷ number (decimal block)
     ∷ key (codes "path") ∷ string_token path ∷ key (codes "found") ∷ number_token (found_in values)

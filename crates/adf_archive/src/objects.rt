@@ -10,7 +10,7 @@ use crate::words::{kind_word, size_word};
 use adf_block::BootKind;
 use adf_record::{put_flag, put_number, put_text};
 use adf_text::letter_text;
-use ados_faults::FaultValues;
+use ados_faults::Evidence;
 use json::Writer;
 use std::alloc::{AllocError, Global};
 
@@ -201,7 +201,7 @@ fn put_fault(
     kind: &str,
     block: u32,
     path: Option<&str>,
-    values: Option<FaultValues>,
+    values: Option<Evidence>,
     text: Option<&str>,
 ) -> Result<(), AllocError>
     ensures before { writer.new.before ≡ writer.old.before }
@@ -260,14 +260,14 @@ fn put_suspect(writer: &mut Writer, suspect: &Suspect) -> Result<(), AllocError>
 }
 
 /// The value of the long that shows a fault.
-fn found_in(values: Option<FaultValues>) -> Option<u64>
+fn found_in(values: Option<Evidence>) -> Option<u64>
     ensures { result ≡ found_in values }
 {
     Some(u64::from(values?.found))
 }
 
 /// The only right value of the long that shows a fault.
-fn wanted_in(values: Option<FaultValues>) -> Option<u64>
+fn wanted_in(values: Option<Evidence>) -> Option<u64>
     ensures { result ≡ wanted_in values }
 {
     values?.wanted.map(u64::from)

@@ -2,7 +2,7 @@
 use crate::suspects::Suspect;
 use adf_block::{BootKind, SizeFault};
 use adf_record::Counts;
-use ados_faults::FaultValues;
+use ados_faults::Evidence;
 use ados_model::VolumeFault;
 use ados_name::Name;
 use thiserror::Error;
@@ -57,7 +57,7 @@ pub struct ShownFault {
     /// The path of the directory or file that it belongs to, if requested and known.
     pub path: Option<String>,
     /// The long that shows it, if one does.
-    pub values: Option<FaultValues>,
+    pub values: Option<Evidence>,
     /// The text that explains it, if requested.
     pub text: Option<String>,
 }

@@ -21,12 +21,14 @@ pub use Rattle.ados_check.specs.Kept.{seen}
 pub use Rattle.ados_check.specs.Laws.{AreInUse, IsMended}
 pub use Rattle.ados_check.specs.Marks.{AreReached, AreUnlike, HasEntryType, HasValidName, IsChecked, IsMarkedEntry, IsSound, IsSoundData, IsSoundEntry, IsSoundFile, IsSoundRoot, mark_at}
 pub use Rattle.ados_check.specs.Pieces.{all_bytes}
-pub use Rattle.ados_check.specs.Rules.{HasBadField, HasBadSumAs, HasBadTypeAs, HasNoType, TellsFields, kind_of}
+pub use Rattle.ados_check.specs.Evidence.{IsFirstSeparator, IsNameEvidence}
+pub use Rattle.ados_check.specs.Rules.{HasBadField, HasBadSumAs, HasBadTypeAs, HasNoType, HasWrongLength, HasWrongName, TellsFields, kind_of}
 pub use Rattle.ados_check.specs.Source.{IsKept, SourceView, Tells}
 pub use Rattle.ados_check.specs.declared.data_rules.DataRule.{DataRule}
 pub use Rattle.ados_check.specs.declared.data_rules.DataRule.TheVariants.{Link, Sequence, TooFew, TooMany}
 pub use Rattle.ados_check.specs.declared.data_rules.Place.{Place}
 pub use Rattle.ados_check.specs.declared.data_rules.TheConstants.{DATA_RULES}
+pub use Rattle.ados_check.specs.declared.evidence.Evidence.{Evidence}
 pub use Rattle.ados_check.specs.declared.mark.Mark.{Mark}
 pub use Rattle.ados_check.specs.declared.rules.FieldRule.{FieldRule}
 pub use Rattle.ados_check.specs.declared.rules.FieldRule.TheVariants.{Chain, Comment, FirstData, Name, NoLink, OwnKey, Parent, PointerCount}

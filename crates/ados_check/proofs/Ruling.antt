@@ -1,5 +1,5 @@
 -- What a broken rule shows, and that a block which breaks none is sound.
-use Rattle.ados_check.proofs.Common.{◌≡◌, ◌≢◌, ℕ, ◌+◌, ◌<◌, ◌≤◌, inl, inr, ◌==◌, List, All, Contains, refl, subst, arith, eq-eqb, cases_Bool, eqb-true, Contains-get_or, block_count, byte_at, secondary_type, IsImage, text_at, COMMENT_BYTE, DIRECTORY_TYPE, FILE_TYPE, NAME_BYTE, HasBadName, HasName, IsFile, Reached, Shows, Role, Root, Page, Entry, Data, Extension, HasEntryType, HasValidName, IsSound, HasBadField, HasBadSumAs, HasBadTypeAs, HasNoType, kind_of, FieldRule, NoLink, OwnKey, Parent, Name, Chain, Comment, PointerCount, FirstData, FIELD_RULES, root_name, entry_name}
+use Rattle.ados_check.proofs.Common.{◌≡◌, ◌≢◌, ℕ, ◌+◌, ◌<◌, ◌≤◌, inl, inr, ◌==◌, List, All, Contains, refl, subst, arith, eq-eqb, cases_Bool, eqb-true, Contains-get_or, block_count, byte_at, secondary_type, IsImage, text_at, COMMENT_BYTE, DIRECTORY_TYPE, FILE_TYPE, NAME_BYTE, HasBadName, HasName, IsFile, Reached, Shows, Role, Root, Page, Entry, Data, Extension, HasEntryType, HasValidName, IsSound, HasBadField, HasBadSumAs, HasBadTypeAs, HasNoType, HasWrongName, kind_of, FieldRule, NoLink, OwnKey, Parent, Name, Chain, Comment, PointerCount, FirstData, FIELD_RULES, root_name, entry_name}
 use Rattle.ados_model.specs.Faults
 use Rattle.ados_model.specs.Faults.HasBadType.{root_primary, root_table, root_secondary, entry_primary, entry_secondary, extension_primary, extension_secondary, data_primary}
 use Rattle.ados_model.specs.Faults.HasBadOwnKey.{entry_key, extension_key}
@@ -31,13 +31,20 @@ module _ (image : List ℕ) (block : ℕ) where
   file_of : (dir s : ℕ) → Reached image block (Entry dir s) → Faults.HasFileType image block → IsFile image block
   file_of dir s h f = record { dir = dir; slot_of_chain = s; reached = h; secondary = f }
 
+  -- a wrong name of a root or an entry is a fault
+  bad_name : HasName image block → HasWrongName image block → HasBadName image block
+  bad_name named (inl (inl none)) = HasBadName.empty named none
+  bad_name named (inl (inr long)) = HasBadName.long_name named long
+  bad_name named (inr (inl found)) = HasBadName.slash named found
+  bad_name named (inr (inr found)) = HasBadName.colon named found
+
   pub field_shows : (role : Role) (rule : FieldRule) → Reached image block role → HasBadField image block role rule → Shows image (kind_of rule) block
   field_shows Root Parent h n = root_parent (only_root h refl) n
-  field_shows Root Name h n = n
+  field_shows Root Name h n = bad_name (root_name (only_root h refl)) n
   field_shows (Entry dir s) NoLink h n = ((dir, s, h), n)
   field_shows (Entry dir s) OwnKey h n = entry_key (dir, s, h) n
   field_shows (Entry dir s) Parent h n = entry_parent h n
-  field_shows (Entry dir s) Name h n = n
+  field_shows (Entry dir s) Name h n = bad_name (entry_name (dir, s, h)) n
   field_shows (Entry dir s) Chain h n = record { dir = dir; slot_of_chain = s; reached = h; short = n.short; wrong = n.wrong }
   field_shows (Entry dir s) Comment h (inl d, n) = directory_comment (record { dir = dir; slot_of_chain = s; reached = h; secondary = d }) n
   field_shows (Entry dir s) Comment h (inr f, n) = file_comment (file_of dir s h f) n
@@ -63,11 +70,11 @@ module _ (image : List ℕ) (block : ℕ) where
   ]
 
   module _ (im : IsImage image) (inside : block < block_count image) where
-    name_right : HasName image block → ¬ HasBadName image block → HasValidName image block
-    name_right named right =
+    name_right : ¬ HasWrongName image block → HasValidName image block
+    name_right right =
         let text = text_at image block NAME_BYTE in
-        let not_long : ¬ (30 < byte_at image block NAME_BYTE) = λ l. right (HasBadName.long_name named l) in
-        let not_none : ¬ (byte_at image block NAME_BYTE ≡ 0) = λ e. right (HasBadName.empty named e) in
+        let not_long : ¬ (30 < byte_at image block NAME_BYTE) = λ l. right (inl (inr l)) in
+        let not_none : ¬ (byte_at image block NAME_BYTE ≡ 0) = λ e. right (inl (inl e)) in
         let short : byte_at image block NAME_BYTE ≤ 30 = omega (arith, not_long) in
         let size = length_text image block inside short in
         valid_name image block inside short (record {
@@ -75,8 +82,8 @@ module _ (image : List ℕ) (block : ℕ) where
           short = omega (arith, size, short);
           plain = λ k d l. record {
             byte = bytes_at-small image block (NAME_BYTE + 1) (byte_at image block NAME_BYTE) im k d l;
-            no_slash = λ e. right (HasBadName.slash named (subst (Contains text) e (Contains-get_or text k d l)));
-            no_colon = λ e. right (HasBadName.colon named (subst (Contains text) e (Contains-get_or text k d l)));
+            no_slash = λ e. right (inr (inl (subst (Contains text) e (Contains-get_or text k d l))));
+            no_colon = λ e. right (inr (inr (subst (Contains text) e (Contains-get_or text k d l))));
           };
         })
 
@@ -88,11 +95,11 @@ module _ (image : List ℕ) (block : ℕ) where
       secondary = stable _ _ (λ n. types (inr (inr n)));
       parent = stable _ _ (fields 2 NoLink (omega arith));
       sum = stable _ _ (λ n. sum (tt, n));
-      name = name_right (root_name (only_root h refl)) (fields 3 NoLink (omega arith));
+      name = name_right (fields 3 NoLink (omega arith));
     }
     sound Page h sum types fields = stable _ _ (λ n. sum (tt, n))
     sound (Entry dir s) h sum types fields =
-        let name = name_right (entry_name (dir, s, h)) (fields 3 NoLink (omega arith)) in
+        let name = name_right (fields 3 NoLink (omega arith)) in
         let short : byte_at image block NAME_BYTE ≤ 30 = omega (arith, name.text.counted, name.valid.short) in
         let typed = entry_typed (λ n. types (inr n)) (fields 0 NoLink (omega arith)) in
         let not_long : ¬ (79 < byte_at image block COMMENT_BYTE) = λ l. fields 5 NoLink (omega arith) (typed, l) in

@@ -1,12 +1,14 @@
 -- The rules that a data block of an OFS file keeps at its place in the file.
-use Rattle.std.specs.Prelude.{◌≡◌, ◌≢◌, ℕ, ◌+◌, ◌^◌, ◌<◌, ◌⊎◌, List, Option, None, length, slice_get, slice_index, unwrap_or, IsTrue}
+use Rattle.std.specs.Prelude.{◌≡◌, ◌≢◌, ℕ, ◌+◌, ◌^◌, ◌<◌, ◌⊎◌, if◌then◌else◌, nat_lt, List, Option, None, Some, is_some, length, slice_get, slice_index, unwrap_or, IsTrue}
 use Rattle.adf_block.specs.Image.{block_sum, long}
 use Rattle.adf_block.specs.Fields.{held_count, sequence_number}
-use Rattle.adf_block.specs.declared.layout.TheConstants.{NEXT_DATA, OFS_ROOM}
+use Rattle.adf_block.specs.declared.layout.TheConstants.{HELD, NEXT_DATA, OFS_ROOM, SEQUENCE}
+use Rattle.ados_check.specs.Evidence.{evidence_of}
 use Rattle.ados_check.specs.Source.{SourceView}
 use Rattle.ados_check.specs.declared.data_rules.DataRule.{DataRule}
 use Rattle.ados_check.specs.declared.data_rules.DataRule.TheVariants.{Sequence, TooFew, TooMany, Link}
 use Rattle.ados_check.specs.declared.data_rules.Place.{Place}
+use Rattle.ados_check.specs.declared.evidence.Evidence.{Evidence}
 use Rattle.ados_model.specs.declared.fault.FaultKind.{FaultKind}
 use Rattle.ados_model.specs.declared.fault.FaultKind.TheVariants.{BadCount, BadPointer, BadSequence}
 use Rattle.ados_model.specs.Faults.{AreDataBlocks}
@@ -38,6 +40,22 @@ BreaksRule image place Sequence = sequence_number image place.block ≢ place.po
 BreaksRule image place TooFew = HoldsTooLittle image place.block place.next
 BreaksRule image place TooMany = OFS_ROOM < held_count image place.block
 BreaksRule image place Link = long image place.block NEXT_DATA ≢ unwrap_or place.next 0
+
+-- the long with the field of the rule
+abbrev pub data_long : DataRule → ℕ
+data_long Sequence = SEQUENCE
+data_long Link = NEXT_DATA
+data_long _ = HELD
+
+-- the one right value of that long at the place, if only one is right. A block before another one is full
+abbrev pub data_wanted : Place → DataRule → Option ℕ
+data_wanted place Sequence = if nat_lt (place.position + 1) (2 ^ 32) then Some (place.position + 1) else None
+data_wanted place Link = Some (unwrap_or place.next 0)
+data_wanted place _ = if is_some place.next then Some OFS_ROOM else None
+
+-- what shows that the data block breaks the rule at its place
+abbrev pub data_evidence : List ℕ → Place → DataRule → Evidence
+data_evidence image place rule = evidence_of image place.block (data_long rule) (data_wanted place rule)
 
 -- the header of the data block is available
 abbrev pub TellsHeader : SourceView → ℕ → Type 0

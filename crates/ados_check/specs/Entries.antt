@@ -5,6 +5,7 @@ use Rattle.adf_block.specs.Fields.{secondary_type}
 use Rattle.adf_block.specs.declared.layout.TheConstants.{FILE_TYPE, NAME_BYTE}
 use Rattle.adf_block.specs.Whole.{text_at}
 use Rattle.ados_name.specs.Name.{upper}
+use Rattle.ados_name.specs.declared.name.TheConstants.Name as names
 use Rattle.ados_model.specs.declared.role.Role.{Role}
 use Rattle.ados_model.specs.declared.role.Role.TheVariants.{Entry}
 use Rattle.ados_check.specs.declared.mark.Mark.{Mark}
@@ -24,4 +25,4 @@ AreSoundFiles image marks = (file : ℕ) → IsSoundIfFile image marks file
 
 -- the name of a block in 31 bytes: its length, its bytes in upper case, then zeros
 unfoldable pub upper_name : List ℕ → ℕ → List ℕ
-upper_name image block = byte_at image block NAME_BYTE ∷ (map upper (text_at image block NAME_BYTE) ++ replicate (30 - byte_at image block NAME_BYTE) 0)
+upper_name image block = byte_at image block NAME_BYTE ∷ (map upper (text_at image block NAME_BYTE) ++ replicate (names.MAX_LEN - byte_at image block NAME_BYTE) 0)

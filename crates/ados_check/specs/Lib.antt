@@ -8,6 +8,7 @@ pub mod Keeping
 pub mod Pieces
 pub mod PlacesTold
 pub mod Rules
+pub mod Evidence
 pub mod DataRules
 pub mod Entries
 pub mod Answer

@@ -5,6 +5,7 @@ use Rattle.adf_block.specs.Fields.{primary_type, own_key, parent_key, secondary_
 use Rattle.adf_block.specs.declared.layout.TheConstants.{HEADER_TYPE, DATA_TYPE, ROOT_TYPE, FILE_TYPE, TABLE_LONGS, TABLE_SIZE, COMMENT_BYTE, NAME_BYTE}
 use Rattle.adf_block.specs.Whole.{text_at}
 use Rattle.ados_name.specs.Name.{Same, slot, IsName}
+use Rattle.ados_name.specs.declared.comment.TheConstants.Comment as comments
 use Rattle.ados_model.specs.Stands.{HasExtension, HasFile}
 use Rattle.ados_model.specs.Phrases.{kind_bytes}
 use Rattle.ados_model.specs.File.{data_blocks, extension_blocks, contents}
@@ -48,7 +49,7 @@ pub record IsSoundEntry (image : List ℕ) (block dir s : ℕ) : Type 0 where
   pub sum : block_sum image block ≡ 0
   pub name : HasValidName image block
   pub slotted : slot (text_at image block NAME_BYTE) ≡ s
-  pub comment : byte_at image block COMMENT_BYTE ≤ 79
+  pub comment : byte_at image block COMMENT_BYTE ≤ comments.MAX_LEN
 
 -- an OFS data block with the right fields, as far as they do not depend on its position in the file
 pub record IsSoundData (image : List ℕ) (block file : ℕ) : Type 0 where

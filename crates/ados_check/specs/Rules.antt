@@ -1,10 +1,12 @@
 -- The rules that a block keeps in its role, as far as they need no other block.
-use Rattle.std.specs.Prelude.{◌≡◌, ◌≢◌, ℕ, ◌<◌, ◌⊎◌, List, slice_index, IsTrue}
+use Rattle.std.specs.Prelude.{◌≡◌, ◌≢◌, ℕ, ◌<◌, ◌⊎◌, List, slice_index, Contains, IsTrue}
 use Rattle.adf_block.specs.Image.{block_sum, byte_at, long}
 use Rattle.adf_block.specs.Fields.{own_key, parent_key, pointer_count, primary_type, secondary_type}
 use Rattle.adf_block.specs.Whole.{text_at}
 use Rattle.adf_block.specs.declared.layout.TheConstants.{HEADER_TYPE, DATA_TYPE, LIST_TYPE, ROOT_TYPE, TABLE_LONGS, TABLE_SIZE, COMMENT_BYTE, NAME_BYTE, NEXT_DATA}
 use Rattle.ados_name.specs.Name.{slot}
+use Rattle.ados_name.specs.declared.comment.TheConstants.Comment as comments
+use Rattle.ados_name.specs.declared.name.TheConstants.Name as names
 use Rattle.ados_check.specs.Marks.{HasEntryType}
 use Rattle.ados_check.specs.Source.{SourceView}
 use Rattle.ados_check.specs.declared.rules.FieldRule.{FieldRule}
@@ -13,7 +15,7 @@ use Rattle.ados_model.specs.declared.fault.FaultKind.{FaultKind}
 use Rattle.ados_model.specs.declared.fault.FaultKind.TheVariants.{BadOwnKey, BadParent, BadPointer, WrongChain, BadName, BadComment, BadCount, LinkEntry}
 use Rattle.ados_model.specs.declared.role.Role.{Role}
 use Rattle.ados_model.specs.declared.role.Role.TheVariants.{Root, Page, Entry, Data, Extension}
-use Rattle.ados_model.specs.Faults.{HasBadName, HasDirectoryType, HasFileType, HasLinkType, HasShortName, HasSum, IsContinued, IsOfs, pointers_of}
+use Rattle.ados_model.specs.Faults.{HasDirectoryType, HasFileType, HasLinkType, HasShortName, HasSum, IsContinued, IsOfs, pointers_of}
 
 -- the kind of fault of a block that breaks the rule
 abbrev pub kind_of : FieldRule → FaultKind
@@ -29,6 +31,15 @@ kind_of FirstData = BadPointer
 -- the header is that of no directory, no file and no link
 abbrev pub HasNoType : List ℕ → ℕ → Type 0
 HasNoType image block = ¬ HasDirectoryType image block × ¬ HasFileType image block × ¬ HasLinkType image block
+
+-- the name is empty, or longer than a name may be
+abbrev pub HasWrongLength : List ℕ → ℕ → Type 0
+HasWrongLength image block = (byte_at image block NAME_BYTE ≡ 0) ⊎ (names.MAX_LEN < byte_at image block NAME_BYTE)
+
+-- the name has a wrong length, or a slash or a colon
+abbrev pub HasWrongName : List ℕ → ℕ → Type 0
+HasWrongName image block =
+    HasWrongLength image block ⊎ Contains (text_at image block NAME_BYTE) 47 ⊎ Contains (text_at image block NAME_BYTE) 58
 
 -- the name is short enough, and has another slot than this chain
 pub record IsOfOtherSlot (image : List ℕ) (block chain : ℕ) : Type 0 where
@@ -60,7 +71,7 @@ HasBadTypeAs image block (Extension file) = (primary_type image block ≢ LIST_T
 -- a field of the root breaks the rule
 abbrev pub HasBadRootField : List ℕ → ℕ → FieldRule → Type 0
 HasBadRootField image block Parent = parent_key image block ≢ 0
-HasBadRootField image block Name = HasBadName image block
+HasBadRootField image block Name = HasWrongName image block
 HasBadRootField image block _ = ⊥
 
 -- a field of an entry of a directory, in the chain of a slot, breaks the rule
@@ -68,9 +79,9 @@ abbrev pub HasBadEntryField : List ℕ → ℕ → ℕ → ℕ → FieldRule →
 HasBadEntryField image block dir s NoLink = HasLinkType image block
 HasBadEntryField image block dir s OwnKey = own_key image block ≢ block
 HasBadEntryField image block dir s Parent = parent_key image block ≢ dir
-HasBadEntryField image block dir s Name = HasBadName image block
+HasBadEntryField image block dir s Name = HasWrongName image block
 HasBadEntryField image block dir s Chain = IsOfOtherSlot image block s
-HasBadEntryField image block dir s Comment = HasEntryType image block × (79 < byte_at image block COMMENT_BYTE)
+HasBadEntryField image block dir s Comment = HasEntryType image block × (comments.MAX_LEN < byte_at image block COMMENT_BYTE)
 HasBadEntryField image block dir s PointerCount = HasFileType image block × HasOtherCount image block
 HasBadEntryField image block dir s FirstData = HasFileType image block × HasOtherFirst image block
 

@@ -1,8 +1,8 @@
 -- A source of blocks, as a check of an image reads it.
-use Rattle.std.specs.Prelude.{◌≡◌, ◌≢◌, ℕ, ◌<◌, ◌⊎◌, List, Bool, IsTrue}
+use Rattle.std.specs.Prelude.{◌≡◌, ◌≢◌, ℕ, ◌/◌, ◌<◌, ◌⊎◌, List, Bool, IsTrue}
 use Rattle.adf_block.specs.Image.{block_sum}
 use Rattle.adf_block.specs.Fields.{primary_type}
-use Rattle.adf_block.specs.declared.layout.TheConstants.{DATA_TYPE}
+use Rattle.adf_block.specs.declared.layout.TheConstants.{DATA_TYPE, OFS_DATA_BYTE}
 
 -- the bytes of the image, and whether all of them are available
 pub record SourceView : Type 0 where
@@ -11,7 +11,7 @@ pub record SourceView : Type 0 where
 
 -- the number of longs in the header of an OFS data block
 abbrev pub header_longs : ℕ
-header_longs = 6
+header_longs = OFS_DATA_BYTE / 4
 
 -- a sketch has long i of a block: the checksum is right, and the long is in the header or the block is not an OFS data
 -- block

@@ -15,8 +15,8 @@ use crate::source::Source;
 use adf_block::Image;
 use adf_block::beside::CHECKSUM;
 use adf_block::layout::{
-    BITMAP_FLAG, BITMAP_VALID, BOOT_BLOCKS, FIRST_MAP_LONG, FIRST_PAGE, LONG_BITS, MOST_BLOCKS,
-    PAGE_BITS,
+    BITMAP_FLAG, BITMAP_VALID, BOOT_BLOCKS, FEWEST_BLOCKS, FIRST_MAP_LONG, FIRST_PAGE, LONG_BITS,
+    MOST_BLOCKS, PAGE_BITS,
 };
 use ados_map::rebuild;
 use std::alloc::{AllocError, Global};
@@ -26,7 +26,7 @@ pub fn has_valid_bitmap(source: &Source<'_>) -> bool
     requires { TellsBitmap source.now }
     ensures { IsTrue result ↔ HasValidBitmap source.now.bytes }
 {
-    prove!(source.blocks() >= 16);
+    prove!(source.blocks() >= FEWEST_BLOCKS);
     source.long(source.root(), BITMAP_FLAG) == BITMAP_VALID
 }
 
@@ -37,7 +37,7 @@ pub(crate) fn has_sound_bitmap(source: &Source<'_>, marks: &[Option<Mark>]) -> b
     requires told { TellsBitmap source.now }
     ensures { IsTrue result → ShowsNoFault source.now.bytes }
 {
-    prove!(source.blocks() >= 16);
+    prove!(source.blocks() >= FEWEST_BLOCKS);
     if !has_valid_bitmap(source) {
         return true;
     }
@@ -113,7 +113,7 @@ pub fn mend(alloc: Global, image: &mut Image, marks: &[Option<Mark>]) -> Result<
     ensures was { IsImage image.old }
     ensures image { IsImage image.new }
 {
-    prove!(image.blocks() >= 16);
+    prove!(image.blocks() >= FEWEST_BLOCKS);
     let named = reached_blocks(alloc, marks)?;
     let root = image.root();
     rebuild(image, &named);

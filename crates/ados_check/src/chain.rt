@@ -1,5 +1,5 @@
 //! The data blocks of an OFS file: their links, sequence numbers and bytes.
-ghost use Rattle.std.specs.Prelude.{◌≡◌, ◌≢◌, ◌<◌, ◌≤◌, ◌+◌, ◌%◌, ℕ, MatchOption, MatchResult};
+ghost use Rattle.std.specs.Prelude.{◌≡◌, ◌≢◌, ◌<◌, ◌≤◌, ◌+◌, ◌-◌, ◌%◌, ℕ, MatchOption, MatchResult};
 ghost use Rattle.adf_block.specs.Image.{block_count, long};
 ghost use Rattle.adf_block.specs.Fields.{pointer};
 ghost use Rattle.adf_block.specs.declared.layout.TheConstants.{NEXT_EXTENSION, TABLE_LONGS};
@@ -8,7 +8,7 @@ ghost use Rattle.ados_check.specs.DataRules.{IsPlaced, TellsHeader};
 ghost use Rattle.ados_check.specs.Source.{Tells};
 ghost use Rattle.ados_check.specs.steps.Files.{HasCounts, IsLinked, IsReachedEntry, IsReachedFile, KeepsRules};
 
-use crate::data_rules::{DATA_RULES, Place, breaks_rule};
+use crate::data_rules::{DATA_RULES, Place, data_evidence};
 use crate::looks::check_field;
 use crate::rules::{FieldRule, first_pointer};
 use crate::sizes::has_other_size;
@@ -60,8 +60,8 @@ pub(crate) fn check_chain(
 fn holder_behind(source: &Source<'_>, holder: u32, position: u32) -> u32
     requires inside { holder < block_count source.now.bytes }
     requires told { Tells source.now holder NEXT_EXTENSION }
-    ensures next { position % TABLE_LONGS ≡ 71 → result ≡ long source.now.bytes holder NEXT_EXTENSION }
-    ensures same { position % TABLE_LONGS ≢ 71 → result ≡ holder }
+    ensures next { position % TABLE_LONGS ≡ TABLE_LONGS - 1 → result ≡ long source.now.bytes holder NEXT_EXTENSION }
+    ensures same { position % TABLE_LONGS ≢ TABLE_LONGS - 1 → result ≡ holder }
 {
     if position % TABLE_LONGS == TABLE_LONGS - 1 {
         source.long(holder, NEXT_EXTENSION)
@@ -91,7 +91,8 @@ fn check_place(source: &Source<'_>, place: Place) -> Result<(), VolumeFault>
     ensures { MatchResult result (λ _. KeepsRules source.now.bytes place) (λ fault. Shows source.now.bytes fault.kind fault.block) }
 {
     for rule in DATA_RULES.iter() {
-        if breaks_rule(source, place, *rule) {
+        let is_broken = data_evidence(source, place, *rule).is_some();
+        if is_broken {
             return Err(VolumeFault {
                 kind: rule.kind(),
                 block: place.block,

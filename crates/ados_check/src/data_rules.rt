@@ -1,9 +1,12 @@
-//! The rules that a data block of an OFS file keeps at its place in the file: one table, for the check, which stops at
-//! the first fault, and for the list of all faults.
-ghost use Rattle.std.specs.Prelude.{◌≡◌, ◌<◌, ◌^◌, ◌↔◌, IsTrue};
+//! The rules that a data block of an OFS file keeps at its place in the file, each with the long that shows that it is
+//! broken: one table, for the check, which stops at the first fault, and for the list of all faults.
+ghost use Rattle.std.specs.Prelude.{◌≡◌, ◌≢◌, ◌<◌, ◌^◌, ◌↔◌, IfSome, IsTrue, if◌then◌else◌, is_some, nat_lt};
+ghost use Rattle.adf_block.specs.Fields.{sequence_number};
 ghost use Rattle.adf_block.specs.Image.{block_count};
-ghost use Rattle.ados_check.specs.DataRules.{BreaksRule, HoldsTooLittle, TellsHeader, kind_of_data};
+ghost use Rattle.ados_check.specs.DataRules.{BreaksRule, HoldsTooLittle, TellsHeader, data_evidence, kind_of_data};
+ghost use Rattle.ados_check.specs.Evidence.{evidence_of};
 
+use crate::evidence::{Evidence, other_at};
 use crate::source::Source;
 use adf_block::layout::{HELD, NEXT_DATA, OFS_ROOM, SEQUENCE};
 use ados_model::FaultKind;
@@ -52,21 +55,61 @@ impl DataRule {
     }
 }
 
-/// Whether a data block breaks a rule at its place.
-pub fn breaks_rule(source: &Source<'_>, place: Place, rule: DataRule) -> bool
+/// The field of a data block that breaks a rule at its place.
+#[inline(always)]
+pub fn data_evidence(source: &Source<'_>, place: Place, rule: DataRule) -> Option<Evidence>
     requires inside { place.block < block_count source.now.bytes }
     requires few { place.position < 2 ^ 63 }
     requires told { TellsHeader source.now place.block }
-    ensures { IsTrue result ↔ BreaksRule source.now.bytes place rule }
+    ensures broken { IsTrue (is_some result) ↔ BreaksRule source.now.bytes place rule }
+    ensures evidence { IfSome result (λ e. e ≡ data_evidence source.now.bytes place rule) }
 {
     match rule {
-        DataRule::Sequence => {
-            u64::from(source.long(place.block, SEQUENCE)) != place.position + 1
+        DataRule::Sequence => number_evidence(source, place.block, place.position + 1),
+        DataRule::TooFew => held_evidence(source, place, holds_too_little(source, place)),
+        DataRule::TooMany => {
+            let is_wrong = source.long(place.block, HELD) > OFS_ROOM;
+            held_evidence(source, place, is_wrong)
         }
-        DataRule::TooFew => holds_too_little(source, place),
-        DataRule::TooMany => source.long(place.block, HELD) > OFS_ROOM,
-        DataRule::Link => source.long(place.block, NEXT_DATA) != place.next.unwrap_or(0),
+        DataRule::Link => other_at(source, place.block, NEXT_DATA, place.next.unwrap_or(0)),
     }
+}
+
+/// The sequence number, if it is not this one. No long holds a number from 2^32.
+#[inline(always)]
+fn number_evidence(source: &Source<'_>, block: u32, number: u64) -> Option<Evidence>
+    requires inside { block < block_count source.now.bytes }
+    requires told { TellsHeader source.now block }
+    ensures broken { IsTrue (is_some result) ↔ (sequence_number source.now.bytes block ≢ number) }
+    ensures evidence { IfSome result (λ e. e ≡ evidence_of source.now.bytes block SEQUENCE (if nat_lt number (2 ^ 32) then Some number else None)) }
+{
+    if u64::from(source.long(block, SEQUENCE)) == number {
+        return None;
+    }
+    let wanted = if number <= u64::from(u32::MAX) {
+        Some(number as u32)
+    } else {
+        None
+    };
+    Some(Evidence::of(source, block, SEQUENCE, wanted))
+}
+
+/// The number of bytes in a data block, if it is wrong. Before another block only the full number is right.
+#[inline(always)]
+fn held_evidence(source: &Source<'_>, place: Place, is_wrong: bool) -> Option<Evidence>
+    requires inside { place.block < block_count source.now.bytes }
+    requires told { TellsHeader source.now place.block }
+    ensures broken { is_some result ≡ is_wrong }
+    ensures evidence { IfSome result (λ e. e ≡ evidence_of source.now.bytes place.block HELD (if is_some place.next then Some OFS_ROOM else None)) }
+{
+    if !is_wrong {
+        return None;
+    }
+    let full = match place.next {
+        Some(_) => Some(OFS_ROOM),
+        None => None,
+    };
+    Some(Evidence::of(source, place.block, HELD, full))
 }
 
 /// Whether a data block is empty, or is not full and not the last one.

@@ -5,6 +5,7 @@ ghost use Rattle.adf_block.specs.Fields.{format_of};
 ghost use Rattle.ados_model.specs.Phrases.{kind_bytes};
 ghost use Rattle.ados_model.specs.Faults.{Shows};
 
+use adf_block::layout::FEWEST_BLOCKS;
 use adf_block::{BootKind, Image};
 use ados_model::{FaultKind, VolumeFault};
 
@@ -12,7 +13,7 @@ use ados_model::{FaultKind, VolumeFault};
 pub fn check_kind(image: &Image) -> Result<(), VolumeFault>
     ensures { MatchResult result (λ _. bytes_at image.now 0 0 4 ≡ kind_bytes (format_of image.now)) (λ fault. Shows image.now fault.kind fault.block) }
 {
-    prove!(image.blocks() >= 16);
+    prove!(image.blocks() >= FEWEST_BLOCKS);
     match image.boot_kind() {
         BootKind::Ofs | BootKind::Ffs => Ok(()),
         BootKind::OtherDos(_) => Err(VolumeFault {

@@ -13,8 +13,9 @@ mod source;
 // The marks.
 mod mark;
 
-// The rules of a block by itself, of a data block at its place, and of a file's size.
+// The rules of a block by itself, of a data block at its place, and of a file's size, and what shows that one is broken.
 mod data_rules;
+mod evidence;
 mod naming;
 mod rules;
 mod sizes;
@@ -41,15 +42,15 @@ mod sketched;
 pub use accept::Rejected;
 pub use bitmap::{has_valid_bitmap, is_free, mend};
 pub use check::{check_image, faultless_marks};
-pub use data_rules::{DATA_RULES, DataRule, Place, breaks_rule};
+pub use data_rules::{DATA_RULES, DataRule, Place, data_evidence};
+pub use evidence::Evidence;
 pub use mark::Mark;
-pub use naming::{has_short_name, upper_name};
+pub use naming::{UPPER_BYTES, has_short_name, upper_name};
 pub use places::{has_places, place_role};
 pub use reaching::reach;
 pub use room::whole_pages;
 pub use rules::{
-    FIELD_RULES, FieldRule, POINTER_RULES, first_pointer, has_bad_field, has_bad_sum, has_bad_type,
-    has_entry_type, has_link_type, has_no_type, has_other_count,
+    FIELD_RULES, FieldRule, POINTER_RULES, field_evidence, has_bad_sum, sum_evidence, type_evidence,
 };
 pub use sizes::{has_other_size, needs_other_count};
 pub use sketch::Sketch;

@@ -5,8 +5,9 @@ ghost use Rattle.ados_model.specs.Faults.{Reached, Shows};
 ghost use Rattle.ados_check.specs.Marks.{IsSound};
 ghost use Rattle.ados_check.specs.Rules.{HasBadField, TellsFields};
 
-use crate::rules::{FIELD_RULES, FieldRule, has_bad_field, has_bad_sum, has_bad_type};
+use crate::rules::{FIELD_RULES, FieldRule, field_evidence, has_bad_sum, type_evidence};
 use crate::source::Source;
+use adf_block::layout::FEWEST_BLOCKS;
 use ados_model::{FaultKind, Role, VolumeFault};
 
 /// Checks a reached block in its role. A fault is shown by the block itself.
@@ -15,15 +16,17 @@ pub(crate) fn look(source: &Source<'_>, block: u32, role: Role) -> Result<(), Fa
     requires reached { Reached source.now.bytes block role }
     ensures { MatchResult result (λ _. IsSound source.now.bytes block role) (λ kind. Shows source.now.bytes kind block) }
 {
-    prove!(source.blocks() >= 16);
+    prove!(source.blocks() >= FEWEST_BLOCKS);
     if has_bad_sum(source, block, role) {
         return Err(FaultKind::BadSum);
     }
-    if has_bad_type(source, block, role) {
+    let has_bad_type = type_evidence(source, block, role).is_some();
+    if has_bad_type {
         return Err(FaultKind::BadType);
     }
     for rule in FIELD_RULES.iter() {
-        if has_bad_field(source, block, role, *rule) {
+        let is_broken = field_evidence(source, block, role, *rule).is_some();
+        if is_broken {
             return Err(rule.kind());
         }
     }
@@ -42,7 +45,8 @@ pub(crate) fn check_field(
     requires told { TellsFields source.now block role }
     ensures { MatchResult result (λ _. ¬ HasBadField source.now.bytes block role rule) (λ fault. Shows source.now.bytes fault.kind fault.block) }
 {
-    if has_bad_field(source, block, role, rule) {
+    let is_broken = field_evidence(source, block, role, rule).is_some();
+    if is_broken {
         return Err(VolumeFault {
             kind: rule.kind(),
             block,

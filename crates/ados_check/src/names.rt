@@ -5,7 +5,7 @@ ghost use Rattle.ados_check.specs.Marks.{AreReached, AreUnlike};
 
 use crate::entries::directory_of;
 use crate::mark::Mark;
-use crate::naming::upper_name;
+use crate::naming::{UPPER_BYTES, upper_name};
 use crate::reaching::NO_MEMORY;
 use crate::source::Source;
 use ados_model::{FaultKind, VolumeFault};
@@ -17,7 +17,7 @@ use std::collections::BTreeSet;
 struct EntryName {
     dir: u32,
     /// The length, the bytes in upper case, then zeros.
-    name: [u8; 31],
+    name: [u8; UPPER_BYTES],
 }
 
 /// Checks that no two marked entries of a directory have the same name. Each name goes into a sorted set. A duplicate

@@ -11,7 +11,7 @@ use crate::looks::look;
 use crate::mark::Mark;
 use crate::places::{TABLE_END, fields_from, has_places, place_role, table_from};
 use crate::source::Source;
-use adf_block::layout::SECONDARY_TYPE;
+use adf_block::layout::{FEWEST_BLOCKS, SECONDARY_TYPE};
 use ados_model::{FaultKind, Role, VolumeFault};
 use std::alloc::Global;
 
@@ -35,7 +35,7 @@ pub(crate) const NO_MEMORY: VolumeFault = VolumeFault {
 pub fn reach(alloc: Global, source: &Source<'_>) -> Result<Vec<Option<Mark>>, VolumeFault>
     ensures { MatchResult result (λ marks. AreReached source.now.bytes marks.items) (λ fault. IsRefusal source.now.bytes fault) }
 {
-    prove!(source.blocks() >= 16);
+    prove!(source.blocks() >= FEWEST_BLOCKS);
     let mut progress = Progress::start(alloc, source)?;
     while let Some((block, role)) = progress.next(source) {
         let from = table_from(source, block, role);
@@ -80,7 +80,7 @@ impl Progress {
         ensures less { IfSome result (λ _. work self.new.marks.items self.new.pending.items < work self.old.marks.items self.old.pending.items) }
         ensures capacity { vec_capacity self.new.pending ≡ vec_capacity self.old.pending }
     {
-        prove!(source.blocks() >= 16);
+        prove!(source.blocks() >= FEWEST_BLOCKS);
         let block = self.pending.pop()?;
         match self.marks[block as usize] {
             Some(mark) => Some((block, mark.role)),

@@ -1,22 +1,29 @@
-//! The rules that a block keeps in its role, as far as they need no other block: one table, for the check, which stops
-//! at the first fault, and for the list of all faults.
-ghost use Rattle.std.specs.Prelude.{◌≡◌, ◌<◌, ◌↔◌, IsTrue, slice_index};
-ghost use Rattle.adf_block.specs.Image.{block_count};
+//! The rules that a block keeps in its role, as far as they need no other block, each with the long that shows that it
+//! is broken: one table, for the check, which stops at the first fault, and for the list of all faults.
+ghost use Rattle.std.specs.Prelude.{◌≡◌, ◌≢◌, ◌<◌, ◌⊎◌, ◌↔◌, IfSome, IsTrue, is_some, slice_index};
+ghost use Rattle.adf_block.specs.Fields.{own_key};
+ghost use Rattle.adf_block.specs.Image.{block_count, block_sum, byte_at};
+ghost use Rattle.ados_check.specs.Evidence.{IsFieldEvidence, IsTypeEvidence, evidence_of, full_count, sum_evidence};
 ghost use Rattle.ados_check.specs.Marks.{HasEntryType};
 ghost use Rattle.ados_check.specs.PlacesTold.{TellsAll};
-ghost use Rattle.ados_check.specs.Rules.{HasBadField, HasBadSumAs, HasBadTypeAs, HasNoType, HasOtherCount, HasOtherFirst, TellsFields, TellsTypes, kind_of};
-ghost use Rattle.ados_model.specs.Faults.{HasFileType, HasLinkType, Reached, pointers_of};
+ghost use Rattle.ados_check.specs.Rules.{HasBadExtensionField, HasBadField, HasBadSumAs, HasBadTypeAs, HasNoType, HasOtherCount, HasOtherFirst, TellsFields, TellsTypes, kind_of};
+ghost use Rattle.ados_model.specs.Faults.{HasFileType, HasLinkType, IsOfs, pointers_of};
+ghost use Rattle.ados_model.specs.declared.role.Role.TheVariants.{Extension};
 
-use crate::naming::{has_short_name, is_of_other_slot};
+use crate::evidence::{Evidence, broken_at, other_at};
+use crate::naming::{is_of_other_slot, name_evidence};
 use crate::source::Source;
-use adf_block::beside::{DIRECTORY_LINK_TYPE, FILE_LINK_TYPE, SOFT_LINK_TYPE};
+use adf_block::Image;
+use adf_block::beside::{
+    CHECKSUM, DIRECTORY_LINK_TYPE, FILE_LINK_TYPE, PAGE_CHECKSUM, SOFT_LINK_TYPE,
+};
 use adf_block::layout::{
     COMMENT_BYTE, DATA_TYPE, DIRECTORY_TYPE, FILE_TYPE, FIRST_POINTER, HEADER_TYPE, LIST_TYPE,
-    NEXT_DATA, NEXT_EXTENSION, OWN_KEY, PARENT, POINTER_COUNT, PRIMARY_TYPE, ROOT_TYPE,
+    NAME_BYTE, NEXT_DATA, NEXT_EXTENSION, OWN_KEY, PARENT, POINTER_COUNT, PRIMARY_TYPE, ROOT_TYPE,
     SECONDARY_TYPE, TABLE_LONGS, TABLE_SIZE,
 };
 use ados_model::{FaultKind, Role};
-use ados_name::Name;
+use ados_name::Comment;
 
 /// A rule for fields of a block.
 #[derive(Clone, Copy)]
@@ -81,74 +88,175 @@ pub fn has_bad_sum(source: &Source<'_>, block: u32, role: Role) -> bool
     }
 }
 
-/// Whether a type of a block is not that of this role, or a root declares another table.
-pub fn has_bad_type(source: &Source<'_>, block: u32, role: Role) -> bool
+/// The checksum of a block, if the block has one in this role, and it is wrong.
+pub fn sum_evidence(image: &Image, block: u32, role: Role) -> Option<Evidence>
+    requires inside { block < block_count image.now }
+    ensures broken { IsTrue (is_some result) ↔ HasBadSumAs image.now block role }
+    ensures evidence { IfSome result (λ e. e ≡ sum_evidence image.now block role) }
+{
+    if !has_bad_sum(&Source::whole(image), block, role) {
+        return None;
+    }
+    let i = match role {
+        Role::Page => PAGE_CHECKSUM,
+        Role::Root | Role::Entry(_, _) | Role::Data(_) | Role::Extension(_) => CHECKSUM,
+    };
+    let found = image.long(block, i);
+    Some(Evidence {
+        long: i,
+        found,
+        wanted: Some(found.wrapping_sub(image.sum(block))),
+    })
+}
+
+/// The first type of a block that is not that of this role, or a root's other size of its table.
+pub fn type_evidence(source: &Source<'_>, block: u32, role: Role) -> Option<Evidence>
     requires inside { block < block_count source.now.bytes }
     requires told { TellsTypes source.now block role }
-    ensures { IsTrue result ↔ HasBadTypeAs source.now.bytes block role }
+    ensures broken { IsTrue (is_some result) ↔ HasBadTypeAs source.now.bytes block role }
+    ensures evidence { IfSome result (IsTypeEvidence source.now.bytes block role) }
 {
+    let primary = match role {
+        Role::Page => return None,
+        Role::Data(_) if source.kind_byte() != 0 => return None,
+        Role::Root | Role::Entry(_, _) => HEADER_TYPE,
+        Role::Data(_) => DATA_TYPE,
+        Role::Extension(_) => LIST_TYPE,
+    };
+    if source.long(block, PRIMARY_TYPE) != primary {
+        return Some(Evidence::of(source, block, PRIMARY_TYPE, Some(primary)));
+    }
     match role {
         Role::Root => {
-            source.long(block, PRIMARY_TYPE) != HEADER_TYPE
-                || source.long(block, TABLE_SIZE) != TABLE_LONGS
-                || source.long(block, SECONDARY_TYPE) != ROOT_TYPE
+            if source.long(block, TABLE_SIZE) != TABLE_LONGS {
+                return Some(Evidence::of(source, block, TABLE_SIZE, Some(TABLE_LONGS)));
+            }
+            other_at(source, block, SECONDARY_TYPE, ROOT_TYPE)
         }
-        Role::Page => false,
         Role::Entry(_, _) => {
-            source.long(block, PRIMARY_TYPE) != HEADER_TYPE || has_no_type(source, block)
+            broken_at(source, block, SECONDARY_TYPE, has_no_type(source, block))
         }
-        Role::Data(_) => {
-            source.kind_byte() == 0 && source.long(block, PRIMARY_TYPE) != DATA_TYPE
-        }
-        Role::Extension(_) => {
-            source.long(block, PRIMARY_TYPE) != LIST_TYPE
-                || source.long(block, SECONDARY_TYPE) != FILE_TYPE
-        }
+        Role::Extension(_) => other_at(source, block, SECONDARY_TYPE, FILE_TYPE),
+        Role::Page | Role::Data(_) => None,
     }
 }
 
-/// Whether a field of a block breaks a rule in this role. It is asked of each block with each rule, so it is inlined.
+/// The field of a block that breaks a rule in this role. Each block is asked for each rule, so it is inlined.
 #[inline(always)]
-pub fn has_bad_field(source: &Source<'_>, block: u32, role: Role, rule: FieldRule) -> bool
+pub fn field_evidence(
+    source: &Source<'_>,
+    block: u32,
+    role: Role,
+    rule: FieldRule,
+) -> Option<Evidence>
     requires inside { block < block_count source.now.bytes }
-    requires reached { Reached source.now.bytes block role }
     requires told { TellsFields source.now block role }
-    ensures { IsTrue result ↔ HasBadField source.now.bytes block role rule }
+    ensures broken { IsTrue (is_some result) ↔ HasBadField source.now.bytes block role rule }
+    ensures evidence { IfSome result (IsFieldEvidence source.now.bytes block role rule) }
 {
     match role {
-        Role::Root | Role::Entry(_, _) if matches!(rule, FieldRule::Name) => {
-            !has_short_name(source, block) || Name::new(source.short_text(block)).is_err()
-        }
         Role::Root => match rule {
-            FieldRule::Parent => source.long(block, PARENT) != 0,
-            _ => false,
+            FieldRule::Parent => other_at(source, block, PARENT, 0),
+            FieldRule::Name => name_evidence(source, block),
+            _ => None,
         },
-        Role::Page => false,
+        Role::Page => None,
         Role::Entry(dir, slot) => match rule {
-            FieldRule::NoLink => has_link_type(source, block),
-            FieldRule::OwnKey => source.long(block, OWN_KEY) != block,
-            FieldRule::Parent => source.long(block, PARENT) != dir,
-            FieldRule::Chain => is_of_other_slot(source, block, slot),
-            FieldRule::Comment => {
-                has_entry_type(source, block) && source.byte(block, COMMENT_BYTE) > 79
+            FieldRule::NoLink => {
+                let is_link = has_link_type(source, block);
+                broken_at(source, block, SECONDARY_TYPE, is_link)
             }
-            FieldRule::PointerCount => is_file(source, block) && has_other_count(source, block),
-            FieldRule::FirstData => is_file(source, block) && has_other_first(source, block),
-            FieldRule::Name => false,
+            FieldRule::OwnKey => other_at(source, block, OWN_KEY, block),
+            FieldRule::Parent => other_at(source, block, PARENT, dir),
+            FieldRule::Name => name_evidence(source, block),
+            FieldRule::Chain => {
+                let is_other = is_of_other_slot(source, block, slot);
+                broken_at(source, block, NAME_BYTE / 4, is_other)
+            }
+            FieldRule::Comment => {
+                let length = usize::from(source.byte(block, COMMENT_BYTE));
+                if has_entry_type(source, block) && length > Comment::MAX_LEN {
+                    Some(Evidence::of(source, block, COMMENT_BYTE / 4, None))
+                } else {
+                    None
+                }
+            }
+            FieldRule::PointerCount => {
+                if is_file(source, block) && has_other_count(source, block) {
+                    count_of(source, block)
+                } else {
+                    None
+                }
+            }
+            FieldRule::FirstData => first_data(source, block),
         },
         Role::Data(file) => match rule {
-            FieldRule::Parent => source.kind_byte() == 0 && source.long(block, OWN_KEY) != file,
-            _ => false,
-        },
-        Role::Extension(file) => match rule {
-            FieldRule::OwnKey => source.long(block, OWN_KEY) != block,
-            FieldRule::Parent => source.long(block, PARENT) != file,
-            FieldRule::PointerCount => {
-                source.long(block, POINTER_COUNT) == 0 || has_other_count(source, block)
+            FieldRule::Parent => {
+                if source.kind_byte() == 0 {
+                    other_at(source, block, OWN_KEY, file)
+                } else {
+                    None
+                }
             }
-            _ => false,
+            _ => None,
         },
+        Role::Extension(file) => extension_evidence(source, block, file, rule),
     }
+}
+
+/// The field of an extension block of a file that breaks a rule.
+#[inline(always)]
+fn extension_evidence(
+    source: &Source<'_>,
+    block: u32,
+    file: u32,
+    rule: FieldRule,
+) -> Option<Evidence>
+    requires inside { block < block_count source.now.bytes }
+    requires told { TellsAll source.now block }
+    ensures broken { IsTrue (is_some result) ↔ HasBadExtensionField source.now.bytes block file rule }
+    ensures evidence { IfSome result (IsFieldEvidence source.now.bytes block (Extension file) rule) }
+{
+    match rule {
+        FieldRule::OwnKey => other_at(source, block, OWN_KEY, block),
+        FieldRule::Parent => other_at(source, block, PARENT, file),
+        FieldRule::PointerCount => {
+            if source.long(block, POINTER_COUNT) == 0 || has_other_count(source, block) {
+                count_of(source, block)
+            } else {
+                None
+            }
+        }
+        _ => None,
+    }
+}
+
+/// The link of a file's header to its first data block, if it is not its first pointer. Only in OFS has it one.
+#[inline(always)]
+fn first_data(source: &Source<'_>, block: u32) -> Option<Evidence>
+    requires inside { block < block_count source.now.bytes }
+    requires told { TellsAll source.now block }
+    ensures broken { IsTrue (is_some result) ↔ (HasFileType source.now.bytes block × HasOtherFirst source.now.bytes block) }
+    ensures evidence { IfSome result (λ e. e ≡ evidence_of source.now.bytes block NEXT_DATA (Some (slice_index (pointers_of source.now.bytes block) 0))) }
+{
+    if is_file(source, block) && source.kind_byte() == 0 {
+        other_at(source, block, NEXT_DATA, first_pointer(source, block))
+    } else {
+        None
+    }
+}
+
+/// The wrong number of pointers of a block. Before an extension block only 72 is right.
+fn count_of(source: &Source<'_>, block: u32) -> Option<Evidence>
+    requires inside { block < block_count source.now.bytes }
+    requires told { TellsAll source.now block }
+    ensures { result ≡ Some (evidence_of source.now.bytes block POINTER_COUNT (full_count source.now.bytes block)) }
+{
+    let full = match source.long(block, NEXT_EXTENSION) {
+        0 => None,
+        _ => Some(TABLE_LONGS),
+    };
+    Some(Evidence::of(source, block, POINTER_COUNT, full))
 }
 
 /// Whether the header is that of a file.
@@ -161,7 +269,7 @@ fn is_file(source: &Source<'_>, block: u32) -> bool
 }
 
 /// Whether the header is that of no directory, no file and no link.
-pub fn has_no_type(source: &Source<'_>, block: u32) -> bool
+fn has_no_type(source: &Source<'_>, block: u32) -> bool
     requires inside { block < block_count source.now.bytes }
     requires told { TellsAll source.now block }
     ensures { IsTrue result ↔ HasNoType source.now.bytes block }
@@ -170,7 +278,7 @@ pub fn has_no_type(source: &Source<'_>, block: u32) -> bool
 }
 
 /// Whether the header is that of a directory or a file.
-pub fn has_entry_type(source: &Source<'_>, block: u32) -> bool
+fn has_entry_type(source: &Source<'_>, block: u32) -> bool
     requires inside { block < block_count source.now.bytes }
     requires told { TellsAll source.now block }
     ensures { IsTrue result ↔ HasEntryType source.now.bytes block }
@@ -180,7 +288,7 @@ pub fn has_entry_type(source: &Source<'_>, block: u32) -> bool
 }
 
 /// Whether the header is that of a link.
-pub fn has_link_type(source: &Source<'_>, block: u32) -> bool
+fn has_link_type(source: &Source<'_>, block: u32) -> bool
     requires inside { block < block_count source.now.bytes }
     requires told { TellsAll source.now block }
     ensures { IsTrue result ↔ HasLinkType source.now.bytes block }
@@ -190,7 +298,7 @@ pub fn has_link_type(source: &Source<'_>, block: u32) -> bool
 }
 
 /// Whether there are more than 72 pointers, or fewer although another block follows.
-pub fn has_other_count(source: &Source<'_>, block: u32) -> bool
+fn has_other_count(source: &Source<'_>, block: u32) -> bool
     requires inside { block < block_count source.now.bytes }
     requires told { TellsAll source.now block }
     ensures { IsTrue result ↔ HasOtherCount source.now.bytes block }
@@ -199,17 +307,8 @@ pub fn has_other_count(source: &Source<'_>, block: u32) -> bool
     count > TABLE_LONGS || count < TABLE_LONGS && source.long(block, NEXT_EXTENSION) != 0
 }
 
-/// Whether, in OFS, a header's link to the first data block is not its first pointer.
-fn has_other_first(source: &Source<'_>, block: u32) -> bool
-    requires inside { block < block_count source.now.bytes }
-    requires told { TellsAll source.now block }
-    ensures { IsTrue result ↔ HasOtherFirst source.now.bytes block }
-{
-    source.kind_byte() == 0 && source.long(block, NEXT_DATA) != first_pointer(source, block)
-}
-
 /// The first data pointer of a header, or 0 if it has none.
-pub fn first_pointer(source: &Source<'_>, block: u32) -> u32
+pub(crate) fn first_pointer(source: &Source<'_>, block: u32) -> u32
     requires inside { block < block_count source.now.bytes }
     requires told { TellsAll source.now block }
     ensures { result ≡ slice_index (pointers_of source.now.bytes block) 0 }

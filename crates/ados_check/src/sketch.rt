@@ -1,6 +1,6 @@
 //! A sketch of an image: only the bytes that its check needs.
 
-ghost use Rattle.std.specs.Prelude.{◌≡◌, ◌≢◌, ◌<◌, ◌≤◌, ◌+◌, ◌*◌, ◌/◌, ◌%◌, ◌++◌, [], ℕ, List, length, drop, IfOk, MatchBool};
+ghost use Rattle.std.specs.Prelude.{◌≡◌, ◌≢◌, ◌<◌, ◌≤◌, ◌+◌, ◌-◌, ◌*◌, ◌/◌, ◌%◌, ◌++◌, [], ℕ, List, length, drop, IfOk, MatchBool};
 ghost use Rattle.byteorder.specs.Endian.{big_number};
 ghost use Rattle.adf_block.specs.Whole.{IsImage, IsSize};
 ghost use Rattle.adf_block.specs.Image.{block_count, block_sum, bytes_at, byte_at, long};
@@ -159,7 +159,7 @@ impl Sketch {
     /// The 512 bytes of block `b`.
     pub(crate) fn block(&self, b: u32) -> &[u8]
         requires inside { b < block_count self.now }
-        requires kept { IsKept self.now b 127 }
+        requires kept { IsKept self.now b (BLOCK_LONGS - 1) }
         ensures bytes { result.now ≡ bytes_at self.now b 0 BLOCK_BYTES }
         ensures length { length result.now ≡ BLOCK_BYTES }
     {

@@ -4,6 +4,7 @@ ghost use Rattle.std.specs.Prelude.{◌≡◌, ◌≢◌, ◌<◌, ◌*◌, ◌/
 ghost use Rattle.adf_block.specs.declared.layout.TheConstants.{BLOCK_BYTES, BLOCK_LONGS};
 ghost use Rattle.adf_block.specs.Whole.{IsImage, IsSize, text_at};
 ghost use Rattle.adf_block.specs.Image.{block_count, block_sum, byte_at, long, root_key};
+ghost use Rattle.ados_name.specs.declared.name.TheConstants.Name as names;
 ghost use Rattle.ados_model.specs.Faults.{HasShortName, InImage};
 ghost use Rattle.ados_check.specs.PlacesTold.{TellsAll};
 ghost use Rattle.ados_check.specs.Source.{Tells};
@@ -11,7 +12,7 @@ ghost use Rattle.ados_check.specs.Source.{Tells};
 use crate::sketch::Sketch;
 use adf_block::Image;
 use adf_block::beside::KIND_BYTE;
-use adf_block::layout::{BOOT_BLOCKS, NAME_BYTE};
+use adf_block::layout::{BOOT_BLOCKS, FEWEST_BLOCKS, NAME_BYTE};
 use std::marker::Model;
 
 /// What the blocks are read from.
@@ -44,7 +45,7 @@ impl<'a> Source<'a> {
     pub fn whole(image: &'a Image) -> Source<'a>
         ensures { result ≡ record { bytes = image.now; whole = true } }
     {
-        prove!(image.blocks() >= 16);
+        prove!(image.blocks() >= FEWEST_BLOCKS);
         Source {
             kept: Kept::Whole(image),
         }
@@ -55,7 +56,7 @@ impl<'a> Source<'a> {
         requires { IsSize (block_count sketch.now) }
         ensures { result ≡ record { bytes = sketch.now; whole = false } }
     {
-        prove!(sketch.blocks() >= 16);
+        prove!(sketch.blocks() >= FEWEST_BLOCKS);
         Source {
             kept: Kept::Sketch(sketch),
         }
@@ -92,7 +93,7 @@ impl<'a> Source<'a> {
     pub fn kind_byte(&self) -> u8
         ensures { result ≡ byte_at self.now.bytes 0 KIND_BYTE }
     {
-        prove!(self.blocks() >= 16);
+        prove!(self.blocks() >= FEWEST_BLOCKS);
         match &self.kept {
             Kept::Whole(image) => image.byte(0, KIND_BYTE),
             Kept::Sketch(sketch) => sketch.boot()[3],
@@ -143,7 +144,7 @@ impl<'a> Source<'a> {
         requires short { HasShortName self.now.bytes b }
         ensures text { result.now ≡ text_at self.now.bytes b NAME_BYTE }
         ensures short { HasShortName self.now.bytes b }
-        ensures few { length result.now ≤ 30 }
+        ensures few { length result.now ≤ names.MAX_LEN }
     {
         let length = usize::from(self.byte(b, NAME_BYTE));
         let start = NAME_BYTE as usize + 1;

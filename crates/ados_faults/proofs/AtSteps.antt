@@ -1,13 +1,13 @@
 -- Each fault that an image shows is noted at a step of the walk, or shows only further.
-use Rattle.ados_faults.proofs.Common.{◌≡◌, ◌≢◌, ℕ, ◌+◌, ◌<◌, ◌⊎◌, List, Bool, length, get_or, None, Some, inl, inr, refl, sym, ◌∙◌, subst, slice_get, none-some, slice_get-get_or, slice_get_within, unwrap_or-slice_get, text_at, block_sum, own_key, parent_key, NAME_BYTE, FaultKind, NotADosDisk, UnsupportedKind, BadSum, BadType, BadOwnKey, BadParent, BadPointer, BlockUsedTwice, WrongChain, BadName, DuplicateName, BadComment, BadCount, BadSequence, LinkEntry, MarkedFree, NoMemory, Role, Root, Page, Entry, Data, Extension, HasName, HasSum, Reached, Shows, root_of, BreaksRule, kind_of_data, Sequence, TooFew, TooMany, Link, HasBadField, HasBadTypeAs, HasOtherCount, kind_of, NoLink, OwnKey, Parent, Name, Chain, Comment, PointerCount, FirstData, IsOtherKind, Step, AreLookedAt, IsLookedAt, AreStillNoted, IsNoted, cell_of, Part, Directory, Slot, DataFile, ExtensionFile, AreCovered, IsListed, number_of, step_of, AreOutsideNoted, AreTwiceNoted, IsMarkedFree, only_root, slot, DataRule, FieldRule}
+use Rattle.ados_faults.proofs.Common.{◌≡◌, ◌≢◌, ℕ, ◌+◌, ◌<◌, ◌⊎◌, List, Bool, length, get_or, None, Some, inl, inr, refl, sym, ◌∙◌, subst, slice_get, none-some, slice_get-get_or, slice_get_within, unwrap_or-slice_get, text_at, block_sum, own_key, parent_key, NAME_BYTE, FaultKind, NotADosDisk, UnsupportedKind, BadSum, BadType, BadOwnKey, BadParent, BadPointer, BlockUsedTwice, WrongChain, BadName, DuplicateName, BadComment, BadCount, BadSequence, LinkEntry, MarkedFree, NoMemory, Role, Root, Page, Entry, Data, Extension, HasName, HasSum, HasWrongName, Reached, Shows, root_of, BreaksRule, kind_of_data, Sequence, TooFew, TooMany, Link, HasBadField, HasBadTypeAs, HasOtherCount, kind_of, NoLink, OwnKey, Parent, Name, Chain, Comment, PointerCount, FirstData, IsOtherKind, Step, AreLookedAt, IsLookedAt, AreStillNoted, IsNoted, cell_of, Part, Directory, Slot, DataFile, ExtensionFile, AreCovered, IsListed, number_of, step_of, AreOutsideNoted, AreTwiceNoted, IsMarkedFree, only_root, slot, DataRule, FieldRule}
 use Rattle.ados_model.specs.Faults
 use Rattle.ados_faults.proofs.Covering.{data_listed, data_role, directory_role, entry_listed, extension_listed, extension_role, other_number, page_listed, slot_role}
 
-has_name : (image : List ℕ) (block : ℕ) → Faults.HasBadName image block → HasName image block
-has_name image block (Faults.HasBadName.empty h e) = h
-has_name image block (Faults.HasBadName.long_name h e) = h
-has_name image block (Faults.HasBadName.slash h e) = h
-has_name image block (Faults.HasBadName.colon h e) = h
+wrong_name : (image : List ℕ) (block : ℕ) → Faults.HasBadName image block → HasName image block × HasWrongName image block
+wrong_name image block (Faults.HasBadName.empty h e) = (h, inl (inl e))
+wrong_name image block (Faults.HasBadName.long_name h e) = (h, inl (inr e))
+wrong_name image block (Faults.HasBadName.slash h e) = (h, inr (inl e))
+wrong_name image block (Faults.HasBadName.colon h e) = (h, inr (inr e))
 
 followed : (blocks : List ℕ) (i : ℕ) → i < length blocks → slice_get blocks i ≢ None
 followed blocks i l e = none-some (get_or blocks i 0) (sym e ∙ slice_get-get_or blocks i 0 l)
@@ -107,7 +107,7 @@ module _ (image : List ℕ) (last : List Bool) (w : AreStepsNoted image last) wh
       let r = slot_role o.1 o.0 o.2 in
       field_noted block (Entry r.0 o.0) Chain (subst (λ (x : Role). IsLookedAt image w.looked (step_of block x)) r.1 o.4) (record { short = h.short; wrong = o.3 })
 
-  bad_name_noted : (block : ℕ) → HasName image block → Faults.HasBadName image block → IsNoted last (cell_of BadName block)
+  bad_name_noted : (block : ℕ) → HasName image block → HasWrongName image block → IsNoted last (cell_of BadName block)
   bad_name_noted block (HasName.root_name e) bad = field_noted block Root Name (root_look block e) bad
   bad_name_noted block (HasName.entry_name h) bad = let look = entry_look block h.0 h.1 h.2 in field_noted block (Entry look.0 look.1) Name look.2 bad
 
@@ -148,7 +148,7 @@ module _ (image : List ℕ) (last : List Bool) (w : AreStepsNoted image last) wh
   noted_or_further BadPointer block h = pointer_noted block h
   noted_or_further BlockUsedTwice block h = inl (w.after_walk.stay (cell_of BlockUsedTwice block) (w.twice.noted block h))
   noted_or_further WrongChain block h = inl (chain_noted block h)
-  noted_or_further BadName block h = inl (bad_name_noted block (has_name image block h) h)
+  noted_or_further BadName block h = let name = wrong_name image block h in inl (bad_name_noted block name.0 name.1)
   noted_or_further DuplicateName block h = inr (ShowsFurther.name h)
   noted_or_further BadComment block h = inl (comment_noted block h)
   noted_or_further BadCount block h = count_noted block h

@@ -7,20 +7,23 @@ pub use Rattle.adf_block.specs.declared.layout.TheConstants.{DIRECTORY_TYPE, FIL
 pub use Rattle.ados_check.proofs.MarkLemmas.{IsMarkedMore, mark_read, marked_more, none_marked}
 pub use Rattle.ados_check.proofs.Roles.{only_root, place_not_root}
 pub use Rattle.ados_check.proofs.Ruling.{field_shows, type_shows}
-pub use Rattle.ados_check.specs.DataRules.{BreaksRule, kind_of_data}
+pub use Rattle.ados_check.specs.DataRules.{BreaksRule, data_evidence, kind_of_data}
 unfoldable pub use Rattle.ados_check.specs.Entries.{upper_name}
+pub use Rattle.ados_check.specs.Evidence.{IsFieldEvidence, IsTypeEvidence, evidence_of, sum_evidence}
 pub use Rattle.ados_check.specs.Marks.{mark_at}
-pub use Rattle.ados_check.specs.Rules.{HasBadField, HasBadSumAs, HasBadTypeAs, HasOtherCount, kind_of}
+pub use Rattle.ados_check.specs.Rules.{HasBadField, HasBadSumAs, HasBadTypeAs, HasOtherCount, HasWrongName, kind_of}
 pub use Rattle.ados_check.specs.Source.{SourceView}
 pub use Rattle.ados_check.specs.declared.data_rules.DataRule.{DataRule}
 pub use Rattle.ados_check.specs.declared.data_rules.DataRule.TheVariants.{Link, Sequence, TooFew, TooMany}
 pub use Rattle.ados_check.specs.declared.data_rules.TheConstants.{DATA_RULES}
+pub use Rattle.ados_check.specs.declared.data_rules.Place.{Place}
+pub use Rattle.ados_check.specs.declared.evidence.Evidence.{Evidence}
 pub use Rattle.ados_check.specs.declared.mark.Mark.{Mark}
 pub use Rattle.ados_check.specs.declared.rules.FieldRule.{FieldRule}
 pub use Rattle.ados_check.specs.declared.rules.FieldRule.TheVariants.{Chain, Comment, FirstData, Name, NoLink, OwnKey, Parent, PointerCount}
 pub use Rattle.ados_check.specs.declared.rules.TheConstants.{FIELD_RULES, POINTER_RULES}
 pub use Rattle.ados_faults.specs.Listed.{AreClosed, AreFirstFaults, IsMarked, IsNamedAs, IsOtherKind, IsTangled, ListsFaults, Marks, ShowsMoreThan, ShowsOtherKind, StandsBefore, TellsMore, fault_of, rank, root_mark}
-pub use Rattle.ados_faults.specs.Values.{IsSeparatorAt, ShowsAt, extensions_to, is_extension}
+pub use Rattle.ados_faults.specs.Values.{AreValues, BreaksData, BreaksField, FirstOf, HasFields, IsAPlace, IsCountEvidence, IsEvidenceOf, IsFirstOut, IsPointerEvidence, IsSequenceEvidence, IsSizeEvidence, IsTheEvidence, LeadsOut, NoneShows, ShowsDisk, data_place, extensions_to, is_extension, position_of}
 pub use Rattle.ados_faults.specs.declared.names.Named.{Named}
 pub use Rattle.ados_faults.specs.declared.pieces.Piece.{Piece}
 pub use Rattle.ados_faults.specs.declared.roles.Part.{Part}
@@ -60,4 +63,4 @@ pub use Rattle.std.proofs.lemmas.Option.{get_or_from_slice_get, none-some, same_
 pub use Rattle.std.specs.BTreeMap.{BTreeMap, get, is_at}
 pub use Rattle.std.specs.BTreeSet.{BTreeSet, contains}
 pub use Rattle.std.specs.List.{All, AllPairs, Contains, flat_map, slice_get, sum_by}
-pub use Rattle.std.specs.Option.{is_some, option_and_then, option_map}
+pub use Rattle.std.specs.Option.{is_some, option_and_then, option_map, option_or}

@@ -1,5 +1,5 @@
 -- Lists of blocks with a cell for each block: those of a type, and the entries of a directory.
-use Rattle.ados_faults.proofs.Common.{◌≡◌, ◌≢◌, ℕ, ◌+◌, ◌<◌, ◌≤◌, inl, inr, Bool, true, false, List, [], ◌∷◌, ◌++◌, length, get_or, slice_index, replicate, Some, set, refl, sym, ap, ◌∙◌, subst, arith, length-set, get_or-set_same, get_or-set_other, All, Contains, cases_eq, cases_lt, false≢true, slice_get_within, get_or_append_left, get_or_default, length-replicate, All-pop, All-push, Contains-append_left, Contains-push, Contains-push_cases, block_count, long, FIRST_SLOT, NEXT_IN_CHAIN, TABLE_LONGS, Role, Root, Entry, InImage, IsPlace, LeadsInside, Reached, root_of, root_page, root_slot, directory_slot, next_entry, header_pointer, first_extension, extension_pointer, further_extension, start, named, AreEntriesOf, AreMet, AreNextMet, AreSlotsMet, AreTypesMet, HasTypeAs, HoldsEntries, IsEntryIn, IsGrown, IsOfType, Step, AreCovered, IsListed, step_of, only_root}
+use Rattle.ados_faults.proofs.Common.{◌≡◌, ℕ, ◌+◌, ◌<◌, ◌≤◌, inl, inr, Bool, true, false, List, [], ◌∷◌, ◌++◌, length, get_or, slice_index, replicate, Some, set, refl, sym, ap, ◌∙◌, subst, arith, length-set, get_or-set_same, get_or-set_other, All, Contains, cases_eq, cases_lt, false≢true, slice_get_within, get_or_append_left, get_or_default, length-replicate, All-pop, All-push, Contains-append_left, Contains-push, Contains-push_cases, block_count, long, FIRST_SLOT, NEXT_IN_CHAIN, TABLE_LONGS, Role, Root, Entry, InImage, IsPlace, LeadsInside, Reached, root_of, root_page, root_slot, directory_slot, next_entry, start, named, AreEntriesOf, AreMet, AreNextMet, AreSlotsMet, AreTypesMet, HasTypeAs, HoldsEntries, IsEntryIn, IsGrown, IsOfType, Step, AreCovered, IsListed, step_of, only_root}
 use Rattle.ados_faults.proofs.Covering.{entry_listed}
 use Rattle.ados_faults.proofs.Firsts.{each_same}
 

@@ -11,6 +11,7 @@ pub mod Pairing
 pub mod Linking
 pub mod Sameness
 pub mod Above
+pub mod Evident
 pub mod OtherKinds
 pub mod Looking
 pub mod AtSteps

@@ -1,5 +1,5 @@
 -- Entries of one directory whose names are equal in upper case have the same name, and are noted.
-use Rattle.ados_faults.proofs.Common.{◌≡◌, ◌≢◌, ℕ, ◌-◌, ◌<◌, ◌≤◌, inl, inr, Bool, true, cond, List, [], ◌∷◌, ◌++◌, length, take, drop, map, replicate, get_or, slice_index, set, Option, Some, None, refl, sym, ap, ap₂, ◌∙◌, subst, arith, ◌+◌, length-set, get_or-set_same, get_or-set_other, slice_get, option_and_then, BTreeMap, get, is_at, cases_Bool, cases_eq, cases_lt, get_or_from_slice_get, none-some, same_Some, slice_get-get_or, slice_get_past, slice_get_within, get_or_append_left, get_or_push, length-map, length-replicate, length_push, take_at, IsImage, text_at, block_count, byte_at, DIRECTORY_TYPE, NAME_BYTE, Entry, DuplicateName, HasDuplicateName, HasShortName, Reached, AreEntriesOf, HoldsEntries, IsEntryIn, IsOfType, AreDuplicatesNoted, AreFirstMet, AreFirstNames, AreKnown, AreNamesKept, AreNamesMet, AreNamesNoted, AreStillKnown, HasNameOf, IsFirstName, IsNameMet, name_cmp, named_in, named_of, AreStillNoted, IsNoted, cell_of, Same, upper, upper_name, Named}
+use Rattle.ados_faults.proofs.Common.{◌≡◌, ◌≢◌, ℕ, ◌-◌, ◌<◌, ◌≤◌, inl, inr, Bool, true, cond, List, [], ◌∷◌, ◌++◌, length, take, drop, map, replicate, get_or, slice_index, set, Option, Some, None, refl, sym, ap, ◌∙◌, subst, arith, ◌+◌, length-set, get_or-set_same, get_or-set_other, slice_get, option_and_then, BTreeMap, get, is_at, cases_Bool, cases_eq, cases_lt, get_or_from_slice_get, none-some, same_Some, slice_get-get_or, slice_get_past, slice_get_within, get_or_append_left, get_or_push, length-map, length-replicate, length_push, take_at, IsImage, text_at, block_count, byte_at, DIRECTORY_TYPE, NAME_BYTE, Entry, DuplicateName, HasDuplicateName, HasShortName, Reached, AreEntriesOf, HoldsEntries, IsEntryIn, IsOfType, AreDuplicatesNoted, AreFirstMet, AreFirstNames, AreKnown, AreNamesKept, AreNamesMet, AreNamesNoted, AreStillKnown, HasNameOf, IsFirstName, IsNameMet, name_cmp, named_in, named_of, AreStillNoted, IsNoted, cell_of, Same, upper, upper_name, Named}
 use Rattle.std.specs.FinMap.{nat_cmp-IsAntisymmetric, slice_cmp-IsAntisymmetric}
 use Rattle.std.specs.Map.{lookup}
 use Rattle.ados_check.proofs.Entered.{is_equal}

@@ -6,7 +6,6 @@ pub mod Pairs
 pub mod Blocks
 pub mod Chain
 pub mod Named
-pub mod Looked
 pub mod FileNotes
 pub mod Looks
 pub mod Searched

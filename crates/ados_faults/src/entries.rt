@@ -30,7 +30,7 @@ fn meet_slots(image: &Image, dir: u32, entries: &mut Blocks) -> Result<(), Alloc
     requires entries { All (IsEntryIn image.now dir) entries.old.list.items }
     ensures met { IfOk result (λ _. AreMet image.now entries.new.has.items entries.new.list.items) }
     ensures entries { IfOk result (λ _. All (IsEntryIn image.now dir) entries.new.list.items) }
-    ensures slots { IfOk result (λ _. AreSlotsMet image.now dir entries.new.list.items 72) }
+    ensures slots { IfOk result (λ _. AreSlotsMet image.now dir entries.new.list.items TABLE_LONGS) }
 {
     for i in 0..TABLE_LONGS {
         let first = image.long(dir, FIRST_SLOT + i);
@@ -44,7 +44,7 @@ fn meet_chains(image: &Image, dir: u32, entries: &mut Blocks) -> Result<(), Allo
     requires holder { HoldsEntries image.now dir }
     requires met { AreMet image.now entries.old.has.items entries.old.list.items }
     requires entries { All (IsEntryIn image.now dir) entries.old.list.items }
-    requires slots { AreSlotsMet image.now dir entries.old.list.items 72 }
+    requires slots { AreSlotsMet image.now dir entries.old.list.items TABLE_LONGS }
     ensures met { IfOk result (λ _. AreMet image.now entries.new.has.items entries.new.list.items) }
     ensures all { IfOk result (λ _. AreEntriesOf image.now dir entries.new.list.items) }
 {

@@ -10,7 +10,9 @@ use crate::bits::is_inside;
 use crate::blocks::Blocks;
 use adf_block::Image;
 use adf_block::beside::KIND_BYTE;
-use adf_block::layout::{FIRST_POINTER, HELD, NEXT_EXTENSION, POINTER_COUNT, TABLE_LONGS};
+use adf_block::layout::{
+    FEWEST_BLOCKS, FIRST_POINTER, HELD, NEXT_EXTENSION, POINTER_COUNT, TABLE_LONGS,
+};
 use std::alloc::{AllocError, Global};
 
 /// Lists the header of a file and the blocks along its links, each once.
@@ -52,7 +54,7 @@ fn go_on(image: &Image, headers: &mut Blocks) -> Result<bool, AllocError>
 pub(crate) fn pointers_in(image: &Image, header: u32) -> u32
     requires { header < block_count image.now }
     ensures count { result ≡ length (pointers_of image.now header) }
-    ensures few { result ≤ 72 }
+    ensures few { result ≤ TABLE_LONGS }
 {
     let count = image.long(header, POINTER_COUNT);
     if count > TABLE_LONGS {
@@ -67,7 +69,7 @@ pub(crate) fn count_pointers(image: &Image, headers: &[u32]) -> u64
     requires few { length headers.now ≤ block_count image.now }
     ensures { result ≡ length (flat_map (pointers_of image.now) headers.now) }
 {
-    prove!(image.blocks() >= 16);
+    prove!(image.blocks() >= FEWEST_BLOCKS);
     let mut count = 0_u64;
     for header in headers {
         count += u64::from(pointers_in(image, *header));
@@ -80,7 +82,7 @@ pub(crate) fn count_pointers(image: &Image, headers: &[u32]) -> u64
 pub(crate) fn held_in_ofs(alloc: Global, image: &Image) -> Result<Vec<Option<u64>>, AllocError>
     ensures { IfOk result (λ held. IsOfs image.now → AreHeld image.now held.items) }
 {
-    prove!(image.blocks() >= 16);
+    prove!(image.blocks() >= FEWEST_BLOCKS);
     let mut held = Vec::new(alloc);
     if image.byte(0, KIND_BYTE) != 0 {
         return Ok(held);

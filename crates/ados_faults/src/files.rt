@@ -16,7 +16,7 @@ use crate::typed::blocks_of_type;
 use crate::walk::Step;
 use adf_block::Image;
 use adf_block::beside::KIND_BYTE;
-use adf_block::layout::FILE_TYPE;
+use adf_block::layout::{FEWEST_BLOCKS, FILE_TYPE};
 use ados_check::{Source, has_other_size, needs_other_count};
 use ados_model::FaultKind;
 use std::alloc::{AllocError, Global};
@@ -89,7 +89,7 @@ fn holds_other_size(image: &Image, file: u32, headers: &[u32], held: &[Option<u6
     requires held { AreHeld image.now held.now }
     ensures { IsTrue result ↔ HoldOtherSize image.now file (flat_map (pointers_of image.now) headers.now) }
 {
-    prove!(image.blocks() >= 16);
+    prove!(image.blocks() >= FEWEST_BLOCKS);
     match held_together(image, headers, held) {
         Some(sum) => has_other_size(&Source::whole(image), file, sum),
         None => false,

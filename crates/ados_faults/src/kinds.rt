@@ -2,6 +2,7 @@
 ghost use Rattle.std.specs.Prelude.{◌≡◌, ◌<◌, MatchOption};
 ghost use Rattle.ados_faults.specs.Listed.{IsOtherKind, ShowsOtherKind, rank};
 
+use adf_block::layout::FEWEST_BLOCKS;
 use adf_block::{BootKind, Image};
 use ados_model::FaultKind;
 
@@ -64,7 +65,7 @@ pub(crate) fn kind_at(place: usize) -> FaultKind
 pub(crate) fn other_kind(image: &Image) -> Option<FaultKind>
     ensures { MatchOption result (¬ ShowsOtherKind image.now) (IsOtherKind image.now) }
 {
-    prove!(image.blocks() >= 16);
+    prove!(image.blocks() >= FEWEST_BLOCKS);
     match image.boot_kind() {
         BootKind::Ofs | BootKind::Ffs => None,
         BootKind::OtherDos(_) => Some(FaultKind::UnsupportedKind),

@@ -26,18 +26,18 @@ mod typed;
 mod walk;
 
 // What shows them, and their texts.
+mod data_places;
 mod explained;
 mod marked;
 mod path;
 mod places;
-mod rights;
 mod same_name;
 mod texts;
 mod values;
 
-pub use ados_check::Mark;
+pub use ados_check::{Evidence, Mark};
 pub use explained::explain;
 pub use listing::{AllFaults, all_faults, faults_of_any_disk};
 pub use path::place_of;
 pub use places::second_places;
-pub use values::{FaultValues, values_of};
+pub use values::values_of;

@@ -13,8 +13,9 @@ use crate::notes::Notes;
 use crate::walk::Step;
 use adf_block::Image;
 use adf_block::beside::KIND_BYTE;
+use adf_block::layout::FEWEST_BLOCKS;
 use ados_check::{
-    FIELD_RULES, FieldRule, POINTER_RULES, Source, has_bad_field, has_bad_sum, has_bad_type,
+    FIELD_RULES, FieldRule, POINTER_RULES, Source, field_evidence, has_bad_sum, type_evidence,
 };
 use ados_model::{FaultKind, Role};
 
@@ -25,7 +26,7 @@ pub(crate) fn look_at_disk(image: &Image, notes: &mut Notes)
     ensures stays { AreStillNoted notes.old.cells.items notes.new.cells.items }
     ensures whole { (kind : FaultKind) → IsOtherKind image.now kind → IsNoted notes.new.cells.items (cell_of kind 0) }
 {
-    prove!(image.blocks() >= 16);
+    prove!(image.blocks() >= FEWEST_BLOCKS);
     if let Some(kind) = other_kind(image) {
         notes.note(image, kind, 0);
     }
@@ -55,7 +56,7 @@ fn look(image: &Image, block: u32, role: Role, notes: &mut Notes)
     ensures stays { AreStillNoted notes.old.cells.items notes.new.cells.items }
     ensures whole { AreWrongsNoted image.now notes.new.cells.items block role }
 {
-    prove!(image.blocks() >= 16);
+    prove!(image.blocks() >= FEWEST_BLOCKS);
     match role {
         // The data blocks of FFS files have no checksum and no fields.
         Role::Data(_) if image.byte(0, KIND_BYTE) != 0 => return,
@@ -64,7 +65,7 @@ fn look(image: &Image, block: u32, role: Role, notes: &mut Notes)
     let source = Source::whole(image);
     let sum = has_bad_sum(&source, block, role);
     notes.note_if(image, FaultKind::BadSum, block, sum);
-    let types = has_bad_type(&source, block, role);
+    let types = type_evidence(&source, block, role).is_some();
     notes.note_if(image, FaultKind::BadType, block, types);
     look_at_fields(image, block, role, &FIELD_RULES, notes);
     look_at_fields(image, block, role, &POINTER_RULES, notes);
@@ -81,7 +82,7 @@ fn look_at_fields(image: &Image, block: u32, role: Role, rules: &[FieldRule], no
 {
     let source = Source::whole(image);
     for rule in rules {
-        let wrong = has_bad_field(&source, block, role, *rule);
+        let wrong = field_evidence(&source, block, role, *rule).is_some();
         notes.note_if(image, rule.kind(), block, wrong);
     }
 }

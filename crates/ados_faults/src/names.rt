@@ -18,7 +18,7 @@ use crate::typed::blocks_of_type;
 use crate::walk::Step;
 use adf_block::Image;
 use adf_block::layout::DIRECTORY_TYPE;
-use ados_check::{Source, has_short_name, upper_name};
+use ados_check::{Source, UPPER_BYTES, has_short_name, upper_name};
 use ados_model::FaultKind;
 use std::alloc::{AllocError, Global};
 use std::collections::BTreeMap;
@@ -76,7 +76,7 @@ fn first_names(alloc: Global, image: &Image) -> Result<Vec<Option<u32>>, AllocEr
 fn first_with_name(
     image: &Image,
     block: u32,
-    known: &mut BTreeMap<[u8; 31], u32>,
+    known: &mut BTreeMap<[u8; UPPER_BYTES], u32>,
 ) -> Result<Option<u32>, AllocError>
     requires image { IsImage image.now }
     requires inside { block < block_count image.now }

@@ -7,6 +7,7 @@ ghost use Rattle.ados_faults.specs.steps.Noted.{AreNoted, AreStillNoted, HasNote
 
 use crate::kinds::{KINDS, kind_at, rank_of};
 use adf_block::Image;
+use adf_block::layout::FEWEST_BLOCKS;
 use ados_model::{FaultKind, VolumeFault};
 use std::alloc::{AllocError, Global};
 
@@ -130,7 +131,7 @@ fn fault_at(image: &Image, cell: usize) -> VolumeFault
     requires { cell < 17 * block_count image.now }
     ensures { cell_of result.kind result.block ≡ cell }
 {
-    prove!(image.blocks() >= 16);
+    prove!(image.blocks() >= FEWEST_BLOCKS);
     VolumeFault {
         kind: kind_at(cell % KINDS),
         block: (cell / KINDS) as u32,

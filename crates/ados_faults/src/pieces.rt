@@ -15,8 +15,8 @@ use crate::bits::is_inside;
 use crate::file_blocks::pointers_in;
 use crate::notes::Notes;
 use adf_block::Image;
-use adf_block::layout::FIRST_POINTER;
-use ados_check::{DATA_RULES, Place, Source, breaks_rule};
+use adf_block::layout::{FEWEST_BLOCKS, FIRST_POINTER};
+use ados_check::{DATA_RULES, Place, Source, data_evidence};
 
 /// The data blocks in the pointers of a block, at their places in a file.
 #[derive(Clone, Copy)]
@@ -59,7 +59,7 @@ pub(crate) fn look_along(
     ensures seen { AreAllSeen image.now notes.new.cells.items seen.new }
     ensures places { ArePlacesNoted image.now notes.new.cells.items (flat_map (pointers_of image.now) headers.now) 0 }
 {
-    prove!(image.blocks() >= 16);
+    prove!(image.blocks() >= FEWEST_BLOCKS);
     let mut position = count;
     let mut behind = None;
     for passed in 0..headers.len() {
@@ -180,7 +180,7 @@ pub(crate) fn look_at_place(image: &Image, place: Place, notes: &mut Notes)
     }
     let source = Source::whole(image);
     for rule in DATA_RULES.iter() {
-        let broken = breaks_rule(&source, place, *rule);
+        let broken = data_evidence(&source, place, *rule).is_some();
         notes.note_if(image, rule.kind(), place.block, broken);
     }
 }

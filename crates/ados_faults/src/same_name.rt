@@ -1,8 +1,8 @@
 //! Another entry with the name of an entry.
 use crate::marked::role_at;
 use adf_block::Image;
-use adf_block::layout::BOOT_BLOCKS;
-use ados_check::{Mark, Source, has_short_name, upper_name};
+use adf_block::layout::{BOOT_BLOCKS, FEWEST_BLOCKS};
+use ados_check::{Mark, Source, UPPER_BYTES, has_short_name, upper_name};
 use ados_model::Role;
 
 /// The first other entry of the same directory with the name of this one, by the roles of the marks.
@@ -21,8 +21,8 @@ pub(crate) fn same_named(image: &Image, marks: &[Option<Mark>], block: u32) -> O
 }
 
 /// The name of a block in the form for comparison, if it has at most 30 bytes.
-fn name_at(image: &Image, block: u32) -> Option<[u8; 31]> {
-    prove!(image.blocks() >= 16);
+fn name_at(image: &Image, block: u32) -> Option<[u8; UPPER_BYTES]> {
+    prove!(image.blocks() >= FEWEST_BLOCKS);
     let source = Source::whole(image);
     if block >= image.blocks() || !has_short_name(&source, block) {
         return None;

@@ -16,6 +16,7 @@ use crate::notes::Notes;
 use crate::tangled::is_tangled;
 use crate::walk::{Step, walked};
 use adf_block::Image;
+use adf_block::layout::FEWEST_BLOCKS;
 use ados_check::Mark;
 use std::alloc::{AllocError, Global};
 
@@ -35,7 +36,7 @@ pub(crate) fn search(alloc: Global, image: &Image, enough: usize) -> Result<Find
     ensures searched { IfOk result (λ found. IsSearched image.now enough found.notes.cells.items found.is_cut) }
     ensures marked { IfOk result (λ found. AreMarks image.now found.marks.items) }
 {
-    prove!(image.blocks() >= 16);
+    prove!(image.blocks() >= FEWEST_BLOCKS);
     let mut walk = walked(alloc, image)?;
     look_at_all(image, &walk.steps, &mut walk.notes);
     let is_cut = may_stop(alloc, image, enough, &walk.notes)?;

@@ -5,12 +5,11 @@ ghost use Rattle.adf_block.specs.Image.{block_count};
 use crate::marked::mark_at;
 use crate::places::place_text;
 use crate::same_name::same_named;
-use crate::values::FaultValues;
 use adf_block::Image;
 use adf_block::layout::*;
-use ados_check::Mark;
+use ados_check::{Evidence, Mark};
 use ados_model::{FaultKind, Role};
-use ados_name::Name;
+use ados_name::{Comment, Name};
 use std::alloc::{AllocError, Global};
 
 /// A block of an image that shows a fault, and the places that name the blocks of the image: the first one of each
@@ -32,7 +31,7 @@ impl BadBlock<'_> {
         &self,
         alloc: Global,
         kind: FaultKind,
-        values: Option<FaultValues>,
+        values: Option<Evidence>,
     ) -> Result<String, AllocError> {
         let Some(values) = values else {
             return self.text_without_long(alloc, kind);
@@ -55,7 +54,10 @@ impl BadBlock<'_> {
             FaultKind::BadName => name_text(alloc, values),
             FaultKind::BadComment => {
                 let length = found >> 24;
-                format!(in alloc; "its comment has {length} characters; it should have at most 79")
+                format!(in alloc;
+                    "its comment has {length} characters; it should have at most {}",
+                    Comment::MAX_LEN
+                )
             }
             FaultKind::BadCount => count_text(alloc, values),
             FaultKind::BadSequence => {
@@ -76,7 +78,7 @@ impl BadBlock<'_> {
     }
 
     /// A place that names a block outside the image, or a wrong link between data blocks.
-    fn pointer_text(&self, alloc: Global, values: FaultValues) -> Result<String, AllocError> {
+    fn pointer_text(&self, alloc: Global, values: Evidence) -> Result<String, AllocError> {
         let found = values.found;
         if values.long == NEXT_DATA {
             let what = match self.role {
@@ -190,7 +192,7 @@ impl BadBlock<'_> {
 }
 
 /// A wrong type or hash table size. Types have a sign: a file has the type -3.
-fn type_text(alloc: Global, values: FaultValues) -> Result<String, AllocError> {
+fn type_text(alloc: Global, values: Evidence) -> Result<String, AllocError> {
     let found = values.found.cast_signed();
     let Some(wanted) = values.wanted else {
         return format!(in alloc;
@@ -209,7 +211,7 @@ fn type_text(alloc: Global, values: FaultValues) -> Result<String, AllocError> {
 }
 
 /// A name without letters, with too many of them, or with a slash or a colon.
-fn name_text(alloc: Global, values: FaultValues) -> Result<String, AllocError> {
+fn name_text(alloc: Global, values: Evidence) -> Result<String, AllocError> {
     let length = (values.found >> 24) as usize;
     if values.long == NAME_BYTE / 4 && (length == 0 || length > Name::MAX_LEN) {
         return format!(in alloc;
@@ -224,7 +226,7 @@ fn name_text(alloc: Global, values: FaultValues) -> Result<String, AllocError> {
 }
 
 /// A count or a size that does not match the blocks of a file.
-fn count_text(alloc: Global, values: FaultValues) -> Result<String, AllocError> {
+fn count_text(alloc: Global, values: Evidence) -> Result<String, AllocError> {
     let found = values.found;
     match (values.long, values.wanted) {
         (HELD, Some(wanted)) => {
@@ -238,10 +240,11 @@ fn count_text(alloc: Global, values: FaultValues) -> Result<String, AllocError> 
         (FILE_SIZE, _) => {
             format!(in alloc; "its size of {found} bytes does not match its data blocks")
         }
-        (_, None) if found == 0 => String::from_str(
-            alloc,
-            "it is an extension block without data pointers; it should have 1 to 72",
-        ),
+        (_, None) if found == 0 => {
+            format!(in alloc;
+                "it is an extension block without data pointers; it should have 1 to {TABLE_LONGS}"
+            )
+        }
         (_, Some(wanted)) if found < wanted => {
             format!(in alloc;
                 "it has {found} data pointers; before an extension block it should have {wanted}"
@@ -254,7 +257,7 @@ fn count_text(alloc: Global, values: FaultValues) -> Result<String, AllocError> 
 }
 
 /// Faults of the disk's kind, and links.
-fn kind_text(alloc: Global, kind: FaultKind, values: FaultValues) -> Result<String, AllocError> {
+fn kind_text(alloc: Global, kind: FaultKind, values: Evidence) -> Result<String, AllocError> {
     let found = values.found;
     match kind {
         FaultKind::NotADosDisk => {

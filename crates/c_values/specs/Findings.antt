@@ -4,8 +4,7 @@ use Rattle.adf_block.specs.Size.{IsSizeFault}
 use Rattle.adf_block.specs.Whole.{IsImage}
 use Rattle.adf_block.specs.declared.volume_size.SizeFault.{SizeFault}
 use Rattle.ados_faults.specs.Listed.{AreAllFaults, AreMarks, ListsFaults, Marks}
-use Rattle.ados_faults.specs.Values.{AreValues, NoneShows}
-use Rattle.ados_faults.specs.declared.values.FaultValues.{FaultValues}
+use Rattle.ados_faults.specs.Values.{AreValues, Evidence, NoneShows}
 use Rattle.ados_model.specs.Accepted.{ShowsNoFault}
 use Rattle.ados_model.specs.declared.fault.VolumeFault.{VolumeFault}
 use Rattle.c_values.specs.Ends.{ComesTo}
@@ -30,7 +29,7 @@ wanted_of (Some wanted) = wanted
 wanted_of None = 0
 
 -- a fault that a long of its block shows
-abbrev pub told_finding : VolumeFault → FaultValues → JipFinding
+abbrev pub told_finding : VolumeFault → Evidence → JipFinding
 told_finding fault values = record {
   kind = pos (fault_number fault.kind);
   block = fault.block;
@@ -45,7 +44,7 @@ told_finding fault values = record {
 abbrev pub IsFindingOf : List ℕ → Marks → VolumeFault → JipFinding → Type 0
 IsFindingOf image marks fault finding =
     (NoneShows image marks fault.kind fault.block × (finding ≡ bare_finding (pos (fault_number fault.kind)) fault.block))
-    ⊎ ((values : FaultValues) × AreValues image marks fault.kind fault.block values × (finding ≡ told_finding fault values))
+    ⊎ ((values : Evidence) × AreValues image marks fault.kind fault.block values × (finding ≡ told_finding fault values))
 
 -- these faults for C, in order
 unfoldable pub AreFindings : List ℕ → Marks → List VolumeFault → List JipFinding → Type 0

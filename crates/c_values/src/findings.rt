@@ -5,7 +5,7 @@ ghost use Rattle.c_values.specs.Findings.{AreFindings, AreFindingsOf, IsFindingO
 
 use crate::faults::JipFault;
 use adf_block::Image;
-use ados_faults::{FaultValues, Mark, all_faults, values_of};
+use ados_faults::{Evidence, Mark, all_faults, values_of};
 use ados_model::VolumeFault;
 use std::alloc::{AllocError, Global};
 
@@ -123,7 +123,7 @@ impl JipFinding {
     }
 
     /// A fault that a long shows.
-    fn of(fault: VolumeFault, values: FaultValues) -> JipFinding
+    fn of(fault: VolumeFault, values: Evidence) -> JipFinding
         ensures { result ≡ told_finding fault values }
     {
         let shown = JipFault::of_volume(fault);

@@ -1,6 +1,6 @@
 -- The progress along the links of a file's header and extension blocks; and the data blocks in their pointers.
 use Rattle.std.specs.Prelude.{◌≡◌, ℕ, ◌+◌, ◌^◌, ◌<◌, ◌≤◌, List, Option, Some, length, slice_get, slice_index, nat_lt, if◌then◌else◌, All}
-use Rattle.adf_block.specs.declared.layout.TheConstants.{NEXT_EXTENSION}
+use Rattle.adf_block.specs.declared.layout.TheConstants.{NEXT_EXTENSION, TABLE_LONGS}
 use Rattle.ados_model.specs.Faults.{AreDataBlocks, AreDistinct, FurtherAreInside, InImage, IsFile, LeadOn, LinkedOnce, pointers_of}
 use Rattle.ados_faults.specs.declared.pieces.Piece.{Piece}
 
@@ -22,7 +22,7 @@ pub record AreHeaders (image : List ℕ) (headers : List ℕ) : Type 0 where
 pub record IsPiece (image : List ℕ) (piece : Piece) : Type 0 where
   pub inside : InImage image piece.header
   pub count : piece.count ≡ length (pointers_of image piece.header)
-  pub few : piece.count ≤ 72
+  pub few : piece.count ≤ TABLE_LONGS
   pub low : piece.position + piece.count < 2 ^ 62
   pub file : ℕ
   pub blocks : List ℕ

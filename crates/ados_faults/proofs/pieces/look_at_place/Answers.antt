@@ -1,4 +1,4 @@
-use Rattle.ados_faults.proofs.Common.{get_or, sym, subst, arith, take_all, All-more, All-weaker, All, BreaksRule, SourceView, Sequence, FaultKind, Shows, IsRuleNoted, IsNoted, cell_of, DATA_RULES}
+use Rattle.ados_faults.proofs.Common.{get_or, sym, subst, ◌∙◌, arith, take_all, All-more, All-weaker, All, BreaksRule, SourceView, Sequence, FaultKind, Shows, IsRuleNoted, IsNoted, cell_of, DATA_RULES}
 use Rattle.ados_check.proofs.DataRuling.{data_shows, each_rule}
 use Rattle.ados_faults.proofs.Cells.{noted_on}
 use Rattle.ados_faults.proofs.pieces.look_at_place.Goals as goal
@@ -6,7 +6,7 @@ use Rattle.ados_faults.proofs.pieces.look_at_place.Goals as goal
 pub note_if-requires-clause-shown : goal.note_if-requires-clause-shown
 note_if-requires-clause-shown c = λ w.
     let rule = get_or DATA_RULES c.loop-rule.rule-index Sequence in
-    let bad = subst (λ (s : SourceView). BreaksRule s.bytes c.args.place rule) c.whole-source.ensures (c.breaks_rule-broken.ensures.0 w) in
+    let bad = subst (λ (s : SourceView). BreaksRule s.bytes c.args.place rule) c.whole-source.ensures (c.data_evidence.ensures.broken.0 (sym c.is_some-broken.ensures ∙ w)) in
     subst (λ (kind : FaultKind). Shows c.args.image.now kind c.args.place.block) (sym c.kind.ensures) (data_shows c.args.image.now c.args.place c.requires.at c.requires.ofs (c.is_inside.ensures.0 c.if-not-is_inside.false) rule bad)
 
 pub loop-rule-preserved : goal.loop-rule-preserved
@@ -20,7 +20,7 @@ loop-rule-preserved c =
       rules = All-more new DATA_RULES c.loop-rule.rule-index Sequence c.loop-rule-test.true
           (All-weaker old new (λ other is bad. c.note_if.ensures.stays.stay _ (is bad)) _ c.loop-rule.invariant.rules)
           (λ bad.
-          let w = c.breaks_rule-broken.ensures.1 (subst (λ (s : SourceView). BreaksRule s.bytes c.args.place rule) (sym c.whole-source.ensures) bad) in
+          let w = c.is_some-broken.ensures ∙ c.data_evidence.ensures.broken.1 (subst (λ (s : SourceView). BreaksRule s.bytes c.args.place rule) (sym c.whole-source.ensures) bad) in
           subst (λ (kind : FaultKind). IsNoted c.note_if.new.self.cells.items (cell_of kind c.args.place.block)) c.kind.ensures (c.note_if.ensures.set w));
     }
 

@@ -1,5 +1,5 @@
 use Rattle.ados_faults.proofs.Common.{◌≡◌, Some, None, refl, sym, subst, ◌∙◌, SourceView, IsPlace}
-use Rattle.ados_faults.proofs.rights.is_place.Goals as goal
+use Rattle.ados_faults.proofs.values.is_place.Goals as goal
 
 pub returns-in-Some : goal.returns-in-Some
 returns-in-Some c =

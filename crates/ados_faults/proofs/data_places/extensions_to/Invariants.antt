@@ -1,5 +1,5 @@
 use Rattle.ados_faults.proofs.Common.{◌≡◌, ◌+◌, ◌-◌, option_map, block_count, extensions_to}
-use Rattle.ados_faults.proofs.rights.extensions_to.Given as goal
+use Rattle.ados_faults.proofs.data_places.extensions_to.Given as goal
 
 abbrev pub invariant-loop-passed : goal.invariant-loop-passed
 invariant-loop-passed l =

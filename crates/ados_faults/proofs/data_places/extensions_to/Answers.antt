@@ -1,6 +1,6 @@
 use Rattle.ados_faults.proofs.Common.{◌<◌, ap, sym, ◌∙◌, arith, block_count, is_extension}
 use Rattle.ados_faults.proofs.Above.{one_on}
-use Rattle.ados_faults.proofs.rights.extensions_to.Goals as goal
+use Rattle.ados_faults.proofs.data_places.extensions_to.Goals as goal
 
 pub loop-passed-preserved : goal.loop-passed-preserved
 loop-passed-preserved c =
