@@ -409,6 +409,8 @@ FAULTY_LINES = [
     *((f"{it} 1 2", f"{it} HANDLE OFFSET MODE: expected a number, found the end of the line") for it in ("seek", "size")),
     *(("other +5", "other ACTION: expected a number, found +5"), ("other MANY", f"other ACTION: expected a number, found {'y' * 60}\n")),
     *(("free $9", "free LOCK: expected each $k to be a reply with a value, found $9"), ("free $x", "free LOCK: expected a number, found $x")),
+    ('rename 0 "a" $9 "b"', 'rename LOCK "NAME" LOCK "NAME": expected each $k to be a reply with a value, found 0 "a" $9 "b"'),
+    ('rename $9 "a" x "b"', 'rename LOCK "NAME" LOCK "NAME": expected a number, found x'),
 ]
 
 

@@ -7,12 +7,8 @@ pub use Rattle.adf_script.specs.Text.{closed_line, fault_line, hex_byte, reply_l
 pub use Rattle.adf_script.specs.Told.{LinesTell, Told, outcomes_of, steps_of}
 pub use Rattle.adf_script.specs.Told.LinesTell.{answered, closed, ended, faulty}
 pub use Rattle.adf_script.specs.Values.{answer_value, answer_values}
-pub use Rattle.adf_script.specs.declared.words.TheConstants.Word.{ALL}
-pub use Rattle.adf_script.specs.declared.words.Word.{Word}
-pub use Rattle.adf_script.specs.declared.words.Word.TheVariants.{Comment, Copy, Date, Delete, Die, DiskInfo, End, Examine, Free, Info, Input, Locate, MakeDir, Next, Other, Output, Parent, Protect, Read, Rename, RenameDisk, Same, Seek, Size, Update, Write}
 pub use Rattle.adf_script.specs.steps.Calls.{Calls, IsQuiet, quiet_port}
 pub use Rattle.adf_script.specs.steps.Left.{IsLeft}
-pub use Rattle.adf_script.specs.steps.Words.{EachOf, Puts, spelling}
 pub use Rattle.ados_model.specs.declared.answer.Answer.{Answer}
 pub use Rattle.ados_model.specs.declared.packet.Packet.{Packet}
 pub use Rattle.ados_port.proofs.Histories.{history_nil, slice_get-push_at}

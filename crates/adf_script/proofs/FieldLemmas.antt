@@ -1,9 +1,16 @@
 -- Fields at the start of bytes.
-use Rattle.adf_script.proofs.Common.{◌≡◌, ◌≤◌, ◌<◌, inl, inr, ℕ, suc, ℤ, false, List, [], ◌∷◌, ◌++◌, length, replicate, get_or, Option, Bor, refl, sym, ap, subst, ◌∙◌, arith, append_assoc, ◌||◌, All, AllDigits, digit_from_value, eqb_tells, append-nil, length-replicate, get_or_default, has_byte, IsSplit, IsBehind, IsCut, IsNumber, IsSigned, IsValue, Field, Zeros, SpellsField, SpellsFields}
-use Rattle.std.specs.Prelude.{Some, None, MatchOption}
-use Rattle.std.proofs.Math.ListN.{get_or-append}
-use Rattle.adf_script.specs.steps.Reading.{a_text, a_long_text, ReadsNone, Reads}
-use Rattle.adf_script.proofs.Splitting.{has_byte-split, split_unique, true_is_false}
+use Rattle.adf_script.proofs.Common.{◌≡◌, ◌≢◌, ◌≤◌, ◌<◌, inl, inr, ℕ, ℤ, true, false, List, [], ◌∷◌, ◌++◌, length, replicate, Option, refl, sym, ap, subst, ◌∙◌, arith, append_assoc, ◌||◌, AllDigits, digit_from_value, eqb_tells, append-nil, length-replicate, has_byte, IsBehind, IsCut, IsNumber, IsSigned, IsValue, Field, Value, Number, Signed, Text, LongText, Zeros, SpellsField, SpellsFields}
+use Rattle.std.specs.Prelude.{Some, None, MatchOption, MatchResult, Result, Ok, Err, IsErr, is_some, map}
+use Rattle.std.proofs.lemmas.Bool.{le-leb, leb-true}
+use Rattle.adf_script.specs.declared.forms.NumberKind.{NumberKind}
+use Rattle.adf_script.specs.declared.forms.TextKind.{TextKind}
+use Rattle.adf_script.specs.declared.forms.TextKind.TheVariants as text
+use Rattle.adf_script.specs.declared.forms.FieldKind.{FieldKind}
+use Rattle.adf_script.specs.declared.forms.FieldKind.TheVariants as kind
+use Rattle.adf_script.specs.declared.forms.NumberKind.TheVariants as number
+use Rattle.adf_script.specs.declared.fields.FieldValue.{FieldValue}
+use Rattle.adf_script.specs.steps.Reading.{SpellsNoNumber, SpellsNone, ReadsNone, Reads, ReadsValue, field_of, fields_by, kind_of, text_fits}
+use Rattle.adf_script.proofs.Splitting.{split_unique, true_is_false, has_byte-split}
 
 -- numbers have no space
 other_byte : (c : ℕ) (cs : List ℕ) → 32 < c → has_byte 32 cs ≡ false → has_byte 32 (c ∷ cs) ≡ false
@@ -47,84 +54,129 @@ pub behind_fields : (values : List (Option ℕ)) (fields : List Field) (bytes : 
 behind_fields values [] bytes s = subst IsBehind (sym s) tt
 behind_fields values (field ∷ fields) bytes s = subst IsBehind (sym s.2) refl
 
-module _ {A : Type 0} (values : List (Option ℕ)) (field : A → Field) (rest : List ℕ) where
-  module _ (spelled_plain : (x : A) (bytes : List ℕ) → SpellsField values (field x) bytes → has_byte 32 bytes ≡ false) (front behind : List ℕ)
-      (is_cut : (line : List ℕ) × (rest ≡ 32 ∷ line) × IsCut line front behind) where
-    unique : (x : A) (fields : List Field) (s : SpellsFields values (field x ∷ fields) rest) → (s.0 ≡ front) × (s.1 ≡ behind)
-    unique x fields s =
-        let both : 32 ∷ (s.0 ++ s.1) ≡ 32 ∷ is_cut.0 = sym s.2 ∙ is_cut.1
-        in let lines : s.0 ++ s.1 ≡ is_cut.0 = cc
-        in cut_unique s.0 front s.1 behind (spelled_plain x s.0 s.3) is_cut.2.plain (behind_fields values fields s.1 s.4) is_cut.2.ended (lines ∙ is_cut.2.whole)
+-- a number has no space
+field_plain : (values : List (Option ℕ)) (k : NumberKind) (field : Field) (bytes : List ℕ) → kind_of field ≡ kind.Number k → SpellsField values field bytes → has_byte 32 bytes ≡ false
+field_plain values k (Value n) bytes is s = value_plain values n bytes s
+field_plain values k (Number n) bytes is s = number_plain n bytes s
+field_plain values k (Signed z) bytes is s = signed_plain z bytes s
+field_plain values k (Zeros buffer) bytes is s = number_plain (length buffer) bytes s.0
+field_plain values k (Text t) bytes is s = cc
+field_plain values k (LongText t) bytes is s = cc
 
-    pub plain_reads : (x : A) → SpellsField values (field x) front → Reads values (λ y. field y ∷ []) rest x behind
-    plain_reads x spelled = record {
-      spells = λ fields s. (front, behind, is_cut.1 ∙ ap (λ l. 32 ∷ l) is_cut.2.whole, spelled, s);
-      goes_on = λ y fields s. subst (SpellsFields values fields) (unique y fields s).1 s.4;
+same_number : (a b : NumberKind) → kind.Number a ≡ kind.Number b → a ≡ b
+same_number a b e = cc
+
+-- bytes that are no number of a kind are no field of it
+no_field : (values : List (Option ℕ)) (k : NumberKind) (bytes : List ℕ) → SpellsNoNumber values k bytes → (field : Field) → kind_of field ≡ kind.Number k → SpellsField values field bytes → ⊥
+no_field values k bytes none (Value n) is s = subst (λ l. SpellsNoNumber values l bytes) (sym (same_number number.Value k is)) none n s
+no_field values k bytes none (Number n) is s = subst (λ l. SpellsNoNumber values l bytes) (sym (same_number number.Unsigned k is)) none n s
+no_field values k bytes none (Signed z) is s = subst (λ l. SpellsNoNumber values l bytes) (sym (same_number number.Signed k is)) none z s
+no_field values k bytes none (Zeros buffer) is s = subst (λ l. SpellsNoNumber values l bytes) (sym (same_number number.Count k is)) none (length buffer) s.1 s.0
+no_field values k bytes none (Text t) is s = cc
+no_field values k bytes none (LongText t) is s = cc
+
+module _ (values : List (Option ℕ)) (k : NumberKind) (rest line front behind : List ℕ) (e : rest ≡ 32 ∷ line) (is_cut : IsCut line front behind) where
+  unique : (field : Field) (fields : List Field) → kind_of field ≡ kind.Number k → (s : SpellsFields values (field ∷ fields) rest) → (s.0 ≡ front) × (s.1 ≡ behind)
+  unique field fields is s =
+      let both : 32 ∷ (s.0 ++ s.1) ≡ 32 ∷ line = sym s.2 ∙ e
+      in let lines : s.0 ++ s.1 ≡ line = cc
+      in cut_unique s.0 front s.1 behind (field_plain values k field s.0 is s.3) is_cut.plain (behind_fields values fields s.1 s.4) is_cut.ended (lines ∙ is_cut.whole)
+
+  number_none : SpellsNoNumber values k front → ReadsNone values (kind.Number k) rest
+  number_none none field fields is s = no_field values k front none field is (subst (SpellsField values field) (unique field fields is s).0 s.3)
+
+  -- the result of the search for a number
+  pub number_read : (found : Option FieldValue) → MatchOption found (SpellsNoNumber values k front) (λ v. SpellsField values (field_of (kind.Number k) v) front)
+      → ReadsValue values (kind.Number k) rest found behind
+  number_read None none = number_none none
+  number_read (Some v) spelled = record {
+    spells = λ fields s. (front, behind, e ∙ ap (λ l. 32 ∷ l) is_cut.whole, spelled, s);
+    goes_on = λ other fields is s. subst (SpellsFields values fields) (unique other fields is s).1 s.4;
+  }
+
+  pub number_stop : (found : Option FieldValue) → is_some found ≡ false → MatchOption found (SpellsNoNumber values k front) (λ v. SpellsField values (field_of (kind.Number k) v) front)
+      → ReadsNone values (kind.Number k) rest
+  number_stop None is none = number_none none
+  number_stop (Some v) is spelled = cc
+
+same_text : (a b : TextKind) → kind.Text a ≡ kind.Text b → a ≡ b
+same_text a b e = cc
+
+-- a text is in quotes, and short enough
+in_quotes : (values : List (Option ℕ)) (k : TextKind) (field : Field) (bytes : List ℕ) → kind_of field ≡ kind.Text k → SpellsField values field bytes
+    → (t : List ℕ) × (bytes ≡ 34 ∷ t ++ 34 ∷ []) × (has_byte 34 t ≡ false) × (text_fits k t ≡ true)
+in_quotes values k (Text t) bytes is s = (t, s.0.0, s.0.1, subst (λ l. text_fits l t ≡ true) (same_text text.Short k is) (le-leb (length t) 255 s.1))
+in_quotes values k (LongText t) bytes is s = (t, s.0, s.1, subst (λ l. text_fits l t ≡ true) (same_text text.Long k is) refl)
+in_quotes values k (Value n) bytes is s = cc
+in_quotes values k (Number n) bytes is s = cc
+in_quotes values k (Signed z) bytes is s = cc
+in_quotes values k (Zeros buffer) bytes is s = cc
+
+text_spelled : (values : List (Option ℕ)) (k : TextKind) (v : FieldValue) → has_byte 34 v.text.now ≡ false → text_fits k v.text.now ≡ true
+    → SpellsField values (field_of (kind.Text k) v) (34 ∷ v.text.now ++ 34 ∷ [])
+text_spelled values text.Short v plain fits = ((refl, plain), leb-true (length v.text.now) 255 fits)
+text_spelled values text.Long v plain fits = (refl, plain)
+
+module _ (values : List (Option ℕ)) (k : TextKind) (rest line : List ℕ) (e : rest ≡ 32 ∷ line) where
+  quotes : (field : Field) (fields : List Field) → kind_of field ≡ kind.Text k → (s : SpellsFields values (field ∷ fields) rest)
+      → (t : List ℕ) × (line ≡ 34 ∷ t ++ 34 ∷ s.1) × (has_byte 34 t ≡ false) × (text_fits k t ≡ true)
+  quotes field fields is s =
+      let q = in_quotes values k field s.0 is s.3
+      in let both : 32 ∷ line ≡ 32 ∷ (34 ∷ q.0 ++ 34 ∷ s.1) = sym e ∙ s.2 ∙ ap (λ l. 32 ∷ (l ++ s.1)) q.1 ∙ ap (λ l. 32 ∷ (34 ∷ l)) (append_assoc q.0 (34 ∷ []) s.1)
+      in let whole : line ≡ 34 ∷ q.0 ++ 34 ∷ s.1 = cc
+      in (q.0, whole, q.2, q.3)
+
+  module _ (v : FieldValue) (behind : List ℕ) (here : line ≡ 34 ∷ v.text.now ++ 34 ∷ behind) (plain : has_byte 34 v.text.now ≡ false) where
+    same : (field : Field) (fields : List Field) → kind_of field ≡ kind.Text k → (s : SpellsFields values (field ∷ fields) rest) → (s.1 ≡ behind) × (text_fits k v.text.now ≡ true)
+    same field fields is s =
+        let q = quotes field fields is s
+        in let both : 34 ∷ q.0 ++ 34 ∷ s.1 ≡ 34 ∷ v.text.now ++ 34 ∷ behind = sym q.1 ∙ here
+        in let lines : q.0 ++ 34 ∷ s.1 ≡ v.text.now ++ 34 ∷ behind = cc
+        in let parts = split_unique 34 q.0 v.text.now s.1 behind q.2 plain lines
+        in (parts.1, subst (λ t. text_fits k t ≡ true) parts.0 q.3)
+
+    pub text_too_long : text_fits k v.text.now ≡ false → ReadsNone values (kind.Text k) rest
+    text_too_long long field fields is s = true_is_false (text_fits k v.text.now) (same field fields is s).1 long
+
+    pub text_read : text_fits k v.text.now ≡ true → Reads values (kind.Text k) rest (field_of (kind.Text k) v) behind
+    text_read fits = record {
+      spells = λ fields s. (
+        34 ∷ v.text.now ++ 34 ∷ [],
+        behind,
+        e ∙ ap (λ l. 32 ∷ l) here ∙ ap (λ l. 32 ∷ (34 ∷ l)) (sym (append_assoc v.text.now (34 ∷ []) behind)),
+        text_spelled values k v plain fits,
+        s,
+      );
+      goes_on = λ other fields is s. subst (SpellsFields values fields) (same other fields is s).0 s.4;
     }
 
-    pub plain_reads_none : ((x : A) → SpellsField values (field x) front → ⊥) → ReadsNone values (λ y. field y ∷ []) rest
-    plain_reads_none none x fields s = none x (subst (SpellsField values (field x)) (unique x fields s).0 s.3)
+-- values beyond the kinds make no fields
+fields_front : (kinds : List FieldKind) (vs more : List FieldValue) → length kinds ≤ length vs → fields_by kinds (vs ++ more) ≡ fields_by kinds vs
+fields_front [] vs more fit = refl
+fields_front (k ∷ ks) [] more fit = absurd (omega (arith, fit))
+fields_front (k ∷ ks) (v ∷ vs) more fit = ap (λ l. field_of k v ∷ l) (fields_front ks vs more (omega (arith, fit)))
 
--- a buffer of zeros
-pub zeros_spelled : (values : List (Option ℕ)) (n : ℕ) (bytes : List ℕ) → IsNumber n bytes → n ≤ 1048576 → SpellsField values (Zeros (replicate n 0)) bytes
-zeros_spelled values n bytes spelled few =
-    subst (λ k. IsNumber k bytes × (k ≤ 1048576) × (◌≡◌ {A = List ℕ} (replicate n 0) (replicate k 0))) (sym (length-replicate n 0)) (spelled, few, refl)
+-- a reader that stops
+pub stopped : {T E Q : Type 0} (P : T → Type 0) (r : Result T E) → IsErr r → Q → MatchResult r P (λ e. Q)
+stopped P (Ok x) fails q = cc
+stopped P (Err e) fails q = q
 
-pub zeros_plain : (values : List (Option ℕ)) (buffer bytes : List ℕ) → SpellsField values (Zeros buffer) bytes → has_byte 32 bytes ≡ false
-zeros_plain values buffer bytes s = number_plain (length buffer) bytes s.0
+module _ (values : List (Option ℕ)) (k : FieldKind) (kinds : List FieldKind) (rest : List ℕ) where
+  pub stops_here : ReadsNone values k rest → SpellsNone values (k ∷ kinds) rest
+  stops_here none [] is s = cc
+  stops_here none (field ∷ fields) is s =
+      let first : kind_of field ≡ k = cc
+      in none field fields first s
 
-pub too_many : (values : List (Option ℕ)) (n : ℕ) (bytes : List ℕ) → IsNumber n bytes → 1048576 < n → (buffer : List ℕ) → SpellsField values (Zeros buffer) bytes → ⊥
-too_many values n bytes spelled many buffer s = omega (arith, spelled.1, s.0.1, s.1, many)
+  pub stops_later : (found : Option FieldValue) (behind : List ℕ) → ReadsValue values k rest found behind → SpellsNone values kinds behind → SpellsNone values (k ∷ kinds) rest
+  stops_later None behind none later fields is s = stops_here none fields is s
+  stops_later (Some v) behind reads later [] is s = cc
+  stops_later (Some v) behind reads later (field ∷ fields) is s =
+      let first : kind_of field ≡ k = cc
+      in let others : map kind_of fields ≡ kinds = cc
+      in later fields others (reads.goes_on field fields first s)
 
--- a text in quotes
-quotes_end : (rest spelled next text : List ℕ) → rest ≡ 32 ∷ (spelled ++ next) → spelled ≡ 34 ∷ text ++ 34 ∷ [] → rest ≡ 32 ∷ (34 ∷ (text ++ 34 ∷ next))
-quotes_end rest spelled next text e quoted = e ∙ ap (λ l. 32 ∷ (l ++ next)) quoted ∙ ap (λ l. 32 ∷ (34 ∷ l)) (append_assoc text (34 ∷ []) next)
-
-module _ (values : List (Option ℕ)) (rest : List ℕ) where
-  pub long_text_reads_none : ((line text behind : List ℕ) → rest ≡ 32 ∷ (34 ∷ line) → IsSplit 34 line text behind → ⊥) → ReadsNone values a_long_text rest
-  long_text_reads_none none text fields s = none (text ++ 34 ∷ s.1) text s.1 (quotes_end rest s.0 s.1 text s.2 s.3.0) (refl, s.3.1)
-
-  pub text_reads_none : ((line text behind : List ℕ) → rest ≡ 32 ∷ (34 ∷ line) → IsSplit 34 line text behind → ⊥) → ReadsNone values a_text rest
-  text_reads_none none text fields s = none (text ++ 34 ∷ s.1) text s.1 (quotes_end rest s.0 s.1 text s.2 s.3.0.0) (refl, s.3.0.1)
-
-  module _ (text behind : List ℕ) (is_split : (line : List ℕ) × (rest ≡ 32 ∷ (34 ∷ line)) × IsSplit 34 line text behind) where
-    same_text : (other spelled next : List ℕ) → rest ≡ 32 ∷ (spelled ++ next) → spelled ≡ 34 ∷ other ++ 34 ∷ [] → has_byte 34 other ≡ false → (other ≡ text) × (next ≡ behind)
-    same_text other spelled next e quoted no_quote =
-        let both : 32 ∷ (34 ∷ (other ++ 34 ∷ next)) ≡ 32 ∷ (34 ∷ is_split.0) = sym (quotes_end rest spelled next other e quoted) ∙ is_split.1
-        in let lines : other ++ 34 ∷ next ≡ is_split.0 = cc
-        in split_unique 34 other text next behind no_quote is_split.2.1 (lines ∙ is_split.2.0)
-
-    in_quotes : rest ≡ 32 ∷ ((34 ∷ text ++ 34 ∷ []) ++ behind)
-    in_quotes = is_split.1 ∙ ap (λ l. 32 ∷ (34 ∷ l)) (is_split.2.0 ∙ sym (append_assoc text (34 ∷ []) behind))
-
-    pub long_text_reads : Reads values a_long_text rest text behind
-    long_text_reads = record {
-      spells = λ fields s. (34 ∷ text ++ 34 ∷ [], behind, in_quotes, (refl, is_split.2.1), s);
-      goes_on = λ other fields s. subst (SpellsFields values fields) (same_text other s.0 s.1 s.2 s.3.0 s.3.1).1 s.4;
-    }
-
-    pub text_reads : length text ≤ 255 → Reads values a_text rest text behind
-    text_reads short = record {
-      spells = λ fields s. (34 ∷ text ++ 34 ∷ [], behind, in_quotes, ((refl, is_split.2.1), short), s);
-      goes_on = λ other fields s. subst (SpellsFields values fields) (same_text other s.0 s.1 s.2 s.3.0.0 s.3.0.1).1 s.4;
-    }
-
-    pub text_too_long : (length text ≤ 255 → ⊥) → ReadsNone values a_text rest
-    text_too_long long other fields s = long (subst (λ t. length t ≤ 255) (same_text other s.0 s.1 s.2 s.3.0.0 s.3.0.1).0 s.3.1)
-
--- the result of a search for a text in quotes
-pub long_text_found : (values : List (Option ℕ)) (rest : List ℕ) (found : Option (Bor (List ℕ) × Bor (List ℕ)))
-    → MatchOption found
-    ((line text behind : List ℕ) → rest ≡ 32 ∷ (34 ∷ line) → ¬ (IsSplit 34 line text behind))
-    (λ parts. (line : List ℕ) × (rest ≡ 32 ∷ (34 ∷ line)) × IsSplit 34 line parts.0.now parts.1.now)
-    → MatchOption found (ReadsNone values a_long_text rest) (λ read. Reads values a_long_text rest read.0.now read.1.now)
-long_text_found values rest None none = long_text_reads_none values rest none
-long_text_found values rest (Some parts) some = long_text_reads values rest parts.0.now parts.1.now some
-
--- the elements of a text are bytes
-pub text_bytes : (rest text behind : List ℕ) → (line : List ℕ) × (rest ≡ 32 ∷ (34 ∷ line)) × IsSplit 34 line text behind
-    → ((i : ℕ) → get_or rest i 0 < 256) → All (λ c. c < 256) text
-text_bytes rest text behind is_split bytes i d within =
-    let here : get_or rest (suc (suc i)) 0 ≡ get_or text i d =
-    ap (λ l. get_or l (suc (suc i)) 0) (is_split.1 ∙ ap (λ l. 32 ∷ (34 ∷ l)) is_split.2.0) ∙ get_or-append text (34 ∷ behind) 0 i within ∙ get_or_default text i 0 d within
-    in subst (λ c. c < 256) here (bytes (suc (suc i)))
+  pub reads_on : (v a b c d e : FieldValue) (behind : List ℕ) → Reads values k rest (field_of k v) behind → length kinds ≤ 4
+      → SpellsFields values (fields_by kinds (a ∷ b ∷ c ∷ d ∷ e ∷ [])) behind → SpellsFields values (fields_by (k ∷ kinds) (v ∷ a ∷ b ∷ c ∷ d ∷ [])) rest
+  reads_on v a b c d e behind reads few s =
+      reads.spells (fields_by kinds (a ∷ b ∷ c ∷ d ∷ [])) (subst (λ l. SpellsFields values l behind) (fields_front kinds (a ∷ b ∷ c ∷ d ∷ []) (e ∷ []) few) s)

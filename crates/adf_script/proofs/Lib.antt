@@ -5,7 +5,6 @@ pub mod LineLemmas
 pub mod Numerals
 pub mod FieldLemmas
 pub mod WordList
-pub mod WordLemmas
 pub mod Quiet
 pub mod Pushing
 pub mod Telling

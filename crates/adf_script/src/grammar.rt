@@ -1,17 +1,22 @@
 //! The packet that a line of a script stands for.
-ghost use Rattle.std.specs.Prelude.{IfOk, MatchOption};
+ghost use Rattle.std.specs.Prelude.{◌≡◌, IfOk, MatchOption, MatchResult};
 ghost use Rattle.adf_script.specs.Grammar.{IsPacketLine, IsFaulty};
-ghost use Rattle.adf_script.specs.steps.Words.{Puts};
+ghost use Rattle.adf_script.specs.steps.Words.{HasFields};
 
-use crate::file_lines::{input, output, read, seek, size, update, write};
-use crate::lock_lines::{locate, next, same};
-use crate::object_lines::{comment, date, delete, make_dir, protect, rename, rename_disk};
-use crate::other_lines::other;
+use crate::fields::{Fields, read_fields};
+use crate::forms::Word;
+use crate::line_fault::{Expected, LineFault, Stop};
+use crate::packets::packet_of;
 use crate::pieces::cut;
-use crate::shapes::{end, one_value};
-use crate::words::Word;
 use ados_model::Packet;
 use std::alloc::{AllocError, Global};
+
+/// The keyword of a line, and the values of its fields.
+#[derive(Clone, Copy)]
+pub struct Line<'a> {
+    word: Word,
+    fields: Fields<'a>,
+}
 
 /// The packet of a line, or `None` for a faulty line. `values` are the values of the replies so far, to which `$k`
 /// refers.
@@ -24,48 +29,34 @@ pub fn parse(
         (IsFaulty values.now line.now)
         (λ packet. IsPacketLine values.now packet line.now)) }
 {
-    let (front, rest) = cut(line);
-    match Word::spelled(front) {
-        Some(word) => packet_of(alloc, word, values, rest),
-        None => Ok(None),
+    match read_line(values, line) {
+        Ok(line) => Ok(Some(packet_of(alloc, line.word, &line.fields)?)),
+        Err(_) => Ok(None),
     }
 }
 
-/// The packet of a word and the rest of its line.
-fn packet_of(
-    alloc: Global,
-    word: Word,
-    values: &[Option<u32>],
-    rest: &[u8],
-) -> Result<Option<Packet>, AllocError>
-    ensures { IfOk result (λ found. Puts word values.now rest.now found) }
+/// The keyword and the fields of a line, or where and why the reader stopped. A `$k` of a reply without a value is
+/// the fault only of a line without another.
+pub fn read_line<'a>(values: &[Option<u32>], line: &'a [u8]) -> Result<Line<'a>, LineFault<'a>>
+    ensures { MatchResult result
+        (λ read. HasFields values.now read line.now)
+        (λ _. IsFaulty values.now line.now) }
 {
-    match word {
-        Word::Die => Ok(end(rest).map(|()| Packet::Die)),
-        Word::DiskInfo => Ok(end(rest).map(|()| Packet::DiskInfo)),
-        Word::Other => Ok(other(rest)),
-        Word::Locate => locate(alloc, values, rest),
-        Word::Free => Ok(one_value(values, rest).map(|lock| Packet::FreeLock { lock })),
-        Word::Copy => Ok(one_value(values, rest).map(|lock| Packet::CopyDir { lock })),
-        Word::Parent => Ok(one_value(values, rest).map(|lock| Packet::Parent { lock })),
-        Word::Examine => Ok(one_value(values, rest).map(|lock| Packet::ExamineObject { lock })),
-        Word::Next => Ok(next(values, rest)),
-        Word::Info => Ok(one_value(values, rest).map(|lock| Packet::Info { lock })),
-        Word::Same => Ok(same(values, rest)),
-        Word::RenameDisk => rename_disk(alloc, rest),
-        Word::Delete => delete(alloc, values, rest),
-        Word::MakeDir => make_dir(alloc, values, rest),
-        Word::Rename => rename(alloc, values, rest),
-        Word::Protect => protect(alloc, values, rest),
-        Word::Comment => comment(alloc, values, rest),
-        Word::Date => date(alloc, values, rest),
-        Word::Update => update(alloc, values, rest),
-        Word::Input => input(alloc, values, rest),
-        Word::Output => output(alloc, values, rest),
-        Word::Read => read(alloc, values, rest),
-        Word::Write => write(alloc, values, rest),
-        Word::End => Ok(one_value(values, rest).map(|handle| Packet::End { handle })),
-        Word::Seek => Ok(seek(values, rest)),
-        Word::Size => Ok(size(values, rest)),
+    let (keyword, rest) = cut(line);
+    let Some(word) = Word::of_keyword(keyword) else {
+        let found = if keyword.is_empty() { line } else { keyword };
+        let expected = Expected::Keyword;
+        return Err(LineFault {
+            shown: None,
+            stop: Stop { expected, found },
+        });
+    };
+    let form = word.form();
+    match read_fields(values, form.fields, rest) {
+        Ok(fields) => Ok(Line { word, fields }),
+        Err(stop) => Err(LineFault {
+            shown: Some(form.shown),
+            stop: stop.with_fields(rest),
+        }),
     }
 }

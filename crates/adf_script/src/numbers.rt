@@ -1,9 +1,12 @@
 //! Unsigned numbers in a line, and values of replies.
-ghost use Rattle.std.specs.Prelude.{◌≡◌, ℕ, MatchOption};
+ghost use Rattle.std.specs.Prelude.{◌≡◌, ◌≤◌, ℕ, MatchOption};
 ghost use Rattle.adf_script.specs.Values.{reply_value};
 ghost use Rattle.adf_script.specs.Grammar.{IsNumber, IsValue};
 
 use crate::pieces::behind;
+
+/// The most bytes that a READ in a script requests.
+const LONGEST_READ: u32 = 1_048_576;
 
 /// The unsigned decimal number of 32 bits in a field.
 pub(crate) fn number(field: &[u8]) -> Option<u32>
@@ -15,6 +18,18 @@ pub(crate) fn number(field: &[u8]) -> Option<u32>
     match str::from_utf8(field) {
         Ok(text) => text.parse().ok(),
         Err(_) => None,
+    }
+}
+
+/// The number of bytes of a READ in a field.
+pub(crate) fn count(field: &[u8]) -> Option<u32>
+    ensures { MatchOption result
+        ((n : ℕ) → n ≤ 1048576 → IsNumber n field.now → ⊥)
+        (λ n. (n ≤ 1048576) × IsNumber n field.now) }
+{
+    match number(field) {
+        Some(n) if n <= LONGEST_READ => Some(n),
+        _ => None,
     }
 }
 

@@ -19,7 +19,6 @@ mod numbers;
 mod query;
 mod reading;
 mod refused;
-mod script_lines;
 mod table;
 mod taking;
 

@@ -1,76 +1,44 @@
--- The words at the start of lines, and the packets of each.
-use Rattle.std.specs.Prelude.{◌≡◌, ℕ, ℤ, List, Option, codes, MatchOption}
-use Rattle.ados_name.specs.declared.stamp.Date3.{Date3}
-use Rattle.ados_model.specs.declared.packet.Packet.{Packet}
-use Rattle.ados_model.specs.declared.packet.Packet.TheVariants as packet
-use Rattle.adf_script.specs.declared.words.Word.{Word}
-use Rattle.adf_script.specs.declared.words.Word.TheVariants.{Die, Locate, RenameDisk, Free, Delete, Rename, Copy, Protect, MakeDir, Examine, Next, DiskInfo, Info, Comment, Parent, Date, Same, Read, Write, Update, Input, Output, End, Seek, Size, Other}
-use Rattle.adf_script.specs.Grammar.{form_of, SpellsFields}
+-- The keyword and the fields of each word.
+use Rattle.std.specs.Prelude.{◌≡◌, ℕ, List, [], ◌∷◌, ◌++◌, Option, codes}
+use Rattle.adf_script.specs.Grammar.{SpellsFields}
+use Rattle.adf_script.specs.declared.forms.FieldKind.{FieldKind}
+use Rattle.adf_script.specs.declared.forms.TheConstants.{VALUE, NUMBER, SIGNED, COUNT, TEXT, LONG_TEXT}
+use Rattle.adf_script.specs.declared.forms.Word.{Word}
+use Rattle.adf_script.specs.declared.forms.Word.TheVariants.{Die, DiskInfo, Locate, Free, Copy, Parent, Examine, Info, Next, Same, Delete, MakeDir, Rename, RenameDisk, Protect, Comment, Date, Update, Input, Output, Read, Write, End, Seek, Size, Other}
+use Rattle.adf_script.specs.declared.grammar.Line.{Line}
+use Rattle.adf_script.specs.steps.Reading.{fields_by, values_of}
 
-abbrev pub spelling : Word → List ℕ
-spelling Die = codes "die"
-spelling Locate = codes "locate"
-spelling RenameDisk = codes "rename-disk"
-spelling Free = codes "free"
-spelling Delete = codes "delete"
-spelling Rename = codes "rename"
-spelling Copy = codes "copy"
-spelling Protect = codes "protect"
-spelling MakeDir = codes "mkdir"
-spelling Examine = codes "examine"
-spelling Next = codes "next"
-spelling DiskInfo = codes "diskinfo"
-spelling Info = codes "info"
-spelling Comment = codes "comment"
-spelling Parent = codes "parent"
-spelling Date = codes "date"
-spelling Same = codes "same"
-spelling Read = codes "read"
-spelling Write = codes "write"
-spelling Update = codes "update"
-spelling Input = codes "input"
-spelling Output = codes "output"
-spelling End = codes "end"
-spelling Seek = codes "seek"
-spelling Size = codes "size"
-spelling Other = codes "other"
+-- a word's keyword, and the kinds of the fields after it
+abbrev pub shape_of : Word → List ℕ × List FieldKind
+shape_of Die = (codes "die", [])
+shape_of DiskInfo = (codes "diskinfo", [])
+shape_of Locate = (codes "locate", VALUE ∷ SIGNED ∷ TEXT ∷ [])
+shape_of Free = (codes "free", VALUE ∷ [])
+shape_of Copy = (codes "copy", VALUE ∷ [])
+shape_of Parent = (codes "parent", VALUE ∷ [])
+shape_of Examine = (codes "examine", VALUE ∷ [])
+shape_of Info = (codes "info", VALUE ∷ [])
+shape_of Next = (codes "next", VALUE ∷ VALUE ∷ [])
+shape_of Same = (codes "same", VALUE ∷ VALUE ∷ [])
+shape_of Delete = (codes "delete", VALUE ∷ TEXT ∷ [])
+shape_of MakeDir = (codes "mkdir", VALUE ∷ TEXT ∷ [])
+shape_of Rename = (codes "rename", VALUE ∷ TEXT ∷ VALUE ∷ TEXT ∷ [])
+shape_of RenameDisk = (codes "rename-disk", TEXT ∷ [])
+shape_of Protect = (codes "protect", VALUE ∷ TEXT ∷ NUMBER ∷ [])
+shape_of Comment = (codes "comment", VALUE ∷ TEXT ∷ TEXT ∷ [])
+shape_of Date = (codes "date", VALUE ∷ TEXT ∷ NUMBER ∷ NUMBER ∷ NUMBER ∷ [])
+shape_of Update = (codes "update", VALUE ∷ TEXT ∷ [])
+shape_of Input = (codes "input", VALUE ∷ TEXT ∷ [])
+shape_of Output = (codes "output", VALUE ∷ TEXT ∷ [])
+shape_of Read = (codes "read", VALUE ∷ COUNT ∷ [])
+shape_of Write = (codes "write", VALUE ∷ LONG_TEXT ∷ [])
+shape_of End = (codes "end", VALUE ∷ [])
+shape_of Seek = (codes "seek", VALUE ∷ SIGNED ∷ SIGNED ∷ [])
+shape_of Size = (codes "size", VALUE ∷ SIGNED ∷ SIGNED ∷ [])
+shape_of Other = (codes "other", SIGNED ∷ [])
 
--- a fact about each packet whose line starts with the word
-abbrev pub EachOf : Word → (Packet → Type 0) → Type 0
-EachOf Die Fact = Fact packet.Die
-EachOf Locate Fact = (lock : ℕ) (path : List ℕ) (mode : ℤ) → Fact (packet.LocateObject lock path mode)
-EachOf RenameDisk Fact = (name : List ℕ) → Fact (packet.RenameDisk name)
-EachOf Free Fact = (lock : ℕ) → Fact (packet.FreeLock lock)
-EachOf Delete Fact = (lock : ℕ) (path : List ℕ) → Fact (packet.DeleteObject lock path)
-EachOf Rename Fact = (from_lock : ℕ) (from : List ℕ) (to_lock : ℕ) (to : List ℕ) → Fact (packet.RenameObject from_lock from to_lock to)
-EachOf Copy Fact = (lock : ℕ) → Fact (packet.CopyDir lock)
-EachOf Protect Fact = (lock : ℕ) (path : List ℕ) (bits : ℕ) → Fact (packet.SetProtect lock path bits)
-EachOf MakeDir Fact = (lock : ℕ) (path : List ℕ) → Fact (packet.CreateDir lock path)
-EachOf Examine Fact = (lock : ℕ) → Fact (packet.ExamineObject lock)
-EachOf Next Fact = (lock key : ℕ) → Fact (packet.ExamineNext lock key)
-EachOf DiskInfo Fact = Fact packet.DiskInfo
-EachOf Info Fact = (lock : ℕ) → Fact (packet.Info lock)
-EachOf Comment Fact = (lock : ℕ) (path comment : List ℕ) → Fact (packet.SetComment lock path comment)
-EachOf Parent Fact = (lock : ℕ) → Fact (packet.Parent lock)
-EachOf Date Fact = (lock : ℕ) (path : List ℕ) (date : Date3) → Fact (packet.SetDate lock path date)
-EachOf Same Fact = (first second : ℕ) → Fact (packet.SameLock first second)
-EachOf Read Fact = (handle : ℕ) (buffer : List ℕ) → Fact (packet.Read handle buffer)
-EachOf Write Fact = (handle : ℕ) (bytes : List ℕ) → Fact (packet.Write handle bytes)
-EachOf Update Fact = (lock : ℕ) (path : List ℕ) → Fact (packet.FindUpdate lock path)
-EachOf Input Fact = (lock : ℕ) (path : List ℕ) → Fact (packet.FindInput lock path)
-EachOf Output Fact = (lock : ℕ) (path : List ℕ) → Fact (packet.FindOutput lock path)
-EachOf End Fact = (handle : ℕ) → Fact (packet.End handle)
-EachOf Seek Fact = (handle : ℕ) (offset mode : ℤ) → Fact (packet.Seek handle offset mode)
-EachOf Size Fact = (handle : ℕ) (offset mode : ℤ) → Fact (packet.SetFileSize handle offset mode)
-EachOf Other Fact = (action : ℤ) → Fact (packet.Other action)
-
--- after the word, these bytes are no packet, with these values of earlier replies
-abbrev pub PutsNone : Word → List (Option ℕ) → List ℕ → Type 0
-PutsNone word values rest = EachOf word (λ packet. SpellsFields values (form_of packet).1 rest → ⊥)
-
--- after the word, these bytes are the packet, with these values of earlier replies; or they are none
-abbrev pub Puts : Word → List (Option ℕ) → List ℕ → Option Packet → Type 0
-Puts word values rest found =
-    MatchOption found
-    (PutsNone word values rest)
-    (λ packet. ((form_of packet).0 ≡ spelling word) × SpellsFields values (form_of packet).1 rest)
+-- the line is this keyword and these fields
+abbrev pub HasFields : List (Option ℕ) → Line → List ℕ → Type 0
+HasFields values read line =
+    (rest : List ℕ) × (line ≡ (shape_of read.word).0 ++ rest)
+    × SpellsFields values (fields_by (shape_of read.word).1 (values_of read.fields)) rest
