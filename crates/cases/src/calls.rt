@@ -12,7 +12,8 @@ use crate::rows::{Table, cut, expect_rows, holds, long_of};
 use adf_block::Image;
 use adf_block::layout::{BOOT_BLOCKS, FIRST_PAGE, PAGE_BITS};
 use ados_census::{
-    BlockKind, Place, PlaceKind, WrongLong, class_as, class_of, places_of, reached_blocks, take_census,
+    BlockKind, Place, PlaceKind, WrongLong, class_as, class_of, places_of, reached_blocks,
+    take_census,
 };
 use ados_chain::is_empty;
 use ados_map::{count_free, give_back, is_free, take_first};
