@@ -8,9 +8,9 @@ pub use Rattle.ados_map.specs.Pages.{page_block}
 pub use Rattle.ados_sound.specs.Marks.{mark_at}
 pub use Rattle.adf_account.specs.Account.{BelongsTo, HasExtensionBlock, IsAccounted, IsDamagedFile, IsNextExtension, IsOfDamaged, OfOne}
 pub use Rattle.ados_mend.specs.Mendable.{IsPage}
-unfoldable pub use Rattle.ados_mend.specs.steps.Marks.{unmarked}
+unfoldable pub use Rattle.ados_census.specs.steps.Marks.{unmarked}
 pub use Rattle.adf_account.specs.steps.Accounting.{Adds, AreAccounted, AreClosed, AreMarkedAfter, HasNoMarks, IsNewAfter, IsOwn, IsOwnIn, IsPieceBlock}
-pub use Rattle.ados_mend.specs.steps.Marks.{IsMarked}
+pub use Rattle.ados_census.specs.steps.Marks.{IsMarked}
 pub use Rattle.ados_model.specs.Faults.{InImage, root_of}
 unfoldable pub use Rattle.ados_model.specs.File.{data_blocks, extension_blocks}
 pub use Rattle.ados_model.specs.File.{ReadableFile, data_block, pointer_block}

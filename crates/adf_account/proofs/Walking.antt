@@ -5,7 +5,7 @@ use Rattle.adf_account.proofs.Common.{block_count, parent_key, InImage, HasExten
 use Rattle.adf_salvage.specs.declared.salvaged.Salvaged.{Salvaged}
 use Rattle.adf_account.specs.Account.HasExtensionBlock.{first, further}
 use Rattle.adf_account.proofs.Marking.{adds_none}
-use Rattle.ados_mend.proofs.Marking.{marked_before, now_marked, still_marked}
+use Rattle.ados_census.proofs.Marking.{marked_before, now_marked, still_marked}
 
 -- the walk along the extension blocks of a file has come to this holder: all before it are marked, and marks are closed but for the next one
 pub record Walks (image : List ℕ) (file : ℕ) (old marks : List Bool) (holder : ℕ) : Type 0 where

@@ -1,17 +1,16 @@
 //! The account of an image: the blocks that are used and belong to nothing that a salvage tells.
-ghost use Rattle.std.specs.Prelude.{◌≡◌, IfOk, MatchBool, false, true};
+ghost use Rattle.std.specs.Prelude.{◌≡◌, IfOk, MatchBool, MatchOption, is_none};
 ghost use Rattle.ados_model.specs.Faults.{InImage};
 ghost use Rattle.ados_sound.specs.Deleted.{IsTrustedBitmap};
-ghost use Rattle.ados_mend.specs.steps.Reaching.{AreCells};
 ghost use Rattle.adf_account.specs.Account.{AreUnaccounted, CountsAsUsed, HasContent, IsUnaccounted};
-ghost use Rattle.adf_account.specs.steps.Accounting.{AreAccounted};
+ghost use Rattle.adf_account.specs.steps.Accounting.{AreAccounted, needed};
 
 use crate::accounted::accounted_marks;
 use adf_block::Image;
 use adf_block::layout::{BLOCK_BYTES, BOOT_BLOCKS};
 use adf_salvage::Salvage;
+use ados_census::{Reached, reached_blocks};
 use ados_map::is_free;
-use ados_mend::{is_reached, reached_cells};
 use std::alloc::{AllocError, Global};
 
 /// The blocks of the volume that are used and belong to nothing that a salvage tells, in order.
@@ -25,18 +24,19 @@ pub fn unaccounted_blocks(alloc: Global, salvage: &Salvage) -> Result<Vec<u32>, 
     ensures { IfOk result (λ blocks. AreUnaccounted salvage.now blocks.items) }
 {
     let marks = accounted_marks(alloc, salvage)?;
-    let cells = needed_cells(alloc, salvage)?;
-    unmarked_blocks(alloc, salvage, &marks, &cells)
+    let reached = needed_reached(alloc, salvage)?;
+    unmarked_blocks(alloc, salvage, &marks, &reached)
 }
 
-/// The cells of the reached blocks, if the bitmap is not trusted.
-fn needed_cells(alloc: Global, salvage: &Salvage) -> Result<Vec<bool>, AllocError>
-    ensures { IfOk result (λ cells. salvage.now.trusted ≡ false → AreCells salvage.now.image cells.items) }
+/// The reached blocks, if the bitmap is not trusted.
+fn needed_reached(alloc: Global, salvage: &Salvage) -> Result<Option<Reached<'_>>, AllocError>
+    ensures { IfOk result (λ reached. reached ≡ needed salvage.now.trusted salvage.now.image) }
 {
     if salvage.is_bitmap_trusted() {
-        return Ok(Vec::new(alloc));
+        return Ok(None);
     }
-    reached_cells(alloc, salvage.image())
+    let reached = reached_blocks(alloc, salvage.image())?;
+    Ok(Some(reached))
 }
 
 /// The blocks of the volume that are used and have no mark.
@@ -44,16 +44,16 @@ fn unmarked_blocks(
     alloc: Global,
     salvage: &Salvage,
     marks: &[bool],
-    cells: &[bool],
+    reached: &Option<Reached<'_>>,
 ) -> Result<Vec<u32>, AllocError>
     requires marks { AreAccounted salvage.now marks.now }
-    requires cells { salvage.now.trusted ≡ false → AreCells salvage.now.image cells.now }
+    requires reached { reached.now ≡ needed salvage.now.trusted salvage.now.image }
     ensures { IfOk result (λ blocks. AreUnaccounted salvage.now blocks.items) }
 {
     let count = salvage.image().blocks();
     let mut blocks = Vec::new(alloc);
     for block in BOOT_BLOCKS..count {
-        if is_unaccounted(salvage, marks, cells, block) {
+        if is_unaccounted(salvage, marks, reached, block) {
             blocks.push(block)?;
         }
     }
@@ -61,30 +61,33 @@ fn unmarked_blocks(
 }
 
 /// Whether a block is used and has no mark.
-fn is_unaccounted(salvage: &Salvage, marks: &[bool], cells: &[bool], block: u32) -> bool
+fn is_unaccounted(
+    salvage: &Salvage,
+    marks: &[bool],
+    reached: &Option<Reached<'_>>,
+    block: u32,
+) -> bool
     requires inside { InImage salvage.now.image block }
     requires marks { AreAccounted salvage.now marks.now }
-    requires cells { salvage.now.trusted ≡ false → AreCells salvage.now.image cells.now }
+    requires reached { reached.now ≡ needed salvage.now.trusted salvage.now.image }
     ensures { MatchBool result (IsUnaccounted salvage.now block) (¬ IsUnaccounted salvage.now block) }
 {
     if marks[block as usize] {
         return false;
     }
-    counts_as_used(salvage.image(), salvage.is_bitmap_trusted(), cells, block)
+    counts_as_used(salvage.image(), reached, block)
 }
 
-/// Whether a block counts as used.
+/// Whether a block counts as used. The bitmap is trusted, or the reached blocks are there.
 #[tactic(auto, using(ados_sound::proofs::Trusting::trusted_pages))]
-fn counts_as_used(image: &Image, trusted: bool, cells: &[bool], block: u32) -> bool
+fn counts_as_used(image: &Image, reached: &Option<Reached<'_>>, block: u32) -> bool
     requires inside { InImage image.now block }
-    requires trust { trusted ≡ true → IsTrustedBitmap image.now }
-    requires cells { trusted ≡ false → AreCells image.now cells.now }
-    ensures { MatchBool result (CountsAsUsed image.now trusted block) (¬ CountsAsUsed image.now trusted block) }
+    requires reached { MatchOption reached.now (IsTrustedBitmap image.now) (λ them. them ≡ image.now) }
+    ensures { MatchBool result (CountsAsUsed image.now (is_none reached.now) block) (¬ CountsAsUsed image.now (is_none reached.now) block) }
 {
-    if trusted {
-        !is_free(image, block)
-    } else {
-        has_content(image, block) || is_reached(image, cells, block)
+    match reached {
+        Some(reached) => has_content(image, block) || reached.has(block),
+        None => !is_free(image, block),
     }
 }
 

@@ -2,7 +2,7 @@
 ghost use Rattle.std.specs.Prelude.{◌≡◌, ◌<◌, ◌++◌, ◌∷◌, [], All, IfOk, OnOk, flat_map, length, map};
 ghost use Rattle.adf_block.specs.Image.{block_count};
 ghost use Rattle.ados_model.specs.File.{LawfulFile};
-ghost use Rattle.ados_mend.specs.steps.Marks.{IsMarked};
+ghost use Rattle.ados_census.specs.steps.Marks.{IsMarked};
 ghost use Rattle.adf_salvage.specs.steps.Keeping.{IsReadable};
 ghost use Rattle.adf_account.specs.Told.{AreExtensions, ListsAll, TellsBlocks, alike, boot_told, entry_told, extension_told, file_told, header_at, pages_told, piece_told, root_told};
 

@@ -5,8 +5,8 @@ pub use Rattle.adf_where.specs.Faulty.{AreFaultsAt, AreFound, IsFaultyBlock, blo
 pub use Rattle.adf_where.specs.Where.{AreNamed, AreTold, IsWhereOf, Told, entry_of, own_from, owner_text, path_text, place_text, seen, span_of, span_text, told_as, told_at, told_of, told_tokens, where_line, where_of}
 pub use Rattle.adf_where.specs.declared.faulty.FaultyBlock.{FaultyBlock}
 pub use Rattle.ados_faults.specs.Listed.{StandsBefore, fault_of}
-pub use Rattle.ados_mend.specs.Places.{AreAllPlaces}
-pub use Rattle.ados_mend.specs.declared.naming.Place.{Place}
+pub use Rattle.ados_census.specs.Places.{AreAllPlaces}
+pub use Rattle.ados_census.specs.declared.place.Place.{Place}
 pub use Rattle.ados_model.proofs.Nodes.{content_in}
 pub use Rattle.ados_model.proofs.Standing.{count_same}
 pub use Rattle.ados_model.specs.Stands.{Stands}

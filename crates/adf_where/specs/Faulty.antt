@@ -10,10 +10,10 @@ use Rattle.ados_faults.specs.declared.listing.AllFaults.{AllFaults}
 use Rattle.ados_model.specs.declared.fault.FaultKind.{FaultKind}
 use Rattle.ados_model.specs.declared.fault.VolumeFault.{VolumeFault}
 use Rattle.ados_model.specs.Faults.{Shows, root_of}
-use Rattle.ados_mend.specs.declared.naming.Naming.{Naming}
-use Rattle.ados_mend.specs.declared.naming.Naming.TheVariants.{Entry, NextEntry, Extension, Data, Page}
-use Rattle.ados_mend.specs.declared.naming.Place.{Place}
-use Rattle.ados_mend.specs.Places.{AreAllPlaces}
+use Rattle.ados_census.specs.declared.place.PlaceKind.{PlaceKind}
+use Rattle.ados_census.specs.declared.place.PlaceKind.TheVariants.{Entry, NextEntry, Extension, Data, Page}
+use Rattle.ados_census.specs.declared.place.Place.{Place}
+use Rattle.ados_census.specs.Places.{AreAllPlaces}
 use Rattle.adf_archive.specs.Words.{kind_word}
 use Rattle.adf_words.specs.declared.block_word.BlockWord.{BlockWord}
 use Rattle.adf_where.specs.declared.faulty.FaultyBlock.{FaultyBlock}
@@ -49,15 +49,15 @@ abbrev pub of_block : ℕ → List ℕ
 of_block block = codes " of block " ++ decimal block
 
 -- what a place makes of the block that it names, and of which block it is
-abbrev pub naming_words : Naming → Place → List ℕ
-naming_words Entry place = codes "entry" ++ (of_block place.holder ++ (codes ", long " ++ decimal place.long))
-naming_words NextEntry place = codes "next entry" ++ of_block place.holder
-naming_words Extension place = codes "extension" ++ of_block place.holder
-naming_words Data place = codes "data " ++ (decimal (FIRST_POINTER - place.long) ++ of_block place.holder)
-naming_words Page place = codes "bitmap block " ++ (decimal (place.long - FIRST_PAGE) ++ of_block place.holder)
+abbrev pub kind_words : PlaceKind → Place → List ℕ
+kind_words Entry place = codes "entry" ++ (of_block place.holder ++ (codes ", long " ++ decimal place.long))
+kind_words NextEntry place = codes "next entry" ++ of_block place.holder
+kind_words Extension place = codes "extension" ++ of_block place.holder
+kind_words Data place = codes "data " ++ (decimal (FIRST_POINTER - place.long) ++ of_block place.holder)
+kind_words Page place = codes "bitmap block " ++ (decimal (place.long - FIRST_PAGE) ++ of_block place.holder)
 
 abbrev pub place_words : Place → List ℕ
-place_words place = naming_words place.naming place
+place_words place = kind_words place.kind place
 
 -- what is said of a block before its places: what it always is, or that nothing names it
 abbrev pub first_words : FaultyBlock → Option (List ℕ)
@@ -89,18 +89,18 @@ abbrev pub block_lines : ℕ → FaultyBlock → List ℕ
 block_lines blocks told = first_line blocks told ++ (place_lines blocks told ++ (flat_map fault_line told.faults.now ++ more_line told.more told.block))
 
 -- what a place makes of the block that it names, as one word
-abbrev pub naming_word : Naming → List ℕ
-naming_word Entry = codes "entry"
-naming_word NextEntry = codes "next"
-naming_word Extension = codes "extension"
-naming_word Data = codes "data"
-naming_word Page = codes "bitmap"
+abbrev pub place_word : PlaceKind → List ℕ
+place_word Entry = codes "entry"
+place_word NextEntry = codes "next"
+place_word Extension = codes "extension"
+place_word Data = codes "data"
+place_word Page = codes "bitmap"
 
 -- the object of a place
 abbrev pub place_object : Place → List Token
 place_object place =
     begin_object ∷ key (codes "block") ∷ number (decimal place.holder) ∷ key (codes "long") ∷ number (decimal place.long)
-    ∷ key (codes "role") ∷ string (naming_word place.naming) ∷ end_object ∷ []
+    ∷ key (codes "role") ∷ string (place_word place.kind) ∷ end_object ∷ []
 
 -- a fault, as one word
 abbrev pub fault_word : VolumeFault → List Token

@@ -1,15 +1,16 @@
 //! Blocks of an image that may be refused, with the places that name them and with their faults.
-ghost use Rattle.std.specs.Prelude.{◌≡◌, ◌==◌, ℕ, List, AllPairs, Contains, IfOk, filter};
+ghost use Rattle.std.specs.Prelude.{◌≡◌, ◌<◌, ◌==◌, ℕ, List, All, AllPairs, Contains, IfOk, filter};
 ghost use Rattle.std.specs.List.{AllZip};
+ghost use Rattle.std.specs.List.Sorted.{IsStrictlyIncreasing};
+ghost use Rattle.adf_block.specs.Image.{block_count};
 ghost use Rattle.ados_faults.specs.Listed.{StandsBefore};
-ghost use Rattle.ados_mend.specs.Places.{AreAllPlaces};
-ghost use Rattle.ados_mend.specs.steps.Reaching.{AreCells};
+ghost use Rattle.ados_census.specs.Places.{AreAllPlaces};
 ghost use Rattle.adf_where.specs.Faulty.{AreFound, IsFaultyBlock};
-ghost use Rattle.adf_where.specs.steps.Asked.{AreAsked};
+ghost use Rattle.adf_where.specs.steps.Asked.{AreAllPlacesOfEach, AreAsked};
 
 use adf_block::Image;
+use ados_census::{Place, places_of, reached_blocks, take_census};
 use ados_faults::AllFaults;
-use ados_mend::{Place, in_order, places_of};
 use ados_model::VolumeFault;
 use std::alloc::{AllocError, Global};
 
@@ -32,18 +33,17 @@ pub(crate) struct AskedBlocks {
 }
 
 impl AskedBlocks {
-    /// All places that name these blocks. The cells are those of the reached blocks.
+    /// All places that name these blocks.
     pub(crate) fn of(
         alloc: Global,
         image: &Image,
-        cells: &[bool],
         blocks: &[u32],
     ) -> Result<AskedBlocks, AllocError>
-        requires cells { AreCells image.now cells.now }
+        requires { All (λ block. block < block_count image.now) blocks.now }
         ensures { IfOk result (λ asked. AreAsked image.now blocks.now asked) }
     {
         let asked = in_order(alloc, blocks)?;
-        let lists = places_of(alloc, image, cells, &asked)?;
+        let lists = lists_of_places(alloc, image, &asked)?;
         Ok(AskedBlocks { asked, lists })
     }
 
@@ -59,6 +59,36 @@ impl AskedBlocks {
             Err(_) => &[],
         }
     }
+}
+
+/// These blocks in order, each once.
+fn in_order(alloc: Global, blocks: &[u32]) -> Result<Vec<u32>, AllocError>
+    ensures increasing { IfOk result (λ asked. IsStrictlyIncreasing asked.items) }
+    ensures all { IfOk result (λ asked. All (Contains asked.items) blocks.now) }
+    ensures inside { IfOk result (λ asked. (n : ℕ) → All (λ block. block < n) blocks.now → All (λ block. block < n) asked.items) }
+{
+    let mut asked = Vec::from_slice(alloc, blocks)?;
+    asked.sort_unstable();
+    asked.dedup();
+    Ok(asked)
+}
+
+/// For each of these blocks, all places that name it.
+fn lists_of_places(
+    alloc: Global,
+    image: &Image,
+    blocks: &[u32],
+) -> Result<Vec<Vec<Place>>, AllocError>
+    requires { All (λ block. block < block_count image.now) blocks.now }
+    ensures { IfOk result (AreAllPlacesOfEach image.now blocks.now) }
+{
+    let census = take_census(alloc, image)?;
+    let reached = reached_blocks(alloc, image)?;
+    let mut lists = Vec::new(alloc);
+    for block in blocks {
+        lists.push(places_of(alloc, &census, &reached, *block)?)?;
+    }
+    Ok(lists)
 }
 
 /// These blocks with the places that name them and with their faults.

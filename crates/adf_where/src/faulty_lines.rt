@@ -7,7 +7,7 @@ use crate::faulty::FaultyBlock;
 use crate::where_lines::place_text;
 use adf_archive::kind_word;
 use adf_block::layout::{BOOT_BLOCKS, FIRST_PAGE, FIRST_POINTER};
-use ados_mend::{Naming, Place};
+use ados_census::{Place, PlaceKind};
 use ados_model::VolumeFault;
 use std::alloc::{AllocError, Global};
 
@@ -77,20 +77,16 @@ pub(crate) fn push_place_line(
 fn place_words(alloc: Global, place: Place) -> Result<String, AllocError>
     ensures { IfOk result (λ words. string_bytes words ≡ place_words place) }
 {
-    let Place {
-        holder,
-        long,
-        naming,
-    } = place;
-    match naming {
-        Naming::Entry => format!(in alloc; "entry of block {holder}, long {long}"),
-        Naming::NextEntry => format!(in alloc; "next entry of block {holder}"),
-        Naming::Extension => format!(in alloc; "extension of block {holder}"),
-        Naming::Data => {
+    let Place { holder, long, kind } = place;
+    match kind {
+        PlaceKind::Entry => format!(in alloc; "entry of block {holder}, long {long}"),
+        PlaceKind::NextEntry => format!(in alloc; "next entry of block {holder}"),
+        PlaceKind::Extension => format!(in alloc; "extension of block {holder}"),
+        PlaceKind::Data => {
             let number = FIRST_POINTER.saturating_sub(long);
             format!(in alloc; "data {number} of block {holder}")
         }
-        Naming::Page => {
+        PlaceKind::Page => {
             let number = long.saturating_sub(FIRST_PAGE);
             format!(in alloc; "bitmap block {number} of block {holder}")
         }

@@ -1,14 +1,14 @@
 //! The JSON objects of blocks of a refused image.
 ghost use Rattle.std.specs.Prelude.{◌≡◌, ◌++◌, IfOk, OnOk};
 ghost use Rattle.json.specs.Print.{print};
-ghost use Rattle.adf_where.specs.Faulty.{naming_word};
+ghost use Rattle.adf_where.specs.Faulty.{place_word};
 ghost use Rattle.adf_where.specs.steps.Parts.{head_tokens, tail_tokens};
 
 use crate::forms::{Put, put_array};
 use crate::where_objects::put_place;
 use adf_archive::kind_word;
 use adf_record::{put_flag, put_number, put_text};
-use ados_mend::{Naming, Place};
+use ados_census::{Place, PlaceKind};
 use ados_model::VolumeFault;
 use json::Writer;
 use std::alloc::{AllocError, Global};
@@ -68,7 +68,7 @@ impl Put for Place {
         writer.begin_object()?;
         put_number(writer, "block", Some(u64::from(self.holder)))?;
         put_number(writer, "long", Some(u64::from(self.long)))?;
-        put_text(writer, "role", Some(naming_word(self.naming)))?;
+        put_text(writer, "role", Some(place_word(self.kind)))?;
         writer.end_object()
     }
 }
@@ -85,14 +85,14 @@ impl Put for VolumeFault {
 }
 
 /// What a place makes of the block that it names, as one word.
-fn naming_word(naming: Naming) -> &'static str
-    ensures { result.now ≡ naming_word naming }
+fn place_word(kind: PlaceKind) -> &'static str
+    ensures { result.now ≡ place_word kind }
 {
-    match naming {
-        Naming::Entry => "entry",
-        Naming::NextEntry => "next",
-        Naming::Extension => "extension",
-        Naming::Data => "data",
-        Naming::Page => "bitmap",
+    match kind {
+        PlaceKind::Entry => "entry",
+        PlaceKind::NextEntry => "next",
+        PlaceKind::Extension => "extension",
+        PlaceKind::Data => "data",
+        PlaceKind::Page => "bitmap",
     }
 }

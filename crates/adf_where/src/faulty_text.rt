@@ -10,7 +10,7 @@ use crate::faulty_lines::{push_behind, push_first, push_place_line};
 use crate::faulty_objects::{head_text, tail_text};
 use crate::forms::{closing, object_text, opening, push_comma};
 use adf_io::{PrintFault, write_text, write_when_long};
-use ados_mend::Place;
+use ados_census::Place;
 use std::alloc::{AllocError, Global};
 use std::io::Write;
 

@@ -12,7 +12,6 @@ use crate::where_fault::WhereFault;
 use adf_block::Image;
 use adf_words::BlockWord;
 use ados_faults::faults_of_any_disk;
-use ados_mend::reached_cells;
 use std::alloc::Global;
 use std::io::Write;
 
@@ -20,8 +19,8 @@ use std::io::Write;
 /// lines for each block, or with `json` an array of objects on a line of its own.
 ///
 /// If an argument names no block, nothing is written. If the writer fails or memory runs out, a prefix of the text is written.
-/// Memory holds the places that name each block once, and not the text. The image is gone through once for all blocks. Time
-/// grows almost linearly with the size of the image, the number of blocks and the length of the text.
+/// Memory holds the places that name each block once, and not the text; before that, the census of the image. Time grows almost
+/// linearly with the size of the image, the number of blocks and the length of the text.
 pub fn write_faulty_where<W: Write>(
     alloc: Global,
     image: &Image,
@@ -39,9 +38,8 @@ pub fn write_faulty_where<W: Write>(
         Ok(blocks) => blocks,
         Err(fault) => return Err(fault),
     };
-    let cells = reached_cells(alloc, image)?;
     let found = faults_of_any_disk(alloc, image)?;
-    let asked = AskedBlocks::of(alloc, image, &cells, &blocks)?;
+    let asked = AskedBlocks::of(alloc, image, &blocks)?;
     let told = faulty_blocks(alloc, image, &asked, &found, &blocks)?;
     match write_faulty(alloc, count, &told, json, line, writer) {
         Ok(()) => Ok(()),

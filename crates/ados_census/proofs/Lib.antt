@@ -1,5 +1,10 @@
--- The numbers that pass a test, below a bound; longs that are namings; and namings while they are sorted.
+-- The numbers that pass a test, below a bound; longs that are namings; namings while they are sorted; marks of blocks; reached
+-- blocks while they are found; and the places that name a block while they are found.
 pub mod Below
 mod Mending
 pub mod NamedLongs
 pub mod Sorting
+mod Insides
+pub mod Marking
+mod Reaching
+mod Placing

@@ -8,8 +8,8 @@ use Rattle.adf_block.specs.Fields.{pointer_count, secondary_type}
 use Rattle.ados_model.specs.declared.role.Role.{Role}
 use Rattle.ados_model.specs.declared.role.Role.TheVariants.{Root, Page, Entry, Data, Extension}
 use Rattle.ados_model.specs.Faults.{InImage, IsPlace, Reached, root_of}
-use Rattle.ados_model.specs.Faults.Reached.{named, start}
 use Rattle.ados_model.specs.Faults.IsPlace.{directory_slot, extension_pointer, first_extension, further_extension, header_pointer, next_entry, root_page, root_slot}
+use Rattle.ados_check.proofs.Roles.{only_root}
 use Rattle.ados_census.specs.Namings.{CouldBe, IsNaming, Names}
 use Rattle.ados_census.specs.Namings.CouldBe.{as_entry, as_extension, as_root}
 unfoldable use Rattle.ados_census.specs.steps.Below.{named_by}
@@ -245,21 +245,6 @@ module _ (image : List ℕ) where
   -- the numbers of namings have holders in the image
   pub number_small : (block number : ℕ) → Names image block number → number < 128 * block_count image
   number_small block number n = omega (arith, n.is_naming.inside.1)
-
--- no place makes a root
-never_root : {image : List ℕ} {block i : ℕ} {role next : Role} → IsPlace image block role i next → next ≡ Root → ⊥
-never_root (root_page l) e = cc e
-never_root (root_slot l h) e = cc e
-never_root (directory_slot y l h) e = cc e
-never_root (next_entry h) e = cc e
-never_root (header_pointer y p) e = cc e
-never_root (first_extension y h) e = cc e
-never_root (extension_pointer p) e = cc e
-never_root (further_extension h) e = cc e
-
-only_root : {image : List ℕ} {block : ℕ} {role : Role} → Reached image block role → role ≡ Root → block ≡ root_of image
-only_root start e = refl
-only_root (named h p inside) e = absurd (never_root p e)
 
 -- a reached block could have its role, if the role has places
 could_be : {image : List ℕ} {block i : ℕ} {role next : Role} → Reached image block role → IsPlace image block role i next → CouldBe image block role

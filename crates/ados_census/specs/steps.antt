@@ -1,3 +1,7 @@
--- Definitions for steps: the namings below a number, and their counts and positions while they are sorted.
+-- Definitions for steps: the namings below a number, and their counts and positions while they are sorted; the reached blocks
+-- while they are found; and the places that name a block while they are found.
 pub mod Below
 pub mod Sorting
+pub mod Marks
+pub mod Reaching
+pub mod Placing

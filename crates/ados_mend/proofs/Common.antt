@@ -5,30 +5,22 @@ pub use Rattle.adf_block.specs.Frame.{OnlyLong, SameBut}
 unfoldable pub use Rattle.adf_block.specs.Image.{block_sum, byte_at, bytes_at, has_free_bit, long}
 pub use Rattle.adf_block.specs.Image.{Chained, HasText, IsInside, block_count, page_count, root_key, total}
 pub use Rattle.adf_block.specs.Whole.{HasFreeBit, IsImage, text_at}
-pub use Rattle.adf_block.specs.declared.layout.TheConstants.{COMMENT_BYTE, FIRST_PAGE, FIRST_POINTER, FIRST_SLOT, NAME_BYTE, NEXT_DATA, NEXT_EXTENSION, NEXT_IN_CHAIN}
+pub use Rattle.adf_block.specs.declared.layout.TheConstants.{COMMENT_BYTE, NAME_BYTE, NEXT_DATA, NEXT_EXTENSION, NEXT_IN_CHAIN}
 pub use Rattle.ados_sound.specs.Sound.{IsSoundHeader}
-pub use Rattle.ados_check.proofs.PlaceLemmas.{of_root, place_within}
+pub use Rattle.ados_check.proofs.PlaceLemmas.{of_root}
 pub use Rattle.ados_check.proofs.Roles.{only_root, reached_marked}
 pub use Rattle.ados_faults.proofs.Closing.{few_pages}
 pub use Rattle.ados_faults.proofs.Insides.{reached_inside, root_inside}
 pub use Rattle.ados_map.specs.Pages.{LawfulPages, page_block, pages_of}
-pub use Rattle.ados_sound.specs.Marks.{mark_at}
-pub use Rattle.ados_mend.specs.Reached.{IsReached}
 pub use Rattle.ados_mend.specs.BlockMap.{IsMap, header_tokens, map_of, map_page, meaning_line, object_tokens, owner_letters}
 pub use Rattle.ados_mend.specs.Mendable.{IsMendable, IsPage, ShowsOnlyMendable}
-pub use Rattle.ados_mend.specs.Places.{AreAllPlaces, AreAllPlacesOfEach, Gives, IsPlaceOfReached, NamesBlock, naming_of, position, rank}
 pub use Rattle.ados_mend.specs.Validated.{IsValidated, without_lost}
-pub use Rattle.ados_mend.specs.declared.naming.Place.{Place}
-unfoldable pub use Rattle.ados_mend.specs.steps.Marks.{unmarked}
-pub use Rattle.ados_mend.specs.steps.Marks.{IsMarked}
 pub use Rattle.ados_mend.specs.steps.Cautious.{AreSafePages, FreedHeadersStay, HasNoLostHeader, IsSafePage}
 pub use Rattle.ados_mend.specs.steps.Kept.{AreKeptLongs, page_long}
-pub use Rattle.ados_mend.specs.steps.Placing.{AreListsBelow, ArePlacesBelow, IsGivenIn, IsListOf}
-pub use Rattle.ados_mend.specs.steps.Reaching.{AreCells, AreKept, AreVisited, AreWalked, IsPassed, IsStep, cell, form}
 pub use Rattle.ados_mend.specs.steps.Settled.{HaveSums, IsRootMark, IsSettled, MendableHasPages, ValidatedHasPages}
 pub use Rattle.ados_model.proofs.Standing.{StandsAt, count_same, reached_stands, root_is, serves_at, slice_get-index}
 pub use Rattle.ados_model.specs.Accepted.{Accepts, HasNoLost, ShowsNoFault}
-pub use Rattle.ados_model.specs.Faults.{AreDataBlocks, HasBadComment, HasBadCount, HasBadName, HasBadOwnKey, HasBadParent, HasBadPointer, HasBadSequence, HasBadSum, HasBadType, HasDuplicateName, HasName, HasPointers, HasShortName, HasSum, HoldsOtherSize, InImage, IsContinued, IsDataAt, IsDirectory, IsEntry, IsFile, IsInWrongChain, IsInnerData, IsLinkType, IsOfs, IsPlace, IsUsedTwice, LeadsInside, LinkedOnce, PlaceNames, Reached, Shows, first_pointers, last_link, pointers_of, root_of}
+pub use Rattle.ados_model.specs.Faults.{AreDataBlocks, HasBadComment, HasBadCount, HasBadName, HasBadOwnKey, HasBadParent, HasBadPointer, HasBadSequence, HasBadSum, HasBadType, HasDuplicateName, HasName, HasPointers, HasShortName, HasSum, HoldsOtherSize, InImage, IsContinued, IsDataAt, IsDirectory, IsEntry, IsFile, IsInWrongChain, IsInnerData, IsLinkType, IsOfs, IsPlace, IsUsedTwice, LinkedOnce, PlaceNames, Reached, Shows, first_pointers, last_link, pointers_of, root_of}
 pub use Rattle.ados_model.specs.Faults.IsPlace.{directory_slot, extension_pointer, first_extension, further_extension, header_pointer, next_entry, root_page, root_slot}
 pub use Rattle.ados_model.specs.Faults.IsUsedTwice.{root_named, two_holders, two_longs}
 pub use Rattle.ados_model.specs.Faults.Reached.{named, start}
@@ -40,15 +32,13 @@ pub use Rattle.ados_model.specs.declared.fault.FaultKind.TheVariants.{BadComment
 pub use Rattle.ados_model.specs.declared.role.Role.{Role}
 pub use Rattle.ados_model.specs.declared.role.Role.TheVariants.{Data, Entry, Extension, Page, Root}
 pub use Rattle.std.proofs.lemmas.Bool.{and_parts, cases_Bool, cases_eq, cases_lt, eqb-false, false≢true, le-leb, leb-true, lt-leb, lt-ltb, ltb-true, not-true}
-pub use Rattle.std.proofs.lemmas.List.{get_or_append_left, get_or_default, get_or_past, get_or_push, length-drop, length-take, length_push, take_more}
-pub use Rattle.std.proofs.lemmas.List.Elements.{All-contains, All-from_get_or, All-get_or, All-push, Contains-append_left, Contains-get_or, Contains-push}
-pub use Rattle.std.proofs.lemmas.Option.{MatchOption-at_some, none-some, same_Some, slice_get-get_or, slice_get_read, slice_get_within}
+pub use Rattle.std.proofs.lemmas.List.{get_or_default, get_or_past, length-drop, length-take}
+pub use Rattle.std.proofs.lemmas.List.Elements.{All-contains, All-from_get_or, All-get_or}
 pub use Rattle.std.proofs.lemmas.Result.{IfOk-weaker, on_ok_weaker}
-pub use Rattle.std.specs.List.{AllZip, enumerate_from, range_with_len, slice_get}
+pub use Rattle.std.specs.List.{enumerate_from, range_with_len}
 pub use Rattle.std.specs.Prelude.{All, Contains, bit_and, flat_map, if◌then◌else◌}
-pub use Rattle.std.proofs.Common.{Bool, Err, Global, List, MatchBool, MatchOption, None, Ok, Option, Result, Some, Vec, [], ap, ap₂, arith, below_more, bit_xor, codes, count_ones, drop, eqb, false, get_or, get_or-set_other, get_or-set_same, inl, inr, length, length-set, map, min, nat_le, nat_lt, not, refl, set, slice_index, slice_index_or, subst, suc, sum_by, sym, take, true, zero, ℕ, ◌%◌, ◌&&◌, ◌*◌, ◌++◌, ◌+◌, ◌-◌, ◌/◌, ◌<◌, ◌==◌, ◌^◌, ◌∙◌, ◌∷◌, ◌≡◌, ◌≢◌, ◌≤◌, ◌⊎◌}
+pub use Rattle.std.proofs.Common.{Bool, List, MatchOption, None, Option, Some, [], ap, ap₂, arith, bit_xor, codes, count_ones, drop, eqb, false, inl, inr, length, map, min, nat_le, nat_lt, not, refl, slice_index, slice_index_or, subst, suc, sum_by, sym, take, true, zero, ℕ, ◌%◌, ◌&&◌, ◌*◌, ◌++◌, ◌+◌, ◌-◌, ◌/◌, ◌<◌, ◌==◌, ◌^◌, ◌∙◌, ◌∷◌, ◌≡◌, ◌≢◌, ◌≤◌, ◌⊎◌}
 pub use Rattle.ados_check.proofs.Untouched.{HasSameLongs, IsPlaceLong, place_long, place_moves}
 pub use Rattle.ados_model.specs.Faults.HasBadPointer.{first_data, further_data, outside}
-pub use Rattle.std.proofs.lemmas.List.Kept.{AllPairs-from_increasing, Contains-dedup_nat}
 pub use Rattle.ados_map.specs.Changes.{InPages}
 pub use Rattle.std.proofs.lemmas.Nat.{pow_below, xor_of_32}

@@ -1,4 +1,4 @@
--- The bitmap blocks of an image, what stays when only the bitmap changes, the image with a new bitmap; marks of blocks; and the places that name blocks.
+-- The bitmap blocks of an image, what stays when only the bitmap changes, and the image with a new bitmap.
 pub mod Common
 pub mod PageFaults
 pub mod PageRoles
@@ -16,7 +16,3 @@ pub mod Passed
 pub mod SettlingPages
 pub mod Renewed
 mod Numbered
-pub mod Marking
-pub mod Reaching
-pub mod Placing
-pub mod PlaceLists

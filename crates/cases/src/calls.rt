@@ -11,7 +11,10 @@ use crate::fixtures::{FLOPPY, START, blank_handler, blank_image, work};
 use crate::rows::{Table, cut, expect_rows, holds, long_of};
 use adf_block::Image;
 use adf_block::layout::{BOOT_BLOCKS, FIRST_PAGE, PAGE_BITS};
-use ados_census::{BlockKind, WrongLong, class_as, class_of, take_census};
+use ados_census::{
+    BlockKind, Place, PlaceKind, WrongLong, class_as, class_of, places_of, reached_blocks,
+    take_census,
+};
 use ados_chain::is_empty;
 use ados_map::{count_free, give_back, is_free, take_first};
 use ados_volume::Volume;
@@ -113,6 +116,35 @@ fn expect_one_naming(rt: &impl Abort, alloc: Global, image: &Image) {
 fn namings_of_a_blank_floppy(rt: HostRuntime) {
     let image = blank_image(&rt, rt.alloc(), FLOPPY);
     expect_one_naming(&rt, rt.alloc(), &image);
+}
+
+/// Of the blocks of a blank floppy, the root and the bitmap block are reached. The only place that names the bitmap block is
+/// long 79 of the root, and no place names the root.
+fn expect_one_place(rt: &impl Abort, alloc: Global, image: &Image) {
+    let census = take_census(alloc, image).expect(rt, "memory");
+    let reached = reached_blocks(alloc, image).expect(rt, "memory");
+    assert!(rt; 882 < image.blocks());
+    holds(rt, reached.has(880) && reached.has(881), "reached");
+    holds(rt, !reached.has(879) && !reached.has(882), "not reached");
+    let of_root = places_of(alloc, &census, &reached, 880).expect(rt, "memory");
+    holds(rt, of_root.is_empty(), "the root");
+    let of_page = places_of(alloc, &census, &reached, 881).expect(rt, "memory");
+    holds(rt, of_page.len() == 1, "one place");
+    holds(rt, is_first_page(&of_page), "by the root");
+}
+
+/// Whether the first place is that of the first bitmap block in the root of a floppy.
+fn is_first_page(places: &[Place]) -> bool {
+    match places.first() {
+        Some(place) => place.holder == 880 && place.long == 79 && place.kind == PlaceKind::Page,
+        None => false,
+    }
+}
+
+#[test]
+fn places_of_a_blank_floppy(rt: HostRuntime) {
+    let image = blank_image(&rt, rt.alloc(), FLOPPY);
+    expect_one_place(&rt, rt.alloc(), &image);
 }
 
 /// Block 882 of a blank floppy, of which each turn changes one long.

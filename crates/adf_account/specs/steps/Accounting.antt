@@ -1,5 +1,5 @@
 -- Marks of the blocks that are accounted for.
-use Rattle.std.specs.Prelude.{◌≡◌, ◌⊎◌, ℕ, ◌<◌, Bool, MatchBool, false, List, length}
+use Rattle.std.specs.Prelude.{◌≡◌, ◌⊎◌, ℕ, ◌<◌, Bool, MatchBool, true, false, List, length, Option, Some, None}
 use Rattle.adf_block.specs.Fields.{parent_key}
 use Rattle.adf_block.specs.Image.{block_count}
 use Rattle.adf_salvage.specs.declared.giving.Piece.{Piece}
@@ -9,8 +9,13 @@ use Rattle.adf_salvage.specs.declared.salvaged.State.TheVariants as states
 use Rattle.adf_salvage.specs.Salvaged.{Saved}
 use Rattle.ados_sound.specs.Sound.{Names}
 use Rattle.ados_sound.specs.Marks.{mark_at}
-use Rattle.ados_mend.specs.steps.Marks.{IsMarked}
+use Rattle.ados_census.specs.steps.Marks.{IsMarked}
 use Rattle.adf_account.specs.Account.{IsAccounted, IsNextExtension}
+
+-- the reached blocks of an image are needed, unless its bitmap is trusted
+abbrev pub needed : Bool → List ℕ → Option (List ℕ)
+needed true image = None
+needed false image = Some image
 
 -- there is a mark for each block of the image, and no block is marked
 pub record HasNoMarks (image : List ℕ) (marks : List Bool) : Type 0 where

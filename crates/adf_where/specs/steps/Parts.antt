@@ -2,7 +2,7 @@
 use Rattle.std.specs.Prelude.{◌≡◌, ℕ, Bool, if◌then◌else◌, List, [], ◌∷◌, ◌++◌, flat_map, codes}
 use Rattle.json.specs.Token.{Token, begin_array, begin_object, boolean, end_array, end_object, key}
 use Rattle.json.specs.Print.{print}
-use Rattle.ados_mend.specs.declared.naming.Place.{Place}
+use Rattle.ados_census.specs.declared.place.Place.{Place}
 use Rattle.ados_model.specs.Tree.{Tree}
 use Rattle.ados_model.specs.declared.fault.VolumeFault.{VolumeFault}
 use Rattle.ados_volume.specs.declared.owner.Owner.{Owner}

@@ -1,5 +1,5 @@
 use Rattle.std.proofs.Common.{arith}
-use Rattle.ados_mend.proofs.Marking.{fewer_unmarked}
+use Rattle.ados_census.proofs.Marking.{fewer_unmarked}
 use Rattle.adf_account.proofs.Walking.{walk_adds, walk_goes_on}
 use Rattle.adf_account.proofs.extensions.follow.Goals as goal
 

@@ -1,4 +1,4 @@
-use Rattle.ados_mend.specs.steps.Marks.{unmarked}
+use Rattle.ados_census.specs.steps.Marks.{unmarked}
 use Rattle.adf_account.proofs.Walking.{Walks}
 use Rattle.adf_account.proofs.extensions.follow.Given as goal
 

@@ -4,5 +4,5 @@ use Rattle.adf_where.proofs.faulty_objects.PlacePut.put.Goals as goal
 pub returns-clause-tokens : goal.returns-clause-tokens
 returns-clause-tokens c =
     on_ok_weaker c.end_object.result
-    (λ last. last ∙ simp (c.in_ok-put_text.ensures.tokens, c.in_ok-put_number-2.ensures.tokens, c.in_ok-put_number.ensures.tokens, c.in_ok-begin_object.ensures.ok, c.from.ensures, c.from-2.ensures, c.naming_word.ensures, append_assoc))
+    (λ last. last ∙ simp (c.in_ok-put_text.ensures.tokens, c.in_ok-put_number-2.ensures.tokens, c.in_ok-put_number.ensures.tokens, c.in_ok-begin_object.ensures.ok, c.from.ensures, c.from-2.ensures, c.place_word.ensures, append_assoc))
     c.end_object.ensures.ok
