@@ -9,5 +9,7 @@ mod laws;
 mod naming;
 
 pub use census::{Census, take_census};
-pub use class::{BLOCK_KINDS, BlockClass, BlockKind, WrongLong, class_as, class_of};
+pub use class::{
+    BLOCK_KINDS, BlockClass, BlockKind, WrongLong, class_as, class_of, is_sound_as, looks_like,
+};
 pub use laws::places_are_namings;
