@@ -83,14 +83,10 @@ module _ (image : List ℕ) (block : ℕ) where
   wanted_is wrong small zero fits =
       from_zero (total (long image block) 128) (total (mended image block (Some wrong)) 128) wrong.wanted (long image block wrong.long) (moved wrong small) zero fits
 
-  sum_as_is : sum_of (long image block) ≡ block_sum image block
-  unfolding block_sum sum_of
-  sum_as_is = refl
-
   module _ (kind : BlockKind) where
     -- a block with right fields and a right sum
     pub sound_now : block_sum image block ≡ 0 → HasFields kind (block_count image) block (mended image block None) → IsKind image block kind None
-    sound_now zero fields = record { fields = fields; sum = sum_as_is ∙ zero }
+    sound_now zero fields = record { fields = fields; sum = zero }
 
     -- a block with a right sum is sound, or of another kind
     pub other_now : block_sum image block ≡ 0 → ¬ HasFields kind (block_count image) block (mended image block None) → (wrong : Option WrongLong) → ¬ IsKind image block kind wrong
@@ -99,7 +95,7 @@ module _ (image : List ℕ) (block : ℕ) where
 
     -- a block with a wrong sum that no long makes sound is of another kind
     pub other_mended : block_sum image block ≢ 0 → All (λ (i : ℕ). ¬ IsMendedBy image block kind i) (longs_of kind) → (wrong : Option WrongLong) → ¬ IsKind image block kind wrong
-    other_mended bad none None = λ sound. bad (sym sum_as_is ∙ sound.sum)
+    other_mended bad none None = λ sound. bad sound.sum
     other_mended bad none (Some wrong) = λ but.
         at_before (λ (i : ℕ). ¬ IsMendedBy image block kind i) (λ (i : ℕ). ¬ IsMendedBy image block kind i) (longs_of kind) wrong.long but.first none
         (record { wrong = wrong; here = refl; fits = but.fits; sound = but.sound })

@@ -8,6 +8,8 @@ use Rattle.adf_block.specs.declared.layout.TheConstants.{HEADER_TYPE, DATA_TYPE,
 use Rattle.adf_block.specs.declared.layout.TheConstants.{POINTER_COUNT, TABLE_LONGS, COMMENT_BYTE, NAME_BYTE}
 use Rattle.adf_block.specs.declared.layout.TheConstants.{SEQUENCE, HELD, NEXT_DATA, OFS_ROOM}
 use Rattle.adf_block.specs.declared.beside.TheConstants.{CHECKSUM}
+use Rattle.ados_name.specs.declared.name.TheConstants.Name.{MAX_LEN as MOST_NAME}
+use Rattle.ados_name.specs.declared.comment.TheConstants.Comment.{MAX_LEN as MOST_COMMENT}
 use Rattle.ados_census.specs.declared.class.BlockClass.{BlockClass}
 use Rattle.ados_census.specs.declared.class.BlockKind.{BlockKind}
 use Rattle.ados_census.specs.declared.class.BlockKind.TheVariants.{FileHeader, DirectoryHeader, Extension, OfsData, Bitmap}
@@ -27,45 +29,61 @@ abbrev pub IsSeparatorAt : (ℕ → ℕ) → ℕ → Type 0
 IsSeparatorAt longs p =
     (NAME_BYTE < p) × (p ≤ NAME_BYTE + byte_of longs NAME_BYTE) × ((byte_of longs p ≡ 47) ⊎ (byte_of longs p ≡ 58))
 
--- the name is empty, has more than 30 bytes, or has a `/` or a `:`
+-- the name is empty, too long, or has a `/` or a `:`
 abbrev pub HasWrongName : (ℕ → ℕ) → Type 0
 HasWrongName longs =
-    (byte_of longs NAME_BYTE ≡ 0) ⊎ (30 < byte_of longs NAME_BYTE) ⊎ ((p : ℕ) × IsSeparatorAt longs p)
+    (byte_of longs NAME_BYTE ≡ 0) ⊎ (MOST_NAME < byte_of longs NAME_BYTE) ⊎ ((p : ℕ) × IsSeparatorAt longs p)
 
--- the header of a file or directory, by its secondary type, in its own block
-pub record IsHeader (secondary block : ℕ) (longs : ℕ → ℕ) : Type 0 where
+-- the header of a file or directory by its types, its own number and its name, whatever else it has
+pub record HasHeading (secondary block : ℕ) (longs : ℕ → ℕ) : Type 0 where
   pub primary : longs PRIMARY_TYPE ≡ HEADER_TYPE
   pub own_key : longs OWN_KEY ≡ block
   pub secondary_type : longs SECONDARY_TYPE ≡ secondary
   pub name : ¬ HasWrongName longs
-  pub comment : byte_of longs COMMENT_BYTE ≤ 79
 
--- an extension block in its own block, of a file whose header is inside the volume, with 1 to 72 pointers
-pub record IsExtensionBlock (n block : ℕ) (longs : ℕ → ℕ) : Type 0 where
+-- an extension block by its types and its own number, whatever else it has
+pub record HasListHeading (block : ℕ) (longs : ℕ → ℕ) : Type 0 where
   pub primary : longs PRIMARY_TYPE ≡ LIST_TYPE
   pub own_key : longs OWN_KEY ≡ block
   pub secondary_type : longs SECONDARY_TYPE ≡ FILE_TYPE
+
+-- the block looks like this kind by its types, its own number and its name, as far as the kind has them, whatever else it has
+abbrev pub LooksLike : BlockKind → ℕ → (ℕ → ℕ) → Type 0
+LooksLike FileHeader block longs = HasHeading FILE_TYPE block longs
+LooksLike DirectoryHeader block longs = HasHeading DIRECTORY_TYPE block longs
+LooksLike Extension block longs = HasListHeading block longs
+LooksLike OfsData block longs = longs PRIMARY_TYPE ≡ DATA_TYPE
+LooksLike Bitmap block longs = ⊤
+
+-- the other fields of an extension block: a file whose header is inside the volume, and 1 to 72 pointers
+pub record HasPointers (n : ℕ) (longs : ℕ → ℕ) : Type 0 where
   pub file : IsInside n (longs PARENT)
   pub some_pointer : 1 ≤ longs POINTER_COUNT
   pub few_pointers : longs POINTER_COUNT ≤ TABLE_LONGS
 
--- an OFS data block of a file whose header is inside the volume, with a number from 1 and 1 to 488 bytes; no link out of
--- the volume
-pub record IsOfsData (n : ℕ) (longs : ℕ → ℕ) : Type 0 where
-  pub primary : longs PRIMARY_TYPE ≡ DATA_TYPE
+-- the other fields of an OFS data block: a file whose header is inside the volume, a number from 1, 1 to 488 bytes, and
+-- no link out of the volume
+pub record HasData (n : ℕ) (longs : ℕ → ℕ) : Type 0 where
   pub file : IsInside n (longs OWN_KEY)
   pub sequence : 1 ≤ longs SEQUENCE
   pub not_empty : 1 ≤ longs HELD
   pub room : longs HELD ≤ OFS_ROOM
   pub link : longs NEXT_DATA < n
 
--- the fields of a kind; a bitmap block has none but its sum, so any block whose longs sum to 0 could be one
-abbrev pub HasFields : BlockKind → ℕ → ℕ → (ℕ → ℕ) → Type 0
-HasFields FileHeader n block longs = IsHeader FILE_TYPE block longs
-HasFields DirectoryHeader n block longs = IsHeader DIRECTORY_TYPE block longs
-HasFields Extension n block longs = IsExtensionBlock n block longs
-HasFields OfsData n block longs = IsOfsData n longs
-HasFields Bitmap n block longs = ⊤
+-- the other fields of a kind; of a header the length of its comment
+abbrev pub HasOtherFields : BlockKind → ℕ → (ℕ → ℕ) → Type 0
+HasOtherFields FileHeader n longs = byte_of longs COMMENT_BYTE ≤ MOST_COMMENT
+HasOtherFields DirectoryHeader n longs = byte_of longs COMMENT_BYTE ≤ MOST_COMMENT
+HasOtherFields Extension n longs = HasPointers n longs
+HasOtherFields OfsData n longs = HasData n longs
+HasOtherFields Bitmap n longs = ⊤
+
+-- the fields of a kind, in a block after the boot blocks; a bitmap block has none but its sum, so any block whose longs
+-- sum to 0 could be one
+pub record HasFields (kind : BlockKind) (n block : ℕ) (longs : ℕ → ℕ) : Type 0 where
+  pub inside : IsInside n block
+  pub looks : LooksLike kind block longs
+  pub others : HasOtherFields kind n longs
 
 -- the longs of a name, with its length before it
 abbrev pub name_longs : List ℕ
@@ -89,17 +107,22 @@ abbrev pub mended : List ℕ → ℕ → Option WrongLong → ℕ → ℕ
 mended image block None = long image block
 mended image block (Some wrong) = λ i. if i == wrong.long then wrong.wanted else long image block i
 
--- sound as this kind, with what is wanted in place of a wrong long
-pub record IsSoundAs (image : List ℕ) (block : ℕ) (kind : BlockKind) (wrong : Option WrongLong) : Type 0 where
-  pub fields : HasFields kind (block_count image) block (mended image block wrong)
-  pub sum : sum_of (mended image block wrong) ≡ 0
+-- sound as this kind: its fields are right, and its longs sum to 0
+pub record IsSoundAs (image : List ℕ) (block : ℕ) (kind : BlockKind) : Type 0 where
+  pub fields : HasFields kind (block_count image) block (long image block)
+  pub sum : block_sum image block ≡ 0
+
+-- sound as this kind with what is wanted in place of a wrong long
+pub record IsSoundWith (image : List ℕ) (block : ℕ) (kind : BlockKind) (wrong : WrongLong) : Type 0 where
+  pub fields : HasFields kind (block_count image) block (mended image block (Some wrong))
+  pub sum : sum_of (mended image block (Some wrong)) ≡ 0
 
 -- with another value in long i the block is sound as this kind
 pub record IsMendedBy (image : List ℕ) (block : ℕ) (kind : BlockKind) (i : ℕ) : Type 0 where
   pub wrong : WrongLong
   pub here : wrong.long ≡ i
   pub fits : wrong.wanted < 2 ^ 32
-  pub sound : IsSoundAs image block kind (Some wrong)
+  pub sound : IsSoundWith image block kind wrong
 
 -- x is in the list, and each element before it has the property
 pub record AllBefore {A : Type 0} (P : A → Type 0) (list : List A) (x : A) : Type 0 where
@@ -113,12 +136,12 @@ pub record IsSoundBut (image : List ℕ) (block : ℕ) (kind : BlockKind) (wrong
   pub bad_sum : block_sum image block ≢ 0
   pub found : wrong.found ≡ long image block wrong.long
   pub fits : wrong.wanted < 2 ^ 32
-  pub sound : IsSoundAs image block kind (Some wrong)
+  pub sound : IsSoundWith image block kind wrong
   pub first : AllBefore (λ i. ¬ IsMendedBy image block kind i) (longs_of kind) wrong.long
 
 -- the block is sound as this kind, or sound but for the wrong long
 abbrev pub IsKind : List ℕ → ℕ → BlockKind → Option WrongLong → Type 0
-IsKind image block kind None = IsSoundAs image block kind None
+IsKind image block kind None = IsSoundAs image block kind
 IsKind image block kind (Some wrong) = IsSoundBut image block kind wrong
 
 -- the block is not of this kind, not even but for one long

@@ -1,8 +1,8 @@
 //! What a block is by its own bytes, whatever leads to it.
 ghost use Rattle.std.specs.Prelude.{◌≡◌, ◌<◌, ◌↔◌, All, IsTrue, MatchOption};
-ghost use Rattle.adf_block.specs.Image.{block_count, block_sum};
-ghost use Rattle.adf_block.specs.declared.layout.TheConstants.{BLOCK_BYTES, BLOCK_LONGS, DIRECTORY_TYPE, FILE_TYPE};
-ghost use Rattle.ados_census.specs.Classes.{HasClass, HasFields, HasNoClass, HasWrongName, IsExtensionBlock, IsHeader, IsKind, IsMendedBy, IsOfsData, IsOtherThan, IsSoundBut, byte_of, longs_of, mended};
+ghost use Rattle.adf_block.specs.Image.{block_count, block_sum, long};
+ghost use Rattle.adf_block.specs.declared.layout.TheConstants.{BLOCK_BYTES, BLOCK_LONGS};
+ghost use Rattle.ados_census.specs.Classes.{HasClass, HasData, HasFields, HasHeading, HasListHeading, HasNoClass, HasOtherFields, HasPointers, HasWrongName, IsKind, IsMendedBy, IsOtherThan, IsSoundAs, IsSoundBut, LooksLike, byte_of, longs_of, mended};
 
 use adf_block::Image;
 use adf_block::beside::CHECKSUM;
@@ -62,7 +62,8 @@ const COMMENT_LONG: u32 = COMMENT_BYTE / 4;
 /// The long with the length of a name, and its first letters. A name has up to 8 longs.
 const NAME_LONG: u32 = NAME_BYTE / 4;
 
-/// The class of a block: the first kind of which it is, sound or but for one long; or `None` if it is of no kind.
+/// The class of a block: the first kind of which it is, sound or but for one long; or `None` if it is of no kind, as a boot
+/// block is.
 pub fn class_of(image: &Image, block: u32) -> Option<BlockClass>
     requires { block < block_count image.now }
     ensures { MatchOption result (HasNoClass image.now block) (HasClass image.now block) }
@@ -85,6 +86,23 @@ pub fn class_as(image: &Image, block: u32, kind: BlockKind) -> Option<BlockClass
         Some(wrong) => Some(BlockClass { kind, wrong }),
         None => None,
     }
+}
+
+/// Whether a block is sound as this kind. Only its fields and its sum are looked at.
+pub fn is_sound_as(image: &Image, block: u32, kind: BlockKind) -> bool
+    requires { block < block_count image.now }
+    ensures { IsTrue result ↔ IsSoundAs image.now block kind }
+{
+    has_fields(image, block, None, kind) && image.sum(block) == 0
+}
+
+/// Whether a block looks like this kind by its types, its own number and its name, as far as the kind has them. Its sum and its
+/// other fields are not looked at.
+pub fn looks_like(image: &Image, block: u32, kind: BlockKind) -> bool
+    requires { block < block_count image.now }
+    ensures { IsTrue result ↔ LooksLike kind block (long image.now block) }
+{
+    has_look(image, block, None, kind)
 }
 
 /// The wrong long of a block as this kind: `Some(None)` if the block is sound, `None` if it is of another kind.
@@ -166,52 +184,79 @@ fn has_fields(image: &Image, block: u32, wrong: Option<WrongLong>, kind: BlockKi
     requires { block < block_count image.now }
     ensures { IsTrue result ↔ HasFields kind (block_count image.now) block (mended image.now block wrong) }
 {
+    BOOT_BLOCKS <= block
+        && has_look(image, block, wrong, kind)
+        && has_other_fields(image, block, wrong, kind)
+}
+
+/// Whether a block looks like a kind, with what is wanted in place of a wrong long.
+fn has_look(image: &Image, block: u32, wrong: Option<WrongLong>, kind: BlockKind) -> bool
+    requires { block < block_count image.now }
+    ensures { IsTrue result ↔ LooksLike kind block (mended image.now block wrong) }
+{
     match kind {
-        BlockKind::FileHeader => is_header(image, block, wrong, FILE_TYPE),
-        BlockKind::DirectoryHeader => is_header(image, block, wrong, DIRECTORY_TYPE),
-        BlockKind::Extension => is_extension_block(image, block, wrong),
-        BlockKind::OfsData => is_ofs_data(image, block, wrong),
+        BlockKind::FileHeader => has_heading(image, block, wrong, FILE_TYPE),
+        BlockKind::DirectoryHeader => has_heading(image, block, wrong, DIRECTORY_TYPE),
+        BlockKind::Extension => has_list_heading(image, block, wrong),
+        BlockKind::OfsData => mended(image, block, wrong, PRIMARY_TYPE) == DATA_TYPE,
         BlockKind::Bitmap => true,
     }
 }
 
-/// Whether a block has the fields of a header with this secondary type.
-fn is_header(image: &Image, block: u32, wrong: Option<WrongLong>, secondary: u32) -> bool
+/// Whether a block has the types, the own number and the name of a header with this secondary type.
+fn has_heading(image: &Image, block: u32, wrong: Option<WrongLong>, secondary: u32) -> bool
     requires { block < block_count image.now }
-    ensures { IsTrue result ↔ IsHeader secondary block (mended image.now block wrong) }
+    ensures { IsTrue result ↔ HasHeading secondary block (mended image.now block wrong) }
 {
     mended(image, block, wrong, PRIMARY_TYPE) == HEADER_TYPE
         && mended(image, block, wrong, OWN_KEY) == block
         && mended(image, block, wrong, SECONDARY_TYPE) == secondary
         && !has_wrong_name(image, block, wrong)
-        && usize::from(byte_of(image, block, wrong, COMMENT_BYTE)) <= Comment::MAX_LEN
 }
 
-/// Whether a block has the fields of an extension block.
-fn is_extension_block(image: &Image, block: u32, wrong: Option<WrongLong>) -> bool
+/// Whether a block has the types and the own number of an extension block.
+fn has_list_heading(image: &Image, block: u32, wrong: Option<WrongLong>) -> bool
     requires { block < block_count image.now }
-    ensures { IsTrue result ↔ IsExtensionBlock (block_count image.now) block (mended image.now block wrong) }
+    ensures { IsTrue result ↔ HasListHeading block (mended image.now block wrong) }
 {
-    let file = mended(image, block, wrong, PARENT);
-    let pointers = mended(image, block, wrong, POINTER_COUNT);
     mended(image, block, wrong, PRIMARY_TYPE) == LIST_TYPE
         && mended(image, block, wrong, OWN_KEY) == block
         && mended(image, block, wrong, SECONDARY_TYPE) == FILE_TYPE
-        && BOOT_BLOCKS <= file
-        && file < image.blocks()
-        && 1 <= pointers
-        && pointers <= TABLE_LONGS
 }
 
-/// Whether a block has the fields of an OFS data block.
-fn is_ofs_data(image: &Image, block: u32, wrong: Option<WrongLong>) -> bool
+/// Whether a block has the other fields of a kind.
+fn has_other_fields(image: &Image, block: u32, wrong: Option<WrongLong>, kind: BlockKind) -> bool
     requires { block < block_count image.now }
-    ensures { IsTrue result ↔ IsOfsData (block_count image.now) (mended image.now block wrong) }
+    ensures { IsTrue result ↔ HasOtherFields kind (block_count image.now) (mended image.now block wrong) }
+{
+    match kind {
+        BlockKind::FileHeader | BlockKind::DirectoryHeader => {
+            usize::from(byte_of(image, block, wrong, COMMENT_BYTE)) <= Comment::MAX_LEN
+        }
+        BlockKind::Extension => has_pointers(image, block, wrong),
+        BlockKind::OfsData => has_data(image, block, wrong),
+        BlockKind::Bitmap => true,
+    }
+}
+
+/// Whether a block has the file and the count of pointers of an extension block.
+fn has_pointers(image: &Image, block: u32, wrong: Option<WrongLong>) -> bool
+    requires { block < block_count image.now }
+    ensures { IsTrue result ↔ HasPointers (block_count image.now) (mended image.now block wrong) }
+{
+    let file = mended(image, block, wrong, PARENT);
+    let pointers = mended(image, block, wrong, POINTER_COUNT);
+    BOOT_BLOCKS <= file && file < image.blocks() && 1 <= pointers && pointers <= TABLE_LONGS
+}
+
+/// Whether a block has the file, the number, the count of bytes and the link of an OFS data block.
+fn has_data(image: &Image, block: u32, wrong: Option<WrongLong>) -> bool
+    requires { block < block_count image.now }
+    ensures { IsTrue result ↔ HasData (block_count image.now) (mended image.now block wrong) }
 {
     let file = mended(image, block, wrong, OWN_KEY);
     let held = mended(image, block, wrong, HELD);
-    mended(image, block, wrong, PRIMARY_TYPE) == DATA_TYPE
-        && BOOT_BLOCKS <= file
+    BOOT_BLOCKS <= file
         && file < image.blocks()
         && 1 <= mended(image, block, wrong, SEQUENCE)
         && 1 <= held

@@ -16,7 +16,9 @@ mod places;
 mod reached;
 
 pub use census::{Census, take_census};
-pub use class::{BLOCK_KINDS, BlockClass, BlockKind, WrongLong, class_as, class_of};
+pub use class::{
+    BLOCK_KINDS, BlockClass, BlockKind, WrongLong, class_as, class_of, is_sound_as, looks_like,
+};
 pub use laws::places_are_namings;
 pub use place::{Place, PlaceKind};
 pub use places::places_of;

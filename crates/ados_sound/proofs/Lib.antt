@@ -1,5 +1,6 @@
 -- A file with right parts is sound, and a sound file has right parts; headers and claims as they are found; deleted entries.
 pub mod Common
+pub mod ByCensus
 pub mod SoundParts
 pub mod OwnBlocks
 pub mod Leaving

@@ -9,10 +9,9 @@ ghost use Rattle.ados_sound.specs.Doubtful.{IsOwnData};
 ghost use Rattle.ados_sound.specs.steps.Parts.{HasData, HasHolders, IsDataBlock};
 
 use crate::holders::data_needed;
-use adf_block::layout::{
-    BOOT_BLOCKS, DATA_TYPE, FILE_SIZE, HELD, NEXT_DATA, OFS_ROOM, OWN_KEY, PRIMARY_TYPE, SEQUENCE,
-};
+use adf_block::layout::{BOOT_BLOCKS, FILE_SIZE, HELD, NEXT_DATA, OFS_ROOM, OWN_KEY, SEQUENCE};
 use adf_block::{Format, Image};
+use ados_census::{BlockKind, looks_like};
 
 /// Whether the data blocks of a file have the right fields for their positions. `blocks` are all blocks that its pointers name.
 pub(crate) fn has_data(image: &Image, file: u32, blocks: &[u32]) -> bool
@@ -77,7 +76,7 @@ pub fn is_own_data(image: &Image, file: u32, i: u32, block: u32) -> bool
 {
     image.long(block, OWN_KEY) == file
         && u64::from(image.long(block, SEQUENCE)) == u64::from(i) + 1
-        && image.long(block, PRIMARY_TYPE) == DATA_TYPE
+        && looks_like(image, block, BlockKind::OfsData)
 }
 
 /// The number of data bytes in OFS data block `i` of a file with this size.

@@ -12,10 +12,11 @@ ghost use Rattle.ados_sound.specs.steps.Heading.{AreSound};
 
 use adf_block::Image;
 use adf_block::layout::{
-    BOOT_BLOCKS, COMMENT_BYTE, DIRECTORY_TYPE, FILE_TYPE, FIRST_SLOT, HEADER_TYPE, NAME_BYTE,
-    NEXT_IN_CHAIN, OWN_KEY, PARENT, PRIMARY_TYPE, ROOT_TYPE, SECONDARY_TYPE, TABLE_LONGS,
+    BOOT_BLOCKS, DIRECTORY_TYPE, FILE_TYPE, FIRST_SLOT, HEADER_TYPE, NAME_BYTE, NEXT_IN_CHAIN,
+    PARENT, PRIMARY_TYPE, ROOT_TYPE, SECONDARY_TYPE, TABLE_LONGS,
 };
-use ados_name::{Comment, Name};
+use ados_census::{BlockKind, is_sound_as, looks_like};
+use ados_name::Name;
 use std::alloc::{AllocError, Global};
 
 /// Whether a block is the header of a directory or file with the right fields.
@@ -23,9 +24,9 @@ pub fn is_sound_header(image: &Image, block: u32) -> bool
     requires { block < block_count image.now }
     ensures { IsTrue result ↔ IsSoundHeader image.now block }
 {
-    looks_like_header(image, block)
-        && image.sum(block) == 0
-        && usize::from(image.byte(block, COMMENT_BYTE)) <= Comment::MAX_LEN
+    prove!(block < image.blocks());
+    is_sound_as(image, block, BlockKind::FileHeader)
+        || is_sound_as(image, block, BlockKind::DirectoryHeader)
 }
 
 /// For each block of an image, whether it is a sound header. An image may be much larger than the processor's cache, so each
@@ -54,12 +55,12 @@ pub(crate) fn is_sound(sound: &[bool], block: u32) -> bool
 pub(crate) fn looks_like_header(image: &Image, block: u32) -> bool
     ensures { IsTrue result ↔ LooksLikeHeader image.now block }
 {
-    block >= BOOT_BLOCKS
-        && block < image.blocks()
-        && image.long(block, PRIMARY_TYPE) == HEADER_TYPE
-        && is_entry(image, block)
-        && image.long(block, OWN_KEY) == block
-        && name_of(image, block).is_some()
+    let blocks = image.blocks();
+    if block < BOOT_BLOCKS || block >= blocks {
+        return false;
+    }
+    looks_like(image, block, BlockKind::FileHeader)
+        || looks_like(image, block, BlockKind::DirectoryHeader)
 }
 
 /// Whether a block is in the place of the root, with the types of one.

@@ -8,10 +8,10 @@ ghost use Rattle.ados_sound.specs.Sound.{IsIntact, data_needed};
 ghost use Rattle.ados_sound.specs.steps.Parts.{HasHolders, IsHolder};
 
 use adf_block::layout::{
-    BOOT_BLOCKS, FFS_ROOM, FILE_SIZE, FILE_TYPE, LIST_TYPE, NEXT_EXTENSION, OFS_ROOM, OWN_KEY,
-    PARENT, POINTER_COUNT, PRIMARY_TYPE, SECONDARY_TYPE, TABLE_LONGS,
+    BOOT_BLOCKS, FFS_ROOM, FILE_SIZE, NEXT_EXTENSION, OFS_ROOM, PARENT, POINTER_COUNT, TABLE_LONGS,
 };
 use adf_block::{Format, Image};
+use ados_census::{BlockKind, looks_like};
 use std::alloc::{AllocError, Global};
 
 /// The number of data blocks that the size of a file needs.
@@ -100,8 +100,5 @@ pub fn looks_like_extension(image: &Image, file: u32, block: u32) -> bool
     requires { block < block_count image.now }
     ensures { IsTrue result ↔ LooksLikeExtension image.now file block }
 {
-    image.long(block, PARENT) == file
-        && image.long(block, PRIMARY_TYPE) == LIST_TYPE
-        && image.long(block, SECONDARY_TYPE) == FILE_TYPE
-        && image.long(block, OWN_KEY) == block
+    image.long(block, PARENT) == file && looks_like(image, block, BlockKind::Extension)
 }

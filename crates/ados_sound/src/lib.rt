@@ -5,6 +5,7 @@
 // Headers.
 mod header;
 mod headers;
+mod laws;
 
 // Files.
 mod claims;
@@ -27,6 +28,7 @@ pub use deleted::{Deleted, DeletedEntries, Recovery, deleted_entries};
 pub use header::{dir_of_place, is_file, is_sound_header, name_of};
 pub use holders::{data_needed, looks_like_extension};
 pub use known::Known;
+pub use laws::headers_by_census;
 pub use left_out::{LeftOut, faultless_deleted};
 pub use trust::is_used;
 pub use whole::is_whole;

@@ -12,8 +12,8 @@ use crate::rows::{Table, cut, expect_rows, holds, long_of};
 use adf_block::Image;
 use adf_block::layout::{BOOT_BLOCKS, FIRST_PAGE, PAGE_BITS};
 use ados_census::{
-    BlockKind, Place, PlaceKind, WrongLong, class_as, class_of, places_of, reached_blocks,
-    take_census,
+    BlockKind, Place, PlaceKind, WrongLong, class_as, class_of, is_sound_as, looks_like, places_of,
+    reached_blocks, take_census,
 };
 use ados_chain::is_empty;
 use ados_map::{count_free, give_back, is_free, take_first};
@@ -162,7 +162,7 @@ impl Table for Changed {
     }
 }
 
-/// Whether block 882 has this class, and as this kind the same wrong long.
+/// Whether block 882 has this class, and as this kind the same wrong long; if it has none, the block is sound and looks so.
 fn has_class(image: &Image, kind: &str, wrong: &str) -> bool
     requires { 882 < block_count image.now }
 {
@@ -172,6 +172,8 @@ fn has_class(image: &Image, kind: &str, wrong: &str) -> bool
             kind_word(class.kind) == kind
                 && is_wrong_long(class.wrong, wrong)
                 && class_as(image, 882, class.kind) == Some(class)
+                && is_sound_as(image, 882, class.kind) == class.wrong.is_none()
+                && (class.wrong.is_some() || looks_like(image, 882, class.kind))
         }
     }
 }
@@ -234,6 +236,8 @@ const CLASSES: &str = "\
 #[test]
 fn classes_of_a_block(rt: HostRuntime) {
     let image = blank_image(&rt, rt.alloc(), FLOPPY);
+    assert!(rt; 1 < image.blocks());
+    holds(&rt, class_of(&image, 1).is_none(), "a boot block");
     expect_rows(&rt, &mut Changed { image }, CLASSES);
 }
 
