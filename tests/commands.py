@@ -22,7 +22,9 @@ from pathlib import Path
 from typing import Callable, Dict, List, NamedTuple, Optional, Sequence, Set, Tuple, Union
 
 sys.dont_write_bytecode = True
+sys.path.insert(0, str(Path(__file__).resolve().parent.parent / "tools"))
 
+from command_table import commands, headings
 from harmful import Drawing
 from harness import BLOCK, FILE, TOP, Failed, Image, Ran, Room, Variables, fault_of, redirected, run, try_all
 
@@ -233,13 +235,11 @@ def wrong_dates(tried: Commands) -> None:
 
 def wrong_words(tried: Commands) -> None:
     tried.rows(
-        wrong("a wrong command", "bank", "'bank'", "Usage", "COMMAND"),
-        wrong("an empty word", "''", "''", "Usage"),
-        wrong("a word for none", "--", "Usage"),
+        wrong("a wrong command", "bank", "no command 'bank'", "--help"),
+        wrong("an option in front of a command", "--json show a", "no command '--json'", "--help"),
         wrong("an argument that is not UTF-8", ["check", "a\udcffb.adf"], "argument 2, 'a", "is not UTF-8"),
         wrong("help of no command", "help", "Usage", "COMMAND"),
         wrong("help of serve by words", "help serve", "SCRIPT"),
-        wrong("no version", "--version", "'--version'"),
         wrong("help", "--help", "Usage", *COMMANDS),
         *(wrong(f"help of {it}", [it, "--help"], f"Usage: adf_serve {it}", f"  adf_serve {it} ") for it in COMMANDS),
         wrong("blank without a file", "blank Work", "FILE", "Usage: adf_serve blank"),
@@ -898,24 +898,134 @@ def images_from_input(tried: Commands) -> None:
     os.remove("-")
 
 
-# Words that are no commands, and are like harmless ones, or like `delete`, `blank` and `boot`.
-LIKE_COMMANDS = [
-    *("select", "release", "complete", "create", "remove", "erase", "format", "black", "bank", "plank", "lank", "root", "book", "bot"),
-    *("boots", "deleted", "dlete", "delet", "relete", "relist", "details", "blan", "blanks", "lable", "lst", "chek", "prin", "tell"),
-]
+def turned_words(tried: Commands) -> None:
+    """`blank` writes what its words say, and says that they may be turned round."""
+    for words in ("turned.adf Turned", "turned.HDF Turned", "a.b.adf Turned"):
+        tried.rows(row(f"blank {words}", f"blank {words}", 0, "", f"named '{words.split()[0]}'", "the file 'Turned'", "may be turned round"))
+        tried.rows(row(f"info of blank {words}", "list Turned", 0, f"Volume {words.split()[0]}\n"))
+    for words in ("Turned turned.adf", "a.adf b.adf", "Work Turned", "adf Turned"):
+        tried.rows(row(f"blank {words}", f"blank {words}"))
+
+
+# What stands here for words of AmigaDOS, Unix, xdftool, unadf, mtools and archivers: the command that the text names first.
+OTHER_TOOLS = {
+    "list": "dir ls mdir vdir l v DIR Ls",
+    "print": "cat type mtype more less TYPE",
+    "extract": "read unadf export x e cp copy mcopy tar",
+    "extract --bundle": "unpack",
+    "extract --damaged": "salvage rescue recover repair diskdoctor",
+    "show": "df file root minfo",
+    "map": "bitmap",
+    "check": "fsck scan verify",
+    "undelete": "undel unerase",
+    "add": "write put import",
+    "add --bundle": "pack repack",
+    "mkdir": "makedir md mmd",
+    "delete": "rm del remove erase mdel rmdir",
+    "rename": "mv move mren",
+    "protect": "chmod mattrib",
+    "date": "setdate touch",
+    "comment": "filenote",
+    "relabel": "label mlabel",
+    "blank": "format create mformat mkfs",
+    "boot --install": "install",
+    "serve": "execute run",
+    "adf_mount": "mount",
+}
+READING = [it.name for it in commands() if it.group in ("Look", "TakeOut", "Serve")]
+# The words above with which the other tools change something.
+CHANGING = " ".join(words for tip, words in OTHER_TOOLS.items() if tip.split()[0] not in (*READING, "adf_mount")).split()
+# Words that are like a command, and the command. Not one is like those that may take something away.
+LIKE_COMMANDS = {"lst": "list", "chek": "check", "prin": "print", "extrcat": "extract", "lsit": "list", "renam": "rename", "protct": "protect", "dat": "date", "undelet": "undelete"}
+LIKE_NONE = ["deleted", "dlete", "delet", "relete", "blan", "blanks", "black", "boots", "bot", "select", "release", "q", "", "zz"]
 
 
 def tips(tried: Commands) -> None:
-    """No tip for a command that is not there leads to one that may take something away."""
-    others = [it for it in COMMANDS if it not in ("blank", "boot", "delete")]
-    near = {it[:at] + it[at + 1 :] for it in others for at in range(len(it))} | {it + it[-1] for it in others}
-    for word in sorted({*near, *LIKE_COMMANDS} - {*COMMANDS}):
+    """A word that is no command: what stands here for that word of another tool, or the command that it is like."""
+
+    def told(word: str) -> str:
+        """The command that the text names, if it names one."""
         ran = tried.run(word, "x.adf")
-        told = [it for it in ran.texts.decode().splitlines() if "tip:" in it]
-        leads = [it for it in ("'blank'", "'boot'", "'delete'") if any(it in line for line in told)]
-        tried.report.expect(f"a tip for {word}", ran.status == 1 and not leads, ran)
-    tried.rows(wrong("a tip leads to a harmless command", "lst x.adf", "tip", "'list'"))
-    tried.rows(wrong("help still names all commands", "help", "delete", "blank", "boot"))
+        begins = f"error: no command '{word}'".encode()
+        fault = fault_of(ran, 1, b"", "try '--help'") or (None if ran.texts.startswith(begins) else f"the text is {ran.texts!r}")
+        tried.report.hold(f"a word for none: {word}", fault)
+        named = re.search(r"`([^`]*)`", ran.texts.decode().partition("\n")[0])
+        return named[1] if named else ""
+
+    for tip, words in OTHER_TOOLS.items():
+        for word in words.split():
+            tried.report.same(f"what stands for {word}", told(word), tip)
+            if word not in CHANGING:
+                tried.report.expect(f"{word} leads to no change", tip.split()[0] in (*READING, "adf_mount"), tip)
+    for word, command in LIKE_COMMANDS.items():
+        tried.report.same(f"what {word} is like", told(word), command)
+    for word in LIKE_NONE:
+        tried.report.same(f"{word} is like no command", told(word), "")
+    for command in COMMANDS:
+        near = {command[:at] + command[at + 1 :] for at in range(len(command))} | {command + command[-1]}
+        for word in sorted(near - {*COMMANDS} - {*" ".join(OTHER_TOOLS.values()).split(), "dd"}):
+            tip = told(word)
+            harmless = tip in ("", *READING) if command in READING else tip not in ("blank", "boot", "delete")
+            tried.report.expect(f"{word} leads to nothing worse than {command}", harmless, tip)
+
+
+# ---- Help, usage and the version ----
+
+
+def help_in_groups(tried: Commands) -> None:
+    """The help of the program: each command once, below the heading of its group, in lines as wide as the screen."""
+    wide = {it or "none": tried.run("--help", env={"COLUMNS": it}).texts.decode() for it in ("", "60", "132", "0", "-5", "wide", "99999")}
+    for name, most in (("none", 80), ("60", 60), ("132", 132), ("0", 80), ("-5", 80), ("wide", 80)):
+        tried.report.expect(f"help for COLUMNS {name}", max(map(len, wide[name].splitlines())) <= most, wide[name])
+        tried.report.same(f"help for COLUMNS {name} has each word", wide[name].split(), wide["132"].split())
+    sections = re.split(r"(?m)^([A-Z][a-z ]+):\n", wide["none"].partition("Usage:")[2])
+    shown = {heading: re.findall(r"(?m)^  ([a-z]+) ", text) for heading, text in zip(sections[1::2], sections[2::2])}
+    named = headings()
+    wanted = {heading: [it.name for it in commands() if named[it.group] == heading] for heading in named.values()}
+    tried.report.same("help has the groups", {it: shown.get(it) for it in wanted}, wanted)
+    tried.report.same("help has each command once", sorted(sum(wanted.values(), [])), sorted(COMMANDS))
+    for words in (["--"], ["-h"], ["help"], ["--", "check", "x.adf"]):
+        tried.report.same(f"the help of {words}", tried.run(*words), tried.run("--help"))
+    for command in commands():
+        ran = tried.run(command.name, "--help")
+        tried.report.expect(f"help of {command.name} fits 80 columns", max(map(len, ran.texts.decode().splitlines())) <= 80, ran)
+        tried.report.same(f"help {command.name}", tried.run("help", command.name), ran)
+    tried.rows(wrong("help of a command that is not there", "help lst", "no command 'lst'", "`list`"))
+
+
+def versions(tried: Commands) -> None:
+    """The version is that of the library, and says whether the program is proved."""
+    header = (TOP / "bindings/c/jiponuwha.h").read_text(encoding="utf-8")
+    number = ".".join(re.findall(r"(?m)^#define JIP_VERSION_[A-Z]+ ([0-9]+)$", header))
+    proof = {"out/adf_serve": "proved", "checked/adf_serve": "not proved"}.get("/".join(tried.program.parts[-2:]))
+    for word in ("--version", "-V"):
+        ran = tried.run(word)
+        wanted = [f"adf_serve {number} ({it})\n".encode() for it in ([proof] if proof else ["proved", "not proved"])]
+        tried.report.expect(word, ran.status == 1 and ran.output == b"" and ran.texts in wanted, ran)
+
+
+def usage_lines(tried: Commands) -> None:
+    """A wrong command line is answered with the forms that are allowed, which are those of docs/COMMANDS.md."""
+    page = (TOP / "docs/COMMANDS.md").read_text(encoding="utf-8").replace("\\|", "|")
+    for command in commands():
+        ran = tried.run(command.name, "--none")
+        shown = ran.texts.decode().partition("Usage: ")[2].partition("\n\n")[0]
+        forms = [" ".join(it.split()) for it in re.split(r"\n(?= {7}adf_serve )", shown)]
+        tried.report.same(f"the forms of {command.name}", forms, [f"adf_serve {it}" for it in command.forms])
+        for form in command.forms:
+            plain = form if command.name == "blank" else form.replace(" [--blocks N]", "")
+            tried.report.expect(f"docs/COMMANDS.md: {plain}", f"| `{plain}` |" in page, "it is not there")
+        for one in command.options:
+            beside = [it for it in command.excluded_by(one) if it.is_option()]
+            together = [form for form in command.forms for it in beside if {f"--{one.name}", f"--{it.name}"} <= {*re.findall(r"--[a-z]+", form)}]
+            tried.report.expect(f"{command.name} --{one.name} stands beside nothing that it excludes", all(" | " in it for it in together), together)
+            told = any(re.search(rf"--{one.name}\b", it) for it in command.forms) or any("[CHANGE]" in it or "[TIME]" in it for it in command.forms)
+            tried.report.expect(f"{command.name} --{one.name} is in a form", told, command.forms)
+    for words in ("boot --show --out x none.adf", "extract --damaged none.adf x", "where --path x none.adf 1", "list --long --json none.adf", "blank --hd --blocks 20 x y"):
+        ran = tried.run(*words.split())
+        given = {it for it in words.split() if it.startswith("--")}
+        lines = [it for it in ran.texts.decode().partition("Usage:")[2].splitlines() if given <= {*re.findall(r"--[a-z]+", it)} and " | " not in it]
+        tried.report.expect(f"no usage of {words}", ran.status == 1 and not (lines and len(given) > 1), ran)
 
 
 def boot_blocks(tried: Commands) -> None:
@@ -1808,8 +1918,8 @@ def refused_output(tried: Commands) -> None:
 PARTS: List[Callable[[Commands], None]] = [
     *(blank_images, moments, written_moments, wrong_words, wrong_numbers, wrong_dates),
     *(wrong_words_for_files, words_too_many_and_wrong_letters, refused_names),
-    *(tips, clients, faulty_scripts, explained_lines, at_a_terminal, turns, growths, many_clients),
-    *(directories, directories_on_the_way, files_under_names, closed_input, images_from_input, refused_changes, changes_beside, precious_files),
+    *(tips, help_in_groups, versions, usage_lines, clients, faulty_scripts, explained_lines, at_a_terminal, turns, growths, many_clients),
+    *(directories, directories_on_the_way, files_under_names, closed_input, images_from_input, turned_words, refused_changes, changes_beside, precious_files),
     *(named_entries, protect_words, boot_blocks),
     *(standard_boot, shown_boots, saved_boots, boot_options),
     *(held_images, readers_of_held_images, missing_files, denied_files, first_faults),

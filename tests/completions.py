@@ -50,7 +50,7 @@ class Row(NamedTuple):
 
 ROWS = [
     Row("adf_serve", "pr", ["print", "protect"]),
-    Row("adf_serve", "--", ["--help"]),
+    Row("adf_serve", "--", ["--help", "--version"]),
     # Options and their values.
     Row("adf_serve show", "--", ["--blocks", "--help", "--json"]),
     Row("adf_serve add", "--fo", ["--force"]),

@@ -196,9 +196,8 @@ def told_options(dist: Path) -> Optional[Options]:
     def options_of(command: str) -> List[str]:
         return sorted(set(re.findall(r"(?m)^ +(?:-[a-z], )?(--[a-z]+)", help_of(command))) - {"--help"})
 
-    commands = re.search(r"(?m)^Commands:.*\n((?:.+\n)*)", help_of())
-    names = [it.split()[0] for it in commands[1].splitlines()] if commands else []
-    return sorted((it, options_of(it)) for it in names if it != "help") if commands else None
+    names = re.findall(r"(?m)^  ([a-z]+) ", help_of().partition("Options:")[0])
+    return sorted((it, options_of(it)) for it in names) or None
 
 
 def completed_options(dist: Path) -> Options:

@@ -528,14 +528,12 @@ def manual(room: Room) -> None:
     def help_of(*words: str) -> str:
         return room.run(*words, "--help").texts.decode()
 
-    listed = help_of().partition("Commands:")[2].partition("Options:")[0]
+    listed = help_of().partition("Usage:")[2].partition("Options:")[0]
     commands: List[str] = re.findall(r"(?m)^  ([a-z]+)(?: |$)", listed)
     room.report.expect("help: there are commands", {"blank", "extract", "add", "serve"} <= {*commands}, commands)
     page = (TOP / "docs/adf_serve.1").read_text(encoding="utf-8")
     told = (TOP / "docs/COMMANDS.md").read_text(encoding="utf-8")
     for command in commands:
-        if command == "help":
-            continue
         shown = help_of(command).partition("Options:")[2]
         options = sorted({*re.findall(r"(?m)^ +(?:-\w, )?--([a-z]+)", shown)} - {"help"})
         lacking = [it for it in options if f"Fl -{it}" not in page or f"--{it}" not in told]

@@ -8,6 +8,7 @@ from pathlib import Path
 from typing import Dict, Iterator, List, NamedTuple, Optional, Tuple, Union
 
 TABLE = Path(__file__).resolve().parent.parent / "crates/adf_words/src/table.rt"
+GROUPS = TABLE.with_name("group.rt")
 TOKEN = re.compile(r'"(?:[^"\\]|\\.)*"|[A-Za-z_][A-Za-z0-9_]*(?:::[A-Za-z_][A-Za-z0-9_]*)*|[&\[\]{}(),:]')
 Value = Union[str, bool, None, "Struct", List["Value"]]
 # What stands for a value of an option or for an argument.
@@ -55,6 +56,9 @@ class Command(NamedTuple):
     name: str
     about: str
     examples: List[str]
+    # The forms that are allowed, with an option group such as `[--long | --json]`.
+    forms: List[str]
+    group: str
     changes: bool
     options: List[Argument]
     words: List[Argument]
@@ -125,6 +129,12 @@ def text_of(value: Value) -> str:
     return value
 
 
+def name_of(value: Value) -> str:
+    """The name of a variant without fields."""
+    assert isinstance(value, Struct)
+    return value.name
+
+
 def rows_of(value: Value) -> List[Struct]:
     assert isinstance(value, list)
     return [it for it in value if isinstance(it, Struct)]
@@ -145,6 +155,11 @@ def argument(row: Struct) -> Argument:
     )
 
 
+def headings() -> Dict[str, str]:
+    """The heading of each group of commands, in the order of the help."""
+    return dict(re.findall(r'Group::(\w+) => "([^"]*)"', GROUPS.read_text(encoding="utf-8")))
+
+
 def commands() -> List[Command]:
     """The commands of the table, in its order."""
     known = Reader(TABLE.read_text(encoding="utf-8")).known
@@ -158,6 +173,8 @@ def commands() -> List[Command]:
                 text_of(row.fields["name"]),
                 text_of(row.fields["about"]),
                 [it.strip() for it in examples],
+                [" ".join(it.split()[1:]) for it in re.split(r"\n(?= {7}adf_serve )", text_of(row.fields["usage"]))],
+                name_of(row.fields["group"]),
                 bool(row.fields["changes"]),
                 [it for it in arguments if it.is_option()],
                 [it for it in arguments if not it.is_option()],

@@ -1,6 +1,7 @@
 #!/usr/bin/env python3
 """Writes the parts of docs/adf_serve.1 that the table of commands determines: the synopsis of each command, and its options. Each
-stands between two comments of the page, as `.\\" table: check` and `.\\" end`; the text between these parts is written by hand.
+stands between two comments of the page, as `.\\" table: check` and `.\\" end`, below the heading of the command's group; the text
+between these parts is written by hand.
 
     tools/manual.py            writes them
     tools/manual.py --check    prints each part that is not what the table makes, and exits with 1 then
@@ -15,7 +16,7 @@ from typing import Dict, Iterator, List
 
 sys.dont_write_bytecode = True
 
-from command_table import Argument, Command, commands
+from command_table import Argument, Command, commands, headings
 
 PAGE = Path(__file__).resolve().parent.parent / "docs/adf_serve.1"
 PART = re.compile(r'(?ms)^(\.\\" table: ([a-z ]+)\n)(.*?)(^\.\\" end\n)')
@@ -92,11 +93,22 @@ def parts() -> Dict[str, str]:
     return {name: "".join(f"{line}\n" for line in lines) for name, lines in made.items()}
 
 
+def strays(page: str) -> Iterator[str]:
+    """Says which commands do not stand below the heading of their group."""
+    sections = re.split(r"(?m)^\.Ss (.*)\n", page)
+    below = {it: heading for heading, text in zip(sections[1::2], sections[2::2]) for it in re.findall(r'(?m)^\.\\" table: ([a-z]+)$', text)}
+    named = headings()
+    for it in commands():
+        if below.get(it.name) != named[it.group]:
+            yield f"has '{it.name}' below '{below.get(it.name)}', and its group is '{named[it.group]}'"
+
+
 def main(words: List[str]) -> int:
     page, made = PAGE.read_text(encoding="utf-8"), parts()
     found = [name for _, name, _, _ in PART.findall(page)]
     faults = [f"has the part '{it}' {found.count(it)} times" for it in made if found.count(it) != 1]
     faults += [f"has a part '{it}', which the table does not make" for it in found if it not in made]
+    faults += strays(page)
     differing = [name for _, name, has, _ in PART.findall(page) if has != made.get(name, has)]
     stale = [f"has another part '{it}' than the table makes: tools/manual.py writes it" for it in differing]
     for it in [*faults, *(stale if words == ["--check"] else [])]:

@@ -85,6 +85,8 @@ ADVICE: List[Tuple[str, str]] = [
     (r"the root at block|^and \{rest\} bytes$", "Look whether the file is cut short"),
     (r"UTF-8", "Rename the file, or give it another name with `add --as`"),
     (r"stands? for no byte|past U\+00FF|no character of an Amiga", "Leave out letters past U+00FF"),
+    (r"turned round", "If they are, remove the file and write the two words the other way round"),
+    (r"no command '", "`adf_serve --help` lists the commands"),
     (r"standard input, which has no name", "Name it with `--as NAME`"),
     (r"--as <NAME>", "Give one FILE"),
     (r"error: .*is missing", "Add the argument: `adf_serve COMMAND --help` shows all"),
@@ -137,11 +139,11 @@ ADVICE: List[Tuple[str, str]] = [
 ]
 # Texts of faults that are not printed, because standard output says the same.
 NEVER = {"a script is faulty", "an image is refused", "an image is not checked", "not all is whole"}
-# How texts begin that are written to standard output.
-OF_OUTPUT = ("refused {", "suspect block {", "the file at block {")
+# How texts begin that are written to standard output, or that were asked for.
+OF_OUTPUT = ("refused {", "suspect block {", "the file at block {", "adf_serve {VERSION}")
 # A pattern of texts, and the exit status that follows, where it is another than that of the part.
 STATUSES: List[Tuple[str, str]] = [
-    (r"waiting for|skipped|mounted or being|^doubtful: |is \{why\}$|incomplete files may|belong to no reported|it is a (symbolic|note)|it is neither", ""),
+    (r"waiting for|turned round|skipped|mounted or being|^doubtful: |is \{why\}$|incomplete files may|belong to no reported|it is a (symbolic|note)|it is neither", ""),
     (r"a volume has 16|past U\+00FF|no byte of an Amiga|is no protection", "1"),
     (r"not a volume name|has no block|1,024 bytes|line \{number\}|the script has more|^expected \{|^(a keyword|each \$k|a text in quotes|a number\b)|^(a|the|each) .*(\$k|text|line|keyword|bytes)$", "3"),
     (r"ok, \{\} refused", ""),

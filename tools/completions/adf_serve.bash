@@ -64,7 +64,7 @@ _adf_serve() {
     local word=${COMP_WORDS[COMP_CWORD]} options='' takes='' excludes='' places='' more=- image='' gone=, count=0 i kind
     COMPREPLY=()
     if [ "$COMP_CWORD" = 1 ]; then
-        mapfile -t COMPREPLY < <(compgen -W '@NAMES@ --help' -- "$word")
+        mapfile -t COMPREPLY < <(compgen -W '@NAMES@ --help --version' -- "$word")
         return
     fi
     case ${COMP_WORDS[1]} in

@@ -51,4 +51,4 @@ function __adf_serve_level
     $program $asked "$image" 2>/dev/null </dev/null | awk -v deleted="$argv[1]" -v depth="$depth" '@LEVEL@'
 end
 complete -c adf_serve -f
-complete -c adf_serve -n __fish_use_subcommand -l help
+complete -c adf_serve -n __fish_use_subcommand -l help -l version

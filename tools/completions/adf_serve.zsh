@@ -28,7 +28,7 @@ _adf_serve() {
     )
     if (( CURRENT == 2 )); then
         _describe command commands
-        compadd -- --help
+        compadd -- --help --version
         return
     fi
     local command=$words[2]

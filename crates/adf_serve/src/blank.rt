@@ -9,11 +9,12 @@ use crate::fault::CommandFault;
 use crate::images::write_held;
 use adf_block::{Format, size_ok};
 use adf_host::{PromptFiles, hold_target};
-use adf_text::{LettersFault, letter_bytes};
+use adf_text::{LettersFault, letter_bytes, print_line};
 use ados_name::{Date3, Name};
 use ados_volume::{Volume, blank};
 use std::alloc::Global;
 use std::fs::File;
+use std::io::Write;
 use std::rt::{Clock, Files};
 
 /// A volume to make.
@@ -27,19 +28,44 @@ pub(crate) struct NewVolume<'a> {
     pub(crate) letters: bool,
 }
 
-/// Writes the image of a blank volume in place of a file. An existing file is locked meanwhile.
-pub(crate) fn make_blank<'a, R: Files<File = File> + PromptFiles + Clock>(
+/// Writes the image of a blank volume in place of a file. An existing file is locked meanwhile. If the words for the name and the file look as if they were turned round, `faults` gets a line that says so.
+pub(crate) fn make_blank<'a, R, F>(
     rt: &R,
     alloc: Global,
     new: NewVolume<'a>,
     file: &'a str,
+    faults: &mut F,
 ) -> Result<(), CommandFault<'a>>
+where
+    R: Files<File = File> + PromptFiles + Clock,
+    F: Write,
     ensures { IfErr result IsNoRefusal }
 {
     let moment = given_or_now(rt, new.moment)?;
     let volume = blank_volume(alloc, new.format, new.blocks, new.name, new.letters, moment)?;
+    warn_if_turned(new.name, file, faults);
     let held = hold_target(rt, file, None);
     write_held(rt, alloc, volume.image(), &[], file, held)
+}
+
+/// Prints that the volume's name and the file may be turned round, if the name alone ends as that of an image file does.
+fn warn_if_turned<F: Write>(name: &str, file: &str, faults: &mut F) {
+    if is_image_name(name) && !is_image_name(file) {
+        print_line(
+            faults,
+            format_args!(
+                "adf_serve: the volume is named '{name}' and the file '{file}': NAME comes before FILE, so the two may be turned round"
+            ),
+        );
+    }
+}
+
+/// Whether a name ends in `.adf` or `.hdf`, in any case.
+fn is_image_name(name: &str) -> bool {
+    let Some((_, ending)) = name.rsplit_once('.') else {
+        return false;
+    };
+    ending.eq_ignore_ascii_case("adf") || ending.eq_ignore_ascii_case("hdf")
 }
 
 /// A blank volume.

@@ -45,7 +45,7 @@ where
     match job {
         ImageJob::Blank { format, blocks, moment, name, letters, file } => {
             let new = NewVolume { format: *format, blocks: *blocks, moment: *moment, name: *name, letters: *letters };
-            make_blank(rt, alloc, new, *file)
+            make_blank(rt, alloc, new, *file, faults)
         }
         ImageJob::Info { file } => print_query(rt, alloc, *file, Query::Disk, screen.styled, writer),
         ImageJob::Show { image, json } => {

@@ -6,7 +6,7 @@ ghost use Rattle.adf_serve.specs.Script.{RunsScript};
 use crate::held::tell_job;
 use crate::jobs::run_job;
 use crate::output::end_job;
-use crate::screen::Screen;
+use crate::screen::{Screen, columns, takes_bold};
 use crate::script::{faulty_number, try_script};
 use adf_archive::ReadImages;
 use adf_host::PromptFiles;
@@ -15,7 +15,6 @@ use adf_script::{TryFault, read_script};
 use adf_text::{print_line, print_lines};
 use adf_words::{Job, WordsFault, read_words, tell_faulty_line};
 use std::alloc::Global;
-use std::env::FillError;
 use std::fs::File;
 use std::io::{IsTerminal, Read, Write};
 use std::rt::{Clock, Env, Files};
@@ -24,9 +23,10 @@ use std::thread::Threads;
 
 /// Runs the program on the arguments after its own name, and returns its exit status: 0 success; 1 a wrong command
 /// line; 2 a file or stream that cannot be read or written, no memory, no thread, or a client that ran out of tries; 3
-/// a refused image, name, script or change. Faults of arguments, files and streams are printed on `faults`, and which
-/// image is read while another command has it locked. If that is a terminal, the progress of a check is printed there
-/// too. If the writer is a terminal, text for people may have bold letters.
+/// a refused image, name, script or change. Faults of arguments, files and streams are printed on `faults`, and so are help, in
+/// lines of as many letters as the environment variable `COLUMNS` says, and which image is read while another command has it
+/// locked. If that is a terminal, the progress of a check is printed there too. If the writer is a terminal, text for people
+/// may have bold letters.
 pub fn run_words<T, R, W, F>(
     rt: &T,
     alloc: Global,
@@ -60,7 +60,7 @@ where
         (W.contents writer.new) false }
     ensures command { words.now ≢ [] → RunsCommand result (W.contents writer.old) (W.contents writer.new) }
 {
-    match read_words(alloc, words) {
+    match read_words(alloc, words, columns(rt)) {
         Ok(Job::Script) => {
             if reader.is_terminal() {
                 tell_waiting(faults);
@@ -77,16 +77,6 @@ where
             end_job(rt, alloc, &job, done, writer, faults)
         }
         Err(fault) => tell_wrong_words(fault, faults),
-    }
-}
-
-/// Whether a terminal may get bold letters: not if the environment variable `NO_COLOR` is set and not empty.
-fn takes_bold<T: Env>(rt: &T) -> bool {
-    let mut first = [0; 1];
-    match rt.var("NO_COLOR", &mut first) {
-        Ok(length) => length == 0,
-        Err(FillError::NotPresent) => true,
-        Err(FillError::TooLong) => false,
     }
 }
 

@@ -1,83 +1,38 @@
 //! The commands of the table, for `clap` to parse and explain.
-use crate::table::{ArgumentRow, CHANGING, COMMANDS, CommandRow, Kind};
+use crate::table::{ArgumentRow, CHANGING, CommandRow, Kind};
 use clap::{Arg, Command};
 use std::alloc::{AllocError, Global};
 
-/// The program with all its commands. If the first argument names a command, it has only that one, and no `help`. If it is
-/// none and asks for no help, the commands that could take something away are left out, so no tip leads to them.
-pub(crate) fn program<'a>(alloc: Global, first: &str) -> Result<Command<'a>, AllocError> {
-    program_of(alloc, first, &COMMANDS)
-}
-
-/// The program with the commands of these rows. They are an argument, because a function that names a table is slow to
-/// prove, and more so the more it does.
-fn program_of<'a>(
-    alloc: Global,
-    first: &str,
-    rows: &[CommandRow],
-) -> Result<Command<'a>, AllocError> {
-    let is_named = is_name(first, rows);
-    let mut commands = Vec::new(alloc);
-    for row in rows {
-        if is_offered(row.name, first, is_named) {
-            commands.reserve(1)?;
-            commands.push_reserved(command_of(alloc, row)?);
-        }
-    }
-    with_commands(alloc, is_named, commands)
-}
-
-/// Whether the program has the command with this name, for this first argument.
-fn is_offered(name: &str, first: &str, is_named: bool) -> bool {
-    if is_named {
-        return name == first;
-    }
-    let asks_for_help = first == "help" || (first.starts_with('-') && first != "--");
-    asks_for_help || !matches!(name, "blank" | "boot" | "delete")
-}
-
-/// The program with these commands, and without `help` if one of them is named. Without a command it prints its help.
-fn with_commands<'a>(
-    alloc: Global,
-    is_named: bool,
-    commands: Vec<Command<'a>>,
-) -> Result<Command<'a>, AllocError> {
-    Command::new(alloc, "adf_serve")
-        .no_binary_name(true)
-        .disable_help_subcommand(is_named)
-        .arg_required_else_help(true)
-        .about(
-            "Serves Amiga floppy images as an AmigaDOS file system handler does. Without a command it runs a script from standard input over a blank floppy `Work`.",
-        )
-        .after_help("`adf_serve COMMAND --help` shows its arguments and an example.")
-        .subcommands(commands)?
-        .bin_name("adf_serve")
-}
-
-/// Whether one of these rows has this name.
-fn is_name(name: &str, rows: &[CommandRow]) -> bool {
-    rows.iter().any(|row| row.name == name)
-}
-
-/// The command of a row.
-fn command_of<'a>(alloc: Global, row: &CommandRow) -> Result<Command<'a>, AllocError> {
+/// The command of a row, for the arguments that follow its name.
+pub(crate) fn command_of<'a>(alloc: Global, row: &CommandRow) -> Result<Command<'a>, AllocError> {
     let mut arguments = Vec::new(alloc);
     if row.changes {
         add_changing(alloc, &mut arguments)?;
     }
     add_arguments(alloc, row.arguments, &mut arguments)?;
     Command::new(alloc, row.name)
+        .no_binary_name(true)
         .about(row.about)
+        .override_usage(row.usage)
         .after_help(row.examples)
         .args(arguments)
 }
 
-/// Appends the arguments of each command that changes an image.
+/// Appends the arguments of each command that changes an image. The options among them stand below one heading.
 fn add_changing<'a>(alloc: Global, arguments: &mut Vec<Arg<'a>>) -> Result<(), AllocError> {
-    add_arguments(alloc, CHANGING, arguments)
+    for row in CHANGING {
+        arguments.reserve(1)?;
+        let argument = argument_of(alloc, row)?;
+        arguments.push_reserved(if row.kind.is_option() {
+            argument.help_heading("CHANGE")
+        } else {
+            argument
+        });
+    }
+    Ok(())
 }
 
-/// Appends the arguments of these rows.
+/// Appends the arguments of these rows. The options of a time stamp stand below one heading.
 fn add_arguments<'a>(
     alloc: Global,
     rows: &[ArgumentRow],
@@ -85,7 +40,11 @@ fn add_arguments<'a>(
 ) -> Result<(), AllocError> {
     for row in rows {
         arguments.reserve(1)?;
-        arguments.push_reserved(argument_of(alloc, row)?);
+        let argument = argument_of(alloc, row)?;
+        arguments.push_reserved(match row.name {
+            "date" | "days" | "minutes" | "ticks" => argument.help_heading("TIME"),
+            _ => argument,
+        });
     }
     Ok(())
 }

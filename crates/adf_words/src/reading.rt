@@ -4,50 +4,109 @@ ghost use Rattle.std.specs.Prelude.{◌≡◌, []};
 use crate::arguments::Arguments;
 use crate::boot::boot_job;
 use crate::changing::{add_job, change_job, validate_job};
-use crate::commands::program;
+use crate::commands::command_of;
 use crate::fault::WordsFault;
 use crate::floppy::{DOUBLE_DENSITY, HIGH_DENSITY};
+use crate::help::{command_help, program_help, version_text};
 use crate::image_file::ImageFile;
 use crate::job::{ImageJob, Job, ServeJob};
 use crate::letters::letters_of;
+use crate::table::{COMMANDS, CommandRow};
 use crate::taking::{check_job, extract_job, list_job, map_job, show_job, undelete_job, where_job};
+use crate::tips::no_command;
+use crate::wrapping::wrapped;
 use adf_block::Format;
-use clap::ArgMatches;
+use clap::Error;
+use clap::error::ErrorKind;
 use std::alloc::Global;
 
-/// The job of these arguments, which follow the program's name.
-pub fn read_words<'a>(alloc: Global, words: &'a [String]) -> Result<Job<'a>, WordsFault>
+/// The job of these arguments, which follow the program's name. A text of help has lines of so many letters.
+pub fn read_words<'a>(
+    alloc: Global,
+    words: &'a [String],
+    columns: usize,
+) -> Result<Job<'a>, WordsFault>
     ensures none { words.now ≡ [] → result ≡ Ok Job.Script }
     ensures some { result ≡ Ok Job.Script → words.now ≡ [] }
 {
-    let Some(first) = words.first() else {
+    let Some((first, rest)) = words.split_first() else {
         return Ok(Job::Script);
     };
-    match asked_job(alloc, first.as_str(), words) {
+    match asked_job(alloc, first.as_str(), rest, columns) {
         Ok(job) => Ok(Job::OnImage(job)),
         Err(fault) => Err(fault),
     }
 }
 
-/// The job of these arguments, of which this is the first. Without a command, the help is printed.
+/// The job of this first word and the words after it. A text that is asked for is the fault: the command line has no job.
 fn asked_job<'a>(
     alloc: Global,
     first: &str,
     words: &'a [String],
+    columns: usize,
 ) -> Result<ImageJob<'a>, WordsFault> {
-    let Ok(program) = program(alloc, first) else {
-        return Err(WordsFault::Memory);
-    };
-    match program.try_get_matches_from(words) {
-        Ok(matches) => named_job(alloc, &matches),
-        Err(error) => Err(WordsFault::usage(error.to_string(alloc))),
+    match first {
+        "--help" | "-h" | "--" => Err(WordsFault::usage(program_help(alloc, columns))),
+        "--version" | "-V" => Err(WordsFault::usage(version_text(alloc))),
+        "help" => Err(asked_help(alloc, words.first(), columns)),
+        _ => named_job(alloc, first, words, columns),
     }
 }
 
-/// The job of the command in these arguments. `clap` finds one: without it, its answer is the help.
-fn named_job<'a>(alloc: Global, matches: &ArgMatches<'a>) -> Result<ImageJob<'a>, WordsFault> {
-    let (name, words) = matches.subcommand().unwrap_or(("", matches));
-    job_of(name, &Arguments { alloc, words })
+/// The help of the command with this name, or of the program without one.
+fn asked_help(alloc: Global, name: Option<&String>, columns: usize) -> WordsFault {
+    let Some(name) = name else {
+        return WordsFault::usage(program_help(alloc, columns));
+    };
+    match row_of(name.as_str(), &COMMANDS) {
+        Some(row) => WordsFault::usage(command_help(alloc, &row, columns)),
+        None => no_command(alloc, name.as_str()),
+    }
+}
+
+/// The job of the command with this name, and of these arguments.
+fn named_job<'a>(
+    alloc: Global,
+    name: &str,
+    words: &'a [String],
+    columns: usize,
+) -> Result<ImageJob<'a>, WordsFault> {
+    let Some(row) = row_of(name, &COMMANDS) else {
+        return Err(no_command(alloc, name));
+    };
+    let command = command_of(alloc, &row)?;
+    match command.try_get_matches_from(words) {
+        Ok(matches) => job_of(
+            row.name,
+            &Arguments {
+                alloc,
+                words: &matches,
+            },
+        ),
+        Err(error) => Err(unparsed(alloc, error, columns)),
+    }
+}
+
+/// The row with this name among these. They are an argument, because a function that names a table is slow to prove.
+fn row_of(name: &str, rows: &[CommandRow]) -> Option<CommandRow> {
+    for row in rows {
+        if row.name == name {
+            return Some(*row);
+        }
+    }
+    None
+}
+
+/// Why `clap` found no arguments: the text says what is wrong with them, or it is the help that they ask for.
+fn unparsed(alloc: Global, error: Error, columns: usize) -> WordsFault {
+    let Ok(text) = error.to_string(alloc) else {
+        return WordsFault::Memory;
+    };
+    match error.kind() {
+        ErrorKind::OutOfMemory => WordsFault::Memory,
+        ErrorKind::DisplayHelp => WordsFault::usage(wrapped(alloc, text.as_str(), columns)),
+        _ => WordsFault::Usage(text),
+    }
 }
 
 /// The job of a command with its arguments.

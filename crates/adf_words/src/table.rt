@@ -1,4 +1,5 @@
 //! The commands and their arguments, with the texts of the help.
+use crate::group::{Effect, Group};
 use adf_block::layout::{FEWEST_BLOCKS, MOST_BLOCKS};
 use clap::ArgAction;
 
@@ -8,6 +9,10 @@ pub(crate) struct CommandRow {
     pub(crate) name: &'static str,
     pub(crate) about: &'static str,
     pub(crate) examples: &'static str,
+    /// Its allowed forms, a line each. CHANGE and TIME stand for the options below these headings.
+    pub(crate) usage: &'static str,
+    pub(crate) group: Group,
+    pub(crate) effect: Effect,
     /// Whether it changes an image. If so, it has the arguments `CHANGING` before its own.
     pub(crate) changes: bool,
     /// Its own arguments, in the order of the help.
@@ -58,6 +63,14 @@ pub(crate) enum Kind {
 }
 
 impl Kind {
+    /// Whether it stands behind two dashes, in any place.
+    pub(crate) fn is_option(self) -> bool {
+        matches!(
+            self,
+            Kind::Flag { .. } | Kind::With { .. } | Kind::Option { .. } | Kind::Instead { .. }
+        )
+    }
+
     /// What a use of the argument does.
     pub(crate) fn action(self) -> ArgAction {
         match self {
@@ -164,6 +177,9 @@ pub(crate) const COMMANDS: [CommandRow; 21] = [
         name: "blank",
         about: "Writes a blank image. Without options it has the Old File System and the size of a double-density floppy",
         examples: "Examples:\n  adf_serve blank --ffs Work work.adf\n  adf_serve blank --date '1990-01-01 12:00' Work work.adf",
+        usage: "adf_serve blank [--ffs] [--hd | --blocks N] [--letters] [TIME] NAME FILE",
+        group: Group::PutIn,
+        effect: Effect::Removes,
         changes: false,
         arguments: &[
             ArgumentRow { name: "ffs", kind: FLAG, help: "Makes the Fast File System" },
@@ -182,6 +198,9 @@ pub(crate) const COMMANDS: [CommandRow; 21] = [
         name: "info",
         about: "Prints the answer of DISK_INFO for an image, and whether the image is bootable",
         examples: "Example:\n  adf_serve info work.adf",
+        usage: "adf_serve info [--blocks N] FILE",
+        group: Group::Look,
+        effect: Effect::Reads,
         changes: false,
         arguments: &[FRONT, ArgumentRow { name: "FILE", kind: Kind::One, help: "The image" }],
     },
@@ -189,6 +208,9 @@ pub(crate) const COMMANDS: [CommandRow; 21] = [
         name: "show",
         about: "Describes a disk: its name, format and size, what is on it, its dates and its boot block",
         examples: "Examples:\n  adf_serve show work.adf\n  adf_serve show --json work.adf",
+        usage: "adf_serve show [--json] [--blocks N] IMAGE",
+        group: Group::Look,
+        effect: Effect::Reads,
         changes: false,
         arguments: &[
             ArgumentRow { name: "json", kind: FLAG, help: "Prints a JSON object" },
@@ -200,6 +222,9 @@ pub(crate) const COMMANDS: [CommandRow; 21] = [
         name: "map",
         about: "Prints a letter for each block of a disk, and what the letters mean",
         examples: "Examples:\n  adf_serve map work.adf\n  adf_serve map --json work.adf",
+        usage: "adf_serve map [--json] [--blocks N] IMAGE",
+        group: Group::Look,
+        effect: Effect::Reads,
         changes: false,
         arguments: &[
             ArgumentRow { name: "json", kind: FLAG, help: "Prints a JSON object" },
@@ -211,6 +236,9 @@ pub(crate) const COMMANDS: [CommandRow; 21] = [
         name: "where",
         about: "Says who owns a block of a disk, or prints the blocks of a file or a directory",
         examples: "Examples:\n  adf_serve where work.adf 912\n  adf_serve where work.adf c40.h0.s10 880\n  adf_serve where --json work.adf 912\n  adf_serve where --path c/dir work.adf",
+        usage: "adf_serve where [--json] [--blocks N] IMAGE BLOCK..\n       adf_serve where --path PATH [--blocks N] IMAGE",
+        group: Group::Look,
+        effect: Effect::Reads,
         changes: false,
         arguments: &[
             ArgumentRow { name: "json", kind: FLAG, help: "Prints a JSON array with an object for each block" },
@@ -224,6 +252,9 @@ pub(crate) const COMMANDS: [CommandRow; 21] = [
         name: "check",
         about: "Prints `ok`, or why an image is refused. Several images, and those of a directory, get a line each",
         examples: "Examples:\n  adf_serve check work.adf\n  adf_serve check --jobs 4 --all floppies more/work.adf\n  adf_serve check --filler floppies",
+        usage: "adf_serve check [--jobs N] [--all] [--json] [--filler] [--blocks N]\n           FILE..",
+        group: Group::Look,
+        effect: Effect::Reads,
         changes: false,
         arguments: &[
             ArgumentRow { name: "jobs", kind: NUMBER, help: "Checks this number of images at a time. The default is the number of processors" },
@@ -238,6 +269,9 @@ pub(crate) const COMMANDS: [CommandRow; 21] = [
         name: "list",
         about: "Prints the directories and files of an image",
         examples: "Examples:\n  adf_serve list work.adf\n  adf_serve list --letters work.adf s\n  adf_serve list --long work.adf s/startup-sequence\n  adf_serve list --long --sort size work.adf\n  adf_serve list --json work.adf",
+        usage: "adf_serve list [--letters | --long | --json] [--sort KEY] [--blocks N]\n           IMAGE [PATH]",
+        group: Group::Look,
+        effect: Effect::Reads,
         changes: false,
         arguments: &[
             ArgumentRow { name: "letters", kind: Kind::Flag { excludes: &["long", "json"] }, help: "Prints names as UTF-8. Without an option they are printed as raw bytes" },
@@ -253,6 +287,9 @@ pub(crate) const COMMANDS: [CommandRow; 21] = [
         name: "print",
         about: "Writes the bytes of a file to standard output",
         examples: "Example:\n  adf_serve print work.adf s/startup-sequence",
+        usage: "adf_serve print [--blocks N] IMAGE PATH",
+        group: Group::TakeOut,
+        effect: Effect::Reads,
         changes: false,
         arguments: &[
             FRONT,
@@ -264,6 +301,9 @@ pub(crate) const COMMANDS: [CommandRow; 21] = [
         name: "extract",
         about: "Writes files and directories of an image as those of the host",
         examples: "Examples:\n  adf_serve extract --to here work.adf\n  adf_serve extract --meta --to here work.adf s c/dir\n  adf_serve extract --damaged --to here work.adf\n  adf_serve extract --damaged --list work.adf\n  adf_serve extract --bundle work work.adf",
+        usage: "adf_serve extract [--to DIR] [--meta] [--force] [--blocks N]\n           IMAGE [PATH..]\n       adf_serve extract --bundle DIR [--blocks N] IMAGE\n       adf_serve extract --damaged [--json] [--to DIR] [--meta] [--blocks N]\n           IMAGE\n       adf_serve extract --damaged --list [--json] [--blocks N] IMAGE",
+        group: Group::TakeOut,
+        effect: Effect::Reads,
         changes: false,
         arguments: &[
             ArgumentRow { name: "to", kind: Kind::Option { value: "DIR", default: Some(".") }, help: "The directory to write to. It is made if it does not exist" },
@@ -282,6 +322,9 @@ pub(crate) const COMMANDS: [CommandRow; 21] = [
         name: "undelete",
         about: "Lists the deleted files and directories of an image, and writes those whose blocks are all free to the host",
         examples: "Examples:\n  adf_serve undelete --list work.adf\n  adf_serve undelete --to here work.adf\n  adf_serve undelete --meta --to here work.adf s c/dir",
+        usage: "adf_serve undelete [--list] [--to DIR] [--meta] [--force] [--blocks N]\n           IMAGE [PATH..]",
+        group: Group::TakeOut,
+        effect: Effect::Reads,
         changes: false,
         arguments: &[
             ArgumentRow { name: "list", kind: FLAG, help: "Only prints a line for each deleted file and directory, and writes nothing" },
@@ -297,6 +340,9 @@ pub(crate) const COMMANDS: [CommandRow; 21] = [
         name: "add",
         about: "Adds files, and directories with everything in them, to an image",
         examples: "Examples:\n  adf_serve add --to s work.adf startup-sequence\n  adf_serve add --to s --as startup-sequence work.adf startup.txt\n  date | adf_serve add --as today work.adf -\n  adf_serve add --bundle work new.adf",
+        usage: "adf_serve add [--to PATH] [--force] [CHANGE] IMAGE FILE..\n       adf_serve add --as NAME [--to PATH] [--force] [CHANGE] IMAGE FILE\n       adf_serve add --bundle DIR [CHANGE] IMAGE",
+        group: Group::PutIn,
+        effect: Effect::Changes,
         changes: true,
         arguments: &[
             ArgumentRow { name: "to", kind: Kind::Option { value: "PATH", default: None }, help: "The directory of the image to add them to. The default is the root" },
@@ -310,6 +356,9 @@ pub(crate) const COMMANDS: [CommandRow; 21] = [
         name: "mkdir",
         about: "Makes directories",
         examples: "Examples:\n  adf_serve mkdir work.adf s c devs devs/keymaps\n  adf_serve mkdir --parents work.adf devs/printers\n  adf_serve mkdir --date 1990-01-01 work.adf libs",
+        usage: "adf_serve mkdir [--parents] [CHANGE] IMAGE PATH..",
+        group: Group::PutIn,
+        effect: Effect::Changes,
         changes: true,
         arguments: &[
             ArgumentRow { name: "parents", kind: FLAG, help: "Makes each missing directory on the way too, and leaves existing directories as they are" },
@@ -320,6 +369,9 @@ pub(crate) const COMMANDS: [CommandRow; 21] = [
         name: "delete",
         about: "Deletes files and empty directories",
         examples: "Example:\n  adf_serve delete --all work.adf devs",
+        usage: "adf_serve delete [--all] [--force] [CHANGE] IMAGE PATH..",
+        group: Group::PutIn,
+        effect: Effect::Removes,
         changes: true,
         arguments: &[
             ArgumentRow { name: "all", kind: FLAG, help: "Deletes a directory with everything in it" },
@@ -331,6 +383,9 @@ pub(crate) const COMMANDS: [CommandRow; 21] = [
         name: "rename",
         about: "Moves a file or a directory to another place",
         examples: "Example:\n  adf_serve rename work.adf s/old c/new",
+        usage: "adf_serve rename [CHANGE] IMAGE OLD NEW",
+        group: Group::PutIn,
+        effect: Effect::Changes,
         changes: true,
         arguments: &[
             ArgumentRow { name: "OLD", kind: Kind::One, help: "Its path, from the root" },
@@ -341,6 +396,9 @@ pub(crate) const COMMANDS: [CommandRow; 21] = [
         name: "protect",
         about: "Sets the protection of a file or a directory",
         examples: PROTECT_EXAMPLES,
+        usage: "adf_serve protect [CHANGE] IMAGE PATH LETTERS",
+        group: Group::PutIn,
+        effect: Effect::Changes,
         changes: true,
         arguments: &[
             ENTRY,
@@ -351,6 +409,9 @@ pub(crate) const COMMANDS: [CommandRow; 21] = [
         name: "date",
         about: "Sets the date of a file or a directory",
         examples: "Examples:\n  adf_serve date work.adf c/dir 1990-01-01\n  adf_serve date work.adf c/dir '1990-01-01 12:30'\n  adf_serve date work.adf c/dir '1990-01-01 12:30:15.50'\n  adf_serve date work.adf c/dir now",
+        usage: "adf_serve date [CHANGE] IMAGE PATH WHEN",
+        group: Group::PutIn,
+        effect: Effect::Changes,
         changes: true,
         arguments: &[
             ENTRY,
@@ -361,6 +422,9 @@ pub(crate) const COMMANDS: [CommandRow; 21] = [
         name: "comment",
         about: "Sets the comment of a file or a directory",
         examples: "Example:\n  adf_serve comment work.adf c/dir 'lists directories'",
+        usage: "adf_serve comment [CHANGE] IMAGE PATH TEXT",
+        group: Group::PutIn,
+        effect: Effect::Changes,
         changes: true,
         arguments: &[
             ENTRY,
@@ -371,6 +435,9 @@ pub(crate) const COMMANDS: [CommandRow; 21] = [
         name: "relabel",
         about: "Renames the volume",
         examples: "Example:\n  adf_serve relabel work.adf Games",
+        usage: "adf_serve relabel [CHANGE] IMAGE NAME",
+        group: Group::PutIn,
+        effect: Effect::Changes,
         changes: true,
         arguments: &[ArgumentRow { name: "NAME", kind: Kind::One, help: "The name: 1 to 30 letters without `/` and `:`" }],
     },
@@ -378,6 +445,9 @@ pub(crate) const COMMANDS: [CommandRow; 21] = [
         name: "validate",
         about: "Writes the bitmap of a disk anew, if nothing else is wrong with the disk",
         examples: "Examples:\n  adf_serve validate work.adf\n  adf_serve validate --out mended.adf work.adf",
+        usage: "adf_serve validate [--force] [CHANGE] IMAGE",
+        group: Group::Mend,
+        effect: Effect::Changes,
         changes: true,
         arguments: &[ArgumentRow { name: "force", kind: FLAG, help: "Also where the old bitmap blocks, or lost blocks, may hold something that can still be saved" }],
     },
@@ -385,6 +455,9 @@ pub(crate) const COMMANDS: [CommandRow; 21] = [
         name: "boot",
         about: "Installs a boot block with the right checksum, removes it, saves it or shows it",
         examples: "Examples:\n  adf_serve boot --install work.adf\n  adf_serve boot work.adf boot.bin\n  adf_serve boot --clear work.adf\n  adf_serve boot --save boot.bin work.adf\n  adf_serve boot --show work.adf",
+        usage: "adf_serve boot [--clear] [CHANGE] IMAGE\n       adf_serve boot --install [CHANGE] IMAGE\n       adf_serve boot [CHANGE] IMAGE FILE\n       adf_serve boot --save FILE [--blocks N] IMAGE\n       adf_serve boot --show [--blocks N] IMAGE",
+        group: Group::PutIn,
+        effect: Effect::Removes,
         changes: true,
         arguments: &[
             ArgumentRow { name: "clear", kind: Kind::Flag { excludes: &["install", "save", "show", "FILE"] }, help: "Removes the boot block, as does `boot` without FILE" },
@@ -398,6 +471,9 @@ pub(crate) const COMMANDS: [CommandRow; 21] = [
         name: "serve",
         about: "Runs scripts over an image, each as a client on its own thread, and prints the replies of each client",
         examples: "Examples:\n  adf_serve serve --out after.adf work.adf one.txt two.txt\n  adf_serve serve --date '1990-01-01 12:00' --out after.adf work.adf one.txt",
+        usage: "adf_serve serve [--out FILE] [--turns N] [TIME] [--blocks N]\n           IMAGE SCRIPT..",
+        group: Group::Serve,
+        effect: Effect::Reads,
         changes: false,
         arguments: &[
             ArgumentRow { name: "out", kind: Kind::Option { value: "FILE", default: None }, help: "Writes the image to this file at the end" },
