@@ -88,6 +88,16 @@ def totals(accepted: int, refused: int = 0, unreadable: int = 0) -> str:
     return f"{count:,} image{'' if count == 1 else 's'}: {accepted:,} ok, {refused:,} refused, {unreadable:,} unreadable"
 
 
+def reasons(*told: str) -> str:
+    """The line after it: how many images are refused for which kind of fault."""
+    return f"refused: {', '.join(told)}"
+
+
+def saves(path: str, words: Optional[str] = None) -> str:
+    """The next command for a damaged image."""
+    return f"'{path}' is damaged; `adf_serve extract --damaged {words or path}` saves its files"
+
+
 def lines_with(names: Sequence[str], told: str) -> bytes:
     return "".join(f"{it}\t{told}\n" for it in names).encode()
 
@@ -165,14 +175,16 @@ def directories(room: Room) -> None:
     check("a directory with no image", ["tree/empty"], 2, b"", none, totals(0))
     check("a directory with no image beside an image", ["tree/empty", "good.adf"], 0, b"good.adf\tok\n", none, totals(1))
     check("a directory with one image", ["elsewhere"], 0, b"elsewhere/far.adf\tok\n", totals(1))
-    check("a link to a directory", ["tree/link"], 2, b"", "adf_serve: cannot read 'tree/link': is a directory")
+    check("an argument that is a link to a directory", ["tree/link"], 0, b"tree/link/far.adf\tok\n", totals(1))
+    check("the same with a slash", ["tree/link/"], 0, b"tree/link/far.adf\tok\n", totals(1))
     os.symlink("nowhere", "tree/dead.adf")
     check("a link that leads nowhere", ["tree"], 2, lines, "adf_serve: cannot read 'tree/dead.adf': no such file", totals(7, 0, 1))
     os.makedirs("packed/more")
-    for it in ("a.dms", "more/B.ADZ", "more/c.adf"):
+    packed = {"a.dms": "DMS", "e.Zip": "ZIP", "more/B.ADZ": "gzip", "more/d.adf.gz": "gzip"}
+    for it in [*packed, "more/c.adf"]:
         shutil.copy("good.adf", f"packed/{it}")
     os.mkdir("packed/d.dms")
-    skipped = [f"adf_serve: 'packed/{it}' skipped: a compressed file, which has to be unpacked first" for it in ("a.dms", "more/B.ADZ")]
+    skipped = [f"adf_serve: 'packed/{it}' skipped: a {kind} file, which has to be unpacked first" for it, kind in packed.items()]
     check("compressed files", ["packed"], 0, b"packed/more/c.adf\tok\n", *skipped, totals(1))
     os.remove("packed/more/c.adf")
     check("only compressed files", ["packed"], 2, b"", *skipped, "adf_serve: 'packed': no image in this directory", totals(0))
@@ -215,7 +227,16 @@ def parallel(room: Room) -> None:
         room.report.same(f"check {' '.join(words)} with as many jobs as processors", room.run("check", *words, "many", "good.adf"), one)
     ran, told = room.on_terminal(2, "check", "--jobs", "2", "many")
     room.report.expect("how many of how many on a terminal", b"2 of 61 images" in told, f"told {told[:200]!r}")
+    shown = re.findall(rb"\[(#*)(-*)\] (\d+) of 61 images(?:, [\d,]+/s, \d+ (?:s|min|h) left)?, (\d+) refused\r\x1b\[K", told)
+    room.report.same("a bar for each step", [(len(full), len(full + rest), int(done)) for full, rest, done, _ in shown], [(done * 10 // 61, 10, done) for done in range(0, 61, 2)])
+    room.report.same("how many were refused so far", [int(it) for *_, it in shown], [refused_before(ran.output, done) for done in range(0, 61, 2)])
+    room.report.expect("rate and time left", b"/s, " in told, f"told {told[:200]!r}")
     room.report.same("what is printed beside a terminal", ran.output, room.run("check", "--jobs", "1", "many").output)
+
+
+def refused_before(lines: bytes, images: int) -> int:
+    """How many of the first images are refused, by the lines of all."""
+    return sum(b"\trefused " in it for it in lines.splitlines()[:images])
 
 
 # ---- files that are no images
@@ -233,9 +254,10 @@ def other_files(room: Room) -> None:
     whole = "are no whole number of blocks: cut short, or not an ADF file"
     few, many = (f"are too {it}: a volume has 16 to 101,602 blocks of 512 bytes" for it in ("few", "many"))
     fits = "the root at block 880 fits 1,760 blocks; the file has"
-    check("an image without its last byte", good[:-1], "NotWholeBlocks 0", f"901,119 bytes {whole}", f"{fits} 1,759 and 511 bytes")
+    cut = "'other.adf' is cut short; `adf_serve extract --damaged --blocks 1760 other.adf` saves its files"
+    check("an image without its last byte", good[:-1], "NotWholeBlocks 0", f"901,119 bytes {whole}", f"{fits} 1,759 and 511 bytes", cut)
     check("an image and 100 bytes", good + bytes(100), "NotWholeBlocks 0", f"901,220 bytes {whole}", f"{fits} 1,760 and 100 bytes: try --blocks 1760")
-    check("an image up to its root", good[: 881 * BLOCK + 1], "NotWholeBlocks 0", f"451,073 bytes {whole}", f"{fits} 881 and 1 byte")
+    check("an image up to its root", good[: 881 * BLOCK + 1], "NotWholeBlocks 0", f"451,073 bytes {whole}", f"{fits} 881 and 1 byte", cut)
     check("an image without a byte of its root", good[: 881 * BLOCK - 1], "NotWholeBlocks 0", f"451,071 bytes {whole}")
     check("zeros of no whole blocks", bytes(1_234), "NotWholeBlocks 0", f"1,234 bytes {whole}", "each of its bytes is 00: nothing was written or read")
     check("three blocks of FF", b"\xff" * 3 * BLOCK, "TooFewBlocks 0", f"1,536 bytes {few}", "each of its bytes is FF: nothing was written or read")
@@ -247,14 +269,30 @@ def other_files(room: Room) -> None:
     os.truncate("other.adf", LARGEST + BLOCK)
     ran = room.run("check", "other.adf")
     room.report.same("other files: too many blocks", ran, Ran(3, b"refused TooManyBlocks 0\n", f"52,020,736 bytes {many}\n".encode()))
-    for name, magic in (("gzip", b"\x1f\x8b"), ("ZIP", b"PK\x03\x04"), ("DMS", b"DMS!"), ("IPF", b"CAPS")):
-        packed = "which has the tracks of a disk and not its blocks" if name == "IPF" else "which has to be unpacked first"
-        looks = f"it looks like {'an' if name == 'IPF' else 'a'} {name} file, {packed}"
+    converts = "`gw convert` of Greaseweazle makes an ADF file of it"
+    kinds = [
+        (b"\x1f\x8b", "a gzip file, which has to be unpacked first"),
+        (b"PK\x03\x04", "a ZIP file, which has to be unpacked first"),
+        (b"DMS!", "a DMS file, which has to be unpacked first"),
+        (b"CAPS", "an IPF file, which has the tracks of a disk and not its blocks: emulators read it"),
+        (b"UAE-1ADF", "an extended ADF file (UAE-1ADF), which has the tracks of a disk: emulators read it"),
+        (b"SCP", f"an SCP file, which has the magnetic flux of a disk: {converts}"),
+        (b"HXCPICFE", f"an HFE file, which has the bits of tracks: {converts}"),
+        (b"RDSK", "a hard disk with partitions (RDB): `rdbtool` of amitools reads it"),
+    ]
+    for magic, said in kinds:
+        name, looks = said.split(",")[0], f"it looks like {said}"
         check(f"{name} of 1,234 bytes", magic + good[len(magic) : 1_234], "NotWholeBlocks 0", f"1,234 bytes {whole}", looks)
-        first = " ".join(f"{it:02X}" for it in (magic + good[len(magic) :])[:4])
-        begins = f"block 0: not an AmigaDOS disk: its boot block begins with {first} (a game's own format, perhaps)"
-        check(f"{name} of whole blocks", magic + good[len(magic) :], "NotADosDisk 0", begins, looks)
-        check(f"{name} without its last letter", magic[:-1] + b"?" + good[len(magic) : 1_234], "NotWholeBlocks 0", f"1,234 bytes {whole}")
+        check(f"{name} of whole blocks", magic + good[len(magic) :], "NotADosDisk 0", looks)
+        check(f"{name} without its first letter", b"?" + magic[1:] + good[len(magic) : 1_234], "NotWholeBlocks 0", f"1,234 bytes {whole}")
+    table = f"it looks like {kinds[-1][1]}"
+    far = bytes(15 * BLOCK) + b"RDSK" + bytes(4_096)
+    check("a table of partitions in block 15", far[: len(far) // BLOCK * BLOCK], "NotADosDisk 0", table)
+    check("one in block 16", bytes(BLOCK) + far[: len(far) // BLOCK * BLOCK], "NotADosDisk 0", "block 0: not an AmigaDOS disk: its boot block begins with 00 00 00 00 (a game's own format, perhaps)")
+    room.write("other.adf", far)
+    os.truncate("other.adf", LARGEST + BLOCK)
+    ran = room.run("check", "other.adf")
+    room.report.same("a hard disk that is longer than an image", ran, Ran(3, b"refused TooManyBlocks 0\n", f"52,020,736 bytes {many}\n{table}\n".encode()))
     game = bytes.fromhex("b433751b")
     begins = "block 0: not an AmigaDOS disk: its boot block begins with B4 33 75 1B (a game's own format, perhaps)"
     check("the boot block of a game", game + good[4:], "NotADosDisk 0", begins)
@@ -266,8 +304,8 @@ def other_files(room: Room) -> None:
     check("only 00 but for the last byte", bytes(len(good) - 1) + b"x", "NotADosDisk 0", begins)
     roots: List[Tuple[str, bytes, int, List[str]]] = [
         ("two cylinders more", good + bytes(44 * BLOCK), 902, [f"{fits} 1,804: try --blocks 1760"]),
-        ("fewer blocks", good[: 1_000 * BLOCK], 500, [f"{fits} 1,000"]),
-        ("so few that the root is missing", good[: 800 * BLOCK], 400, []),
+        ("fewer blocks", good[: 1_000 * BLOCK], 500, [f"{fits} 1,000", cut]),
+        ("so few that the root is missing", good[: 800 * BLOCK], 400, [saves("other.adf")]),
     ]
     for name, data, root, told in roots:
         check(name, data, f"BadType {root}", f"block {root}, the root: its primary type is 0; it should be 2", *told)
@@ -278,7 +316,72 @@ def other_files(room: Room) -> None:
     lines = lines_with(["other.adf"], "refused NotADosDisk 0") + lines_with(["more.adf"], "refused NotWholeBlocks 0")
     room.report.check("other files: several, with their paths", ran, 3, lines, *texts)
     ran = room.run("check", "other.adf", "more.adf")
-    room.report.same("other files: several, without texts", ran, Ran(3, lines, f"{totals(0, 2)}\n".encode()))
+    begins = "other.adf: block 0: not an AmigaDOS disk: its boot block begins with B4 33 75 1B (a game's own format, perhaps)"
+    counts = reasons("1 NotWholeBlocks (no whole number of blocks)", "1 NotADosDisk (not an AmigaDOS disk)")
+    texts = "".join(f"{it}\n" for it in (begins, f"more.adf: 1,234 bytes {whole}", totals(0, 2), counts))
+    room.report.same("other files: several, each with its first fault", ran, Ran(3, lines, texts.encode()))
+
+
+# ---- the next command for a refused image
+
+# Names of files, and how a shell is given them.
+SHOWN_NAMES = {
+    "plain-1.adf": "plain-1.adf",
+    "two words.adf": "'two words.adf'",
+    "it's $HOME.adf": "'it'\\''s $HOME.adf'",
+    "-dash.adf": "./-dash.adf",
+    "-a b.adf": "./'-a b.adf'",
+    "été.adf": "été.adf",
+    "esc\x1b.adf": "IMAGE",
+}
+
+
+def next_commands(room: Room) -> None:
+    """Behind each refusal the next command, which works as it is printed, in a shell too."""
+    files = filled(room, "first.adf", "--ffs")
+    good = Volume(room.content("first.adf"))
+    bad = bytes(good.changed([(good.header("Docs"), 127, 7)]).data)
+    text = f"block {good.header('Docs')}, in Work:Docs: its secondary type is 7; it should be 2 (a directory) or -3 (a file)"
+    refused = f"refused BadType {good.header('Docs')}"
+    for name, word in SHOWN_NAMES.items():
+        room.write(name, bad)
+        shown = name.replace("\x1b", "%1B")
+        room.report.same(f"the next command for {shown}", room.run("check", "--", name), Ran(3, f"{refused}\n".encode(), f"{text}\n{saves(shown, word)}\n".encode()))
+        if word != "IMAGE":
+            saved = f"adf_serve extract --damaged --to saved {word}".replace("adf_serve", str(room.program))
+            ran = subprocess.run(["sh", "-c", saved], stdout=subprocess.PIPE, stderr=subprocess.PIPE)
+            whole = room.content("saved/top") == files["top"]
+            room.report.same(f"the command for {shown} saves its files", (ran.returncode, whole), (3, True))
+            shutil.rmtree("saved", ignore_errors=True)
+    names = sorted(SHOWN_NAMES)
+    ran = room.run("check", "--", *names)
+    shown = [it.replace("\x1b", "%1B") for it in names]
+    told = [it for name, bare in zip(names, shown) for it in (f"{bare}: {text}", saves(bare, SHOWN_NAMES[name]))]
+    counts = [totals(0, len(names)), reasons(f"{len(names)} BadType (wrong type of block)")]
+    room.report.same("the next commands for several", ran, Ran(3, lines_with(shown, refused), "".join(f"{it}\n" for it in [*told, *counts]).encode()))
+    room.write("first.adf", bad + bytes(BLOCK))
+    ran = room.run("check", "--blocks", str(good.blocks), "first.adf")
+    room.report.check("with the first blocks of a file", ran, 3, f"{refused}\n".encode(), saves("first.adf", f"--blocks {good.blocks} first.adf"))
+    bitmaps(room, good)
+
+
+def bitmaps(room: Room, good: Volume) -> None:
+    """A wrong bitmap alone is mended by `validate`, and that is the next command; with another fault it is not."""
+    page = good.long(ROOT, 79)
+    free, unsummed = Volume(good.data), Volume(good.data)
+    free.put_all(page, 1, [ALL_ONES] * 55)
+    free.settle(page, 0)
+    unsummed.put(page, 0, good.long(page, 0) ^ 1)
+    typed = free.changed([(good.header("Docs"), 127, 7)])
+    for name, image, mended in (("blocks that are marked free", free, True), ("a wrong checksum of the bitmap", unsummed, True), ("a wrong type beside a wrong bitmap", typed, False)):
+        room.write("bitmap.adf", bytes(image.data))
+        said = "'bitmap.adf' has a wrong bitmap and no other fault; `adf_serve validate bitmap.adf` mends it"
+        for words in (["check"], ["list"], ["check", "--all"]):
+            ran = room.run(*words, "bitmap.adf")
+            room.report.expect(f"{' '.join(words)} of {name}", ran.status == 3 and ran.texts.decode().splitlines()[-1] == (said if mended else saves("bitmap.adf")), ran)
+        if mended:
+            room.done("validate", "bitmap.adf")
+            room.report.check(f"{name} is mended", room.run("check", "bitmap.adf"), 0, b"ok\n")
 
 
 # ---- data blocks that hold a filler
@@ -1441,7 +1544,7 @@ def deleted_entries(room: Room) -> None:
 
 def main(words: List[str]) -> int:
     random.seed(3)
-    parts = (named_images, directories, strange_names, other_files, filler_blocks, long_paths_of_fillers, largest_filled, drawn_fillers, parallel, accepted_objects, refused_objects, shown_values, texts_told, bounded, many_faults, tangled_disks, other_kinds, model, longs_told, salvage, rows, deleted_entries, damages)
+    parts = (named_images, directories, strange_names, other_files, next_commands, filler_blocks, long_paths_of_fillers, largest_filled, drawn_fillers, parallel, accepted_objects, refused_objects, shown_values, texts_told, bounded, many_faults, tangled_disks, other_kinds, model, longs_told, salvage, rows, deleted_entries, damages)
     return try_all(words, Room, *parts)
 
 

@@ -889,7 +889,8 @@ def images_from_input(tried: Commands) -> None:
             tried.report.same(f"{words} with {kind} as standard input", (ran.status, ran.output), (wanted.status, wanted.output))
     tried.report.check("the first blocks of a pipe", tried.run("check", "--blocks", "1760", "-", input=image + b"more"), 0, b"ok\n")
     tried.report.check("a pipe with half a block more", tried.run("check", "-", input=image + bytes(256)), 3, b"refused NotWholeBlocks 0\n", "its bytes are no whole number of blocks")
-    tried.report.check("a refused image from a pipe", tried.run("info", "-", input=poked(image, 880, 100, b"\1")), 3, b"refused BadSum 880\n")
+    damaged = "'-' is damaged; `adf_serve extract --damaged -` saves its files\n"
+    tried.report.check("a refused image from a pipe", tried.run("info", "-", input=poked(image, 880, 100, b"\1")), 3, b"refused BadSum 880\n", damaged)
     tried.report.check("standard input without bytes", tried.run("list", "-"), 3, b"refused TooFewBlocks 0\n")
     tried.report.check("a closed standard input", tried.run("list", "-", before=partial(os.close, 0)), 2, b"", "cannot read '-'")
     tried.write("-", image)
@@ -1515,8 +1516,17 @@ def forms_of_lists(tried: Commands) -> None:
 
 
 def refused_images(tried: Commands) -> None:
-    """Refused images, with each command that reads one: the line of each, and on standard error why."""
+    """Refused images, with each command that reads one: the line of each, and on standard error why and the next command."""
     blank = tried.content("ffs.adf")
+    tools = "has the Old File System in international mode (DOS\\2); `xdftool` of amitools reads it\n"
+    mends = "has a wrong bitmap and no other fault; `adf_serve validate {0}` mends it\n"
+    nexts = {
+        "odd.adf": "is cut short; `adf_serve extract --damaged --blocks 1760 {0}` saves its files\n",
+        "kind.adf": tools,
+        "sum.adf": "is damaged; `adf_serve extract --damaged {0}` saves its files\n",
+        "marked.adf": mends,
+        "page.adf": mends,
+    }
     few, many = " bytes are too few: a volume has 16 to 101,602 blocks of 512 bytes\n", " bytes are too many: a volume"
     for name, image, told, text in (
         ("empty.adf", b"", "TooFewBlocks 0", f"0{few}"),
@@ -1533,6 +1543,8 @@ def refused_images(tried: Commands) -> None:
         tried.write(name, image)
         refused = f"refused {told}\n"
         texts = [text] if told.endswith(" 0") else [text, f"block {told.split()[1]}"]
+        if name in nexts:
+            texts.append(f"'{name}' {nexts[name].format(name)}")
         for words in ("check IMAGE", "info IMAGE", "list IMAGE", *ON_IMAGES):
             tried.rows(row(f"{words.split()[0]} of {name}", words.replace("IMAGE", name), 3, refused, *texts))
         if name not in ("marked.adf", "page.adf"):

@@ -1,6 +1,8 @@
 -- Reported faults, by the faults themselves.
-use Rattle.std.proofs.Common.{◌≡◌, ℕ, ◌<◌, ◌⊎◌, inl, inr, Bool, false, List, [], ◌∷◌, length, get_or, map, All, sym, ap, ◌∙◌, subst, refl, arith}
-use Rattle.adf_archive.proofs.Common.{get_or-map, length-map, AreMarks, Marks, VolumeFault, HasValues, HaveTexts, HaveValues, explains, Detail, ShownFault}
+use Rattle.std.proofs.Common.{◌≡◌, ℕ, ◌<◌, ◌⊎◌, inl, inr, Bool, false, List, [], ◌∷◌, length, get_or, map, All, sym, ap, ◌∙◌, subst, refl, arith, lit<}
+use Rattle.adf_archive.proofs.Common.{All-contains, get_or-map, length-map, AreAllFaults, IsOfMarks, ShowsOnlyMarks, ShowsOtherKind, VolumeFault, ShownFault, fault_of}
+use Rattle.ados_model.specs.declared.fault.FaultKind.{FaultKind}
+use Rattle.ados_model.specs.declared.fault.FaultKind.TheVariants.{NotADosDisk, UnsupportedKind}
 use Rattle.ados_model.specs.Faults.{Shows}
 
 -- there are equally many
@@ -15,15 +17,24 @@ shown_all image shown faults same all = λ i d l.
     (ap (λ (xs : List VolumeFault). get_or xs i d.fault) (sym same) ∙ get_or-map (λ (each : ShownFault). each.fault) shown i d d.fault l)
     (all i d.fault (subst (λ (n : ℕ). i < n) (many shown faults same) l))
 
--- the faults have values, by the marks of the image or, without texts, by none
-pub have_values : (image : List ℕ) (marks : Marks) (detail : Detail) (faults : List ShownFault)
-    → AreMarks image marks ⊎ ((marks ≡ []) × (explains detail ≡ false)) → HaveTexts (explains detail) faults → All (HasValues image marks) faults
-    → HaveValues image faults
-have_values image marks detail faults (inl are) texts values = (marks, inl are, values)
-have_values image marks detail faults (inr none) texts values =
-    (marks, inr (none.0, subst (λ (explained : Bool). HaveTexts explained faults) none.1 texts), values)
-
 -- a list that is not empty has an element
 pub not_empty : (faults : List VolumeFault) → ¬ (faults ≡ []) → 0 < length faults
 not_empty [] some = absurd (some refl)
 not_empty (fault ∷ faults) some = omega arith
+
+-- if all faults are those of marks and checksums, the image shows no other one
+pub only_marks : (image : List ℕ) (more : Bool) (faults : List VolumeFault) → more ≡ false → All (λ fault. IsOfMarks fault.kind) faults
+    → AreAllFaults image 1000 more faults → ShowsOnlyMarks image
+only_marks image more faults whole all are = λ kind block shown.
+    All-contains (λ (fault : VolumeFault). IsOfMarks fault.kind) faults (fault_of kind block) all (are.each not_other whole kind block shown)
+  where
+    neither : (kind : FaultKind) → (kind ≡ NotADosDisk) ⊎ (kind ≡ UnsupportedKind) → IsOfMarks kind → ⊥
+    neither kind (inl e) (inl f) = cc (e, f)
+    neither kind (inl e) (inr f) = cc (e, f)
+    neither kind (inr e) (inl f) = cc (e, f)
+    neither kind (inr e) (inr f) = cc (e, f)
+
+    not_other : ¬ ShowsOtherKind image
+    not_other = λ other.
+        let alone = (are.alone other.0 other.1).0 in
+        neither other.0 other.1.of_boot (subst (All (λ (fault : VolumeFault). IsOfMarks fault.kind)) alone all 0 (fault_of other.0 0) (lit< tt))

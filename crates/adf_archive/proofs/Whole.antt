@@ -30,7 +30,7 @@ not_broken_over (suc n) tally fault broken e = not_broken (nat_lt 0 tally.not_ch
 module _ (job : CheckJob) where
   -- all that the command may report
   everything : Detail
-  everything = record { all = job.all; contents = true; filler = job.filler; texts = true }
+  everything = record { all = job.all; contents = job.json; filler = job.filler }
 
   -- no image was reported
   nothing : Archive job
@@ -39,7 +39,7 @@ module _ (job : CheckJob) where
     paths = [];
     reports = [];
     detail = everything;
-    wanted = record { all = refl; filler = refl; texts = λ wanted. refl };
+    wanted = record { all = refl; filler = refl; contents = refl };
     form = record { json = job.json; paths = true };
     within = omega arith;
     checked = All-nil (IsReportOfSome everything);

@@ -1,5 +1,5 @@
 -- The output of a command for many images, and how it ends.
-use Rattle.std.specs.Prelude.{◌≡◌, ℕ, ◌≤◌, ◌<◌, ◌⊎◌, true, false, List, length, All, Option, Result, Err}
+use Rattle.std.specs.Prelude.{◌≡◌, ℕ, ◌≤◌, ◌<◌, true, false, List, length, All, Option, Result, Err}
 use denote.Param.Members.{Shared}
 use Rattle.std.specs.Io.KnownBytes.{Appends}
 use Rattle.adf_io.specs.Prefix.{WritesFront}
@@ -12,7 +12,7 @@ use Rattle.adf_archive.specs.declared.telling.Form.{Form}
 use Rattle.adf_archive.specs.declared.telling.Tally.{Tally}
 use Rattle.adf_archive.specs.Each.{GivesFrom}
 use Rattle.adf_archive.specs.Lines.{told_from}
-use Rattle.adf_archive.specs.Report.{IsReportOfSome, explains}
+use Rattle.adf_archive.specs.Report.{IsReportOfSome}
 use Rattle.adf_archive.specs.Status.{IsTally, ends_over}
 
 -- the reports on all these images were written, each made by the function for its position, and this is their status
@@ -25,12 +25,12 @@ abbrev pub LeavesOff : {F : Type 0} → Shared F (ℕ × Unit {0}) ImageReport �
 LeavesOff g f form paths old new =
     (count : ℕ) × (reports : List ImageReport) × (count ≤ length paths) × GivesFrom g f 0 count reports × WritesFront old new (told_from form paths 0 reports)
 
--- what a command reports: with `--all` all faults, with `--filler` the suspect blocks, and with `--all` and with `--json` the
--- texts that explain faults
+-- what a command reports: with `--all` all faults, with `--filler` the suspect blocks, with `--json` the contents of the
+-- volume and the paths of faults
 pub record IsDetailOf (job : CheckJob) (detail : Detail) : Type 0 where
   pub all : detail.all ≡ job.all
   pub filler : detail.filler ≡ job.filler
-  pub texts : (job.all ≡ true) ⊎ (job.json ≡ true) → explains detail ≡ true
+  pub contents : detail.contents ≡ job.json
 
 -- the reports on images: their paths, the form, and the report on each, which is the check's result for the bytes of
 -- its file

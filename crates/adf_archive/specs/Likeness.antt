@@ -3,14 +3,18 @@ use Rattle.std.specs.Prelude.{◌≡◌, ℕ, ◌<◌, ◌≤◌, List, [], ◌�
 use Rattle.adf_block.specs.Image.{IsInside, block_count, block_sum, long}
 use Rattle.adf_block.specs.declared.layout.TheConstants.{BOOT_BLOCKS, HEADER_TYPE, PRIMARY_TYPE, ROOT_TYPE, SECONDARY_TYPE, TABLE_LONGS, TABLE_SIZE}
 use Rattle.adf_archive.specs.declared.likeness.Likeness.{Likeness}
-use Rattle.adf_archive.specs.declared.likeness.Likeness.TheVariants.{Gzip, Zip, Dms, Ipf}
+use Rattle.adf_archive.specs.declared.likeness.Likeness.TheVariants.{Gzip, Zip, Dms, Ipf, ExtendedAdf, Scp, Hfe, Rdb}
 
--- the first bytes of each kind of file
+-- the first bytes of each kind of file; those of HFE files and of extended ADF files go on in more than one way
 abbrev pub magic : Likeness → List ℕ
 magic Gzip = 31 ∷ 139 ∷ []
 magic Zip = codes "PK" ++ 3 ∷ 4 ∷ []
 magic Dms = codes "DMS!"
 magic Ipf = codes "CAPS"
+magic ExtendedAdf = codes "UAE-"
+magic Scp = codes "SCP"
+magic Hfe = codes "HXC"
+magic Rdb = codes "RDSK"
 
 -- the bytes begin as those of such a file
 abbrev pub BeginsAs : Likeness → List ℕ → Type 0

@@ -72,12 +72,12 @@ lines_of front (Refused told) = fault_lines front told
 lines_of front (WrongSize fault) = line_behind front (refused_words (size_word fault) 0)
 lines_of front (NotChecked why) = []
 
--- the output for the image at a path: its object, or its lines; for several images each line starts with the path and
--- a tab
+-- the output for the image at a path: its object, or its lines; for several images each line starts with the path, with
+-- control characters as escapes, and a tab
 abbrev pub told_of : Form → List ℕ → ImageReport → List ℕ
 told_of form path report =
     if form.json then object_line path report
-    else if form.paths then lines_of (path ++ 9 ∷ []) report
+    else if form.paths then lines_of (plain false path ++ 9 ∷ []) report
     else lines_of [] report
 
 -- the output for images, one after the other; their paths start at a position of the list

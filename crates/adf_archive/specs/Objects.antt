@@ -70,7 +70,7 @@ fault_tokens kind block path values text =
 
 abbrev pub shown_tokens : ShownFault → List Token
 shown_tokens shown =
-    fault_tokens (kind_word shown.fault.kind) shown.fault.block (option_map string_bytes shown.path) shown.values (option_map string_bytes shown.text)
+    fault_tokens (kind_word shown.fault.kind) shown.fault.block (option_map string_bytes shown.path) shown.values (Some (string_bytes shown.text))
 
 -- the objects of a report's faults
 abbrev pub faults_tokens : ImageReport → List Token

@@ -1,5 +1,5 @@
 -- The report on the bytes of an image.
-use Rattle.std.specs.Prelude.{◌≡◌, ℕ, ◌<◌, ◌⊎◌, Bool, true, false, ◌||◌, List, [], length, map, All, IfSome, MatchOption, is_some, ⊤}
+use Rattle.std.specs.Prelude.{◌≡◌, ℕ, ◌<◌, ◌⊎◌, Bool, true, List, length, map, All, IfSome, MatchOption, is_some, ⊤}
 use Rattle.adf_block.specs.Boot.{HasKind}
 use Rattle.adf_block.specs.Image.{block_count}
 use Rattle.adf_block.specs.Size.{IsSizeFault}
@@ -7,6 +7,8 @@ use Rattle.ados_model.specs.Tree.{Tree, free, name_of, root}
 use Rattle.ados_model.specs.Stands.{Stands}
 use Rattle.ados_model.specs.Accepted.{Accepts}
 use Rattle.ados_model.specs.Faults.{Shows}
+use Rattle.ados_model.specs.declared.fault.FaultKind.{FaultKind}
+use Rattle.ados_model.specs.declared.fault.FaultKind.TheVariants.{BadSum, MarkedFree}
 use Rattle.ados_faults.specs.Listed.{AreAllFaults, AreMarks, Marks}
 use Rattle.ados_faults.specs.Values.{AreValues, NoneShows}
 use Rattle.adf_record.specs.Counts.{AreCounts}
@@ -40,26 +42,27 @@ abbrev pub HasValues : List ℕ → Marks → ShownFault → Type 0
 HasValues image marks shown =
     MatchOption shown.values (NoneShows image marks shown.fault.kind shown.fault.block) (AreValues image marks shown.fault.kind shown.fault.block)
 
--- whether each fault gets its path and the text that explains it, or the text alone
-abbrev pub explains : Detail → Bool
-explains detail = detail.contents || detail.texts
-
--- the faults have texts, or they have none
-abbrev pub HaveTexts : Bool → List ShownFault → Type 0
-HaveTexts explained faults = All (λ shown. is_some shown.text ≡ explained) faults
-
--- so it is for each fault, by the marks of the image; or without marks, if the faults have no texts
+-- so it is for each fault, by the marks of the image
 abbrev pub HaveValues : List ℕ → List ShownFault → Type 0
-HaveValues image faults =
-    (marks : Marks) × (AreMarks image marks ⊎ ((marks ≡ []) × HaveTexts false faults)) × All (HasValues image marks) faults
+HaveValues image faults = (marks : Marks) × AreMarks image marks × All (HasValues image marks) faults
 
--- the image shows each of the faults, and there is at least one
+-- a block in use is marked free, or a checksum is wrong
+abbrev pub IsOfMarks : FaultKind → Type 0
+IsOfMarks kind = (kind ≡ MarkedFree) ⊎ (kind ≡ BadSum)
+
+-- the image shows no other fault
+abbrev pub ShowsOnlyMarks : List ℕ → Type 0
+ShowsOnlyMarks image = (kind : FaultKind) (block : ℕ) → Shows image kind block → IsOfMarks kind
+
+-- the image shows each of the faults, and there is at least one; a report says that only the bitmap is wrong only of an image
+-- without faults of other kinds
 pub record IsRefused (image : List ℕ) (told : RefusedImage) : Type 0 where
   pub kind : HasKind image told.kind
   pub blocks : told.blocks ≡ block_count image
   pub some : 0 < length told.faults.items
   pub shown : All (λ shown. Shows image shown.fault.kind shown.fault.block) told.faults.items
   pub values : HaveValues image told.faults.items
+  pub bitmap : told.only_bitmap ≡ true → ShowsOnlyMarks image
 
 -- the report is the check's result for these bytes; one that was not checked says nothing
 abbrev pub IsReport : List ℕ → ImageReport → Type 0
@@ -67,11 +70,6 @@ IsReport image (Accepted told) = IsAccepted image told
 IsReport image (Refused told) = IsRefused image told
 IsReport image (WrongSize fault) = IsSizeFault (length image) fault
 IsReport image (NotChecked why) = ⊤
-
--- each fault of a refused image has its text, so its values are those by the marks of the image
-abbrev pub IsExplained : ImageReport → Type 0
-IsExplained (Refused told) = HaveTexts true told.faults.items
-IsExplained report = ⊤
 
 -- of a disk of another kind that alone is reported. Of any other each fault that it shows is reported, or 1,000 of them and
 -- `more`, exactly if it shows more; these are the first ones, unless it is tangled
@@ -84,11 +82,10 @@ abbrev pub IsSearched : Bool → ImageReport → Type 0
 IsSearched wanted (Accepted told) = is_some told.suspects ≡ wanted
 IsSearched wanted report = ⊤
 
--- the report is the check's result for these bytes; its faults are explained and complete, and its suspect blocks are
--- reported, if that is wanted
+-- the report is the check's result for these bytes; its faults are complete, and its suspect blocks are reported, if
+-- that is wanted
 pub record IsReportFor (detail : Detail) (image : List ℕ) (report : ImageReport) : Type 0 where
   pub is : IsReport image report
-  pub texts : explains detail ≡ true → IsExplained report
   pub each : detail.all ≡ true → IsComplete image report
   pub filler : IsSearched detail.filler report
 

@@ -22,12 +22,10 @@ use std::alloc::{AllocError, Global};
 pub struct Detail {
     /// All faults of the image; otherwise one.
     pub all: bool,
-    /// The contents of the volume, and the paths of faults and the texts that explain them.
+    /// The contents of the volume, and the paths of faults.
     pub contents: bool,
     /// The data blocks of files that hold nothing but a filler.
     pub filler: bool,
-    /// The texts that explain faults.
-    pub texts: bool,
 }
 
 /// The report on an image file. For most images a sketch decides, if it has all that is reported; the others are read whole.

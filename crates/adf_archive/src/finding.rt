@@ -36,8 +36,8 @@ pub enum Remark {
     #[error("'{0}': no image in this directory")]
     NoImage(String),
     /// A file of a directory.
-    #[error("'{0}' skipped: a compressed file, which has to be unpacked first")]
-    Compressed(String),
+    #[error("'{0}' skipped: a {1} file, which has to be unpacked first")]
+    Packed(String, &'static str),
 }
 
 /// A path in a directory that is still to be visited.
@@ -53,15 +53,16 @@ struct Waiting {
 enum Look {
     Image,
     Directory,
-    Compressed,
+    /// A packed file, with the name of its kind.
+    Packed(&'static str),
     Neither,
 }
 
 /// The image files that these arguments name. An argument's own file counts with any name. In a directory, and in all
 /// directories below it, files with the ending of an image count, in the order of the bytes of their names.
 ///
-/// A link to a file counts as that file; a link to a directory is not followed. An unreadable path counts as an image,
-/// so that the check reports it, and so does any name that is not UTF-8.
+/// An argument may be a link. In a directory a link to a file counts as that file, and a link to a directory is not followed.
+/// An unreadable path counts as an image, so that the check reports it, and so does any name that is not UTF-8.
 pub fn image_files<R: Files>(
     rt: &R,
     alloc: Global,
@@ -78,7 +79,7 @@ pub fn image_files<R: Files>(
     };
     for place in 0..words.len() {
         let word = words[place];
-        if fs::symlink_metadata(rt, word).is_ok_and(|met| met.is_dir()) {
+        if fs::metadata(rt, word).is_ok_and(|met| met.is_dir()) {
             find_below(rt, alloc, word, &mut found)?;
             found.in_directory = true;
         } else {
@@ -144,7 +145,7 @@ fn find_below<R: Files>(
         match look_at(rt, &next) {
             Look::Image => found.add(next.path, next.is_hosts, top)?,
             Look::Directory => wait_for_names(rt, alloc, next.path, top, found, &mut waiting)?,
-            Look::Compressed => found.remarks.push(Remark::Compressed(next.path))?,
+            Look::Packed(kind) => found.remarks.push(Remark::Packed(next.path, kind))?,
             Look::Neither => {}
         }
     }
@@ -174,10 +175,24 @@ fn look_at<R: Files>(rt: &R, next: &Waiting) -> Look {
     if has_image_ending(path) {
         return Look::Image;
     }
-    if has_ending(path, b".adz") || has_ending(path, b".dms") {
-        return Look::Compressed;
+    match packed_kind(path) {
+        Some(kind) => Look::Packed(kind),
+        None => Look::Neither,
     }
-    Look::Neither
+}
+
+/// The kind of a packed file, by the ending of its name.
+fn packed_kind(name: &str) -> Option<&'static str> {
+    if has_ending(name, b".gz") || has_ending(name, b".adz") {
+        return Some("gzip");
+    }
+    if has_ending(name, b".zip") {
+        return Some("ZIP");
+    }
+    if has_ending(name, b".dms") {
+        return Some("DMS");
+    }
+    None
 }
 
 /// Whether a name ends in `.adf` or `.hdf`, in any case.

@@ -20,8 +20,16 @@ pub enum Likeness {
     Zip,
     #[error("it looks like a DMS file, which has to be unpacked first")]
     Dms,
-    #[error("it looks like an IPF file, which has the tracks of a disk and not its blocks")]
+    #[error("it looks like an IPF file, which has the tracks of a disk and not its blocks: emulators read it")]
     Ipf,
+    #[error("it looks like an extended ADF file (UAE-1ADF), which has the tracks of a disk: emulators read it")]
+    ExtendedAdf,
+    #[error("it looks like an SCP file, which has the magnetic flux of a disk: `gw convert` of Greaseweazle makes an ADF file of it")]
+    Scp,
+    #[error("it looks like an HFE file, which has the bits of tracks: `gw convert` of Greaseweazle makes an ADF file of it")]
+    Hfe,
+    #[error("it looks like a hard disk with partitions (RDB): `rdbtool` of amitools reads it")]
+    Rdb,
 }
 
 /// What a file with these first bytes looks like.
@@ -40,7 +48,34 @@ pub fn likeness_of(front: &[u8]) -> Option<Likeness>
     if front.starts_with(b"CAPS") {
         return Some(Likeness::Ipf);
     }
+    if front.starts_with(b"UAE-") {
+        return Some(Likeness::ExtendedAdf);
+    }
+    if front.starts_with(b"SCP") {
+        return Some(Likeness::Scp);
+    }
+    if front.starts_with(b"HXC") {
+        return Some(Likeness::Hfe);
+    }
+    if front.starts_with(b"RDSK") {
+        return Some(Likeness::Rdb);
+    }
     None
+}
+
+/// The first bytes of a file that show its kind: sixteen blocks, one of which begins the table of a disk with partitions.
+pub(crate) const FRONT_BYTES: usize = 16 * BLOCK_BYTES as usize;
+
+/// What a file with these first bytes looks like. The table of partitions begins in one of the first sixteen blocks.
+pub(crate) fn look_of(front: &[u8]) -> Option<Likeness> {
+    let has_table = front
+        .chunks(BLOCK_BYTES as usize)
+        .take(16)
+        .any(|block| block.starts_with(b"RDSK"));
+    match likeness_of(front) {
+        None if has_table => Some(Likeness::Rdb),
+        likeness => likeness,
+    }
 }
 
 /// The byte that all these bytes are, if they are one.

@@ -189,7 +189,7 @@ fn put_shown(writer: &mut Writer, faults: &[ShownFault]) -> Result<(), AllocErro
             shown.fault.block,
             shown.path.as_deref(),
             shown.values,
-            shown.text.as_deref(),
+            Some(shown.text.as_str()),
         )?;
     }
     Ok(())

@@ -1,11 +1,12 @@
 //! What a person is told of images beside the reports.
 use crate::finding::Remark;
 use crate::found_file::FoundFile;
-use crate::likeness::{filling, likeness_of, other_root, root_in};
+use crate::likeness::{FRONT_BYTES, Likeness, filling, look_of, other_root, root_in};
+use crate::next_step::{NextStep, Repair};
 use crate::reading::ReadImages;
-use crate::report::{ImageReport, RefusedImage, WhyNot};
+use crate::report::{ImageReport, RefusedImage, ShownFault, WhyNot};
 use crate::telling::Form;
-use adf_block::layout::BLOCK_BYTES;
+use adf_block::layout::{BLOCK_BYTES, MOST_BLOCKS};
 use adf_block::{Image, MOST_BYTES, SizeFault};
 use adf_host::input_path;
 use adf_record::Grouped;
@@ -18,9 +19,6 @@ use std::io::Write;
 use std::rt::Files;
 use std::{fmt, fs};
 
-/// The bytes at the start of a file that tell its kind.
-const KIND_BYTES: usize = 4;
-
 /// Bytes in a block.
 const BLOCK: u64 = BLOCK_BYTES as u64;
 
@@ -29,14 +27,12 @@ const BLOCK: u64 = BLOCK_BYTES as u64;
 pub struct Manner<'a> {
     /// The form of the reports. With paths, each line begins with the path.
     pub form: Form,
-    /// What explains the faults is told too; otherwise only which images were not checked.
-    pub texts: bool,
     /// The number of blocks at the start of a file that are its image; by default all of it is.
     pub blocks: Option<u32>,
     /// For each image, the number of bytes of its path that are the argument's directory in which it was found; `None` for
     /// an argument.
     pub tops: &'a [Option<usize>],
-    /// Of several images, how many are done is shown on a terminal.
+    /// Of several images the progress is shown on a terminal.
     pub terminal: bool,
 }
 
@@ -57,8 +53,8 @@ pub(crate) fn tell_remarks<F: Write>(remarks: &[Remark], faults: &mut F) {
     }
 }
 
-/// Prints which of these images were not checked and why, and what explains the faults of the others. `paths` are
-/// theirs, in order.
+/// Prints which of these images were not checked and why, and what explains the faults of the others and what to do with
+/// these. `paths` are theirs, in order.
 pub(crate) fn tell_person<R: Files + ReadImages, F: Write>(
     rt: &R,
     alloc: Global,
@@ -73,13 +69,9 @@ pub(crate) fn tell_person<R: Files + ReadImages, F: Write>(
         let about = About { path, top, manner };
         match report {
             ImageReport::NotChecked(why) => about.tell_unread(rt, alloc, *why, faults),
-            ImageReport::WrongSize(fault) if manner.texts => {
-                about.tell_size(rt, alloc, *fault, faults);
-            }
-            ImageReport::Refused(told) if manner.texts => {
-                about.tell_refused(rt, alloc, told, faults);
-            }
-            _ => {}
+            ImageReport::WrongSize(fault) => about.tell_size(rt, alloc, *fault, faults),
+            ImageReport::Refused(told) => about.tell_refused(rt, alloc, told, faults),
+            ImageReport::Accepted(_) => {}
         }
     }
 }
@@ -122,9 +114,26 @@ struct OtherSize {
     length: u64,
 }
 
+impl OtherSize {
+    /// The blocks of an image of this size.
+    fn needed(self) -> u64 {
+        2 * u64::from(self.root)
+    }
+
+    /// What can be done with the image, if its last blocks are missing. Otherwise the text says which option to use.
+    fn repair(self) -> Option<Repair> {
+        let needed = self.needed();
+        if self.length / BLOCK < needed && needed <= u64::from(MOST_BLOCKS) {
+            Some(Repair::CutFiles(needed))
+        } else {
+            None
+        }
+    }
+}
+
 impl Display for OtherSize {
     fn fmt<W: fmt::Write>(&self, f: &mut Formatter<W>) -> fmt::Result {
-        let needed = 2 * u64::from(self.root);
+        let needed = self.needed();
         let blocks = self.length / BLOCK;
         let (holder, rest) = (self.holder, PartOfBlock(self.length % BLOCK));
         write!(
@@ -166,7 +175,7 @@ pub(crate) struct About<'a> {
 
 impl<'a> About<'a> {
     /// The file of the image.
-    fn found(self) -> FoundFile<'a> {
+    pub(crate) fn found(self) -> FoundFile<'a> {
         FoundFile {
             file: ImageFile {
                 path: self.path,
@@ -226,8 +235,23 @@ impl<'a> About<'a> {
         self.tell(WrongLength { fault, length }, faults);
         if let Some(length) = length {
             let front = rt.read_front(alloc, self.found(), most_of(length));
-            self.tell_bytes(&front, length, faults);
-            self.tell_root(root_in(front), "the file has", length, faults);
+            if let Some(likeness) = look_of(&front) {
+                self.tell(likeness, faults);
+            }
+            self.tell_filling(&front, length, faults);
+            if front.len() as u64 != length {
+                return;
+            }
+            if let Some(root) = root_in(front) {
+                let holder = "the file has";
+                let size = OtherSize {
+                    root,
+                    holder,
+                    length,
+                };
+                self.tell(size, faults);
+                self.tell_next(size.repair(), faults);
+            }
         }
     }
 
@@ -239,23 +263,77 @@ impl<'a> About<'a> {
         told: &RefusedImage,
         faults: &mut F,
     ) {
+        let likeness = self.likeness(rt, alloc, told);
         for shown in told.faults.iter() {
-            if let Some(text) = &shown.text {
-                self.tell(text.as_str(), faults);
-            }
+            self.tell_fault(shown, likeness, faults);
         }
-        self.tell_other(rt, alloc, told, faults);
+        self.tell_rest(rt, alloc, told, faults);
     }
 
-    /// Prints what a refused image looks like, if there is no disk of DOS, or no root where it should be. For that a regular file
-    /// is read once more.
-    pub(crate) fn tell_other<R: Files + ReadImages, F: Write>(
+    /// What the file of an image that is no AmigaDOS disk looks like, by its first bytes.
+    pub(crate) fn likeness<R: Files + ReadImages>(
+        self,
+        rt: &R,
+        alloc: Global,
+        told: &RefusedImage,
+    ) -> Option<Likeness> {
+        let is_other = told
+            .faults
+            .iter()
+            .any(|shown| shown.fault.kind == FaultKind::NotADosDisk);
+        if !is_other || regular_length(rt, self.path).is_none() {
+            return None;
+        }
+        look_of(&rt.read_front(alloc, self.found(), FRONT_BYTES))
+    }
+
+    /// Prints the text of a fault; of a file of another known kind what it is.
+    pub(crate) fn tell_fault<F: Write>(
+        self,
+        shown: &ShownFault,
+        likeness: Option<Likeness>,
+        faults: &mut F,
+    ) {
+        match likeness {
+            Some(likeness) if shown.fault.kind == FaultKind::NotADosDisk => {
+                self.tell(likeness, faults);
+            }
+            _ => self.tell(shown.text.as_str(), faults),
+        }
+    }
+
+    /// Prints what a refused image looks like, and the next command for it.
+    pub(crate) fn tell_rest<R: Files + ReadImages, F: Write>(
         self,
         rt: &R,
         alloc: Global,
         told: &RefusedImage,
         faults: &mut F,
     ) {
+        let repair = match self.tell_other(rt, alloc, told, faults) {
+            Some(size) => size.repair(),
+            None => Repair::of(told),
+        };
+        self.tell_next(repair, faults);
+    }
+
+    /// Prints the next command for a refused image, if one is known.
+    pub(crate) fn tell_next<F: Write>(self, repair: Option<Repair>, faults: &mut F) {
+        if let Some(repair) = repair {
+            let file = self.found().file;
+            print_line(faults, NextStep { file, repair });
+        }
+    }
+
+    /// Prints what a refused image looks like, if there is no disk of DOS, or no root where it should be, and returns which other
+    /// size its root fits. For that a regular file is read once more.
+    fn tell_other<R: Files + ReadImages, F: Write>(
+        self,
+        rt: &R,
+        alloc: Global,
+        told: &RefusedImage,
+        faults: &mut F,
+    ) -> Option<OtherSize> {
         let About { path, manner, .. } = self;
         let may_be_other = told.faults.iter().any(|shown| {
             let fault = shown.fault;
@@ -263,25 +341,27 @@ impl<'a> About<'a> {
             fault.kind == FaultKind::NotADosDisk || (is_root && fault.kind == FaultKind::BadType)
         });
         if !may_be_other || regular_length(rt, path).is_none() {
-            return;
+            return None;
         }
-        let blocks = manner.blocks;
-        if let Ok(image) = rt.read_image(alloc, self.found()) {
-            let length = image.as_bytes().len() as u64;
-            self.tell_bytes(image.as_bytes(), length, faults);
-            let holder = match blocks {
-                Some(_) => "--blocks takes",
-                None => "the file has",
-            };
-            self.tell_root(other_root(&image), holder, length, faults);
-        }
+        let image = rt.read_image(alloc, self.found()).ok()?;
+        let length = image.as_bytes().len() as u64;
+        self.tell_filling(image.as_bytes(), length, faults);
+        let holder = match manner.blocks {
+            Some(_) => "--blocks takes",
+            None => "the file has",
+        };
+        let root = other_root(&image)?;
+        let size = OtherSize {
+            root,
+            holder,
+            length,
+        };
+        self.tell(size, faults);
+        Some(size)
     }
 
-    /// Prints what a file of this length looks like, by its first bytes: another kind of file, or one byte from end to end.
-    fn tell_bytes<F: Write>(self, front: &[u8], length: u64, faults: &mut F) {
-        if let Some(likeness) = likeness_of(front) {
-            self.tell(likeness, faults);
-        }
+    /// Prints that all of a file of this length is one byte, if it is.
+    fn tell_filling<F: Write>(self, front: &[u8], length: u64, faults: &mut F) {
         if front.len() as u64 != length {
             return;
         }
@@ -290,31 +370,13 @@ impl<'a> About<'a> {
             self.tell(text, faults);
         }
     }
-
-    /// Prints which size the root of an image of another size fits, if there is one.
-    fn tell_root<F: Write>(
-        self,
-        root: Option<u32>,
-        holder: &'static str,
-        length: u64,
-        faults: &mut F,
-    ) {
-        if let Some(root) = root {
-            let size = OtherSize {
-                root,
-                holder,
-                length,
-            };
-            self.tell(size, faults);
-        }
-    }
 }
 
 /// The number of bytes that are read of a file of this length. Of a longer file than an image, only the first ones are read,
 /// which tell its kind.
 fn most_of(length: u64) -> usize {
     if length > MOST_BYTES as u64 {
-        KIND_BYTES
+        FRONT_BYTES
     } else {
         MOST_BYTES
     }

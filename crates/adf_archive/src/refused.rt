@@ -1,15 +1,17 @@
 //! What is printed of a refused image.
 use crate::checking::{Detail, report_file};
 use crate::found_file::FoundFile;
+use crate::next_step::Repair;
 use crate::person::{About, Manner, regular_length};
 use crate::reading::ReadImages;
-use crate::report::{ImageReport, RefusedImage};
+use crate::report::{ImageReport, RefusedImage, ShownFault};
 use crate::telling::Form;
-use crate::words::kind_word;
-use adf_block::BootKind;
+use crate::words::{kind_word, size_word};
+use adf_block::{BootKind, SizeFault};
 use adf_record::size_words;
 use adf_text::print_line;
 use adf_words::ImageFile;
+use ados_model::FaultKind;
 use std::alloc::Global;
 use std::io::Write;
 use std::rt::Files;
@@ -20,23 +22,22 @@ const ALONE: Form = Form {
     paths: false,
 };
 
-/// What is reported of the image: its first fault, with the text that explains it.
+/// What is reported of the image: its first fault.
 const FIRST_FAULT: Detail = Detail {
     all: false,
     contents: false,
     filler: false,
-    texts: true,
 };
 
-/// Each fault, with its text.
+/// Each fault.
 const EACH_FAULT: Detail = Detail {
     all: true,
     ..FIRST_FAULT
 };
 
 /// Prints why the image of a file is refused with this word and this block: its format and its size, the text that explains the
-/// fault, and what the file looks like. For that the file is read once more. Nothing is printed of what is no regular file,
-/// because it may be read only once.
+/// fault, what the file looks like, and the next command for it. For that the file is read once more. Of what is no regular file
+/// only the command is printed, because it may be read only once.
 pub fn explain_refused<R: Files + ReadImages, F: Write>(
     rt: &R,
     alloc: Global,
@@ -45,48 +46,71 @@ pub fn explain_refused<R: Files + ReadImages, F: Write>(
     block: u32,
     faults: &mut F,
 ) {
-    if regular_length(rt, file.path).is_none() {
-        return;
-    }
     let about = About {
         path: file.path,
         top: None,
         manner: Manner {
             form: ALONE,
-            texts: true,
             blocks: file.blocks,
             tops: &[],
             terminal: false,
         },
     };
+    if regular_length(rt, file.path).is_none() {
+        about.tell_next(repair_of_word(kind), faults);
+        return;
+    }
     let found = FoundFile::named(file);
     match report_file(rt, alloc, found, true, FIRST_FAULT) {
         ImageReport::Refused(told) => {
             tell_size_of(alloc, &told, faults);
-            if !tell_fault(&told, kind, block, faults) {
+            let likeness = about.likeness(rt, alloc, &told);
+            match shown_in(&told, kind, block) {
+                Some(shown) => about.tell_fault(shown, likeness, faults),
                 // It is not the first fault of the image.
-                if let ImageReport::Refused(all) = report_file(rt, alloc, found, true, EACH_FAULT) {
-                    tell_fault(&all, kind, block, faults);
-                }
+                None => tell_later_fault(rt, alloc, about, kind, block, faults),
             }
-            about.tell_other(rt, alloc, &told, faults);
+            about.tell_rest(rt, alloc, &told, faults);
         }
         ImageReport::WrongSize(fault) => about.tell_size(rt, alloc, fault, faults),
         _ => {}
     }
 }
 
-/// Prints the text of the reported fault with this word and this block. Returns whether there is one.
-fn tell_fault<F: Write>(told: &RefusedImage, kind: &str, block: u32, faults: &mut F) -> bool {
-    for shown in told.faults.iter() {
-        if shown.fault.block == block && kind_word(shown.fault.kind) == kind {
-            if let Some(text) = &shown.text {
-                print_line(faults, format_args!("{}", text.as_str()));
-            }
-            return true;
+/// Prints the text of a fault that is not the first one of an image.
+fn tell_later_fault<R: Files + ReadImages, F: Write>(
+    rt: &R,
+    alloc: Global,
+    about: About<'_>,
+    kind: &str,
+    block: u32,
+    faults: &mut F,
+) {
+    if let ImageReport::Refused(told) = report_file(rt, alloc, about.found(), true, EACH_FAULT) {
+        if let Some(shown) = shown_in(&told, kind, block) {
+            about.tell_fault(shown, None, faults);
         }
     }
-    false
+}
+
+/// The reported fault with this word and this block.
+fn shown_in<'a>(told: &'a RefusedImage, kind: &str, block: u32) -> Option<&'a ShownFault> {
+    told.faults.iter().find(|shown| shown.fault.block == block
+        && kind_word(shown.fault.kind) == kind)
+}
+
+/// What can be done with an image of which only the word for a fault is known.
+fn repair_of_word(kind: &str) -> Option<Repair> {
+    let is_volume = [
+        size_word(SizeFault::NotWholeBlocks),
+        size_word(SizeFault::TooFewBlocks),
+        size_word(SizeFault::TooManyBlocks),
+        kind_word(FaultKind::NotADosDisk),
+        kind_word(FaultKind::UnsupportedKind),
+    ]
+    .iter()
+    .all(|word| *word != kind);
+    if is_volume { Some(Repair::Files) } else { None }
 }
 
 /// Prints the format of an image, the density of a floppy and the number of blocks.

@@ -48,6 +48,8 @@ pub struct RefusedImage {
     pub faults: Vec<ShownFault>,
     /// Whether it may have more faults.
     pub more: bool,
+    /// Whether all its faults are blocks in use that are marked free, and wrong checksums of bitmap blocks: a new bitmap mends them.
+    pub only_bitmap: bool,
 }
 
 /// A fault of an image.
@@ -57,9 +59,9 @@ pub struct ShownFault {
     /// The path of the directory or file that it belongs to, if requested and known.
     pub path: Option<String>,
     /// The long that shows it, if one does.
+    /// The text that explains it.
+    pub text: String,
     pub values: Option<Evidence>,
-    /// The text that explains it, if requested.
-    pub text: Option<String>,
 }
 
 /// Why an image was not checked.

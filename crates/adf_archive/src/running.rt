@@ -11,7 +11,9 @@ use crate::fault::ArchiveFault;
 use crate::finding::{FoundImages, image_files};
 use crate::held::tell_each_held;
 use crate::person::{Manner, tell_person, tell_remarks};
+use crate::progress::Progress;
 use crate::reading::ReadImages;
+use crate::reasons::Reasons;
 use crate::report::ImageReport;
 use crate::telling::{Form, Tally, tell_reports};
 use adf_host::PromptFiles;
@@ -20,15 +22,15 @@ use adf_words::CheckJob;
 use std::alloc::{AllocError, Global};
 use std::fs::File;
 use std::io::Write;
-use std::rt::Files;
+use std::rt::{Clock, Files};
 use std::thread;
 use std::thread::Threads;
 
-/// Checks the images that the arguments of a command name, and reports on each in order. `faults` gets what explains the
-/// faults of a single image, or with `--all` of each; a line for each image that another command or a mount has locked,
-/// for each that is not checked, for each compressed file of a directory and for each argument's directory without an
-/// image; and of several images how many are accepted and, with `terminal`, how many are done. Where there is no image,
-/// the check fails.
+/// Checks the images that the arguments of a command name, and reports on each in order. `faults` gets the first fault of each
+/// refused image in words, or with `--all` each fault, and the next command for it; a line for each image that another
+/// command or a mount has locked, for each that is not checked, for each compressed file of a directory and for each
+/// argument's directory without an image; and of several images how many are accepted, for what the others are refused,
+/// and, with `terminal`, the progress. Where there is no image, the check fails.
 pub fn check_archive<R, W, F>(
     rt: &R,
     alloc: Global,
@@ -38,14 +40,14 @@ pub fn check_archive<R, W, F>(
     faults: &mut F,
 ) -> Result<(), ArchiveFault>
 where
-    R: Files<File = File> + PromptFiles + ReadImages + Threads + Sync,
+    R: Files<File = File> + PromptFiles + ReadImages + Clock + Threads + Sync,
     W: Write,
     F: Write,
     ensures { TellsArchive job.now (W.contents writer.old) (W.contents writer.new) result }
 {
     let found = image_files(rt, alloc, &job.files)?;
     let form = form_of(job, &found);
-    let detail = detail_of(job, form);
+    let detail = detail_of(job);
     let paths = found.paths.as_slice();
     tell_remarks(&found.remarks, faults);
     tell_each_held(rt, alloc, &found, faults);
@@ -68,7 +70,6 @@ where
         },
         Manner {
             form,
-            texts: detail.texts,
             blocks: job.blocks,
             tops: found.tops.as_slice(),
             terminal,
@@ -91,15 +92,14 @@ fn form_of(job: &CheckJob<'_>, found: &FoundImages) -> Form
     }
 }
 
-/// The parts of each report. Texts explain the faults of a single image, or all faults with `--all`.
-fn detail_of(job: &CheckJob<'_>, form: Form) -> Detail
+/// The parts of each report.
+fn detail_of(job: &CheckJob<'_>) -> Detail
     ensures { IsDetailOf job.now result }
 {
     Detail {
         all: job.all,
         contents: job.json,
         filler: job.filler,
-        texts: job.all || !form.paths,
     }
 }
 
@@ -128,7 +128,7 @@ pub fn check_each<R, C, W, F>(
     faults: &mut F,
 ) -> Result<Tally, ArchiveFault>
 where
-    R: Files + ReadImages + Threads + Sync,
+    R: Files + ReadImages + Clock + Threads + Sync,
     C: Fn(usize) -> ImageReport + Sync,
     W: Write,
     F: Write,
@@ -138,19 +138,16 @@ where
     ensures broken { IfErr result IsBroken }
 {
     let form = manner.form;
-    let shows = manner.terminal && paths.len() > 1;
+    let progress = Progress::begin(rt, paths.len(), manner.terminal);
     let mut tally = Tally::new();
+    let mut reasons = Reasons::new();
     let mut done = 0;
     while done < paths.len() {
         let count = jobs.max(1).min(paths.len() - done);
-        if shows {
-            let _ = write!(faults, "{done} of {} images", paths.len());
-        }
+        progress.show(rt, done, tally.refused, faults);
         let places = places_from(alloc, done, count)?;
         let reports = thread::map_vec(rt, places, report)?;
-        if shows {
-            let _ = write!(faults, "\r\x1b[K");
-        }
+        progress.clear(faults);
         tell_reports(alloc, paths, done, &reports, form, writer)?;
         tell_person(
             rt,
@@ -161,10 +158,14 @@ where
             faults,
         );
         tally.add(&reports);
+        reasons.add(&reports);
         done += count;
     }
     if form.paths {
         print_line(faults, tally);
+        if tally.refused > 0 {
+            print_line(faults, reasons);
+        }
     }
     Ok(tally)
 }

@@ -12,6 +12,7 @@ use crate::objects::push_object;
 use crate::report::ImageReport;
 use adf_io::write_output;
 use adf_record::Grouped;
+use adf_text::push_plain;
 use std::alloc::{AllocError, Global};
 use std::fmt;
 use std::fmt::{Display, Formatter};
@@ -22,7 +23,7 @@ use std::io::Write;
 pub struct Form {
     /// Each report is a JSON object; otherwise lines.
     pub json: bool,
-    /// Each line starts with the path.
+    /// Each line starts with the path, with escapes for its control characters.
     pub paths: bool,
 }
 
@@ -144,7 +145,7 @@ fn push_told(
         return push_lines(alloc, text, b"", report);
     }
     let mut front = Vec::new(alloc);
-    front.extend_from_slice(path.as_bytes())?;
+    push_plain(&mut front, path)?;
     front.push(b'\t')?;
     push_lines(alloc, text, &front, report)
 }

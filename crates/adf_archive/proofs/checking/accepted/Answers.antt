@@ -30,7 +30,6 @@ returns c = λ old a. record {
       | else-detail-2 w ↦ rw w.suspects-is tt
     ];
   };
-  texts = λ wanted. tt;
   each = λ wanted. tt;
   filler = elim c.if-detail-2.branch [
     | then-detail-2+in_ok-suspects_of w ↦ rw w.suspects-is (sym w.if-detail-2.true)

@@ -1,6 +1,6 @@
-use Rattle.std.proofs.Common.{Bool, List, sym, subst, arith}
-use Rattle.adf_archive.proofs.Common.{AreAllFaults, VolumeFault, HaveTexts}
-use Rattle.adf_archive.proofs.Shown.{have_values, many, shown_all}
+use Rattle.std.proofs.Common.{All, List, sym, subst, arith}
+use Rattle.adf_archive.proofs.Common.{AreAllFaults, HasValues, Marks, VolumeFault}
+use Rattle.adf_archive.proofs.Shown.{many, shown_all}
 use Rattle.adf_archive.proofs.faults.told.Goals as goal
 
 pub returns : goal.returns
@@ -14,9 +14,9 @@ returns c =
         blocks = c.blocks-2.ensures.count;
         some = omega (arith, c.requires.some, many faults c.args.faults.now is.faults);
         shown = shown_all image faults c.args.faults.now is.faults c.requires.shown;
-        values = have_values image c.args.marks.now c.args.detail faults c.requires.marks is.texts is.values;
+        values = (c.args.found.now.marks.items, c.requires.marks, subst (λ (marks : Marks). All (HasValues image marks) faults) c.deref.ensures.value is.values);
+        bitmap = c.has_only_bitmap_faults.ensures image c.requires.found;
       };
-      texts = λ wanted. subst (λ (explained : Bool). HaveTexts explained faults) wanted is.texts;
       each = λ all. subst (λ (shown : List VolumeFault). AreAllFaults image 1000 c.args.more shown) (sym is.faults) (c.requires.each all);
       filler = tt;
     }
