@@ -59,9 +59,9 @@ pub struct ShownFault {
     /// The path of the directory or file that it belongs to, if requested and known.
     pub path: Option<String>,
     /// The long that shows it, if one does.
+    pub values: Option<Evidence>,
     /// The text that explains it.
     pub text: String,
-    pub values: Option<Evidence>,
 }
 
 /// Why an image was not checked.
