@@ -37,6 +37,8 @@ mod serving;
 pub use adf_import::StandardInput;
 pub use adf_io::{LoadFault, StoreFault, load_image, store_image};
 pub use adf_script::TryFault;
+use adf_host::{LimitedInput, LimitedOutput, Stream};
+use adf_script::LONGEST_SCRIPT;
 use adf_words::given_words;
 pub use ados_run::{
     ClientDone, Gate, RunFault, ScriptsDone, ScriptsFault, run_volume, serve_scripts,
@@ -52,7 +54,9 @@ pub use words::{run_words, tell_wrong_words};
 
 fn main(rt: HostRuntime) -> ExitCode {
     let alloc = rt.alloc();
-    let (mut reader, mut writer, mut faults) = (rt.stdin(), rt.stdout(), rt.stderr());
+    let mut reader = LimitedInput::new(&rt, rt.stdin(), LONGEST_SCRIPT + 1);
+    let mut writer = LimitedOutput::new(&rt, Stream::Output, rt.stdout());
+    let mut faults = LimitedOutput::new(&rt, Stream::Error, rt.stderr());
     let status = match given_words(&rt, alloc) {
         Ok(words) => run_words(
             &rt,
