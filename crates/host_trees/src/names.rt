@@ -50,7 +50,7 @@ impl HostName {
     /// The name for the same entry in a directory with notes. The name of an entry may end as that of a note does: then the
     /// dot of this ending gets an escape.
     pub fn beside_notes(self, alloc: Global) -> Result<HostName, AllocError>
-        ensures { IfOk result (λ name. IsBesideNotes self.entry name) }
+        ensures { IfOk result (λ name. IsBesideNotes self name) }
     {
         let Some(noted) = noted_name(self.as_str()) else {
             return Ok(self);
