@@ -55,7 +55,11 @@ impl Plan {
 
     /// The host path of an entry, by its position; `None` for one of more than 4,095 bytes. So it takes no more time if
     /// the directories are deep.
-    pub(crate) fn path_of(&self, alloc: Global, place: usize) -> Result<Option<String>, AllocError> {
+    pub(crate) fn path_of(
+        &self,
+        alloc: Global,
+        place: usize,
+    ) -> Result<Option<String>, AllocError> {
         let Some(mut names) = self.names_up(alloc, place)? else {
             return Ok(None);
         };
