@@ -275,6 +275,7 @@ def descriptions(room: Room) -> None:
         with_text(f"description: {key} twice", twice.encode(), f'has "{key}" twice')
         with_json(f"description: {key} is null", lambda it: it.update({key: None}), f'"{key}"')
     with_json("description: a member too many", lambda it: it.update({"more\x1b": 1}), "has a ")
+    with_json("description: a member with a long name", lambda it: it.update({"\u00e9" * 100_000: 1}), 'has a "' + "\u00e9" * 80 + '", which no bundle has')
     for key, value in (("kind", "PFS"), ("blocks", 15), ("blocks", 101_603), ("blocks", 2**32), ("blocks", 1.5), ("blocks", -1), ("label", ""), ("label", "a/b"), ("label", "a:b"),
                        ("label", "a" * 31), ("label", "\u0100"), ("created", "1990-02-30 00:00:00.00"), ("changed", "now"), ("root", ""),
                        ("boot", "0"), ("boot", "zz"), ("boot", ""), ("boot", "444f5300"), ("boot", "444f5301" + "00" * 1_021), ("entries", {})):
@@ -284,15 +285,16 @@ def descriptions(room: Room) -> None:
         with_json(f"entry: no {key}", lambda it: it["entries"][place].pop(key), f'entry {place + 1} has no "{key}"')
         with_json(f"entry: {key} is a list", lambda it: it["entries"][place].update({key: []}), f"entry {place + 1} ")
     with_json("entry: a member too many", lambda it: it["entries"][place].update({"more": 1}), "which no bundle has")
+    with_json("entry: a member with a long name", lambda it: it["entries"][place].update({"m" * 81: 1}), 'has a "' + "m" * 80 + '", which no bundle has')
     for key, value in (("path", ""), ("path", "d/"), ("path", "/f"), ("path", "d//f"), ("path", "d:f"), ("path", "d/" + "a" * 31), ("path", "d/\u0100"),
                        ("path", "e/f"), ("path", "x/f"), ("path", "d/in/x/f"), ("type", "link"), ("size", -1), ("size", 2**32), ("bits", 2**32),
                        ("date", "raw 4294967296 0 0"), ("comment", "c" * 80), ("comment", "\u0100")):
         with_json(f"entry: {key} {str(value)[:20]!r}", lambda it: it["entries"][place].update({key: value}), f"entry {place + 1} ")
     with_json("entry: a directory with a size", lambda it: it["entries"][0].update({"size": 0}), "entry 1 ")
     with_json("entry: a child before its directory", lambda it: it["entries"].insert(0, it["entries"].pop(place)), "entry 1 has a")
-    with_json("entry: one path twice", lambda it: it["entries"].insert(place, it["entries"][place]), "object already exists", status=3)
+    with_json("entry: one path twice", lambda it: it["entries"].insert(place, it["entries"][place]), "is in the description twice")
     shutil.copy("b/files/d/f", "b/files/d/F")
-    with_json("entry: two names that are one on an Amiga", lambda it: it["entries"].insert(place, {**it["entries"][place], "path": "d/F"}), "object already exists", status=3)
+    with_json("entry: two names that are one on an Amiga", lambda it: it["entries"].insert(place, {**it["entries"][place], "path": "d/F"}), "is in the description twice")
     wrong = sorted(("zz%d" % at for at in range(6)), key=lambda it: -slot_of(it.encode()))
     row: Json = {"type": "directory", "bits": 0, "date": "1978-01-01 00:00:00.00", "comment": ""}
     with_json("entries in an order that no disk has", lambda it: it.update({"entries": [{"path": name, **row} for name in wrong]}), "order")

@@ -290,6 +290,33 @@ def listed_fields(room: Room) -> None:
     room.report.same("a note's bits, date and comment", note, wanted)
 
 
+def names_of_notes(room: Room) -> None:
+    """Beside notes an entry with the name of a note has an escape in its host name, and so comes back."""
+    room.write("a", b"bytes of a")
+    room.write("twice", b"bytes of a.uaem")
+    room.succeeds("add of a file", "add", "image.adf", "a")
+    room.succeeds("add of a file with the name of its note", "add", "--as", "a.uaem", "image.adf", "twice")
+    room.succeeds("mkdir of a name that is only an ending", "mkdir", "image.adf", ".uaem")
+    room.succeeds("add of a note of nothing", "add", "--as", "b.uaem", "--to", ".uaem", "image.adf", "a")
+    listed = room.run("list", "image.adf").output
+    room.succeeds("extract with notes of such names", "extract", "--meta", "--to", "noted", "image.adf")
+    found = sorted(os.path.relpath(f"{top}/{it}", "noted") for top, dirs, files in os.walk("noted") for it in [*dirs, *files])
+    wanted = ["%2Euaem", "%2Euaem.uaem", "%2Euaem/b%2Euaem", "%2Euaem/b%2Euaem.uaem", "a", "a%2Euaem", "a%2Euaem.uaem", "a.uaem"]
+    room.report.same("names beside notes", found, wanted)
+    room.report.same("the bytes of such a file", room.content("noted/a%2Euaem"), b"bytes of a.uaem")
+    room.succeeds("a volume for them", "blank", "again", "again.adf")
+    room.succeeds("add of such names", "add", "again.adf", "noted/a", "noted/a%2Euaem", "noted/%2Euaem")
+    room.report.same("such names come back", room.run("list", "again.adf").output.replace(b"Volume again", listed.splitlines()[0]), listed)
+    room.succeeds("extract without notes", "extract", "--to", "plain", "image.adf")
+    room.report.same("names without notes", sorted(os.listdir("plain")), [".uaem", "a", "a.uaem"])
+    room.succeeds("extract --damaged with notes of such names", "extract", "--damaged", "--meta", "--to", "saved", "image.adf", output=None)
+    room.report.same("names beside notes of a rescue", sorted(os.listdir("saved")), ["%2Euaem", "%2Euaem.uaem", "a", "a%2Euaem", "a%2Euaem.uaem", "a.uaem"])
+    for it in ("noted", "plain", "saved"):
+        shutil.rmtree(it)
+    for it in ("a", "twice", "again.adf"):
+        os.remove(it)
+
+
 def boot_blocks(room: Room) -> None:
     room.succeeds("boot", "boot", "image.adf")
     room.succeeds("no boot block", "info", "image.adf", output=b"-1 0 82 1758 6 488 444f5300\nboot no\n")
@@ -309,6 +336,8 @@ def boot_blocks(room: Room) -> None:
 
 
 def fields(room: Room) -> None:
+    blank(room, "ffs")
+    names_of_notes(room)
     blank(room, "ofs")
     listed_fields(room)
     boot_blocks(room)

@@ -41,6 +41,7 @@ import ctypes
 import fcntl
 import os
 import random
+import re
 import resource
 import shutil
 import signal
@@ -118,7 +119,7 @@ LOOK, AGAIN = 0.002, 0.2
 # The files in a directory that is swapped, and the least number of swaps in a race before the command ended.
 FILES, SWAPS = 200, 100
 # Bytes in the largest image, and the most seconds of processor time for reading an endless stream.
-LARGEST, SOON = 101_602 * BLOCK, 3.0
+LARGEST, SOON, AT_ONCE = 101_602 * BLOCK, 3.0, 0.3
 # The most bytes of the files in a room at one time: an image, and four times as much that was taken out of it.
 MOST_FILES = 6 * LARGEST
 
@@ -213,11 +214,11 @@ class Shared(Room):
         found = os.lstat(path)
         return Known(found.st_mode, found.st_uid, found.st_gid, found.st_mtime_ns, found.st_ino, self.content(path))
 
-    def number_of(self, words: Sequence[str], call: str, path: str) -> int:
-        """The number of the first call with this name about this file, in a run with these arguments. Everything is
-        then as before."""
+    def number_of(self, words: Sequence[str], call: str, front: str) -> int:
+        """The number of the first call with this name about a file whose path begins like this, in a run with these arguments.
+        Everything is then as before."""
         calls = traced(self, words, [call])
-        number = next(it.number for it in calls if f"<{os.path.realpath(path)}>" in it.about)
+        number = next(it.number for it in calls if f"<{front}" in it.about)
         self.refresh()
         return number
 
@@ -235,6 +236,11 @@ class InMemory(Shared):
 
 def when_there(path: str) -> None:
     while not os.path.lexists(path):
+        pass
+
+
+def when_beside(folder: str) -> None:
+    while not besides(folder):
         pass
 
 
@@ -321,6 +327,13 @@ class Swap:
         return status == 0
 
 
+def put_link_beside(room: Shared, folder: str) -> Callable[[], None]:
+    """Puts a link to a file of this user in the place of the file beside in a directory, in one step."""
+    link = f"{folder}/link"
+    os.symlink(room.top / "victim", link)
+    return lambda: os.rename(link, besides(folder)[0])
+
+
 def put_link(room: Shared, target: str, place: str) -> Callable[[], None]:
     """Puts a link to a file of this user in the place of a name, in one step."""
     link = f"{os.path.dirname(place)}/link"
@@ -328,24 +341,33 @@ def put_link(room: Shared, target: str, place: str) -> Callable[[], None]:
     return lambda: os.rename(link, place)
 
 
+# What the name of a file beside is, for its new bytes, and how it begins.
+BESIDE, FRONT = re.compile(r"\.adf_serve-[a-z]{16}\.new"), "/.adf_serve-"
+
+
+def besides(folder: str) -> List[str]:
+    """The files beside in a directory."""
+    return sorted(f"{folder}/{it}" for it in os.listdir(folder) if BESIDE.fullmatch(it))
+
+
 class Writing(NamedTuple):
-    """A command that replaces a file of the other user, and the file beside it with the new bytes."""
+    """A command that replaces a file of the other user, and the directory in which the file beside it with the new bytes is."""
 
     name: str
     words: List[str]
-    beside: str
+    folder: str
 
 
-CHANGE = Writing("a change", ["mkdir", *MOMENT, "theirs/image.adf", "new"], "theirs/.adf_serve-0.new")
+CHANGE = Writing("a change", ["mkdir", *MOMENT, "theirs/image.adf", "new"], "theirs")
 TO_ANOTHER = ["mkdir", *MOMENT, "--out", "theirs/other.adf", "full.adf", "new"]
-NEW_VOLUME = Writing("a new volume", ["blank", *MOMENT, "Work", "theirs/image.adf"], "theirs/.adf_serve-0.new")
+NEW_VOLUME = Writing("a new volume", ["blank", *MOMENT, "Work", "theirs/image.adf"], "theirs")
 SERVES = ["serve", *MOMENT, "--out", "theirs/other.adf", "full.adf", "script"]
-TAKES_OUT = Writing("files out by force", ["extract", "--force", "--to", "theirs/out", "full.adf"], "theirs/out/.adf_serve-0.new")
+TAKES_OUT = Writing("files out by force", ["extract", "--force", "--to", "theirs/out", "full.adf"], "theirs/out")
 WRITINGS = [
     CHANGE,
-    Writing("a change to another file", TO_ANOTHER, "theirs/.adf_serve-0.new"),
+    Writing("a change to another file", TO_ANOTHER, "theirs"),
     NEW_VOLUME,
-    Writing("scripts", SERVES, "theirs/.adf_serve-0.new"),
+    Writing("scripts", SERVES, "theirs"),
     TAKES_OUT,
 ]
 
@@ -359,10 +381,10 @@ def fault_of_victim(room: Shared, before: Known) -> Optional[str]:
 def given_away(room: Shared, writing: Writing, names: Sequence[str]) -> Optional[str]:
     """What is wrong after a link was put in the place of the file beside, directly after the first of these calls that is about it."""
     room.refresh()
-    call = find_call(room, writing.words, names, f"/{os.path.basename(writing.beside)}")
+    call = find_call(room, writing.words, names, FRONT)
     room.refresh()
     before = room.known("victim")
-    ran, fault = stopped_at(room, writing.words, call, put_link(room, "victim", writing.beside))
+    ran, fault = stopped_at(room, writing.words, call, put_link_beside(room, writing.folder))
     return fault_of_victim(room, before) or fault
 
 
@@ -381,7 +403,7 @@ def raced_beside(room: Shared) -> None:
     while fault is None and time.monotonic() < ends:
         room.refresh()
         before = room.known("victim")
-        swap = Swap(room, lambda: when_there(CHANGE.beside), put_link(room, "victim", CHANGE.beside))
+        swap = Swap(room, lambda: when_beside(CHANGE.folder), put_link_beside(room, CHANGE.folder))
         room.run(*CHANGE.words)
         swap.end()
         fault = fault_of_victim(room, before)
@@ -985,14 +1007,67 @@ def short_files(room: Shared) -> None:
             room.report.hold(f"files of at most {most} bytes, {name}", fault)
 
 
+def served_over(room: Shared) -> None:
+    """The image of `serve --out X X` is that of the file that was locked, whatever has its name meanwhile: the other one comes after
+    the path was seen to lead to the locked file."""
+    room.write("asks", b'locate 0 -2 "one"\n')
+    words = ["serve", *MOMENT, "--out", PLACE, PLACE, "asks"]
+    room.refresh()
+    seen = [it for it in traced(room, words, ["statx", "newfstatat", "stat"]) if f'"{PLACE}"' in it.about]
+    room.refresh()
+    ran, fault = stopped_at(room, words, seen[1], lambda: os.rename("theirs/other.adf", PLACE))
+    # (only the locked one has the file)
+    room.report.hold("another file in the place of one that is read and written", fault or fault_of(ran, 2, b"1.1 1 0\n", "another file has taken its place"))
+    room.report.same("that other file stays", room.content(PLACE), room.empty)
+    os.remove("asks")
+
+
+def short_output(room: Shared) -> None:
+    """Standard output that is a file with a limit is written as far as that, as on a full disk."""
+    room.write("long", b"x" * 5_000)
+    room.done("add", *MOMENT, "--out", "long.adf", "empty.adf", "long")
+    said = b"adf_serve: standard output cannot be written\n"
+    most = 1_000
+    for name, words, begins, mode in (
+        ("print", ["print", "long.adf", "long"], b"", "wb"),
+        ("print behind what is there", ["print", "long.adf", "long"], b"y" * 900, "ab"),
+        ("print over what is there", ["print", "long.adf", "long"], b"y" * 2_000, "r+b"),
+        ("boot --show", ["boot", "--show", "long.adf"], b"y" * 999, "ab"),
+        ("a script", [], b"y" * 999, "ab"),
+    ):
+        room.write("printed", begins)
+        with open("printed", mode) as printed:
+            ended = subprocess.run(
+                [str(room.program), *words], input=None, stdin=open("script", "rb"), stdout=printed, stderr=subprocess.PIPE, preexec_fn=limited(resource.RLIMIT_FSIZE, most)
+            )
+        length = max(most, len(begins))
+        found = (ended.returncode, ended.stderr, os.path.getsize("printed"))
+        room.report.same(f"an output of at most {most} bytes, {name}", found, (2, said, length))
+    room.write("texts", b"y" * 999)
+    with open("texts", "ab") as texts:
+        ended = subprocess.run([str(room.program), "list", "missing"], stdout=subprocess.PIPE, stderr=texts, preexec_fn=limited(resource.RLIMIT_FSIZE, most))
+    room.report.same("texts of at most 1,000 bytes", (ended.returncode, os.path.getsize("texts")), (2, most))
+    for it in ("long", "long.adf", "printed", "texts"):
+        os.remove(it)
+
+
 def beside(number: int) -> str:
-    """The file beside an image of the other user, by its number."""
+    """The file beside an image of the other user, by its number, as versions before named it."""
     return f"theirs/.adf_serve-{number}.new"
+
+
+def lettered(number: int) -> str:
+    """A name of a file beside, one for each number."""
+    return f"theirs/.adf_serve-{'a' * 13}{''.join(chr(97 + int(it)) for it in f'{number:03}')}.new"
 
 
 def still_there() -> List[int]:
     """The numbers of the files beside that are there."""
-    return [it for it in range(1_000) if os.path.lexists(beside(it))]
+    return [it for it in range(1_000) if os.path.lexists(beside(it)) or os.path.lexists(lettered(it))]
+
+
+# Names that are like those of files beside, and are none.
+LIKE_BESIDE = ["1000", "007", "", "abc", "A" * 16, "a" * 15, "a" * 17, "+5"]
 
 
 def leftovers(room: Shared) -> None:
@@ -1000,8 +1075,19 @@ def leftovers(room: Shared) -> None:
     room.refresh()
     for number in range(1_000):
         room.write(beside(number), b"left")
-    room.report.check("a thousand temporary files that were left", room.run(*CHANGE.words))
-    room.report.same("a thousand temporary files are removed", still_there(), [])
+        room.write(lettered(number), b"left")
+    others = [f"theirs/.adf_serve-{it}.new" for it in LIKE_BESIDE]
+    for it in others:
+        room.write(it, b"kept")
+    room.report.check("two thousand temporary files that were left", room.run(*CHANGE.words))
+    room.report.same("two thousand temporary files are removed", still_there(), [])
+    room.report.same("files of other names stay", [it for it in others if not os.path.exists(it)], [])
+    for named in (beside, lettered):
+        some_left(room, named)
+
+
+def some_left(room: Shared, beside: Callable[[int], str]) -> None:
+    """A command removes its user's files of these names, and nothing else."""
     room.refresh()
     for number in (0, 3, 999):
         room.write(beside(number), b"kept")
@@ -1017,6 +1103,39 @@ def leftovers(room: Shared) -> None:
     room.report.same("a link under such a name leads to the same file", room.content("victim"), b"kept")
 
 
+def made_beside(room: Shared, front: Sequence[str] = ()) -> List[str]:
+    """The names of the files beside that a change makes."""
+    room.refresh()
+    names = ["open", "openat"]
+    trace = ["strace", "-f", "-o", "trace", "-e", "trace=" + ",".join(f"?{it}" for it in [*names, "getrandom"]), *front]
+    room.report.check("a change whose file beside is traced", room.run(*CHANGE.words, front=trace))
+    made = [BESIDE.search(it) for it in room.content("trace").decode().splitlines() if "O_CREAT" in it]
+    os.remove("trace")
+    return [it[0] for it in made if it]
+
+
+def random_names(room: Shared) -> None:
+    """Nobody can take the name of a file beside first, with or without random numbers of the host."""
+    for name, front in (("random numbers", []), ("no random numbers", ["-e", "inject=getrandom:error=ENOSYS"])):
+        made = [it for _ in range(3) for it in made_beside(room, front)]
+        room.report.expect(f"names of files beside, with {name}", len(made) == len(set(made)) == 3, made)
+
+
+def entries_like_leftovers(room: Shared) -> None:
+    """Entries whose names are those of leftovers are taken out as any others, also over files that are there."""
+    names = [".adf_serve-5.new", ".adf_serve-0.new", "z"]
+    for it in names:
+        room.write(it, it.encode())
+        room.done("add", *MOMENT, "full.adf", it)
+    for turn in ("new", "over files"):
+        ran = room.run("extract", "--force", "--to", "theirs/out", "full.adf")
+        found = {it: room.content(f"theirs/out/{it}") for it in names if os.path.exists(f"theirs/out/{it}")}
+        room.report.expect(f"entries like leftovers, {turn}", (ran.status, found) == (0, {it: it.encode() for it in names}), (ran, found))
+    room.write("full.adf", room.full)
+    for it in names:
+        os.remove(it)
+
+
 def heeds_signals() -> None:
     """Signals of the terminal end this process, even if the test runs in the background."""
     for it in (signal.SIGINT, signal.SIGTERM, signal.SIGHUP):
@@ -1028,11 +1147,11 @@ def killed(room: Shared) -> None:
     for writing in WRITINGS:
         for name in ("INT", "TERM", "HUP"):
             room.refresh()
-            number = room.number_of(writing.words, "write", writing.beside)
+            number = room.number_of(writing.words, "write", f"{os.path.realpath(writing.folder)}{FRONT}")
             room.run(*writing.words, front=injected(f"write:signal=SIG{name}:when={number}"), before=heeds_signals)
-            fault = None if os.path.exists(writing.beside) else "it was not killed in mid-change"
+            fault = None if besides(writing.folder) else "it was not killed in mid-change"
             ran = room.run(*writing.words)
-            if os.path.lexists(writing.beside):
+            if besides(writing.folder):
                 fault = "the temporary file is still there"
             room.report.hold(f"killed by {name}, {writing.name}", fault or fault_of(ran, 0, None))
 
@@ -1090,7 +1209,17 @@ def endless(room: Shared) -> None:
     room.write("sparse")
     os.truncate("sparse", 2**40)
     room.report.check("an image of a terabyte", room.run("list", "sparse", before=little), 3, b"refused TooManyBlocks 0\n", "1,099,511,627,776 bytes are too many")
-    room.report.check("a script of a terabyte", room.run("serve", "empty.adf", "sparse", before=little), 3, b"1 fault line 0\n", "the script has more than 1,048,576 bytes")
+    too_long = "the script has more than 1,048,576 bytes"
+    room.report.check("a script of a terabyte", room.run("serve", "empty.adf", "sparse", before=little), 3, b"1 fault line 0\n", too_long)
+    for words, status, output in (([], 3, b"1 fault line 0\n"), (["list", "-"], 3, b"refused TooManyBlocks 0\n"), (["check", "-"], 3, b"refused TooManyBlocks 0\n")):
+        before = used_by_children()
+        with open("sparse", "rb") as sparse:
+            ended = subprocess.run([str(room.program), *words], stdin=sparse, capture_output=True, preexec_fn=little, timeout=LONGEST)
+        took, ran = used_by_children() - before, Ran(ended.returncode, ended.stdout, ended.stderr)
+        name = f"standard input of a terabyte, {' '.join(words) or 'as a script'}"
+        is_told = words or too_long.encode() in ran.texts
+        room.report.expect(name, (ran.status, ran.output) == (status, output) and is_told, ran)
+        room.report.expect(f"{name}: at once", took < AT_ONCE, f"{took} seconds")
     os.remove("sparse")
 
 
@@ -1336,7 +1465,8 @@ def readers_stopped(room: Shared) -> None:
             fcntl.flock(looked, fcntl.LOCK_SH)
             timer = threading.Timer(seconds, fcntl.flock, (looked, fcntl.LOCK_UN))
             timer.start()
-            texts = b"" if status == 0 else f"adf_serve: '{image}' is locked by another command\n".encode()
+            # (/proc/locks may have another number for the file)
+            texts = b"" if status == 0 else f"adf_serve: '{image}' is locked by another command: process {os.getpid()}\n".encode()
             ran = room.run("mkdir", *MOMENT, image, f"s{status}")
             timer.cancel()
             room.report.same(f"a change while a reader is stopped for {seconds} s", ran, Ran(status, b"", texts))
@@ -1363,6 +1493,8 @@ def readers_beside(room: Shared) -> None:
 
 # The memory and the stack that a command may use over the largest image, and the processor time by the blocks of the image.
 WORST_MEMORY, WORST_STACK, WORST_TIMES = 300 << 20, 1 << 20, {3_520: 10.0, 101_602: 60.0}
+# The memory for a bundle of the largest image.
+BUNDLE_MEMORY = 150 << 20
 # The processor time of a change of the largest image that does not depend on the length of hash chains. The program without proof
 # takes 1.3 to 1.6 seconds for all names in one chain, as for a chain of directories, also with three times as many processes beside it
 # as there are processors; by the clock it took up to 20 then.
@@ -1371,22 +1503,22 @@ LIKE_OTHERS = 5.0
 WORST_OUTPUT = 100 << 20
 # The most faults that are told of an image.
 MOST_FAULTS = 1_000
-def limit_worst() -> None:
-    """Limits the memory of this process, its stack, the bytes of each file that it writes, and its processor time."""
+def limit_worst(memory: int) -> None:
+    """Limits the memory of this process to so many bytes, and its stack, the bytes of each file that it writes, and its processor time."""
     most = int(max(WORST_TIMES.values())) + 1
     resource.setrlimit(resource.RLIMIT_CPU, (most, most))
-    resource.setrlimit(resource.RLIMIT_AS, (WORST_MEMORY, WORST_MEMORY))
+    resource.setrlimit(resource.RLIMIT_AS, (memory, memory))
     resource.setrlimit(resource.RLIMIT_STACK, (WORST_STACK, WORST_STACK))
     resource.setrlimit(resource.RLIMIT_FSIZE, (WORST_OUTPUT, WORST_OUTPUT))
 
 
 def bounded(
-    room: Room, blocks: int, title: str, words: Sequence[str], status: int, said: bytes = b"", within: Optional[float] = None
+    room: Room, blocks: int, title: str, words: Sequence[str], status: int, said: bytes = b"", within: Optional[float] = None, memory: int = WORST_MEMORY
 ) -> bytes:
     """Runs a command over an image with so many blocks and with limited memory. Checks its status, a part of what it says, and
     its processor time, by the blocks if it is not given. Returns its output."""
     with open("lines", "wb") as lines, open("texts", "wb") as texts:
-        began = subprocess.Popen([str(room.program), *words], stdin=subprocess.DEVNULL, stdout=lines, stderr=texts, preexec_fn=limit_worst)
+        began = subprocess.Popen([str(room.program), *words], stdin=subprocess.DEVNULL, stdout=lines, stderr=texts, preexec_fn=partial(limit_worst, memory))
         ended, used = os.wait4(began.pid, 0)[1:]
     began.returncode = os.WEXITSTATUS(ended) if os.WIFEXITED(ended) else -os.WTERMSIG(ended)
     seconds, text = used.ru_utime + used.ru_stime, room.content("texts")
@@ -1411,6 +1543,8 @@ def deep_images(blocks: int, room: Shared) -> None:
     bounded(room, blocks, f"print of {title}", ["print", "deep.adf", first], 3, f"'{first}' is a directory; print needs a file\n".encode())
     bounded(room, blocks, f"extract of {title}", ["extract", "--to", "bottom", "deep.adf"], 2, b"4,095")
     room.report.expect(f"extract of {title} of {blocks} blocks writes nothing", not os.path.exists("bottom"), "it did")
+    if blocks == LARGEST // BLOCK:
+        bounded(room, blocks, f"extract --bundle of {title}", ["extract", "--bundle", "bottom", "deep.adf"], 2, b"67,108,864", memory=BUNDLE_MEMORY)
     bounded(room, blocks, f"info of {title}", ["info", "deep.adf"], 0)
     bounded(room, blocks, f"extract --damaged of {title}", ["extract", "--damaged", "--to", "bottom", "deep.adf"], 2, b"4,095")
     bounded(room, blocks, f"serve over {title}", ["serve", *MOMENT, "--out", "made.adf", "deep.adf", "script"], 0)
@@ -1458,6 +1592,24 @@ def asked_blocks(blocks: int, room: Shared) -> None:
     asked = [str(it) for it in range(0, blocks, -(-blocks // 10_000))]
     for form in ([], ["--json"]):
         bounded(room, blocks, f"where {' '.join(form)} of the blocks of a chain of directories", ["where", *form, "deep.adf", *asked], 0)
+
+
+# The most bytes that a report on directories in one another may have: some thousand paths of up to 4,095 bytes, and a line each.
+MOST_TOLD = 24 << 20
+
+
+def found_chain(blocks: int, room: Shared) -> None:
+    """A report on directories that only their parents hold together, each in the one before: a path that is too long is cut."""
+    room.done("blank", "--ffs", "--blocks", str(blocks), *MOMENT, "Work", "blank.adf")
+    image = Image(room.content("blank.adf"))
+    places = places_in(image)
+    parents_up(image, places, len(places))
+    room.write("found.adf", refused(image))
+    for form in ([], ["--json"]):
+        told = bounded(room, blocks, f"a report {' '.join(form)} on a chain of directories", ["extract", "--damaged", "--list", *form, "found.adf"], 3)
+        name, cut = f"a report {' '.join(form)} on directories in one another of {blocks} blocks", told.count(b"the entry at block ")
+        # (`lost+found` and `/d` again and again: 2,042 of them have 4,094 bytes)
+        room.report.expect(name, len(told) < MOST_TOLD and cut == len(places) - 2_042, (len(told), cut, told[:200]))
 
 
 # The blocks that stay free in an image whose names are all in one hash chain.
@@ -1523,6 +1675,7 @@ def disks() -> List[Task[Shared]]:
     for blocks in sorted(WORST_TIMES, reverse=True):
         found.append((f"one hash chain of {blocks} blocks", partial(one_hash_chain, blocks)))
         found.append((f"a chain of directories of {blocks} blocks", partial(deep_images, blocks)))
+        found.append((f"directories that are found of {blocks} blocks", partial(found_chain, blocks)))
         found.append((f"blocks that are asked for of {blocks} blocks", partial(asked_blocks, blocks)))
     for size, (title, _, _) in reversed(list(enumerate(SIZES))):
         found.append((f"{title}, files that claim more", partial(floppies, size)))
@@ -1536,7 +1689,7 @@ def disks() -> List[Task[Shared]]:
 
 def commands() -> List[Task[Shared]]:
     """What is not a disk."""
-    parts = [endless, killed, at_once, leftovers, short_files, held_images, readers_stopped, links_to_nothing, terminals, listings, holes]
+    parts = [endless, killed, at_once, leftovers, random_names, entries_like_leftovers, short_files, short_output, served_over, held_images, readers_stopped, links_to_nothing, terminals, listings, holes]
     parts += [long_paths, without_proc, modes, not_kept, owners, links_beside, others_in_place, links_of_others, swapped_files]
     found: List[Task[Shared]] = [(it.__name__.replace("_", " "), Shared, it) for it in parts]
     return found + [(it.__name__.replace("_", " "), InMemory, it) for it in (swapped_directories, deep_directories, opened_again)]
@@ -1555,6 +1708,8 @@ BY_STRACE = {
     swapped_directories: "links for directories, while the program is stopped",
     opened_again: "a directory that is opened again",
     links_beside: "links in the place of the file beside",
+    random_names: "names of files beside",
+    served_over: "another file in the place of one that is read and written",
     others_in_place: "other files in the place of those that are held",
     swapped_files: "files that are swapped while they are read, step by step",
 }

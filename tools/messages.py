@@ -75,6 +75,8 @@ ADVICE: List[Tuple[str, str]] = [
     (r"^'\{0?\}' has a letter that no byte", "Leave out letters past U+00FF"),
     (r"^(is not UTF-8$|does not begin with eight|has no date after)", "Write the note again, as `extract --meta` does"),
     (r"has no locks", "Put the image on a file system with locks"),
+    (r"^: process", "Look what this process is, for example with `ps -p NUMBER`; wait until it has ended, or unmount the image"),
+    (r"in the description twice", "Correct `volume.json`, or write the bundle again with `extract --bundle`"),
     (r"no file can be made beside|cannot take its place", "Look whether the directory may be written, and has room"),
     (r"its volume is|is not written", "Make an empty image of this kind and size with `blank`"),
     (r"^'\{0?\}' is not empty$", "Name a new or an empty directory"),

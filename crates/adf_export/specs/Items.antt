@@ -11,7 +11,7 @@ use Rattle.adf_text.specs.Uaem.{IsLineOf}
 use Rattle.host_trees.specs.declared.items.HostItem.{HostItem}
 use Rattle.host_trees.specs.declared.items.ItemKind.{ItemKind}
 use Rattle.host_trees.specs.declared.items.ItemKind.TheVariants as kinds
-use Rattle.host_trees.specs.Notes.{note_of}
+use Rattle.host_trees.specs.Notes.{IsBesideNotes, note_of}
 use Rattle.ados_volume.specs.declared.below.Below.{Below}
 use Rattle.ados_volume.specs.Below.{AreBelow}
 use Rattle.adf_export.specs.declared.entry.Outgoing.{Outgoing}
@@ -28,24 +28,29 @@ kind_of (File bytes) = kinds.File
 abbrev pub item_place : Bool → ℕ → ℕ
 item_place notes at = if notes then 2 * at else at
 
+-- the name of an entry's item: its host name, which with notes beside the entries is none of a note
+abbrev pub IsItemName : Bool → List ℕ → List ℕ → Type 0
+IsItemName false name host = host ≡ host_name name
+IsItemName true name host = IsBesideNotes (host_name name) host
+
 -- the item of an entry: below the item of its directory, under its host name, with its kind and date
 pub record IsItem (notes : Bool) (e : Below) (node : Node) (item : HostItem) : Type 0 where
   pub above : item.above ≡ option_map (item_place notes) e.above
-  pub name : item.name ≡ host_name node.name
+  pub name : IsItemName notes node.name item.name
   pub kind : item.kind ≡ kind_of node.content
   pub date : item.date ≡ node.date
 
--- the item of an entry's note: a file beside it, with the same date
-pub record IsNote (e : Below) (node : Node) (item : HostItem) : Type 0 where
+-- the item of an entry's note: a file beside the entry's item, with the same date
+pub record IsNote (e : Below) (node : Node) (noted item : HostItem) : Type 0 where
   pub above : item.above ≡ option_map (item_place true) e.above
-  pub name : item.name ≡ note_of (host_name node.name)
+  pub name : item.name ≡ note_of noted.name
   pub kind : item.kind ≡ kinds.File
   pub date : item.date ≡ node.date
 
 -- the items of an entry with this node, with or without its note
 abbrev pub AreItems : Bool → Below → Node → List HostItem → Type 0
 AreItems false e node (item ∷ []) = IsItem false e node item
-AreItems true e node (item ∷ note ∷ []) = IsItem true e node item × IsNote e node note
+AreItems true e node (item ∷ note ∷ []) = IsItem true e node item × IsNote e node item note
 AreItems notes e node items = ⊥
 
 -- these are the items of an entry

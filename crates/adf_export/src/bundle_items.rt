@@ -4,6 +4,7 @@ use crate::bytes::VolumeBytes;
 use ados_name::{Date3, Name};
 use host_trees::{Contents, HostItem, HostName, ItemKind};
 use std::alloc::{AllocError, Global};
+use std::mem;
 
 /// The items of a bundle: `files`, the entries below it, and `volume.json`, with these dates.
 pub(crate) fn bundle_items(
@@ -42,15 +43,15 @@ pub(crate) fn bundle_items(
 #[derive(Drop)]
 pub(crate) struct BundleBytes<'a> {
     pub(crate) files: VolumeBytes<'a>,
-    /// The bytes of `volume.json`, and its position.
-    pub(crate) description: &'a [u8],
+    /// The bytes of `volume.json`, which are handed out once, and its position.
+    pub(crate) description: Vec<u8>,
     pub(crate) last: usize,
 }
 
 impl<'a> Contents for BundleBytes<'a> {
     fn bytes_of(&mut self, alloc: Global, place: usize) -> Result<Vec<u8>, AllocError> {
         if place == self.last {
-            return Vec::from_slice(alloc, self.description);
+            return Ok(mem::replace(&mut self.description, Vec::new(alloc)));
         }
         match place.checked_sub(1) {
             Some(entry) => self.files.bytes_of(alloc, entry),

@@ -6,7 +6,7 @@ use crate::bytes::VolumeBytes;
 use crate::entry::Outgoing;
 use crate::items::outgoing;
 use adf_host::{OwnedFile, PromptFiles};
-use adf_record::{Bundle, BundleFault, bundle_of, bundle_text};
+use adf_record::{Bundle, BundleFault, BundleWhy, MOST_BUNDLE_BYTES, bundle_of, bundle_text};
 use ados_volume::Volume;
 use host_trees::{WriteFault, write_tree};
 use std::alloc::{AllocError, Global};
@@ -62,7 +62,7 @@ where
     let items = bundle_items(alloc, items, bundle.head.root_date, bundle.head.changed)?;
     let mut bytes = BundleBytes {
         files: VolumeBytes::of(volume, &sources),
-        description: &description,
+        description,
         last: items.len().saturating_sub(1),
     };
     match write_tree(rt, alloc, to, &items, &mut bytes, false) {
@@ -90,11 +90,31 @@ fn has_some<R: Files>(rt: &R, alloc: Global, directory: &str) -> Result<bool, Er
     Ok(names.next().is_some())
 }
 
-/// The text of a bundle.
+/// The text of a bundle. One that is too long because of its paths is refused before it is made.
 fn described(alloc: Global, bundle: &Bundle) -> Result<Vec<u8>, BundleOutFault> {
+    if paths_length(alloc, bundle)? > MOST_BUNDLE_BYTES {
+        let fault = BundleFault::from(BundleWhy::Long);
+        return Err(BundleOutFault::Description(fault));
+    }
     match bundle_text(alloc, bundle) {
         Ok(text) => Ok(text),
         Err(fault) if fault.is_memory() => Err(BundleOutFault::Memory),
         Err(fault) => Err(BundleOutFault::Description(fault)),
     }
+}
+
+/// The number of bytes of all paths in a bundle. Its text has all of these, and more.
+fn paths_length(alloc: Global, bundle: &Bundle) -> Result<usize, AllocError> {
+    let mut lengths: Vec<usize> = Vec::with_capacity(alloc, bundle.entries.len())?;
+    let mut all = 0_usize;
+    for entry in bundle.entries.iter() {
+        let front = match entry.above.and_then(|above| lengths.get(above)) {
+            Some(length) => length.saturating_add(1),
+            None => 0,
+        };
+        let length = front.saturating_add(entry.name.bytes().len());
+        all = all.saturating_add(length);
+        lengths.push(length)?;
+    }
+    Ok(all)
 }

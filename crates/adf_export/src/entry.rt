@@ -1,11 +1,12 @@
 //! The host files and directories for one entry.
-ghost use Rattle.std.specs.Prelude.{◌≡◌, ◌++◌, ◌<◌, ◌^◌, [], ◌∷◌, List, Some, IfSome, OnOk, option_map};
+ghost use Rattle.std.specs.Prelude.{◌≡◌, ◌++◌, ◌<◌, ◌^◌, [], ◌∷◌, List, Some, IfOk, IfSome, OnOk, option_map};
 ghost use Rattle.ados_model.specs.Keys.{HasKey};
 ghost use Rattle.ados_model.specs.Stands.{Stands};
 ghost use Rattle.ados_model.specs.Tree.{Node, Tree};
 ghost use Rattle.host_trees.specs.declared.items.HostItem.{HostItem as Item};
-ghost use Rattle.adf_export.specs.Items.{GoesOut, item_place, kind_of, sources_of};
+ghost use Rattle.adf_export.specs.Items.{GoesOut, IsItemName, item_place, kind_of, sources_of};
 
+use ados_name::Name;
 use ados_volume::{Below, Volume};
 use host_trees::{HostItem, HostName, ItemKind};
 use std::alloc::{AllocError, Global};
@@ -43,7 +44,7 @@ impl Outgoing {
         ensures sources { OnOk result (self.new.sources.items ≡ self.old.sources.items ++ sources_of meta entry.now) }
     {
         let told = volume.examine(entry.key);
-        let name = HostName::of_name(alloc, &told.name)?;
+        let name = item_name(alloc, &told.name, meta)?;
         let note = name.note(alloc)?;
         let above = item_place(entry.above, meta);
         let item = HostItem {
@@ -75,6 +76,17 @@ impl Outgoing {
         self.sources.push(source)?;
         Ok(())
     }
+}
+
+/// The host name of an entry with this name, with or without notes beside the entries.
+fn item_name(alloc: Global, name: &Name, meta: bool) -> Result<HostName, AllocError>
+    ensures { IfOk result (λ host. IsItemName meta name.now host) }
+{
+    let host = HostName::of_name(alloc, name)?;
+    if meta {
+        return host.beside_notes(alloc);
+    }
+    Ok(host)
 }
 
 /// The position of the item for the entry at this position. With notes, each entry has two items.

@@ -1,9 +1,11 @@
 //! Directories of the host that are held open.
-ghost use Rattle.std.specs.Prelude.{◌≡◌, ◌∷◌, ◌++◌, IfOk, string_bytes};
+ghost use Rattle.std.specs.Prelude.{◌≡◌, ◌≤◌, ◌∷◌, ◌++◌, IfOk, string_bytes};
 ghost use Rattle.std.specs.Path.{slash};
 ghost use Rattle.adf_host.specs.Held.{held_path};
 
 use crate::owned::OwnedFile;
+use crate::prompt::PromptFiles;
+use crate::temporary::remove_leftovers;
 use std::alloc::{AllocError, Global};
 use std::fs;
 use std::fs::{FileTimes, Metadata};
@@ -26,6 +28,28 @@ impl FileNumber {
             device: found.dev(),
             inode: found.ino(),
         }
+    }
+
+    /// Whether the host's list of locks has a file with this number under this place: the two numbers of its device, in
+    /// hexadecimal digits, and that of its inode, as `08:02:1311`.
+    pub(crate) fn is_listed_as(self, place: &str) -> bool {
+        let mut numbers = place.split(':');
+        let major = self.device >> 8 & 0xFFF | self.device >> 32 & 0xFFFF_F000;
+        let minor = self.device & 0xFF | self.device >> 12 & 0xFFFF_FF00;
+        next_is(numbers.next(), major, 16)
+            && next_is(numbers.next(), minor, 16)
+            && next_is(numbers.next(), self.inode, 10)
+    }
+}
+
+/// Whether a text is this number, in digits of this base.
+fn next_is(text: Option<&str>, number: u64, base: u32) -> bool
+    requires two { 2 ≤ base }
+    requires letters { base ≤ 36 }
+{
+    match text {
+        Some(text) => u64::from_str_radix(text, base).ok() == Some(number),
+        None => false,
     }
 }
 
@@ -96,6 +120,11 @@ impl<F: OwnedFile> HeldDirectory<F> {
     /// The number of this directory.
     pub fn number(&self) -> Result<FileNumber, Error> {
         Ok(FileNumber::of(&self.file.metadata()?))
+    }
+
+    /// Removes the temporary files in this directory that commands of this user left when they were killed.
+    pub fn remove_leftovers<R: PromptFiles + Files<File = F>>(&self, rt: &R, alloc: Global) {
+        remove_leftovers(rt, alloc, self.path.as_str());
     }
 
     /// Sets the time of the last change.

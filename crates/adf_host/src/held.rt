@@ -3,6 +3,7 @@ ghost use Rattle.std.specs.Prelude.{◌≡◌, ◌≢◌, IfErr};
 
 use crate::busy::is_locked;
 use crate::directory::FileNumber;
+use crate::holder::Holder;
 use crate::image_file::read_open;
 use adf_io::{LoadFault, Loaded};
 use std::alloc::Global;
@@ -20,8 +21,8 @@ pub enum HoldFault {
     #[error("cannot be read")]
     Open,
     /// Another command has locked it.
-    #[error("is locked by another command")]
-    Busy,
+    #[error("is locked by another command{0}")]
+    Busy(Holder),
     /// The host has no locks for it.
     #[error("cannot be locked: its file system has no locks")]
     Lock,
@@ -55,7 +56,7 @@ pub fn hold<R: Files<File = File> + Clock>(rt: &R, path: &str) -> Result<HeldFil
             return Ok(HeldFile { file });
         }
     }
-    Err(HoldFault::Busy)
+    Err(HoldFault::Busy(Holder::unknown()))
 }
 
 /// Locks the file that a command will write to, if it is an existing readable regular file. If the command has already
@@ -84,20 +85,22 @@ pub fn hold_target<R: Files<File = File> + Clock>(
 
 /// Locks a file, unless another command has locked it. A command that only looks whether it is locked does not count: it
 /// takes the lock for a moment, which may be long if the machine stops it just then. So the lock is tried again after a pause.
-fn lock<R: Clock>(rt: &R, file: &File) -> Result<(), HoldFault>
+fn lock<R: Files + Clock>(rt: &R, file: &File) -> Result<(), HoldFault>
     ensures { IfErr result (λ fault. fault ≢ HoldFault.Open) }
 {
     for _ in 0..TRIES {
         match file.try_lock() {
             Ok(()) => return Ok(()),
-            Err(TryLockError::WouldBlock) if is_locked(file) => return Err(HoldFault::Busy),
+            Err(TryLockError::WouldBlock) if is_locked(file) => {
+                return Err(HoldFault::Busy(Holder::of(rt, file)));
+            }
             Err(TryLockError::WouldBlock) => {
                 thread::sleep(rt, Duration::from_millis(PAUSE));
             },
             Err(TryLockError::Error(_)) => return Err(HoldFault::Lock),
         }
     }
-    Err(HoldFault::Busy)
+    Err(HoldFault::Busy(Holder::of(rt, file)))
 }
 
 /// Whether a path names this file.
@@ -118,6 +121,11 @@ impl HeldFile {
     /// a wrong length is refused by its length.
     pub fn read_image(&mut self, alloc: Global, blocks: Option<u32>) -> Result<Loaded, LoadFault> {
         read_open(alloc, &mut self.file, blocks)
+    }
+
+    /// Whether a path names this file.
+    pub fn is_at<R: Files>(&self, rt: &R, path: &str) -> bool {
+        is_named(rt, &self.file, path)
     }
 
     /// Whether a regular file may be replaced by an image: it is empty, or begins as an image does. It is read from its start,

@@ -1,5 +1,5 @@
 //! The limit that the host sets on the length of files.
-ghost use Rattle.std.specs.Prelude.{◌≡◌, ◌≤◌, ◌↔◌, IsOk};
+ghost use Rattle.std.specs.Prelude.{◌≡◌, ◌-◌, ◌≤◌, ◌↔◌, IsOk};
 
 use adf_io::read_some;
 use std::fs;
@@ -19,6 +19,20 @@ impl LengthLimit {
         LengthLimit {
             most: file_limit(rt).unwrap_or(u64::MAX),
         }
+    }
+
+    /// The limit as it is now, if there is one.
+    pub(crate) fn set<R: Files>(rt: &R) -> Option<LengthLimit> {
+        Some(LengthLimit {
+            most: file_limit(rt)?,
+        })
+    }
+
+    /// The number of bytes that may be written to a file from this place on.
+    pub(crate) fn room_behind(self, place: u64) -> u64
+        ensures { result ≡ self.most - place }
+    {
+        self.most.saturating_sub(place)
     }
 
     /// Fails if a file of this length would exceed the limit.

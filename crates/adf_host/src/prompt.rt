@@ -2,6 +2,7 @@
 use std::alloc::Global;
 use std::fs::File;
 use std::io::{Error, ErrorKind};
+use std::random::RandomSource;
 use std::rt::{Clock, Files};
 use std::sync::Arc;
 use std::sync::atomic::{AtomicBool, Ordering};
@@ -9,8 +10,8 @@ use std::thread::Threads;
 use std::time::Duration;
 use std::{fs, thread};
 
-/// A host on which a file is opened within a time limit.
-pub trait PromptFiles: Files + Threads {
+/// A host on which a file is opened within a time limit, and which has the time and random numbers for the names of files.
+pub trait PromptFiles: Files + Threads + Clock + RandomSource {
     /// Opens the file at a path for reading. The host waits at a pipe until another program writes to it: after some
     /// seconds the call fails with the kind `TimedOut`.
     fn open_promptly(&self, alloc: Global, path: &str) -> Result<Self::File, Error>;
@@ -37,7 +38,7 @@ impl Machine for HostRuntime {
     }
 }
 
-impl<R: Files<File = File> + Threads + Clock + Machine> PromptFiles for R {
+impl<R: Files<File = File> + Threads + Clock + RandomSource + Machine> PromptFiles for R {
     fn open_promptly(&self, alloc: Global, path: &str) -> Result<File, Error> {
         open_there(self, self.machine(), alloc, path)
     }

@@ -1,12 +1,12 @@
 //! Files that are replaced whole: the old bytes stay until the new ones are on the disk.
-use crate::directory::HeldPlace;
+use crate::directory::{HeldPlace, directory_and_name};
 use crate::held::{HeldFile, is_same};
 use crate::limit::refuse_length;
 use crate::new_bytes::NewBytes;
 use crate::opening::{OpenFault, open_regular, reopen};
 use crate::owned::OwnedFile;
 use crate::prompt::PromptFiles;
-use crate::temporary::{make_beside, remove_first_leftovers, remove_leftovers, this_user};
+use crate::temporary::{make_beside, remove_leftovers, this_user};
 use crate::unwritable::WriteReason;
 use adf_block::Image;
 use std::alloc::{AllocError, Global};
@@ -133,7 +133,7 @@ where
     if !may_be(held, &found) {
         return Err(ReplaceFault::Moved);
     }
-    remove_leftovers(rt, alloc, place.path());
+    remove_leftovers(rt, alloc, directory_and_name(place.path()).0);
     write_over(rt, alloc, place.path(), &found, bytes, None)
 }
 
@@ -152,7 +152,7 @@ where
     if fs::symlink_metadata(rt, place.path()).is_ok() {
         return Err(ReplaceFault::Target(error));
     }
-    remove_leftovers(rt, alloc, place.path());
+    remove_leftovers(rt, alloc, directory_and_name(place.path()).0);
     write_beside(rt, alloc, place.path(), None, bytes, None)
 }
 
@@ -240,7 +240,8 @@ fn only_writable<R: Files>(
 }
 
 /// Replaces a regular file that was found at a path by these bytes, as [`replace_file`] does. A link that is there by
-/// now is refused. The new file gets this time.
+/// now is refused. The new file gets this time. Leftovers stay: [`HeldDirectory::remove_leftovers`](crate::HeldDirectory)
+/// removes those of a directory.
 pub fn replace_found<R: PromptFiles>(
     rt: &R,
     alloc: Global,
@@ -252,7 +253,6 @@ pub fn replace_found<R: PromptFiles>(
 where
     R::File: OwnedFile,
 {
-    remove_first_leftovers(rt, alloc, path);
     write_over(rt, alloc, path, found, NewBytes::Bytes(bytes), Some(time))
 }
 
@@ -274,7 +274,7 @@ where
 
 /// Writes a new file over a regular file, described by its handle, or at a path with no file yet. The file gets this
 /// time, or the current time. After a fault the old state is unchanged.
-fn write_beside<R: Files>(
+fn write_beside<R: PromptFiles>(
     rt: &R,
     alloc: Global,
     path: &str,
@@ -293,7 +293,7 @@ where
 
 /// Writes a temporary file and renames it to a path. It is locked until then, so that no command takes it for a
 /// leftover. After a fault it is removed.
-fn write_and_rename<R: Files>(
+fn write_and_rename<R: PromptFiles>(
     rt: &R,
     alloc: Global,
     path: &str,

@@ -1,7 +1,8 @@
 //! Temporary files beside others: made and locked, and removed if a command left them when it was killed.
-use crate::beside::{beside_number, beside_path};
+use crate::beside::{beside_path, is_beside_name};
 use crate::directory::directory_and_name;
 use crate::held::is_same;
+use crate::letters::random_letters;
 use crate::opening::{open_regular, reopen};
 use crate::owned::OwnedFile;
 use crate::prompt::PromptFiles;
@@ -16,14 +17,14 @@ use std::path::PathBuf;
 use std::rt::Files;
 
 /// The maximum number of names that are tried for a temporary file.
-const TRIES: usize = 1_000;
+const TRIES: u32 = 1_000;
 
 /// The bytes of names that are read at once: more than the longest name has.
 const PART: usize = 4_096;
 
 /// Makes a temporary file beside another one, and locks it. If it is to replace a file, at first only its owner has
 /// rights to it.
-pub(crate) fn make_beside<R: Files>(
+pub(crate) fn make_beside<R: PromptFiles>(
     rt: &R,
     alloc: Global,
     path: &str,
@@ -37,8 +38,9 @@ where
         .write(true)
         .create_new(true)
         .mode(if replaces { 0o600 } else { 0o666 });
-    for number in 0..TRIES as u32 {
-        let beside = beside_path(alloc, path, number)?;
+    for attempt in 0..TRIES {
+        let letters = random_letters(rt, alloc, attempt)?;
+        let beside = beside_path(alloc, path, letters.as_str())?;
         match options.open(rt, beside.as_str()) {
             Ok(file) => {
                 if claim(rt, &file, beside.as_str()) {
@@ -69,38 +71,15 @@ fn is_at<R: Files>(rt: &R, file: &R::File, path: &str) -> bool {
     }
 }
 
-/// Removes the temporary files beside a file that commands of this user left when they were killed: regular files
+/// Removes the temporary files in a directory that commands of this user left when they were killed: regular files
 /// that no command has locked. One that cannot be removed stays. So do all if the host does not say who this user is,
 /// or which names the directory has. It is read once.
-pub(crate) fn remove_leftovers<R: PromptFiles>(rt: &R, alloc: Global, path: &str)
+pub(crate) fn remove_leftovers<R: PromptFiles>(rt: &R, alloc: Global, directory: &str)
 where
     R::File: OwnedFile,
 {
-    let Some(user) = this_user(rt) else {
-        return;
-    };
-    let Ok(are_there) = numbers_beside(rt, alloc, path) else {
-        return;
-    };
-    for (number, is_there) in are_there.iter().enumerate() {
-        if *is_there {
-            remove_numbered(rt, alloc, path, number as u32, user);
-        }
-    }
-}
-
-/// Removes them up to the first number that is not in use. The directory is not read.
-pub(crate) fn remove_first_leftovers<R: PromptFiles>(rt: &R, alloc: Global, path: &str)
-where
-    R::File: OwnedFile,
-{
-    let Some(user) = this_user(rt) else {
-        return;
-    };
-    for number in 0..TRIES as u32 {
-        if !remove_numbered(rt, alloc, path, number, user) {
-            return;
-        }
+    if let Some(user) = this_user(rt) {
+        let _ = remove_those_of(rt, alloc, directory, user);
     }
 }
 
@@ -112,56 +91,55 @@ pub(crate) fn this_user<R: Files>(rt: &R) -> Option<u32> {
     }
 }
 
-/// For each number, whether the directory of a file has the name of the temporary file with it.
-fn numbers_beside<R: Files>(rt: &R, alloc: Global, path: &str) -> Result<[bool; TRIES], Error> {
-    let (above, _) = directory_and_name(path);
+/// Removes the temporary files in a directory that commands of a user left.
+fn remove_those_of<R: PromptFiles>(
+    rt: &R,
+    alloc: Global,
+    directory: &str,
+    user: u32,
+) -> Result<(), Error>
+where
+    R::File: OwnedFile,
+{
     // With a slash at its end the path of a handle, which is a link, leads to the directory.
-    let directory = format!(in alloc; "{above}/")?;
-    let mut names = rt.open_dir(directory.as_str())?;
-    let mut are_there = [false; TRIES];
+    let front = format!(in alloc; "{directory}/")?;
+    let mut names = rt.open_dir(front.as_str())?;
     let mut part = [0; PART];
     for _ in 0..u64::MAX {
         let count = read_some(&mut names, &mut part)?;
         if count == 0 {
-            return Ok(are_there);
+            return Ok(());
         }
-        note_numbers(&part[..count], &mut are_there);
-    }
-    Ok(are_there)
-}
-
-/// Notes the numbers of the temporary files among these names. Each is followed by a zero byte.
-fn note_numbers(names: &[u8], are_there: &mut [bool]) {
-    for name in names.split(|byte| *byte == 0) {
-        if let Some(number) = beside_number(name) {
-            if let Some(is_there) = are_there.get_mut(number as usize) {
-                *is_there = true;
+        for name in part[..count].split(|byte| *byte == 0) {
+            if is_beside_name(alloc, name)? {
+                remove_named(rt, alloc, front.as_str(), name, user)?;
             }
         }
     }
+    Ok(())
 }
 
-/// Removes the temporary file with this number, if a command of this user left it. Returns whether the name was in use.
-fn remove_numbered<R: PromptFiles>(
+/// Removes the file with this name behind the front of a path, if a command of this user may have left it.
+fn remove_named<R: PromptFiles>(
     rt: &R,
     alloc: Global,
-    path: &str,
-    number: u32,
+    front: &str,
+    name: &[u8],
     user: u32,
-) -> bool
+) -> Result<(), Error>
 where
     R::File: OwnedFile,
 {
-    let Ok(beside) = beside_path(alloc, path, number) else {
-        return false;
+    let Ok(name) = str::from_utf8(name) else {
+        return Ok(());
     };
-    let Ok(found) = fs::symlink_metadata(rt, beside.as_str()) else {
-        return false;
-    };
-    if found.is_file() && found.uid() == user {
-        remove_leftover(rt, alloc, beside.as_str(), &found);
+    let path = format!(in alloc; "{front}{name}")?;
+    if let Ok(found) = fs::symlink_metadata(rt, path.as_str()) {
+        if found.is_file() && found.uid() == user {
+            remove_leftover(rt, alloc, path.as_str(), &found);
+        }
     }
-    true
+    Ok(())
 }
 
 /// Removes the regular file that was found at a path, unless a command has locked it. A file that took its place

@@ -5,7 +5,7 @@ ghost use Rattle.ados_model.specs.Tree.{Tree};
 ghost use Rattle.adf_record.specs.Bundle.{AreBundleOf, AreContentsOf};
 
 use crate::bundle_files::host_path;
-use crate::fault::{InFault, SourceFault, refused};
+use crate::fault::{FileWhy, InFault, SourceFault, unusable};
 use crate::item::{Content, How, Item, put_item};
 use crate::paths::directory_at;
 use crate::progress::Progress;
@@ -15,7 +15,6 @@ use adf_block::{Image, restore_boot, size_ok};
 use adf_record::{Bundle, bundle_of, contents_of, same_bundle, same_contents};
 use adf_text::Uaem;
 use ados_change::put_date;
-use ados_model::DosError;
 use ados_volume::{Volume, blank, check};
 use std::alloc::{AllocError, Global};
 
@@ -91,7 +90,7 @@ fn image_of(
 /// Puts all entries of a bundle into a volume. Metadata of directories is set last, because each entry put into a
 /// directory sets its date.
 ///
-/// Error: 203 if two entries have one name.
+/// Two entries with one name are refused.
 fn put_entries(
     alloc: Global,
     volume: &mut Volume,
@@ -127,7 +126,7 @@ fn put_entries(
             _ => None,
         };
         if !put_item(alloc, volume, &item, content, how, &mut progress)? {
-            return Err(refused(alloc, item.path, DosError::ObjectExists));
+            return Err(unusable(alloc, item.path, FileWhy::Twice));
         }
     }
     progress.note_directories(volume, how.moment);

@@ -73,6 +73,8 @@ pub enum FileWhy {
     NoDirectory,
     #[error("has {} bytes, and the description says {}", Grouped(*.found), Grouped(u64::from(*.told)))]
     Size { found: u64, told: u32 },
+    #[error("is in the description twice")]
+    Twice,
     #[error("is not UTF-8")]
     NotUtf8,
     #[error("has a letter that no byte stands for")]

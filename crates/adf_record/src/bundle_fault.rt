@@ -1,5 +1,5 @@
 //! Why a text is not the description of a bundle.
-use std::alloc::{AllocError, AllocFailed};
+use std::alloc::{AllocError, AllocFailed, Global};
 use std::fmt::{Display, Formatter};
 use std::{error, fmt};
 use thiserror::Error;
@@ -37,6 +37,20 @@ pub enum BundleWhy {
     Many,
     #[error("cannot be read: there is not enough memory")]
     Memory,
+}
+
+/// The most letters that are told of the name of an unknown member.
+const MOST_LETTERS: usize = 80;
+
+impl BundleWhy {
+    /// The fault of a member with this name, which no bundle has. Of a long name its first letters are told.
+    pub(crate) fn unknown(alloc: Global, name: &str) -> BundleWhy {
+        let letters: Result<String, AllocError> = name.chars().take(MOST_LETTERS).collect(alloc);
+        match letters {
+            Ok(letters) => BundleWhy::Unknown(letters),
+            Err(error) => BundleWhy::from(error),
+        }
+    }
 }
 
 impl Display for BundleFault {

@@ -123,7 +123,7 @@ impl Members {
                 date_of(alloc, reader, "changed")?,
             ),
             "root" => set(&mut self.root, "root", date_of(alloc, reader, "root")?),
-            other => Err(BundleWhy::Unknown(String::from_str(alloc, other)?)),
+            other => Err(BundleWhy::unknown(alloc, other)),
         }
     }
 }

@@ -97,7 +97,7 @@ impl Members {
             "bits" => set(&mut self.bits, "bits", number_of(reader, "bits")?),
             "date" => set(&mut self.date, "date", date_of(alloc, reader, "date")?),
             "comment" => set(&mut self.comment, "comment", comment_of(alloc, reader)?),
-            other => Err(BundleWhy::Unknown(String::from_str(alloc, other)?)),
+            other => Err(BundleWhy::unknown(alloc, other)),
         }
     }
 }

@@ -112,7 +112,7 @@ impl Rescue {
         self.salvage.entries().len()
     }
 
-    /// The path of the entry at a position and why it is doubtful or cut short, if it is.
+    /// The path of the entry at a position, or in its place `the entry at block N`, and why it is doubtful or cut short, if it is.
     pub fn doubt_at(
         &self,
         alloc: Global,
@@ -120,9 +120,19 @@ impl Rescue {
     ) -> Result<Option<(String, Doubt)>, AllocError> {
         let state = self.salvage.entries().get(place).map(|entry| entry.state);
         match state.and_then(doubt_of) {
-            Some(doubt) => Ok(Some((self.plan.path_of(alloc, place)?, doubt))),
+            Some(doubt) => Ok(Some((self.path_at(alloc, place)?, doubt))),
             None => Ok(None),
         }
+    }
+
+    /// The host path of the entry at a position. If it has more than 4,095 bytes, the entry is told by its header's block.
+    fn path_at(&self, alloc: Global, place: usize) -> Result<String, AllocError> {
+        if let Some(path) = self.plan.path_of(alloc, place)? {
+            return Ok(path);
+        }
+        let entry = self.salvage.entries().get(place);
+        let block = entry.map_or(0, |entry| entry.header);
+        format!(in alloc; "the entry at block {block}")
     }
 
     /// The numbers of the blocks that are used and belong to nothing that is told, as ranges on lines of their own.
@@ -180,7 +190,7 @@ impl Rescue {
         if !is_told(state, found) {
             return Ok(Vec::new(alloc));
         }
-        let path = self.plan.path_of(alloc, place)?;
+        let path = self.path_at(alloc, place)?;
         if json {
             return entry_object(alloc, found, state, path.as_str(), after);
         }

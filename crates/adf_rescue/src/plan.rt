@@ -8,6 +8,9 @@ use host_trees::HostName;
 use std::alloc::{AllocError, Global};
 use std::str::from_utf8;
 
+/// The most bytes of a path that is told: those of the longest one that Linux opens.
+const LONGEST_PATH: usize = 4_095;
+
 /// What is planned for an entry.
 #[derive(Drop)]
 enum Planned {
@@ -50,8 +53,29 @@ impl Plan {
         Ok(plan)
     }
 
-    /// The host path of an entry, by its position.
-    pub(crate) fn path_of(&self, alloc: Global, place: usize) -> Result<String, AllocError> {
+    /// The host path of an entry, by its position; `None` for one of more than 4,095 bytes. So it takes no more time if
+    /// the directories are deep.
+    pub(crate) fn path_of(
+        &self,
+        alloc: Global,
+        place: usize,
+    ) -> Result<Option<String>, AllocError> {
+        let Some(mut names) = self.names_up(alloc, place)? else {
+            return Ok(None);
+        };
+        let mut path = String::new(alloc);
+        while let Some(name) = names.pop() {
+            if !path.is_empty() {
+                path.push('/')?;
+            }
+            path.push_str(name)?;
+        }
+        Ok(Some(path))
+    }
+
+    /// The names of an entry and of the directories that it is in, its own first; `None` if they are longer than a path
+    /// that is told.
+    fn names_up(&self, alloc: Global, place: usize) -> Result<Option<Vec<&str>>, AllocError> {
         let mut names = Vec::new(alloc);
         let mut next = match self.planned.get(place) {
             Some(Planned::Item(item)) => Some(*item),
@@ -61,21 +85,19 @@ impl Plan {
             }
             None => None,
         };
+        let mut length = 0_usize;
         for _step in 0..self.out.items.len() {
             let Some(item) = next.and_then(|at| self.out.items.get(at)) else {
                 break;
             };
             names.push(item.name.as_str())?;
             next = item.above;
-        }
-        let mut path = String::new(alloc);
-        while let Some(name) = names.pop() {
-            if !path.is_empty() {
-                path.push('/')?;
+            length = length.saturating_add(item.name.as_str().len() + 1);
+            if length > LONGEST_PATH + 1 {
+                return Ok(None);
             }
-            path.push_str(name)?;
         }
-        Ok(path)
+        Ok(Some(names))
     }
 
     /// The item of the directory that an entry is in.
@@ -126,7 +148,7 @@ impl Plan {
         };
         while let Some(place) = way.pop() {
             if let Some(entry) = entries.get(place) {
-                let name = name_of(alloc, entry)?;
+                let name = self.out.name_of(alloc, entry)?;
                 item = self.out.push(Some(item), name, Source::Directory, date)?;
                 if let Some(aside) = self.asides.get_mut(place) {
                     *aside = Some(item);
@@ -146,7 +168,7 @@ impl Plan {
     ) -> Result<(), AllocError> {
         let source = match entry.state {
             State::Lost => {
-                let name = name_of(alloc, entry)?;
+                let name = self.out.name_of(alloc, entry)?;
                 self.planned.push(Planned::Lost { above, name })?;
                 return Ok(());
             }

@@ -92,13 +92,22 @@ impl SourcedItems {
     ) -> Result<usize, AllocError>
         ensures { OnOk result (flat_map file_in self.new.sources.items ≡ flat_map file_in self.old.sources.items ++ file_in source) }
     {
-        let name = name_of(alloc, entry)?;
+        let name = self.name_of(alloc, entry)?;
         let note = name.note(alloc)?;
         let item = self.push(above, name, source, entry.date)?;
         if self.meta {
             self.push(above, note, Source::Note(place), entry.date)?;
         }
         Ok(item)
+    }
+
+    /// The host name of an entry in its directory, in which notes may be.
+    pub(crate) fn name_of(&self, alloc: Global, entry: &Salvaged) -> Result<HostName, AllocError> {
+        let name = name_of(alloc, entry)?;
+        if self.meta {
+            return name.beside_notes(alloc);
+        }
+        Ok(name)
     }
 
     /// Writes them below a directory of the host, with bytes of this salvage.

@@ -34,8 +34,10 @@ mod validate;
 // Scripts over an image.
 mod serving;
 
+use adf_host::{LimitedInput, LimitedOutput, Stream};
 pub use adf_import::StandardInput;
 pub use adf_io::{LoadFault, StoreFault, load_image, store_image};
+use adf_script::LONGEST_SCRIPT;
 pub use adf_script::TryFault;
 use adf_words::given_words;
 pub use ados_run::{
@@ -52,7 +54,9 @@ pub use words::{run_words, tell_wrong_words};
 
 fn main(rt: HostRuntime) -> ExitCode {
     let alloc = rt.alloc();
-    let (mut reader, mut writer, mut faults) = (rt.stdin(), rt.stdout(), rt.stderr());
+    let mut reader = LimitedInput::new(&rt, rt.stdin(), LONGEST_SCRIPT + 1);
+    let mut writer = LimitedOutput::new(&rt, Stream::Output, rt.stdout());
+    let mut faults = LimitedOutput::new(&rt, Stream::Error, rt.stderr());
     let status = match given_words(&rt, alloc) {
         Ok(words) => run_words(
             &rt,

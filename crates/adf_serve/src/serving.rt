@@ -3,8 +3,8 @@ ghost use Rattle.std.specs.Prelude.{◌≡◌, length, IfOk};
 
 use crate::changing::given_or_now;
 use crate::fault::CommandFault;
-use crate::images::{accept, read_loaded, write_held};
-use adf_host::{HeldFile, HoldFault, PromptFiles, hold_target, why_unreadable};
+use crate::images::{accept, read_loaded, unread, write_held};
+use adf_host::{HeldFile, HoldFault, PromptFiles, hold_target, input_path, why_unreadable};
 use adf_io::{Loaded, read_bounded, write_output};
 use adf_script::{LONGEST_SCRIPT, read_script};
 use adf_words::{ServeJob, last_number, tell_faulty_line};
@@ -57,7 +57,7 @@ where
     W: Write,
     F: Write,
 {
-    let out = match job.out {
+    let mut out = match job.out {
         Some(file) => Some((file, hold_target(rt, file, None))),
         None => None,
     };
@@ -66,7 +66,7 @@ where
         behind,
         moment,
         scripts: Scripts { scripts, copies },
-    } = read_input(rt, alloc, job)?;
+    } = read_input(rt, alloc, job, &mut out)?;
     match serve_volume(rt, alloc, volume, scripts, moment, job.turns) {
         Ok(served) => {
             tell_faulty(alloc, job, &copies, &served.texts, faults);
@@ -77,15 +77,16 @@ where
 }
 
 /// Reads the image and the scripts, and the clock if no time stamp is given.
-fn read_input<'a, R: Files + Clock>(
+fn read_input<'a, R: Files<File = File> + Clock>(
     rt: &R,
     alloc: Global,
     job: &ServeJob<'a>,
+    out: &mut Option<OutFile<'a>>,
 ) -> Result<Input, CommandFault<'a>>
     ensures { IfOk result (λ input. length input.scripts.scripts.items ≡ length job.now.scripts.items) }
 {
     let moment = given_or_now(rt, job.moment)?;
-    let Loaded { image, behind } = read_loaded(rt, alloc, job.image)?;
+    let Loaded { image, behind } = read_served(rt, alloc, job, out)?;
     let volume = accept(alloc, image)?;
     Ok(Input {
         volume,
@@ -93,6 +94,26 @@ fn read_input<'a, R: Files + Clock>(
         moment,
         scripts: read_scripts(rt, alloc, job.scripts.as_slice())?,
     })
+}
+
+/// Reads the image. If its file is the one to write, the file that was locked is read: another one that has its name for a
+/// moment is neither read nor written over.
+fn read_served<'a, R: Files<File = File>>(
+    rt: &R,
+    alloc: Global,
+    job: &ServeJob<'a>,
+    out: &mut Option<OutFile<'a>>,
+) -> Result<Loaded, CommandFault<'a>> {
+    let path = input_path(job.image.path);
+    match out {
+        Some((file, Ok(Some(held)))) if *file == path || held.is_at(rt, path) => {
+            match held.read_image(alloc, job.image.blocks) {
+                Ok(loaded) => Ok(loaded),
+                Err(fault) => Err(unread(rt, fault, job.image)),
+            }
+        }
+        _ => read_loaded(rt, alloc, job.image),
+    }
 }
 
 /// Prints what is wrong with the faulty line of each script that has one.

@@ -2,9 +2,9 @@
 ghost use Rattle.std.specs.Prelude.{◌≡◌, ◌≢◌, ◌≤◌, ◌++◌, All, IfOk, length};
 ghost use Rattle.std.specs.String.{string_bytes};
 ghost use Rattle.adf_text.specs.HostNames.{host_name, IsHostName};
-ghost use Rattle.host_trees.specs.Notes.{note_of};
+ghost use Rattle.host_trees.specs.Notes.{IsBesideNotes, note_of};
 
-use crate::notes::note_name;
+use crate::notes::{note_name, noted_name};
 use adf_text::host_name;
 use ados_name::Name;
 use std::alloc::{AllocError, Global};
@@ -44,6 +44,18 @@ impl HostName {
         ensures { IfOk result (λ name. name ≡ self.now ++ ending.now) }
     {
         let text = format!(in alloc; "{}{ending}", self.as_str())?;
+        Ok(HostName { text })
+    }
+
+    /// The name for the same entry in a directory with notes. The name of an entry may end as that of a note does: then the
+    /// dot of this ending gets an escape.
+    pub fn beside_notes(self, alloc: Global) -> Result<HostName, AllocError>
+        ensures { IfOk result (λ name. IsBesideNotes self name) }
+    {
+        let Some(noted) = noted_name(self.as_str()) else {
+            return Ok(self);
+        };
+        let text = format!(in alloc; "{noted}%2Euaem")?;
         Ok(HostName { text })
     }
 

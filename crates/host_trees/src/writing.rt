@@ -20,7 +20,7 @@ use std::time::SystemTime;
 /// It refuses before anything is written: an existing file, except a regular one with `force`; a symbolic link at an
 /// item's path or on the way to it; a file in place of a directory or the reverse; two items with one path; a path of
 /// more than 4,095 bytes, with the directory in front; and a host without `/proc`. Files and new directories get their
-/// time stamps. The bytes of a file are asked for when it is written, and let go before those of the next.
+/// time stamps. With `force`, what killed commands left in a directory is removed before anything is written there. The bytes of a file are asked for when it is written, and let go before those of the next.
 ///
 /// Items are written depth first: a directory, then what is in it, in the order of the list. So no directory is opened again
 /// and again, in whatever order they are listed.
@@ -93,6 +93,7 @@ where
             Ok(Some(top)) => {
                 let mut way = Way::from_top(self.alloc, top, items)?;
                 self.refuse_what_stands(&mut way, items, order)?;
+                self.remove_leftovers(&mut way, items, None)?;
                 Ok(way)
             }
             Ok(None) => match self.make_top(path) {
@@ -192,9 +193,27 @@ where
                 made.push(place)?;
                 Ok(())
             }
+            Ok(false) if item.kind == ItemKind::Directory => {
+                self.remove_leftovers(way, items, Some(place))
+            }
             Ok(false) => Ok(()),
             Err(why) => Err(fault(place, why)),
         }
+    }
+
+    /// Removes what commands of this user left in the directory of an item, or in the top, if files there are replaced.
+    /// Nothing is written there yet, so what has the name of a leftover is no file of this list.
+    fn remove_leftovers(
+        &self,
+        way: &mut Way<R::File>,
+        items: &[HostItem],
+        place: Option<usize>,
+    ) -> Result<(), ItemFault> {
+        if self.force {
+            way.reach(self.rt, self.alloc, items, place)?
+                .remove_leftovers(self.rt, self.alloc);
+        }
+        Ok(())
     }
 
     /// Makes a directory unless it exists, and returns whether it is new.

@@ -1,4 +1,4 @@
-use Rattle.adf_export.proofs.Common.{refl, ap, ◌∙◌, some_in, HostItem, note_of}
+use Rattle.adf_export.proofs.Common.{refl, some_in, HostItem}
 use Rattle.host_trees.specs.declared.items.ItemKind.TheVariants as kinds
 use Rattle.adf_export.proofs.Entries.{alone, source_alone, source_with_note, with_note}
 use Rattle.adf_export.proofs.entry.Outgoing.push_entry.Goals as goal
@@ -22,7 +22,7 @@ returns-clause-items c = λ t s.
     let note : HostItem = record { above = c.item_place-above.result; name = c.in_ok-note.note; kind = kinds.File; date = c.examine-told.result.date } in
     with_note t c.args.entry.now n.0 n.1 c.examine-told.result (c.examine-told.ensures t n.0 s n.1)
     c.args.meta item c.item_place-above.ensures c.in_ok-name.ensures (c.kind_of.ensures t n.0 s n.1) refl
-    note refl (c.in_ok-note.ensures ∙ ap note_of c.in_ok-name.ensures) refl refl
+    note refl c.in_ok-note.ensures refl refl
     c.args.self.now.items.items c.push.new.self.items.items c.push-2.new.self.items.items c.if-not-meta.false c.in_ok-push.ensures.items c.in_ok-push-2.ensures.items
 
 pub returns-clause-sources : goal.returns-clause-sources
