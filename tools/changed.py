@@ -62,7 +62,7 @@ ROWS = [
     ("docs/*.png", "dist"),
     ("docs/ARCHIVES.md", "jip dist"),
     ("docs/CHANGELOG.md", "dist"),
-    ("docs/COMMANDS.md", "walk files hostile emulator dist"),
+    ("docs/COMMANDS.md", "walk commands files hostile emulator dist"),
     ("docs/LIBRARY.md", "walk library shared python dist"),
     ("docs/QUICKSTART.md", "walk dist"),
     ("docs/SECURITY.md", "dist"),

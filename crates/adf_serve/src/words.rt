@@ -23,10 +23,10 @@ use std::thread::Threads;
 
 /// Runs the program on the arguments after its own name, and returns its exit status: 0 success; 1 a wrong command
 /// line; 2 a file or stream that cannot be read or written, no memory, no thread, or a client that ran out of tries; 3
-/// a refused image, name, script or change. Faults of arguments, files and streams are printed on `faults`, and so are help, in
-/// lines of as many letters as the environment variable `COLUMNS` says, and which image is read while another command has it
-/// locked. If that is a terminal, the progress of a check is printed there too. If the writer is a terminal, text for people
-/// may have bold letters.
+/// a refused image, name, script or change. Faults of arguments, files and streams are printed on `faults`. So are
+/// help, in lines of as many letters as the environment variable `COLUMNS` says, and which image is read while another
+/// command has it locked. If that is a terminal, the progress of a check is printed there too. If the writer is a
+/// terminal, text for people may have bold letters.
 pub fn run_words<T, R, W, F>(
     rt: &T,
     alloc: Global,
