@@ -494,7 +494,6 @@ class Growths:
         self.endings: Dict[Ran, str] = {
             Ran(0, replies + b"2.41 1 0\n", b""): "whole",
             Ran(0, replies + b"2.41 0 103\n", b""): "lock",
-            Ran(1, b"", b"error: out of memory\n"): "words",
             Ran(2, b"", b"adf_serve: " + no_memory): "memory",
             Ran(2, b"", b"adf_serve: a thread cannot be made\n"): "thread",
             Ran(2, replies + b"2.41 1 0\n", b"adf_serve: cannot write 'grown.adf': " + no_memory): "written",
@@ -933,9 +932,10 @@ OTHER_TOOLS = {
     "serve": "execute run",
     "adf_mount": "mount",
 }
-READING = [it.name for it in commands() if it.group in ("Look", "TakeOut", "Serve")]
+# The commands that change no image.
+HARMLESS = [it.name for it in commands() if it.group in ("Look", "TakeOut", "Serve")]
 # The words above with which the other tools change something.
-CHANGING = " ".join(words for tip, words in OTHER_TOOLS.items() if tip.split()[0] not in (*READING, "adf_mount")).split()
+WORDS_OF_CHANGES = " ".join(words for tip, words in OTHER_TOOLS.items() if tip.split()[0] not in (*HARMLESS, "adf_mount")).split()
 # Words that are like a command, and the command. Not one is like those that may take something away.
 LIKE_COMMANDS = {"lst": "list", "chek": "check", "prin": "print", "extrcat": "extract", "lsit": "list", "renam": "rename", "protct": "protect", "dat": "date", "undelet": "undelete"}
 LIKE_NONE = ["deleted", "dlete", "delet", "relete", "blan", "blanks", "black", "boots", "bot", "select", "release", "q", "", "zz"]
@@ -956,8 +956,8 @@ def tips(tried: Commands) -> None:
     for tip, words in OTHER_TOOLS.items():
         for word in words.split():
             tried.report.same(f"what stands for {word}", told(word), tip)
-            if word not in CHANGING:
-                tried.report.expect(f"{word} leads to no change", tip.split()[0] in (*READING, "adf_mount"), tip)
+            if word not in WORDS_OF_CHANGES:
+                tried.report.expect(f"{word} leads to no change", tip.split()[0] in (*HARMLESS, "adf_mount"), tip)
     for word, command in LIKE_COMMANDS.items():
         tried.report.same(f"what {word} is like", told(word), command)
     for word in LIKE_NONE:
@@ -966,7 +966,7 @@ def tips(tried: Commands) -> None:
         near = {command[:at] + command[at + 1 :] for at in range(len(command))} | {command + command[-1]}
         for word in sorted(near - {*COMMANDS} - {*" ".join(OTHER_TOOLS.values()).split(), "dd"}):
             tip = told(word)
-            harmless = tip in ("", *READING) if command in READING else tip not in ("blank", "boot", "delete")
+            harmless = tip in ("", *HARMLESS) if command in HARMLESS else tip not in ("blank", "boot", "delete")
             tried.report.expect(f"{word} leads to nothing worse than {command}", harmless, tip)
 
 
@@ -1785,7 +1785,7 @@ def front_files(tried: Commands) -> bytes:
 
 def told_of_front(ran: Ran) -> Ran:
     """A run over dump.adf as one over front.adf would be told of."""
-    return Ran(ran.status, *(it.replace(b"dump.adf", b"front.adf") for it in (ran.output, ran.texts)))
+    return Ran(ran.status, *(it.replace(b"--blocks 1760 dump.adf", b"front.adf").replace(b"dump.adf", b"front.adf") for it in (ran.output, ran.texts)))
 
 
 def first_blocks(tried: Commands) -> None:
