@@ -105,14 +105,19 @@ fn read_served<'a, R: Files<File = File>>(
     out: &mut Option<OutFile<'a>>,
 ) -> Result<Loaded, CommandFault<'a>> {
     let path = input_path(job.image.path);
-    match out {
-        Some((file, Ok(Some(held)))) if *file == path || held.is_at(rt, path) => {
-            match held.read_image(alloc, job.image.blocks) {
-                Ok(loaded) => Ok(loaded),
-                Err(fault) => Err(unread(rt, fault, job.image)),
-            }
-        }
-        _ => read_loaded(rt, alloc, job.image),
+    let Some(target) = out else {
+        return read_loaded(rt, alloc, job.image);
+    };
+    let is_named = target.0 == path;
+    let Ok(Some(held)) = &mut target.1 else {
+        return read_loaded(rt, alloc, job.image);
+    };
+    if !is_named && !held.is_at(rt, path) {
+        return read_loaded(rt, alloc, job.image);
+    }
+    match held.read_image(alloc, job.image.blocks) {
+        Ok(loaded) => Ok(loaded),
+        Err(fault) => Err(unread(rt, fault, job.image)),
     }
 }
 
