@@ -70,6 +70,7 @@ ROWS = [
     ("bench/jip_start", "jip"),
     ("bindings/README.md", ""),
     ("bindings/c/*", f"first {LIBRARY}"),
+    ("bindings/c/*.h", f"first commands {LIBRARY}"),
     ("bindings/fuse/*", "completions mount dist"),
     ("bindings/python/*", "first python jip dist"),
     ("examples/c/*", "library shared dist"),
