@@ -292,9 +292,9 @@ def descriptions(room: Room) -> None:
         with_json(f"entry: {key} {str(value)[:20]!r}", lambda it: it["entries"][place].update({key: value}), f"entry {place + 1} ")
     with_json("entry: a directory with a size", lambda it: it["entries"][0].update({"size": 0}), "entry 1 ")
     with_json("entry: a child before its directory", lambda it: it["entries"].insert(0, it["entries"].pop(place)), "entry 1 has a")
-    with_json("entry: one path twice", lambda it: it["entries"].insert(place, it["entries"][place]), "is in the description twice")
+    with_json("entry: one path twice", lambda it: it["entries"].insert(place, it["entries"][place]), "object already exists", status=3)
     shutil.copy("b/files/d/f", "b/files/d/F")
-    with_json("entry: two names that are one on an Amiga", lambda it: it["entries"].insert(place, {**it["entries"][place], "path": "d/F"}), "is in the description twice")
+    with_json("entry: two names that are one on an Amiga", lambda it: it["entries"].insert(place, {**it["entries"][place], "path": "d/F"}), "object already exists", status=3)
     wrong = sorted(("zz%d" % at for at in range(6)), key=lambda it: -slot_of(it.encode()))
     row: Json = {"type": "directory", "bits": 0, "date": "1978-01-01 00:00:00.00", "comment": ""}
     with_json("entries in an order that no disk has", lambda it: it.update({"entries": [{"path": name, **row} for name in wrong]}), "order")
