@@ -1383,9 +1383,9 @@ def forms_of_lists(tried: Commands) -> None:
     for name, head in (("list", plain[0]), ("list --letters", plain[0]), ("list --long", plain[0]), ("list --json", "")):
         tried.rows(
             row(f"{name} of an empty directory", f"{name} told.adf a", 0, head),
-            row(f"{name} of no object", f"{name} told.adf S/none", 3, "refused 205 S/none\n", "object not found"),
-            row(f"{name} below no directory", f"{name} told.adf none/x", 3, "refused 204 none/x\n", "directory not found"),
-            row(f"{name} below a file", f"{name} told.adf t/x", 3, "refused 212 t/x\n", "required type"),
+            row(f"{name} of no object", f"{name} told.adf S/none", 3, dos_refusal(name, 205, "S/none"), "object not found"),
+            row(f"{name} below no directory", f"{name} told.adf none/x", 3, dos_refusal(name, 204, "none/x"), "directory not found"),
+            row(f"{name} below a file", f"{name} told.adf t/x", 3, dos_refusal(name, 212, "t/x"), "required type"),
         )
     for at, path in ((3, "s/CAF\xe9"), (4, "S/F\x1b"), (5, "t")):
         tried.rows(
@@ -1539,6 +1539,16 @@ def shown_volumes(tried: Commands) -> None:
         tried.report.same(f"show --json of a boot block: {said}", json.loads(tried.run("show", "--json", "booted.adf").output)["boot"], word)
 
 
+def dos_refusal(words: str, number: int, path: str) -> str:
+    """What a command prints for a refusal by AmigaDOS."""
+    return refused_object(number=number, path=path) if "--json" in words else f"refused {number} {path}\n"
+
+
+def refused_object(**reason: Union[str, int]) -> str:
+    """What a command that prints JSON prints where something is refused."""
+    return json.dumps({"refused": reason}, separators=(",", ":")) + "\n"
+
+
 def refused_shows(tried: Commands) -> None:
     """`show` of refused images: the line of each command, and on standard error what can be said."""
     blank = tried.content("ffs.adf")
@@ -1553,9 +1563,16 @@ def refused_shows(tried: Commands) -> None:
     ]
     for name, image, told, said in rows:
         tried.write(name, image)
-        for words in ("show", "show --json"):
-            tried.rows(row(f"{words} of {name}", f"{words} {name}", 3, f"refused {told}\n", *said))
+        kind, block = told.split()
+        tried.rows(
+            row(f"show of {name}", f"show {name}", 3, f"refused {told}\n", *said),
+            *(row(f"{it} --json of {name}", f"{it} --json {name}", 3, refused_object(kind=kind, block=int(block)), *said) for it in ("show", "list")),
+        )
         tried.stays(f"show leaves {name}", name, image)
+    tried.rows(
+        row("list --json of no entry", ["list", "--json", "ffs.adf", 'a"b'], 3, refused_object(number=205, path='a"b'), 'a"b'),
+        row("a rescue as JSON of no image", "extract --damaged --list --json short.adf", 3, refused_object(kind="TooFewBlocks", block=0), "7,680 bytes are too few"),
+    )
     tried.rows(lacking("show of no file", "show none.adf", "none.adf"), wrong("show without an image", "show", "Usage"))
 
 

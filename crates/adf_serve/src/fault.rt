@@ -1,6 +1,5 @@
 //! Why a command fails.
 ghost use Rattle.std.specs.Prelude.{◌≡◌, IfOk, option_map};
-ghost use Rattle.std.specs.String.{string_bytes};
 ghost use Rattle.adf_serve.specs.Faults.{status_of};
 ghost use Rattle.adf_serve.specs.Refusals.{told_line};
 
@@ -143,13 +142,13 @@ impl<'a> CommandFault<'a> {
         }
     }
 
-    /// The line on standard output: one for a refusal, none for any other fault.
-    pub(crate) fn line(&self, alloc: Global) -> Result<Option<String>, AllocError>
-        ensures { IfOk result (λ line. option_map string_bytes line ≡ told_line self.now) }
+    /// The text on standard output: a line or with `json` an object for a refusal, none for any other fault.
+    pub(crate) fn line(&self, alloc: Global, json: bool) -> Result<Option<Vec<u8>>, AllocError>
+        ensures { IfOk result (λ line. option_map (λ text. text.items) line ≡ told_line json self.now) }
     {
         match self {
-            CommandFault::Refused(refusal) => Ok(Some(refusal.line(alloc)?)),
-            CommandFault::Dos(refusal) => Ok(Some(refusal.line(alloc)?)),
+            CommandFault::Refused(refusal) => Ok(Some(refusal.line(alloc, json)?)),
+            CommandFault::Dos(refusal) => Ok(Some(refusal.line(alloc, json)?)),
             _ => Ok(None),
         }
     }

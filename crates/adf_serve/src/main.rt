@@ -11,6 +11,7 @@ mod explaining;
 mod fault;
 mod images;
 mod jobs;
+mod json_jobs;
 mod output;
 mod refusal;
 mod screen;

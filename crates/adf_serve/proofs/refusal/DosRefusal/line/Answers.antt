@@ -34,7 +34,7 @@ pub returns : goal.returns
 returns c =
     let error = c.args.self.now.refused.error in
     let path = string_bytes c.args.self.now.refused.path in
-    c.in_ok-line.ensures.ok
+    c.into_bytes.ensures.value ∙ c.in_ok-line.ensures.ok
     ∙ ap₂ (λ (n : ℤ) (p : List ℕ). codes "refused " ++ (signed_decimal (to_z w32 (of_z w32 n)) ++ (spaced p ++ 10 ∷ []))) c.number-number.ensures c.as_str.ensures.value
     ∙ ap (λ (l : List ℕ). codes "refused " ++ (l ++ (spaced path ++ 10 ∷ []))) (shown_number error)
     ∙ ap (λ (l : List ℕ). codes "refused " ++ l) (sym (append_assoc (decimal (error_number error)) (spaced path) (10 ∷ [])))
