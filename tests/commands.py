@@ -31,8 +31,10 @@ COMMANDS = "blank info show map where check list print extract undelete add mkdi
 ON_IMAGES = [
     *("print IMAGE x", "extract IMAGE", "add IMAGE x", "mkdir IMAGE x", "delete IMAGE x", "rename IMAGE x y"),
     *("protect IMAGE x rwed", "date IMAGE x now", "comment IMAGE x y", "relabel IMAGE x", "boot IMAGE"),
-    *("boot --clear IMAGE", "boot --install IMAGE", "boot --save none.bin IMAGE", "boot --show IMAGE", "map IMAGE", "map --json IMAGE"),
+    *("boot --clear IMAGE", "boot --install IMAGE", "map IMAGE", "map --json IMAGE"),
 ]
+# The commands that read the two boot blocks of any file.
+ON_BOOT_BLOCKS = ["boot --show IMAGE", "boot --save none.bin IMAGE"]
 AT = "--days 1 --minutes 0 --ticks 0"
 # An entry of `list`, from its date on.
 MADE = "     dir ---rwed 1978-01-02 00:00:00.00 "
@@ -1079,6 +1081,25 @@ def shown_boots(tried: Commands) -> None:
     tried.write("shown.adf", stale)
     tried.rows(row("boot --show where the bitmap is rebuilt", "boot --show shown.adf", 0, boot_shown("custom, checksum right", own)))
     tried.stays("boot --show rebuilds no bitmap", "shown.adf", stale)
+    other = b"PFS\1" + own[4:]
+    for name, image in (("two blocks", own), ("two blocks and a byte", own + b"x"), ("a disk of another kind", other + bytes(1758 * BLOCK))):
+        said = "custom, checksum right" if image[:3] == b"DOS" else wrong_sum
+        tried.write("shown.adf", image)
+        tried.rows(row(f"boot --show of {name}", "boot --show shown.adf", 0, boot_shown(said, image[: 2 * BLOCK])))
+        piped = tried.run("boot", "--show", "-", input=image)
+        tried.report.check(f"boot --show of {name} from a pipe", piped, 0, boot_shown(said, image[: 2 * BLOCK]).encode())
+    tried.write("shown.adf", own[:-1])
+    tried.rows(row("boot --show of a byte less than two blocks", "boot --show shown.adf", 3, "refused NotWholeBlocks 0\n", "1,023 bytes"))
+
+
+def named_boots(tried: Commands) -> None:
+    """`extract --damaged` and `extract --bundle` say what the boot block is, if there is one."""
+    boot = boot_with(b"DOS\1", b"own")
+    for name, front, said in (("none", b"DOS\1", ""), ("custom", boot, "adf_serve: boot block: custom, checksum right\n")):
+        tried.write("named.adf", front + tried.content("ffs.adf")[len(front) :])
+        for words in ("extract --damaged --list named.adf", f"extract --bundle {name}.out named.adf"):
+            ran = tried.run(*words.split())
+            tried.report.same(f"{words}: boot block {name}", (ran.status, ran.texts), (0, said.encode()))
 
 
 def saved_boots(tried: Commands) -> None:
@@ -1189,7 +1210,7 @@ def held_images(tried: Commands) -> None:
 
 def missing_files(tried: Commands) -> None:
     before = tried.content("ffs.adf")
-    for words in ON_IMAGES:
+    for words in (*ON_IMAGES, *ON_BOOT_BLOCKS):
         words = words.replace("IMAGE", "none.adf")
         tried.rows(lacking(f"an image that is not there: {words}", words, "cannot read 'none.adf': no such file"))
     for command in ("info", "list"):
@@ -1425,10 +1446,17 @@ def refused_images(tried: Commands) -> None:
             tried.rows(row(f"{words.split()[0]} of {name}", words.replace("IMAGE", name), 3, refused, *texts))
         if name not in ("marked.adf", "page.adf"):
             tried.rows(row(f"validate of {name}", ["validate", name], 3, refused, *texts))
+        if len(image) < 2 * BLOCK:
+            tried.rows(*(row(f"{it} of {name}", it.replace("IMAGE", name), 3, refused, *texts) for it in ON_BOOT_BLOCKS))
+            tried.absent("a file without two blocks saves no boot block", "none.bin")
+        else:
+            show, save = (it.replace("IMAGE", name) for it in ON_BOOT_BLOCKS)
+            tried.rows(row(f"boot --show of {name}", show, 0, boot_shown("none", image[: 2 * BLOCK])), row(f"boot --save of {name}", save))
+            tried.stays(f"boot --save of {name} writes the two blocks", "none.bin", image[: 2 * BLOCK])
+            os.remove("none.bin")
         tried.stays(f"{name} stays", name, image)
         tried.rows(row(f"serve of {name}", ["serve", "--out", "none.out", name, "none"], 3, refused, *texts))
     tried.absent("a refused image writes nothing", "none.out")
-    tried.absent("a refused image saves no boot block", "none.bin")
     os.remove("huge.adf")
 
 
@@ -1826,7 +1854,7 @@ PARTS: List[Callable[[Commands], None]] = [
     *(tips, clients, faulty_scripts, explained_lines, at_a_terminal, turns, growths, many_clients),
     *(directories, directories_on_the_way, files_under_names, closed_input, images_from_input, refused_changes, changes_beside, precious_files),
     *(named_entries, protect_words, boot_blocks),
-    *(standard_boot, shown_boots, saved_boots, boot_options),
+    *(standard_boot, shown_boots, saved_boots, named_boots, boot_options),
     *(held_images, readers_of_held_images, missing_files, denied_files, first_faults),
     *(accepted_images, forms_of_lists, refused_images, stale_image, refused_output),
     *(shown_volumes, refused_shows, bold_letters, sorted_lists),
