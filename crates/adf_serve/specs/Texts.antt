@@ -16,7 +16,7 @@ use Rattle.adf_export.specs.Listing.{BeginsList, IsList}
 use Rattle.adf_record.specs.declared.told.FactsForm.{FactsForm}
 use Rattle.adf_record.specs.Told.{IsVolumeText, is_json}
 use Rattle.adf_words.specs.declared.job.ImageJob.{ImageJob}
-use Rattle.adf_words.specs.declared.job.ImageJob.TheVariants.{Info, List as ListOf, Map, Print, Show, ShowBoot, Undelete, Validate, WherePath}
+use Rattle.adf_words.specs.declared.job.ImageJob.TheVariants.{Info, List as ListOf, Print, Show, ShowBoot, Undelete, Validate, WherePath}
 use Rattle.adf_words.specs.declared.query.ListForm.{ListForm}
 use Rattle.adf_words.specs.declared.query.ListForm.TheVariants.{Bold, Long}
 use Rattle.adf_words.specs.declared.query.ListJob.{ListJob}
@@ -30,7 +30,6 @@ use Rattle.adf_serve.specs.declared.look.Look.{Look}
 use Rattle.adf_serve.specs.declared.look.Look.TheVariants as looks
 use Rattle.adf_serve.specs.declared.query.Query.{Query}
 use Rattle.adf_serve.specs.declared.query.Query.TheVariants as queries
-use Rattle.ados_mend.specs.BlockMap.{IsMap}
 use Rattle.ados_mend.specs.Said.{validated_line}
 use Rattle.ados_mend.specs.Validated.{IsValidated, free_only_in}
 
@@ -82,10 +81,9 @@ abbrev pub IsCountText : List ℕ → List ℕ → Type 0
 IsCountText image text = (new : List ℕ) × IsValidated image new × (text ≡ validated_line (free_only_in image new) (free_only_in new image))
 
 -- a text about an accepted image, by whether its bitmap was rebuilt, the checked image and its tree: the facts of the volume,
--- as a JSON object or in a form for people; or its map, as a JSON object or as text
+-- as a JSON object or in a form for people
 abbrev pub IsLook : Look → Bool → List ℕ → Tree → List ℕ → Type 0
 IsLook (looks.Volume json) was_validated checked t text = (form : FactsForm) × (is_json form ≡ json) × IsVolumeText form checked was_validated t text
-IsLook (looks.Map json) was_validated checked t text = IsMap json checked t text
 
 abbrev pub IsLookText : Look → List ℕ → List ℕ → Type 0
 IsLookText look = OfAccepted (IsLook look)
@@ -124,7 +122,6 @@ IsJobText (Print image path) = IsPrintText path.now
 IsJobText (ShowBoot image) = IsBootText
 IsJobText (Validate target force) = IsCountText
 IsJobText (Show image json) = IsLookText (looks.Volume json)
-IsJobText (Map image json) = IsLookText (looks.Map json)
 IsJobText (WherePath image path) = AreEntryBlocks path.now
 IsJobText (Undelete job) = AreDeletedLines job
 IsJobText job = λ bytes text. text ≡ []

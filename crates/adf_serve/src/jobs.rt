@@ -8,6 +8,7 @@ use crate::bundle::{put_bundle, take_bundle};
 use crate::changing::change;
 use crate::fault::CommandFault;
 use crate::look::Look;
+use crate::map::{map_form, tell_map};
 use crate::moving::take_out;
 use crate::query::{Query, print_query};
 use crate::rescue::take_rescue;
@@ -51,9 +52,7 @@ where
         ImageJob::Show { image, json } => {
             print_query(rt, alloc, *image, Query::Look(Look::Volume { json: *json }), screen.styled, writer)
         }
-        ImageJob::Map { image, json } => {
-            print_query(rt, alloc, *image, Query::Look(Look::Map { json: *json }), screen.styled, writer)
-        }
+        ImageJob::Map { image, tracks, json } => tell_map(rt, alloc, *image, map_form(*tracks, *json), writer, faults),
         ImageJob::Where(job) => tell_where(rt, alloc, job, writer, faults),
         ImageJob::WherePath { image, path } => print_query(rt, alloc, *image, Query::Entry(*path), screen.styled, writer),
         ImageJob::ShowBoot { image } => show_boot(rt, alloc, *image, writer),

@@ -1,4 +1,4 @@
-//! The commands that make a text of an accepted image, and print it: `show` and `map`.
+//! The command `show`.
 ghost use Rattle.std.specs.Prelude.{◌≡◌, IfOk};
 ghost use Rattle.ados_model.specs.Stands.{Stands};
 ghost use Rattle.ados_model.specs.Tree.{Tree};
@@ -11,7 +11,6 @@ use crate::images::accept;
 use crate::output::tell;
 use adf_block::Image;
 use adf_record::{FactsForm, volume_text};
-use ados_mend::map_text;
 use ados_volume::Volume;
 use std::alloc::{AllocError, Global};
 use std::io::Write;
@@ -21,8 +20,6 @@ use std::io::Write;
 pub(crate) enum Look {
     /// What a person wants to know of the volume.
     Volume { json: bool },
-    /// A letter for each block, and what the letters mean.
-    Map { json: bool },
 }
 
 /// Prints a text about an image.
@@ -52,7 +49,6 @@ fn look_text(
 {
     match look {
         Look::Volume { json } => volume_text(alloc, volume, facts_form(json, styled)),
-        Look::Map { json } => map_text(alloc, volume, json),
     }
 }
 

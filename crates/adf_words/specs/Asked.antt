@@ -68,8 +68,8 @@ IsShowOf found _ = ⊥
 
 -- `map`: the image is this argument, and the form as the option says
 abbrev pub IsMapOf : Found → ImageJob → Type 0
-IsMapOf found (Map image json) =
-    IsFileOf found image × ((given : Bool) → IsFlag found (codes "json") given → json ≡ given)
+IsMapOf found (Map image tracks json) =
+    IsFileOf found image × ((given : Bool) → IsFlag found (codes "tracks") given → tracks ≡ given) × ((given : Bool) → IsFlag found (codes "json") given → json ≡ given)
 IsMapOf found _ = ⊥
 
 -- the values of an argument that can have many

@@ -31,8 +31,8 @@ pub enum ImageJob<'a> {
     Info { file: ImageFile<'a> },
     /// `show`: describes the volume for people, or with `json` as a JSON object.
     Show { image: ImageFile<'a>, json: bool },
-    /// `map`: prints a letter for each block, or with `json` a JSON object.
-    Map { image: ImageFile<'a>, json: bool },
+    /// `map`: prints a letter for each block, by cylinders or with `tracks` by tracks, or with `json` a JSON object.
+    Map { image: ImageFile<'a>, tracks: bool, json: bool },
     /// `where`: says who owns blocks.
     Where(WhereJob<'a>),
     /// `where --path`: prints the blocks of an entry.

@@ -199,9 +199,10 @@ pub(crate) const COMMANDS: [CommandRow; 21] = [
     CommandRow {
         name: "map",
         about: "Prints a letter for each block of a disk, and what the letters mean",
-        examples: "Examples:\n  adf_serve map work.adf\n  adf_serve map --json work.adf",
+        examples: "Examples:\n  adf_serve map work.adf\n  adf_serve map --tracks work.adf\n  adf_serve map --json work.adf",
         changes: false,
         arguments: &[
+            ArgumentRow { name: "tracks", kind: Kind::Flag { excludes: &["json"] }, help: "Prints a line for each track. Without it each cylinder of a floppy is a column" },
             ArgumentRow { name: "json", kind: FLAG, help: "Prints a JSON object" },
             FRONT,
             IMAGE,

@@ -100,6 +100,7 @@ pub(crate) fn map_job<'a>(arguments: &Arguments<'a, '_>) -> Result<ImageJob<'a>,
 {
     Ok(ImageJob::Map {
         image: arguments.image()?,
+        tracks: arguments.flag("tracks"),
         json: arguments.flag("json"),
     })
 }

@@ -14,7 +14,6 @@ pub use Rattle.ados_faults.proofs.Insides.{reached_inside, root_inside}
 pub use Rattle.ados_map.specs.Pages.{LawfulPages, page_block, pages_of}
 pub use Rattle.ados_sound.specs.Marks.{mark_at}
 pub use Rattle.ados_mend.specs.Reached.{IsReached}
-pub use Rattle.ados_mend.specs.BlockMap.{IsMap, header_tokens, map_of, map_page, meaning_line, object_tokens, owner_letters}
 pub use Rattle.ados_mend.specs.Mendable.{IsMendable, IsPage, ShowsOnlyMendable}
 pub use Rattle.ados_mend.specs.Places.{AreAllPlaces, AreAllPlacesOfEach, Gives, IsPlaceOfReached, NamesBlock, naming_of, position, rank}
 pub use Rattle.ados_mend.specs.Validated.{IsValidated, without_lost}

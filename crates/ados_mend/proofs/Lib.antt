@@ -15,7 +15,6 @@ pub mod Counted
 pub mod Passed
 pub mod SettlingPages
 pub mod Renewed
-mod Numbered
 pub mod Marking
 pub mod Reaching
 pub mod Placing

@@ -1,6 +1,5 @@
 //! The bitmap of an image, written anew: where nothing else is faulty, and without force only where nothing may be lost
-//! with the old one. The map of a volume, a letter for each block. And the blocks of any image that are reached, and the places
-//! that name a block.
+//! with the old one. And the blocks of any image that are reached, and the places that name a block.
 #![tactic(auto)]
 
 // The answers.
@@ -21,17 +20,12 @@ mod looks;
 mod said;
 mod validating;
 
-// The map.
-mod block_map;
-mod map_object;
-
 // What is reached, and the places that name a block.
 mod naming;
 mod places;
 mod reached;
 
 pub use answer::{NotValidated, Validated};
-pub use block_map::map_text;
 pub use caution::{Caution, Look};
 pub use naming::{Naming, Place};
 pub use places::{in_order, places_of};

@@ -1,6 +1,8 @@
 use Rattle.std.proofs.Common.{subst, sym}
 use Rattle.adf_words.specs.declared.job.ImageJob.{ImageJob}
+use Rattle.adf_where.specs.declared.map_form.MapForm.{MapForm}
 use Rattle.adf_serve.specs.Commands.{DoesJob}
+use Rattle.adf_serve.specs.Mapped.{DoesMap}
 use Rattle.adf_serve.proofs.Printing.{PrintsNothing, job_silent}
 use Rattle.adf_serve.proofs.jobs.run_job.Goals as goal
 
@@ -45,7 +47,8 @@ returns-in-WherePath g c =
 
 pub returns-in-Map : goal.returns-in-Map
 returns-in-Map g c =
-    subst (λ (job : ImageJob). DoesJob job (g.W.Write.contents c.args.writer.now) (g.W.Write.contents c.print_query-in-Map.new.writer) c.print_query-in-Map.result) (sym c.in-Map.is) c.print_query-in-Map.ensures
+    subst (λ (job : ImageJob). DoesJob job (g.W.Write.contents c.args.writer.now) (g.W.Write.contents c.tell_map.new.writer) c.tell_map.result) (sym c.in-Map.is)
+    (subst (λ (form : MapForm). DoesMap form (g.W.Write.contents c.args.writer.now) (g.W.Write.contents c.tell_map.new.writer) c.tell_map.result) c.map_form.ensures c.tell_map.ensures)
 
 pub returns-in-Undelete : goal.returns-in-Undelete
 returns-in-Undelete g c =

@@ -1,5 +1,6 @@
-use Rattle.ados_mend.proofs.Common.{◌≡◌, ◌++◌, take, flat_map, meaning_line}
-use Rattle.ados_mend.proofs.block_map.push_meanings.Given as goal
+use Rattle.adf_where.proofs.Common.{◌≡◌, ◌++◌, take, flat_map}
+use Rattle.adf_where.specs.BlockMap.{meaning_line}
+use Rattle.adf_where.proofs.map_lines.push_meanings.Given as goal
 
 -- the lines of the kinds before this one
 abbrev pub invariant-loop-kind : goal.invariant-loop-kind

@@ -1,7 +1,7 @@
-use Rattle.ados_mend.proofs.Common.{◌≡◌, ◌++◌, length}
-use Rattle.ados_mend.specs.BlockMap.{cell}
-use Rattle.ados_mend.proofs.Numbered.{rest_from}
-use Rattle.ados_mend.proofs.block_map.push_lines.Given as goal
+use Rattle.adf_where.proofs.Common.{◌≡◌, ◌++◌, length}
+use Rattle.adf_where.specs.BlockMap.{cell}
+use Rattle.adf_where.proofs.Numbered.{rest_from}
+use Rattle.adf_where.proofs.map_lines.push_track_lines.Given as goal
 
 -- the letters before this one, and the others behind them, are the whole text
 abbrev pub invariant-loop-place : goal.invariant-loop-place

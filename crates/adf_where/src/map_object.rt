@@ -1,12 +1,14 @@
-//! The map of a volume as a JSON object.
+//! The map of an image as a JSON object.
 ghost use Rattle.std.specs.Prelude.{◌≡◌, ◌++◌, ◌∷◌, [], IfOk, OnOk, codes, flat_map};
 ghost use Rattle.std.specs.List.{enumerate_from};
 ghost use Rattle.json.specs.Print.{print};
 ghost use Rattle.adf_text.specs.Letters.{letters};
 ghost use Rattle.adf_record.specs.Members.{number_token};
-ghost use Rattle.ados_mend.specs.BlockMap.{header, header_tokens, object_tokens};
+ghost use Rattle.adf_where.specs.BlockMap.{header, header_tokens, object_tokens};
+ghost use Rattle.adf_where.specs.FaultyMap.{faulty_map_tokens};
 
-use adf_record::put_text;
+use crate::refused::{FaultReason, begin_refused, end_refused, put_fault_reason};
+use adf_record::{put_flag, put_text};
 use adf_text::letter_text;
 use ados_volume::Owner;
 use json::Writer;
@@ -26,6 +28,23 @@ pub(crate) fn map_object(
     let mut text = writer.into_inner();
     text.push(b'\n')?;
     Ok(text)
+}
+
+/// The object of a refused image whose blocks have these letters, on a line of its own.
+pub(crate) fn faulty_map_object(
+    alloc: Global,
+    reason: FaultReason,
+    more: bool,
+    marks: &[u8],
+) -> Result<Vec<u8>, AllocError>
+    ensures { IfOk result (λ text. text.items ≡ print (faulty_map_tokens reason.kind.now reason.block more (letters marks.now)) ++ codes "\n") }
+{
+    let marks = letter_text(alloc, marks)?;
+    let mut writer = begin_refused(alloc)?;
+    put_fault_reason(&mut writer, reason)?;
+    put_text(&mut writer, "map", Some(marks.as_str()))?;
+    put_flag(&mut writer, "more", more)?;
+    end_refused(writer)
 }
 
 /// Writes the object.

@@ -1,7 +1,9 @@
-use Rattle.ados_mend.proofs.Common.{List, [], ◌∷◌, ◌++◌, codes, flat_map, enumerate_from, on_ok_weaker, header_tokens}
+use Rattle.std.specs.List.{enumerate_from}
+use Rattle.adf_where.proofs.Common.{List, [], ◌∷◌, ◌++◌, codes, flat_map, on_ok_weaker}
+use Rattle.adf_where.specs.BlockMap.{header_tokens}
 use Rattle.json.specs.Token.{Token, begin_array, begin_object, end_array, end_object, key, string}
 use Rattle.adf_record.proofs.Tokens.{behind}
-use Rattle.ados_mend.proofs.map_object.put_object.Goals as goal
+use Rattle.adf_where.proofs.map_object.put_object.Goals as goal
 
 pub returns-clause-tokens : goal.returns-clause-tokens
 returns-clause-tokens c =

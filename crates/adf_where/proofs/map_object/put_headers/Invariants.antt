@@ -1,6 +1,7 @@
-use Rattle.ados_mend.proofs.Common.{◌≡◌, ◌++◌, header_tokens}
-use Rattle.ados_mend.proofs.Numbered.{rest_from}
-use Rattle.ados_mend.proofs.map_object.put_headers.Given as goal
+use Rattle.adf_where.proofs.Common.{◌≡◌, ◌++◌}
+use Rattle.adf_where.specs.BlockMap.{header_tokens}
+use Rattle.adf_where.proofs.Numbered.{rest_from}
+use Rattle.adf_where.proofs.map_object.put_headers.Given as goal
 
 -- the headers before this one, and the others behind them, are all
 abbrev pub invariant-loop-block : goal.invariant-loop-block
