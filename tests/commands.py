@@ -1804,11 +1804,18 @@ def refused_output(tried: Commands) -> None:
     }
     for words in ("info ffs.adf", "check ffs.adf", "list ffs.adf", "boot --show ffs.adf", "check kind.adf", "serve --out full.adf ffs.adf write"):
         for name, before in outputs.items():
-            tried.report.check(f"{words} {name}", tried.run(*words.split(), before=before), 2, b"", UNWRITTEN)
+            ran = tried.run(*words.split(), before=before)
+            # (a reader that has seen enough, as `head`, needs no text)
+            wanted = (2, b"", "nobody reads" not in name)
+            tried.report.same(f"{words} {name}", (ran.status, ran.output, UNWRITTEN in ran.texts.decode()), wanted)
+    for words in ("list ffs.adf", "map ffs.adf"):
+        tried.report.check(f"{words}: no text for who reads no more", tried.run(*words.split(), before=outputs["into a pipe that nobody reads"]), 2)
     entry = "Volume Work\n       1 ---rwed 1978-01-01 00:00:00.00 f\n"
     tried.rows(row("the image is written where output is refused", "list full.adf", 0, entry))
     ran = tried.run(input=b"diskinfo\n", before=outputs["onto a full device"])
     tried.report.check("a script onto a full device", ran, 2, b"", UNWRITTEN)
+    ran = tried.run(input=b"diskinfo\n", before=outputs["into a pipe that nobody reads"])
+    tried.report.check("a script into a pipe that nobody reads", ran, 2)
     ran = tried.run(before=partial(os.close, 0))
     tried.report.check("a script from a closed input", ran, 2, b"", "standard input cannot be read")
     os.close(full)

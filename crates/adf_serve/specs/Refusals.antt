@@ -1,5 +1,5 @@
 -- The output for a refused image, and for a refusal by AmigaDOS.
-use Rattle.std.specs.Prelude.{◌≡◌, ◌⊎◌, ℕ, List, ◌++◌, length, codes, decimal, Option, Some, None}
+use Rattle.std.specs.Prelude.{◌≡◌, ◌⊎◌, ℕ, List, ◌++◌, length, codes, decimal, false, Option, Some, None}
 use Rattle.std.specs.String.{string_bytes}
 use Rattle.adf_block.specs.Size.{IsSizeFault}
 use Rattle.adf_block.specs.declared.volume_size.SizeFault.{SizeFault}
@@ -7,6 +7,7 @@ use Rattle.ados_model.specs.Packet.{error_number}
 use Rattle.ados_model.specs.Faults.{Shows}
 use Rattle.ados_model.specs.declared.fault.FaultKind.{FaultKind}
 use Rattle.adf_script.specs.Text.{line, spaced}
+use Rattle.adf_text.specs.Plain.{plain}
 use Rattle.adf_archive.specs.Words.{kind_word, size_word}
 use Rattle.adf_serve.specs.declared.fault.CommandFault.{CommandFault}
 use Rattle.adf_serve.specs.declared.fault.CommandFault.TheVariants.{Refused, Dos}
@@ -32,9 +33,9 @@ IsImageRefusal image text = (kind : FaultKind) × (block : ℕ) × Shows image k
 abbrev pub IsRefusalText : List ℕ → List ℕ → Type 0
 IsRefusalText bytes text = IsSizeRefusal bytes text ⊎ IsImageRefusal bytes text
 
--- `refused NUMBER PATH`
+-- `refused NUMBER PATH`, with the control characters of the path as escapes
 abbrev pub dos_line : DosRefusal → List ℕ
-dos_line refusal = line (codes "refused " ++ decimal (error_number refusal.refused.error) ++ spaced (string_bytes refusal.refused.path))
+dos_line refusal = line (codes "refused " ++ decimal (error_number refusal.refused.error) ++ spaced (plain false (string_bytes refusal.refused.path)))
 
 -- the line for some refusal by AmigaDOS
 abbrev pub IsDosText : List ℕ → Type 0

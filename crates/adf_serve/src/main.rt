@@ -11,6 +11,7 @@ mod explaining;
 mod fault;
 mod images;
 mod jobs;
+mod outlet;
 mod output;
 mod refusal;
 mod screen;
@@ -43,6 +44,7 @@ pub use ados_run::{
 };
 pub use fault::CommandFault;
 pub use jobs::run_job;
+pub use outlet::{Outlet, SeesReader};
 pub use output::end_job;
 pub use refusal::{Detail, DosRefusal, Refusal, Room};
 pub use screen::Screen;
@@ -52,7 +54,8 @@ pub use words::{run_words, tell_wrong_words};
 
 fn main(rt: HostRuntime) -> ExitCode {
     let alloc = rt.alloc();
-    let (mut reader, mut writer, mut faults) = (rt.stdin(), rt.stdout(), rt.stderr());
+    let (mut reader, mut faults) = (rt.stdin(), rt.stderr());
+    let mut writer = Outlet::new(rt.stdout());
     let status = match given_words(&rt, alloc) {
         Ok(words) => run_words(
             &rt,

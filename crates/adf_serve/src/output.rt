@@ -8,6 +8,7 @@ ghost use Rattle.adf_serve.specs.Faults.{IsNoRefusal};
 ghost use Rattle.adf_serve.specs.declared.fault.CommandFault.TheVariants.{Output};
 
 use crate::fault::CommandFault;
+use crate::outlet::SeesReader;
 use adf_archive::ReadImages;
 use adf_io::write_output;
 use adf_text::print_line;
@@ -30,8 +31,8 @@ pub(crate) fn tell<'a, W: Write>(writer: &mut W, text: &[u8]) -> Result<(), Comm
 }
 
 /// Ends a job on an image file. Prints the line of a refusal on the writer, and why the image is refused and any other fault on
-/// `faults`. Returns the exit status.
-pub fn end_job<R: Files + ReadImages, W: Write, F: Write>(
+/// `faults`, but nothing if the output is a pipe that nobody reads any more. Returns the exit status.
+pub fn end_job<R: Files + ReadImages, W: Write + SeesReader, F: Write>(
     rt: &R,
     alloc: Global,
     job: &ImageJob<'_>,
@@ -49,7 +50,10 @@ pub fn end_job<R: Files + ReadImages, W: Write, F: Write>(
         refusal.explain(rt, alloc, file, faults);
     }
     let last = refuse(alloc, fault, writer);
-    tell_fault(&last, faults);
+    let is_cut = matches!(&last, CommandFault::Output) && writer.has_lost_reader();
+    if !is_cut {
+        tell_fault(&last, faults);
+    }
     last.status()
 }
 
@@ -59,7 +63,7 @@ fn refuse<'a, W: Write>(alloc: Global, fault: CommandFault<'a>, writer: &mut W) 
 {
     match fault.line(alloc) {
         Ok(None) => fault,
-        Ok(Some(line)) => match tell(writer, line.as_bytes()) {
+        Ok(Some(line)) => match tell(writer, &line) {
             Ok(()) => fault,
             Err(other) => other,
         },

@@ -9,6 +9,7 @@ use adf_archive::{ReadImages, explain_refused, kind_word, size_word};
 use adf_block::SizeFault;
 use adf_import::NameWhy;
 use adf_record::Grouped;
+use adf_text::push_plain;
 use adf_words::{ImageFile, Refused};
 use ados_volume::{FaultKind, VolumeFault};
 use std::alloc::{AllocError, Global};
@@ -107,12 +108,15 @@ pub struct Room {
 }
 
 impl DosRefusal {
-    /// Its line on standard output.
-    pub(crate) fn line(&self, alloc: Global) -> Result<String, AllocError>
-        ensures { IfOk result (λ line. string_bytes line ≡ dos_line self.now) }
+    /// Its line on standard output, with escapes for the control characters of the path.
+    pub(crate) fn line(&self, alloc: Global) -> Result<Vec<u8>, AllocError>
+        ensures { IfOk result (λ line. line.items ≡ dos_line self.now) }
     {
         let number = self.refused.error.number();
-        let line = format!(in alloc; "refused {number} {}\n", self.refused.path.as_str())?;
+        let front = format!(in alloc; "refused {number} ")?;
+        let mut line = Vec::from_slice(alloc, front.as_bytes())?;
+        push_plain(&mut line, self.refused.path.as_str())?;
+        line.push(b'\n')?;
         Ok(line)
     }
 }
