@@ -41,6 +41,7 @@ pub(crate) fn validate_job<'a>(arguments: &Arguments<'a, '_>) -> Result<ImageJob
     ensures { IfOk result (IsValidateOf (found_of arguments.now.words.now)) }
 {
     arguments.moment()?;
+    arguments.out_file()?;
     Ok(ImageJob::Validate {
         target: arguments.target()?,
         force: arguments.flag("force"),
