@@ -272,9 +272,9 @@ def stopped_at(
     ready, ends = "stops", time.monotonic() + longest
     front = ["strace", "-f", "-o", ready, "-e", f"trace={call.name}", "-e", f"inject={call.name}:signal=STOP:when={call.number}"]
     room.write(ready)
-    with open("lines", "w+b") as lines, open("texts", "w+b") as texts:
-        words = [*front, str(room.program), *words]
-        began = subprocess.Popen(words, stdin=subprocess.DEVNULL, stdout=lines, stderr=texts, start_new_session=True)
+    # (pipes, as where the calls were counted: of a file the program asks for the limit on its length)
+    words = [*front, str(room.program), *words]
+    with subprocess.Popen(words, stdin=subprocess.DEVNULL, stdout=subprocess.PIPE, stderr=subprocess.PIPE, start_new_session=True) as began:
         while began.poll() is None and b"stopped by SIGSTOP" not in room.content(ready) and time.monotonic() < ends:
             time.sleep(LOOK)
         fault = "it was not stopped" if began.poll() is not None or time.monotonic() > ends else None
@@ -287,7 +287,8 @@ def stopped_at(
         if began.poll() is None:
             os.killpg(began.pid, signal.SIGKILL)
             fault = "it did not go on"
-        ran = Ran(began.wait(), room.content("lines"), room.content("texts"))
+        output, texts = began.communicate()
+        ran = Ran(began.returncode, output, texts)
     os.remove(ready)
     return ran, fault and f"{fault}: {ran}"
 
@@ -1015,7 +1016,8 @@ def served_over(room: Shared) -> None:
     room.refresh()
     seen = [it for it in traced(room, words, ["statx", "newfstatat", "stat"]) if f'"{PLACE}"' in it.about]
     room.refresh()
-    ran, fault = stopped_at(room, words, seen[1], lambda: os.rename("theirs/other.adf", PLACE))
+    # (before that it is looked whether it is locked, and whether it is a file)
+    ran, fault = stopped_at(room, words, seen[2], lambda: os.rename("theirs/other.adf", PLACE))
     # (only the locked one has the file)
     room.report.hold("another file in the place of one that is read and written", fault or fault_of(ran, 2, b"1.1 1 0\n", "another file has taken its place"))
     room.report.same("that other file stays", room.content(PLACE), room.empty)
@@ -1124,16 +1126,17 @@ def random_names(room: Shared) -> None:
 def entries_like_leftovers(room: Shared) -> None:
     """Entries whose names are those of leftovers are taken out as any others, also over files that are there."""
     names = [".adf_serve-5.new", ".adf_serve-0.new", "z"]
+    # (beside the image the next change would remove them)
+    os.mkdir("entries")
     for it in names:
-        room.write(it, it.encode())
-        room.done("add", *MOMENT, "full.adf", it)
+        room.write(f"entries/{it}", it.encode())
+        room.done("add", *MOMENT, "full.adf", f"entries/{it}")
     for turn in ("new", "over files"):
         ran = room.run("extract", "--force", "--to", "theirs/out", "full.adf")
         found = {it: room.content(f"theirs/out/{it}") for it in names if os.path.exists(f"theirs/out/{it}")}
         room.report.expect(f"entries like leftovers, {turn}", (ran.status, found) == (0, {it: it.encode() for it in names}), (ran, found))
     room.write("full.adf", room.full)
-    for it in names:
-        os.remove(it)
+    shutil.rmtree("entries")
 
 
 def heeds_signals() -> None:
