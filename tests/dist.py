@@ -319,7 +319,7 @@ def packed(tried: Elsewhere) -> List[Path]:
 def lintian(report: Report, files: List[Path]) -> None:
     """lintian says nothing of the packages, and no package has an override."""
     if not shutil.which("lintian"):
-        report.lacks("what lintian says", "lintian")
+        report.lacks("what lintian says", "lintian (Debian: lintian)")
         return
     words = ["lintian", "--allow-root", "--no-cfg", "--show-overrides", "--tag-display-limit", "0", *map(str, files)]
     report.same("lintian says nothing", run(words, longest=None), Ran(0, b"", b""))
@@ -344,11 +344,15 @@ def put_in(report: Report, files: List[Path], root: Path) -> None:
 
 
 def alone(report: Report, root: Path) -> None:
-    """The program runs with the directory as its root, where no other package is, and makes a floppy."""
+    """The program runs with the directory as its root, where beside the packages only the C library is, and makes a floppy."""
     chroot = shutil.which("chroot", path=ROOT_PATH)
-    if os.geteuid() != 0 or not chroot:
-        report.skip("the program needs no other package", "this is not root, or there is no chroot")
+    if os.geteuid() != 0 or not chroot or not shutil.which("ldd"):
+        report.skip("the program needs no other package", "this is not root, or there is no chroot or ldd")
         return
+    # (each line has a name, a path and an address)
+    for it in re.findall(r"(/\S+) \(0x", run(["ldd", str(root / "usr/bin/adf_serve")]).output.decode()):
+        (root / it[1:]).parent.mkdir(parents=True, exist_ok=True)
+        shutil.copy(it, root / it[1:])
     for words, output in ((["blank", "Work", "/made.adf"], b""), (["check", "/made.adf"], b"ok\n")):
         report.check(f"without another package: {words[0]}", run([chroot, str(root), "/usr/bin/adf_serve", *words]), 0, output)
 
