@@ -924,13 +924,13 @@ OTHER_TOOLS = {
     "delete": "rm del remove erase mdel rmdir",
     "rename": "mv move mren",
     "protect": "chmod mattrib",
-    "date": "setdate touch",
+    "date": "setdate touch time",
     "comment": "filenote",
     "relabel": "label mlabel",
     "blank": "format create mformat mkfs",
     "boot --install": "install",
     "serve": "execute run",
-    "adf_mount": "mount",
+    "adf_mount": "mount mmount",
 }
 # The commands that change no image.
 HARMLESS = [it.name for it in commands() if it.group in ("Look", "TakeOut", "Serve")]
@@ -1006,16 +1006,12 @@ def versions(tried: Commands) -> None:
 
 
 def usage_lines(tried: Commands) -> None:
-    """A wrong command line is answered with the forms that are allowed, which are those of docs/COMMANDS.md."""
-    page = (TOP / "docs/COMMANDS.md").read_text(encoding="utf-8").replace("\\|", "|")
+    """A wrong command line is answered with the forms that are allowed."""
     for command in commands():
         ran = tried.run(command.name, "--none")
         shown = ran.texts.decode().partition("Usage: ")[2].partition("\n\n")[0]
         forms = [" ".join(it.split()) for it in re.split(r"\n(?= {7}adf_serve )", shown)]
         tried.report.same(f"the forms of {command.name}", forms, [f"adf_serve {it}" for it in command.forms])
-        for form in command.forms:
-            plain = form if command.name == "blank" else form.replace(" [--blocks N]", "")
-            tried.report.expect(f"docs/COMMANDS.md: {plain}", f"| `{plain}` |" in page, "it is not there")
         for one in command.options:
             beside = [it for it in command.excluded_by(one) if it.is_option()]
             together = [form for form in command.forms for it in beside if {f"--{one.name}", f"--{it.name}"} <= {*re.findall(r"--[a-z]+", form)}]

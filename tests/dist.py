@@ -2,7 +2,8 @@
 """Packs the archive of tools/dist.sh, unpacks it elsewhere, and tests its contents without the kit: the checksums, the lines of its
 INSTALL, the tours of README and QUICKSTART, the library with the first program of its page, the mount, the manual pages, the links
 of all pages, and the completions. Packs the Debian packages of tools/dist.sh too, tests them with lintian, installs them in an empty
-directory, and uses them there: the first hour of QUICKSTART runs with the installed program on the path.
+directory, and uses them there: the program runs with that directory as its root, and the first hour of QUICKSTART with the installed
+program on the path.
 
     tests/dist.py [ARCHIVE]     tests this archive instead of a new one, and no packages
 
@@ -11,6 +12,7 @@ are missing. It proves nothing.
 """
 from __future__ import annotations
 
+import gzip
 import os
 import re
 import shutil
@@ -27,7 +29,11 @@ from walk import FLOPPY, anchors_of, code_of, first_program, link_lines, links_o
 DIST = str(TOP / "tools" / "dist.sh")
 COMPILER = os.environ.get("CC") or "cc"
 BARE_PATH = "/usr/bin:/bin"
+# The path of root.
+ROOT_PATH = "/usr/sbin:/usr/bin:/sbin:/bin"
 PAGES = "share/doc/jiponuwha"
+# What a page for users of a package does not send them to: scripts and directories of the repository.
+OF_REPOSITORY = re.compile(r"(?<![\w/.-])(?:\./)?(?:tools|tests|bench|bindings|crates|examples)/|\./(?:test|prove|adf_serve|jip)\b")
 # Imports the package for Python and uses it, below the directory in the first argument.
 IMPORTS = """import importlib.metadata, sys
 import jiponuwha as jip
@@ -123,15 +129,31 @@ def files(tried: Elsewhere) -> None:
     report.expect("and the crates of the program and of the library", not lacking, lacking)
 
 
+def name_of(file: Path) -> str:
+    """The name of a program, or of the program that a page for `man` is about."""
+    return file.name.partition(".")[0]
+
+
 def manual(tried: Elsewhere) -> None:
-    """`man` shows each page without a warning."""
-    for page in sorted(it.name for it in (tried.dist / "bin").iterdir()):
-        file = tried.dist / f"share/man/man1/{page}.1.gz"
-        if shutil.which("man") and file.is_file():
-            ran = run(["man", "--warnings", "-l", str(file)])
-            tried.report.expect(f"the page {page}(1)", b"NAME" in ran.output and not ran.texts, ran)
-        else:
-            tried.report.expect(f"the page {page}(1) is there", file.is_file())
+    """Each program has a page. `man` shows each page without a warning, and mandoc finds no fault in it."""
+    folder = tried.dist / "share/man/man1"
+    programs, pages = ({name_of(it) for it in where.iterdir()} for where in (tried.dist / "bin", folder))
+    tried.report.same("each program has a page for man, and jip", pages, programs | {"jip"})
+    for it in sorted(folder.iterdir()) if shutil.which("man") else []:
+        ran = run(["man", "--warnings", "-l", str(it)])
+        tried.report.expect(f"man shows {it.name}", b"NAME" in ran.output and not ran.texts, ran)
+    if not shutil.which("man"):
+        tried.report.lacks("man shows each page", "man (Debian: man-db)")
+    linted(tried.report, folder)
+
+
+def linted(report: Report, folder: Path) -> None:
+    """mandoc finds no fault in a page of a directory."""
+    if not shutil.which("mandoc"):
+        report.lacks("mandoc of each page for man", "mandoc (Debian: mandoc)")
+        return
+    for it in sorted(folder.iterdir()):
+        report.same(f"mandoc of {it.name}", run(["mandoc", "-Tlint", str(it)]), Ran(0, b"", b""))
 
 
 def dead_links(top: Path) -> List[str]:
@@ -145,18 +167,38 @@ def dead_links(top: Path) -> List[str]:
     return found
 
 
-def links(report: Report, name: str, pages: Path, top: Path) -> None:
-    """Each link of each page below a directory leads to a page there, and the guides that the page for `man` names are there. The
-    README is that of the packages."""
+def strays(top: Path) -> List[str]:
+    """The code of pages below a directory, but of the log of changes, that is of the repository."""
+    pages = {it: it.read_text(encoding="utf-8") for it in sorted(top.rglob("*.md")) if it.name != "CHANGELOG.md"}
+    code = [(it, found) for it, text in pages.items() for found in re.findall(r"(?ms)^```.*?^```$|`[^`\n]+`", text)]
+    return [f"{it.relative_to(top)}: {found}" for it, found in code if OF_REPOSITORY.search(found)]
+
+
+def lost_pages(top: Path) -> List[str]:
+    """What the pages for `man` below a directory name and is not there: guides, and other pages. One is of another package, and
+    adf_mount is not packed everywhere."""
+    folder = top / "share/man/man1"
+    there = {*(it.name for it in (top / PAGES).iterdir()), *(f"{name_of(it)}(1)" for it in folder.iterdir()), "fusermount3(1)", "adf_mount(1)"}
+    found = []
+    for it in sorted(folder.iterdir()):
+        text = gzip.decompress(it.read_bytes()).decode()
+        named = [*re.findall(r"(?m)^\.Pa ([A-Z]+\.md)", text), *(f"{page}(1)" for page in re.findall(r"(?m)^\.Nm (\w+) Ns \(1\)", text))]
+        found += [f"{it.name}: {name}" for name in named or ["nothing"] if name not in there]
+    return found
+
+
+def links(report: Report, name: str, top: Path) -> None:
+    """Each link of each page below a directory leads to a page there, and so does what the pages for `man` name. No page sends its
+    reader to the repository. The README is that of the packages."""
     report.same(f"{name}: each link leads somewhere", dead_links(top), [])
-    told = re.findall(r"(?m)^\.Pa ([A-Z]+\.md)", (TOP / "docs/adf_serve.1").read_text(encoding="utf-8"))
-    report.expect(f"{name}: the guides of adf_serve(1)", bool(told) and all((pages / it).is_file() for it in told), told)
-    text = (pages / "README.md").read_text(encoding="utf-8")
-    report.expect(f"{name}: README is that of the packages", "./prove" not in text and "@" not in text, "it is not")
+    report.same(f"{name}: each page that one for man names is there", lost_pages(top), [])
+    report.same(f"{name}: no page is for users of the repository", strays(top), [])
+    text = (top / PAGES / "README.md").read_text(encoding="utf-8")
+    report.expect(f"{name}: README is that of the packages", text.startswith("# jiponuwha\n") and "@" not in text, "it is not")
 
 
 def pages_of_archive(tried: Elsewhere) -> None:
-    links(tried.report, "the archive", tried.dist / PAGES, tried.dist)
+    links(tried.report, "the archive", tried.dist)
 
 
 # ---- What is in it ----
@@ -277,7 +319,7 @@ def packed(tried: Elsewhere) -> List[Path]:
 def lintian(report: Report, files: List[Path]) -> None:
     """lintian says nothing of the packages, and no package has an override."""
     if not shutil.which("lintian"):
-        report.lacks("what lintian says", "lintian")
+        report.lacks("what lintian says", "lintian (Debian: lintian)")
         return
     words = ["lintian", "--allow-root", "--no-cfg", "--show-overrides", "--tag-display-limit", "0", *map(str, files)]
     report.same("lintian says nothing", run(words, longest=None), Ran(0, b"", b""))
@@ -295,10 +337,24 @@ def put_in(report: Report, files: List[Path], root: Path) -> None:
     (root / "var/lib/dpkg/status").touch()
     # (the empty directory has no C library, no Python and no fuse3)
     words = ["dpkg", f"--root={root}", "--force-depends", "--install", *map(str, files)]
-    ran = run(words, env={"PATH": "/usr/sbin:/usr/bin:/sbin:/bin"})
+    ran = run(words, env={"PATH": ROOT_PATH})
     report.expect("the packages are installed", ran.status == 0, ran)
     listed = run(["dpkg-query", f"--admindir={root}/var/lib/dpkg", "-W", "-f", "${db:Status-Status}\n"]).output.split()
     report.same("each package is installed", listed, [b"installed"] * len(files))
+
+
+def alone(report: Report, root: Path) -> None:
+    """The program runs with the directory as its root, where beside the packages only the C library is, and makes a floppy."""
+    chroot = shutil.which("chroot", path=ROOT_PATH)
+    if os.geteuid() != 0 or not chroot or not shutil.which("ldd"):
+        report.skip("the program needs no other package", "this is not root, or there is no chroot or ldd")
+        return
+    # (each line has a name, a path and an address)
+    for it in re.findall(r"(/\S+) \(0x", run(["ldd", str(root / "usr/bin/adf_serve")]).output.decode()):
+        (root / it[1:]).parent.mkdir(parents=True, exist_ok=True)
+        shutil.copy(it, root / it[1:])
+    for words, output in ((["blank", "Work", "/made.adf"], b""), (["check", "/made.adf"], b"ok\n")):
+        report.check(f"without another package: {words[0]}", run([chroot, str(root), "/usr/bin/adf_serve", *words]), 0, output)
 
 
 def taken_out(report: Report, files: List[Path], root: Path) -> None:
@@ -306,7 +362,7 @@ def taken_out(report: Report, files: List[Path], root: Path) -> None:
     if (root / "var/lib/dpkg").is_dir():
         names = [it.name.partition("_")[0] for it in files]
         words = ["dpkg", f"--root={root}", "--force-depends", "--purge", *names]
-        ran = run(words, env={"PATH": "/usr/sbin:/usr/bin:/sbin:/bin"})
+        ran = run(words, env={"PATH": ROOT_PATH})
         report.expect("the packages are removed", ran.status == 0, ran)
         report.same("nothing of them is left", [it for it in (root / "usr").rglob("*") if not it.is_dir()], [])
 
@@ -374,9 +430,8 @@ def packages(tried: Elsewhere) -> None:
         root = tried.top / "root"
         root.mkdir()
         put_in(tried.report, files, root)
-        links(tried.report, "the packages", root / "usr/share/doc/jiponuwha", root / "usr")
-        for it in sorted(root.glob("usr/share/man/man1/*.gz")) if shutil.which("mandoc") else []:
-            tried.report.same(f"the packages: mandoc about {it.name}", run(["mandoc", "-Tlint", str(it)]), Ran(0, b"", b""))
+        links(tried.report, "the packages", root / "usr")
+        alone(tried.report, root)
         beside = {it.name for it in files[0].parent.iterdir()} - {it.name for it in files}
         tried.report.same("INSTALL.md stands beside the packages", beside, {"INSTALL.md"})
         tried.report.ends("the installed program has the code of the proved one", partial(same_code, tried, root))

@@ -1,13 +1,18 @@
 #!/usr/bin/env python3
 """Tests that nothing of a damaged floppy is lost in silence: `extract --damaged` of the built program has a line for each file.
 
-    tests/sweep.py [PROGRAM] [--all] [--images N] [--seed S] [--page] [--jobs N] [--keep DIR]
+    tests/sweep.py [PROGRAM] [--all | --floppies N] [--images N] [--seed S] [--page] [--jobs N] [--keep DIR]
 
 The floppies are drawn in Python, in both formats. Each gets one damage: a flipped bit in a block of each role, a track of noise,
 a block of zeros, or no root. The expected account comes from the floppy as it was: each file has exactly one line, a file that was
 not hit is whole with its bytes, and the status is the one that `check` asks for. The blocks that are used and belong to nothing
-are those of tests/disk_model.py. Without `--all`, some of the damages are tried;
-they are the same in each run.
+are those of tests/disk_model.py. Other damages are only counted: the other kind of disk in the boot block, no boot blocks, a file
+that is cut short, and sectors that a copying program could not read.
+
+A table says how much is saved, for each damage and format: how many of a hundred bytes, of all files and of the blocks that are as
+they were, are written at their place; the same of `unadf`, if it is installed; how many files have no line; and how many are called
+whole with bytes that they did not have. Some 200 floppies are tried, with `--floppies` about N, and with `--all` every damage of six.
+They are the same in each run.
 
 Then come images that tests/fuzz.py damages at random, 100 or N. tests/disk_model.py says what `extract --damaged` has to print and
 to write, what `map` and `where` print of those that are accepted, and `where` of those that are refused. `--page` compares with the
@@ -33,6 +38,7 @@ from disk_model import NOW, PAGE, Account, Headers, Owners, Rules, rest_of, rest
 from drawn_volume import Drawer
 from fuzz import FEWEST, LARGEST, PER_BASE, Base, Damaged, a_chain, a_name, a_parent, a_pointer, a_size, base_of, damaged, told_of
 from harness import BLOCK, Image, Ran, Report, Room, host_name, in_memory, processors, program_of
+from tally import Tally, Whole, by_unadf, table, tally_of
 from where import Owned, Reading, page_of, placed_lines, places_of, words_of
 
 T = TypeVar("T")
@@ -49,6 +55,10 @@ NAME = range(108, 116)
 LINE = re.compile(r"(found )?(?:(whole|doubtful|lost|broken [0-9]+) )?(.+)")
 LETTERS = {"boot": "B", "root": "R", "bitmap": "M", "directory": "D", "file": "F", "extension": "X", "data": "#", "lost": "L", "free": "."}
 LAST = re.compile(r"(unaccounted|deleted) [1-9][0-9]*")
+# How many of a hundred bytes that are there have to be saved, of all floppies of a format.
+LEAST = {"OFS": 99.0, "FFS": 97.0}
+# Damages after which the program calls files whole with other bytes than they had, though the disk shows it.
+MISTAKEN = ("the other kind", "cut short")
 
 
 # ---- floppies
@@ -74,6 +84,9 @@ class Floppy(NamedTuple):
     parts: Dict[int, List[int]]
     own: Dict[int, Set[int]]
     roles: Dict[str, List[int]]
+
+    def kind(self) -> str:
+        return "OFS" if self.ofs else "FFS"
 
     def files(self) -> List[int]:
         return [it for it in self.paths if it in self.parts]
@@ -134,8 +147,11 @@ class Damage(NamedTuple):
     hit: Mapping[int, bytes]
     # Nothing leads to any entry.
     is_rootless: bool = False
+    # The file has only this many blocks.
+    left: int = FLOPPY
 
     def of(self, floppy: Floppy) -> Image:
+        """The image as it would be with all of its blocks."""
         image = Image(floppy.data)
         for block, data in self.hit.items():
             image.data[BLOCK * block : BLOCK * (block + 1)] = data
@@ -188,6 +204,31 @@ def rootless(floppy: Floppy) -> Iterator[Damage]:
     yield Damage("a bitmap block for the root", {root: floppy.data[BLOCK * page : BLOCK * (page + 1)]}, True)
 
 
+def other_kind(floppy: Floppy) -> Iterator[Damage]:
+    """The boot block has the other kind of disk."""
+    yield Flip(0, 0, 0).damage(floppy)
+
+
+def bootless(floppy: Floppy) -> Iterator[Damage]:
+    """The boot blocks, or the first of them, are gone."""
+    yield Damage("no boot blocks", {it: bytes(BLOCK) for it in (0, 1)})
+    yield Damage("noise for the first block", {0: random.Random("boot").randbytes(BLOCK)})
+
+
+def cuts(floppy: Floppy) -> Iterator[Damage]:
+    """The file ends after some block behind the root."""
+    for left in range(floppy.roles["root"][0] + 1, FLOPPY, 8):
+        yield Damage(f"cut after {left} blocks", {it: bytes(BLOCK) for it in range(left, FLOPPY)}, left=left)
+
+
+def bad_sectors(floppy: Floppy) -> Iterator[Damage]:
+    """Some data blocks have the filler of a copying program."""
+    filler = (b"-=[BAD SECTOR]=-" * 32)[:BLOCK]
+    blocks = sorted(it for parts in floppy.parts.values() for it in parts)
+    for first in range(0, len(blocks) - 4, 4):
+        yield Damage(f"bad sectors from block {blocks[first]}", {it: filler for it in blocks[first : first + 3]})
+
+
 # ---- the account
 
 
@@ -222,20 +263,19 @@ class Told:
         self.room, self.floppy, self.damage, self.image = room, floppy, damage, damage.of(floppy)
         # (a test that goes on after a fault may not find files of the one before)
         shutil.rmtree("out", ignore_errors=True)
-        room.write("image.adf", bytes(self.image.data))
-        checked = room.run("check", "image.adf")
-        ran = room.run("extract", "--damaged", "--to", "out", "image.adf")
-        wanted = 0 if checked.output.startswith(b"ok") else 3
-        assert (checked.status, ran.status) == (wanted, wanted), f"status {ran.status} where check has {checked}"
-        self.is_accepted = wanted == 0
-        self.ran = ran
-        self.lines = parsed(ran.output)
+        room.write("image.adf", bytes(self.image.data[: BLOCK * damage.left]))
+        front = [] if damage.left == FLOPPY else ["--blocks", str(FLOPPY)]
+        self.ran = room.run("extract", "--damaged", *front, "--to", "out", "image.adf")
+        self.lines = parsed(self.ran.output)
         self.by_name: Dict[str, List[Line]] = {}
         for it in self.lines:
             for name in it.names():
                 self.by_name.setdefault(name, []).append(it)
 
     def all(self) -> None:
+        checked = self.room.run("check", "image.adf")
+        wanted = 0 if checked.output.startswith(b"ok") else 3
+        assert (checked.status, self.ran.status) == (wanted, wanted), f"status {self.ran.status} where check has {checked}"
         for key in self.floppy.files():
             self.file(key)
         for key in self.floppy.roles["directory"]:
@@ -243,6 +283,22 @@ class Told:
         self.nothing_else()
         self.rest()
         self.written()
+
+    def tally(self) -> Tally:
+        """What is saved, by the floppy as it was."""
+        sound, files = Image(self.floppy.data), {}
+        for key in self.floppy.files():
+            kept = [self.image.data[BLOCK * it : BLOCK * (it + 1)] == sound.data[BLOCK * it : BLOCK * (it + 1)] for it in self.floppy.parts[key]]
+            files[key] = Whole(self.floppy.content(sound, key), kept)
+        lines = {key: self.lines_for(key) for key in files}
+        return tally_of(
+            files,
+            self.floppy.ofs,
+            (it.read_bytes() for it in Path("out").rglob("*") if it.is_file()),
+            {key: self.content(it) for key, mine in lines.items() for it in mine if it.state == "whole"},
+            {key for key, mine in lines.items() if mine},
+            by_unadf("image.adf"),
+        )
 
     def names(self, key: int) -> Set[str]:
         """The names that an entry may have in the account: its own, and if its header was hit that of the block."""
@@ -338,17 +394,24 @@ class Job(NamedTuple):
     damage: Damage
 
 
-def fault_of(bases: Sequence[Floppy], program: Path, kept: Optional[Path], job: Job) -> Optional[str]:
-    """What is wrong with the account of a damaged floppy, which is kept then."""
+# The floppies, in each process of a pool.
+BASES: List[Floppy] = []
+
+
+def tried(program: Path, kept: Optional[Path], job: Job) -> Tuple[Optional[str], Tally]:
+    """What is wrong with the account of a damaged floppy, which is kept then; and what is saved of it."""
+    floppy, tally = BASES[job.floppy], Tally()
     with Room(program, inside=in_memory()) as room:
-        floppy = bases[job.floppy]
         try:
-            Told(room, floppy, job.damage).all()
+            told = Told(room, floppy, job.damage)
+            tally = told.tally()
+            if job.title not in COUNTED:
+                told.all()
         except Exception as fault:
-            said = f"{job.damage.what} of {'OFS' if floppy.ofs else 'FFS'} floppy {job.floppy}: {str(fault)[:400] or repr(fault)}"
+            said = f"{job.damage.what} of {floppy.kind()} floppy {job.floppy}: {str(fault)[:400] or repr(fault)}"
             keep(kept, f"sweep-{job.floppy}-{job.damage.what.replace(' ', '-')}", bytes(job.damage.of(floppy).data), said)
-            return said
-    return None
+            return said, tally
+    return None, tally
 
 
 def keep(kept: Optional[Path], name: str, data: bytes, said: str) -> None:
@@ -363,31 +426,63 @@ def some(damages: Iterator[Damage], count: Optional[int], chance: random.Random)
     return every if count is None else chance.sample(every, min(count, len(every)))
 
 
-def jobs_of(bases: Sequence[Floppy], is_all: bool) -> List[Job]:
+# Kinds of damages: how many of them a floppy gets without options, and with `--floppies`.
+Damages = Callable[[Floppy], Iterator[Damage]]
+KINDS: List[Tuple[str, Damages, int, int]] = [
+    ("a track of noise", tracks, 12, 7),
+    ("a block of zeros", zeros, 25, 8),
+    ("no root", rootless, 5, 3),
+    ("the other kind", other_kind, 1, 1),
+    ("no boot blocks", bootless, 2, 1),
+    ("cut short", cuts, 6, 2),
+    ("bad sectors", bad_sectors, 6, 2),
+]
+# The kinds for which no account is expected.
+COUNTED = ("the other kind", "no boot blocks", "cut short", "bad sectors")
+# How many floppies with one damage each are made of a floppy of each format with `--floppies`.
+PER_PAIR = 81
+
+
+def jobs_of(bases: Sequence[Floppy], is_all: bool, is_many: bool) -> List[Job]:
     """The damages of each floppy: all of them, or some."""
     jobs: List[Job] = []
-    kinds: List[Tuple[str, Callable[[Floppy], Iterator[Damage]], int]] = [("a track of noise", tracks, 12), ("a block of zeros", zeros, 25), ("no root", rootless, 5)]
     for number, floppy in enumerate(bases):
         chance = random.Random(f"damages {number}")
-        jobs += [Job("a flipped bit", number, it) for it in flips(floppy, chance, 61 if is_all else 10)]
-        for title, damages, count in kinds:
+        jobs += [Job("a flipped bit", number, it) for it in flips(floppy, chance, 61 if is_all else 3 if is_many else 10)]
+        for title, damages, few, share in KINDS:
             # (zeros in each block of one floppy of each format are enough)
             if not is_all or title != "a block of zeros" or number in (0, len(bases) // 2):
-                jobs += [Job(title, number, it) for it in some(damages(floppy), None if is_all else count, chance)]
+                jobs += [Job(title, number, it) for it in some(damages(floppy), None if is_all else share if is_many else few, chance)]
     return jobs
 
 
-def swept(report: Report, program: Path, is_all: bool, most: int, kept: Optional[Path]) -> None:
+def swept(report: Report, program: Path, is_all: bool, many: int, most: int, kept: Optional[Path]) -> None:
     """Each title is one check, with the number of its floppies."""
-    count = 3 if is_all else 1
+    count = 3 if is_all else -(-many // PER_PAIR) or 1
     bases = [*floppies(True, count), *floppies(False, count)]
-    jobs = jobs_of(bases, is_all)
-    with Pool(most) as pool:
-        faults = pool.map(partial(fault_of, bases, program, kept), jobs, 8)
+    jobs = jobs_of(bases, is_all, many > 0)
+    with Pool(most, BASES.extend, (bases,)) as pool:
+        ended = pool.map(partial(tried, program, kept), jobs, 8)
     for title in dict.fromkeys(it.title for it in jobs):
-        mine = [fault for job, fault in zip(jobs, faults) if job.title == title]
+        mine = [fault for job, (fault, _) in zip(jobs, ended) if job.title == title]
         wrong = [it for it in mine if it]
         report.hold(f"{title}: {len(mine)} floppies", f"{len(wrong)}, as {'; '.join(wrong[:3])}" if wrong else None)
+    saved(report, [(job.title, bases[job.floppy].kind(), tally) for job, (_, tally) in zip(jobs, ended)])
+
+
+def saved(report: Report, tallies: Sequence[Tuple[str, str, Tally]]) -> None:
+    """Prints how much is saved, and compares it with what has to be."""
+    rows: Dict[str, Tally] = {}
+    for title, kind, tally in tallies:
+        for name in (f"{title}, {kind}", f"all, {kind}"):
+            rows[name] = rows.get(name, Tally()).plus(tally)
+    for line in table(dict(sorted(rows.items(), key=lambda it: it[0].startswith("all,")))):
+        print(line)
+    for kind, least in LEAST.items():
+        share = rows[f"all, {kind}"].share(rows[f"all, {kind}"].saved)
+        report.expect(f"{kind}: at least {least} % of the bytes that are there are saved", share >= least, f"{share:.3f} %")
+    blamed = {name: it.blamed for name, it in rows.items() if it.blamed and not name.startswith(("all, ", *MISTAKEN))}
+    report.same("no file is called whole with a wrong byte that a checksum or a pointer shows", blamed, {})
 
 
 # ---- images damaged at random, and the model
@@ -531,7 +626,9 @@ def compared(report: Report, program: Path, images: int, seed: str, rules: Rules
 def main(words: List[str]) -> int:
     parser = argparse.ArgumentParser(description="Tests the account of damaged floppies.")
     parser.add_argument("program", nargs="*", help="the program to test")
-    parser.add_argument("--all", action="store_true", help="all damages, not some of them")
+    which = parser.add_mutually_exclusive_group()
+    which.add_argument("--all", action="store_true", help="all damages, not some of them")
+    which.add_argument("--floppies", type=int, default=0, help="about so many floppies with one damage each, of many")
     parser.add_argument("--images", type=int, default=100, help="how many images damaged at random (default: 100)")
     parser.add_argument("--seed", default="sweep", help="selects these images")
     parser.add_argument("--page", action="store_true", help="compares with the pages alone")
@@ -540,7 +637,7 @@ def main(words: List[str]) -> int:
     given = parser.parse_args(words)
     program, report = program_of(given.program), Report()
     kept = given.keep and given.keep.absolute()
-    swept(report, program, given.all, given.jobs, kept)
+    swept(report, program, given.all, given.floppies, given.jobs, kept)
     compared(report, program, given.images, given.seed, PAGE if given.page else NOW, given.jobs, kept)
     return report.end()
 

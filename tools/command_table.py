@@ -1,5 +1,5 @@
 """Reads the table of commands of the program, crates/adf_words/src/table.rt, from which its help is made. The manual page and the
-completions are made from the same rows.
+completions are made from the same rows. Reads its table of other tools' words too.
 """
 from __future__ import annotations
 
@@ -9,6 +9,7 @@ from typing import Dict, Iterator, List, NamedTuple, Optional, Tuple, Union
 
 TABLE = Path(__file__).resolve().parent.parent / "crates/adf_words/src/table.rt"
 GROUPS = TABLE.with_name("group.rt")
+OTHER_WORDS = TABLE.with_name("other_words.rt")
 TOKEN = re.compile(r'"(?:[^"\\]|\\.)*"|[A-Za-z_][A-Za-z0-9_]*(?:::[A-Za-z_][A-Za-z0-9_]*)*|[&\[\]{}(),:]')
 Value = Union[str, bool, None, "Struct", List["Value"]]
 # What stands for a value of an option or for an argument.
@@ -129,6 +130,11 @@ def text_of(value: Value) -> str:
     return value
 
 
+def texts_of(value: Value) -> List[str]:
+    assert isinstance(value, list), value
+    return [text_of(it) for it in value]
+
+
 def name_of(value: Value) -> str:
     """The name of a variant without fields."""
     assert isinstance(value, Struct)
@@ -143,21 +149,26 @@ def rows_of(value: Value) -> List[Struct]:
 def argument(row: Struct) -> Argument:
     kind = row.fields["kind"]
     assert isinstance(kind, Struct)
-    value, default, excludes = kind.fields.get("value"), kind.fields.get("default"), kind.fields.get("excludes", [])
-    assert isinstance(excludes, list)
+    value, default = kind.fields.get("value"), kind.fields.get("default")
     return Argument(
         text_of(row.fields["name"]),
         kind.name,
         None if value is None else text_of(value),
         None if default is None else text_of(default),
         text_of(row.fields["help"]),
-        tuple(text_of(it) for it in excludes),
+        tuple(texts_of(kind.fields.get("excludes", []))),
     )
 
 
 def headings() -> Dict[str, str]:
     """The heading of each group of commands, in the order of the help."""
     return dict(re.findall(r'Group::(\w+) => "([^"]*)"', GROUPS.read_text(encoding="utf-8")))
+
+
+def other_words() -> List[Tuple[List[str], str]]:
+    """The words of other tools for one thing, with what does it here: the rows of their table, in its order."""
+    rows = rows_of(Reader(OTHER_WORDS.read_text(encoding="utf-8")).known["OTHER_WORDS"])
+    return [(texts_of(it.fields["words"]), text_of(it.fields["tip"])) for it in rows]
 
 
 def commands() -> List[Command]:

@@ -4,7 +4,8 @@
     tools/guides.py TO
 
 TO is a directory. A link to a page that is packed too leads to it there. Any other link becomes its text, with where the page is. A
-line `@HEADING@` stands for this section of README.md.
+line `@HEADING@` stands for this section of README.md. What stands between the comments `<!-- checkout -->` and `<!-- end -->` is for
+users of the repository alone, and is left out.
 """
 from __future__ import annotations
 
@@ -21,6 +22,7 @@ GUIDES = [
     "docs/package/README.md",
     *(f"docs/{it}.md" for it in ("QUICKSTART", "COMMANDS", "MESSAGES", "LIBRARY", "ARCHIVES", "SECURITY", "CHANGELOG")),
     "docs/report.png",
+    "docs/report-refused.png",
 ]
 ALIASES = {"README.md": "docs/package/README.md"}
 LINK = re.compile(r"(!?)\[([^\]]*)\]\(([^)\s]*)\)")
@@ -32,6 +34,9 @@ def section(heading: str) -> str:
     if not found:
         sys.exit(f"guides: README.md has no section '{heading}'")
     return f"## {heading}\n{rest.partition(chr(10) + '## ')[0]}".rstrip("\n")
+
+
+CHECKOUT = re.compile(r"(?ms)^<!-- checkout -->\n.*?^<!-- end -->\n+")
 
 
 def packed(page: str, among: Iterable[str]) -> str:
@@ -49,10 +54,12 @@ def packed(page: str, among: Iterable[str]) -> str:
             return f"{mark}[{text}]({os.path.basename(of) if path else ''}{'#' if anchor else ''}{anchor})"
         if of.endswith(".1"):
             return f"`man {Path(of).stem}`"
+        if mark:
+            sys.exit(f"guides: {page} shows {of}, which is not packed")
         return f"{text} {'of the package jiponuwha' if of in GUIDES else 'of the repository'}"
 
     texts, base = [], folder
-    for part in re.split(r"(?m)(^@[^@\n]+@\n)", (TOP / page).read_text(encoding="utf-8")):
+    for part in re.split(r"(?m)(^@[^@\n]+@\n)", CHECKOUT.sub("", (TOP / page).read_text(encoding="utf-8"))):
         inserted = re.fullmatch(r"@([^@]+)@\n", part)
         # (the links of a section of README.md are from the top of the repository)
         base = "" if inserted else folder

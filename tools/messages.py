@@ -209,8 +209,8 @@ def page() -> Iterator[str]:
     yield ""
     yield "For people who see a message and look for its meaning: every text that `adf_serve` prints on standard error."
     yield ""
-    yield "`tools/messages.py` makes this page from the sources. A name in `{}` stands for what the program puts there. The status is"
-    yield "the exit status that follows; without one the command goes on."
+    yield "This page is made from the program's sources. A name in `{}` stands for what the program puts there. The status is the exit"
+    yield "status that follows; without one the command goes on."
     had: Dict[str, str] = {}
     for part in PARTS:
         rows = []
