@@ -43,7 +43,7 @@ pub enum NotPut {
 /// the directory of a new file, and the disk date, become `moment`.
 ///
 /// Errors: 203 if an entry has the name, with `force` those of [`replace_file`]; 221 if the file needs more blocks than are
-/// free. It allocates no memory. [`place`](ados_volume::place) has the errors of a path that names no place: 204, 205, 210
+/// free. It needs no memory. [`place`](ados_volume::place) has the errors of a path that names no place: 204, 205, 210
 /// and 212.
 pub fn put_file(
     volume: &mut Volume,
@@ -85,7 +85,7 @@ pub fn put_file(
 /// becomes `moment`.
 ///
 /// Errors: 212 for a directory; 222 and 223 if a protection bit denies deletion or writing; 221 if it needs more
-/// additional blocks than are free. It allocates no memory.
+/// additional blocks than are free. It needs no memory.
 pub fn replace_file(
     volume: &mut Volume,
     key: u32,

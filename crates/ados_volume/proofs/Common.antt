@@ -51,7 +51,7 @@ pub use Rattle.ados_volume.specs.declared.cache.Sought.{Sought}
 pub use Rattle.ados_volume.specs.declared.owner.Owner.{Owner}
 pub use Rattle.ados_volume.specs.declared.owner.Owner.TheVariants.{Boot, Data, Extension, Free, Lost, Page}
 pub use Rattle.ados_volume.specs.steps.BlankParts.{HasBlankFields, IsBetweenFields, IsBlankRoot, NamesBlank}
-pub use Rattle.ados_volume.specs.steps.Cache.{Adds, AddsNone, AreChildren, Forgets, HasPair, Seeks, TakesOut}
+pub use Rattle.ados_volume.specs.steps.Cache.{Adds, AreChildren, AreWhole, Enters, Forgets, HasPair, IsWhole, Keeps, Seeks, TakesOut}
 pub use Rattle.ados_volume.specs.steps.Listed.{AreListed, IsListed}
 pub use Rattle.ados_volume.specs.steps.Owning.{AreKnownIn, AreKnownOwners, IsByBit, IsLeft, IsNextPlace, LeavesLess, LeavesNoPage, LeavesNone, LeavesNoneOf, LeavesNonePointed}
 pub use Rattle.ados_volume.specs.steps.Places.{AreKnown, Drops, IsKnown}
@@ -67,6 +67,8 @@ pub use Rattle.std.proofs.lemmas.Option.{get_or_from_slice_get, none-some, same_
 pub use Rattle.std.proofs.lemmas.Slice.Eq.{bytes_eq-Decides}
 unfoldable pub use Rattle.std.specs.List.{IsDistinct}
 pub use Rattle.std.specs.List.{AllByRecursion, list_any}
+pub use Rattle.std.specs.BTreeMap.{BTreeMap}
+pub use Rattle.std.specs.BTreeSet.{BTreeSet}
 pub use Rattle.std.specs.Map.{keys_of, lookup, remove_entry}
 pub use Rattle.std.specs.Option.{option_map_or}
 pub use Rattle.std.specs.Prelude.{IsSome, IsTrue, find, max, ok_or, option_and_then, slice_get}

@@ -13,6 +13,7 @@ pub mod Examining
 pub mod Pairs
 pub mod Cached
 pub mod Children
+pub mod Holding
 pub mod Refilled
 pub mod Moved
 pub mod Kept

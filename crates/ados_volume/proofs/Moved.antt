@@ -1,8 +1,9 @@
 -- Cached children after an entry is made, removed or moved.
-use Rattle.ados_volume.proofs.Common.{Contains, Contains-nil, Content, Date3, Directory, IsSome, List, Node, None, Option, Proper, Same, Some, Stands, Tree, [], ap, cases_eq, changed, child_of, content_at, content_in, directory_in, enter, entered, entries, entries_in, entry_node, filter, inl, inr, is_some, left, listed, made, name_in, name_of, new_node, not, option_map, option_map_or, parent_in, parent_of, refl, removed, renamed, slot, subst, sym, with_node, ℕ, ◌==◌, ◌∙◌, ◌≡◌, ◌≢◌}
-use Rattle.ados_change.proofs.Changed.{nodes_other, changed_keeps, listed_names, listed_here, listed_other}
-use Rattle.ados_change.proofs.Entering.{Contains-enter_kept, Contains-stays}
+use Rattle.ados_volume.proofs.Common.{Contains, Contains-nil, Content, Date3, Directory, IsSome, List, Node, None, Option, Proper, Same, Some, Stands, Tree, [], ap, cases_eq, changed, child_of, content_at, content_in, directory_in, enter, entered, entries, entries_in, entry_node, filter, inl, inr, is_some, left, listed, made, map, name_in, name_of, new_node, not, option_map, option_map_or, parent_in, parent_of, refl, removed, renamed, slot, subst, sym, upper, with_node, ℕ, ◌==◌, ◌∙◌, ◌≡◌, ◌≢◌, ◌⊎◌}
+use Rattle.ados_change.proofs.Changed.{nodes_here, nodes_other, changed_keeps, listed_names, listed_here, listed_other}
+use Rattle.ados_change.proofs.Entering.{Contains-enter, Contains-enter_kept, Contains-entered, Contains-stays}
 use Rattle.ados_volume.proofs.Children.{Stays, AllStay, child_there}
+use Rattle.ados_volume.proofs.Looking.{is_child}
 
 stays_on : (t u v : Tree) (dir k : ℕ) → Stays t u dir k → Stays u v dir k → Stays t v dir k
 stays_on t u v dir k first second c = let a = first c in let b = second a.0 in (b.0, b.1 ∙ a.1)
@@ -70,6 +71,66 @@ made_stay t proper moment at key name content unused dir k c =
 
     not_dir : dir ≢ key
     not_dir e = Contains-nil k (subst (λ (o : Option Node). Contains (entries_in (option_map (λ node. node.content) o)) k) (ap t.nodes e ∙ unused) c)
+
+-- a new entry without entries
+module _ (t : Tree) (proper : Proper t) (moment : Date3) (at key : ℕ) (name : List ℕ) (content : Content) (unused : t.nodes key ≡ None) (empty : entries_in (Some content) ≡ []) (directory : (keys : List ℕ) × (content_at t at ≡ Some (Directory keys))) where
+  abbrev begun : Tree
+  begun = with_node key (Some (new_node moment at name content)) t
+
+  abbrev with_new : Tree
+  with_new = made moment at key name content t
+
+  abbrev before : List ℕ
+  before = entries begun at
+
+  abbrev new_list : List ℕ
+  new_list = enter (λ j. slot (name_of begun j)) key before
+
+  no_entry : (d k : ℕ) → Contains (entries t d) k → k ≢ key
+  no_entry d k c e =
+      let a = entry_node t proper d k c in
+      let both : Some a.0 ≡ None = sym a.1 ∙ ap t.nodes e ∙ unused in
+      absurd (cc both)
+
+  begun_at : (a : Node) × (begun.nodes at ≡ Some a)
+  begun_at =
+      let a = content_in (t.nodes at) (Directory directory.0) directory.1 in
+      (a.0, nodes_other key (Some (new_node moment at name content)) t at (λ e. (let both : Some a.0 ≡ None = sym a.1 ∙ ap t.nodes e ∙ unused in absurd (cc both))) ∙ a.1)
+
+  entries_before : (d k : ℕ) → Contains (entries begun d) k → Contains (entries t d) k
+  entries_before d k c = elim (cases_eq d key) [
+    | inl e ↦
+        let none : entries begun d ≡ [] = ap (entries begun) e ∙ ap (λ (o : Option Node). entries_in (option_map (λ node. node.content) o)) (nodes_here key (Some (new_node moment at name content)) t) ∙ empty in
+        absurd (Contains-nil k (subst (λ (keys : List ℕ). Contains keys k) none c))
+    | inr n ↦ subst (λ (o : Option Node). Contains (entries_in (option_map (λ node. node.content) o)) k) (nodes_other key (Some (new_node moment at name content)) t d n) c
+  ]
+
+  new_name : name_of with_new key ≡ name
+  new_name = listed_names moment at new_list begun key ∙ ap name_in (nodes_here key (Some (new_node moment at name content)) t)
+
+  stays_back : (d k : ℕ) → Contains (entries begun d) k → Stays with_new t d k
+  stays_back d k c later =
+      let was = entries_before d k c in
+      (was, sym (listed_names moment at new_list begun k ∙ ap name_in (nodes_other key (Some (new_node moment at name content)) t k (no_entry d k was))))
+
+  -- each entry was one, or is the new one
+  pub made_from : (d k : ℕ) → Contains (entries with_new d) k → Stays with_new t d k ⊎ ((d ≡ at) × (k ≡ key) × (name_of with_new k ≡ name))
+  made_from d k c = elim (cases_eq d at) [
+    | inr n ↦ inl (stays_back d k (subst (λ (keys : List ℕ). Contains keys k) (listed_other moment at new_list begun d n) c))
+    | inl e ↦
+        let there : Contains new_list k = subst (λ (keys : List ℕ). Contains keys k) (ap (entries with_new) e ∙ listed_here moment at new_list begun begun_at.0 begun_at.1) c in
+        elim (Contains-enter (λ j. slot (name_of begun j)) key before k there) [
+          | inl same ↦ inr (e, sym same, ap (name_of with_new) (sym same) ∙ new_name)
+          | inr was ↦ inl (stays_back d k (subst (λ (i : ℕ). Contains (entries begun i) k) (sym e) was))
+        ]
+  ]
+
+  -- the new one has the name in its directory
+  pub made_child : (image : List ℕ) → Stands image with_new → child_of with_new at name ≡ Some key
+  made_child image r =
+      is_child image with_new r at key name
+      (subst (λ (keys : List ℕ). Contains keys key) (sym (listed_here moment at new_list begun begun_at.0 begun_at.1)) (Contains-entered (λ j. slot (name_of begun j)) key before))
+      (ap (map upper) new_name)
 
 pub removed_stays : (t : Tree) (moment : Date3) (key : ℕ) → entries t key ≡ [] → (dir k : ℕ) → k ≢ key → Stays t (removed moment key t) dir k
 removed_stays t moment key empty dir k n c =

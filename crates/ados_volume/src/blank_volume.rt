@@ -39,7 +39,7 @@ pub fn blank(
     ensures image { IfOk result (λ volume. IsBlank format blocks name moment volume.image) }
     ensures validated { IfOk result (λ volume. volume.was_validated ≡ false) }
 {
-    let names = NameCache::new(alloc)?;
+    let names = NameCache::new(alloc);
     let places = PlaceCache::new(alloc)?;
     let told = ToldCache::new(alloc)?;
     let image = blank_image(alloc, format, blocks, &name, moment)?;

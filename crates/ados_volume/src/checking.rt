@@ -19,11 +19,7 @@ use std::alloc::Global;
 pub fn check(alloc: Global, image: Image) -> Result<Volume, Rejected>
     ensures { Checks image result }
 {
-    let (Ok(names), Ok(places), Ok(told)) = (
-        NameCache::new(alloc),
-        PlaceCache::new(alloc),
-        ToldCache::new(alloc),
-    ) else {
+    let (Ok(places), Ok(told)) = (PlaceCache::new(alloc), ToldCache::new(alloc)) else {
         return Err(Rejected {
             image,
             fault: VolumeFault {
@@ -33,5 +29,6 @@ pub fn check(alloc: Global, image: Image) -> Result<Volume, Rejected>
         });
     };
     let accepted = check_image(alloc, image)?;
+    let names = NameCache::new(alloc);
     Ok(Volume::standing(accepted.image, accepted.was_validated, names, places, told))
 }

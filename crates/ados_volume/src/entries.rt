@@ -43,6 +43,7 @@ impl Volume {
     {
         self.places.clear();
         let key = create(&mut self.image, dir, &name, kind, moment, self.free_from)?;
+        self.names.enter(dir, &name, key);
         self.free_from = key;
         Ok(key)
     }
@@ -83,14 +84,17 @@ impl Volume {
     }
 }
 
-/// Removes an object from the cache of names, and clears the cache of listed entries.
+/// Removes an object from the cache of names, whose hash slots do not count as whole any more, and clears the cache of
+/// listed entries.
 fn forget(names: &mut NameCache, told: &mut ToldCache, image: &Image, key: u32)
     requires tree { HasTree image.now }
     requires key { HasKey image.now key }
-    ensures names { Forgets image.now key names.old.pairs.entries names.new.pairs.entries }
+    ensures names { Forgets image.now key names.old.pairs names.new.pairs }
+    ensures whole { names.new.whole.keys ≡ [] }
     ensures told { told.new.entries.entries ≡ [] }
 {
     told.clear();
+    names.forget_whole();
     if let Some(dir) = parent_in(image, key) {
         names.take_out(dir, &name_in(image, key));
     }

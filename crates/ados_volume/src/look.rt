@@ -28,7 +28,8 @@ impl Volume {
         self.image().root()
     }
 
-    /// The entry of a directory with the same name, a to z in upper case. Entries found recently come from a cache.
+    /// The entry of a directory with the same name, a to z in upper case. Only the first call for a hash slot searches
+    /// its chain: the entries of the slot are then cached, as long as memory suffices and no entry is removed or moved.
     pub fn child(&mut self, dir: u32, name: &Name) -> Option<u32>
         requires { HasDirectory self.old.image dir }
         ensures child { (t : Tree) → Stands self.old.image t → result ≡ child_of t dir name.now }
@@ -37,11 +38,13 @@ impl Volume {
         if let Some(key) = self.names.get(dir, name) {
             return Some(key);
         }
-        let found = child_in(&self.image, dir, name);
-        if let Some(key) = found {
-            self.names.put(dir, name, key);
+        let slot = name.slot();
+        if self.names.is_whole(dir, slot) {
+            same_name_same_slot();
+            return None;
         }
-        found
+        self.names.hold(&self.image, dir, slot);
+        child_in(&self.image, dir, name)
     }
 
     /// Whether the object of a key is a file. Otherwise it is a directory.

@@ -34,8 +34,8 @@ impl Model for Volume {
 
     ghost view = { λ volume. record { image = volume.image; was_validated = volume.was_validated } };
 
-    ghost invariant = { λ volume. IsSoundVolume volume.image volume.names.pairs.entries volume.told.entries.entries
-        volume.places.places.entries volume.free_from };
+    ghost invariant = { λ volume. IsSoundVolume volume.image volume.names.pairs volume.names.whole
+        volume.told.entries.entries volume.places.places.entries volume.free_from };
 }
 
 impl Volume {
@@ -49,6 +49,7 @@ impl Volume {
     ) -> Volume
         requires stands { (t : Tree) × Stands image t }
         requires no_names { names.pairs.entries ≡ [] }
+        requires no_slots { names.whole.keys ≡ [] }
         requires no_places { places.places.entries ≡ [] }
         requires no_entries { told.entries.entries ≡ [] }
         ensures image { result.image ≡ image }

@@ -8,7 +8,8 @@ standing-requires c = record {
     blank_tree c.args.format c.args.blocks c.args.name c.args.moment,
     blank_stands c.args.format c.args.blocks c.args.name c.args.moment c.in_ok-image.image c.in_ok-image.ensures.name c.in_ok-image.ensures.image,
   );
-  no_names = c.in_ok-names.ensures;
+  no_names = c.new-names.ensures.pairs;
+  no_slots = c.new-names.ensures.whole;
   no_places = c.in_ok-places.ensures;
   no_entries = c.in_ok-told.ensures;
 }

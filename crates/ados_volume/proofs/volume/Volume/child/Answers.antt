@@ -1,14 +1,15 @@
-use Rattle.ados_volume.proofs.Cached.{fewer, more}
+use Rattle.ados_volume.proofs.Common.{IsWhole, Shown, Stands, refl, subst, sym, ℕ}
+use Rattle.ados_volume.proofs.Cached.{whole_none}
 use Rattle.ados_volume.proofs.Staying.{with_names}
 use Rattle.ados_volume.proofs.volume.Volume.child.Goals as goal
 
 pub invariant_of-self : goal.invariant_of-self
-invariant_of-self c = with_names c.self.invariant _ (fewer _ _ _ c.self.invariant.children c.get.ensures.rest)
+invariant_of-self c = with_names c.self.invariant _ _ c.hold.ensures.children c.hold.ensures.whole
 
-pub invariant_of-self-in-Some-found : goal.invariant_of-self-in-Some-found
-invariant_of-self-in-Some-found c =
-    with_names c.self.invariant _ (more _ c.get.new.self.pairs.entries _ c.args.dir c.args.name.now c.in-Some-found.key
-    (fewer _ _ _ c.self.invariant.children c.get.ensures.rest) c.put.ensures c.in-Some-found.ensures)
-
-pub invariant_of-self-in_default-found : goal.invariant_of-self-in_default-found
-invariant_of-self-in_default-found c = with_names c.self.invariant _ (fewer _ _ _ c.self.invariant.children c.get.ensures.rest)
+pub returns-then-is_whole-clause-child : goal.returns-then-is_whole-clause-child
+returns-then-is_whole-clause-child c = λ t s.
+    let image = c.self.inside.image in
+    let pairs = c.self.inside.names.pairs in
+    let whole = c.self.invariant.slots c.args.dir c.slot-slot.result c.slot-slot.ensures.small (c.if-is_whole.ensures refl) in
+    sym (whole_none c.same_name_same_slot.ensures image pairs c.args.dir c.args.name.now (subst (λ (i : ℕ). IsWhole image pairs c.args.dir i) c.slot-slot.ensures.value whole)
+    c.in_default.ensures.none t (subst (λ (w : Shown). Stands w.image t) (sym c.self.view_is) s))

@@ -1,7 +1,7 @@
 use Rattle.ados_volume.proofs.Common.{Shown, Stands, refl, shortened, subst, sym}
 use Rattle.ados_volume.proofs.Bounds.{below_boot}
 use Rattle.ados_volume.proofs.Known.{known_dropped, others_last}
-use Rattle.ados_volume.proofs.Refilled.{rewritten_stay}
+use Rattle.ados_volume.proofs.Refilled.{rewritten_same}
 use Rattle.ados_volume.proofs.Staying.{entries_sound}
 use Rattle.ados_volume.proofs.volume.Volume.cut.Goals as goal
 
@@ -12,7 +12,7 @@ invariant_of-self c =
     let u = shortened c.args.moment c.args.key c.args.size t in
     let stands = c.cut.ensures.stands t s in
     let file = c.requires.file t (subst (λ (w : Shown). Stands w.image t) c.self.view_is s) in
-    entries_sound c.self.invariant c.cut.new.image u stands (rewritten_stay t c.args.key file c.args.moment _)
+    entries_sound c.self.invariant c.cut.new.image u stands (rewritten_same t c.args.key file c.args.moment _)
     _ (known_dropped c.self.inside.image c.cut.new.image c.cut.ensures.keeps t u s stands refl _ _ c.args.key c.self.invariant.known c.drop_of.ensures (others_last t c.args.moment c.args.key _))
     _ (below_boot c.cut.new.image)
 

@@ -1,6 +1,6 @@
 use Rattle.ados_volume.proofs.Common.{Grows, RefusesGrowth, Shown, Stands, refl, subst, sym}
 use Rattle.ados_volume.proofs.Known.{grown_lasts}
-use Rattle.ados_volume.proofs.Refilled.{refuses, rewritten_stay, still_shown}
+use Rattle.ados_volume.proofs.Refilled.{refuses, rewritten_same, still_shown}
 use Rattle.ados_volume.proofs.Staying.{files_sound, unchanged_sound}
 use Rattle.ados_volume.proofs.volume.Volume.grow.Goals as goal
 
@@ -10,7 +10,7 @@ invariant_of-self-2 c =
     let s = c.self.invariant.tree.1 in
     let shown = subst (λ (w : Shown). Stands w.image t) c.self.view_is s in
     files_sound c.self.invariant c.grow.new.image _ (c.in_ok-self-inside.ensures.done t s).1
-    (rewritten_stay t c.args.key (c.requires.file t shown) c.args.moment _) refl
+    (rewritten_same t c.args.key (c.requires.file t shown) c.args.moment _) refl
     c.grow.ensures.keeps (grown_lasts t c.args.moment c.args.key c.args.size) _ c.at-place.ensures.known _ c.in_ok-self-inside.ensures.below
 
 pub invariant_of-self : goal.invariant_of-self

@@ -1,7 +1,7 @@
 use Rattle.ados_volume.proofs.Common.{List, RefusesWrite, Shown, Stands, Writes, ap, both_ways, eqb-true, length, subst, sym, ℕ, ◌==◌, ◌∙◌}
 use Rattle.ados_change.proofs.Keeping.{same_keeps}
 use Rattle.ados_volume.proofs.Known.{written_format, written_lasts}
-use Rattle.ados_volume.proofs.Refilled.{refuses, still_shown, written_none, written_stay}
+use Rattle.ados_volume.proofs.Refilled.{refuses, still_shown, written_none, written_same}
 use Rattle.ados_volume.proofs.Staying.{files_sound, unchanged_sound}
 use Rattle.ados_volume.proofs.volume.Volume.write.Goals as goal
 
@@ -24,7 +24,7 @@ invariant_of-self-2 c =
     let s = c.self.invariant.tree.1 in
     let shown = subst (λ (w : Shown). Stands w.image t) c.self.view_is s in
     files_sound c.self.invariant c.write.new.image _ (c.in_ok-self-inside.ensures.done t s).1
-    (written_stay t c.args.key (c.requires.file t shown) c.args.moment c.args.pos c.args.bytes.now) (written_format t c.args.moment c.args.key c.args.pos c.args.bytes.now)
+    (written_same t c.args.key (c.requires.file t shown) c.args.moment c.args.pos c.args.bytes.now) (written_format t c.args.moment c.args.key c.args.pos c.args.bytes.now)
     c.write.ensures.keeps (written_lasts t c.args.moment c.args.key c.args.pos c.args.bytes.now (c.requires.start t shown)) _ c.at-place.ensures.known _ c.in_ok-self-inside.ensures.below
 
 pub invariant_of-self : goal.invariant_of-self
