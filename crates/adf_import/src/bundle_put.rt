@@ -1,8 +1,9 @@
 //! The volume of a bundle.
-ghost use Rattle.std.specs.Prelude.{IfOk, IsTrue, map};
+ghost use Rattle.std.specs.Prelude.{IfOk, IsTrue, OnOk, map};
 ghost use Rattle.ados_model.specs.Stands.{Stands};
 ghost use Rattle.ados_model.specs.Tree.{Tree};
 ghost use Rattle.adf_record.specs.Bundle.{AreBundleOf, AreContentsOf};
+ghost use Rattle.adf_import.specs.Progress.{Advances, IsReady};
 
 use crate::bundle_files::host_path;
 use crate::fault::{FileWhy, InFault, SourceFault, unusable};
@@ -14,7 +15,9 @@ use adf_block::layout::DATE;
 use adf_block::{Image, restore_boot, size_ok};
 use adf_record::{Bundle, bundle_of, contents_of, same_bundle, same_contents};
 use adf_text::Uaem;
+use adf_words::Refused;
 use ados_change::put_date;
+use ados_model::DosError;
 use ados_volume::{Volume, blank, check};
 use std::alloc::{AllocError, Global};
 
@@ -89,8 +92,6 @@ fn image_of(
 
 /// Puts all entries of a bundle into a volume. Metadata of directories is set last, because each entry put into a
 /// directory sets its date.
-///
-/// Two entries with one name are refused.
 fn put_entries(
     alloc: Global,
     volume: &mut Volume,
@@ -125,10 +126,35 @@ fn put_entries(
             }),
             _ => None,
         };
-        if !put_item(alloc, volume, &item, content, how, &mut progress)? {
-            return Err(unusable(alloc, item.path, FileWhy::Twice));
-        }
+        put_entry(alloc, volume, &item, content, how, &mut progress)?;
     }
     progress.note_directories(volume, how.moment);
     Ok(())
+}
+
+/// Puts one entry of a bundle into a volume that has only entries of this bundle. So a name that exists is in the
+/// description twice.
+fn put_entry(
+    alloc: Global,
+    volume: &mut Volume,
+    item: &Item<'_>,
+    content: Option<Content<'_>>,
+    how: How,
+    progress: &mut Progress,
+) -> Result<(), InFault>
+    requires { IsReady volume.old.image item.now.dir progress.old }
+    ensures { OnOk result (Advances volume.old.image volume.new.image progress.new) }
+{
+    match put_item(alloc, volume, item, content, how, progress) {
+        Ok(true) => Ok(()),
+        Ok(false) => Err(unusable(alloc, item.path, FileWhy::Twice)),
+        Err(InFault::Refused(Refused {
+            error: DosError::ObjectExists,
+            path,
+        })) => Err(InFault::Source(SourceFault::File {
+            path,
+            why: FileWhy::Twice,
+        })),
+        Err(fault) => Err(fault),
+    }
 }

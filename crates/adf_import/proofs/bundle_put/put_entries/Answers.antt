@@ -8,8 +8,8 @@ loop-place-init c = record {
   progress = c.in_ok-progress.ensures c.directory_at.new.volume.image;
 }
 
-pub put_item-requires : goal.put_item-requires
-put_item-requires c = c.directory.ensures c.loop-place.volume.image c.loop-place.invariant
+pub put_entry-requires : goal.put_entry-requires
+put_entry-requires c = c.directory.ensures c.loop-place.volume.image c.loop-place.invariant
 
 pub loop-place-preserved : goal.loop-place-preserved
-loop-place-preserved c = record { dir = c.in_ok-put_item.ensures.keeps.directory c.in-Ok.top c.loop-place.invariant.dir; progress = c.in_ok-put_item.ensures.progress }
+loop-place-preserved c = record { dir = c.in_ok-put_entry.ensures.keeps.directory c.in-Ok.top c.loop-place.invariant.dir; progress = c.in_ok-put_entry.ensures.progress }
