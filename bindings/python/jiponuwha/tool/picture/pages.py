@@ -50,7 +50,7 @@ def prepare() -> None:
 
 def disk_page(disk: Disk, index: str = "") -> str:
     """Returns the page of a disk. `index` is a link to the index that it is in."""
-    return _environment().get_template("page.html.j2").render(
+    page: str = _environment().get_template("page.html.j2").render(
         disk=disk,
         need=need_of(disk),
         pictures=svg.pictures(disk) if disk.kinds else [],
@@ -60,6 +60,7 @@ def disk_page(disk: Disk, index: str = "") -> str:
         blocks=list(views.block_rows(disk)),
         index=index,
     )
+    return page
 
 
 def _kinds(cards: Sequence[Card]) -> list[tuple[FaultKind, int, int]]:
@@ -75,7 +76,7 @@ def index_page(title: str, cards: Sequence[Card]) -> str:
     """Returns the index of many disks, those first that need a person."""
     placed = sorted(cards, key=lambda it: (it.need, -sum(it.faults.values()), it.name))
     groups = [(need, list(its)) for need, its in groupby(placed, key=lambda it: it.need)]
-    return _environment().get_template("index.html.j2").render(
+    page: str = _environment().get_template("index.html.j2").render(
         title=clean(title),
         cards=cards,
         groups=groups,
@@ -85,3 +86,4 @@ def index_page(title: str, cards: Sequence[Card]) -> str:
         files=sum(it.files for it in cards),
         size=sum(it.size for it in cards),
     )
+    return page
