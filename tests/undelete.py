@@ -70,7 +70,7 @@ class Deleting(Image):
         self.sound = [it for it in range(2, self.blocks) if self.is_sound(it)]
         self.deleted = [it for it in self.sound if it not in self.live and it not in self.users and self.is_free(it)]
         self.own = {it: self.blocks_of(it) for it in self.sound if self.long(it, 127) == FILE}
-        self.claims = Counter(it for named, is_intact in self.own.values() if is_intact for it in named or [])
+        self.claims = Counter(it for header in self.sound for it in self.named_by(header))
         self.names: Dict[int, bytes] = {}
         self.taken: Set[Tuple[int, bytes]] = set()
 
@@ -105,7 +105,7 @@ class Deleting(Image):
             holder = self.long(holder, 126)
             if len(data) == needed:
                 break
-            if not 2 <= holder < self.blocks or (self.long(holder, 0), self.long(holder, 1), self.long(holder, 125), self.long(holder, 127)) != (LIST, holder, file, FILE) or self.sum(holder):
+            if not self.is_extension(file, holder) or self.sum(holder):
                 return None, False
             holders.append(holder)
         if holder:
@@ -117,6 +117,22 @@ class Deleting(Image):
                 wanted = [DATA, file, at + 1, min(room, size - room * at), data[at + 1] if at + 1 < needed else 0]
                 is_whole = is_whole and [self.long(it, place) for place in range(5)] == wanted and self.sum(it) == 0
         return blocks, is_whole
+
+    def is_extension(self, file: int, block: int) -> bool:
+        return 2 <= block < self.blocks and [self.long(block, it) for it in (0, 1, 125, 127)] == [LIST, block, file, FILE]
+
+    def named_by(self, header: int) -> Set[int]:
+        """The blocks of the volume that a sound header names, whatever is in them now: its own, and those in the pointers and links of a
+        file's header and of its extension blocks, as far as one leads to the next."""
+        named: Set[int] = {header}
+        passed: Set[int] = set()
+        holder = header if self.long(header, 127) == FILE else 0
+        while holder and holder not in passed:
+            passed.add(holder)
+            further = self.long(holder, 126)
+            named |= {further, *(self.long(holder, 77 - at) for at in range(min(POINTERS, self.long(holder, 2))))}
+            holder = further if self.is_extension(header, further) else 0
+        return {it for it in named if 2 <= it < self.blocks}
 
     def place(self, key: int) -> None:
         """Gives an entry its name after the directories above it. The later of two with one name has its block behind it."""
@@ -167,11 +183,11 @@ class Deleting(Image):
         if used:
             user = next((self.users[it] for it in blocks if it in self.users), None)
             return f": {len(used)} of {len(blocks)} blocks are used", False, user
-        if not is_whole:
-            return ": the blocks are damaged", False, None
         shared = [it for it in blocks if self.claims[it] > 1]
         if shared:
             return f": {len(shared)} of {len(blocks)} are in another deleted file", False, None
+        if not is_whole:
+            return ": the blocks are damaged", False, None
         return f": all {len(blocks)} blocks are free", True, None
 
     def found(self) -> Iterator[Found]:
@@ -258,7 +274,7 @@ def reuse_some(disk: Deleter, chance: random.Random, deleted: Dict[int, bytes]) 
             disk.mark_free(block, False)
         elif kind == 1 and block != key:
             disk.data[BLOCK * block : BLOCK * (block + 1)] = chance.randbytes(BLOCK)
-        elif kind == 2 and not disk.ofs:
+        elif kind == 2:
             others = [it for it in deleted if it != key and disk.long(it, 2) and disk.long(key, 2)]
             if others:
                 disk.put(key, 77, disk.long(chance.choice(others), 77))
@@ -433,6 +449,71 @@ def used_again(room: Room, name: str) -> None:
     shutil.rmtree("rest")
 
 
+# ---- blocks that other deleted headers name
+
+
+def put_file(image: Image, block: int, name: bytes, size: int, pointers: List[int], further: int = 0) -> None:
+    put_header(image, block, 880, name, FILE)
+    image.put(block, 2, len(pointers))
+    for at, it in enumerate(pointers):
+        image.put(block, 77 - at, it)
+    image.put(block, 81, size)
+    image.put(block, 126, further)
+    image.settle(block)
+
+
+def put_extension(image: Image, block: int, file: int, pointer: int) -> None:
+    image.put_all(block, 0, [LIST, block, 1, 0])
+    image.put(block, 77, pointer)
+    image.put(block, 125, file)
+    image.put(block, 127, FILE)
+    image.settle(block)
+
+
+def named_by_others(room: Room) -> None:
+    """Deleted files of FFS whose blocks are named by other deleted headers. The files of these are damaged, so a block does not show
+    whose bytes are in it."""
+    room.done("blank", "--ffs", *MOMENT, "Others", "others.adf")
+    image = Image(bytearray(room.content("others.adf")))
+    # (three blocks are needed, and there are two pointers)
+    put_file(image, 10, b"mine", 500, [11])
+    put_file(image, 12, b"theirs", 1_200, [13, 11])
+    # (the extension block has a wrong sum)
+    put_file(image, 14, b"short", 500, [15])
+    put_file(image, 16, b"long", 73 * BLOCK, [*range(20, 92)], 17)
+    put_extension(image, 17, 16, 15)
+    image.put(17, 3, 1)
+    # (the extension block is another file's, so nothing leads to its pointer)
+    put_file(image, 92, b"kept", 500, [93])
+    image.data[93 * BLOCK : 93 * BLOCK + 500] = b"k" * 500
+    put_file(image, 94, b"cut", 73 * BLOCK, [*range(100, 172)], 95)
+    put_extension(image, 95, 96, 93)
+    # (the disk has 1,760 blocks)
+    put_file(image, 200, b"out", 1_000, [201, 5_000])
+    put_file(image, 202, b"other", 500, [201])
+    put_file(image, 204, b"alone", 1_000, [205, 5_000])
+    # (a directory was made in the file's block)
+    put_file(image, 206, b"over", 500, [207])
+    put_header(image, 207, 880, b"dir", DIRECTORY)
+    room.write("others.adf", bytes(image.data))
+    lines = (
+        b"mine: 1 of 2 are in another deleted file\n"
+        b"theirs: the blocks are damaged\n"
+        b"short: 1 of 2 are in another deleted file\n"
+        b"long: the blocks are damaged\n"
+        b"kept: all 2 blocks are free\n"
+        b"cut: the blocks are damaged\n"
+        b"out: 1 of 3 are in another deleted file\n"
+        b"other: 1 of 2 are in another deleted file\n"
+        b"alone: the blocks are damaged\n"
+        b"over: 1 of 2 are in another deleted file\n"
+        b"dir/: a directory\n"
+    )
+    room.succeeds("blocks of other headers", "undelete", "--to", "others", "others.adf", output=lines)
+    room.report.same("only what is free is written", (files_below("others"), os.path.isdir("others/dir")), ({"kept": b"k" * 500}, True))
+    room.report.same("the reader has the same lines", "".join(it.line for it in Deleting(bytes(image.data)).found()), lines.decode())
+
+
 # ---- what is refused
 
 
@@ -548,7 +629,7 @@ def many_arguments(room: Room) -> None:
 
 
 def main(words: List[str]) -> int:
-    return try_all(words, Room, by_the_program, refused, bitmaps, chains, many_arguments, drawn_volumes, chosen_paths)
+    return try_all(words, Room, by_the_program, named_by_others, refused, bitmaps, chains, many_arguments, drawn_volumes, chosen_paths)
 
 
 if __name__ == "__main__":

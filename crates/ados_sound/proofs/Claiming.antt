@@ -1,41 +1,38 @@
 -- The claims of the blocks, in terms of the sound files.
-use Rattle.ados_sound.proofs.Common.{◌≡◌, ◌≢◌, ne_eqb, ℕ, zero, suc, ◌+◌, ◌<◌, ◌==◌, inl, inr, Bool, true, false, MatchBool, All, List, [], ◌∷◌, ◌++◌, length, take, drop, get_or, Contains, refl, sym, ap, ◌∙◌, subst, arith, cases_lt, cases_eq, eq-eqb, drop_of_length-le, append-nil, get_or_default, Contains-append_cases, Contains-append_left, Contains-append_right, block_count, Claim, Free, One, Several, IsClaimant, IsIntact, IsWhole, Names, own_blocks, AreClaims, IsClaim, IsNoted, claim_at, with_claim}
+use Rattle.ados_sound.proofs.Common.{◌≡◌, ◌≢◌, ne_eqb, ℕ, zero, suc, ◌+◌, ◌<◌, ◌==◌, inl, inr, Bool, true, false, MatchBool, All, List, [], ◌∷◌, ◌++◌, length, take, drop, get_or, Contains, refl, sym, ap, ◌∙◌, subst, arith, cases_lt, cases_eq, ◌↔◌, eq-eqb, drop_of_length-le, append-nil, get_or_default, Contains-append_cases, Contains-append_left, Contains-append_right, block_count, Claim, Free, One, Several, HasClaim, IsClaimant, IsIntact, IsWhole, Names, own_blocks, AreClaims, IsClaim, IsNoted, claim_at, with_claim}
 use Rattle.std.proofs.Math.Seq.{take-length}
 use Rattle.ados_sound.proofs.SoundParts.{lawful_holders, lawful_data_blocks}
+use Rattle.ados_sound.proofs.Leaving.{only_one}
 use Rattle.ados_sound.proofs.OwnBlocks.{own_inside}
 
-module _ (out image : List ℕ) (n block : ℕ) where
-  -- one more sound file names the block
-  pub claim_more : (c : Claim) → IsClaim out image n block c → IsClaimant out image n → Names image n block → IsClaim out image (n + 1) block (with_claim n c)
-  claim_more Free h intact names = (
+module _ (Has : ℕ → ℕ → Type 0) (n block : ℕ) where
+  -- one more header has the block
+  claim_more : (c : Claim) → IsClaim Has n block c → Has n block → IsClaim Has (n + 1) block (with_claim n c)
+  claim_more Free h has = (
     omega arith,
-    intact,
-    names,
-    λ file l i m. elim (cases_lt file n) [
-      | inl below ↦ absurd (h file below i m)
+    has,
+    λ header l m. elim (cases_lt header n) [
+      | inl below ↦ absurd (h header below m)
       | inr above ↦ omega (arith, l, above)
     ],
   )
-  claim_more (One one) h intact names =
+  claim_more (One one) h has =
       let two : one ≢ n = λ z. omega (arith, z, h.0) in
-      rw (ne_eqb one n two) (one, n, two, h.1, h.2, intact, names)
-  claim_more Several h intact names = h
+      rw (ne_eqb one n two) (one, n, two, h.1, has)
+  claim_more Several h has = h
 
-  -- the next file is not sound, or does not name the block
-  pub claim_same : (c : Claim) → IsClaim out image n block c → (IsClaimant out image n → Names image n block → ⊥) → IsClaim out image (n + 1) block c
-  claim_same Free h none = λ file l i m. elim (cases_lt file n) [
-    | inl below ↦ h file below i m
-    | inr above ↦ (let here : file ≡ n = omega (arith, l, above) in
-        none (subst (IsClaimant out image) here i) (subst (λ (k : ℕ). Names image k block) here m))
+  -- the next header does not have it
+  claim_same : (c : Claim) → IsClaim Has n block c → ¬ Has n block → IsClaim Has (n + 1) block c
+  claim_same Free h none = λ header l m. elim (cases_lt header n) [
+    | inl below ↦ h header below m
+    | inr above ↦ (let here : header ≡ n = omega (arith, l, above) in none (subst (λ (k : ℕ). Has k block) here m))
   ]
   claim_same (One one) h none = (
     omega (arith, h.0),
     h.1,
-    h.2,
-    λ file l i m. elim (cases_lt file n) [
-      | inl below ↦ h.3 file below i m
-      | inr above ↦ (let here : file ≡ n = omega (arith, l, above) in
-          absurd (none (subst (IsClaimant out image) here i) (subst (λ (k : ℕ). Names image k block) here m)))
+    λ header l m. elim (cases_lt header n) [
+      | inl below ↦ h.2 header below m
+      | inr above ↦ (let here : header ≡ n = omega (arith, l, above) in absurd (none (subst (λ (k : ℕ). Has k block) here m)))
     ],
   )
   claim_same Several h none = h
@@ -63,26 +60,25 @@ noted_more file x block xs old new new' h here there = elim (cases_eq block x) [
     | inr a ↦ inr (
       λ m. elim (Contains-append_cases xs (x ∷ []) block m) [
         | inl b ↦ a.0 b
-        | inr b ↦ e (only x block b)
+        | inr b ↦ e (only_one x block b)
       ],
       there e ∙ a.1,
     )
   ]
 ]
-  where
-    only : (y b : ℕ) → Contains (y ∷ []) b → b ≡ y
-    only y b (zero, l, e) = sym e
-    only y b (suc k, l, e) = absurd (omega (arith, l))
 
--- the claims are right for the sound files below n, and for one more
-pub claims_more : (out image : List ℕ) (n : ℕ) (old new : List Claim) → AreClaims out image n old → IsClaimant out image n → ((block : ℕ) → block < block_count image → IsNoted n (own_blocks image n) old new block) → AreClaims out image (n + 1) new
-claims_more out image n old new h intact noted block l = elim (noted block l) [
-  | inl a ↦ subst (IsClaim out image (n + 1) block) (sym a.1) (claim_more out image n block (claim_at old block) (h block l) intact a.0)
-  | inr a ↦ subst (IsClaim out image (n + 1) block) (sym a.1) (claim_same out image n block (claim_at old block) (h block l) (λ _ m. a.0 m))
-]
+module _ (Has : ℕ → ℕ → Type 0) (count n : ℕ) (old : List Claim) (h : AreClaims Has count n old) where
+  -- the claims are right for one more header, which has exactly the blocks of a list
+  pub claims_more : (blocks : List ℕ) (new : List Claim) → ((block : ℕ) → block < count → Contains blocks block ↔ Has n block) → ((block : ℕ) → block < count → IsNoted n blocks old new block)
+      → AreClaims Has count (n + 1) new
+  claims_more blocks new named noted block l = elim (noted block l) [
+    | inl a ↦ subst (IsClaim Has (n + 1) block) (sym a.1) (claim_more Has n block (claim_at old block) (h block l) ((named block l).0 a.0))
+    | inr a ↦ subst (IsClaim Has (n + 1) block) (sym a.1) (claim_same Has n block (claim_at old block) (h block l) (λ has. a.0 ((named block l).1 has)))
+  ]
 
-pub claims_same : (out image : List ℕ) (n : ℕ) (old : List Claim) → AreClaims out image n old → ¬ IsClaimant out image n → AreClaims out image (n + 1) old
-claims_same out image n old h none block l = claim_same out image n block (claim_at old block) (h block l) (λ i _. none i)
+  -- or for one that has none
+  pub claims_same : ((block : ℕ) → ¬ Has n block) → AreClaims Has count (n + 1) old
+  claims_same none block l = claim_same Has n block (claim_at old block) (h block l) (none block)
 
 -- the blocks of a sound file are inside the image
 pub own_within : (image : List ℕ) (file : ℕ) → IsIntact image file → (block : ℕ) → Names image file block → block < block_count image
@@ -90,7 +86,7 @@ own_within image file i block m =
     let here = own_inside image file (lawful_holders image file i.lawful) (lawful_data_blocks image file i.lawful) m.0 m.1 in
     omega (arith, here.1, get_or_default (own_blocks image file) m.0 0 block m.1, m.2)
 
-module _ (out image : List ℕ) (claims : List Claim) (h : AreClaims out image (block_count image) claims) (file : ℕ) (i : IsClaimant out image file) where
+module _ (out image : List ℕ) (claims : List Claim) (h : AreClaims (HasClaim out image) (block_count image) (block_count image) claims) (file : ℕ) (i : IsClaimant out image file) where
   -- a sound file is whole if only it names its blocks
   pub is_whole : All (λ (block : ℕ). claim_at claims block ≡ One file) (own_blocks image file) → IsWhole out image file
   is_whole all = record {
@@ -98,8 +94,8 @@ module _ (out image : List ℕ) (claims : List Claim) (h : AreClaims out image (
     alone = λ other block j m k.
         let noted : claim_at claims block ≡ One file =
         ap (claim_at claims) (sym m.2) ∙ all m.0 block m.1 in
-        let told : IsClaim out image (block_count image) block (One file) = subst (IsClaim out image (block_count image) block) noted (h block (own_within image file i.intact block m)) in
-        told.3 other j.intact.header.inside.1 j k;
+        let told : IsClaim (HasClaim out image) (block_count image) block (One file) = subst (IsClaim (HasClaim out image) (block_count image) block) noted (h block (own_within image file i.intact block m)) in
+        told.2 other j.intact.header.inside.1 (j, k);
   }
 
   -- each block of a whole file has its claim
@@ -109,18 +105,18 @@ module _ (out image : List ℕ) (claims : List Claim) (h : AreClaims out image (
       let named : Names image file (get_or (own_blocks image file) k d) = (k, l, get_or_default (own_blocks image file) k (get_or (own_blocks image file) k d) d l) in
       go (get_or (own_blocks image file) k d) (claim_at claims (get_or (own_blocks image file) k d)) named (h (get_or (own_blocks image file) k d) (own_within image file i.intact (get_or (own_blocks image file) k d) named))
     where
-      go : (block : ℕ) (c : Claim) → Names image file block → IsClaim out image (block_count image) block c → c ≡ One file
-      go block Free m told = absurd (told file i.intact.header.inside.1 i m)
-      go block (One one) m told = ap One (w.alone one block told.1 m told.2)
+      go : (block : ℕ) (c : Claim) → Names image file block → IsClaim (HasClaim out image) (block_count image) block c → c ≡ One file
+      go block Free m told = absurd (told file i.intact.header.inside.1 (i, m))
+      go block (One one) m told = ap One (w.alone one block told.1.0 m told.1.1)
       go block Several m told =
-          absurd (told.2 (w.alone told.0 block told.3 m told.4 ∙ sym (w.alone told.1 block told.5 m told.6)))
+          absurd (told.2 (w.alone told.0 block told.3.0 m told.3.1 ∙ sym (w.alone told.1 block told.4.0 m told.4.1)))
 
 -- a file that alone claims its header claims its blocks
-pub alone_claims : (out image : List ℕ) (claims : List Claim) (file : ℕ) → AreClaims out image (block_count image) claims → file < block_count image → claim_at claims file ≡ One file → IsClaimant out image file
-alone_claims out image claims file h l alone = (subst (IsClaim out image (block_count image) file) alone (h file l)).1
+pub alone_claims : (out image : List ℕ) (claims : List Claim) (file : ℕ) → AreClaims (HasClaim out image) (block_count image) (block_count image) claims → file < block_count image → claim_at claims file ≡ One file → IsClaimant out image file
+alone_claims out image claims file h l alone = (subst (IsClaim (HasClaim out image) (block_count image) file) alone (h file l)).1.0
 
 -- and a whole file alone claims its header
-pub claimed_whole : (out image : List ℕ) (claims : List Claim) (file : ℕ) → AreClaims out image (block_count image) claims → IsWhole out image file → claim_at claims file ≡ One file
+pub claimed_whole : (out image : List ℕ) (claims : List Claim) (file : ℕ) → AreClaims (HasClaim out image) (block_count image) (block_count image) claims → IsWhole out image file → claim_at claims file ≡ One file
 claimed_whole out image claims file h w = whole_noted out image claims h file w.claimant w 0 0 (omega arith)
 
 -- the blocks of a sound file are indices of a list with an element for each block
@@ -129,7 +125,7 @@ all_within image file i xs n e size = subst (λ (ys : List ℕ). All (λ (block 
     (λ k d l. omega (arith, size, own_within image file i (get_or (own_blocks image file) k d) (k, l, get_or_default (own_blocks image file) k (get_or (own_blocks image file) k d) d l)))
 
 -- the claims of its blocks decide whether a sound file is whole
-pub whole_decided : (out image : List ℕ) (claims : List Claim) (file : ℕ) (xs : List ℕ) (answer : Bool) → AreClaims out image (block_count image) claims → IsClaimant out image file → xs ≡ own_blocks image file
+pub whole_decided : (out image : List ℕ) (claims : List Claim) (file : ℕ) (xs : List ℕ) (answer : Bool) → AreClaims (HasClaim out image) (block_count image) (block_count image) claims → IsClaimant out image file → xs ≡ own_blocks image file
     → MatchBool answer (All (λ (block : ℕ). claim_at claims block ≡ One file) xs) (¬ All (λ (block : ℕ). claim_at claims block ≡ One file) xs) → MatchBool answer (IsWhole out image file) (¬ IsWhole out image file)
 whole_decided out image claims file xs true h i e all = is_whole out image claims h file i (subst (λ (ys : List ℕ). All (λ (block : ℕ). claim_at claims block ≡ One file) ys) e all)
 whole_decided out image claims file xs false h i e none = λ w.

@@ -5,6 +5,11 @@ use Rattle.ados_sound.proofs.Common.{◌≡◌, ℕ, zero, suc, ◌+◌, ◌<◌
 pub none_contained : (block : ℕ) → ¬ Contains [] block
 none_contained block (k, l, e) = absurd (omega (arith, l))
 
+-- a list of one block has only this one
+pub only_one : (y block : ℕ) → Contains (y ∷ []) block → block ≡ y
+only_one y block (zero, l, e) = sym e
+only_one y block (suc k, l, e) = absurd (omega (arith, l))
+
 -- one more header
 pub marked_more : (marks : List Bool) (headers : List ℕ) (block : ℕ) → block < length marks → AreMarked marks headers → AreMarked (set marks block true) (headers ++ block ∷ [])
 marked_more marks headers block inside h b = elim (cases_eq b block) [
@@ -18,15 +23,11 @@ marked_more marks headers block inside h b = elim (cases_eq b block) [
       (go (mark_at marks b) e (h b))
 ]
   where
-    only : Contains (block ∷ []) b → b ≡ block
-    only (zero, l, e) = sym e
-    only (suc k, l, e) = absurd (omega (arith, l))
-
     go : (mark : Bool) → ¬ (b ≡ block) → MatchBool mark (Contains headers b) (¬ Contains headers b) → MatchBool mark (Contains (headers ++ block ∷ []) b) (¬ Contains (headers ++ block ∷ []) b)
     go true e there = Contains-append_left headers (block ∷ []) b there
     go false e none = λ m. elim (Contains-append_cases headers (block ∷ []) b m) [
       | inl before ↦ none before
-      | inr last ↦ e (only last)
+      | inr last ↦ e (only_one block b last)
     ]
 
 -- the next of these headers

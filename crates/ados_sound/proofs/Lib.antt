@@ -2,8 +2,10 @@
 pub mod Common
 pub mod ByCensus
 pub mod SoundParts
-pub mod OwnBlocks
 pub mod Leaving
+pub mod OwnBlocks
+pub mod Following
+pub mod Growing
 pub mod Claiming
 pub mod InOrder
 pub mod Naming

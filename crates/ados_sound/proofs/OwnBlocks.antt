@@ -1,6 +1,10 @@
 -- The blocks of a file, while they are gathered.
-use Rattle.ados_sound.proofs.Common.{All, Contains, ◌≡◌, ℕ, zero, suc, ◌+◌, ◌-◌, ◌/◌, ◌%◌, ◌<◌, ◌≤◌, inl, inr, Bool, true, false, MatchBool, List, [], ◌∷◌, ◌++◌, length, map, get_or, slice_index, refl, sym, ap, ◌∙◌, subst, arith, range_with_len, map-range_with_len_more, All-from_get_or, cases_lt, ext_get_or, append_assoc, get_or_append_left, get_or_default, length-append, Ofs, block_count, long, IsInside, format_of, NEXT_DATA, pointer_block, data_block, data_blocks, extension_blocks, in_extensions, IsIntact, own_blocks, AreUsersBelow, IsHolder, HasHolders, IsDataBlock, HasData, data_needed, extensions_needed, data_before}
-use Rattle.ados_sound.proofs.SoundParts.{length-extensions, header-is, length-own, own-header, own-data, data-at, lawful_holders, lawful_once}
+use Rattle.ados_sound.proofs.Common.{All, Contains, ◌≡◌, ℕ, zero, suc, ◌+◌, ◌-◌, ◌/◌, ◌%◌, ◌<◌, ◌≤◌, inl, inr, Bool, true, false, MatchBool, List, [], ◌∷◌, ◌++◌, length, map, get_or, slice_index, refl, sym, ap, ◌∙◌, subst, arith, range_with_len, map-range_with_len_more, All-from_get_or, cases_lt, ext_get_or, append_assoc, get_or_append_left, get_or_default, length-append, Ofs, block_count, long, IsInside, format_of, NEXT_DATA, pointer_block, data_block, data_blocks, extension_blocks, in_extensions, IsIntact, own_blocks, AreUsersBelow, IsHolder, HasHolders, HasKnownBlocks, NEXT_EXTENSION, IsDataBlock, HasData, data_needed, extensions_needed, data_before}
+use Rattle.ados_sound.proofs.SoundParts.{length-extensions, header-is, length-own, own-header, own-data, data-at, lawful_few, lawful_holders}
+
+-- all blocks of a sound file are known
+pub intact_known : (image : List ℕ) (file : ℕ) → IsIntact image file → HasKnownBlocks image file
+intact_known image file i = record { few = lawful_few image file i.lawful; holders = lawful_holders image file i.lawful }
 
 -- a result, by its meaning for true and for false
 pub decided : (A B : Type 0) (b : Bool) → (b ≡ true → A) → (b ≡ false → B) → MatchBool b A B
@@ -21,23 +25,35 @@ module _ (image : List ℕ) (file : ℕ) where
         (λ i l. blocks i (omega (arith, l, size)) ∙ sym (header-is image file i (omega (arith, l, size, e)))),
   )
 
-  -- a file is not sound if a pointer block has other fields, comes again, or is followed by one too many
-  pub not_holder : (q block : ℕ) → q ≤ extensions_needed image file → block ≡ pointer_block image file q → ¬ IsHolder image file q block → ¬ IsIntact image file
-  not_holder q block l is wrong h = wrong (subst (IsHolder image file q) (sym is) ((lawful_holders image file h.lawful).holder q l))
+  -- the pointer blocks are not right if one has other fields, comes again, or is followed by one too many
+  pub not_holder : (q block : ℕ) → q ≤ extensions_needed image file → block ≡ pointer_block image file q → ¬ IsHolder image file q block → ¬ HasHolders image file
+  not_holder q block l is wrong h = wrong (subst (IsHolder image file q) (sym is) (h.holder q l))
 
-  comes_again : (p q block : ℕ) → p < q → q ≤ extensions_needed image file → block ≡ pointer_block image file q → pointer_block image file p ≡ block → ¬ IsIntact image file
+  -- after one block the same blocks follow
+  along : (d p q : ℕ) → pointer_block image file p ≡ pointer_block image file q → (a b : ℕ) → a ≡ d + p → b ≡ d + q → pointer_block image file a ≡ pointer_block image file b
+  along zero p q e a b x y =
+      let first : a ≡ p = omega (arith, x) in
+      let second : b ≡ q = omega (arith, y) in
+      ap (pointer_block image file) first ∙ e ∙ sym (ap (pointer_block image file) second)
+  along (suc d) p q e a b x y =
+      let first : a ≡ suc (d + p) = omega (arith, x) in
+      let second : b ≡ suc (d + q) = omega (arith, y) in
+      ap (pointer_block image file) first ∙ ap (λ (k : ℕ). long image k NEXT_EXTENSION) (along d p q e (d + p) (d + q) refl refl) ∙ sym (ap (pointer_block image file) second)
+
+  comes_again : (p q block : ℕ) → p < q → q ≤ extensions_needed image file → block ≡ pointer_block image file q → pointer_block image file p ≡ block → ¬ HasHolders image file
   comes_again p q block l m is again h =
-      lawful_once image file h.lawful p q l (omega (arith, m, length-own image file))
-      (own-header image file p (omega arith) ∙ header-is image file p (omega arith) ∙ again ∙ is ∙ sym (header-is image file q m) ∙ sym (own-header image file q m))
+      let same : pointer_block image file (suc (extensions_needed image file) - q + p) ≡ pointer_block image file (suc (extensions_needed image file)) =
+      along (suc (extensions_needed image file) - q) p q (again ∙ is) (suc (extensions_needed image file) - q + p) (suc (extensions_needed image file)) refl (omega (arith, m)) in
+      omega (arith, (h.holder (suc (extensions_needed image file) - q + p) (omega (arith, l, m))).inside.0, same, h.ends)
 
   pub not_again : (xs : List ℕ) (q block : ℕ) → length xs ≡ q → ((p : ℕ) → p < q → slice_index xs p ≡ pointer_block image file p) → Contains xs block → q ≤ extensions_needed image file → block ≡ pointer_block image file q
-      → ¬ IsIntact image file
+      → ¬ HasHolders image file
   not_again xs q block size blocks (p, l, e) m is =
       let below : p < q = omega (arith, l, size) in
       comes_again p q block below m is (sym (blocks p below) ∙ get_or_default xs p 0 block l ∙ e)
 
-  pub not_ended : (q block : ℕ) → q ≡ suc (extensions_needed image file) → block ≡ pointer_block image file q → ¬ (block ≡ 0) → ¬ IsIntact image file
-  not_ended q block e is wrong h = wrong (is ∙ ap (pointer_block image file) e ∙ (lawful_holders image file h.lawful).ends)
+  pub not_ended : (q block : ℕ) → q ≡ suc (extensions_needed image file) → block ≡ pointer_block image file q → ¬ (block ≡ 0) → ¬ HasHolders image file
+  not_ended q block e is wrong h = wrong (is ∙ ap (pointer_block image file) e ∙ h.ends)
 
   module _ (h : HasHolders image file) where
     pub holder_below : (q : ℕ) → q ≤ extensions_needed image file → pointer_block image file q < block_count image

@@ -1,5 +1,5 @@
 -- Deleted entries: what is left of an entry that was removed, and how much of a deleted file can be recovered.
-use Rattle.std.specs.Prelude.{◌≡◌, ◌≢◌, ℕ, ◌<◌, ◌&&◌, nat_le, nat_lt, not, Bool, MatchBool, IfSome, List, [], length, map, count_by, All, AllPairs, Contains, Option, Some, None}
+use Rattle.std.specs.Prelude.{◌≡◌, ◌≢◌, ℕ, ◌<◌, ◌&&◌, nat_le, nat_lt, not, Bool, MatchBool, IfSome, List, length, map, count_by, All, AllPairs, Contains, Option, Some, None}
 use Rattle.adf_block.specs.Image.{block_count, block_sum, has_free_bit}
 use Rattle.adf_block.specs.declared.layout.TheConstants.{BOOT_BLOCKS}
 use Rattle.adf_block.specs.Whole.{HasFreeBit}
@@ -12,7 +12,8 @@ use Rattle.ados_model.specs.Rebuilt.{HasValidBitmap}
 use Rattle.ados_sound.specs.declared.deleted.Deleted.{Deleted}
 use Rattle.ados_sound.specs.declared.deleted.Recovery.{Recovery}
 use Rattle.ados_sound.specs.declared.deleted.Recovery.TheVariants as recoveries
-use Rattle.ados_sound.specs.Sound.{IsIntact, IsSoundHeader, IsWhole, Names, own_blocks}
+use Rattle.ados_sound.specs.Holders.{HasKnownBlocks, HeaderNames}
+use Rattle.ados_sound.specs.Sound.{IsIntact, IsSoundHeader, own_blocks}
 
 -- bitmap block p is inside the volume, its checksum is right, and it is none of the bitmap blocks before it
 pub record IsTrustedPage (image : List ℕ) (p : ℕ) : Type 0 where
@@ -57,9 +58,9 @@ IsUsed image block = InImage image block × ¬ HasFreeBit image block
 abbrev pub is_used : List ℕ → ℕ → Bool
 is_used image block = nat_le BOOT_BLOCKS block && nat_lt block (block_count image) && not (has_free_bit image block)
 
--- another sound file names the block too
+-- another sound header names the block too, whatever became of its file
 abbrev pub IsShared : List ℕ → ℕ → ℕ → Type 0
-IsShared image file block = (other : ℕ) × (other ≢ file) × IsIntact image other × Names image other block
+IsShared image file block = (other : ℕ) × (other ≢ file) × HeaderNames image other block
 
 -- so many of these blocks have a property
 pub record HasCount (P : ℕ → Type 0) (blocks : List ℕ) (count : ℕ) : Type 0 where
@@ -86,20 +87,31 @@ UsesOne image blocks entry = (block : ℕ) × Contains blocks block × IsUser im
 abbrev pub AreAllFree : List ℕ → ℕ → Type 0
 AreAllFree image file = All (HasFreeBit image) (own_blocks image file)
 
--- so many blocks of the file, at least one, have a property, out of all
+-- no block of the file is marked used
+abbrev pub AreNoneUsed : List ℕ → ℕ → Type 0
+AreNoneUsed image file = All (λ block. ¬ IsUsed image block) (own_blocks image file)
+
+-- no block of the file is one that another sound header names
+abbrev pub AreNoneShared : List ℕ → ℕ → Type 0
+AreNoneShared image file = All (λ block. ¬ IsShared image file block) (own_blocks image file)
+
+-- so many blocks of the file, at least one, have a property, out of all, which are known
 pub record IsPart (P : ℕ → Type 0) (image : List ℕ) (file count all : ℕ) : Type 0 where
+  pub is_file : HasFileType image file
+  pub known : HasKnownBlocks image file
   pub some : 0 < count
   pub counted : HasCount P (own_blocks image file) count
   pub total : all ≡ length (own_blocks image file)
 
--- how much of a deleted entry can be recovered. `Free`: all blocks of the file are marked free, and no other sound file
--- names one of them. `Used`: some are marked used, and if there is an entry, it has one of them
+-- how much of a deleted entry can be recovered. `Free`: the file is intact, all its blocks are marked free, and no other sound
+-- header names one of them. `Used`: some are marked used, and if there is an entry, it has one of them. `Shared`: none is, but
+-- other sound headers name some. `NotIntact`: the blocks are not known, or none is used or shared
 abbrev pub HasRecovery : List ℕ → ℕ → Recovery → Type 0
 HasRecovery image file recoveries.Directory = HasDirectoryType image file
-HasRecovery image file (recoveries.Free all) = IsWhole [] image file × AreAllFree image file × (all ≡ length (own_blocks image file))
-HasRecovery image file (recoveries.Used used all by) = HasFileType image file × IsPart (IsUsed image) image file used all × IfSome by (UsesOne image (own_blocks image file))
-HasRecovery image file (recoveries.Shared shared all) = IsIntact image file × AreAllFree image file × IsPart (IsShared image file) image file shared all
-HasRecovery image file recoveries.NotIntact = HasFileType image file × ¬ IsIntact image file
+HasRecovery image file (recoveries.Free all) = IsIntact image file × AreAllFree image file × AreNoneShared image file × (all ≡ length (own_blocks image file))
+HasRecovery image file (recoveries.Used used all by) = IsPart (IsUsed image) image file used all × IfSome by (UsesOne image (own_blocks image file))
+HasRecovery image file (recoveries.Shared shared all) = AreNoneUsed image file × IsPart (IsShared image file) image file shared all
+HasRecovery image file recoveries.NotIntact = HasFileType image file × ¬ IsIntact image file × (HasKnownBlocks image file → AreNoneUsed image file × AreNoneShared image file)
 
 -- a deleted entry with what can be recovered of it
 abbrev pub IsToldDeleted : List ℕ → Deleted → Type 0

@@ -18,25 +18,27 @@ pub record AreHeaders (out image : List ℕ) (headers : List Bool) : Type 0 wher
 abbrev pub claim_at : List Claim → ℕ → Claim
 claim_at claims block = slice_index_or claims block Free
 
--- the claim is right for the sound files below n that are not left out: none of them names the block, exactly one does, or two do
-abbrev pub IsClaim : List ℕ → List ℕ → ℕ → ℕ → Claim → Type 0
-IsClaim out image n block Free = (file : ℕ) → file < n → IsClaimant out image file → ¬ Names image file block
-IsClaim out image n block (One one) = (one < n) × IsClaimant out image one × Names image one block
-    × ((file : ℕ) → file < n → IsClaimant out image file → Names image file block → file ≡ one)
-IsClaim out image n block Several = (one : ℕ) × (other : ℕ) × (one ≢ other) × IsClaimant out image one × Names image one block
-    × IsClaimant out image other × Names image other block
+-- the file claims its blocks, and the block is one of them
+abbrev pub HasClaim : List ℕ → List ℕ → ℕ → ℕ → Type 0
+HasClaim out image file block = IsClaimant out image file × Names image file block
 
--- the claims are right for all sound files below n that are not left out
-abbrev pub AreClaims : List ℕ → List ℕ → ℕ → List Claim → Type 0
-AreClaims out image n claims = (block : ℕ) → block < block_count image → IsClaim out image n block (claim_at claims block)
+-- the claim of a block is right for the headers below n: none of them has the block, exactly one does, or two do
+abbrev pub IsClaim : (ℕ → ℕ → Type 0) → ℕ → ℕ → Claim → Type 0
+IsClaim Has n block Free = (header : ℕ) → header < n → ¬ Has header block
+IsClaim Has n block (One one) = (one < n) × Has one block × ((header : ℕ) → header < n → Has header block → header ≡ one)
+IsClaim Has n block Several = (one : ℕ) × (other : ℕ) × (one ≢ other) × Has one block × Has other block
 
--- a claim for each block, right for all sound files of the image that are not left out
-pub record AreAllClaims (out image : List ℕ) (claims : List Claim) : Type 0 where
-  pub size : length claims ≡ block_count image
-  pub right : AreClaims out image (block_count image) claims
+-- the claims are right for the headers below n
+abbrev pub AreClaims : (ℕ → ℕ → Type 0) → ℕ → ℕ → List Claim → Type 0
+AreClaims Has count n claims = (block : ℕ) → block < count → IsClaim Has n block (claim_at claims block)
+
+-- a claim for each of so many blocks, right for all headers
+pub record AreAllClaims (Has : ℕ → ℕ → Type 0) (count : ℕ) (claims : List Claim) : Type 0 where
+  pub size : length claims ≡ count
+  pub right : AreClaims Has count count claims
 
 -- what is known of an image is right: whether its bitmap is trusted, which blocks are headers that are told, and the files that claim blocks
 pub record AreKnown (known : Known) : Type 0 where
   pub trust : TellsTrust known.image known.trusted
   pub headers : AreHeaders known.left_out known.image known.headers.items
-  pub claims : AreAllClaims known.left_out known.image known.claims.items
+  pub claims : AreAllClaims (HasClaim known.left_out known.image) (block_count known.image) known.claims.items

@@ -2,6 +2,7 @@
 pub mod Sound
 pub mod Doubtful
 pub mod ByCensus
+pub mod Holders
 pub mod Deleted
 pub mod Marks
 pub mod Known

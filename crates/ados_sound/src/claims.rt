@@ -1,8 +1,8 @@
-//! The sound files that claim a block.
+//! The headers that claim a block.
 ghost use Rattle.std.specs.Prelude.{◌≡◌, ◌+◌, ◌<◌, ℕ, length, All, IfOk, OnOk, MatchBool, MatchOption};
 ghost use Rattle.adf_block.specs.Image.{block_count};
 ghost use Rattle.ados_sound.specs.Sound.{IsClaimant, own_blocks};
-ghost use Rattle.ados_sound.specs.Known.{AreAllClaims, claim_at};
+ghost use Rattle.ados_sound.specs.Known.{AreAllClaims, HasClaim, claim_at};
 ghost use Rattle.ados_sound.specs.steps.Claims.{IsNoted, with_claim};
 ghost use Rattle.ados_sound.specs.steps.Heading.{AreSound};
 ghost use Rattle.ados_sound.specs.steps.Parts.{AreUsersBelow};
@@ -15,18 +15,17 @@ use adf_block::Image;
 use adf_block::layout::BOOT_BLOCKS;
 use std::alloc::{AllocError, Global};
 
-/// The sound files that claim a block.
+/// The headers that claim a block.
 #[derive(Clone, Copy, PartialEq, Eq)]
 pub(crate) enum Claim {
     /// None.
     Free,
-    /// One, given by its header.
     One(u32),
     Several,
 }
 
 impl Claim {
-    /// The claim after one more file claims the block.
+    /// The claim after one more header claims the block.
     fn with(self, file: u32) -> Claim
         ensures { result ≡ with_claim file self }
     {
@@ -47,7 +46,7 @@ pub(crate) fn claims(
     sound: &[bool],
 ) -> Result<Vec<Claim>, AllocError>
     requires { AreSound image.now sound.now }
-    ensures { IfOk result (λ claims. AreAllClaims left_out.now image.now claims.items) }
+    ensures { IfOk result (λ claims. AreAllClaims (HasClaim left_out.now image.now) (block_count image.now) claims.items) }
 {
     let mut claims = vec![in alloc; Claim::Free; image.blocks() as usize]?;
     let mut users = no_users(alloc, image)?;
@@ -86,8 +85,8 @@ pub(crate) fn claimed_blocks(
     own_blocks(alloc, image, file, users)
 }
 
-/// Notes that a file claims these blocks.
-fn note(claims: &mut [Claim], file: u32, blocks: &[u32])
+/// Notes that a header claims these blocks.
+pub(crate) fn note(claims: &mut [Claim], file: u32, blocks: &[u32])
     requires { All (λ block. block < length claims.old) blocks.now }
     ensures count { length claims.new ≡ length claims.old }
     ensures noted { (block : ℕ) → block < length claims.old → IsNoted file blocks.now claims.old claims.new block }

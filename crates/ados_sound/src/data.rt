@@ -6,7 +6,8 @@ ghost use Rattle.adf_block.specs.declared.layout.Format.TheVariants.{Ofs};
 ghost use Rattle.ados_model.specs.Stands.{HasOfsData};
 ghost use Rattle.ados_sound.specs.Sound.{own_blocks};
 ghost use Rattle.ados_sound.specs.Doubtful.{IsOwnData};
-ghost use Rattle.ados_sound.specs.steps.Parts.{HasData, HasHolders, IsDataBlock};
+ghost use Rattle.ados_sound.specs.Holders.{HasHolders};
+ghost use Rattle.ados_sound.specs.steps.Parts.{HasData, IsDataBlock};
 
 use crate::holders::data_needed;
 use adf_block::layout::{BOOT_BLOCKS, FILE_SIZE, HELD, NEXT_DATA, OFS_ROOM, OWN_KEY, SEQUENCE};

@@ -1,14 +1,17 @@
 //! The deleted entries of an image, and how much of each can be recovered.
 ghost use Rattle.std.specs.Prelude.{[], IfOk};
+ghost use Rattle.adf_block.specs.Image.{block_count};
 ghost use Rattle.ados_sound.specs.Deleted.{AreDeleted, ListsDeleted};
-ghost use Rattle.ados_sound.specs.Known.{AreAllClaims};
+ghost use Rattle.ados_sound.specs.Holders.{HeaderNames};
+ghost use Rattle.ados_sound.specs.Known.{AreAllClaims, HasClaim};
 ghost use Rattle.ados_sound.specs.Listing.{TellsDeleted};
 ghost use Rattle.ados_sound.specs.steps.Deleting.{AreOfReached};
 
+use crate::claims::Claim;
 use crate::header::sound_headers;
-use crate::intact::no_users;
 use crate::known::Known;
 use crate::left_out::{LeftOut, deleted_headers};
+use crate::named::named_claims;
 use crate::recovery::recovery_of;
 use crate::trust::trusted_marks;
 use adf_block::Image;
@@ -20,7 +23,7 @@ use std::alloc::{AllocError, Global};
 pub enum Recovery {
     /// The entry is a directory, which has no bytes.
     Directory,
-    /// All blocks of the file are free, as many as `all`, and no other sound file has one of them.
+    /// The file is intact. All its blocks are free, as many as `all`, and no other sound header names one of them.
     Free {
         all: usize,
     },
@@ -31,12 +34,12 @@ pub enum Recovery {
         all: usize,
         by: Option<u32>,
     },
-    /// All blocks of the file are free, but `shared` of `all` are in other sound files that no directory leads to.
+    /// No block of the file is used, but other sound headers name `shared` of `all`. Their files may be damaged.
     Shared {
         shared: usize,
         all: usize,
     },
-    /// The blocks of the file are not those that its size needs.
+    /// The blocks of the file are not those that its size needs, and as far as they are known, none is used or shared.
     NotIntact,
 }
 
@@ -73,26 +76,28 @@ pub fn deleted_entries(alloc: Global, image: Image) -> Result<DeletedEntries, Al
     if headers.is_empty() {
         return Ok(DeletedEntries::Nothing(image));
     }
+    let named = named_claims(alloc, &image, &sound)?;
     let known = Known::of(alloc, image, true, LeftOut::none(alloc), &sound)?;
-    let deleted = all_deleted(&known, &headers, &marks)?;
+    let deleted = all_deleted(&known, &named, &headers, &marks)?;
     Ok(DeletedEntries::Found(known, deleted))
 }
 
-/// How much of each deleted entry of an image can be recovered.
+/// How much of each deleted entry of an image can be recovered. `named` has the sound headers that name each block.
 fn all_deleted(
     known: &Known,
+    named: &[Claim],
     headers: &[u32],
     marks: &[Option<Mark>],
 ) -> Result<Vec<Deleted>, AllocError>
     requires headers { AreDeleted known.now.image headers.now }
-    requires claims { AreAllClaims [] known.now.image known.now.claims.items }
+    requires claims { AreAllClaims (HasClaim [] known.now.image) (block_count known.now.image) known.now.claims.items }
+    requires named { AreAllClaims (HeaderNames known.now.image) (block_count known.now.image) named.now }
     requires marks { AreOfReached known.now.image marks.now }
     ensures { IfOk result (λ found. ListsDeleted known.now.image found.items) }
 {
-    let mut users = no_users(known.alloc, &known.image)?;
     let mut found = Vec::new(known.alloc);
     for header in headers {
-        let recovery = recovery_of(known, *header, marks, &mut users)?;
+        let recovery = recovery_of(known, named, *header, marks)?;
         found.push(Deleted {
             header: *header,
             recovery,

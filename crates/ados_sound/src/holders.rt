@@ -1,12 +1,15 @@
 //! The pointer blocks of a file: its header and its extension blocks.
-ghost use Rattle.std.specs.Prelude.{◌≡◌, ◌<◌, ◌-◌, ◌*◌, ◌∷◌, min, ◌↔◌, Contains, IfOk, IsTrue, MatchOption};
+ghost use Rattle.std.specs.Prelude.{◌≡◌, ◌<◌, ◌+◌, ◌-◌, ◌*◌, ◌∷◌, ℕ, length, min, ◌↔◌, Contains, IfOk, IsTrue, MatchOption, OnOk};
 ghost use Rattle.adf_block.specs.Image.{block_count};
+ghost use Rattle.ados_model.specs.Faults.{HasFileType, InImage};
 ghost use Rattle.ados_model.specs.Stands.{HasExtension};
 ghost use Rattle.ados_model.specs.File.{extension_blocks};
 ghost use Rattle.ados_sound.specs.Doubtful.{LooksLikeExtension};
-ghost use Rattle.ados_sound.specs.Sound.{IsIntact, data_needed};
-ghost use Rattle.ados_sound.specs.steps.Parts.{HasHolders, IsHolder};
+ghost use Rattle.ados_sound.specs.Holders.{AreMarkedAfter, HasHolders, IsHolder, IsHolderOf, IsNewAfter};
+ghost use Rattle.ados_sound.specs.Sound.{data_needed};
+ghost use Rattle.ados_sound.specs.steps.Naming.{ArePassed};
 
+use crate::header::is_file;
 use adf_block::layout::{
     BOOT_BLOCKS, FFS_ROOM, FILE_SIZE, NEXT_EXTENSION, OFS_ROOM, PARENT, POINTER_COUNT, TABLE_LONGS,
 };
@@ -36,7 +39,7 @@ pub(crate) fn holders(
 ) -> Result<Option<Vec<u32>>, AllocError>
     requires inside { file < block_count image.now }
     requires needed { needed ≡ data_needed image.now file }
-    ensures { IfOk result (λ found. MatchOption found (¬ IsIntact image.now file)
+    ensures { IfOk result (λ found. MatchOption found (¬ HasHolders image.now file)
         (λ blocks. HasHolders image.now file × (blocks.items ≡ file ∷ extension_blocks image.now file))) }
 {
     let mut blocks = Vec::new(alloc);
@@ -101,4 +104,47 @@ pub fn looks_like_extension(image: &Image, file: u32, block: u32) -> bool
     ensures { IsTrue result ↔ LooksLikeExtension image.now file block }
 {
     image.long(block, PARENT) == file && looks_like(image, block, BlockKind::Extension)
+}
+
+/// The pointer blocks of a file that can be reached, whatever their checksums are: its header, and the extension blocks that one
+/// after the other is named. A directory has none. `passed` marks the extension blocks of files before this one.
+pub(crate) fn holders_of(
+    alloc: Global,
+    image: &Image,
+    file: u32,
+    passed: &mut Vec<bool>,
+) -> Result<Vec<u32>, AllocError>
+    requires inside { InImage image.now file }
+    requires passed { ArePassed image.now file passed.old.items }
+    ensures passed { OnOk result (ArePassed image.now (file + 1) passed.new.items) }
+    ensures holders { IfOk result (λ holders. (block : ℕ) → Contains holders.items block ↔ (HasFileType image.now file × IsHolderOf image.now file block)) }
+{
+    let mut holders = Vec::new(alloc);
+    if !is_file(image, file) {
+        return Ok(holders);
+    }
+    holders.push(file)?;
+    let mut holder = file;
+    while let Some(next) = next_extension(image, file, holder, passed) {
+        passed[next as usize] = true;
+        holders.push(next)?;
+        holder = next;
+    }
+    Ok(holders)
+}
+
+/// The extension block of a file that its header or another one names, unless it is marked.
+fn next_extension(image: &Image, file: u32, holder: u32, marks: &Vec<bool>) -> Option<u32>
+    requires inside { holder < block_count image.now }
+    requires size { length marks.now.items ≡ block_count image.now }
+    ensures { MatchOption result (AreMarkedAfter image.now marks.now.items file holder) (IsNewAfter image.now marks.now.items file holder) }
+{
+    let next = image.long(holder, NEXT_EXTENSION);
+    if next < BOOT_BLOCKS || next >= image.blocks() {
+        return None;
+    }
+    if marks[next as usize] || !looks_like_extension(image, file, next) {
+        return None;
+    }
+    Some(next)
 }

@@ -2,7 +2,8 @@
 ghost use Rattle.std.specs.Prelude.{◌≡◌, ◌+◌, ◌<◌, ◌≤◌, length, IfOk, OnOk, MatchBool, MatchOption, All};
 ghost use Rattle.adf_block.specs.Image.{block_count};
 ghost use Rattle.ados_sound.specs.Sound.{IsIntact, own_blocks};
-ghost use Rattle.ados_sound.specs.steps.Parts.{AreOnce, AreUsersBelow, HasHolders};
+ghost use Rattle.ados_sound.specs.Holders.{HasKnownBlocks};
+ghost use Rattle.ados_sound.specs.steps.Parts.{AreOnce, AreUsersBelow};
 
 use crate::data::has_data;
 use crate::header::{is_file, is_sound_header};
@@ -42,14 +43,14 @@ pub(crate) fn own_blocks(
 }
 
 /// All blocks of a file, as its pointers name them: its header, its extension blocks and its data blocks, whatever is in these
-/// now. `None` if the size is too large, or if an extension block is none of this file.
+/// now. `None` if these are not known: the size is too large, or an extension block is none of this file.
 pub(crate) fn named_blocks(
     alloc: Global,
     image: &Image,
     file: u32,
 ) -> Result<Option<Vec<u32>>, AllocError>
     requires { file < block_count image.now }
-    ensures { IfOk result (λ found. MatchOption found (¬ IsIntact image.now file) (λ blocks. HasHolders image.now file × (blocks.items ≡ own_blocks image.now file))) }
+    ensures { IfOk result (λ found. MatchOption found (¬ HasKnownBlocks image.now file) (λ blocks. HasKnownBlocks image.now file × (blocks.items ≡ own_blocks image.now file))) }
 {
     let needed = data_needed(image, file);
     if needed > image.blocks() {

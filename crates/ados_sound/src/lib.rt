@@ -17,6 +17,7 @@ mod whole;
 // Deleted entries.
 mod deleted;
 mod left_out;
+mod named;
 mod recovery;
 mod trust;
 

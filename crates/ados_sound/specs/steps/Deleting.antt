@@ -16,7 +16,7 @@ AreOfReached image marks = (block : ℕ) (mark : Mark) → mark_at marks block �
 abbrev pub IsDoubt : List ℕ → VolumeFault → Type 0
 IsDoubt image fault = (fault.kind ≡ MarkedFree) ⊎ (fault.block ≡ root_of image)
 
--- whether two sound files name the block
+-- whether two headers have the block
 abbrev pub is_several : Claim → Bool
 is_several Several = true
 is_several claim = false

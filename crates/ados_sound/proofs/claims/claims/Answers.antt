@@ -1,4 +1,4 @@
-use Rattle.ados_sound.proofs.Common.{◌≡◌, ℕ, ◌+◌, List, Vec, Global, length, sym, ap, ◌∙◌, subst, arith, block_count, Claim, own_blocks, AreClaims, IsNoted}
+use Rattle.ados_sound.proofs.Common.{◌≡◌, ℕ, ◌+◌, ◌<◌, ◌↔◌, List, Vec, Global, length, Contains, sym, ap, ◌∙◌, subst, arith, block_count, Claim, own_blocks, AreClaims, HasClaim, IsNoted}
 use Rattle.ados_sound.proofs.Claiming.{claims_more, claims_same, all_within, refilled}
 use Rattle.ados_sound.proofs.claims.claims.Goals as goal
 use Rattle.ados_sound.proofs.claims.claims.Goals.{in-Some, in_default}
@@ -18,8 +18,9 @@ loop-file-preserved c = elim c.match-branch-4.branch [
       ap (λ (v : Vec Claim Global). v.items) w.claims-is ∙ refilled w.note.new.claims c.loop-file.claims.items c.loop-file.claims.len count c.loop-file.claims.ok.0 in
       record {
         size = ap length items ∙ count ∙ c.loop-file.invariant.size;
-        claims = subst (λ (xs : List Claim). AreClaims c.args.left_out.now c.args.image.now (c.loop-file.file + 1) xs) (sym items)
-            (claims_more c.args.left_out.now c.args.image.now c.loop-file.file c.loop-file.claims.items w.note.new.claims c.loop-file.invariant.claims own.0
+        claims = subst (λ (xs : List Claim). AreClaims (HasClaim c.args.left_out.now c.args.image.now) (block_count c.args.image.now) (c.loop-file.file + 1) xs) (sym items)
+            (claims_more (HasClaim c.args.left_out.now c.args.image.now) (block_count c.args.image.now) c.loop-file.file c.loop-file.claims.items c.loop-file.invariant.claims (own_blocks c.args.image.now c.loop-file.file) w.note.new.claims
+            (λ block l. (λ m. (own.0, m), λ has. has.1))
             (λ block l.
             subst (λ (old : List Claim). IsNoted c.loop-file.file (own_blocks c.args.image.now c.loop-file.file) old w.note.new.claims block) w.deref_mut.ensures.value
             (subst (λ (xs : List ℕ). IsNoted c.loop-file.file xs w.deref_mut.result.now w.note.new.claims block) (w.deref.ensures.value ∙ own.1)
@@ -28,8 +29,9 @@ loop-file-preserved c = elim c.match-branch-4.branch [
       })
   | in_default w ↦ record {
     size = ap (λ (v : Vec Claim Global). length v.items) w.claims-is ∙ c.loop-file.invariant.size;
-    claims = subst (λ (v : Vec Claim Global). AreClaims c.args.left_out.now c.args.image.now (c.loop-file.file + 1) v.items) (sym w.claims-is)
-        (claims_same c.args.left_out.now c.args.image.now c.loop-file.file c.loop-file.claims.items c.loop-file.invariant.claims (rw w.in_default.is at c.in_ok-blocks.ensures.own));
+    claims = subst (λ (v : Vec Claim Global). AreClaims (HasClaim c.args.left_out.now c.args.image.now) (block_count c.args.image.now) (c.loop-file.file + 1) v.items) (sym w.claims-is)
+        (claims_same (HasClaim c.args.left_out.now c.args.image.now) (block_count c.args.image.now) c.loop-file.file c.loop-file.claims.items c.loop-file.invariant.claims
+        (λ block has. (rw w.in_default.is at c.in_ok-blocks.ensures.own) has.0));
     users = c.in_ok-blocks.ensures.users;
   }
 ]
@@ -37,4 +39,7 @@ loop-file-preserved c = elim c.match-branch-4.branch [
 pub returns : goal.returns
 returns c =
     let all : c.loop-file.file ≡ block_count c.args.image.now = omega arith in
-    record { size = c.loop-file.invariant.size; right = subst (λ (n : ℕ). AreClaims c.args.left_out.now c.args.image.now n c.loop-file.claims.items) all c.loop-file.invariant.claims }
+    record {
+      size = c.loop-file.invariant.size;
+      right = subst (λ (n : ℕ). AreClaims (HasClaim c.args.left_out.now c.args.image.now) (block_count c.args.image.now) n c.loop-file.claims.items) all c.loop-file.invariant.claims;
+    }

@@ -1,11 +1,12 @@
 use Rattle.ados_sound.proofs.Common.{◌≡◌, ◌<◌, ◌/◌, arith, in_extensions, data_needed}
 use Rattle.ados_sound.proofs.OwnBlocks.{all_data, gathered_more, holder_below, holder_read, holder_there, named_block}
-use Rattle.ados_sound.proofs.SoundParts.{lawful_few}
 use Rattle.ados_sound.proofs.intact.named_blocks.Goals as goal
 
 pub returns-then-needed-blocks : goal.returns-then-needed-blocks
-returns-then-needed-blocks c = λ h.
-    absurd (omega (arith, lawful_few c.args.image.now c.args.file h.lawful, c.if-needed-blocks.true, c.data_needed-needed.ensures, c.blocks-2.ensures.count))
+returns-then-needed-blocks c = λ h. absurd (omega (arith, h.few, c.if-needed-blocks.true, c.data_needed-needed.ensures, c.blocks-2.ensures.count))
+
+pub returns-in_default : goal.returns-in_default
+returns-in_default c = λ h. (rw c.in_default.is at c.in_ok-blocks.ensures) h.holders
 
 pub index-holder-requires : goal.index-holder-requires
 index-holder-requires c =
@@ -31,4 +32,4 @@ loop-i-preserved c =
 pub returns : goal.returns
 returns c =
     let count : c.loop-i.i ≡ data_needed c.args.image.now c.args.file = omega (arith, c.loop-i-test.false, c.loop-i.auto.i-end, c.data_needed-needed.ensures) in
-    ((rw c.in-Some.is at c.in_ok-blocks.ensures).0, all_data c.args.image.now c.args.file c.loop-i.blocks.items c.loop-i.i c.loop-i.invariant count)
+    (record { few = omega (arith, c.if-needed-blocks.false, c.data_needed-needed.ensures, c.blocks-2.ensures.count); holders = (rw c.in-Some.is at c.in_ok-blocks.ensures).0 }, all_data c.args.image.now c.args.file c.loop-i.blocks.items c.loop-i.i c.loop-i.invariant count)
