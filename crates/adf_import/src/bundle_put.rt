@@ -148,10 +148,14 @@ fn put_entry(
     match put_item(alloc, volume, item, content, how, progress) {
         Ok(true) => Ok(()),
         Ok(false) => Err(unusable(alloc, item.path, FileWhy::Twice)),
-        Err(InFault::Refused(Refused {
-            error: DosError::ObjectExists,
-            path,
-        })) => Err(InFault::Source(SourceFault::File {
+        Err(
+            InFault::Refused(
+                Refused {
+                    error: DosError::ObjectExists,
+                    path,
+                },
+            ),
+        ) => Err(InFault::Source(SourceFault::File {
             path,
             why: FileWhy::Twice,
         })),

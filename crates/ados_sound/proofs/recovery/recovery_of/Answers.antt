@@ -35,7 +35,7 @@ returns-then-eq c =
       intact,
       all_free c.args.known.now.image c.args.header intact c.deref.result.now (c.deref.ensures.value ∙ known.1) c.in_default-use_of.ensures,
       none_shared c.args.known.now.image c.args.header c.requires.header intact.is_file known.0.holders c.args.named.now c.requires.named c.deref-2.result.now
-      (c.deref-2.ensures.value ∙ known.1) (sym c.count_several-shared.ensures ∙ omega (arith, c.if-shared-gt0.false)),
+          (c.deref-2.ensures.value ∙ known.1) (sym c.count_several-shared.ensures ∙ omega (arith, c.if-shared-gt0.false)),
       omega (arith, c.len-all.ensures, c.in-Some.blocks.ok.0, ap length known.1),
     )
 
