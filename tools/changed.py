@@ -95,6 +95,7 @@ ROWS = [
     ("tools/pictures.py", ""),
     ("tools/reading.py", ""),
     ("tools/gate_minutes", ""),
+    ("tools/mixed_check", ""),
     ("tools/command_table.py", "completions dist"),
     ("tools/completions/*", "completions jip dist"),
     ("tools/jip_manual.py", "jip"),
