@@ -318,8 +318,8 @@ def other_files(room: Room) -> None:
     ran = room.run("check", "other.adf", "more.adf")
     begins = "other.adf: block 0: not an AmigaDOS disk: its boot block begins with B4 33 75 1B (a game's own format, perhaps)"
     counts = reasons("1 NotWholeBlocks (no whole number of blocks)", "1 NotADosDisk (not an AmigaDOS disk)")
-    texts = "".join(f"{it}\n" for it in (begins, f"more.adf: 1,234 bytes {whole}", totals(0, 2), counts))
-    room.report.same("other files: several, each with its first fault", ran, Ran(3, lines, texts.encode()))
+    said = "".join(f"{it}\n" for it in (begins, f"more.adf: 1,234 bytes {whole}", totals(0, 2), counts))
+    room.report.same("other files: several, each with its first fault", ran, Ran(3, lines, said.encode()))
 
 
 # ---- the next command for a refused image
@@ -349,16 +349,16 @@ def next_commands(room: Room) -> None:
         room.report.same(f"the next command for {shown}", room.run("check", "--", name), Ran(3, f"{refused}\n".encode(), f"{text}\n{saves(shown, word)}\n".encode()))
         if word != "IMAGE":
             saved = f"adf_serve extract --damaged --to saved {word}".replace("adf_serve", str(room.program))
-            ran = subprocess.run(["sh", "-c", saved], stdout=subprocess.PIPE, stderr=subprocess.PIPE)
+            ended = subprocess.run(["sh", "-c", saved], stdout=subprocess.PIPE, stderr=subprocess.PIPE)
             whole = room.content("saved/top") == files["top"]
-            room.report.same(f"the command for {shown} saves its files", (ran.returncode, whole), (3, True))
+            room.report.same(f"the command for {shown} saves its files", (ended.returncode, whole), (3, True))
             shutil.rmtree("saved", ignore_errors=True)
     names = sorted(SHOWN_NAMES)
     ran = room.run("check", "--", *names)
-    shown = [it.replace("\x1b", "%1B") for it in names]
-    told = [it for name, bare in zip(names, shown) for it in (f"{bare}: {text}", saves(bare, SHOWN_NAMES[name]))]
+    bares = [it.replace("\x1b", "%1B") for it in names]
+    told = [it for name, bare in zip(names, bares) for it in (f"{bare}: {text}", saves(bare, SHOWN_NAMES[name]))]
     counts = [totals(0, len(names)), reasons(f"{len(names)} BadType (wrong type of block)")]
-    room.report.same("the next commands for several", ran, Ran(3, lines_with(shown, refused), "".join(f"{it}\n" for it in [*told, *counts]).encode()))
+    room.report.same("the next commands for several", ran, Ran(3, lines_with(bares, refused), "".join(f"{it}\n" for it in [*told, *counts]).encode()))
     room.write("first.adf", bad + bytes(BLOCK))
     ran = room.run("check", "--blocks", str(good.blocks), "first.adf")
     room.report.check("with the first blocks of a file", ran, 3, f"{refused}\n".encode(), saves("first.adf", f"--blocks {good.blocks} first.adf"))

@@ -1030,13 +1030,14 @@ def short_output(room: Shared) -> None:
     room.done("add", *MOMENT, "--out", "long.adf", "empty.adf", "long")
     said = b"adf_serve: standard output cannot be written\n"
     most = 1_000
-    for name, words, begins, mode in (
+    writes: Sequence[Tuple[str, List[str], bytes, str]] = (
         ("print", ["print", "long.adf", "long"], b"", "wb"),
         ("print behind what is there", ["print", "long.adf", "long"], b"y" * 900, "ab"),
         ("print over what is there", ["print", "long.adf", "long"], b"y" * 2_000, "r+b"),
         ("boot --show", ["boot", "--show", "long.adf"], b"y" * 999, "ab"),
         ("a script", [], b"y" * 999, "ab"),
-    ):
+    )
+    for name, words, begins, mode in writes:
         room.write("printed", begins)
         with open("printed", mode) as printed:
             ended = subprocess.run(
@@ -1118,7 +1119,8 @@ def made_beside(room: Shared, front: Sequence[str] = ()) -> List[str]:
 
 def random_names(room: Shared) -> None:
     """Nobody can take the name of a file beside first, with or without random numbers of the host."""
-    for name, front in (("random numbers", []), ("no random numbers", ["-e", "inject=getrandom:error=ENOSYS"])):
+    ways: Sequence[Tuple[str, List[str]]] = (("random numbers", []), ("no random numbers", ["-e", "inject=getrandom:error=ENOSYS"]))
+    for name, front in ways:
         made = [it for _ in range(3) for it in made_beside(room, front)]
         room.report.expect(f"names of files beside, with {name}", len(made) == len(set(made)) == 3, made)
 
@@ -1214,13 +1216,18 @@ def endless(room: Shared) -> None:
     room.report.check("an image of a terabyte", room.run("list", "sparse", before=little), 3, b"refused TooManyBlocks 0\n", "1,099,511,627,776 bytes are too many")
     too_long = "the script has more than 1,048,576 bytes"
     room.report.check("a script of a terabyte", room.run("serve", "empty.adf", "sparse", before=little), 3, b"1 fault line 0\n", too_long)
-    for words, status, output in (([], 3, b"1 fault line 0\n"), (["list", "-"], 3, b"refused TooManyBlocks 0\n"), (["check", "-"], 3, b"refused TooManyBlocks 0\n")):
+    runs: Sequence[Tuple[List[str], int, bytes]] = (
+        ([], 3, b"1 fault line 0\n"),
+        (["list", "-"], 3, b"refused TooManyBlocks 0\n"),
+        (["check", "-"], 3, b"refused TooManyBlocks 0\n"),
+    )
+    for words, status, output in runs:
         before = used_by_children()
         with open("sparse", "rb") as sparse:
             ended = subprocess.run([str(room.program), *words], stdin=sparse, capture_output=True, preexec_fn=little, timeout=LONGEST)
         took, ran = used_by_children() - before, Ran(ended.returncode, ended.stdout, ended.stderr)
         name = f"standard input of a terabyte, {' '.join(words) or 'as a script'}"
-        is_told = words or too_long.encode() in ran.texts
+        is_told = bool(words) or too_long.encode() in ran.texts
         room.report.expect(name, (ran.status, ran.output) == (status, output) and is_told, ran)
         room.report.expect(f"{name}: at once", took < AT_ONCE, f"{took} seconds")
     os.remove("sparse")
@@ -1586,16 +1593,19 @@ def asked_blocks(blocks: int, room: Shared) -> None:
     hang(image, image.root, places[0])
     room.write("shares.adf", bytes(image.data))
     for times in (1, 3):
-        for form in ([], ["--json"]):
+        for form in FORMS:
             status, count, said = counted(room, ["where", *form, "shares.adf", *[str(named)] * times])
             name = f"where {' '.join(form)} of a block that all name, {times} times, of {blocks} blocks"
             room.report.expect(name, status == 3 and count > times * len(places) * POINTERS * 20, (status, count, said[-200:]))
     room.write("deep.adf", deep_chain(room.content("blank.adf")))
     # (the stack of one MB has room for some 15,000 words)
     asked = [str(it) for it in range(0, blocks, -(-blocks // 10_000))]
-    for form in ([], ["--json"]):
+    for form in FORMS:
         bounded(room, blocks, f"where {' '.join(form)} of the blocks of a chain of directories", ["where", *form, "deep.adf", *asked], 0)
 
+
+# No option, and that for JSON.
+FORMS: Sequence[List[str]] = ([], ["--json"])
 
 # The most bytes that a report on directories in one another may have: some thousand paths of up to 4,095 bytes, and a line each.
 MOST_TOLD = 24 << 20
@@ -1608,7 +1618,7 @@ def found_chain(blocks: int, room: Shared) -> None:
     places = places_in(image)
     parents_up(image, places, len(places))
     room.write("found.adf", refused(image))
-    for form in ([], ["--json"]):
+    for form in FORMS:
         told = bounded(room, blocks, f"a report {' '.join(form)} on a chain of directories", ["extract", "--damaged", "--list", *form, "found.adf"], 3)
         name, cut = f"a report {' '.join(form)} on directories in one another of {blocks} blocks", told.count(b"the entry at block ")
         # (`lost+found` and `/d` again and again: 2,042 of them have 4,094 bytes)
