@@ -230,11 +230,13 @@ class Account(Disk):
         self.bitmap = Bitmap(self, shown)
         self.pages = self.bitmap_blocks()
         self.reached_blocks = {block for block, _ in shown.reached}
+        self.reached_entries = {block for block, role in shown.reached if role.what == "entry"}
         self.deleted = {it for it in self.sound if self.is_deleted(it)} if rules.deleted else set()
         self.places: Dict[int, List[Place]] = defaultdict(list)
-        self.told = self.headers()
+        self.told = self.headers_of_accepted() if self.is_accepted else self.headers()
         self.lost = [it for it in self.places if it not in self.told and it not in self.sound]
-        self.intact = {it: blocks for it in self.sound - self.deleted if (blocks := self.sound_blocks(it)) is not None}
+        kept = self.told if self.is_accepted else self.sound - self.deleted
+        self.intact = {it: blocks for it in kept if (blocks := self.sound_blocks(it)) is not None}
         self.users: Dict[int, Set[int]] = defaultdict(set)
         for file, blocks in self.intact.items():
             for block in [*blocks.heads, *blocks.data]:
@@ -258,6 +260,11 @@ class Account(Disk):
 
     def is_deleted(self, block: int) -> bool:
         return self.bitmap.is_trusted and block not in self.reached_blocks and self.bitmap.is_free(block)
+
+    def headers_of_accepted(self) -> Set[int]:
+        """The headers of the tree of an accepted image, and the sound ones among its lost blocks, if its bitmap can be trusted."""
+        lost = {it for it in self.sound - self.reached_blocks if self.bitmap.is_trusted and not self.bitmap.is_free(it)}
+        return self.reached_entries | lost
 
     def places_in(self, holder: int) -> Iterator[Tuple[int, Place]]:
         """The accepted places of a header that is told, or of the root."""
@@ -313,7 +320,13 @@ class Account(Disk):
         return self.long(file, 4) == (data[0] if data else 0)
 
     def is_whole(self, file: int) -> bool:
-        return file in self.intact and all(self.users[it] == {file} for part in self.intact[file] for it in part)
+        """Only this file names its blocks. A reached one keeps them against those to which nothing leads."""
+        if file not in self.intact:
+            return False
+        users = [self.users[it] for part in self.intact[file] for it in part]
+        if file in self.reached_entries:
+            users = [it & self.reached_entries for it in users]
+        return all(it == {file} for it in users)
 
     # ---- files that are not
 
@@ -451,7 +464,7 @@ class Account(Disk):
             return self.loose_state(block) if block in self.loose else "lost"
         if self.is_directory(block):
             return "" if block in self.sound else "doubtful"
-        if self.is_accepted or self.is_whole(block):
+        if self.is_whole(block):
             self.keep(block, dict(enumerate(self.intact[block].data)), self.long(block, 81))
             return "whole"
         return self.broken_state(block)
@@ -507,7 +520,7 @@ class Walk:
         self.account = account
         above = self.above = account.in_chains()
         self.order: List[int] = list(above)
-        self.found = set() if account.is_accepted else account.told - set(above)
+        self.found = account.told - set(above)
         self.paths: Dict[int, str] = {}
         self.taken: Set[str] = set()
         for block, directory in above.items():

@@ -9,7 +9,7 @@ not hit is whole with its bytes, and the status is the one that `check` asks for
 are those of tests/disk_model.py. Without `--all`, some of the damages are tried;
 they are the same in each run.
 
-Then come images that tests/fuzz.py damages at random, 100 or N. tests/disk_model.py says what `extract --damaged` has to print and
+Then come images that tests/fuzz.py damages at random, and accepted ones with headers that nothing names, 100 or N. tests/disk_model.py says what `extract --damaged` has to print and
 to write, what `map` and `where` print of those that are accepted, and `where` of those that are refused. `--page` compares with the
 pages alone, and so shows where the program does more or less. `--keep` keeps the images that show a fault.
 """
@@ -28,11 +28,11 @@ from typing import Callable, Dict, Iterator, List, Mapping, NamedTuple, Optional
 
 sys.dont_write_bytecode = True
 
-from all_faults_model import lines_of
-from disk_model import NOW, PAGE, Account, Headers, Owners, Rules, rest_of, rest_text, rest_told
+from all_faults_model import Model, lines_of
+from disk_model import NOW, PAGE, Account, Bitmap, Disk, Headers, Owners, Rules, rest_of, rest_text, rest_told
 from drawn_volume import Drawer
 from fuzz import FEWEST, LARGEST, PER_BASE, Base, Damaged, a_chain, a_name, a_parent, a_pointer, a_size, base_of, damaged, told_of
-from harness import BLOCK, Image, Ran, Report, Room, host_name, in_memory, processors, program_of
+from harness import BLOCK, FILE, Image, Ran, Report, Room, host_name, in_memory, processors, program_of
 from where import Owned, Reading, page_of, placed_lines, places_of, words_of
 
 T = TypeVar("T")
@@ -505,13 +505,57 @@ def scattered(base: Base, seed: str, number: int) -> bytes:
     return bytes(image.data)
 
 
+def unlink(image: Damaged, key: int) -> None:
+    """Takes an entry out of its hash chain, and leaves its blocks marked used."""
+    holder, at = next((holder, at) for holder, at, named in image.places if named == key and (at == 124 or 6 <= at < 78) and holder in image.headers)
+    image.change(holder, at, image.long(key, 124))
+    image.settle(holder, 5)
+    image.places = [(holder, at, image.long(key, 124)) if it == (holder, at, key) else it for it in image.places]
+
+
+def copied_header(image: Damaged) -> None:
+    """The header of a file stands in a free block too, under its own number and another name. So it names the blocks of that file."""
+    bitmap = Bitmap(Disk(bytes(image.data)), Model(bytes(image.data)))
+    free = [it for it in range(2, image.blocks) if it not in image.used and bitmap.is_free(it)]
+    files = [it for it in image.roles["entry"] if image.long(it, 127) == FILE]
+    if not free or not files:
+        return
+    block, file = image.chance.choice(free), image.chance.choice(files)
+    image.data[BLOCK * block : BLOCK * (block + 1)] = image.data[BLOCK * file : BLOCK * (file + 1)]
+    image.put(block, 1, block)
+    image.data[BLOCK * block + 433] ^= 1
+    image.settle(block, 5)
+    page = bitmap.pages[(block - 2) // 4064]
+    at, bit = 1 + (block - 2) % 4064 // 32, (block - 2) % 32
+    image.put(page, at, image.long(page, at) & ~(1 << bit))
+    image.settle(page, 0)
+
+
+def with_old_headers(base: Base, seed: str, number: int) -> bytes:
+    """An image of which some entries are in no hash chain, though their blocks are marked used, and in which some headers stand twice. Most
+    of these are accepted; the others have one damage more."""
+    chance = random.Random(f"{seed} old {number}")
+    image = Damaged(base, chance)
+    for _ in range(chance.choice([1, 2, 5])):
+        entries = [named for holder, at, named in image.places if (at == 124 or 6 <= at < 78) and holder in image.headers and named in image.roles["entry"]]
+        chains = [it for it in entries if image.long(it, 125) in image.headers]
+        if chains:
+            unlink(image, chance.choice(chains))
+    for _ in range(chance.choice([0, 1, 4])):
+        copied_header(image)
+    if chance.random() < 0.3:
+        chance.choice([a_parent, a_name, a_chain, a_pointer, a_size])(image)
+        image.mend()
+    return bytes(image.data)
+
+
 def fault_of_base(program: Path, seed: str, rules: Rules, kept: Optional[Path], number: int) -> List[str]:
     """What is wrong with the images of a base."""
     faults = []
     with Room(program, inside=in_memory()) as room:
         base = base_of(room, seed, number)
         for at in range(number * PER_BASE, (number + 1) * PER_BASE):
-            data = (scattered if at % 5 == 4 else damaged)(base, seed, at)
+            data = {3: with_old_headers, 4: scattered}.get(at % 5, damaged)(base, seed, at)
             try:
                 Compared(room, data, rules).all()
             except Exception as fault:

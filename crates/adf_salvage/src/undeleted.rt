@@ -60,7 +60,7 @@ pub fn undelete(alloc: Global, image: Image) -> Result<UndeletedEntries, AllocEr
 fn found(alloc: Global, image: Image, deleted: Vec<Deleted>, gathered: Gathered) -> UndeletedEntries
     requires trusted { IsTrustedBitmap image }
     requires deleted { ListsDeleted image deleted.items }
-    requires gathered { AreGathered [] image gathered }
+    requires gathered { AreGathered 0 [] image gathered }
     requires each { HasEach gathered.places.items deleted.items }
     ensures { TellsUndeleted image result }
 {
@@ -91,6 +91,7 @@ fn gathered_deleted(known: &Known, deleted: &[Deleted]) -> Result<Gathered, Allo
     requires sound { AreHeaders known.now.image deleted.now }
     requires known { AreKnown known.now }
     requires all { known.now.left_out ≡ [] }
+    requires none { known.now.before ≡ 0 }
     ensures gathered { IfOk result (AreGatheredBy known.now) }
     ensures each { IfOk result (λ gathered. HasEach gathered.places.items deleted.now) }
 {

@@ -6,8 +6,11 @@ pub mod OwnBlocks
 pub mod Leaving
 pub mod Claiming
 pub mod InOrder
+pub mod Splitting
 pub mod Naming
 pub mod Heading
 pub mod Trusting
 pub mod Recovering
 pub mod ListingDeleted
+pub mod Keeping
+pub mod Hiding

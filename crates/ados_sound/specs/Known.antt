@@ -6,6 +6,7 @@ use Rattle.ados_sound.specs.declared.claims.Claim.TheVariants.{Free, One, Severa
 use Rattle.ados_sound.specs.declared.known.Known.{Known}
 use Rattle.ados_sound.specs.Deleted.{TellsTrust}
 use Rattle.ados_sound.specs.Doubtful.{IsHeader}
+use Rattle.ados_sound.specs.Found.{AreUnreached}
 use Rattle.ados_sound.specs.Marks.{mark_at}
 use Rattle.ados_sound.specs.Sound.{IsClaimant, Names}
 
@@ -35,8 +36,13 @@ pub record AreAllClaims (out image : List ℕ) (claims : List Claim) : Type 0 wh
   pub size : length claims ≡ block_count image
   pub right : AreClaims out image (block_count image) claims
 
+-- the claims are right where the headers are left out too to which the root does not lead
+abbrev pub AreReachedClaims : List ℕ → List ℕ → List Claim → Type 0
+AreReachedClaims out image claims = (unreached : List ℕ) × AreUnreached out image unreached × AreAllClaims unreached image claims
+
 -- what is known of an image is right: whether its bitmap is trusted, which blocks are headers that are told, and the files that claim blocks
 pub record AreKnown (known : Known) : Type 0 where
   pub trust : TellsTrust known.image known.trusted
   pub headers : AreHeaders known.left_out known.image known.headers.items
   pub claims : AreAllClaims known.left_out known.image known.claims.items
+  pub reached : AreReachedClaims known.left_out known.image known.reached_claims.items

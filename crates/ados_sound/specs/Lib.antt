@@ -4,6 +4,7 @@ pub mod Doubtful
 pub mod ByCensus
 pub mod Deleted
 pub mod Marks
+pub mod Found
 pub mod Known
 pub mod Listing
 pub mod steps

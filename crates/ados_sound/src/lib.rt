@@ -12,11 +12,13 @@ mod claims;
 mod data;
 mod holders;
 mod intact;
+mod unreached;
 mod whole;
 
 // Deleted entries.
 mod deleted;
 mod left_out;
+mod lost;
 mod recovery;
 mod trust;
 
