@@ -188,6 +188,16 @@ def rootless(floppy: Floppy) -> Iterator[Damage]:
     yield Damage("a bitmap block for the root", {root: floppy.data[BLOCK * page : BLOCK * (page + 1)]}, True)
 
 
+def kinds(floppy: Floppy) -> Iterator[Damage]:
+    """Each bit of the first long in turn is another one. Then the boot block is gone, and each header of a file has a wrong sum."""
+    for bit in range(32):
+        yield Flip(0, 0, bit).damage(floppy)
+    hit = {0: bytes(BLOCK)}
+    for file in floppy.files():
+        hit.update(Flip(file, 105, 0).damage(floppy).hit)
+    yield Damage("no boot block and no sound header of a file", hit)
+
+
 # ---- the account
 
 
@@ -366,7 +376,7 @@ def some(damages: Iterator[Damage], count: Optional[int], chance: random.Random)
 def jobs_of(bases: Sequence[Floppy], is_all: bool) -> List[Job]:
     """The damages of each floppy: all of them, or some."""
     jobs: List[Job] = []
-    kinds: List[Tuple[str, Callable[[Floppy], Iterator[Damage]], int]] = [("a track of noise", tracks, 12), ("a block of zeros", zeros, 25), ("no root", rootless, 5)]
+    kinds: List[Tuple[str, Callable[[Floppy], Iterator[Damage]], int]] = [("a track of noise", tracks, 12), ("a block of zeros", zeros, 25), ("no root", rootless, 5), ("another kind", kinds, 33)]
     for number, floppy in enumerate(bases):
         chance = random.Random(f"damages {number}")
         jobs += [Job("a flipped bit", number, it) for it in flips(floppy, chance, 61 if is_all else 10)]

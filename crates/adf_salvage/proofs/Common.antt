@@ -9,9 +9,10 @@ pub use Rattle.ados_sound.specs.Deleted.{AreDeleted, IsTrustedBitmap}
 pub use Rattle.ados_sound.specs.Doubtful.{IsHeader}
 pub use Rattle.ados_sound.specs.declared.deleted.Deleted.{Deleted}
 pub use Rattle.ados_sound.specs.declared.known.Known.{Known}
+pub use Rattle.adf_salvage.specs.Kind.{IsReadAs}
 pub use Rattle.adf_salvage.specs.Lost.{IsLost}
 unfoldable pub use Rattle.adf_salvage.specs.Salvaged.{broken_total, ended}
-pub use Rattle.adf_salvage.specs.Salvaged.{AreApart, AreOfTree, AreSalvaged, FindsLost, FindsNone, HoldsAll, IsListed, IsLoose, IsLostEntry, IsOfTree, IsReadAs, IsTold, Salvages, Saved, SavesRest, SavesSound, SavesTree, broken_length, headers_of, located_of}
+pub use Rattle.adf_salvage.specs.Salvaged.{AreApart, AreOfTree, AreSalvaged, FindsLost, FindsNone, HoldsAll, IsListed, IsLoose, IsLostEntry, IsOfTree, IsTold, Salvages, Saved, SavesRest, SavesSound, SavesTree, broken_length, headers_of, located_of}
 pub use Rattle.adf_salvage.specs.declared.gathered.Gathered.{Gathered}
 pub use Rattle.adf_salvage.specs.declared.giving.Piece.{Piece}
 pub use Rattle.adf_salvage.specs.declared.salvaged.Salvaged.{Salvaged}

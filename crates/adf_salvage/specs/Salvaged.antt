@@ -1,8 +1,5 @@
 -- The descriptions of an image's entries.
 use Rattle.std.specs.Prelude.{◌≡◌, ◌≢◌, ℕ, zero, suc, ◌+◌, ◌*◌, ◌≤◌, ◌⊎◌, Bool, MatchBool, List, [], ◌∷◌, ◌++◌, decimal, length, All, AllPairs, Contains, map, None, Some, true, false, ⊤}
-use Rattle.adf_block.specs.Boot.{HasKind}
-use Rattle.adf_block.specs.declared.boot.BootKind.TheVariants.{Ofs, Ffs}
-use Rattle.adf_block.specs.Frame.{OnlyLong}
 use Rattle.adf_block.specs.Fields.{protection}
 use Rattle.adf_block.specs.Image.{byte_at}
 use Rattle.adf_block.specs.declared.layout.TheConstants.{COMMENT_BYTE, DATE, NAME_BYTE}
@@ -26,6 +23,7 @@ use Rattle.adf_salvage.specs.declared.salvaged.HeaderState.TheVariants as heads
 use Rattle.adf_salvage.specs.declared.salvaged.Salvaged.{Salvaged}
 use Rattle.adf_salvage.specs.declared.salvaged.State.{State}
 use Rattle.adf_salvage.specs.declared.salvaged.State.TheVariants as states
+use Rattle.adf_salvage.specs.Kind.{IsReadAs}
 use Rattle.adf_salvage.specs.Loose.{IsLooseData}
 use Rattle.adf_salvage.specs.Lost.{IsLost}
 
@@ -163,11 +161,6 @@ pub record AreOfTree (t : Tree) (saved : Saved) : Type 0 where
 -- each block is given once: no block is given to two files, or twice to one
 abbrev pub AreApart : List Piece → Type 0
 AreApart given = AllPairs (λ piece other. piece.block ≢ other.block) given
-
--- the image with a valid kind: unchanged, except that other first four bytes are replaced
-pub record IsReadAs (image read : List ℕ) : Type 0 where
-  pub known : HasKind image Ofs ⊎ HasKind image Ffs → read ≡ image
-  pub rest : OnlyLong 0 0 image read
 
 -- the bitmap is trusted or not. The deleted entries are left out, and the entries are all others that are told; no block is given to two files, and all files
 -- that are not whole have together at most four times the bytes of the image

@@ -21,6 +21,7 @@ mod told;
 mod undeleted;
 mod unnamed;
 mod unreached;
+mod votes;
 
 pub use giving::Piece;
 pub use salvaged::{HeaderState, Salvaged, State};

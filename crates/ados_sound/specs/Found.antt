@@ -1,10 +1,16 @@
 -- Headers to which the root does not lead: which files keep their blocks against them, and which of them an accepted image still has.
-use Rattle.std.specs.Prelude.{ℕ, ◌⊎◌, List, All, Contains}
+use Rattle.std.specs.Prelude.{ℕ, ◌<◌, ◌⊎◌, List, All, AllPairs, Contains}
 use Rattle.adf_block.specs.Whole.{HasFreeBit}
 use Rattle.ados_model.specs.declared.role.Role.{Role}
 use Rattle.ados_model.specs.Faults.{InImage, IsEntry, Reached}
 use Rattle.ados_sound.specs.Doubtful.{LooksLikeHeader}
 use Rattle.ados_sound.specs.Sound.{IsSoundHeader, IsWhole}
+
+-- exactly the entries to which the root leads, in order
+pub record AreEntries (image blocks : List ℕ) : Type 0 where
+  pub in_order : AllPairs (λ a b. a < b) blocks
+  pub each : All (IsEntry image) blocks
+  pub all : (block : ℕ) → IsEntry image block → Contains blocks block
 
 -- headers that are left out: those that are left out anyway, and each sound header that the root does not lead to as an entry
 pub record AreUnreached (out image unreached : List ℕ) : Type 0 where
