@@ -10,7 +10,7 @@ ghost use Rattle.adf_rescue.specs.steps.Reporting.{IsPart, rest_of};
 use crate::plan::Plan;
 use crate::rescue_object::{entry_object, front_text, is_told, rest_object};
 use adf_account::unaccounted_blocks;
-use adf_block::Image;
+use adf_block::{Format, Image};
 use adf_host::{OwnedFile, PromptFiles};
 use adf_io::{PrintFault, write_text, write_when_long};
 use adf_salvage::{HeaderState, Salvage, Salvaged, State, salvage};
@@ -107,6 +107,11 @@ fn doubt_of(state: State) -> Option<Doubt>
 }
 
 impl Rescue {
+    /// The kind of disk as which the image was read.
+    pub fn format(&self) -> Format {
+        self.salvage.image().format()
+    }
+
     /// The number of entries.
     pub fn len(&self) -> usize {
         self.salvage.entries().len()

@@ -4,14 +4,14 @@ use Rattle.adf_salvage.proofs.Growing.{broken_more}
 use Rattle.adf_salvage.proofs.Saving.{all_salvaged}
 
 -- no file without a header was added yet
-pub settles_none : (known : Known) (gathered : Gathered) → AreGatheredBy known gathered → AreAllHeaders known gathered.places.items
+pub settles_none : (known : Known) (gathered : Gathered) → known.before ≡ 0 → AreGatheredBy known gathered → AreAllHeaders known gathered.places.items
     → ((block : ℕ) → IsLost known.left_out known.image block → IsSome (place_at gathered.places.items block)) → AreSettled known 0 gathered
-settles_none known gathered by met lost =
+settles_none known gathered none by met lost =
     let g = by.so_far in
     let headers : List ℕ = headers_of gathered.entries.items in
     record {
       sure = by.sure;
-      salvaged = all_salvaged known gathered g met lost;
+      salvaged = all_salvaged known gathered g none met lost;
       placed = λ block there.
           let is : slice_index headers there.0 ≡ block = get_or_default headers there.0 0 block there.1 ∙ there.2 in
           inl (subst (λ (b : ℕ). IsSome (place_at gathered.places.items b)) is (ap is_some (g.placed there.0 there.1)));

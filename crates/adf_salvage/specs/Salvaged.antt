@@ -1,8 +1,5 @@
 -- The descriptions of an image's entries.
-use Rattle.std.specs.Prelude.{◌≡◌, ◌≢◌, ℕ, zero, suc, ◌+◌, ◌*◌, ◌≤◌, ◌⊎◌, Bool, List, [], ◌∷◌, ◌++◌, decimal, length, All, AllPairs, Contains, map, None, Some, true, false, ⊤}
-use Rattle.adf_block.specs.Boot.{HasKind}
-use Rattle.adf_block.specs.declared.boot.BootKind.TheVariants.{Ofs, Ffs}
-use Rattle.adf_block.specs.Frame.{OnlyLong}
+use Rattle.std.specs.Prelude.{◌≡◌, ◌≢◌, ℕ, zero, suc, ◌+◌, ◌*◌, ◌≤◌, ◌⊎◌, Bool, MatchBool, List, [], ◌∷◌, ◌++◌, decimal, length, All, AllPairs, Contains, map, None, Some, true, false, ⊤}
 use Rattle.adf_block.specs.Fields.{protection}
 use Rattle.adf_block.specs.Image.{byte_at}
 use Rattle.adf_block.specs.declared.layout.TheConstants.{COMMENT_BYTE, DATE, NAME_BYTE}
@@ -18,13 +15,15 @@ use Rattle.ados_volume.specs.Below.{AreBelow, placed}
 use Rattle.ados_volume.specs.declared.below.Below.{Below}
 use Rattle.ados_sound.specs.Deleted.{AreDeleted, TellsTrust}
 use Rattle.ados_sound.specs.Doubtful.{IsDoubtfulHeader, IsHeader, IsToldHeader}
-use Rattle.ados_sound.specs.Sound.{IsSoundHeader, IsWhole}
+use Rattle.ados_sound.specs.Found.{AreHidden, IsLostHeader, IsSavedWhole}
+use Rattle.ados_sound.specs.Sound.{IsSoundHeader}
 use Rattle.adf_salvage.specs.declared.giving.Piece.{Piece}
 use Rattle.adf_salvage.specs.declared.salvaged.HeaderState.{HeaderState}
 use Rattle.adf_salvage.specs.declared.salvaged.HeaderState.TheVariants as heads
 use Rattle.adf_salvage.specs.declared.salvaged.Salvaged.{Salvaged}
 use Rattle.adf_salvage.specs.declared.salvaged.State.{State}
 use Rattle.adf_salvage.specs.declared.salvaged.State.TheVariants as states
+use Rattle.adf_salvage.specs.Kind.{IsReadAs}
 use Rattle.adf_salvage.specs.Loose.{IsLooseData}
 use Rattle.adf_salvage.specs.Lost.{IsLost}
 
@@ -54,9 +53,9 @@ HasHeaderState out image block heads.Gone = ⊥
 abbrev pub HasState : List ℕ → List ℕ → ℕ → State → Type 0
 HasState out image block states.Directory = IsSoundHeader image block × HasDirectoryType image block
 HasState out image block states.DoubtfulDirectory = IsDoubtfulHeader out image block × HasDirectoryType image block
-HasState out image block states.Whole = IsWhole out image block
-HasState out image block (states.Doubtful heading length) = HasHeaderState out image block heading × HasFileType image block × ¬ IsWhole out image block
-HasState out image block (states.Broken missing cut length) = HasFileType image block × ¬ IsWhole out image block
+HasState out image block states.Whole = IsSavedWhole out image block
+HasState out image block (states.Doubtful heading length) = HasHeaderState out image block heading × HasFileType image block × ¬ IsSavedWhole out image block
+HasState out image block (states.Broken missing cut length) = HasFileType image block × ¬ IsSavedWhole out image block
 HasState out image block states.Lost = ⊥
 
 -- the header is sound or doubtful, and the description has its fields, but for a comment that is too long; where the entry is, and whether it
@@ -150,19 +149,18 @@ pub record IsOfTree (image : List ℕ) (t : Tree) (entry : Salvaged) : Type 0 wh
 abbrev pub located_of : Salvaged → Below
 located_of entry = placed entry.above entry.header
 
--- all entries of the tree below its root, in their order
+-- all entries of the tree below its root, in their order, and behind them only found ones
 pub record AreOfTree (t : Tree) (saved : Saved) : Type 0 where
-  pub below : AreBelow t None 0 (entries t (root t)) (map located_of saved.entries)
-  pub told : All (IsOfTree saved.image t) saved.entries
+  pub tree : List Salvaged
+  pub found : List Salvaged
+  pub all : saved.entries ≡ tree ++ found
+  pub below : AreBelow t None 0 (entries t (root t)) (map located_of tree)
+  pub told : All (IsOfTree saved.image t) tree
+  pub besides : All (λ entry. entry.found ≡ true) found
 
 -- each block is given once: no block is given to two files, or twice to one
 abbrev pub AreApart : List Piece → Type 0
 AreApart given = AllPairs (λ piece other. piece.block ≢ other.block) given
-
--- the image with a valid kind: unchanged, except that other first four bytes are replaced
-pub record IsReadAs (image read : List ℕ) : Type 0 where
-  pub known : HasKind image Ofs ⊎ HasKind image Ffs → read ≡ image
-  pub rest : OnlyLong 0 0 image read
 
 -- the bitmap is trusted or not. The deleted entries are left out, and the entries are all others that are told; no block is given to two files, and all files
 -- that are not whole have together at most four times the bytes of the image
@@ -173,13 +171,30 @@ pub record SavesSound (saved : Saved) : Type 0 where
   pub apart : AreApart saved.given
   pub bounded : broken_total saved.entries ≤ 4 * length saved.image
 
+-- beside its tree, the entries of an accepted image are the sound headers among its lost blocks, found. Where hidden headers are
+-- left out, each has its fields. No block is given to two files, and the files that are not whole have together at most four times the
+-- bytes of the image
+pub record FindsLost (saved : Saved) : Type 0 where
+  pub out : List ℕ
+  pub hidden : AreHidden saved.image out
+  pub told : All (λ entry. entry.found ≡ true → IsSalvaged out saved.image entry) saved.entries
+  pub once : AllPairs (λ a b. a ≢ b) (headers_of saved.entries)
+  pub all : (block : ℕ) → IsLostHeader saved.image block → Contains (headers_of saved.entries) block
+  pub apart : AreApart saved.given
+  pub bounded : broken_total saved.entries ≤ 4 * length saved.image
+
+-- no entry is found
+abbrev pub FindsNone : Saved → Type 0
+FindsNone saved = All (λ entry. entry.found ≡ false) saved.entries
+
 -- the image was accepted, possibly with a new bitmap, and these are the entries of its tree, and its deleted entries; its
--- bitmap, as it was given, is trusted or not
+-- bitmap, as it was given, is trusted or not. Where it is, the sound headers among the lost blocks are found, and else none
 pub record SavesTree (image : List ℕ) (saved : Saved) : Type 0 where
   pub accepted : saved.accepted ≡ true
   pub validated : Bool
   pub accepts : Accepts image validated saved.image
   pub tree : (t : Tree) → Stands saved.image t → AreOfTree t saved
+  pub beside : MatchBool saved.trusted (FindsLost saved) (FindsNone saved)
   pub trust : TellsTrust image saved.trusted
   pub deleted : AreDeleted image saved.deleted
 

@@ -2,7 +2,8 @@
 ghost use Rattle.std.specs.Prelude.{ℕ, List, IfOk};
 ghost use Rattle.ados_model.specs.Stands.{Stands};
 ghost use Rattle.ados_model.specs.Tree.{Tree};
-ghost use Rattle.adf_salvage.specs.Salvaged.{AreOfTree, IsReadAs, Salvages, SavesRest};
+ghost use Rattle.adf_salvage.specs.Kind.{IsReadAs};
+ghost use Rattle.adf_salvage.specs.Salvaged.{AreOfTree, Salvages, SavesRest};
 
 use crate::chains::add_reached;
 use crate::gathered::Gathered;
@@ -23,8 +24,8 @@ use std::alloc::{AllocError, Global};
 /// For an image that the check accepts, these are the entries of its tree. For any other, they are its sound and doubtful
 /// headers, first those along hash chains from the root and then the others, and then its lost entries. In OFS, data blocks that
 /// name no such header make a file, in place of the lost entry with that header, or else behind all others. Deleted entries are
-/// left out, if the bitmap can be trusted: they claim no blocks, so a file that has such blocks now can be whole. If its first four
-/// bytes are neither OFS nor FFS, it is read as the kind that its blocks suggest. A block is given to one file at most of
+/// left out, if the bitmap can be trusted: they claim no blocks, so a file that has such blocks now can be whole. It is read as the
+/// kind that its blocks say, whatever its boot block says (`with_kind`). A block is given to one file at most of
 /// those that are not whole, to the first in this order, and all of these together have at most four times the bytes of the
 /// image.
 ///
@@ -37,7 +38,10 @@ pub fn salvage(alloc: Global, image: Image) -> Result<Salvage, AllocError>
         Ok(volume) => volume_entries(alloc, volume),
         Err(rejected) => match rejected.fault.kind {
             FaultKind::NoMemory => Err(AllocError),
-            _ => told_headers(alloc, with_kind(rejected.image)),
+            _ => {
+                let image = with_kind(alloc, rejected.image)?;
+                told_headers(alloc, image)
+            }
         },
     }
 }

@@ -25,6 +25,7 @@ pub(crate) fn told_of(
     ensures told { (out : List ℕ) → IsHeader out image.now block → HasState out image.now block state → IsSalvaged out image.now result }
     ensures header { result.header ≡ block }
     ensures state { result.state ≡ state }
+    ensures found { result.found ≡ standing.found }
 {
     let Some(name) = name_of(image, block) else {
         unreachable!()

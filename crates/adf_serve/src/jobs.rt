@@ -47,18 +47,18 @@ where
             let new = NewVolume { format: *format, blocks: *blocks, moment: *moment, name: *name, letters: *letters };
             make_blank(rt, alloc, new, *file, faults)
         }
-        ImageJob::Info { file } => print_query(rt, alloc, *file, Query::Disk, screen.styled, writer),
+        ImageJob::Info { file } => print_query(rt, alloc, *file, Query::Disk, screen.styled, writer, faults),
         ImageJob::Show { image, json } => {
-            print_query(rt, alloc, *image, Query::Look(Look::Volume { json: *json }), screen.styled, writer)
+            print_query(rt, alloc, *image, Query::Look(Look::Volume { json: *json }), screen.styled, writer, faults)
         }
         ImageJob::Map { image, json } => {
-            print_query(rt, alloc, *image, Query::Look(Look::Map { json: *json }), screen.styled, writer)
+            print_query(rt, alloc, *image, Query::Look(Look::Map { json: *json }), screen.styled, writer, faults)
         }
         ImageJob::Where(job) => tell_where(rt, alloc, job, writer, faults),
-        ImageJob::WherePath { image, path } => print_query(rt, alloc, *image, Query::Entry(*path), screen.styled, writer),
-        ImageJob::ShowBoot { image } => print_query(rt, alloc, *image, Query::Look(Look::Boot), screen.styled, writer),
-        ImageJob::List(job) => print_query(rt, alloc, job.image, Query::List(job), screen.styled, writer),
-        ImageJob::Print { image, path } => print_query(rt, alloc, *image, Query::Bytes(*path), screen.styled, writer),
+        ImageJob::WherePath { image, path } => print_query(rt, alloc, *image, Query::Entry(*path), screen.styled, writer, faults),
+        ImageJob::ShowBoot { image } => print_query(rt, alloc, *image, Query::Look(Look::Boot), screen.styled, writer, faults),
+        ImageJob::List(job) => print_query(rt, alloc, job.image, Query::List(job), screen.styled, writer, faults),
+        ImageJob::Print { image, path } => print_query(rt, alloc, *image, Query::Bytes(*path), screen.styled, writer, faults),
         ImageJob::Check(job) => match check_archive(rt, alloc, job, screen.progress, writer, faults) {
             Ok(()) => Ok(()),
             Err(fault) => Err(CommandFault::from(fault)),
@@ -67,7 +67,7 @@ where
         ImageJob::ExtractBundle { image, to } => take_bundle(rt, alloc, *image, *to),
         ImageJob::AddBundle { target, from } => put_bundle(rt, alloc, *target, *from),
         ImageJob::Salvage(job) => take_rescue(rt, alloc, job, writer, faults),
-        ImageJob::Undelete(job) => print_query(rt, alloc, job.image, Query::Deleted(job), screen.styled, writer),
+        ImageJob::Undelete(job) => print_query(rt, alloc, job.image, Query::Deleted(job), screen.styled, writer, faults),
         ImageJob::Change(job) => change(rt, alloc, job, faults),
         ImageJob::Validate { target, force } => validate_file(rt, alloc, *target, *force, writer),
         ImageJob::Boot { target, block } => change_boot(rt, alloc, *target, *block),

@@ -19,6 +19,7 @@ mod screen;
 mod blocks;
 mod deleted;
 mod info;
+mod kind_line;
 mod look;
 mod moving;
 mod query;

@@ -33,14 +33,16 @@ pub(crate) enum Query<'a, 'b> {
     Look(Look),
 }
 
-/// Prints what is asked of the image of a file. With `styled` text for people has bold letters.
-pub(crate) fn print_query<'a, R: Files<File = File> + PromptFiles, W: Write>(
+/// Prints what is asked of the image of a file. With `styled` text for people has bold letters. `faults` gets a line if deleted entries
+/// are read from another kind of disk than the boot block says.
+pub(crate) fn print_query<'a, R: Files<File = File> + PromptFiles, W: Write, F: Write>(
     rt: &R,
     alloc: Global,
     file: ImageFile<'a>,
     query: Query<'a, '_>,
     styled: bool,
     writer: &mut W,
+    faults: &mut F,
 ) -> Result<(), CommandFault<'a>>
     ensures { TellsSome (IsQueryText query.entry) (BeginsQueryText query.entry) (W.contents writer.old) (W.contents writer.new) result }
 {
@@ -50,7 +52,7 @@ pub(crate) fn print_query<'a, R: Files<File = File> + PromptFiles, W: Write>(
         Query::List(job) => tell_list(alloc, image, job, styled, writer),
         Query::Bytes(path) => tell_bytes(alloc, image, path, writer),
         Query::Entry(path) => tell_entry(alloc, image, path, writer),
-        Query::Deleted(job) => tell_deleted(rt, alloc, image, job, writer),
+        Query::Deleted(job) => tell_deleted(rt, alloc, image, job, writer, faults),
         Query::Look(look) => tell_look(alloc, image, look, styled, writer),
     }
 }

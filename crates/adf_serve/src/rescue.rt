@@ -6,6 +6,7 @@ ghost use Rattle.adf_serve.specs.Rescues.{DoesRescue, IsRescueEnd};
 
 use crate::fault::CommandFault;
 use crate::images::{read_image, unread};
+use crate::kind_line::tell_kind;
 use adf_block::Image;
 use adf_host::{PromptFiles, read_filled_file};
 use adf_io::{Filled, PrintFault, write_output};
@@ -33,7 +34,9 @@ where
     ensures { DoesRescue job.now (W.contents writer.old) (W.contents writer.new) result }
 {
     let image = read_filled(rt, alloc, job.image, faults)?;
+    let boot = image.boot_kind();
     let rescue = rescue_of(rt, alloc, image, job)?;
+    tell_kind(boot, rescue.format(), faults);
     tell_rescue(alloc, &rescue, job, writer, faults)
 }
 

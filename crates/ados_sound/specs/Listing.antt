@@ -12,6 +12,7 @@ pub record AreFoundIn (image : List ℕ) (known : Known) (deleted : List Deleted
   pub same : known.image ≡ image
   pub known_right : AreKnown known
   pub none_left_out : known.left_out ≡ []
+  pub none_before : known.before ≡ 0
   pub listed : ListsDeleted image deleted
 
 -- the deleted entries, by a bitmap that is trusted; or that it is not

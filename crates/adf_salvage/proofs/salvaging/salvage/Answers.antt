@@ -14,12 +14,12 @@ returns-in-Ok-clause-tree c =
 
 pub returns-in_default-clause-salvages : goal.returns-in_default-clause-salvages
 returns-in_default-clause-salvages c =
-    let read = subst (λ (xs : List ℕ). IsReadAs xs c.with_kind.result) c.in-Err.ensures.0 c.with_kind.ensures in
+    let read = subst (λ (xs : List ℕ). IsReadAs xs c.in_ok-image.image) c.in-Err.ensures.0 c.in_ok-image.ensures in
     IfOk-weaker c.told_headers.result (SavesRest c.args.image) (Salvages c.args.image) (λ saved rest. inr rest) (c.told_headers.ensures c.args.image read)
 
 pub returns-in_default-clause-tree : goal.returns-in_default-clause-tree
 returns-in_default-clause-tree c =
-    let read = subst (λ (xs : List ℕ). IsReadAs xs c.with_kind.result) c.in-Err.ensures.0 c.with_kind.ensures in
+    let read = subst (λ (xs : List ℕ). IsReadAs xs c.in_ok-image.image) c.in-Err.ensures.0 c.in_ok-image.ensures in
     IfOk-weaker c.told_headers.result (SavesRest c.args.image) (λ saved. (t : Tree) → Stands c.args.image t → AreOfTree t saved)
     (λ saved rest t s. elim c.in-Err.ensures.1 [
       | inl shown ↦ absurd (faults_have_no_tree c.args.image t c.in-Err.rejected.fault.kind c.in-Err.rejected.fault.block shown s)

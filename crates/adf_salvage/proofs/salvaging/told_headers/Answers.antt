@@ -4,7 +4,7 @@ use Rattle.adf_salvage.proofs.Settling.{settles_none}
 use Rattle.adf_salvage.proofs.salvaging.told_headers.Goals as goal
 
 pub add_loose-requires : goal.add_loose-requires
-add_loose-requires c = settles_none c.in_ok-known.known c.add_lost.new.gathered c.in_ok-add_lost.ensures.gathered c.in_ok-add_lost.ensures.headers c.in_ok-add_lost.ensures.lost
+add_loose-requires c = settles_none c.in_ok-known.known c.add_lost.new.gathered c.in_ok-known.ensures.none c.in_ok-add_lost.ensures.gathered c.in_ok-add_lost.ensures.headers c.in_ok-add_lost.ensures.lost
 
 pub returns : goal.returns
 returns c = λ given read. record {
