@@ -15,7 +15,7 @@ import json
 import sys
 from collections import defaultdict
 from pathlib import Path
-from typing import Dict, Iterator, List, NamedTuple, Optional, Set, Tuple
+from typing import Dict, FrozenSet, Iterator, List, NamedTuple, Optional, Set, Tuple
 
 sys.dont_write_bytecode = True
 
@@ -106,6 +106,11 @@ def with_kind(data: bytes) -> bytes:
     blocks = [it for it in disk.inside if disk.long(it, 0) == DATA and disk.is_summed(it)]
     is_ofs = any(disk.long(it, 1) in disk.sound and disk.long(disk.long(it, 1), 127) == FILE for it in blocks)
     return b"DOS" + (b"\0" if is_ofs else b"\1") + data[4:]
+
+
+def emptied(data: bytes, holes: FrozenSet[int]) -> bytes:
+    """The image with nothing in its holes, the blocks that nobody read: no type of the disk, and a wrong checksum."""
+    return b"".join(b"\0\0\0\1" + bytes(BLOCK - 4) if it in holes else data[BLOCK * it : BLOCK * (it + 1)] for it in range(-(-len(data) // BLOCK)))
 
 
 class Headers(Image):
@@ -220,16 +225,17 @@ class Owners(Model):
 
 
 class Account(Disk):
-    """What has to be told of an image."""
+    """What has to be told of an image with these holes. It is accepted only where the root leads to none of them."""
 
-    def __init__(self, data: bytes, rules: Rules) -> None:
-        self.is_accepted = not Model(data).all_faults()
+    def __init__(self, data: bytes, rules: Rules, holes: FrozenSet[int] = frozenset()) -> None:
+        data = emptied(data, holes)
         super().__init__(with_kind(data))
-        self.rules = rules
+        self.rules, self.holes = rules, holes
         shown = Model(bytes(self.data))
         self.bitmap = Bitmap(self, shown)
         self.pages = self.bitmap_blocks()
         self.reached_blocks = {block for block, _ in shown.reached}
+        self.is_accepted = not Model(data).all_faults() and not holes & self.reached_blocks
         self.deleted = {it for it in self.sound if self.is_deleted(it)} if rules.deleted else set()
         self.places: Dict[int, List[Place]] = defaultdict(list)
         self.told = self.headers()
@@ -313,7 +319,7 @@ class Account(Disk):
         return self.long(file, 4) == (data[0] if data else 0)
 
     def is_whole(self, file: int) -> bool:
-        return file in self.intact and all(self.users[it] == {file} for part in self.intact[file] for it in part)
+        return file in self.intact and all(self.users[it] == {file} and it not in self.holes for part in self.intact[file] for it in part)
 
     # ---- files that are not
 
@@ -337,7 +343,7 @@ class Account(Disk):
 
     def piece_of(self, file: int, k: int, block: Optional[int]) -> bool:
         """Whether a block is data block `k` of a file, and not given away."""
-        if block not in self.inside or block is None or block == self.root or block in self.pages or block in self.given:
+        if block not in self.inside or block is None or block == self.root or block in self.pages or block in self.given or block in self.holes:
             return False
         return not self.ofs or [self.long(block, it) for it in range(3)] == [DATA, file, k + 1]
 
@@ -492,7 +498,7 @@ class Account(Disk):
                 needed = min(-(-self.long(it.header, 81) // self.room), self.blocks)
                 heads = self.pointer_blocks(it.header)
                 known |= set(heads if self.rules.typed else heads[: 1 + needed // 72])
-        return [it for it in self.inside if it not in known and self.is_used(it)]
+        return [it for it in self.inside if it not in known and it not in self.holes and self.is_used(it)]
 
     def is_used(self, block: int) -> bool:
         if self.bitmap.is_trusted:

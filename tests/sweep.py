@@ -6,8 +6,8 @@
 The floppies are drawn in Python, in both formats. Each gets one damage: a flipped bit in a block of each role, a track of noise,
 a block of zeros, or no root. The expected account comes from the floppy as it was: each file has exactly one line, a file that was
 not hit is whole with its bytes, and the status is the one that `check` asks for. The blocks that are used and belong to nothing
-are those of tests/disk_model.py. Without `--all`, some of the damages are tried;
-they are the same in each run.
+are those of tests/disk_model.py. Files that end early follow, with `--blocks`: what is behind their ends is missing in each file that
+it belongs to. Without `--all`, some of the damages are tried; they are the same in each run.
 
 Then come images that tests/fuzz.py damages at random, 100 or N. tests/disk_model.py says what `extract --damaged` has to print and
 to write, what `map` and `where` print of those that are accepted, and `where` of those that are refused. `--page` compares with the
@@ -408,7 +408,7 @@ class Compared:
     def __init__(self, room: Room, data: bytes, rules: Rules) -> None:
         shutil.rmtree("out", ignore_errors=True)
         room.write("image.adf", data)
-        self.room, self.data, self.rules = room, data, rules
+        self.room, self.data, self.rules, self.words = room, data, rules, ["image.adf"]
 
     def all(self) -> None:
         faults = told_of(self.data)
@@ -420,9 +420,17 @@ class Compared:
         if faults.accepted is not None:
             self.owners()
 
+    def cut(self, count: int) -> None:
+        """The first bytes of the image alone, so many: each block that is not all there is a hole."""
+        blocks = len(self.data) // BLOCK
+        self.room.write("image.adf", self.data[:count])
+        holes = frozenset(range(count // BLOCK, blocks))
+        self.words = ["--blocks", str(blocks), "image.adf"]
+        self.account(Account(self.data, self.rules, holes))
+
     def account(self, account: Account) -> None:
         wanted = account.lines()
-        ran = self.room.run("extract", "--damaged", "--to", "out", "image.adf")
+        ran = self.room.run("extract", "--damaged", "--to", "out", *self.words)
         lines = ran.output.decode().splitlines()
         doubts = sum(it.state == "doubtful" for it in account.told_entries)
         assert ran.status == (0 if account.is_accepted else 3), f"status {ran.status}"
@@ -440,9 +448,9 @@ class Compared:
     def listed(self, account: Account, ran: Ran) -> None:
         """`--list` prints the same, and with `--json` the object, and neither writes anything."""
         before = sorted(os.listdir())
-        lines = self.room.run("extract", "--damaged", "--list", "image.adf")
+        lines = self.room.run("extract", "--damaged", "--list", *self.words)
         assert lines == ran, f"--list: {lines} where {ran} is expected"
-        told = self.room.run("extract", "--damaged", "--list", "--json", "image.adf")
+        told = self.room.run("extract", "--damaged", "--list", "--json", *self.words)
         assert told._replace(output=ran.output) == ran, f"--json: {told}"
         wanted = account.object()
         assert told.output == wanted, differing(told.output.split(b"},{"), wanted.split(b"},{"))
@@ -505,6 +513,39 @@ def scattered(base: Base, seed: str, number: int) -> bytes:
     return bytes(image.data)
 
 
+class Cut(NamedTuple):
+    """A floppy of which only the first bytes are there, so many."""
+
+    floppy: int
+    size: int
+
+
+def fault_of_cut(bases: Sequence[Floppy], program: Path, kept: Optional[Path], cut: Cut) -> Optional[str]:
+    """What is wrong with the account of a file that ends early, which is kept then. Each file with a block behind the end is not whole."""
+    with Room(program, inside=in_memory()) as room:
+        floppy = bases[cut.floppy]
+        try:
+            compared = Compared(room, floppy.data, NOW)
+            compared.cut(cut.size)
+            whole = {it.path for it in parsed(room.run("extract", "--damaged", "--list", *compared.words).output) if it.state == "whole"}
+            hurt = {path for key, path in floppy.paths.items() if any(it >= cut.size // BLOCK for it in floppy.own[key])}
+            assert not whole & hurt, f"whole without all blocks: {sorted(whole & hurt)[:4]}"
+        except Exception as fault:
+            said = f"the first {cut.size} bytes of {'OFS' if floppy.ofs else 'FFS'} floppy {cut.floppy}: {str(fault)[:400] or repr(fault)}"
+            keep(kept, f"cut-{cut.floppy}-{cut.size}", floppy.data[: cut.size], said)
+            return said
+    return None
+
+
+def cuts(report: Report, program: Path, is_all: bool, most: int, kept: Optional[Path]) -> None:
+    """Floppies of which the last bytes are missing: a whole number of blocks, or not."""
+    bases, chance = [*floppies(True, 2), *floppies(False, 2)], random.Random("cuts")
+    jobs = [Cut(number, chance.randrange(FLOPPY) * BLOCK + chance.choice([0, 0, 1, 511])) for number in range(len(bases)) for _ in range(100 if is_all else 10)]
+    with Pool(most) as pool:
+        faults = [it for it in pool.map(partial(fault_of_cut, bases, program, kept), jobs, 4) if it]
+    report.hold(f"a file that ends early: {len(jobs)} floppies", f"{len(faults)}, as {'; '.join(faults[:3])}" if faults else None)
+
+
 def fault_of_base(program: Path, seed: str, rules: Rules, kept: Optional[Path], number: int) -> List[str]:
     """What is wrong with the images of a base."""
     faults = []
@@ -541,6 +582,7 @@ def main(words: List[str]) -> int:
     program, report = program_of(given.program), Report()
     kept = given.keep and given.keep.absolute()
     swept(report, program, given.all, given.jobs, kept)
+    cuts(report, program, given.all, given.jobs, kept)
     compared(report, program, given.images, given.seed, PAGE if given.page else NOW, given.jobs, kept)
     return report.end()
 

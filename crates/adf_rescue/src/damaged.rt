@@ -13,7 +13,7 @@ use adf_account::unaccounted_blocks;
 use adf_block::Image;
 use adf_host::{OwnedFile, PromptFiles};
 use adf_io::{PrintFault, write_text, write_when_long};
-use adf_salvage::{HeaderState, Salvage, Salvaged, State, salvage};
+use adf_salvage::{HeaderState, Salvage, Salvaged, State, salvage_beside};
 use adf_text::ranges_text;
 use adf_words::SalvageJob;
 use host_trees::WriteFault;
@@ -36,20 +36,21 @@ pub enum RescueFault {
     Memory,
 }
 
-/// Writes everything in an image that can be trusted below a directory of the host. With `meta`, a note is written beside
-/// each entry. Nothing is written if the job only lists, or if an existing file or directory of the host is in the way.
+/// Writes everything in an image with these holes that can be trusted below a directory of the host. With `meta`, a note is written
+/// beside each entry. Nothing is written if the job only lists, or if an existing file or directory of the host is in the way.
 pub fn extract_damaged<R: PromptFiles>(
     rt: &R,
     alloc: Global,
     image: Image,
+    holes: Vec<bool>,
     job: &SalvageJob<'_>,
 ) -> Result<Rescue, RescueFault>
 where
     R::File: OwnedFile,
-    ensures told { IfOk result (IsRescue image) }
+    ensures told { IfOk result (IsRescue holes.items image) }
     ensures fault { IfErr result (IsRescueFault job.now.list) }
 {
-    let rescue = match rescue_of(alloc, image, job.meta) {
+    let rescue = match rescue_of(alloc, image, holes, job.meta) {
         Ok(rescue) => rescue,
         Err(_) => return Err(RescueFault::Memory),
     };
@@ -63,11 +64,17 @@ where
     }
 }
 
-/// What can be trusted in an image, the host files and directories for it, and the used blocks that belong to nothing of it.
-fn rescue_of(alloc: Global, image: Image, meta: bool) -> Result<Rescue, AllocError>
-    ensures { IfOk result (IsRescue image) }
+/// What can be trusted in an image with these holes, the host files and directories for it, and the used blocks that belong to
+/// nothing of it.
+fn rescue_of(
+    alloc: Global,
+    image: Image,
+    holes: Vec<bool>,
+    meta: bool,
+) -> Result<Rescue, AllocError>
+    ensures { IfOk result (IsRescue holes.items image) }
 {
-    let salvage = salvage(alloc, image)?;
+    let salvage = salvage_beside(alloc, image, holes)?;
     let plan = Plan::of(alloc, &salvage, meta)?;
     let unaccounted = unaccounted_blocks(alloc, &salvage)?;
     Ok(Rescue {

@@ -1,8 +1,8 @@
 -- The entries of all sound headers, and what can be read of them.
 use Rattle.adf_salvage.proofs.Common.{◌≡◌, ℕ, ◌<◌, inl, inr, false, List, length, slice_index, Some, IsSome, sym, ap, ◌∙◌, subst, arith, get_or_default, Gathered, Known, IsLost, AreDeleted, AreSalvaged, SavesSound, headers_of, AreAllHeaders, AreGathered, place_at, AreSettled}
 
-module _ (known : Known) (gathered : Gathered) (g : AreGathered known.left_out known.image gathered) where
-  pub all_salvaged : AreAllHeaders known gathered.places.items → ((block : ℕ) → IsLost known.left_out known.image block → IsSome (place_at gathered.places.items block)) → AreSalvaged known.left_out known.image gathered.entries.items
+module _ (known : Known) (gathered : Gathered) (g : AreGathered known.left_out known.holes.items known.image gathered) where
+  pub all_salvaged : AreAllHeaders known gathered.places.items → ((block : ℕ) → IsLost known.left_out known.image block → IsSome (place_at gathered.places.items block)) → AreSalvaged known.left_out known.holes.items known.image gathered.entries.items
   all_salvaged met lost_met = record {
     told = λ i d l. inl (g.told i d l);
     once = λ i j d l m e.
@@ -20,11 +20,12 @@ module _ (known : Known) (gathered : Gathered) (g : AreGathered known.left_out k
 
 -- what was gathered of an image, as it is told
 pub saves_sound : (known : Known) (next : ℕ) (gathered : Gathered) (deleted : List ℕ) → AreSettled known next gathered → AreDeleted known.image known.left_out → deleted ≡ known.left_out
-    → SavesSound (record { accepted = false; image = known.image; trusted = known.trusted; entries = gathered.entries.items; deleted = deleted; given = gathered.giving.pieces.items })
+    → SavesSound (record { accepted = false; image = known.image; trusted = known.trusted; entries = gathered.entries.items; deleted = deleted; given = gathered.giving.pieces.items; holes = known.holes.items })
 saves_sound known next gathered deleted s are is = record {
   trust = s.sure.trust;
   deleted = subst (AreDeleted known.image) (sym is) are;
-  salvaged = subst (λ (out : List ℕ). AreSalvaged out known.image gathered.entries.items) (sym is) s.salvaged;
+  salvaged = subst (λ (out : List ℕ). AreSalvaged out known.holes.items known.image gathered.entries.items) (sym is) s.salvaged;
   apart = s.giving.once;
+  there = s.giving.there;
   bounded = omega (arith, s.bounded);
 }

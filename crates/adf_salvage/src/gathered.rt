@@ -30,15 +30,19 @@ pub(crate) struct Gathered {
 }
 
 impl Gathered {
-    /// No entries.
-    pub(crate) fn new(alloc: Global, image: &Image) -> Result<Gathered, AllocError>
-        ensures { IfOk result (λ gathered. (out : List ℕ) → AreGathered out image.now gathered) }
+    /// No entries of an image with these holes.
+    pub(crate) fn new(
+        alloc: Global,
+        image: &Image,
+        holes: &[bool],
+    ) -> Result<Gathered, AllocError>
+        ensures { IfOk result (λ gathered. (out : List ℕ) → AreGathered out holes.now image.now gathered) }
     {
         // A block has at most one entry. A list that grows would take twice the memory while it is copied.
         let entries = Vec::with_capacity(alloc, image.blocks() as usize)?;
         let places = no_places(alloc, image)?;
         let names = Names::new(alloc)?;
-        let giving = Giving::new(alloc, image)?;
+        let giving = Giving::new(alloc, image, holes)?;
         Ok(Gathered {
             entries,
             places,

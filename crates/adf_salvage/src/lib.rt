@@ -6,6 +6,7 @@
 mod chains;
 mod gathered;
 mod giving;
+mod holes;
 mod kind;
 mod listing;
 mod loose;
@@ -23,6 +24,6 @@ mod unreached;
 
 pub use giving::Piece;
 pub use salvaged::{HeaderState, Salvaged, State};
-pub use salvaging::salvage;
+pub use salvaging::{salvage, salvage_beside};
 pub use saved::Salvage;
 pub use undeleted::{Undeleted, UndeletedEntries, undelete};

@@ -1,5 +1,5 @@
 //! The command `extract --damaged`.
-ghost use Rattle.std.specs.Prelude.{ℕ, List, IfErr, IfOk};
+ghost use Rattle.std.specs.Prelude.{ℕ, Bool, List, IfErr, IfOk};
 ghost use Rattle.adf_rescue.specs.Rescue.{IsRescue};
 ghost use Rattle.adf_serve.specs.Faults.{IsNoImage};
 ghost use Rattle.adf_serve.specs.Rescues.{DoesRescue, IsRescueEnd};
@@ -32,28 +32,30 @@ where
     F: Write,
     ensures { DoesRescue job.now (W.contents writer.old) (W.contents writer.new) result }
 {
-    let image = read_filled(rt, alloc, job.image, faults)?;
-    let rescue = rescue_of(rt, alloc, image, job)?;
+    let (image, holes) = read_filled(rt, alloc, job.image, faults)?;
+    let rescue = rescue_of(rt, alloc, image, holes, job)?;
     tell_rescue(alloc, &rescue, job, writer, faults)
 }
 
-/// The image of a file. If its first blocks are the image and some are missing, these are zeros, and a line on `faults` says so.
+/// The image of a file, and for each block whether the file lacks bytes of it. If its first blocks are the image and some are missing,
+/// these are zeros, and a line on `faults` says so.
 fn read_filled<'a, R: Files, F: Write>(
     rt: &R,
     alloc: Global,
     file: ImageFile<'a>,
     faults: &mut F,
-) -> Result<Image, CommandFault<'a>>
+) -> Result<(Image, Vec<bool>), CommandFault<'a>>
     ensures { IfErr result IsNoImage }
 {
     let ImageFile { path, blocks } = file;
     let Some(blocks) = blocks else {
-        return read_image(rt, alloc, file);
+        let image = read_image(rt, alloc, file)?;
+        return Ok((image, Vec::new(alloc)));
     };
     match read_filled_file(rt, alloc, path, blocks) {
         Ok(filled) => {
             tell_missing(path, blocks, &filled, faults);
-            Ok(filled.image)
+            Ok((filled.image, filled.holes))
         }
         Err(fault) => {
             let blocks = None;
@@ -89,7 +91,7 @@ fn tell_rescue<'a, W: Write, F: Write>(
     writer: &mut W,
     faults: &mut F,
 ) -> Result<(), CommandFault<'a>>
-    ensures { (image : List ℕ) → IsRescue image rescue.now → DoesRescue job.now (W.contents writer.old) (W.contents writer.new) result }
+    ensures { (holes : List Bool) (image : List ℕ) → IsRescue holes image rescue.now → DoesRescue job.now (W.contents writer.old) (W.contents writer.new) result }
 {
     tell_doubts(alloc, rescue, faults);
     tell_unaccounted(alloc, rescue, faults);
@@ -148,17 +150,18 @@ const GONE: &str = "doubtful: its header is gone, and it is made of the data blo
 const CUT: &str =
     "cut short: incomplete files may have at most four times the bytes of the image in all";
 
-/// The rescue of an image.
+/// The rescue of an image with these holes.
 fn rescue_of<'a, R: Files<File = File> + PromptFiles>(
     rt: &R,
     alloc: Global,
     image: Image,
+    holes: Vec<bool>,
     job: &SalvageJob<'a>,
 ) -> Result<Rescue, CommandFault<'a>>
-    ensures told { IfOk result (λ rescue. IsRescue image rescue) }
+    ensures told { IfOk result (λ rescue. IsRescue holes.items image rescue) }
     ensures fault { IfErr result (IsRescueEnd job.now.list) }
 {
-    match extract_damaged(rt, alloc, image, job) {
+    match extract_damaged(rt, alloc, image, holes, job) {
         Ok(rescue) => Ok(rescue),
         Err(RescueFault::Host(fault)) => Err(CommandFault::Extracted(fault)),
         Err(RescueFault::Memory) => Err(CommandFault::Memory),

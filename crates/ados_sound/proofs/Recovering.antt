@@ -1,5 +1,5 @@
 -- How much of a sound file can be recovered, by its blocks and their claims.
-use Rattle.ados_sound.proofs.Common.{◌≡◌, ℕ, ◌<◌, inl, inr, Bool, true, false, cond, MatchBool, count_by, List, [], length, get_or, All, refl, sym, ap, ◌∙◌, subst, arith, InImage, is_several, cases_eq, get_or_default, block_count, has_free_bit, HasFreeBit, Claim, Free, One, Several, AreAllFree, HasCount, IsShared, IsUsed, IsClaimant, IsIntact, IsWhole, Names, own_blocks, AreAllClaims, IsClaim, claim_at}
+use Rattle.ados_sound.proofs.Common.{◌≡◌, ℕ, ◌<◌, inl, inr, Bool, true, false, cond, MatchBool, count_by, List, [], length, get_or, All, refl, sym, ap, ◌∙◌, subst, arith, InImage, is_several, cases_eq, get_or_default, get_or_past, block_count, has_free_bit, HasFreeBit, Claim, Free, One, Several, AreAllFree, HasCount, IsShared, IsUsed, IsClaimant, IsIntact, IsWhole, Names, own_blocks, AreAllClaims, IsClaim, claim_at}
 use Rattle.std.proofs.lemmas.List.Sums.{get_or-le-sum_by}
 use Rattle.ados_sound.proofs.Claiming.{own_within}
 use Rattle.ados_sound.proofs.Leaving.{none_contained}
@@ -55,9 +55,12 @@ module _ (image : List ℕ) (file : ℕ) (i : IsIntact image file) where
       counted = is ∙ ap (count_by (λ block. is_several (claim_at claims block))) e;
     }
 
-    pub whole_by : (xs : List ℕ) → xs ≡ own_blocks image file → count_by (λ block. is_several (claim_at claims block)) xs ≡ 0 → IsWhole [] image file
+    pub whole_by : (xs : List ℕ) → xs ≡ own_blocks image file → count_by (λ block. is_several (claim_at claims block)) xs ≡ 0 → IsWhole [] [] image file
     whole_by xs e none = record {
       claimant = claimant_of image file i;
+      there = λ block m h.
+          let both : false ≡ true = sym (get_or_past [] block false (omega arith)) ∙ h in
+          absurd (cc both);
       alone = λ other block j m k. elim (cases_eq other file) [
         | inl same ↦ same
         | inr n ↦

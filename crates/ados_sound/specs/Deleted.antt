@@ -96,7 +96,7 @@ pub record IsPart (P : ℕ → Type 0) (image : List ℕ) (file count all : ℕ)
 -- names one of them. `Used`: some are marked used, and if there is an entry, it has one of them
 abbrev pub HasRecovery : List ℕ → ℕ → Recovery → Type 0
 HasRecovery image file recoveries.Directory = HasDirectoryType image file
-HasRecovery image file (recoveries.Free all) = IsWhole [] image file × AreAllFree image file × (all ≡ length (own_blocks image file))
+HasRecovery image file (recoveries.Free all) = IsWhole [] [] image file × AreAllFree image file × (all ≡ length (own_blocks image file))
 HasRecovery image file (recoveries.Used used all by) = HasFileType image file × IsPart (IsUsed image) image file used all × IfSome by (UsesOne image (own_blocks image file))
 HasRecovery image file (recoveries.Shared shared all) = IsIntact image file × AreAllFree image file × IsPart (IsShared image file) image file shared all
 HasRecovery image file recoveries.NotIntact = HasFileType image file × ¬ IsIntact image file

@@ -73,7 +73,8 @@ pub fn deleted_entries(alloc: Global, image: Image) -> Result<DeletedEntries, Al
     if headers.is_empty() {
         return Ok(DeletedEntries::Nothing(image));
     }
-    let known = Known::of(alloc, image, true, LeftOut::none(alloc), &sound)?;
+    let holes = Vec::new(alloc);
+    let known = Known::of(alloc, image, holes, true, LeftOut::none(alloc), &sound)?;
     let deleted = all_deleted(&known, &headers, &marks)?;
     Ok(DeletedEntries::Found(known, deleted))
 }

@@ -22,6 +22,8 @@ pub struct Known {
     pub trusted: bool,
     /// The headers that are left out.
     pub left_out: LeftOut,
+    /// For each block, whether it is a hole: nobody read it. A block without a mark is none.
+    pub holes: Vec<bool>,
     /// For each block, whether it is a header that is told, sound or doubtful.
     pub(crate) headers: Vec<bool>,
     /// For each block, the sound files that claim it.
@@ -29,23 +31,29 @@ pub struct Known {
 }
 
 impl Known {
-    /// What is known of the blocks of an image, where its deleted entries are left out.
+    /// What is known of the blocks of an image with these holes, where its deleted entries are left out.
     ///
     /// Time and memory grow about linearly with the size of the image.
-    pub fn without_deleted(alloc: Global, image: Image) -> Result<Known, AllocError>
+    pub fn without_deleted(
+        alloc: Global,
+        image: Image,
+        holes: Vec<bool>,
+    ) -> Result<Known, AllocError>
         ensures known { IfOk result AreKnown }
         ensures image { IfOk result (λ known. known.image ≡ image) }
+        ensures holes { IfOk result (λ known. known.holes ≡ holes) }
         ensures left_out { IfOk result (λ known. AreDeleted image known.left_out) }
     {
         let sound = sound_headers(alloc, &image)?;
         let (left_out, trusted) = left_out_of(alloc, &image, &sound)?;
-        Known::of(alloc, image, trusted, left_out, &sound)
+        Known::of(alloc, image, holes, trusted, left_out, &sound)
     }
 
-    /// What is known of the blocks of an image, where some headers are left out. `sound` marks the sound headers.
+    /// What is known of the blocks of an image with these holes, where some headers are left out. `sound` marks the sound headers.
     pub(crate) fn of(
         alloc: Global,
         image: Image,
+        holes: Vec<bool>,
         trusted: bool,
         left_out: LeftOut,
         sound: &[bool],
@@ -54,6 +62,7 @@ impl Known {
         requires sound { AreSound image sound.now }
         ensures known { IfOk result AreKnown }
         ensures image { IfOk result (λ known. known.image ≡ image) }
+        ensures holes { IfOk result (λ known. known.holes ≡ holes) }
         ensures left_out { IfOk result (λ known. known.left_out ≡ left_out) }
     {
         let claims = claims(alloc, &image, &left_out, sound)?;
@@ -63,6 +72,7 @@ impl Known {
             image,
             trusted,
             left_out,
+            holes,
             headers,
             claims,
         })

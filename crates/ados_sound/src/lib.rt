@@ -11,6 +11,7 @@ mod laws;
 mod claims;
 mod data;
 mod holders;
+mod holes;
 mod intact;
 mod whole;
 
@@ -27,6 +28,7 @@ pub use data::is_own_data;
 pub use deleted::{Deleted, DeletedEntries, Recovery, deleted_entries};
 pub use header::{dir_of_place, is_file, is_sound_header, name_of};
 pub use holders::{data_needed, looks_like_extension};
+pub use holes::is_hole;
 pub use known::Known;
 pub use laws::headers_by_census;
 pub use left_out::{LeftOut, faultless_deleted};

@@ -1,5 +1,5 @@
 -- The entries of a damaged image while they are gathered.
-use Rattle.std.specs.Prelude.{◌≡◌, ℕ, ◌+◌, ◌*◌, ◌<◌, ◌≤◌, List, length, All, Contains, slice_index, slice_index_or, Option, Some, None, IsSome}
+use Rattle.std.specs.Prelude.{◌≡◌, ℕ, ◌+◌, ◌*◌, ◌<◌, ◌≤◌, Bool, List, length, All, Contains, slice_index, slice_index_or, Option, Some, None, IsSome}
 use Rattle.adf_block.specs.Image.{block_count, long, IsInside}
 use Rattle.ados_sound.specs.declared.known.Known.{Known}
 use Rattle.ados_sound.specs.Doubtful.{IsHeader, IsPlaceIn, NamesEntries}
@@ -31,19 +31,19 @@ abbrev pub IsNew : Known → List (Option ℕ) → ℕ → Type 0
 IsNew known places block = IsHeader known.left_out known.image block × (place_at places block ≡ None)
 
 -- the entries found so far; the index of each header is right, and the blocks given and the bytes left fit the broken files
-pub record AreGathered (out image : List ℕ) (gathered : Gathered) : Type 0 where
-  pub told : All (IsTold out image) gathered.entries.items
+pub record AreGathered (out : List ℕ) (holes : List Bool) (image : List ℕ) (gathered : Gathered) : Type 0 where
+  pub told : All (IsTold out holes image) gathered.entries.items
   pub size : length gathered.places.items ≡ block_count image
   pub placed : (i : ℕ) → i < length (headers_of gathered.entries.items)
       → place_at gathered.places.items (slice_index (headers_of gathered.entries.items) i) ≡ Some i
   pub met : (block : ℕ) → IsSome (place_at gathered.places.items block) → Contains (headers_of gathered.entries.items) block
-  pub giving : IsGiving image gathered.giving
+  pub giving : IsGiving holes image gathered.giving
   pub bounded : broken_total gathered.entries.items + gathered.giving.left ≤ 4 * length image
 
 -- the entries gathered so far of an image, by what is known of it
 pub record AreGatheredBy (known : Known) (gathered : Gathered) : Type 0 where
   pub sure : AreKnown known
-  pub so_far : AreGathered known.left_out known.image gathered
+  pub so_far : AreGathered known.left_out known.holes.items known.image gathered
 
 -- headers found before are still found
 abbrev pub KeepsMet : List (Option ℕ) → List (Option ℕ) → Type 0
