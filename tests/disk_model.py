@@ -50,6 +50,8 @@ class Rules(NamedTuple):
 PAGE = Rules()
 # What the program does with files and used blocks.
 NOW = Rules(links=True, typed=True, capped=True, again=True, stale=True)
+# What stands on standard error of an FFS disk.
+NO_SUMS = b"adf_serve: the data blocks of this FFS disk have no checksums: 'whole' means that every pointer and header is right\n"
 # What stands on standard error before the numbers of the blocks that are used and belong to nothing.
 HEADING = b"adf_serve: blocks in use that belong to no reported entry:\n"
 
@@ -485,7 +487,7 @@ class Account(Disk):
                 state, _, missing = (it.state or "whole").partition(" ")
                 path = it.path + "/" * (not it.state)
                 entries.append({"path": path, "state": state, "found": it.found, "missing": int(missing or 0), "cut": it.header in self.cut})
-        told = {"entries": entries, "deleted": len(self.deleted), "unaccounted": self.rest}
+        told = {"entries": entries, "deleted": len(self.deleted), "unaccounted": self.rest, "summed": self.ofs}
         return json.dumps(told, ensure_ascii=False, separators=(",", ":")).encode() + b"\n"
 
     def unaccounted(self, entries: List[Entry]) -> List[int]:
@@ -603,6 +605,11 @@ def rest_text(blocks: List[int]) -> bytes:
 def rest_told(texts: bytes) -> bytes:
     """The end of standard error after `extract --damaged`, from its blocks that belong to nothing on."""
     return b"".join(texts.partition(HEADING)[1:])
+
+
+def doubts_told(texts: bytes) -> List[bytes]:
+    """The lines of standard error before these blocks, but for the one about checksums: those about files."""
+    return texts.partition(HEADING)[0].replace(NO_SUMS, b"", 1).splitlines()
 
 
 def main(words: List[str]) -> int:

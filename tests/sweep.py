@@ -29,7 +29,7 @@ from typing import Callable, Dict, Iterator, List, Mapping, NamedTuple, Optional
 sys.dont_write_bytecode = True
 
 from all_faults_model import lines_of
-from disk_model import NOW, PAGE, Account, Headers, Owners, Rules, rest_of, rest_text, rest_told
+from disk_model import NO_SUMS, NOW, PAGE, Account, Headers, Owners, Rules, rest_of, rest_text, rest_told
 from drawn_volume import Drawer
 from fuzz import FEWEST, LARGEST, PER_BASE, Base, Damaged, a_chain, a_name, a_parent, a_pointer, a_size, base_of, damaged, told_of
 from harness import BLOCK, Image, Ran, Report, Room, host_name, in_memory, processors, program_of
@@ -435,6 +435,7 @@ class Compared:
         doubts = sum(it.state == "doubtful" for it in account.told_entries)
         assert ran.status == (0 if account.is_accepted else 3), f"status {ran.status}"
         assert ran.texts.count(b"' is doubtful: ") == doubts, f"standard error: {ran.texts[:300]!r}"
+        assert ran.texts.count(NO_SUMS) == (not account.ofs), f"standard error: {ran.texts[:300]!r}"
         assert lines == wanted, differing(lines, wanted)
         rest, wanted_rest = rest_told(ran.texts).splitlines(), rest_text(account.rest).splitlines()
         assert rest == wanted_rest, differing(rest, wanted_rest)

@@ -1,5 +1,6 @@
 -- The report on a damaged image after everything that can be trusted was written.
 use Rattle.std.specs.Prelude.{◌≡◌, ◌<◌, ℕ, Bool, true, false, List, [], ◌∷◌, ◌++◌, ◌==◌, codes, decimal, length, Option, Some, None, if◌then◌else◌, ⊤}
+use Rattle.adf_block.specs.Fields.{format_of}
 use Rattle.adf_salvage.specs.Holes.{SalvagesBeside}
 use Rattle.adf_salvage.specs.Salvaged.{Saved}
 use Rattle.adf_salvage.specs.declared.salvaged.HeaderState.TheVariants as heads
@@ -8,7 +9,7 @@ use Rattle.adf_salvage.specs.declared.salvaged.State.{State}
 use Rattle.adf_salvage.specs.declared.salvaged.State.TheVariants.{Directory, DoubtfulDirectory, Whole, Doubtful, Lost, Broken}
 use Rattle.adf_salvage.specs.Saved.{HasBytes, IsAt}
 use Rattle.adf_account.specs.Account.{AreUnaccounted}
-use Rattle.adf_rescue.specs.RescueObject.{IsReportObject}
+use Rattle.adf_rescue.specs.RescueObject.{IsReportObject, has_sums}
 use Rattle.adf_rescue.specs.declared.sourced.Source.{Source}
 use Rattle.adf_rescue.specs.declared.sourced.Source.TheVariants.{File}
 use Rattle.adf_rescue.specs.declared.damaged.Doubt.{Doubt}
@@ -67,10 +68,14 @@ abbrev pub AreReportLines : List Salvaged → ℕ → List ℕ → List ℕ → 
 AreReportLines entries deleted unaccounted text =
     (lines : List ℕ) × AreLines entries lines × (text ≡ lines ++ (deleted_count_line deleted ++ unaccounted_count_line (length unaccounted)))
 
+-- whether the data blocks of the image have checksums
+abbrev pub is_summed : Saved → Bool
+is_summed saved = has_sums (format_of saved.image)
+
 -- the report on what was saved and on the blocks that are used and belong to nothing of it: as lines, or with `json` as an object
 abbrev pub IsTold : Bool → Saved → List ℕ → List ℕ → Type 0
 IsTold false saved unaccounted text = AreReportLines saved.entries (length saved.deleted) unaccounted text
-IsTold true saved unaccounted text = IsReportObject saved.entries (length saved.deleted) unaccounted text
+IsTold true saved unaccounted text = IsReportObject saved.entries (length saved.deleted) unaccounted (is_summed saved) text
 
 -- that report, and the image was accepted or not
 pub record AreRescued (json : Bool) (saved : Saved) (unaccounted : List ℕ) (accepted : Bool) (text : List ℕ) : Type 0 where

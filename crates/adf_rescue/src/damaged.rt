@@ -2,7 +2,7 @@
 ghost use Rattle.std.specs.Prelude.{◌≡◌, IfErr, IfOk, OnErr, false, length, ◌||◌};
 ghost use Rattle.std.specs.String.{string_bytes};
 ghost use Rattle.adf_io.specs.Prefix.{Writes, WritesFrontOf};
-ghost use Rattle.adf_rescue.specs.Rescue.{AreRescued, AreSomeRescued, IsRescue, IsRescueFault, count_line, doubt_of, rescue_line};
+ghost use Rattle.adf_rescue.specs.Rescue.{AreRescued, AreSomeRescued, IsRescue, IsRescueFault, count_line, doubt_of, is_summed, rescue_line};
 ghost use Rattle.adf_rescue.specs.RescueObject.{is_told};
 ghost use Rattle.adf_text.specs.Ranges.{ranges};
 ghost use Rattle.adf_rescue.specs.steps.Reporting.{IsPart, rest_of};
@@ -10,7 +10,7 @@ ghost use Rattle.adf_rescue.specs.steps.Reporting.{IsPart, rest_of};
 use crate::plan::Plan;
 use crate::rescue_object::{entry_object, front_text, is_told, rest_object};
 use adf_account::unaccounted_blocks;
-use adf_block::Image;
+use adf_block::{Format, Image};
 use adf_host::{OwnedFile, PromptFiles};
 use adf_io::{PrintFault, write_text, write_when_long};
 use adf_salvage::{HeaderState, Salvage, Salvaged, State, salvage_beside};
@@ -119,6 +119,17 @@ impl Rescue {
         self.salvage.entries().len()
     }
 
+    /// Whether the data blocks of the image have checksums: in OFS alone. In FFS a file is whole if every pointer and header of it is
+    /// right, whatever its bytes are.
+    pub fn is_summed(&self) -> bool
+        ensures { result ≡ is_summed self.now.salvage }
+    {
+        match self.salvage.image().format() {
+            Format::Ofs => true,
+            Format::Ffs => false,
+        }
+    }
+
     /// The path of the entry at a position, or in its place `the entry at block N`, and why it is doubtful or cut short, if it is.
     pub fn doubt_at(
         &self,
@@ -208,11 +219,11 @@ impl Rescue {
     /// What is behind the entries: the line with the number of deleted entries, and that with the number of used blocks that belong
     /// to nothing; or with `json` the rest of the object.
     fn rest_text(&self, alloc: Global, json: bool) -> Result<Vec<u8>, AllocError>
-        ensures { IfOk result (λ text. text.items ≡ rest_of json (length self.now.salvage.deleted) self.now.unaccounted.items) }
+        ensures { IfOk result (λ text. text.items ≡ rest_of json (length self.now.salvage.deleted) self.now.unaccounted.items (is_summed self.now.salvage)) }
     {
         if json {
             let deleted = self.salvage.deleted().len() as u64;
-            return rest_object(alloc, deleted, &self.unaccounted);
+            return rest_object(alloc, deleted, &self.unaccounted, self.is_summed());
         }
         let mut lines = count_line(alloc, "deleted", self.salvage.deleted().len())?;
         let unaccounted = count_line(alloc, "unaccounted", self.unaccounted.len())?;

@@ -82,7 +82,7 @@ fn tell_missing<F: Write>(path: &str, blocks: u32, filled: &Filled, faults: &mut
     );
 }
 
-/// Reports on a rescue, and prints on `faults` why entries are doubtful, which files are cut short, and which used blocks belong to
+/// Reports on a rescue, and prints on `faults` what `whole` means in FFS, why entries are doubtful, which files are cut short, and which used blocks belong to
 /// nothing.
 fn tell_rescue<'a, W: Write, F: Write>(
     alloc: Global,
@@ -93,6 +93,7 @@ fn tell_rescue<'a, W: Write, F: Write>(
 ) -> Result<(), CommandFault<'a>>
     ensures { (holes : List Bool) (image : List ℕ) → IsRescue holes image rescue.now → DoesRescue job.now (W.contents writer.old) (W.contents writer.new) result }
 {
+    tell_sums(rescue, faults);
     tell_doubts(alloc, rescue, faults);
     tell_unaccounted(alloc, rescue, faults);
     match rescue.tell(alloc, job.json, writer) {
@@ -100,6 +101,18 @@ fn tell_rescue<'a, W: Write, F: Write>(
         Ok(false) => Err(CommandFault::NotWhole),
         Err(PrintFault::Write) => Err(CommandFault::Output),
         Err(PrintFault::Memory) => Err(CommandFault::Memory),
+    }
+}
+
+/// Prints what `whole` means of a disk whose data blocks have no checksums.
+fn tell_sums<F: Write>(rescue: &Rescue, faults: &mut F) {
+    if !rescue.is_summed() {
+        print_line(
+            faults,
+            format_args!(
+                "adf_serve: the data blocks of this FFS disk have no checksums: 'whole' means that every pointer and header is right"
+            ),
+        );
     }
 }
 
