@@ -10,7 +10,7 @@ are those of tests/disk_model.py. Files that end early follow, with `--blocks`: 
 it belongs to. Without `--all`, some of the damages are tried; they are the same in each run.
 
 Then come images that tests/fuzz.py damages at random, 100 or N. tests/disk_model.py says what `extract --damaged` has to print and
-to write, what `map` and `where` print of those that are accepted, and `where` of those that are refused. `--page` compares with the
+to write, also where some blocks could not be read (`--bad`), what `map` and `where` print of those that are accepted, and `where` of those that are refused. `--page` compares with the
 pages alone, and so shows where the program does more or less. `--keep` keeps the images that show a fault.
 """
 from __future__ import annotations
@@ -428,6 +428,18 @@ class Compared:
         self.words = ["--blocks", str(blocks), "image.adf"]
         self.account(Account(self.data, self.rules, holes))
 
+    def bad(self, chance: random.Random) -> None:
+        """With `--bad`: some blocks of the image are holes, whatever stands there."""
+        blocks = len(self.data) // BLOCK
+        if len(self.data) % BLOCK or not FEWEST <= blocks <= LARGEST:
+            return
+        track = 22 if blocks == 3520 else 11
+        holes = frozenset(chance.sample(range(blocks), min(blocks, chance.choice([1, 2, 20, 200]))))
+        words = [chance.choice([f"{it}", f" {it}\t# {it + 1}", f"c{it // track // 2}.h{it // track % 2}.s{it % track}\r"]) for it in holes]
+        self.room.write("bad.txt", "\n".join(["# what could not be read", "", *words]).encode() + chance.choice([b"", b"\n"]))
+        self.words = ["--bad", "bad.txt", "image.adf"]
+        self.account(Account(self.data, self.rules, holes))
+
     def account(self, account: Account) -> None:
         wanted = account.lines()
         ran = self.room.run("extract", "--damaged", "--to", "out", *self.words)
@@ -556,6 +568,7 @@ def fault_of_base(program: Path, seed: str, rules: Rules, kept: Optional[Path], 
             data = (scattered if at % 5 == 4 else damaged)(base, seed, at)
             try:
                 Compared(room, data, rules).all()
+                Compared(room, data, rules).bad(random.Random(f"{seed} bad {at}"))
             except Exception as fault:
                 faults.append(f"image {at} of seed {seed}: {str(fault)[:600] or repr(fault)}")
                 keep(kept, f"random-{seed}-{at}", data, faults[-1])

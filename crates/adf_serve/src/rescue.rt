@@ -4,6 +4,7 @@ ghost use Rattle.adf_rescue.specs.Rescue.{IsRescue};
 ghost use Rattle.adf_serve.specs.Faults.{IsNoImage};
 ghost use Rattle.adf_serve.specs.Rescues.{DoesRescue, IsRescueEnd};
 
+use crate::bad::with_bad;
 use crate::fault::CommandFault;
 use crate::images::{read_image, unread};
 use adf_block::Image;
@@ -32,9 +33,26 @@ where
     F: Write,
     ensures { DoesRescue job.now (W.contents writer.old) (W.contents writer.new) result }
 {
-    let (image, holes) = read_filled(rt, alloc, job.image, faults)?;
+    let (image, holes) = read_holed(rt, alloc, job, faults)?;
     let rescue = rescue_of(rt, alloc, image, holes, job)?;
     tell_rescue(alloc, &rescue, job, writer, faults)
+}
+
+/// The image of a job, and its holes: blocks of which the file lacks bytes, and those that the list of bad blocks names.
+fn read_holed<'a, R: Files, F: Write>(
+    rt: &R,
+    alloc: Global,
+    job: &SalvageJob<'a>,
+    faults: &mut F,
+) -> Result<(Image, Vec<bool>), CommandFault<'a>>
+    ensures { IfErr result IsNoImage }
+{
+    let (image, holes) = read_filled(rt, alloc, job.image, faults)?;
+    let Some(list) = job.bad else {
+        return Ok((image, holes));
+    };
+    let holes = with_bad(rt, alloc, list, image.blocks(), holes)?;
+    Ok((image, holes))
 }
 
 /// The image of a file, and for each block whether the file lacks bytes of it. If its first blocks are the image and some are missing,
