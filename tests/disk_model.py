@@ -15,7 +15,7 @@ import json
 import sys
 from collections import defaultdict
 from pathlib import Path
-from typing import Dict, Iterator, List, NamedTuple, Optional, Set, Tuple
+from typing import Dict, FrozenSet, Iterator, List, NamedTuple, Optional, Set, Tuple
 
 sys.dont_write_bytecode = True
 
@@ -50,6 +50,8 @@ class Rules(NamedTuple):
 PAGE = Rules()
 # What the program does with files and used blocks.
 NOW = Rules(links=True, typed=True, capped=True, again=True, stale=True)
+# What stands on standard error of an FFS disk.
+NO_SUMS = b"adf_serve: the data blocks of this FFS disk have no checksums: 'whole' means that every pointer and header is right\n"
 # What stands on standard error before the numbers of the blocks that are used and belong to nothing.
 HEADING = b"adf_serve: blocks in use that belong to no reported entry:\n"
 
@@ -121,6 +123,11 @@ def with_kind(data: bytes) -> bytes:
     is_data = any(disk.is_any_data(it) for it in range(2, disk.blocks))
     kind = majority(near) or (boot if boot in far else None) or majority(far) or (b"DOS\0" if is_data else b"DOS\1")
     return kind + data[4:]
+
+
+def emptied(data: bytes, holes: FrozenSet[int]) -> bytes:
+    """The image with nothing in its holes, the blocks that nobody read: no type of the disk, and a wrong checksum."""
+    return b"".join(b"\0\0\0\1" + bytes(BLOCK - 4) if it in holes else data[BLOCK * it : BLOCK * (it + 1)] for it in range(-(-len(data) // BLOCK)))
 
 
 class Headers(Image):
@@ -250,12 +257,14 @@ class Owners(Model):
 
 
 class Account(Disk):
-    """What has to be told of an image."""
+    """What has to be told of an image with these holes. It is accepted only where the root leads to none of them."""
 
-    def __init__(self, data: bytes, rules: Rules) -> None:
-        self.is_accepted = not Model(data).all_faults()
+    def __init__(self, data: bytes, rules: Rules, holes: FrozenSet[int] = frozenset()) -> None:
+        data = emptied(data, holes)
+        model = Model(data)
+        self.is_accepted = not model.all_faults() and not holes & {block for block, _ in model.reached}
         super().__init__(data if self.is_accepted else with_kind(data))
-        self.rules = rules
+        self.rules, self.holes = rules, holes
         shown = Model(bytes(self.data))
         self.bitmap = Bitmap(self, shown)
         self.pages = self.bitmap_blocks()
@@ -350,13 +359,13 @@ class Account(Disk):
         return self.long(file, 4) == (data[0] if data else 0)
 
     def is_whole(self, file: int) -> bool:
-        """Only this file names its blocks. A reached one keeps them against those to which nothing leads."""
+        """Only this file names its blocks, and none is a hole. A reached one keeps them against those to which nothing leads."""
         if file not in self.intact:
             return False
         users = [self.users[it] for part in self.intact[file] for it in part]
         if file in self.reached_entries:
             users = [it & self.reached_entries for it in users]
-        return all(it == {file} for it in users)
+        return all(it == {file} for it in users) and not any(it in self.holes for part in self.intact[file] for it in part)
 
     # ---- files that are not
 
@@ -380,7 +389,7 @@ class Account(Disk):
 
     def piece_of(self, file: int, k: int, block: Optional[int]) -> bool:
         """Whether a block is data block `k` of a file, and not given away."""
-        if block not in self.inside or block is None or block == self.root or block in self.pages or block in self.given:
+        if block not in self.inside or block is None or block == self.root or block in self.pages or block in self.given or block in self.holes:
             return False
         return not self.ofs or [self.long(block, it) for it in range(3)] == [DATA, file, k + 1]
 
@@ -522,7 +531,7 @@ class Account(Disk):
                 state, _, missing = (it.state or "whole").partition(" ")
                 path = it.path + "/" * (not it.state)
                 entries.append({"path": path, "state": state, "found": it.found, "missing": int(missing or 0), "cut": it.header in self.cut})
-        told = {"entries": entries, "deleted": len(self.deleted), "unaccounted": self.rest}
+        told = {"entries": entries, "deleted": len(self.deleted), "unaccounted": self.rest, "summed": self.ofs}
         return json.dumps(told, ensure_ascii=False, separators=(",", ":")).encode() + b"\n"
 
     def unaccounted(self, entries: List[Entry]) -> List[int]:
@@ -535,7 +544,7 @@ class Account(Disk):
                 needed = min(-(-self.long(it.header, 81) // self.room), self.blocks)
                 heads = self.pointer_blocks(it.header)
                 known |= set(heads if self.rules.typed else heads[: 1 + needed // 72])
-        return [it for it in self.inside if it not in known and self.is_used(it)]
+        return [it for it in self.inside if it not in known and it not in self.holes and self.is_used(it)]
 
     def is_used(self, block: int) -> bool:
         if self.bitmap.is_trusted:
@@ -640,6 +649,11 @@ def rest_text(blocks: List[int]) -> bytes:
 def rest_told(texts: bytes) -> bytes:
     """The end of standard error after `extract --damaged`, from its blocks that belong to nothing on."""
     return b"".join(texts.partition(HEADING)[1:])
+
+
+def doubts_told(texts: bytes) -> List[bytes]:
+    """The lines of standard error before these blocks, but for the one about checksums: those about files."""
+    return texts.partition(HEADING)[0].replace(NO_SUMS, b"", 1).splitlines()
 
 
 def main(words: List[str]) -> int:

@@ -14,9 +14,12 @@ they were, are written at their place; the same of `unadf`, if it is installed; 
 whole with bytes that they did not have. Some 200 floppies are tried, with `--floppies` about N, and with `--all` every damage of six.
 They are the same in each run.
 
+Files that end early follow, with `--blocks`: what is behind their ends is missing in each file that it belongs to.
+
 Then come images that tests/fuzz.py damages at random, and accepted ones with headers that nothing names, 100 or N.
-tests/disk_model.py says what `extract --damaged` has to print and to write, what `map` and `where` print of those that are accepted,
-and `where` of those that are refused. `--page` compares with the pages alone, and so shows where the program does more or less. `--keep` keeps the images that show a fault.
+tests/disk_model.py says what `extract --damaged` has to print and to write, also where some blocks could not be read (`--bad`), what
+`map` and `where` print of those that are accepted, and `where` of those that are refused. `--page` compares with the pages alone, and
+so shows where the program does more or less. `--keep` keeps the images that show a fault.
 """
 from __future__ import annotations
 
@@ -34,7 +37,7 @@ from typing import Callable, Dict, Iterator, List, Mapping, NamedTuple, Optional
 sys.dont_write_bytecode = True
 
 from all_faults_model import Model, lines_of
-from disk_model import NOW, PAGE, Account, Bitmap, Disk, Headers, Owners, Rules, rest_of, rest_text, rest_told
+from disk_model import NO_SUMS, NOW, PAGE, Account, Bitmap, Disk, Headers, Owners, Rules, rest_of, rest_text, rest_told
 from drawn_volume import Drawer
 from fuzz import FEWEST, LARGEST, PER_BASE, Base, Damaged, a_chain, a_name, a_parent, a_pointer, a_size, base_of, damaged, told_of
 from harness import BLOCK, FILE, Image, Ran, Report, Room, host_name, in_memory, processors, program_of
@@ -57,8 +60,6 @@ LETTERS = {"boot": "B", "root": "R", "bitmap": "M", "directory": "D", "file": "F
 LAST = re.compile(r"(unaccounted|deleted) [1-9][0-9]*")
 # How many of a hundred bytes that are there have to be saved, of all floppies of a format.
 LEAST = {"OFS": 99.0, "FFS": 97.0}
-# Damages after which the program calls files whole with other bytes than they had, though the disk shows it.
-MISTAKEN = ("cut short",)
 
 
 # ---- floppies
@@ -492,7 +493,7 @@ def saved(report: Report, tallies: Sequence[Tuple[str, str, Tally]]) -> None:
     for kind, least in LEAST.items():
         share = rows[f"all, {kind}"].share(rows[f"all, {kind}"].saved)
         report.expect(f"{kind}: at least {least} % of the bytes that are there are saved", share >= least, f"{share:.3f} %")
-    blamed = {name: it.blamed for name, it in rows.items() if it.blamed and not name.startswith(("all, ", *MISTAKEN))}
+    blamed = {name: it.blamed for name, it in rows.items() if it.blamed}
     report.same("no file is called whole with a wrong byte that a checksum or a pointer shows", blamed, {})
 
 
@@ -514,7 +515,7 @@ class Compared:
     def __init__(self, room: Room, data: bytes, rules: Rules) -> None:
         shutil.rmtree("out", ignore_errors=True)
         room.write("image.adf", data)
-        self.room, self.data, self.rules = room, data, rules
+        self.room, self.data, self.rules, self.words = room, data, rules, ["image.adf"]
 
     def all(self) -> None:
         faults = told_of(self.data)
@@ -526,13 +527,34 @@ class Compared:
         if faults.accepted is not None:
             self.owners()
 
+    def cut(self, count: int) -> None:
+        """The first bytes of the image alone, so many: each block that is not all there is a hole."""
+        blocks = len(self.data) // BLOCK
+        self.room.write("image.adf", self.data[:count])
+        holes = frozenset(range(count // BLOCK, blocks))
+        self.words = ["--blocks", str(blocks), "image.adf"]
+        self.account(Account(self.data, self.rules, holes))
+
+    def bad(self, chance: random.Random) -> None:
+        """With `--bad`: some blocks of the image are holes, whatever stands there."""
+        blocks = len(self.data) // BLOCK
+        if len(self.data) % BLOCK or not FEWEST <= blocks <= LARGEST:
+            return
+        track = 22 if blocks == 3520 else 11
+        holes = frozenset(chance.sample(range(blocks), min(blocks, chance.choice([1, 2, 20, 200]))))
+        words = [chance.choice([f"{it}", f" {it}\t# {it + 1}", f"c{it // track // 2}.h{it // track % 2}.s{it % track}\r"]) for it in holes]
+        self.room.write("bad.txt", "\n".join(["# what could not be read", "", *words]).encode() + chance.choice([b"", b"\n"]))
+        self.words = ["--bad", "bad.txt", "image.adf"]
+        self.account(Account(self.data, self.rules, holes))
+
     def account(self, account: Account) -> None:
         wanted = account.lines()
-        ran = self.room.run("extract", "--damaged", "--to", "out", "image.adf")
+        ran = self.room.run("extract", "--damaged", "--to", "out", *self.words)
         lines = ran.output.decode().splitlines()
         doubts = sum(it.state == "doubtful" for it in account.told_entries)
         assert ran.status == (0 if account.is_accepted else 3), f"status {ran.status}"
         assert ran.texts.count(b"' is doubtful: ") == doubts, f"standard error: {ran.texts[:300]!r}"
+        assert ran.texts.count(NO_SUMS) == (not account.ofs), f"standard error: {ran.texts[:300]!r}"
         assert lines == wanted, differing(lines, wanted)
         rest, wanted_rest = rest_told(ran.texts).splitlines(), rest_text(account.rest).splitlines()
         assert rest == wanted_rest, differing(rest, wanted_rest)
@@ -546,9 +568,9 @@ class Compared:
     def listed(self, account: Account, ran: Ran) -> None:
         """`--list` prints the same, and with `--json` the object, and neither writes anything."""
         before = sorted(os.listdir())
-        lines = self.room.run("extract", "--damaged", "--list", "image.adf")
+        lines = self.room.run("extract", "--damaged", "--list", *self.words)
         assert lines == ran, f"--list: {lines} where {ran} is expected"
-        told = self.room.run("extract", "--damaged", "--list", "--json", "image.adf")
+        told = self.room.run("extract", "--damaged", "--list", "--json", *self.words)
         assert told._replace(output=ran.output) == ran, f"--json: {told}"
         wanted = account.object()
         assert told.output == wanted, differing(told.output.split(b"},{"), wanted.split(b"},{"))
@@ -655,6 +677,39 @@ def with_old_headers(base: Base, seed: str, number: int) -> bytes:
     return bytes(image.data)
 
 
+class Cut(NamedTuple):
+    """A floppy of which only the first bytes are there, so many."""
+
+    floppy: int
+    size: int
+
+
+def fault_of_cut(bases: Sequence[Floppy], program: Path, kept: Optional[Path], cut: Cut) -> Optional[str]:
+    """What is wrong with the account of a file that ends early, which is kept then. Each file with a block behind the end is not whole."""
+    with Room(program, inside=in_memory()) as room:
+        floppy = bases[cut.floppy]
+        try:
+            compared = Compared(room, floppy.data, NOW)
+            compared.cut(cut.size)
+            whole = {it.path for it in parsed(room.run("extract", "--damaged", "--list", *compared.words).output) if it.state == "whole"}
+            hurt = {path for key, path in floppy.paths.items() if any(it >= cut.size // BLOCK for it in floppy.own[key])}
+            assert not whole & hurt, f"whole without all blocks: {sorted(whole & hurt)[:4]}"
+        except Exception as fault:
+            said = f"the first {cut.size} bytes of {'OFS' if floppy.ofs else 'FFS'} floppy {cut.floppy}: {str(fault)[:400] or repr(fault)}"
+            keep(kept, f"cut-{cut.floppy}-{cut.size}", floppy.data[: cut.size], said)
+            return said
+    return None
+
+
+def ended_early(report: Report, program: Path, is_all: bool, most: int, kept: Optional[Path]) -> None:
+    """Floppies of which the last bytes are missing: a whole number of blocks, or not."""
+    bases, chance = [*floppies(True, 2), *floppies(False, 2)], random.Random("cuts")
+    jobs = [Cut(number, chance.randrange(FLOPPY) * BLOCK + chance.choice([0, 0, 1, 511])) for number in range(len(bases)) for _ in range(100 if is_all else 10)]
+    with Pool(most) as pool:
+        faults = [it for it in pool.map(partial(fault_of_cut, bases, program, kept), jobs, 4) if it]
+    report.hold(f"a file that ends early: {len(jobs)} floppies", f"{len(faults)}, as {'; '.join(faults[:3])}" if faults else None)
+
+
 def fault_of_base(program: Path, seed: str, rules: Rules, kept: Optional[Path], number: int) -> List[str]:
     """What is wrong with the images of a base."""
     faults = []
@@ -664,6 +719,7 @@ def fault_of_base(program: Path, seed: str, rules: Rules, kept: Optional[Path], 
             data = {3: with_old_headers, 4: scattered}.get(at % 5, damaged)(base, seed, at)
             try:
                 Compared(room, data, rules).all()
+                Compared(room, data, rules).bad(random.Random(f"{seed} bad {at}"))
             except Exception as fault:
                 faults.append(f"image {at} of seed {seed}: {str(fault)[:600] or repr(fault)}")
                 keep(kept, f"random-{seed}-{at}", data, faults[-1])
@@ -693,6 +749,7 @@ def main(words: List[str]) -> int:
     program, report = program_of(given.program), Report()
     kept = given.keep and given.keep.absolute()
     swept(report, program, given.all, given.floppies, given.jobs, kept)
+    ended_early(report, program, given.all, given.jobs, kept)
     compared(report, program, given.images, given.seed, PAGE if given.page else NOW, given.jobs, kept)
     return report.end()
 

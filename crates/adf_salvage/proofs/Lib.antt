@@ -2,6 +2,7 @@
 pub mod Common
 pub mod Copying
 pub mod Growing
+pub mod Emptying
 pub mod Placing
 pub mod Finding
 pub mod Following

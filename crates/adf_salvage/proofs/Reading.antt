@@ -1,5 +1,5 @@
 -- The whole files of a salvage can be read.
-use Rattle.adf_salvage.proofs.Common.{◌≡◌, ℕ, inl, inr, List, All, Contains, sym, ap, subst, get_or_default, IsGiving, IsListed, IsLoose, IsLostEntry, IsReadable, IsTold, Piece, Salvaged, State, block_count}
+use Rattle.adf_salvage.proofs.Common.{◌≡◌, ℕ, inl, inr, Bool, List, All, Contains, sym, ap, subst, get_or_default, IsGiving, IsListed, IsLoose, IsLostEntry, IsReadable, IsTold, Piece, Salvaged, State, block_count}
 use Rattle.ados_sound.proofs.Keeping.{saved_claimant}
 use Rattle.adf_salvage.specs.Salvaged.{HasState, IsGone, IsSalvaged}
 use Rattle.adf_salvage.specs.steps.Keeping.{CanBeRead}
@@ -7,13 +7,13 @@ use Rattle.adf_salvage.specs.declared.salvaged.HeaderState.TheVariants as heads
 use Rattle.adf_salvage.specs.declared.salvaged.State.TheVariants as states
 
 -- a file whose state fits its header can be read if it is whole
-pub state_readable : (out image : List ℕ) (block : ℕ) (state : State) → HasState out image block state → CanBeRead image block state
-state_readable out image block states.Directory h = tt
-state_readable out image block states.DoubtfulDirectory h = tt
-state_readable out image block states.Whole h = let c = saved_claimant out image block h in record { inside = c.intact.header.inside.1; lawful = c.intact.lawful }
-state_readable out image block (states.Doubtful heading length) h = tt
-state_readable out image block states.Lost h = absurd h
-state_readable out image block (states.Broken missing cut length) h = tt
+pub state_readable : (out : List ℕ) (holes : List Bool) (image : List ℕ) (block : ℕ) (state : State) → HasState out holes image block state → CanBeRead image block state
+state_readable out holes image block states.Directory h = tt
+state_readable out holes image block states.DoubtfulDirectory h = tt
+state_readable out holes image block states.Whole h = let c = saved_claimant out holes image block h in record { inside = c.intact.header.inside.1; lawful = c.intact.lawful }
+state_readable out holes image block (states.Doubtful heading length) h = tt
+state_readable out holes image block states.Lost h = absurd h
+state_readable out holes image block (states.Broken missing cut length) h = tt
 
 gone_readable : (image : List ℕ) (block : ℕ) (state : State) → IsGone state → CanBeRead image block state
 gone_readable image block states.Directory h = tt
@@ -23,10 +23,10 @@ gone_readable image block (states.Doubtful heading length) h = tt
 gone_readable image block states.Lost h = tt
 gone_readable image block (states.Broken missing cut length) h = tt
 
-pub salvaged_readable : (out image : List ℕ) (entry : Salvaged) → IsSalvaged out image entry → IsReadable image entry
-salvaged_readable out image entry s = state_readable out image entry.header entry.state s.state
+pub salvaged_readable : (out : List ℕ) (holes : List Bool) (image : List ℕ) (entry : Salvaged) → IsSalvaged out holes image entry → IsReadable image entry
+salvaged_readable out holes image entry s = state_readable out holes image entry.header entry.state s.state
 
-pub listed_readable : (out image : List ℕ) (entry : Salvaged) → IsListed out image entry → IsReadable image entry
-listed_readable out image entry (inl (inl s)) = salvaged_readable out image entry s
-listed_readable out image entry (inl (inr lost)) = subst (CanBeRead image entry.header) (sym lost.state) tt
-listed_readable out image entry (inr loose) = gone_readable image entry.header entry.state loose.gone
+pub listed_readable : (out : List ℕ) (holes : List Bool) (image : List ℕ) (entry : Salvaged) → IsListed out holes image entry → IsReadable image entry
+listed_readable out holes image entry (inl (inl s)) = salvaged_readable out holes image entry s
+listed_readable out holes image entry (inl (inr lost)) = subst (CanBeRead image entry.header) (sym lost.state) tt
+listed_readable out holes image entry (inr loose) = gone_readable image entry.header entry.state loose.gone

@@ -17,7 +17,7 @@ pub record ArePlaces (headers : List ℕ) (places : List (Option ℕ)) : Type 0 
 pub record IsUndeleted (image : List ℕ) (found : Undeleted) : Type 0 where
   pub same : found.salvage.image ≡ image
   pub deleted : ListsDeleted image found.deleted.items
-  pub told : All (IsTold [] image) found.salvage.entries
+  pub told : All (IsTold [] [] image) found.salvage.entries
   pub places : ArePlaces (headers_of found.salvage.entries) found.places.items
   pub there : (block : ℕ) → IsDeleted image block → IsSome (slice_index_or found.places.items block None)
 

@@ -11,8 +11,8 @@ use std::alloc::{AllocError, Global};
 
 /// The salvage of an accepted image, with the sound headers among its lost blocks behind the entries of its tree.
 ///
-/// A file among them is whole as on a damaged image: it is sound, and no file of the tree and no other one among them has one of its
-/// blocks.
+/// A file among them is whole as on a damaged image: it is sound, no file of the tree and no other one among them has one of its
+/// blocks, and none of these is a hole.
 pub(crate) fn with_lost(alloc: Global, tree: Salvage) -> Result<Salvage, AllocError>
     requires trusted { tree.trusted ≡ true }
     requires tree { AreOfOneTree tree.image tree.entries }
@@ -23,10 +23,11 @@ pub(crate) fn with_lost(alloc: Global, tree: Salvage) -> Result<Salvage, AllocEr
         image,
         entries,
         deleted,
+        holes,
         ..
     } = tree;
-    let known = Known::with_lost(alloc, image, entries.len())?;
-    let mut gathered = Gathered::behind(alloc, &known.image, entries)?;
+    let known = Known::with_lost(alloc, image, holes, entries.len())?;
+    let mut gathered = Gathered::behind(alloc, &known.image, &known.holes, entries)?;
     add_unreached(&known, &mut gathered)?;
     let Gathered {
         entries,
@@ -34,7 +35,7 @@ pub(crate) fn with_lost(alloc: Global, tree: Salvage) -> Result<Salvage, AllocEr
         ..
     } = gathered;
     let Giving { pieces, .. } = giving;
-    let Known { image, .. } = known;
+    let Known { image, holes, .. } = known;
     Ok(Salvage {
         accepted,
         image,
@@ -42,5 +43,6 @@ pub(crate) fn with_lost(alloc: Global, tree: Salvage) -> Result<Salvage, AllocEr
         entries,
         deleted,
         pieces,
+        holes,
     })
 }

@@ -31,28 +31,33 @@ pub(crate) struct Gathered {
 }
 
 impl Gathered {
-    /// No entries.
-    pub(crate) fn new(alloc: Global, image: &Image) -> Result<Gathered, AllocError>
-        ensures { IfOk result (λ gathered. (out : List ℕ) → AreGathered 0 out image.now gathered) }
+    /// No entries of an image with these holes.
+    pub(crate) fn new(
+        alloc: Global,
+        image: &Image,
+        holes: &[bool],
+    ) -> Result<Gathered, AllocError>
+        ensures { IfOk result (λ gathered. (out : List ℕ) → AreGathered 0 out holes.now image.now gathered) }
     {
         // A block has at most one entry. A list that grows would take twice the memory while it is copied.
         let entries = Vec::with_capacity(alloc, image.blocks() as usize)?;
-        Gathered::behind(alloc, image, entries)
+        Gathered::behind(alloc, image, holes, entries)
     }
 
     /// The entries of a tree. Others are added behind them.
     pub(crate) fn behind(
         alloc: Global,
         image: &Image,
+        holes: &[bool],
         entries: Vec<Salvaged>,
     ) -> Result<Gathered, AllocError>
         requires { AreOfOneTree image.now entries.items }
-        ensures gathered { IfOk result (λ gathered. (out : List ℕ) → AreGathered (length entries.items) out image.now gathered) }
+        ensures gathered { IfOk result (λ gathered. (out : List ℕ) → AreGathered (length entries.items) out holes.now image.now gathered) }
         ensures entries { IfOk result (λ gathered. gathered.entries.items ≡ entries.items) }
     {
         let places = places_of(alloc, image, &entries)?;
         let names = Names::new(alloc)?;
-        let giving = Giving::new(alloc, image)?;
+        let giving = Giving::new(alloc, image, holes)?;
         Ok(Gathered {
             entries,
             places,

@@ -7,6 +7,7 @@ mod beside;
 mod chains;
 mod gathered;
 mod giving;
+mod holes;
 mod kind;
 mod listing;
 mod loose;
@@ -25,6 +26,6 @@ mod votes;
 
 pub use giving::Piece;
 pub use salvaged::{HeaderState, Salvaged, State};
-pub use salvaging::salvage;
+pub use salvaging::{salvage, salvage_beside};
 pub use saved::Salvage;
 pub use undeleted::{Undeleted, UndeletedEntries, undelete};

@@ -17,10 +17,15 @@ use ados_sound::faultless_deleted;
 use ados_volume::{Below, Volume, entries_below};
 use std::alloc::{AllocError, Global};
 
-/// All entries of a volume, in its order, with whole files; and if its bitmap is trusted, behind them the sound headers among its
-/// lost blocks, and its deleted entries.
-pub(crate) fn volume_entries(alloc: Global, volume: Volume) -> Result<Salvage, AllocError>
-    ensures { (given : List ℕ) → Accepts given volume.was_validated volume.image → IfOk result (SavesTree given) }
+/// All entries of a volume with these holes, in its order, with whole files; and if its bitmap is trusted, behind them the sound
+/// headers among its lost blocks, and its deleted entries.
+pub(crate) fn volume_entries(
+    alloc: Global,
+    volume: Volume,
+    holes: Vec<bool>,
+) -> Result<Salvage, AllocError>
+    ensures saves { (given : List ℕ) → Accepts given volume.was_validated volume.image → IfOk result (SavesTree given) }
+    ensures holes { IfOk result (λ saved. saved.holes ≡ holes.items) }
 {
     let (deleted, trusted) = deleted_in(alloc, &volume)?;
     let below = entries_below(alloc, &volume, volume.root())?;
@@ -32,6 +37,7 @@ pub(crate) fn volume_entries(alloc: Global, volume: Volume) -> Result<Salvage, A
         entries,
         deleted,
         pieces: Vec::new(alloc),
+        holes,
     };
     if !trusted {
         return Ok(tree);

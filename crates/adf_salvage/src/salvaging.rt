@@ -1,13 +1,15 @@
 //! Everything in an image that can be trusted.
-ghost use Rattle.std.specs.Prelude.{ℕ, List, IfOk};
+ghost use Rattle.std.specs.Prelude.{◌≡◌, ℕ, List, IfOk};
 ghost use Rattle.ados_model.specs.Stands.{Stands};
 ghost use Rattle.ados_model.specs.Tree.{Tree};
+ghost use Rattle.adf_salvage.specs.Holes.{SalvagesBeside};
 ghost use Rattle.adf_salvage.specs.Kind.{IsReadAs};
-ghost use Rattle.adf_salvage.specs.Salvaged.{AreOfTree, Salvages, SavesRest};
+ghost use Rattle.adf_salvage.specs.Salvaged.{AreOfTree, Salvages, SavesBeside, SavesRest};
 
 use crate::chains::add_reached;
 use crate::gathered::Gathered;
 use crate::giving::Giving;
+use crate::holes::{emptied, reaches_hole};
 use crate::kind::with_kind;
 use crate::listing::volume_entries;
 use crate::loose::add_loose;
@@ -34,13 +36,41 @@ pub fn salvage(alloc: Global, image: Image) -> Result<Salvage, AllocError>
     ensures salvages { IfOk result (Salvages image) }
     ensures tree { IfOk result (λ saved. (t : Tree) → Stands image t → AreOfTree t saved) }
 {
+    salvage_of(alloc, image, Vec::new(alloc))
+}
+
+/// The same of an image with holes, blocks that nobody read: whatever stands in their place is not believed. A file that a hole
+/// belongs to is not whole, and the hole is a missing block of it. The image counts as refused if the root leads to a hole.
+///
+/// `holes` says for each block whether it is one. A block without a mark is none.
+pub fn salvage_beside(
+    alloc: Global,
+    image: Image,
+    holes: Vec<bool>,
+) -> Result<Salvage, AllocError>
+    ensures { IfOk result (SalvagesBeside holes.items image) }
+{
+    let image = emptied(image, &holes);
+    let reaches = reaches_hole(alloc, &image, &holes)?;
+    if reaches {
+        let image = with_kind(alloc, image)?;
+        return told_headers(alloc, image, holes);
+    }
+    salvage_of(alloc, image, holes)
+}
+
+/// Everything in an image that can be told. The root leads to no hole, if the image is accepted.
+fn salvage_of(alloc: Global, image: Image, holes: Vec<bool>) -> Result<Salvage, AllocError>
+    ensures salvages { IfOk result (SavesBeside holes.items image) }
+    ensures tree { IfOk result (λ saved. (t : Tree) → Stands image t → AreOfTree t saved) }
+{
     match check(alloc, image) {
-        Ok(volume) => volume_entries(alloc, volume),
+        Ok(volume) => volume_entries(alloc, volume, holes),
         Err(rejected) => match rejected.fault.kind {
             FaultKind::NoMemory => Err(AllocError),
             _ => {
                 let image = with_kind(alloc, rejected.image)?;
-                told_headers(alloc, image)
+                told_headers(alloc, image, holes)
             }
         },
     }
@@ -48,11 +78,12 @@ pub fn salvage(alloc: Global, image: Image) -> Result<Salvage, AllocError>
 
 /// The entries of all sound and doubtful headers of an image but the deleted ones, its lost entries, and the files without a
 /// header.
-fn told_headers(alloc: Global, image: Image) -> Result<Salvage, AllocError>
-    ensures { (given : List ℕ) → IsReadAs given image → IfOk result (SavesRest given) }
+fn told_headers(alloc: Global, image: Image, holes: Vec<bool>) -> Result<Salvage, AllocError>
+    ensures saves { (given : List ℕ) → IsReadAs given image → IfOk result (SavesRest given) }
+    ensures holes { IfOk result (λ saved. saved.holes ≡ holes.items) }
 {
-    let known = Known::without_deleted(alloc, image)?;
-    let mut gathered = Gathered::new(alloc, &known.image)?;
+    let known = Known::without_deleted(alloc, image, holes)?;
+    let mut gathered = Gathered::new(alloc, &known.image, &known.holes)?;
     add_reached(&known, &mut gathered)?;
     add_unreached(&known, &mut gathered)?;
     add_lost(&known, &mut gathered)?;
@@ -67,6 +98,7 @@ fn told_headers(alloc: Global, image: Image) -> Result<Salvage, AllocError>
         image,
         trusted,
         left_out,
+        holes,
         ..
     } = known;
     let deleted = left_out.into_headers();
@@ -77,5 +109,6 @@ fn told_headers(alloc: Global, image: Image) -> Result<Salvage, AllocError>
         entries,
         deleted,
         pieces,
+        holes,
     })
 }

@@ -61,7 +61,7 @@ fn undelete_read(alloc: Global, image: Image) -> Result<UndeletedEntries, AllocE
             Ok(found(alloc, known.image, deleted, gathered))
         }
         DeletedEntries::Nothing(image) => {
-            let gathered = Gathered::new(alloc, &image)?;
+            let gathered = Gathered::new(alloc, &image, &[])?;
             Ok(found(alloc, image, Vec::new(alloc), gathered))
         }
         DeletedEntries::NoTrustedBitmap => Ok(UndeletedEntries::NoTrustedBitmap),
@@ -72,7 +72,7 @@ fn undelete_read(alloc: Global, image: Image) -> Result<UndeletedEntries, AllocE
 fn found(alloc: Global, image: Image, deleted: Vec<Deleted>, gathered: Gathered) -> UndeletedEntries
     requires trusted { IsTrustedBitmap image }
     requires deleted { ListsDeleted image deleted.items }
-    requires gathered { AreGathered 0 [] image gathered }
+    requires gathered { AreGathered 0 [] [] image gathered }
     requires each { HasEach gathered.places.items deleted.items }
     ensures { TellsUndeleted image result }
 {
@@ -91,6 +91,7 @@ fn found(alloc: Global, image: Image, deleted: Vec<Deleted>, gathered: Gathered)
             entries,
             deleted: Vec::new(alloc),
             pieces,
+            holes: Vec::new(alloc),
         },
         deleted,
         places,
@@ -107,7 +108,7 @@ fn gathered_deleted(known: &Known, deleted: &[Deleted]) -> Result<Gathered, Allo
     ensures gathered { IfOk result (AreGatheredBy known.now) }
     ensures each { IfOk result (λ gathered. HasEach gathered.places.items deleted.now) }
 {
-    let mut gathered = Gathered::new(known.alloc, &known.image)?;
+    let mut gathered = Gathered::new(known.alloc, &known.image, &known.holes)?;
     let mut climbed = vec![in known.alloc; false; known.image.blocks() as usize]?;
     for entry in deleted {
         if let Recovery::Used { by: Some(user), .. } = entry.recovery {

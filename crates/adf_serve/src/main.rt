@@ -16,6 +16,7 @@ mod refusal;
 mod screen;
 
 // Commands that print something of an image, or take something out of it.
+mod bad;
 mod blocks;
 mod deleted;
 mod info;

@@ -1,6 +1,7 @@
 //! Who owns a block, and which blocks an entry has: of a volume, and every place that names a block of an image that is refused.
 #![tactic(auto)]
 
+mod bad_blocks;
 mod faulty;
 mod faulty_lines;
 mod faulty_objects;
@@ -16,6 +17,7 @@ mod where_fault;
 mod where_lines;
 mod where_objects;
 
+pub use bad_blocks::{BadFault, bad_blocks};
 pub use faulty_where::write_faulty_where;
 pub use own_blocks::where_path_text;
 pub use where_blocks::write_where;

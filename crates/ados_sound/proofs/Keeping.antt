@@ -39,22 +39,23 @@ module _ (out image : List ℕ) where
     ];
   }
 
-  same_whole : (one other : List ℕ) → AreUnreached out image one → AreUnreached out image other → (file : ℕ) → IsWhole one image file → IsWhole other image file
-  same_whole one other o u file w = record {
+  same_whole : (holes : List Bool) (one other : List ℕ) → AreUnreached out image one → AreUnreached out image other → (file : ℕ) → IsWhole one holes image file → IsWhole other holes image file
+  same_whole holes one other o u file w = record {
     claimant = same_claimant one other o u file w.claimant;
+    there = w.there;
     alone = λ another block c m k. w.alone another block (same_claimant other one u o another c) m k;
   }
 
   -- a file is saved whole by its claims, or by those of what the root leads to, and else not
-  pub saved_by : (file : ℕ) → (unreached : List ℕ) → AreUnreached out image unreached → (whole : Bool) → MatchBool whole (IsWhole unreached image file) (¬ IsWhole unreached image file)
-      → ¬ IsWhole out image file → MatchBool whole (IsSavedWhole out image file) (¬ IsSavedWhole out image file)
-  saved_by file unreached u true is none = inr (record { unreached = unreached; are_unreached = u; whole = is })
-  saved_by file unreached u false broken none = λ saved. elim saved [
+  pub saved_by : (holes : List Bool) (file : ℕ) (unreached : List ℕ) → AreUnreached out image unreached → (whole : Bool) → MatchBool whole (IsWhole unreached holes image file) (¬ IsWhole unreached holes image file)
+      → ¬ IsWhole out holes image file → MatchBool whole (IsSavedWhole out holes image file) (¬ IsSavedWhole out holes image file)
+  saved_by holes file unreached u true is none = inr (record { unreached = unreached; are_unreached = u; whole = is })
+  saved_by holes file unreached u false broken none = λ saved. elim saved [
     | inl alone ↦ none alone
-    | inr keeps ↦ broken (same_whole keeps.unreached unreached keeps.are_unreached u file keeps.whole)
+    | inr keeps ↦ broken (same_whole holes keeps.unreached unreached keeps.are_unreached u file keeps.whole)
   ]
 
 -- a file that is saved whole is sound, and not left out
-pub saved_claimant : (out image : List ℕ) (file : ℕ) → IsSavedWhole out image file → IsClaimant out image file
-saved_claimant out image file (inl alone) = alone.claimant
-saved_claimant out image file (inr keeps) = record { intact = keeps.whole.claimant.intact; told = λ there. keeps.whole.claimant.told (keeps.are_unreached.also file there) }
+pub saved_claimant : (out : List ℕ) (holes : List Bool) (image : List ℕ) (file : ℕ) → IsSavedWhole out holes image file → IsClaimant out image file
+saved_claimant out holes image file (inl alone) = alone.claimant
+saved_claimant out holes image file (inr keeps) = record { intact = keeps.whole.claimant.intact; told = λ there. keeps.whole.claimant.told (keeps.are_unreached.also file there) }

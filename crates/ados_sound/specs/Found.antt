@@ -1,5 +1,5 @@
 -- Headers to which the root does not lead: which files keep their blocks against them, and which of them an accepted image still has.
-use Rattle.std.specs.Prelude.{ℕ, ◌<◌, ◌⊎◌, List, All, AllPairs, Contains}
+use Rattle.std.specs.Prelude.{ℕ, ◌<◌, ◌⊎◌, Bool, List, All, AllPairs, Contains}
 use Rattle.adf_block.specs.Whole.{HasFreeBit}
 use Rattle.ados_model.specs.declared.role.Role.{Role}
 use Rattle.ados_model.specs.Faults.{InImage, IsEntry, Reached}
@@ -19,14 +19,14 @@ pub record AreUnreached (out image unreached : List ℕ) : Type 0 where
   pub only : (block : ℕ) → Contains unreached block → Contains out block ⊎ ¬ IsEntry image block
 
 -- a file that keeps its blocks: it is whole where the headers are left out too to which the root does not lead, so the root leads to it
-pub record KeepsBlocks (out image : List ℕ) (file : ℕ) : Type 0 where
+pub record KeepsBlocks (out : List ℕ) (holes : List Bool) (image : List ℕ) (file : ℕ) : Type 0 where
   pub unreached : List ℕ
   pub are_unreached : AreUnreached out image unreached
-  pub whole : IsWhole unreached image file
+  pub whole : IsWhole unreached holes image file
 
 -- a file that is saved whole: no other sound file claims one of its blocks, or it keeps them
-abbrev pub IsSavedWhole : List ℕ → List ℕ → ℕ → Type 0
-IsSavedWhole out image file = IsWhole out image file ⊎ KeepsBlocks out image file
+abbrev pub IsSavedWhole : List ℕ → List Bool → List ℕ → ℕ → Type 0
+IsSavedWhole out holes image file = IsWhole out holes image file ⊎ KeepsBlocks out holes image file
 
 -- the block is marked used, and nothing names it
 pub record IsLostBlock (image : List ℕ) (block : ℕ) : Type 0 where

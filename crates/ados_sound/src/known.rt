@@ -27,6 +27,8 @@ pub struct Known {
     pub left_out: LeftOut,
     /// The number of entries that are told before: those of the tree of an accepted image.
     pub before: usize,
+    /// For each block, whether it is a hole: nobody read it. A block without a mark is none.
+    pub holes: Vec<bool>,
     /// For each block, whether it is a header that is told, sound or doubtful.
     pub(crate) headers: Vec<bool>,
     /// For each block, the sound files that claim it.
@@ -36,40 +38,52 @@ pub struct Known {
 }
 
 impl Known {
-    /// What is known of the blocks of an image, where its deleted entries are left out.
+    /// What is known of the blocks of an image with these holes, where its deleted entries are left out.
     ///
     /// Time and memory grow about linearly with the size of the image.
-    pub fn without_deleted(alloc: Global, image: Image) -> Result<Known, AllocError>
+    pub fn without_deleted(
+        alloc: Global,
+        image: Image,
+        holes: Vec<bool>,
+    ) -> Result<Known, AllocError>
         ensures known { IfOk result AreKnown }
         ensures image { IfOk result (λ known. known.image ≡ image) }
+        ensures holes { IfOk result (λ known. known.holes ≡ holes) }
         ensures left_out { IfOk result (λ known. AreDeleted image known.left_out) }
         ensures none { IfOk result (λ known. known.before ≡ 0) }
     {
         let sound = sound_headers(alloc, &image)?;
         let (left_out, trusted) = left_out_of(alloc, &image, &sound)?;
-        Known::of(alloc, image, trusted, left_out, &sound)
+        Known::of(alloc, image, holes, trusted, left_out, &sound)
     }
 
-    /// What is known of the blocks of an image with a trusted bitmap, where only its entries, of which so many are told before,
-    /// and the sound headers among its lost blocks are told.
-    pub fn with_lost(alloc: Global, image: Image, before: usize) -> Result<Known, AllocError>
+    /// What is known of the blocks of an image with a trusted bitmap and these holes, where only its entries, of which so many are
+    /// told before, and the sound headers among its lost blocks are told.
+    pub fn with_lost(
+        alloc: Global,
+        image: Image,
+        holes: Vec<bool>,
+        before: usize,
+    ) -> Result<Known, AllocError>
         requires trusted { IsTrustedBitmap image }
         ensures known { IfOk result AreKnown }
         ensures image { IfOk result (λ known. known.image ≡ image) }
+        ensures holes { IfOk result (λ known. known.holes ≡ holes) }
         ensures hidden { IfOk result (λ known. AreHidden image known.left_out) }
         ensures before { IfOk result (λ known. known.before ≡ before) }
     {
         let sound = sound_headers(alloc, &image)?;
         let hidden = hidden_headers(alloc, &image, &sound)?;
-        let mut known = Known::of(alloc, image, true, hidden, &sound)?;
+        let mut known = Known::of(alloc, image, holes, true, hidden, &sound)?;
         known.before = before;
         Ok(known)
     }
 
-    /// What is known of the blocks of an image, where some headers are left out. `sound` marks the sound headers.
+    /// What is known of the blocks of an image with these holes, where some headers are left out. `sound` marks the sound headers.
     pub(crate) fn of(
         alloc: Global,
         image: Image,
+        holes: Vec<bool>,
         trusted: bool,
         left_out: LeftOut,
         sound: &[bool],
@@ -79,6 +93,7 @@ impl Known {
         requires inside { All (λ header. header < block_count image) left_out }
         ensures known { IfOk result AreKnown }
         ensures image { IfOk result (λ known. known.image ≡ image) }
+        ensures holes { IfOk result (λ known. known.holes ≡ holes) }
         ensures left_out { IfOk result (λ known. known.left_out ≡ left_out) }
         ensures none { IfOk result (λ known. known.before ≡ 0) }
     {
@@ -91,6 +106,7 @@ impl Known {
             trusted,
             left_out,
             before: 0,
+            holes,
             headers,
             claims,
             reached_claims,

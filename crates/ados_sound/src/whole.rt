@@ -6,6 +6,7 @@ ghost use Rattle.ados_sound.specs.Sound.{IsWhole};
 ghost use Rattle.ados_sound.specs.Known.{AreAllClaims, AreKnown, HasClaim};
 
 use crate::claims::{Claim, are_alone};
+use crate::holes::are_there;
 use crate::intact::named_blocks;
 use crate::known::Known;
 use std::alloc::AllocError;
@@ -15,7 +16,7 @@ use std::alloc::AllocError;
 pub fn is_whole(known: &Known, file: u32) -> Result<bool, AllocError>
     requires inside { file < block_count known.now.image }
     requires known { AreKnown known.now }
-    ensures { IfOk result (λ whole. MatchBool whole (IsSavedWhole known.now.left_out known.now.image file) (¬ IsSavedWhole known.now.left_out known.now.image file)) }
+    ensures { IfOk result (λ whole. MatchBool whole (IsSavedWhole known.now.left_out known.now.holes.items known.now.image file) (¬ IsSavedWhole known.now.left_out known.now.holes.items known.now.image file)) }
 {
     if is_whole_by(known, &known.claims, file)? {
         return Ok(true);
@@ -27,13 +28,16 @@ pub fn is_whole(known: &Known, file: u32) -> Result<bool, AllocError>
 fn is_whole_by(known: &Known, claims: &[Claim], file: u32) -> Result<bool, AllocError>
     requires inside { file < block_count known.now.image }
     requires claims { (out : List ℕ) × AreAllClaims (HasClaim out known.now.image) (block_count known.now.image) claims.now }
-    ensures { IfOk result (λ whole. (out : List ℕ) → AreAllClaims (HasClaim out known.now.image) (block_count known.now.image) claims.now → MatchBool whole (IsWhole out known.now.image file) (¬ IsWhole out known.now.image file)) }
+    ensures { IfOk result (λ whole. (out : List ℕ) → AreAllClaims (HasClaim out known.now.image) (block_count known.now.image) claims.now → MatchBool whole (IsWhole out known.now.holes.items known.now.image file) (¬ IsWhole out known.now.holes.items known.now.image file)) }
 {
     if claims[file as usize] != Claim::One(file) {
         return Ok(false);
     }
-    match named_blocks(known.alloc, &known.image, file)? {
-        Some(blocks) => Ok(are_alone(claims, file, &blocks)),
-        None => Ok(false),
+    let Some(blocks) = named_blocks(known.alloc, &known.image, file)? else {
+        return Ok(false);
+    };
+    if !are_there(&known.holes, &blocks) {
+        return Ok(false);
     }
+    Ok(are_alone(claims, file, &blocks))
 }

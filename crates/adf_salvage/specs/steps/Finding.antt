@@ -21,3 +21,4 @@ pub record AddsLost (old new : Saved) : Type 0 where
   pub image : new.image ≡ old.image
   pub trusted : new.trusted ≡ old.trusted
   pub deleted : new.deleted ≡ old.deleted
+  pub holes : new.holes ≡ old.holes

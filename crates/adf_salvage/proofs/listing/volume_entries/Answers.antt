@@ -16,8 +16,8 @@ invariant_of-tree c = record {
   inside = subst (All (λ (piece : Piece). piece.block < block_count c.into_image.result)) (sym c.new.ensures.items) (All-nil (λ (piece : Piece). piece.block < block_count c.into_image.result));
 }
 
-pub returns : goal.returns
-returns c = λ given accepts.
+pub returns-clause-saves : goal.returns-clause-saves
+returns-clause-saves c = λ given accepts.
     record {
       accepted = refl;
       validated = c.args.volume.was_validated;

@@ -4,4 +4,4 @@ use Rattle.adf_salvage.proofs.gathered.Gathered.behind.Goals as goal
 
 pub returns-clause-gathered : goal.returns-clause-gathered
 returns-clause-gathered c = λ out.
-    gathers_none out c.args.image.now c.args.entries.items _ refl c.requires c.in_ok-places.ensures c.in_ok-giving.ensures.giving c.in_ok-giving.ensures.left
+    gathers_none out c.args.holes.now c.args.image.now c.args.entries.items _ refl c.requires c.in_ok-places.ensures c.in_ok-giving.ensures.giving c.in_ok-giving.ensures.left
