@@ -652,8 +652,9 @@ def rest_told(texts: bytes) -> bytes:
 
 
 def doubts_told(texts: bytes) -> List[bytes]:
-    """The lines of standard error before these blocks, but for the one about checksums: those about files."""
-    return texts.partition(HEADING)[0].replace(NO_SUMS, b"", 1).splitlines()
+    """The lines of standard error before these blocks, but for those about checksums and about the kind of the disk: those about files."""
+    lines = texts.partition(HEADING)[0].replace(NO_SUMS, b"", 1).splitlines()
+    return [it for it in lines if not it.startswith(b"adf_serve: read as ")]
 
 
 def main(words: List[str]) -> int:
