@@ -1,11 +1,20 @@
 -- The sound headers among the lost blocks of an accepted image are found.
-use Rattle.adf_salvage.proofs.Common.{◌≡◌, ◌≢◌, ℕ, inl, Bool, true, false, length, All, AllPairs, Contains, List, ◌++◌, sym, ap, ◌∙◌, subst, arith, AreAllHeaders, AreApart, AreGatheredBy, FindsLost, Gathered, IsHole, Known, Piece, Salvaged, Saved, broken_total, headers_of}
+use Rattle.adf_salvage.proofs.Common.{◌≡◌, ◌≢◌, ℕ, inl, Bool, true, false, length, All, AllPairs, Contains, List, ◌++◌, sym, ap, ◌∙◌, subst, arith, get_or, AreAllHeaders, AreApart, AreGathered, AreGatheredBy, FindsLost, Gathered, IsHole, IsReadable, Known, Piece, Salvaged, Saved, broken_total, headers_of}
 use Rattle.std.proofs.lemmas.List.Elements.{All-append}
 use Rattle.ados_sound.specs.Found.{AreHidden, IsLostHeader}
+use Rattle.ados_sound.specs.Known.{AreKnown}
 use Rattle.adf_salvage.specs.Salvaged.{IsSalvaged}
 use Rattle.adf_salvage.specs.steps.Finding.{AddsLost, AreOfOneTree}
 use Rattle.adf_salvage.specs.steps.Gathering.{AddsFound, IsFoundEntry}
+use Rattle.adf_salvage.proofs.Reading.{salvaged_readable}
 use Rattle.adf_salvage.proofs.Saving.{headers_once}
+
+-- the entries of a tree are gathered by what is known, where as many are told before
+pub gathered_tree : (known : Known) (gathered : Gathered) (count : ℕ) → AreKnown known → known.before ≡ count → AreGathered count known.left_out known.holes.items known.image gathered → AreGatheredBy known gathered
+gathered_tree known gathered count sure before g = record {
+  sure = sure;
+  so_far = subst (λ (n : ℕ). AreGathered n known.left_out known.holes.items known.image gathered) (sym before) g;
+}
 
 module _ (known : Known) (old new : Gathered) (by : AreGatheredBy known new) (all : AreAllHeaders known new.places.items) (adds : AddsFound known old new) (hidden : AreHidden known.image known.left_out)
     (reached : All (λ (entry : Salvaged). entry.found ≡ false) old.entries.items) where
@@ -38,3 +47,24 @@ module _ (known : Known) (old new : Gathered) (by : AreGatheredBy known new) (al
     there = subst (All (λ (piece : Piece). ¬ IsHole s.holes piece.block)) (sym p) (subst (λ (holes : List Bool). All (λ (piece : Piece). ¬ IsHole holes piece.block) new.giving.pieces.items) (sym h) by.so_far.giving.there);
     bounded = omega (arith, by.so_far.bounded, ap broken_total e, ap length i);
   }
+
+  -- the salvage of the tree, with what is found behind its entries
+  pub adds_lost : (tree s : Saved) → old.entries.items ≡ tree.entries → known.image ≡ tree.image → known.holes.items ≡ tree.holes → s.accepted ≡ tree.accepted → s.trusted ≡ tree.trusted → s.deleted ≡ tree.deleted
+      → s.image ≡ known.image → s.entries ≡ new.entries.items → s.given ≡ new.giving.pieces.items → s.holes ≡ known.holes.items → AddsLost tree s
+  adds_lost tree s entries image holes accepted trusted deleted i e p h = record {
+    found = adds.found;
+    added = e ∙ adds.added ∙ ap (λ xs. xs ++ adds.found) entries;
+    besides = λ k d l. (adds.each k d l).0;
+    finds = finds_lost s i e p h;
+    accepted = accepted;
+    image = i ∙ image;
+    trusted = trusted;
+    deleted = deleted;
+    holes = h ∙ holes;
+  }
+
+  -- the whole files of the tree and those that are found can be read
+  pub found_readable : All (IsReadable known.image) old.entries.items → All (IsReadable known.image) new.entries.items
+  found_readable tree = subst (All (IsReadable known.image)) (sym adds.added)
+      (All-append (IsReadable known.image) old.entries.items adds.found tree
+      (λ k d l. salvaged_readable known.left_out known.holes.items known.image (get_or adds.found k d) (adds.each k d l).1))

@@ -1,5 +1,5 @@
 -- The whole files of a salvage can be read.
-use Rattle.adf_salvage.proofs.Common.{◌≡◌, ℕ, inl, inr, Bool, List, All, Contains, sym, ap, subst, get_or_default, IsGiving, IsListed, IsLoose, IsLostEntry, IsReadable, IsTold, Piece, Salvaged, State, block_count}
+use Rattle.adf_salvage.proofs.Common.{◌≡◌, ℕ, ◌<◌, inl, inr, Bool, List, All, sym, subst, arith, get_or, Giving, IsGiving, IsListed, IsLoose, IsLostEntry, IsReadable, Piece, Salvaged, State, block_count}
 use Rattle.ados_sound.proofs.Keeping.{saved_claimant}
 use Rattle.adf_salvage.specs.Salvaged.{HasState, IsGone, IsSalvaged}
 use Rattle.adf_salvage.specs.steps.Keeping.{CanBeRead}
@@ -30,3 +30,11 @@ pub listed_readable : (out : List ℕ) (holes : List Bool) (image : List ℕ) (e
 listed_readable out holes image entry (inl (inl s)) = salvaged_readable out holes image entry s
 listed_readable out holes image entry (inl (inr lost)) = subst (CanBeRead image entry.header) (sym lost.state) tt
 listed_readable out holes image entry (inr loose) = gone_readable image entry.header entry.state loose.gone
+
+-- all that is listed can be read
+pub all_readable : (out : List ℕ) (holes : List Bool) (image : List ℕ) (found : List Salvaged) → All (IsListed out holes image) found → All (IsReadable image) found
+all_readable out holes image found listed = λ k d l. listed_readable out holes image (get_or found k d) (listed k d l)
+
+-- the blocks that are given are inside the image
+pub pieces_inside : (holes : List Bool) (image : List ℕ) (giving : Giving) → IsGiving holes image giving → All (λ (piece : Piece). piece.block < block_count image) giving.pieces.items
+pieces_inside holes image giving g = λ k d l. omega (arith, (g.marked k d l).inside, g.size)

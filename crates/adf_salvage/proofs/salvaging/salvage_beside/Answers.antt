@@ -6,7 +6,7 @@ use Rattle.adf_salvage.proofs.salvaging.salvage_beside.Goals as goal
 pub returns-then-reaches : goal.returns-then-reaches
 returns-then-reaches c =
     refused_beside c.told_headers.result c.args.holes.items c.args.image c.emptied-image.result (subst (λ (marks : List Bool). IsEmptied marks c.args.image c.emptied-image.result) c.deref.ensures.value c.emptied-image.ensures)
-    (c.told_headers.ensures.saves c.emptied-image.result c.with_kind.ensures) c.told_headers.ensures.holes
+    (c.told_headers.ensures.saves c.emptied-image.result c.in_ok-image.ensures) c.told_headers.ensures.holes
 
 pub returns : goal.returns
 returns c =
