@@ -11,6 +11,7 @@ mod explaining;
 mod fault;
 mod images;
 mod jobs;
+mod json_jobs;
 mod output;
 mod refusal;
 mod screen;
@@ -34,6 +35,7 @@ mod validate;
 // Scripts over an image.
 mod serving;
 
+pub use adf_host::SeesReader;
 use adf_host::{LimitedInput, LimitedOutput, Stream};
 pub use adf_import::StandardInput;
 pub use adf_io::{LoadFault, StoreFault, load_image, store_image};

@@ -9,7 +9,7 @@ use crate::output::end_job;
 use crate::screen::{Screen, columns, takes_bold};
 use crate::script::{faulty_number, try_script};
 use adf_archive::ReadImages;
-use adf_host::PromptFiles;
+use adf_host::{PromptFiles, SeesReader};
 use adf_import::StandardInput;
 use adf_script::{TryFault, read_script};
 use adf_text::{print_line, print_lines};
@@ -50,7 +50,7 @@ where
         + Drop
         + 'static,
     R: Read + IsTerminal,
-    W: Write + IsTerminal,
+    W: Write + IsTerminal + SeesReader,
     F: Write + IsTerminal,
     ensures whole { words.now ≡ [] → result ≡ 0 →
         RunsScript (R.remaining reader.old) (R.remaining reader.new) (W.contents writer.old)
@@ -106,7 +106,7 @@ const WAITING: &str =
     "waiting for the lines of a script, up to Ctrl-D; 'adf_serve --help' shows the commands";
 
 /// Runs the script of standard input, and prints on `faults` what is wrong with a faulty line.
-fn run_script<R: Read, W: Write, F: Write>(
+fn run_script<R: Read, W: Write + SeesReader, F: Write>(
     alloc: Global,
     reader: &mut R,
     writer: &mut W,
@@ -136,7 +136,10 @@ fn run_script<R: Read, W: Write, F: Write>(
             3
         }
         Err(fault) => {
-            tell_fault(fault, faults);
+            let is_cut = fault == TryFault::Write && writer.has_lost_reader();
+            if !is_cut {
+                tell_fault(fault, faults);
+            }
             2
         }
     }
