@@ -20,11 +20,7 @@ pub struct FaultReason {
 
 /// The text for a refused image: `refused KIND BLOCK`, or with `json` an object whose member `refused` has `kind` and `block`.
 /// Either is a line.
-pub fn refused_text(
-    alloc: Global,
-    reason: FaultReason,
-    json: bool,
-) -> Result<Vec<u8>, AllocError>
+pub fn refused_text(alloc: Global, reason: FaultReason, json: bool) -> Result<Vec<u8>, AllocError>
     ensures { IfOk result (λ text. text.items ≡ refused_text json reason.kind.now reason.block) }
 {
     if !json {

@@ -32,13 +32,14 @@ pub returns : goal.returns
 returns c =
     let error = c.args.self.now.refused.error in
     let front = c.in_ok-front.ensures.ok
-        ∙ ap (λ (n : ℤ). codes "refused " ++ (signed_decimal (to_z w32 (of_z w32 n)) ++ 32 ∷ [])) c.number-number.ensures
-        ∙ ap (λ (l : List ℕ). codes "refused " ++ (l ++ 32 ∷ [])) (shown_number error) in
+    ∙ ap (λ (n : ℤ). codes "refused " ++ (signed_decimal (to_z w32 (of_z w32 n)) ++ 32 ∷ [])) c.number-number.ensures
+    ∙ ap (λ (l : List ℕ). codes "refused " ++ (l ++ 32 ∷ [])) (shown_number error) in
     simp (
       c.in_ok-push.ensures.items,
       c.in_ok-push_plain.ensures,
-      c.into_bytes.ensures.value,
-      c.as_str.ensures.value,
+      c.into_bytes-line.ensures.value,
+      c.as_str-path.ensures.value,
+      c.if-json.false,
       front,
       append_assoc,
     )
