@@ -1,6 +1,5 @@
 //! Standard streams that are regular files: how far they are written, and read.
 use crate::limit::LengthLimit;
-use crate::sees_reader::SeesReader;
 use crate::standard::{Stream, is_regular};
 use adf_io::read_some;
 use std::fs;
@@ -8,8 +7,7 @@ use std::io::{Error, ErrorKind, IsTerminal, Read, Result as IoResult, Write};
 use std::rt::Files;
 
 /// A stream to which the program prints. If it is a regular file, no write exceeds the process's limit on the length of
-/// files (`ulimit -f`): what fits is written, and then writes fail. The host would end the process by a signal. If it is a
-/// pipe, it notes whether nobody reads it any more.
+/// files (`ulimit -f`): what fits is written, and then writes fail. The host would end the process by a signal.
 #[derive(Drop)]
 pub struct LimitedOutput<'a, R, W> {
     rt: &'a R,
@@ -17,7 +15,6 @@ pub struct LimitedOutput<'a, R, W> {
     writer: W,
     /// `None` if the stream is no regular file.
     limit: Option<LengthLimit>,
-    has_lost_reader: bool,
 }
 
 impl<'a, R: Files, W: Write> LimitedOutput<'a, R, W> {
@@ -33,7 +30,6 @@ impl<'a, R: Files, W: Write> LimitedOutput<'a, R, W> {
             stream,
             writer,
             limit,
-            has_lost_reader: false,
         }
     }
 
@@ -55,22 +51,11 @@ impl<R: Files, W: Write> Write for LimitedOutput<'_, R, W> {
         if fits.is_empty() && !bytes.is_empty() {
             return Err(Error::from(ErrorKind::FileTooLarge));
         }
-        let wrote = self.writer.write(fits);
-        self.has_lost_reader = match &wrote {
-            Ok(_) => false,
-            Err(error) => error.kind() == ErrorKind::BrokenPipe,
-        };
-        wrote
+        self.writer.write(fits)
     }
 
     fn flush(&mut self) -> IoResult<()> {
         self.writer.flush()
-    }
-}
-
-impl<R, W> SeesReader for LimitedOutput<'_, R, W> {
-    fn has_lost_reader(&self) -> bool {
-        self.has_lost_reader
     }
 }
 

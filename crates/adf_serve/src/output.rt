@@ -9,8 +9,8 @@ ghost use Rattle.adf_serve.specs.declared.fault.CommandFault.TheVariants.{Output
 
 use crate::fault::CommandFault;
 use crate::json_jobs::prints_json;
+use crate::outlet::SeesReader;
 use adf_archive::ReadImages;
-use adf_host::SeesReader;
 use adf_io::write_output;
 use adf_text::print_line;
 use adf_words::ImageJob;

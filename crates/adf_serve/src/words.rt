@@ -5,11 +5,12 @@ ghost use Rattle.adf_serve.specs.Script.{RunsScript};
 
 use crate::held::tell_job;
 use crate::jobs::run_job;
+use crate::outlet::SeesReader;
 use crate::output::end_job;
 use crate::screen::{Screen, columns, takes_bold};
 use crate::script::{faulty_number, try_script};
 use adf_archive::ReadImages;
-use adf_host::{PromptFiles, SeesReader};
+use adf_host::PromptFiles;
 use adf_import::StandardInput;
 use adf_script::{TryFault, read_script};
 use adf_text::{print_line, print_lines};
