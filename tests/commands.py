@@ -33,8 +33,10 @@ COMMANDS = "blank info show map where check list print extract undelete add mkdi
 ON_IMAGES = [
     *("print IMAGE x", "extract IMAGE", "add IMAGE x", "mkdir IMAGE x", "delete IMAGE x", "rename IMAGE x y"),
     *("protect IMAGE x rwed", "date IMAGE x now", "comment IMAGE x y", "relabel IMAGE x", "boot IMAGE"),
-    *("boot --clear IMAGE", "boot --install IMAGE", "boot --save none.bin IMAGE", "boot --show IMAGE", "map IMAGE", "map --json IMAGE"),
+    *("boot --clear IMAGE", "boot --install IMAGE", "map IMAGE", "map --json IMAGE"),
 ]
+# The commands that read the two boot blocks of any file.
+ON_BOOT_BLOCKS = ["boot --show IMAGE", "boot --save none.bin IMAGE"]
 AT = "--days 1 --minutes 0 --ticks 0"
 # An entry of `list`, from its date on.
 MADE = "     dir ---rwed 1978-01-02 00:00:00.00 "
@@ -1188,6 +1190,25 @@ def shown_boots(tried: Commands) -> None:
     tried.write("shown.adf", stale)
     tried.rows(row("boot --show where the bitmap is rebuilt", "boot --show shown.adf", 0, boot_shown("custom, checksum right", own)))
     tried.stays("boot --show rebuilds no bitmap", "shown.adf", stale)
+    other = b"PFS\1" + own[4:]
+    for name, image in (("two blocks", own), ("two blocks and a byte", own + b"x"), ("a disk of another kind", other + bytes(1758 * BLOCK))):
+        said = "custom, checksum right" if image[:3] == b"DOS" else wrong_sum
+        tried.write("shown.adf", image)
+        tried.rows(row(f"boot --show of {name}", "boot --show shown.adf", 0, boot_shown(said, image[: 2 * BLOCK])))
+        piped = tried.run("boot", "--show", "-", input=image)
+        tried.report.check(f"boot --show of {name} from a pipe", piped, 0, boot_shown(said, image[: 2 * BLOCK]).encode())
+    tried.write("shown.adf", own[:-1])
+    tried.rows(row("boot --show of a byte less than two blocks", "boot --show shown.adf", 3, "refused NotWholeBlocks 0\n", "1,023 bytes"))
+
+
+def named_boots(tried: Commands) -> None:
+    """`extract --damaged` and `extract --bundle` say what the boot block is, if there is one."""
+    boot = boot_with(b"DOS\1", b"own")
+    for name, front, said in (("none", b"DOS\1", ""), ("custom", boot, "adf_serve: boot block: custom, checksum right\n")):
+        tried.write("named.adf", front + tried.content("ffs.adf")[len(front) :])
+        for words in ("extract --damaged --list named.adf", f"extract --bundle {name}.out named.adf"):
+            ran = tried.run(*words.split())
+            tried.report.same(f"{words}: boot block {name}", (ran.status, ran.texts), (0, said.encode()))
 
 
 def saved_boots(tried: Commands) -> None:
@@ -1298,7 +1319,7 @@ def held_images(tried: Commands) -> None:
 
 def missing_files(tried: Commands) -> None:
     before = tried.content("ffs.adf")
-    for words in ON_IMAGES:
+    for words in (*ON_IMAGES, *ON_BOOT_BLOCKS):
         words = words.replace("IMAGE", "none.adf")
         tried.rows(lacking(f"an image that is not there: {words}", words, "cannot read 'none.adf': no such file"))
     for command in ("info", "list"):
@@ -1492,9 +1513,9 @@ def forms_of_lists(tried: Commands) -> None:
     for name, head in (("list", plain[0]), ("list --letters", plain[0]), ("list --long", plain[0]), ("list --json", "")):
         tried.rows(
             row(f"{name} of an empty directory", f"{name} told.adf a", 0, head),
-            row(f"{name} of no object", f"{name} told.adf S/none", 3, "refused 205 S/none\n", "object not found"),
-            row(f"{name} below no directory", f"{name} told.adf none/x", 3, "refused 204 none/x\n", "directory not found"),
-            row(f"{name} below a file", f"{name} told.adf t/x", 3, "refused 212 t/x\n", "required type"),
+            row(f"{name} of no object", f"{name} told.adf S/none", 3, dos_refusal(name, 205, "S/none"), "object not found"),
+            row(f"{name} below no directory", f"{name} told.adf none/x", 3, dos_refusal(name, 204, "none/x"), "directory not found"),
+            row(f"{name} below a file", f"{name} told.adf t/x", 3, dos_refusal(name, 212, "t/x"), "required type"),
         )
     for at, path in ((3, "s/CAF\xe9"), (4, "S/F\x1b"), (5, "t")):
         tried.rows(
@@ -1542,13 +1563,20 @@ def refused_images(tried: Commands) -> None:
         if name in nexts:
             texts.append(f"'{name}' {nexts[name].format(name)}")
         for words in ("check IMAGE", "info IMAGE", "list IMAGE", *ON_IMAGES):
-            tried.rows(row(f"{words.split()[0]} of {name}", words.replace("IMAGE", name), 3, refused, *texts))
+            tried.rows(row(f"{words.split()[0]} of {name}", words.replace("IMAGE", name), 3, refusal(words, told), *texts))
         if name not in ("marked.adf", "page.adf"):
             tried.rows(row(f"validate of {name}", ["validate", name], 3, refused, *texts))
+        if len(image) < 2 * BLOCK:
+            tried.rows(*(row(f"{it} of {name}", it.replace("IMAGE", name), 3, refused, *texts) for it in ON_BOOT_BLOCKS))
+            tried.absent("a file without two blocks saves no boot block", "none.bin")
+        else:
+            show, save = (it.replace("IMAGE", name) for it in ON_BOOT_BLOCKS)
+            tried.rows(row(f"boot --show of {name}", show, 0, boot_shown("none", image[: 2 * BLOCK])), row(f"boot --save of {name}", save))
+            tried.stays(f"boot --save of {name} writes the two blocks", "none.bin", image[: 2 * BLOCK])
+            os.remove("none.bin")
         tried.stays(f"{name} stays", name, image)
         tried.rows(row(f"serve of {name}", ["serve", "--out", "none.out", name, "none"], 3, refused, *texts))
     tried.absent("a refused image writes nothing", "none.out")
-    tried.absent("a refused image saves no boot block", "none.bin")
     os.remove("huge.adf")
 
 
@@ -1659,6 +1687,22 @@ def shown_volumes(tried: Commands) -> None:
         tried.report.same(f"show --json of a boot block: {said}", json.loads(tried.run("show", "--json", "booted.adf").output)["boot"], word)
 
 
+def refusal(words: str, told: str) -> str:
+    """What a command prints for a refused image."""
+    kind, block = told.split()
+    return refused_object(kind=kind, block=int(block)) if "--json" in words else f"refused {told}\n"
+
+
+def dos_refusal(words: str, number: int, path: str) -> str:
+    """What a command prints for a refusal by AmigaDOS."""
+    return refused_object(number=number, path=path) if "--json" in words else f"refused {number} {path}\n"
+
+
+def refused_object(**reason: Union[str, int]) -> str:
+    """What a command that prints JSON prints where something is refused."""
+    return json.dumps({"refused": reason}, separators=(",", ":")) + "\n"
+
+
 def refused_shows(tried: Commands) -> None:
     """`show` of refused images: the line of each command, and on standard error what can be said."""
     blank = tried.content("ffs.adf")
@@ -1673,9 +1717,12 @@ def refused_shows(tried: Commands) -> None:
     ]
     for name, image, told, said in rows:
         tried.write(name, image)
-        for words in ("show", "show --json"):
-            tried.rows(row(f"{words} of {name}", f"{words} {name}", 3, f"refused {told}\n", *said))
+        tried.rows(*(row(f"{it} of {name}", f"{it} {name}", 3, refusal(it, told), *said) for it in ("show", "show --json", "list --json")))
         tried.stays(f"show leaves {name}", name, image)
+    tried.rows(
+        row("list --json of no entry", ["list", "--json", "ffs.adf", 'a"b'], 3, refused_object(number=205, path='a"b'), 'a"b'),
+        row("a rescue as JSON of no image", "extract --damaged --list --json short.adf", 3, refused_object(kind="TooFewBlocks", block=0), "7,680 bytes are too few"),
+    )
     tried.rows(lacking("show of no file", "show none.adf", "none.adf"), wrong("show without an image", "show", "Usage"))
 
 
@@ -1912,11 +1959,18 @@ def refused_output(tried: Commands) -> None:
     }
     for words in ("info ffs.adf", "check ffs.adf", "list ffs.adf", "boot --show ffs.adf", "check kind.adf", "serve --out full.adf ffs.adf write"):
         for name, before in outputs.items():
-            tried.report.check(f"{words} {name}", tried.run(*words.split(), before=before), 2, b"", UNWRITTEN)
+            ran = tried.run(*words.split(), before=before)
+            # (a reader that has seen enough, as `head`, needs no text)
+            wanted = (2, b"", "nobody reads" not in name)
+            tried.report.same(f"{words} {name}", (ran.status, ran.output, UNWRITTEN in ran.texts.decode()), wanted)
+    for words in ("list ffs.adf", "map ffs.adf"):
+        tried.report.check(f"{words}: no text for who reads no more", tried.run(*words.split(), before=outputs["into a pipe that nobody reads"]), 2)
     entry = "Volume Work\n       1 ---rwed 1978-01-01 00:00:00.00 f\n"
     tried.rows(row("the image is written where output is refused", "list full.adf", 0, entry))
     ran = tried.run(input=b"diskinfo\n", before=outputs["onto a full device"])
     tried.report.check("a script onto a full device", ran, 2, b"", UNWRITTEN)
+    ran = tried.run(input=b"diskinfo\n", before=outputs["into a pipe that nobody reads"])
+    tried.report.check("a script into a pipe that nobody reads", ran, 2)
     ran = tried.run(before=partial(os.close, 0))
     tried.report.check("a script from a closed input", ran, 2, b"", "standard input cannot be read")
     os.close(full)
@@ -1929,7 +1983,7 @@ PARTS: List[Callable[[Commands], None]] = [
     *(tips, help_in_groups, versions, usage_lines, clients, faulty_scripts, explained_lines, at_a_terminal, turns, growths, many_clients),
     *(directories, directories_on_the_way, files_under_names, closed_input, images_from_input, turned_words, refused_changes, changes_beside, precious_files),
     *(named_entries, protect_words, boot_blocks),
-    *(standard_boot, shown_boots, saved_boots, boot_options),
+    *(standard_boot, shown_boots, saved_boots, named_boots, boot_options),
     *(held_images, readers_of_held_images, missing_files, denied_files, first_faults),
     *(accepted_images, forms_of_lists, refused_images, stale_image, refused_output),
     *(shown_volumes, refused_shows, bold_letters, sorted_lists),

@@ -466,7 +466,8 @@ class Tried:
     def printed(self, whole: Tree) -> None:
         """`print` of the first files of an accepted image, by paths without escapes."""
         self.agrees("info", "image.adf")
-        self.agrees("boot", "--show", "image.adf")
+        booted = self.run("boot", "--show", "image.adf")
+        assert (booted.status, booted.output[:12]) == (0, b"boot block: "), f"boot --show: status {booted.status}, {booted.output[:200]!r}"
         self.agrees("map", "image.adf")
         self.placed()
         self.agrees("where", "--path", "", "image.adf")

@@ -248,10 +248,10 @@ def fault_of_places(room: Room, name: str, chance: random.Random) -> Optional[st
     words = [str(it) if chance.random() < 0.5 else "c{}.h{}.s{}".format(*places[it]) for it in asked]
     refused = room.run("check", name).output
     fault = fault_of(room.run("where", name, *words), 3, refused + placed_lines(model, places, asked), " blocks\n")
+    _, kind, at = refused.split()
+    wanted = {"refused": {"kind": kind.decode(), "block": int(at)}, "blocks": placed_objects(model, places, asked)}
     ran = room.run("where", "--json", name, *words)
-    first, _, rest = ran.output.partition(b"\n")
-    fault = fault or (None if (ran.status, first + b"\n") == (3, refused) else f"status {ran.status}, {first!r}")
-    fault = fault or fault_of_array(ran._replace(status=0, output=rest, texts=b""), placed_objects(model, places, asked))
+    fault = fault or (None if ran.status == 3 else f"status {ran.status}") or fault_of_json(ran.output, wanted)
     return fault or (None if room.content(name) == data else "the image changed")
 
 
@@ -285,13 +285,12 @@ def known_places(room: Room) -> None:
     room.report.expect("a header that two places name", ran.status == 3 and ran.output.partition(b"\n")[2] == wanted.encode(), ran)
 
 
-def fault_of_array(ran: Ran, wanted: object) -> Optional[str]:
-    """What is wrong with an array on a line of its own."""
-    fault = fault_of(ran, 0, None)
-    if fault or ran.output.count(b"\n") != 1 or not ran.output.endswith(b"\n"):
-        return fault or f"no line: {ran.output[:300]!r}"
-    found = json.loads(ran.output)
-    return None if found == wanted else f"another array: {str(found)[:300]} where {str(wanted)[:300]} is expected"
+def fault_of_json(output: bytes, wanted: object) -> Optional[str]:
+    """What is wrong with JSON on a line of its own."""
+    if output.count(b"\n") != 1 or not output.endswith(b"\n"):
+        return f"no line: {output[:300]!r}"
+    found = json.loads(output)
+    return None if found == wanted else f"other JSON: {str(found)[:300]} where {str(wanted)[:300]} is expected"
 
 
 def fault_of_blocks(room: Room, name: str, chance: random.Random, most: int = 9_000) -> Optional[str]:
@@ -304,7 +303,8 @@ def fault_of_blocks(room: Room, name: str, chance: random.Random, most: int = 9_
     chance.shuffle(asked)
     words = [str(it) if chance.random() < 0.5 else "c{}.h{}.s{}".format(*places[it]) for it in asked]
     fault = fault_of(room.run("where", name, *words), 0, lines_of(image, places, asked))
-    fault = fault or fault_of_array(room.run("where", "--json", name, *words), objects_of(image, places, asked))
+    ran = room.run("where", "--json", name, *words)
+    fault = fault or fault_of(ran, 0, None) or fault_of_json(ran.output, objects_of(image, places, asked))
     for key in chance.sample(sorted(image.own), min(20, len(image.own))):
         path = "" if key == image.root else image.path(key)
         if not {"\0"} & set(path):
@@ -384,13 +384,20 @@ def other_images(room: Room) -> None:
     room.report.check("a wrong checksum", room.run("map", "bad.adf"), 3, b"refused BadSum 8\n", "its checksum is wrong")
     room.report.same("the image stays", room.content("bad.adf"), bytes(data))
     room.write("short.adf", bytes(100))
-    room.report.check("no image", room.run("map", "--json", "short.adf"), 3, b"refused NotWholeBlocks 0\n", "100 bytes are no whole number of blocks")
+    size = b'{"refused":{"kind":"NotWholeBlocks","block":0}}\n'
+    room.report.check("no image", room.run("map", "--json", "short.adf"), 3, size, "100 bytes are no whole number of blocks")
     room.write("other.adf", b"PFS\1" + bytes(BLOCK * 1760 - 4))
     room.report.check("another kind of disk", room.run("map", "other.adf"), 3, b"refused NotADosDisk 0\n", "not an AmigaDOS disk")
     room.report.check("no such file", room.run("map", "none.adf"), 2, b"", "none.adf")
     bad = b"refused BadSum 8\n8  cyl 0 head 0 sector 8  root\n8  fault BadSum\n0  cyl 0 head 0 sector 0  boot block\n12  cyl 0 head 1 sector 1  named by nothing\n"
     room.report.check("where in a refused image", room.run("where", "bad.adf", "8", "0", "12"), 3, bad, "its checksum is wrong")
     room.report.check("no such block in a refused image", room.run("where", "bad.adf", "8", "16"), 3, b"refused BadSum 8\n", "'bad.adf' has no block 16: it has 16 blocks", "its checksum is wrong")
+    told = b'{"refused":{"kind":"BadSum","block":8}'
+    end = b"}\n"
+    objects = b',"blocks":[{"block":8,"cylinder":0,"head":0,"sector":8,"places":[],"faults":["BadSum"],"more":false}]'
+    room.report.check("where --json in a refused image", room.run("where", "--json", "bad.adf", "8"), 3, told + objects + end, "its checksum is wrong")
+    room.report.check("where --json of no such block", room.run("where", "--json", "bad.adf", "16"), 3, told + end, "'bad.adf' has no block 16", "its checksum is wrong")
+    room.report.check("where --json in no image", room.run("where", "--json", "short.adf", "8"), 3, size, "100 bytes")
     room.report.check("a path in a refused image", room.run("where", "--path", "", "bad.adf"), 3, b"refused BadSum 8\n", "its checksum is wrong")
     room.report.check("where in no image", room.run("where", "short.adf", "8"), 3, b"refused NotWholeBlocks 0\n", "100 bytes")
     room.report.check("where in no file", room.run("where", "none.adf", "8"), 2, b"", "none.adf")

@@ -19,7 +19,7 @@ counted image force new text is e = (new.image, is.validated, e ∙ ap₂ valida
 
 -- a fault that the image shows is told as its refusal
 pub refused_as : (image : List ℕ) (fault : VolumeFault) (told : CommandFault) → Shows image fault.kind fault.block → IsToldAs fault told → IsRefusedAs image told
-refused_as image fault (Refused refusal) shows (no_want, line) = (fault.kind, fault.block, shows, line)
+refused_as image fault (Refused refusal) shows (no_want, kind, block) = (fault.kind, subst (Shows image fault.kind) (sym block) shows, kind)
 refused_as image fault (Dos refusal) shows t = absurd (let same = t.0 in cc same)
 refused_as image fault told shows t = tt
 

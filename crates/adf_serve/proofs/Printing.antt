@@ -27,7 +27,7 @@ use Rattle.adf_serve.specs.declared.refusal.DosRefusal.{DosRefusal}
 use Rattle.adf_serve.specs.Asked.{AnswersDisk}
 use Rattle.adf_serve.specs.Texts.{AreDeletedLines, AreEntryBlocks, BeginsJobText, BeginsListOf, BeginsListText, IsJobText, IsListed, IsListOf, IsListText, shown_form, IsLook, IsLookText, IsInfoText, IsPrintText}
 use Rattle.adf_serve.specs.Faults.{IsBlankFault, IsNoImage, IsNoImageRefusal, IsNoRefusal, IsRefusedFor, IsToldAs, IsToldOut}
-use Rattle.adf_serve.specs.Commands.{Does, DoesJob, Ending, EndsJob, EndsOff, LeavesOff, Prints, prints, Tells, TellsFault, TellsJob, TellsOf, TellsSome}
+use Rattle.adf_serve.specs.Commands.{Does, DoesJob, Ending, EndsJob, EndsOff, LeavesOff, Prints, prints, prints_json, Tells, TellsFault, TellsJob, TellsOf, TellsSome}
 use Rattle.adf_serve.specs.Commands.Prints.{OnlyFaults, OfBlocks, OfBytes, OfImages, OfRescue, Unsaid}
 use Rattle.std.proofs.lemmas.List.{append-nil}
 use Rattle.adf_archive.specs.Archive.{TellsArchive, told_in}
@@ -43,21 +43,21 @@ use Rattle.adf_words.specs.declared.query.UndeleteJob.{UndeleteJob}
 use Rattle.adf_rescue.specs.declared.undeleting.Undeletion.{Undeletion}
 use Rattle.adf_rescue.specs.Undelete.{IsUndeletion, key_of}
 use Rattle.adf_block.specs.Image.{block_count}
-use Rattle.adf_where.specs.Faulty.{IsFaultyWhere, IsFaultyWhereBehind}
+use Rattle.adf_where.specs.Faulty.{IsFaultyWhere}
 use Rattle.adf_where.specs.Where.{IsWhere, IsWhereFault, IsWhereOf, LeavesWhere}
 use Rattle.adf_where.specs.declared.where_fault.WhereFault.{WhereFault}
 use Rattle.adf_where.specs.declared.where_fault.WhereFault.TheVariants as places
 use Rattle.adf_words.specs.declared.block_word.BlockWord.{BlockWord}
 use Rattle.adf_export.specs.Words.{LeadsTo}
 use Rattle.adf_serve.specs.Archives.{EndsArchive, IsToldArchive}
-use Rattle.adf_serve.specs.Placed.{DoesWhere, IsBareLine, IsPlacedIn, IsUnasked, IsWhereText, LeavesPlaced, MayEnd}
+use Rattle.adf_serve.specs.Placed.{DoesWhere, IsBareRefusal, IsPlacedIn, IsUnasked, IsWhereText, LeavesPlaced, MayEnd}
 use Rattle.adf_serve.specs.Reports.{DoesReport, IsSomeText, TellsReport}
-use Rattle.adf_serve.specs.Rescues.{IsHostEnd, IsRescueText, IsSizeLine}
-use Rattle.adf_serve.specs.Refusals.{dos_line, IsDosText, IsImageRefusal, IsRefusalText, IsSizeRefusal, refusal_line, refused_line, told_line}
+use Rattle.adf_serve.specs.Rescues.{IsHostEnd, IsRescueText, IsSomeSize}
+use Rattle.adf_serve.specs.Refusals.{dos_text, IsDosText, IsImageRefusal, IsRefusalText, IsSizeRefusal, refusal_text, told_line}
 
 -- an image is refused, as the fault says
 pub refused_for : (image : List ℕ) (fault : VolumeFault) (told : CommandFault) → IsRefusal image fault → IsToldAs fault told → IsRefusedFor image told
-refused_for image fault (Refused refusal) refused (no_want, line) = (fault.kind, fault.block, shown refused, line)
+refused_for image fault (Refused refusal) refused (no_want, kind, block) = (fault.kind, subst (Shows image fault.kind) (sym block) (shown refused), kind)
   where
     shown : IsRefusal image fault → Shows image fault.kind fault.block
     shown (inl shows) = shows
@@ -262,24 +262,37 @@ archive_unsaid job old new Output front = front
 archive_unsaid job old new Memory front = front
 archive_unsaid job old new fault none = absurd none
 
+-- a fault without a text has none in any form
+none_in : (json : Bool) (fault : CommandFault) → IsNoRefusal fault → told_line json fault ≡ None
+none_in json (Refused refusal) plain = absurd (cc plain)
+none_in json (Dos refusal) plain = absurd (cc plain)
+none_in json fault plain = refl
+
+pub plain : (json : Bool) (fault : CommandFault) → told_line json fault ≡ None → IsNoRefusal fault
+plain json (Refused refusal) none = absurd (cc none)
+plain json (Dos refusal) none = absurd (cc none)
+plain json fault none = refl
+
 -- a report on an image
-module _ (IsText : Bool → List ℕ → Type 0) (IsPlain : List ℕ → Type 0) (MayEnd : CommandFault → Type 0) where
-  -- the fault has no line, or no memory for it
-  report_failed : (old new : Option (List ℕ)) (fault : CommandFault) → DoesReport IsText IsPlain MayEnd old new (Err fault) → IsNoRefusal fault → TellsReport IsText IsPlain MayEnd old new (Err fault)
+module _ (json : Bool) (IsText : Bool → List ℕ → Type 0) (IsPlain : Refusal → Type 0) (MayEnd : CommandFault → Type 0) where
+  -- the fault has no text, or no memory for it
+  report_failed : (old new : Option (List ℕ)) (fault : CommandFault) → DoesReport IsText IsPlain MayEnd old new (Err fault) → IsNoRefusal fault → TellsReport json IsText IsPlain MayEnd old new (Err fault)
   report_failed old new NotWhole told plain = told
   report_failed old new (Refused refusal) d plain = absurd (cc plain)
   report_failed old new (Dos refusal) d plain = absurd (cc plain)
   report_failed old new fault (may, inl keeps) plain = (may, inl keeps)
   report_failed old new fault (may, inr (text, is, front)) plain = (may, inr (text, inl is, front))
 
-  report_unsaid : (old new : Option (List ℕ)) (fault : CommandFault) → MayEnd Memory → DoesReport IsText IsPlain MayEnd old new (Err fault) → TellsReport IsText IsPlain MayEnd old new (Err Memory)
+  report_unsaid : (old new : Option (List ℕ)) (fault : CommandFault) → MayEnd Memory → DoesReport IsText IsPlain MayEnd old new (Err fault) → TellsReport json IsText IsPlain MayEnd old new (Err Memory)
   report_unsaid old new NotWhole may d = (may, inr (d.0, inl (false, d.2), told_front old new d.0 d.1))
   report_unsaid old new (Refused refusal) may d = (may, inl d.0)
   report_unsaid old new (Dos refusal) may keeps = (may, inl keeps)
   report_unsaid old new fault may (ends, inl keeps) = (may, inl keeps)
   report_unsaid old new fault may (ends, inr (text, is, front)) = (may, inr (text, inl is, front))
 
-  -- nothing is written, or a prefix of a report, at a fault without a line
+-- a report that was not made
+module _ (IsText : Bool → List ℕ → Type 0) (IsPlain : Refusal → Type 0) (MayEnd : CommandFault → Type 0) where
+  -- nothing is written, or a prefix of a report, at a fault without a text
   pub report_left : (old new : Option (List ℕ)) (fault : CommandFault) → IsNoRefusal fault → fault ≢ NotWhole → MayEnd fault → Keeps old new ⊎ WritesFrontOf old new (IsSomeText IsText)
       → DoesReport IsText IsPlain MayEnd old new (Err fault)
   report_left old new NotWhole plain other may left = absurd (other refl)
@@ -288,14 +301,14 @@ module _ (IsText : Bool → List ℕ → Type 0) (IsPlain : List ℕ → Type 0)
   report_left old new fault plain other may left = (may, left)
 
   -- nothing is written if no image was read
-  no_image_reported : (w : Option (List ℕ)) (fault : CommandFault) → ((bytes text : List ℕ) → IsSizeRefusal bytes text → IsPlain text) → (IsNoImage fault → MayEnd fault) → IsNoImage fault
+  no_image_reported : (w : Option (List ℕ)) (fault : CommandFault) → ((bytes : List ℕ) (refusal : Refusal) → IsSizeRefusal bytes refusal → IsPlain refusal) → (IsNoImage fault → MayEnd fault) → IsNoImage fault
       → DoesReport IsText IsPlain MayEnd w w (Err fault)
   no_image_reported w NotWhole plain may is = absurd is
-  no_image_reported w (Refused refusal) plain may is = (Keeps-refl w, plain is.0 (refusal_line refusal) is.1)
+  no_image_reported w (Refused refusal) plain may is = (Keeps-refl w, plain is.0 refusal is.1)
   no_image_reported w (Dos refusal) plain may is = Keeps-refl w
   no_image_reported w fault plain may is = (may is, inl (Keeps-refl w))
 
-  pub reports_no_image : (w : Option (List ℕ)) (fault : CommandFault) (done : Ending) → ((bytes text : List ℕ) → IsSizeRefusal bytes text → IsPlain text)
+  pub reports_no_image : (w : Option (List ℕ)) (fault : CommandFault) (done : Ending) → ((bytes : List ℕ) (refusal : Refusal) → IsSizeRefusal bytes refusal → IsPlain refusal)
       → ((told : CommandFault) → IsNoImage told → MayEnd told) → IsNoImage fault → IsErrAnd done (λ told. told ≡ fault) → DoesReport IsText IsPlain MayEnd w w done
   reports_no_image w fault (Ok x) plain may is same = absurd same
   reports_no_image w fault (Err told) plain may is same = no_image_reported w told plain (may told) (subst IsNoImage (sym same) is)
@@ -309,39 +322,40 @@ host_ends list fault is = tt
 module _ (job : WhereJob) (image : List ℕ) where
   -- the fault that a refusal of an image that is handed back names
   pub refusal_shown : (old : List ℕ) (fault : VolumeFault) (refusal : Refusal) → HandsBack old image fault → refusal.kind.now ≡ kind_word fault.kind → refusal.block ≡ fault.block
-      → fault.kind ≢ NoMemory → IsImageRefusal image (refusal_line refusal)
+      → fault.kind ≢ NoMemory → IsImageRefusal image refusal
   refusal_shown old fault refusal handed kind block memory =
-      refused_for image fault (Refused refusal) (subst (λ (i : List ℕ). IsRefusal i fault) (sym handed.0) handed.1) (memory, ap₂ refused_line kind block)
+      refused_for image fault (Refused refusal) (subst (λ (i : List ℕ). IsRefusal i fault) (sym handed.0) handed.1) (memory, kind, block)
 
-  -- the line and the places, as the output for the refused image
-  module _ (refusal : Refusal) (line : List ℕ) (words : List BlockWord) (same : line ≡ refusal_line refusal) (asked : words ≡ job.blocks.items) (refused : IsImageRefusal image (refusal_line refusal))
-      (old new : Option (List ℕ)) where
-    is_placed : (text : List ℕ) → IsFaultyWhereBehind line job.json image words text → IsPlacedIn job image text
-    is_placed text (rest, told, is) = record {
-      line = refusal_line refusal;
+  -- the refusal and the places, as the output for the refused image
+  module _ (refusal : Refusal) (kind : List ℕ) (at : ℕ) (words : List BlockWord) (of_kind : kind ≡ refusal.kind.now) (of_block : at ≡ refusal.block) (asked : words ≡ job.blocks.items)
+      (refused : IsImageRefusal image refusal) (old new : Option (List ℕ)) where
+    is_placed : (text : List ℕ) → IsFaultyWhere job.json image kind at words text → IsPlacedIn job image text
+    is_placed text told = record {
+      refusal = refusal;
       refused = refused;
-      rest = rest;
-      placed = subst (λ (blocks : List BlockWord). IsFaultyWhere job.json image blocks rest) asked told;
-      text_is = is ∙ ap (λ (l : List ℕ). l ++ rest) same;
+      placed =
+          subst (λ (k : List ℕ). IsFaultyWhere job.json image k refusal.block job.blocks.items text) of_kind
+          (subst (λ (b : ℕ). IsFaultyWhere job.json image kind b job.blocks.items text) of_block
+          (subst (λ (blocks : List BlockWord). IsFaultyWhere job.json image kind at blocks text) asked told));
     }
 
-    pub placed_written : Writes old new (IsFaultyWhereBehind line job.json image words) → Writes old new (IsPlacedIn job image)
+    pub placed_written : Writes old new (IsFaultyWhere job.json image kind at words) → Writes old new (IsPlacedIn job image)
     placed_written (text, written, told) = (text, written, is_placed text told)
 
-    some_placed : Keeps old new ⊎ WritesFrontOf old new (IsFaultyWhereBehind line job.json image words) → Keeps old new ⊎ WritesFrontOf old new (IsPlacedIn job image)
+    some_placed : Keeps old new ⊎ WritesFrontOf old new (IsFaultyWhere job.json image kind at words) → Keeps old new ⊎ WritesFrontOf old new (IsPlacedIn job image)
     some_placed (inl keeps) = inl keeps
     some_placed (inr (text, told, front)) = inr (text, is_placed text told, front)
 
-    pub placed_left : (fault : WhereFault) → LeavesWhere (IsFaultyWhereBehind line job.json image words) old new fault → Keeps old new ⊎ WritesFrontOf old new (IsPlacedIn job image)
+    pub placed_left : (fault : WhereFault) → LeavesWhere (IsFaultyWhere job.json image kind at words) old new fault → Keeps old new ⊎ WritesFrontOf old new (IsPlacedIn job image)
     placed_left (places.NoBlock word) keeps = inl keeps
     placed_left places.Memory left = some_placed left
     placed_left places.Output left = some_placed left
 
     -- nothing, if an argument names no block
-    pub placed_none : (fault : WhereFault) (word : BlockWord) → fault ≡ places.NoBlock word → LeavesWhere (IsFaultyWhereBehind line job.json image words) old new fault
-        → IsWhereFault (block_count image) words fault → Keeps old new × IsUnasked job image (refusal_line refusal)
+    pub placed_none : (fault : WhereFault) (word : BlockWord) → fault ≡ places.NoBlock word → LeavesWhere (IsFaultyWhere job.json image kind at words) old new fault
+        → IsWhereFault (block_count image) words fault → Keeps old new × IsUnasked job image refusal
     placed_none fault word is left none = (
-      subst (LeavesWhere (IsFaultyWhereBehind line job.json image words) old new) is left,
+      subst (LeavesWhere (IsFaultyWhere job.json image kind at words) old new) is left,
       (
         refused,
         (
@@ -369,9 +383,9 @@ module _ (job : WhereJob) (image : List ℕ) where
     placed_ends fault (Err told) left same = left_ends told (subst (LeavesPlaced job image old new) (sym same) left)
 
 -- for jobs with such texts for bytes
-module _ (IsText BeginsText : List ℕ → List ℕ → Type 0) where
+module _ (json : Bool) (IsText BeginsText : List ℕ → List ℕ → Type 0) where
   -- a job succeeds
-  done : (p : Prints) (old new : Option (List ℕ)) (x : Unit {0}) → Does p IsText BeginsText old new (Ok x) → Tells p IsText BeginsText old new (Ok x)
+  done : (p : Prints) (old new : Option (List ℕ)) (x : Unit {0}) → Does p IsText BeginsText old new (Ok x) → Tells json p IsText BeginsText old new (Ok x)
   done OnlyFaults old new x h = h
   done OfBytes old new x h = h
   done (OfImages job) old new x h = h
@@ -379,26 +393,26 @@ module _ (IsText BeginsText : List ℕ → List ℕ → Type 0) where
   done (OfBlocks job) old new x h = h
   done Unsaid old new x h = tt
 
-  -- a job whose fault has no line
+  -- a job whose fault has no text
   failed : (p : Prints) (old new : Option (List ℕ)) (fault : CommandFault) → Does p IsText BeginsText old new (Err fault) → IsNoRefusal fault
-      → Tells p IsText BeginsText old new (Err fault)
-  failed OnlyFaults old new fault keeps plain = rw plain (inl keeps)
+      → Tells json p IsText BeginsText old new (Err fault)
+  failed OnlyFaults old new fault keeps plain = rw (none_in json fault plain) (inl keeps)
   failed Unsaid old new fault h plain = tt
   failed (OfImages job) old new fault h plain = h
-  failed (OfRescue job) old new fault h plain = report_failed (IsRescueText job.json) IsSizeLine (λ (fault : CommandFault). IsHostEnd fault job.list) old new fault h plain
-  failed (OfBlocks job) old new fault h plain = report_failed (IsWhereText job) (IsBareLine job) MayEnd old new fault h plain
+  failed (OfRescue job) old new fault h plain = report_failed json (IsRescueText job.json) IsSomeSize (λ (fault : CommandFault). IsHostEnd fault job.list) old new fault h plain
+  failed (OfBlocks job) old new fault h plain = report_failed json (IsWhereText job) (IsBareRefusal job) MayEnd old new fault h plain
   failed OfBytes old new (Refused refusal) h plain = absurd (cc plain)
   failed OfBytes old new (Dos refusal) h plain = absurd (cc plain)
   failed OfBytes old new fault (bytes, inl keeps) plain = (bytes, inl keeps)
   failed OfBytes old new fault (bytes, inr (text, is, front)) plain = (bytes, inr (text, inl is, front))
 
-  -- a job without memory for its line
-  unsaid : (p : Prints) (old new : Option (List ℕ)) (fault : CommandFault) → Does p IsText BeginsText old new (Err fault) → Tells p IsText BeginsText old new (Err Memory)
+  -- a job without memory for its text
+  unsaid : (p : Prints) (old new : Option (List ℕ)) (fault : CommandFault) → Does p IsText BeginsText old new (Err fault) → Tells json p IsText BeginsText old new (Err Memory)
   unsaid OnlyFaults old new fault keeps = inl keeps
   unsaid Unsaid old new fault h = tt
   unsaid (OfImages job) old new fault h = archive_unsaid job old new fault h
-  unsaid (OfRescue job) old new fault h = report_unsaid (IsRescueText job.json) IsSizeLine (λ (fault : CommandFault). IsHostEnd fault job.list) old new fault tt h
-  unsaid (OfBlocks job) old new fault h = report_unsaid (IsWhereText job) (IsBareLine job) MayEnd old new fault tt h
+  unsaid (OfRescue job) old new fault h = report_unsaid json (IsRescueText job.json) IsSomeSize (λ (fault : CommandFault). IsHostEnd fault job.list) old new fault tt h
+  unsaid (OfBlocks job) old new fault h = report_unsaid json (IsWhereText job) (IsBareRefusal job) MayEnd old new fault tt h
   unsaid OfBytes old new (Refused refusal) d = (d.0, inl d.1.1)
   unsaid OfBytes old new (Dos refusal) d = (d.0, inl d.1)
   unsaid OfBytes old new fault (bytes, inl keeps) = (bytes, inl keeps)
@@ -406,94 +420,97 @@ module _ (IsText BeginsText : List ℕ → List ℕ → Type 0) where
 
   module _ (old mid new : Option (List ℕ)) where
     -- a refused image is reported
-    told_refused : (p : Prints) (refusal : Refusal) → Does p IsText BeginsText old mid (Err (Refused refusal)) → Appends mid new (refusal_line refusal)
-        → Tells p IsText BeginsText old new (Err (Refused refusal))
-    told_refused OnlyFaults refusal keeps w = (refusal_line refusal, kept_appends old mid new (refusal_line refusal) keeps w, refl)
+    told_refused : (p : Prints) (refusal : Refusal) → Does p IsText BeginsText old mid (Err (Refused refusal)) → Appends mid new (refusal_text json refusal)
+        → Tells json p IsText BeginsText old new (Err (Refused refusal))
+    told_refused OnlyFaults refusal keeps w = (refusal_text json refusal, kept_appends old mid new (refusal_text json refusal) keeps w, refl)
     told_refused Unsaid refusal d w = tt
     told_refused (OfImages job) refusal d w = absurd d
-    told_refused (OfRescue job) refusal (keeps, is) w = (refusal_line refusal, kept_appends old mid new (refusal_line refusal) keeps w, is)
-    told_refused (OfBlocks job) refusal (keeps, is) w = (refusal_line refusal, kept_appends old mid new (refusal_line refusal) keeps w, is)
-    told_refused OfBytes refusal (bytes, (is, keeps)) w = (bytes, (refusal_line refusal, kept_appends old mid new (refusal_line refusal) keeps w, is))
+    told_refused (OfRescue job) refusal (keeps, is) w = (is, (refusal_text json refusal, kept_appends old mid new (refusal_text json refusal) keeps w, refl))
+    told_refused (OfBlocks job) refusal (keeps, is) w = (is, (refusal_text json refusal, kept_appends old mid new (refusal_text json refusal) keeps w, refl))
+    told_refused OfBytes refusal (bytes, (is, keeps)) w = (bytes, (is, (refusal_text json refusal, kept_appends old mid new (refusal_text json refusal) keeps w, refl)))
 
     -- a refusal by AmigaDOS is reported
-    told_dos : (p : Prints) (refusal : DosRefusal) → Does p IsText BeginsText old mid (Err (Dos refusal)) → Appends mid new (dos_line refusal)
-        → Tells p IsText BeginsText old new (Err (Dos refusal))
-    told_dos OnlyFaults refusal keeps w = (dos_line refusal, kept_appends old mid new (dos_line refusal) keeps w, refl)
+    told_dos : (p : Prints) (refusal : DosRefusal) → Does p IsText BeginsText old mid (Err (Dos refusal)) → Appends mid new (dos_text json refusal)
+        → Tells json p IsText BeginsText old new (Err (Dos refusal))
+    told_dos OnlyFaults refusal keeps w = (dos_text json refusal, kept_appends old mid new (dos_text json refusal) keeps w, refl)
     told_dos Unsaid refusal d w = tt
     told_dos (OfImages job) refusal d w = absurd d
-    told_dos (OfRescue job) refusal keeps w = (dos_line refusal, kept_appends old mid new (dos_line refusal) keeps w, refl)
-    told_dos (OfBlocks job) refusal keeps w = (dos_line refusal, kept_appends old mid new (dos_line refusal) keeps w, refl)
-    told_dos OfBytes refusal (bytes, keeps) w = (bytes, (dos_line refusal, kept_appends old mid new (dos_line refusal) keeps w, refl))
+    told_dos (OfRescue job) refusal keeps w = (dos_text json refusal, kept_appends old mid new (dos_text json refusal) keeps w, refl)
+    told_dos (OfBlocks job) refusal keeps w = (dos_text json refusal, kept_appends old mid new (dos_text json refusal) keeps w, refl)
+    told_dos OfBytes refusal (bytes, keeps) w = (bytes, (dos_text json refusal, kept_appends old mid new (dos_text json refusal) keeps w, refl))
 
     -- a prefix of the output after no output
     kept_front : (text : List ℕ) → Keeps old mid → WritesFront mid new text → WritesFront old new text
     kept_front text keeps (written, appends, rest) = (written, kept_appends old mid new written keeps appends, rest)
 
     -- a job without output, whose line is written as far as the writer accepts it
-    broken_quiet : (fault last : CommandFault) (line : List ℕ) → told_line fault ≡ Some line → IsNoRefusal last → Keeps old mid → WritesFront mid new line → TellsFault old new (Err last)
-    broken_quiet fault last line tells plain keeps front = rw plain (inr (line, (fault, tells), kept_front line keeps front))
+    broken_quiet : (fault last : CommandFault) (line : List ℕ) → told_line json fault ≡ Some line → IsNoRefusal last → Keeps old mid → WritesFront mid new line → TellsFault json old new (Err last)
+    broken_quiet fault last line tells plain keeps front = rw (none_in json last plain) (inr (line, (fault, tells), kept_front line keeps front))
 
     -- a line for refused bytes, as far as the writer accepts it
-    ends_front : (bytes : List ℕ) (last : CommandFault) → IsNoRefusal last → WritesFrontOf old new (λ text. BeginsText bytes text ⊎ (IsRefusalText bytes text ⊎ IsDosText text))
-        → EndsOff (BeginsText bytes) bytes old new last
+    ends_front : (bytes : List ℕ) (last : CommandFault) → IsNoRefusal last → WritesFrontOf old new (λ text. BeginsText bytes text ⊎ (IsRefusalText json bytes text ⊎ IsDosText json text))
+        → EndsOff json (BeginsText bytes) bytes old new last
     ends_front bytes (Refused r) plain front = absurd (cc plain)
     ends_front bytes (Dos r) plain front = absurd (cc plain)
     ends_front bytes last plain front = inr front
 
     broken_refused : (p : Prints) (refusal : Refusal) → Does p IsText BeginsText old mid (Err (Refused refusal))
-        → WritesFront mid new (refusal_line refusal) → Tells p IsText BeginsText old new (Err Output)
-    broken_refused OnlyFaults refusal keeps front = broken_quiet (Refused refusal) Output (refusal_line refusal) refl refl keeps front
+        → WritesFront mid new (refusal_text json refusal) → Tells json p IsText BeginsText old new (Err Output)
+    broken_refused OnlyFaults refusal keeps front = broken_quiet (Refused refusal) Output (refusal_text json refusal) refl refl keeps front
     broken_refused Unsaid refusal d front = tt
     broken_refused (OfImages job) refusal d front = absurd d
-    broken_refused (OfRescue job) refusal (keeps, is) front = (tt, inr (refusal_line refusal, inr (Refused refusal, refl), kept_front (refusal_line refusal) keeps front))
-    broken_refused (OfBlocks job) refusal (keeps, is) front = (tt, inr (refusal_line refusal, inr (Refused refusal, refl), kept_front (refusal_line refusal) keeps front))
+    broken_refused (OfRescue job) refusal (keeps, is) front = (tt, inr (refusal_text json refusal, inr (Refused refusal, refl), kept_front (refusal_text json refusal) keeps front))
+    broken_refused (OfBlocks job) refusal (keeps, is) front = (tt, inr (refusal_text json refusal, inr (Refused refusal, refl), kept_front (refusal_text json refusal) keeps front))
     broken_refused OfBytes refusal (bytes, (is, keeps)) front =
-        (bytes, ends_front bytes Output refl (refusal_line refusal, inr (inl is), kept_front (refusal_line refusal) keeps front))
+        (bytes, ends_front bytes Output refl (refusal_text json refusal, inr (inl (refusal, is, refl)), kept_front (refusal_text json refusal) keeps front))
 
     broken_dos : (p : Prints) (refusal : DosRefusal) → Does p IsText BeginsText old mid (Err (Dos refusal))
-        → WritesFront mid new (dos_line refusal) → Tells p IsText BeginsText old new (Err Output)
-    broken_dos OnlyFaults refusal keeps front = broken_quiet (Dos refusal) Output (dos_line refusal) refl refl keeps front
+        → WritesFront mid new (dos_text json refusal) → Tells json p IsText BeginsText old new (Err Output)
+    broken_dos OnlyFaults refusal keeps front = broken_quiet (Dos refusal) Output (dos_text json refusal) refl refl keeps front
     broken_dos Unsaid refusal d front = tt
     broken_dos (OfImages job) refusal d front = absurd d
-    broken_dos (OfRescue job) refusal keeps front = (tt, inr (dos_line refusal, inr (Dos refusal, refl), kept_front (dos_line refusal) keeps front))
-    broken_dos (OfBlocks job) refusal keeps front = (tt, inr (dos_line refusal, inr (Dos refusal, refl), kept_front (dos_line refusal) keeps front))
+    broken_dos (OfRescue job) refusal keeps front = (tt, inr (dos_text json refusal, inr (Dos refusal, refl), kept_front (dos_text json refusal) keeps front))
+    broken_dos (OfBlocks job) refusal keeps front = (tt, inr (dos_text json refusal, inr (Dos refusal, refl), kept_front (dos_text json refusal) keeps front))
     broken_dos OfBytes refusal (bytes, keeps) front =
-        (bytes, ends_front bytes Output refl (dos_line refusal, inr (inr (refusal, refl)), kept_front (dos_line refusal) keeps front))
+        (bytes, ends_front bytes Output refl (dos_text json refusal, inr (inr (refusal, refl)), kept_front (dos_text json refusal) keeps front))
 
--- the fault of a job with this line
+-- the fault of a job with this text
 module _ (job : ImageJob) (old mid new : Option (List ℕ)) (line : List ℕ) where
+  abbrev json : Bool
+  json = prints_json job
+
   -- the line is written
-  pub job_told : (fault : CommandFault) → told_line fault ≡ Some line → DoesJob job old mid (Err fault) → Appends mid new line → TellsJob job old new (Err fault)
+  pub job_told : (fault : CommandFault) → told_line json fault ≡ Some line → DoesJob job old mid (Err fault) → Appends mid new line → TellsJob job old new (Err fault)
   job_told (Refused refusal) tells h w =
-      let same : line ≡ refusal_line refusal = cc tells in
-      told_refused (IsJobText job) (BeginsJobText job) old mid new (prints job) refusal h (subst (λ (l : List ℕ). Appends mid new l) same w)
+      let same : line ≡ refusal_text json refusal = cc tells in
+      told_refused json (IsJobText job) (BeginsJobText job) old mid new (prints job) refusal h (subst (λ (l : List ℕ). Appends mid new l) same w)
   job_told (Dos refusal) tells h w =
-      let same : line ≡ dos_line refusal = cc tells in
-      told_dos (IsJobText job) (BeginsJobText job) old mid new (prints job) refusal h (subst (λ (l : List ℕ). Appends mid new l) same w)
+      let same : line ≡ dos_text json refusal = cc tells in
+      told_dos json (IsJobText job) (BeginsJobText job) old mid new (prints job) refusal h (subst (λ (l : List ℕ). Appends mid new l) same w)
   job_told fault tells h w = absurd (cc tells)
 
   -- the line is written as far as the writer accepts it
-  broken : (fault : CommandFault) → told_line fault ≡ Some line → DoesJob job old mid (Err fault) → WritesFront mid new line → TellsJob job old new (Err Output)
+  broken : (fault : CommandFault) → told_line json fault ≡ Some line → DoesJob job old mid (Err fault) → WritesFront mid new line → TellsJob job old new (Err Output)
   broken (Refused refusal) tells h front =
-      let same : line ≡ refusal_line refusal = cc tells in
-      broken_refused (IsJobText job) (BeginsJobText job) old mid new (prints job) refusal h (subst (λ (l : List ℕ). WritesFront mid new l) same front)
+      let same : line ≡ refusal_text json refusal = cc tells in
+      broken_refused json (IsJobText job) (BeginsJobText job) old mid new (prints job) refusal h (subst (λ (l : List ℕ). WritesFront mid new l) same front)
   broken (Dos refusal) tells h front =
-      let same : line ≡ dos_line refusal = cc tells in
-      broken_dos (IsJobText job) (BeginsJobText job) old mid new (prints job) refusal h (subst (λ (l : List ℕ). WritesFront mid new l) same front)
+      let same : line ≡ dos_text json refusal = cc tells in
+      broken_dos json (IsJobText job) (BeginsJobText job) old mid new (prints job) refusal h (subst (λ (l : List ℕ). WritesFront mid new l) same front)
   broken fault tells h front = absurd (cc tells)
 
-  pub job_broken : (fault last : CommandFault) → told_line fault ≡ Some line → DoesJob job old mid (Err fault) → WritesFront mid new line → last ≡ Output → TellsJob job old new (Err last)
+  pub job_broken : (fault last : CommandFault) → told_line json fault ≡ Some line → DoesJob job old mid (Err fault) → WritesFront mid new line → last ≡ Output → TellsJob job old new (Err last)
   job_broken fault last tells h front output = subst (λ (f : CommandFault). TellsJob job old new (Err f)) (sym output) (broken fault tells h front)
 
--- a job whose fault has no line
+-- a job whose fault has no text
 pub job_failed : (job : ImageJob) (old new : Option (List ℕ)) (fault : CommandFault) → DoesJob job old new (Err fault) → IsNoRefusal fault → TellsJob job old new (Err fault)
-job_failed job old new fault h plain = failed (IsJobText job) (BeginsJobText job) (prints job) old new fault h plain
+job_failed job old new fault h plain = failed (prints_json job) (IsJobText job) (BeginsJobText job) (prints job) old new fault h plain
 
--- a job without memory for its line
+-- a job without memory for its text
 pub job_unsaid : (job : ImageJob) (old new : Option (List ℕ)) (fault last : CommandFault) → DoesJob job old new (Err fault) → last ≡ Memory → TellsJob job old new (Err last)
 job_unsaid job old new fault last h same =
-    subst (λ (f : CommandFault). TellsJob job old new (Err f)) (sym same) (unsaid (IsJobText job) (BeginsJobText job) (prints job) old new fault h)
+    subst (λ (f : CommandFault). TellsJob job old new (Err f)) (sym same) (unsaid (prints_json job) (IsJobText job) (BeginsJobText job) (prints job) old new fault h)
 
 -- a job that succeeds
 pub job_done : (job : ImageJob) (old new : Option (List ℕ)) (x : Unit {0}) → DoesJob job old new (Ok x) → EndsJob job old new 0
-job_done job old new x h = (Ok x, done (IsJobText job) (BeginsJobText job) (prints job) old new x h, refl)
+job_done job old new x h = (Ok x, done (prints_json job) (IsJobText job) (BeginsJobText job) (prints job) old new x h, refl)

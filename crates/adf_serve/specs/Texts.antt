@@ -82,11 +82,10 @@ abbrev pub IsCountText : List ℕ → List ℕ → Type 0
 IsCountText image text = (new : List ℕ) × IsValidated image new × (text ≡ validated_line (free_only_in image new) (free_only_in new image))
 
 -- a text about an accepted image, by whether its bitmap was rebuilt, the checked image and its tree: the facts of the volume,
--- as a JSON object or in a form for people; its map, as a JSON object or as text; or what the boot block is, and its bytes
+-- as a JSON object or in a form for people; or its map, as a JSON object or as text
 abbrev pub IsLook : Look → Bool → List ℕ → Tree → List ℕ → Type 0
 IsLook (looks.Volume json) was_validated checked t text = (form : FactsForm) × (is_json form ≡ json) × IsVolumeText form checked was_validated t text
 IsLook (looks.Map json) was_validated checked t text = IsMap json checked t text
-IsLook looks.Boot was_validated checked t text = IsBootText checked text
 
 abbrev pub IsLookText : Look → List ℕ → List ℕ → Type 0
 IsLookText look = OfAccepted (IsLook look)
@@ -116,12 +115,13 @@ abbrev pub BeginsQueryText : Query → List ℕ → List ℕ → Type 0
 BeginsQueryText (queries.List job) = BeginsListOf job.now
 BeginsQueryText query = IsQueryText query
 
--- the output of a command for the bytes that it reads, and its beginning; `blank` has none
+-- the output of a command for the bytes that it reads, and its beginning; `blank` has none. `boot --show` reads the two boot blocks
+-- of a file, whatever follows them
 abbrev pub IsJobText : ImageJob → List ℕ → List ℕ → Type 0
 IsJobText (Info file) = IsInfoText
 IsJobText (ListOf job) = IsListOf job
 IsJobText (Print image path) = IsPrintText path.now
-IsJobText (ShowBoot image) = IsLookText looks.Boot
+IsJobText (ShowBoot image) = IsBootText
 IsJobText (Validate target force) = IsCountText
 IsJobText (Show image json) = IsLookText (looks.Volume json)
 IsJobText (Map image json) = IsLookText (looks.Map json)

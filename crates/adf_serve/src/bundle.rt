@@ -1,5 +1,6 @@
 //! The commands that write a volume to a directory of the host, and make it again.
 
+use crate::boot::tell_boot;
 use crate::fault::CommandFault;
 use crate::images::{Work, accept, open_volume};
 use adf_export::extract_bundle;
@@ -8,18 +9,23 @@ use adf_import::add_bundle;
 use adf_words::{ImageFile, Rewrite};
 use std::alloc::Global;
 use std::fs::File;
+use std::io::Write;
 use std::rt::{Clock, Files};
 
-/// Writes everything in an image file to a new directory of the host.
-pub(crate) fn take_bundle<'a, R: Files<File = File> + PromptFiles>(
+/// Writes everything in an image file to a new directory of the host, and prints on `faults` what its boot block is.
+pub(crate) fn take_bundle<'a, R: Files<File = File> + PromptFiles, F: Write>(
     rt: &R,
     alloc: Global,
     image: ImageFile<'a>,
     to: &'a str,
+    faults: &mut F,
 ) -> Result<(), CommandFault<'a>> {
     let mut volume = open_volume(rt, alloc, image)?;
     match extract_bundle(rt, alloc, &mut volume, to) {
-        Ok(()) => Ok(()),
+        Ok(()) => {
+            tell_boot(volume.image(), faults);
+            Ok(())
+        }
         Err(fault) => Err(CommandFault::from(fault)),
     }
 }

@@ -3,7 +3,7 @@ ghost use Rattle.adf_serve.specs.Commands.{DoesJob};
 
 use crate::blank::{NewVolume, make_blank};
 use crate::blocks::tell_where;
-use crate::boot::{change_boot, save_boot};
+use crate::boot::{change_boot, save_boot, show_boot};
 use crate::bundle::{put_bundle, take_bundle};
 use crate::changing::change;
 use crate::fault::CommandFault;
@@ -56,7 +56,7 @@ where
         }
         ImageJob::Where(job) => tell_where(rt, alloc, job, writer, faults),
         ImageJob::WherePath { image, path } => print_query(rt, alloc, *image, Query::Entry(*path), screen.styled, writer),
-        ImageJob::ShowBoot { image } => print_query(rt, alloc, *image, Query::Look(Look::Boot), screen.styled, writer),
+        ImageJob::ShowBoot { image } => show_boot(rt, alloc, *image, writer),
         ImageJob::List(job) => print_query(rt, alloc, job.image, Query::List(job), screen.styled, writer),
         ImageJob::Print { image, path } => print_query(rt, alloc, *image, Query::Bytes(*path), screen.styled, writer),
         ImageJob::Check(job) => match check_archive(rt, alloc, job, screen.progress, writer, faults) {
@@ -64,7 +64,7 @@ where
             Err(fault) => Err(CommandFault::from(fault)),
         },
         ImageJob::Extract(job) => take_out(rt, alloc, job),
-        ImageJob::ExtractBundle { image, to } => take_bundle(rt, alloc, *image, *to),
+        ImageJob::ExtractBundle { image, to } => take_bundle(rt, alloc, *image, *to, faults),
         ImageJob::AddBundle { target, from } => put_bundle(rt, alloc, *target, *from),
         ImageJob::Salvage(job) => take_rescue(rt, alloc, job, writer, faults),
         ImageJob::Undelete(job) => print_query(rt, alloc, job.image, Query::Deleted(job), screen.styled, writer),

@@ -1,4 +1,4 @@
-//! The commands that make a text of an accepted image, and print it: `show`, `map` and `boot --show`.
+//! The commands that make a text of an accepted image, and print it: `show` and `map`.
 ghost use Rattle.std.specs.Prelude.{◌≡◌, IfOk};
 ghost use Rattle.ados_model.specs.Stands.{Stands};
 ghost use Rattle.ados_model.specs.Tree.{Tree};
@@ -9,7 +9,7 @@ ghost use Rattle.adf_serve.specs.Texts.{IsLook, IsLookText};
 use crate::fault::CommandFault;
 use crate::images::accept;
 use crate::output::tell;
-use adf_block::{Image, boot_text};
+use adf_block::Image;
 use adf_record::{FactsForm, volume_text};
 use ados_mend::map_text;
 use ados_volume::Volume;
@@ -23,8 +23,6 @@ pub(crate) enum Look {
     Volume { json: bool },
     /// A letter for each block, and what the letters mean.
     Map { json: bool },
-    /// What the boot block is, and its bytes.
-    Boot,
 }
 
 /// Prints a text about an image.
@@ -55,7 +53,6 @@ fn look_text(
     match look {
         Look::Volume { json } => volume_text(alloc, volume, facts_form(json, styled)),
         Look::Map { json } => map_text(alloc, volume, json),
-        Look::Boot => boot_text(alloc, volume.image()),
     }
 }
 

@@ -3,11 +3,13 @@ ghost use Rattle.std.specs.Prelude.{◌≡◌, ℕ, List, Option, Err, OnOk, OnE
 ghost use Rattle.std.specs.Io.KnownBytes.{Appends};
 ghost use Rattle.adf_io.specs.Prefix.{WritesFront};
 ghost use Rattle.adf_words.specs.declared.job.ImageJob.{ImageJob};
-ghost use Rattle.adf_serve.specs.Commands.{DoesJob, EndsJob, TellsJob};
+ghost use Rattle.adf_serve.specs.Commands.{DoesJob, EndsJob, TellsJob, prints_json};
 ghost use Rattle.adf_serve.specs.Faults.{IsNoRefusal};
 ghost use Rattle.adf_serve.specs.declared.fault.CommandFault.TheVariants.{Output};
 
 use crate::fault::CommandFault;
+use crate::json_jobs::prints_json;
+use crate::outlet::SeesReader;
 use adf_archive::ReadImages;
 use adf_io::write_output;
 use adf_text::print_line;
@@ -29,9 +31,9 @@ pub(crate) fn tell<'a, W: Write>(writer: &mut W, text: &[u8]) -> Result<(), Comm
     }
 }
 
-/// Ends a job on an image file. Prints the line of a refusal on the writer, and why the image is refused and any other fault on
-/// `faults`. Returns the exit status.
-pub fn end_job<R: Files + ReadImages, W: Write, F: Write>(
+/// Ends a job on an image file. Prints a refusal on the writer, in the form of the job's output, and why the image is refused and
+/// any other fault on `faults`, but nothing if the output is a pipe that nobody reads any more. Returns the exit status.
+pub fn end_job<R: Files + ReadImages, W: Write + SeesReader, F: Write>(
     rt: &R,
     alloc: Global,
     job: &ImageJob<'_>,
@@ -48,18 +50,26 @@ pub fn end_job<R: Files + ReadImages, W: Write, F: Write>(
     if let (CommandFault::Refused(refusal), Some(file)) = (&fault, job.image()) {
         refusal.explain(rt, alloc, file, faults);
     }
-    let last = refuse(alloc, fault, writer);
-    tell_fault(&last, faults);
+    let last = refuse(alloc, prints_json(job), fault, writer);
+    let is_cut = matches!(&last, CommandFault::Output) && writer.has_lost_reader();
+    if !is_cut {
+        tell_fault(&last, faults);
+    }
     last.status()
 }
 
-/// Prints the line of a refusal, if the fault of a job is one. Returns the fault with which the job ends.
-fn refuse<'a, W: Write>(alloc: Global, fault: CommandFault<'a>, writer: &mut W) -> CommandFault<'a>
-    ensures { (job : ImageJob) (old : Option (List ℕ)) → DoesJob job old (W.contents writer.old) (Err fault.entry) → TellsJob job old (W.contents writer.new) (Err result) }
+/// Prints a refusal, if the fault of a job is one: a line, or with `json` an object. Returns the fault with which the job ends.
+fn refuse<'a, W: Write>(
+    alloc: Global,
+    json: bool,
+    fault: CommandFault<'a>,
+    writer: &mut W,
+) -> CommandFault<'a>
+    ensures { (job : ImageJob) (old : Option (List ℕ)) → prints_json job ≡ json → DoesJob job old (W.contents writer.old) (Err fault.entry) → TellsJob job old (W.contents writer.new) (Err result) }
 {
-    match fault.line(alloc) {
+    match fault.line(alloc, json) {
         Ok(None) => fault,
-        Ok(Some(line)) => match tell(writer, line.as_bytes()) {
+        Ok(Some(line)) => match tell(writer, &line) {
             Ok(()) => fault,
             Err(other) => other,
         },

@@ -4,6 +4,7 @@ ghost use Rattle.adf_rescue.specs.Rescue.{IsRescue};
 ghost use Rattle.adf_serve.specs.Faults.{IsNoImage};
 ghost use Rattle.adf_serve.specs.Rescues.{DoesRescue, IsRescueEnd};
 
+use crate::boot::tell_boot;
 use crate::fault::CommandFault;
 use crate::images::{read_image, unread};
 use adf_block::Image;
@@ -33,6 +34,7 @@ where
     ensures { DoesRescue job.now (W.contents writer.old) (W.contents writer.new) result }
 {
     let image = read_filled(rt, alloc, job.image, faults)?;
+    tell_boot(&image, faults);
     let rescue = rescue_of(rt, alloc, image, job)?;
     tell_rescue(alloc, &rescue, job, writer, faults)
 }

@@ -10,6 +10,7 @@ mod forms;
 mod own_blocks;
 mod owned;
 mod places;
+mod refused;
 mod short_path;
 mod where_blocks;
 mod where_fault;
@@ -18,5 +19,6 @@ mod where_objects;
 
 pub use faulty_where::write_faulty_where;
 pub use own_blocks::where_path_text;
+pub use refused::{FaultReason, dos_refused_text, refused_text};
 pub use where_blocks::write_where;
 pub use where_fault::WhereFault;

@@ -1,11 +1,11 @@
 use Rattle.std.proofs.Common.{inl}
-use Rattle.adf_serve.specs.Placed.{IsBareLine, IsWhereText, MayEnd}
+use Rattle.adf_serve.specs.Placed.{IsBareRefusal, IsWhereText, MayEnd}
 use Rattle.adf_serve.proofs.Printing.{placed_ends, refusal_shown, reports_no_image}
 use Rattle.adf_serve.proofs.blocks.tell_where.Goals as goal
 
 pub returns-in_err-image : goal.returns-in_err-image
 returns-in_err-image g c =
-    reports_no_image (IsWhereText c.args.job.now) (IsBareLine c.args.job.now) MayEnd _ c.in_err-image.field-0.0 _ (λ bytes text size. (bytes, inl size)) (λ told is. tt) c.in_err-image.ensures
+    reports_no_image (IsWhereText c.args.job.now) (IsBareRefusal c.args.job.now) MayEnd _ c.in_err-image.field-0.0 _ (λ bytes refusal size. (bytes, inl size)) (λ told is. tt) c.in_err-image.ensures
     c.from_residual.ensures.1
 
 pub returns-in_err-tell_placed : goal.returns-in_err-tell_placed

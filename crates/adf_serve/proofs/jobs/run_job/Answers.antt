@@ -25,7 +25,7 @@ returns-in-Salvage g c =
 
 pub returns-in-ShowBoot : goal.returns-in-ShowBoot
 returns-in-ShowBoot g c =
-    subst (λ (job : ImageJob). DoesJob job (g.W.Write.contents c.args.writer.now) (g.W.Write.contents c.print_query-in-ShowBoot.new.writer) c.print_query-in-ShowBoot.result) (sym c.in-ShowBoot.is) c.print_query-in-ShowBoot.ensures
+    subst (λ (job : ImageJob). DoesJob job (g.W.Write.contents c.args.writer.now) (g.W.Write.contents c.show_boot.new.writer) c.show_boot.result) (sym c.in-ShowBoot.is) c.show_boot.ensures
 
 pub returns-in-Show : goal.returns-in-Show
 returns-in-Show g c =

@@ -1,8 +1,7 @@
-use Rattle.std.proofs.Common.{ℕ, List, IfOk, subst, sym}
+use Rattle.std.proofs.Common.{IfOk, subst, sym}
 use Rattle.std.proofs.lemmas.Result.{IfOk-weaker}
 use Rattle.ados_model.specs.Stands.{Stands}
 use Rattle.ados_model.specs.Tree.{Tree}
-use Rattle.adf_block.specs.BootText.{IsBootText}
 use Rattle.adf_serve.specs.declared.look.Look.{Look}
 use Rattle.adf_serve.specs.Texts.{IsLook}
 use Rattle.adf_serve.proofs.look.look_text.Goals as goal
@@ -17,9 +16,3 @@ pub returns-in-Map : goal.returns-in-Map
 returns-in-Map c =
     let volume = c.args.volume.now in
     subst (λ (look : Look). IfOk c.map_text.result (λ text. (t : Tree) → Stands volume.image t → IsLook look volume.was_validated volume.image t text.items)) (sym c.in-Map.is) c.map_text.ensures
-
-pub returns-in-Boot : goal.returns-in-Boot
-returns-in-Boot c =
-    let volume = c.args.volume.now in
-    subst (λ (look : Look). IfOk c.boot_text.result (λ text. (t : Tree) → Stands volume.image t → IsLook look volume.was_validated volume.image t text.items)) (sym c.in-Boot.is)
-    (IfOk-weaker c.boot_text.result _ _ (λ text told t stood. subst (λ (image : List ℕ). IsBootText image text.items) c.image.ensures.same told) c.boot_text.ensures)

@@ -1,0 +1,26 @@
+//! Which jobs print JSON.
+ghost use Rattle.std.specs.Prelude.{◌≡◌};
+ghost use Rattle.adf_serve.specs.Commands.{is_json_list, prints_json};
+
+use adf_words::{ImageJob, ListForm};
+
+/// Whether a job prints JSON, and nothing else.
+pub(crate) fn prints_json(job: &ImageJob<'_>) -> bool
+    ensures { result ≡ prints_json job.now }
+{
+    match job {
+        ImageJob::Show { json, .. } | ImageJob::Map { json, .. } => *json,
+        ImageJob::Where(job) => job.json,
+        ImageJob::List(job) => is_json_list(job.form),
+        ImageJob::Check(job) => job.json,
+        ImageJob::Salvage(job) => job.json,
+        _ => false,
+    }
+}
+
+/// Whether a list in this form is JSON.
+fn is_json_list(form: ListForm) -> bool
+    ensures { result ≡ is_json_list form }
+{
+    matches!(form, ListForm::Json)
+}
