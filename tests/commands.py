@@ -33,10 +33,12 @@ COMMANDS = "blank info show map where check list print extract undelete add mkdi
 ON_IMAGES = [
     *("print IMAGE x", "extract IMAGE", "add IMAGE x", "mkdir IMAGE x", "delete IMAGE x", "rename IMAGE x y"),
     *("protect IMAGE x rwed", "date IMAGE x now", "comment IMAGE x y", "relabel IMAGE x", "boot IMAGE"),
-    *("boot --clear IMAGE", "boot --install IMAGE", "map IMAGE", "map --json IMAGE"),
+    *("boot --clear IMAGE", "boot --install IMAGE"),
 ]
 # The commands that read the two boot blocks of any file.
 ON_BOOT_BLOCKS = ["boot --show IMAGE", "boot --save none.bin IMAGE"]
+# The command that prints more of a refused image than that it is refused.
+MAPS = ["map IMAGE", "map --tracks IMAGE", "map --json IMAGE"]
 AT = "--days 1 --minutes 0 --ticks 0"
 # An entry of `list`, from its date on.
 MADE = "     dir ---rwed 1978-01-02 00:00:00.00 "
@@ -1319,7 +1321,7 @@ def held_images(tried: Commands) -> None:
 
 def missing_files(tried: Commands) -> None:
     before = tried.content("ffs.adf")
-    for words in (*ON_IMAGES, *ON_BOOT_BLOCKS):
+    for words in (*ON_IMAGES, *ON_BOOT_BLOCKS, *MAPS):
         words = words.replace("IMAGE", "none.adf")
         tried.rows(lacking(f"an image that is not there: {words}", words, "cannot read 'none.adf': no such file"))
     for command in ("info", "list"):

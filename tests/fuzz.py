@@ -468,7 +468,9 @@ class Tried:
         self.agrees("info", "image.adf")
         booted = self.run("boot", "--show", "image.adf")
         assert (booted.status, booted.output[:12]) == (0, b"boot block: "), f"boot --show: status {booted.status}, {booted.output[:200]!r}"
-        self.agrees("map", "image.adf")
+        mapped = self.run("map", "image.adf")
+        wanted = (0, b"") if self.is_accepted else (3, self.refused)
+        assert (mapped.status, mapped.output[: len(wanted[1])]) == wanted, f"map: status {mapped.status}, {mapped.output[:200]!r}"
         self.placed()
         self.agrees("where", "--path", "", "image.adf")
         if not self.is_accepted:

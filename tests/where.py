@@ -1,13 +1,13 @@
 #!/usr/bin/env python3
 """Tests the commands `map` and `where` of the built program: the owner of each block, as text and as JSON, the blocks of each
-file and directory, what they refuse, and the places that name the blocks of a refused image.
+file and directory, what they refuse, and the places that name the blocks of a refused image, with its map.
 
     tests/where.py [PROGRAM]
 
 The images are drawn in Python. For `map`, the drawing program notes the owner of each block as it draws. For `where`, a reader
 goes through the blocks of the drawn image: it counts the cylinders, heads and sectors off one by one, adds the bytes of a file
 up block by block, and finds the path of an entry from its parents. tests/disk_model.py has the places that name a block of a
-damaged image. The environment variable ROUNDS is the number of images.
+damaged image, and `refused_letter` makes the letters of its map of these. The environment variable ROUNDS is the number of images.
 """
 from __future__ import annotations
 
@@ -16,7 +16,7 @@ import os
 import random
 import sys
 from itertools import islice
-from typing import Dict, Iterator, List, NamedTuple, Optional, Set, Tuple
+from typing import Dict, Iterator, List, NamedTuple, Optional, Sequence, Set, Tuple
 
 sys.dont_write_bytecode = True
 
@@ -70,11 +70,22 @@ class Noting(Drawer):
         return self.letters.get(block) or ("L" if is_valid and not self.is_free(block) else ".")
 
 
-def page_of(letters: str) -> bytes:
-    """The map as text."""
+def tracks_of(letters: str, meanings: Sequence[Tuple[str, str]] = MEANINGS) -> bytes:
+    """The map by tracks."""
     line = 11 if len(letters) == 1760 else 22
     lines = [letters[at : at + line] for at in range(0, len(letters), line)]
-    return "".join(f"{it}\n" for it in [*lines, "", *(f"{mark} {what}: {letters.count(mark):,}" for mark, what in MEANINGS)]).encode()
+    return "".join(f"{it}\n" for it in [*lines, "", *(f"{mark} {what}: {letters.count(mark):,}" for mark, what in meanings)]).encode()
+
+
+def page_of(letters: str, meanings: Sequence[Tuple[str, str]] = MEANINGS) -> bytes:
+    """The map as text: that of a floppy has a column for each cylinder."""
+    if len(letters) not in (1760, 3520):
+        return tracks_of(letters, meanings)
+    size = len(letters) // 80
+    cylinders = [letters[at : at + size] for at in range(0, len(letters), size)]
+    lines = ["".join(column[at] for column in cylinders) for at in range(size)]
+    counts = [f"{mark} {what} {letters.count(mark):,}" for mark, what in meanings]
+    return "".join(f"{it}\n" for it in [*lines, "  ".join(counts[:5]), "  ".join(counts[5:])]).encode()
 
 
 def fault_of_maps(room: Room, seed: int) -> Optional[str]:
@@ -85,6 +96,7 @@ def fault_of_maps(room: Room, seed: int) -> Optional[str]:
     wanted = {"map": letters, "headers": [disk.headers.get(it) for it in blocks]}
     line = json.dumps(wanted, separators=(",", ":")).encode() + b"\n"
     fault = fault_of(room.run("map", "drawn.adf"), 0, page_of(letters)) or fault_of(room.run("map", "--json", "drawn.adf"), 0, line)
+    fault = fault or fault_of(room.run("map", "--tracks", "drawn.adf"), 0, tracks_of(letters))
     return fault or (None if room.content("drawn.adf") == bytes(disk.data) else "the image changed")
 
 
@@ -237,6 +249,39 @@ def placed_objects(model: Owners, places: List[Place], asked: List[int]) -> obje
     ]
 
 
+# What the letters of a refused image mean, and the letters of the roles in which a place names a block.
+REFUSED_MEANINGS = [*MEANINGS, ("!", "faulty"), ("?", "shared")]
+LETTERS = {"bitmap": "M", "extension": "X", "data": "#"}
+
+
+def refused_letter(model: Owners, block: int) -> str:
+    """The letter of a block of a refused image."""
+    named = model.named_by(block)
+    if block >= 2 and len({(it.holder, it.at) for it in named}) > 1:
+        return "?"
+    if model.faults_of(block):
+        return "!"
+    if block < 2 or block == model.root:
+        return "B" if block < 2 else "R"
+    if named:
+        return LETTERS.get(named[0].role) or ("F" if model.long(block, 127) == FILE else "D")
+    page, bit = model.long(model.root, 79 + (block - 2) // PAGE_BITS), (block - 2) % PAGE_BITS
+    return "." if 2 <= page < model.blocks and model.long(page, 1 + bit // 32) >> bit % 32 & 1 else "L"
+
+
+def fault_of_refused_map(room: Room, name: str, model: Owners) -> Optional[str]:
+    """What is wrong with the map of a refused image, in each form."""
+    refused = room.run("check", name).output
+    _, kind, at = refused.split()
+    letters = "".join(refused_letter(model, it) for it in range(model.blocks))
+    object = {"refused": {"kind": kind.decode(), "block": int(at)}, "map": letters, "more": False}
+    ran = room.run("map", "--json", name)
+    fault = None if ran.status == 3 else f"status {ran.status}"
+    fault = fault or fault_of_json(ran.output, object)
+    fault = fault or fault_of(room.run("map", name), 3, refused + page_of(letters, REFUSED_MEANINGS), " blocks\n")
+    return fault or fault_of(room.run("map", "--tracks", name), 3, refused + tracks_of(letters, REFUSED_MEANINGS), " blocks\n")
+
+
 def fault_of_places(room: Room, name: str, chance: random.Random) -> Optional[str]:
     """What is wrong with the places that name the blocks of a refused image."""
     data = room.content(name)
@@ -252,6 +297,7 @@ def fault_of_places(room: Room, name: str, chance: random.Random) -> Optional[st
     wanted = {"refused": {"kind": kind.decode(), "block": int(at)}, "blocks": placed_objects(model, places, asked)}
     ran = room.run("where", "--json", name, *words)
     fault = fault or (None if ran.status == 3 else f"status {ran.status}") or fault_of_json(ran.output, wanted)
+    fault = fault or fault_of_refused_map(room, name, model)
     return fault or (None if room.content(name) == data else "the image changed")
 
 
@@ -358,6 +404,43 @@ def words_at(room: Room, block: int) -> bytes:
     return words_of(Reading(room.content("known.adf")).owned(block)).encode() + b"\n"
 
 
+def known_maps(room: Room) -> None:
+    """The maps of two blank floppies, by hand: the root is the first block of cylinder 40, and the bitmap block follows it."""
+    for option, size in ((), 22), (("--hd",), 44):
+        room.done("blank", *option, *MOMENT, "Known", "blank.adf")
+        first = "B" + 39 * "." + "R" + 39 * "."
+        second = "B" + 39 * "." + "M" + 39 * "."
+        free = 80 * size - 4
+        legend = ["B boot 2  R root 1  M bitmap 1  D directories 0  F file headers 0", f"X extensions 0  # data 0  L lost 0  . free {free:,}"]
+        page = "".join(f"{it}\n" for it in [first, second, *(size - 2) * ["." * 80], *legend])
+        room.succeeds(f"the map of a blank floppy of {80 * size} blocks", "map", "blank.adf", output=page.encode())
+    room.report.check("a map by tracks and as JSON", room.run("map", "--tracks", "--json", "blank.adf"), 1, b"", "--json")
+
+
+def known_damage(room: Room) -> None:
+    """The map of a floppy with three files of a byte, by hand. The header of `b` names the data block of `a`, and that of `c` has a wrong
+    checksum."""
+    for name in "abc":
+        room.write(name, b"x")
+    room.done("blank", "--ffs", *MOMENT, "Known", "hurt.adf")
+    room.done("add", *MOMENT, "hurt.adf", "a", "b", "c")
+    image = Image(room.content("hurt.adf"))
+    a, b, c = sorted(image.keys(image.root), key=image.names_of)
+    shared, left, kept = (image.long(key, 77) for key in (a, b, c))
+    image.put(b, 77, shared)
+    image.settle(b)
+    image.put(c, 105, image.long(c, 105) + 1)
+    room.write("hurt.adf", image.data)
+    letters = [*"BB", *1758 * "."]
+    for block, letter in ((880, "R"), (881, "M"), (a, "F"), (b, "F"), (c, "!"), (shared, "?"), (left, "L"), (kept, "#")):
+        letters[block] = letter
+    lines = ["".join(letters[sector::22]) for sector in range(22)]
+    legend = ["B boot 2  R root 1  M bitmap 1  D directories 0  F file headers 2", "X extensions 0  # data 1  L lost 1  . free 1,750  ! faulty 1  ? shared 1"]
+    page = room.run("check", "hurt.adf").output + "".join(f"{it}\n" for it in [*lines, *legend]).encode()
+    room.report.check("the map of a damaged floppy", room.run("map", "hurt.adf"), 3, page, "'hurt.adf'")
+    room.report.same("the image stays", room.content("hurt.adf"), bytes(image.data))
+
+
 def wrong_blocks(room: Room) -> None:
     room.done("blank", *MOMENT, "Small", "plain.adf")
     data = room.content("plain.adf")
@@ -381,7 +464,10 @@ def other_images(room: Room) -> None:
     data = bytearray(room.content("small.adf"))
     data[8 * BLOCK + 5] ^= 1
     room.write("bad.adf", bytes(data))
-    room.report.check("a wrong checksum", room.run("map", "bad.adf"), 3, b"refused BadSum 8\n", "its checksum is wrong")
+    page = SMALLEST.replace(b"BB......R", b"BB......!").replace(b"R root: 1", b"R root: 0") + b"! faulty: 1\n? shared: 0\n"
+    room.report.check("a wrong checksum", room.run("map", "bad.adf"), 3, b"refused BadSum 8\n" + page, "its checksum is wrong")
+    object = b'{"refused":{"kind":"BadSum","block":8},"map":"BB......!M......","more":false}\n'
+    room.report.check("a wrong checksum, as JSON", room.run("map", "--json", "bad.adf"), 3, object, "its checksum is wrong")
     room.report.same("the image stays", room.content("bad.adf"), bytes(data))
     room.write("short.adf", bytes(100))
     size = b'{"refused":{"kind":"NotWholeBlocks","block":0}}\n'
@@ -406,7 +492,7 @@ def other_images(room: Room) -> None:
 
 
 def main(words: List[str]) -> int:
-    return try_all(words, Room, drawn_volumes, owners_of_volumes, places_in_volumes, sizes, known_lines, known_places, wrong_blocks, other_images)
+    return try_all(words, Room, drawn_volumes, owners_of_volumes, places_in_volumes, sizes, known_lines, known_maps, known_damage, known_places, wrong_blocks, other_images)
 
 
 if __name__ == "__main__":

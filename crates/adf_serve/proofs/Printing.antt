@@ -7,7 +7,8 @@ use Rattle.ados_model.specs.Accepted.{Accepts, HandsBack, IsRefusal}
 use Rattle.ados_model.specs.Faults.{Shows}
 use Rattle.ados_model.specs.Stands.{Stands}
 use Rattle.ados_model.specs.Tree.{Tree, bytes_of}
-use Rattle.ados_model.specs.declared.fault.FaultKind.TheVariants.{NoMemory}
+use Rattle.ados_model.specs.declared.fault.FaultKind.{FaultKind}
+use Rattle.ados_model.specs.declared.fault.FaultKind.TheVariants.{NoMemory, NotADosDisk, UnsupportedKind}
 use Rattle.ados_model.specs.declared.answer.Answer.{Answer}
 use Rattle.ados_model.specs.declared.fault.VolumeFault.{VolumeFault}
 use Rattle.adf_io.specs.Prefix.{Writes, WritesFront, WritesFrontOf}
@@ -21,14 +22,13 @@ use Rattle.adf_export.specs.Printing.{IsPrinted, IsPrintFault}
 use Rattle.adf_io.proofs.Prefixes.{writes_first}
 use Rattle.adf_serve.specs.declared.fault.CommandFault.{CommandFault}
 use Rattle.adf_serve.specs.declared.fault.CommandFault.TheVariants.{Dos, Extracted, ImagesRefused, Memory, NotChecked, NotWhole, Output, Refused}
-use Rattle.adf_serve.specs.declared.look.Look.{Look}
 use Rattle.adf_serve.specs.declared.refusal.Refusal.{Refusal}
 use Rattle.adf_serve.specs.declared.refusal.DosRefusal.{DosRefusal}
 use Rattle.adf_serve.specs.Asked.{AnswersDisk}
 use Rattle.adf_serve.specs.Texts.{AreDeletedLines, AreEntryBlocks, BeginsJobText, BeginsListOf, BeginsListText, IsJobText, IsListed, IsListOf, IsListText, shown_form, IsLook, IsLookText, IsInfoText, IsPrintText}
 use Rattle.adf_serve.specs.Faults.{IsBlankFault, IsNoImage, IsNoImageRefusal, IsNoRefusal, IsRefusedFor, IsToldAs, IsToldOut}
 use Rattle.adf_serve.specs.Commands.{Does, DoesJob, Ending, EndsJob, EndsOff, LeavesOff, Prints, prints, prints_json, Tells, TellsFault, TellsJob, TellsOf, TellsSome}
-use Rattle.adf_serve.specs.Commands.Prints.{OnlyFaults, OfBlocks, OfBytes, OfImages, OfRescue, Unsaid}
+use Rattle.adf_serve.specs.Commands.Prints.{OnlyFaults, OfBlocks, OfBytes, OfImages, OfMap, OfRescue, Unsaid}
 use Rattle.std.proofs.lemmas.List.{append-nil}
 use Rattle.adf_archive.specs.Archive.{TellsArchive, told_in}
 use Rattle.adf_archive.specs.declared.fault.ArchiveFault.{ArchiveFault}
@@ -50,6 +50,10 @@ use Rattle.adf_where.specs.declared.where_fault.WhereFault.TheVariants as places
 use Rattle.adf_words.specs.declared.block_word.BlockWord.{BlockWord}
 use Rattle.adf_export.specs.Words.{LeadsTo}
 use Rattle.adf_serve.specs.Archives.{EndsArchive, IsToldArchive}
+use Rattle.adf_serve.specs.Mapped.{IsBareMap, IsKindRefusal, IsMapReport}
+use Rattle.adf_where.specs.FaultyMap.{IsFaultyMap}
+use Rattle.adf_words.specs.declared.map_form.MapForm.{MapForm}
+use Rattle.ados_faults.specs.Listed.{IsOtherKind}
 use Rattle.adf_serve.specs.Placed.{DoesWhere, IsBareRefusal, IsPlacedIn, IsUnasked, IsWhereText, LeavesPlaced, MayEnd}
 use Rattle.adf_serve.specs.Reports.{DoesReport, IsSomeText, TellsReport}
 use Rattle.adf_serve.specs.Rescues.{IsHostEnd, IsRescueText, IsSomeSize}
@@ -122,7 +126,7 @@ pub blank_no_refusal : (s : Bool) (blocks : ℕ) (word : List ℕ) (fault : Comm
 blank_no_refusal s blocks word fault (Ok x) e same = tt
 blank_no_refusal s blocks word fault (Err told) e same = subst IsNoRefusal (sym same) (blank_plain s blocks word fault e)
 
-accepted_tree : (image : List ℕ) (was_validated : Bool) (checked : List ℕ) → Accepts image was_validated checked → (t : Tree) × Stands checked t
+pub accepted_tree : (image : List ℕ) (was_validated : Bool) (checked : List ℕ) → Accepts image was_validated checked → (t : Tree) × Stands checked t
 accepted_tree image false checked a = (a.3.0, a.3.1)
 accepted_tree image true checked a = (a.2.0, a.2.1)
 
@@ -161,8 +165,8 @@ module _ (image : List ℕ) (was_validated : Bool) (checked : List ℕ) (a : Acc
       let s = accepted_tree image was_validated checked a in
       let w = h s.0 s.1 in (bytes_of s.0 w.0, w.3, (was_validated, checked, s.0, a, s.1, (w.0, w.1, w.2, refl)))
 
-  pub looked : (look : Look) (text : List ℕ) → ((t : Tree) → Stands checked t → IsLook look was_validated checked t text) → IsLookText look image text
-  looked look text is =
+  pub looked : (json : Bool) (text : List ℕ) → ((t : Tree) → Stands checked t → IsLook json was_validated checked t text) → IsLookText json image text
+  looked json text is =
       let s = accepted_tree image was_validated checked a in (was_validated, checked, s.0, a, s.1, is s.0 s.1)
 
   -- the owners of blocks, written whole, or as far as the writer accepts them
@@ -318,14 +322,78 @@ pub host_ends : (list : Bool) (fault : CommandFault) → IsNoImage fault → IsH
 host_ends list (Extracted why) is = absurd is
 host_ends list fault is = tt
 
+-- a report that may end by any fault
+module _ (IsText : Bool → List ℕ → Type 0) (IsPlain : Refusal → Type 0) where
+  -- it is written as far as the writer accepts it
+  pub report_front : (whole : Bool) (text : List ℕ) (old new : Option (List ℕ)) (fault : CommandFault) → IsText whole text → WritesFront old new text → fault ≡ Output
+      → DoesReport IsText IsPlain MayEnd old new (Err fault)
+  report_front whole text old new fault is front same =
+      subst (λ (f : CommandFault). DoesReport IsText IsPlain MayEnd old new (Err f)) (sym same) (tt, inr (text, (whole, is), front))
+
+  -- that on an accepted image is written whole, or as far as that
+  pub report_told : (text : List ℕ) (old new : Option (List ℕ)) (done : Ending) → IsText true text → OnOk done (Appends old new text) → OnErr done (WritesFront old new text)
+      → IfErr done (λ fault. fault ≡ Output) → DoesReport IsText IsPlain MayEnd old new done
+  report_told text old new (Ok x) is told front output = (text, told, is)
+  report_told text old new (Err fault) is told front output = report_front true text old new fault is front output
+
+  -- memory ran out before it
+  pub report_unmade : (w : Option (List ℕ)) (done : Ending) → IsErrAnd done (λ fault. fault ≡ Memory) → DoesReport IsText IsPlain MayEnd w w done
+  report_unmade w (Ok x) same = absurd same
+  report_unmade w (Err fault) same = subst (λ (f : CommandFault). DoesReport IsText IsPlain MayEnd w w (Err f)) (sym same) (tt, inl (Keeps-refl w))
+
+  -- the same two of a report that depends on what is known
+  module _ (Known : Type 0) where
+    pub known_front : (whole : Bool) (text : List ℕ) (old new : Option (List ℕ)) (done : Ending) → (Known → IsText whole text) → OnErr done (WritesFront old new text) → IfErr done (λ fault. fault ≡ Output)
+        → IfErr done (λ fault. Known → DoesReport IsText IsPlain MayEnd old new (Err fault))
+    known_front whole text old new (Ok x) is front output = tt
+    known_front whole text old new (Err fault) is front output = λ known. report_front whole text old new fault (is known) front output
+
+    pub known_unmade : (w : Option (List ℕ)) (done : Ending) → IsErrAnd done (λ fault. fault ≡ Memory) → IfErr done (λ fault. Known → DoesReport IsText IsPlain MayEnd w w (Err fault))
+    known_unmade w (Ok x) same = tt
+    known_unmade w (Err fault) same = λ known. report_unmade w (Err fault) same
+
+  -- it ends with the fault that it was given
+  pub report_ends : (old new : Option (List ℕ)) (fault : CommandFault) (done : Ending) → DoesReport IsText IsPlain MayEnd old new (Err fault) → IsErrAnd done (λ told. told ≡ fault)
+      → DoesReport IsText IsPlain MayEnd old new done
+  report_ends old new fault (Ok x) is same = absurd same
+  report_ends old new fault (Err told) is same = subst (λ (f : CommandFault). DoesReport IsText IsPlain MayEnd old new (Err f)) (sym same) is
+
+-- the map of a refused image, as a report
+module _ (form : MapForm) (image : List ℕ) (refusal : Refusal) (kind : List ℕ) (at : ℕ) (of_kind : kind ≡ refusal.kind.now) (of_block : at ≡ refusal.block) (text : List ℕ) (is : IsFaultyMap form image kind at text) where
+  pub mapped : IsImageRefusal image refusal → IsMapReport form false text
+  mapped refused = (image, record {
+    refusal = refusal;
+    refused = refused;
+    mapped = subst (λ (k : List ℕ). IsFaultyMap form image k refusal.block text) of_kind (subst (λ (b : ℕ). IsFaultyMap form image kind b text) of_block is);
+  })
+
+-- the fault that a refusal of an image that is handed back names
+module _ (image old : List ℕ) (fault : VolumeFault) (refusal : Refusal) (handed : HandsBack old image fault) (kind : refusal.kind.now ≡ kind_word fault.kind) (block : refusal.block ≡ fault.block) where
+  is_refused : IsRefusal image fault
+  is_refused = subst (λ (i : List ℕ). IsRefusal i fault) (sym handed.0) handed.1
+
+  pub refusal_shown : fault.kind ≢ NoMemory → IsImageRefusal image refusal
+  refusal_shown memory = refused_for image fault (Refused refusal) is_refused (memory, kind, block)
+
+  -- it is that the disk is of another kind
+  at_boot : IsOtherKind image fault.kind → fault.block ≡ 0 → IsKindRefusal image refusal
+  at_boot other at = (fault.kind, other, kind, block ∙ at)
+
+  pub kind_shown : (fault.kind ≡ NotADosDisk) ⊎ (fault.kind ≡ UnsupportedKind) → IsKindRefusal image refusal
+  kind_shown of = go is_refused of
+    where
+      go : IsRefusal image fault → (fault.kind ≡ NotADosDisk) ⊎ (fault.kind ≡ UnsupportedKind) → IsKindRefusal image refusal
+      go (inl shows) (inl e) =
+          let at : fault.block ≡ 0 = (subst (λ (k : FaultKind). Shows image k fault.block) e shows).1 in
+          at_boot (record { of_boot = inl e; shown = subst (Shows image fault.kind) at shows }) at
+      go (inl shows) (inr e) =
+          let at : fault.block ≡ 0 = (subst (λ (k : FaultKind). Shows image k fault.block) e shows).2 in
+          at_boot (record { of_boot = inr e; shown = subst (Shows image fault.kind) at shows }) at
+      go (inr want) (inl e) = absurd (cc (want.0, e))
+      go (inr want) (inr e) = absurd (cc (want.0, e))
+
 -- the report on a refused image, or why there is none
 module _ (job : WhereJob) (image : List ℕ) where
-  -- the fault that a refusal of an image that is handed back names
-  pub refusal_shown : (old : List ℕ) (fault : VolumeFault) (refusal : Refusal) → HandsBack old image fault → refusal.kind.now ≡ kind_word fault.kind → refusal.block ≡ fault.block
-      → fault.kind ≢ NoMemory → IsImageRefusal image refusal
-  refusal_shown old fault refusal handed kind block memory =
-      refused_for image fault (Refused refusal) (subst (λ (i : List ℕ). IsRefusal i fault) (sym handed.0) handed.1) (memory, kind, block)
-
   -- the refusal and the places, as the output for the refused image
   module _ (refusal : Refusal) (kind : List ℕ) (at : ℕ) (words : List BlockWord) (of_kind : kind ≡ refusal.kind.now) (of_block : at ≡ refusal.block) (asked : words ≡ job.blocks.items)
       (refused : IsImageRefusal image refusal) (old new : Option (List ℕ)) where
@@ -391,6 +459,7 @@ module _ (json : Bool) (IsText BeginsText : List ℕ → List ℕ → Type 0) wh
   done (OfImages job) old new x h = h
   done (OfRescue job) old new x h = h
   done (OfBlocks job) old new x h = h
+  done (OfMap form) old new x h = h
   done Unsaid old new x h = tt
 
   -- a job whose fault has no text
@@ -401,6 +470,7 @@ module _ (json : Bool) (IsText BeginsText : List ℕ → List ℕ → Type 0) wh
   failed (OfImages job) old new fault h plain = h
   failed (OfRescue job) old new fault h plain = report_failed json (IsRescueText job.json) IsSomeSize (λ (fault : CommandFault). IsHostEnd fault job.list) old new fault h plain
   failed (OfBlocks job) old new fault h plain = report_failed json (IsWhereText job) (IsBareRefusal job) MayEnd old new fault h plain
+  failed (OfMap form) old new fault h plain = report_failed json (IsMapReport form) IsBareMap MayEnd old new fault h plain
   failed OfBytes old new (Refused refusal) h plain = absurd (cc plain)
   failed OfBytes old new (Dos refusal) h plain = absurd (cc plain)
   failed OfBytes old new fault (bytes, inl keeps) plain = (bytes, inl keeps)
@@ -413,6 +483,7 @@ module _ (json : Bool) (IsText BeginsText : List ℕ → List ℕ → Type 0) wh
   unsaid (OfImages job) old new fault h = archive_unsaid job old new fault h
   unsaid (OfRescue job) old new fault h = report_unsaid json (IsRescueText job.json) IsSomeSize (λ (fault : CommandFault). IsHostEnd fault job.list) old new fault tt h
   unsaid (OfBlocks job) old new fault h = report_unsaid json (IsWhereText job) (IsBareRefusal job) MayEnd old new fault tt h
+  unsaid (OfMap form) old new fault h = report_unsaid json (IsMapReport form) IsBareMap MayEnd old new fault tt h
   unsaid OfBytes old new (Refused refusal) d = (d.0, inl d.1.1)
   unsaid OfBytes old new (Dos refusal) d = (d.0, inl d.1)
   unsaid OfBytes old new fault (bytes, inl keeps) = (bytes, inl keeps)
@@ -427,6 +498,7 @@ module _ (json : Bool) (IsText BeginsText : List ℕ → List ℕ → Type 0) wh
     told_refused (OfImages job) refusal d w = absurd d
     told_refused (OfRescue job) refusal (keeps, is) w = (is, (refusal_text json refusal, kept_appends old mid new (refusal_text json refusal) keeps w, refl))
     told_refused (OfBlocks job) refusal (keeps, is) w = (is, (refusal_text json refusal, kept_appends old mid new (refusal_text json refusal) keeps w, refl))
+    told_refused (OfMap form) refusal (keeps, is) w = (is, (refusal_text json refusal, kept_appends old mid new (refusal_text json refusal) keeps w, refl))
     told_refused OfBytes refusal (bytes, (is, keeps)) w = (bytes, (is, (refusal_text json refusal, kept_appends old mid new (refusal_text json refusal) keeps w, refl)))
 
     -- a refusal by AmigaDOS is reported
@@ -437,6 +509,7 @@ module _ (json : Bool) (IsText BeginsText : List ℕ → List ℕ → Type 0) wh
     told_dos (OfImages job) refusal d w = absurd d
     told_dos (OfRescue job) refusal keeps w = (dos_text json refusal, kept_appends old mid new (dos_text json refusal) keeps w, refl)
     told_dos (OfBlocks job) refusal keeps w = (dos_text json refusal, kept_appends old mid new (dos_text json refusal) keeps w, refl)
+    told_dos (OfMap form) refusal keeps w = (dos_text json refusal, kept_appends old mid new (dos_text json refusal) keeps w, refl)
     told_dos OfBytes refusal (bytes, keeps) w = (bytes, (dos_text json refusal, kept_appends old mid new (dos_text json refusal) keeps w, refl))
 
     -- a prefix of the output after no output
@@ -461,6 +534,7 @@ module _ (json : Bool) (IsText BeginsText : List ℕ → List ℕ → Type 0) wh
     broken_refused (OfImages job) refusal d front = absurd d
     broken_refused (OfRescue job) refusal (keeps, is) front = (tt, inr (refusal_text json refusal, inr (Refused refusal, refl), kept_front (refusal_text json refusal) keeps front))
     broken_refused (OfBlocks job) refusal (keeps, is) front = (tt, inr (refusal_text json refusal, inr (Refused refusal, refl), kept_front (refusal_text json refusal) keeps front))
+    broken_refused (OfMap form) refusal (keeps, is) front = (tt, inr (refusal_text json refusal, inr (Refused refusal, refl), kept_front (refusal_text json refusal) keeps front))
     broken_refused OfBytes refusal (bytes, (is, keeps)) front =
         (bytes, ends_front bytes Output refl (refusal_text json refusal, inr (inl (refusal, is, refl)), kept_front (refusal_text json refusal) keeps front))
 
@@ -471,6 +545,7 @@ module _ (json : Bool) (IsText BeginsText : List ℕ → List ℕ → Type 0) wh
     broken_dos (OfImages job) refusal d front = absurd d
     broken_dos (OfRescue job) refusal keeps front = (tt, inr (dos_text json refusal, inr (Dos refusal, refl), kept_front (dos_text json refusal) keeps front))
     broken_dos (OfBlocks job) refusal keeps front = (tt, inr (dos_text json refusal, inr (Dos refusal, refl), kept_front (dos_text json refusal) keeps front))
+    broken_dos (OfMap form) refusal keeps front = (tt, inr (dos_text json refusal, inr (Dos refusal, refl), kept_front (dos_text json refusal) keeps front))
     broken_dos OfBytes refusal (bytes, keeps) front =
         (bytes, ends_front bytes Output refl (dos_text json refusal, inr (inr (refusal, refl)), kept_front (dos_text json refusal) keeps front))
 

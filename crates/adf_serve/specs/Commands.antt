@@ -4,6 +4,8 @@ use Rattle.std.specs.Io.KnownBytes.{Keeps}
 use Rattle.adf_io.specs.Prefix.{Writes, WritesFrontOf}
 use Rattle.adf_words.specs.declared.job.ImageJob.{ImageJob}
 use Rattle.adf_words.specs.declared.job.ImageJob.TheVariants.{AddBundle, Check, Extract, ExtractBundle, Change, Boot, List as ListOf, Map, SaveBoot, Salvage, Serve, Show, Where}
+use Rattle.adf_words.specs.declared.map_form.MapForm.{MapForm}
+use Rattle.adf_words.specs.declared.map_form.MapForm.TheVariants as maps
 use Rattle.adf_words.specs.declared.query.ListForm.{ListForm}
 use Rattle.adf_words.specs.declared.query.ListForm.TheVariants.{Json}
 use Rattle.adf_words.specs.declared.query.CheckJob.{CheckJob}
@@ -12,6 +14,7 @@ use Rattle.adf_words.specs.declared.query.WhereJob.{WhereJob}
 use Rattle.adf_serve.specs.declared.fault.CommandFault.{CommandFault}
 use Rattle.adf_serve.specs.declared.fault.CommandFault.TheVariants.{Dos, Refused}
 use Rattle.adf_serve.specs.Archives.{EndsArchive}
+use Rattle.adf_serve.specs.Mapped.{DoesMap, TellsMap}
 use Rattle.adf_serve.specs.Placed.{DoesWhere, TellsWhere}
 use Rattle.adf_serve.specs.Rescues.{DoesRescue, TellsRescue}
 use Rattle.adf_serve.specs.Texts.{BeginsJobText, IsJobText}
@@ -42,9 +45,13 @@ abbrev pub is_json_list : ListForm → Bool
 is_json_list Json = true
 is_json_list form = false
 
+abbrev pub is_json_map : MapForm → Bool
+is_json_map maps.Json = true
+is_json_map form = false
+
 abbrev pub prints_json : ImageJob → Bool
 prints_json (Show image json) = json
-prints_json (Map image json) = json
+prints_json (Map image form) = is_json_map form
 prints_json (Where job) = job.json
 prints_json (ListOf job) = is_json_list job.form
 prints_json (Check job) = job.json
@@ -52,19 +59,21 @@ prints_json (Salvage job) = job.json
 prints_json job = false
 
 -- the kind of a job's output: only the text of its fault; a text for the bytes of its file; the reports on checked
--- images; the report on a rescue; what is told of blocks; or output without a promise
+-- images; the report on a rescue; what is told of blocks; a map; or output without a promise
 pub data Prints : Type 0 where
   OnlyFaults : Prints
   OfBytes : Prints
   OfImages : CheckJob → Prints
   OfRescue : SalvageJob → Prints
   OfBlocks : WhereJob → Prints
+  OfMap : MapForm → Prints
   Unsaid : Prints
 
 abbrev pub prints : ImageJob → Prints
 prints (Check job) = OfImages job
 prints (Salvage job) = OfRescue job
 prints (Where job) = OfBlocks job
+prints (Map image form) = OfMap form
 prints (Extract job) = OnlyFaults
 prints (ExtractBundle image to) = OnlyFaults
 prints (AddBundle target from) = OnlyFaults
@@ -81,6 +90,7 @@ Does OfBytes IsText BeginsText old new result = TellsSome IsText BeginsText old 
 Does (OfImages job) IsText BeginsText old new result = EndsArchive job old new result
 Does (OfRescue job) IsText BeginsText old new result = DoesRescue job old new result
 Does (OfBlocks job) IsText BeginsText old new result = DoesWhere job old new result
+Does (OfMap form) IsText BeginsText old new result = DoesMap form old new result
 Does Unsaid IsText BeginsText old new result = ⊤
 
 abbrev pub DoesJob : ImageJob → Option (List ℕ) → Option (List ℕ) → Ending → Type 0
@@ -115,6 +125,7 @@ Tells json OfBytes IsText BeginsText old new result = EndsSome json IsText Begin
 Tells json (OfImages job) IsText BeginsText old new result = EndsArchive job old new result
 Tells json (OfRescue job) IsText BeginsText old new result = TellsRescue json job old new result
 Tells json (OfBlocks job) IsText BeginsText old new result = TellsWhere json job old new result
+Tells json (OfMap form) IsText BeginsText old new result = TellsMap json form old new result
 Tells json Unsaid IsText BeginsText old new result = ⊤
 
 -- the result of a job

@@ -16,7 +16,7 @@ use Rattle.adf_export.specs.Listing.{BeginsList, IsList}
 use Rattle.adf_record.specs.declared.told.FactsForm.{FactsForm}
 use Rattle.adf_record.specs.Told.{IsVolumeText, is_json}
 use Rattle.adf_words.specs.declared.job.ImageJob.{ImageJob}
-use Rattle.adf_words.specs.declared.job.ImageJob.TheVariants.{Info, List as ListOf, Map, Print, Show, ShowBoot, Undelete, Validate, WherePath}
+use Rattle.adf_words.specs.declared.job.ImageJob.TheVariants.{Info, List as ListOf, Print, Show, ShowBoot, Undelete, Validate, WherePath}
 use Rattle.adf_words.specs.declared.query.ListForm.{ListForm}
 use Rattle.adf_words.specs.declared.query.ListForm.TheVariants.{Bold, Long}
 use Rattle.adf_words.specs.declared.query.ListJob.{ListJob}
@@ -26,11 +26,8 @@ use Rattle.adf_words.specs.declared.query.WhereJob.{WhereJob}
 use Rattle.adf_rescue.specs.Undelete.{IsUndeleteText, key_of}
 use Rattle.adf_where.specs.Where.{IsWhere, IsWhereOf}
 use Rattle.adf_export.specs.Words.{LeadsTo}
-use Rattle.adf_serve.specs.declared.look.Look.{Look}
-use Rattle.adf_serve.specs.declared.look.Look.TheVariants as looks
 use Rattle.adf_serve.specs.declared.query.Query.{Query}
 use Rattle.adf_serve.specs.declared.query.Query.TheVariants as queries
-use Rattle.ados_mend.specs.BlockMap.{IsMap}
 use Rattle.ados_mend.specs.Said.{validated_line}
 use Rattle.ados_mend.specs.Validated.{IsValidated, free_only_in}
 
@@ -82,13 +79,12 @@ abbrev pub IsCountText : List ℕ → List ℕ → Type 0
 IsCountText image text = (new : List ℕ) × IsValidated image new × (text ≡ validated_line (free_only_in image new) (free_only_in new image))
 
 -- a text about an accepted image, by whether its bitmap was rebuilt, the checked image and its tree: the facts of the volume,
--- as a JSON object or in a form for people; or its map, as a JSON object or as text
-abbrev pub IsLook : Look → Bool → List ℕ → Tree → List ℕ → Type 0
-IsLook (looks.Volume json) was_validated checked t text = (form : FactsForm) × (is_json form ≡ json) × IsVolumeText form checked was_validated t text
-IsLook (looks.Map json) was_validated checked t text = IsMap json checked t text
+-- as a JSON object or in a form for people
+abbrev pub IsLook : Bool → Bool → List ℕ → Tree → List ℕ → Type 0
+IsLook json was_validated checked t text = (form : FactsForm) × (is_json form ≡ json) × IsVolumeText form checked was_validated t text
 
-abbrev pub IsLookText : Look → List ℕ → List ℕ → Type 0
-IsLookText look = OfAccepted (IsLook look)
+abbrev pub IsLookText : Bool → List ℕ → List ℕ → Type 0
+IsLookText json = OfAccepted (IsLook json)
 
 -- who owns the blocks that a job asks for: a line for each, or a JSON array
 abbrev pub AreOwnedBlocks : WhereJob → List ℕ → List ℕ → Type 0
@@ -107,7 +103,7 @@ abbrev pub IsQueryText : Query → List ℕ → List ℕ → Type 0
 IsQueryText queries.Disk = IsInfoText
 IsQueryText (queries.List job) = IsListOf job.now
 IsQueryText (queries.Bytes path) = IsPrintText path.now
-IsQueryText (queries.Look look) = IsLookText look
+IsQueryText (queries.Look json) = IsLookText json
 IsQueryText (queries.Entry path) = AreEntryBlocks path.now
 IsQueryText (queries.Deleted job) = AreDeletedLines job.now
 
@@ -123,8 +119,7 @@ IsJobText (ListOf job) = IsListOf job
 IsJobText (Print image path) = IsPrintText path.now
 IsJobText (ShowBoot image) = IsBootText
 IsJobText (Validate target force) = IsCountText
-IsJobText (Show image json) = IsLookText (looks.Volume json)
-IsJobText (Map image json) = IsLookText (looks.Map json)
+IsJobText (Show image json) = IsLookText json
 IsJobText (WherePath image path) = AreEntryBlocks path.now
 IsJobText (Undelete job) = AreDeletedLines job
 IsJobText job = λ bytes text. text ≡ []

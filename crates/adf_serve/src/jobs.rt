@@ -7,7 +7,7 @@ use crate::boot::{change_boot, save_boot, show_boot};
 use crate::bundle::{put_bundle, take_bundle};
 use crate::changing::change;
 use crate::fault::CommandFault;
-use crate::look::Look;
+use crate::map::tell_map;
 use crate::moving::take_out;
 use crate::query::{Query, print_query};
 use crate::rescue::take_rescue;
@@ -48,12 +48,8 @@ where
             make_blank(rt, alloc, new, *file, faults)
         }
         ImageJob::Info { file } => print_query(rt, alloc, *file, Query::Disk, screen.styled, writer),
-        ImageJob::Show { image, json } => {
-            print_query(rt, alloc, *image, Query::Look(Look::Volume { json: *json }), screen.styled, writer)
-        }
-        ImageJob::Map { image, json } => {
-            print_query(rt, alloc, *image, Query::Look(Look::Map { json: *json }), screen.styled, writer)
-        }
+        ImageJob::Show { image, json } => print_query(rt, alloc, *image, Query::Look { json: *json }, screen.styled, writer),
+        ImageJob::Map { image, form } => tell_map(rt, alloc, *image, *form, writer, faults),
         ImageJob::Where(job) => tell_where(rt, alloc, job, writer, faults),
         ImageJob::WherePath { image, path } => print_query(rt, alloc, *image, Query::Entry(*path), screen.styled, writer),
         ImageJob::ShowBoot { image } => show_boot(rt, alloc, *image, writer),

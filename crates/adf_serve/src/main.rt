@@ -22,6 +22,7 @@ mod blocks;
 mod deleted;
 mod info;
 mod look;
+mod map;
 mod moving;
 mod query;
 mod rescue;

@@ -7,7 +7,7 @@ use crate::deleted::tell_deleted;
 use crate::fault::CommandFault;
 use crate::images::read_image;
 use crate::info::tell_info;
-use crate::look::{Look, tell_look};
+use crate::look::tell_look;
 use crate::moving::{tell_bytes, tell_list};
 use adf_host::PromptFiles;
 use adf_words::{ImageFile, ListJob, UndeleteJob};
@@ -29,8 +29,8 @@ pub(crate) enum Query<'a, 'b> {
     Entry(&'a str),
     /// The lines about deleted entries, which are written to the host.
     Deleted(&'b UndeleteJob<'a>),
-    /// A text that is made whole before any of it is printed.
-    Look(Look),
+    /// What a person wants to know of the volume, or with `json` a JSON object.
+    Look { json: bool },
 }
 
 /// Prints what is asked of the image of a file. With `styled` text for people has bold letters.
@@ -51,6 +51,6 @@ pub(crate) fn print_query<'a, R: Files<File = File> + PromptFiles, W: Write>(
         Query::Bytes(path) => tell_bytes(alloc, image, path, writer),
         Query::Entry(path) => tell_entry(alloc, image, path, writer),
         Query::Deleted(job) => tell_deleted(rt, alloc, image, job, writer),
-        Query::Look(look) => tell_look(alloc, image, look, styled, writer),
+        Query::Look { json } => tell_look(alloc, image, json, styled, writer),
     }
 }

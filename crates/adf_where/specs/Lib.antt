@@ -2,4 +2,6 @@
 pub mod Where
 pub mod Faulty
 pub mod Refused
+pub mod BlockMap
+pub mod FaultyMap
 pub mod steps

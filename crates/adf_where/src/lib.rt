@@ -1,6 +1,15 @@
 //! Who owns a block, and which blocks an entry has: of a volume, and every place that names a block of an image that is refused.
+//! The map of either, a letter for each block.
 #![tactic(auto)]
 
+// The map of a disk.
+mod block_map;
+mod block_mark;
+mod faulty_map;
+mod map_lines;
+mod map_object;
+
+// Blocks that are asked for.
 mod faulty;
 mod faulty_lines;
 mod faulty_objects;
@@ -17,6 +26,8 @@ mod where_fault;
 mod where_lines;
 mod where_objects;
 
+pub use block_map::map_text;
+pub use faulty_map::faulty_map_text;
 pub use faulty_where::write_faulty_where;
 pub use own_blocks::where_path_text;
 pub use refused::{FaultReason, dos_refused_text, refused_text};

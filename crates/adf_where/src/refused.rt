@@ -68,7 +68,7 @@ fn refused_line(alloc: Global, reason: FaultReason) -> Result<Vec<u8>, AllocErro
 }
 
 /// An object up to the reason.
-fn begin_refused(alloc: Global) -> Result<Writer, AllocError>
+pub(crate) fn begin_refused(alloc: Global) -> Result<Writer, AllocError>
     ensures before { IfOk result (λ writer. writer.before ≡ []) }
     ensures tokens { IfOk result (λ writer. writer.tokens ≡ before_reason) }
 {
@@ -79,7 +79,7 @@ fn begin_refused(alloc: Global) -> Result<Writer, AllocError>
 }
 
 /// The whole object after the reason, and the end of its line.
-fn end_refused(writer: Writer) -> Result<Vec<u8>, AllocError>
+pub(crate) fn end_refused(writer: Writer) -> Result<Vec<u8>, AllocError>
     ensures { IfOk result (λ text. text.items ≡ writer.before ++ (print (writer.tokens ++ end_object ∷ []) ++ codes "\n")) }
 {
     let mut writer = writer;
@@ -90,7 +90,7 @@ fn end_refused(writer: Writer) -> Result<Vec<u8>, AllocError>
 }
 
 /// Writes why an image is refused.
-fn put_fault_reason(writer: &mut Writer, reason: FaultReason) -> Result<(), AllocError>
+pub(crate) fn put_fault_reason(writer: &mut Writer, reason: FaultReason) -> Result<(), AllocError>
     ensures before { writer.new.before ≡ writer.old.before }
     ensures tokens { OnOk result (writer.new.tokens ≡ writer.old.tokens ++ fault_reason reason.kind.now reason.block) }
 {

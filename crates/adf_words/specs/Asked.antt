@@ -8,6 +8,7 @@ use Rattle.adf_block.specs.declared.layout.TheConstants.{FEWEST_BLOCKS, MOST_BLO
 use Rattle.adf_text.specs.ProtectWords.{protect_word}
 use Rattle.adf_words.specs.Blocks.{IsOnFloppy, block_text}
 use Rattle.adf_words.specs.Lists.{IsFlag}
+use Rattle.adf_words.specs.Maps.{IsMapFormOf}
 use Rattle.adf_words.specs.When.{IsWhen}
 use Rattle.adf_words.specs.declared.boot.BootBlock.{BootBlock}
 use Rattle.adf_words.specs.declared.boot.BootBlock.TheVariants.{Empty, Standard, File}
@@ -66,10 +67,9 @@ IsShowOf found (Show image json) =
     IsFileOf found image × ((given : Bool) → IsFlag found (codes "json") given → json ≡ given)
 IsShowOf found _ = ⊥
 
--- `map`: the image is this argument, and the form as the option says
+-- `map`: the image is this argument, and the form as the options say
 abbrev pub IsMapOf : Found → ImageJob → Type 0
-IsMapOf found (Map image json) =
-    IsFileOf found image × ((given : Bool) → IsFlag found (codes "json") given → json ≡ given)
+IsMapOf found (Map image form) = IsFileOf found image × IsMapFormOf found form
 IsMapOf found _ = ⊥
 
 -- the values of an argument that can have many

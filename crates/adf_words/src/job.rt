@@ -4,6 +4,7 @@ ghost use Rattle.std.specs.Prelude.{◌<◌, length};
 use crate::boot::BootBlock;
 use crate::change::{ChangeJob, Rewrite};
 use crate::image_file::ImageFile;
+use crate::map_form::MapForm;
 use crate::query::{CheckJob, ExtractJob, ListJob, SalvageJob, UndeleteJob, WhereJob};
 use adf_block::Format;
 use ados_name::Date3;
@@ -31,8 +32,8 @@ pub enum ImageJob<'a> {
     Info { file: ImageFile<'a> },
     /// `show`: describes the volume for people, or with `json` as a JSON object.
     Show { image: ImageFile<'a>, json: bool },
-    /// `map`: prints a letter for each block, or with `json` a JSON object.
-    Map { image: ImageFile<'a>, json: bool },
+    /// `map`: prints a letter for each block.
+    Map { image: ImageFile<'a>, form: MapForm },
     /// `where`: says who owns blocks.
     Where(WhereJob<'a>),
     /// `where --path`: prints the blocks of an entry.

@@ -221,12 +221,13 @@ pub(crate) const COMMANDS: [CommandRow; 21] = [
     CommandRow {
         name: "map",
         about: "Prints a letter for each block of a disk, and what the letters mean",
-        examples: "Examples:\n  adf_serve map work.adf\n  adf_serve map --json work.adf",
-        usage: "adf_serve map [--json] [--blocks N] IMAGE",
+        examples: "Examples:\n  adf_serve map work.adf\n  adf_serve map --tracks work.adf\n  adf_serve map --json work.adf",
+        usage: "adf_serve map [--tracks | --json] [--blocks N] IMAGE",
         group: Group::Look,
         effect: Effect::Reads,
         changes: false,
         arguments: &[
+            ArgumentRow { name: "tracks", kind: Kind::Flag { excludes: &["json"] }, help: "Prints a line for each track. Without it, a floppy has a column for each cylinder" },
             ArgumentRow { name: "json", kind: FLAG, help: "Prints a JSON object" },
             FRONT,
             IMAGE,

@@ -3,12 +3,14 @@ ghost use Rattle.std.specs.Prelude.{◌≡◌, IfErr, IfOk};
 ghost use Rattle.clap.specs.Matches.{found_of};
 ghost use Rattle.adf_words.specs.Asked.{IsExtractOf, IsMapOf, IsShowOf, IsUndeleteOf, IsWhereOf};
 ghost use Rattle.adf_words.specs.Lists.{form_of, IsFormOf, IsOrderOf, TellsNoOrder, order_word, usual_order};
+ghost use Rattle.adf_words.specs.Maps.{IsMapFormOf, map_form_of};
 
 use crate::arguments::Arguments;
 use crate::block_word::asked_blocks;
 use crate::fault::WordsFault;
 use crate::job::ImageJob;
 use crate::letters::letters_of;
+use crate::map_form::MapForm;
 use crate::query::{
     CheckJob, ExtractJob, ListForm, ListJob, ListOrder, SalvageJob, UndeleteJob, WhereJob,
 };
@@ -100,8 +102,27 @@ pub(crate) fn map_job<'a>(arguments: &Arguments<'a, '_>) -> Result<ImageJob<'a>,
 {
     Ok(ImageJob::Map {
         image: arguments.image()?,
-        json: arguments.flag("json"),
+        form: map_form(arguments),
     })
+}
+
+/// The form of a map, by its options.
+fn map_form(arguments: &Arguments<'_, '_>) -> MapForm
+    ensures { IsMapFormOf (found_of arguments.now.words.now) result }
+{
+    let tracks = arguments.flag("tracks");
+    map_form_of(tracks, arguments.flag("json"))
+}
+
+/// The form of a map, by whether each option is given.
+fn map_form_of(tracks: bool, json: bool) -> MapForm
+    ensures { result ≡ map_form_of tracks json }
+{
+    match (tracks, json) {
+        (true, _) => MapForm::Tracks,
+        (false, true) => MapForm::Json,
+        (false, false) => MapForm::Cylinders,
+    }
 }
 
 /// The job of `where`: who owns blocks, or with `--path` the blocks of an entry.

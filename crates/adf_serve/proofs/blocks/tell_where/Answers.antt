@@ -11,12 +11,12 @@ returns-in_err-image g c =
 pub returns-in_err-tell_placed : goal.returns-in_err-tell_placed
 returns-in_err-tell_placed g c =
     let rejected = c.in-Err.rejected in
-    let shown = refusal_shown c.args.job.now rejected.image c.in_ok-image.image rejected.fault c.in-Some.refusal c.in-Err.ensures c.in-Some.ensures.kind c.in-Some.ensures.block c.in-Some.ensures.some in
+    let shown = refusal_shown rejected.image c.in_ok-image.image rejected.fault c.in-Some.refusal c.in-Err.ensures c.in-Some.ensures.kind c.in-Some.ensures.block c.in-Some.ensures.some in
     placed_ends c.args.job.now rejected.image _ _ c.in_err-tell_placed.field-0.0 _ (c.in_err-tell_placed.ensures.fault shown) c.from_residual-in_err-tell_placed.ensures.1
 
 pub returns : goal.returns
 returns g c =
     let rejected = c.in-Err.rejected in
-    let shown = refusal_shown c.args.job.now rejected.image c.in_ok-image.image rejected.fault c.in-Some.refusal c.in-Err.ensures c.in-Some.ensures.kind c.in-Some.ensures.block c.in-Some.ensures.some in
+    let shown = refusal_shown rejected.image c.in_ok-image.image rejected.fault c.in-Some.refusal c.in-Err.ensures c.in-Some.ensures.kind c.in-Some.ensures.block c.in-Some.ensures.some in
     let written = c.in_ok-tell_placed.ensures.ok shown in
     (written.0, written.1, (rejected.image, written.2))

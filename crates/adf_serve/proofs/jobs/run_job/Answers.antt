@@ -45,7 +45,7 @@ returns-in-WherePath g c =
 
 pub returns-in-Map : goal.returns-in-Map
 returns-in-Map g c =
-    subst (λ (job : ImageJob). DoesJob job (g.W.Write.contents c.args.writer.now) (g.W.Write.contents c.print_query-in-Map.new.writer) c.print_query-in-Map.result) (sym c.in-Map.is) c.print_query-in-Map.ensures
+    subst (λ (job : ImageJob). DoesJob job (g.W.Write.contents c.args.writer.now) (g.W.Write.contents c.tell_map.new.writer) c.tell_map.result) (sym c.in-Map.is) c.tell_map.ensures
 
 pub returns-in-Undelete : goal.returns-in-Undelete
 returns-in-Undelete g c =
