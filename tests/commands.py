@@ -7,6 +7,7 @@ expected ones. tests/cases tests scripts on standard input.
 from __future__ import annotations
 
 import datetime
+import errno
 import fcntl
 import json
 import os
@@ -268,17 +269,17 @@ def wrong_words(tried: Commands) -> None:
 def wrong_numbers(tried: Commands) -> None:
     for number in ("15", "101603", "-5", "+16", "1e3", "4294967312", "18446744073709551632"):
         words = ["blank", f"--blocks={number}", "Work", "a"]
-        tried.rows(wrong(f"blank --blocks {number}", words, number, "from 16 to 101602"))
+        tried.rows(wrong(f"blank --blocks {number}", words, number, "from 16 to 101,602"))
     for option in ("days", "minutes", "ticks"):
         for number in ("4294967296", "-1", "+1", "1.5", "", "many"):
-            parts = f"'{number}' for '--{option}", "from 0 to 4294967295"
+            parts = f"'{number}' for '--{option}", "from 0 to 4,294,967,295"
             tried.rows(
                 wrong(f"blank --{option} '{number}'", ["blank", f"--{option}={number}", "Work", "a"], *parts),
                 wrong(f"serve --{option} '{number}'", ["serve", f"--{option}={number}", "a", "b"], *parts),
             )
     for number in ("18446744073709551616", "-1", "+1", "1.5", "", "many"):
         words = ["serve", f"--turns={number}", "a", "b"]
-        tried.rows(wrong(f"serve --turns '{number}'", words, f"'{number}' for '--turns", "from 0 to 18446744073709551615"))
+        tried.rows(wrong(f"serve --turns '{number}'", words, f"'{number}' for '--turns", "from 0 to 18,446,744,073,709,551,615"))
     tried.absent("wrong words write nothing", "a")
 
 
@@ -1348,6 +1349,16 @@ def missing_files(tried: Commands) -> None:
     tried.stays("the image is as it was", "ffs.adf", before)
 
 
+def errors_of_the_host(tried: Commands) -> None:
+    """An error that this program has no words for is told in those of the host, without its number."""
+    os.symlink("loop", "loop")
+    for name, number in (("n" * 256, errno.ENAMETOOLONG), ("loop", errno.ELOOP)):
+        for words in ("info {}", "list {}", "check {}", "extract --bundle {} ffs.adf", "blank Work {}", "mkdir --out {} ffs.adf x"):
+            ran = tried.run(*words.format(name).split())
+            tried.report.check(f"{words} of {name[:8]}", ran, 2, b"", f"cannot {'write' if 'Work' in words or '--out' in words else 'read'} '{name}': {os.strerror(number)}\n")
+    os.remove("loop")
+
+
 def denied_files(tried: Commands) -> None:
     """Files and directories that this user may not use. Root gives up its right to use them all the same."""
     front = [] if os.geteuid() else ["setpriv", "--bounding-set=-dac_override,-dac_read_search"]
@@ -1867,7 +1878,7 @@ def first_blocks_of_several(tried: Commands) -> None:
     tried.write("fronts/a.adf", front + BEHIND)
     tried.write("fronts/b.adf", front)
     tried.write("fronts/c.adf", front[:-BLOCK])
-    why = ("cannot read 'fronts/c.adf': it has fewer than 1760 blocks", "3 images: 2 ok, 0 refused, 1 unreadable")
+    why = ("cannot read 'fronts/c.adf': it has fewer than 1,760 blocks", "3 images: 2 ok, 0 refused, 1 unreadable")
     tried.rows(
         row("check --blocks of a directory", "check --blocks 1760 fronts", 2, "fronts/a.adf\tok\nfronts/b.adf\tok\n", *why),
         row("check --blocks of two files", "check --blocks 1760 fronts/a.adf fronts/b.adf", 0, "fronts/a.adf\tok\nfronts/b.adf\tok\n", "2 images: 2 ok"),
@@ -1916,9 +1927,9 @@ def wrong_first_blocks(tried: Commands) -> None:
     for command in ("info {} dump.adf", "check {} dump.adf", "list {} dump.adf", "mkdir {} dump.adf x", "extract --damaged --list {} dump.adf"):
         for number in ("", "x", "15", "101603", "+1760", "-1", "0x6e0", "1760.0", "99999999999999999999"):
             words = command.format(f"--blocks={number}")
-            tried.rows(wrong(words, words, f"'{number}' for '--blocks <N>'", "16 to 101602"))
+            tried.rows(wrong(words, words, f"'{number}' for '--blocks <N>'", "16 to 101,602"))
         tried.rows(wrong(f"twice: {command}", command.format("--blocks 1760 --blocks 1760"), "--blocks", "Usage"))
-    short = "cannot read 'dump.adf': it has fewer than 1805 blocks"
+    short = "cannot read 'dump.adf': it has fewer than 1,805 blocks"
     for command in ("info {}", "show {}", "map {}", "where {} 1", "check {}", "list {}", "print {} x", "extract {}", "undelete {}", "boot --show {}",
                     "extract --bundle x {}", "mkdir {} x", "add {} one", "boot --clear {}", "validate {}", "serve --out none.adf {} one"):
         words = command.format("--blocks 1805 dump.adf")
@@ -1940,7 +1951,7 @@ def missing_blocks(tried: Commands) -> None:
         tried.write("short.adf", front[:count])
         tried.write("full.adf", front[:count] + bytes(1760 * BLOCK - count))
         full, ran = (tried.run("extract", "--damaged", "--list", *words) for words in (["full.adf"], ["--blocks", "1760", "short.adf"]))
-        said = f"adf_serve: 'short.adf' has {count:,} of the 901,120 bytes of its 1760 blocks: missing bytes are read as zeros\n".encode()
+        said = f"adf_serve: 'short.adf' has {count:,} of the 901,120 bytes of its 1,760 blocks: missing bytes are read as zeros\n".encode()
         tried.report.same(f"--damaged --blocks of {count} bytes", ran, Ran(full.status, full.output, said + full.texts))
         tried.stays("a short file stays", "short.adf", front[:count])
     plain, ran = (tried.run("extract", "--damaged", "--list", *words, "front.adf") for words in (list[str](), ["--blocks", "1760"]))
@@ -1986,7 +1997,7 @@ PARTS: List[Callable[[Commands], None]] = [
     *(directories, directories_on_the_way, files_under_names, closed_input, images_from_input, turned_words, refused_changes, changes_beside, precious_files),
     *(named_entries, protect_words, boot_blocks),
     *(standard_boot, shown_boots, saved_boots, named_boots, boot_options),
-    *(held_images, readers_of_held_images, missing_files, denied_files, first_faults),
+    *(held_images, readers_of_held_images, missing_files, errors_of_the_host, denied_files, first_faults),
     *(accepted_images, forms_of_lists, refused_images, stale_image, refused_output),
     *(shown_volumes, refused_shows, bold_letters, sorted_lists),
     *(first_blocks, first_blocks_of_several, changed_first_blocks, wrong_first_blocks, missing_blocks),

@@ -5,7 +5,7 @@ use crate::bundle_items::{BundleBytes, bundle_items};
 use crate::bytes::VolumeBytes;
 use crate::entry::Outgoing;
 use crate::items::outgoing;
-use adf_host::{OwnedFile, PromptFiles};
+use adf_host::{HostWords, OwnedFile, PromptFiles};
 use adf_record::{Bundle, BundleFault, BundleWhy, MOST_BUNDLE_BYTES, bundle_of, bundle_text};
 use ados_volume::Volume;
 use host_trees::{WriteFault, write_tree};
@@ -24,7 +24,7 @@ pub enum BundleOutFault {
     #[error("'{0}' is not empty")]
     Full(String),
     /// The directory cannot be read.
-    #[error("cannot read '{path}': {error}")]
+    #[error("cannot read '{path}': {}", HostWords(*.error))]
     Read { path: String, error: Error },
     /// The volume has no description.
     #[error("the description of the volume {0}")]

@@ -77,7 +77,8 @@ fn tell_missing<F: Write>(path: &str, blocks: u32, filled: &Filled, faults: &mut
     print_line(
         faults,
         format_args!(
-            "adf_serve: '{path}' has {found} of the {all} bytes of its {blocks} blocks: missing bytes are read as zeros"
+            "adf_serve: '{path}' has {found} of the {all} bytes of its {} blocks: missing bytes are read as zeros",
+            Grouped(u64::from(blocks))
         ),
     );
 }

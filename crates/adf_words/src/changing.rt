@@ -9,6 +9,7 @@ use crate::dates::moment_word;
 use crate::fault::WordsFault;
 use crate::job::ImageJob;
 use crate::letters::{letters_of, protection_word};
+use adf_text::Grouped;
 use std::alloc::Global;
 
 /// The job of a command that changes a volume.
@@ -129,7 +130,7 @@ fn add_as<'a>(
             alloc,
             format_args!(
                 "error: '--as <NAME>' takes one FILE, and there are {}",
-                files.len()
+                Grouped(files.len() as u64)
             ),
         ));
     };
