@@ -34,7 +34,7 @@ COMMANDS = "blank info show map where check list print extract undelete add mkdi
 ON_IMAGES = [
     *("print IMAGE x", "extract IMAGE", "add IMAGE x", "mkdir IMAGE x", "delete IMAGE x", "rename IMAGE x y"),
     *("protect IMAGE x rwed", "date IMAGE x now", "comment IMAGE x y", "relabel IMAGE x", "boot IMAGE"),
-    *("boot --clear IMAGE", "boot --install IMAGE"),
+    *("boot --clear IMAGE", "boot --install IMAGE", "map IMAGE", "map --json IMAGE", "info --json IMAGE", "where --path x --json IMAGE"),
 ]
 # The commands that read the two boot blocks of any file.
 ON_BOOT_BLOCKS = ["boot --show IMAGE", "boot --save none.bin IMAGE"]
@@ -1163,7 +1163,11 @@ def standard_boot(tried: Commands) -> None:
 def shown_boots(tried: Commands) -> None:
     """`boot --show`: what a boot block is, and its bytes."""
     blank = tried.content("boots.adf")
-    tried.rows(row("boot --show of a blank image", "boot --show boots.adf", 0, BLANK_SHOWN))
+    none = json.dumps({"boot": "none", "bytes": (b"DOS\1" + bytes(1020)).hex()}, separators=(",", ":")) + "\n"
+    tried.rows(
+        row("boot --show of a blank image", "boot --show boots.adf", 0, BLANK_SHOWN),
+        row("boot --show --json of a blank image", "boot --json --show boots.adf", 0, none),
+    )
     full = bytes(range(256)) * 4
     own = boot_with(b"DOS\1", ROOT_OF_FLOPPY + b"\x4e\x75 text ~\x7f\x1f\xff")
     wrong_sum = "custom, checksum wrong: not bootable"
@@ -1185,7 +1189,12 @@ def shown_boots(tried: Commands) -> None:
         blocks = blocks.ljust(2 * BLOCK, b"\0")
         image = blocks + blank[2 * BLOCK :]
         tried.write("shown.adf", image)
-        tried.rows(row(f"boot --show of {name}", "boot --show shown.adf", 0, boot_shown(said, blocks)))
+        word = "standard" if said == "standard" else "wrong" if said == wrong_sum else "custom"
+        shown = json.dumps({"boot": word, "bytes": blocks.hex()}, separators=(",", ":")) + "\n"
+        tried.rows(
+            row(f"boot --show of {name}", "boot --show shown.adf", 0, boot_shown(said, blocks)),
+            row(f"boot --show --json of {name}", "boot --show --json shown.adf", 0, shown),
+        )
         booting = tried.run("info", "shown.adf").output.endswith(b"boot yes\n")
         tried.report.same(f"info of {name}", booting, said != wrong_sum)
         tried.stays(f"boot --show of {name} changes nothing", "shown.adf", image)
@@ -1270,6 +1279,7 @@ def boot_options(tried: Commands) -> None:
         wrong("boot --save without a file", "boot none.adf --save", "--save", "FILE"),
         wrong("boot --save without an image", "boot --save x", "IMAGE", "Usage"),
         wrong("boot --show without an image", "boot --show", "IMAGE", "Usage"),
+        wrong("boot --json without --show", "boot --json none.adf", "--show", "Usage"),
         wrong("boot --install with a date that is none", "boot --install --date x none.adf", "'x' for '--date"),
         wrong("boot --show with a number that is none", "boot --show --ticks x none.adf", "'x' for '--ticks"),
     )
@@ -1442,6 +1452,13 @@ LISTED_DATES = """Volume Work
 """
 
 
+def info_object(told: str) -> str:
+    """The object for the lines of `info`."""
+    state, blocks, used, size, kind = told.split()[2:7]
+    numbers = {"state": int(state), "blocks": int(blocks), "used": int(used), "bytes_per_block": int(size), "disk_type": int(kind, 16)}
+    return json.dumps({**numbers, "bootable": told.endswith("boot yes\n")}, separators=(",", ":")) + "\n"
+
+
 def accepted_images(tried: Commands) -> None:
     """The output of `check`, `info` and `list` for each. No command changes its image."""
     blank = tried.content("ffs.adf")
@@ -1451,6 +1468,7 @@ def accepted_images(tried: Commands) -> None:
         tried.rows(
             row(f"{name}: check", "check drawn.adf", 0, checked),
             row(f"{name}: info", "info drawn.adf", 0, told),
+            row(f"{name}: info --json", "info --json drawn.adf", 0, info_object(told)),
             row(f"{name}: list", "list drawn.adf", 0, "Volume Work\n"),
         )
         tried.stays(f"{name}: unchanged", "drawn.adf", image)
@@ -1578,9 +1596,10 @@ def refused_images(tried: Commands) -> None:
         for words in ("check IMAGE", "info IMAGE", "list IMAGE", *ON_IMAGES):
             tried.rows(row(f"{words.split()[0]} of {name}", words.replace("IMAGE", name), 3, refusal(words, told), *texts))
         if name not in ("marked.adf", "page.adf"):
-            tried.rows(row(f"validate of {name}", ["validate", name], 3, refused, *texts))
+            tried.rows(*(row(f"{it} of {name}", f"{it} {name}", 3, refusal(it, told), *texts) for it in ("validate", "validate --json")))
         if len(image) < 2 * BLOCK:
-            tried.rows(*(row(f"{it} of {name}", it.replace("IMAGE", name), 3, refused, *texts) for it in ON_BOOT_BLOCKS))
+            for words in (*ON_BOOT_BLOCKS, "boot --show --json IMAGE", "undelete --list --json IMAGE"):
+                tried.rows(row(f"{words} of {name}", words.replace("IMAGE", name), 3, refusal(words, told), *texts))
             tried.absent("a file without two blocks saves no boot block", "none.bin")
         else:
             show, save = (it.replace("IMAGE", name) for it in ON_BOOT_BLOCKS)

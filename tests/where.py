@@ -355,6 +355,8 @@ def fault_of_blocks(room: Room, name: str, chance: random.Random, most: int = 9_
         path = "" if key == image.root else image.path(key)
         if not {"\0"} & set(path):
             fault = fault or fault_of(room.run("where", f"--path={path}", name), 0, ranges_of(image.own[key]))
+            ran = room.run("where", "--json", f"--path={path}", name)
+            fault = fault or fault_of(ran, 0, None) or fault_of_json(ran.output, {"blocks": sorted(image.own[key])})
     return fault or (None if room.content(name) == data else "the image changed")
 
 
@@ -485,6 +487,7 @@ def other_images(room: Room) -> None:
     room.report.check("where --json of no such block", room.run("where", "--json", "bad.adf", "16"), 3, told + end, "'bad.adf' has no block 16", "its checksum is wrong")
     room.report.check("where --json in no image", room.run("where", "--json", "short.adf", "8"), 3, size, "100 bytes")
     room.report.check("a path in a refused image", room.run("where", "--path", "", "bad.adf"), 3, b"refused BadSum 8\n", "its checksum is wrong")
+    room.report.check("a path in a refused image, as JSON", room.run("where", "--path", "", "--json", "bad.adf"), 3, told + end, "its checksum is wrong")
     room.report.check("where in no image", room.run("where", "short.adf", "8"), 3, b"refused NotWholeBlocks 0\n", "100 bytes")
     room.report.check("where in no file", room.run("where", "none.adf", "8"), 2, b"", "none.adf")
     room.report.check("no argument", room.run("map"), 1, b"", "IMAGE")

@@ -2,6 +2,7 @@
 //! and members of JSON objects.
 #![tactic(auto)]
 
+mod boot_json;
 mod bundle;
 mod bundle_contents;
 mod bundle_fault;
@@ -23,6 +24,7 @@ mod shown;
 mod told;
 mod words;
 
+pub use boot_json::boot_object;
 pub use bundle::{Bundle, BundleEntry, BundleHead};
 pub use bundle_contents::{contents_of, same_contents};
 pub use bundle_fault::{BundleFault, BundleWhy};

@@ -44,7 +44,8 @@ use Rattle.adf_rescue.specs.declared.undeleting.Undeletion.{Undeletion}
 use Rattle.adf_rescue.specs.Undelete.{IsUndeletion, key_of}
 use Rattle.adf_block.specs.Image.{block_count}
 use Rattle.adf_where.specs.Faulty.{IsFaultyWhere}
-use Rattle.adf_where.specs.Where.{IsWhere, IsWhereFault, IsWhereOf, LeavesWhere}
+use Rattle.adf_where.specs.Own.{IsWhereOf}
+use Rattle.adf_where.specs.Where.{IsWhere, IsWhereFault, LeavesWhere}
 use Rattle.adf_where.specs.declared.where_fault.WhereFault.{WhereFault}
 use Rattle.adf_where.specs.declared.where_fault.WhereFault.TheVariants as places
 use Rattle.adf_words.specs.declared.block_word.BlockWord.{BlockWord}
@@ -131,9 +132,9 @@ accepted_tree image false checked a = (a.3.0, a.3.1)
 accepted_tree image true checked a = (a.2.0, a.2.1)
 
 -- the answer of DISK_INFO for the tree of the image, printed
-pub info_told : (image : List ℕ) (answer : Answer) (last shown : List ℕ) → AnswersDisk image answer last → shown ≡ last → IsInfoText image (info_text answer shown)
-info_told image answer last shown (was_validated, checked, t, accepted, stands, (same, is)) shown_is =
-    (was_validated, checked, t, accepted, stands, ap₂ info_text is (shown_is ∙ same))
+pub info_told : (json : Bool) (image : List ℕ) (answer : Answer) (last shown : List ℕ) → AnswersDisk image answer last → shown ≡ last → IsInfoText json image (info_text json answer shown)
+info_told json image answer last shown (was_validated, checked, t, accepted, stands, (same, is)) shown_is =
+    (was_validated, checked, t, accepted, stands, ap₂ (info_text json) is (shown_is ∙ same))
 
 -- the list that a job asks for, and the beginning of one
 module _ (image : List ℕ) (job : ListJob) (styled : Bool) (form : ListForm) (same : form ≡ shown_form styled job.form) (old new : Option (List ℕ)) where
@@ -195,9 +196,9 @@ module _ (image : List ℕ) (was_validated : Bool) (checked : List ℕ) (a : Acc
         go places.Memory left = some (accepted_tree image was_validated checked a).0 (accepted_tree image was_validated checked a).1 left
         go places.Output left = some (accepted_tree image was_validated checked a).0 (accepted_tree image was_validated checked a).1 left
 
-  pub entry_told : (word : List ℕ) (key : ℕ) (text : List ℕ) → ((t : Tree) → Stands checked t → LeadsTo t word key) → ((t : Tree) → Stands checked t → IsWhereOf checked t key text)
-      → AreEntryBlocks word image text
-  entry_told word key text leads is =
+  pub entry_told : (json : Bool) (word : List ℕ) (key : ℕ) (text : List ℕ) → ((t : Tree) → Stands checked t → LeadsTo t word key) → ((t : Tree) → Stands checked t → IsWhereOf json checked t key text)
+      → AreEntryBlocks json word image text
+  entry_told json word key text leads is =
       let s = accepted_tree image was_validated checked a in (was_validated, checked, s.0, a, s.1, (key, leads s.0 s.1, is s.0 s.1))
 
   pub print_fault : (word : List ℕ) (old new : Option (List ℕ)) (fault : OutFault) (told : CommandFault) → ((t : Tree) → Stands checked t → IsPrintFault t word old new fault)
@@ -212,15 +213,15 @@ module _ (image : List ℕ) (was_validated : Bool) (checked : List ℕ) (a : Acc
       let s = accepted_tree image was_validated checked a in
       leaves_kept (IsPrintText word image) image old new told plain (h s.0 s.1).0
 
--- the lines of an undeletion are those of its image
-pub deleted_told : (image : List ℕ) (job : UndeleteJob) (done : Undeletion) → IsUndeletion image (map (λ word. key_of word.now) job.paths.items) job.force done → AreDeletedLines job image done.text.items
+-- what is told of an undeletion is that of its image
+pub deleted_told : (image : List ℕ) (job : UndeleteJob) (done : Undeletion) → IsUndeletion image (map (λ word. key_of word.now) job.paths.items) job.force job.json done → AreDeletedLines job image done.text.items
 deleted_told image job done is = record {
   trusted = is.trusted;
   found = done.found;
   undeleted = is.found;
   chosen = done.chosen.items;
   are_chosen = is.chosen;
-  lines = is.text;
+  text_is = is.text;
 }
 
 -- output after no output

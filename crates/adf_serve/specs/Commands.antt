@@ -3,7 +3,7 @@ use Rattle.std.specs.Prelude.{◌≡◌, ◌⊎◌, ⊤, ℕ, Bool, true, false,
 use Rattle.std.specs.Io.KnownBytes.{Keeps}
 use Rattle.adf_io.specs.Prefix.{Writes, WritesFrontOf}
 use Rattle.adf_words.specs.declared.job.ImageJob.{ImageJob}
-use Rattle.adf_words.specs.declared.job.ImageJob.TheVariants.{AddBundle, Check, Extract, ExtractBundle, Change, Boot, List as ListOf, Map, SaveBoot, Salvage, Serve, Show, Where}
+use Rattle.adf_words.specs.declared.job.ImageJob.TheVariants.{AddBundle, Check, Extract, ExtractBundle, Change, Boot, Info, List as ListOf, Map, SaveBoot, Salvage, Serve, Show, ShowBoot, Undelete, Validate, Where, WherePath}
 use Rattle.adf_words.specs.declared.map_form.MapForm.{MapForm}
 use Rattle.adf_words.specs.declared.map_form.MapForm.TheVariants as maps
 use Rattle.adf_words.specs.declared.query.ListForm.{ListForm}
@@ -50,9 +50,14 @@ is_json_map maps.Json = true
 is_json_map form = false
 
 abbrev pub prints_json : ImageJob → Bool
+prints_json (Info file json) = json
 prints_json (Show image json) = json
 prints_json (Map image form) = is_json_map form
 prints_json (Where job) = job.json
+prints_json (WherePath image path json) = json
+prints_json (ShowBoot image json) = json
+prints_json (Validate target force json) = json
+prints_json (Undelete job) = job.json
 prints_json (ListOf job) = is_json_list job.form
 prints_json (Check job) = job.json
 prints_json (Salvage job) = job.json

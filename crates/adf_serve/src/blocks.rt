@@ -122,12 +122,13 @@ pub(crate) fn tell_entry<'a, W: Write>(
     alloc: Global,
     image: Image,
     path: &'a str,
+    json: bool,
     writer: &mut W,
 ) -> Result<(), CommandFault<'a>>
-    ensures { TellsOf (AreEntryBlocks path.now) (AreEntryBlocks path.now) image (W.contents writer.old) (W.contents writer.new) result }
+    ensures { TellsOf (AreEntryBlocks json path.now) (AreEntryBlocks json path.now) image (W.contents writer.old) (W.contents writer.new) result }
 {
     let mut volume = accept(alloc, image)?;
     let key = listed_object(alloc, &mut volume, Some(path))?;
-    let text = where_path_text(alloc, &volume, key)?;
+    let text = where_path_text(alloc, &volume, key, json)?;
     tell(writer, &text)
 }

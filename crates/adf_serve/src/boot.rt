@@ -1,11 +1,11 @@
 //! The command `boot`, and the boot block of any image.
 ghost use Rattle.std.specs.Prelude.{IfErr, IfOk};
 ghost use Rattle.adf_block.specs.BootCode.{boot_bytes};
-ghost use Rattle.adf_block.specs.BootText.{IsBootText};
 ghost use Rattle.adf_io.specs.Front.{ReadsUpTo};
 ghost use Rattle.adf_serve.specs.Boot.{PutsBoot, PutsFile};
 ghost use Rattle.adf_serve.specs.Commands.{TellsSome};
 ghost use Rattle.adf_serve.specs.Faults.{IsNoImage};
+ghost use Rattle.adf_serve.specs.Texts.{IsBootForm};
 
 use crate::fault::CommandFault;
 use crate::images::{Work, accept, unread};
@@ -17,10 +17,11 @@ use adf_block::{
 };
 use adf_host::{PromptFiles, input_path, refuse_length, why_unreadable};
 use adf_io::{LoadFault, read_bounded};
+use adf_record::boot_object;
 use adf_text::print_line;
 use adf_words::{BootBlock, ImageFile, Rewrite};
 use host_trees::{WriteFault, WriteWhy};
-use std::alloc::Global;
+use std::alloc::{AllocError, Global};
 use std::fs::{self, File, OpenFile};
 use std::io::{Error, ErrorKind, Read, Write};
 use std::rt::{Clock, Files};
@@ -110,18 +111,30 @@ fn read_code<'a, R: Files>(
     }
 }
 
-/// Prints what the boot block of a file is, and its bytes. The file may be any that has two blocks.
+/// Prints what the boot block of a file is, and its bytes, with `json` as a JSON object. The file may be any that has two blocks.
 pub(crate) fn show_boot<'a, R: Files, W: Write>(
     rt: &R,
     alloc: Global,
     file: ImageFile<'a>,
+    json: bool,
     writer: &mut W,
 ) -> Result<(), CommandFault<'a>>
-    ensures { TellsSome IsBootText IsBootText (W.contents writer.old) (W.contents writer.new) result }
+    ensures { TellsSome (IsBootForm json) (IsBootForm json) (W.contents writer.old) (W.contents writer.new) result }
 {
     let image = read_boot(rt, alloc, file)?;
-    let text = boot_text(alloc, &image)?;
+    let text = form_text(alloc, &image, json)?;
     tell(writer, &text)
+}
+
+/// What the boot block of an image is, and its bytes, in one of the forms.
+fn form_text(alloc: Global, image: &Image, json: bool) -> Result<Vec<u8>, AllocError>
+    ensures { IfOk result (λ text. IsBootForm json image.now text.items) }
+{
+    if json {
+        boot_object(alloc, image)
+    } else {
+        boot_text(alloc, image)
+    }
 }
 
 /// The boot block of a file, as that of the smallest image. A file without two blocks is refused for its size.

@@ -47,12 +47,14 @@ where
             let new = NewVolume { format: *format, blocks: *blocks, moment: *moment, name: *name, letters: *letters };
             make_blank(rt, alloc, new, *file, faults)
         }
-        ImageJob::Info { file } => print_query(rt, alloc, *file, Query::Disk, screen.styled, writer),
+        ImageJob::Info { file, json } => print_query(rt, alloc, *file, Query::Disk { json: *json }, screen.styled, writer),
         ImageJob::Show { image, json } => print_query(rt, alloc, *image, Query::Look { json: *json }, screen.styled, writer),
         ImageJob::Map { image, form } => tell_map(rt, alloc, *image, *form, writer, faults),
         ImageJob::Where(job) => tell_where(rt, alloc, job, writer, faults),
-        ImageJob::WherePath { image, path } => print_query(rt, alloc, *image, Query::Entry(*path), screen.styled, writer),
-        ImageJob::ShowBoot { image } => show_boot(rt, alloc, *image, writer),
+        ImageJob::WherePath { image, path, json } => {
+            print_query(rt, alloc, *image, Query::Entry { path: *path, json: *json }, screen.styled, writer)
+        }
+        ImageJob::ShowBoot { image, json } => show_boot(rt, alloc, *image, *json, writer),
         ImageJob::List(job) => print_query(rt, alloc, job.image, Query::List(job), screen.styled, writer),
         ImageJob::Print { image, path } => print_query(rt, alloc, *image, Query::Bytes(*path), screen.styled, writer),
         ImageJob::Check(job) => match check_archive(rt, alloc, job, screen.progress, writer, faults) {
@@ -65,7 +67,7 @@ where
         ImageJob::Salvage(job) => take_rescue(rt, alloc, job, writer, faults),
         ImageJob::Undelete(job) => print_query(rt, alloc, job.image, Query::Deleted(job), screen.styled, writer),
         ImageJob::Change(job) => change(rt, alloc, job, faults),
-        ImageJob::Validate { target, force } => validate_file(rt, alloc, *target, *force, writer),
+        ImageJob::Validate { target, force, json } => validate_file(rt, alloc, *target, *force, *json, writer),
         ImageJob::Boot { target, block } => change_boot(rt, alloc, *target, *block),
         ImageJob::SaveBoot { image, file } => save_boot(rt, alloc, *image, *file),
         ImageJob::Serve(job) => serve(rt, alloc, job, writer, faults),

@@ -9,12 +9,17 @@ pub(crate) fn prints_json(job: &ImageJob<'_>) -> bool
     ensures { result ≡ prints_json job.now }
 {
     match job {
-        ImageJob::Show { json, .. } => *json,
+        ImageJob::Info { json, .. }
+        | ImageJob::Show { json, .. }
+        | ImageJob::WherePath { json, .. }
+        | ImageJob::ShowBoot { json, .. }
+        | ImageJob::Validate { json, .. } => *json,
         ImageJob::Map { form, .. } => is_json_map(*form),
         ImageJob::Where(job) => job.json,
         ImageJob::List(job) => is_json_list(job.form),
         ImageJob::Check(job) => job.json,
         ImageJob::Salvage(job) => job.json,
+        ImageJob::Undelete(job) => job.json,
         _ => false,
     }
 }

@@ -17,6 +17,7 @@ mod faulty_text;
 mod faulty_where;
 mod forms;
 mod own_blocks;
+mod own_object;
 mod owned;
 mod places;
 mod refused;

@@ -26,7 +26,10 @@ pub(crate) fn boot_job<'a>(arguments: &Arguments<'a, '_>) -> Result<ImageJob<'a>
     let target = arguments.target()?;
     let image = target.image;
     if arguments.flag("show") {
-        return Ok(ImageJob::ShowBoot { image });
+        return Ok(ImageJob::ShowBoot {
+            image,
+            json: arguments.flag("json"),
+        });
     }
     if let Some(file) = arguments.given("save") {
         return Ok(ImageJob::SaveBoot { image, file });

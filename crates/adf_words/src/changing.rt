@@ -45,6 +45,7 @@ pub(crate) fn validate_job<'a>(arguments: &Arguments<'a, '_>) -> Result<ImageJob
     Ok(ImageJob::Validate {
         target: arguments.target()?,
         force: arguments.flag("force"),
+        json: arguments.flag("json"),
     })
 }
 

@@ -1,13 +1,14 @@
 //! From the arguments of a command that reads an image to its job.
 ghost use Rattle.std.specs.Prelude.{◌≡◌, IfErr, IfOk};
 ghost use Rattle.clap.specs.Matches.{found_of};
-ghost use Rattle.adf_words.specs.Asked.{IsExtractOf, IsMapOf, IsShowOf, IsUndeleteOf, IsWhereOf};
+ghost use Rattle.adf_words.specs.Asked.{IsExtractOf, IsInfoOf, IsMapOf, IsShowOf, IsUndeleteOf, IsWhereOf};
 ghost use Rattle.adf_words.specs.Lists.{form_of, IsFormOf, IsOrderOf, TellsNoOrder, order_word, usual_order};
 ghost use Rattle.adf_words.specs.Maps.{IsMapFormOf, map_form_of};
 
 use crate::arguments::Arguments;
 use crate::block_word::asked_blocks;
 use crate::fault::WordsFault;
+use crate::image_file::ImageFile;
 use crate::job::ImageJob;
 use crate::letters::letters_of;
 use crate::map_form::MapForm;
@@ -86,6 +87,19 @@ fn order_of(alloc: Global, word: &str) -> Result<ListOrder, WordsFault>
     }
 }
 
+/// The job of `info`.
+pub(crate) fn info_job<'a>(arguments: &Arguments<'a, '_>) -> Result<ImageJob<'a>, WordsFault>
+    ensures { IfOk result (IsInfoOf (found_of arguments.now.words.now)) }
+{
+    Ok(ImageJob::Info {
+        file: ImageFile {
+            path: arguments.word("FILE")?,
+            blocks: arguments.first_blocks()?,
+        },
+        json: arguments.flag("json"),
+    })
+}
+
 /// The job of `show`.
 pub(crate) fn show_job<'a>(arguments: &Arguments<'a, '_>) -> Result<ImageJob<'a>, WordsFault>
     ensures { IfOk result (IsShowOf (found_of arguments.now.words.now)) }
@@ -129,16 +143,16 @@ fn map_form_of(tracks: bool, json: bool) -> MapForm
 pub(crate) fn where_job<'a>(arguments: &Arguments<'a, '_>) -> Result<ImageJob<'a>, WordsFault>
     ensures { IfOk result (IsWhereOf (found_of arguments.now.words.now)) }
 {
-    let image = arguments.image()?;
+    let (image, json) = (arguments.image()?, arguments.flag("json"));
     if let Some(path) = arguments.given("path") {
         let path = letters_of(arguments.alloc, path)?;
-        return Ok(ImageJob::WherePath { image, path });
+        return Ok(ImageJob::WherePath { image, path, json });
     }
     let words = arguments.some_words("BLOCK")?;
     Ok(ImageJob::Where(WhereJob {
         image,
         blocks: asked_blocks(arguments.alloc, words)?,
-        json: arguments.flag("json"),
+        json,
     }))
 }
 
@@ -198,6 +212,7 @@ pub(crate) fn undelete_job<'a>(arguments: &Arguments<'a, '_>) -> Result<ImageJob
         image: arguments.image()?,
         paths: arguments.paths()?,
         list: arguments.flag("list"),
+        json: arguments.flag("json"),
         to: arguments.given("to").unwrap_or("."),
         meta: arguments.flag("meta"),
         force: arguments.flag("force"),
