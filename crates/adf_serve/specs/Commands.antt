@@ -1,15 +1,16 @@
 -- How a command ends, by the bytes of the image that it reads and by its output.
-use Rattle.std.specs.Prelude.{◌≡◌, ◌⊎◌, ⊤, ℕ, List, Option, Some, Result, Ok, Err, MatchOption, MatchResult}
+use Rattle.std.specs.Prelude.{◌≡◌, ◌≢◌, ◌⊎◌, ⊤, codes, ℕ, List, Option, Some, Result, Ok, Err, MatchOption, MatchResult}
 use Rattle.std.specs.Io.KnownBytes.{Keeps}
 use Rattle.adf_io.specs.Prefix.{Writes, WritesFrontOf}
 use Rattle.adf_words.specs.declared.job.ImageJob.{ImageJob}
-use Rattle.adf_words.specs.declared.job.ImageJob.TheVariants.{AddBundle, Check, Extract, ExtractBundle, Change, Boot, SaveBoot, Salvage, Serve, Where}
+use Rattle.adf_words.specs.declared.job.ImageJob.TheVariants.{AddBundle, Blank, Check, Extract, ExtractBundle, Change, Boot, SaveBoot, Salvage, Serve, Where}
 use Rattle.adf_words.specs.declared.query.CheckJob.{CheckJob}
 use Rattle.adf_words.specs.declared.query.SalvageJob.{SalvageJob}
 use Rattle.adf_words.specs.declared.query.WhereJob.{WhereJob}
 use Rattle.adf_serve.specs.declared.fault.CommandFault.{CommandFault}
 use Rattle.adf_serve.specs.declared.fault.CommandFault.TheVariants.{Dos, Refused}
 use Rattle.adf_serve.specs.Archives.{EndsArchive}
+use Rattle.adf_serve.specs.NewImages.{PutsImage, StartsWithImage, out_of}
 use Rattle.adf_serve.specs.Placed.{DoesWhere, TellsWhere}
 use Rattle.adf_serve.specs.Rescues.{DoesRescue, TellsRescue}
 use Rattle.adf_serve.specs.Texts.{BeginsJobText, IsJobText}
@@ -35,10 +36,11 @@ TellsOf IsText BeginsText bytes old new result =
 abbrev pub TellsSome : (IsText BeginsText : List ℕ → List ℕ → Type 0) → Option (List ℕ) → Option (List ℕ) → Ending → Type 0
 TellsSome IsText BeginsText old new result = (bytes : List ℕ) × TellsOf IsText BeginsText bytes old new result
 
--- the kind of a job's output: only the line of its fault; a text for the bytes of its file; the reports on checked
--- images; the report on a rescue; what is told of blocks; or output without a promise
+-- the kind of a job's output: only the line of its fault; the image that it makes, if this is its file and `-`; a text for the
+-- bytes of its file; the reports on checked images; the report on a rescue; what is told of blocks; or output without a promise
 pub data Prints : Type 0 where
   OnlyFaults : Prints
+  OfNewImage : Option (List ℕ) → Prints
   OfBytes : Prints
   OfImages : CheckJob → Prints
   OfRescue : SalvageJob → Prints
@@ -51,9 +53,10 @@ prints (Salvage job) = OfRescue job
 prints (Where job) = OfBlocks job
 prints (Extract job) = OnlyFaults
 prints (ExtractBundle image to) = OnlyFaults
-prints (AddBundle target from) = OnlyFaults
-prints (Change job) = OnlyFaults
-prints (Boot target block) = OnlyFaults
+prints (Blank format blocks moment name letters file) = OfNewImage (Some file.now)
+prints (AddBundle target from) = OfNewImage (out_of target)
+prints (Change job) = OfNewImage (out_of job.target)
+prints (Boot target block) = OfNewImage (out_of target)
 prints (SaveBoot image file) = OnlyFaults
 prints (Serve job) = Unsaid
 prints job = OfBytes
@@ -61,6 +64,7 @@ prints job = OfBytes
 -- the result of such a job before a refusal is printed
 abbrev pub Does : Prints → (IsText BeginsText : List ℕ → List ℕ → Type 0) → Option (List ℕ) → Option (List ℕ) → Ending → Type 0
 Does OnlyFaults IsText BeginsText old new result = Keeps old new
+Does (OfNewImage file) IsText BeginsText old new result = PutsImage file old new result
 Does OfBytes IsText BeginsText old new result = TellsSome IsText BeginsText old new result
 Does (OfImages job) IsText BeginsText old new result = EndsArchive job old new result
 Does (OfRescue job) IsText BeginsText old new result = DoesRescue job old new result
@@ -87,6 +91,12 @@ TellsFault old new (Ok done) = Keeps old new
 TellsFault old new (Err fault) =
     MatchOption (told_line fault) (Keeps old new ⊎ WritesFrontOf old new IsToldLine) (λ line. Writes old new (λ text. text ≡ line))
 
+-- a job whose only output is the image that it makes or the line of its fault, or a prefix of these
+abbrev pub TellsImage : Option (List ℕ) → Option (List ℕ) → Ending → Type 0
+TellsImage old new (Ok done) = Writes old new StartsWithImage
+TellsImage old new (Err fault) =
+    MatchOption (told_line fault) (Keeps old new ⊎ WritesFrontOf old new (λ text. StartsWithImage text ⊎ IsToldLine text)) (λ line. Writes old new (λ text. text ≡ line))
+
 -- a text for the bytes, their refusal, or the output before a fault
 abbrev pub EndsSome : (IsText BeginsText : List ℕ → List ℕ → Type 0) → Option (List ℕ) → Option (List ℕ) → Ending → Type 0
 EndsSome IsText BeginsText old new result =
@@ -95,6 +105,8 @@ EndsSome IsText BeginsText old new result =
 -- the result of a job with this kind of output
 abbrev pub Tells : Prints → (IsText BeginsText : List ℕ → List ℕ → Type 0) → Option (List ℕ) → Option (List ℕ) → Ending → Type 0
 Tells OnlyFaults IsText BeginsText old new result = TellsFault old new result
+Tells (OfNewImage file) IsText BeginsText old new result =
+    (file ≡ Some (codes "-") → TellsImage old new result) × (file ≢ Some (codes "-") → TellsFault old new result)
 Tells OfBytes IsText BeginsText old new result = EndsSome IsText BeginsText old new result
 Tells (OfImages job) IsText BeginsText old new result = EndsArchive job old new result
 Tells (OfRescue job) IsText BeginsText old new result = TellsRescue job old new result

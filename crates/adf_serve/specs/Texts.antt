@@ -116,7 +116,7 @@ abbrev pub BeginsQueryText : Query → List ℕ → List ℕ → Type 0
 BeginsQueryText (queries.List job) = BeginsListOf job.now
 BeginsQueryText query = IsQueryText query
 
--- the output of a command for the bytes that it reads, and its beginning; `blank` has none
+-- the output of a command for the bytes that it reads, and its beginning
 abbrev pub IsJobText : ImageJob → List ℕ → List ℕ → Type 0
 IsJobText (Info file) = IsInfoText
 IsJobText (ListOf job) = IsListOf job

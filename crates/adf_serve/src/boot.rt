@@ -1,5 +1,6 @@
 //! The command `boot`, where it changes an image or saves a boot block.
 ghost use Rattle.adf_serve.specs.Boot.{PutsBoot, PutsFile};
+ghost use Rattle.adf_serve.specs.NewImages.{PutsImage, out_of};
 
 use crate::fault::CommandFault;
 use crate::images::{Work, accept, open_volume};
@@ -18,16 +19,19 @@ use std::rt::{Clock, Files};
 const BOOT_BYTES: usize = 1_024;
 
 /// Installs a boot block in an image file that is accepted, or removes it.
-pub(crate) fn change_boot<'a, R: Files<File = File> + PromptFiles + Clock>(
+pub(crate) fn change_boot<'a, R: Files<File = File> + PromptFiles + Clock, W: Write>(
     rt: &R,
     alloc: Global,
     target: Rewrite<'a>,
     block: BootBlock<'a>,
-) -> Result<(), CommandFault<'a>> {
+    writer: &mut W,
+) -> Result<(), CommandFault<'a>>
+    ensures { PutsImage (out_of target.entry) (W.contents writer.old) (W.contents writer.new) result }
+{
     let (work, mut image) = Work::begin(rt, alloc, target)?;
     accept_copy(alloc, &image)?;
     put_boot(rt, alloc, &mut image, block)?;
-    work.end(rt, alloc, &image)
+    work.put(rt, alloc, &image, writer)
 }
 
 /// Checks that an image is accepted. It checks a copy, because the check may rebuild the bitmap, and a boot block
