@@ -900,6 +900,54 @@ def images_from_input(tried: Commands) -> None:
     tried.write("-", image)
     tried.rows(row("a file of that name", "check ./-", 0, "ok\n"))
     tried.report.check("not the file of that name", tried.run("check", "-", input=bytes(512)), 3, b"refused TooFewBlocks 0\n", "its bytes are too few")
+    tried.report.check("both", tried.run("check", "-", "./-", input=image), 0, b"-\tok\n./-\tok\n", "2 images: 2 ok")
+    for words in ("check - -", "check ./- - piped.adf -"):
+        tried.report.check(f"standard input twice: {words}", tried.run(*words.split(), input=image), 1, b"", "FILE '-' is standard input", "only once")
+    os.remove("-")
+
+
+# Changes of a volume with a directory `d`, with the option for the changed image.
+TO_OUTPUT = [
+    *("add TO IMAGE f", "add --as g TO IMAGE f", "mkdir TO IMAGE e", "delete TO IMAGE d", "rename TO IMAGE d e", "protect TO IMAGE d rwed"),
+    *("date TO IMAGE d 1990-01-01", "comment TO IMAGE d x", "relabel TO IMAGE New", "boot TO --install IMAGE", "boot TO --clear IMAGE", "boot TO IMAGE f"),
+]
+
+
+def images_to_output(tried: Commands) -> None:
+    """`-` is standard output as the file for an image, for the commands that print nothing else; `./-` is a file."""
+    tried.write("f", b"bytes")
+    tried.rows(row("an image", "blank --ffs Work made.adf"), row("with a directory", f"mkdir {AT} made.adf d"))
+    blank, image = tried.run("blank", "--ffs", "Work", "-"), tried.content("made.adf")
+    tried.rows(row("the same image", "blank --ffs Work same.adf"))
+    tried.report.check("blank to standard output", blank, 0, tried.content("same.adf"))
+    for words in TO_OUTPUT:
+        given = words.replace("IMAGE", "made.adf")
+        wanted = tried.run(*given.replace("TO", f"{AT} --out new.adf").split())
+        ran = tried.run(*given.replace("TO", f"{AT} --out -").split())
+        tried.report.expect(f"a file for {words}", wanted.status == 0, wanted)
+        tried.report.check(f"{words} to standard output", ran, 0, tried.content("new.adf"))
+    tried.report.same("the image of a pipe", tried.run("list", "-", input=tried.run("mkdir", "--out", "-", *AT.split(), "same.adf", "d").output).output, tried.run("list", "made.adf").output)
+    tried.write("long.adf", image + b"more")
+    ran = tried.run("mkdir", "--blocks", "1760", "--out", "-", *AT.split(), "long.adf", "e")
+    tried.report.expect("what is behind the image goes with it", ran.status == 0 and len(ran.output) == len(image) + 4 and ran.output.endswith(b"more"), ran.texts)
+    tried.rows(
+        row("a refused change prints no image", "delete --out - made.adf none", 3, "refused 205 none\n", "object not found"),
+        row("a refused image prints no image", "mkdir --out - f d", 3, NOT_BLOCKS, "5" + WHY_NOT_BLOCKS),
+        wrong("validate --out -", "validate --out - made.adf", "'--out -' is standard output", "'./-'"),
+        wrong("serve --out -", "serve --out - made.adf f", "'--out -' is standard output", "'./-'"),
+    )
+    full = os.open("/dev/full", os.O_WRONLY)
+    for words in ("blank Work -", "mkdir --out - made.adf e"):
+        tried.report.check(f"{words}: an output that is full", tried.run(*words.split(), before=redirected(full, 1)), 2, b"", UNWRITTEN)
+    os.close(full)
+    tried.absent("no file of that name", "-")
+    tried.stays("the image is as it was", "made.adf", image)
+    tried.rows(row("a file of that name", "blank --ffs Work ./-"), row("a change of it", f"mkdir {AT} ./- d"))
+    tried.stays("it has the bytes of any other", "-", image)
+    for words in [it.replace(" TO", "") for it in TO_OUTPUT] + ["validate IMAGE"]:
+        ran = tried.run(*words.replace("IMAGE", "-").split(), input=image)
+        tried.report.check(f"{words}: standard input is not changed", ran, 1, b"", "IMAGE '-' is standard input", "'./-'")
+    tried.stays("and the file of that name neither", "-", image)
     os.remove("-")
 
 
@@ -2013,7 +2061,7 @@ PARTS: List[Callable[[Commands], None]] = [
     *(blank_images, moments, written_moments, wrong_words, wrong_numbers, wrong_dates),
     *(wrong_words_for_files, words_too_many_and_wrong_letters, refused_names),
     *(tips, help_in_groups, versions, usage_lines, clients, faulty_scripts, explained_lines, at_a_terminal, turns, growths, many_clients),
-    *(directories, directories_on_the_way, files_under_names, closed_input, images_from_input, turned_words, refused_changes, changes_beside, precious_files),
+    *(directories, directories_on_the_way, files_under_names, closed_input, images_from_input, images_to_output, turned_words, refused_changes, changes_beside, precious_files),
     *(named_entries, protect_words, boot_blocks),
     *(standard_boot, shown_boots, saved_boots, named_boots, boot_options),
     *(held_images, readers_of_held_images, missing_files, errors_of_the_host, denied_files, first_faults),

@@ -91,6 +91,7 @@ ADVICE: List[Tuple[str, str]] = [
     (r"stands? for no byte|past U\+00FF|not in ISO 8859-1", "Leave out letters past U+00FF"),
     (r"turned round", "If they are, remove the file and write the two words the other way round"),
     (r"no command '", "`adf_serve --help` lists the commands"),
+    (r"'\./-'", "Name a file"),
     (r"standard input, which has no name", "Name it with `--as NAME`"),
     (r"--as <NAME>", "Give one FILE"),
     (r"error: .*is missing", "Add the argument: `adf_serve COMMAND --help` shows all"),

@@ -1,5 +1,5 @@
 -- The output for an image, whole or in part.
-use Rattle.std.proofs.Common.{◌≡◌, ◌≢◌, ℕ, Bor, ◌⊎◌, inl, inr, Bool, true, false, List, [], ◌++◌, map, Option, Some, None, option_map, Ok, Err, IfErr, OnErr, OnOk, IsErrAnd, refl, sym, ap, ap₂, ◌∙◌, subst}
+use Rattle.std.proofs.Common.{◌≡◌, ◌≢◌, ◌↔◌, ℕ, Bor, ◌⊎◌, IsTrue, IsFalse, codes, inl, inr, Bool, true, false, List, [], ◌++◌, map, Option, Some, None, option_map, Ok, Err, IfErr, OnErr, OnOk, IsErrAnd, refl, sym, ap, ap₂, ◌∙◌, subst}
 use Rattle.std.specs.Prelude.{⊤}
 use Rattle.std.specs.Io.KnownBytes.{Appends, Keeps}
 use Rattle.std.proofs.KnownBytes.{Appends-nil, Keeps-refl}
@@ -15,7 +15,6 @@ use Rattle.adf_io.specs.Prefix.{Writes, WritesFront, WritesFrontOf}
 use Rattle.adf_export.specs.Info.{info_text}
 use Rattle.adf_export.specs.Listing.{BeginsList, IsList}
 use Rattle.adf_words.specs.declared.job.ImageJob.{ImageJob}
-use Rattle.adf_words.specs.declared.job.ImageJob.TheVariants.{Blank}
 use Rattle.adf_export.specs.declared.fault.OutFault.{OutFault}
 use Rattle.adf_export.specs.declared.fault.OutFault.TheVariants as out
 use Rattle.adf_export.specs.Printing.{IsPrinted, IsPrintFault}
@@ -27,8 +26,9 @@ use Rattle.adf_serve.specs.declared.refusal.DosRefusal.{DosRefusal}
 use Rattle.adf_serve.specs.Asked.{AnswersDisk}
 use Rattle.adf_serve.specs.Texts.{AreDeletedLines, AreEntryBlocks, BeginsJobText, BeginsListOf, BeginsListText, IsJobText, IsListed, IsListOf, IsListText, shown_form, IsLook, IsLookText, IsInfoText, IsPrintText}
 use Rattle.adf_serve.specs.Faults.{IsBlankFault, IsNoImage, IsNoImageRefusal, IsNoRefusal, IsRefusedFor, IsToldAs, IsToldOut}
-use Rattle.adf_serve.specs.Commands.{Does, DoesJob, Ending, EndsJob, EndsOff, LeavesOff, Prints, prints, prints_json, Tells, TellsFault, TellsJob, TellsOf, TellsSome}
-use Rattle.adf_serve.specs.Commands.Prints.{OnlyFaults, OfBlocks, OfBytes, OfImages, OfMap, OfRescue, Unsaid}
+use Rattle.adf_serve.specs.Commands.{Does, DoesJob, Ending, EndsJob, EndsOff, LeavesOff, Prints, prints, prints_json, Tells, TellsFault, TellsImage, TellsJob, TellsOf, TellsSome}
+use Rattle.adf_serve.specs.Commands.Prints.{OnlyFaults, OfNewImage, OfBlocks, OfBytes, OfImages, OfMap, OfRescue, Unsaid}
+use Rattle.adf_serve.specs.NewImages.{PutsImage, StartsWithImage, WritesImage}
 use Rattle.std.proofs.lemmas.List.{append-nil}
 use Rattle.adf_archive.specs.Archive.{TellsArchive, told_in}
 use Rattle.adf_archive.specs.declared.fault.ArchiveFault.{ArchiveFault}
@@ -231,15 +231,59 @@ kept_appends (Some x) None c bytes k w = absurd k
 kept_appends (Some x) (Some y) None bytes k w = absurd w
 kept_appends (Some x) (Some y) (Some z) bytes k w = w ∙ ap (λ (l : List ℕ). l ++ bytes) k
 
--- a job without output when it succeeds
-abbrev pub PrintsNothing : ImageJob → Type 0
-PrintsNothing (Blank format blocks moment name as_letters file) = ⊤
-PrintsNothing job = ⊥
+-- a fault before any output
+pub none_put : (w : Option (List ℕ)) (fault : CommandFault) → WritesImage w w (Err fault)
+none_put w (Refused refusal) = Keeps-refl w
+none_put w (Dos refusal) = Keeps-refl w
+none_put w fault = inl (Keeps-refl w)
 
-pub job_silent : (job : ImageJob) (w : Option (List ℕ)) (done : Ending) → PrintsNothing job → IfErr done IsNoRefusal → DoesJob job w w done
-job_silent (Blank format blocks moment name as_letters file) w (Ok x) silent plain = ([], ([], Appends-nil w, refl))
-job_silent (Blank format blocks moment name as_letters file) w (Err fault) silent plain = ([], leaves_nothing (λ text. text ≡ []) [] w fault plain)
-job_silent job w done silent plain = absurd silent
+pub image_not_put : (file w : Option (List ℕ)) (fault : CommandFault) → PutsImage file w w (Err fault)
+image_not_put file w fault = (λ is. none_put w fault, λ other. Keeps-refl w)
+
+pub unput : (w : Option (List ℕ)) (fault : CommandFault) (done : Ending) → IsErrAnd done (λ told. told ≡ fault) → WritesImage w w done
+unput w fault (Ok x) same = absurd same
+unput w fault (Err told) same = none_put w told
+
+pub not_put : (file w : Option (List ℕ)) (fault : CommandFault) (done : Ending) → IsErrAnd done (λ told. told ≡ fault) → PutsImage file w w done
+not_put file w fault (Ok x) same = absurd same
+not_put file w fault (Err told) same = image_not_put file w told
+
+-- the file of the image is standard output, or another
+pub put_output : (file : List ℕ) (old new : Option (List ℕ)) (done : Ending) (is_output : Bool) → (IsTrue is_output ↔ (file ≡ codes "-")) → IsTrue is_output → WritesImage old new done
+    → PutsImage (Some file) old new done
+put_output file old new done is_output same yes put = (λ is. put, λ other. absurd (other (ap Some (same.0 yes))))
+
+pub put_file : (file : List ℕ) (w : Option (List ℕ)) (done : Ending) (is_output : Bool) → (IsTrue is_output ↔ (file ≡ codes "-")) → IsFalse is_output → PutsImage (Some file) w w done
+put_file file w done is_output same no = (λ is. absurd (let yes = same.1 (cc is) in cc (sym no ∙ yes)), λ other. Keeps-refl w)
+
+pub put_work : (file old new : Option (List ℕ)) (done : Ending) (to_output : Bool) → (IsTrue to_output ↔ (file ≡ Some (codes "-"))) → (IsTrue to_output → WritesImage old new done)
+    → (IsFalse to_output → Keeps old new) → PutsImage file old new done
+put_work file old new done true same put keeps = (λ is. put refl, λ other. absurd (other (same.0 refl)))
+put_work file old new done false same put keeps = (λ is. absurd (cc (same.1 is)), λ other. keeps refl)
+
+-- an image that is put as far as the writer accepts it
+image_front : (old new : Option (List ℕ)) (text : List ℕ) (fault : CommandFault) → StartsWithImage text → IsNoRefusal fault → WritesFront old new text → WritesImage old new (Err fault)
+image_front old new text (Refused refusal) is plain front = absurd (cc plain)
+image_front old new text (Dos refusal) is plain front = absurd (cc plain)
+image_front old new text fault is plain front = inr (text, is, front)
+
+pub image_put : (old new : Option (List ℕ)) (text : List ℕ) (done : Ending) → StartsWithImage text → OnOk done (Appends old new text) → OnErr done (WritesFront old new text) → IfErr done IsNoRefusal
+    → WritesImage old new done
+image_put old new text (Ok x) is all front plain = (text, all, is)
+image_put old new text (Err fault) is all front plain = image_front old new text fault is plain front
+
+-- the fault of a job that puts an image
+image_failed : (json : Bool) (old new : Option (List ℕ)) (fault : CommandFault) → WritesImage old new (Err fault) → IsNoRefusal fault → TellsImage json old new (Err fault)
+image_failed json old new (Refused refusal) h plain = absurd (cc plain)
+image_failed json old new (Dos refusal) h plain = absurd (cc plain)
+image_failed json old new fault (inl keeps) plain = inl keeps
+image_failed json old new fault (inr (text, is, front)) plain = inr (text, inl is, front)
+
+image_unsaid : (json : Bool) (old new : Option (List ℕ)) (fault : CommandFault) → WritesImage old new (Err fault) → TellsImage json old new (Err Memory)
+image_unsaid json old new (Refused refusal) keeps = inl keeps
+image_unsaid json old new (Dos refusal) keeps = inl keeps
+image_unsaid json old new fault (inl keeps) = inl keeps
+image_unsaid json old new fault (inr (text, is, front)) = inr (text, inl is, front)
 
 -- an option without a value, and one with a value
 pub none_told : {A : Type 0} (f : A → List ℕ) (o : Option A) (told : Option (List ℕ)) → option_map f o ≡ told → o ≡ None → told ≡ None
@@ -456,6 +500,7 @@ module _ (json : Bool) (IsText BeginsText : List ℕ → List ℕ → Type 0) wh
   -- a job succeeds
   done : (p : Prints) (old new : Option (List ℕ)) (x : Unit {0}) → Does p IsText BeginsText old new (Ok x) → Tells json p IsText BeginsText old new (Ok x)
   done OnlyFaults old new x h = h
+  done (OfNewImage file) old new x h = h
   done OfBytes old new x h = h
   done (OfImages job) old new x h = h
   done (OfRescue job) old new x h = h
@@ -467,6 +512,7 @@ module _ (json : Bool) (IsText BeginsText : List ℕ → List ℕ → Type 0) wh
   failed : (p : Prints) (old new : Option (List ℕ)) (fault : CommandFault) → Does p IsText BeginsText old new (Err fault) → IsNoRefusal fault
       → Tells json p IsText BeginsText old new (Err fault)
   failed OnlyFaults old new fault keeps plain = rw (none_in json fault plain) (inl keeps)
+  failed (OfNewImage file) old new fault (put, keeps) plain = (λ is. image_failed json old new fault (put is) plain, λ other. rw (none_in json fault plain) (inl (keeps other)))
   failed Unsaid old new fault h plain = tt
   failed (OfImages job) old new fault h plain = h
   failed (OfRescue job) old new fault h plain = report_failed json (IsRescueText job.json) IsSomeSize (λ (fault : CommandFault). IsHostEnd fault job.list) old new fault h plain
@@ -480,6 +526,7 @@ module _ (json : Bool) (IsText BeginsText : List ℕ → List ℕ → Type 0) wh
   -- a job without memory for its text
   unsaid : (p : Prints) (old new : Option (List ℕ)) (fault : CommandFault) → Does p IsText BeginsText old new (Err fault) → Tells json p IsText BeginsText old new (Err Memory)
   unsaid OnlyFaults old new fault keeps = inl keeps
+  unsaid (OfNewImage file) old new fault (put, keeps) = (λ is. image_unsaid json old new fault (put is), λ other. inl (keeps other))
   unsaid Unsaid old new fault h = tt
   unsaid (OfImages job) old new fault h = archive_unsaid job old new fault h
   unsaid (OfRescue job) old new fault h = report_unsaid json (IsRescueText job.json) IsSomeSize (λ (fault : CommandFault). IsHostEnd fault job.list) old new fault tt h
@@ -495,6 +542,10 @@ module _ (json : Bool) (IsText BeginsText : List ℕ → List ℕ → Type 0) wh
     told_refused : (p : Prints) (refusal : Refusal) → Does p IsText BeginsText old mid (Err (Refused refusal)) → Appends mid new (refusal_text json refusal)
         → Tells json p IsText BeginsText old new (Err (Refused refusal))
     told_refused OnlyFaults refusal keeps w = (refusal_text json refusal, kept_appends old mid new (refusal_text json refusal) keeps w, refl)
+    told_refused (OfNewImage file) refusal (put, keeps) w = (
+      λ is. (refusal_text json refusal, kept_appends old mid new (refusal_text json refusal) (put is) w, refl),
+      λ other. (refusal_text json refusal, kept_appends old mid new (refusal_text json refusal) (keeps other) w, refl),
+    )
     told_refused Unsaid refusal d w = tt
     told_refused (OfImages job) refusal d w = absurd d
     told_refused (OfRescue job) refusal (keeps, is) w = (is, (refusal_text json refusal, kept_appends old mid new (refusal_text json refusal) keeps w, refl))
@@ -506,6 +557,10 @@ module _ (json : Bool) (IsText BeginsText : List ℕ → List ℕ → Type 0) wh
     told_dos : (p : Prints) (refusal : DosRefusal) → Does p IsText BeginsText old mid (Err (Dos refusal)) → Appends mid new (dos_text json refusal)
         → Tells json p IsText BeginsText old new (Err (Dos refusal))
     told_dos OnlyFaults refusal keeps w = (dos_text json refusal, kept_appends old mid new (dos_text json refusal) keeps w, refl)
+    told_dos (OfNewImage file) refusal (put, keeps) w = (
+      λ is. (dos_text json refusal, kept_appends old mid new (dos_text json refusal) (put is) w, refl),
+      λ other. (dos_text json refusal, kept_appends old mid new (dos_text json refusal) (keeps other) w, refl),
+    )
     told_dos Unsaid refusal d w = tt
     told_dos (OfImages job) refusal d w = absurd d
     told_dos (OfRescue job) refusal keeps w = (dos_text json refusal, kept_appends old mid new (dos_text json refusal) keeps w, refl)
@@ -531,6 +586,10 @@ module _ (json : Bool) (IsText BeginsText : List ℕ → List ℕ → Type 0) wh
     broken_refused : (p : Prints) (refusal : Refusal) → Does p IsText BeginsText old mid (Err (Refused refusal))
         → WritesFront mid new (refusal_text json refusal) → Tells json p IsText BeginsText old new (Err Output)
     broken_refused OnlyFaults refusal keeps front = broken_quiet (Refused refusal) Output (refusal_text json refusal) refl refl keeps front
+    broken_refused (OfNewImage file) refusal (put, keeps) front = (
+      λ is. inr (refusal_text json refusal, inr (Refused refusal, refl), kept_front (refusal_text json refusal) (put is) front),
+      λ other. broken_quiet (Refused refusal) Output (refusal_text json refusal) refl refl (keeps other) front,
+    )
     broken_refused Unsaid refusal d front = tt
     broken_refused (OfImages job) refusal d front = absurd d
     broken_refused (OfRescue job) refusal (keeps, is) front = (tt, inr (refusal_text json refusal, inr (Refused refusal, refl), kept_front (refusal_text json refusal) keeps front))
@@ -542,6 +601,10 @@ module _ (json : Bool) (IsText BeginsText : List ℕ → List ℕ → Type 0) wh
     broken_dos : (p : Prints) (refusal : DosRefusal) → Does p IsText BeginsText old mid (Err (Dos refusal))
         → WritesFront mid new (dos_text json refusal) → Tells json p IsText BeginsText old new (Err Output)
     broken_dos OnlyFaults refusal keeps front = broken_quiet (Dos refusal) Output (dos_text json refusal) refl refl keeps front
+    broken_dos (OfNewImage file) refusal (put, keeps) front = (
+      λ is. inr (dos_text json refusal, inr (Dos refusal, refl), kept_front (dos_text json refusal) (put is) front),
+      λ other. broken_quiet (Dos refusal) Output (dos_text json refusal) refl refl (keeps other) front,
+    )
     broken_dos Unsaid refusal d front = tt
     broken_dos (OfImages job) refusal d front = absurd d
     broken_dos (OfRescue job) refusal keeps front = (tt, inr (dos_text json refusal, inr (Dos refusal, refl), kept_front (dos_text json refusal) keeps front))

@@ -118,8 +118,8 @@ abbrev pub IsBootForm : Bool → List ℕ → List ℕ → Type 0
 IsBootForm true = IsBootObject
 IsBootForm false = IsBootText
 
--- the output of a command for the bytes that it reads, and its beginning; `blank` has none. `boot --show` reads the two boot blocks
--- of a file, whatever follows them
+-- the output of a command for the bytes that it reads, and its beginning. `boot --show` reads the two boot blocks of a file, whatever
+-- follows them
 abbrev pub IsJobText : ImageJob → List ℕ → List ℕ → Type 0
 IsJobText (Info file json) = IsInfoText json
 IsJobText (ListOf job) = IsListOf job

@@ -5,6 +5,7 @@ ghost use Rattle.adf_io.specs.Front.{ReadsUpTo};
 ghost use Rattle.adf_serve.specs.Boot.{PutsBoot, PutsFile};
 ghost use Rattle.adf_serve.specs.Commands.{TellsSome};
 ghost use Rattle.adf_serve.specs.Faults.{IsNoImage};
+ghost use Rattle.adf_serve.specs.NewImages.{PutsImage, out_of};
 ghost use Rattle.adf_serve.specs.Texts.{IsBootForm};
 
 use crate::fault::CommandFault;
@@ -33,16 +34,19 @@ const BOOT_BYTES: usize = 1_024;
 const FEWEST_BYTES: usize = BLOCK_BYTES as usize * FEWEST_BLOCKS as usize;
 
 /// Installs a boot block in an image file that is accepted, or removes it.
-pub(crate) fn change_boot<'a, R: Files<File = File> + PromptFiles + Clock>(
+pub(crate) fn change_boot<'a, R: Files<File = File> + PromptFiles + Clock, W: Write>(
     rt: &R,
     alloc: Global,
     target: Rewrite<'a>,
     block: BootBlock<'a>,
-) -> Result<(), CommandFault<'a>> {
+    writer: &mut W,
+) -> Result<(), CommandFault<'a>>
+    ensures { PutsImage (out_of target.entry) (W.contents writer.old) (W.contents writer.new) result }
+{
     let (work, mut image) = Work::begin(rt, alloc, target)?;
     accept_copy(alloc, &image)?;
     put_boot(rt, alloc, &mut image, block)?;
-    work.end(rt, alloc, &image)
+    work.put(rt, alloc, &image, writer)
 }
 
 /// Checks that an image is accepted. It checks a copy, because the check may rebuild the bitmap, and a boot block

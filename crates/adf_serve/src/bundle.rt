@@ -1,4 +1,5 @@
 //! The commands that write a volume to a directory of the host, and make it again.
+ghost use Rattle.adf_serve.specs.NewImages.{PutsImage, out_of};
 
 use crate::boot::tell_boot;
 use crate::fault::CommandFault;
@@ -31,12 +32,15 @@ pub(crate) fn take_bundle<'a, R: Files<File = File> + PromptFiles, F: Write>(
 }
 
 /// Makes the volume that a directory of the host describes, in place of the empty volume of an image file.
-pub(crate) fn put_bundle<'a, R: Files<File = File> + PromptFiles + Clock>(
+pub(crate) fn put_bundle<'a, R: Files<File = File> + PromptFiles + Clock, W: Write>(
     rt: &R,
     alloc: Global,
     target: Rewrite<'a>,
     from: &'a str,
-) -> Result<(), CommandFault<'a>> {
+    writer: &mut W,
+) -> Result<(), CommandFault<'a>>
+    ensures { PutsImage (out_of target.entry) (W.contents writer.old) (W.contents writer.new) result }
+{
     let file = target.image.path;
     let (work, image) = Work::begin(rt, alloc, target)?;
     let old = accept(alloc, image)?;
@@ -44,5 +48,5 @@ pub(crate) fn put_bundle<'a, R: Files<File = File> + PromptFiles + Clock>(
         Ok(volume) => volume,
         Err(fault) => return Err(CommandFault::of_bundle(fault, file)),
     };
-    work.end(rt, alloc, volume.image())
+    work.put(rt, alloc, volume.image(), writer)
 }

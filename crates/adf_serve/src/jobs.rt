@@ -45,7 +45,7 @@ where
     match job {
         ImageJob::Blank { format, blocks, moment, name, letters, file } => {
             let new = NewVolume { format: *format, blocks: *blocks, moment: *moment, name: *name, letters: *letters };
-            make_blank(rt, alloc, new, *file, faults)
+            make_blank(rt, alloc, new, *file, writer, faults)
         }
         ImageJob::Info { file, json } => print_query(rt, alloc, *file, Query::Disk { json: *json }, screen.styled, writer),
         ImageJob::Show { image, json } => print_query(rt, alloc, *image, Query::Look { json: *json }, screen.styled, writer),
@@ -63,12 +63,12 @@ where
         },
         ImageJob::Extract(job) => take_out(rt, alloc, job),
         ImageJob::ExtractBundle { image, to } => take_bundle(rt, alloc, *image, *to, faults),
-        ImageJob::AddBundle { target, from } => put_bundle(rt, alloc, *target, *from),
+        ImageJob::AddBundle { target, from } => put_bundle(rt, alloc, *target, *from, writer),
         ImageJob::Salvage(job) => take_rescue(rt, alloc, job, writer, faults),
         ImageJob::Undelete(job) => print_query(rt, alloc, job.image, Query::Deleted(job), screen.styled, writer),
-        ImageJob::Change(job) => change(rt, alloc, job, faults),
+        ImageJob::Change(job) => change(rt, alloc, job, writer, faults),
         ImageJob::Validate { target, force, json } => validate_file(rt, alloc, *target, *force, *json, writer),
-        ImageJob::Boot { target, block } => change_boot(rt, alloc, *target, *block),
+        ImageJob::Boot { target, block } => change_boot(rt, alloc, *target, *block, writer),
         ImageJob::SaveBoot { image, file } => save_boot(rt, alloc, *image, *file),
         ImageJob::Serve(job) => serve(rt, alloc, job, writer, faults),
     }

@@ -1,9 +1,11 @@
 //! What a command prints, and its exit status.
-ghost use Rattle.std.specs.Prelude.{◌≡◌, ℕ, List, Option, Err, OnOk, OnErr, IfErr};
+ghost use Rattle.std.specs.Prelude.{◌≡◌, ◌↔◌, ◌++◌, ℕ, List, Option, Err, IsTrue, OnOk, OnErr, IfErr, IfOk, codes};
 ghost use Rattle.std.specs.Io.KnownBytes.{Appends};
+ghost use Rattle.adf_block.specs.Whole.{IsImage};
 ghost use Rattle.adf_io.specs.Prefix.{WritesFront};
 ghost use Rattle.adf_words.specs.declared.job.ImageJob.{ImageJob};
 ghost use Rattle.adf_serve.specs.Commands.{DoesJob, EndsJob, TellsJob, prints_json};
+ghost use Rattle.adf_serve.specs.NewImages.{WritesImage};
 ghost use Rattle.adf_serve.specs.Faults.{IsNoRefusal};
 ghost use Rattle.adf_serve.specs.declared.fault.CommandFault.TheVariants.{Output};
 
@@ -11,10 +13,12 @@ use crate::fault::CommandFault;
 use crate::json_jobs::prints_json;
 use crate::outlet::SeesReader;
 use adf_archive::ReadImages;
+use adf_block::Image;
+use adf_block::layout::BLOCK_BYTES;
 use adf_io::write_output;
 use adf_text::print_line;
-use adf_words::ImageJob;
-use std::alloc::Global;
+use adf_words::{ImageJob, STANDARD_STREAM};
+use std::alloc::{AllocError, Global};
 use std::io::Write;
 use std::rt::Files;
 
@@ -29,6 +33,38 @@ pub(crate) fn tell<'a, W: Write>(writer: &mut W, text: &[u8]) -> Result<(), Comm
         Ok(()) => Ok(()),
         Err(_) => Err(CommandFault::Output),
     }
+}
+
+/// Writes an image to standard output, and then what is behind it in its file.
+pub(crate) fn put_image<'a, W: Write>(
+    alloc: Global,
+    image: &Image,
+    behind: &[u8],
+    writer: &mut W,
+) -> Result<(), CommandFault<'a>>
+    ensures { WritesImage (W.contents writer.old) (W.contents writer.new) result }
+{
+    let bytes = whole_file(alloc, image, behind)?;
+    tell(writer, &bytes)
+}
+
+/// The bytes of a file with this image, and with what is behind it.
+fn whole_file(alloc: Global, image: &Image, behind: &[u8]) -> Result<Vec<u8>, AllocError>
+    ensures bytes { IfOk result (λ bytes. bytes.items ≡ image.now ++ behind.now) }
+    ensures image { IfOk result (λ _. IsImage image.now) }
+{
+    let image_bytes = image.blocks() as usize * BLOCK_BYTES as usize;
+    let mut bytes = Vec::with_capacity(alloc, image_bytes.saturating_add(behind.len()))?;
+    bytes.extend_from_slice(image.as_bytes())?;
+    bytes.extend_from_slice(behind)?;
+    Ok(bytes)
+}
+
+/// Whether the file for an image is standard output.
+pub(crate) fn is_output(file: &str) -> bool
+    ensures { IsTrue result ↔ (file.now ≡ codes "-") }
+{
+    file == STANDARD_STREAM
 }
 
 /// Ends a job on an image file. Prints a refusal on the writer, in the form of the job's output, and why the image is refused and

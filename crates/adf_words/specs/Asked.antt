@@ -1,5 +1,5 @@
 -- The changes, and the jobs for a boot block, that arguments ask for.
-use Rattle.std.specs.Prelude.{◌≡◌, ◌≢◌, ◌<◌, ◌≤◌, ◌^◌, ◌∷◌, ℕ, Bool, List, [], Option, Some, None, IsSome, All, option_map, codes, decimal, map}
+use Rattle.std.specs.Prelude.{◌≡◌, ◌≢◌, ◌<◌, ◌≤◌, ◌^◌, ◌∷◌, ℕ, Bool, List, [], Option, Some, None, IsSome, All, AllPairs, option_map, codes, decimal, map}
 use Rattle.std.specs.Borrow.{Bor}
 use Rattle.std.specs.Option.{option_map_or}
 use Rattle.clap.specs.Matches.{first_value, matched_of, one_text, raw_values}
@@ -55,9 +55,14 @@ pub record IsFileOf (found : Found) (file : ImageFile) : Type 0 where
   pub path : first_value found (codes "IMAGE") ≡ Some file.path.now
   pub blocks : AreFirstBlocks found file.blocks
 
--- the image to change and the file for the changed one are these arguments
+-- at most one of these arguments is `-`, standard input
+abbrev pub AreReadOnce : List (Bor (List ℕ)) → Type 0
+AreReadOnce words = AllPairs (λ one other. one.now ≡ codes "-" → other.now ≢ codes "-") words
+
+-- the image to change is this argument, which is not `-`, standard input; the file for the changed one is that of the option
 pub record IsTargetOf (found : Found) (target : Rewrite) : Type 0 where
   pub image : IsFileOf found target.image
+  pub changes_file : target.image.path.now ≢ codes "-"
   pub out : first_value found (codes "out") ≡ option_map (λ word. word.now) target.out
   pub over : (given : Bool) → IsFlag found (codes "over") given → target.over ≡ given
 
@@ -122,10 +127,11 @@ IsUndeleteOf found (Undelete job) =
     × ((given : Bool) → IsFlag found (codes "meta") given → job.meta ≡ given) × ((given : Bool) → IsFlag found (codes "force") given → job.force ≡ given)
 IsUndeleteOf found _ = ⊥
 
--- `validate`: the image is this argument, it is forced if the option is given, and the form is as the option says
+-- `validate`: the image is this argument, the changed one goes to a file, it is forced if the option is given, and the form is as the
+-- option says
 abbrev pub IsValidateOf : Found → ImageJob → Type 0
 IsValidateOf found (Validate target force json) =
-    IsTargetOf found target × ((given : Bool) → IsFlag found (codes "force") given → force ≡ given)
+    IsTargetOf found target × (first_value found (codes "out") ≢ Some (codes "-")) × ((given : Bool) → IsFlag found (codes "force") given → force ≡ given)
     × ((given : Bool) → IsFlag found (codes "json") given → json ≡ given)
 IsValidateOf found _ = ⊥
 

@@ -36,7 +36,7 @@ pub use fault::WordsFault;
 pub use faulty_line::{last_number, tell_faulty_line};
 pub use floppy::{CYLINDERS, DOUBLE_DENSITY, DOUBLE_TRACK, HEADS, HIGH_DENSITY, HIGH_TRACK};
 pub use given::{given_words, word_of};
-pub use image_file::ImageFile;
+pub use image_file::{ImageFile, STANDARD_STREAM};
 pub use job::{ImageJob, Job, ServeJob};
 pub use map_form::MapForm;
 pub use query::{

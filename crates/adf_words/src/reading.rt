@@ -180,7 +180,7 @@ fn serve_job<'a>(arguments: &Arguments<'a, '_>) -> Result<ImageJob<'a>, WordsFau
     Ok(ImageJob::Serve(ServeJob {
         image,
         scripts: Vec::from_slice(arguments.alloc, scripts)?,
-        out: arguments.given("out"),
+        out: arguments.out_file()?,
         turns,
         moment,
     }))

@@ -163,7 +163,7 @@ const PROTECT_EXAMPLES: &str = "Examples:\n  adf_serve protect work.adf c/dir rw
 /// The arguments of each command that changes an image.
 #[rattlefmt::skip]
 pub(crate) const CHANGING: &[ArgumentRow] = &[
-    ArgumentRow { name: "out", kind: Kind::Option { value: "FILE", default: None }, help: "Writes the changed image to this file, and leaves IMAGE as it is" },
+    ArgumentRow { name: "out", kind: Kind::Option { value: "FILE", default: None }, help: "Writes the changed image to this file, and leaves IMAGE as it is. `-` is standard output, but not for a command that prints something there" },
     ArgumentRow { name: "over", kind: FLAG, help: "Lets `--out` write over a file that is not an image" },
     ArgumentRow { name: "date", kind: WHEN, help: "The time stamp of the change, as `YYYY-MM-DD` or `YYYY-MM-DD HH:MM[:SS[.CC]]`, in place of the numbers. `now` is the clock (UTC)" },
     ArgumentRow { name: "days", kind: NUMBER, help: "The time stamp of the change: days since 1 January 1978. The clock (UTC) is used if no part of the time stamp is given" },
@@ -194,7 +194,7 @@ pub(crate) const COMMANDS: [CommandRow; 21] = [
             MINUTES_OR_ZERO,
             TICKS_OR_ZERO,
             ArgumentRow { name: "NAME", kind: Kind::One, help: "The volume's name: 1 to 30 bytes without `/` and `:`" },
-            ArgumentRow { name: "FILE", kind: Kind::One, help: "The file to write" },
+            ArgumentRow { name: "FILE", kind: Kind::One, help: "The file to write. `-` is standard output" },
         ],
     },
     CommandRow {

@@ -1,14 +1,14 @@
 //! From the arguments of a command that reads an image to its job.
-ghost use Rattle.std.specs.Prelude.{◌≡◌, IfErr, IfOk};
+ghost use Rattle.std.specs.Prelude.{◌≡◌, IfErr, IfOk, OnOk};
 ghost use Rattle.clap.specs.Matches.{found_of};
-ghost use Rattle.adf_words.specs.Asked.{IsExtractOf, IsInfoOf, IsMapOf, IsShowOf, IsUndeleteOf, IsWhereOf};
+ghost use Rattle.adf_words.specs.Asked.{AreReadOnce, IsExtractOf, IsInfoOf, IsMapOf, IsShowOf, IsUndeleteOf, IsWhereOf};
 ghost use Rattle.adf_words.specs.Lists.{form_of, IsFormOf, IsOrderOf, TellsNoOrder, order_word, usual_order};
 ghost use Rattle.adf_words.specs.Maps.{IsMapFormOf, map_form_of};
 
 use crate::arguments::Arguments;
 use crate::block_word::asked_blocks;
 use crate::fault::WordsFault;
-use crate::image_file::ImageFile;
+use crate::image_file::{ImageFile, STANDARD_STREAM};
 use crate::job::ImageJob;
 use crate::letters::letters_of;
 use crate::map_form::MapForm;
@@ -23,6 +23,7 @@ pub(crate) fn check_job<'a>(arguments: &Arguments<'a, '_>) -> Result<ImageJob<'a
     let jobs = arguments.number("jobs", &JOBS)?;
     let blocks = arguments.first_blocks()?;
     let files = arguments.some_words("FILE")?;
+    refuse_second_input(arguments.alloc, files)?;
     Ok(ImageJob::Check(CheckJob {
         files: Vec::from_slice(arguments.alloc, files)?,
         blocks,
@@ -31,6 +32,26 @@ pub(crate) fn check_job<'a>(arguments: &Arguments<'a, '_>) -> Result<ImageJob<'a
         filler: arguments.flag("filler"),
         jobs,
     }))
+}
+
+/// Refuses files of which more than one is standard input, since that can be read only once.
+fn refuse_second_input(alloc: Global, files: &[&str]) -> Result<(), WordsFault>
+    ensures { OnOk result (AreReadOnce files.now) }
+{
+    let mut is_input_read = false;
+    for file in files {
+        if *file != STANDARD_STREAM {
+            continue;
+        }
+        if is_input_read {
+            return Err(WordsFault::wrong(
+                alloc,
+                format_args!("error: FILE '-' is standard input, which can be read only once"),
+            ));
+        }
+        is_input_read = true;
+    }
+    Ok(())
 }
 
 /// The job of `list`.

@@ -6,7 +6,7 @@ use Rattle.adf_serve.proofs.Printing.{tells_no_image, tells_unlisted, told_text}
 use Rattle.adf_serve.proofs.validate.validate_file.Goals as goal
 
 pub returns-in_err-work : goal.returns-in_err-work
-returns-in_err-work g c = tells_no_image (IsCountText c.args.json) (IsCountText c.args.json) _ c.in_err-work.field-0.0 _ c.in_err-work.ensures c.from_residual.ensures.1
+returns-in_err-work g c = tells_no_image (IsCountText c.args.json) (IsCountText c.args.json) _ c.in_err-work.field-0.0 _ c.in_err-work.ensures.fault c.from_residual.ensures.1
 
 pub returns-in_err-validated : goal.returns-in_err-validated
 returns-in_err-validated g c = (_, tells_as (IsCountText c.args.json) (IsCountText c.args.json) c.in_ok-work.image _ c.in_err-validated.field-0.0 _ c.in_err-validated.ensures c.from_residual-in_err-validated.ensures.1)
