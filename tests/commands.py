@@ -1408,13 +1408,18 @@ def missing_files(tried: Commands) -> None:
 
 
 def errors_of_the_host(tried: Commands) -> None:
-    """An error that this program has no words for is told in those of the host, without its number."""
+    """An error that this program has no words for is told in those of the host, without its number; a name that is not UTF-8 in its own."""
     os.symlink("loop", "loop")
     for name, number in (("n" * 256, errno.ENAMETOOLONG), ("loop", errno.ELOOP)):
-        for words in ("info {}", "list {}", "check {}", "extract --bundle {} ffs.adf", "blank Work {}", "mkdir --out {} ffs.adf x"):
+        for words in ("info {}", "list {}", "check {}", "extract --bundle {} ffs.adf", "add ffs.adf {}", "blank Work {}", "mkdir --out {} ffs.adf x"):
             ran = tried.run(*words.format(name).split())
             tried.report.check(f"{words} of {name[:8]}", ran, 2, b"", f"cannot {'write' if 'Work' in words or '--out' in words else 'read'} '{name}': {os.strerror(number)}\n")
     os.remove("loop")
+    os.mkdir("strange")
+    open(b"strange/\xff", "wb").close()
+    ran = tried.run("add", "ffs.adf", "strange")
+    tried.report.check("add of a directory with a name that is not UTF-8", ran, 2, b"", "cannot read a file in 'strange': its name is not UTF-8\n")
+    shutil.rmtree("strange")
 
 
 def denied_files(tried: Commands) -> None:
