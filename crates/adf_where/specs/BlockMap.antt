@@ -149,11 +149,11 @@ object_tokens marks owners =
     begin_object ∷ key (codes "map") ∷ string marks ∷ key (codes "headers") ∷ begin_array
     ∷ flat_map header_tokens (enumerate_from 0 owners) ++ end_array ∷ end_object ∷ []
 
--- the map of an accepted disk in one of its forms
-abbrev pub map_of : MapForm → List Owner → List ℕ
-map_of Json owners = print (object_tokens (letters (owner_letters owners)) owners) ++ codes "\n"
-map_of form owners = map_page form false (owner_letters owners)
+-- the map of an accepted disk whose blocks have these letters and these owners, in one of its forms
+abbrev pub map_of : MapForm → List ℕ → List Owner → List ℕ
+map_of Json marks owners = print (object_tokens (letters marks) owners) ++ codes "\n"
+map_of form marks owners = map_page form false marks
 
 -- the text is the map of the volume with this image and this tree
 abbrev pub IsMap : MapForm → List ℕ → Tree → List ℕ → Type 0
-IsMap form image t text = (owners : List Owner) × AreOwners image t owners × (text ≡ map_of form owners)
+IsMap form image t text = (owners : List Owner) × AreOwners image t owners × (text ≡ map_of form (owner_letters owners) owners)

@@ -2,7 +2,7 @@
 ghost use Rattle.std.specs.Prelude.{◌≡◌, IfOk};
 ghost use Rattle.ados_model.specs.Stands.{Stands};
 ghost use Rattle.ados_model.specs.Tree.{Tree};
-ghost use Rattle.adf_where.specs.BlockMap.{IsMap, letter, mark_of, owner_letters};
+ghost use Rattle.adf_where.specs.BlockMap.{IsMap, letter, map_of, mark_of, owner_letters};
 
 use crate::block_mark::BlockMark;
 use crate::map_lines::map_page;
@@ -17,9 +17,21 @@ pub fn map_text(alloc: Global, volume: &Volume, form: MapForm) -> Result<Vec<u8>
 {
     let owners = owners(alloc, volume)?;
     let letters = letters_of(alloc, &owners)?;
+    form_text(alloc, &owners, &letters, form)
+}
+
+/// The map of blocks with these owners and these letters.
+fn form_text(
+    alloc: Global,
+    owners: &[Owner],
+    letters: &[u8],
+    form: MapForm,
+) -> Result<Vec<u8>, AllocError>
+    ensures { IfOk result (λ text. text.items ≡ map_of form letters.now owners.now) }
+{
     match form {
-        MapForm::Json => map_object(alloc, &owners, &letters),
-        _ => map_page(alloc, &letters, form, false),
+        MapForm::Json => map_object(alloc, owners, letters),
+        _ => map_page(alloc, letters, form, false),
     }
 }
 

@@ -1,4 +1,3 @@
-use Rattle.std.proofs.Common.{rules}
 use Rattle.adf_serve.proofs.Printing.{not_put, put_file, put_output}
 use Rattle.adf_serve.proofs.blank.make_blank.Goals as goal
 
@@ -9,7 +8,7 @@ pub returns-in_err-volume : goal.returns-in_err-volume
 returns-in_err-volume g c = not_put _ _ c.in_err-volume.field-0.0 _ c.from_residual-in_err-volume.ensures.1
 
 pub returns-then-is_output : goal.returns-then-is_output
-returns-then-is_output g c = put_output c.args.file.now _ _ _ c.is_output.result c.is_output.ensures (search rules) c.put_image.ensures
+returns-then-is_output g c = put_output c.args.file.now _ _ _ c.is_output.result c.is_output.ensures c.if-is_output.true c.put_image.ensures
 
 pub returns : goal.returns
-returns g c = put_file c.args.file.now _ _ c.is_output.result c.is_output.ensures (search rules)
+returns g c = put_file c.args.file.now _ _ c.is_output.result c.is_output.ensures c.if-is_output.false

@@ -10,6 +10,12 @@ returns-in_err-image g c =
     reports_no_image (IsMapReport c.args.form) IsBareMap MayEnd _ c.in_err-image.field-0.0 _ (λ bytes refusal size. (bytes, inl size)) (λ told is. tt) c.in_err-image.ensures
     c.from_residual.ensures.1
 
+pub returns-then-is_of_another_kind : goal.returns-then-is_of_another_kind
+returns-then-is_of_another_kind g c =
+    let rejected = c.in-Err.rejected in
+    let of_kind = kind_shown rejected.image c.in_ok-image.image rejected.fault c.in-Some.refusal c.in-Err.ensures c.in-Some.ensures.kind c.in-Some.ensures.block (c.is_of_another_kind.ensures c.if-is_of_another_kind.true) in
+    (Keeps-refl _, (rejected.image, inr of_kind))
+
 pub returns-in_err-tell_faulty_map : goal.returns-in_err-tell_faulty_map
 returns-in_err-tell_faulty_map g c =
     let rejected = c.in-Err.rejected in

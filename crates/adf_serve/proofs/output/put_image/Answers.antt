@@ -8,5 +8,5 @@ returns-in_err-bytes g c = unput _ Memory _ c.from_residual.ensures.1
 
 pub returns : goal.returns
 returns g c =
-    let is = (c.args.image, c.args.behind.now, c.in_ok-bytes.ensures.image, c.deref.ensures.value ∙ c.in_ok-bytes.ensures.bytes) in
+    let is = (c.args.image.now, c.args.behind.now, c.in_ok-bytes.ensures.image, c.deref.ensures.value ∙ c.in_ok-bytes.ensures.bytes) in
     image_put _ _ c.deref.result.now c.tell.result is c.tell.ensures.ok c.tell.ensures.front c.tell.ensures.no_refusal
