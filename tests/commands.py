@@ -34,7 +34,7 @@ COMMANDS = "blank info show map where check list print extract undelete add mkdi
 ON_IMAGES = [
     *("print IMAGE x", "extract IMAGE", "add IMAGE x", "mkdir IMAGE x", "delete IMAGE x", "rename IMAGE x y"),
     *("protect IMAGE x rwed", "date IMAGE x now", "comment IMAGE x y", "relabel IMAGE x", "boot IMAGE"),
-    *("boot --clear IMAGE", "boot --install IMAGE", "map IMAGE", "map --json IMAGE", "info --json IMAGE", "where --path x --json IMAGE"),
+    *("boot --clear IMAGE", "boot --install IMAGE", "info --json IMAGE", "where --path x --json IMAGE"),
 ]
 # The commands that read the two boot blocks of any file.
 ON_BOOT_BLOCKS = ["boot --show IMAGE", "boot --save none.bin IMAGE"]

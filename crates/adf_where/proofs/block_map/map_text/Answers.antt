@@ -1,4 +1,4 @@
-use Rattle.adf_where.proofs.Common.{◌≡◌, List, ap, ap₂, ◌∙◌, IfOk-weaker, Stands, Tree, Owner}
+use Rattle.adf_where.proofs.Common.{◌≡◌, ap, ap₂, ◌∙◌, IfOk-weaker, Stands, Tree}
 use Rattle.adf_where.specs.BlockMap.{IsMap, map_of, owner_letters}
 use Rattle.adf_where.proofs.block_map.map_text.Goals as goal
 
