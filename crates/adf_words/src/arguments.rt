@@ -81,15 +81,18 @@ impl<'a, 'b> Arguments<'a, 'b> {
         ensures given { IfOk result (λ out. first_value (found_of self.now.words.now) (codes "out") ≡ option_map (λ word. word.now) out) }
         ensures file { IfOk result (λ out. first_value (found_of self.now.words.now) (codes "out") ≢ Some (codes "-")) }
     {
-        match self.given("out") {
-            Some(out) if out == STANDARD_STREAM => Err(WordsFault::wrong(
+        let Some(out) = self.given("out") else {
+            return Ok(None);
+        };
+        if out == STANDARD_STREAM {
+            return Err(WordsFault::wrong(
                 self.alloc,
                 format_args!(
                     "error: '--out -' is standard output, where this command prints its lines: './-' is a file of that name"
                 ),
-            )),
-            out => Ok(out),
+            ));
         }
+        Ok(Some(out))
     }
 
     /// The fault of a missing argument.
