@@ -14,8 +14,8 @@ pub returns-in-Err-Memory-clause-fault : goal.returns-in-Err-Memory-clause-fault
 returns-in-Err-Memory-clause-fault g c = λ refused.
     placed_left c.args.job.now c.args.image.now c.args.refusal c.reason-why.result.kind.now c.reason-why.result.block c.deref.result.now c.reason-why.ensures.kind c.reason-why.ensures.block c.deref.ensures.value refused _ _ c.in-Err-Memory.field-0 c.in-Err-Memory.ensures.front
 
-pub returns-clause-fault : goal.returns-clause-fault
-returns-clause-fault g c = λ refused. (
+pub returns-in-Err-Output-clause-fault : goal.returns-in-Err-Output-clause-fault
+returns-in-Err-Output-clause-fault g c = λ refused. (
   refl,
   placed_left c.args.job.now c.args.image.now c.args.refusal c.reason-why.result.kind.now c.reason-why.result.block c.deref.result.now c.reason-why.ensures.kind c.reason-why.ensures.block c.deref.ensures.value refused _ _ c.in-Err-Output.field-0 c.in-Err-Output.ensures.front,
 )
