@@ -977,13 +977,13 @@ OTHER_TOOLS = {
     "delete": "rm del remove erase mdel rmdir",
     "rename": "mv move mren",
     "protect": "chmod mattrib",
-    "date": "setdate touch time",
+    "date": "setdate touch",
     "comment": "filenote",
     "relabel": "label mlabel",
     "blank": "format create mformat mkfs",
     "boot --install": "install",
     "serve": "execute run",
-    "adf_mount": "mount mmount",
+    "adf_mount": "mount",
 }
 # The commands that change no image.
 HARMLESS = [it.name for it in commands() if it.group in ("Look", "TakeOut", "Serve")]

@@ -22,7 +22,7 @@ pub(crate) const OTHER_WORDS: [OtherWords; 28] = [
     OtherWords { words: &["rm", "del", "remove", "erase", "unlink", "rmdir", "mdel", "mrd", "mdeltree", "deltree"], tip: "`delete` deletes files and empty directories" },
     OtherWords { words: &["mv", "move", "ren", "mren", "mmove"], tip: "`rename` moves a file or a directory to another place" },
     OtherWords { words: &["chmod", "attrib", "mattrib"], tip: "`protect` sets the protection of a file or a directory" },
-    OtherWords { words: &["touch", "setdate", "time"], tip: "`date` sets the date of a file or a directory" },
+    OtherWords { words: &["touch", "setdate"], tip: "`date` sets the date of a file or a directory" },
     OtherWords { words: &["filenote", "note"], tip: "`comment` sets the comment of a file or a directory" },
     OtherWords { words: &["label", "mlabel", "setlabel"], tip: "`relabel` renames the volume" },
     OtherWords { words: &["format", "mformat", "mkfs", "newfs", "create", "new"], tip: "`blank` writes a blank image" },
@@ -35,7 +35,7 @@ pub(crate) const OTHER_WORDS: [OtherWords; 28] = [
     OtherWords { words: &["salvage", "rescue", "recover", "repair", "fix", "mend", "diskdoctor", "disksalv"], tip: "`extract --damaged` saves the files of a damaged image" },
     OtherWords { words: &["undel", "unrm", "unerase", "restore"], tip: "`undelete` lists deleted files, and writes them to the host" },
     OtherWords { words: &["diskcopy", "dd"], tip: "an image is a file, which the host's own commands copy" },
-    OtherWords { words: &["mount", "umount", "mmount"], tip: "the program `adf_mount` mounts an image as a directory" },
+    OtherWords { words: &["mount", "umount"], tip: "the program `adf_mount` mounts an image as a directory" },
     OtherWords { words: &["execute", "run", "script"], tip: "`serve` runs scripts over an image" },
     OtherWords { words: &["version", "ver"], tip: "`--version` prints the version, and whether the program is proved" },
 ];
