@@ -2,7 +2,7 @@
 
 use crate::bytes::VolumeBytes;
 use ados_name::{Date3, Name};
-use host_trees::{Contents, HostItem, HostName, ItemKind};
+use adf_host::trees::{Contents, HostItem, HostName, ItemKind};
 use std::alloc::{AllocError, Global};
 use std::mem;
 

@@ -8,7 +8,7 @@ use crate::items::outgoing;
 use adf_host::{OwnedFile, PromptFiles};
 use adf_record::{Bundle, BundleFault, BundleWhy, MOST_BUNDLE_BYTES, bundle_of, bundle_text};
 use ados_volume::Volume;
-use host_trees::{WriteFault, write_tree};
+use adf_host::trees::{WriteFault, write_tree};
 use std::alloc::{AllocError, Global};
 use std::fs;
 use std::io::{Error, ErrorKind};

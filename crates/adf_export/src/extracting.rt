@@ -10,7 +10,7 @@ use crate::items::outgoing;
 use adf_host::{OwnedFile, PromptFiles};
 use adf_words::ExtractJob;
 use ados_volume::Volume;
-use host_trees::write_tree;
+use adf_host::trees::write_tree;
 use std::alloc::Global;
 
 /// Writes the entries of the job's paths, with everything below them, below a directory of the host. Without a path,

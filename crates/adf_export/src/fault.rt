@@ -1,7 +1,7 @@
 //! Why output from a volume failed.
 
 use adf_words::Refused;
-use host_trees::WriteFault;
+use adf_host::trees::WriteFault;
 use std::alloc::AllocError;
 use thiserror::Error;
 

@@ -4,3 +4,8 @@ pub mod Held
 pub mod Images
 pub mod New
 pub mod Sketched
+pub mod Dates
+pub mod Notes
+pub mod Order
+pub mod Paths
+pub mod Writing

@@ -20,6 +20,7 @@ mod replacing;
 mod sketched;
 mod standard;
 mod temporary;
+pub mod trees;
 mod unreadable;
 mod unwritable;
 

@@ -6,7 +6,7 @@ use adf_block::layout::BLOCK_BYTES;
 use adf_record::{Bundle, BundleEntry};
 use adf_text::host_name;
 use ados_name::Name;
-use host_trees::{HeldTree, OpenFault, OwnedFile, PromptFiles};
+use adf_host::trees::{HeldTree, OpenFault, OwnedFile, PromptFiles};
 use std::alloc::{AllocError, Global};
 use std::fs::OpenFile;
 use std::io::{ErrorKind, Read};

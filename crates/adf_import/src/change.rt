@@ -12,7 +12,7 @@ use crate::single::{rename, set_bits, set_comment};
 use adf_words::Change;
 use ados_name::Date3;
 use ados_volume::Volume;
-use host_trees::{OwnedFile, PassedOver, PromptFiles};
+use adf_host::trees::{OwnedFile, PassedOver, PromptFiles};
 use std::alloc::Global;
 
 /// Makes a change with this time stamp. For `add`, it returns what was skipped.

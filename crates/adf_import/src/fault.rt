@@ -6,7 +6,7 @@ use crate::name_why::NameWhy;
 use adf_record::{BundleFault, Grouped};
 use adf_words::Refused;
 use ados_model::DosError;
-use host_trees::{ReadReason, WalkFault};
+use adf_host::trees::{ReadReason, WalkFault};
 use std::alloc::{AllocError, AllocFailed, Global};
 use thiserror::Error;
 

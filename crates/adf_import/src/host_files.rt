@@ -9,7 +9,7 @@ use ados_data::blocks_of;
 use ados_model::DosError;
 use ados_name::{Comment, Date3, Name, Protect};
 use ados_volume::Volume;
-use host_trees::{HostEntry, HostReader, OpenFault, OwnedFile, PromptFiles, ReadReason};
+use adf_host::trees::{HostEntry, HostReader, OpenFault, OwnedFile, PromptFiles, ReadReason};
 use std::alloc::Global;
 use std::fs::OpenFile;
 use std::io::{ErrorKind, Read};

@@ -16,7 +16,7 @@ use adf_words::Source;
 use ados_model::DosError;
 use ados_name::{Date3, Name};
 use ados_volume::Volume;
-use host_trees::{HostKind, HostReader, OwnedFile, PromptFiles, host_tree};
+use adf_host::trees::{HostKind, HostReader, OwnedFile, PromptFiles, host_tree};
 use std::alloc::Global;
 use std::fs;
 use std::io::Read;

@@ -16,7 +16,7 @@ use adf_io::{PrintFault, write_text, write_when_long};
 use adf_salvage::{HeaderState, Salvage, Salvaged, State, salvage};
 use adf_text::ranges_text;
 use adf_words::SalvageJob;
-use host_trees::WriteFault;
+use adf_host::trees::WriteFault;
 use std::alloc::{AllocError, Global};
 use std::io::Write;
 

@@ -4,7 +4,7 @@ ghost use Rattle.std.specs.Prelude.{◌≢◌, ◌≤◌, All, IfSome, IsTrue, l
 use crate::sourced::{Source, SourcedItems, way_up};
 use adf_salvage::{Salvage, Salvaged, State};
 use ados_name::{Date3, Name};
-use host_trees::HostName;
+use adf_host::trees::HostName;
 use std::alloc::{AllocError, Global};
 use std::str::from_utf8;
 

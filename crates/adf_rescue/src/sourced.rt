@@ -8,7 +8,7 @@ use adf_host::{OwnedFile, PromptFiles};
 use adf_salvage::{Salvage, Salvaged};
 use adf_text::{Uaem, uaem_line};
 use ados_name::Date3;
-use host_trees::{Contents, HostItem, HostName, ItemKind, WriteFault, write_tree};
+use adf_host::trees::{Contents, HostItem, HostName, ItemKind, WriteFault, write_tree};
 use std::alloc::{AllocError, Global};
 
 /// Where the bytes of an item are.

@@ -8,7 +8,7 @@ use adf_block::{Image, boot_bytes, boot_image, install_standard};
 use adf_host::{PromptFiles, refuse_length, why_unreadable};
 use adf_io::read_bounded;
 use adf_words::{BootBlock, ImageFile, Rewrite};
-use host_trees::{WriteFault, WriteWhy};
+use adf_host::trees::{WriteFault, WriteWhy};
 use std::alloc::Global;
 use std::fs::{self, File, OpenFile};
 use std::io::{Error, ErrorKind, Write};

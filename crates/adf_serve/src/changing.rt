@@ -10,7 +10,7 @@ use adf_import::{SourceFault, StandardInput, change_volume};
 use adf_text::print_line;
 use adf_words::{Change, ChangeJob, Source};
 use ados_name::Date3;
-use host_trees::{PassedOver, moment_of};
+use adf_host::trees::{PassedOver, moment_of};
 use std::alloc::Global;
 use std::fs::File;
 use std::io::Write;

@@ -17,7 +17,7 @@ use ados_mend::NotValidated;
 use ados_model::DosError;
 use ados_run::ScriptsFault;
 use ados_volume::VolumeFault;
-use host_trees::WriteFault;
+use adf_host::trees::WriteFault;
 use std::alloc::{AllocError, Global};
 use std::fmt;
 use std::rt::Files;
