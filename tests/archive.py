@@ -756,6 +756,7 @@ def texts_of_any_kind(image: Volume) -> Iterator[ToldChange]:
     for block, at, value, kind, text in [
         (ROOT, 0, 3, "BadType", "its primary type is 3; it should be 2"),
         (ROOT, 3, 71, "BadType", "its number of hash slots is 71; it should be 72"),
+        (ROOT, 3, ALL_ONES, "BadType", "its number of hash slots is 4,294,967,295; it should be 72"),
         (ROOT, 127, 2, "BadType", "its secondary type is 2; it should be 1"),
         (ROOT, 125, 5, "BadParent", "its parent is block 5; it should be 0"),
         (ROOT, 79, 1, "BadPointer", f"its bitmap block 1 names block 1; {inside}"),
@@ -779,6 +780,8 @@ def texts_of_any_kind(image: Volume) -> Iterator[ToldChange]:
         (empty, 2, 73, "BadCount", "it has 73 data pointers; it should have at most 72"),
         (extension, 2, 0, "BadCount", "it is an extension block without data pointers; it should have 1 to 72"),
         (long, 81, 1, "BadCount", "its size of 1 bytes does not match its data blocks"),
+        (long, 81, ALL_ONES, "BadCount", "its size of 4,294,967,295 bytes does not match its data blocks"),
+        (long, 2, 1_234, "BadCount", "it has 1,234 data pointers; it should have at most 72"),
         (docs, 108, 0x04446F64, "WrongChain", f"its hash chain is that of slot {slot_of(b'Docs')}; its name belongs to slot {slot_of(b'Dods')}"),
         # The walk takes the longs of a block in rising order.
         (long, 76, first, "BlockUsedTwice", f"it is used twice: by block {long} (pointer 2) and by block {long} (pointer 1)"),
@@ -809,8 +812,10 @@ def texts_of_ofs(image: Volume) -> Iterator[ToldChange]:
         (1, 0, 2, "BadType", "its primary type is 2; it should be 8"),
         (1, 1, 5, "BadParent", f"its file header is block 5; it should be {long}"),
         (1, 2, 9, "BadSequence", "its sequence number is 9; its place in the file is 2"),
+        (1, 2, 1_234, "BadSequence", "its sequence number is 1,234; its place in the file is 2"),
         (72, 2, 1, "BadSequence", "its sequence number is 1; its place in the file is 73"),
         (1, 3, 487, "BadCount", "it holds 487 bytes; it should hold 488"),
+        (1, 3, 1_000_000, "BadCount", "it holds 1,000,000 bytes; it should hold 488"),
         (end, 3, 489, "BadCount", "it holds 489 bytes; the last block of a file holds 1 to 488"),
         (0, 4, 5, "BadPointer", f"its next data block is 5; it should be {blocks[1]}"),
         (end, 4, 5, "BadPointer", "its next data block is 5; it should be 0"),

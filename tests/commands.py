@@ -7,6 +7,7 @@ expected ones. tests/cases tests scripts on standard input.
 from __future__ import annotations
 
 import datetime
+import errno
 import fcntl
 import json
 import os
@@ -26,15 +27,19 @@ sys.path.insert(0, str(Path(__file__).resolve().parent.parent / "tools"))
 
 from command_table import commands, headings
 from harmful import Drawing
-from harness import BLOCK, FILE, TOP, Failed, Image, Ran, Room, Variables, fault_of, redirected, run, try_all
+from harness import BLOCK, FILE, TOP, Failed, Image, Ran, Room, Variables, boot_sum, fault_of, redirected, run, try_all
 
 COMMANDS = "blank info show map where check list print extract undelete add mkdir delete rename protect date comment relabel validate boot serve".split()
 # The commands for an image other than `info`, `check`, `list` and `serve`, with arguments.
 ON_IMAGES = [
     *("print IMAGE x", "extract IMAGE", "add IMAGE x", "mkdir IMAGE x", "delete IMAGE x", "rename IMAGE x y"),
     *("protect IMAGE x rwed", "date IMAGE x now", "comment IMAGE x y", "relabel IMAGE x", "boot IMAGE"),
-    *("boot --clear IMAGE", "boot --install IMAGE", "boot --save none.bin IMAGE", "boot --show IMAGE", "map IMAGE", "map --json IMAGE"),
+    *("boot --clear IMAGE", "boot --install IMAGE", "info --json IMAGE", "where --path x --json IMAGE"),
 ]
+# The commands that read the two boot blocks of any file.
+ON_BOOT_BLOCKS = ["boot --show IMAGE", "boot --save none.bin IMAGE"]
+# The command that prints more of a refused image than that it is refused.
+MAPS = ["map IMAGE", "map --tracks IMAGE", "map --json IMAGE"]
 AT = "--days 1 --minutes 0 --ticks 0"
 # An entry of `list`, from its date on.
 MADE = "     dir ---rwed 1978-01-02 00:00:00.00 "
@@ -264,17 +269,17 @@ def wrong_words(tried: Commands) -> None:
 def wrong_numbers(tried: Commands) -> None:
     for number in ("15", "101603", "-5", "+16", "1e3", "4294967312", "18446744073709551632"):
         words = ["blank", f"--blocks={number}", "Work", "a"]
-        tried.rows(wrong(f"blank --blocks {number}", words, number, "from 16 to 101602"))
+        tried.rows(wrong(f"blank --blocks {number}", words, number, "from 16 to 101,602"))
     for option in ("days", "minutes", "ticks"):
         for number in ("4294967296", "-1", "+1", "1.5", "", "many"):
-            parts = f"'{number}' for '--{option}", "from 0 to 4294967295"
+            parts = f"'{number}' for '--{option}", "from 0 to 4,294,967,295"
             tried.rows(
                 wrong(f"blank --{option} '{number}'", ["blank", f"--{option}={number}", "Work", "a"], *parts),
                 wrong(f"serve --{option} '{number}'", ["serve", f"--{option}={number}", "a", "b"], *parts),
             )
     for number in ("18446744073709551616", "-1", "+1", "1.5", "", "many"):
         words = ["serve", f"--turns={number}", "a", "b"]
-        tried.rows(wrong(f"serve --turns '{number}'", words, f"'{number}' for '--turns", "from 0 to 18446744073709551615"))
+        tried.rows(wrong(f"serve --turns '{number}'", words, f"'{number}' for '--turns", "from 0 to 18,446,744,073,709,551,615"))
     tried.absent("wrong words write nothing", "a")
 
 
@@ -624,6 +629,8 @@ def directories_on_the_way(tried: Commands) -> None:
         (f"k m/{long}/o", f"210 m/{long}/o", many),
         (f"k m/{long}", f"210 m/{long}", many),
         ("k /up", "205 /up", "object not found"),
+        ("k x:f/y:z/o", "212 x:f/y:z/o", kind),
+        ("k x:k/y:z/o", "204 x:k/y:z/o", "directory not found"),
     ):
         tried.rows(row(f"mkdir --parents {words}", f"mkdir --parents way.adf {words}", 3, f"refused {told}\n", text))
     tried.stays("a refused mkdir --parents changes nothing", "way.adf", before)
@@ -895,6 +902,54 @@ def images_from_input(tried: Commands) -> None:
     tried.write("-", image)
     tried.rows(row("a file of that name", "check ./-", 0, "ok\n"))
     tried.report.check("not the file of that name", tried.run("check", "-", input=bytes(512)), 3, b"refused TooFewBlocks 0\n", "its bytes are too few")
+    tried.report.check("both", tried.run("check", "-", "./-", input=image), 0, b"-\tok\n./-\tok\n", "2 images: 2 ok")
+    for words in ("check - -", "check ./- - piped.adf -"):
+        tried.report.check(f"standard input twice: {words}", tried.run(*words.split(), input=image), 1, b"", "FILE '-' is standard input", "only once")
+    os.remove("-")
+
+
+# Changes of a volume with a directory `d`, with the option for the changed image.
+TO_OUTPUT = [
+    *("add TO IMAGE f", "add --as g TO IMAGE f", "mkdir TO IMAGE e", "delete TO IMAGE d", "rename TO IMAGE d e", "protect TO IMAGE d rwed"),
+    *("date TO IMAGE d 1990-01-01", "comment TO IMAGE d x", "relabel TO IMAGE New", "boot TO --install IMAGE", "boot TO --clear IMAGE", "boot TO IMAGE f"),
+]
+
+
+def images_to_output(tried: Commands) -> None:
+    """`-` is standard output as the file for an image, for the commands that print nothing else; `./-` is a file."""
+    tried.write("f", b"bytes")
+    tried.rows(row("an image", "blank --ffs Work made.adf"), row("with a directory", f"mkdir {AT} made.adf d"))
+    blank, image = tried.run("blank", "--ffs", "Work", "-"), tried.content("made.adf")
+    tried.rows(row("the same image", "blank --ffs Work same.adf"))
+    tried.report.check("blank to standard output", blank, 0, tried.content("same.adf"))
+    for words in TO_OUTPUT:
+        given = words.replace("IMAGE", "made.adf")
+        wanted = tried.run(*given.replace("TO", f"{AT} --out new.adf").split())
+        ran = tried.run(*given.replace("TO", f"{AT} --out -").split())
+        tried.report.expect(f"a file for {words}", wanted.status == 0, wanted)
+        tried.report.check(f"{words} to standard output", ran, 0, tried.content("new.adf"))
+    tried.report.same("the image of a pipe", tried.run("list", "-", input=tried.run("mkdir", "--out", "-", *AT.split(), "same.adf", "d").output).output, tried.run("list", "made.adf").output)
+    tried.write("long.adf", image + b"more")
+    ran = tried.run("mkdir", "--blocks", "1760", "--out", "-", *AT.split(), "long.adf", "e")
+    tried.report.expect("what is behind the image goes with it", ran.status == 0 and len(ran.output) == len(image) + 4 and ran.output.endswith(b"more"), ran.texts)
+    tried.rows(
+        row("a refused change prints no image", "delete --out - made.adf none", 3, "refused 205 none\n", "object not found"),
+        row("a refused image prints no image", "mkdir --out - f d", 3, NOT_BLOCKS, "5" + WHY_NOT_BLOCKS),
+        wrong("validate --out -", "validate --out - made.adf", "'--out -' is standard output", "'./-'"),
+        wrong("serve --out -", "serve --out - made.adf f", "'--out -' is standard output", "'./-'"),
+    )
+    full = os.open("/dev/full", os.O_WRONLY)
+    for words in ("blank Work -", "mkdir --out - made.adf e"):
+        tried.report.check(f"{words}: an output that is full", tried.run(*words.split(), before=redirected(full, 1)), 2, b"", UNWRITTEN)
+    os.close(full)
+    tried.absent("no file of that name", "-")
+    tried.stays("the image is as it was", "made.adf", image)
+    tried.rows(row("a file of that name", "blank --ffs Work ./-"), row("a change of it", f"mkdir {AT} ./- d"))
+    tried.stays("it has the bytes of any other", "-", image)
+    for words in [it.replace(" TO", "") for it in TO_OUTPUT] + ["validate IMAGE"]:
+        ran = tried.run(*words.replace("IMAGE", "-").split(), input=image)
+        tried.report.check(f"{words}: standard input is not changed", ran, 1, b"", "IMAGE '-' is standard input", "'./-'")
+    tried.stays("and the file of that name neither", "-", image)
     os.remove("-")
 
 
@@ -1060,15 +1115,6 @@ STANDARD_SHOWN = """boot block: standard
 """
 
 
-def boot_sum(blocks: bytes) -> bytes:
-    """The checksum of two boot blocks: the complement of the sum of their longs, with each carry added again and without the
-    checksum itself."""
-    total = sum(int.from_bytes(blocks[it : it + 4], "big") for it in range(0, 2 * BLOCK, 4) if it != 4)
-    while total >> 32:
-        total = (total & 0xFFFFFFFF) + (total >> 32)
-    return (total ^ 0xFFFFFFFF).to_bytes(4, "big")
-
-
 def boot_with(kind: bytes, behind: bytes) -> bytes:
     """Two boot blocks of this kind with the right checksum, and these bytes behind it."""
     blocks = kind + bytes(4) + behind.ljust(2 * BLOCK - 8, b"\0")
@@ -1158,7 +1204,11 @@ def standard_boot(tried: Commands) -> None:
 def shown_boots(tried: Commands) -> None:
     """`boot --show`: what a boot block is, and its bytes."""
     blank = tried.content("boots.adf")
-    tried.rows(row("boot --show of a blank image", "boot --show boots.adf", 0, BLANK_SHOWN))
+    none = json.dumps({"boot": "none", "bytes": (b"DOS\1" + bytes(1020)).hex()}, separators=(",", ":")) + "\n"
+    tried.rows(
+        row("boot --show of a blank image", "boot --show boots.adf", 0, BLANK_SHOWN),
+        row("boot --show --json of a blank image", "boot --json --show boots.adf", 0, none),
+    )
     full = bytes(range(256)) * 4
     own = boot_with(b"DOS\1", ROOT_OF_FLOPPY + b"\x4e\x75 text ~\x7f\x1f\xff")
     wrong_sum = "custom, checksum wrong: not bootable"
@@ -1180,7 +1230,12 @@ def shown_boots(tried: Commands) -> None:
         blocks = blocks.ljust(2 * BLOCK, b"\0")
         image = blocks + blank[2 * BLOCK :]
         tried.write("shown.adf", image)
-        tried.rows(row(f"boot --show of {name}", "boot --show shown.adf", 0, boot_shown(said, blocks)))
+        word = "standard" if said == "standard" else "wrong" if said == wrong_sum else "custom"
+        shown = json.dumps({"boot": word, "bytes": blocks.hex()}, separators=(",", ":")) + "\n"
+        tried.rows(
+            row(f"boot --show of {name}", "boot --show shown.adf", 0, boot_shown(said, blocks)),
+            row(f"boot --show --json of {name}", "boot --show --json shown.adf", 0, shown),
+        )
         booting = tried.run("info", "shown.adf").output.endswith(b"boot yes\n")
         tried.report.same(f"info of {name}", booting, said != wrong_sum)
         tried.stays(f"boot --show of {name} changes nothing", "shown.adf", image)
@@ -1188,6 +1243,25 @@ def shown_boots(tried: Commands) -> None:
     tried.write("shown.adf", stale)
     tried.rows(row("boot --show where the bitmap is rebuilt", "boot --show shown.adf", 0, boot_shown("custom, checksum right", own)))
     tried.stays("boot --show rebuilds no bitmap", "shown.adf", stale)
+    other = b"PFS\1" + own[4:]
+    for name, image in (("two blocks", own), ("two blocks and a byte", own + b"x"), ("a disk of another kind", other + bytes(1758 * BLOCK))):
+        said = "custom, checksum right" if image[:3] == b"DOS" else wrong_sum
+        tried.write("shown.adf", image)
+        tried.rows(row(f"boot --show of {name}", "boot --show shown.adf", 0, boot_shown(said, image[: 2 * BLOCK])))
+        piped = tried.run("boot", "--show", "-", input=image)
+        tried.report.check(f"boot --show of {name} from a pipe", piped, 0, boot_shown(said, image[: 2 * BLOCK]).encode())
+    tried.write("shown.adf", own[:-1])
+    tried.rows(row("boot --show of a byte less than two blocks", "boot --show shown.adf", 3, "refused NotWholeBlocks 0\n", "1,023 bytes"))
+
+
+def named_boots(tried: Commands) -> None:
+    """`extract --damaged` and `extract --bundle` say what the boot block is, if there is one."""
+    boot = boot_with(b"DOS\1", b"own")
+    for name, front, said in (("none", b"DOS\1", ""), ("custom", boot, "adf_serve: boot block: custom, checksum right\n")):
+        tried.write("named.adf", front + tried.content("ffs.adf")[len(front) :])
+        for words in ("extract --damaged --list named.adf", f"extract --bundle {name}.bundle named.adf"):
+            ran = tried.run(*words.split())
+            tried.report.same(f"{words}: boot block {name}", (ran.status, ran.texts), (0, said.encode()))
 
 
 def saved_boots(tried: Commands) -> None:
@@ -1213,6 +1287,7 @@ def saved_boots(tried: Commands) -> None:
     wanted = boot_with(b"DOS\0", ROOT_OF_FLOPPY + STANDARD)
     tried.report.expect("the kind stays, and the checksum is right", tried.content("other.adf")[: 2 * BLOCK] == wanted, "other bytes")
     saved = tried.content("saved.boot")
+    tried.write("cut.boot", saved[:-1])
     os.symlink("nowhere", "link.boot")
     tried.rows(
         lacking("boot --save over a file", "boot --save saved.boot other.adf", "'saved.boot' already exists"),
@@ -1222,11 +1297,15 @@ def saved_boots(tried: Commands) -> None:
         lacking("boot --save in a folder that is not there", "boot --save none/x boots.adf", "cannot write 'none/x': no such directory"),
         lacking("boot --save under a file", "boot --save saved.boot/x boots.adf", "cannot write 'saved.boot/x': a part of the path is no directory"),
         lacking("boot --save of an image that is not there", "boot --save x.boot none.adf", "cannot read 'none.adf': no such file"),
-        row("boot --save of a file that is no image", "boot --save x.boot saved.boot", 3, "refused TooFewBlocks 0\n", "1,024 bytes are too few"),
+        row("boot --save of a byte less than two blocks", "boot --save x.boot cut.boot", 3, NOT_BLOCKS, "1,023" + WHY_NOT_BLOCKS),
+        row("boot --save of two blocks alone", "boot --save two.boot saved.boot"),
     )
+    tried.stays("boot --save of two blocks writes them", "two.boot", saved)
+    tried.report.check("boot --save to standard output", tried.run("boot", "--save", "-", "boots.adf"), 0, saved)
+    tried.report.check("boot --save of a byte less than two blocks to standard output", tried.run("boot", "--save", "-", "cut.boot"), 3, NOT_BLOCKS.encode(), "1,023" + WHY_NOT_BLOCKS)
     tried.stays("boot --save writes over no file", "saved.boot", saved)
     tried.stays("boot --save writes over no image", "boots.adf", image)
-    for name in ("x.boot", "nowhere"):
+    for name in ("x.boot", "nowhere", "-"):
         tried.absent(f"no file {name}", name)
     few = tried.run("boot", "--save", "few.boot", "boots.adf", before=partial(resource.setrlimit, resource.RLIMIT_FSIZE, (1000, 1000)))
     tried.report.check("boot --save past the limit on files", few, 2, b"", "cannot write 'few.boot': ", "ulimit")
@@ -1246,6 +1325,7 @@ def boot_options(tried: Commands) -> None:
         wrong("boot --save without a file", "boot none.adf --save", "--save", "FILE"),
         wrong("boot --save without an image", "boot --save x", "IMAGE", "Usage"),
         wrong("boot --show without an image", "boot --show", "IMAGE", "Usage"),
+        wrong("boot --json without --show", "boot --json none.adf", "--show", "Usage"),
         wrong("boot --install with a date that is none", "boot --install --date x none.adf", "'x' for '--date"),
         wrong("boot --show with a number that is none", "boot --show --ticks x none.adf", "'x' for '--ticks"),
     )
@@ -1298,7 +1378,7 @@ def held_images(tried: Commands) -> None:
 
 def missing_files(tried: Commands) -> None:
     before = tried.content("ffs.adf")
-    for words in ON_IMAGES:
+    for words in (*ON_IMAGES, *ON_BOOT_BLOCKS, *MAPS):
         words = words.replace("IMAGE", "none.adf")
         tried.rows(lacking(f"an image that is not there: {words}", words, "cannot read 'none.adf': no such file"))
     for command in ("info", "list"):
@@ -1323,6 +1403,21 @@ def missing_files(tried: Commands) -> None:
     )
     tried.absent("nothing was written where a file was missing", "none.out")
     tried.stays("the image is as it was", "ffs.adf", before)
+
+
+def errors_of_the_host(tried: Commands) -> None:
+    """An error that this program has no words for is told in those of the host, without its number; a name that is not UTF-8 in its own."""
+    os.symlink("loop", "loop")
+    for name, number in (("n" * 256, errno.ENAMETOOLONG), ("loop", errno.ELOOP)):
+        for words in ("info {}", "list {}", "check {}", "extract --bundle {} ffs.adf", "add ffs.adf {}", "blank Work {}", "mkdir --out {} ffs.adf x"):
+            ran = tried.run(*words.format(name).split())
+            tried.report.check(f"{words} of {name[:8]}", ran, 2, b"", f"cannot {'write' if 'Work' in words or '--out' in words else 'read'} '{name}': {os.strerror(number)}\n")
+    os.remove("loop")
+    os.mkdir("strange")
+    open(b"strange/\xff", "wb").close()
+    ran = tried.run("add", "ffs.adf", "strange")
+    tried.report.check("add of a directory with a name that is not UTF-8", ran, 2, b"", "cannot read a file in 'strange': its name is not UTF-8\n")
+    shutil.rmtree("strange")
 
 
 def denied_files(tried: Commands) -> None:
@@ -1408,6 +1503,13 @@ LISTED_DATES = """Volume Work
 """
 
 
+def info_object(told: str) -> str:
+    """The object for the lines of `info`."""
+    state, blocks, used, size, kind = told.split()[2:7]
+    numbers = {"state": int(state), "blocks": int(blocks), "used": int(used), "bytes_per_block": int(size), "disk_type": int(kind, 16)}
+    return json.dumps({**numbers, "bootable": told.endswith("boot yes\n")}, separators=(",", ":")) + "\n"
+
+
 def accepted_images(tried: Commands) -> None:
     """The output of `check`, `info` and `list` for each. No command changes its image."""
     blank = tried.content("ffs.adf")
@@ -1417,6 +1519,7 @@ def accepted_images(tried: Commands) -> None:
         tried.rows(
             row(f"{name}: check", "check drawn.adf", 0, checked),
             row(f"{name}: info", "info drawn.adf", 0, told),
+            row(f"{name}: info --json", "info --json drawn.adf", 0, info_object(told)),
             row(f"{name}: list", "list drawn.adf", 0, "Volume Work\n"),
         )
         tried.stays(f"{name}: unchanged", "drawn.adf", image)
@@ -1492,9 +1595,9 @@ def forms_of_lists(tried: Commands) -> None:
     for name, head in (("list", plain[0]), ("list --letters", plain[0]), ("list --long", plain[0]), ("list --json", "")):
         tried.rows(
             row(f"{name} of an empty directory", f"{name} told.adf a", 0, head),
-            row(f"{name} of no object", f"{name} told.adf S/none", 3, "refused 205 S/none\n", "object not found"),
-            row(f"{name} below no directory", f"{name} told.adf none/x", 3, "refused 204 none/x\n", "directory not found"),
-            row(f"{name} below a file", f"{name} told.adf t/x", 3, "refused 212 t/x\n", "required type"),
+            row(f"{name} of no object", f"{name} told.adf S/none", 3, dos_refusal(name, 205, "S/none"), "object not found"),
+            row(f"{name} below no directory", f"{name} told.adf none/x", 3, dos_refusal(name, 204, "none/x"), "directory not found"),
+            row(f"{name} below a file", f"{name} told.adf t/x", 3, dos_refusal(name, 212, "t/x"), "required type"),
         )
     for at, path in ((3, "s/CAF\xe9"), (4, "S/F\x1b"), (5, "t")):
         tried.rows(
@@ -1542,13 +1645,21 @@ def refused_images(tried: Commands) -> None:
         if name in nexts:
             texts.append(f"'{name}' {nexts[name].format(name)}")
         for words in ("check IMAGE", "info IMAGE", "list IMAGE", *ON_IMAGES):
-            tried.rows(row(f"{words.split()[0]} of {name}", words.replace("IMAGE", name), 3, refused, *texts))
+            tried.rows(row(f"{words.split()[0]} of {name}", words.replace("IMAGE", name), 3, refusal(words, told), *texts))
         if name not in ("marked.adf", "page.adf"):
-            tried.rows(row(f"validate of {name}", ["validate", name], 3, refused, *texts))
+            tried.rows(*(row(f"{it} of {name}", f"{it} {name}", 3, refusal(it, told), *texts) for it in ("validate", "validate --json")))
+        if len(image) < 2 * BLOCK:
+            for words in (*ON_BOOT_BLOCKS, "boot --show --json IMAGE", "undelete --list --json IMAGE"):
+                tried.rows(row(f"{words} of {name}", words.replace("IMAGE", name), 3, refusal(words, told), *texts))
+            tried.absent("a file without two blocks saves no boot block", "none.bin")
+        else:
+            show, save = (it.replace("IMAGE", name) for it in ON_BOOT_BLOCKS)
+            tried.rows(row(f"boot --show of {name}", show, 0, boot_shown("none", image[: 2 * BLOCK])), row(f"boot --save of {name}", save))
+            tried.stays(f"boot --save of {name} writes the two blocks", "none.bin", image[: 2 * BLOCK])
+            os.remove("none.bin")
         tried.stays(f"{name} stays", name, image)
         tried.rows(row(f"serve of {name}", ["serve", "--out", "none.out", name, "none"], 3, refused, *texts))
     tried.absent("a refused image writes nothing", "none.out")
-    tried.absent("a refused image saves no boot block", "none.bin")
     os.remove("huge.adf")
 
 
@@ -1659,6 +1770,22 @@ def shown_volumes(tried: Commands) -> None:
         tried.report.same(f"show --json of a boot block: {said}", json.loads(tried.run("show", "--json", "booted.adf").output)["boot"], word)
 
 
+def refusal(words: str, told: str) -> str:
+    """What a command prints for a refused image."""
+    kind, block = told.split()
+    return refused_object(kind=kind, block=int(block)) if "--json" in words else f"refused {told}\n"
+
+
+def dos_refusal(words: str, number: int, path: str) -> str:
+    """What a command prints for a refusal by AmigaDOS."""
+    return refused_object(number=number, path=path) if "--json" in words else f"refused {number} {path}\n"
+
+
+def refused_object(**reason: Union[str, int]) -> str:
+    """What a command that prints JSON prints where something is refused."""
+    return json.dumps({"refused": reason}, separators=(",", ":")) + "\n"
+
+
 def refused_shows(tried: Commands) -> None:
     """`show` of refused images: the line of each command, and on standard error what can be said."""
     blank = tried.content("ffs.adf")
@@ -1673,9 +1800,12 @@ def refused_shows(tried: Commands) -> None:
     ]
     for name, image, told, said in rows:
         tried.write(name, image)
-        for words in ("show", "show --json"):
-            tried.rows(row(f"{words} of {name}", f"{words} {name}", 3, f"refused {told}\n", *said))
+        tried.rows(*(row(f"{it} of {name}", f"{it} {name}", 3, refusal(it, told), *said) for it in ("show", "show --json", "list --json")))
         tried.stays(f"show leaves {name}", name, image)
+    tried.rows(
+        row("list --json of no entry", ["list", "--json", "ffs.adf", 'a"b'], 3, refused_object(number=205, path='a"b'), 'a"b'),
+        row("a rescue as JSON of no image", "extract --damaged --list --json short.adf", 3, refused_object(kind="TooFewBlocks", block=0), "7,680 bytes are too few"),
+    )
     tried.rows(lacking("show of no file", "show none.adf", "none.adf"), wrong("show without an image", "show", "Usage"))
 
 
@@ -1818,7 +1948,7 @@ def first_blocks_of_several(tried: Commands) -> None:
     tried.write("fronts/a.adf", front + BEHIND)
     tried.write("fronts/b.adf", front)
     tried.write("fronts/c.adf", front[:-BLOCK])
-    why = ("cannot read 'fronts/c.adf': it has fewer than 1760 blocks", "3 images: 2 ok, 0 refused, 1 unreadable")
+    why = ("cannot read 'fronts/c.adf': it has fewer than 1,760 blocks", "3 images: 2 ok, 0 refused, 1 unreadable")
     tried.rows(
         row("check --blocks of a directory", "check --blocks 1760 fronts", 2, "fronts/a.adf\tok\nfronts/b.adf\tok\n", *why),
         row("check --blocks of two files", "check --blocks 1760 fronts/a.adf fronts/b.adf", 0, "fronts/a.adf\tok\nfronts/b.adf\tok\n", "2 images: 2 ok"),
@@ -1867,13 +1997,15 @@ def wrong_first_blocks(tried: Commands) -> None:
     for command in ("info {} dump.adf", "check {} dump.adf", "list {} dump.adf", "mkdir {} dump.adf x", "extract --damaged --list {} dump.adf"):
         for number in ("", "x", "15", "101603", "+1760", "-1", "0x6e0", "1760.0", "99999999999999999999"):
             words = command.format(f"--blocks={number}")
-            tried.rows(wrong(words, words, f"'{number}' for '--blocks <N>'", "16 to 101602"))
+            tried.rows(wrong(words, words, f"'{number}' for '--blocks <N>'", "16 to 101,602"))
         tried.rows(wrong(f"twice: {command}", command.format("--blocks 1760 --blocks 1760"), "--blocks", "Usage"))
-    short = "cannot read 'dump.adf': it has fewer than 1805 blocks"
-    for command in ("info {}", "show {}", "map {}", "where {} 1", "check {}", "list {}", "print {} x", "extract {}", "undelete {}", "boot --show {}",
+    short = "cannot read 'dump.adf': it has fewer than 1,805 blocks"
+    for command in ("info {}", "show {}", "map {}", "where {} 1", "check {}", "list {}", "print {} x", "extract {}", "undelete {}",
                     "extract --bundle x {}", "mkdir {} x", "add {} one", "boot --clear {}", "validate {}", "serve --out none.adf {} one"):
         words = command.format("--blocks 1805 dump.adf")
         tried.rows(lacking(words, words, short))
+    # (two blocks are all that it reads)
+    tried.rows(row("boot --show of more blocks than there are", "boot --show --blocks 1805 dump.adf", 0, tried.run("boot", "--show", "dump.adf").output))
     tried.stays("a wrong --blocks changes nothing", "dump.adf", before)
     tried.absent("and writes nothing", "none.adf")
     Path("long.adf").write_bytes(tried.content("front.adf"))
@@ -1891,7 +2023,7 @@ def missing_blocks(tried: Commands) -> None:
         tried.write("short.adf", front[:count])
         tried.write("full.adf", front[:count] + bytes(1760 * BLOCK - count))
         full, ran = (tried.run("extract", "--damaged", "--list", *words) for words in (["full.adf"], ["--blocks", "1760", "short.adf"]))
-        said = f"adf_serve: 'short.adf' has {count:,} of the 901,120 bytes of its 1760 blocks: missing bytes are read as zeros\n".encode()
+        said = f"adf_serve: 'short.adf' has {count:,} of the 901,120 bytes of its 1,760 blocks: missing bytes are read as zeros\n".encode()
         tried.report.same(f"--damaged --blocks of {count} bytes", ran, Ran(full.status, full.output, said + full.texts))
         tried.stays("a short file stays", "short.adf", front[:count])
     plain, ran = (tried.run("extract", "--damaged", "--list", *words, "front.adf") for words in (list[str](), ["--blocks", "1760"]))
@@ -1912,11 +2044,18 @@ def refused_output(tried: Commands) -> None:
     }
     for words in ("info ffs.adf", "check ffs.adf", "list ffs.adf", "boot --show ffs.adf", "check kind.adf", "serve --out full.adf ffs.adf write"):
         for name, before in outputs.items():
-            tried.report.check(f"{words} {name}", tried.run(*words.split(), before=before), 2, b"", UNWRITTEN)
+            ran = tried.run(*words.split(), before=before)
+            # (a reader that has seen enough, as `head`, needs no text)
+            wanted = (2, b"", "nobody reads" not in name)
+            tried.report.same(f"{words} {name}", (ran.status, ran.output, UNWRITTEN in ran.texts.decode()), wanted)
+    for words in ("list ffs.adf", "map ffs.adf"):
+        tried.report.check(f"{words}: no text for who reads no more", tried.run(*words.split(), before=outputs["into a pipe that nobody reads"]), 2)
     entry = "Volume Work\n       1 ---rwed 1978-01-01 00:00:00.00 f\n"
     tried.rows(row("the image is written where output is refused", "list full.adf", 0, entry))
     ran = tried.run(input=b"diskinfo\n", before=outputs["onto a full device"])
     tried.report.check("a script onto a full device", ran, 2, b"", UNWRITTEN)
+    ran = tried.run(input=b"diskinfo\n", before=outputs["into a pipe that nobody reads"])
+    tried.report.check("a script into a pipe that nobody reads", ran, 2)
     ran = tried.run(before=partial(os.close, 0))
     tried.report.check("a script from a closed input", ran, 2, b"", "standard input cannot be read")
     os.close(full)
@@ -1927,10 +2066,10 @@ PARTS: List[Callable[[Commands], None]] = [
     *(blank_images, moments, written_moments, wrong_words, wrong_numbers, wrong_dates),
     *(wrong_words_for_files, words_too_many_and_wrong_letters, refused_names),
     *(tips, help_in_groups, versions, usage_lines, clients, faulty_scripts, explained_lines, at_a_terminal, turns, growths, many_clients),
-    *(directories, directories_on_the_way, files_under_names, closed_input, images_from_input, turned_words, refused_changes, changes_beside, precious_files),
+    *(directories, directories_on_the_way, files_under_names, closed_input, images_from_input, images_to_output, turned_words, refused_changes, changes_beside, precious_files),
     *(named_entries, protect_words, boot_blocks),
-    *(standard_boot, shown_boots, saved_boots, boot_options),
-    *(held_images, readers_of_held_images, missing_files, denied_files, first_faults),
+    *(standard_boot, shown_boots, saved_boots, named_boots, boot_options),
+    *(held_images, readers_of_held_images, missing_files, errors_of_the_host, denied_files, first_faults),
     *(accepted_images, forms_of_lists, refused_images, stale_image, refused_output),
     *(shown_volumes, refused_shows, bold_letters, sorted_lists),
     *(first_blocks, first_blocks_of_several, changed_first_blocks, wrong_first_blocks, missing_blocks),

@@ -258,7 +258,7 @@ def paths(room: Room) -> None:
     refuses(room, "a letter past U+00FF in a word", ["mkdir", "image.adf", "\u0142"], b"", "\u0142", status=1)
     room.write("\u0142ysy", b"x")
     refused = "refused 210 \u0142ysy\n".encode()
-    refuses(room, "a letter past U+00FF in a host file", ["add", "image.adf", "\u0142ysy"], refused, "'\u0142ysy' has a '\u0142'")
+    refuses(room, "a letter past U+00FF in a host file", ["add", "image.adf", "\u0142ysy"], refused, "'\u0142ysy' has a '\u0142', which is not in ISO 8859-1")
     ran = room.run("print", "image.adf", "nowhere//x")
     room.report.check("up from a directory", ran, 3, b"refused 204 nowhere//x\n", "directory not found")
     room.succeeds("behind the colon", "list", "image.adf", "Any:" + "a" * 30, output=None)

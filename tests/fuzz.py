@@ -466,8 +466,11 @@ class Tried:
     def printed(self, whole: Tree) -> None:
         """`print` of the first files of an accepted image, by paths without escapes."""
         self.agrees("info", "image.adf")
-        self.agrees("boot", "--show", "image.adf")
-        self.agrees("map", "image.adf")
+        booted = self.run("boot", "--show", "image.adf")
+        assert (booted.status, booted.output[:12]) == (0, b"boot block: "), f"boot --show: status {booted.status}, {booted.output[:200]!r}"
+        mapped = self.run("map", "image.adf")
+        wanted = (0, b"") if self.is_accepted else (3, self.refused)
+        assert (mapped.status, mapped.output[: len(wanted[1])]) == wanted, f"map: status {mapped.status}, {mapped.output[:200]!r}"
         self.placed()
         self.agrees("where", "--path", "", "image.adf")
         if not self.is_accepted:

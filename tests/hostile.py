@@ -39,6 +39,7 @@ from __future__ import annotations
 
 import ctypes
 import fcntl
+import json
 import os
 import random
 import re
@@ -1437,6 +1438,39 @@ def listings(room: Shared) -> None:
     shutil.rmtree("odd")
 
 
+def forged_lines(room: Shared) -> None:
+    """On standard output no name of a file or of an entry steers a terminal, or looks like a line for another file."""
+    forger, shown = f"good.adf\tok\n{STEERS}", f"good.adf%09ok%0A{SHOWN.decode()}"
+    os.makedirs("forge/below")
+    for it in (f"forge/{forger}.adf", f"forge/below/{forger}.adf"):
+        room.write(it, room.full)
+    lines = [f"forge/below/{shown}.adf\tok\n", f"forge/{shown}.adf\tok\n"]
+    for words in ([], ["--all"], ["--filler"]):
+        ran = room.run("check", *words, "forge")
+        room.report.same(f"check {' '.join(words)} of names that forge lines", (ran.status, ran.output.decode()), (0, "".join(lines)))
+    damaged = f"forge/{forger}.adf"
+    room.write(damaged, room.full[:-1])
+    ran = room.run("check", damaged, "full.adf")
+    room.report.same("refused, with such a name", (ran.status, ran.output.decode()), (3, f"forge/{shown}.adf\trefused NotWholeBlocks 0\nfull.adf\tok\n"))
+    objects = room.run("check", "--json", "forge").output
+    room.report.same("an object has the name itself", [json.loads(it)["path"] for it in objects.splitlines()], [f"forge/below/{forger}.adf", damaged])
+    os.mkdir("forge/in")
+    room.write(f"forge/in/{STEERS}\u0100")
+    ran = room.run("add", "--out", "forged.adf", "empty.adf", "forge/in")
+    room.report.same("add of a name that is none", (ran.status, ran.output.decode()), (3, f"refused 210 forge/in/{SHOWN.decode()}\u0100\n"))
+    room.done("mkdir", *MOMENT, "--out", "forged.adf", "empty.adf", "d")
+    room.done("add", *MOMENT, "--to", "d", "--as", STEERS, "forged.adf", "one")
+    room.done("protect", "forged.adf", f"d/{STEERS}", "-d")
+    for name, words, answer in (
+        ("delete --all of a protected entry", ["delete", "--all", "forged.adf", "d"], f"222 d/{SHOWN.decode()}"),
+        ("print of what is not there", ["print", "forged.adf", f"{STEERS}ok"], f"205 {SHOWN.decode()}ok"),
+        ("mkdir of what is there", ["mkdir", "forged.adf", f"d/{STEERS}"], f"203 d/{SHOWN.decode()}"),
+    ):
+        ran = room.run(*words)
+        room.report.same(f"control characters in {name}", (ran.status, ran.output.decode()), (3, f"refused {answer}\n"))
+    shutil.rmtree("forge")
+
+
 # ---- images that others work on
 
 HELD = "is mounted or being changed: the state saved last is read"
@@ -1563,6 +1597,12 @@ def deep_images(blocks: int, room: Shared) -> None:
     bounded(room, blocks, f"delete --all of {title}", ["delete", "--all", *MOMENT, "deep.adf", first], 0)
     listed = bounded(room, blocks, f"list after delete --all of {title}", ["list", "deep.adf"], 0)
     room.report.expect(f"what is left of {title} of {blocks} blocks", listed == b"Volume Work\n", f"{listed[:200]!r}")
+    # (a word has at most 131,071 bytes)
+    parts = min(60_000, headers_of(blank))
+    for what in (f"mkdir --parents that makes {title}", f"mkdir --parents of {title} that is there"):
+        bounded(room, blocks, what, ["mkdir", "--parents", *MOMENT, "deep.adf", "/".join("a" * parts)], 0)
+    told = bounded(room, blocks, f"check --json after mkdir --parents of {title}", ["check", "--json", "deep.adf"], 0)
+    room.report.expect(f"what mkdir --parents made of {title} of {blocks} blocks", b'"directories":%d,' % parts in told, f"{told[:300]!r}")
 
 
 def counted(room: Room, words: Sequence[str]) -> Tuple[int, int, bytes]:
@@ -1702,7 +1742,7 @@ def disks() -> List[Task[Shared]]:
 
 def commands() -> List[Task[Shared]]:
     """What is not a disk."""
-    parts = [endless, killed, at_once, leftovers, random_names, entries_like_leftovers, short_files, short_output, served_over, held_images, readers_stopped, links_to_nothing, terminals, listings, holes]
+    parts = [endless, killed, at_once, leftovers, random_names, entries_like_leftovers, short_files, short_output, served_over, held_images, readers_stopped, links_to_nothing, terminals, listings, forged_lines, holes]
     parts += [long_paths, without_proc, modes, not_kept, owners, links_beside, others_in_place, links_of_others, swapped_files]
     found: List[Task[Shared]] = [(it.__name__.replace("_", " "), Shared, it) for it in parts]
     return found + [(it.__name__.replace("_", " "), InMemory, it) for it in (swapped_directories, deep_directories, opened_again)]

@@ -10,8 +10,10 @@ that were drawn. The environment variable ROUNDS is the number of drawn images.
 """
 from __future__ import annotations
 
+import json
 import os
 import random
+import re
 import shutil
 import sys
 import time
@@ -50,13 +52,23 @@ LONGEST = 255
 
 
 class Found(NamedTuple):
-    """A deleted entry: its header, its line, and whether it is written without `--force`."""
+    """A deleted entry: its header, its line, whether it is written without `--force`, and what is said of its blocks."""
 
     header: int
     path: Optional[str]
     line: str
     is_directory: bool
     is_written: bool
+    said: str
+    user: Optional[int]
+
+    def object(self) -> Dict[str, object]:
+        """What `--json` prints of it."""
+        numbers = [int(it) for it in re.findall("[0-9]+", self.said)]
+        words = (("directory", "a directory"), ("damaged", "damaged"), ("free", "are free"), ("used", "are used"), ("shared", "in another"))
+        word = next(word for word, part in words if part in self.said)
+        counts = {"blocks": numbers[-1], "taken": 0 if word == "free" else numbers[0]} if numbers else {"blocks": None, "taken": None}
+        return {"path": self.path, "header": self.header, "recovery": word, **counts, "by": self.user}
 
 
 class Deleting(Image):
@@ -200,7 +212,7 @@ class Deleting(Image):
         for it in self.deleted:
             said, is_written, user = states[it]
             line = self.label(it) + said + ("" if user is None else f" by {self.label(user)}")
-            yield Found(it, self.path(it), f"{line}\n", self.long(it, 127) == DIRECTORY, is_written)
+            yield Found(it, self.path(it), f"{line}\n", self.long(it, 127) == DIRECTORY, is_written, said, user)
 
 
 # ---- drawn images with deleted entries
@@ -325,6 +337,9 @@ def fault_of_disk(room: Room, data: bytes, bytes_of: Dict[int, bytes]) -> Option
     found = [*image.found()]
     lines = "".join(it.line for it in found).encode()
     fault = fault_of(room.run("undelete", "--list", "--to", "listed", "deleted.adf"), 0, lines)
+    ran = room.run("undelete", "--list", "--json", "--to", "listed", "deleted.adf")
+    objects = [json.loads(it) for it in ran.output.splitlines()]
+    fault = fault or fault_of(ran, 0, None) or (None if objects == [it.object() for it in found] else f"other objects: {ran.output[:300]!r}")
     if fault or os.path.exists("listed"):
         return fault or "a list makes a directory"
     forces: List[Tuple[List[str], bool]] = [([], False), (["--force"], True)]
@@ -538,6 +553,8 @@ def refused(room: Room) -> None:
     room.report.check("no such file", room.run("undelete", "none.adf"), 2, b"", "none.adf")
     room.write("short.adf", bytes(100))
     room.report.check("too few bytes", room.run("undelete", "short.adf"), 3, b"refused NotWholeBlocks 0\n", "100 bytes")
+    size = b'{"refused":{"kind":"NotWholeBlocks","block":0}}\n'
+    room.report.check("too few bytes, as JSON", room.run("undelete", "--json", "short.adf"), 3, size, "100 bytes")
     os.mkdir("link")
     os.symlink("..", "link/d")
     room.report.check("a link on the way", room.run("undelete", "--to", "link", "small.adf"), 2, b"", "is a symbolic link")

@@ -9,11 +9,12 @@ variable ROUNDS is the number of images with random damage to their bitmaps.
 """
 from __future__ import annotations
 
+import json
 import os
 import random
 import struct
 import sys
-from typing import Callable, List, NamedTuple, Optional, Sequence, Set, Tuple
+from typing import Callable, Dict, List, NamedTuple, Optional, Sequence, Set, Tuple
 
 sys.dont_write_bytecode = True
 
@@ -159,6 +160,19 @@ def wanted_of(data: bytes, force: bool) -> Wanted:
     return Wanted(0, line.encode(), None, bytes(new.data))
 
 
+def object_of(output: bytes) -> bytes:
+    """What `--json` prints in place of this line."""
+    if not output:
+        return b""
+    words = output.decode().split()
+    if words[0] == "refused":
+        told: Dict[str, object] = {"refused": {"kind": words[1], "block": int(words[2])}}
+    else:
+        freed, used = (int(it) for it in words if it.isdecimal())
+        told = {"were_free": freed, "were_used": used}
+    return json.dumps(told, separators=(",", ":")).encode() + b"\n"
+
+
 def fault_of_run(room: Room, data: bytes, force: bool, out: bool = False) -> Optional[str]:
     """What is wrong with a run over these bytes."""
     return fault_beside(room, data, force, wanted_of(data, force), out)
@@ -167,6 +181,9 @@ def fault_of_run(room: Room, data: bytes, force: bool, out: bool = False) -> Opt
 def fault_beside(room: Room, data: bytes, force: bool, wanted: Wanted, out: bool = False) -> Optional[str]:
     """What is wrong with a run over these bytes, where this is expected of it."""
     room.write("damaged.adf", data)
+    ran = room.run("validate", *["--force"] * force, "--json", "--out", "object.adf", "damaged.adf")
+    if (ran.status, ran.output) != (wanted.status, object_of(wanted.output)):
+        return f"{ran} where {object_of(wanted.output)!r} is expected"
     options = ["--force"] * force + ["--out", "out.adf"] * out
     ran = room.run("validate", *options, "damaged.adf")
     if (ran.status, ran.output) != (wanted.status, wanted.output):

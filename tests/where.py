@@ -1,13 +1,13 @@
 #!/usr/bin/env python3
 """Tests the commands `map` and `where` of the built program: the owner of each block, as text and as JSON, the blocks of each
-file and directory, what they refuse, and the places that name the blocks of a refused image.
+file and directory, what they refuse, and the places that name the blocks of a refused image, with its map.
 
     tests/where.py [PROGRAM]
 
 The images are drawn in Python. For `map`, the drawing program notes the owner of each block as it draws. For `where`, a reader
 goes through the blocks of the drawn image: it counts the cylinders, heads and sectors off one by one, adds the bytes of a file
 up block by block, and finds the path of an entry from its parents. tests/disk_model.py has the places that name a block of a
-damaged image. The environment variable ROUNDS is the number of images.
+damaged image, and `refused_letter` makes the letters of its map of these. The environment variable ROUNDS is the number of images.
 """
 from __future__ import annotations
 
@@ -16,7 +16,7 @@ import os
 import random
 import sys
 from itertools import islice
-from typing import Dict, Iterator, List, NamedTuple, Optional, Set, Tuple
+from typing import Dict, Iterator, List, NamedTuple, Optional, Sequence, Set, Tuple
 
 sys.dont_write_bytecode = True
 
@@ -70,11 +70,22 @@ class Noting(Drawer):
         return self.letters.get(block) or ("L" if is_valid and not self.is_free(block) else ".")
 
 
-def page_of(letters: str) -> bytes:
-    """The map as text."""
+def tracks_of(letters: str, meanings: Sequence[Tuple[str, str]] = MEANINGS) -> bytes:
+    """The map by tracks."""
     line = 11 if len(letters) == 1760 else 22
     lines = [letters[at : at + line] for at in range(0, len(letters), line)]
-    return "".join(f"{it}\n" for it in [*lines, "", *(f"{mark} {what}: {letters.count(mark):,}" for mark, what in MEANINGS)]).encode()
+    return "".join(f"{it}\n" for it in [*lines, "", *(f"{mark} {what}: {letters.count(mark):,}" for mark, what in meanings)]).encode()
+
+
+def page_of(letters: str, meanings: Sequence[Tuple[str, str]] = MEANINGS) -> bytes:
+    """The map as text: that of a floppy has a column for each cylinder."""
+    if len(letters) not in (1760, 3520):
+        return tracks_of(letters, meanings)
+    size = len(letters) // 80
+    cylinders = [letters[at : at + size] for at in range(0, len(letters), size)]
+    lines = ["".join(column[at] for column in cylinders) for at in range(size)]
+    counts = [f"{mark} {what} {letters.count(mark):,}" for mark, what in meanings]
+    return "".join(f"{it}\n" for it in [*lines, "  ".join(counts[:5]), "  ".join(counts[5:])]).encode()
 
 
 def fault_of_maps(room: Room, seed: int) -> Optional[str]:
@@ -85,6 +96,7 @@ def fault_of_maps(room: Room, seed: int) -> Optional[str]:
     wanted = {"map": letters, "headers": [disk.headers.get(it) for it in blocks]}
     line = json.dumps(wanted, separators=(",", ":")).encode() + b"\n"
     fault = fault_of(room.run("map", "drawn.adf"), 0, page_of(letters)) or fault_of(room.run("map", "--json", "drawn.adf"), 0, line)
+    fault = fault or fault_of(room.run("map", "--tracks", "drawn.adf"), 0, tracks_of(letters))
     return fault or (None if room.content("drawn.adf") == bytes(disk.data) else "the image changed")
 
 
@@ -237,6 +249,43 @@ def placed_objects(model: Owners, places: List[Place], asked: List[int]) -> obje
     ]
 
 
+# What the letters of a refused image mean, and the letters of the roles in which a place names a block.
+REFUSED_MEANINGS = [*MEANINGS, ("!", "faulty"), ("?", "shared")]
+LETTERS = {"bitmap": "M", "extension": "X", "data": "#"}
+
+
+def refused_letter(model: Owners, block: int) -> str:
+    """The letter of a block of a refused image."""
+    named = model.named_by(block)
+    if block >= 2 and len({(it.holder, it.at) for it in named}) > 1:
+        return "?"
+    if model.faults_of(block):
+        return "!"
+    if block < 2 or block == model.root:
+        return "B" if block < 2 else "R"
+    if named:
+        return LETTERS.get(named[0].role) or ("F" if model.long(block, 127) == FILE else "D")
+    page, bit = model.long(model.root, 79 + (block - 2) // PAGE_BITS), (block - 2) % PAGE_BITS
+    return "." if 2 <= page < model.blocks and model.long(page, 1 + bit // 32) >> bit % 32 & 1 else "L"
+
+
+def fault_of_refused_map(room: Room, name: str, model: Owners) -> Optional[str]:
+    """What is wrong with the map of a refused image, in each form. An image that is none of this file system has no map."""
+    refused = room.run("check", name).output
+    _, kind, at = refused.split()
+    told: Dict[str, object] = {"refused": {"kind": kind.decode(), "block": int(at)}}
+    page = tracks = b""
+    if kind not in (b"NotADosDisk", b"UnsupportedKind"):
+        letters = "".join(refused_letter(model, it) for it in range(model.blocks))
+        told.update({"map": letters, "more": False})
+        page, tracks = page_of(letters, REFUSED_MEANINGS), tracks_of(letters, REFUSED_MEANINGS)
+    ran = room.run("map", "--json", name)
+    fault = None if ran.status == 3 else f"status {ran.status}"
+    fault = fault or fault_of_json(ran.output, told)
+    fault = fault or fault_of(room.run("map", name), 3, refused + page, " blocks\n")
+    return fault or fault_of(room.run("map", "--tracks", name), 3, refused + tracks, " blocks\n")
+
+
 def fault_of_places(room: Room, name: str, chance: random.Random) -> Optional[str]:
     """What is wrong with the places that name the blocks of a refused image."""
     data = room.content(name)
@@ -248,10 +297,11 @@ def fault_of_places(room: Room, name: str, chance: random.Random) -> Optional[st
     words = [str(it) if chance.random() < 0.5 else "c{}.h{}.s{}".format(*places[it]) for it in asked]
     refused = room.run("check", name).output
     fault = fault_of(room.run("where", name, *words), 3, refused + placed_lines(model, places, asked), " blocks\n")
+    _, kind, at = refused.split()
+    wanted = {"refused": {"kind": kind.decode(), "block": int(at)}, "blocks": placed_objects(model, places, asked)}
     ran = room.run("where", "--json", name, *words)
-    first, _, rest = ran.output.partition(b"\n")
-    fault = fault or (None if (ran.status, first + b"\n") == (3, refused) else f"status {ran.status}, {first!r}")
-    fault = fault or fault_of_array(ran._replace(status=0, output=rest, texts=b""), placed_objects(model, places, asked))
+    fault = fault or (None if ran.status == 3 else f"status {ran.status}") or fault_of_json(ran.output, wanted)
+    fault = fault or fault_of_refused_map(room, name, model)
     return fault or (None if room.content(name) == data else "the image changed")
 
 
@@ -285,13 +335,12 @@ def known_places(room: Room) -> None:
     room.report.expect("a header that two places name", ran.status == 3 and ran.output.partition(b"\n")[2] == wanted.encode(), ran)
 
 
-def fault_of_array(ran: Ran, wanted: object) -> Optional[str]:
-    """What is wrong with an array on a line of its own."""
-    fault = fault_of(ran, 0, None)
-    if fault or ran.output.count(b"\n") != 1 or not ran.output.endswith(b"\n"):
-        return fault or f"no line: {ran.output[:300]!r}"
-    found = json.loads(ran.output)
-    return None if found == wanted else f"another array: {str(found)[:300]} where {str(wanted)[:300]} is expected"
+def fault_of_json(output: bytes, wanted: object) -> Optional[str]:
+    """What is wrong with JSON on a line of its own."""
+    if output.count(b"\n") != 1 or not output.endswith(b"\n"):
+        return f"no line: {output[:300]!r}"
+    found = json.loads(output)
+    return None if found == wanted else f"other JSON: {str(found)[:300]} where {str(wanted)[:300]} is expected"
 
 
 def fault_of_blocks(room: Room, name: str, chance: random.Random, most: int = 9_000) -> Optional[str]:
@@ -304,11 +353,14 @@ def fault_of_blocks(room: Room, name: str, chance: random.Random, most: int = 9_
     chance.shuffle(asked)
     words = [str(it) if chance.random() < 0.5 else "c{}.h{}.s{}".format(*places[it]) for it in asked]
     fault = fault_of(room.run("where", name, *words), 0, lines_of(image, places, asked))
-    fault = fault or fault_of_array(room.run("where", "--json", name, *words), objects_of(image, places, asked))
+    ran = room.run("where", "--json", name, *words)
+    fault = fault or fault_of(ran, 0, None) or fault_of_json(ran.output, objects_of(image, places, asked))
     for key in chance.sample(sorted(image.own), min(20, len(image.own))):
         path = "" if key == image.root else image.path(key)
         if not {"\0"} & set(path):
             fault = fault or fault_of(room.run("where", f"--path={path}", name), 0, ranges_of(image.own[key]))
+            ran = room.run("where", "--json", f"--path={path}", name)
+            fault = fault or fault_of(ran, 0, None) or fault_of_json(ran.output, {"blocks": sorted(image.own[key])})
     return fault or (None if room.content(name) == data else "the image changed")
 
 
@@ -358,6 +410,43 @@ def words_at(room: Room, block: int) -> bytes:
     return words_of(Reading(room.content("known.adf")).owned(block)).encode() + b"\n"
 
 
+def known_maps(room: Room) -> None:
+    """The maps of two blank floppies, by hand: the root is the first block of cylinder 40, and the bitmap block follows it."""
+    for option, size in ((), 22), (("--hd",), 44):
+        room.done("blank", *option, *MOMENT, "Known", "blank.adf")
+        first = "B" + 39 * "." + "R" + 39 * "."
+        second = "B" + 39 * "." + "M" + 39 * "."
+        free = 80 * size - 4
+        legend = ["B boot 2  R root 1  M bitmap 1  D directories 0  F file headers 0", f"X extensions 0  # data 0  L lost 0  . free {free:,}"]
+        page = "".join(f"{it}\n" for it in [first, second, *(size - 2) * ["." * 80], *legend])
+        room.succeeds(f"the map of a blank floppy of {80 * size} blocks", "map", "blank.adf", output=page.encode())
+    room.report.check("a map by tracks and as JSON", room.run("map", "--tracks", "--json", "blank.adf"), 1, b"", "--json")
+
+
+def known_damage(room: Room) -> None:
+    """The map of a floppy with three files of a byte, by hand. The header of `b` names the data block of `a`, and that of `c` has a wrong
+    checksum."""
+    for name in "abc":
+        room.write(name, b"x")
+    room.done("blank", "--ffs", *MOMENT, "Known", "hurt.adf")
+    room.done("add", *MOMENT, "hurt.adf", "a", "b", "c")
+    image = Image(room.content("hurt.adf"))
+    a, b, c = sorted(image.keys(image.root), key=image.names_of)
+    shared, left, kept = (image.long(key, 77) for key in (a, b, c))
+    image.put(b, 77, shared)
+    image.settle(b)
+    image.put(c, 105, image.long(c, 105) + 1)
+    room.write("hurt.adf", image.data)
+    letters = [*"BB", *1758 * "."]
+    for block, letter in ((880, "R"), (881, "M"), (a, "F"), (b, "F"), (c, "!"), (shared, "?"), (left, "L"), (kept, "#")):
+        letters[block] = letter
+    lines = ["".join(letters[sector::22]) for sector in range(22)]
+    legend = ["B boot 2  R root 1  M bitmap 1  D directories 0  F file headers 2", "X extensions 0  # data 1  L lost 1  . free 1,750  ! faulty 1  ? shared 1"]
+    page = room.run("check", "hurt.adf").output + "".join(f"{it}\n" for it in [*lines, *legend]).encode()
+    room.report.check("the map of a damaged floppy", room.run("map", "hurt.adf"), 3, page, "'hurt.adf'")
+    room.report.same("the image stays", room.content("hurt.adf"), bytes(image.data))
+
+
 def wrong_blocks(room: Room) -> None:
     room.done("blank", *MOMENT, "Small", "plain.adf")
     data = room.content("plain.adf")
@@ -369,8 +458,9 @@ def wrong_blocks(room: Room) -> None:
         room.report.check(f"no object of block {word}", room.run("where", "--json", "plain.adf", "880", word, "1"), 3, b"", fault)
     room.report.check("no block is named", room.run("where", "plain.adf"), 1, b"", "BLOCK")
     room.report.check("a path and a block", room.run("where", "--path", "c", "plain.adf", "880"), 1, b"", "--path")
-    room.report.check("a path and JSON", room.run("where", "--path", "c", "--json", "plain.adf"), 1, b"", "--path")
     room.report.check("a path that leads nowhere", room.run("where", "--path", "c", "plain.adf"), 3, b"refused 205 c\n", "c")
+    object = b'{"refused":{"number":205,"path":"c"}}\n'
+    room.report.check("a path that leads nowhere, as JSON", room.run("where", "--path", "c", "--json", "plain.adf"), 3, object, "c")
     room.report.check("a path with a letter past U+00FF", room.run("where", "--path", "\u0100", "plain.adf"), 1, b"", "\u0100")
     room.report.same("the image stays", room.content("plain.adf"), data)
 
@@ -381,17 +471,28 @@ def other_images(room: Room) -> None:
     data = bytearray(room.content("small.adf"))
     data[8 * BLOCK + 5] ^= 1
     room.write("bad.adf", bytes(data))
-    room.report.check("a wrong checksum", room.run("map", "bad.adf"), 3, b"refused BadSum 8\n", "its checksum is wrong")
+    page = SMALLEST.replace(b"BB......R", b"BB......!").replace(b"R root: 1", b"R root: 0") + b"! faulty: 1\n? shared: 0\n"
+    room.report.check("a wrong checksum", room.run("map", "bad.adf"), 3, b"refused BadSum 8\n" + page, "its checksum is wrong")
+    object = b'{"refused":{"kind":"BadSum","block":8},"map":"BB......!M......","more":false}\n'
+    room.report.check("a wrong checksum, as JSON", room.run("map", "--json", "bad.adf"), 3, object, "its checksum is wrong")
     room.report.same("the image stays", room.content("bad.adf"), bytes(data))
     room.write("short.adf", bytes(100))
-    room.report.check("no image", room.run("map", "--json", "short.adf"), 3, b"refused NotWholeBlocks 0\n", "100 bytes are no whole number of blocks")
+    size = b'{"refused":{"kind":"NotWholeBlocks","block":0}}\n'
+    room.report.check("no image", room.run("map", "--json", "short.adf"), 3, size, "100 bytes are no whole number of blocks")
     room.write("other.adf", b"PFS\1" + bytes(BLOCK * 1760 - 4))
     room.report.check("another kind of disk", room.run("map", "other.adf"), 3, b"refused NotADosDisk 0\n", "not an AmigaDOS disk")
     room.report.check("no such file", room.run("map", "none.adf"), 2, b"", "none.adf")
     bad = b"refused BadSum 8\n8  cyl 0 head 0 sector 8  root\n8  fault BadSum\n0  cyl 0 head 0 sector 0  boot block\n12  cyl 0 head 1 sector 1  named by nothing\n"
     room.report.check("where in a refused image", room.run("where", "bad.adf", "8", "0", "12"), 3, bad, "its checksum is wrong")
     room.report.check("no such block in a refused image", room.run("where", "bad.adf", "8", "16"), 3, b"refused BadSum 8\n", "'bad.adf' has no block 16: it has 16 blocks", "its checksum is wrong")
+    told = b'{"refused":{"kind":"BadSum","block":8}'
+    end = b"}\n"
+    objects = b',"blocks":[{"block":8,"cylinder":0,"head":0,"sector":8,"places":[],"faults":["BadSum"],"more":false}]'
+    room.report.check("where --json in a refused image", room.run("where", "--json", "bad.adf", "8"), 3, told + objects + end, "its checksum is wrong")
+    room.report.check("where --json of no such block", room.run("where", "--json", "bad.adf", "16"), 3, told + end, "'bad.adf' has no block 16", "its checksum is wrong")
+    room.report.check("where --json in no image", room.run("where", "--json", "short.adf", "8"), 3, size, "100 bytes")
     room.report.check("a path in a refused image", room.run("where", "--path", "", "bad.adf"), 3, b"refused BadSum 8\n", "its checksum is wrong")
+    room.report.check("a path in a refused image, as JSON", room.run("where", "--path", "", "--json", "bad.adf"), 3, told + end, "its checksum is wrong")
     room.report.check("where in no image", room.run("where", "short.adf", "8"), 3, b"refused NotWholeBlocks 0\n", "100 bytes")
     room.report.check("where in no file", room.run("where", "none.adf", "8"), 2, b"", "none.adf")
     room.report.check("no argument", room.run("map"), 1, b"", "IMAGE")
@@ -399,7 +500,7 @@ def other_images(room: Room) -> None:
 
 
 def main(words: List[str]) -> int:
-    return try_all(words, Room, drawn_volumes, owners_of_volumes, places_in_volumes, sizes, known_lines, known_places, wrong_blocks, other_images)
+    return try_all(words, Room, drawn_volumes, owners_of_volumes, places_in_volumes, sizes, known_lines, known_maps, known_damage, known_places, wrong_blocks, other_images)
 
 
 if __name__ == "__main__":

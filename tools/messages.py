@@ -81,16 +81,17 @@ ADVICE: List[Tuple[str, str]] = [
     (r"its volume is|is not written", "Make an empty image of this kind and size with `blank`"),
     (r"^'\{0?\}' is not empty$", "Name a new or an empty directory"),
     (r"does not mend", "`check --all` names each fault, and `extract --damaged` takes out what is sound"),
-    (r"bundle|JSON|volume\.json|the description|a description|101,602 entries|\"path\"|\"\{0\}\"|entry \{number", "Correct `volume.json`, or write the bundle again with `extract --bundle`"),
+    (r"bundle|JSON|volume\.json|the description|a description|101,602 entries|\"path\"|\"\{0\}\"|entry \{", "Correct `volume.json`, or write the bundle again with `extract --bundle`"),
     (r"--force writes|bitmap block|but nothing names it", "Save what can be trusted with `extract --damaged` before `--force`"),
     (r"^(the header of a directory|an extension block|a data block of)", "Save it with `extract --damaged` before `--force`"),
     (r"ok, \{\} refused|of \{\} images$|\{\} left$|^, \{\} refused$|^\{\w*\} (s|min|h)$|^--blocks \{blocks\}$|^(OFS|FFS|DOS|no AmigaDOS)|^\{\} bytes$", "Nothing: it counts and describes"),
     (r"try --blocks", "Give `--blocks` the number of blocks that fits the root"),
     (r"the root at block|^and \{rest\} bytes$", "Look whether the file is cut short"),
     (r"UTF-8", "Rename the file, or give it another name with `add --as`"),
-    (r"stands? for no byte|past U\+00FF|no character of an Amiga", "Leave out letters past U+00FF"),
+    (r"stands? for no byte|past U\+00FF|not in ISO 8859-1", "Leave out letters past U+00FF"),
     (r"turned round", "If they are, remove the file and write the two words the other way round"),
     (r"no command '", "`adf_serve --help` lists the commands"),
+    (r"'\./-'", "Name a file"),
     (r"standard input, which has no name", "Name it with `--as NAME`"),
     (r"--as <NAME>", "Give one FILE"),
     (r"error: .*is missing", "Add the argument: `adf_serve COMMAND --help` shows all"),
@@ -155,7 +156,7 @@ STATUSES: List[Tuple[str, str]] = [
     (r"its volume is|is not written|--force writes|bitmap block|nothing names it|faults than can be|does not mend", "3"),
     (r"^(the header of a directory|an extension block|a data block of)", "3"),
     (r"it looks like|`adf_serve|`xdftool`|^\{\} bytes$|nothing was written or read|the root at block|try --blocks|^and \{rest\} bytes$|^(OFS|FFS|no AmigaDOS)", "3"),
-    (r"blocks are needed|one name on|needs a file|into itself|characters|allows in no|no character of", "3"),
+    (r"blocks are needed|one name on|needs a file|into itself|characters|allows in no|not in ISO 8859-1", "3"),
 ]
 ADVICE_OF_FAULTS = "`check --all` names each fault, and `extract --damaged` takes out what is sound"
 

@@ -139,7 +139,7 @@ impl Display for OtherSize {
         write!(
             f,
             "the root at block {} fits {} blocks; {holder} {}{rest}",
-            Grouped(u64::from(self.root)),
+            self.root,
             Grouped(needed),
             Grouped(blocks)
         )?;

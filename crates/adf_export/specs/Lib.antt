@@ -1,4 +1,5 @@
 -- The text of a volume, and its entries as files of the host. Definitions for steps are in `steps`.
+pub mod InfoObject
 pub mod Info
 pub mod Objects
 pub mod Ordered

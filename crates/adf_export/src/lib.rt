@@ -11,6 +11,7 @@ mod fault;
 mod front;
 mod head;
 mod info;
+mod info_object;
 mod items;
 mod keys;
 mod lines;

@@ -1,5 +1,6 @@
 //! Regular files of the host, opened for reading whatever takes their places meanwhile.
 use crate::directory::{FileNumber, directory_and_name};
+use crate::host_words::HostWords;
 use crate::owned::OwnedFile;
 use crate::prompt::PromptFiles;
 use crate::temporary::this_user;
@@ -24,7 +25,7 @@ pub enum OpenFault {
     #[error("it is a symbolic link of another user")]
     ForeignLink,
     /// Any other reason that the host gives.
-    #[error("{0}")]
+    #[error("{}", HostWords(*.0))]
     Host(Error),
     #[error("there is not enough memory")]
     Memory,

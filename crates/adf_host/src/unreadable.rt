@@ -1,11 +1,13 @@
 //! Why a file of the host cannot be read.
 use crate::held_tree::HeldTree;
+use crate::host_words::HostWords;
 use crate::image_file::open_below;
 use crate::opening::OpenFault;
 use crate::owned::OwnedFile;
 use crate::prompt::PromptFiles;
 use crate::standard::input_path;
 use adf_block::layout::BLOCK_BYTES;
+use adf_text::Grouped;
 use std::alloc::Global;
 use std::fs;
 use std::fs::OpenFile;
@@ -34,16 +36,16 @@ pub enum ReadReason {
     #[error("it is a symbolic link of another user")]
     ForeignLink,
     /// Any other reason that the host gives.
-    #[error("{0}")]
+    #[error("{}", HostWords(*.0))]
     Host(Error),
     /// It can be opened, so a read failed.
     #[error("a read failed")]
     Read,
     /// It ends before this number of blocks.
-    #[error("it has fewer than {0} blocks")]
+    #[error("it has fewer than {} blocks", Grouped(u64::from(*.0)))]
     Short(u32),
     /// It can be read only once, so it is not known which of these it was.
-    #[error("a read failed, or it has fewer than {0} blocks")]
+    #[error("a read failed, or it has fewer than {} blocks", Grouped(u64::from(*.0)))]
     ReadOrShort(u32),
 }
 

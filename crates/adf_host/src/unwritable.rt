@@ -1,4 +1,5 @@
 //! Why a file of the host cannot be written.
+use crate::host_words::HostWords;
 use std::fmt;
 use std::io::{Error, ErrorKind};
 
@@ -15,7 +16,7 @@ impl fmt::Display for WriteReason {
             ErrorKind::PermissionDenied => write!(f, "permission denied"),
             ErrorKind::StorageFull => write!(f, "the disk is full"),
             ErrorKind::ReadOnlyFilesystem => write!(f, "the disk can only be read"),
-            _ => write!(f, "{}", self.0),
+            _ => write!(f, "{}", HostWords(self.0)),
         }
     }
 }

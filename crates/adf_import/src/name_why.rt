@@ -13,7 +13,7 @@ pub enum NameWhy {
     Long { characters: usize },
     /// No name has this character.
     Has { letter: char },
-    /// This letter is no character of an Amiga.
+    /// This letter is not in ISO 8859-1, the characters of an Amiga.
     Foreign { letter: char },
 }
 
@@ -51,7 +51,7 @@ impl fmt::Display for NameWhy {
                 "has a '{letter}', which AmigaDOS allows in no name"
             ),
             NameWhy::Foreign { letter } => {
-                write!(f, "has a '{letter}', which is no character of an Amiga")
+                write!(f, "has a '{letter}', which is not in ISO 8859-1")
             }
         }
     }

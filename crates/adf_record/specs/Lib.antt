@@ -6,6 +6,7 @@ pub mod Counts
 pub mod Facts
 pub mod Shown
 pub mod Object
+pub mod BootObject
 pub mod Told
 pub mod Described
 pub mod steps

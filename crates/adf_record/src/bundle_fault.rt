@@ -1,4 +1,5 @@
 //! Why a text is not the description of a bundle.
+use adf_text::Grouped;
 use std::alloc::{AllocError, AllocFailed, Global};
 use std::fmt::{Display, Formatter};
 use std::{error, fmt};
@@ -18,7 +19,7 @@ pub enum BundleWhy {
     Long,
     #[error("is not UTF-8")]
     NotText,
-    #[error("is no JSON of a bundle, from byte {0} on")]
+    #[error("is no JSON of a bundle, from byte {} on", Grouped(*.0 as u64))]
     NotJson(usize),
     #[error("has no \"{0}\"")]
     Missing(&'static str),
@@ -56,7 +57,7 @@ impl BundleWhy {
 impl Display for BundleFault {
     fn fmt<W: fmt::Write>(&self, f: &mut Formatter<W>) -> fmt::Result {
         match self.entry {
-            Some(number) => write!(f, "entry {number} {}", self.why),
+            Some(number) => write!(f, "entry {} {}", Grouped(number as u64), self.why),
             None => write!(f, "{}", self.why),
         }
     }

@@ -1,41 +1,9 @@
-//! Numbers for people.
+//! Numbers for people, as text that contracts know.
 ghost use Rattle.std.specs.Prelude.{◌≡◌, ◌==◌, IfOk, if◌then◌else◌};
 ghost use Rattle.std.specs.String.{string_bytes};
 ghost use Rattle.adf_record.specs.Shown.{counted, grouped};
 
 use std::alloc::{AllocError, Global};
-use std::fmt;
-use std::fmt::{Display, Formatter};
-
-/// A number with a comma before each three digits, as 101,602.
-#[derive(Clone, Copy, PartialEq, Eq)]
-pub struct Grouped(pub u64);
-
-/// What each group of digits counts.
-const SCALES: [u64; 7] = [
-    1_000_000_000_000_000_000,
-    1_000_000_000_000_000,
-    1_000_000_000_000,
-    1_000_000_000,
-    1_000_000,
-    1_000,
-    1,
-];
-
-impl Display for Grouped {
-    fn fmt<W: fmt::Write>(&self, f: &mut Formatter<W>) -> fmt::Result {
-        for scale in SCALES {
-            let whole = self.0.checked_div(scale).unwrap_or(0);
-            let (before, group) = (whole / 1_000, whole % 1_000);
-            if before > 0 {
-                write!(f, ",{group:03}")?;
-            } else if group > 0 || scale == 1 {
-                write!(f, "{group}")?;
-            }
-        }
-        Ok(())
-    }
-}
 
 /// A number with a comma before its last three digits, if it has more.
 pub fn grouped_text(alloc: Global, n: u64) -> Result<String, AllocError>

@@ -2,6 +2,7 @@
 //! and members of JSON objects.
 #![tactic(auto)]
 
+mod boot_json;
 mod bundle;
 mod bundle_contents;
 mod bundle_fault;
@@ -23,6 +24,8 @@ mod shown;
 mod told;
 mod words;
 
+pub use adf_text::Grouped;
+pub use boot_json::boot_object;
 pub use bundle::{Bundle, BundleEntry, BundleHead};
 pub use bundle_contents::{contents_of, same_contents};
 pub use bundle_fault::{BundleFault, BundleWhy};
@@ -32,7 +35,7 @@ pub use bundling::bundle_of;
 pub use contents::size_words;
 pub use counts::{Counts, counts_of};
 pub use facts::{Facts, facts_of};
-pub use grouped::{Grouped, grouped_text};
+pub use grouped::grouped_text;
 pub use members::{put_flag, put_number, put_text};
 pub use same::same_bundle;
 pub use second::push_second;

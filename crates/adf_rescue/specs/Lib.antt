@@ -1,5 +1,6 @@
 -- What is saved of a damaged image, and deleted entries. Definitions for steps are in `steps`.
 pub mod Rescue
 pub mod RescueObject
+pub mod DeletedObject
 pub mod Undelete
 pub mod steps

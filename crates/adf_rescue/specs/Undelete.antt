@@ -15,6 +15,8 @@ use Rattle.ados_sound.specs.declared.deleted.Recovery.{Recovery}
 use Rattle.ados_sound.specs.declared.deleted.Recovery.TheVariants.{Directory, Free, Used, Shared, NotIntact}
 use Rattle.adf_salvage.specs.declared.salvaged.Salvaged.{Salvaged}
 use Rattle.adf_salvage.specs.declared.undeleted.Undeleted.{Undeleted}
+use Rattle.json.specs.Print.{print}
+use Rattle.adf_rescue.specs.DeletedObject.{deleted_tokens, user_of}
 use Rattle.adf_rescue.specs.declared.chosen.Chosen.{Chosen}
 use Rattle.adf_rescue.specs.declared.placing.Placed.{Placed}
 use Rattle.adf_rescue.specs.declared.placing.TheConstants.{MOST_PATH_BYTES}
@@ -129,12 +131,7 @@ recovery_words (Used used all by) = codes ": " ++ (decimal used ++ (codes " of "
 recovery_words (Shared shared all) = codes ": " ++ (decimal shared ++ (codes " of " ++ (decimal all ++ codes " are in another deleted file")))
 recovery_words NotIntact = codes ": the blocks are damaged"
 
--- the header of an entry that has some of its blocks now, where one is known
-abbrev pub user_of : Recovery → Option ℕ
-user_of (Used used all by) = by
-user_of recovery = None
-
--- that entry in a text
+-- the header of an entry that has some of the blocks now, in a text
 abbrev pub user_text : (ℕ → List ℕ) → Option ℕ → List ℕ
 user_text label None = []
 user_text label (Some header) = codes " by " ++ label header
@@ -144,9 +141,15 @@ abbrev pub deleted_line : (ℕ → List ℕ) → Chosen → List ℕ
 deleted_line label chosen =
     label chosen.deleted.header ++ (recovery_words chosen.deleted.recovery ++ (user_text label (user_of chosen.deleted.recovery) ++ codes "\n"))
 
--- the lines of deleted entries
-abbrev pub deleted_lines : List (Option ℕ) → List Place → List Chosen → List ℕ
-deleted_lines positions places chosen = flat_map (deleted_line (label_in positions places)) chosen
+-- what is told of a deleted entry in one of the forms: its object on a line of its own, or its line
+abbrev pub told_deleted : Bool → List (Option ℕ) → List Place → Chosen → List ℕ
+told_deleted json positions places chosen =
+    if json then print (deleted_tokens (path_of positions places chosen.deleted.header) chosen.deleted) ++ codes "\n"
+    else deleted_line (label_in positions places) chosen
+
+-- what is told of deleted entries
+abbrev pub deleted_text : Bool → List (Option ℕ) → List Place → List Chosen → List ℕ
+deleted_text json positions places chosen = flat_map (told_deleted json positions places) chosen
 
 -- a deleted file is written: all its blocks are free, or it is forced
 abbrev pub is_file_saved : Bool → Recovery → Bool
@@ -167,22 +170,23 @@ abbrev pub file_in : Source → List ℕ
 file_in (sources.File position) = position ∷ []
 file_in source = []
 
--- the entries that arguments with these paths choose among the deleted ones, and those of them that are written as files, with their lines
-pub record IsUndeletion (image : List ℕ) (keys : List (List ℕ)) (force : Bool) (done : Undeletion) : Type 0 where
+-- the entries that arguments with these paths choose among the deleted ones, and those of them that are written as files, with
+-- what is told of them
+pub record IsUndeletion (image : List ℕ) (keys : List (List ℕ)) (force json : Bool) (done : Undeletion) : Type 0 where
   pub trusted : IsTrustedBitmap image
   pub found : IsUndeleted image done.found
   pub chosen : done.chosen.items ≡ chosen_of done.found.places.items (places_of keys done.found.salvage.entries) done.found.deleted.items
-  pub text : done.text.items ≡ deleted_lines done.found.places.items (places_of keys done.found.salvage.entries) done.chosen.items
+  pub text : done.text.items ≡ deleted_text json done.found.places.items (places_of keys done.found.salvage.entries) done.chosen.items
   pub files : flat_map file_in done.plan.out.sources.items ≡ files_saved force done.chosen.items
 
--- the lines about the deleted entries of an image that arguments with these paths choose
-pub record IsUndeleteText (image : List ℕ) (keys : List (List ℕ)) (text : List ℕ) : Type 0 where
+-- what is told of the deleted entries of an image that arguments with these paths choose
+pub record IsUndeleteText (json : Bool) (image : List ℕ) (keys : List (List ℕ)) (text : List ℕ) : Type 0 where
   pub trusted : IsTrustedBitmap image
   pub found : Undeleted
   pub undeleted : IsUndeleted image found
   pub chosen : List Chosen
   pub are_chosen : chosen ≡ chosen_of found.places.items (places_of keys found.salvage.entries) found.deleted.items
-  pub lines : text ≡ deleted_lines found.places.items (places_of keys found.salvage.entries) chosen
+  pub text_is : text ≡ deleted_text json found.places.items (places_of keys found.salvage.entries) chosen
 
 -- why nothing is told: the bitmap is not trusted, or a path argument chooses nothing;
 -- host files cannot be written, or memory ran out

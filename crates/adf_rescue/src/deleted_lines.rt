@@ -1,9 +1,11 @@
-//! The lines about deleted entries.
+//! What is told of deleted entries.
 ghost use Rattle.std.specs.Prelude.{◌≡◌, ◌++◌, IfOk, OnOk, Some, drop, map, option_map};
 ghost use Rattle.std.specs.String.{string_bytes};
-ghost use Rattle.adf_rescue.specs.Undelete.{deleted_line, deleted_lines, label_in, label_of, path_of, recovery_words, seen_place, user_of, user_text};
+ghost use Rattle.adf_rescue.specs.DeletedObject.{user_of};
+ghost use Rattle.adf_rescue.specs.Undelete.{deleted_line, deleted_text, label_in, label_of, path_of, recovery_words, seen_place, told_deleted, user_text};
 
 use crate::chosen::{Chosen, position_of};
+use crate::deleted_objects::push_object;
 use crate::placing::{Placed, place_at};
 use adf_text::{letter_text, push_plain};
 use ados_sound::Recovery;
@@ -19,15 +21,30 @@ pub(crate) struct Labels<'a> {
 }
 
 impl Labels<'_> {
-    /// A line for each of these entries.
-    pub(crate) fn lines(&self, chosen: &[Chosen]) -> Result<Vec<u8>, AllocError>
-        ensures { IfOk result (λ text. text.items ≡ deleted_lines self.now.positions.now (map seen_place self.now.places.now) chosen.now) }
+    /// A line for each of these entries, or with `json` an object on a line of its own.
+    pub(crate) fn text(&self, chosen: &[Chosen], json: bool) -> Result<Vec<u8>, AllocError>
+        ensures { IfOk result (λ text. text.items ≡ deleted_text json self.now.positions.now (map seen_place self.now.places.now) chosen.now) }
     {
         let mut text = Vec::new(self.alloc);
         for entry in chosen {
-            self.push_line(&mut text, entry)?;
+            self.push_told(&mut text, entry, json)?;
         }
         Ok(text)
+    }
+
+    /// Appends what is told of an entry.
+    fn push_told(&self, text: &mut Vec<u8>, entry: &Chosen, json: bool) -> Result<(), AllocError>
+        ensures { OnOk result (text.new.items ≡ text.old.items ++ told_deleted json self.now.positions.now (map seen_place self.now.places.now) entry.now) }
+    {
+        if !json {
+            return self.push_line(text, entry);
+        }
+        push_object(
+            self.alloc,
+            text,
+            self.path_of(entry.deleted.header),
+            entry.deleted,
+        )
     }
 
     /// Appends the line of an entry.
@@ -84,7 +101,7 @@ fn push_path(alloc: Global, text: &mut Vec<u8>, path: &[u8]) -> Result<(), Alloc
 }
 
 /// A path without its first slash.
-fn behind_slash(path: &[u8]) -> &[u8]
+pub(crate) fn behind_slash(path: &[u8]) -> &[u8]
     ensures { result.now ≡ drop 1 path.now }
 {
     match path.split_first() {
@@ -109,7 +126,7 @@ fn recovery_words(alloc: Global, recovery: Recovery) -> Result<String, AllocErro
 }
 
 /// The header of an entry that has some of its blocks now, where one is known.
-fn user_of(recovery: Recovery) -> Option<u32>
+pub(crate) fn user_of(recovery: Recovery) -> Option<u32>
     ensures { result ≡ user_of recovery }
 {
     match recovery {

@@ -5,6 +5,7 @@ mod asked;
 mod chosen;
 mod damaged;
 mod deleted_lines;
+mod deleted_objects;
 mod idle;
 mod placing;
 mod plan;

@@ -17,13 +17,13 @@ use adf_salvage::{Undeleted, UndeletedEntries, undelete};
 use adf_words::UndeleteJob;
 use std::alloc::Global;
 
-/// The deleted entries that arguments choose, the files and directories of the host for them, and the lines about them.
+/// The deleted entries that arguments choose, the files and directories of the host for them, and what is told of them.
 #[derive(Drop)]
 pub struct Undeletion {
     found: Undeleted,
     chosen: Vec<Chosen>,
     plan: Saving,
-    /// A line for each entry that is chosen, in the order of their headers.
+    /// A line or an object for each entry that is chosen, in the order of their headers.
     pub text: Vec<u8>,
 }
 
@@ -44,7 +44,7 @@ pub fn undelete_entries<R: PromptFiles>(
 ) -> Result<Undeletion, UndeleteFault>
 where
     R::File: OwnedFile,
-    ensures done { IfOk result (IsUndeletion image (map (λ word. key_of word.now) job.now.paths.items) job.now.force) }
+    ensures done { IfOk result (IsUndeletion image (map (λ word. key_of word.now) job.now.paths.items) job.now.force job.now.json) }
     ensures fault { IfErr result (IsUndeleteFault image) }
 {
     let found = found_entries(alloc, image)?;
@@ -76,7 +76,7 @@ fn undeletion_of(
     job: &UndeleteJob<'_>,
 ) -> Result<Undeletion, UndeleteFault>
     ensures done { IfOk result (λ done. (image : List ℕ) → IsTrustedBitmap image → IsUndeleted image found
-        → IsUndeletion image (map (λ word. key_of word.now) job.now.paths.items) job.now.force done) }
+        → IsUndeletion image (map (λ word. key_of word.now) job.now.paths.items) job.now.force job.now.json done) }
     ensures fault { IfErr result (λ fault. (image : List ℕ) → IsUndeleteFault image fault) }
 {
     let asked = Asked::of(alloc, &job.paths)?;
@@ -89,7 +89,7 @@ fn undeletion_of(
         positions: &found.places,
         places: &places,
     };
-    let text = labels.lines(&chosen)?;
+    let text = labels.text(&chosen, job.json)?;
     let plan = Saving::of(alloc, entries, &chosen, job.force, job.meta)?;
     Ok(Undeletion {
         found,

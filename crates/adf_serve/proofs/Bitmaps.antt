@@ -4,7 +4,7 @@ use Rattle.std.proofs.KnownBytes.{Keeps-refl}
 use Rattle.ados_model.specs.Faults.{Shows}
 use Rattle.ados_model.specs.declared.fault.VolumeFault.{VolumeFault}
 use Rattle.ados_mend.specs.Answer.{IsNew}
-use Rattle.ados_mend.specs.Said.{validated_line}
+use Rattle.ados_mend.specs.Said.{validated_text}
 use Rattle.ados_mend.specs.declared.answer.Validated.{Validated}
 use Rattle.adf_serve.specs.declared.fault.CommandFault.{CommandFault}
 use Rattle.adf_serve.specs.declared.fault.CommandFault.TheVariants.{Dos, Refused}
@@ -14,12 +14,12 @@ use Rattle.adf_serve.specs.Texts.{IsCountText}
 use Rattle.adf_serve.proofs.Printing.{leaves_nothing}
 
 -- the numbers of a new bitmap
-pub counted : (image : List ℕ) (force : Bool) (new : Validated) (text : List ℕ) → IsNew image force new → text ≡ validated_line new.were_free new.were_used → IsCountText image text
-counted image force new text is e = (new.image, is.validated, e ∙ ap₂ validated_line is.freed is.used)
+pub counted : (json : Bool) (image : List ℕ) (force : Bool) (new : Validated) (text : List ℕ) → IsNew image force new → text ≡ validated_text json new.were_free new.were_used → IsCountText json image text
+counted json image force new text is e = (new.image, is.validated, e ∙ ap₂ (validated_text json) is.freed is.used)
 
 -- a fault that the image shows is told as its refusal
 pub refused_as : (image : List ℕ) (fault : VolumeFault) (told : CommandFault) → Shows image fault.kind fault.block → IsToldAs fault told → IsRefusedAs image told
-refused_as image fault (Refused refusal) shows (no_want, line) = (fault.kind, fault.block, shows, line)
+refused_as image fault (Refused refusal) shows (no_want, kind, block) = (fault.kind, subst (Shows image fault.kind) (sym block) shows, kind)
 refused_as image fault (Dos refusal) shows t = absurd (let same = t.0 in cc same)
 refused_as image fault told shows t = tt
 

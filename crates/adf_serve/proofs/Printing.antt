@@ -1,5 +1,5 @@
 -- The output for an image, whole or in part.
-use Rattle.std.proofs.Common.{◌≡◌, ◌≢◌, ℕ, Bor, ◌⊎◌, inl, inr, Bool, true, false, List, [], ◌++◌, map, Option, Some, None, option_map, Ok, Err, IfErr, OnErr, OnOk, IsErrAnd, refl, sym, ap, ap₂, ◌∙◌, subst}
+use Rattle.std.proofs.Common.{◌≡◌, ◌≢◌, ◌↔◌, ℕ, Bor, ◌⊎◌, IsTrue, IsFalse, codes, inl, inr, Bool, true, false, List, [], ◌++◌, map, Option, Some, None, option_map, Ok, Err, IfErr, OnErr, OnOk, IsErrAnd, refl, sym, ap, ap₂, ◌∙◌, subst}
 use Rattle.std.specs.Prelude.{⊤}
 use Rattle.std.specs.Io.KnownBytes.{Appends, Keeps}
 use Rattle.std.proofs.KnownBytes.{Appends-nil, Keeps-refl}
@@ -7,28 +7,28 @@ use Rattle.ados_model.specs.Accepted.{Accepts, HandsBack, IsRefusal}
 use Rattle.ados_model.specs.Faults.{Shows}
 use Rattle.ados_model.specs.Stands.{Stands}
 use Rattle.ados_model.specs.Tree.{Tree, bytes_of}
-use Rattle.ados_model.specs.declared.fault.FaultKind.TheVariants.{NoMemory}
+use Rattle.ados_model.specs.declared.fault.FaultKind.{FaultKind}
+use Rattle.ados_model.specs.declared.fault.FaultKind.TheVariants.{NoMemory, NotADosDisk, UnsupportedKind}
 use Rattle.ados_model.specs.declared.answer.Answer.{Answer}
 use Rattle.ados_model.specs.declared.fault.VolumeFault.{VolumeFault}
 use Rattle.adf_io.specs.Prefix.{Writes, WritesFront, WritesFrontOf}
 use Rattle.adf_export.specs.Info.{info_text}
 use Rattle.adf_export.specs.Listing.{BeginsList, IsList}
 use Rattle.adf_words.specs.declared.job.ImageJob.{ImageJob}
-use Rattle.adf_words.specs.declared.job.ImageJob.TheVariants.{Blank}
 use Rattle.adf_export.specs.declared.fault.OutFault.{OutFault}
 use Rattle.adf_export.specs.declared.fault.OutFault.TheVariants as out
 use Rattle.adf_export.specs.Printing.{IsPrinted, IsPrintFault}
 use Rattle.adf_io.proofs.Prefixes.{writes_first}
 use Rattle.adf_serve.specs.declared.fault.CommandFault.{CommandFault}
 use Rattle.adf_serve.specs.declared.fault.CommandFault.TheVariants.{Dos, Extracted, ImagesRefused, Memory, NotChecked, NotWhole, Output, Refused}
-use Rattle.adf_serve.specs.declared.look.Look.{Look}
 use Rattle.adf_serve.specs.declared.refusal.Refusal.{Refusal}
 use Rattle.adf_serve.specs.declared.refusal.DosRefusal.{DosRefusal}
 use Rattle.adf_serve.specs.Asked.{AnswersDisk}
 use Rattle.adf_serve.specs.Texts.{AreDeletedLines, AreEntryBlocks, BeginsJobText, BeginsListOf, BeginsListText, IsJobText, IsListed, IsListOf, IsListText, shown_form, IsLook, IsLookText, IsInfoText, IsPrintText}
 use Rattle.adf_serve.specs.Faults.{IsBlankFault, IsNoImage, IsNoImageRefusal, IsNoRefusal, IsRefusedFor, IsToldAs, IsToldOut}
-use Rattle.adf_serve.specs.Commands.{Does, DoesJob, Ending, EndsJob, EndsOff, LeavesOff, Prints, prints, Tells, TellsFault, TellsJob, TellsOf, TellsSome}
-use Rattle.adf_serve.specs.Commands.Prints.{OnlyFaults, OfBlocks, OfBytes, OfImages, OfRescue, Unsaid}
+use Rattle.adf_serve.specs.Commands.{Does, DoesJob, Ending, EndsJob, EndsOff, LeavesOff, Prints, prints, prints_json, Tells, TellsFault, TellsMade, TellsJob, TellsOf, TellsSome}
+use Rattle.adf_serve.specs.Commands.Prints.{OnlyFaults, OfMade, OfBlocks, OfBytes, OfImages, OfMap, OfRescue, Unsaid}
+use Rattle.adf_serve.specs.NewImages.{IsMade, Made, PutsImage, PutsMade, WritesImage, WritesMade}
 use Rattle.std.proofs.lemmas.List.{append-nil}
 use Rattle.adf_archive.specs.Archive.{TellsArchive, told_in}
 use Rattle.adf_archive.specs.declared.fault.ArchiveFault.{ArchiveFault}
@@ -43,21 +43,26 @@ use Rattle.adf_words.specs.declared.query.UndeleteJob.{UndeleteJob}
 use Rattle.adf_rescue.specs.declared.undeleting.Undeletion.{Undeletion}
 use Rattle.adf_rescue.specs.Undelete.{IsUndeletion, key_of}
 use Rattle.adf_block.specs.Image.{block_count}
-use Rattle.adf_where.specs.Faulty.{IsFaultyWhere, IsFaultyWhereBehind}
-use Rattle.adf_where.specs.Where.{IsWhere, IsWhereFault, IsWhereOf, LeavesWhere}
+use Rattle.adf_where.specs.Faulty.{IsFaultyWhere}
+use Rattle.adf_where.specs.Own.{IsWhereOf}
+use Rattle.adf_where.specs.Where.{IsWhere, IsWhereFault, LeavesWhere}
 use Rattle.adf_where.specs.declared.where_fault.WhereFault.{WhereFault}
 use Rattle.adf_where.specs.declared.where_fault.WhereFault.TheVariants as places
 use Rattle.adf_words.specs.declared.block_word.BlockWord.{BlockWord}
 use Rattle.adf_export.specs.Words.{LeadsTo}
 use Rattle.adf_serve.specs.Archives.{EndsArchive, IsToldArchive}
-use Rattle.adf_serve.specs.Placed.{DoesWhere, IsBareLine, IsPlacedIn, IsUnasked, IsWhereText, LeavesPlaced, MayEnd}
+use Rattle.adf_serve.specs.Mapped.{IsBareMap, IsKindRefusal, IsMapReport}
+use Rattle.adf_where.specs.FaultyMap.{IsFaultyMap}
+use Rattle.adf_words.specs.declared.map_form.MapForm.{MapForm}
+use Rattle.ados_faults.specs.Listed.{IsOtherKind}
+use Rattle.adf_serve.specs.Placed.{DoesWhere, IsBareRefusal, IsPlacedIn, IsUnasked, IsWhereText, LeavesPlaced, MayEnd}
 use Rattle.adf_serve.specs.Reports.{DoesReport, IsSomeText, TellsReport}
-use Rattle.adf_serve.specs.Rescues.{IsHostEnd, IsRescueText, IsSizeLine}
-use Rattle.adf_serve.specs.Refusals.{dos_line, IsDosText, IsImageRefusal, IsRefusalText, IsSizeRefusal, refusal_line, refused_line, told_line}
+use Rattle.adf_serve.specs.Rescues.{IsHostEnd, IsRescueText, IsSomeSize}
+use Rattle.adf_serve.specs.Refusals.{dos_text, IsDosText, IsImageRefusal, IsRefusalText, IsSizeRefusal, refusal_text, told_line}
 
 -- an image is refused, as the fault says
 pub refused_for : (image : List ℕ) (fault : VolumeFault) (told : CommandFault) → IsRefusal image fault → IsToldAs fault told → IsRefusedFor image told
-refused_for image fault (Refused refusal) refused (no_want, line) = (fault.kind, fault.block, shown refused, line)
+refused_for image fault (Refused refusal) refused (no_want, kind, block) = (fault.kind, subst (Shows image fault.kind) (sym block) (shown refused), kind)
   where
     shown : IsRefusal image fault → Shows image fault.kind fault.block
     shown (inl shows) = shows
@@ -122,14 +127,14 @@ pub blank_no_refusal : (s : Bool) (blocks : ℕ) (word : List ℕ) (fault : Comm
 blank_no_refusal s blocks word fault (Ok x) e same = tt
 blank_no_refusal s blocks word fault (Err told) e same = subst IsNoRefusal (sym same) (blank_plain s blocks word fault e)
 
-accepted_tree : (image : List ℕ) (was_validated : Bool) (checked : List ℕ) → Accepts image was_validated checked → (t : Tree) × Stands checked t
+pub accepted_tree : (image : List ℕ) (was_validated : Bool) (checked : List ℕ) → Accepts image was_validated checked → (t : Tree) × Stands checked t
 accepted_tree image false checked a = (a.3.0, a.3.1)
 accepted_tree image true checked a = (a.2.0, a.2.1)
 
 -- the answer of DISK_INFO for the tree of the image, printed
-pub info_told : (image : List ℕ) (answer : Answer) (last shown : List ℕ) → AnswersDisk image answer last → shown ≡ last → IsInfoText image (info_text answer shown)
-info_told image answer last shown (was_validated, checked, t, accepted, stands, (same, is)) shown_is =
-    (was_validated, checked, t, accepted, stands, ap₂ info_text is (shown_is ∙ same))
+pub info_told : (json : Bool) (image : List ℕ) (answer : Answer) (last shown : List ℕ) → AnswersDisk image answer last → shown ≡ last → IsInfoText json image (info_text json answer shown)
+info_told json image answer last shown (was_validated, checked, t, accepted, stands, (same, is)) shown_is =
+    (was_validated, checked, t, accepted, stands, ap₂ (info_text json) is (shown_is ∙ same))
 
 -- the list that a job asks for, and the beginning of one
 module _ (image : List ℕ) (job : ListJob) (styled : Bool) (form : ListForm) (same : form ≡ shown_form styled job.form) (old new : Option (List ℕ)) where
@@ -161,8 +166,8 @@ module _ (image : List ℕ) (was_validated : Bool) (checked : List ℕ) (a : Acc
       let s = accepted_tree image was_validated checked a in
       let w = h s.0 s.1 in (bytes_of s.0 w.0, w.3, (was_validated, checked, s.0, a, s.1, (w.0, w.1, w.2, refl)))
 
-  pub looked : (look : Look) (text : List ℕ) → ((t : Tree) → Stands checked t → IsLook look was_validated checked t text) → IsLookText look image text
-  looked look text is =
+  pub looked : (json : Bool) (text : List ℕ) → ((t : Tree) → Stands checked t → IsLook json was_validated checked t text) → IsLookText json image text
+  looked json text is =
       let s = accepted_tree image was_validated checked a in (was_validated, checked, s.0, a, s.1, is s.0 s.1)
 
   -- the owners of blocks, written whole, or as far as the writer accepts them
@@ -191,9 +196,9 @@ module _ (image : List ℕ) (was_validated : Bool) (checked : List ℕ) (a : Acc
         go places.Memory left = some (accepted_tree image was_validated checked a).0 (accepted_tree image was_validated checked a).1 left
         go places.Output left = some (accepted_tree image was_validated checked a).0 (accepted_tree image was_validated checked a).1 left
 
-  pub entry_told : (word : List ℕ) (key : ℕ) (text : List ℕ) → ((t : Tree) → Stands checked t → LeadsTo t word key) → ((t : Tree) → Stands checked t → IsWhereOf checked t key text)
-      → AreEntryBlocks word image text
-  entry_told word key text leads is =
+  pub entry_told : (json : Bool) (word : List ℕ) (key : ℕ) (text : List ℕ) → ((t : Tree) → Stands checked t → LeadsTo t word key) → ((t : Tree) → Stands checked t → IsWhereOf json checked t key text)
+      → AreEntryBlocks json word image text
+  entry_told json word key text leads is =
       let s = accepted_tree image was_validated checked a in (was_validated, checked, s.0, a, s.1, (key, leads s.0 s.1, is s.0 s.1))
 
   pub print_fault : (word : List ℕ) (old new : Option (List ℕ)) (fault : OutFault) (told : CommandFault) → ((t : Tree) → Stands checked t → IsPrintFault t word old new fault)
@@ -208,15 +213,15 @@ module _ (image : List ℕ) (was_validated : Bool) (checked : List ℕ) (a : Acc
       let s = accepted_tree image was_validated checked a in
       leaves_kept (IsPrintText word image) image old new told plain (h s.0 s.1).0
 
--- the lines of an undeletion are those of its image
-pub deleted_told : (image : List ℕ) (job : UndeleteJob) (done : Undeletion) → IsUndeletion image (map (λ word. key_of word.now) job.paths.items) job.force done → AreDeletedLines job image done.text.items
+-- what is told of an undeletion is that of its image
+pub deleted_told : (image : List ℕ) (job : UndeleteJob) (done : Undeletion) → IsUndeletion image (map (λ word. key_of word.now) job.paths.items) job.force job.json done → AreDeletedLines job image done.text.items
 deleted_told image job done is = record {
   trusted = is.trusted;
   found = done.found;
   undeleted = is.found;
   chosen = done.chosen.items;
   are_chosen = is.chosen;
-  lines = is.text;
+  text_is = is.text;
 }
 
 -- output after no output
@@ -226,15 +231,59 @@ kept_appends (Some x) None c bytes k w = absurd k
 kept_appends (Some x) (Some y) None bytes k w = absurd w
 kept_appends (Some x) (Some y) (Some z) bytes k w = w ∙ ap (λ (l : List ℕ). l ++ bytes) k
 
--- a job without output when it succeeds
-abbrev pub PrintsNothing : ImageJob → Type 0
-PrintsNothing (Blank format blocks moment name as_letters file) = ⊤
-PrintsNothing job = ⊥
+-- a fault before any output
+pub none_put : (made : Made) (w : Option (List ℕ)) (fault : CommandFault) → WritesMade made w w (Err fault)
+none_put made w (Refused refusal) = Keeps-refl w
+none_put made w (Dos refusal) = Keeps-refl w
+none_put made w fault = inl (Keeps-refl w)
 
-pub job_silent : (job : ImageJob) (w : Option (List ℕ)) (done : Ending) → PrintsNothing job → IfErr done IsNoRefusal → DoesJob job w w done
-job_silent (Blank format blocks moment name as_letters file) w (Ok x) silent plain = ([], ([], Appends-nil w, refl))
-job_silent (Blank format blocks moment name as_letters file) w (Err fault) silent plain = ([], leaves_nothing (λ text. text ≡ []) [] w fault plain)
-job_silent job w done silent plain = absurd silent
+pub made_not_put : (made : Made) (file w : Option (List ℕ)) (fault : CommandFault) → PutsMade made file w w (Err fault)
+made_not_put made file w fault = (λ is. none_put made w fault, λ other. Keeps-refl w)
+
+pub unput : (made : Made) (w : Option (List ℕ)) (fault : CommandFault) (done : Ending) → IsErrAnd done (λ told. told ≡ fault) → WritesMade made w w done
+unput made w fault (Ok x) same = absurd same
+unput made w fault (Err told) same = none_put made w told
+
+pub not_put : (made : Made) (file w : Option (List ℕ)) (fault : CommandFault) (done : Ending) → IsErrAnd done (λ told. told ≡ fault) → PutsMade made file w w done
+not_put made file w fault (Ok x) same = absurd same
+not_put made file w fault (Err told) same = made_not_put made file w told
+
+-- the file of the image is standard output, or another
+pub put_output : (made : Made) (file : List ℕ) (old new : Option (List ℕ)) (done : Ending) (is_output : Bool) → (IsTrue is_output ↔ (file ≡ codes "-")) → IsTrue is_output → WritesMade made old new done
+    → PutsMade made (Some file) old new done
+put_output made file old new done is_output same is_so put = (λ is. put, λ other. absurd (other (ap Some (same.0 is_so))))
+
+pub put_file : (made : Made) (file : List ℕ) (w : Option (List ℕ)) (done : Ending) (is_output : Bool) → (IsTrue is_output ↔ (file ≡ codes "-")) → IsFalse is_output → PutsMade made (Some file) w w done
+put_file made file w done is_output same is_not = (λ is. absurd (let is_so = same.1 (cc is) in cc (sym is_not ∙ is_so)), λ other. Keeps-refl w)
+
+pub put_work : (file old new : Option (List ℕ)) (done : Ending) (to_output : Bool) → (IsTrue to_output ↔ (file ≡ Some (codes "-"))) → (IsTrue to_output → WritesImage old new done)
+    → (IsFalse to_output → Keeps old new) → PutsImage file old new done
+put_work file old new done true same put keeps = (λ is. put refl, λ other. absurd (other (same.0 refl)))
+put_work file old new done false same put keeps = (λ is. absurd (cc (same.1 is)), λ other. keeps refl)
+
+-- what is put as far as the writer accepts it
+made_front : (made : Made) (old new : Option (List ℕ)) (text : List ℕ) (fault : CommandFault) → IsMade made text → IsNoRefusal fault → WritesFront old new text → WritesMade made old new (Err fault)
+made_front made old new text (Refused refusal) is plain front = absurd (cc plain)
+made_front made old new text (Dos refusal) is plain front = absurd (cc plain)
+made_front made old new text fault is plain front = inr (text, is, front)
+
+pub made_put : (made : Made) (old new : Option (List ℕ)) (text : List ℕ) (done : Ending) → IsMade made text → OnOk done (Appends old new text) → OnErr done (WritesFront old new text) → IfErr done IsNoRefusal
+    → WritesMade made old new done
+made_put made old new text (Ok x) is all front plain = (text, all, is)
+made_put made old new text (Err fault) is all front plain = made_front made old new text fault is plain front
+
+-- the fault of a job that puts something
+made_failed : (json : Bool) (made : Made) (old new : Option (List ℕ)) (fault : CommandFault) → WritesMade made old new (Err fault) → IsNoRefusal fault → TellsMade json made old new (Err fault)
+made_failed json made old new (Refused refusal) h plain = absurd (cc plain)
+made_failed json made old new (Dos refusal) h plain = absurd (cc plain)
+made_failed json made old new fault (inl keeps) plain = inl keeps
+made_failed json made old new fault (inr (text, is, front)) plain = inr (text, inl is, front)
+
+made_unsaid : (json : Bool) (made : Made) (old new : Option (List ℕ)) (fault : CommandFault) → WritesMade made old new (Err fault) → TellsMade json made old new (Err Memory)
+made_unsaid json made old new (Refused refusal) keeps = inl keeps
+made_unsaid json made old new (Dos refusal) keeps = inl keeps
+made_unsaid json made old new fault (inl keeps) = inl keeps
+made_unsaid json made old new fault (inr (text, is, front)) = inr (text, inl is, front)
 
 -- an option without a value, and one with a value
 pub none_told : {A : Type 0} (f : A → List ℕ) (o : Option A) (told : Option (List ℕ)) → option_map f o ≡ told → o ≡ None → told ≡ None
@@ -262,24 +311,37 @@ archive_unsaid job old new Output front = front
 archive_unsaid job old new Memory front = front
 archive_unsaid job old new fault none = absurd none
 
+-- a fault without a text has none in any form
+none_in : (json : Bool) (fault : CommandFault) → IsNoRefusal fault → told_line json fault ≡ None
+none_in json (Refused refusal) plain = absurd (cc plain)
+none_in json (Dos refusal) plain = absurd (cc plain)
+none_in json fault plain = refl
+
+pub plain : (json : Bool) (fault : CommandFault) → told_line json fault ≡ None → IsNoRefusal fault
+plain json (Refused refusal) none = absurd (cc none)
+plain json (Dos refusal) none = absurd (cc none)
+plain json fault none = refl
+
 -- a report on an image
-module _ (IsText : Bool → List ℕ → Type 0) (IsPlain : List ℕ → Type 0) (MayEnd : CommandFault → Type 0) where
-  -- the fault has no line, or no memory for it
-  report_failed : (old new : Option (List ℕ)) (fault : CommandFault) → DoesReport IsText IsPlain MayEnd old new (Err fault) → IsNoRefusal fault → TellsReport IsText IsPlain MayEnd old new (Err fault)
+module _ (json : Bool) (IsText : Bool → List ℕ → Type 0) (IsPlain : Refusal → Type 0) (MayEnd : CommandFault → Type 0) where
+  -- the fault has no text, or no memory for it
+  report_failed : (old new : Option (List ℕ)) (fault : CommandFault) → DoesReport IsText IsPlain MayEnd old new (Err fault) → IsNoRefusal fault → TellsReport json IsText IsPlain MayEnd old new (Err fault)
   report_failed old new NotWhole told plain = told
   report_failed old new (Refused refusal) d plain = absurd (cc plain)
   report_failed old new (Dos refusal) d plain = absurd (cc plain)
   report_failed old new fault (may, inl keeps) plain = (may, inl keeps)
   report_failed old new fault (may, inr (text, is, front)) plain = (may, inr (text, inl is, front))
 
-  report_unsaid : (old new : Option (List ℕ)) (fault : CommandFault) → MayEnd Memory → DoesReport IsText IsPlain MayEnd old new (Err fault) → TellsReport IsText IsPlain MayEnd old new (Err Memory)
+  report_unsaid : (old new : Option (List ℕ)) (fault : CommandFault) → MayEnd Memory → DoesReport IsText IsPlain MayEnd old new (Err fault) → TellsReport json IsText IsPlain MayEnd old new (Err Memory)
   report_unsaid old new NotWhole may d = (may, inr (d.0, inl (false, d.2), told_front old new d.0 d.1))
   report_unsaid old new (Refused refusal) may d = (may, inl d.0)
   report_unsaid old new (Dos refusal) may keeps = (may, inl keeps)
   report_unsaid old new fault may (ends, inl keeps) = (may, inl keeps)
   report_unsaid old new fault may (ends, inr (text, is, front)) = (may, inr (text, inl is, front))
 
-  -- nothing is written, or a prefix of a report, at a fault without a line
+-- a report that was not made
+module _ (IsText : Bool → List ℕ → Type 0) (IsPlain : Refusal → Type 0) (MayEnd : CommandFault → Type 0) where
+  -- nothing is written, or a prefix of a report, at a fault without a text
   pub report_left : (old new : Option (List ℕ)) (fault : CommandFault) → IsNoRefusal fault → fault ≢ NotWhole → MayEnd fault → Keeps old new ⊎ WritesFrontOf old new (IsSomeText IsText)
       → DoesReport IsText IsPlain MayEnd old new (Err fault)
   report_left old new NotWhole plain other may left = absurd (other refl)
@@ -288,14 +350,14 @@ module _ (IsText : Bool → List ℕ → Type 0) (IsPlain : List ℕ → Type 0)
   report_left old new fault plain other may left = (may, left)
 
   -- nothing is written if no image was read
-  no_image_reported : (w : Option (List ℕ)) (fault : CommandFault) → ((bytes text : List ℕ) → IsSizeRefusal bytes text → IsPlain text) → (IsNoImage fault → MayEnd fault) → IsNoImage fault
+  no_image_reported : (w : Option (List ℕ)) (fault : CommandFault) → ((bytes : List ℕ) (refusal : Refusal) → IsSizeRefusal bytes refusal → IsPlain refusal) → (IsNoImage fault → MayEnd fault) → IsNoImage fault
       → DoesReport IsText IsPlain MayEnd w w (Err fault)
   no_image_reported w NotWhole plain may is = absurd is
-  no_image_reported w (Refused refusal) plain may is = (Keeps-refl w, plain is.0 (refusal_line refusal) is.1)
+  no_image_reported w (Refused refusal) plain may is = (Keeps-refl w, plain is.0 refusal is.1)
   no_image_reported w (Dos refusal) plain may is = Keeps-refl w
   no_image_reported w fault plain may is = (may is, inl (Keeps-refl w))
 
-  pub reports_no_image : (w : Option (List ℕ)) (fault : CommandFault) (done : Ending) → ((bytes text : List ℕ) → IsSizeRefusal bytes text → IsPlain text)
+  pub reports_no_image : (w : Option (List ℕ)) (fault : CommandFault) (done : Ending) → ((bytes : List ℕ) (refusal : Refusal) → IsSizeRefusal bytes refusal → IsPlain refusal)
       → ((told : CommandFault) → IsNoImage told → MayEnd told) → IsNoImage fault → IsErrAnd done (λ told. told ≡ fault) → DoesReport IsText IsPlain MayEnd w w done
   reports_no_image w fault (Ok x) plain may is same = absurd same
   reports_no_image w fault (Err told) plain may is same = no_image_reported w told plain (may told) (subst IsNoImage (sym same) is)
@@ -305,43 +367,111 @@ pub host_ends : (list : Bool) (fault : CommandFault) → IsNoImage fault → IsH
 host_ends list (Extracted why) is = absurd is
 host_ends list fault is = tt
 
+-- a report that may end by any fault
+module _ (IsText : Bool → List ℕ → Type 0) (IsPlain : Refusal → Type 0) where
+  -- it is written as far as the writer accepts it
+  pub report_front : (whole : Bool) (text : List ℕ) (old new : Option (List ℕ)) (fault : CommandFault) → IsText whole text → WritesFront old new text → fault ≡ Output
+      → DoesReport IsText IsPlain MayEnd old new (Err fault)
+  report_front whole text old new fault is front same =
+      subst (λ (f : CommandFault). DoesReport IsText IsPlain MayEnd old new (Err f)) (sym same) (tt, inr (text, (whole, is), front))
+
+  -- that on an accepted image is written whole, or as far as that
+  pub report_told : (text : List ℕ) (old new : Option (List ℕ)) (done : Ending) → IsText true text → OnOk done (Appends old new text) → OnErr done (WritesFront old new text)
+      → IfErr done (λ fault. fault ≡ Output) → DoesReport IsText IsPlain MayEnd old new done
+  report_told text old new (Ok x) is told front output = (text, told, is)
+  report_told text old new (Err fault) is told front output = report_front true text old new fault is front output
+
+  -- memory ran out before it
+  pub report_unmade : (w : Option (List ℕ)) (done : Ending) → IsErrAnd done (λ fault. fault ≡ Memory) → DoesReport IsText IsPlain MayEnd w w done
+  report_unmade w (Ok x) same = absurd same
+  report_unmade w (Err fault) same = subst (λ (f : CommandFault). DoesReport IsText IsPlain MayEnd w w (Err f)) (sym same) (tt, inl (Keeps-refl w))
+
+  -- the same two of a report that depends on what is known
+  module _ (Known : Type 0) where
+    pub known_front : (whole : Bool) (text : List ℕ) (old new : Option (List ℕ)) (done : Ending) → (Known → IsText whole text) → OnErr done (WritesFront old new text) → IfErr done (λ fault. fault ≡ Output)
+        → IfErr done (λ fault. Known → DoesReport IsText IsPlain MayEnd old new (Err fault))
+    known_front whole text old new (Ok x) is front output = tt
+    known_front whole text old new (Err fault) is front output = λ known. report_front whole text old new fault (is known) front output
+
+    pub known_unmade : (w : Option (List ℕ)) (done : Ending) → IsErrAnd done (λ fault. fault ≡ Memory) → IfErr done (λ fault. Known → DoesReport IsText IsPlain MayEnd w w (Err fault))
+    known_unmade w (Ok x) same = tt
+    known_unmade w (Err fault) same = λ known. report_unmade w (Err fault) same
+
+  -- it ends with the fault that it was given
+  pub report_ends : (old new : Option (List ℕ)) (fault : CommandFault) (done : Ending) → DoesReport IsText IsPlain MayEnd old new (Err fault) → IsErrAnd done (λ told. told ≡ fault)
+      → DoesReport IsText IsPlain MayEnd old new done
+  report_ends old new fault (Ok x) is same = absurd same
+  report_ends old new fault (Err told) is same = subst (λ (f : CommandFault). DoesReport IsText IsPlain MayEnd old new (Err f)) (sym same) is
+
+-- the map of a refused image, as a report
+module _ (form : MapForm) (image : List ℕ) (refusal : Refusal) (kind : List ℕ) (at : ℕ) (of_kind : kind ≡ refusal.kind.now) (of_block : at ≡ refusal.block) (text : List ℕ) (is : IsFaultyMap form image kind at text) where
+  pub mapped : IsImageRefusal image refusal → IsMapReport form false text
+  mapped refused = (
+    image,
+    record {
+      refusal = refusal;
+      refused = refused;
+      mapped = subst (λ (k : List ℕ). IsFaultyMap form image k refusal.block text) of_kind (subst (λ (b : ℕ). IsFaultyMap form image kind b text) of_block is);
+    },
+  )
+
+-- the fault that a refusal of an image that is handed back names
+module _ (image old : List ℕ) (fault : VolumeFault) (refusal : Refusal) (handed : HandsBack old image fault) (kind : refusal.kind.now ≡ kind_word fault.kind) (block : refusal.block ≡ fault.block) where
+  is_refused : IsRefusal image fault
+  is_refused = subst (λ (i : List ℕ). IsRefusal i fault) (sym handed.0) handed.1
+
+  pub refusal_shown : fault.kind ≢ NoMemory → IsImageRefusal image refusal
+  refusal_shown memory = refused_for image fault (Refused refusal) is_refused (memory, kind, block)
+
+  -- it is that the disk is of another kind
+  at_boot : IsOtherKind image fault.kind → fault.block ≡ 0 → IsKindRefusal image refusal
+  at_boot other at = (fault.kind, other, kind, block ∙ at)
+
+  pub kind_shown : (fault.kind ≡ NotADosDisk) ⊎ (fault.kind ≡ UnsupportedKind) → IsKindRefusal image refusal
+  kind_shown of = go is_refused of
+    where
+      go : IsRefusal image fault → (fault.kind ≡ NotADosDisk) ⊎ (fault.kind ≡ UnsupportedKind) → IsKindRefusal image refusal
+      go (inl shows) (inl e) =
+          let at : fault.block ≡ 0 = (subst (λ (k : FaultKind). Shows image k fault.block) e shows).1 in
+          at_boot (record { of_boot = inl e; shown = subst (Shows image fault.kind) at shows }) at
+      go (inl shows) (inr e) =
+          let at : fault.block ≡ 0 = (subst (λ (k : FaultKind). Shows image k fault.block) e shows).2 in
+          at_boot (record { of_boot = inr e; shown = subst (Shows image fault.kind) at shows }) at
+      go (inr want) (inl e) = absurd (cc (want.0, e))
+      go (inr want) (inr e) = absurd (cc (want.0, e))
+
 -- the report on a refused image, or why there is none
 module _ (job : WhereJob) (image : List ℕ) where
-  -- the fault that a refusal of an image that is handed back names
-  pub refusal_shown : (old : List ℕ) (fault : VolumeFault) (refusal : Refusal) → HandsBack old image fault → refusal.kind.now ≡ kind_word fault.kind → refusal.block ≡ fault.block
-      → fault.kind ≢ NoMemory → IsImageRefusal image (refusal_line refusal)
-  refusal_shown old fault refusal handed kind block memory =
-      refused_for image fault (Refused refusal) (subst (λ (i : List ℕ). IsRefusal i fault) (sym handed.0) handed.1) (memory, ap₂ refused_line kind block)
-
-  -- the line and the places, as the output for the refused image
-  module _ (refusal : Refusal) (line : List ℕ) (words : List BlockWord) (same : line ≡ refusal_line refusal) (asked : words ≡ job.blocks.items) (refused : IsImageRefusal image (refusal_line refusal))
-      (old new : Option (List ℕ)) where
-    is_placed : (text : List ℕ) → IsFaultyWhereBehind line job.json image words text → IsPlacedIn job image text
-    is_placed text (rest, told, is) = record {
-      line = refusal_line refusal;
+  -- the refusal and the places, as the output for the refused image
+  module _ (refusal : Refusal) (kind : List ℕ) (at : ℕ) (words : List BlockWord) (of_kind : kind ≡ refusal.kind.now) (of_block : at ≡ refusal.block) (asked : words ≡ job.blocks.items)
+      (refused : IsImageRefusal image refusal) (old new : Option (List ℕ)) where
+    is_placed : (text : List ℕ) → IsFaultyWhere job.json image kind at words text → IsPlacedIn job image text
+    is_placed text told = record {
+      refusal = refusal;
       refused = refused;
-      rest = rest;
-      placed = subst (λ (blocks : List BlockWord). IsFaultyWhere job.json image blocks rest) asked told;
-      text_is = is ∙ ap (λ (l : List ℕ). l ++ rest) same;
+      placed =
+          subst (λ (k : List ℕ). IsFaultyWhere job.json image k refusal.block job.blocks.items text) of_kind
+          (subst (λ (b : ℕ). IsFaultyWhere job.json image kind b job.blocks.items text) of_block
+          (subst (λ (blocks : List BlockWord). IsFaultyWhere job.json image kind at blocks text) asked told));
     }
 
-    pub placed_written : Writes old new (IsFaultyWhereBehind line job.json image words) → Writes old new (IsPlacedIn job image)
+    pub placed_written : Writes old new (IsFaultyWhere job.json image kind at words) → Writes old new (IsPlacedIn job image)
     placed_written (text, written, told) = (text, written, is_placed text told)
 
-    some_placed : Keeps old new ⊎ WritesFrontOf old new (IsFaultyWhereBehind line job.json image words) → Keeps old new ⊎ WritesFrontOf old new (IsPlacedIn job image)
+    some_placed : Keeps old new ⊎ WritesFrontOf old new (IsFaultyWhere job.json image kind at words) → Keeps old new ⊎ WritesFrontOf old new (IsPlacedIn job image)
     some_placed (inl keeps) = inl keeps
     some_placed (inr (text, told, front)) = inr (text, is_placed text told, front)
 
-    pub placed_left : (fault : WhereFault) → LeavesWhere (IsFaultyWhereBehind line job.json image words) old new fault → Keeps old new ⊎ WritesFrontOf old new (IsPlacedIn job image)
+    pub placed_left : (fault : WhereFault) → LeavesWhere (IsFaultyWhere job.json image kind at words) old new fault → Keeps old new ⊎ WritesFrontOf old new (IsPlacedIn job image)
     placed_left (places.NoBlock word) keeps = inl keeps
     placed_left places.Memory left = some_placed left
     placed_left places.Output left = some_placed left
 
     -- nothing, if an argument names no block
-    pub placed_none : (fault : WhereFault) (word : BlockWord) → fault ≡ places.NoBlock word → LeavesWhere (IsFaultyWhereBehind line job.json image words) old new fault
-        → IsWhereFault (block_count image) words fault → Keeps old new × IsUnasked job image (refusal_line refusal)
+    pub placed_none : (fault : WhereFault) (word : BlockWord) → fault ≡ places.NoBlock word → LeavesWhere (IsFaultyWhere job.json image kind at words) old new fault
+        → IsWhereFault (block_count image) words fault → Keeps old new × IsUnasked job image refusal
     placed_none fault word is left none = (
-      subst (LeavesWhere (IsFaultyWhereBehind line job.json image words) old new) is left,
+      subst (LeavesWhere (IsFaultyWhere job.json image kind at words) old new) is left,
       (
         refused,
         (
@@ -369,36 +499,42 @@ module _ (job : WhereJob) (image : List ℕ) where
     placed_ends fault (Err told) left same = left_ends told (subst (LeavesPlaced job image old new) (sym same) left)
 
 -- for jobs with such texts for bytes
-module _ (IsText BeginsText : List ℕ → List ℕ → Type 0) where
+module _ (json : Bool) (IsText BeginsText : List ℕ → List ℕ → Type 0) where
   -- a job succeeds
-  done : (p : Prints) (old new : Option (List ℕ)) (x : Unit {0}) → Does p IsText BeginsText old new (Ok x) → Tells p IsText BeginsText old new (Ok x)
+  done : (p : Prints) (old new : Option (List ℕ)) (x : Unit {0}) → Does p IsText BeginsText old new (Ok x) → Tells json p IsText BeginsText old new (Ok x)
   done OnlyFaults old new x h = h
+  done (OfMade made file) old new x h = h
   done OfBytes old new x h = h
   done (OfImages job) old new x h = h
   done (OfRescue job) old new x h = h
   done (OfBlocks job) old new x h = h
+  done (OfMap form) old new x h = h
   done Unsaid old new x h = tt
 
-  -- a job whose fault has no line
+  -- a job whose fault has no text
   failed : (p : Prints) (old new : Option (List ℕ)) (fault : CommandFault) → Does p IsText BeginsText old new (Err fault) → IsNoRefusal fault
-      → Tells p IsText BeginsText old new (Err fault)
-  failed OnlyFaults old new fault keeps plain = rw plain (inl keeps)
+      → Tells json p IsText BeginsText old new (Err fault)
+  failed OnlyFaults old new fault keeps plain = rw (none_in json fault plain) (inl keeps)
+  failed (OfMade made file) old new fault (put, keeps) plain = (λ is. made_failed json made old new fault (put is) plain, λ other. rw (none_in json fault plain) (inl (keeps other)))
   failed Unsaid old new fault h plain = tt
   failed (OfImages job) old new fault h plain = h
-  failed (OfRescue job) old new fault h plain = report_failed (IsRescueText job.json) IsSizeLine (λ (fault : CommandFault). IsHostEnd fault job.list) old new fault h plain
-  failed (OfBlocks job) old new fault h plain = report_failed (IsWhereText job) (IsBareLine job) MayEnd old new fault h plain
+  failed (OfRescue job) old new fault h plain = report_failed json (IsRescueText job.json) IsSomeSize (λ (fault : CommandFault). IsHostEnd fault job.list) old new fault h plain
+  failed (OfBlocks job) old new fault h plain = report_failed json (IsWhereText job) (IsBareRefusal job) MayEnd old new fault h plain
+  failed (OfMap form) old new fault h plain = report_failed json (IsMapReport form) IsBareMap MayEnd old new fault h plain
   failed OfBytes old new (Refused refusal) h plain = absurd (cc plain)
   failed OfBytes old new (Dos refusal) h plain = absurd (cc plain)
   failed OfBytes old new fault (bytes, inl keeps) plain = (bytes, inl keeps)
   failed OfBytes old new fault (bytes, inr (text, is, front)) plain = (bytes, inr (text, inl is, front))
 
-  -- a job without memory for its line
-  unsaid : (p : Prints) (old new : Option (List ℕ)) (fault : CommandFault) → Does p IsText BeginsText old new (Err fault) → Tells p IsText BeginsText old new (Err Memory)
+  -- a job without memory for its text
+  unsaid : (p : Prints) (old new : Option (List ℕ)) (fault : CommandFault) → Does p IsText BeginsText old new (Err fault) → Tells json p IsText BeginsText old new (Err Memory)
   unsaid OnlyFaults old new fault keeps = inl keeps
+  unsaid (OfMade made file) old new fault (put, keeps) = (λ is. made_unsaid json made old new fault (put is), λ other. inl (keeps other))
   unsaid Unsaid old new fault h = tt
   unsaid (OfImages job) old new fault h = archive_unsaid job old new fault h
-  unsaid (OfRescue job) old new fault h = report_unsaid (IsRescueText job.json) IsSizeLine (λ (fault : CommandFault). IsHostEnd fault job.list) old new fault tt h
-  unsaid (OfBlocks job) old new fault h = report_unsaid (IsWhereText job) (IsBareLine job) MayEnd old new fault tt h
+  unsaid (OfRescue job) old new fault h = report_unsaid json (IsRescueText job.json) IsSomeSize (λ (fault : CommandFault). IsHostEnd fault job.list) old new fault tt h
+  unsaid (OfBlocks job) old new fault h = report_unsaid json (IsWhereText job) (IsBareRefusal job) MayEnd old new fault tt h
+  unsaid (OfMap form) old new fault h = report_unsaid json (IsMapReport form) IsBareMap MayEnd old new fault tt h
   unsaid OfBytes old new (Refused refusal) d = (d.0, inl d.1.1)
   unsaid OfBytes old new (Dos refusal) d = (d.0, inl d.1)
   unsaid OfBytes old new fault (bytes, inl keeps) = (bytes, inl keeps)
@@ -406,94 +542,117 @@ module _ (IsText BeginsText : List ℕ → List ℕ → Type 0) where
 
   module _ (old mid new : Option (List ℕ)) where
     -- a refused image is reported
-    told_refused : (p : Prints) (refusal : Refusal) → Does p IsText BeginsText old mid (Err (Refused refusal)) → Appends mid new (refusal_line refusal)
-        → Tells p IsText BeginsText old new (Err (Refused refusal))
-    told_refused OnlyFaults refusal keeps w = (refusal_line refusal, kept_appends old mid new (refusal_line refusal) keeps w, refl)
+    told_refused : (p : Prints) (refusal : Refusal) → Does p IsText BeginsText old mid (Err (Refused refusal)) → Appends mid new (refusal_text json refusal)
+        → Tells json p IsText BeginsText old new (Err (Refused refusal))
+    told_refused OnlyFaults refusal keeps w = (refusal_text json refusal, kept_appends old mid new (refusal_text json refusal) keeps w, refl)
+    told_refused (OfMade made file) refusal (put, keeps) w = (
+      λ is. (refusal_text json refusal, kept_appends old mid new (refusal_text json refusal) (put is) w, refl),
+      λ other. (refusal_text json refusal, kept_appends old mid new (refusal_text json refusal) (keeps other) w, refl),
+    )
     told_refused Unsaid refusal d w = tt
     told_refused (OfImages job) refusal d w = absurd d
-    told_refused (OfRescue job) refusal (keeps, is) w = (refusal_line refusal, kept_appends old mid new (refusal_line refusal) keeps w, is)
-    told_refused (OfBlocks job) refusal (keeps, is) w = (refusal_line refusal, kept_appends old mid new (refusal_line refusal) keeps w, is)
-    told_refused OfBytes refusal (bytes, (is, keeps)) w = (bytes, (refusal_line refusal, kept_appends old mid new (refusal_line refusal) keeps w, is))
+    told_refused (OfRescue job) refusal (keeps, is) w = (is, (refusal_text json refusal, kept_appends old mid new (refusal_text json refusal) keeps w, refl))
+    told_refused (OfBlocks job) refusal (keeps, is) w = (is, (refusal_text json refusal, kept_appends old mid new (refusal_text json refusal) keeps w, refl))
+    told_refused (OfMap form) refusal (keeps, is) w = (is, (refusal_text json refusal, kept_appends old mid new (refusal_text json refusal) keeps w, refl))
+    told_refused OfBytes refusal (bytes, (is, keeps)) w = (bytes, (is, (refusal_text json refusal, kept_appends old mid new (refusal_text json refusal) keeps w, refl)))
 
     -- a refusal by AmigaDOS is reported
-    told_dos : (p : Prints) (refusal : DosRefusal) → Does p IsText BeginsText old mid (Err (Dos refusal)) → Appends mid new (dos_line refusal)
-        → Tells p IsText BeginsText old new (Err (Dos refusal))
-    told_dos OnlyFaults refusal keeps w = (dos_line refusal, kept_appends old mid new (dos_line refusal) keeps w, refl)
+    told_dos : (p : Prints) (refusal : DosRefusal) → Does p IsText BeginsText old mid (Err (Dos refusal)) → Appends mid new (dos_text json refusal)
+        → Tells json p IsText BeginsText old new (Err (Dos refusal))
+    told_dos OnlyFaults refusal keeps w = (dos_text json refusal, kept_appends old mid new (dos_text json refusal) keeps w, refl)
+    told_dos (OfMade made file) refusal (put, keeps) w = (
+      λ is. (dos_text json refusal, kept_appends old mid new (dos_text json refusal) (put is) w, refl),
+      λ other. (dos_text json refusal, kept_appends old mid new (dos_text json refusal) (keeps other) w, refl),
+    )
     told_dos Unsaid refusal d w = tt
     told_dos (OfImages job) refusal d w = absurd d
-    told_dos (OfRescue job) refusal keeps w = (dos_line refusal, kept_appends old mid new (dos_line refusal) keeps w, refl)
-    told_dos (OfBlocks job) refusal keeps w = (dos_line refusal, kept_appends old mid new (dos_line refusal) keeps w, refl)
-    told_dos OfBytes refusal (bytes, keeps) w = (bytes, (dos_line refusal, kept_appends old mid new (dos_line refusal) keeps w, refl))
+    told_dos (OfRescue job) refusal keeps w = (dos_text json refusal, kept_appends old mid new (dos_text json refusal) keeps w, refl)
+    told_dos (OfBlocks job) refusal keeps w = (dos_text json refusal, kept_appends old mid new (dos_text json refusal) keeps w, refl)
+    told_dos (OfMap form) refusal keeps w = (dos_text json refusal, kept_appends old mid new (dos_text json refusal) keeps w, refl)
+    told_dos OfBytes refusal (bytes, keeps) w = (bytes, (dos_text json refusal, kept_appends old mid new (dos_text json refusal) keeps w, refl))
 
     -- a prefix of the output after no output
     kept_front : (text : List ℕ) → Keeps old mid → WritesFront mid new text → WritesFront old new text
     kept_front text keeps (written, appends, rest) = (written, kept_appends old mid new written keeps appends, rest)
 
     -- a job without output, whose line is written as far as the writer accepts it
-    broken_quiet : (fault last : CommandFault) (line : List ℕ) → told_line fault ≡ Some line → IsNoRefusal last → Keeps old mid → WritesFront mid new line → TellsFault old new (Err last)
-    broken_quiet fault last line tells plain keeps front = rw plain (inr (line, (fault, tells), kept_front line keeps front))
+    broken_quiet : (fault last : CommandFault) (line : List ℕ) → told_line json fault ≡ Some line → IsNoRefusal last → Keeps old mid → WritesFront mid new line → TellsFault json old new (Err last)
+    broken_quiet fault last line tells plain keeps front = rw (none_in json last plain) (inr (line, (fault, tells), kept_front line keeps front))
 
     -- a line for refused bytes, as far as the writer accepts it
-    ends_front : (bytes : List ℕ) (last : CommandFault) → IsNoRefusal last → WritesFrontOf old new (λ text. BeginsText bytes text ⊎ (IsRefusalText bytes text ⊎ IsDosText text))
-        → EndsOff (BeginsText bytes) bytes old new last
+    ends_front : (bytes : List ℕ) (last : CommandFault) → IsNoRefusal last → WritesFrontOf old new (λ text. BeginsText bytes text ⊎ (IsRefusalText json bytes text ⊎ IsDosText json text))
+        → EndsOff json (BeginsText bytes) bytes old new last
     ends_front bytes (Refused r) plain front = absurd (cc plain)
     ends_front bytes (Dos r) plain front = absurd (cc plain)
     ends_front bytes last plain front = inr front
 
     broken_refused : (p : Prints) (refusal : Refusal) → Does p IsText BeginsText old mid (Err (Refused refusal))
-        → WritesFront mid new (refusal_line refusal) → Tells p IsText BeginsText old new (Err Output)
-    broken_refused OnlyFaults refusal keeps front = broken_quiet (Refused refusal) Output (refusal_line refusal) refl refl keeps front
+        → WritesFront mid new (refusal_text json refusal) → Tells json p IsText BeginsText old new (Err Output)
+    broken_refused OnlyFaults refusal keeps front = broken_quiet (Refused refusal) Output (refusal_text json refusal) refl refl keeps front
+    broken_refused (OfMade made file) refusal (put, keeps) front = (
+      λ is. inr (refusal_text json refusal, inr (Refused refusal, refl), kept_front (refusal_text json refusal) (put is) front),
+      λ other. broken_quiet (Refused refusal) Output (refusal_text json refusal) refl refl (keeps other) front,
+    )
     broken_refused Unsaid refusal d front = tt
     broken_refused (OfImages job) refusal d front = absurd d
-    broken_refused (OfRescue job) refusal (keeps, is) front = (tt, inr (refusal_line refusal, inr (Refused refusal, refl), kept_front (refusal_line refusal) keeps front))
-    broken_refused (OfBlocks job) refusal (keeps, is) front = (tt, inr (refusal_line refusal, inr (Refused refusal, refl), kept_front (refusal_line refusal) keeps front))
+    broken_refused (OfRescue job) refusal (keeps, is) front = (tt, inr (refusal_text json refusal, inr (Refused refusal, refl), kept_front (refusal_text json refusal) keeps front))
+    broken_refused (OfBlocks job) refusal (keeps, is) front = (tt, inr (refusal_text json refusal, inr (Refused refusal, refl), kept_front (refusal_text json refusal) keeps front))
+    broken_refused (OfMap form) refusal (keeps, is) front = (tt, inr (refusal_text json refusal, inr (Refused refusal, refl), kept_front (refusal_text json refusal) keeps front))
     broken_refused OfBytes refusal (bytes, (is, keeps)) front =
-        (bytes, ends_front bytes Output refl (refusal_line refusal, inr (inl is), kept_front (refusal_line refusal) keeps front))
+        (bytes, ends_front bytes Output refl (refusal_text json refusal, inr (inl (refusal, is, refl)), kept_front (refusal_text json refusal) keeps front))
 
     broken_dos : (p : Prints) (refusal : DosRefusal) → Does p IsText BeginsText old mid (Err (Dos refusal))
-        → WritesFront mid new (dos_line refusal) → Tells p IsText BeginsText old new (Err Output)
-    broken_dos OnlyFaults refusal keeps front = broken_quiet (Dos refusal) Output (dos_line refusal) refl refl keeps front
+        → WritesFront mid new (dos_text json refusal) → Tells json p IsText BeginsText old new (Err Output)
+    broken_dos OnlyFaults refusal keeps front = broken_quiet (Dos refusal) Output (dos_text json refusal) refl refl keeps front
+    broken_dos (OfMade made file) refusal (put, keeps) front = (
+      λ is. inr (dos_text json refusal, inr (Dos refusal, refl), kept_front (dos_text json refusal) (put is) front),
+      λ other. broken_quiet (Dos refusal) Output (dos_text json refusal) refl refl (keeps other) front,
+    )
     broken_dos Unsaid refusal d front = tt
     broken_dos (OfImages job) refusal d front = absurd d
-    broken_dos (OfRescue job) refusal keeps front = (tt, inr (dos_line refusal, inr (Dos refusal, refl), kept_front (dos_line refusal) keeps front))
-    broken_dos (OfBlocks job) refusal keeps front = (tt, inr (dos_line refusal, inr (Dos refusal, refl), kept_front (dos_line refusal) keeps front))
+    broken_dos (OfRescue job) refusal keeps front = (tt, inr (dos_text json refusal, inr (Dos refusal, refl), kept_front (dos_text json refusal) keeps front))
+    broken_dos (OfBlocks job) refusal keeps front = (tt, inr (dos_text json refusal, inr (Dos refusal, refl), kept_front (dos_text json refusal) keeps front))
+    broken_dos (OfMap form) refusal keeps front = (tt, inr (dos_text json refusal, inr (Dos refusal, refl), kept_front (dos_text json refusal) keeps front))
     broken_dos OfBytes refusal (bytes, keeps) front =
-        (bytes, ends_front bytes Output refl (dos_line refusal, inr (inr (refusal, refl)), kept_front (dos_line refusal) keeps front))
+        (bytes, ends_front bytes Output refl (dos_text json refusal, inr (inr (refusal, refl)), kept_front (dos_text json refusal) keeps front))
 
--- the fault of a job with this line
+-- the fault of a job with this text
 module _ (job : ImageJob) (old mid new : Option (List ℕ)) (line : List ℕ) where
+  abbrev json : Bool
+  json = prints_json job
+
   -- the line is written
-  pub job_told : (fault : CommandFault) → told_line fault ≡ Some line → DoesJob job old mid (Err fault) → Appends mid new line → TellsJob job old new (Err fault)
+  pub job_told : (fault : CommandFault) → told_line json fault ≡ Some line → DoesJob job old mid (Err fault) → Appends mid new line → TellsJob job old new (Err fault)
   job_told (Refused refusal) tells h w =
-      let same : line ≡ refusal_line refusal = cc tells in
-      told_refused (IsJobText job) (BeginsJobText job) old mid new (prints job) refusal h (subst (λ (l : List ℕ). Appends mid new l) same w)
+      let same : line ≡ refusal_text json refusal = cc tells in
+      told_refused json (IsJobText job) (BeginsJobText job) old mid new (prints job) refusal h (subst (λ (l : List ℕ). Appends mid new l) same w)
   job_told (Dos refusal) tells h w =
-      let same : line ≡ dos_line refusal = cc tells in
-      told_dos (IsJobText job) (BeginsJobText job) old mid new (prints job) refusal h (subst (λ (l : List ℕ). Appends mid new l) same w)
+      let same : line ≡ dos_text json refusal = cc tells in
+      told_dos json (IsJobText job) (BeginsJobText job) old mid new (prints job) refusal h (subst (λ (l : List ℕ). Appends mid new l) same w)
   job_told fault tells h w = absurd (cc tells)
 
   -- the line is written as far as the writer accepts it
-  broken : (fault : CommandFault) → told_line fault ≡ Some line → DoesJob job old mid (Err fault) → WritesFront mid new line → TellsJob job old new (Err Output)
+  broken : (fault : CommandFault) → told_line json fault ≡ Some line → DoesJob job old mid (Err fault) → WritesFront mid new line → TellsJob job old new (Err Output)
   broken (Refused refusal) tells h front =
-      let same : line ≡ refusal_line refusal = cc tells in
-      broken_refused (IsJobText job) (BeginsJobText job) old mid new (prints job) refusal h (subst (λ (l : List ℕ). WritesFront mid new l) same front)
+      let same : line ≡ refusal_text json refusal = cc tells in
+      broken_refused json (IsJobText job) (BeginsJobText job) old mid new (prints job) refusal h (subst (λ (l : List ℕ). WritesFront mid new l) same front)
   broken (Dos refusal) tells h front =
-      let same : line ≡ dos_line refusal = cc tells in
-      broken_dos (IsJobText job) (BeginsJobText job) old mid new (prints job) refusal h (subst (λ (l : List ℕ). WritesFront mid new l) same front)
+      let same : line ≡ dos_text json refusal = cc tells in
+      broken_dos json (IsJobText job) (BeginsJobText job) old mid new (prints job) refusal h (subst (λ (l : List ℕ). WritesFront mid new l) same front)
   broken fault tells h front = absurd (cc tells)
 
-  pub job_broken : (fault last : CommandFault) → told_line fault ≡ Some line → DoesJob job old mid (Err fault) → WritesFront mid new line → last ≡ Output → TellsJob job old new (Err last)
+  pub job_broken : (fault last : CommandFault) → told_line json fault ≡ Some line → DoesJob job old mid (Err fault) → WritesFront mid new line → last ≡ Output → TellsJob job old new (Err last)
   job_broken fault last tells h front output = subst (λ (f : CommandFault). TellsJob job old new (Err f)) (sym output) (broken fault tells h front)
 
--- a job whose fault has no line
+-- a job whose fault has no text
 pub job_failed : (job : ImageJob) (old new : Option (List ℕ)) (fault : CommandFault) → DoesJob job old new (Err fault) → IsNoRefusal fault → TellsJob job old new (Err fault)
-job_failed job old new fault h plain = failed (IsJobText job) (BeginsJobText job) (prints job) old new fault h plain
+job_failed job old new fault h plain = failed (prints_json job) (IsJobText job) (BeginsJobText job) (prints job) old new fault h plain
 
--- a job without memory for its line
+-- a job without memory for its text
 pub job_unsaid : (job : ImageJob) (old new : Option (List ℕ)) (fault last : CommandFault) → DoesJob job old new (Err fault) → last ≡ Memory → TellsJob job old new (Err last)
 job_unsaid job old new fault last h same =
-    subst (λ (f : CommandFault). TellsJob job old new (Err f)) (sym same) (unsaid (IsJobText job) (BeginsJobText job) (prints job) old new fault h)
+    subst (λ (f : CommandFault). TellsJob job old new (Err f)) (sym same) (unsaid (prints_json job) (IsJobText job) (BeginsJobText job) (prints job) old new fault h)
 
 -- a job that succeeds
 pub job_done : (job : ImageJob) (old new : Option (List ℕ)) (x : Unit {0}) → DoesJob job old new (Ok x) → EndsJob job old new 0
-job_done job old new x h = (Ok x, done (IsJobText job) (BeginsJobText job) (prints job) old new x h, refl)
+job_done job old new x h = (Ok x, done (prints_json job) (IsJobText job) (BeginsJobText job) (prints job) old new x h, refl)

@@ -10,22 +10,22 @@ use Rattle.adf_export.specs.declared.fault.OutFault.TheVariants as out
 use Rattle.adf_serve.specs.declared.fault.CommandFault.{CommandFault}
 use Rattle.adf_serve.specs.declared.fault.CommandFault.TheVariants.{Bitmap, Blocks, Dos, Extracted, Letter, LongBoot, Memory, Name, NoBlock, ImagesRefused, NotWhole, OtherVolume, Output, Refused, Script, Undelete}
 use Rattle.adf_archive.specs.Words.{kind_word}
-use Rattle.adf_serve.specs.Refusals.{IsImageRefusal, IsSizeRefusal, refusal_line, refused_line, told_line}
+use Rattle.adf_serve.specs.Refusals.{IsImageRefusal, IsSizeRefusal, told_line}
 
 -- an image is refused, as this fault says, or memory ran out
 abbrev pub IsRefusedFor : List ℕ → CommandFault → Type 0
-IsRefusedFor image (Refused refusal) = IsImageRefusal image (refusal_line refusal)
+IsRefusedFor image (Refused refusal) = IsImageRefusal image refusal
 IsRefusedFor image fault = fault ≡ Memory
 
 -- a refusal of an image names a fault that it shows
 abbrev pub IsRefusedAs : List ℕ → CommandFault → Type 0
-IsRefusedAs image (Refused refusal) = IsImageRefusal image (refusal_line refusal)
+IsRefusedAs image (Refused refusal) = IsImageRefusal image refusal
 IsRefusedAs image (Dos refusal) = ⊥
 IsRefusedAs image fault = ⊤
 
 -- a fault of a volume as that of a command: with its word and its block, or as out of memory
 abbrev pub IsToldAs : VolumeFault → CommandFault → Type 0
-IsToldAs fault (Refused refusal) = (fault.kind ≢ NoMemory) × (refusal_line refusal ≡ refused_line (kind_word fault.kind) fault.block)
+IsToldAs fault (Refused refusal) = (fault.kind ≢ NoMemory) × (refusal.kind.now ≡ kind_word fault.kind) × (refusal.block ≡ fault.block)
 IsToldAs fault told = (told ≡ Memory) × (fault.kind ≡ NoMemory)
 
 -- a fault other than the refusal of an image
@@ -33,9 +33,9 @@ abbrev pub IsNoImageRefusal : CommandFault → Type 0
 IsNoImageRefusal (Refused refusal) = ⊥
 IsNoImageRefusal fault = ⊤
 
--- a fault without a line on standard output
+-- a fault without a text on standard output
 abbrev pub IsNoRefusal : CommandFault → Type 0
-IsNoRefusal fault = told_line fault ≡ None
+IsNoRefusal fault = told_line false fault ≡ None
 
 -- a fault of output from a volume, as the fault of a command
 abbrev pub IsToldOut : OutFault → CommandFault → Type 0
@@ -46,7 +46,7 @@ IsToldOut fault told = IsNoImageRefusal told
 abbrev pub IsNoImage : CommandFault → Type 0
 IsNoImage NotWhole = ⊥
 IsNoImage (Extracted fault) = ⊥
-IsNoImage (Refused refusal) = (bytes : List ℕ) × IsSizeRefusal bytes (refusal_line refusal)
+IsNoImage (Refused refusal) = (bytes : List ℕ) × IsSizeRefusal bytes refusal
 IsNoImage fault = ⊤
 
 -- the name for an argument, by its bytes or by its letters

@@ -1,5 +1,5 @@
 -- The floppy for the program's script and the script's output; the output of commands for images and for refusals, the messages
--- of their faults, the boot blocks that they install, and how they and a command line end.
+-- of their faults, the boot blocks that they install, the images that they write, and how they and a command line end.
 pub mod Script
 pub mod Texts
 pub mod Asked
@@ -9,6 +9,8 @@ pub mod Faults
 pub mod Archives
 pub mod Reports
 pub mod Rescues
+pub mod Mapped
 pub mod Placed
 pub mod Boot
+pub mod NewImages
 pub mod Commands

@@ -1,5 +1,5 @@
 -- The output for a refused image, and for a refusal by AmigaDOS.
-use Rattle.std.specs.Prelude.{◌≡◌, ◌⊎◌, ℕ, List, ◌++◌, length, codes, decimal, Option, Some, None}
+use Rattle.std.specs.Prelude.{◌≡◌, ◌⊎◌, ℕ, Bool, false, if◌then◌else◌, List, ◌++◌, length, codes, decimal, Option, Some, None}
 use Rattle.std.specs.String.{string_bytes}
 use Rattle.adf_block.specs.Size.{IsSizeFault}
 use Rattle.adf_block.specs.declared.volume_size.SizeFault.{SizeFault}
@@ -7,41 +7,47 @@ use Rattle.ados_model.specs.Packet.{error_number}
 use Rattle.ados_model.specs.Faults.{Shows}
 use Rattle.ados_model.specs.declared.fault.FaultKind.{FaultKind}
 use Rattle.adf_script.specs.Text.{line, spaced}
+use Rattle.adf_text.specs.Plain.{plain}
 use Rattle.adf_archive.specs.Words.{kind_word, size_word}
+use Rattle.adf_where.specs.Refused.{dos_reason, refused_object, refused_text}
 use Rattle.adf_serve.specs.declared.fault.CommandFault.{CommandFault}
 use Rattle.adf_serve.specs.declared.fault.CommandFault.TheVariants.{Refused, Dos}
 use Rattle.adf_serve.specs.declared.refusal.Refusal.{Refusal}
 use Rattle.adf_serve.specs.declared.refusal.DosRefusal.{DosRefusal}
 
--- `refused KIND BLOCK`
-abbrev pub refused_line : List ℕ → ℕ → List ℕ
-refused_line word block = line (codes "refused " ++ word ++ spaced (decimal block))
+-- bytes are no image: the word for the fault of their number, and block 0
+abbrev pub IsSizeRefusal : List ℕ → Refusal → Type 0
+IsSizeRefusal bytes refusal = (fault : SizeFault) × IsSizeFault (length bytes) fault × (refusal.kind.now ≡ size_word fault) × (refusal.block ≡ 0)
 
-abbrev pub refusal_line : Refusal → List ℕ
-refusal_line refusal = refused_line refusal.kind.now refusal.block
+-- an image is refused: the word for a fault that it shows, and the block that shows it
+abbrev pub IsImageRefusal : List ℕ → Refusal → Type 0
+IsImageRefusal image refusal = (kind : FaultKind) × Shows image kind refusal.block × (refusal.kind.now ≡ kind_word kind)
 
--- the line for bytes that are no image: the fault of their number, and block 0
-abbrev pub IsSizeRefusal : List ℕ → List ℕ → Type 0
-IsSizeRefusal bytes text = (fault : SizeFault) × IsSizeFault (length bytes) fault × (text ≡ refused_line (size_word fault) 0)
+-- why these bytes are refused
+abbrev pub IsRefusalOf : List ℕ → Refusal → Type 0
+IsRefusalOf bytes refusal = IsSizeRefusal bytes refusal ⊎ IsImageRefusal bytes refusal
 
--- the line for a refused image: a fault that it shows, and the block that shows it
-abbrev pub IsImageRefusal : List ℕ → List ℕ → Type 0
-IsImageRefusal image text = (kind : FaultKind) × (block : ℕ) × Shows image kind block × (text ≡ refused_line (kind_word kind) block)
+-- `refused KIND BLOCK`; of a command that prints JSON an object, whose member `refused` has these two
+abbrev pub refusal_text : Bool → Refusal → List ℕ
+refusal_text json refusal = refused_text json refusal.kind.now refusal.block
 
--- the line for refused bytes
-abbrev pub IsRefusalText : List ℕ → List ℕ → Type 0
-IsRefusalText bytes text = IsSizeRefusal bytes text ⊎ IsImageRefusal bytes text
+-- the text for refused bytes
+abbrev pub IsRefusalText : Bool → List ℕ → List ℕ → Type 0
+IsRefusalText json bytes text = (refusal : Refusal) × IsRefusalOf bytes refusal × (text ≡ refusal_text json refusal)
 
--- `refused NUMBER PATH`
-abbrev pub dos_line : DosRefusal → List ℕ
-dos_line refusal = line (codes "refused " ++ decimal (error_number refusal.refused.error) ++ spaced (string_bytes refusal.refused.path))
+-- `refused NUMBER PATH`, with the control characters of the path as escapes; of a command that prints JSON an object, whose member
+-- `refused` has these two
+abbrev pub dos_text : Bool → DosRefusal → List ℕ
+dos_text json refusal =
+    if json then refused_object (dos_reason (error_number refusal.refused.error) (string_bytes refusal.refused.path))
+    else line (codes "refused " ++ decimal (error_number refusal.refused.error) ++ spaced (plain false (string_bytes refusal.refused.path)))
 
--- the line for some refusal by AmigaDOS
-abbrev pub IsDosText : List ℕ → Type 0
-IsDosText text = (refusal : DosRefusal) × (text ≡ dos_line refusal)
+-- the text for some refusal by AmigaDOS
+abbrev pub IsDosText : Bool → List ℕ → Type 0
+IsDosText json text = (refusal : DosRefusal) × (text ≡ dos_text json refusal)
 
--- the line that is printed for a fault: one for a refusal, none for any other
-abbrev pub told_line : CommandFault → Option (List ℕ)
-told_line (Refused refusal) = Some (refusal_line refusal)
-told_line (Dos refusal) = Some (dos_line refusal)
-told_line fault = None
+-- what is printed for a fault: a text for a refusal, none for any other
+abbrev pub told_line : Bool → CommandFault → Option (List ℕ)
+told_line json (Refused refusal) = Some (refusal_text json refusal)
+told_line json (Dos refusal) = Some (dos_text json refusal)
+told_line json fault = None

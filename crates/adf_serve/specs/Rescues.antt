@@ -4,6 +4,7 @@ use Rattle.adf_rescue.specs.Rescue.{IsReport}
 use Rattle.adf_words.specs.declared.query.SalvageJob.{SalvageJob}
 use Rattle.adf_serve.specs.declared.fault.CommandFault.{CommandFault}
 use Rattle.adf_serve.specs.declared.fault.CommandFault.TheVariants.{Extracted, Memory}
+use Rattle.adf_serve.specs.declared.refusal.Refusal.{Refusal}
 use Rattle.adf_serve.specs.Refusals.{IsSizeRefusal}
 use Rattle.adf_serve.specs.Reports.{DoesReport, TellsReport}
 
@@ -24,13 +25,13 @@ abbrev pub IsRescueText : Bool → Bool → List ℕ → Type 0
 IsRescueText json accepted text = (image : List ℕ) × IsReport json image accepted text
 
 -- an image is refused only for a wrong size
-abbrev pub IsSizeLine : List ℕ → Type 0
-IsSizeLine text = (bytes : List ℕ) × IsSizeRefusal bytes text
+abbrev pub IsSomeSize : Refusal → Type 0
+IsSomeSize refusal = (bytes : List ℕ) × IsSizeRefusal bytes refusal
 
--- the result of the command before the line of a refusal is printed
+-- the result of the command before a refusal is printed
 abbrev pub DoesRescue : SalvageJob → Option (List ℕ) → Option (List ℕ) → Result (Unit {0}) CommandFault → Type 0
-DoesRescue job = DoesReport (IsRescueText job.json) IsSizeLine (λ fault. IsHostEnd fault job.list)
+DoesRescue job = DoesReport (IsRescueText job.json) IsSomeSize (λ fault. IsHostEnd fault job.list)
 
--- the result of the command with that line
-abbrev pub TellsRescue : SalvageJob → Option (List ℕ) → Option (List ℕ) → Result (Unit {0}) CommandFault → Type 0
-TellsRescue job = TellsReport (IsRescueText job.json) IsSizeLine (λ fault. IsHostEnd fault job.list)
+-- the result of the command after that
+abbrev pub TellsRescue : Bool → SalvageJob → Option (List ℕ) → Option (List ℕ) → Result (Unit {0}) CommandFault → Type 0
+TellsRescue json job = TellsReport json (IsRescueText job.json) IsSomeSize (λ fault. IsHostEnd fault job.list)

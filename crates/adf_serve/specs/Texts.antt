@@ -13,10 +13,11 @@ use Rattle.ados_model.specs.Objects.{disk_info}
 use Rattle.adf_block.specs.BootText.{IsBootText}
 use Rattle.adf_export.specs.Info.{info_text}
 use Rattle.adf_export.specs.Listing.{BeginsList, IsList}
+use Rattle.adf_record.specs.BootObject.{IsBootObject}
 use Rattle.adf_record.specs.declared.told.FactsForm.{FactsForm}
 use Rattle.adf_record.specs.Told.{IsVolumeText, is_json}
 use Rattle.adf_words.specs.declared.job.ImageJob.{ImageJob}
-use Rattle.adf_words.specs.declared.job.ImageJob.TheVariants.{Info, List as ListOf, Map, Print, Show, ShowBoot, Undelete, Validate, WherePath}
+use Rattle.adf_words.specs.declared.job.ImageJob.TheVariants.{Info, List as ListOf, Print, Show, ShowBoot, Undelete, Validate, WherePath}
 use Rattle.adf_words.specs.declared.query.ListForm.{ListForm}
 use Rattle.adf_words.specs.declared.query.ListForm.TheVariants.{Bold, Long}
 use Rattle.adf_words.specs.declared.query.ListJob.{ListJob}
@@ -24,14 +25,12 @@ use Rattle.adf_words.specs.declared.query.ListOrder.{ListOrder}
 use Rattle.adf_words.specs.declared.query.UndeleteJob.{UndeleteJob}
 use Rattle.adf_words.specs.declared.query.WhereJob.{WhereJob}
 use Rattle.adf_rescue.specs.Undelete.{IsUndeleteText, key_of}
-use Rattle.adf_where.specs.Where.{IsWhere, IsWhereOf}
+use Rattle.adf_where.specs.Own.{IsWhereOf}
+use Rattle.adf_where.specs.Where.{IsWhere}
 use Rattle.adf_export.specs.Words.{LeadsTo}
-use Rattle.adf_serve.specs.declared.look.Look.{Look}
-use Rattle.adf_serve.specs.declared.look.Look.TheVariants as looks
 use Rattle.adf_serve.specs.declared.query.Query.{Query}
 use Rattle.adf_serve.specs.declared.query.Query.TheVariants as queries
-use Rattle.ados_mend.specs.BlockMap.{IsMap}
-use Rattle.ados_mend.specs.Said.{validated_line}
+use Rattle.ados_mend.specs.Said.{validated_text}
 use Rattle.ados_mend.specs.Validated.{IsValidated, free_only_in}
 
 -- a text for an accepted image: by whether its bitmap was rebuilt, by the checked image, and by its tree
@@ -44,9 +43,9 @@ OfAccepted IsText image text =
 abbrev pub disk_answer : Tree → Answer
 disk_answer t = record { action = action_number DiskInfo; res1 = dos_true; res2 = pos 0; body = Disk (disk_info t) }
 
--- that answer, and whether the image is bootable
-abbrev pub IsInfoText : List ℕ → List ℕ → Type 0
-IsInfoText = OfAccepted (λ was_validated checked t text. text ≡ info_text (disk_answer t) checked)
+-- that answer, and whether the image is bootable, in one of the forms
+abbrev pub IsInfoText : Bool → List ℕ → List ℕ → Type 0
+IsInfoText json = OfAccepted (λ was_validated checked t text. text ≡ info_text json (disk_answer t) checked)
 
 -- the object to list: the root, or the file or directory at a path
 abbrev pub IsListed : Tree → Option (List ℕ) → ℕ → Type 0
@@ -78,54 +77,57 @@ abbrev pub IsPrintText : List ℕ → List ℕ → List ℕ → Type 0
 IsPrintText word = OfAccepted (λ was_validated checked t text. (key : ℕ) × LeadsTo t word key × (is_file t key ≡ true) × (text ≡ bytes_of t key))
 
 -- how many bits of the bitmap changed, of an image with a new one
-abbrev pub IsCountText : List ℕ → List ℕ → Type 0
-IsCountText image text = (new : List ℕ) × IsValidated image new × (text ≡ validated_line (free_only_in image new) (free_only_in new image))
+abbrev pub IsCountText : Bool → List ℕ → List ℕ → Type 0
+IsCountText json image text = (new : List ℕ) × IsValidated image new × (text ≡ validated_text json (free_only_in image new) (free_only_in new image))
 
 -- a text about an accepted image, by whether its bitmap was rebuilt, the checked image and its tree: the facts of the volume,
--- as a JSON object or in a form for people; its map, as a JSON object or as text; or what the boot block is, and its bytes
-abbrev pub IsLook : Look → Bool → List ℕ → Tree → List ℕ → Type 0
-IsLook (looks.Volume json) was_validated checked t text = (form : FactsForm) × (is_json form ≡ json) × IsVolumeText form checked was_validated t text
-IsLook (looks.Map json) was_validated checked t text = IsMap json checked t text
-IsLook looks.Boot was_validated checked t text = IsBootText checked text
+-- as a JSON object or in a form for people
+abbrev pub IsLook : Bool → Bool → List ℕ → Tree → List ℕ → Type 0
+IsLook json was_validated checked t text = (form : FactsForm) × (is_json form ≡ json) × IsVolumeText form checked was_validated t text
 
-abbrev pub IsLookText : Look → List ℕ → List ℕ → Type 0
-IsLookText look = OfAccepted (IsLook look)
+abbrev pub IsLookText : Bool → List ℕ → List ℕ → Type 0
+IsLookText json = OfAccepted (IsLook json)
 
 -- who owns the blocks that a job asks for: a line for each, or a JSON array
 abbrev pub AreOwnedBlocks : WhereJob → List ℕ → List ℕ → Type 0
 AreOwnedBlocks job = OfAccepted (λ was_validated checked t text. IsWhere job.json checked t job.blocks.items text)
 
--- the blocks of the file or directory at a path
-abbrev pub AreEntryBlocks : List ℕ → List ℕ → List ℕ → Type 0
-AreEntryBlocks word = OfAccepted (λ was_validated checked t text. (key : ℕ) × LeadsTo t word key × IsWhereOf checked t key text)
+-- the blocks of the file or directory at a path, in one of the forms
+abbrev pub AreEntryBlocks : Bool → List ℕ → List ℕ → List ℕ → Type 0
+AreEntryBlocks json word = OfAccepted (λ was_validated checked t text. (key : ℕ) × LeadsTo t word key × IsWhereOf json checked t key text)
 
--- a line for each deleted entry that the job's paths choose; the image may be accepted or refused
+-- what is told of each deleted entry that the job's paths choose; the image may be accepted or refused
 abbrev pub AreDeletedLines : UndeleteJob → List ℕ → List ℕ → Type 0
-AreDeletedLines job image text = IsUndeleteText image (map (λ word. key_of word.now) job.paths.items) text
+AreDeletedLines job image text = IsUndeleteText job.json image (map (λ word. key_of word.now) job.paths.items) text
 
 -- what is printed of an image, and its beginning
 abbrev pub IsQueryText : Query → List ℕ → List ℕ → Type 0
-IsQueryText queries.Disk = IsInfoText
+IsQueryText (queries.Disk json) = IsInfoText json
 IsQueryText (queries.List job) = IsListOf job.now
 IsQueryText (queries.Bytes path) = IsPrintText path.now
-IsQueryText (queries.Look look) = IsLookText look
-IsQueryText (queries.Entry path) = AreEntryBlocks path.now
+IsQueryText (queries.Look json) = IsLookText json
+IsQueryText (queries.Entry path json) = AreEntryBlocks json path.now
 IsQueryText (queries.Deleted job) = AreDeletedLines job.now
 
 abbrev pub BeginsQueryText : Query → List ℕ → List ℕ → Type 0
 BeginsQueryText (queries.List job) = BeginsListOf job.now
 BeginsQueryText query = IsQueryText query
 
--- the output of a command for the bytes that it reads, and its beginning; `blank` has none
+-- what a boot block is, and its bytes: as a JSON object, or as text
+abbrev pub IsBootForm : Bool → List ℕ → List ℕ → Type 0
+IsBootForm true = IsBootObject
+IsBootForm false = IsBootText
+
+-- the output of a command for the bytes that it reads, and its beginning. `boot --show` reads the two boot blocks of a file, whatever
+-- follows them
 abbrev pub IsJobText : ImageJob → List ℕ → List ℕ → Type 0
-IsJobText (Info file) = IsInfoText
+IsJobText (Info file json) = IsInfoText json
 IsJobText (ListOf job) = IsListOf job
 IsJobText (Print image path) = IsPrintText path.now
-IsJobText (ShowBoot image) = IsLookText looks.Boot
-IsJobText (Validate target force) = IsCountText
-IsJobText (Show image json) = IsLookText (looks.Volume json)
-IsJobText (Map image json) = IsLookText (looks.Map json)
-IsJobText (WherePath image path) = AreEntryBlocks path.now
+IsJobText (ShowBoot image json) = IsBootForm json
+IsJobText (Validate target force json) = IsCountText json
+IsJobText (Show image json) = IsLookText json
+IsJobText (WherePath image path json) = AreEntryBlocks json path.now
 IsJobText (Undelete job) = AreDeletedLines job
 IsJobText job = λ bytes text. text ≡ []
 

@@ -1,12 +1,14 @@
 //! The command `blank`.
-ghost use Rattle.std.specs.Prelude.{◌≡◌, List, ℕ, MatchResult, IfErr, IfOk};
+ghost use Rattle.std.specs.Prelude.{◌≡◌, List, ℕ, MatchResult, IfErr, IfOk, Some};
 ghost use Rattle.ados_name.specs.Name.{IsName};
 ghost use Rattle.ados_model.specs.Blank.{IsBlank};
-ghost use Rattle.adf_serve.specs.Faults.{IsBlankFault, IsNamed, IsNameFault, IsNoRefusal};
+ghost use Rattle.adf_serve.specs.Faults.{IsBlankFault, IsNamed, IsNameFault};
+ghost use Rattle.adf_serve.specs.NewImages.{PutsImage};
 
 use crate::changing::given_or_now;
 use crate::fault::CommandFault;
 use crate::images::write_held;
+use crate::output::{is_output, put_image};
 use adf_block::{Format, size_ok};
 use adf_host::{PromptFiles, hold_target};
 use adf_text::{LettersFault, letter_bytes, print_line};
@@ -28,22 +30,28 @@ pub(crate) struct NewVolume<'a> {
     pub(crate) letters: bool,
 }
 
-/// Writes the image of a blank volume in place of a file. An existing file is locked meanwhile. If the words for the name and the file look as if they were turned round, `faults` gets a line that says so.
-pub(crate) fn make_blank<'a, R, F>(
+/// Writes the image of a blank volume in place of a file, or to standard output if that is `-`. An existing file is locked
+/// meanwhile. If the words for the name and the file look as if they were turned round, `faults` gets a line that says so.
+pub(crate) fn make_blank<'a, R, W, F>(
     rt: &R,
     alloc: Global,
     new: NewVolume<'a>,
     file: &'a str,
+    writer: &mut W,
     faults: &mut F,
 ) -> Result<(), CommandFault<'a>>
 where
     R: Files<File = File> + PromptFiles + Clock,
+    W: Write,
     F: Write,
-    ensures { IfErr result IsNoRefusal }
+    ensures { PutsImage (Some file.entry.now) (W.contents writer.old) (W.contents writer.new) result }
 {
     let moment = given_or_now(rt, new.moment)?;
     let volume = blank_volume(alloc, new.format, new.blocks, new.name, new.letters, moment)?;
     warn_if_turned(new.name, file, faults);
+    if is_output(file) {
+        return put_image(alloc, volume.image(), &[], writer);
+    }
     let held = hold_target(rt, file, None);
     write_held(rt, alloc, volume.image(), &[], file, held)
 }

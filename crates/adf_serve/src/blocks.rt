@@ -6,7 +6,7 @@ ghost use Rattle.adf_serve.specs.Faults.{IsNoRefusal};
 ghost use Rattle.adf_serve.specs.declared.fault.CommandFault.TheVariants.{NotWhole};
 ghost use Rattle.adf_io.specs.Prefix.{Writes};
 ghost use Rattle.adf_serve.specs.Placed.{DoesWhere, IsPlacedIn, LeavesPlaced};
-ghost use Rattle.adf_serve.specs.Refusals.{IsImageRefusal, refusal_line};
+ghost use Rattle.adf_serve.specs.Refusals.{IsImageRefusal};
 ghost use Rattle.adf_serve.specs.Texts.{AreEntryBlocks};
 
 use crate::fault::CommandFault;
@@ -26,7 +26,7 @@ use std::fs::File;
 use std::io::Write;
 use std::rt::Files;
 
-/// Prints who owns blocks of an image file. Of an image that is refused, it prints the line of the refusal, the places that
+/// Prints who owns blocks of an image file. Of an image that is refused, it prints the refusal, the places that
 /// name the blocks, and their faults; and on `faults` why it is refused.
 pub(crate) fn tell_where<'a, R, W, F>(
     rt: &R,
@@ -71,7 +71,7 @@ fn tell_owners<'a, W: Write>(
     }
 }
 
-/// Prints the line of a refusal, and then the places that name blocks of the refused image, and the faults of these blocks. If
+/// Prints why an image is refused, and then the places that name blocks of it, and the faults of these blocks. If
 /// an argument names no block, it says so on `faults`, and the refusal is what is left.
 fn tell_placed<'a, W: Write, F: Write>(
     alloc: Global,
@@ -81,11 +81,11 @@ fn tell_placed<'a, W: Write, F: Write>(
     writer: &mut W,
     faults: &mut F,
 ) -> Result<(), CommandFault<'a>>
-    ensures ok { OnOk result (IsImageRefusal image.now (refusal_line refusal) → Writes (W.contents writer.old) (W.contents writer.new) (IsPlacedIn job.now image.now)) }
-    ensures fault { IfErr result (λ fault. IsImageRefusal image.now (refusal_line refusal) → LeavesPlaced job.now image.now (W.contents writer.old) (W.contents writer.new) fault) }
+    ensures ok { OnOk result (IsImageRefusal image.now refusal → Writes (W.contents writer.old) (W.contents writer.new) (IsPlacedIn job.now image.now)) }
+    ensures fault { IfErr result (λ fault. IsImageRefusal image.now refusal → LeavesPlaced job.now image.now (W.contents writer.old) (W.contents writer.new) fault) }
 {
-    let line = refusal.line(alloc)?;
-    match write_faulty_where(alloc, image, &job.blocks, job.json, line.as_str(), writer) {
+    let why = refusal.reason();
+    match write_faulty_where(alloc, image, &job.blocks, job.json, why, writer) {
         Ok(()) => Ok(()),
         Err(WhereFault::NoBlock(word)) => {
             let fault = no_block(
@@ -122,12 +122,13 @@ pub(crate) fn tell_entry<'a, W: Write>(
     alloc: Global,
     image: Image,
     path: &'a str,
+    json: bool,
     writer: &mut W,
 ) -> Result<(), CommandFault<'a>>
-    ensures { TellsOf (AreEntryBlocks path.now) (AreEntryBlocks path.now) image (W.contents writer.old) (W.contents writer.new) result }
+    ensures { TellsOf (AreEntryBlocks json path.now) (AreEntryBlocks json path.now) image (W.contents writer.old) (W.contents writer.new) result }
 {
     let mut volume = accept(alloc, image)?;
     let key = listed_object(alloc, &mut volume, Some(path))?;
-    let text = where_path_text(alloc, &volume, key)?;
+    let text = where_path_text(alloc, &volume, key, json)?;
     tell(writer, &text)
 }

@@ -1,5 +1,7 @@
 //! The commands that write a volume to a directory of the host, and make it again.
+ghost use Rattle.adf_serve.specs.NewImages.{PutsImage, out_of};
 
+use crate::boot::tell_boot;
 use crate::fault::CommandFault;
 use crate::images::{Work, accept, open_volume};
 use adf_export::extract_bundle;
@@ -8,29 +10,37 @@ use adf_import::add_bundle;
 use adf_words::{ImageFile, Rewrite};
 use std::alloc::Global;
 use std::fs::File;
+use std::io::Write;
 use std::rt::{Clock, Files};
 
-/// Writes everything in an image file to a new directory of the host.
-pub(crate) fn take_bundle<'a, R: Files<File = File> + PromptFiles>(
+/// Writes everything in an image file to a new directory of the host, and prints on `faults` what its boot block is.
+pub(crate) fn take_bundle<'a, R: Files<File = File> + PromptFiles, F: Write>(
     rt: &R,
     alloc: Global,
     image: ImageFile<'a>,
     to: &'a str,
+    faults: &mut F,
 ) -> Result<(), CommandFault<'a>> {
     let mut volume = open_volume(rt, alloc, image)?;
     match extract_bundle(rt, alloc, &mut volume, to) {
-        Ok(()) => Ok(()),
+        Ok(()) => {
+            tell_boot(volume.image(), faults);
+            Ok(())
+        }
         Err(fault) => Err(CommandFault::from(fault)),
     }
 }
 
 /// Makes the volume that a directory of the host describes, in place of the empty volume of an image file.
-pub(crate) fn put_bundle<'a, R: Files<File = File> + PromptFiles + Clock>(
+pub(crate) fn put_bundle<'a, R: Files<File = File> + PromptFiles + Clock, W: Write>(
     rt: &R,
     alloc: Global,
     target: Rewrite<'a>,
     from: &'a str,
-) -> Result<(), CommandFault<'a>> {
+    writer: &mut W,
+) -> Result<(), CommandFault<'a>>
+    ensures { PutsImage (out_of target.entry) (W.contents writer.old) (W.contents writer.new) result }
+{
     let file = target.image.path;
     let (work, image) = Work::begin(rt, alloc, target)?;
     let old = accept(alloc, image)?;
@@ -38,5 +48,5 @@ pub(crate) fn put_bundle<'a, R: Files<File = File> + PromptFiles + Clock>(
         Ok(volume) => volume,
         Err(fault) => return Err(CommandFault::of_bundle(fault, file)),
     };
-    work.end(rt, alloc, volume.image())
+    work.put(rt, alloc, volume.image(), writer)
 }

@@ -1,6 +1,7 @@
 //! The commands that change an image file.
 ghost use Rattle.std.specs.Prelude.{IfErr};
 ghost use Rattle.adf_serve.specs.Faults.{IsNoRefusal};
+ghost use Rattle.adf_serve.specs.NewImages.{PutsImage, out_of};
 
 use crate::explaining::explained;
 use crate::fault::CommandFault;
@@ -17,41 +18,49 @@ use std::io::Write;
 use std::rt::{Clock, Files};
 
 /// Makes a change of the volume in an image file, whole or not at all. It prints what was skipped on `faults`.
-pub(crate) fn change<'a, R, F>(
+pub(crate) fn change<'a, R, W, F>(
     rt: &R,
     alloc: Global,
     job: &ChangeJob<'a>,
+    writer: &mut W,
     faults: &mut F,
 ) -> Result<(), CommandFault<'a>>
 where
     R: Files<File = File> + PromptFiles + Clock + StandardInput,
+    W: Write,
     F: Write,
+    ensures { PutsImage (out_of job.now.target) (W.contents writer.old) (W.contents writer.new) result }
 {
-    if reads_input(&job.change) && !rt.has_standard_input() {
-        return Err(CommandFault::Added(SourceFault::Input));
-    }
+    refuse_closed_input(rt, &job.change)?;
     let (work, image) = Work::begin(rt, alloc, job.target)?;
     let mut volume = accept(alloc, image)?;
     let moment = given_or_now(rt, job.moment)?;
     match change_volume(rt, alloc, &mut volume, &job.change, moment) {
         Ok(passed_over) => {
             tell_passed_over(&passed_over, faults);
-            work.end(rt, alloc, volume.image())
+            work.put(rt, alloc, volume.image(), writer)
         }
         Err(fault) => Err(explained(alloc, &mut volume, &job.change, fault)),
     }
 }
 
-/// Whether a change reads standard input. If that is closed, it is refused before a file is opened, because the image would get
-/// its number.
-fn reads_input(change: &Change<'_>) -> bool {
-    matches!(
+/// Refuses a change that reads standard input if that is closed. A file that is opened would get its number, so it is refused
+/// before the image is.
+fn refuse_closed_input<'a, R: StandardInput>(
+    rt: &R,
+    change: &Change<'_>,
+) -> Result<(), CommandFault<'a>> {
+    let reads_input = matches!(
         change,
         Change::AddAs {
             source: Source::StandardInput,
             ..
         }
-    )
+    );
+    if reads_input && !rt.has_standard_input() {
+        return Err(CommandFault::Added(SourceFault::Input));
+    }
+    Ok(())
 }
 
 /// The given time stamp, or else that of the host's clock.

@@ -13,7 +13,7 @@ use std::fs::File;
 use std::io::Write;
 use std::rt::Files;
 
-/// Writes deleted entries of an image to files and directories of the host, and prints a line for each.
+/// Writes deleted entries of an image to files and directories of the host, and prints what is told of each.
 pub(crate) fn tell_deleted<'a, R: Files<File = File> + PromptFiles, W: Write>(
     rt: &R,
     alloc: Global,

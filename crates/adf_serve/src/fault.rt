@@ -1,6 +1,5 @@
 //! Why a command fails.
 ghost use Rattle.std.specs.Prelude.{◌≡◌, IfOk, option_map};
-ghost use Rattle.std.specs.String.{string_bytes};
 ghost use Rattle.adf_serve.specs.Faults.{status_of};
 ghost use Rattle.adf_serve.specs.Refusals.{told_line};
 
@@ -47,7 +46,7 @@ pub enum CommandFault<'a> {
     Blocks(u32),
     #[error("'{0}' is not a volume name, which has 1 to 30 bytes without `/` and `:`")]
     Name(&'a str),
-    #[error("'{0}' has a letter past U+00FF, which stands for no byte")]
+    #[error("'{0}' has a letter past U+00FF, which is not in ISO 8859-1")]
     Letter(String),
     #[error("'{0}' has more than 1,024 bytes, the most of a boot block")]
     LongBoot(&'a str),
@@ -143,13 +142,13 @@ impl<'a> CommandFault<'a> {
         }
     }
 
-    /// The line on standard output: one for a refusal, none for any other fault.
-    pub(crate) fn line(&self, alloc: Global) -> Result<Option<String>, AllocError>
-        ensures { IfOk result (λ line. option_map string_bytes line ≡ told_line self.now) }
+    /// The text on standard output: a line or with `json` an object for a refusal, none for any other fault.
+    pub(crate) fn line(&self, alloc: Global, json: bool) -> Result<Option<Vec<u8>>, AllocError>
+        ensures { IfOk result (λ line. option_map (λ text. text.items) line ≡ told_line json self.now) }
     {
         match self {
-            CommandFault::Refused(refusal) => Ok(Some(refusal.line(alloc)?)),
-            CommandFault::Dos(refusal) => Ok(Some(refusal.line(alloc)?)),
+            CommandFault::Refused(refusal) => Ok(Some(refusal.line(alloc, json)?)),
+            CommandFault::Dos(refusal) => Ok(Some(refusal.line(alloc, json)?)),
             _ => Ok(None),
         }
     }

@@ -1,9 +1,12 @@
 //! Image files: read up to a bound, checked, locked during changes, and replaced whole.
-ghost use Rattle.std.specs.Prelude.{IfErr, MatchResult};
+ghost use Rattle.std.specs.Prelude.{◌≡◌, ◌↔◌, IfErr, IfOk, IsFalse, IsTrue, MatchResult, Some, codes};
+ghost use Rattle.std.specs.Io.KnownBytes.{Keeps};
 ghost use Rattle.ados_model.specs.Accepted.{Accepts};
 ghost use Rattle.adf_serve.specs.Faults.{IsNoImage, IsNoRefusal, IsRefusedFor};
+ghost use Rattle.adf_serve.specs.NewImages.{WritesImage, out_of};
 
 use crate::fault::CommandFault;
+use crate::output::{is_output, put_image};
 use crate::refusal::Refusal;
 use adf_block::Image;
 use adf_host::{
@@ -15,6 +18,7 @@ use adf_words::{ImageFile, Rewrite};
 use ados_volume::{Volume, check};
 use std::alloc::Global;
 use std::fs::{self, File};
+use std::io::Write;
 use std::rt::{Clock, Files};
 
 /// The image of a file.
@@ -123,6 +127,8 @@ pub(crate) struct Work<'a> {
     behind: Vec<u8>,
     out: &'a str,
     held_out: Option<HeldFile>,
+    /// Whether the new image goes to standard output.
+    to_output: bool,
 }
 
 /// It does what a derived one does, as one step of each proof in which the work is dropped.
@@ -133,6 +139,7 @@ impl Drop for Work<'_> {
             behind: _behind,
             out: _,
             held_out: _held_out,
+            to_output: _,
         } = self;
     }
 }
@@ -145,7 +152,8 @@ impl<'a> Work<'a> {
         alloc: Global,
         target: Rewrite<'a>,
     ) -> Result<(Work<'a>, Image), CommandFault<'a>>
-        ensures { IfErr result IsNoImage }
+        ensures fault { IfErr result IsNoImage }
+        ensures output { IfOk result (λ begun. IsTrue begun.0.to_output ↔ (out_of target.entry ≡ Some (codes "-"))) }
     {
         let file = target.image;
         let mut work = Work::lock(rt, alloc, target)?;
@@ -164,9 +172,11 @@ impl<'a> Work<'a> {
         alloc: Global,
         target: Rewrite<'a>,
     ) -> Result<Work<'a>, CommandFault<'a>>
-        ensures { IfErr result IsNoImage }
+        ensures fault { IfErr result IsNoImage }
+        ensures output { IfOk result (λ work. IsTrue work.to_output ↔ (out_of target.entry ≡ Some (codes "-"))) }
     {
         let image = target.image.path;
+        let to_output = goes_to_output(target);
         let held = match hold(rt, image) {
             Ok(held) => held,
             Err(HoldFault::Open) => {
@@ -180,6 +190,7 @@ impl<'a> Work<'a> {
         let out = target.out.unwrap_or(image);
         // The file that was locked is the one to write, whatever its path leads to by now.
         let target_out = match target.out {
+            Some(_) if to_output => Ok(None),
             Some(out) => hold_target(rt, out, Some(&held)),
             None => held.again().map(Some),
         };
@@ -187,7 +198,7 @@ impl<'a> Work<'a> {
             Ok(held_out) => held_out,
             Err(fault) => return Err(CommandFault::Held(out, fault)),
         };
-        if target.out.is_some() && !target.over {
+        if target.out.is_some() && !target.over && !to_output {
             refuse_precious(rt, out, held_out.as_mut())?;
         }
         Ok(Work {
@@ -195,7 +206,25 @@ impl<'a> Work<'a> {
             behind: Vec::new(alloc),
             out,
             held_out,
+            to_output,
         })
+    }
+
+    /// Writes the new image, to standard output if that was asked for, and ends the work.
+    pub(crate) fn put<R: Files<File = File> + PromptFiles, W: Write>(
+        self,
+        rt: &R,
+        alloc: Global,
+        image: &Image,
+        writer: &mut W,
+    ) -> Result<(), CommandFault<'a>>
+        ensures output { IsTrue self.entry.to_output → WritesImage (W.contents writer.old) (W.contents writer.new) result }
+        ensures file { IsFalse self.entry.to_output → Keeps (W.contents writer.old) (W.contents writer.new) }
+    {
+        if self.to_output {
+            return put_image(alloc, image, &self.behind, writer);
+        }
+        self.end(rt, alloc, image)
     }
 
     /// Writes the new image and ends the work.
@@ -215,6 +244,16 @@ impl<'a> Work<'a> {
             self.out,
             self.held_out.as_ref(),
         )
+    }
+}
+
+/// Whether a changed image goes to standard output.
+fn goes_to_output(target: Rewrite<'_>) -> bool
+    ensures { IsTrue result ↔ (out_of target.entry ≡ Some (codes "-")) }
+{
+    match target.out {
+        Some(file) => is_output(file),
+        None => false,
     }
 }
 

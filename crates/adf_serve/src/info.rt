@@ -23,16 +23,18 @@ pub const FIRST_MOMENT: Date3 = Date3 {
     ticks: 0,
 };
 
-/// Prints the answer of DISK_INFO for an image, and whether its boot checksum is right.
+/// Prints the answer of DISK_INFO for an image, and whether its boot checksum is right. With `json` that is a JSON object.
 pub(crate) fn tell_info<'a, W: Write>(
     alloc: Global,
     image: Image,
+    json: bool,
     writer: &mut W,
 ) -> Result<(), CommandFault<'a>>
-    ensures { TellsOf IsInfoText IsInfoText image (W.contents writer.old) (W.contents writer.new) result }
+    ensures { TellsOf (IsInfoText json) (IsInfoText json) image (W.contents writer.old) (W.contents writer.new) result }
 {
     let asked = ask_disk(alloc, image)?;
-    match write_info(alloc, &asked.answer, asked.handler.volume().image(), writer) {
+    let image = asked.handler.volume().image();
+    match write_info(alloc, &asked.answer, image, json, writer) {
         Ok(()) => Ok(()),
         Err(fault) => Err(CommandFault::from(fault)),
     }

@@ -3,11 +3,11 @@ ghost use Rattle.adf_serve.specs.Commands.{DoesJob};
 
 use crate::blank::{NewVolume, make_blank};
 use crate::blocks::tell_where;
-use crate::boot::{change_boot, save_boot};
+use crate::boot::{change_boot, save_boot, show_boot};
 use crate::bundle::{put_bundle, take_bundle};
 use crate::changing::change;
 use crate::fault::CommandFault;
-use crate::look::Look;
+use crate::map::tell_map;
 use crate::moving::take_out;
 use crate::query::{Query, print_query};
 use crate::rescue::take_rescue;
@@ -45,18 +45,16 @@ where
     match job {
         ImageJob::Blank { format, blocks, moment, name, letters, file } => {
             let new = NewVolume { format: *format, blocks: *blocks, moment: *moment, name: *name, letters: *letters };
-            make_blank(rt, alloc, new, *file, faults)
+            make_blank(rt, alloc, new, *file, writer, faults)
         }
-        ImageJob::Info { file } => print_query(rt, alloc, *file, Query::Disk, screen.styled, writer),
-        ImageJob::Show { image, json } => {
-            print_query(rt, alloc, *image, Query::Look(Look::Volume { json: *json }), screen.styled, writer)
-        }
-        ImageJob::Map { image, json } => {
-            print_query(rt, alloc, *image, Query::Look(Look::Map { json: *json }), screen.styled, writer)
-        }
+        ImageJob::Info { file, json } => print_query(rt, alloc, *file, Query::Disk { json: *json }, screen.styled, writer),
+        ImageJob::Show { image, json } => print_query(rt, alloc, *image, Query::Look { json: *json }, screen.styled, writer),
+        ImageJob::Map { image, form } => tell_map(rt, alloc, *image, *form, writer, faults),
         ImageJob::Where(job) => tell_where(rt, alloc, job, writer, faults),
-        ImageJob::WherePath { image, path } => print_query(rt, alloc, *image, Query::Entry(*path), screen.styled, writer),
-        ImageJob::ShowBoot { image } => print_query(rt, alloc, *image, Query::Look(Look::Boot), screen.styled, writer),
+        ImageJob::WherePath { image, path, json } => {
+            print_query(rt, alloc, *image, Query::Entry { path: *path, json: *json }, screen.styled, writer)
+        }
+        ImageJob::ShowBoot { image, json } => show_boot(rt, alloc, *image, *json, writer),
         ImageJob::List(job) => print_query(rt, alloc, job.image, Query::List(job), screen.styled, writer),
         ImageJob::Print { image, path } => print_query(rt, alloc, *image, Query::Bytes(*path), screen.styled, writer),
         ImageJob::Check(job) => match check_archive(rt, alloc, job, screen.progress, writer, faults) {
@@ -64,14 +62,14 @@ where
             Err(fault) => Err(CommandFault::from(fault)),
         },
         ImageJob::Extract(job) => take_out(rt, alloc, job),
-        ImageJob::ExtractBundle { image, to } => take_bundle(rt, alloc, *image, *to),
-        ImageJob::AddBundle { target, from } => put_bundle(rt, alloc, *target, *from),
+        ImageJob::ExtractBundle { image, to } => take_bundle(rt, alloc, *image, *to, faults),
+        ImageJob::AddBundle { target, from } => put_bundle(rt, alloc, *target, *from, writer),
         ImageJob::Salvage(job) => take_rescue(rt, alloc, job, writer, faults),
         ImageJob::Undelete(job) => print_query(rt, alloc, job.image, Query::Deleted(job), screen.styled, writer),
-        ImageJob::Change(job) => change(rt, alloc, job, faults),
-        ImageJob::Validate { target, force } => validate_file(rt, alloc, *target, *force, writer),
-        ImageJob::Boot { target, block } => change_boot(rt, alloc, *target, *block),
-        ImageJob::SaveBoot { image, file } => save_boot(rt, alloc, *image, *file),
+        ImageJob::Change(job) => change(rt, alloc, job, writer, faults),
+        ImageJob::Validate { target, force, json } => validate_file(rt, alloc, *target, *force, *json, writer),
+        ImageJob::Boot { target, block } => change_boot(rt, alloc, *target, *block, writer),
+        ImageJob::SaveBoot { image, file } => save_boot(rt, alloc, *image, *file, writer),
         ImageJob::Serve(job) => serve(rt, alloc, job, writer, faults),
     }
 }

@@ -1,4 +1,4 @@
-//! The commands that make a text of an accepted image, and print it: `show`, `map` and `boot --show`.
+//! The command `show`.
 ghost use Rattle.std.specs.Prelude.{◌≡◌, IfOk};
 ghost use Rattle.ados_model.specs.Stands.{Stands};
 ghost use Rattle.ados_model.specs.Tree.{Tree};
@@ -9,36 +9,24 @@ ghost use Rattle.adf_serve.specs.Texts.{IsLook, IsLookText};
 use crate::fault::CommandFault;
 use crate::images::accept;
 use crate::output::tell;
-use adf_block::{Image, boot_text};
+use adf_block::Image;
 use adf_record::{FactsForm, volume_text};
-use ados_mend::map_text;
 use ados_volume::Volume;
 use std::alloc::{AllocError, Global};
 use std::io::Write;
 
-/// What is printed of an accepted image. With `json` it is a JSON object.
-#[derive(Clone, Copy)]
-pub(crate) enum Look {
-    /// What a person wants to know of the volume.
-    Volume { json: bool },
-    /// A letter for each block, and what the letters mean.
-    Map { json: bool },
-    /// What the boot block is, and its bytes.
-    Boot,
-}
-
-/// Prints a text about an image.
+/// Prints what a person wants to know of an image, or with `json` the same as a JSON object.
 pub(crate) fn tell_look<'a, W: Write>(
     alloc: Global,
     image: Image,
-    look: Look,
+    json: bool,
     styled: bool,
     writer: &mut W,
 ) -> Result<(), CommandFault<'a>>
-    ensures { TellsOf (IsLookText look) (IsLookText look) image (W.contents writer.old) (W.contents writer.new) result }
+    ensures { TellsOf (IsLookText json) (IsLookText json) image (W.contents writer.old) (W.contents writer.new) result }
 {
     let volume = accept(alloc, image)?;
-    let text = look_text(alloc, &volume, look, styled)?;
+    let text = look_text(alloc, &volume, json, styled)?;
     tell(writer, &text)
 }
 
@@ -46,17 +34,13 @@ pub(crate) fn tell_look<'a, W: Write>(
 fn look_text(
     alloc: Global,
     volume: &Volume,
-    look: Look,
+    json: bool,
     styled: bool,
 ) -> Result<Vec<u8>, AllocError>
     ensures { IfOk result (λ text. (t : Tree) → Stands volume.now.image t →
-        IsLook look volume.now.was_validated volume.now.image t text.items) }
+        IsLook json volume.now.was_validated volume.now.image t text.items) }
 {
-    match look {
-        Look::Volume { json } => volume_text(alloc, volume, facts_form(json, styled)),
-        Look::Map { json } => map_text(alloc, volume, json),
-        Look::Boot => boot_text(alloc, volume.image()),
-    }
+    volume_text(alloc, volume, facts_form(json, styled))
 }
 
 /// The form of what a person wants to know.

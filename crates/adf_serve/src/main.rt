@@ -11,6 +11,8 @@ mod explaining;
 mod fault;
 mod images;
 mod jobs;
+mod json_jobs;
+mod outlet;
 mod output;
 mod refusal;
 mod screen;
@@ -20,6 +22,7 @@ mod blocks;
 mod deleted;
 mod info;
 mod look;
+mod map;
 mod moving;
 mod query;
 mod rescue;
@@ -45,6 +48,7 @@ pub use ados_run::{
 };
 pub use fault::CommandFault;
 pub use jobs::run_job;
+pub use outlet::{Outlet, SeesReader};
 pub use output::end_job;
 pub use refusal::{Detail, DosRefusal, Refusal, Room};
 pub use screen::Screen;
@@ -55,7 +59,7 @@ pub use words::{run_words, tell_wrong_words};
 fn main(rt: HostRuntime) -> ExitCode {
     let alloc = rt.alloc();
     let mut reader = LimitedInput::new(&rt, rt.stdin(), LONGEST_SCRIPT + 1);
-    let mut writer = LimitedOutput::new(&rt, Stream::Output, rt.stdout());
+    let mut writer = Outlet::new(LimitedOutput::new(&rt, Stream::Output, rt.stdout()));
     let mut faults = LimitedOutput::new(&rt, Stream::Error, rt.stderr());
     let status = match given_words(&rt, alloc) {
         Ok(words) => run_words(

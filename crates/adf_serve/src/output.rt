@@ -1,18 +1,24 @@
 //! What a command prints, and its exit status.
-ghost use Rattle.std.specs.Prelude.{◌≡◌, ℕ, List, Option, Err, OnOk, OnErr, IfErr};
+ghost use Rattle.std.specs.Prelude.{◌≡◌, ◌↔◌, ◌++◌, ℕ, List, Option, Err, IsTrue, OnOk, OnErr, IfErr, IfOk, codes};
 ghost use Rattle.std.specs.Io.KnownBytes.{Appends};
+ghost use Rattle.adf_block.specs.Whole.{IsImage};
 ghost use Rattle.adf_io.specs.Prefix.{WritesFront};
 ghost use Rattle.adf_words.specs.declared.job.ImageJob.{ImageJob};
-ghost use Rattle.adf_serve.specs.Commands.{DoesJob, EndsJob, TellsJob};
+ghost use Rattle.adf_serve.specs.Commands.{DoesJob, EndsJob, TellsJob, prints_json};
+ghost use Rattle.adf_serve.specs.NewImages.{WritesImage};
 ghost use Rattle.adf_serve.specs.Faults.{IsNoRefusal};
 ghost use Rattle.adf_serve.specs.declared.fault.CommandFault.TheVariants.{Output};
 
 use crate::fault::CommandFault;
+use crate::json_jobs::prints_json;
+use crate::outlet::SeesReader;
 use adf_archive::ReadImages;
+use adf_block::Image;
+use adf_block::layout::BLOCK_BYTES;
 use adf_io::write_output;
 use adf_text::print_line;
-use adf_words::ImageJob;
-use std::alloc::Global;
+use adf_words::{ImageJob, STANDARD_STREAM};
+use std::alloc::{AllocError, Global};
 use std::io::Write;
 use std::rt::Files;
 
@@ -29,9 +35,41 @@ pub(crate) fn tell<'a, W: Write>(writer: &mut W, text: &[u8]) -> Result<(), Comm
     }
 }
 
-/// Ends a job on an image file. Prints the line of a refusal on the writer, and why the image is refused and any other fault on
-/// `faults`. Returns the exit status.
-pub fn end_job<R: Files + ReadImages, W: Write, F: Write>(
+/// Writes an image to standard output, and then what is behind it in its file.
+pub(crate) fn put_image<'a, W: Write>(
+    alloc: Global,
+    image: &Image,
+    behind: &[u8],
+    writer: &mut W,
+) -> Result<(), CommandFault<'a>>
+    ensures { WritesImage (W.contents writer.old) (W.contents writer.new) result }
+{
+    let bytes = whole_file(alloc, image, behind)?;
+    tell(writer, &bytes)
+}
+
+/// The bytes of a file with this image, and with what is behind it.
+fn whole_file(alloc: Global, image: &Image, behind: &[u8]) -> Result<Vec<u8>, AllocError>
+    ensures bytes { IfOk result (λ bytes. bytes.items ≡ image.now ++ behind.now) }
+    ensures image { IfOk result (λ _. IsImage image.now) }
+{
+    let image_bytes = image.blocks() as usize * BLOCK_BYTES as usize;
+    let mut bytes = Vec::with_capacity(alloc, image_bytes.saturating_add(behind.len()))?;
+    bytes.extend_from_slice(image.as_bytes())?;
+    bytes.extend_from_slice(behind)?;
+    Ok(bytes)
+}
+
+/// Whether the file for an image is standard output.
+pub(crate) fn is_output(file: &str) -> bool
+    ensures { IsTrue result ↔ (file.now ≡ codes "-") }
+{
+    file == STANDARD_STREAM
+}
+
+/// Ends a job on an image file. Prints a refusal on the writer, in the form of the job's output, and why the image is refused and
+/// any other fault on `faults`, but nothing if the output is a pipe that nobody reads any more. Returns the exit status.
+pub fn end_job<R: Files + ReadImages, W: Write + SeesReader, F: Write>(
     rt: &R,
     alloc: Global,
     job: &ImageJob<'_>,
@@ -48,18 +86,26 @@ pub fn end_job<R: Files + ReadImages, W: Write, F: Write>(
     if let (CommandFault::Refused(refusal), Some(file)) = (&fault, job.image()) {
         refusal.explain(rt, alloc, file, faults);
     }
-    let last = refuse(alloc, fault, writer);
-    tell_fault(&last, faults);
+    let last = refuse(alloc, prints_json(job), fault, writer);
+    let is_cut = matches!(&last, CommandFault::Output) && writer.has_lost_reader();
+    if !is_cut {
+        tell_fault(&last, faults);
+    }
     last.status()
 }
 
-/// Prints the line of a refusal, if the fault of a job is one. Returns the fault with which the job ends.
-fn refuse<'a, W: Write>(alloc: Global, fault: CommandFault<'a>, writer: &mut W) -> CommandFault<'a>
-    ensures { (job : ImageJob) (old : Option (List ℕ)) → DoesJob job old (W.contents writer.old) (Err fault.entry) → TellsJob job old (W.contents writer.new) (Err result) }
+/// Prints a refusal, if the fault of a job is one: a line, or with `json` an object. Returns the fault with which the job ends.
+fn refuse<'a, W: Write>(
+    alloc: Global,
+    json: bool,
+    fault: CommandFault<'a>,
+    writer: &mut W,
+) -> CommandFault<'a>
+    ensures { (job : ImageJob) (old : Option (List ℕ)) → prints_json job ≡ json → DoesJob job old (W.contents writer.old) (Err fault.entry) → TellsJob job old (W.contents writer.new) (Err result) }
 {
-    match fault.line(alloc) {
+    match fault.line(alloc, json) {
         Ok(None) => fault,
-        Ok(Some(line)) => match tell(writer, line.as_bytes()) {
+        Ok(Some(line)) => match tell(writer, &line) {
             Ok(()) => fault,
             Err(other) => other,
         },

@@ -7,7 +7,7 @@ use crate::deleted::tell_deleted;
 use crate::fault::CommandFault;
 use crate::images::read_image;
 use crate::info::tell_info;
-use crate::look::{Look, tell_look};
+use crate::look::tell_look;
 use crate::moving::{tell_bytes, tell_list};
 use adf_host::PromptFiles;
 use adf_words::{ImageFile, ListJob, UndeleteJob};
@@ -19,18 +19,18 @@ use std::rt::Files;
 /// What a command prints of an image.
 #[derive(Clone, Copy)]
 pub(crate) enum Query<'a, 'b> {
-    /// The result of DISK_INFO, and whether the boot checksum is right.
-    Disk,
+    /// The result of DISK_INFO, and whether the boot checksum is right. With `json` it is a JSON object.
+    Disk { json: bool },
     /// The list of a file or directory.
     List(&'b ListJob<'a>),
     /// The bytes of the file at a path.
     Bytes(&'a str),
-    /// All blocks of the file or directory at a path.
-    Entry(&'a str),
-    /// The lines about deleted entries, which are written to the host.
+    /// All blocks of the file or directory at a path. With `json` they are a JSON object.
+    Entry { path: &'a str, json: bool },
+    /// What is told of deleted entries, which are written to the host.
     Deleted(&'b UndeleteJob<'a>),
-    /// A text that is made whole before any of it is printed.
-    Look(Look),
+    /// What a person wants to know of the volume, or with `json` a JSON object.
+    Look { json: bool },
 }
 
 /// Prints what is asked of the image of a file. With `styled` text for people has bold letters.
@@ -46,11 +46,11 @@ pub(crate) fn print_query<'a, R: Files<File = File> + PromptFiles, W: Write>(
 {
     let image = read_image(rt, alloc, file)?;
     match query {
-        Query::Disk => tell_info(alloc, image, writer),
+        Query::Disk { json } => tell_info(alloc, image, json, writer),
         Query::List(job) => tell_list(alloc, image, job, styled, writer),
         Query::Bytes(path) => tell_bytes(alloc, image, path, writer),
-        Query::Entry(path) => tell_entry(alloc, image, path, writer),
+        Query::Entry { path, json } => tell_entry(alloc, image, path, json, writer),
         Query::Deleted(job) => tell_deleted(rt, alloc, image, job, writer),
-        Query::Look(look) => tell_look(alloc, image, look, styled, writer),
+        Query::Look { json } => tell_look(alloc, image, json, styled, writer),
     }
 }

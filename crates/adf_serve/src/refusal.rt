@@ -1,14 +1,15 @@
 //! Refusals of images, and refusals by AmigaDOS.
 ghost use Rattle.std.specs.Prelude.{◌≡◌, ◌≢◌, IfSome, IfNone, IfOk};
-ghost use Rattle.std.specs.String.{string_bytes};
 ghost use Rattle.ados_model.specs.declared.fault.FaultKind.TheVariants.{NoMemory};
 ghost use Rattle.adf_archive.specs.Words.{kind_word, size_word};
-ghost use Rattle.adf_serve.specs.Refusals.{dos_line, refusal_line};
+ghost use Rattle.adf_serve.specs.Refusals.{dos_text, refusal_text};
 
 use adf_archive::{ReadImages, explain_refused, kind_word, size_word};
 use adf_block::SizeFault;
 use adf_import::NameWhy;
 use adf_record::Grouped;
+use adf_text::push_plain;
+use adf_where::{FaultReason, dos_refused_text, refused_text};
 use adf_words::{ImageFile, Refused};
 use ados_volume::{FaultKind, VolumeFault};
 use std::alloc::{AllocError, Global};
@@ -53,13 +54,22 @@ impl Refusal {
         }
     }
 
-    /// Its line on standard output.
-    pub(crate) fn line(&self, alloc: Global) -> Result<String, AllocError>
-        ensures { IfOk result (λ line. string_bytes line ≡ refusal_line self.now) }
+    /// What is printed of it: a line, or with `json` an object.
+    pub(crate) fn line(&self, alloc: Global, json: bool) -> Result<Vec<u8>, AllocError>
+        ensures { IfOk result (λ line. line.items ≡ refusal_text json self.now) }
     {
-        let Refusal { kind, block } = *self;
-        let line = format!(in alloc; "refused {kind} {block}\n")?;
-        Ok(line)
+        refused_text(alloc, self.reason(), json)
+    }
+
+    /// The word for its fault, and the block that shows it.
+    pub(crate) fn reason(&self) -> FaultReason
+        ensures kind { result.kind.now ≡ self.now.kind.now }
+        ensures block { result.block ≡ self.now.block }
+    {
+        FaultReason {
+            kind: self.kind,
+            block: self.block,
+        }
     }
 
     /// Prints why the image of a file is refused like this.
@@ -107,12 +117,19 @@ pub struct Room {
 }
 
 impl DosRefusal {
-    /// Its line on standard output.
-    pub(crate) fn line(&self, alloc: Global) -> Result<String, AllocError>
-        ensures { IfOk result (λ line. string_bytes line ≡ dos_line self.now) }
+    /// What is printed of it: a line with escapes for the control characters of the path, or with `json` an object.
+    pub(crate) fn line(&self, alloc: Global, json: bool) -> Result<Vec<u8>, AllocError>
+        ensures { IfOk result (λ line. line.items ≡ dos_text json self.now) }
     {
+        let path = self.refused.path.as_str();
+        if json {
+            return dos_refused_text(alloc, self.refused.error, path);
+        }
         let number = self.refused.error.number();
-        let line = format!(in alloc; "refused {number} {}\n", self.refused.path.as_str())?;
+        let front = format!(in alloc; "refused {number} ")?;
+        let mut line = front.into_bytes();
+        push_plain(&mut line, path)?;
+        line.push(b'\n')?;
         Ok(line)
     }
 }

@@ -4,6 +4,7 @@ ghost use Rattle.adf_rescue.specs.Rescue.{IsRescue};
 ghost use Rattle.adf_serve.specs.Faults.{IsNoImage};
 ghost use Rattle.adf_serve.specs.Rescues.{DoesRescue, IsRescueEnd};
 
+use crate::boot::tell_boot;
 use crate::fault::CommandFault;
 use crate::images::{read_image, unread};
 use adf_block::Image;
@@ -33,6 +34,7 @@ where
     ensures { DoesRescue job.now (W.contents writer.old) (W.contents writer.new) result }
 {
     let image = read_filled(rt, alloc, job.image, faults)?;
+    tell_boot(&image, faults);
     let rescue = rescue_of(rt, alloc, image, job)?;
     tell_rescue(alloc, &rescue, job, writer, faults)
 }
@@ -75,7 +77,8 @@ fn tell_missing<F: Write>(path: &str, blocks: u32, filled: &Filled, faults: &mut
     print_line(
         faults,
         format_args!(
-            "adf_serve: '{path}' has {found} of the {all} bytes of its {blocks} blocks: missing bytes are read as zeros"
+            "adf_serve: '{path}' has {found} of the {all} bytes of its {} blocks: missing bytes are read as zeros",
+            Grouped(u64::from(blocks))
         ),
     );
 }

@@ -17,21 +17,22 @@ use std::fs::File;
 use std::io::Write;
 use std::rt::{Clock, Files};
 
-/// Writes the bitmap of an image file anew. It then prints how many bits changed.
+/// Writes the bitmap of an image file anew. It then prints how many bits changed, with `json` as a JSON object.
 pub(crate) fn validate_file<'a, R: Files<File = File> + PromptFiles + Clock, W: Write>(
     rt: &R,
     alloc: Global,
     target: Rewrite<'a>,
     force: bool,
+    json: bool,
     writer: &mut W,
 ) -> Result<(), CommandFault<'a>>
-    ensures { TellsSome IsCountText IsCountText (W.contents writer.old) (W.contents writer.new) result }
+    ensures { TellsSome (IsCountText json) (IsCountText json) (W.contents writer.old) (W.contents writer.new) result }
 {
     let (work, image) = Work::begin(rt, alloc, target)?;
     let validated = anew(alloc, image, force)?;
-    let line = validated.line(alloc)?;
+    let text = validated.text(alloc, json)?;
     work.end(rt, alloc, &validated.image)?;
-    tell(writer, line.as_bytes())
+    tell(writer, &text)
 }
 
 /// The image with a new bitmap.

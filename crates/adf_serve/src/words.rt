@@ -5,6 +5,7 @@ ghost use Rattle.adf_serve.specs.Script.{RunsScript};
 
 use crate::held::tell_job;
 use crate::jobs::run_job;
+use crate::outlet::SeesReader;
 use crate::output::end_job;
 use crate::screen::{Screen, columns, takes_bold};
 use crate::script::{faulty_number, try_script};
@@ -50,7 +51,7 @@ where
         + Drop
         + 'static,
     R: Read + IsTerminal,
-    W: Write + IsTerminal,
+    W: Write + IsTerminal + SeesReader,
     F: Write + IsTerminal,
     ensures whole { words.now ≡ [] → result ≡ 0 →
         RunsScript (R.remaining reader.old) (R.remaining reader.new) (W.contents writer.old)
@@ -106,7 +107,7 @@ const WAITING: &str =
     "waiting for the lines of a script, up to Ctrl-D; 'adf_serve --help' shows the commands";
 
 /// Runs the script of standard input, and prints on `faults` what is wrong with a faulty line.
-fn run_script<R: Read, W: Write, F: Write>(
+fn run_script<R: Read, W: Write + SeesReader, F: Write>(
     alloc: Global,
     reader: &mut R,
     writer: &mut W,
@@ -136,7 +137,10 @@ fn run_script<R: Read, W: Write, F: Write>(
             3
         }
         Err(fault) => {
-            tell_fault(fault, faults);
+            let is_cut = fault == TryFault::Write && writer.has_lost_reader();
+            if !is_cut {
+                tell_fault(fault, faults);
+            }
             2
         }
     }

@@ -4,6 +4,7 @@
 
 mod escapes;
 mod front_date;
+mod grouped;
 mod host;
 mod letters;
 mod plain;
@@ -15,6 +16,7 @@ mod uaem_reader;
 mod written;
 
 pub use front_date::date_of_text;
+pub use grouped::Grouped;
 pub use host::{host_name, host_name_bytes, host_names_come_back};
 pub use letters::{LettersFault, letter_bytes, letter_text, letters_come_back};
 pub use plain::{print_line, print_lines, push_plain};

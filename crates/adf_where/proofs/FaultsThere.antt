@@ -1,6 +1,8 @@
 -- The faults of a block, from those of the image.
 use Rattle.adf_where.proofs.Common.{◌≡◌, ℕ, zero, suc, ◌+◌, ◌<◌, ◌≤◌, inl, inr, Bool, true, false, cond, ltb, leb, List, [], ◌∷◌, ◌++◌, length, get_or, take, drop, All, AllPairs, Contains, refl, sym, ap, ap₂, ◌∙◌, subst, arith, append-nil, eqb-true, ◌==◌, AllWithin, between, IsNonDecreasingBy, IsPartitionPoint, get_or-drop, get_or-take, length-drop, length-take, StandsBefore, fault_of, VolumeFault, AreFaultsAt, AreFound}
 use Rattle.std.specs.List.{filter}
+use Rattle.std.specs.Prelude.{MatchBool, not}
+use Rattle.adf_where.specs.FaultyMap.{ShowsAt}
 use Rattle.std.proofs.lemmas.Bool.{cases_lt, eq-eqb, leb-false, leb-true, ltb-false, ltb-true, ne_eqb}
 use Rattle.std.proofs.lemmas.List.Edits.{get_or-between, length-between, split_between}
 use Rattle.std.proofs.lemmas.List.Elements.{All-filter, All-head, All-tail, filter-append, filter_passes}
@@ -64,6 +66,17 @@ faults_there image block found faults h is = subst (AreFaultsAt image block foun
   };
   all = λ whole kind shows. kept (of_block block) (fault_of kind block) (eq-eqb block block refl) found.faults.items (h.each whole kind block shows);
 })
+
+-- whether there are any says whether the block is known to show one
+pub shown_there : (image : List ℕ) (block : ℕ) (more : Bool) (faults : List VolumeFault) (none : Bool) → AreFaultsAt image block more faults → none ≡ (length faults == 0)
+    → MatchBool (not none) (ShowsAt image block) (more ≡ false → ¬ ShowsAt image block)
+shown_there image block more [] none are is =
+    subst (λ (b : Bool). MatchBool (not b) (ShowsAt image block) (more ≡ false → ¬ ShowsAt image block)) (sym is)
+    (λ whole shows. absurd (omega (arith, (are.all whole shows.0 shows.1).1)))
+shown_there image block more (fault ∷ faults) none are is =
+    let here = are.shown 0 fault (omega arith) in
+    subst (λ (b : Bool). MatchBool (not b) (ShowsAt image block) (more ≡ false → ¬ ShowsAt image block)) (sym (is ∙ ne_eqb (suc (length faults)) 0 (λ e. omega (arith, e))))
+    (fault.kind, subst (Shows image fault.kind) here.at here.shown)
 
 module _ (faults : List VolumeFault) (up : AllPairs StandsBefore faults) where
   -- the blocks of the faults do not fall

@@ -5,6 +5,8 @@ pub mod FaultsThere
 mod AskedPlaces
 mod Deep
 mod Leaving
+mod Mapping
+mod Numbered
 mod Objects
 mod Parts
 mod Passing

@@ -1,5 +1,5 @@
 -- What is told of elements, one behind the other.
-use Rattle.adf_where.proofs.Common.{◌≡◌, ℕ, zero, suc, ◌+◌, ◌<◌, ◌==◌, Bool, true, false, cond, List, [], ◌∷◌, ◌++◌, length, get_or, take, drop, refl, sym, ap, ap₂, ◌∙◌, arith, append-nil, append_assoc, flat_map, take_more, told_as}
+use Rattle.adf_where.proofs.Common.{◌≡◌, ℕ, zero, suc, ◌+◌, ◌<◌, ◌==◌, Bool, true, false, cond, List, [], ◌∷◌, ◌++◌, length, get_or, take, drop, refl, sym, ap, ap₂, ◌∙◌, arith, append-nil, append_assoc, array_of, flat_map, take_more, told_as}
 use Rattle.std.proofs.Common.{take-append-drop}
 use Rattle.std.proofs.lemmas.Bool.{ne_eqb}
 use Rattle.std.specs.Prelude.{fold}
@@ -102,12 +102,15 @@ module _ {A : Type 0} (tokens : A → List Token) (lines : A → List ℕ) where
     array_closed true = refl
     array_closed false = refl
 
-    -- what is told of all elements is what is before them, what is told of each, and what is behind them
-    pub told_whole : (json : Bool) (xs : List A) → told_as json tokens lines xs ≡ (opening json ++ parts json true xs) ++ closing json
+    -- an array is what is before its elements, what is told of each, and what is behind them
+    pub array_whole : (end : List ℕ) (xs : List A) → print (array_of tokens xs) ++ end ≡ (91 ∷ parts true true xs) ++ 93 ∷ end
     unfolding print_from
-    told_whole false xs = sym (parts_lines true xs) ∙ sym (append-nil (parts false true xs))
-    told_whole true xs =
+    array_whole end xs =
         let all = flat_map tokens xs in
-        ap (λ (l : List ℕ). 91 ∷ (l ++ 10 ∷ []))
+        ap (λ (l : List ℕ). 91 ∷ (l ++ end))
         (print_from-append false all (end_array ∷ []) ∙ ap₂ (λ (a b : List ℕ). a ++ b) (sym (parts_objects true xs)) (array_closed (after_value false all)))
-        ∙ ap (λ (l : List ℕ). 91 ∷ l) (append_assoc (parts true true xs) (93 ∷ []) (10 ∷ []))
+        ∙ ap (λ (l : List ℕ). 91 ∷ l) (append_assoc (parts true true xs) (93 ∷ []) end)
+
+    pub told_whole : (json : Bool) (xs : List A) → told_as json tokens lines xs ≡ (opening json ++ parts json true xs) ++ closing json
+    told_whole false xs = sym (parts_lines true xs) ∙ sym (append-nil (parts false true xs))
+    told_whole true xs = array_whole (10 ∷ []) xs

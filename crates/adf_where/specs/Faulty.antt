@@ -3,6 +3,7 @@ use Rattle.std.specs.Prelude.{◌≡◌, ℕ, ◌-◌, ◌==◌, nat_lt, Bool, f
 use Rattle.std.specs.Option.{option_map_or}
 use Rattle.std.specs.List.{AllZip}
 use Rattle.json.specs.Token.{Token, begin_object, boolean, end_object, key, number, string}
+use Rattle.json.specs.Print.{print}
 use Rattle.adf_block.specs.Image.{block_count}
 use Rattle.adf_block.specs.declared.layout.TheConstants.{BOOT_BLOCKS, FIRST_PAGE, FIRST_POINTER}
 use Rattle.ados_faults.specs.Listed.{ListsEach, ListsFaults, StandsBefore, fault_of}
@@ -17,7 +18,8 @@ use Rattle.ados_census.specs.Places.{AreAllPlaces}
 use Rattle.adf_archive.specs.Words.{kind_word}
 use Rattle.adf_words.specs.declared.block_word.BlockWord.{BlockWord}
 use Rattle.adf_where.specs.declared.faulty.FaultyBlock.{FaultyBlock}
-use Rattle.adf_where.specs.Where.{AreNamed, array_of, place_text, place_tokens, told_as}
+use Rattle.adf_where.specs.Refused.{fault_reason, refused_line}
+use Rattle.adf_where.specs.Where.{AreNamed, array_of, place_text, place_tokens}
 
 -- these are faults that an image shows, in order, and all of them unless there may be more
 pub record AreFound (image : List ℕ) (found : AllFaults) : Type 0 where
@@ -118,19 +120,22 @@ abbrev pub faulty_tokens : ℕ → FaultyBlock → List Token
 faulty_tokens blocks told =
     begin_object ∷ place_tokens blocks told.block ++ (places_tokens told.places.now ++ (faults_tokens told.faults.now ++ key (codes "more") ∷ boolean told.more ∷ end_object ∷ []))
 
--- what is told of blocks in one of the forms
-abbrev pub faulty_of : Bool → ℕ → List FaultyBlock → List ℕ
-faulty_of json blocks told = told_as json (faulty_tokens blocks) (block_lines blocks) told
+-- the object of a refused image: why it is refused, and what is told of blocks
+abbrev pub faulty_object : List ℕ → ℕ → ℕ → List FaultyBlock → List Token
+faulty_object kind at blocks told =
+    begin_object ∷ key (codes "refused") ∷ fault_reason kind at ++ (key (codes "blocks") ∷ array_of (faulty_tokens blocks) told ++ end_object ∷ [])
 
--- the text tells of the blocks that these arguments name in the image
-pub record IsFaultyWhere (json : Bool) (image : List ℕ) (words : List BlockWord) (text : List ℕ) : Type 0 where
+-- what is told of blocks of an image that is refused with this word for the fault of a block: that object on a line of its own, or the
+-- line of the refusal and then the lines of each block
+abbrev pub faulty_of : Bool → List ℕ → ℕ → ℕ → List FaultyBlock → List ℕ
+faulty_of json kind at blocks told =
+    if json then print (faulty_object kind at blocks told) ++ codes "\n" else refused_line kind at ++ flat_map (block_lines blocks) told
+
+-- the text tells of the blocks that these arguments name in the image, which is refused with this word for the fault of a block
+pub record IsFaultyWhere (json : Bool) (image kind : List ℕ) (at : ℕ) (words : List BlockWord) (text : List ℕ) : Type 0 where
   pub blocks : List ℕ
   pub named : AreNamed (block_count image) words blocks
   pub more : Bool
   pub told : List FaultyBlock
   pub are_told : AllZip (IsFaultyBlock image more) blocks told
-  pub text_is : text ≡ faulty_of json (block_count image) told
-
--- the text is a line, and behind it such a text
-abbrev pub IsFaultyWhereBehind : List ℕ → Bool → List ℕ → List BlockWord → List ℕ → Type 0
-IsFaultyWhereBehind line json image words text = (rest : List ℕ) × IsFaultyWhere json image words rest × (text ≡ line ++ rest)
+  pub text_is : text ≡ faulty_of json kind at (block_count image) told

@@ -21,7 +21,6 @@ use Rattle.adf_where.specs.declared.where_fault.WhereFault.{WhereFault}
 use Rattle.adf_where.specs.declared.where_fault.WhereFault.TheVariants.{NoBlock}
 use Rattle.adf_io.specs.Prefix.{WritesFrontOf}
 use Rattle.std.specs.Io.KnownBytes.{Keeps}
-use Rattle.adf_text.specs.Ranges.{ranges}
 use Rattle.adf_export.specs.Listing.{path_of}
 
 -- the sectors in a track of a disk with so many blocks
@@ -212,21 +211,3 @@ pub record IsWhere (json : Bool) (image : List ℕ) (t : Tree) (words : List Blo
 abbrev pub LeavesWhere : (IsText : List ℕ → Type 0) → Option (List ℕ) → Option (List ℕ) → WhereFault → Type 0
 LeavesWhere IsText old new (NoBlock word) = Keeps old new
 LeavesWhere IsText old new fault = Keeps old new ⊎ WritesFrontOf old new IsText
-
--- a block with this owner belongs to the file or directory with this key; the root is its own
-abbrev pub belongs : ℕ → ℕ → Owner → Bool
-belongs entry block Root = block == entry
-belongs entry block Directory = block == entry
-belongs entry block File = block == entry
-belongs entry block (Data file k) = file == entry
-belongs entry block (Extension file k) = file == entry
-belongs entry block owner = false
-
--- the blocks of a file or directory, in order: those from this block on
-abbrev pub own_from : ℕ → ℕ → List Owner → List ℕ
-own_from entry block [] = []
-own_from entry block (owner ∷ owners) = (if belongs entry block owner then block ∷ [] else []) ++ own_from entry (block + 1) owners
-
--- the text is all blocks of a file or directory, as ranges
-abbrev pub IsWhereOf : List ℕ → Tree → ℕ → List ℕ → Type 0
-IsWhereOf image t entry text = (owners : List Owner) × AreOwners image t owners × (text ≡ ranges (own_from entry 0 owners))

@@ -1,3 +1,4 @@
--- Definitions for steps: texts in parts, and blocks that are asked for.
+-- Definitions for steps: texts in parts, blocks that are asked for, and places that name a block.
 pub mod Parts
 pub mod Asked
+pub mod Named

@@ -1,11 +1,12 @@
 //! Blocks of an image that may be refused, with the places that name them and with their faults.
-ghost use Rattle.std.specs.Prelude.{◌≡◌, ◌<◌, ◌==◌, ℕ, List, All, AllPairs, Contains, IfOk, filter};
+ghost use Rattle.std.specs.Prelude.{◌≡◌, ◌<◌, ◌==◌, ℕ, List, false, All, AllPairs, Contains, IfOk, MatchBool, filter};
 ghost use Rattle.std.specs.List.{AllZip};
 ghost use Rattle.std.specs.List.Sorted.{IsStrictlyIncreasing};
 ghost use Rattle.adf_block.specs.Image.{block_count};
 ghost use Rattle.ados_faults.specs.Listed.{StandsBefore};
 ghost use Rattle.ados_census.specs.Places.{AreAllPlaces};
 ghost use Rattle.adf_where.specs.Faulty.{AreFound, IsFaultyBlock};
+ghost use Rattle.adf_where.specs.FaultyMap.{ShowsAt};
 ghost use Rattle.adf_where.specs.steps.Asked.{AreAllPlacesOfEach, AreAsked};
 
 use adf_block::Image;
@@ -127,6 +128,14 @@ fn faulty_block<'a>(
         faults: faults_at(&found.faults, block),
         more: found.more,
     }
+}
+
+/// Whether a block is known to show a fault.
+pub(crate) fn shows_fault(found: &AllFaults, block: u32) -> bool
+    requires { AllPairs StandsBefore found.now.faults.items }
+    ensures { (image : List ℕ) → AreFound image found.now → MatchBool result (ShowsAt image block) (found.now.more ≡ false → ¬ ShowsAt image block) }
+{
+    !faults_at(&found.faults, block).is_empty()
 }
 
 /// The faults of a block, among faults in order.

@@ -2,38 +2,45 @@
 ghost use Rattle.std.specs.Prelude.{◌≡◌, ◌++◌, OnErr, OnOk};
 ghost use Rattle.std.specs.Io.KnownBytes.{Appends};
 ghost use Rattle.adf_io.specs.Prefix.{Passes, WritesFront};
-ghost use Rattle.adf_where.specs.Faulty.{faulty_of};
-ghost use Rattle.adf_where.specs.steps.Parts.{block_part, head_part, place_part, tail_part};
+ghost use Rattle.adf_where.specs.steps.Parts.{block_part, blocks_text, head_part, object_end, place_part, tail_part};
 
 use crate::faulty::FaultyBlock;
 use crate::faulty_lines::{push_behind, push_first, push_place_line};
 use crate::faulty_objects::{head_text, tail_text};
-use crate::forms::{closing, object_text, opening, push_comma};
+use crate::forms::{object_text, opening, push_comma};
 use adf_io::{PrintFault, write_text, write_when_long};
 use ados_census::Place;
 use std::alloc::{AllocError, Global};
 use std::io::Write;
 
-/// Writes a line, and then what is told of these blocks.
+/// Writes what is before these blocks, and then what is told of them: lines, or with `json` an array and the end of the object
+/// that it is in.
 pub(crate) fn write_faulty<W: Write>(
     alloc: Global,
     blocks: u32,
     told: &[FaultyBlock<'_>],
     json: bool,
-    line: &str,
+    front: &[u8],
     writer: &mut W,
 ) -> Result<(), PrintFault>
-    ensures ok { OnOk result (Appends (W.contents writer.old) (W.contents writer.new) (line.now ++ faulty_of json blocks told.now)) }
-    ensures front { OnErr result (WritesFront (W.contents writer.old) (W.contents writer.new) (line.now ++ faulty_of json blocks told.now)) }
+    ensures ok { OnOk result (Appends (W.contents writer.old) (W.contents writer.new) (front.now ++ blocks_text json blocks told.now)) }
+    ensures front { OnErr result (WritesFront (W.contents writer.old) (W.contents writer.new) (front.now ++ blocks_text json blocks told.now)) }
 {
-    let mut text = Vec::from_slice(alloc, line.as_bytes())?;
+    let mut text = Vec::from_slice(alloc, front)?;
     text.extend_from_slice(opening(json))?;
     for place in 0..told.len() {
         push_comma(&mut text, json, place == 0)?;
         write_block(alloc, &mut text, blocks, &told[place], json, writer)?;
     }
-    text.extend_from_slice(closing(json))?;
+    text.extend_from_slice(object_end(json))?;
     write_text(text.as_slice(), writer)
+}
+
+/// What is behind what is told of all blocks: with `json` the end of the array, of the object, and of its line.
+fn object_end(json: bool) -> &'static [u8]
+    ensures { result.now ≡ object_end json }
+{
+    if json { b"]}\n" } else { b"" }
 }
 
 /// Appends what is told of a block, and writes it as far as it is long.

@@ -2,12 +2,13 @@
 ghost use Rattle.std.specs.Prelude.{IfErr, OnOk};
 ghost use Rattle.adf_block.specs.Image.{block_count};
 ghost use Rattle.adf_io.specs.Prefix.{Writes};
-ghost use Rattle.adf_where.specs.Faulty.{IsFaultyWhereBehind};
+ghost use Rattle.adf_where.specs.Faulty.{IsFaultyWhere};
 ghost use Rattle.adf_where.specs.Where.{IsWhereFault, LeavesWhere};
 
 use crate::faulty::{AskedBlocks, faulty_blocks};
 use crate::faulty_text::write_faulty;
 use crate::places::named_blocks;
+use crate::refused::{FaultReason, refused_front};
 use crate::where_fault::WhereFault;
 use adf_block::Image;
 use adf_words::BlockWord;
@@ -15,8 +16,8 @@ use ados_faults::faults_of_any_disk;
 use std::alloc::Global;
 use std::io::Write;
 
-/// Writes a line, and then which places name the blocks that these arguments name, and what their faults are, in any image:
-/// lines for each block, or with `json` an array of objects on a line of its own.
+/// Writes why an image is refused, and then which places name the blocks that these arguments name, and what their faults are,
+/// in any image: lines, or with `json` an object on a line of its own.
 ///
 /// If an argument names no block, nothing is written. If the writer fails or memory runs out, a prefix of the text is written.
 /// Memory holds the places that name each block once, and not the text; before that, the census of the image. Time grows almost
@@ -26,12 +27,12 @@ pub fn write_faulty_where<W: Write>(
     image: &Image,
     words: &[BlockWord],
     json: bool,
-    line: &str,
+    reason: FaultReason,
     writer: &mut W,
 ) -> Result<(), WhereFault>
-    ensures ok { OnOk result (Writes (W.contents writer.old) (W.contents writer.new) (IsFaultyWhereBehind line.now json image.now words.now)) }
+    ensures ok { OnOk result (Writes (W.contents writer.old) (W.contents writer.new) (IsFaultyWhere json image.now reason.kind.now reason.block words.now)) }
     ensures fault { IfErr result (IsWhereFault (block_count image.now) words.now) }
-    ensures front { IfErr result (LeavesWhere (IsFaultyWhereBehind line.now json image.now words.now) (W.contents writer.old) (W.contents writer.new)) }
+    ensures front { IfErr result (LeavesWhere (IsFaultyWhere json image.now reason.kind.now reason.block words.now) (W.contents writer.old) (W.contents writer.new)) }
 {
     let count = image.blocks();
     let blocks = match named_blocks(alloc, count, words) {
@@ -41,7 +42,8 @@ pub fn write_faulty_where<W: Write>(
     let found = faults_of_any_disk(alloc, image)?;
     let asked = AskedBlocks::of(alloc, image, &blocks)?;
     let told = faulty_blocks(alloc, image, &asked, &found, &blocks)?;
-    match write_faulty(alloc, count, &told, json, line, writer) {
+    let front = refused_front(alloc, reason, json)?;
+    match write_faulty(alloc, count, &told, json, &front, writer) {
         Ok(()) => Ok(()),
         Err(fault) => Err(WhereFault::from(fault)),
     }

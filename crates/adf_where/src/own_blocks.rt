@@ -2,19 +2,36 @@
 ghost use Rattle.std.specs.Prelude.{◌≡◌, IfOk};
 ghost use Rattle.ados_model.specs.Stands.{Stands};
 ghost use Rattle.ados_model.specs.Tree.{Tree};
-ghost use Rattle.adf_where.specs.Where.{IsWhereOf, belongs, own_from};
+ghost use Rattle.adf_where.specs.Own.{IsWhereOf, belongs, own_from, own_text};
 
+use crate::own_object::own_object;
 use adf_text::ranges_text;
 use ados_volume::{Owner, Volume, owners};
 use std::alloc::{AllocError, Global};
 
-/// All blocks of a file or directory, as ranges on lines of their own.
-pub fn where_path_text(alloc: Global, volume: &Volume, key: u32) -> Result<Vec<u8>, AllocError>
-    ensures { IfOk result (λ text. (t : Tree) → Stands volume.now.image t → IsWhereOf volume.now.image t key text.items) }
+/// All blocks of a file or directory: ranges on lines of their own, or with `json` an object on a line of its own.
+pub fn where_path_text(
+    alloc: Global,
+    volume: &Volume,
+    key: u32,
+    json: bool,
+) -> Result<Vec<u8>, AllocError>
+    ensures { IfOk result (λ text. (t : Tree) → Stands volume.now.image t → IsWhereOf json volume.now.image t key text.items) }
 {
     let owners = owners(alloc, volume)?;
     let blocks = own_blocks(alloc, &owners, key as usize)?;
-    ranges_text(alloc, &blocks)
+    own_text(alloc, &blocks, json)
+}
+
+/// These blocks in one of the forms.
+fn own_text(alloc: Global, blocks: &[usize], json: bool) -> Result<Vec<u8>, AllocError>
+    ensures { IfOk result (λ text. text.items ≡ own_text json blocks.now) }
+{
+    if json {
+        own_object(alloc, blocks)
+    } else {
+        ranges_text(alloc, blocks)
+    }
 }
 
 /// The blocks of a file or directory, in order.

@@ -1,5 +1,5 @@
 -- The changes, and the jobs for a boot block, that arguments ask for.
-use Rattle.std.specs.Prelude.{◌≡◌, ◌≢◌, ◌<◌, ◌≤◌, ◌^◌, ◌∷◌, ℕ, Bool, List, [], Option, Some, None, IsSome, All, option_map, codes, decimal, map}
+use Rattle.std.specs.Prelude.{◌≡◌, ◌≢◌, ◌<◌, ◌≤◌, ◌^◌, ◌∷◌, ℕ, Bool, List, [], Option, Some, None, IsSome, All, AllPairs, option_map, codes, decimal, map}
 use Rattle.std.specs.Borrow.{Bor}
 use Rattle.std.specs.Option.{option_map_or}
 use Rattle.clap.specs.Matches.{first_value, matched_of, one_text, raw_values}
@@ -8,12 +8,13 @@ use Rattle.adf_block.specs.declared.layout.TheConstants.{FEWEST_BLOCKS, MOST_BLO
 use Rattle.adf_text.specs.ProtectWords.{protect_word}
 use Rattle.adf_words.specs.Blocks.{IsOnFloppy, block_text}
 use Rattle.adf_words.specs.Lists.{IsFlag}
+use Rattle.adf_words.specs.Maps.{IsMapFormOf}
 use Rattle.adf_words.specs.When.{IsWhen}
 use Rattle.adf_words.specs.declared.boot.BootBlock.{BootBlock}
 use Rattle.adf_words.specs.declared.boot.BootBlock.TheVariants.{Empty, Standard, File}
 use Rattle.adf_words.specs.declared.image_file.ImageFile.{ImageFile}
 use Rattle.adf_words.specs.declared.job.ImageJob.{ImageJob}
-use Rattle.adf_words.specs.declared.job.ImageJob.TheVariants.{Boot, Extract, ExtractBundle, Map, Salvage, SaveBoot, Show, ShowBoot, Undelete, Validate, Where, WherePath}
+use Rattle.adf_words.specs.declared.job.ImageJob.TheVariants.{Boot, Extract, ExtractBundle, Info, Map, Salvage, SaveBoot, Show, ShowBoot, Undelete, Validate, Where, WherePath}
 use Rattle.adf_words.specs.declared.change.Change.{Change}
 use Rattle.adf_words.specs.declared.change.Change.TheVariants.{Add, AddAs, Date, Protect}
 use Rattle.adf_words.specs.declared.change.Rewrite.{Rewrite}
@@ -54,11 +55,23 @@ pub record IsFileOf (found : Found) (file : ImageFile) : Type 0 where
   pub path : first_value found (codes "IMAGE") ≡ Some file.path.now
   pub blocks : AreFirstBlocks found file.blocks
 
--- the image to change and the file for the changed one are these arguments
+-- at most one of these arguments is `-`, standard input
+abbrev pub AreReadOnce : List (Bor (List ℕ)) → Type 0
+AreReadOnce words = AllPairs (λ one other. one.now ≡ codes "-" → other.now ≢ codes "-") words
+
+-- the image to change is this argument, which is not `-`, standard input; the file for the changed one is that of the option
 pub record IsTargetOf (found : Found) (target : Rewrite) : Type 0 where
   pub image : IsFileOf found target.image
+  pub changes_file : target.image.path.now ≢ codes "-"
   pub out : first_value found (codes "out") ≡ option_map (λ word. word.now) target.out
   pub over : (given : Bool) → IsFlag found (codes "over") given → target.over ≡ given
+
+-- `info`: the image is this argument, and the form as the option says
+abbrev pub IsInfoOf : Found → ImageJob → Type 0
+IsInfoOf found (Info file json) =
+    (first_value found (codes "FILE") ≡ Some file.path.now) × AreFirstBlocks found file.blocks
+    × ((given : Bool) → IsFlag found (codes "json") given → json ≡ given)
+IsInfoOf found _ = ⊥
 
 -- `show`: the image is this argument, and the form as the option says
 abbrev pub IsShowOf : Found → ImageJob → Type 0
@@ -66,20 +79,21 @@ IsShowOf found (Show image json) =
     IsFileOf found image × ((given : Bool) → IsFlag found (codes "json") given → json ≡ given)
 IsShowOf found _ = ⊥
 
--- `map`: the image is this argument, and the form as the option says
+-- `map`: the image is this argument, and the form as the options say
 abbrev pub IsMapOf : Found → ImageJob → Type 0
-IsMapOf found (Map image json) =
-    IsFileOf found image × ((given : Bool) → IsFlag found (codes "json") given → json ≡ given)
+IsMapOf found (Map image form) = IsFileOf found image × IsMapFormOf found form
 IsMapOf found _ = ⊥
 
 -- the values of an argument that can have many
 abbrev pub all_values : Found → List ℕ → List (List ℕ)
 all_values found id = option_map_or raw_values (matched_of found id) []
 
--- `where`: with `--path` the path is this argument, else the blocks are those that the arguments name, and the form is as the
--- option says; the image is this argument
+-- `where`: with `--path` the path is this argument, else the blocks are those that the arguments name; the image is this argument, and
+-- the form as the option says
 abbrev pub IsWhereOf : Found → ImageJob → Type 0
-IsWhereOf found (WherePath image path) = IsFileOf found image × (first_value found (codes "path") ≡ Some path.now)
+IsWhereOf found (WherePath image path json) =
+    IsFileOf found image × (first_value found (codes "path") ≡ Some path.now)
+    × ((given : Bool) → IsFlag found (codes "json") given → json ≡ given)
 IsWhereOf found (Where job) =
     IsFileOf found job.image × (first_value found (codes "path") ≡ None)
     × (map block_text job.blocks.items ≡ all_values found (codes "BLOCK")) × All IsOnFloppy job.blocks.items
@@ -109,12 +123,16 @@ abbrev pub IsUndeleteOf : Found → ImageJob → Type 0
 IsUndeleteOf found (Undelete job) =
     IsFileOf found job.image × (map (λ word. word.now) job.paths.items ≡ all_values found (codes "PATH"))
     × IsInto found job.to.now × ((given : Bool) → IsFlag found (codes "list") given → job.list ≡ given)
+    × ((given : Bool) → IsFlag found (codes "json") given → job.json ≡ given)
     × ((given : Bool) → IsFlag found (codes "meta") given → job.meta ≡ given) × ((given : Bool) → IsFlag found (codes "force") given → job.force ≡ given)
 IsUndeleteOf found _ = ⊥
 
--- `validate`: the image is this argument, and it is forced if the option is given
+-- `validate`: the image is this argument, the changed one goes to a file, it is forced if the option is given, and the form is as the
+-- option says
 abbrev pub IsValidateOf : Found → ImageJob → Type 0
-IsValidateOf found (Validate target force) = IsTargetOf found target × ((given : Bool) → IsFlag found (codes "force") given → force ≡ given)
+IsValidateOf found (Validate target force json) =
+    IsTargetOf found target × (first_value found (codes "out") ≢ Some (codes "-")) × ((given : Bool) → IsFlag found (codes "force") given → force ≡ given)
+    × ((given : Bool) → IsFlag found (codes "json") given → json ≡ given)
 IsValidateOf found _ = ⊥
 
 -- the boot block to install: the standard one with `--install`, else the bytes of this file, or none without it
@@ -123,9 +141,10 @@ IsBlockOf found Standard = IsGiven found (codes "install")
 IsBlockOf found (File file) = IsLeftOut found (codes "install") × (first_value found (codes "FILE") ≡ Some file.now)
 IsBlockOf found Empty = IsLeftOut found (codes "install") × (first_value found (codes "FILE") ≡ None)
 
--- `boot`: with `--show` the block is shown, else with `--save` written to this file, else installed; the image is this argument
+-- `boot`: with `--show` the block is shown, in the form that the option says, else with `--save` written to this file, else installed; the image is this argument
 abbrev pub IsBootOf : Found → ImageJob → Type 0
-IsBootOf found (ShowBoot image) = IsGiven found (codes "show") × IsFileOf found image
+IsBootOf found (ShowBoot image json) =
+    IsGiven found (codes "show") × IsFileOf found image × ((given : Bool) → IsFlag found (codes "json") given → json ≡ given)
 IsBootOf found (SaveBoot image file) =
     IsLeftOut found (codes "show") × IsFileOf found image × (first_value found (codes "save") ≡ Some file.now)
 IsBootOf found (Boot target block) =

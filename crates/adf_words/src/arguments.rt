@@ -1,12 +1,12 @@
 //! The arguments of a command, as `clap` parsed them.
-ghost use Rattle.std.specs.Prelude.{◌≡◌, ◌<◌, Bool, IfOk, IsFalse, IsTrue, Some, codes, length, map, option_map};
+ghost use Rattle.std.specs.Prelude.{◌≡◌, ◌≢◌, ◌<◌, Bool, IfOk, IsFalse, IsTrue, Some, codes, length, map, option_map};
 ghost use Rattle.clap.specs.Matches.{first_value, found_of};
 ghost use Rattle.adf_words.specs.Asked.{IsFileOf, IsGiven, IsLeftOut, IsTargetOf, all_values};
 ghost use Rattle.adf_words.specs.Lists.{IsFlag};
 
 use crate::change::Rewrite;
 use crate::fault::WordsFault;
-use crate::image_file::ImageFile;
+use crate::image_file::{ImageFile, STANDARD_STREAM};
 use crate::letters::letters_of;
 use clap::ArgMatches;
 use std::alloc::Global;
@@ -55,15 +55,44 @@ impl<'a, 'b> Arguments<'a, 'b> {
         })
     }
 
-    /// The image that a command changes, and where the changed one goes.
+    /// The image that a command changes, and where the changed one goes. Standard input makes the command line wrong: only a
+    /// file can be locked and replaced.
     pub(crate) fn target(&self) -> Result<Rewrite<'a>, WordsFault>
         ensures { IfOk result (IsTargetOf (found_of self.now.words.now)) }
     {
+        let image = self.image()?;
+        if image.path == STANDARD_STREAM {
+            return Err(WordsFault::wrong(
+                self.alloc,
+                format_args!(
+                    "error: IMAGE '-' is standard input, and this command changes a file: './-' is one of that name"
+                ),
+            ));
+        }
         Ok(Rewrite {
-            image: self.image()?,
+            image,
             out: self.given("out"),
             over: self.flag("over"),
         })
+    }
+
+    /// The file of `--out`, for a command that prints lines. Standard output, where they go, makes the command line wrong.
+    pub(crate) fn out_file(&self) -> Result<Option<&'a str>, WordsFault>
+        ensures given { IfOk result (λ out. first_value (found_of self.now.words.now) (codes "out") ≡ option_map (λ word. word.now) out) }
+        ensures file { IfOk result (λ out. first_value (found_of self.now.words.now) (codes "out") ≢ Some (codes "-")) }
+    {
+        let Some(out) = self.given("out") else {
+            return Ok(None);
+        };
+        if out == STANDARD_STREAM {
+            return Err(WordsFault::wrong(
+                self.alloc,
+                format_args!(
+                    "error: '--out -' is standard output, where this command prints its lines: './-' is a file of that name"
+                ),
+            ));
+        }
+        Ok(Some(out))
     }
 
     /// The fault of a missing argument.

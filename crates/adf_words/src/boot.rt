@@ -23,16 +23,20 @@ pub(crate) fn boot_job<'a>(arguments: &Arguments<'a, '_>) -> Result<ImageJob<'a>
     ensures { IfOk result (IsBootOf (found_of arguments.now.words.now)) }
 {
     arguments.moment()?;
-    let target = arguments.target()?;
-    let image = target.image;
     if arguments.flag("show") {
-        return Ok(ImageJob::ShowBoot { image });
+        return Ok(ImageJob::ShowBoot {
+            image: arguments.image()?,
+            json: arguments.flag("json"),
+        });
     }
     if let Some(file) = arguments.given("save") {
-        return Ok(ImageJob::SaveBoot { image, file });
+        return Ok(ImageJob::SaveBoot {
+            image: arguments.image()?,
+            file,
+        });
     }
     Ok(ImageJob::Boot {
-        target,
+        target: arguments.target()?,
         block: boot_block(arguments),
     })
 }

@@ -7,8 +7,10 @@ use crate::arguments::Arguments;
 use crate::change::{Change, ChangeJob, Source};
 use crate::dates::moment_word;
 use crate::fault::WordsFault;
+use crate::image_file::STANDARD_STREAM;
 use crate::job::ImageJob;
 use crate::letters::{letters_of, protection_word};
+use adf_text::Grouped;
 use std::alloc::Global;
 
 /// The job of a command that changes a volume.
@@ -41,9 +43,11 @@ pub(crate) fn validate_job<'a>(arguments: &Arguments<'a, '_>) -> Result<ImageJob
     ensures { IfOk result (IsValidateOf (found_of arguments.now.words.now)) }
 {
     arguments.moment()?;
+    arguments.out_file()?;
     Ok(ImageJob::Validate {
         target: arguments.target()?,
         force: arguments.flag("force"),
+        json: arguments.flag("json"),
     })
 }
 
@@ -101,7 +105,7 @@ fn add_files<'a>(
     ensures { IfOk result (IsAddOf files.now to.now force) }
 {
     for file in files {
-        if *file == "-" {
+        if *file == STANDARD_STREAM {
             return Err(WordsFault::wrong(
                 alloc,
                 format_args!(
@@ -129,7 +133,7 @@ fn add_as<'a>(
             alloc,
             format_args!(
                 "error: '--as <NAME>' takes one FILE, and there are {}",
-                files.len()
+                Grouped(files.len() as u64)
             ),
         ));
     };
@@ -146,7 +150,7 @@ fn add_as<'a>(
 fn source_of<'a>(file: &'a str) -> Source<'a>
     ensures { IsSource file.now result }
 {
-    if file == "-" {
+    if file == STANDARD_STREAM {
         return Source::StandardInput;
     }
     Source::File(file)

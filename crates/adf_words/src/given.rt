@@ -4,6 +4,7 @@ ghost use Rattle.std.specs.String.{string_bytes};
 ghost use Rattle.adf_words.specs.Given.{TellsForeign};
 
 use crate::fault::WordsFault;
+use adf_text::Grouped;
 use std::alloc::Global;
 use std::env::FillError;
 use std::rt::Env;
@@ -55,7 +56,7 @@ fn given_word<E: Env>(
         Err(FillError::NotPresent) => Ok(None),
         Err(FillError::TooLong) => Err(WordsFault::wrong(
             alloc,
-            format_args!("error: argument {place} is too long"),
+            format_args!("error: argument {} is too long", Grouped(place as u64)),
         )),
     }
 }
@@ -72,7 +73,8 @@ pub fn word_of(alloc: Global, place: usize, bytes: &[u8]) -> Result<String, Word
             Err(WordsFault::wrong(
                 alloc,
                 format_args!(
-                    "error: argument {place}, '{}', is not UTF-8",
+                    "error: argument {}, '{}', is not UTF-8",
+                    Grouped(place as u64),
                     shown.as_str()
                 ),
             ))

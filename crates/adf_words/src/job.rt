@@ -4,6 +4,7 @@ ghost use Rattle.std.specs.Prelude.{◌<◌, length};
 use crate::boot::BootBlock;
 use crate::change::{ChangeJob, Rewrite};
 use crate::image_file::ImageFile;
+use crate::map_form::MapForm;
 use crate::query::{CheckJob, ExtractJob, ListJob, SalvageJob, UndeleteJob, WhereJob};
 use adf_block::Format;
 use ados_name::Date3;
@@ -27,16 +28,16 @@ pub enum ImageJob<'a> {
     /// `blank`: makes a blank image of `blocks` blocks. With `letters` the letters of the name are bytes; otherwise
     /// the name has the bytes of the argument.
     Blank { format: Format, blocks: u32, moment: Option<Date3>, name: &'a str, letters: bool, file: &'a str },
-    /// `info`: describes the disk, and says whether it is bootable.
-    Info { file: ImageFile<'a> },
+    /// `info`: describes the disk, and says whether it is bootable; with `json` as a JSON object.
+    Info { file: ImageFile<'a>, json: bool },
     /// `show`: describes the volume for people, or with `json` as a JSON object.
     Show { image: ImageFile<'a>, json: bool },
-    /// `map`: prints a letter for each block, or with `json` a JSON object.
-    Map { image: ImageFile<'a>, json: bool },
+    /// `map`: prints a letter for each block.
+    Map { image: ImageFile<'a>, form: MapForm },
     /// `where`: says who owns blocks.
     Where(WhereJob<'a>),
-    /// `where --path`: prints the blocks of an entry.
-    WherePath { image: ImageFile<'a>, path: &'a str },
+    /// `where --path`: prints the blocks of an entry, with `json` as a JSON object.
+    WherePath { image: ImageFile<'a>, path: &'a str, json: bool },
     /// `check`: checks images.
     Check(CheckJob<'a>),
     /// `list`: lists directories and files.
@@ -55,14 +56,14 @@ pub enum ImageJob<'a> {
     Change(ChangeJob<'a>),
     /// `add --bundle`: makes the volume that a directory of the host describes.
     AddBundle { target: Rewrite<'a>, from: &'a str },
-    /// `validate`: writes the bitmap anew. With `force` also if something may then be lost.
-    Validate { target: Rewrite<'a>, force: bool },
+    /// `validate`: writes the bitmap anew. With `force` also if something may then be lost. With `json` it prints a JSON object.
+    Validate { target: Rewrite<'a>, force: bool, json: bool },
     /// `boot`: installs a boot block, or removes it.
     Boot { target: Rewrite<'a>, block: BootBlock<'a> },
     /// `boot --save`: writes the boot block to a new file of the host.
     SaveBoot { image: ImageFile<'a>, file: &'a str },
-    /// `boot --show`: says what the boot block is, and prints its bytes.
-    ShowBoot { image: ImageFile<'a> },
+    /// `boot --show`: says what the boot block is, and prints its bytes; with `json` as a JSON object.
+    ShowBoot { image: ImageFile<'a>, json: bool },
     /// `serve`: runs scripts over an image.
     Serve(ServeJob<'a>),
 }
@@ -72,14 +73,14 @@ impl<'a> ImageJob<'a> {
     pub fn image(&self) -> Option<ImageFile<'a>> {
         match self {
             ImageJob::Blank { .. } | ImageJob::Check(_) => None,
-            ImageJob::Info { file } => Some(*file),
+            ImageJob::Info { file, .. } => Some(*file),
             ImageJob::Show { image, .. }
             | ImageJob::Map { image, .. }
             | ImageJob::WherePath { image, .. }
             | ImageJob::Print { image, .. }
             | ImageJob::ExtractBundle { image, .. }
             | ImageJob::SaveBoot { image, .. }
-            | ImageJob::ShowBoot { image } => Some(*image),
+            | ImageJob::ShowBoot { image, .. } => Some(*image),
             ImageJob::AddBundle { target, .. }
             | ImageJob::Validate { target, .. }
             | ImageJob::Boot { target, .. } => Some(target.image),

@@ -17,6 +17,7 @@ mod help;
 mod image_file;
 mod job;
 mod letters;
+mod map_form;
 mod numbers;
 mod other_words;
 mod query;
@@ -33,10 +34,11 @@ pub use boot::BootBlock;
 pub use change::{Change, ChangeJob, Rewrite, Source};
 pub use fault::WordsFault;
 pub use faulty_line::{last_number, tell_faulty_line};
-pub use floppy::{DOUBLE_TRACK, HEADS, HIGH_DENSITY, HIGH_TRACK};
+pub use floppy::{CYLINDERS, DOUBLE_DENSITY, DOUBLE_TRACK, HEADS, HIGH_DENSITY, HIGH_TRACK};
 pub use given::{given_words, word_of};
-pub use image_file::ImageFile;
+pub use image_file::{ImageFile, STANDARD_STREAM};
 pub use job::{ImageJob, Job, ServeJob};
+pub use map_form::MapForm;
 pub use query::{
     CheckJob, ExtractJob, ListForm, ListJob, ListOrder, SalvageJob, UndeleteJob, WhereJob,
 };

@@ -8,6 +8,7 @@ use crate::arguments::Arguments;
 use crate::dates::moment_word;
 use crate::fault::WordsFault;
 use crate::table::{BLOCKS, NumberRange, TIME_STAMP};
+use adf_text::Grouped;
 use ados_name::Date3;
 use std::alloc::Global;
 
@@ -71,6 +72,7 @@ impl Arguments<'_, '_> {
 
     /// The fault of a value that is no number in the option's range.
     fn wrong_number(&self, id: &str, least: u64, most: u64, text: &str) -> WordsFault {
+        let (least, most) = (Grouped(least), Grouped(most));
         WordsFault::wrong(
             self.alloc,
             format_args!(

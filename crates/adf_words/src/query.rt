@@ -93,6 +93,8 @@ pub struct UndeleteJob<'a> {
     pub paths: Vec<&'a str>,
     /// Whether the entries are only listed: nothing is written to the host.
     pub list: bool,
+    /// Whether a JSON object is printed for each entry.
+    pub json: bool,
     /// The host directory to write to.
     pub to: &'a str,
     /// Whether a note `.uaem` is written beside each entry.

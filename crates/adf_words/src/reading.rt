@@ -8,11 +8,12 @@ use crate::commands::command_of;
 use crate::fault::WordsFault;
 use crate::floppy::{DOUBLE_DENSITY, HIGH_DENSITY};
 use crate::help::{command_help, program_help, version_text};
-use crate::image_file::ImageFile;
 use crate::job::{ImageJob, Job, ServeJob};
 use crate::letters::letters_of;
 use crate::table::{COMMANDS, CommandRow};
-use crate::taking::{check_job, extract_job, list_job, map_job, show_job, undelete_job, where_job};
+use crate::taking::{
+    check_job, extract_job, info_job, list_job, map_job, show_job, undelete_job, where_job,
+};
 use crate::tips::no_command;
 use crate::wrapping::wrapped;
 use adf_block::Format;
@@ -113,12 +114,7 @@ fn unparsed(alloc: Global, error: Error, columns: usize) -> WordsFault {
 fn job_of<'a>(name: &str, arguments: &Arguments<'a, '_>) -> Result<ImageJob<'a>, WordsFault> {
     match name {
         "blank" => blank_job(arguments),
-        "info" => Ok(ImageJob::Info {
-            file: ImageFile {
-                path: arguments.word("FILE")?,
-                blocks: arguments.first_blocks()?,
-            },
-        }),
+        "info" => info_job(arguments),
         "show" => show_job(arguments),
         "map" => map_job(arguments),
         "where" => where_job(arguments),
@@ -184,7 +180,7 @@ fn serve_job<'a>(arguments: &Arguments<'a, '_>) -> Result<ImageJob<'a>, WordsFau
     Ok(ImageJob::Serve(ServeJob {
         image,
         scripts: Vec::from_slice(arguments.alloc, scripts)?,
-        out: arguments.given("out"),
+        out: arguments.out_file()?,
         turns,
         moment,
     }))

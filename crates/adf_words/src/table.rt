@@ -140,6 +140,9 @@ const TICKS_OR_ZERO: ArgumentRow = ArgumentRow { name: "ticks", kind: NUMBER_OR_
 #[rattlefmt::skip]
 const IMAGE: ArgumentRow = ArgumentRow { name: "IMAGE", kind: Kind::One, help: "The image" };
 
+#[rattlefmt::skip]
+const OBJECT: ArgumentRow = ArgumentRow { name: "json", kind: FLAG, help: "Prints a JSON object" };
+
 /// The first blocks of a file that are its image.
 #[rattlefmt::skip]
 const FRONT: ArgumentRow = ArgumentRow { name: "blocks", kind: NUMBER, help: "Takes the first N blocks of the file as the image, from 16 to 101,602. The rest of the file is unchanged" };
@@ -160,7 +163,7 @@ const PROTECT_EXAMPLES: &str = "Examples:\n  adf_serve protect work.adf c/dir rw
 /// The arguments of each command that changes an image.
 #[rattlefmt::skip]
 pub(crate) const CHANGING: &[ArgumentRow] = &[
-    ArgumentRow { name: "out", kind: Kind::Option { value: "FILE", default: None }, help: "Writes the changed image to this file, and leaves IMAGE as it is" },
+    ArgumentRow { name: "out", kind: Kind::Option { value: "FILE", default: None }, help: "Writes the changed image to this file, and leaves IMAGE as it is. `-` is standard output, but not for a command that prints something there" },
     ArgumentRow { name: "over", kind: FLAG, help: "Lets `--out` write over a file that is not an image" },
     ArgumentRow { name: "date", kind: WHEN, help: "The time stamp of the change, as `YYYY-MM-DD` or `YYYY-MM-DD HH:MM[:SS[.CC]]`, in place of the numbers. `now` is the clock (UTC)" },
     ArgumentRow { name: "days", kind: NUMBER, help: "The time stamp of the change: days since 1 January 1978. The clock (UTC) is used if no part of the time stamp is given" },
@@ -191,18 +194,18 @@ pub(crate) const COMMANDS: [CommandRow; 21] = [
             MINUTES_OR_ZERO,
             TICKS_OR_ZERO,
             ArgumentRow { name: "NAME", kind: Kind::One, help: "The volume's name: 1 to 30 bytes without `/` and `:`" },
-            ArgumentRow { name: "FILE", kind: Kind::One, help: "The file to write" },
+            ArgumentRow { name: "FILE", kind: Kind::One, help: "The file to write. `-` is standard output" },
         ],
     },
     CommandRow {
         name: "info",
         about: "Prints the answer of DISK_INFO for an image, and whether the image is bootable",
         examples: "Example:\n  adf_serve info work.adf",
-        usage: "adf_serve info [--blocks N] FILE",
+        usage: "adf_serve info [--json] [--blocks N] FILE",
         group: Group::Look,
         effect: Effect::Reads,
         changes: false,
-        arguments: &[FRONT, ArgumentRow { name: "FILE", kind: Kind::One, help: "The image" }],
+        arguments: &[OBJECT, FRONT, ArgumentRow { name: "FILE", kind: Kind::One, help: "The image" }],
     },
     CommandRow {
         name: "show",
@@ -213,7 +216,7 @@ pub(crate) const COMMANDS: [CommandRow; 21] = [
         effect: Effect::Reads,
         changes: false,
         arguments: &[
-            ArgumentRow { name: "json", kind: FLAG, help: "Prints a JSON object" },
+            OBJECT,
             FRONT,
             IMAGE,
         ],
@@ -221,13 +224,14 @@ pub(crate) const COMMANDS: [CommandRow; 21] = [
     CommandRow {
         name: "map",
         about: "Prints a letter for each block of a disk, and what the letters mean",
-        examples: "Examples:\n  adf_serve map work.adf\n  adf_serve map --json work.adf",
-        usage: "adf_serve map [--json] [--blocks N] IMAGE",
+        examples: "Examples:\n  adf_serve map work.adf\n  adf_serve map --tracks work.adf\n  adf_serve map --json work.adf",
+        usage: "adf_serve map [--tracks | --json] [--blocks N] IMAGE",
         group: Group::Look,
         effect: Effect::Reads,
         changes: false,
         arguments: &[
-            ArgumentRow { name: "json", kind: FLAG, help: "Prints a JSON object" },
+            ArgumentRow { name: "tracks", kind: Kind::Flag { excludes: &["json"] }, help: "Prints a line for each track. Without it, a floppy has a column for each cylinder" },
+            OBJECT,
             FRONT,
             IMAGE,
         ],
@@ -236,13 +240,13 @@ pub(crate) const COMMANDS: [CommandRow; 21] = [
         name: "where",
         about: "Says who owns a block of a disk, or prints the blocks of a file or a directory",
         examples: "Examples:\n  adf_serve where work.adf 912\n  adf_serve where work.adf c40.h0.s10 880\n  adf_serve where --json work.adf 912\n  adf_serve where --path c/dir work.adf",
-        usage: "adf_serve where [--json] [--blocks N] IMAGE BLOCK..\n       adf_serve where --path PATH [--blocks N] IMAGE",
+        usage: "adf_serve where [--json] [--blocks N] IMAGE BLOCK..\n       adf_serve where --path PATH [--json] [--blocks N] IMAGE",
         group: Group::Look,
         effect: Effect::Reads,
         changes: false,
         arguments: &[
-            ArgumentRow { name: "json", kind: FLAG, help: "Prints a JSON array with an object for each block" },
-            ArgumentRow { name: "path", kind: Kind::Instead { value: "PATH", excludes: &["json", "BLOCK"] }, help: "Prints all blocks of this file or directory, as ranges" },
+            ArgumentRow { name: "json", kind: FLAG, help: "Prints a JSON array with an object for each block, or with `--path` a JSON object" },
+            ArgumentRow { name: "path", kind: Kind::Instead { value: "PATH", excludes: &["BLOCK"] }, help: "Prints all blocks of this file or directory, as ranges" },
             FRONT,
             IMAGE,
             ArgumentRow { name: "BLOCK", kind: Kind::Any, help: "The number of a block, or its cylinder, head and sector as `c40.h0.s10`, each from 0. A track has 11 sectors, and 22 on a disk of 3,520 blocks" },
@@ -322,12 +326,13 @@ pub(crate) const COMMANDS: [CommandRow; 21] = [
         name: "undelete",
         about: "Lists the deleted files and directories of an image, and writes those whose blocks are all free to the host",
         examples: "Examples:\n  adf_serve undelete --list work.adf\n  adf_serve undelete --to here work.adf\n  adf_serve undelete --meta --to here work.adf s c/dir",
-        usage: "adf_serve undelete [--list] [--to DIR] [--meta] [--force] [--blocks N]\n           IMAGE [PATH..]",
+        usage: "adf_serve undelete [--list] [--json] [--to DIR] [--meta] [--force]\n           [--blocks N] IMAGE [PATH..]",
         group: Group::TakeOut,
         effect: Effect::Reads,
         changes: false,
         arguments: &[
             ArgumentRow { name: "list", kind: FLAG, help: "Only prints a line for each deleted file and directory, and writes nothing" },
+            ArgumentRow { name: "json", kind: FLAG, help: "Prints a JSON object for each deleted file and directory" },
             ArgumentRow { name: "to", kind: Kind::Option { value: "DIR", default: Some(".") }, help: "The directory to write to. It is made if it does not exist" },
             ArgumentRow { name: "meta", kind: FLAG, help: "Writes the protection bits, the date and the comment of each entry `x` to a file `x.uaem`" },
             ArgumentRow { name: "force", kind: FLAG, help: "Also writes files of which blocks are used again or damaged, and replaces files that already exist" },
@@ -445,17 +450,20 @@ pub(crate) const COMMANDS: [CommandRow; 21] = [
         name: "validate",
         about: "Writes the bitmap of a disk anew, if nothing else is wrong with the disk",
         examples: "Examples:\n  adf_serve validate work.adf\n  adf_serve validate --out mended.adf work.adf",
-        usage: "adf_serve validate [--force] [CHANGE] IMAGE",
+        usage: "adf_serve validate [--force] [--json] [CHANGE] IMAGE",
         group: Group::Mend,
         effect: Effect::Changes,
         changes: true,
-        arguments: &[ArgumentRow { name: "force", kind: FLAG, help: "Also where the old bitmap blocks, or lost blocks, may hold something that can still be saved" }],
+        arguments: &[
+            ArgumentRow { name: "force", kind: FLAG, help: "Also where the old bitmap blocks, or lost blocks, may hold something that can still be saved" },
+            OBJECT,
+        ],
     },
     CommandRow {
         name: "boot",
         about: "Installs a boot block with the right checksum, removes it, saves it or shows it",
         examples: "Examples:\n  adf_serve boot --install work.adf\n  adf_serve boot work.adf boot.bin\n  adf_serve boot --clear work.adf\n  adf_serve boot --save boot.bin work.adf\n  adf_serve boot --show work.adf",
-        usage: "adf_serve boot [--clear] [CHANGE] IMAGE\n       adf_serve boot --install [CHANGE] IMAGE\n       adf_serve boot [CHANGE] IMAGE FILE\n       adf_serve boot --save FILE [--blocks N] IMAGE\n       adf_serve boot --show [--blocks N] IMAGE",
+        usage: "adf_serve boot [--clear] [CHANGE] IMAGE\n       adf_serve boot --install [CHANGE] IMAGE\n       adf_serve boot [CHANGE] IMAGE FILE\n       adf_serve boot --save FILE [--blocks N] IMAGE\n       adf_serve boot --show [--json] [--blocks N] IMAGE",
         group: Group::PutIn,
         effect: Effect::Removes,
         changes: true,
@@ -464,6 +472,7 @@ pub(crate) const COMMANDS: [CommandRow; 21] = [
             ArgumentRow { name: "install", kind: Kind::Flag { excludes: &["save", "show", "FILE"] }, help: "Installs the standard boot block, which starts AmigaDOS" },
             ArgumentRow { name: "save", kind: Kind::Instead { value: "FILE", excludes: &["show", "out", "FILE"] }, help: "Writes the 1,024 bytes of the boot block to a new file, and leaves the image as it is" },
             ArgumentRow { name: "show", kind: Kind::Flag { excludes: &["out", "FILE"] }, help: "Prints what the boot block is, and its bytes" },
+            ArgumentRow { name: "json", kind: Kind::With { option: "show", excludes: &[] }, help: "Prints a JSON object" },
             ArgumentRow { name: "FILE", kind: Kind::Optional, help: "A file with the boot block, of at most 1,024 bytes. Its first four bytes become those of the image" },
         ],
     },

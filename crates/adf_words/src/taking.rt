@@ -1,14 +1,17 @@
 //! From the arguments of a command that reads an image to its job.
-ghost use Rattle.std.specs.Prelude.{◌≡◌, IfErr, IfOk};
+ghost use Rattle.std.specs.Prelude.{◌≡◌, IfErr, IfOk, OnOk};
 ghost use Rattle.clap.specs.Matches.{found_of};
-ghost use Rattle.adf_words.specs.Asked.{IsExtractOf, IsMapOf, IsShowOf, IsUndeleteOf, IsWhereOf};
+ghost use Rattle.adf_words.specs.Asked.{AreReadOnce, IsExtractOf, IsInfoOf, IsMapOf, IsShowOf, IsUndeleteOf, IsWhereOf};
 ghost use Rattle.adf_words.specs.Lists.{form_of, IsFormOf, IsOrderOf, TellsNoOrder, order_word, usual_order};
+ghost use Rattle.adf_words.specs.Maps.{IsMapFormOf, map_form_of};
 
 use crate::arguments::Arguments;
 use crate::block_word::asked_blocks;
 use crate::fault::WordsFault;
+use crate::image_file::{ImageFile, STANDARD_STREAM};
 use crate::job::ImageJob;
 use crate::letters::letters_of;
+use crate::map_form::MapForm;
 use crate::query::{
     CheckJob, ExtractJob, ListForm, ListJob, ListOrder, SalvageJob, UndeleteJob, WhereJob,
 };
@@ -20,6 +23,7 @@ pub(crate) fn check_job<'a>(arguments: &Arguments<'a, '_>) -> Result<ImageJob<'a
     let jobs = arguments.number("jobs", &JOBS)?;
     let blocks = arguments.first_blocks()?;
     let files = arguments.some_words("FILE")?;
+    refuse_second_input(arguments.alloc, files)?;
     Ok(ImageJob::Check(CheckJob {
         files: Vec::from_slice(arguments.alloc, files)?,
         blocks,
@@ -28,6 +32,26 @@ pub(crate) fn check_job<'a>(arguments: &Arguments<'a, '_>) -> Result<ImageJob<'a
         filler: arguments.flag("filler"),
         jobs,
     }))
+}
+
+/// Refuses files of which more than one is standard input, since that can be read only once.
+fn refuse_second_input(alloc: Global, files: &[&str]) -> Result<(), WordsFault>
+    ensures { OnOk result (AreReadOnce files.now) }
+{
+    let mut is_input_read = false;
+    for file in files {
+        if *file != STANDARD_STREAM {
+            continue;
+        }
+        if is_input_read {
+            return Err(WordsFault::wrong(
+                alloc,
+                format_args!("error: FILE '-' is standard input, which can be read only once"),
+            ));
+        }
+        is_input_read = true;
+    }
+    Ok(())
 }
 
 /// The job of `list`.
@@ -84,6 +108,19 @@ fn order_of(alloc: Global, word: &str) -> Result<ListOrder, WordsFault>
     }
 }
 
+/// The job of `info`.
+pub(crate) fn info_job<'a>(arguments: &Arguments<'a, '_>) -> Result<ImageJob<'a>, WordsFault>
+    ensures { IfOk result (IsInfoOf (found_of arguments.now.words.now)) }
+{
+    Ok(ImageJob::Info {
+        file: ImageFile {
+            path: arguments.word("FILE")?,
+            blocks: arguments.first_blocks()?,
+        },
+        json: arguments.flag("json"),
+    })
+}
+
 /// The job of `show`.
 pub(crate) fn show_job<'a>(arguments: &Arguments<'a, '_>) -> Result<ImageJob<'a>, WordsFault>
     ensures { IfOk result (IsShowOf (found_of arguments.now.words.now)) }
@@ -100,24 +137,43 @@ pub(crate) fn map_job<'a>(arguments: &Arguments<'a, '_>) -> Result<ImageJob<'a>,
 {
     Ok(ImageJob::Map {
         image: arguments.image()?,
-        json: arguments.flag("json"),
+        form: map_form(arguments),
     })
+}
+
+/// The form of a map, by its options.
+fn map_form(arguments: &Arguments<'_, '_>) -> MapForm
+    ensures { IsMapFormOf (found_of arguments.now.words.now) result }
+{
+    let tracks = arguments.flag("tracks");
+    map_form_of(tracks, arguments.flag("json"))
+}
+
+/// The form of a map, by whether each option is given.
+fn map_form_of(tracks: bool, json: bool) -> MapForm
+    ensures { result ≡ map_form_of tracks json }
+{
+    match (tracks, json) {
+        (true, _) => MapForm::Tracks,
+        (false, true) => MapForm::Json,
+        (false, false) => MapForm::Cylinders,
+    }
 }
 
 /// The job of `where`: who owns blocks, or with `--path` the blocks of an entry.
 pub(crate) fn where_job<'a>(arguments: &Arguments<'a, '_>) -> Result<ImageJob<'a>, WordsFault>
     ensures { IfOk result (IsWhereOf (found_of arguments.now.words.now)) }
 {
-    let image = arguments.image()?;
+    let (image, json) = (arguments.image()?, arguments.flag("json"));
     if let Some(path) = arguments.given("path") {
         let path = letters_of(arguments.alloc, path)?;
-        return Ok(ImageJob::WherePath { image, path });
+        return Ok(ImageJob::WherePath { image, path, json });
     }
     let words = arguments.some_words("BLOCK")?;
     Ok(ImageJob::Where(WhereJob {
         image,
         blocks: asked_blocks(arguments.alloc, words)?,
-        json: arguments.flag("json"),
+        json,
     }))
 }
 
@@ -177,6 +233,7 @@ pub(crate) fn undelete_job<'a>(arguments: &Arguments<'a, '_>) -> Result<ImageJob
         image: arguments.image()?,
         paths: arguments.paths()?,
         list: arguments.flag("list"),
+        json: arguments.flag("json"),
         to: arguments.given("to").unwrap_or("."),
         meta: arguments.flag("meta"),
         force: arguments.flag("force"),

@@ -7,6 +7,7 @@ use crate::places::place_text;
 use crate::same_name::same_named;
 use adf_block::Image;
 use adf_block::layout::*;
+use adf_text::Grouped;
 use ados_check::{Evidence, Mark};
 use ados_model::{FaultKind, Role};
 use ados_name::{Comment, Name};
@@ -61,6 +62,7 @@ impl BadBlock<'_> {
             }
             FaultKind::BadCount => count_text(alloc, values),
             FaultKind::BadSequence => {
+                let (found, wanted) = (grouped(found), grouped(wanted));
                 format!(in alloc;
                     "its sequence number is {found}; its place in the file is {wanted}"
                 )
@@ -191,6 +193,11 @@ impl BadBlock<'_> {
     }
 }
 
+/// A number with commas.
+fn grouped(number: u32) -> Grouped {
+    Grouped(u64::from(number))
+}
+
 /// A wrong type or hash table size. Types have a sign: a file has the type -3.
 fn type_text(alloc: Global, values: Evidence) -> Result<String, AllocError> {
     let found = values.found.cast_signed();
@@ -199,9 +206,12 @@ fn type_text(alloc: Global, values: Evidence) -> Result<String, AllocError> {
             "its secondary type is {found}; it should be 2 (a directory) or -3 (a file)"
         );
     };
+    if values.long == TABLE_SIZE {
+        let (found, wanted) = (grouped(values.found), grouped(wanted));
+        return format!(in alloc; "its number of hash slots is {found}; it should be {wanted}");
+    }
     let what = match values.long {
         PRIMARY_TYPE => "primary type",
-        TABLE_SIZE => "number of hash slots",
         _ => "secondary type",
     };
     format!(in alloc;
@@ -227,7 +237,7 @@ fn name_text(alloc: Global, values: Evidence) -> Result<String, AllocError> {
 
 /// A count or a size that does not match the blocks of a file.
 fn count_text(alloc: Global, values: Evidence) -> Result<String, AllocError> {
-    let found = values.found;
+    let (count, found) = (values.found, grouped(values.found));
     match (values.long, values.wanted) {
         (HELD, Some(wanted)) => {
             format!(in alloc; "it holds {found} bytes; it should hold {wanted}")
@@ -240,12 +250,12 @@ fn count_text(alloc: Global, values: Evidence) -> Result<String, AllocError> {
         (FILE_SIZE, _) => {
             format!(in alloc; "its size of {found} bytes does not match its data blocks")
         }
-        (_, None) if found == 0 => {
+        (_, None) if count == 0 => {
             format!(in alloc;
                 "it is an extension block without data pointers; it should have 1 to {TABLE_LONGS}"
             )
         }
-        (_, Some(wanted)) if found < wanted => {
+        (_, Some(wanted)) if count < wanted => {
             format!(in alloc;
                 "it has {found} data pointers; before an extension block it should have {wanted}"
             )

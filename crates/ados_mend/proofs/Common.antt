@@ -12,7 +12,6 @@ pub use Rattle.ados_check.proofs.Roles.{only_root, reached_marked}
 pub use Rattle.ados_faults.proofs.Closing.{few_pages}
 pub use Rattle.ados_faults.proofs.Insides.{reached_inside, root_inside}
 pub use Rattle.ados_map.specs.Pages.{LawfulPages, page_block, pages_of}
-pub use Rattle.ados_mend.specs.BlockMap.{IsMap, header_tokens, map_of, map_page, meaning_line, object_tokens, owner_letters}
 pub use Rattle.ados_mend.specs.Mendable.{IsMendable, IsPage, ShowsOnlyMendable}
 pub use Rattle.ados_mend.specs.Validated.{IsValidated, without_lost}
 pub use Rattle.ados_mend.specs.steps.Cautious.{AreSafePages, FreedHeadersStay, HasNoLostHeader, IsSafePage}

@@ -15,4 +15,3 @@ pub mod Counted
 pub mod Passed
 pub mod SettlingPages
 pub mod Renewed
-mod Numbered

@@ -1,5 +1,6 @@
 //! What may be lost with the old bitmap.
 
+use adf_record::Grouped;
 use thiserror::Error;
 
 /// The most bits of a bitmap block with a wrong checksum that a new one changes without a question.
@@ -25,7 +26,7 @@ pub enum Caution {
     #[error("block {0} is a bitmap block, but looks like {1}")]
     LooksLike(u32, Look),
     /// A bitmap block has a wrong checksum, and differs from the new one in so many bits.
-    #[error("block {0} is a bitmap block with a wrong checksum, and {1} of its bits would change")]
+    #[error("block {} is a bitmap block with a wrong checksum, and {} of its bits would change", .0, Grouped(u64::from(*.1)))]
     Differs(u32, u32),
     /// A block that is marked used and that nothing names is the sound header of a directory or file.
     #[error("block {0} is marked used, and is the header of a directory or file, but nothing names it")]

@@ -1,5 +1,5 @@
 //! The bitmap of an image, written anew: where nothing else is faulty, and without force only where nothing may be lost
-//! with the old one. And the map of a volume, a letter for each block.
+//! with the old one.
 #![tactic(auto)]
 
 // The answers.
@@ -20,11 +20,6 @@ mod looks;
 mod said;
 mod validating;
 
-// The map.
-mod block_map;
-mod map_object;
-
 pub use answer::{NotValidated, Validated};
-pub use block_map::map_text;
 pub use caution::{Caution, Look};
 pub use validating::validate;

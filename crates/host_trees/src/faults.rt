@@ -3,6 +3,7 @@ ghost use Rattle.std.specs.Prelude.{◌≡◌};
 
 use crate::items::{HostItem, spelled_path};
 use adf_host::{ReplaceFault, WriteReason};
+use adf_text::Grouped;
 use std::alloc::{AllocError, AllocFailed, Global};
 use std::fmt::{Display, Formatter};
 use std::io::Error;
@@ -27,7 +28,11 @@ impl Display for WriteFault {
         match self.written {
             0 => Ok(()),
             1 => write!(f, "; one file or directory was written before it"),
-            many => write!(f, "; {many} files and directories were written before it"),
+            many => write!(
+                f,
+                "; {} files and directories were written before it",
+                Grouped(many as u64)
+            ),
         }
     }
 }

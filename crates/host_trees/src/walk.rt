@@ -232,9 +232,13 @@ fn look_at<R: Files>(rt: &R, alloc: Global, path: &str) -> Result<Look, WalkFaul
     }
 }
 
+/// Why a path cannot be read. An error without a number of the host is that of the standard library for a name that is not UTF-8.
 fn read_fault(alloc: Global, path: &str, error: Error) -> WalkFault {
+    let is_of_host = error.raw_os_error().is_some();
     match String::from_str(alloc, path) {
-        Ok(path) if error.kind() == ErrorKind::InvalidFilename => WalkFault::Name { path },
+        Ok(path) if error.kind() == ErrorKind::InvalidFilename && !is_of_host => {
+            WalkFault::Name { path }
+        }
         Ok(path) => WalkFault::Read {
             path,
             reason: ReadReason::from(error),

@@ -12,7 +12,8 @@ use Rattle.adf_where.specs.declared.faulty.FaultyBlock.{FaultyBlock}
 use Rattle.adf_where.specs.declared.where_fault.WhereFault.{WhereFault}
 use Rattle.adf_where.specs.declared.where_fault.WhereFault.TheVariants.{Memory, Output}
 use Rattle.adf_where.specs.Faulty.{block_line, block_lines, fault_line, faults_tokens, faulty_tokens, first_line, more_line, place_object, place_words}
-use Rattle.adf_where.specs.Where.{AreTold, Told, place_tokens, where_of}
+use Rattle.adf_where.specs.Refused.{fault_reason, refused_line}
+use Rattle.adf_where.specs.Where.{AreTold, Told, array_of, place_tokens, where_of}
 
 -- what is before the elements, and what is behind them
 abbrev pub opening : Bool → List ℕ
@@ -38,6 +39,26 @@ pub record IsTextOf (json : Bool) (t : Tree) (owners : List Owner) (blocks text 
   pub told : List Told
   pub are_told : AreTold t owners blocks told
   pub text_is : text ≡ where_of json t.blocks told
+
+-- the object of something that is refused, up to the reason
+abbrev pub before_reason : List Token
+before_reason = begin_object ∷ key (codes "refused") ∷ []
+
+-- what is before the lines of blocks of a refused image, or before the array of its object
+abbrev pub before_blocks : List ℕ → ℕ → List Token
+before_blocks kind at = before_reason ++ fault_reason kind at ++ key (codes "blocks") ∷ []
+
+abbrev pub refused_front : Bool → List ℕ → ℕ → List ℕ
+refused_front json kind at = if json then print (before_blocks kind at) else refused_line kind at
+
+-- what is told of its blocks behind that
+abbrev pub blocks_text : Bool → ℕ → List FaultyBlock → List ℕ
+blocks_text json blocks told =
+    if json then print (array_of (faulty_tokens blocks) told) ++ codes "}\n" else flat_map (block_lines blocks) told
+
+-- the end of the array, of the object, and of its line
+abbrev pub object_end : Bool → List ℕ
+object_end json = if json then codes "]}\n" else []
 
 -- what is told of a block of a refused image
 abbrev pub block_part : Bool → ℕ → FaultyBlock → List ℕ

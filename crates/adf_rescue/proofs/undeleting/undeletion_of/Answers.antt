@@ -3,7 +3,7 @@ use Rattle.ados_sound.specs.declared.deleted.Deleted.{Deleted}
 use Rattle.adf_rescue.specs.declared.chosen.Chosen.{Chosen}
 use Rattle.adf_rescue.specs.declared.placing.Placed.{Placed}
 use Rattle.adf_rescue.specs.steps.Asking.{AreAsked}
-use Rattle.adf_rescue.specs.Undelete.{Place, chosen_of, deleted_lines, files_saved, key_of, places_of, seen_place}
+use Rattle.adf_rescue.specs.Undelete.{Place, chosen_of, deleted_text, files_saved, key_of, places_of, seen_place}
 use Rattle.adf_rescue.proofs.undeleting.undeletion_of.Goals as goal
 
 pub returns-clause-done : goal.returns-clause-done
@@ -24,9 +24,9 @@ returns-clause-done c = λ image trusted found.
           ∙ ap (λ (seen : List Place). chosen_of positions seen c.args.found.deleted.items) places;
       text =
           c.in_ok-text.ensures
-          ∙ ap (λ (at : List (Option ℕ)). deleted_lines at (map seen_place c.deref-8.result.now) c.deref-9.result.now) c.deref-7.ensures.value
-          ∙ ap (λ (placed : List Placed). deleted_lines positions (map seen_place placed) c.deref-9.result.now) c.deref-8.ensures.value
-          ∙ ap (λ (chosen : List Chosen). deleted_lines positions (map seen_place c.in_ok-places.places.items) chosen) c.deref-9.ensures.value
-          ∙ ap (λ (seen : List Place). deleted_lines positions seen c.in_ok-chosen.chosen.items) places;
+          ∙ ap (λ (at : List (Option ℕ)). deleted_text c.args.job.now.json at (map seen_place c.deref-8.result.now) c.deref-9.result.now) c.deref-7.ensures.value
+          ∙ ap (λ (placed : List Placed). deleted_text c.args.job.now.json positions (map seen_place placed) c.deref-9.result.now) c.deref-8.ensures.value
+          ∙ ap (λ (chosen : List Chosen). deleted_text c.args.job.now.json positions (map seen_place c.in_ok-places.places.items) chosen) c.deref-9.ensures.value
+          ∙ ap (λ (seen : List Place). deleted_text c.args.job.now.json positions seen c.in_ok-chosen.chosen.items) places;
       files = c.in_ok-plan.ensures ∙ ap (files_saved c.args.job.now.force) c.deref-10.ensures.value;
     }

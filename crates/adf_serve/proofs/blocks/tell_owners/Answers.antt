@@ -1,4 +1,4 @@
-use Rattle.adf_serve.specs.Placed.{IsBareLine, IsWhereText, MayEnd}
+use Rattle.adf_serve.specs.Placed.{IsBareRefusal, IsWhereText, MayEnd}
 use Rattle.adf_serve.proofs.Printing.{owners_left, owners_written, report_left}
 use Rattle.adf_serve.proofs.blocks.tell_owners.Goals as goal
 
@@ -9,5 +9,5 @@ returns-in-Ok g c = λ image accepts.
 pub returns-in-Err : goal.returns-in-Err
 returns-in-Err g c = λ image accepts.
     let job = c.args.job.now in
-    report_left (IsWhereText job) (IsBareLine job) MayEnd _ _ c.no_block.result c.no_block.ensures.plain c.no_block.ensures.other tt
+    report_left (IsWhereText job) (IsBareRefusal job) MayEnd _ _ c.no_block.result c.no_block.ensures.plain c.no_block.ensures.other tt
     (owners_left image _ _ accepts job c.deref.result.now c.deref.ensures.value _ _ c.in-Err.fault c.in-Err.ensures.front)

@@ -1,22 +1,22 @@
 use Rattle.std.proofs.Common.{inl}
-use Rattle.adf_serve.specs.Placed.{IsBareLine, IsWhereText, MayEnd}
+use Rattle.adf_serve.specs.Placed.{IsBareRefusal, IsWhereText, MayEnd}
 use Rattle.adf_serve.proofs.Printing.{placed_ends, refusal_shown, reports_no_image}
 use Rattle.adf_serve.proofs.blocks.tell_where.Goals as goal
 
 pub returns-in_err-image : goal.returns-in_err-image
 returns-in_err-image g c =
-    reports_no_image (IsWhereText c.args.job.now) (IsBareLine c.args.job.now) MayEnd _ c.in_err-image.field-0.0 _ (λ bytes text size. (bytes, inl size)) (λ told is. tt) c.in_err-image.ensures
+    reports_no_image (IsWhereText c.args.job.now) (IsBareRefusal c.args.job.now) MayEnd _ c.in_err-image.field-0.0 _ (λ bytes refusal size. (bytes, inl size)) (λ told is. tt) c.in_err-image.ensures
     c.from_residual.ensures.1
 
 pub returns-in_err-tell_placed : goal.returns-in_err-tell_placed
 returns-in_err-tell_placed g c =
     let rejected = c.in-Err.rejected in
-    let shown = refusal_shown c.args.job.now rejected.image c.in_ok-image.image rejected.fault c.in-Some.refusal c.in-Err.ensures c.in-Some.ensures.kind c.in-Some.ensures.block c.in-Some.ensures.some in
+    let shown = refusal_shown rejected.image c.in_ok-image.image rejected.fault c.in-Some.refusal c.in-Err.ensures c.in-Some.ensures.kind c.in-Some.ensures.block c.in-Some.ensures.some in
     placed_ends c.args.job.now rejected.image _ _ c.in_err-tell_placed.field-0.0 _ (c.in_err-tell_placed.ensures.fault shown) c.from_residual-in_err-tell_placed.ensures.1
 
 pub returns : goal.returns
 returns g c =
     let rejected = c.in-Err.rejected in
-    let shown = refusal_shown c.args.job.now rejected.image c.in_ok-image.image rejected.fault c.in-Some.refusal c.in-Err.ensures c.in-Some.ensures.kind c.in-Some.ensures.block c.in-Some.ensures.some in
+    let shown = refusal_shown rejected.image c.in_ok-image.image rejected.fault c.in-Some.refusal c.in-Err.ensures c.in-Some.ensures.kind c.in-Some.ensures.block c.in-Some.ensures.some in
     let written = c.in_ok-tell_placed.ensures.ok shown in
     (written.0, written.1, (rejected.image, written.2))

@@ -1,11 +1,23 @@
 use Rattle.std.proofs.Common.{subst, sym}
 use Rattle.adf_words.specs.declared.job.ImageJob.{ImageJob}
 use Rattle.adf_serve.specs.Commands.{DoesJob}
-use Rattle.adf_serve.proofs.Printing.{PrintsNothing, job_silent}
 use Rattle.adf_serve.proofs.jobs.run_job.Goals as goal
 
 pub returns-in-Blank : goal.returns-in-Blank
-returns-in-Blank g c = job_silent c.args.job.now _ _ (subst PrintsNothing (sym c.in-Blank.is) tt) c.make_blank.ensures
+returns-in-Blank g c =
+    subst (λ (job : ImageJob). DoesJob job (g.W.Write.contents c.args.writer.now) (g.W.Write.contents c.make_blank.new.writer) c.make_blank.result) (sym c.in-Blank.is) c.make_blank.ensures
+
+pub returns-in-AddBundle : goal.returns-in-AddBundle
+returns-in-AddBundle g c =
+    subst (λ (job : ImageJob). DoesJob job (g.W.Write.contents c.args.writer.now) (g.W.Write.contents c.put_bundle.new.writer) c.put_bundle.result) (sym c.in-AddBundle.is) c.put_bundle.ensures
+
+pub returns-in-Change : goal.returns-in-Change
+returns-in-Change g c =
+    subst (λ (job : ImageJob). DoesJob job (g.W.Write.contents c.args.writer.now) (g.W.Write.contents c.change.new.writer) c.change.result) (sym c.in-Change.is) c.change.ensures
+
+pub returns-in-Boot : goal.returns-in-Boot
+returns-in-Boot g c =
+    subst (λ (job : ImageJob). DoesJob job (g.W.Write.contents c.args.writer.now) (g.W.Write.contents c.change_boot.new.writer) c.change_boot.result) (sym c.in-Boot.is) c.change_boot.ensures
 
 pub returns-in-Info : goal.returns-in-Info
 returns-in-Info g c =
@@ -25,7 +37,7 @@ returns-in-Salvage g c =
 
 pub returns-in-ShowBoot : goal.returns-in-ShowBoot
 returns-in-ShowBoot g c =
-    subst (λ (job : ImageJob). DoesJob job (g.W.Write.contents c.args.writer.now) (g.W.Write.contents c.print_query-in-ShowBoot.new.writer) c.print_query-in-ShowBoot.result) (sym c.in-ShowBoot.is) c.print_query-in-ShowBoot.ensures
+    subst (λ (job : ImageJob). DoesJob job (g.W.Write.contents c.args.writer.now) (g.W.Write.contents c.show_boot.new.writer) c.show_boot.result) (sym c.in-ShowBoot.is) c.show_boot.ensures
 
 pub returns-in-Show : goal.returns-in-Show
 returns-in-Show g c =
@@ -45,8 +57,12 @@ returns-in-WherePath g c =
 
 pub returns-in-Map : goal.returns-in-Map
 returns-in-Map g c =
-    subst (λ (job : ImageJob). DoesJob job (g.W.Write.contents c.args.writer.now) (g.W.Write.contents c.print_query-in-Map.new.writer) c.print_query-in-Map.result) (sym c.in-Map.is) c.print_query-in-Map.ensures
+    subst (λ (job : ImageJob). DoesJob job (g.W.Write.contents c.args.writer.now) (g.W.Write.contents c.tell_map.new.writer) c.tell_map.result) (sym c.in-Map.is) c.tell_map.ensures
 
 pub returns-in-Undelete : goal.returns-in-Undelete
 returns-in-Undelete g c =
     subst (λ (job : ImageJob). DoesJob job (g.W.Write.contents c.args.writer.now) (g.W.Write.contents c.print_query-in-Undelete.new.writer) c.print_query-in-Undelete.result) (sym c.in-Undelete.is) c.print_query-in-Undelete.ensures
+
+pub returns-in-SaveBoot : goal.returns-in-SaveBoot
+returns-in-SaveBoot g c =
+    subst (λ (job : ImageJob). DoesJob job (g.W.Write.contents c.args.writer.now) (g.W.Write.contents c.save_boot.new.writer) c.save_boot.result) (sym c.in-SaveBoot.is) c.save_boot.ensures

@@ -1,4 +1,4 @@
-use Rattle.std.proofs.Common.{subst}
+use Rattle.std.proofs.Common.{subst, sym}
 use Rattle.adf_serve.specs.Commands.{DoesJob, Ending}
 use Rattle.adf_serve.proofs.Printing.{job_done}
 use Rattle.adf_serve.proofs.output.end_job.Goals as goal
@@ -10,4 +10,4 @@ returns-in-Ok g c = λ old did.
 pub returns : goal.returns
 returns g c = λ old did.
     let failed = subst (λ (done : Ending). DoesJob c.args.job.now old (g.W.Write.contents c.args.writer.now) done) c.in-Err.is did in
-    (_, c.refuse-last.ensures c.args.job.now old failed, c.status.ensures)
+    (_, c.refuse-last.ensures c.args.job.now old (sym c.prints_json.ensures) failed, c.status.ensures)

@@ -1,10 +1,10 @@
 use Rattle.adf_serve.specs.declared.fault.CommandFault.{CommandFault}
-use Rattle.adf_serve.specs.Rescues.{IsHostEnd, IsRescueText, IsSizeLine}
+use Rattle.adf_serve.specs.Rescues.{IsHostEnd, IsRescueText, IsSomeSize}
 use Rattle.adf_serve.proofs.Printing.{host_ends, reports_no_image}
 use Rattle.adf_serve.proofs.rescue.take_rescue.Goals as goal
 
 pub returns-in_err-image : goal.returns-in_err-image
 returns-in_err-image g c =
     let job = c.args.job.now in
-    reports_no_image (IsRescueText job.json) IsSizeLine (λ (fault : CommandFault). IsHostEnd fault job.list) _ c.in_err-image.field-0.0 _ (λ bytes text size. (bytes, size)) (host_ends job.list) c.in_err-image.ensures
+    reports_no_image (IsRescueText job.json) IsSomeSize (λ (fault : CommandFault). IsHostEnd fault job.list) _ c.in_err-image.field-0.0 _ (λ bytes refusal size. (bytes, size)) (host_ends job.list) c.in_err-image.ensures
     c.from_residual.ensures.1

@@ -1,11 +1,9 @@
-use Rattle.std.proofs.Common.{◌≡◌, ℕ, ℤ, List, [], ◌∷◌, ◌++◌, pos, to_z, of_z, w32, refl, sym, ap, ap₂, ◌∙◌, append_assoc}
+use Rattle.std.proofs.Common.{◌≡◌, ℕ, ℤ, List, [], ◌∷◌, ◌++◌, pos, to_z, of_z, w32, refl, ap, ◌∙◌, append_assoc}
 use Rattle.std.specs.Prelude.{codes, decimal}
 use Rattle.std.specs.Fmt.{signed_decimal}
-use Rattle.std.specs.String.{string_bytes}
 use Rattle.ados_model.specs.Packet.{error_number}
 use Rattle.ados_model.specs.declared.dos_error.DosError.{DosError}
 use Rattle.ados_model.specs.declared.dos_error.DosError.TheVariants as errors
-use Rattle.adf_script.specs.Text.{spaced}
 use Rattle.adf_serve.proofs.refusal.DosRefusal.line.Goals as goal
 
 -- the number of an error as an `i32`
@@ -33,8 +31,15 @@ shown_number errors.NoMoreEntries = refl
 pub returns : goal.returns
 returns c =
     let error = c.args.self.now.refused.error in
-    let path = string_bytes c.args.self.now.refused.path in
-    c.in_ok-line.ensures.ok
-    ∙ ap₂ (λ (n : ℤ) (p : List ℕ). codes "refused " ++ (signed_decimal (to_z w32 (of_z w32 n)) ++ (spaced p ++ 10 ∷ []))) c.number-number.ensures c.as_str.ensures.value
-    ∙ ap (λ (l : List ℕ). codes "refused " ++ (l ++ (spaced path ++ 10 ∷ []))) (shown_number error)
-    ∙ ap (λ (l : List ℕ). codes "refused " ++ l) (sym (append_assoc (decimal (error_number error)) (spaced path) (10 ∷ [])))
+    let front = c.in_ok-front.ensures.ok
+    ∙ ap (λ (n : ℤ). codes "refused " ++ (signed_decimal (to_z w32 (of_z w32 n)) ++ 32 ∷ [])) c.number-number.ensures
+    ∙ ap (λ (l : List ℕ). codes "refused " ++ (l ++ 32 ∷ [])) (shown_number error) in
+    simp (
+      c.in_ok-push.ensures.items,
+      c.in_ok-push_plain.ensures,
+      c.into_bytes-line.ensures.value,
+      c.as_str-path.ensures.value,
+      c.if-json.false,
+      front,
+      append_assoc,
+    )

@@ -1,7 +1,0 @@
-use Rattle.std.proofs.Common.{◌≡◌, map, take}
-use Rattle.adf_rescue.specs.Undelete.{deleted_lines, seen_place}
-use Rattle.adf_rescue.proofs.deleted_lines.Labels.lines.Given as goal
-
--- the lines of the entries before this one
-abbrev pub invariant-loop-entry : goal.invariant-loop-entry
-invariant-loop-entry l = l.text.items ≡ deleted_lines l.self.positions.now (map seen_place l.self.places.now) (take l.entry-index l.chosen)

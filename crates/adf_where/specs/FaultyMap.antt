@@ -1,0 +1,108 @@
+-- The map of a refused disk: what each block is by the places that name it, where it shows a fault, and where two places name it.
+use Rattle.std.specs.Prelude.{◌≡◌, ◌≢◌, ◌⊎◌, ℕ, ◌<◌, ◌≤◌, Bool, true, false, if◌then◌else◌, List, [], ◌∷◌, ◌++◌, codes}
+use Rattle.std.specs.List.{AllZip, range_with_len}
+use Rattle.json.specs.Token.{Token, begin_object, boolean, end_object, key, string}
+use Rattle.json.specs.Print.{print}
+use Rattle.adf_block.specs.Image.{block_count}
+use Rattle.adf_block.specs.declared.layout.TheConstants.{BOOT_BLOCKS}
+use Rattle.ados_census.specs.declared.place.PlaceKind.{PlaceKind}
+use Rattle.ados_census.specs.declared.place.PlaceKind.TheVariants as places
+use Rattle.ados_census.specs.declared.place.Place.{Place}
+use Rattle.ados_census.specs.Places.{NamesBlock, rank}
+use Rattle.ados_check.specs.BitmapTold.{IsFree}
+use Rattle.ados_faults.specs.Listed.{IsTangled}
+use Rattle.ados_model.specs.declared.fault.FaultKind.{FaultKind}
+use Rattle.ados_model.specs.Faults.{HasFileType, InImage, Shows, root_of}
+use Rattle.adf_text.specs.Letters.{letters}
+use Rattle.adf_where.specs.declared.block_mark.BlockMark.{BlockMark}
+use Rattle.adf_where.specs.declared.block_mark.BlockMark.TheVariants.{Boot, Root, Bitmap, Directory, File, Extension, Data, Lost, Free, Faulty, Twice}
+use Rattle.adf_words.specs.declared.map_form.MapForm.{MapForm}
+use Rattle.adf_words.specs.declared.map_form.MapForm.TheVariants.{Json}
+use Rattle.adf_where.specs.BlockMap.{letter, map_page}
+use Rattle.adf_where.specs.Refused.{fault_reason, refused_line}
+
+-- two places are one long
+abbrev pub IsSameLong : Place → Place → Type 0
+IsSameLong one other = (one.holder ≡ other.holder) × (one.long ≡ other.long)
+
+-- two longs name the block, which is one after the boot blocks
+pub record IsNamedTwice (image : List ℕ) (block : ℕ) : Type 0 where
+  pub inside : InImage image block
+  pub one : Place
+  pub other : Place
+  pub first : NamesBlock image block one
+  pub second : NamesBlock image block other
+  pub apart : ¬ IsSameLong one other
+
+-- one long alone names the block, and this is what it makes of it: the first of these, where its own block is reached in several roles
+pub record IsNamedOnce (image : List ℕ) (block : ℕ) (kind : PlaceKind) : Type 0 where
+  pub place : Place
+  pub names : NamesBlock image block place
+  pub makes : place.kind ≡ kind
+  pub alone : (other : Place) → NamesBlock image block other → IsSameLong other place
+  pub first : (other : Place) → NamesBlock image block other → rank place.kind ≤ rank other.kind
+
+-- one long alone makes the block an entry of a directory
+abbrev pub IsNamedEntry : List ℕ → ℕ → Type 0
+IsNamedEntry image block = IsNamedOnce image block places.Entry ⊎ IsNamedOnce image block places.NextEntry
+
+-- no place names the block
+abbrev pub IsUnnamed : List ℕ → ℕ → Type 0
+IsUnnamed image block = (place : Place) → ¬ NamesBlock image block place
+
+-- what a block that is neither a boot block nor the root is by the place that names it, or by its bit if none does
+abbrev pub IsByPlace : List ℕ → ℕ → BlockMark → Type 0
+IsByPlace image block Bitmap = IsNamedOnce image block places.Page
+IsByPlace image block Directory = IsNamedEntry image block × ¬ HasFileType image block
+IsByPlace image block File = IsNamedEntry image block × HasFileType image block
+IsByPlace image block Extension = IsNamedOnce image block places.Extension
+IsByPlace image block Data = IsNamedOnce image block places.Data
+IsByPlace image block Lost = IsUnnamed image block × ¬ IsFree image block
+IsByPlace image block Free = IsUnnamed image block × IsFree image block
+IsByPlace image block _ = ⊥
+
+-- what a block without a fault is
+abbrev pub IsPlain : List ℕ → ℕ → BlockMark → Type 0
+IsPlain image block Boot = block < BOOT_BLOCKS
+IsPlain image block Root = block ≡ root_of image
+IsPlain image block mark = InImage image block × (block ≢ root_of image) × IsByPlace image block mark
+
+-- the block shows a fault
+abbrev pub ShowsAt : List ℕ → ℕ → Type 0
+ShowsAt image block = (kind : FaultKind) × Shows image kind block
+
+-- what a block is in the map: two longs name it; or else it shows a fault; or else it is what it is without one. If there may be more
+-- faults than were found, a block without a known one may show one
+abbrev pub HasMark : List ℕ → Bool → ℕ → BlockMark → Type 0
+HasMark image more block Twice = IsNamedTwice image block
+HasMark image more block Faulty = (¬ IsNamedTwice image block) × ShowsAt image block
+HasMark image more block mark = (¬ IsNamedTwice image block) × (more ≡ false → ¬ ShowsAt image block) × IsPlain image block mark
+
+-- the letter of a block
+pub record HasLetter (image : List ℕ) (more : Bool) (block shown : ℕ) : Type 0 where
+  pub mark : BlockMark
+  pub is : HasMark image more block mark
+  pub letter_is : shown ≡ letter mark
+
+-- a line that says that there may be more faults, if that is so
+abbrev pub more_text : Bool → List ℕ
+more_text more = if more then codes "more\n" else []
+
+-- the object: why the disk is refused, all letters as one text, and whether there may be more faults
+abbrev pub faulty_map_tokens : List ℕ → ℕ → Bool → List ℕ → List Token
+faulty_map_tokens kind at more marks =
+    begin_object ∷ key (codes "refused") ∷ fault_reason kind at ++ (key (codes "map") ∷ string marks ∷ key (codes "more") ∷ boolean more ∷ end_object ∷ [])
+
+-- the map of a disk that is refused with this word for the fault of a block, in one of its forms
+abbrev pub faulty_map_of : MapForm → List ℕ → ℕ → Bool → List ℕ → List ℕ
+faulty_map_of Json kind at more marks = print (faulty_map_tokens kind at more (letters marks)) ++ codes "\n"
+faulty_map_of form kind at more marks = refused_line kind at ++ (map_page form true marks ++ more_text more)
+
+-- the text is the map of the image, which is refused with this word for the fault of a block: a letter for each block. There may be more
+-- faults than were found only if blocks are reached in very many roles
+pub record IsFaultyMap (form : MapForm) (image kind : List ℕ) (at : ℕ) (text : List ℕ) : Type 0 where
+  pub more : Bool
+  pub tangled : more ≡ true → IsTangled image
+  pub marks : List ℕ
+  pub are_marks : AllZip (HasLetter image more) (range_with_len 0 (block_count image)) marks
+  pub text_is : text ≡ faulty_map_of form kind at more marks
