@@ -592,6 +592,10 @@ def bitmaps(room: Room) -> None:
     room.report.check("the image is refused", room.run("check", "refused.adf"), 3, None, "its checksum is wrong")
     room.succeeds("a refused image", "undelete", "--to", "saved", "refused.adf", output=b"d/file: all 8 blocks are free\n")
     room.report.same("its file", files_below("saved"), {"d/file": b"x" * 3_000})
+    for kind in (b"DOS\2", b"dos\0", bytes(4)):
+        room.write("kind.adf", kind + data[4:])
+        texts = "read as OFS, as its blocks say; the boot block says neither OFS nor FFS"
+        room.report.check(f"a boot block of {kind!r}", room.run("undelete", "--list", "kind.adf"), 0, b"d/file: all 8 blocks are free\n", texts)
 
 
 # ---- hostile disks

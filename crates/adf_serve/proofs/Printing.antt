@@ -216,6 +216,8 @@ module _ (image : List ℕ) (was_validated : Bool) (checked : List ℕ) (a : Acc
 -- what is told of an undeletion is that of its image
 pub deleted_told : (image : List ℕ) (job : UndeleteJob) (done : Undeletion) → IsUndeletion image (map (λ word. key_of word.now) job.paths.items) job.force job.json done → AreDeletedLines job image done.text.items
 deleted_told image job done is = record {
+  read = is.read;
+  is_read = is.is_read;
   trusted = is.trusted;
   found = done.found;
   undeleted = is.found;

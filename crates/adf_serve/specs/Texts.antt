@@ -107,7 +107,6 @@ IsQueryText (queries.List job) = IsListOf job.now
 IsQueryText (queries.Bytes path) = IsPrintText path.now
 IsQueryText (queries.Look json) = IsLookText json
 IsQueryText (queries.Entry path json) = AreEntryBlocks json path.now
-IsQueryText (queries.Deleted job) = AreDeletedLines job.now
 
 abbrev pub BeginsQueryText : Query → List ℕ → List ℕ → Type 0
 BeginsQueryText (queries.List job) = BeginsListOf job.now

@@ -10,6 +10,7 @@ mod map_lines;
 mod map_object;
 
 // Blocks that are asked for.
+mod bad_blocks;
 mod faulty;
 mod faulty_lines;
 mod faulty_objects;
@@ -29,6 +30,7 @@ mod where_objects;
 
 pub use block_map::map_text;
 pub use faulty_map::faulty_map_text;
+pub use bad_blocks::{BadFault, bad_blocks};
 pub use faulty_where::write_faulty_where;
 pub use own_blocks::where_path_text;
 pub use refused::{FaultReason, dos_refused_text, refused_text};
