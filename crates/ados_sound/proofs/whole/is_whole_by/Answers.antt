@@ -8,8 +8,8 @@ returns-then-ne c = λ out claims whole.
     let alone = claimed_whole out c.args.known.now.holes.items c.args.known.now.image c.args.claims.now c.args.file claims.right whole in
     search (rules, alone)
 
-pub returns-in-None : goal.returns-in-None
-returns-in-None c = λ out claims whole. (rw c.in-None.is at c.in_ok-blocks.ensures) (intact_known c.args.known.now.image c.args.file whole.claimant.intact)
+pub returns-in_default : goal.returns-in_default
+returns-in_default c = λ out claims whole. (rw c.in_default.is at c.in_ok-blocks.ensures) (intact_known c.args.known.now.image c.args.file whole.claimant.intact)
 
 pub returns-then-not-are_there : goal.returns-then-not-are_there
 returns-then-not-are_there c = λ out claims whole.
