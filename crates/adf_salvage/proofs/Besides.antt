@@ -26,7 +26,7 @@ module _ (known : Known) (old new : Gathered) (by : AreGatheredBy known new) (al
 
   -- a sound header among the lost blocks is told
   lost_told : (block : ℕ) → IsLostHeader known.image block → Contains (headers_of new.entries.items) block
-  lost_told block lost = by.so_far.met block (all block (inl (record { sound = lost.1; told = λ there. (hidden.only there.0 0 there.1).not_lost (subst (IsLostHeader known.image) (sym there.2) lost) })))
+  lost_told block lost = by.so_far.met block (all block (inl (record { sound = lost.1; told = λ there. (hidden.only there.0 block there.1).not_lost (subst (IsLostHeader known.image) (sym there.2) lost) })))
 
   -- what is found of them, in this image and with these holes
   told_of : (image : List ℕ) (holes : List Bool) (found : List Salvaged) → image ≡ known.image → holes ≡ known.holes.items → found ≡ new.entries.items

@@ -1,5 +1,6 @@
 -- Holes are emptied one after the other.
 use Rattle.adf_salvage.proofs.Common.{◌≡◌, ℕ, ◌+◌, ◌<◌, inl, inr, Bool, true, false, ◌==◌, ap, get_or-set_same, get_or-set_other, mark_at, set, List, [], ◌∷◌, length, sym, ◌∙◌, subst, arith, cases_eq, IsHole}
+use Rattle.std.proofs.lemmas.Bool.{eqb-true}
 use Rattle.std.proofs.lemmas.List.{get_or_past}
 use Rattle.adf_block.specs.Frame.{InBlock, OnlyBlock, SameBut, Within}
 use Rattle.adf_block.specs.Image.{byte_at}
@@ -21,7 +22,7 @@ pub hole_none : (holes : List Bool) → (length holes == 0) ≡ true → (block 
 hole_none [] none block hole =
     let both : false ≡ true = sym (get_or_past [] block false (omega arith)) ∙ hole in
     absurd (cc both)
-hole_none (x ∷ xs) none block hole = absurd (cc none)
+hole_none (x ∷ xs) none block hole = absurd (omega (arith, eqb-true (length (x ∷ xs)) 0 none))
 
 -- the holes before a block are marked
 abbrev pub AreMarkedBelow : List Bool → List Bool → ℕ → Type 0

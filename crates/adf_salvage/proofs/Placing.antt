@@ -1,5 +1,5 @@
 -- The index of each entry of a tree, at its header.
-use Rattle.adf_salvage.proofs.Common.{◌≡◌, ◌≢◌, ℕ, ◌+◌, ◌<◌, inl, inr, true, false, All, AllPairs, List, length, slice_index, get_or, get_or-set_same, get_or-set_other, length-set, set, Contains, Option, None, Some, IsSome, is_some, sym, ap, ◌∙◌, subst, arith, cases_lt, cases_eq, get_or_default, block_count, Salvaged, headers_of, place_at}
+use Rattle.adf_salvage.proofs.Common.{◌≡◌, ◌≢◌, ℕ, ◌+◌, ◌<◌, inl, inr, true, false, All, AllPairs, List, length, slice_index, get_or, get_or-set_same, get_or-set_other, length-set, set, Contains, Option, None, Some, IsSome, is_some, sym, ap, ◌∙◌, subst, arith, cases_lt, cases_eq, get_or_default, get_or-map, block_count, Salvaged, headers_of, place_at}
 use Rattle.adf_salvage.specs.steps.Gathering.{ArePlacesOf}
 
 -- the first entries have their places, and only their headers have one
@@ -40,6 +40,10 @@ module _ (image headers : List ℕ) where
         | inr e ↦ (let old = h.met block (ap is_some (sym (there block e)) ∙ some) in (old.0, omega (arith, old.1), old.2))
       ];
     }
+
+-- the header of an entry is the one at its index
+pub header_is : (found : List Salvaged) (n : ℕ) (entry : Salvaged) → n < length found → (get_or found n entry).header ≡ slice_index (headers_of found) n
+header_is found n entry l = sym (get_or-map (λ (e : Salvaged). e.header) found n entry 0 l)
 
 -- all entries have theirs
 pub places_all : (image : List ℕ) (found : List Salvaged) (n : ℕ) (places : List (Option ℕ)) → n ≡ length (headers_of found) → ArePlacesBelow image (headers_of found) n places → ArePlacesOf image found places

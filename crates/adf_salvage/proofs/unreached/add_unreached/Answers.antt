@@ -1,4 +1,4 @@
-use Rattle.adf_salvage.proofs.Common.{arith, below_more, header_inside}
+use Rattle.adf_salvage.proofs.Common.{arith, below_more, header_inside, refl}
 use Rattle.std.proofs.Common.{rules}
 use Rattle.adf_salvage.proofs.Finding.{adds_none, adds_then}
 use Rattle.adf_salvage.proofs.unreached.add_unreached.Goals as goal
@@ -8,7 +8,7 @@ loop-block-init c = record {
   gathered = c.in_ok-take_asides.ensures.gathered;
   climbed = search rules;
   all = λ b l. absurd (omega (arith, l));
-  found = adds_none c.args.known.now c.args.gathered.now _ c.in_ok-take_asides.ensures.same;
+  found = adds_none c.args.known.now c.take_asides.new.gathered c.take_asides.new.gathered refl;
 }
 
 pub loop-block-preserved : goal.loop-block-preserved
@@ -18,9 +18,14 @@ loop-block-preserved c =
       gathered = more.0;
       climbed = c.in_ok-add_new.ensures.climbed;
       all = below_more _ _ (λ b l is. more.1 b (c.loop-block.invariant.all b l is)) c.in_ok-add_new.ensures.met;
-      found = adds_then c.args.known.now c.args.gathered.now c.loop-block.gathered _ c.loop-block.invariant.found c.in_ok-add_new.ensures.found;
+      found = adds_then c.args.known.now c.take_asides.new.gathered c.loop-block.gathered _ c.loop-block.invariant.found c.in_ok-add_new.ensures.found;
     }
 
 pub returns-clause-all : goal.returns-clause-all
 returns-clause-all c = λ block header.
     c.loop-block.invariant.all block (omega (arith, header_inside c.args.known.now.left_out c.args.known.now.image block header, c.loop-block-test.false, c.blocks-count.ensures.count)) header
+
+pub returns-clause-found : goal.returns-clause-found
+returns-clause-found c =
+    adds_then c.args.known.now c.args.gathered.now c.take_asides.new.gathered c.loop-block.gathered (adds_none c.args.known.now c.args.gathered.now c.take_asides.new.gathered c.in_ok-take_asides.ensures.same)
+    c.loop-block.invariant.found
