@@ -91,7 +91,7 @@ keys_are (e ∷ found) = ap (λ (keys : List ℕ). e.header ∷ keys) (keys_are 
 pub one_tree : (image : List ℕ) (found : List Salvaged) (below : List Below) → map located_of found ≡ below → AllPairs (λ j k. j ≢ k) (map (λ (b : Below). b.key) below)
     → All (λ entry. entry.header < block_count image) found → All (λ entry. entry.found ≡ false) found → broken_total found ≡ 0 → AreOfOneTree image found
 one_tree image found below located once inside reached whole = record {
-  once = subst (AllPairs (λ j k. j ≢ k)) (sym (ap (map (λ (b : Below). b.key)) (sym located)) ∙ keys_are found) once;
+  once = subst (AllPairs (λ j k. j ≢ k)) (ap (map (λ (b : Below). b.key)) (sym located) ∙ keys_are found) once;
   inside = All-map (λ (header : ℕ). header < block_count image) (λ (entry : Salvaged). entry.header) found inside;
   reached = reached;
   whole = whole;

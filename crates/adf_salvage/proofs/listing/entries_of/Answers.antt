@@ -1,7 +1,19 @@
-use Rattle.adf_salvage.proofs.Common.{◌≡◌, ◌<◌, ◌++◌, ◌∷◌, [], arith, false, All, List, map, sym, ap, ap₂, ◌∙◌, subst, Below, map-append, take_all, take_more, All-push, IsOfTree, Salvaged, block_count, broken_total, located_of, IsReadable}
-use Rattle.adf_salvage.proofs.Growing.{broken_more}
+use Rattle.adf_salvage.proofs.Common.{◌≡◌, ◌<◌, ◌++◌, ◌∷◌, [], arith, false, All, List, map, sym, ap, ap₂, ◌∙◌, subst, Below, map-append, take_all, take_more, All-nil, All-push, IsOfTree, Salvaged, block_count, broken_total, located_of, IsReadable}
+use Rattle.adf_salvage.proofs.Growing.{broken_more, none_broken}
 use Rattle.adf_salvage.proofs.Holding.{one_tree}
 use Rattle.adf_salvage.proofs.listing.entries_of.Goals as goal
+
+pub loop-entry-init : goal.loop-entry-init
+loop-entry-init c =
+    let none = c.in_ok-found.ensures.items in
+    record {
+      located = ap (map located_of) none;
+      told = λ t s. subst (All (IsOfTree c.args.volume.now.image t)) (sym none) (All-nil (IsOfTree c.args.volume.now.image t));
+      readable = subst (All (IsReadable c.args.volume.now.image)) (sym none) (All-nil (IsReadable c.args.volume.now.image));
+      inside = subst (All (λ (entry : Salvaged). entry.header < block_count c.args.volume.now.image)) (sym none) (All-nil (λ (entry : Salvaged). entry.header < block_count c.args.volume.now.image));
+      reached = subst (All (λ (entry : Salvaged). entry.found ≡ false)) (sym none) (All-nil (λ (entry : Salvaged). entry.found ≡ false));
+      whole = ap broken_total none ∙ none_broken;
+    }
 
 pub loop-entry-preserved : goal.loop-entry-preserved
 loop-entry-preserved c =

@@ -24,6 +24,13 @@ invariant_of-tree c = record {
   inside = subst (All (λ (piece : Piece). piece.block < block_count c.into_image.result)) (sym c.new.ensures.items) (All-nil (λ (piece : Piece). piece.block < block_count c.into_image.result));
 }
 
+pub invariant_of-tree-2 : goal.invariant_of-tree-2
+invariant_of-tree-2 c = record {
+  trust = λ is. subst IsTrustedBitmap (sym c.into_image.ensures.same) (c.in_ok-deleted.ensures.stays is);
+  readable = subst (λ (image : List ℕ). All (IsReadable image) c.in_ok-entries.entries.items) (sym c.into_image.ensures.same) c.in_ok-entries.ensures.readable;
+  inside = subst (All (λ (piece : Piece). piece.block < block_count c.into_image.result)) (sym c.new.ensures.items) (All-nil (λ (piece : Piece). piece.block < block_count c.into_image.result));
+}
+
 pub with_lost-requires-clause-tree : goal.with_lost-requires-clause-tree
 with_lost-requires-clause-tree c = subst (λ (image : List ℕ). AreOfOneTree image c.in_ok-entries.entries.items) (sym c.into_image.ensures.same) c.in_ok-entries.ensures.one
 
