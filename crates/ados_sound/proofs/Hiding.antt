@@ -1,5 +1,5 @@
 -- The headers of an accepted image, one by one.
-use Rattle.ados_sound.proofs.Common.{ℕ, ◌<◌, ◌≤◌, ◌⊎◌, inl, inr, List, All, sym, subst, arith, block_count, LooksLikeHeader}
+use Rattle.ados_sound.proofs.Common.{ℕ, ◌<◌, ◌≤◌, ◌⊎◌, inl, inr, List, All, arith, block_count, LooksLikeHeader}
 use Rattle.ados_model.specs.Faults.{IsEntry}
 use Rattle.ados_sound.specs.Found.{AreHidden, IsHidden, IsLostHeader}
 use Rattle.ados_sound.proofs.Splitting.{Splits}

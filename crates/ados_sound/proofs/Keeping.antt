@@ -1,7 +1,7 @@
 -- Files that keep their blocks, by the claims of what the root leads to.
-use Rattle.ados_sound.proofs.Common.{ℕ, ◌<◌, ◌≤◌, ◌⊎◌, inl, inr, Bool, true, false, MatchBool, List, All, Contains, subst, arith, get_or, get_or_default, block_count, IsClaimant, IsSoundHeader, IsWhole, Names}
+use Rattle.ados_sound.proofs.Common.{ℕ, ◌<◌, ◌≤◌, ◌⊎◌, inl, inr, Bool, true, false, MatchBool, List, All, Contains, subst, arith, get_or_default, block_count, IsClaimant, IsSoundHeader, IsWhole}
 use Rattle.ados_model.specs.Faults.{IsEntry}
-use Rattle.ados_sound.specs.Found.{AreUnreached, IsSavedWhole, KeepsBlocks}
+use Rattle.ados_sound.specs.Found.{AreUnreached, IsSavedWhole}
 use Rattle.ados_sound.proofs.Splitting.{Splits}
 
 -- a block that is left out, or that the root does not lead to; and any other block

@@ -1,5 +1,5 @@
 -- Blocks that are put into a list one by one, or left.
-use Rattle.ados_sound.proofs.Common.{◌≡◌, ℕ, ◌+◌, ◌<◌, ◌⊎◌, inl, inr, Bool, true, false, MatchBool, List, [], ◌∷◌, ◌++◌, All, Contains, sym, subst, arith, cases_lt, All-nil, All-push, Contains-append_left, Contains-push}
+use Rattle.ados_sound.proofs.Common.{◌≡◌, ℕ, ◌+◌, ◌<◌, ◌⊎◌, inl, inr, List, [], ◌∷◌, ◌++◌, All, Contains, sym, subst, arith, cases_lt, All-nil, All-push, Contains-append_left, Contains-push}
 
 -- each block below n is of one sort, or it is in the list, which has only blocks of the other sort
 pub record Splits (Listed Other : ℕ → Type 0) (n : ℕ) (blocks : List ℕ) : Type 0 where

@@ -1,4 +1,4 @@
-use Rattle.ados_sound.proofs.Common.{◌≡◌, ℕ, Bool, false, List, MatchBool, sym, subst, block_count, AreAllClaims, Claim, HasClaim, IsWhole}
+use Rattle.ados_sound.proofs.Common.{ℕ, Bool, false, List, MatchBool, sym, subst, block_count, AreAllClaims, HasClaim, IsWhole}
 use Rattle.std.proofs.lemmas.Result.{IfOk-weaker}
 use Rattle.ados_sound.specs.Found.{IsSavedWhole}
 use Rattle.ados_sound.proofs.Keeping.{saved_by}
