@@ -11,6 +11,7 @@ pub mod Marked
 pub mod Reading
 pub mod Saving
 pub mod Besides
+pub mod Undeleting
 pub mod Settling
 pub mod Holding
 pub mod Filled

@@ -39,13 +39,19 @@ pub(crate) fn volume_votes(image: &Image) -> Votes
     ensures ofs { result.ofs ≡ votes Ofs image.now (volume_blocks image.now) }
     ensures ffs { result.ffs ≡ votes Ffs image.now (volume_blocks image.now) }
 {
-    let ofs = (BOOT_BLOCKS..image.blocks())
-        .filter(|header| votes_for(image, *header, Format::Ofs))
-        .count();
-    let ffs = (BOOT_BLOCKS..image.blocks())
-        .filter(|header| votes_for(image, *header, Format::Ffs))
-        .count();
-    Votes { ofs, ffs }
+    Votes {
+        ofs: volume_votes_for(image, Format::Ofs),
+        ffs: volume_votes_for(image, Format::Ffs),
+    }
+}
+
+/// How many blocks of the volume vote for a kind.
+fn volume_votes_for(image: &Image, kind: Format) -> usize
+    ensures { result ≡ votes kind image.now (volume_blocks image.now) }
+{
+    (BOOT_BLOCKS..image.blocks())
+        .filter(|header| votes_for(image, *header, kind))
+        .count()
 }
 
 /// The number of OFS data blocks of the volume.
