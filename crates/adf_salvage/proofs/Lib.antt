@@ -12,6 +12,7 @@ pub mod Reading
 pub mod Saving
 pub mod Besides
 pub mod Undeleting
+pub mod Voting
 pub mod Settling
 pub mod Holding
 pub mod Filled
