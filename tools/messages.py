@@ -84,7 +84,7 @@ ADVICE: List[Tuple[str, str]] = [
     (r"bundle|JSON|volume\.json|the description|a description|101,602 entries|\"path\"|\"\{0\}\"|entry \{number", "Correct `volume.json`, or write the bundle again with `extract --bundle`"),
     (r"--force writes|bitmap block|but nothing names it", "Save what can be trusted with `extract --damaged` before `--force`"),
     (r"^(the header of a directory|an extension block|a data block of)", "Save it with `extract --damaged` before `--force`"),
-    (r"ok, \{\} refused|of \{\} images$|\{\} left$|^, \{\} refused$|^\{\w*\} (s|min|h)$|^--blocks \{blocks\}$|^(OFS|FFS|DOS|no AmigaDOS)|^\{\} bytes$", "Nothing: it counts and describes"),
+    (r"ok, \{\} refused|of \{\} images$|\{\} left$|^, \{\} refused$|^\{\w*\} (s|min|h)$|^--blocks \{blocks\}$|^(OFS|FFS|DOS|no AmigaDOS|neither OFS)|^\{\} bytes$", "Nothing: it counts and describes"),
     (r"try --blocks", "Give `--blocks` the number of blocks that fits the root"),
     (r"the root at block|^and \{rest\} bytes$", "Look whether the file is cut short"),
     (r"UTF-8", "Rename the file, or give it another name with `add --as`"),
@@ -124,6 +124,7 @@ ADVICE: List[Tuple[str, str]] = [
     (r"longer than the 4,095", "Extract to a directory with a shorter path"),
     (r"comment", "Use at most 79 characters"),
     (r"boot block", "Use at most 1,024 bytes"),
+    (r"most of a list of bad blocks", "Name each block once, and leave out the comments"),
     (r"has 16 to 101,602 blocks", "Use a number in this range"),
     (r"has no block", "Name a block that the image has"),
     (r"ran out of tries", "Raise `--turns`, or leave the machine less to do"),
@@ -155,7 +156,7 @@ STATUSES: List[Tuple[str, str]] = [
     (r"can be trusted|cannot be trusted|nothing that was deleted", "3"),
     (r"its volume is|is not written|--force writes|bitmap block|nothing names it|faults than can be|does not mend", "3"),
     (r"^(the header of a directory|an extension block|a data block of)", "3"),
-    (r"it looks like|`adf_serve|`xdftool`|^\{\} bytes$|nothing was written or read|the root at block|try --blocks|^and \{rest\} bytes$|^(OFS|FFS|no AmigaDOS)", "3"),
+    (r"it looks like|`adf_serve|`xdftool`|^\{\} bytes$|nothing was written or read|the root at block|try --blocks|^and \{rest\} bytes$|^(OFS|FFS|no AmigaDOS|neither OFS)", "3"),
     (r"blocks are needed|one name on|needs a file|into itself|characters|allows in no|not in ISO 8859-1", "3"),
 ]
 ADVICE_OF_FAULTS = "`check --all` names each fault, and `extract --damaged` takes out what is sound"
