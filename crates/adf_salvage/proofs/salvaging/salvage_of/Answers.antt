@@ -13,16 +13,14 @@ returns-in-Ok-clause-tree c =
     IfOk-weaker c.volume_entries.result (SavesTree c.args.image) (λ saved. (t : Tree) → Stands c.args.image t → AreOfTree t saved)
     (λ saved all t s. all.tree t (same_tree c.args.image saved.image all.validated all.accepts t s)) (c.volume_entries.ensures.saves c.args.image c.in-Ok.ensures)
 
-pub returns-in_default-clause-salvages : goal.returns-in_default-clause-salvages
-returns-in_default-clause-salvages c =
-    let read = subst (λ (xs : List ℕ). IsReadAs xs c.in_ok-image.image) c.in-Err.ensures.0 c.in_ok-image.ensures in
-    saves_beside c.told_headers.result c.args.holes.items c.args.image (SavesRest c.args.image) (λ saved rest. inr rest) (c.told_headers.ensures.saves c.args.image read) c.told_headers.ensures.holes
-
-pub returns-in_default-clause-tree : goal.returns-in_default-clause-tree
-returns-in_default-clause-tree c =
-    let read = subst (λ (xs : List ℕ). IsReadAs xs c.in_ok-image.image) c.in-Err.ensures.0 c.in_ok-image.ensures in
-    IfOk-weaker c.told_headers.result (SavesRest c.args.image) (λ saved. (t : Tree) → Stands c.args.image t → AreOfTree t saved)
-    (λ saved rest t s. elim c.in-Err.ensures.1 [
-      | inl shown ↦ absurd (faults_have_no_tree c.args.image t c.in-Err.rejected.fault.kind c.in-Err.rejected.fault.block shown s)
-      | inr memory ↦ absurd (c.in_default.not-NoMemory memory.0)
-    ]) (c.told_headers.ensures.saves c.args.image read)
+pub returns-in_ok-image-in_default : goal.returns-in_ok-image-in_default
+returns-in_ok-image-in_default c =
+    let read = subst (λ (xs : List ℕ). IsReadAs xs c.in_ok-image-in_default.image) c.in-Err.ensures.0 c.in_ok-image-in_default.ensures in
+    record {
+      salvages = saves_beside c.told_headers.result c.args.holes.items c.args.image (SavesRest c.args.image) (λ saved rest. inr rest) (c.told_headers.ensures.saves c.args.image read) c.told_headers.ensures.holes;
+      tree = IfOk-weaker c.told_headers.result (SavesRest c.args.image) (λ saved. (t : Tree) → Stands c.args.image t → AreOfTree t saved)
+          (λ saved rest t s. elim c.in-Err.ensures.1 [
+            | inl shown ↦ absurd (faults_have_no_tree c.args.image t c.in-Err.rejected.fault.kind c.in-Err.rejected.fault.block shown s)
+            | inr memory ↦ absurd (c.in_default.not-NoMemory memory.0)
+          ]) (c.told_headers.ensures.saves c.args.image read);
+    }
