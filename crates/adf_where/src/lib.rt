@@ -28,9 +28,9 @@ mod where_fault;
 mod where_lines;
 mod where_objects;
 
+pub use bad_blocks::{BadFault, bad_blocks};
 pub use block_map::map_text;
 pub use faulty_map::faulty_map_text;
-pub use bad_blocks::{BadFault, bad_blocks};
 pub use faulty_where::write_faulty_where;
 pub use own_blocks::where_path_text;
 pub use refused::{FaultReason, dos_refused_text, refused_text};
