@@ -1,5 +1,5 @@
 -- The result of the check, in terms of the entries.
-use Rattle.adf_salvage.proofs.Common.{◌≡◌, ◌⊎◌, ℕ, inr, Bool, true, false, List, Result, Ok, Err, IfOk, sym, ap, ◌∙◌, subst, long, BITMAP_FLAG, Accepts, Stands, Tree, IsReadAs, Saved, SavesBeside, SavesRest, SavesTree}
+use Rattle.adf_salvage.proofs.Common.{◌≡◌, ◌⊎◌, ℕ, inr, Bool, true, false, List, Result, Ok, Err, IfOk, sym, ap, ◌∙◌, subst, long, BITMAP_FLAG, Accepts, Stands, Tree, Saved, SavesBeside, SavesRest, SavesTree}
 use Rattle.adf_salvage.specs.Holes.{AreUnreached, IsEmptied, SalvagesBeside}
 use Rattle.ados_model.proofs.Standing.{root_is}
 

@@ -4,8 +4,8 @@ use Rattle.std.proofs.lemmas.List.Elements.{All-append}
 use Rattle.ados_sound.specs.Found.{AreHidden, IsLostHeader}
 use Rattle.ados_sound.specs.Known.{AreKnown}
 use Rattle.adf_salvage.specs.Salvaged.{IsSalvaged}
-use Rattle.adf_salvage.specs.steps.Finding.{AddsLost, AreOfOneTree}
-use Rattle.adf_salvage.specs.steps.Gathering.{AddsFound, IsFoundEntry}
+use Rattle.adf_salvage.specs.steps.Finding.{AddsLost}
+use Rattle.adf_salvage.specs.steps.Gathering.{AddsFound}
 use Rattle.adf_salvage.proofs.Reading.{salvaged_readable}
 use Rattle.adf_salvage.proofs.Saving.{headers_once}
 

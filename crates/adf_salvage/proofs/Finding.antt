@@ -1,5 +1,5 @@
 -- Found entries, added one after the other.
-use Rattle.adf_salvage.proofs.Common.{◌≡◌, ℕ, inl, inr, true, false, All, List, [], ◌∷◌, ◌++◌, append-nil, append_assoc, sym, ap, ◌∙◌, subst, cases_lt, All-nil, All-push, Gathered, Known}
+use Rattle.adf_salvage.proofs.Common.{◌≡◌, true, [], ◌∷◌, ◌++◌, append-nil, append_assoc, sym, ap, ◌∙◌, All-nil, All-push, Gathered, Known}
 use Rattle.std.proofs.lemmas.List.Elements.{All-append}
 use Rattle.adf_salvage.specs.steps.Gathering.{AddsFound, AddsOne, IsFoundEntry}
 

@@ -1,5 +1,5 @@
 -- The entries while they are gathered, one by one.
-use Rattle.adf_salvage.proofs.Common.{◌≡◌, ◌≢◌, ℕ, ◌+◌, ◌*◌, ◌<◌, ◌≤◌, inl, inr, true, false, All, List, [], ◌∷◌, ◌++◌, length, slice_index, get_or-set_same, get_or-set_other, length-set, Contains, Option, None, Some, IsSome, is_some, refl, sym, ap, ◌∙◌, subst, arith, set, cases_lt, cases_eq, drop, get_or_append_left, get_or_push, length-append, length-map, map-append, All-nil, All-push, Contains-append_left, Contains-append_right, block_count, text_at, NAME_BYTE, Gathered, Known, Salvaged, Lost, IsLost, IsLostEntry, IsTold, broken_length, broken_total, headers_of, IsGiving, AreGathered, AreGatheredBy, GathersMore, place_at, Bool}
+use Rattle.adf_salvage.proofs.Common.{◌≡◌, ◌≢◌, ℕ, ◌+◌, ◌*◌, ◌<◌, ◌≤◌, inl, inr, All, List, [], ◌∷◌, ◌++◌, length, slice_index, get_or-set_same, get_or-set_other, length-set, Contains, Option, None, Some, IsSome, is_some, refl, sym, ap, ◌∙◌, subst, arith, set, cases_lt, cases_eq, drop, get_or_append_left, get_or_push, length-append, length-map, map-append, All-nil, All-push, Contains-append_left, Contains-append_right, block_count, text_at, NAME_BYTE, Gathered, Known, Salvaged, Lost, IsLost, IsLostEntry, IsTold, broken_length, broken_total, headers_of, IsGiving, AreGathered, AreGatheredBy, GathersMore, place_at, Bool}
 use Rattle.ados_name.specs.Name.{IsName}
 use Rattle.std.proofs.lemmas.List.{drop-append-le, drop_all}
 use Rattle.adf_salvage.specs.steps.Finding.{AreOfOneTree}

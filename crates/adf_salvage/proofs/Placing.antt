@@ -1,5 +1,5 @@
 -- The index of each entry of a tree, at its header.
-use Rattle.adf_salvage.proofs.Common.{◌≡◌, ◌≢◌, ℕ, ◌+◌, ◌<◌, inl, inr, true, false, All, AllPairs, List, length, slice_index, get_or, get_or-set_same, get_or-set_other, length-set, set, Contains, Option, None, Some, IsSome, is_some, sym, ap, ◌∙◌, subst, arith, cases_lt, cases_eq, get_or_default, get_or-map, block_count, Salvaged, headers_of, place_at}
+use Rattle.adf_salvage.proofs.Common.{◌≡◌, ◌≢◌, ℕ, ◌+◌, ◌<◌, inl, inr, true, false, All, AllPairs, List, length, slice_index, get_or, get_or-set_same, get_or-set_other, length-set, set, Option, None, Some, IsSome, is_some, sym, ap, ◌∙◌, subst, arith, cases_lt, cases_eq, get_or_default, get_or-map, block_count, Salvaged, headers_of, place_at}
 use Rattle.adf_salvage.specs.steps.Gathering.{ArePlacesOf}
 
 -- the first entries have their places, and only their headers have one

@@ -1,5 +1,5 @@
 -- The kind of a disk, by what its blocks say. Each header of a file can have a vote, and so has the boot block.
-use Rattle.std.specs.Prelude.{◌≡◌, ℕ, ◌<◌, ◌-◌, ◌==◌, ◌&&◌, min, nat_lt, nat_le, not, Bool, if◌then◌else◌, List, count_by, Option, Some, None}
+use Rattle.std.specs.Prelude.{◌≡◌, ℕ, ◌-◌, ◌==◌, ◌&&◌, min, nat_lt, nat_le, not, Bool, if◌then◌else◌, List, count_by, Option, Some, None}
 use Rattle.std.specs.List.{range_with_len}
 use Rattle.adf_block.specs.Frame.{OnlyLong}
 use Rattle.adf_block.specs.Image.{block_count, block_sum, long}

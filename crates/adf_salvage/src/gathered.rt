@@ -32,11 +32,7 @@ pub(crate) struct Gathered {
 
 impl Gathered {
     /// No entries of an image with these holes.
-    pub(crate) fn new(
-        alloc: Global,
-        image: &Image,
-        holes: &[bool],
-    ) -> Result<Gathered, AllocError>
+    pub(crate) fn new(alloc: Global, image: &Image, holes: &[bool]) -> Result<Gathered, AllocError>
         ensures { IfOk result (λ gathered. (out : List ℕ) → AreGathered 0 out holes.now image.now gathered) }
     {
         // A block has at most one entry. A list that grows would take twice the memory while it is copied.

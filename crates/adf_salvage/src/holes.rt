@@ -38,11 +38,7 @@ fn empty(image: &mut Image, block: u32)
 }
 
 /// Whether the root leads to a hole.
-pub(crate) fn reaches_hole(
-    alloc: Global,
-    image: &Image,
-    holes: &[bool],
-) -> Result<bool, AllocError>
+pub(crate) fn reaches_hole(alloc: Global, image: &Image, holes: &[bool]) -> Result<bool, AllocError>
     ensures { IfOk result (λ reaches. reaches ≡ false → AreUnreached holes.now image.now) }
 {
     if holes.is_empty() {

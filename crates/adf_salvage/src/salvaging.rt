@@ -43,11 +43,7 @@ pub fn salvage(alloc: Global, image: Image) -> Result<Salvage, AllocError>
 /// belongs to is not whole, and the hole is a missing block of it. The image counts as refused if the root leads to a hole.
 ///
 /// `holes` says for each block whether it is one. A block without a mark is none.
-pub fn salvage_beside(
-    alloc: Global,
-    image: Image,
-    holes: Vec<bool>,
-) -> Result<Salvage, AllocError>
+pub fn salvage_beside(alloc: Global, image: Image, holes: Vec<bool>) -> Result<Salvage, AllocError>
     ensures { IfOk result (SalvagesBeside holes.items image) }
 {
     let image = emptied(image, &holes);

@@ -1,4 +1,4 @@
-use Rattle.adf_salvage.proofs.Common.{◌≡◌, ℕ, ◌+◌, List, arith, sym, subst, ◌∙◌, block_count, IsHole}
+use Rattle.adf_salvage.proofs.Common.{ℕ, ◌+◌, List, arith, sym, subst, ◌∙◌, IsHole}
 use Rattle.adf_block.specs.Frame.{SameBut}
 use Rattle.adf_block.proofs.Frames.{same_count}
 use Rattle.adf_salvage.proofs.Emptying.{AreEmptyBelow, emptied_more, none_emptied}
@@ -20,10 +20,10 @@ loop-block-preserved c =
             empty = subst (λ (image : List ℕ). AreEmptyBelow holes image (c.loop-block.block + 1)) (sym w.image-is) more.1;
           })
       | else-is_hole w ↦ record {
-          rest = subst (SameBut (λ block at. IsHole holes block) c.args.image) (sym w.image-is) c.loop-block.invariant.rest;
-          empty = subst (λ (image : List ℕ). AreEmptyBelow holes image (c.loop-block.block + 1)) (sym w.image-is)
-              (none_emptied holes c.loop-block.block c.args.image c.loop-block.image c.loop-block.image c.loop-block.invariant.empty (λ hole. absurd (cc (hole, c.is_hole.ensures, w.if-is_hole.false))));
-        }
+        rest = subst (SameBut (λ block at. IsHole holes block) c.args.image) (sym w.image-is) c.loop-block.invariant.rest;
+        empty = subst (λ (image : List ℕ). AreEmptyBelow holes image (c.loop-block.block + 1)) (sym w.image-is)
+            (none_emptied holes c.loop-block.block c.args.image c.loop-block.image c.loop-block.image c.loop-block.invariant.empty (λ hole. absurd (cc (hole, c.is_hole.ensures, w.if-is_hole.false))));
+      }
     ]
 
 pub returns : goal.returns

@@ -1,4 +1,4 @@
-use Rattle.adf_salvage.proofs.Common.{arith, ◌∙◌}
+use Rattle.adf_salvage.proofs.Common.{arith}
 use Rattle.adf_salvage.proofs.Emptying.{now_empty, only_there}
 use Rattle.adf_salvage.proofs.holes.empty.Goals as goal
 

@@ -1,4 +1,4 @@
-use Rattle.adf_salvage.proofs.Common.{◌≡◌, ℕ, ◌<◌, true, None, List, All, map, refl, sym, subst, AreBelow, Below, All-nil, block_count, Accepts, IfOk-weaker, Stands, Tree, entries, root, Piece, IsTrustedBitmap, IsOfTree, IsReadable, AreOfTree, Salvaged, Saved, SavesTree, located_of}
+use Rattle.adf_salvage.proofs.Common.{◌≡◌, ℕ, ◌<◌, None, List, All, map, refl, sym, subst, AreBelow, Below, All-nil, block_count, Accepts, IfOk-weaker, Stands, Tree, entries, root, Piece, IsTrustedBitmap, IsOfTree, IsReadable, AreOfTree, Salvaged, Saved, SavesTree, located_of}
 use Rattle.ados_volume.proofs.AllBelow.{there_below}
 use Rattle.adf_salvage.specs.steps.Finding.{AddsLost, AreOfOneTree}
 use Rattle.adf_salvage.proofs.Holding.{of_tree, saves_alone, saves_beside}

@@ -1,4 +1,4 @@
-use Rattle.adf_salvage.proofs.Common.{◌≡◌, inl, inr, Bool, List, ℕ, subst, IfOk-weaker, Stands, Tree, AreOfTree, IsReadAs, Saved, SavesBeside, SavesRest, SavesTree}
+use Rattle.adf_salvage.proofs.Common.{inl, inr, List, ℕ, subst, IfOk-weaker, Stands, Tree, AreOfTree, IsReadAs, SavesRest, SavesTree}
 use Rattle.ados_model.proofs.NoFaults.{faults_have_no_tree}
 use Rattle.adf_salvage.proofs.Answering.{same_tree, saves_beside}
 use Rattle.adf_salvage.proofs.salvaging.salvage_of.Goals as goal

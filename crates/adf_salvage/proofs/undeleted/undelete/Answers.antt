@@ -1,4 +1,4 @@
-use Rattle.adf_salvage.proofs.Common.{ℕ, List, inl, inr, refl, IfOk-weaker}
+use Rattle.adf_salvage.proofs.Common.{ℕ, List, inl, refl, IfOk-weaker}
 use Rattle.adf_salvage.specs.Undeleted.{IsRead, TellsUndeleted}
 use Rattle.adf_salvage.specs.declared.undeleted.UndeletedEntries.{UndeletedEntries}
 use Rattle.adf_salvage.proofs.undeleted.undelete.Goals as goal

@@ -1,4 +1,4 @@
-use Rattle.adf_salvage.proofs.Common.{◌≡◌, ap, sym, ◌∙◌, subst, arith, Giving, IsGiving}
+use Rattle.adf_salvage.proofs.Common.{sym, subst, Giving, IsGiving}
 use Rattle.std.proofs.Common.{rules}
 use Rattle.adf_salvage.proofs.giving.Giving.give.Goals as goal
 use Rattle.adf_salvage.proofs.giving.Giving.give.Goals.{in-Some+in_ok-note, in_default, then-i, else-i}
