@@ -1,4 +1,4 @@
-use Rattle.ados_chain.proofs.Common.{◌<◌, ℕ, sym, subst, inl, block_count}
+use Rattle.ados_chain.proofs.Common.{◌<◌, ℕ, sym, subst, inl, inr, cases_eq, block_count}
 use Rattle.ados_chain.proofs.Spelling.{steps}
 use Rattle.ados_chain.proofs.Walks.{key_in, steps_fall, links_begin, links_more, links_all}
 use Rattle.ados_chain.proofs.link.end_of.Goals as goal
@@ -31,3 +31,17 @@ returns c =
 pub loop-key-init : goal.loop-key-init
 loop-key-init c = λ chains h.
     links_begin c.args.image.now c.args.dir chains h c.args.slot c.requires.slot c.args.near c.after-link.result.block c.after-link.result.long c.long-key.result (c.requires.near chains h) c.after-link.ensures.start c.after-link.ensures.later c.long-key.ensures
+
+pub long-key-requires-clause-block : goal.long-key-requires-clause-block
+long-key-requires-clause-block c =
+    let chains = c.requires.chains.0 in
+    let h = c.requires.chains.1 in
+    let count = block_count c.args.image.now in
+    let near_inside : c.args.near < count = elim (c.requires.near chains h) [
+      | inl e ↦ subst (λ (b : ℕ). b < count) (sym e) h.inside.1
+      | inr m ↦ (h.entry c.args.slot c.args.near c.requires.slot m).inside.1
+    ] in
+    elim (cases_eq c.args.near c.args.dir) [
+      | inl e ↦ subst (λ (b : ℕ). b < count) (sym (c.after-link.ensures.start e).0) h.inside.1
+      | inr n ↦ subst (λ (b : ℕ). b < count) (sym (c.after-link.ensures.later n).0) near_inside
+    ]
