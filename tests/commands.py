@@ -27,7 +27,7 @@ sys.path.insert(0, str(Path(__file__).resolve().parent.parent / "tools"))
 
 from command_table import commands, headings
 from harmful import Drawing
-from harness import BLOCK, FILE, TOP, Failed, Image, Ran, Room, Variables, fault_of, redirected, run, try_all
+from harness import BLOCK, FILE, TOP, Failed, Image, Ran, Room, Variables, boot_sum, fault_of, redirected, run, try_all
 
 COMMANDS = "blank info show map where check list print extract undelete add mkdir delete rename protect date comment relabel validate boot serve".split()
 # The commands for an image other than `info`, `check`, `list` and `serve`, with arguments.
@@ -1111,15 +1111,6 @@ STANDARD_SHOWN = """boot block: standard
 0020  00 16 70 00 4e 75 64 6f 73 2e 6c 69 62 72 61 72  |..p.Nudos.librar|
 0030  79 00 00 00 00 00 00 00 00 00 00 00 00 00 00 00  |y...............|
 """
-
-
-def boot_sum(blocks: bytes) -> bytes:
-    """The checksum of two boot blocks: the complement of the sum of their longs, with each carry added again and without the
-    checksum itself."""
-    total = sum(int.from_bytes(blocks[it : it + 4], "big") for it in range(0, 2 * BLOCK, 4) if it != 4)
-    while total >> 32:
-        total = (total & 0xFFFFFFFF) + (total >> 32)
-    return (total ^ 0xFFFFFFFF).to_bytes(4, "big")
 
 
 def boot_with(kind: bytes, behind: bytes) -> bytes:
