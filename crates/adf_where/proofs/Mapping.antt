@@ -1,5 +1,5 @@
 -- Maps: what blocks are by the places that name them, and letters in columns.
-use Rattle.adf_where.proofs.Common.{◌≡◌, ℕ, zero, suc, ◌+◌, ◌*◌, ◌<◌, ◌≤◌, inl, inr, Bool, true, false, List, [], ◌∷◌, ◌++◌, length, map, get_or, get_or_default, Contains, refl, sym, ap, ◌∙◌, subst, arith, append_assoc, flat_map, AllZip, all_zipped_more, AreAllPlaces, Place}
+use Rattle.adf_where.proofs.Common.{◌≡◌, ℕ, zero, suc, ◌+◌, ◌<◌, ◌≤◌, inl, inr, Bool, false, List, [], ◌∷◌, ◌++◌, map, get_or, get_or_default, Contains, refl, sym, ap, ◌∙◌, subst, arith, append_assoc, flat_map, AllZip, all_zipped_more, AreAllPlaces, Place}
 use Rattle.std.specs.Prelude.{◌≢◌, Some, slice_get}
 use Rattle.std.proofs.lemmas.Option.{get_or_from_slice_get, slice_get_within}
 use Rattle.std.specs.List.{range_with_len}
@@ -12,7 +12,7 @@ use Rattle.ados_census.specs.declared.place.PlaceKind.TheVariants as kinds
 use Rattle.ados_model.specs.Faults.{InImage, root_of}
 use Rattle.adf_where.specs.declared.block_mark.BlockMark.{BlockMark}
 use Rattle.adf_where.specs.declared.block_mark.BlockMark.TheVariants as marks
-use Rattle.adf_where.specs.FaultyMap.{HasLetter, HasMark, IsByPlace, IsNamedOnce, IsNamedTwice, IsPlain, IsSameLong, ShowsAt}
+use Rattle.adf_where.specs.FaultyMap.{HasLetter, HasMark, IsByPlace, IsNamedOnce, IsNamedTwice, IsPlain, ShowsAt}
 use Rattle.adf_where.specs.steps.Named.{AreOneLong, IsMarkOf}
 
 -- ---- one more of a range

@@ -147,11 +147,7 @@ fn cylinder_page(
 }
 
 /// Appends a line for each block of a cylinder.
-fn push_cylinder_lines(
-    text: &mut Vec<u8>,
-    letters: &[u8],
-    size: usize,
-) -> Result<(), AllocError>
+fn push_cylinder_lines(text: &mut Vec<u8>, letters: &[u8], size: usize) -> Result<(), AllocError>
     requires { size * CYLINDERS ≡ length letters.now }
     ensures { OnOk result (text.new.items ≡ text.old.items ++ flat_map (cylinder_line letters.now size) (range_with_len 0 size)) }
 {
@@ -217,7 +213,12 @@ fn push_legend_part(
     ensures { OnOk result (text.new.items ≡ text.old.items ++ legend_part refused letters.now kind) }
 {
     let count = grouped_text(alloc, count_of(letters, kind.letter()) as u64)?;
-    let part = format!(in alloc; "{} {}{}", kind.meaning(), count.as_str(), legend_end(refused, kind))?;
+    let part = format!(in alloc;
+        "{} {}{}",
+        kind.meaning(),
+        count.as_str(),
+        legend_end(refused, kind)
+    )?;
     text.extend_from_slice(part.as_bytes())
 }
 

@@ -1,4 +1,4 @@
-use Rattle.adf_where.proofs.Common.{ℕ, List, AllPairs, sym, ap, ◌∙◌, subst, ◌==◌, filter, StandsBefore, VolumeFault}
+use Rattle.adf_where.proofs.Common.{List, AllPairs, sym, ap, ◌∙◌, subst, ◌==◌, filter, StandsBefore, VolumeFault}
 use Rattle.adf_where.proofs.FaultsThere.{faults_there, shown_there}
 use Rattle.adf_where.proofs.faulty.shows_fault.Goals as goal
 

@@ -15,8 +15,7 @@ returns-then-shows_fault c =
     λ behind. elim c.else-block-ge-BOOT_BLOCKS.branch [
       | else-block-ge-BOOT_BLOCKS-via-then-block-ge-BOOT_BLOCKS+else-has_two_longs w ↦ w.if-has_two_longs.ensures
       | else-block-ge-BOOT_BLOCKS-via-else-block-ge-BOOT_BLOCKS w ↦ absurd (omega (arith, behind, w.if-block-ge-BOOT_BLOCKS.false))
-    ] in
-    (
+    ] in (
       not_twice image block c.args.places.now c.requires.places (λ inside. one inside.0),
       subst (λ (b : Bool). MatchBool b (ShowsAt image block) (c.args.found.now.more ≡ false → ¬ ShowsAt image block)) c.if-shows_fault.true (c.shows_fault.ensures image c.requires.found),
     )

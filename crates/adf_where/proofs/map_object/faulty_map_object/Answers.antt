@@ -1,4 +1,4 @@
-use Rattle.adf_where.proofs.Common.{◌≡◌, ℕ, List, [], ◌∷◌, ◌++◌, codes, ap, ap₂, ◌∙◌, IfOk-weaker}
+use Rattle.adf_where.proofs.Common.{ℕ, List, [], ◌∷◌, ◌++◌, codes, ap, ap₂, ◌∙◌, IfOk-weaker}
 use Rattle.json.specs.Print.{print}
 use Rattle.json.specs.Token.{Token, boolean, end_object, key, string}
 use Rattle.adf_where.specs.FaultyMap.{faulty_map_tokens}
