@@ -27,7 +27,7 @@ sys.path.insert(0, str(Path(__file__).resolve().parent.parent / "tools"))
 
 from command_table import commands, headings
 from harmful import Drawing
-from harness import BLOCK, FILE, TOP, Failed, Image, Ran, Room, Variables, fault_of, redirected, run, try_all
+from harness import BLOCK, FILE, TOP, Failed, Image, Ran, Room, Variables, boot_sum, fault_of, redirected, run, try_all
 
 COMMANDS = "blank info show map where check list print extract undelete add mkdir delete rename protect date comment relabel validate boot serve".split()
 # The commands for an image other than `info`, `check`, `list` and `serve`, with arguments.
@@ -1113,15 +1113,6 @@ STANDARD_SHOWN = """boot block: standard
 """
 
 
-def boot_sum(blocks: bytes) -> bytes:
-    """The checksum of two boot blocks: the complement of the sum of their longs, with each carry added again and without the
-    checksum itself."""
-    total = sum(int.from_bytes(blocks[it : it + 4], "big") for it in range(0, 2 * BLOCK, 4) if it != 4)
-    while total >> 32:
-        total = (total & 0xFFFFFFFF) + (total >> 32)
-    return (total ^ 0xFFFFFFFF).to_bytes(4, "big")
-
-
 def boot_with(kind: bytes, behind: bytes) -> bytes:
     """Two boot blocks of this kind with the right checksum, and these bytes behind it."""
     blocks = kind + bytes(4) + behind.ljust(2 * BLOCK - 8, b"\0")
@@ -1266,7 +1257,7 @@ def named_boots(tried: Commands) -> None:
     boot = boot_with(b"DOS\1", b"own")
     for name, front, said in (("none", b"DOS\1", ""), ("custom", boot, "adf_serve: boot block: custom, checksum right\n")):
         tried.write("named.adf", front + tried.content("ffs.adf")[len(front) :])
-        for words in ("extract --damaged --list named.adf", f"extract --bundle {name}.out named.adf"):
+        for words in ("extract --damaged --list named.adf", f"extract --bundle {name}.bundle named.adf"):
             ran = tried.run(*words.split())
             tried.report.same(f"{words}: boot block {name}", (ran.status, ran.texts), (0, said.encode()))
 
@@ -1294,6 +1285,7 @@ def saved_boots(tried: Commands) -> None:
     wanted = boot_with(b"DOS\0", ROOT_OF_FLOPPY + STANDARD)
     tried.report.expect("the kind stays, and the checksum is right", tried.content("other.adf")[: 2 * BLOCK] == wanted, "other bytes")
     saved = tried.content("saved.boot")
+    tried.write("cut.boot", saved[:-1])
     os.symlink("nowhere", "link.boot")
     tried.rows(
         lacking("boot --save over a file", "boot --save saved.boot other.adf", "'saved.boot' already exists"),
@@ -1303,8 +1295,10 @@ def saved_boots(tried: Commands) -> None:
         lacking("boot --save in a folder that is not there", "boot --save none/x boots.adf", "cannot write 'none/x': no such directory"),
         lacking("boot --save under a file", "boot --save saved.boot/x boots.adf", "cannot write 'saved.boot/x': a part of the path is no directory"),
         lacking("boot --save of an image that is not there", "boot --save x.boot none.adf", "cannot read 'none.adf': no such file"),
-        row("boot --save of a file that is no image", "boot --save x.boot saved.boot", 3, "refused TooFewBlocks 0\n", "1,024 bytes are too few"),
+        row("boot --save of a byte less than two blocks", "boot --save x.boot cut.boot", 3, NOT_BLOCKS, "1,023" + WHY_NOT_BLOCKS),
+        row("boot --save of two blocks alone", "boot --save two.boot saved.boot"),
     )
+    tried.stays("boot --save of two blocks writes them", "two.boot", saved)
     tried.stays("boot --save writes over no file", "saved.boot", saved)
     tried.stays("boot --save writes over no image", "boots.adf", image)
     for name in ("x.boot", "nowhere"):
@@ -2002,10 +1996,12 @@ def wrong_first_blocks(tried: Commands) -> None:
             tried.rows(wrong(words, words, f"'{number}' for '--blocks <N>'", "16 to 101,602"))
         tried.rows(wrong(f"twice: {command}", command.format("--blocks 1760 --blocks 1760"), "--blocks", "Usage"))
     short = "cannot read 'dump.adf': it has fewer than 1,805 blocks"
-    for command in ("info {}", "show {}", "map {}", "where {} 1", "check {}", "list {}", "print {} x", "extract {}", "undelete {}", "boot --show {}",
+    for command in ("info {}", "show {}", "map {}", "where {} 1", "check {}", "list {}", "print {} x", "extract {}", "undelete {}",
                     "extract --bundle x {}", "mkdir {} x", "add {} one", "boot --clear {}", "validate {}", "serve --out none.adf {} one"):
         words = command.format("--blocks 1805 dump.adf")
         tried.rows(lacking(words, words, short))
+    # (two blocks are all that it reads)
+    tried.rows(row("boot --show of more blocks than there are", "boot --show --blocks 1805 dump.adf", 0, tried.run("boot", "--show", "dump.adf").output))
     tried.stays("a wrong --blocks changes nothing", "dump.adf", before)
     tried.absent("and writes nothing", "none.adf")
     Path("long.adf").write_bytes(tried.content("front.adf"))

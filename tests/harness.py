@@ -424,6 +424,15 @@ def slot_of(name: bytes) -> int:
     return value % SLOTS
 
 
+def boot_sum(blocks: bytes) -> bytes:
+    """The checksum of two boot blocks: the complement of the sum of their longs, with each carry added again and without the
+    checksum itself."""
+    total = sum(int.from_bytes(blocks[it : it + 4], "big") for it in range(0, 2 * BLOCK, 4) if it != 4)
+    while total >> 32:
+        total = (total & 0xFFFFFFFF) + (total >> 32)
+    return (total ^ 0xFFFFFFFF).to_bytes(4, "big")
+
+
 def escaped(text: bytes, marks: bytes) -> str:
     """A text for the host: each byte as its letter; control characters and these marks as escapes."""
     return "".join(f"%{it:02X}" if it < 0x20 or 0x7F <= it <= 0x9F or it in marks else chr(it) for it in text)

@@ -270,16 +270,20 @@ def refused_letter(model: Owners, block: int) -> str:
 
 
 def fault_of_refused_map(room: Room, name: str, model: Owners) -> Optional[str]:
-    """What is wrong with the map of a refused image, in each form."""
+    """What is wrong with the map of a refused image, in each form. An image that is none of this file system has no map."""
     refused = room.run("check", name).output
     _, kind, at = refused.split()
-    letters = "".join(refused_letter(model, it) for it in range(model.blocks))
-    object = {"refused": {"kind": kind.decode(), "block": int(at)}, "map": letters, "more": False}
+    told: Dict[str, object] = {"refused": {"kind": kind.decode(), "block": int(at)}}
+    page = tracks = b""
+    if kind not in (b"NotADosDisk", b"UnsupportedKind"):
+        letters = "".join(refused_letter(model, it) for it in range(model.blocks))
+        told.update({"map": letters, "more": False})
+        page, tracks = page_of(letters, REFUSED_MEANINGS), tracks_of(letters, REFUSED_MEANINGS)
     ran = room.run("map", "--json", name)
     fault = None if ran.status == 3 else f"status {ran.status}"
-    fault = fault or fault_of_json(ran.output, object)
-    fault = fault or fault_of(room.run("map", name), 3, refused + page_of(letters, REFUSED_MEANINGS), " blocks\n")
-    return fault or fault_of(room.run("map", "--tracks", name), 3, refused + tracks_of(letters, REFUSED_MEANINGS), " blocks\n")
+    fault = fault or fault_of_json(ran.output, told)
+    fault = fault or fault_of(room.run("map", name), 3, refused + page, " blocks\n")
+    return fault or fault_of(room.run("map", "--tracks", name), 3, refused + tracks, " blocks\n")
 
 
 def fault_of_places(room: Room, name: str, chance: random.Random) -> Optional[str]:
@@ -454,8 +458,9 @@ def wrong_blocks(room: Room) -> None:
         room.report.check(f"no object of block {word}", room.run("where", "--json", "plain.adf", "880", word, "1"), 3, b"", fault)
     room.report.check("no block is named", room.run("where", "plain.adf"), 1, b"", "BLOCK")
     room.report.check("a path and a block", room.run("where", "--path", "c", "plain.adf", "880"), 1, b"", "--path")
-    room.report.check("a path and JSON", room.run("where", "--path", "c", "--json", "plain.adf"), 1, b"", "--path")
     room.report.check("a path that leads nowhere", room.run("where", "--path", "c", "plain.adf"), 3, b"refused 205 c\n", "c")
+    object = b'{"refused":{"number":205,"path":"c"}}\n'
+    room.report.check("a path that leads nowhere, as JSON", room.run("where", "--path", "c", "--json", "plain.adf"), 3, object, "c")
     room.report.check("a path with a letter past U+00FF", room.run("where", "--path", "\u0100", "plain.adf"), 1, b"", "\u0100")
     room.report.same("the image stays", room.content("plain.adf"), data)
 

@@ -81,7 +81,7 @@ ADVICE: List[Tuple[str, str]] = [
     (r"its volume is|is not written", "Make an empty image of this kind and size with `blank`"),
     (r"^'\{0?\}' is not empty$", "Name a new or an empty directory"),
     (r"does not mend", "`check --all` names each fault, and `extract --damaged` takes out what is sound"),
-    (r"bundle|JSON|volume\.json|the description|a description|101,602 entries|\"path\"|\"\{0\}\"|entry \{number", "Correct `volume.json`, or write the bundle again with `extract --bundle`"),
+    (r"bundle|JSON|volume\.json|the description|a description|101,602 entries|\"path\"|\"\{0\}\"|entry \{", "Correct `volume.json`, or write the bundle again with `extract --bundle`"),
     (r"--force writes|bitmap block|but nothing names it", "Save what can be trusted with `extract --damaged` before `--force`"),
     (r"^(the header of a directory|an extension block|a data block of)", "Save it with `extract --damaged` before `--force`"),
     (r"ok, \{\} refused|of \{\} images$|\{\} left$|^, \{\} refused$|^\{\w*\} (s|min|h)$|^--blocks \{blocks\}$|^(OFS|FFS|DOS|no AmigaDOS)|^\{\} bytes$", "Nothing: it counts and describes"),

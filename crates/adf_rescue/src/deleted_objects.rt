@@ -50,7 +50,7 @@ fn put_deleted(
 /// Writes a path in letters, without its first slash, or null.
 fn put_path(alloc: Global, writer: &mut Writer, path: Option<&[u8]>) -> Result<(), AllocError>
     ensures before { writer.new.before ≡ writer.old.before }
-    ensures tokens { OnOk result (writer.new.tokens ≡ writer.old.tokens ++ key (codes "path") ∷ string_token (option_map (λ path. letters (drop 1 path.now)) path.entry) ∷ []) }
+    ensures tokens { OnOk result (writer.new.tokens ≡ writer.old.tokens ++ key (codes "path") ∷ string_token (option_map (λ path. letters (drop 1 path)) (option_map (λ path. path.now) path.entry)) ∷ []) }
 {
     let Some(path) = path else {
         return put_text(writer, "path", None);

@@ -406,11 +406,14 @@ module _ (IsText : Bool → List ℕ → Type 0) (IsPlain : Refusal → Type 0) 
 -- the map of a refused image, as a report
 module _ (form : MapForm) (image : List ℕ) (refusal : Refusal) (kind : List ℕ) (at : ℕ) (of_kind : kind ≡ refusal.kind.now) (of_block : at ≡ refusal.block) (text : List ℕ) (is : IsFaultyMap form image kind at text) where
   pub mapped : IsImageRefusal image refusal → IsMapReport form false text
-  mapped refused = (image, record {
-    refusal = refusal;
-    refused = refused;
-    mapped = subst (λ (k : List ℕ). IsFaultyMap form image k refusal.block text) of_kind (subst (λ (b : ℕ). IsFaultyMap form image kind b text) of_block is);
-  })
+  mapped refused = (
+    image,
+    record {
+      refusal = refusal;
+      refused = refused;
+      mapped = subst (λ (k : List ℕ). IsFaultyMap form image k refusal.block text) of_kind (subst (λ (b : ℕ). IsFaultyMap form image kind b text) of_block is);
+    },
+  )
 
 -- the fault that a refusal of an image that is handed back names
 module _ (image old : List ℕ) (fault : VolumeFault) (refusal : Refusal) (handed : HandsBack old image fault) (kind : refusal.kind.now ≡ kind_word fault.kind) (block : refusal.block ≡ fault.block) where
