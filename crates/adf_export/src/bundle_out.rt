@@ -6,7 +6,9 @@ use crate::bytes::VolumeBytes;
 use crate::entry::Outgoing;
 use crate::items::outgoing;
 use adf_host::{HostWords, OwnedFile, PromptFiles};
-use adf_record::{Bundle, BundleFault, BundleWhy, MOST_BUNDLE_BYTES, bundle_of, bundle_text};
+use adf_record::{
+    Bundle, BundleFault, BundleHead, BundleWhy, MOST_BUNDLE_BYTES, bundle_of, bundle_text,
+};
 use ados_volume::Volume;
 use host_trees::{WriteFault, write_tree};
 use std::alloc::{AllocError, Global};
@@ -54,12 +56,11 @@ where
     ensures same { volume.new ≡ volume.old }
 {
     refuse_full(rt, alloc, to)?;
-    let bundle = bundle_of(alloc, volume)?;
-    let description = described(alloc, &bundle)?;
+    let (head, description) = described(alloc, volume)?;
     let Ok(Outgoing { items, sources }) = outgoing(alloc, volume, &[], false) else {
         return Err(BundleOutFault::Memory);
     };
-    let items = bundle_items(alloc, items, bundle.head.root_date, bundle.head.changed)?;
+    let items = bundle_items(alloc, items, head.root_date, head.changed)?;
     let mut bytes = BundleBytes {
         files: VolumeBytes::of(volume, &sources),
         description,
@@ -90,14 +91,15 @@ fn has_some<R: Files>(rt: &R, alloc: Global, directory: &str) -> Result<bool, Er
     Ok(names.next().is_some())
 }
 
-/// The text of a bundle. One that is too long because of its paths is refused before it is made.
-fn described(alloc: Global, bundle: &Bundle) -> Result<Vec<u8>, BundleOutFault> {
-    if paths_length(alloc, bundle)? > MOST_BUNDLE_BYTES {
+/// What is told of the volume itself, and the text of its bundle. One that is too long because of its paths is refused before it is made.
+fn described(alloc: Global, volume: &Volume) -> Result<(BundleHead, Vec<u8>), BundleOutFault> {
+    let bundle = bundle_of(alloc, volume)?;
+    if paths_length(alloc, &bundle)? > MOST_BUNDLE_BYTES {
         let fault = BundleFault::from(BundleWhy::Long);
         return Err(BundleOutFault::Description(fault));
     }
-    match bundle_text(alloc, bundle) {
-        Ok(text) => Ok(text),
+    match bundle_text(alloc, &bundle) {
+        Ok(text) => Ok((bundle.head, text)),
         Err(fault) if fault.is_memory() => Err(BundleOutFault::Memory),
         Err(fault) => Err(BundleOutFault::Description(fault)),
     }

@@ -3,13 +3,13 @@ pub use Rattle.adf_block.specs.Fields.{format_of}
 pub use Rattle.adf_block.specs.Image.{block_count}
 pub use Rattle.adf_record.specs.Bundle.{AreEntriesOf, IsEntryOf}
 pub use Rattle.adf_record.specs.Counts.{file_count}
-pub use Rattle.adf_record.specs.Described.{AreWithoutZeros, HasNoDirectory, IsEntryLine, IsHeadLine, IsPathOf, IsTextFault, IsTextTo, entry_tokens, head_tokens, in_lines, no_memory, too_long}
+pub use Rattle.adf_record.specs.Described.{AreWithoutZeros, HasNoDirectory, IsEntryLine, IsHeadLine, IsPathOf, IsTextFault, IsTextTo, LacksDirectory, entry_tokens, head_tokens, in_lines, no_memory, too_long}
 pub use Rattle.adf_record.specs.Described.IsTextFault.{long, memory, no_directory}
 pub use Rattle.adf_record.specs.Object.{boot_word, kind_word}
 pub use Rattle.adf_record.specs.Shown.{bitmap_words, counted, format_word, grouped, size_words}
 pub use Rattle.adf_record.specs.declared.bundle.BundleEntry.{BundleEntry}
 pub use Rattle.adf_record.specs.declared.bundle_lines.TheConstants.{MOST_BUNDLE_BYTES}
-pub use Rattle.adf_record.specs.steps.Lines.{ArePaths, separator}
+pub use Rattle.adf_record.specs.steps.Lines.{IsPathAt, separator}
 pub use Rattle.ados_change.proofs.Writable.{format_is}
 pub use Rattle.ados_model.proofs.Nodes.{some_in}
 pub use Rattle.ados_model.proofs.Standing.{count_same}

@@ -1,7 +1,11 @@
 -- One more line of a bundle's text, and one more path.
-use Rattle.adf_record.proofs.Common.{◌≡◌, ℕ, zero, suc, ◌+◌, ◌<◌, Bool, if◌then◌else◌, ◌⊎◌, inl, inr, List, [], ◌∷◌, ◌++◌, Some, Option, Vec, Global, IfSome, map, Result, Ok, Err, IfErr, IsErrAnd, slice_get, codes, length, get_or, take, refl, sym, ap, ◌∙◌, subst, append_assoc, append-nil, length-append, arith, flat_map_more, length-map, length-take-le, map-append, take_more, AllZip-long, all_zipped_more, print, BundleEntry, MOST_BUNDLE_BYTES, IsEntryLine, IsHeadLine, IsPathOf, IsTextFault, IsTextTo, entry_tokens, in_lines, no_memory, too_long, long, memory, ArePaths, separator}
+use Rattle.adf_record.proofs.Common.{◌≡◌, ℕ, zero, suc, ◌+◌, ◌<◌, Bool, if◌then◌else◌, ◌⊎◌, inl, inr, List, [], ◌∷◌, ◌++◌, None, Option, Some, map, Result, Ok, Err, IfErr, IsErrAnd, slice_get, codes, length, get_or, take, refl, sym, ap, ◌∙◌, subst, append_assoc, append-nil, length-append, arith, flat_map_more, length-map, length-take-le, map-append, take_more, AllZip-long, all_zipped_more, print, BundleEntry, MOST_BUNDLE_BYTES, IsEntryLine, IsHeadLine, IsPathOf, IsTextFault, IsTextTo, LacksDirectory, entry_tokens, in_lines, no_memory, no_directory, too_long, long, memory, IsPathAt, separator}
 use lib.Dec.{eqb-suc-zero}
+use Rattle.std.proofs.Common.{reverse}
+use Rattle.std.proofs.lemmas.List.{reverse-append, reverse-reverse}
+use Rattle.std.proofs.lemmas.Option.{slice_get-get_or}
 use Rattle.std.specs.List.{AllZip}
+use Rattle.adf_record.specs.Described.IsPathOf.{inner, top}
 use Rattle.ados_name.specs.Date.{IsTextOf}
 use Rattle.adf_record.specs.declared.bundle.Bundle.{Bundle}
 use Rattle.adf_record.specs.declared.bundle_fault.BundleFault.{BundleFault}
@@ -42,45 +46,39 @@ text_more bundle n entry line old new told inside at is grown =
           ∙ ap (λ (text : List ℕ). told.head ++ text) (sym (in_lines_more told.lines line));
     }
 
-got : {X : Type 0} (xs : List X) (x y : X) (i : ℕ) → slice_get (xs ++ x ∷ []) i ≡ Some y → (slice_get xs i ≡ Some y) ⊎ ((i ≡ length xs) × (y ≡ x))
-got [] x y zero found = inr (refl, cc)
-got [] x y (suc i) found = cc
-got (z ∷ xs) x y zero found = inl found
-got (z ∷ xs) x y (suc i) found =
-    elim (got xs x y i found) [
-      | inl inside ↦ inl inside
-      | inr last ↦ inr (ap suc last.0, last.1)
-    ]
+-- an entry that is read twice is the same
+pub above_is : (entries : List BundleEntry) (at : ℕ) (a d : BundleEntry) (above : Option ℕ) → slice_get entries at ≡ Some a → at < length entries → (get_or entries at d).above ≡ above → a.above ≡ above
+above_is entries at a d above there inside is =
+    let same : Some a ≡ Some (get_or entries at d) = sym there ∙ slice_get-get_or entries at d inside in
+    let own : a ≡ get_or entries at d = cc same in
+    ap (λ (e : BundleEntry). e.above) own ∙ is
 
-abbrev pub paths_in : List (Vec ℕ Global) → List (List ℕ)
-paths_in paths = map (λ path. path.items) paths
+-- what a path ends with, behind that of the directory at another position
+module _ (entries : List BundleEntry) (place : ℕ) where
+  abbrev pub IsRest : ℕ → List ℕ → Type 0
+  IsRest at rest = (path : List ℕ) → IsPathAt entries at path → IsPathAt entries place (path ++ rest)
 
--- the path of the next entry
-pub paths_more : (entries : List BundleEntry) (paths : List (List ℕ)) (entry : BundleEntry) (path : List ℕ) → ArePaths entries paths
-    → slice_get entries (length paths) ≡ Some entry → IsPathOf entries entry path → ArePaths entries (paths ++ path ∷ [])
-paths_more entries paths entry path all at is = λ place p found.
-    elim (got paths path p place found) [
-      | inl inside ↦ all place p inside
-      | inr last ↦ (entry, ap (slice_get entries) last.0 ∙ at, subst (IsPathOf entries entry) (sym last.1) is)
-    ]
+  pub rest_none : (backwards : List ℕ) → backwards ≡ [] → IsRest place (reverse backwards)
+  rest_none backwards none = λ path is. subst (IsPathAt entries place) (sym (ap (λ (b : List ℕ). path ++ reverse b) none ∙ append-nil path)) is
 
--- the same of paths that were just made
-pub paths_step : (entries : List BundleEntry) (old new : List (Vec ℕ Global)) (n : ℕ) (entry : BundleEntry) (path : Vec ℕ Global) → ArePaths entries (paths_in old)
-    → length old ≡ n → slice_get entries n ≡ Some entry → IsPathOf entries entry path.items → new ≡ old ++ path ∷ [] → ArePaths entries (paths_in new)
-paths_step entries old new n entry path all count at is grown =
-    subst (ArePaths entries) (sym (ap paths_in grown ∙ map-append (λ (p : Vec ℕ Global). p.items) old (path ∷ [])))
-    (paths_more entries (paths_in old) entry path.items all (ap (slice_get entries) (length-map old (λ (p : Vec ℕ Global). p.items) ∙ count) ∙ at) is)
+  module _ (at : ℕ) (a : BundleEntry) (backwards : List ℕ) (there : slice_get entries at ≡ Some a) (rest : IsRest at (reverse backwards)) where
+    own : (e : BundleEntry) → slice_get entries at ≡ Some e → e ≡ a
+    own e here =
+        let same : Some e ≡ Some a = sym here ∙ there in
+        cc same
 
-pub paths_none : (entries : List BundleEntry) → ArePaths entries []
-paths_none entries = λ place path found. cc
+    pub rest_more : (above : ℕ) (directory : BundleEntry) (more : List ℕ) → a.above ≡ Some above → slice_get entries above ≡ Some directory → more ≡ (backwards ++ reverse a.name) ++ 47 ∷ [] → IsRest above (reverse more)
+    rest_more above directory more leads inside is = λ path holds.
+        let behind : IsPathAt entries at (path ++ codes "/" ++ a.name) = λ e here.
+        subst (λ (b : BundleEntry). IsPathOf entries b (path ++ codes "/" ++ a.name)) (sym (own e here)) (inner leads inside (holds directory inside)) in
+        let turned : reverse more ≡ codes "/" ++ (a.name ++ reverse backwards) =
+        ap reverse is ∙ reverse-append (backwards ++ reverse a.name) (47 ∷ []) ∙ ap (λ (b : List ℕ). codes "/" ++ b) (reverse-append backwards (reverse a.name) ∙ ap (λ (n : List ℕ). n ++ reverse backwards) (reverse-reverse a.name)) in
+        subst (IsPathAt entries place) (regroup path (codes "/") a.name (reverse backwards) ∙ ap (λ (b : List ℕ). path ++ b) (append_assoc (codes "/") a.name (reverse backwards) ∙ sym turned)) (rest (path ++ codes "/" ++ a.name) behind)
 
--- the path that was found
-pub found_path : (entries : List BundleEntry) (paths given : List (Vec ℕ Global)) (entry : BundleEntry) (found : Option (Vec ℕ Global)) (path : Vec ℕ Global) → given ≡ paths
-    → found ≡ Some path → IfSome found (λ p. (es : List BundleEntry) → ArePaths es (paths_in given) → IsPathOf es entry p.items) → ArePaths entries (paths_in paths)
-    → IsPathOf entries entry path.items
-found_path entries paths given entry found path same is all before =
-    subst (λ (o : Option (Vec ℕ Global)). IfSome o (λ p. (es : List BundleEntry) → ArePaths es (paths_in given) → IsPathOf es entry p.items)) is all entries
-    (subst (λ (ps : List (Vec ℕ Global)). ArePaths entries (paths_in ps)) (sym same) before)
+    pub rest_whole : (whole : List ℕ) → a.above ≡ None → whole ≡ reverse (backwards ++ reverse a.name) → IsPathAt entries place whole
+    rest_whole whole first is =
+        let turned : whole ≡ a.name ++ reverse backwards = is ∙ reverse-append backwards (reverse a.name) ∙ ap (λ (n : List ℕ). n ++ reverse backwards) (reverse-reverse a.name) in
+        subst (IsPathAt entries place) (sym turned) (rest a.name (λ e here. subst (λ (b : BundleEntry). IsPathOf entries b a.name) (sym (own e here)) (top first)))
 
 -- the line of an entry with this path
 pub line_of_entry : (entries : List BundleEntry) (entry : BundleEntry) (path given line shown : List ℕ) → IsPathOf entries entry path → given ≡ path
@@ -90,6 +88,11 @@ line_of_entry entries entry path given line shown is same told here =
 
 -- why there is no text
 module _ {T : Type 0} (bundle : Bundle) where
+  pub path_fault : (found : BundleFault) (done : Result T BundleFault) → (found ≡ no_memory) ⊎ LacksDirectory bundle.entries.items found → IsErrAnd done (λ fault. fault ≡ found)
+      → IfErr done (λ fault. IsTextFault bundle fault)
+  path_fault found (Ok x) why same = tt
+  path_fault found (Err fault) why same = subst (IsTextFault bundle) (sym same) (elim why [ inl none ↦ subst (IsTextFault bundle) (sym none) memory | inr lacks ↦ no_directory lacks ])
+
   pub memory_fault : (done : Result T BundleFault) → IsErrAnd done (λ fault. fault ≡ no_memory) → IfErr done (λ fault. IsTextFault bundle fault)
   memory_fault (Ok x) same = tt
   memory_fault (Err fault) same = subst (IsTextFault bundle) (sym same) memory

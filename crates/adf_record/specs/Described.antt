@@ -77,9 +77,17 @@ pub record IsTextTo (bundle : Bundle) (n : ℕ) (text : List ℕ) : Type 0 where
 abbrev pub IsBundleText : Bundle → List ℕ → Type 0
 IsBundleText bundle text = (front : List ℕ) × IsTextTo bundle (length bundle.entries.items) front × (text ≡ front ++ codes "\n]}\n")
 
--- the directory of an entry is not one of the first n
+-- the directory of an entry is not one of the first n entries
 abbrev pub HasNoDirectory : ℕ → BundleEntry → Type 0
 HasNoDirectory n entry = (place : ℕ) × (entry.above ≡ Some place) × (n ≤ place)
+
+-- an entry is told whose directory is not before it
+pub record LacksDirectory (entries : List BundleEntry) (fault : BundleFault) : Type 0 where
+  pub place : ℕ
+  pub entry : BundleEntry
+  pub there : slice_get entries place ≡ Some entry
+  pub missing : HasNoDirectory place entry
+  pub told : fault ≡ record { entry = Some (place + 1); why = NoDirectory }
 
 abbrev pub no_memory : BundleFault
 no_memory = record { entry = None; why = Memory }
@@ -92,5 +100,4 @@ too_long = record { entry = None; why = Long }
 pub data IsTextFault (bundle : Bundle) : BundleFault → Type 0 where
   memory : IsTextFault bundle no_memory
   long : {n : ℕ} {front : List ℕ} → IsTextTo bundle n front → MOST_BUNDLE_BYTES < length (front ++ codes "\n]}\n") → IsTextFault bundle too_long
-  no_directory : {n : ℕ} {entry : BundleEntry} → slice_get bundle.entries.items n ≡ Some entry → HasNoDirectory n entry
-      → IsTextFault bundle (record { entry = Some (n + 1); why = NoDirectory })
+  no_directory : {fault : BundleFault} → LacksDirectory bundle.entries.items fault → IsTextFault bundle fault

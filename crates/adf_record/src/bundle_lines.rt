@@ -1,19 +1,18 @@
 //! A bundle as text: a JSON object, with a line for each entry.
-ghost use Rattle.std.specs.Prelude.{◌≡◌, ◌+◌, ◌≤◌, ◌<◌, ◌⊎◌, ◌++◌, ◌∷◌, [], List, ℕ, length, IfErr, IfNone, IfOk, IfSome, OnOk, map};
+ghost use Rattle.std.specs.Prelude.{◌≡◌, ◌+◌, ◌≤◌, ◌<◌, ◌⊎◌, ◌++◌, ◌∷◌, [], List, ℕ, length, reverse, IfErr, IfOk, OnOk};
 ghost use Rattle.json.specs.Token.{key, string};
 ghost use Rattle.json.specs.Print.{print};
 ghost use Rattle.ados_name.specs.Date.{IsTextOf};
 ghost use Rattle.adf_text.specs.Letters.{letters};
-ghost use Rattle.adf_record.specs.declared.bundle.BundleEntry.{BundleEntry};
-ghost use Rattle.adf_record.specs.Described.{AreWithoutZeros, HasNoDirectory, IsBundleText, IsHeadLine, IsPathOf, IsTextFault, entry_tokens, no_memory, size_tokens, too_long};
-ghost use Rattle.adf_record.specs.steps.Lines.{ArePaths, separator};
+ghost use Rattle.adf_record.specs.Described.{AreWithoutZeros, IsBundleText, IsHeadLine, IsTextFault, LacksDirectory, entry_tokens, no_memory, size_tokens, too_long};
+ghost use Rattle.adf_record.specs.steps.Lines.{IsPathAt, separator};
 
 use crate::bundle::{Bundle, BundleEntry};
 use crate::bundle_fault::{BundleFault, BundleWhy};
 use crate::members::{put_number, put_text};
 use crate::words::format_word;
 use adf_text::letter_text;
-use ados_name::Date3;
+use ados_name::{Date3, Name};
 use json::Writer;
 use std::alloc::{AllocError, Global};
 
@@ -34,18 +33,11 @@ pub fn bundle_text(alloc: Global, bundle: &Bundle) -> Result<Vec<u8>, BundleFaul
 {
     let mut text = Vec::new(alloc);
     push_line(&mut text, "", &head_line(alloc, bundle)?)?;
-    let mut paths = Vec::new(alloc);
     for place in 0..bundle.entries.len() {
         let entry = &bundle.entries[place];
-        let Some(path) = path_of(alloc, &paths, entry)? else {
-            return Err(BundleFault {
-                entry: Some(place + 1),
-                why: BundleWhy::NoDirectory,
-            });
-        };
+        let path = path_of(alloc, &bundle.entries, place)?;
         let line = entry_line(alloc, entry, &path)?;
         push_line(&mut text, separator(place), &line)?;
-        paths.push(path)?;
     }
     text.extend_from_slice(END)?;
     Ok(text)
@@ -72,26 +64,37 @@ fn push_line(text: &mut Vec<u8>, separator: &str, line: &[u8]) -> Result<(), Bun
     Ok(())
 }
 
-/// The path of an entry, after entries with these paths. `None`: its directory is not among them.
-fn path_of(
-    alloc: Global,
-    paths: &[Vec<u8>],
-    entry: &BundleEntry,
-) -> Result<Option<Vec<u8>>, AllocError>
-    ensures path { IfOk result (λ found. IfSome found (λ path. (entries : List BundleEntry) → ArePaths entries (map (λ path. path.items) paths.now) → IsPathOf entries entry.now path.items)) }
-    ensures none { IfOk result (λ found. IfNone found (HasNoDirectory (length paths.now) entry.now)) }
+/// The path of the entry at a position. It fails if the directory of the entry, or of one above it, is not before it.
+fn path_of(alloc: Global, entries: &[BundleEntry], place: usize) -> Result<Vec<u8>, BundleFault>
+    requires { place < length entries.now }
+    ensures path { IfOk result (λ path. IsPathAt entries.now place path.items) }
+    ensures fault { IfErr result (λ fault. (fault ≡ no_memory) ⊎ LacksDirectory entries.now fault) }
 {
-    let Some(above) = entry.above else {
-        let path = Vec::from_slice(alloc, entry.name.bytes())?;
-        return Ok(Some(path));
-    };
-    if above >= paths.len() {
-        return Ok(None);
+    let mut path = Vec::new(alloc);
+    let mut at = place;
+    while let Some(above) = entries[at].above {
+        if above >= at {
+            return Err(BundleFault {
+                entry: Some(at + 1),
+                why: BundleWhy::NoDirectory,
+            });
+        }
+        push_backwards(alloc, &mut path, &entries[at].name)?;
+        path.push(b'/')?;
+        at = above;
     }
-    let mut path = Vec::from_slice(alloc, &paths[above])?;
-    path.push(b'/')?;
-    path.extend_from_slice(entry.name.bytes())?;
-    Ok(Some(path))
+    push_backwards(alloc, &mut path, &entries[at].name)?;
+    path.reverse();
+    Ok(path)
+}
+
+/// Appends the bytes of a name, the last one first.
+fn push_backwards(alloc: Global, path: &mut Vec<u8>, name: &Name) -> Result<(), AllocError>
+    ensures { OnOk result (path.new.items ≡ path.old.items ++ reverse name.now) }
+{
+    let mut bytes = Vec::from_slice(alloc, name.bytes())?;
+    bytes.reverse();
+    path.extend_from_slice(&bytes)
 }
 
 /// The line of the volume: the object and its list of entries begin.

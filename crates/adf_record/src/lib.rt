@@ -24,6 +24,7 @@ mod shown;
 mod told;
 mod words;
 
+pub use adf_text::Grouped;
 pub use boot_json::boot_object;
 pub use bundle::{Bundle, BundleEntry, BundleHead};
 pub use bundle_contents::{contents_of, same_contents};
@@ -34,7 +35,6 @@ pub use bundling::bundle_of;
 pub use contents::size_words;
 pub use counts::{Counts, counts_of};
 pub use facts::{Facts, facts_of};
-pub use adf_text::Grouped;
 pub use grouped::grouped_text;
 pub use members::{put_flag, put_number, put_text};
 pub use same::same_bundle;

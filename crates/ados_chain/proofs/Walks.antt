@@ -1,6 +1,7 @@
 -- Walks along a chain: the facts at the start, between two steps, after a step and at the end.
-use Rattle.ados_chain.proofs.Common.{◌≡◌, ◌≢◌, ℕ, ◌+◌, ◌<◌, ◌⊎◌, inl, inr, List, [], ◌∷◌, ◌++◌, length, Contains, refl, sym, ap, ◌∙◌, subst, arith, append_assoc, append-nil, length-append, Contains-append_right, Contains-push_cases, block_count, long, Chained, FIRST_SLOT, NEXT_IN_CHAIN, Same, LawfulChains, name_at, NoneNamed, IsFirstNamed, link_block, link_long, LeadsTo, BeginsWith, Contains-here}
-use Rattle.ados_chain.proofs.Spelling.{steps, steps-length, NoneZero, link_block-push, link_long-push}
+use Rattle.ados_chain.proofs.Common.{◌≡◌, ◌≢◌, ℕ, ◌+◌, ◌<◌, ◌⊎◌, inl, inr, List, [], ◌∷◌, ◌++◌, length, Contains, refl, sym, ap, ◌∙◌, subst, arith, append_assoc, append-nil, ap₂, cases_eq, length-append, Contains-append_left, Contains-append_right, Contains-nil, Contains-push_cases, Contains-split, table_entry, block_count, long, Chained, FIRST_SLOT, NEXT_IN_CHAIN, Same, LawfulChains, name_at, NoneNamed, IsFirstNamed, link_block, link_long, LeadsTo, BeginsWith, Contains-here}
+use Rattle.ados_chain.specs.Links.{IsNear}
+use Rattle.ados_chain.proofs.Spelling.{Chained-behind, steps, steps-length, NoneZero, link_block-push, link_long-push}
 use Rattle.ados_chain.proofs.Chaining.{none_zero, chain-short}
 
 -- the chain is a prefix and a rest; the rest starts with the key
@@ -96,6 +97,34 @@ module _ (image : List ℕ) (dir : ℕ) (chains : ℕ → List ℕ) (h : LawfulC
       begins [] st stop = tt
       begins (k ∷ ks) st (inr e) = sym st.spelled.0 ∙ e
       begins (k ∷ ks) st (inl e) = absurd (rest_none_zero key w.front (k ∷ ks) st k (Contains-here k ks) (sym st.spelled.0 ∙ e))
+
+  -- a walk to the end that begins at the directory, or behind an entry of the chain
+  pub links_begin : (near block i key : ℕ) → IsNear dir (chains s) near → (near ≡ dir → (block ≡ dir) × (i ≡ FIRST_SLOT + s)) → (near ≢ dir → (block ≡ near) × (i ≡ NEXT_IN_CHAIN)) → key ≡ long image block i → LinksOn image dir s (chains s) 0 block i key
+  links_begin near block i key is start later e = elim (cases_eq near dir) [
+    | inl here ↦
+        let at = start here in
+        record {
+          front = [];
+          rest = chains s;
+          stands = record { split = refl; spelled = subst (λ (k : ℕ). Chained image NEXT_IN_CHAIN k (chains s)) (sym (e ∙ ap₂ (long image) at.0 at.1)) (h.spelled s small) };
+          absent = λ m. Contains-nil 0 m;
+          at_block = at.0;
+          at_long = at.1;
+        }
+    | inr other ↦
+        let at = later other in
+        let split = Contains-split (chains s) near (elim is [ inl here ↦ absurd (other here) | inr m ↦ m ]) in
+        let whole : chains s ≡ (split.0 ++ near ∷ []) ++ split.1 = split.2 ∙ sym (append_assoc split.0 (near ∷ []) split.1) in
+        let spelled = Chained-behind image dir (FIRST_SLOT + s) split.0 (near ∷ split.1) (subst (λ (xs : List ℕ). Chained image NEXT_IN_CHAIN (table_entry image dir s) xs) split.2 (h.spelled s small)) in
+        record {
+          front = split.0 ++ near ∷ [];
+          rest = split.1;
+          stands = record { split = whole; spelled = subst (λ (k : ℕ). Chained image NEXT_IN_CHAIN k split.1) (sym (e ∙ ap₂ (long image) at.0 at.1)) spelled.1 };
+          absent = λ m. none_zero image dir chains h s small 0 (subst (λ (xs : List ℕ). Contains xs 0) (sym whole) (Contains-append_left (split.0 ++ near ∷ []) split.1 0 m)) refl;
+          at_block = at.0 ∙ sym (link_block-push dir split.0 near);
+          at_long = at.1 ∙ sym (link_long-push (FIRST_SLOT + s) split.0 near);
+        }
+  ]
 
   pub searched_more : (name : List ℕ) (key : ℕ) → SearchedOn image name (chains s) key → key ≢ 0 → ¬ Same (name_at image key) name → (key' : ℕ) → key' ≡ long image key NEXT_IN_CHAIN → SearchedOn image name (chains s) key'
   searched_more name key w n other key' at_key =

@@ -7,6 +7,10 @@ use Rattle.ados_chain.specs.Relinks.{link_block, link_long}
 abbrev pub IsLink : ℕ → Type 0
 IsLink i = ((FIRST_SLOT ≤ i) × (i < FIRST_SLOT + TABLE_LONGS)) ⊎ (i ≡ NEXT_IN_CHAIN)
 
+-- the key is that of the directory, or of an entry of the chain
+abbrev pub IsNear : ℕ → List ℕ → ℕ → Type 0
+IsNear dir keys near = (near ≡ dir) ⊎ Contains keys near
+
 -- the rest of a chain starts with the entry, or is empty
 abbrev pub BeginsWith : ℕ → List ℕ → Type 0
 BeginsWith entry [] = Unit {0}

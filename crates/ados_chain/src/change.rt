@@ -2,11 +2,12 @@
 
 ghost use Rattle.std.specs.Prelude.{ℕ, List};
 ghost use Rattle.adf_block.specs.Whole.{IsImage};
-ghost use Rattle.ados_chain.specs.Chains.{LawfulChains};
+ghost use Rattle.ados_chain.specs.Chains.{LawfulChains, slot_at};
+ghost use Rattle.ados_chain.specs.Links.{IsNear};
 ghost use Rattle.ados_chain.specs.Relinks.{CanInsert, CanUnlink, InsertsLast, Unlinks};
 
 use crate::entry::slot_of;
-use crate::link::{link_to, relink};
+use crate::link::{end_of, link_to, relink};
 use adf_block::Image;
 use adf_block::layout::NEXT_IN_CHAIN;
 
@@ -19,8 +20,18 @@ pub fn insert_last(image: &mut Image, dir: u32, key: u32)
     ensures inserts { (chains : ℕ → List ℕ) → LawfulChains image.old dir chains → InsertsLast dir key chains image.old image.new }
     ensures image { IsImage image.new }
 {
+    insert_last_near(image, dir, key, dir);
+}
+
+/// [`insert_last`], with the search for the end of the chain from `near` on: the directory, or an entry of the chain.
+pub fn insert_last_near(image: &mut Image, dir: u32, key: u32, near: u32)
+    requires can { CanInsert image.old dir key }
+    requires near { (chains : ℕ → List ℕ) → LawfulChains image.old dir chains → IsNear dir (chains (slot_at image.old key)) near }
+    ensures inserts { (chains : ℕ → List ℕ) → LawfulChains image.old dir chains → InsertsLast dir key chains image.old image.new }
+    ensures image { IsImage image.new }
+{
     let slot = slot_of(image, key);
-    let end = link_to(image, dir, slot, 0);
+    let end = end_of(image, dir, slot, near);
     relink(image, end, key, key);
 }
 

@@ -10,5 +10,5 @@ mod entry;
 mod link;
 mod read;
 
-pub use change::{insert_last, unlink};
+pub use change::{insert_last, insert_last_near, unlink};
 pub use read::{Next, after, after_entry, find, is_empty};

@@ -6,7 +6,7 @@ ghost use Rattle.adf_block.specs.Image.{block_count, long};
 ghost use Rattle.adf_block.specs.Whole.{IsImage};
 ghost use Rattle.ados_chain.specs.Chains.{HasChains, LawfulChains};
 ghost use Rattle.ados_chain.specs.Relinks.{Relinks};
-ghost use Rattle.ados_chain.specs.Links.{LeadsTo, IsLink};
+ghost use Rattle.ados_chain.specs.Links.{IsNear, LeadsTo, IsLink};
 
 use adf_block::Image;
 use adf_block::beside::CHECKSUM;
@@ -33,6 +33,18 @@ impl Link {
         }
     }
 
+    /// The link after an entry; for the directory, the one that starts the hash chain of a slot, 0 to 71.
+    pub fn after(dir: u32, slot: u32, near: u32) -> Link
+        requires { slot < TABLE_LONGS }
+        ensures start { near ≡ dir → (result.block ≡ dir) × (result.long ≡ FIRST_SLOT + slot) }
+        ensures later { near ≢ dir → (result.block ≡ near) × (result.long ≡ NEXT_IN_CHAIN) }
+    {
+        if near == dir {
+            return Link::first(dir, slot);
+        }
+        Link::behind(near)
+    }
+
     /// The link after an entry.
     pub fn behind(key: u32) -> Link
         ensures block { result.block ≡ key }
@@ -55,6 +67,22 @@ pub fn link_to(image: &Image, dir: u32, slot: u32, entry: u32) -> Link
     let mut link = Link::first(dir, slot);
     let mut key = image.long(link.block, link.long);
     while key != 0 && key != entry {
+        link = Link::behind(key);
+        key = image.long(key, NEXT_IN_CHAIN);
+    }
+    link
+}
+
+/// The link that ends the hash chain of a slot. The search starts at the directory, or at an entry of the chain.
+pub fn end_of(image: &Image, dir: u32, slot: u32, near: u32) -> Link
+    requires chains { HasChains image.now dir }
+    requires slot { slot < TABLE_LONGS }
+    requires near { (chains : ℕ → List ℕ) → LawfulChains image.now dir chains → IsNear dir (chains slot) near }
+    ensures { (chains : ℕ → List ℕ) → LawfulChains image.now dir chains → LeadsTo dir slot (chains slot) 0 result.block result.long }
+{
+    let mut link = Link::after(dir, slot, near);
+    let mut key = image.long(link.block, link.long);
+    while key != 0 {
         link = Link::behind(key);
         key = image.long(key, NEXT_IN_CHAIN);
     }

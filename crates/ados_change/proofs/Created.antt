@@ -7,7 +7,14 @@ use Rattle.ados_change.proofs.Writable.{lawful_pages}
 use Rattle.ados_change.proofs.FilesStay.{past_end_trans}
 use Rattle.ados_change.specs.declared.node_kind.NodeKind.{NodeKind}
 use Rattle.ados_change.proofs.Changed.{listed_file, made_here, nodes_here, nodes_other, changed_keeps, each_keeps, relisted}
-use Rattle.ados_change.proofs.Lawful.{lawful_chains, page_is, page_within, count}
+use Rattle.ados_model.proofs.Nodes.{entry_node}
+use Rattle.ados_model.specs.Parts.{name_in}
+use Rattle.ados_model.specs.Tree.{entries_in}
+use Rattle.std.specs.Prelude.{Contains, None, Option, filter, ◌==◌}
+use Rattle.ados_chain.specs.Links.{IsNear}
+use Rattle.ados_chain.proofs.Chaining.{chains_same}
+use Rattle.ados_change.proofs.Entering.{filter_same}
+use Rattle.ados_change.proofs.Lawful.{lawful_chains, slot_is, page_is, page_within, count}
 use Rattle.ados_change.proofs.EntriesKept.{changed_kept, page_changed, written_changed, IsKnown, dated_kept, filled_kept, linked_kept, marked_kept, stamped_kept}
 use Rattle.ados_change.proofs.Leaving.{can_insert, place_behind, entered_spells, stamped_spells}
 use Rattle.ados_change.proofs.Loose.{Loose, layout_is, proper_is_loose, unused_is_loose, Spells, spells, stands}
@@ -157,6 +164,25 @@ module _ (old m1 m2 : List ℕ) (t : Tree) (st : Stands old t) (moment : Date3) 
 
   pub insertable : CanInsert m2 dir key
   insertable = can_insert m2 m2 m2 begun st.layout key spelled loose dir directory.node directory.keys dir_node directory.content new (nodes_here key (Some new) t) not_dir
+
+  slots_same : (s : ℕ) → in_slot begun dir s ≡ in_slot t dir s
+  slots_same s =
+      ap (filter (λ k. slot (name_of begun k) == s)) (ap (λ (o : Option Node). entries_in (option_map (λ (node : Node). node.content) o)) (nodes_other key (Some new) t dir apart))
+      ∙ filter_same (λ k. slot (name_of begun k) == s) (λ k. slot (name_of t k) == s) (entries t dir) (λ k c. ap (λ (o : Option Node). slot (name_in o) == s) (nodes_other key (Some new) t k (no_entry k c)))
+    where
+      no_entry : (k : ℕ) → Contains (entries t dir) k → k ≢ key
+      no_entry k c e =
+          let a = entry_node t st.proper dir k c in
+          let both : Some a.0 ≡ None = sym a.1 ∙ ap t.nodes e ∙ fresh.no_node in
+          absurd (cc both)
+
+  -- an entry in the slot of the new name is in the chain of the new entry
+  pub near_there : (near : ℕ) → IsNear dir (in_slot t dir (slot name)) near → (chains : ℕ → List ℕ) → LawfulChains m2 dir chains → IsNear dir (chains (slot_at m2 key)) near
+  near_there near n chains h =
+      let lawful = lawful_chains m2 begun st.layout key spelled loose dir directory.node directory.keys dir_node directory.content in
+      let own : slot_at m2 key ≡ slot name = slot_is m2 begun st.layout key spelled loose key new (nodes_here key (Some new) t) ∙ ap (λ (o : Option Node). slot (name_in o)) (nodes_here key (Some new) t) in
+      let same : chains (slot_at m2 key) ≡ in_slot t dir (slot name) = chains_same m2 dir chains (in_slot begun dir) h lawful (slot_at m2 key) (slot_at-small m2 key) ∙ slots_same (slot_at m2 key) ∙ ap (in_slot t dir) own in
+      elim n [ inl e ↦ inl e | inr m ↦ inr (subst (λ (xs : List ℕ). Contains xs near) (sym same) m) ]
 
   abbrev slot_key : ℕ
   slot_key = slot_at m2 key

@@ -29,7 +29,7 @@ mod node_kind;
 pub use ados_model::Full;
 pub use content::{cut, grow, write};
 pub use edit::{put_date, put_text};
-pub use entry_made::create;
+pub use entry_made::{Starts, create};
 pub use entry_removed::remove;
 pub use entry_renamed::rename;
 pub use fields::{rename_disk, set_comment, set_date, set_protection};

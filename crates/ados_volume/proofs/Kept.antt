@@ -1,14 +1,15 @@
 -- The results and contents of the caches of places and of listed entries.
-use Rattle.ados_volume.proofs.Common.{AreKnown, AreListed, Contains, Contains-nil, Contains-remove_entry, Drops, IsDistinct, IsPlace, IsTrue, List, LruCache, OnErr, OnOk, Option, Place, Result, Some, [], eq-eqb, eqb-true, inl, inr, keys_of, lookup, lru_cache, nat_eq, put_entries, refl, remove_entry, subst, sym, ℕ, ◌==◌, ◌≡◌}
+use Rattle.ados_volume.proofs.Common.{AreKnown, AreListed, Contains, Contains-nil, Contains-remove_entry, Drops, IsDistinct, IsPlace, IfSome, List, LruCache, None, OnErr, OnOk, Option, Place, Result, Some, [], eq-eqb, eqb-true, inl, inr, keys_of, lookup, lru_cache, nat_eq, put_entries, refl, remove_entry, subst, sym, ℕ, ◌==◌, ◌≡◌}
 use Rattle.ados_volume.proofs.Pairs.{found_pair, gone, put_pair}
 
 -- a found place is one in the file
 pub found_place : (pairs : List (ℕ × Place)) (file : ℕ) (place : Place) → lookup (λ k. file == k) pairs ≡ Some place → (image : List ℕ) → AreKnown image pairs → IsPlace image file place
 found_place pairs file place e image known = (known file place (found_pair nat_eq eqb-true (λ a. eq-eqb a a refl) pairs file place e)).place_is
 
--- a found entry is the one listed last, if it equals the key
-pub found_last : (pairs : List (ℕ × ℕ)) (dir last key : ℕ) → lookup (λ k. dir == k) pairs ≡ Some last → IsTrue (last == key) → Contains pairs (dir, key)
-found_last pairs dir last key e same = subst (λ (k : ℕ). Contains pairs (dir, k)) (eqb-true last key same) (found_pair nat_eq eqb-true (λ a. eq-eqb a a refl) pairs dir last e)
+-- a found entry is in the cache
+pub found_last : (pairs : List (ℕ × ℕ)) (dir : ℕ) (last : Option ℕ) → last ≡ lookup (λ k. dir == k) pairs → IfSome last (λ key. Contains pairs (dir, key))
+found_last pairs dir (Some key) is = found_pair nat_eq eqb-true (λ a. eq-eqb a a refl) pairs dir key (sym is)
+found_last pairs dir None is = tt
 
 -- what holds for each pair still does after a put of one for which it holds
 pub put_holds : {V E : Type 0} (Holds : ℕ → V → Type 0) (old : LruCache ℕ V) (key : ℕ) (value : V) (new : LruCache ℕ V) (r : Result (Option V) E)

@@ -1,9 +1,9 @@
 -- A volume is still sound after a change.
-use Rattle.ados_volume.proofs.Common.{AreChildren, AreKnown, AreListed, AreWhole, BTreeMap, BTreeSet, Contains, Content, Date3, Enters, Forgets, HasPair, IsSome, KeepsRest, List, Node, None, NoneFreeBelow, OnlyRestamped, Place, Some, Sought, Stands, Tree, [], ap, changed, child_of, entries, entries_in, inl, inr, name_of, none-some, one_tree, refl, stamped, subst, sym, ℕ, ◌∙◌, ◌≡◌, ◌≢◌, ◌⊎◌}
+use Rattle.ados_volume.proofs.Common.{AreChildren, AreKnown, AreListed, AreWhole, IsListed, BTreeMap, BTreeSet, Contains, Content, Date3, Enters, Forgets, HasPair, IsSome, KeepsRest, List, Node, None, NoneFreeBelow, OnlyRestamped, Place, Some, Sought, Stands, Tree, [], ap, changed, child_of, entries, entries_in, inl, inr, name_of, none-some, one_tree, refl, stamped, subst, sym, ℕ, ◌∙◌, ◌≡◌, ◌≢◌, ◌⊎◌}
 use Rattle.ados_volume.specs.steps.SoundVolume.{IsSoundVolume}
 use Rattle.ados_volume.proofs.Bounds.{below_restamped}
 use Rattle.ados_volume.proofs.Cached.{child_same, more, none_whole}
-use Rattle.ados_volume.proofs.Children.{AllStay, HaveSame, Stays, carried, changed_same, told_stay, whole_carried}
+use Rattle.ados_volume.proofs.Children.{AllStay, HaveSame, Stays, carried, changed_same, child_there, told_stay, whole_carried}
 use Rattle.ados_volume.proofs.Kept.{none_listed}
 use Rattle.ados_volume.proofs.Known.{Lasts, changed_last, known_carried, none_known}
 
@@ -40,16 +40,17 @@ module _ {old : List ℕ} {names : BTreeMap Sought ℕ} {whole : BTreeSet ℕ} {
     files_sound same format keeps lasts others known later bound =
         entries_sound same others (known_carried old new keeps sound.tree.0 u sound.tree.1 r format others known lasts) later bound
 
-    -- entries stay, and a new one is in the cache
+    -- entries stay, and a new one is in the caches
     pub entered_sound : AllStay sound.tree.0 u → (dir : ℕ) (name : List ℕ) (key : ℕ) → child_of sound.tree.0 dir name ≡ None → child_of u dir name ≡ Some key
         → ((d k : ℕ) → Contains (entries u d) k → Stays u sound.tree.0 d k ⊎ ((d ≡ dir) × (k ≡ key) × (name_of u k ≡ name)))
         → (others : BTreeMap Sought ℕ) (marks : BTreeSet ℕ) → Enters names whole dir name key others marks
-        → (no_places : List (ℕ × Place)) → no_places ≡ [] → (later : ℕ) → NoneFreeBelow new later → IsSoundVolume new others marks told no_places later
-    entered_sound stay dir name key absent child from others marks enters no_places none_places later bound = record {
+        → (kept : List (ℕ × ℕ)) → (IsListed new dir key → AreListed new told → AreListed new kept)
+        → (no_places : List (ℕ × Place)) → no_places ≡ [] → (later : ℕ) → NoneFreeBelow new later → IsSoundVolume new others marks kept no_places later
+    entered_sound stay dir name key absent child from others marks enters kept keeps no_places none_places later bound = record {
       tree = (u, r);
       children = more new names others dir name key now enters.adds (λ v w. subst (λ (x : Tree). child_of x dir name ≡ Some key) (one_tree new u v r w) child);
       slots = elim enters.whole [ inl kept ↦ slots kept.0 kept.1 | inr cleared ↦ none_whole new others marks cleared ];
-      listed = told_stay old new sound.tree.0 u sound.tree.1 r told sound.listed stay;
+      listed = keeps (λ v w. subst (λ (x : Tree). Contains (entries x dir) key) (one_tree new u v r w) (child_there u dir key name child).0) (told_stay old new sound.tree.0 u sound.tree.1 r told sound.listed stay);
       known = none_known new no_places none_places;
       bound = bound;
     }

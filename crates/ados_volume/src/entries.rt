@@ -1,8 +1,10 @@
 //! Changes of a directory's entries.
 
 ghost use Rattle.std.specs.Prelude.{◌≡◌, [], MatchResult};
+ghost use Rattle.ados_name.specs.Name.{slot};
+ghost use Rattle.ados_chain.specs.Links.{IsNear};
 ghost use Rattle.ados_model.specs.Tree.{Tree};
-ghost use Rattle.ados_model.specs.Stands.{Stands};
+ghost use Rattle.ados_model.specs.Stands.{Stands, in_slot};
 ghost use Rattle.ados_model.specs.Keys.{HasKey, HasTree};
 ghost use Rattle.ados_change.specs.NewBlocks.{KeepsBlock, KeepsRest, TakesNone};
 ghost use Rattle.ados_model.specs.Change.{removed, renamed};
@@ -11,6 +13,7 @@ ghost use Rattle.ados_change.specs.Conditions.{CanMake, CanRemove, CanRename};
 ghost use Rattle.ados_change.specs.Kinds.{Makes};
 ghost use Rattle.ados_volume.specs.Refused.{RefusesEntry};
 ghost use Rattle.ados_volume.specs.steps.Cache.{Forgets};
+ghost use Rattle.ados_volume.specs.steps.Listed.{AreListed};
 
 use crate::cache::NameCache;
 use crate::examine::name_in;
@@ -19,7 +22,7 @@ use crate::volume::Volume;
 use crate::walk::parent_in;
 use adf_block::Image;
 use adf_block::layout::BOOT_BLOCKS;
-use ados_change::{NodeKind, create, remove, rename};
+use ados_change::{NodeKind, Starts, create, remove, rename};
 use ados_model::Full;
 use ados_name::{Date3, Name};
 
@@ -42,8 +45,13 @@ impl Volume {
         ensures validated { self.new.was_validated ≡ self.old.was_validated }
     {
         self.places.clear();
-        let key = create(&mut self.image, dir, &name, kind, moment, self.free_from)?;
+        let starts = Starts {
+            near: near(&self.image, &self.told, dir, &name),
+            free_from: self.free_from,
+        };
+        let key = create(&mut self.image, dir, &name, kind, moment, starts)?;
         self.names.enter(dir, &name, key);
+        self.told.keep(dir, key);
         self.free_from = key;
         Ok(key)
     }
@@ -81,6 +89,23 @@ impl Volume {
         forget(&mut self.names, &mut self.told, &self.image, key);
         self.places.clear();
         rename(&mut self.image, key, dir, &name, moment);
+    }
+}
+
+/// Where the search for the end of a name's hash chain starts: at the entry of the directory that was listed or made last, if it is in
+/// the chain, and else at the directory.
+fn near(image: &Image, told: &ToldCache, dir: u32, name: &Name) -> u32
+    requires tree { HasTree image.now }
+    requires told { AreListed image.now told.now.entries.entries }
+    ensures { (t : Tree) → Stands image.now t → IsNear dir (in_slot t dir (slot name.now)) result }
+{
+    let Some(last) = told.last(dir) else {
+        return dir;
+    };
+    if name_in(image, last).slot() == name.slot() {
+        last
+    } else {
+        dir
     }
 }
 

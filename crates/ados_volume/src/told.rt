@@ -1,6 +1,6 @@
-//! A cache of the entries listed last, so that the next call need not search a hash chain.
+//! A cache of the entries listed or made last, so that the next call need not search a hash chain.
 
-ghost use Rattle.std.specs.Prelude.{◌≡◌, IfOk, IsTrue, List, ℕ, Contains, []};
+ghost use Rattle.std.specs.Prelude.{◌≡◌, IfOk, IfSome, IsTrue, List, ℕ, Contains, []};
 ghost use Rattle.ados_volume.specs.steps.Listed.{AreListed, IsListed};
 
 use lru::LruCache;
@@ -10,7 +10,7 @@ use std::num::NonZeroUsize;
 /// The number of directories in the cache (this project's own choice).
 const KEPT_TOLD: usize = 64;
 
-/// The entry listed last, by its directory's key.
+/// The entry listed or made last, by its directory's key.
 #[derive(Drop)]
 pub struct ToldCache {
     entries: LruCache<u32, u32>,
@@ -25,11 +25,18 @@ impl ToldCache {
         Ok(ToldCache { entries })
     }
 
-    /// Whether this entry was the last one listed of the directory.
+    /// The entry of the directory that was listed or made last.
+    pub fn last(&self, dir: u32) -> Option<u32>
+        ensures { IfSome result (λ key. Contains self.now.entries.entries (dir, key)) }
+    {
+        self.entries.peek(&dir).copied()
+    }
+
+    /// Whether this entry is that one.
     pub fn is_last(&self, dir: u32, key: u32) -> bool
         ensures { IsTrue result → Contains self.now.entries.entries (dir, key) }
     {
-        match self.entries.peek(&dir).copied() {
+        match self.last(dir) {
             Some(last) => last == key,
             None => false,
         }

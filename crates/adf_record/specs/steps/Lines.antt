@@ -1,4 +1,4 @@
--- What is before a line of a bundle's text, and the paths of its first entries.
+-- What is before a line of a bundle's text, and the path in it.
 use Rattle.std.specs.Prelude.{◌≡◌, ℕ, ◌==◌, List, codes, if◌then◌else◌, Some, slice_get}
 use Rattle.adf_record.specs.declared.bundle.BundleEntry.{BundleEntry}
 use Rattle.adf_record.specs.Described.{IsPathOf}
@@ -7,7 +7,6 @@ use Rattle.adf_record.specs.Described.{IsPathOf}
 abbrev pub separator : ℕ → List ℕ
 separator place = if place == 0 then codes "\n" else codes ",\n"
 
--- each of these is the path of the entry at its position
-abbrev pub ArePaths : List BundleEntry → List (List ℕ) → Type 0
-ArePaths entries paths = (place : ℕ) (path : List ℕ) → slice_get paths place ≡ Some path
-    → (entry : BundleEntry) × (slice_get entries place ≡ Some entry) × IsPathOf entries entry path
+-- the entry at this position has this path
+abbrev pub IsPathAt : List BundleEntry → ℕ → List ℕ → Type 0
+IsPathAt entries place path = (entry : BundleEntry) → slice_get entries place ≡ Some entry → IsPathOf entries entry path

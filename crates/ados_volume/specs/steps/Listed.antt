@@ -1,4 +1,4 @@
--- The cache of entries listed last.
+-- The cache of entries listed or made last.
 use Rattle.std.specs.Prelude.{ℕ, List, Contains}
 use Rattle.ados_model.specs.Tree.{Tree, entries}
 use Rattle.ados_model.specs.Stands.{Stands}

@@ -1,26 +1,30 @@
-use Rattle.adf_record.proofs.Common.{◌≡◌, ℕ, List, ◌++◌, Option, Some, Vec, Global, option_map, slice_get, codes, map, length, refl, sym, ap, ap₂, ◌∙◌, subst, arith, slice_get-map, slice_get_read, BundleEntry, IsPathOf, ArePaths}
-use Rattle.adf_record.specs.Described.IsPathOf.{inner, top}
+use Rattle.adf_record.proofs.Common.{◌≡◌, ◌<◌, ◌++◌, ◌∷◌, [], List, ℕ, None, Some, length, slice_get, refl, sym, ap, ◌∙◌, arith, slice_get_read, BundleEntry}
+use Rattle.std.proofs.Common.{get_or, reverse}
+use Rattle.std.proofs.lemmas.Option.{slice_get-get_or}
+use Rattle.adf_record.proofs.Lines.{above_is, rest_more, rest_whole}
 use Rattle.adf_record.proofs.bundle_lines.path_of.Goals as goal
 
--- the path of an entry in a directory
-inner_path : (entries : List BundleEntry) (paths : List (List ℕ)) (entry : BundleEntry) (place : ℕ) (front path : List ℕ) → ArePaths entries paths
-    → entry.above ≡ Some place → slice_get paths place ≡ Some front → path ≡ front ++ codes "/" ++ entry.name → IsPathOf entries entry path
-inner_path entries paths entry place front path all above there is =
-    let directory = all place front there in
-    subst (IsPathOf entries entry) (sym is) (inner above directory.1 directory.2)
-
-pub returns-in_default-clause-path : goal.returns-in_default-clause-path
-returns-in_default-clause-path c = λ entries all.
-    subst (IsPathOf entries c.args.entry.now) (sym (c.in_ok-path.ensures.items ∙ c.bytes.ensures.value)) (top c.in_default.is)
+pub loop-at-preserved : goal.loop-at-preserved
+loop-at-preserved c =
+    let entries = c.args.entries.now in
+    let at = c.loop-at.at in
+    let above = c.in-Some.above in
+    let a = c.index-entries-at.result in
+    let inside : above < length entries = omega (arith, c.if-above-at.false, c.loop-at.invariant.inside) in
+    let there : slice_get entries at ≡ Some a = slice_get_read entries (length entries) at a refl c.loop-at.invariant.inside c.index-entries-at.is in
+    record {
+      inside = inside;
+      rest =
+          rest_more entries c.args.place at a c.loop-at.path.items there c.loop-at.invariant.rest above (get_or entries above a) c.push.new.self.items
+          (above_is entries at a _ (Some above) there c.loop-at.invariant.inside c.in-Some.is) (slice_get-get_or entries above a inside)
+          (c.in_ok-push.ensures.items ∙ ap (λ (b : List ℕ). b ++ 47 ∷ []) (c.in_ok-push_backwards.ensures ∙ ap (λ (e : BundleEntry). c.loop-at.path.items ++ reverse e.name) (sym c.index-entries-at.is)));
+    }
 
 pub returns-clause-path : goal.returns-clause-path
-returns-clause-path c = λ entries all.
-    let paths = c.args.paths.now in
-    let above = c.in-Some.above in
-    let found : slice_get paths above ≡ Some c.index-paths-above.result = slice_get_read paths (length paths) above c.index-paths-above.result refl (omega arith) c.index-paths-above.is in
-    let there : slice_get (map (λ path. path.items) paths) above ≡ Some c.index-paths-above.result.items =
-    slice_get-map (λ (path : Vec ℕ Global). path.items) paths above ∙ ap (λ (o : Option (Vec ℕ Global)). option_map (λ path. path.items) o) found in
-    let front : c.in_ok-path-2.path.items ≡ c.index-paths-above.result.items = c.in_ok-path-2.ensures.items ∙ c.deref.ensures.value in
-    inner_path entries (map (λ path. path.items) paths) c.args.entry.now above c.index-paths-above.result.items c.extend_from_slice.new.self.items all c.in-Some.is there
-    (c.in_ok-extend_from_slice.ensures.items
-    ∙ ap₂ (λ (f n : List ℕ). f ++ n) (c.in_ok-push.ensures.items ∙ ap (λ (f : List ℕ). f ++ codes "/") front) c.bytes-2.ensures.value)
+returns-clause-path c =
+    let entries = c.args.entries.now in
+    let at = c.loop-at.at in
+    let a = c.index-entries-at-2.result in
+    let there : slice_get entries at ≡ Some a = slice_get_read entries (length entries) at a refl c.loop-at.invariant.inside c.index-entries-at-2.is in
+    rest_whole entries c.args.place at a c.loop-at.path.items there c.loop-at.invariant.rest c.reverse.new.self.items
+    (above_is entries at a _ None there c.loop-at.invariant.inside c.in_default.is) (c.reverse.ensures.items ∙ ap reverse (c.in_ok-push_backwards-2.ensures ∙ ap (λ (e : BundleEntry). c.loop-at.path.items ++ reverse e.name) (sym c.index-entries-at-2.is)))

@@ -33,7 +33,7 @@ invariant_of-self-2 c =
     (no_child image t s dir name can.new_name)
     (made_child t s.proper c.args.moment dir key name content no_node (no_entries c.args.kind) can.directory c.create.new.image stands)
     (made_from t s.proper c.args.moment dir key name content no_node (no_entries c.args.kind) can.directory)
-    _ _ c.enter.ensures _ c.clear.ensures _ c.in_ok-key.ensures.below
+    _ _ c.enter.ensures _ (c.keep.ensures c.create.new.image) _ c.clear.ensures _ c.in_ok-key.ensures.below
 
 pub invariant_of-self : goal.invariant_of-self
 invariant_of-self c = unchanged_sound c.self.invariant _ c.in_err-key.ensures.full.1 _ (none_known c.self.inside.image _ c.clear.ensures)
