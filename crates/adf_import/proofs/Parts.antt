@@ -144,8 +144,8 @@ module _ (path : List ℕ) where
   colon_none = record { plain = refl; none = λ _. refl }
 
   pub colon_later : (at : ℕ) → at < length path → NoColon path at → slice_index path at ≢ 58 → NoColon path (at + 1)
-  colon_later at inside h no = record {
-    plain = ap (list_any is_colon) (take_more path at 0 inside) ∙ list_any-append is_colon (take at path) (slice_index path at ∷ []) ∙ ap (λ (b : Bool). b || list_any is_colon (slice_index path at ∷ [])) h.plain ∙ ap (λ (b : Bool). b || false) (ne_eqb (slice_index path at) 58 no);
+  colon_later at inside h other = record {
+    plain = ap (list_any is_colon) (take_more path at 0 inside) ∙ list_any-append is_colon (take at path) (slice_index path at ∷ []) ∙ ap (λ (b : Bool). b || list_any is_colon (slice_index path at ∷ [])) h.plain ∙ ap (λ (b : Bool). b || false) (ne_eqb (slice_index path at) 58 other);
     none = no_front_yet at h;
   }
 

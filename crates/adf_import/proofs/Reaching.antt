@@ -280,10 +280,10 @@ module _ (moment : Date3) (path : List ℕ) (at : ℕ) (known : Option Reached) 
   }
 
   pub made_past : at < length path → slice_index path at ≢ 47 → AreMade moment path (at + 1) known old between
-  made_past inside no = record {
+  made_past inside other = record {
     within = omega (arith, inside);
     slashes = λ i later. h.slashes i (omega (arith, later));
-    done = front_none moment path at old between h.done (h.slashes at (omega arith) inside ∙ ne_eqb (slice_index path at) 47 no);
+    done = front_none moment path at old between h.done (h.slashes at (omega arith) inside ∙ ne_eqb (slice_index path at) 47 other);
     reached = still known h.reached;
   }
     where

@@ -4,7 +4,7 @@ use Rattle.adf_import.proofs.ways.make_fronts.Goals.{then-path-at-eq47+in-Ok+els
 use Rattle.adf_import.proofs.ways.make_fronts.Goals as goal
 
 pub loop-at-init : goal.loop-at-init
-loop-at-init c = made_begin c.args.moment c.args.path.now c.begin_of.result c.root.result c.args.volume.now c.begin_of.ensures c.root.ensures.key c.root.ensures.root
+loop-at-init c = made_begin c.args.moment c.args.path.now c.begin_of-begin.result c.root-root.result c.args.volume.now c.begin_of-begin.ensures c.root-root.ensures.key c.root-root.ensures.root
 
 pub returns-in-Err : goal.returns-in-Err
 returns-in-Err c =
