@@ -183,7 +183,7 @@ module _ (image path : List ℕ) (at : ℕ) (from : Reached) (reached : IsReache
     child_found name is key child =
         let own : (t : Tree) → Stands image t → child_of t from.key last ≡ Some key = λ t s. ap (child_of t from.key) (sym is) ∙ sym (child t s) in (
           reached_on key (λ t s. child_is_key t s.proper from.key last key (own t s))
-          (λ t s. ap (λ (step : Step). step_from t from.key step ObjectNotFound) steps_last.0 ∙ child_step t from.key last key ObjectNotFound (sym (directory t s)) (own t s)),
+              (λ t s. ap (λ (step : Step). step_from t from.key step ObjectNotFound) steps_last.0 ∙ child_step t from.key last key ObjectNotFound (sym (directory t s)) (own t s)),
           λ t s. (key, object_child t s ∙ ap (λ (o : Option ℕ). walk_result (ok_or o ObjectNotFound)) (own t s)),
         )
 
@@ -192,7 +192,7 @@ module _ (image path : List ℕ) (at : ℕ) (from : Reached) (reached : IsReache
         ap place_result (
         ap (λ (k : ℕ). place_in t (walk_steps t k (steps (front (take at path))) DirectoryNotFound) last) (either_way (is_from_root (take at path)) (root t))
         ∙ ap (λ (x : Result ℕ WalkFault). place_in t x last)
-          (ap (λ (xs : List ℕ). walk_steps t (root t) (steps xs) DirectoryNotFound) (front_is path at from.len reached.within counted) ∙ walk_same t (root t) from.key (steps before) ObjectNotFound DirectoryNotFound (reached.leads t s))
+        (ap (λ (xs : List ℕ). walk_steps t (root t) (steps xs) DirectoryNotFound) (front_is path at from.len reached.within counted) ∙ walk_same t (root t) from.key (steps before) ObjectNotFound DirectoryNotFound (reached.leads t s))
         ∙ ap (λ (b : Bool). cond b (Err faults.WrongType) (cond ((length last == 0) || nat_lt 30 (length last)) (Err faults.InvalidName) (Ok (from.key, last)))) (sym (directory t s))
         ∙ ap (λ (b : Bool). cond b (Err faults.InvalidName) (Ok (from.key, last))) (has_length (length last) valid.not_empty valid.short)
         )
