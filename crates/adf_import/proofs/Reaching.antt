@@ -1,6 +1,6 @@
 -- Walks from the root that go on, and that stay when a directory is made; and a path that is gone through once.
 use Rattle.std.proofs.Common.{◌≡◌, ◌≢◌, ℕ, ◌+◌, ◌<◌, ◌≤◌, ◌==◌, ◌||◌, nat_lt, Bool, true, false, cond, Option, Some, None, Result, Ok, Err, List, [], ◌∷◌, ◌++◌, length, take, map, refl, sym, ap, ◌∙◌, subst, arith}
-use Rattle.adf_import.proofs.Common.{AreDone, Changes, Date3, Directory, DosError, HasDirectory, HasKey, HasTree, IsName, IsUnused, MakesMissing, MatchResult, Shown, Stands, Tree, child_of, content_at, entries, is_file, made, make_refusal, name_of, object_at, one_tree, parent_of, place_at, root, true≢false}
+use Rattle.adf_import.proofs.Common.{AreDone, Changes, Date3, Directory, DosError, HasDirectory, HasKey, HasTree, IsName, IsUnused, MakesMissing, MatchResult, Shown, Stands, Tree, child_of, content_at, entries, is_file, made, make_refusal, object_at, one_tree, parent_of, place_at, root, true≢false}
 use Rattle.std.proofs.lemmas.Bool.{eqb-true, le-ltb, ne_eqb}
 use Rattle.std.proofs.lemmas.List.{append-nil, nil_from_length}
 use Rattle.std.specs.List.{Contains, list_any}

@@ -1,7 +1,7 @@
 -- A path that is gone through once: the object to which a part of it leads.
 use Rattle.std.specs.Prelude.{◌≡◌, ◌+◌, ◌<◌, ◌≤◌, ◌∷◌, ◌++◌, ℕ, false, List, [], Ok, Err, length, slice_index, take, ⊤}
 use Rattle.std.specs.List.{list_any}
-use Rattle.ados_name.specs.Name.{Step, Step.ToChild, IsName, is_colon, is_slash, steps, steps_along}
+use Rattle.ados_name.specs.Name.{Step, Step.ToChild, is_colon, is_slash, steps, steps_along}
 use Rattle.ados_model.specs.declared.dos_error.DosError.{DosError}
 use Rattle.ados_model.specs.declared.dos_error.WalkFault.TheVariants.{ObjectNotFound}
 use Rattle.ados_model.specs.Tree.{Tree, root}
