@@ -14,5 +14,7 @@ pub mod Keeping
 pub mod Putting
 pub mod Advancing
 pub mod Fronts
+pub mod Parts
+pub mod Reaching
 pub mod Naming
 mod Bundled
