@@ -7,6 +7,7 @@ pub mod Pruning
 pub mod Denying
 pub mod Filling
 pub mod Rooms
+pub mod SomeFree
 pub mod Finding
 pub mod Turning
 pub mod Telling
