@@ -1301,9 +1301,11 @@ def saved_boots(tried: Commands) -> None:
         row("boot --save of two blocks alone", "boot --save two.boot saved.boot"),
     )
     tried.stays("boot --save of two blocks writes them", "two.boot", saved)
+    tried.report.check("boot --save to standard output", tried.run("boot", "--save", "-", "boots.adf"), 0, saved)
+    tried.report.check("boot --save of a byte less than two blocks to standard output", tried.run("boot", "--save", "-", "cut.boot"), 3, NOT_BLOCKS, "1,023" + WHY_NOT_BLOCKS)
     tried.stays("boot --save writes over no file", "saved.boot", saved)
     tried.stays("boot --save writes over no image", "boots.adf", image)
-    for name in ("x.boot", "nowhere"):
+    for name in ("x.boot", "nowhere", "-"):
         tried.absent(f"no file {name}", name)
     few = tried.run("boot", "--save", "few.boot", "boots.adf", before=partial(resource.setrlimit, resource.RLIMIT_FSIZE, (1000, 1000)))
     tried.report.check("boot --save past the limit on files", few, 2, b"", "cannot write 'few.boot': ", "ulimit")

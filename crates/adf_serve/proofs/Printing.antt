@@ -26,9 +26,9 @@ use Rattle.adf_serve.specs.declared.refusal.DosRefusal.{DosRefusal}
 use Rattle.adf_serve.specs.Asked.{AnswersDisk}
 use Rattle.adf_serve.specs.Texts.{AreDeletedLines, AreEntryBlocks, BeginsJobText, BeginsListOf, BeginsListText, IsJobText, IsListed, IsListOf, IsListText, shown_form, IsLook, IsLookText, IsInfoText, IsPrintText}
 use Rattle.adf_serve.specs.Faults.{IsBlankFault, IsNoImage, IsNoImageRefusal, IsNoRefusal, IsRefusedFor, IsToldAs, IsToldOut}
-use Rattle.adf_serve.specs.Commands.{Does, DoesJob, Ending, EndsJob, EndsOff, LeavesOff, Prints, prints, prints_json, Tells, TellsFault, TellsImage, TellsJob, TellsOf, TellsSome}
-use Rattle.adf_serve.specs.Commands.Prints.{OnlyFaults, OfNewImage, OfBlocks, OfBytes, OfImages, OfMap, OfRescue, Unsaid}
-use Rattle.adf_serve.specs.NewImages.{PutsImage, StartsWithImage, WritesImage}
+use Rattle.adf_serve.specs.Commands.{Does, DoesJob, Ending, EndsJob, EndsOff, LeavesOff, Prints, prints, prints_json, Tells, TellsFault, TellsMade, TellsJob, TellsOf, TellsSome}
+use Rattle.adf_serve.specs.Commands.Prints.{OnlyFaults, OfMade, OfBlocks, OfBytes, OfImages, OfMap, OfRescue, Unsaid}
+use Rattle.adf_serve.specs.NewImages.{IsMade, Made, PutsImage, PutsMade, WritesImage, WritesMade}
 use Rattle.std.proofs.lemmas.List.{append-nil}
 use Rattle.adf_archive.specs.Archive.{TellsArchive, told_in}
 use Rattle.adf_archive.specs.declared.fault.ArchiveFault.{ArchiveFault}
@@ -232,58 +232,58 @@ kept_appends (Some x) (Some y) None bytes k w = absurd w
 kept_appends (Some x) (Some y) (Some z) bytes k w = w ∙ ap (λ (l : List ℕ). l ++ bytes) k
 
 -- a fault before any output
-pub none_put : (w : Option (List ℕ)) (fault : CommandFault) → WritesImage w w (Err fault)
-none_put w (Refused refusal) = Keeps-refl w
-none_put w (Dos refusal) = Keeps-refl w
-none_put w fault = inl (Keeps-refl w)
+pub none_put : (made : Made) (w : Option (List ℕ)) (fault : CommandFault) → WritesMade made w w (Err fault)
+none_put made w (Refused refusal) = Keeps-refl w
+none_put made w (Dos refusal) = Keeps-refl w
+none_put made w fault = inl (Keeps-refl w)
 
-pub image_not_put : (file w : Option (List ℕ)) (fault : CommandFault) → PutsImage file w w (Err fault)
-image_not_put file w fault = (λ is. none_put w fault, λ other. Keeps-refl w)
+pub made_not_put : (made : Made) (file w : Option (List ℕ)) (fault : CommandFault) → PutsMade made file w w (Err fault)
+made_not_put made file w fault = (λ is. none_put made w fault, λ other. Keeps-refl w)
 
-pub unput : (w : Option (List ℕ)) (fault : CommandFault) (done : Ending) → IsErrAnd done (λ told. told ≡ fault) → WritesImage w w done
-unput w fault (Ok x) same = absurd same
-unput w fault (Err told) same = none_put w told
+pub unput : (made : Made) (w : Option (List ℕ)) (fault : CommandFault) (done : Ending) → IsErrAnd done (λ told. told ≡ fault) → WritesMade made w w done
+unput made w fault (Ok x) same = absurd same
+unput made w fault (Err told) same = none_put made w told
 
-pub not_put : (file w : Option (List ℕ)) (fault : CommandFault) (done : Ending) → IsErrAnd done (λ told. told ≡ fault) → PutsImage file w w done
-not_put file w fault (Ok x) same = absurd same
-not_put file w fault (Err told) same = image_not_put file w told
+pub not_put : (made : Made) (file w : Option (List ℕ)) (fault : CommandFault) (done : Ending) → IsErrAnd done (λ told. told ≡ fault) → PutsMade made file w w done
+not_put made file w fault (Ok x) same = absurd same
+not_put made file w fault (Err told) same = made_not_put made file w told
 
 -- the file of the image is standard output, or another
-pub put_output : (file : List ℕ) (old new : Option (List ℕ)) (done : Ending) (is_output : Bool) → (IsTrue is_output ↔ (file ≡ codes "-")) → IsTrue is_output → WritesImage old new done
-    → PutsImage (Some file) old new done
-put_output file old new done is_output same yes put = (λ is. put, λ other. absurd (other (ap Some (same.0 yes))))
+pub put_output : (made : Made) (file : List ℕ) (old new : Option (List ℕ)) (done : Ending) (is_output : Bool) → (IsTrue is_output ↔ (file ≡ codes "-")) → IsTrue is_output → WritesMade made old new done
+    → PutsMade made (Some file) old new done
+put_output made file old new done is_output same yes put = (λ is. put, λ other. absurd (other (ap Some (same.0 yes))))
 
-pub put_file : (file : List ℕ) (w : Option (List ℕ)) (done : Ending) (is_output : Bool) → (IsTrue is_output ↔ (file ≡ codes "-")) → IsFalse is_output → PutsImage (Some file) w w done
-put_file file w done is_output same no = (λ is. absurd (let yes = same.1 (cc is) in cc (sym no ∙ yes)), λ other. Keeps-refl w)
+pub put_file : (made : Made) (file : List ℕ) (w : Option (List ℕ)) (done : Ending) (is_output : Bool) → (IsTrue is_output ↔ (file ≡ codes "-")) → IsFalse is_output → PutsMade made (Some file) w w done
+put_file made file w done is_output same no = (λ is. absurd (let yes = same.1 (cc is) in cc (sym no ∙ yes)), λ other. Keeps-refl w)
 
 pub put_work : (file old new : Option (List ℕ)) (done : Ending) (to_output : Bool) → (IsTrue to_output ↔ (file ≡ Some (codes "-"))) → (IsTrue to_output → WritesImage old new done)
     → (IsFalse to_output → Keeps old new) → PutsImage file old new done
 put_work file old new done true same put keeps = (λ is. put refl, λ other. absurd (other (same.0 refl)))
 put_work file old new done false same put keeps = (λ is. absurd (cc (same.1 is)), λ other. keeps refl)
 
--- an image that is put as far as the writer accepts it
-image_front : (old new : Option (List ℕ)) (text : List ℕ) (fault : CommandFault) → StartsWithImage text → IsNoRefusal fault → WritesFront old new text → WritesImage old new (Err fault)
-image_front old new text (Refused refusal) is plain front = absurd (cc plain)
-image_front old new text (Dos refusal) is plain front = absurd (cc plain)
-image_front old new text fault is plain front = inr (text, is, front)
+-- what is put as far as the writer accepts it
+made_front : (made : Made) (old new : Option (List ℕ)) (text : List ℕ) (fault : CommandFault) → IsMade made text → IsNoRefusal fault → WritesFront old new text → WritesMade made old new (Err fault)
+made_front made old new text (Refused refusal) is plain front = absurd (cc plain)
+made_front made old new text (Dos refusal) is plain front = absurd (cc plain)
+made_front made old new text fault is plain front = inr (text, is, front)
 
-pub image_put : (old new : Option (List ℕ)) (text : List ℕ) (done : Ending) → StartsWithImage text → OnOk done (Appends old new text) → OnErr done (WritesFront old new text) → IfErr done IsNoRefusal
-    → WritesImage old new done
-image_put old new text (Ok x) is all front plain = (text, all, is)
-image_put old new text (Err fault) is all front plain = image_front old new text fault is plain front
+pub made_put : (made : Made) (old new : Option (List ℕ)) (text : List ℕ) (done : Ending) → IsMade made text → OnOk done (Appends old new text) → OnErr done (WritesFront old new text) → IfErr done IsNoRefusal
+    → WritesMade made old new done
+made_put made old new text (Ok x) is all front plain = (text, all, is)
+made_put made old new text (Err fault) is all front plain = made_front made old new text fault is plain front
 
--- the fault of a job that puts an image
-image_failed : (json : Bool) (old new : Option (List ℕ)) (fault : CommandFault) → WritesImage old new (Err fault) → IsNoRefusal fault → TellsImage json old new (Err fault)
-image_failed json old new (Refused refusal) h plain = absurd (cc plain)
-image_failed json old new (Dos refusal) h plain = absurd (cc plain)
-image_failed json old new fault (inl keeps) plain = inl keeps
-image_failed json old new fault (inr (text, is, front)) plain = inr (text, inl is, front)
+-- the fault of a job that puts something
+made_failed : (json : Bool) (made : Made) (old new : Option (List ℕ)) (fault : CommandFault) → WritesMade made old new (Err fault) → IsNoRefusal fault → TellsMade json made old new (Err fault)
+made_failed json made old new (Refused refusal) h plain = absurd (cc plain)
+made_failed json made old new (Dos refusal) h plain = absurd (cc plain)
+made_failed json made old new fault (inl keeps) plain = inl keeps
+made_failed json made old new fault (inr (text, is, front)) plain = inr (text, inl is, front)
 
-image_unsaid : (json : Bool) (old new : Option (List ℕ)) (fault : CommandFault) → WritesImage old new (Err fault) → TellsImage json old new (Err Memory)
-image_unsaid json old new (Refused refusal) keeps = inl keeps
-image_unsaid json old new (Dos refusal) keeps = inl keeps
-image_unsaid json old new fault (inl keeps) = inl keeps
-image_unsaid json old new fault (inr (text, is, front)) = inr (text, inl is, front)
+made_unsaid : (json : Bool) (made : Made) (old new : Option (List ℕ)) (fault : CommandFault) → WritesMade made old new (Err fault) → TellsMade json made old new (Err Memory)
+made_unsaid json made old new (Refused refusal) keeps = inl keeps
+made_unsaid json made old new (Dos refusal) keeps = inl keeps
+made_unsaid json made old new fault (inl keeps) = inl keeps
+made_unsaid json made old new fault (inr (text, is, front)) = inr (text, inl is, front)
 
 -- an option without a value, and one with a value
 pub none_told : {A : Type 0} (f : A → List ℕ) (o : Option A) (told : Option (List ℕ)) → option_map f o ≡ told → o ≡ None → told ≡ None
@@ -503,7 +503,7 @@ module _ (json : Bool) (IsText BeginsText : List ℕ → List ℕ → Type 0) wh
   -- a job succeeds
   done : (p : Prints) (old new : Option (List ℕ)) (x : Unit {0}) → Does p IsText BeginsText old new (Ok x) → Tells json p IsText BeginsText old new (Ok x)
   done OnlyFaults old new x h = h
-  done (OfNewImage file) old new x h = h
+  done (OfMade made file) old new x h = h
   done OfBytes old new x h = h
   done (OfImages job) old new x h = h
   done (OfRescue job) old new x h = h
@@ -515,7 +515,7 @@ module _ (json : Bool) (IsText BeginsText : List ℕ → List ℕ → Type 0) wh
   failed : (p : Prints) (old new : Option (List ℕ)) (fault : CommandFault) → Does p IsText BeginsText old new (Err fault) → IsNoRefusal fault
       → Tells json p IsText BeginsText old new (Err fault)
   failed OnlyFaults old new fault keeps plain = rw (none_in json fault plain) (inl keeps)
-  failed (OfNewImage file) old new fault (put, keeps) plain = (λ is. image_failed json old new fault (put is) plain, λ other. rw (none_in json fault plain) (inl (keeps other)))
+  failed (OfMade made file) old new fault (put, keeps) plain = (λ is. made_failed json made old new fault (put is) plain, λ other. rw (none_in json fault plain) (inl (keeps other)))
   failed Unsaid old new fault h plain = tt
   failed (OfImages job) old new fault h plain = h
   failed (OfRescue job) old new fault h plain = report_failed json (IsRescueText job.json) IsSomeSize (λ (fault : CommandFault). IsHostEnd fault job.list) old new fault h plain
@@ -529,7 +529,7 @@ module _ (json : Bool) (IsText BeginsText : List ℕ → List ℕ → Type 0) wh
   -- a job without memory for its text
   unsaid : (p : Prints) (old new : Option (List ℕ)) (fault : CommandFault) → Does p IsText BeginsText old new (Err fault) → Tells json p IsText BeginsText old new (Err Memory)
   unsaid OnlyFaults old new fault keeps = inl keeps
-  unsaid (OfNewImage file) old new fault (put, keeps) = (λ is. image_unsaid json old new fault (put is), λ other. inl (keeps other))
+  unsaid (OfMade made file) old new fault (put, keeps) = (λ is. made_unsaid json made old new fault (put is), λ other. inl (keeps other))
   unsaid Unsaid old new fault h = tt
   unsaid (OfImages job) old new fault h = archive_unsaid job old new fault h
   unsaid (OfRescue job) old new fault h = report_unsaid json (IsRescueText job.json) IsSomeSize (λ (fault : CommandFault). IsHostEnd fault job.list) old new fault tt h
@@ -545,7 +545,7 @@ module _ (json : Bool) (IsText BeginsText : List ℕ → List ℕ → Type 0) wh
     told_refused : (p : Prints) (refusal : Refusal) → Does p IsText BeginsText old mid (Err (Refused refusal)) → Appends mid new (refusal_text json refusal)
         → Tells json p IsText BeginsText old new (Err (Refused refusal))
     told_refused OnlyFaults refusal keeps w = (refusal_text json refusal, kept_appends old mid new (refusal_text json refusal) keeps w, refl)
-    told_refused (OfNewImage file) refusal (put, keeps) w = (
+    told_refused (OfMade made file) refusal (put, keeps) w = (
       λ is. (refusal_text json refusal, kept_appends old mid new (refusal_text json refusal) (put is) w, refl),
       λ other. (refusal_text json refusal, kept_appends old mid new (refusal_text json refusal) (keeps other) w, refl),
     )
@@ -560,7 +560,7 @@ module _ (json : Bool) (IsText BeginsText : List ℕ → List ℕ → Type 0) wh
     told_dos : (p : Prints) (refusal : DosRefusal) → Does p IsText BeginsText old mid (Err (Dos refusal)) → Appends mid new (dos_text json refusal)
         → Tells json p IsText BeginsText old new (Err (Dos refusal))
     told_dos OnlyFaults refusal keeps w = (dos_text json refusal, kept_appends old mid new (dos_text json refusal) keeps w, refl)
-    told_dos (OfNewImage file) refusal (put, keeps) w = (
+    told_dos (OfMade made file) refusal (put, keeps) w = (
       λ is. (dos_text json refusal, kept_appends old mid new (dos_text json refusal) (put is) w, refl),
       λ other. (dos_text json refusal, kept_appends old mid new (dos_text json refusal) (keeps other) w, refl),
     )
@@ -589,7 +589,7 @@ module _ (json : Bool) (IsText BeginsText : List ℕ → List ℕ → Type 0) wh
     broken_refused : (p : Prints) (refusal : Refusal) → Does p IsText BeginsText old mid (Err (Refused refusal))
         → WritesFront mid new (refusal_text json refusal) → Tells json p IsText BeginsText old new (Err Output)
     broken_refused OnlyFaults refusal keeps front = broken_quiet (Refused refusal) Output (refusal_text json refusal) refl refl keeps front
-    broken_refused (OfNewImage file) refusal (put, keeps) front = (
+    broken_refused (OfMade made file) refusal (put, keeps) front = (
       λ is. inr (refusal_text json refusal, inr (Refused refusal, refl), kept_front (refusal_text json refusal) (put is) front),
       λ other. broken_quiet (Refused refusal) Output (refusal_text json refusal) refl refl (keeps other) front,
     )
@@ -604,7 +604,7 @@ module _ (json : Bool) (IsText BeginsText : List ℕ → List ℕ → Type 0) wh
     broken_dos : (p : Prints) (refusal : DosRefusal) → Does p IsText BeginsText old mid (Err (Dos refusal))
         → WritesFront mid new (dos_text json refusal) → Tells json p IsText BeginsText old new (Err Output)
     broken_dos OnlyFaults refusal keeps front = broken_quiet (Dos refusal) Output (dos_text json refusal) refl refl keeps front
-    broken_dos (OfNewImage file) refusal (put, keeps) front = (
+    broken_dos (OfMade made file) refusal (put, keeps) front = (
       λ is. inr (dos_text json refusal, inr (Dos refusal, refl), kept_front (dos_text json refusal) (put is) front),
       λ other. broken_quiet (Dos refusal) Output (dos_text json refusal) refl refl (keeps other) front,
     )

@@ -15,7 +15,8 @@ use Rattle.adf_serve.specs.declared.fault.CommandFault.{CommandFault}
 use Rattle.adf_serve.specs.declared.fault.CommandFault.TheVariants.{Dos, Refused}
 use Rattle.adf_serve.specs.Archives.{EndsArchive}
 use Rattle.adf_serve.specs.Mapped.{DoesMap, TellsMap}
-use Rattle.adf_serve.specs.NewImages.{PutsImage, StartsWithImage, out_of}
+use Rattle.adf_serve.specs.NewImages.{IsMade, Made, PutsMade, out_of}
+use Rattle.adf_serve.specs.NewImages.Made.{ABootBlock, AnImage}
 use Rattle.adf_serve.specs.Placed.{DoesWhere, TellsWhere}
 use Rattle.adf_serve.specs.Rescues.{DoesRescue, TellsRescue}
 use Rattle.adf_serve.specs.Texts.{BeginsJobText, IsJobText}
@@ -64,11 +65,11 @@ prints_json (Check job) = job.json
 prints_json (Salvage job) = job.json
 prints_json job = false
 
--- the kind of a job's output: only the text of its fault; the image that it makes, if this is its file and `-`; a text for the
+-- the kind of a job's output: only the text of its fault; what it makes, if its file is `-`; a text for the
 -- bytes of its file; the reports on checked images; the report on a rescue; what is told of blocks; a map; or output without a promise
 pub data Prints : Type 0 where
   OnlyFaults : Prints
-  OfNewImage : Option (List ℕ) → Prints
+  OfMade : Made → Option (List ℕ) → Prints
   OfBytes : Prints
   OfImages : CheckJob → Prints
   OfRescue : SalvageJob → Prints
@@ -83,18 +84,18 @@ prints (Where job) = OfBlocks job
 prints (Map image form) = OfMap form
 prints (Extract job) = OnlyFaults
 prints (ExtractBundle image to) = OnlyFaults
-prints (Blank format blocks moment name letters file) = OfNewImage (Some file.now)
-prints (AddBundle target from) = OfNewImage (out_of target)
-prints (Change job) = OfNewImage (out_of job.target)
-prints (Boot target block) = OfNewImage (out_of target)
-prints (SaveBoot image file) = OnlyFaults
+prints (Blank format blocks moment name letters file) = OfMade AnImage (Some file.now)
+prints (AddBundle target from) = OfMade AnImage (out_of target)
+prints (Change job) = OfMade AnImage (out_of job.target)
+prints (Boot target block) = OfMade AnImage (out_of target)
+prints (SaveBoot image file) = OfMade ABootBlock (Some file.now)
 prints (Serve job) = Unsaid
 prints job = OfBytes
 
 -- the result of such a job before a refusal is printed
 abbrev pub Does : Prints → (IsText BeginsText : List ℕ → List ℕ → Type 0) → Option (List ℕ) → Option (List ℕ) → Ending → Type 0
 Does OnlyFaults IsText BeginsText old new result = Keeps old new
-Does (OfNewImage file) IsText BeginsText old new result = PutsImage file old new result
+Does (OfMade made file) IsText BeginsText old new result = PutsMade made file old new result
 Does OfBytes IsText BeginsText old new result = TellsSome IsText BeginsText old new result
 Does (OfImages job) IsText BeginsText old new result = EndsArchive job old new result
 Does (OfRescue job) IsText BeginsText old new result = DoesRescue job old new result
@@ -122,11 +123,11 @@ TellsFault json old new (Ok done) = Keeps old new
 TellsFault json old new (Err fault) =
     MatchOption (told_line json fault) (Keeps old new ⊎ WritesFrontOf old new (IsToldLine json)) (λ line. Writes old new (λ text. text ≡ line))
 
--- a job whose only output is the image that it makes or the text of its fault, or a prefix of these
-abbrev pub TellsImage : (json : Bool) → Option (List ℕ) → Option (List ℕ) → Ending → Type 0
-TellsImage json old new (Ok done) = Writes old new StartsWithImage
-TellsImage json old new (Err fault) =
-    MatchOption (told_line json fault) (Keeps old new ⊎ WritesFrontOf old new (λ text. StartsWithImage text ⊎ IsToldLine json text)) (λ line. Writes old new (λ text. text ≡ line))
+-- a job whose only output is what it makes or the text of its fault, or a prefix of these
+abbrev pub TellsMade : (json : Bool) → Made → Option (List ℕ) → Option (List ℕ) → Ending → Type 0
+TellsMade json made old new (Ok done) = Writes old new (IsMade made)
+TellsMade json made old new (Err fault) =
+    MatchOption (told_line json fault) (Keeps old new ⊎ WritesFrontOf old new (λ text. IsMade made text ⊎ IsToldLine json text)) (λ line. Writes old new (λ text. text ≡ line))
 
 -- a text for the bytes, their refusal, or the output before a fault
 abbrev pub EndsSome : (json : Bool) → (IsText BeginsText : List ℕ → List ℕ → Type 0) → Option (List ℕ) → Option (List ℕ) → Ending → Type 0
@@ -136,8 +137,8 @@ EndsSome json IsText BeginsText old new result =
 -- the result of a job with this form and this kind of output
 abbrev pub Tells : (json : Bool) → Prints → (IsText BeginsText : List ℕ → List ℕ → Type 0) → Option (List ℕ) → Option (List ℕ) → Ending → Type 0
 Tells json OnlyFaults IsText BeginsText old new result = TellsFault json old new result
-Tells json (OfNewImage file) IsText BeginsText old new result =
-    (file ≡ Some (codes "-") → TellsImage json old new result) × (file ≢ Some (codes "-") → TellsFault json old new result)
+Tells json (OfMade made file) IsText BeginsText old new result =
+    (file ≡ Some (codes "-") → TellsMade json made old new result) × (file ≢ Some (codes "-") → TellsFault json old new result)
 Tells json OfBytes IsText BeginsText old new result = EndsSome json IsText BeginsText old new result
 Tells json (OfImages job) IsText BeginsText old new result = EndsArchive job old new result
 Tells json (OfRescue job) IsText BeginsText old new result = TellsRescue json job old new result

@@ -1,16 +1,17 @@
 //! The command `boot`, and the boot block of any image.
-ghost use Rattle.std.specs.Prelude.{IfErr, IfOk};
+ghost use Rattle.std.specs.Prelude.{IfErr, IfOk, Some};
 ghost use Rattle.adf_block.specs.BootCode.{boot_bytes};
 ghost use Rattle.adf_io.specs.Front.{ReadsUpTo};
 ghost use Rattle.adf_serve.specs.Boot.{PutsBoot, PutsFile};
 ghost use Rattle.adf_serve.specs.Commands.{TellsSome};
 ghost use Rattle.adf_serve.specs.Faults.{IsNoImage};
-ghost use Rattle.adf_serve.specs.NewImages.{PutsImage, out_of};
+ghost use Rattle.adf_serve.specs.NewImages.{PutsImage, PutsMade, out_of};
+ghost use Rattle.adf_serve.specs.NewImages.Made.{ABootBlock};
 ghost use Rattle.adf_serve.specs.Texts.{IsBootForm};
 
 use crate::fault::CommandFault;
 use crate::images::{Work, accept, unread};
-use crate::output::tell;
+use crate::output::{is_output, tell};
 use crate::refusal::Refusal;
 use adf_block::layout::{BLOCK_BYTES, FEWEST_BLOCKS};
 use adf_block::{
@@ -183,14 +184,21 @@ pub(crate) fn tell_boot<F: Write>(image: &Image, faults: &mut F) {
     }
 }
 
-/// Writes the boot block of a file to a new file of the host. The file may be any that has two blocks.
-pub(crate) fn save_boot<'a, R: Files<File = File> + PromptFiles>(
+/// Writes the boot block of a file to a new file of the host, or to standard output if that is `-`. The file may be any that has two
+/// blocks.
+pub(crate) fn save_boot<'a, R: Files<File = File> + PromptFiles, W: Write>(
     rt: &R,
     alloc: Global,
     image: ImageFile<'a>,
     file: &'a str,
-) -> Result<(), CommandFault<'a>> {
+    writer: &mut W,
+) -> Result<(), CommandFault<'a>>
+    ensures { PutsMade ABootBlock (Some file.entry.now) (W.contents writer.old) (W.contents writer.new) result }
+{
     let image = read_boot(rt, alloc, image)?;
+    if is_output(file) {
+        return tell(writer, boot_bytes(&image));
+    }
     let Err(why) = write_new(rt, file, boot_bytes(&image)) else {
         return Ok(());
     };

@@ -69,7 +69,7 @@ where
         ImageJob::Change(job) => change(rt, alloc, job, writer, faults),
         ImageJob::Validate { target, force, json } => validate_file(rt, alloc, *target, *force, *json, writer),
         ImageJob::Boot { target, block } => change_boot(rt, alloc, *target, *block, writer),
-        ImageJob::SaveBoot { image, file } => save_boot(rt, alloc, *image, *file),
+        ImageJob::SaveBoot { image, file } => save_boot(rt, alloc, *image, *file, writer),
         ImageJob::Serve(job) => serve(rt, alloc, job, writer, faults),
     }
 }

@@ -1,14 +1,15 @@
+use Rattle.adf_serve.specs.NewImages.Made.{AnImage}
 use Rattle.adf_serve.proofs.Printing.{not_put, put_work}
 use Rattle.adf_serve.proofs.boot.change_boot.Goals as goal
 
 pub returns-in_err-work : goal.returns-in_err-work
-returns-in_err-work g c = not_put _ _ c.in_err-work.field-0.0 _ c.from_residual.ensures.1
+returns-in_err-work g c = not_put AnImage _ _ c.in_err-work.field-0.0 _ c.from_residual.ensures.1
 
 pub returns-in_err-accept_copy : goal.returns-in_err-accept_copy
-returns-in_err-accept_copy g c = not_put _ _ c.in_err-accept_copy.field-0.0 _ c.from_residual-in_err-accept_copy.ensures.1
+returns-in_err-accept_copy g c = not_put AnImage _ _ c.in_err-accept_copy.field-0.0 _ c.from_residual-in_err-accept_copy.ensures.1
 
 pub returns-in_err-put_boot : goal.returns-in_err-put_boot
-returns-in_err-put_boot g c = not_put _ _ c.in_err-put_boot.field-0.0 _ c.from_residual-in_err-put_boot.ensures.1
+returns-in_err-put_boot g c = not_put AnImage _ _ c.in_err-put_boot.field-0.0 _ c.from_residual-in_err-put_boot.ensures.1
 
 pub returns : goal.returns
 returns g c = put_work _ _ _ c.put.result c.in_ok-work.work.to_output c.in_ok-work.ensures.output c.put.ensures.output c.put.ensures.file
