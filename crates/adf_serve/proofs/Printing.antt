@@ -251,10 +251,10 @@ not_put made file w fault (Err told) same = made_not_put made file w told
 -- the file of the image is standard output, or another
 pub put_output : (made : Made) (file : List ℕ) (old new : Option (List ℕ)) (done : Ending) (is_output : Bool) → (IsTrue is_output ↔ (file ≡ codes "-")) → IsTrue is_output → WritesMade made old new done
     → PutsMade made (Some file) old new done
-put_output made file old new done is_output same yes put = (λ is. put, λ other. absurd (other (ap Some (same.0 yes))))
+put_output made file old new done is_output same is_so put = (λ is. put, λ other. absurd (other (ap Some (same.0 is_so))))
 
 pub put_file : (made : Made) (file : List ℕ) (w : Option (List ℕ)) (done : Ending) (is_output : Bool) → (IsTrue is_output ↔ (file ≡ codes "-")) → IsFalse is_output → PutsMade made (Some file) w w done
-put_file made file w done is_output same no = (λ is. absurd (let yes = same.1 (cc is) in cc (sym no ∙ yes)), λ other. Keeps-refl w)
+put_file made file w done is_output same is_not = (λ is. absurd (let is_so = same.1 (cc is) in cc (sym is_not ∙ is_so)), λ other. Keeps-refl w)
 
 pub put_work : (file old new : Option (List ℕ)) (done : Ending) (to_output : Bool) → (IsTrue to_output ↔ (file ≡ Some (codes "-"))) → (IsTrue to_output → WritesImage old new done)
     → (IsFalse to_output → Keeps old new) → PutsImage file old new done

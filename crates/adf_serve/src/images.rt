@@ -249,7 +249,7 @@ impl<'a> Work<'a> {
 
 /// Whether a changed image goes to standard output.
 fn goes_to_output(target: Rewrite<'_>) -> bool
-    ensures { IsTrue result ↔ (out_of target ≡ Some (codes "-")) }
+    ensures { IsTrue result ↔ (out_of target.entry ≡ Some (codes "-")) }
 {
     match target.out {
         Some(file) => is_output(file),

@@ -9,3 +9,6 @@ pub returns-then-is_output : goal.returns-then-is_output
 returns-then-is_output g c =
     put_output ABootBlock c.args.file.now _ _ _ c.is_output.result c.is_output.ensures c.if-is_output.true
     (made_put ABootBlock _ _ c.boot_bytes.result.now c.tell.result c.boot_bytes.ensures.length c.tell.ensures.ok c.tell.ensures.front c.tell.ensures.no_refusal)
+
+pub returns-in_default : goal.returns-in_default
+returns-in_default g c = put_file ABootBlock c.args.file.now _ _ c.is_output.result c.is_output.ensures c.if-is_output.false
