@@ -629,6 +629,8 @@ def directories_on_the_way(tried: Commands) -> None:
         (f"k m/{long}/o", f"210 m/{long}/o", many),
         (f"k m/{long}", f"210 m/{long}", many),
         ("k /up", "205 /up", "object not found"),
+        ("k x:f/y:z/o", "212 x:f/y:z/o", kind),
+        ("k x:k/y:z/o", "204 x:k/y:z/o", "directory not found"),
     ):
         tried.rows(row(f"mkdir --parents {words}", f"mkdir --parents way.adf {words}", 3, f"refused {told}\n", text))
     tried.stays("a refused mkdir --parents changes nothing", "way.adf", before)

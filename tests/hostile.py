@@ -1597,6 +1597,12 @@ def deep_images(blocks: int, room: Shared) -> None:
     bounded(room, blocks, f"delete --all of {title}", ["delete", "--all", *MOMENT, "deep.adf", first], 0)
     listed = bounded(room, blocks, f"list after delete --all of {title}", ["list", "deep.adf"], 0)
     room.report.expect(f"what is left of {title} of {blocks} blocks", listed == b"Volume Work\n", f"{listed[:200]!r}")
+    # (a word has at most 131,071 bytes)
+    parts = min(60_000, headers_of(blank))
+    for what in (f"mkdir --parents that makes {title}", f"mkdir --parents of {title} that is there"):
+        bounded(room, blocks, what, ["mkdir", "--parents", *MOMENT, "deep.adf", "/".join("a" * parts)], 0)
+    told = bounded(room, blocks, f"check --json after mkdir --parents of {title}", ["check", "--json", "deep.adf"], 0)
+    room.report.expect(f"what mkdir --parents made of {title} of {blocks} blocks", b'"directories":%d,' % parts in told, f"{told[:300]!r}")
 
 
 def counted(room: Room, words: Sequence[str]) -> Tuple[int, int, bytes]:

@@ -13,7 +13,7 @@ module _ (path : List ℕ) where
   one_front : (i : ℕ) → ends_front path i ≡ true → fronts_before path (suc i) ≡ fronts_before path i ++ take i path ∷ []
   one_front i is = ap (λ (b : Bool). fronts_before path i ++ (if b then take i path ∷ [] else [])) is
 
-  no_front : (i : ℕ) → ends_front path i ≡ false → fronts_before path (suc i) ≡ fronts_before path i
+  pub no_front : (i : ℕ) → ends_front path i ≡ false → fronts_before path (suc i) ≡ fronts_before path i
   no_front i is = ap (λ (b : Bool). fronts_before path i ++ (if b then take i path ∷ [] else [])) is ∙ append-nil (fronts_before path i)
 
   -- the paths that end later come behind

@@ -7,6 +7,7 @@ pub mod Pruning
 pub mod Denying
 pub mod Filling
 pub mod Rooms
+pub mod SomeFree
 pub mod Finding
 pub mod Turning
 pub mod Telling
@@ -14,5 +15,7 @@ pub mod Keeping
 pub mod Putting
 pub mod Advancing
 pub mod Fronts
+pub mod Parts
+pub mod Reaching
 pub mod Naming
 mod Bundled

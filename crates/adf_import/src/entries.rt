@@ -13,7 +13,7 @@ ghost use Rattle.adf_import.specs.Refusals.{delete_refusal, make_refusal, move_r
 
 use ados_model::DosError;
 use ados_name::{Date3, Name};
-use ados_volume::{NodeKind, Volume, free_blocks, move_refusal, remove_refusal};
+use ados_volume::{NodeKind, Volume, move_refusal, remove_refusal};
 
 /// Makes an empty directory and returns its key. The dates of the new directory, of the one above it and of the disk
 /// become `moment`.
@@ -35,13 +35,10 @@ pub fn make_directory(
     if volume.child(dir, &name).is_some() {
         return Err(DosError::ObjectExists);
     }
-    if free_blocks(volume) < 1 {
-        return Err(DosError::DiskFull);
+    match volume.create(dir, name, NodeKind::Directory, moment) {
+        Ok(key) => Ok(key),
+        Err(_) => Err(DosError::DiskFull),
     }
-    let Ok(key) = volume.create(dir, name, NodeKind::Directory, moment) else {
-        unreachable!()
-    };
-    Ok(key)
 }
 
 /// Deletes a file, or a directory without entries. With `force` a protected one too. The date of its directory and the
