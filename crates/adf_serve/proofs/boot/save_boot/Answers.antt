@@ -1,3 +1,4 @@
+use Rattle.std.proofs.Common.{Ok}
 use Rattle.adf_serve.specs.NewImages.Made.{ABootBlock}
 use Rattle.adf_serve.proofs.Printing.{made_put, not_put, put_file, put_output}
 use Rattle.adf_serve.proofs.boot.save_boot.Goals as goal
@@ -11,4 +12,4 @@ returns-then-is_output g c =
     (made_put ABootBlock _ _ c.boot_bytes.result.now c.tell.result c.boot_bytes.ensures.length c.tell.ensures.ok c.tell.ensures.front c.tell.ensures.no_refusal)
 
 pub returns-in_default : goal.returns-in_default
-returns-in_default g c = put_file ABootBlock c.args.file.now _ _ c.is_output.result c.is_output.ensures c.if-is_output.false
+returns-in_default g c = put_file ABootBlock c.args.file.now _ (Ok tt) c.is_output.result c.is_output.ensures c.if-is_output.false

@@ -12,7 +12,7 @@ returns-in_err-text-clause-fault g c = known_unmade (IsMapReport c.args.form) Is
 pub returns-clause-ok : goal.returns-clause-ok
 returns-clause-ok g c =
     let is = subst (IsFaultyMap c.args.form c.args.image.now c.reason.result.kind.now c.reason.result.block) (sym c.deref.ensures.value) c.in_ok-text.ensures in
-    on_ok_weaker c.tell.result _ _ (λ told refused. (c.deref.result.now, told, mapped c.args.form c.args.image.now c.args.refusal _ _ c.reason.ensures.kind c.reason.ensures.block _ is refused)) c.tell.ensures.ok
+    on_ok_weaker c.tell.result (λ told refused. (c.deref.result.now, told, mapped c.args.form c.args.image.now c.args.refusal _ _ c.reason.ensures.kind c.reason.ensures.block _ is refused)) c.tell.ensures.ok
 
 pub returns-clause-fault : goal.returns-clause-fault
 returns-clause-fault g c =
