@@ -1302,7 +1302,7 @@ def saved_boots(tried: Commands) -> None:
     )
     tried.stays("boot --save of two blocks writes them", "two.boot", saved)
     tried.report.check("boot --save to standard output", tried.run("boot", "--save", "-", "boots.adf"), 0, saved)
-    tried.report.check("boot --save of a byte less than two blocks to standard output", tried.run("boot", "--save", "-", "cut.boot"), 3, NOT_BLOCKS, "1,023" + WHY_NOT_BLOCKS)
+    tried.report.check("boot --save of a byte less than two blocks to standard output", tried.run("boot", "--save", "-", "cut.boot"), 3, NOT_BLOCKS.encode(), "1,023" + WHY_NOT_BLOCKS)
     tried.stays("boot --save writes over no file", "saved.boot", saved)
     tried.stays("boot --save writes over no image", "boots.adf", image)
     for name in ("x.boot", "nowhere", "-"):
