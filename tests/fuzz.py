@@ -381,9 +381,17 @@ class Tried:
     def agrees(self, *words: str) -> Ran:
         """Runs a command that prints the refusal of `check`, or succeeds where that accepts the image."""
         ran = self.run(*words)
-        wanted = (0, ran.output) if self.is_accepted else (3, self.refused)
-        assert (ran.status, ran.output) == wanted, f"{' '.join(words)}: status {ran.status}, {ran.output[:200]!r} where {self.refused!r} is expected"
+        refused = self.refused_object() if "--json" in words else self.refused
+        wanted = (0, ran.output) if self.is_accepted else (3, refused)
+        assert (ran.status, ran.output) == wanted, f"{' '.join(words)}: status {ran.status}, {ran.output[:200]!r} where {refused!r} is expected"
         return ran
+
+    def refused_object(self) -> bytes:
+        """What a command that prints JSON prints for a refused image."""
+        if self.is_accepted:
+            return b""
+        _, kind, block = self.refused.decode().split()
+        return json.dumps({"refused": {"kind": kind, "block": int(block)}}, separators=(",", ":")).encode() + b"\n"
 
     def checked(self) -> None:
         """`check` says what the model says."""
@@ -467,7 +475,8 @@ class Tried:
         """`print` of the first files of an accepted image, by paths without escapes."""
         self.agrees("info", "image.adf")
         booted = self.run("boot", "--show", "image.adf")
-        assert (booted.status, booted.output[:12]) == (0, b"boot block: "), f"boot --show: status {booted.status}, {booted.output[:200]!r}"
+        wanted = (0, b"boot block: ") if len(self.data) >= 2 * BLOCK else (3, self.refused)
+        assert (booted.status, booted.output[: len(wanted[1])]) == wanted, f"boot --show: status {booted.status}, {booted.output[:200]!r}"
         mapped = self.run("map", "image.adf")
         wanted = (0, b"") if self.is_accepted else (3, self.refused)
         assert (mapped.status, mapped.output[: len(wanted[1])]) == wanted, f"map: status {mapped.status}, {mapped.output[:200]!r}"
