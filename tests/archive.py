@@ -25,7 +25,7 @@ from typing import Callable, Dict, Iterable, Iterator, List, NamedTuple, Optiona
 sys.dont_write_bytecode = True
 
 from all_faults_model import lines_of
-from disk_model import account_of, rest_of, rest_text, rest_told
+from disk_model import account_of, doubts_told, rest_of, rest_text, rest_told
 from drawn_volume import Drawer, drawn, read
 from harmful import hang, join, places_in, put_entry
 from harness import BLOCK, DIRECTORY, FILE, HEADER, SLOTS, Image, Ran, Room, slot_of, try_all
@@ -1263,7 +1263,7 @@ def untrue(room: Room, job: Struck) -> Optional[str]:
     shutil.rmtree(at, ignore_errors=True)
     room.write(f"{at}.adf", job.data)
     ran = room.run("extract", "--damaged", "--to", at, f"{at}.adf")
-    if ran.status not in (0, 3) or any(b"' is doubtful: " not in it for it in ran.texts.removesuffix(rest_told(ran.texts)).splitlines()):
+    if ran.status not in (0, 3) or any(b"' is doubtful: " not in it for it in doubts_told(ran.texts)):
         return f"image {job.number}: status {ran.status}, {ran.texts[:200]!r}"
     for line in ran.output.split(b"\n"):
         if line.startswith((b"whole ", b"found whole ")):
@@ -1315,11 +1315,11 @@ def silent(room: Room, job: Flawed) -> Optional[str]:
     status, wanted, rest = account_of(job.data)
     if (ran.status, lines) != (status, wanted):
         return f"image {job.number}: {ran.status} {lines} where {status} {wanted} is expected"
-    doubtful = ran.texts.removesuffix(rest_text(rest))
+    doubtful = doubts_told(ran.texts)
     told = {re.split("[ /]", line.removesuffix("/"))[-1] for line in lines}
     silent = [it for it in job.names if it.rsplit("/", 1)[-1] not in told]
     doubts = sum("doubtful " in it for it in lines)
-    if silent or doubtful.count(b"' is doubtful: ") != doubts or len(doubtful.splitlines()) != doubts or rest_told(ran.texts) != rest_text(rest):
+    if silent or len(doubtful) != doubts or any(b"' is doubtful: " not in it for it in doubtful) or rest_told(ran.texts) != rest_text(rest):
         return f"image {job.number}: no line for {silent}, {ran}"
     written = [room.content(os.path.join(top, name)) for top, _, names in os.walk(at) for name in names]
     other = [path for path, data in job.files.items() if data not in written]

@@ -26,6 +26,7 @@ sys.dont_write_bytecode = True
 sys.path.insert(0, str(Path(__file__).resolve().parent.parent / "tools"))
 
 from command_table import commands, headings
+from disk_model import NO_SUMS
 from harmful import Drawing
 from harness import BLOCK, FILE, TOP, Failed, Image, Ran, Room, Variables, boot_sum, fault_of, redirected, run, try_all
 
@@ -1259,9 +1260,9 @@ def named_boots(tried: Commands) -> None:
     boot = boot_with(b"DOS\1", b"own")
     for name, front, said in (("none", b"DOS\1", ""), ("custom", boot, "adf_serve: boot block: custom, checksum right\n")):
         tried.write("named.adf", front + tried.content("ffs.adf")[len(front) :])
-        for words in ("extract --damaged --list named.adf", f"extract --bundle {name}.bundle named.adf"):
+        for words, more in (("extract --damaged --list named.adf", NO_SUMS), (f"extract --bundle {name}.bundle named.adf", b"")):
             ran = tried.run(*words.split())
-            tried.report.same(f"{words}: boot block {name}", (ran.status, ran.texts), (0, said.encode()))
+            tried.report.same(f"{words}: boot block {name}", (ran.status, ran.texts), (0, said.encode() + more))
 
 
 def saved_boots(tried: Commands) -> None:
@@ -2030,6 +2031,19 @@ def missing_blocks(tried: Commands) -> None:
     tried.report.same("a whole file has no such line", ran, plain)
 
 
+def bad_blocks(tried: Commands) -> None:
+    """`--bad` takes a list of blocks. A line that names no block of the image is told by its number, and nothing is written."""
+    tried.write("good.txt", b"\r\n  # none\n\t 3 # c0.h0.s0\nc79.h1.s10")
+    tried.rows(row("a list of bad blocks", f"blank {AT} Bad bad.adf"), row("that names free blocks", "extract --damaged --list --bad good.txt bad.adf"))
+    for line in (b"x", b"3 4", b"-1", b"1760", b"c0.h0.s11", b"c80.h0.s0", b"c0.h2.s0", b"03", b"3\xff", b"99999999999"):
+        tried.write("wrong.txt", b"# one\n\n5\n" + line + b"\n7\nnone\n")
+        for words in ("--list", "--to none"):
+            tried.rows(lacking(f"--bad: {line!r}", f"extract --damaged {words} --bad wrong.txt bad.adf", "'wrong.txt', line 4: the number of one of the image's 1,760 blocks is expected"))
+    tried.absent("and nothing is written", "none")
+    tried.rows(lacking("--bad of no file", "extract --damaged --list --bad missing.txt bad.adf", "cannot read 'missing.txt'"))
+    tried.rows(wrong("--bad without --damaged", "extract --bad good.txt bad.adf", "--damaged", "Usage"))
+
+
 # ---- Standard output that cannot be written ----
 
 
@@ -2072,7 +2086,7 @@ PARTS: List[Callable[[Commands], None]] = [
     *(held_images, readers_of_held_images, missing_files, errors_of_the_host, denied_files, first_faults),
     *(accepted_images, forms_of_lists, refused_images, stale_image, refused_output),
     *(shown_volumes, refused_shows, bold_letters, sorted_lists),
-    *(first_blocks, first_blocks_of_several, changed_first_blocks, wrong_first_blocks, missing_blocks),
+    *(first_blocks, first_blocks_of_several, changed_first_blocks, wrong_first_blocks, missing_blocks, bad_blocks),
 ]
 
 

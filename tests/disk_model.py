@@ -15,7 +15,7 @@ import json
 import sys
 from collections import defaultdict
 from pathlib import Path
-from typing import Dict, Iterator, List, NamedTuple, Optional, Set, Tuple
+from typing import Dict, FrozenSet, Iterator, List, NamedTuple, Optional, Set, Tuple
 
 sys.dont_write_bytecode = True
 
@@ -50,6 +50,8 @@ class Rules(NamedTuple):
 PAGE = Rules()
 # What the program does with files and used blocks.
 NOW = Rules(links=True, typed=True, capped=True, again=True, stale=True)
+# What stands on standard error of an FFS disk.
+NO_SUMS = b"adf_serve: the data blocks of this FFS disk have no checksums: 'whole' means that every pointer and header is right\n"
 # What stands on standard error before the numbers of the blocks that are used and belong to nothing.
 HEADING = b"adf_serve: blocks in use that belong to no reported entry:\n"
 
@@ -98,14 +100,34 @@ class Named(NamedTuple):
     role: str
 
 
+def majority(votes: Dict[bytes, int]) -> Optional[bytes]:
+    ofs, ffs = votes[b"DOS\0"], votes[b"DOS\1"]
+    return None if ofs == ffs else b"DOS\0" if ofs > ffs else b"DOS\1"
+
+
 def with_kind(data: bytes) -> bytes:
-    """The image with a known kind. A kind that is lost is that of OFS if a sound data block of OFS names a sound header of a file."""
-    if data[:4] in (b"DOS\0", b"DOS\1"):
-        return data
-    disk = Disk(b"DOS\0" + data[4:])
-    blocks = [it for it in disk.inside if disk.long(it, 0) == DATA and disk.is_summed(it)]
-    is_ofs = any(disk.long(it, 1) in disk.sound and disk.long(disk.long(it, 1), 127) == FILE for it in blocks)
-    return b"DOS" + (b"\0" if is_ofs else b"\1") + data[4:]
+    """The image with the kind that its blocks say. The files decide to which the root leads; else the boot block, unless all others are
+    against it; else all files; else whether there is any data of OFS."""
+    disk = Headers(data)
+    reached = {block for block, role in Model(data).reached if role.what == "entry"}
+    near: Dict[bytes, int] = {b"DOS\0": 0, b"DOS\1": 0}
+    far = dict(near)
+    for block in range(2, disk.blocks):
+        vote = disk.vote(block)
+        if vote:
+            far[vote] += 1
+            near[vote] += block in reached
+    boot = bytes(data[:4])
+    if boot in far and far[boot] == 0 and sum(far.values()):
+        boot = b""
+    is_data = any(disk.is_any_data(it) for it in range(2, disk.blocks))
+    kind = majority(near) or (boot if boot in far else None) or majority(far) or (b"DOS\0" if is_data else b"DOS\1")
+    return kind + data[4:]
+
+
+def emptied(data: bytes, holes: FrozenSet[int]) -> bytes:
+    """The image with nothing in its holes, the blocks that nobody read: no type of the disk, and a wrong checksum."""
+    return b"".join(b"\0\0\0\1" + bytes(BLOCK - 4) if it in holes else data[BLOCK * it : BLOCK * (it + 1)] for it in range(-(-len(data) // BLOCK)))
 
 
 class Headers(Image):
@@ -127,6 +149,21 @@ class Headers(Image):
 
     def is_directory(self, block: int) -> bool:
         return self.long(block, 127) == DIRECTORY
+
+    def is_any_data(self, block: int) -> bool:
+        """An OFS data block of some file."""
+        return self.long(block, 0) == DATA and self.long(block, 2) > 0 and self.is_summed(block)
+
+    def vote(self, header: int) -> Optional[bytes]:
+        """The kind for which a header speaks: that of its first data block, or of the number of its pointers."""
+        first = self.long(header, 77)
+        if 2 <= first < self.blocks and self.is_any_data(first) and self.long(first, 1) == header and self.long(first, 2) == 1:
+            return b"DOS\0"
+        if [self.long(header, it) for it in (0, 1, 127)] == [HEADER, header, FILE] and self.is_summed(header):
+            ofs, ffs = (min(72, -(-self.long(header, 81) // room)) for room in (488, 512))
+            if self.long(header, 2) == ffs != ofs:
+                return b"DOS\1"
+        return None
 
 
 class Disk(Headers):
@@ -220,21 +257,25 @@ class Owners(Model):
 
 
 class Account(Disk):
-    """What has to be told of an image."""
+    """What has to be told of an image with these holes. It is accepted only where the root leads to none of them."""
 
-    def __init__(self, data: bytes, rules: Rules) -> None:
-        self.is_accepted = not Model(data).all_faults()
-        super().__init__(with_kind(data))
-        self.rules = rules
+    def __init__(self, data: bytes, rules: Rules, holes: FrozenSet[int] = frozenset()) -> None:
+        data = emptied(data, holes)
+        model = Model(data)
+        self.is_accepted = not model.all_faults() and not holes & {block for block, _ in model.reached}
+        super().__init__(data if self.is_accepted else with_kind(data))
+        self.rules, self.holes = rules, holes
         shown = Model(bytes(self.data))
         self.bitmap = Bitmap(self, shown)
         self.pages = self.bitmap_blocks()
         self.reached_blocks = {block for block, _ in shown.reached}
+        self.reached_entries = {block for block, role in shown.reached if role.what == "entry"}
         self.deleted = {it for it in self.sound if self.is_deleted(it)} if rules.deleted else set()
         self.places: Dict[int, List[Place]] = defaultdict(list)
-        self.told = self.headers()
+        self.told = self.headers_of_accepted() if self.is_accepted else self.headers()
         self.lost = [it for it in self.places if it not in self.told and it not in self.sound]
-        self.intact = {it: blocks for it in self.sound - self.deleted if (blocks := self.sound_blocks(it)) is not None}
+        kept = self.told if self.is_accepted else self.sound - self.deleted
+        self.intact = {it: blocks for it in kept if (blocks := self.sound_blocks(it)) is not None}
         self.users: Dict[int, Set[int]] = defaultdict(set)
         for file, blocks in self.intact.items():
             for block in [*blocks.heads, *blocks.data]:
@@ -258,6 +299,11 @@ class Account(Disk):
 
     def is_deleted(self, block: int) -> bool:
         return self.bitmap.is_trusted and block not in self.reached_blocks and self.bitmap.is_free(block)
+
+    def headers_of_accepted(self) -> Set[int]:
+        """The headers of the tree of an accepted image, and the sound ones among its lost blocks, if its bitmap can be trusted."""
+        lost = {it for it in self.sound - self.reached_blocks if self.bitmap.is_trusted and not self.bitmap.is_free(it)}
+        return self.reached_entries | lost
 
     def places_in(self, holder: int) -> Iterator[Tuple[int, Place]]:
         """The accepted places of a header that is told, or of the root."""
@@ -313,7 +359,13 @@ class Account(Disk):
         return self.long(file, 4) == (data[0] if data else 0)
 
     def is_whole(self, file: int) -> bool:
-        return file in self.intact and all(self.users[it] == {file} for part in self.intact[file] for it in part)
+        """Only this file names its blocks, and none is a hole. A reached one keeps them against those to which nothing leads."""
+        if file not in self.intact:
+            return False
+        users = [self.users[it] for part in self.intact[file] for it in part]
+        if file in self.reached_entries:
+            users = [it & self.reached_entries for it in users]
+        return all(it == {file} for it in users) and not any(it in self.holes for part in self.intact[file] for it in part)
 
     # ---- files that are not
 
@@ -337,7 +389,7 @@ class Account(Disk):
 
     def piece_of(self, file: int, k: int, block: Optional[int]) -> bool:
         """Whether a block is data block `k` of a file, and not given away."""
-        if block not in self.inside or block is None or block == self.root or block in self.pages or block in self.given:
+        if block not in self.inside or block is None or block == self.root or block in self.pages or block in self.given or block in self.holes:
             return False
         return not self.ofs or [self.long(block, it) for it in range(3)] == [DATA, file, k + 1]
 
@@ -451,7 +503,7 @@ class Account(Disk):
             return self.loose_state(block) if block in self.loose else "lost"
         if self.is_directory(block):
             return "" if block in self.sound else "doubtful"
-        if self.is_accepted or self.is_whole(block):
+        if self.is_whole(block):
             self.keep(block, dict(enumerate(self.intact[block].data)), self.long(block, 81))
             return "whole"
         return self.broken_state(block)
@@ -479,7 +531,7 @@ class Account(Disk):
                 state, _, missing = (it.state or "whole").partition(" ")
                 path = it.path + "/" * (not it.state)
                 entries.append({"path": path, "state": state, "found": it.found, "missing": int(missing or 0), "cut": it.header in self.cut})
-        told = {"entries": entries, "deleted": len(self.deleted), "unaccounted": self.rest}
+        told = {"entries": entries, "deleted": len(self.deleted), "unaccounted": self.rest, "summed": self.ofs}
         return json.dumps(told, ensure_ascii=False, separators=(",", ":")).encode() + b"\n"
 
     def unaccounted(self, entries: List[Entry]) -> List[int]:
@@ -492,7 +544,7 @@ class Account(Disk):
                 needed = min(-(-self.long(it.header, 81) // self.room), self.blocks)
                 heads = self.pointer_blocks(it.header)
                 known |= set(heads if self.rules.typed else heads[: 1 + needed // 72])
-        return [it for it in self.inside if it not in known and self.is_used(it)]
+        return [it for it in self.inside if it not in known and it not in self.holes and self.is_used(it)]
 
     def is_used(self, block: int) -> bool:
         if self.bitmap.is_trusted:
@@ -507,7 +559,7 @@ class Walk:
         self.account = account
         above = self.above = account.in_chains()
         self.order: List[int] = list(above)
-        self.found = set() if account.is_accepted else account.told - set(above)
+        self.found = account.told - set(above)
         self.paths: Dict[int, str] = {}
         self.taken: Set[str] = set()
         for block, directory in above.items():
@@ -597,6 +649,12 @@ def rest_text(blocks: List[int]) -> bytes:
 def rest_told(texts: bytes) -> bytes:
     """The end of standard error after `extract --damaged`, from its blocks that belong to nothing on."""
     return b"".join(texts.partition(HEADING)[1:])
+
+
+def doubts_told(texts: bytes) -> List[bytes]:
+    """The lines of standard error before these blocks, but for those about checksums and about the kind of the disk: those about files."""
+    lines = texts.partition(HEADING)[0].replace(NO_SUMS, b"", 1).splitlines()
+    return [it for it in lines if not it.startswith(b"adf_serve: read as ")]
 
 
 def main(words: List[str]) -> int:

@@ -462,14 +462,16 @@ class Tried:
         return found
 
     def rescued(self, whole: Tree) -> None:
-        """`extract --damaged` writes no more than five times the bytes of the image, and all of one that is accepted."""
+        """`extract --damaged` writes no more than five times the bytes of the image, and all of one that is accepted. Whatever else it
+        writes of that is below `lost+found`."""
         shutil.rmtree("rescue", ignore_errors=True)
         ran = self.run("extract", "--damaged", "--to", "rescue", "image.adf")
         found = files_below("rescue")
         written = sum(len(data) for data in found.values() if data is not None)
         assert written <= 5 * len(self.data), f"extract --damaged wrote {written} bytes"
         if self.is_accepted:
-            assert (ran.status, found) == (0, whole), f"extract --damaged: status {ran.status}, {len(found)} of {len(whole)} entries"
+            tree = {path: data for path, data in found.items() if path in whole or not path.startswith("lost+found")}
+            assert (ran.status, tree) == (0, whole), f"extract --damaged: status {ran.status}, {len(tree)} of {len(whole)} entries"
 
     def printed(self, whole: Tree) -> None:
         """`print` of the first files of an accepted image, by paths without escapes."""

@@ -89,14 +89,14 @@ def deep_chain(blank: bytes) -> bytes:
     return drawing.done()
 
 
-def deep_files(blank: bytes, depth: int, wrong: int = 0) -> bytes:
-    """A chain of directories, and files through all other blocks in the deepest. The last files have wrong checksums."""
+def deep_files(blank: bytes, depth: int, wrong: int = 0, most: int = MOST_NAMES) -> bytes:
+    """A chain of directories, and files through all other blocks in the deepest, at most so many. The last files have wrong checksums."""
     drawing, names = Drawing(blank), long_names()
     here = drawing.root
     for _ in range(depth):
         here = drawing.entry(here, next(names))
-    files = []
-    while drawing.left:
+    files: list[int] = []
+    while drawing.left and len(files) < most:
         files.append(drawing.entry(here, next(names), FILE))
     return drawing.done(files[len(files) - wrong :])
 

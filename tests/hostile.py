@@ -1537,8 +1537,11 @@ def readers_beside(room: Shared) -> None:
 
 # The memory and the stack that a command may use over the largest image, and the processor time by the blocks of the image.
 WORST_MEMORY, WORST_STACK, WORST_TIMES = 300 << 20, 1 << 20, {3_520: 10.0, 101_602: 60.0}
-# The memory for a bundle of the largest image.
-BUNDLE_MEMORY = 150 << 20
+# The addresses for a bundle of the largest image whose description is refused, and those for the longest description. The program keeps
+# at most 135 MB of the latter in memory (`ru_maxrss`); the rest is room of the text while it grows.
+BUNDLE_MEMORY, LONGEST_MEMORY = 150 << 20, 160 << 20
+# The most bytes of a description, and how many directories and files make one that is shorter by less than the name of one more.
+LONGEST_BUNDLE, BUNDLE_DIRECTORIES, BUNDLE_FILES = 67_108_864, 125, 16_734
 # The processor time of a change of the largest image that does not depend on the length of hash chains. The program without proof
 # takes 1.3 to 1.6 seconds for all names in one chain, as for a chain of directories, also with three times as many processes beside it
 # as there are processors; by the clock it took up to 20 then.
@@ -1696,6 +1699,23 @@ def one_hash_chain(blocks: int, room: Shared) -> None:
     room.report.same(f"what is left of {title} of {blocks} blocks", left, b"Volume Work\n")
 
 
+def longest_bundle(room: Shared) -> None:
+    """A bundle of the largest image: the longest description that is written, and one that is too long by one file."""
+    blocks = LARGEST // BLOCK
+    room.done("blank", "--ffs", "--blocks", str(blocks), *MOMENT, "Work", "blank.adf")
+    for files, status in ((BUNDLE_FILES, 0), (BUNDLE_FILES + 1, 2)):
+        room.write("deep.adf", deep_files(room.content("blank.adf"), BUNDLE_DIRECTORIES, most=files))
+        room.done("validate", *MOMENT, "deep.adf")
+        said = b"" if status == 0 else b"67,108,864"
+        bounded(room, blocks, f"extract --bundle with {files:,} long paths", ["extract", "--bundle", "bundle", "deep.adf"], status, said, memory=LONGEST_MEMORY)
+        room.report.expect(f"a bundle with {files:,} long paths", os.path.exists("bundle") == (status == 0), status)
+        if status == 0:
+            size = os.path.getsize("bundle/volume.json")
+            one = size // files
+            room.report.expect("the longest description of a bundle", LONGEST_BUNDLE - one < size <= LONGEST_BUNDLE, f"{size:,} bytes")
+            subprocess.run(["rm", "-rf", "bundle"])
+
+
 def deep_faults(depth: int, is_told: bool, room: Shared) -> None:
     """A thousand faults in a directory whose path is told, or too long for that."""
     blocks = LARGEST // BLOCK
@@ -1735,6 +1755,7 @@ def disks() -> List[Task[Shared]]:
         found.append((f"{title}, chains", partial(chains, size)))
         found.append((f"{title}, one name", partial(one_name, size)))
         found += [(f"{title}, {it.name}", partial(worst, size, it)) for it in WORST]
+    found.append(("the longest description of a bundle", longest_bundle))
     for depth, is_told in ((50_000, False), (100, True)):
         found.append((f"faults below {depth} directories", partial(deep_faults, depth, is_told)))
     return [(name, InMemory, part) for name, part in found]

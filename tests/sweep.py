@@ -6,17 +6,20 @@
 The floppies are drawn in Python, in both formats. Each gets one damage: a flipped bit in a block of each role, a track of noise,
 a block of zeros, or no root. The expected account comes from the floppy as it was: each file has exactly one line, a file that was
 not hit is whole with its bytes, and the status is the one that `check` asks for. The blocks that are used and belong to nothing
-are those of tests/disk_model.py. Other damages are only counted: the other kind of disk in the boot block, no boot blocks, a file
-that is cut short, and sectors that a copying program could not read.
+are those of tests/disk_model.py. Another kind of disk in the boot block is one more damage of this sort. Others are only counted: no
+boot blocks, a file that is cut short, and sectors that a copying program could not read.
 
 A table says how much is saved, for each damage and format: how many of a hundred bytes, of all files and of the blocks that are as
 they were, are written at their place; the same of `unadf`, if it is installed; how many files have no line; and how many are called
 whole with bytes that they did not have. Some 200 floppies are tried, with `--floppies` about N, and with `--all` every damage of six.
 They are the same in each run.
 
-Then come images that tests/fuzz.py damages at random, 100 or N. tests/disk_model.py says what `extract --damaged` has to print and
-to write, what `map` and `where` print of those that are accepted, and `where` of those that are refused. `--page` compares with the
-pages alone, and so shows where the program does more or less. `--keep` keeps the images that show a fault.
+Files that end early follow, with `--blocks`: what is behind their ends is missing in each file that it belongs to.
+
+Then come images that tests/fuzz.py damages at random, and accepted ones with headers that nothing names, 100 or N.
+tests/disk_model.py says what `extract --damaged` has to print and to write, also where some blocks could not be read (`--bad`), what
+`map` and `where` print of those that are accepted, and `where` of those that are refused. `--page` compares with the pages alone, and
+so shows where the program does more or less. `--keep` keeps the images that show a fault.
 """
 from __future__ import annotations
 
@@ -33,11 +36,11 @@ from typing import Callable, Dict, Iterator, List, Mapping, NamedTuple, Optional
 
 sys.dont_write_bytecode = True
 
-from all_faults_model import lines_of
-from disk_model import NOW, PAGE, Account, Headers, Owners, Rules, rest_of, rest_text, rest_told
+from all_faults_model import Model, lines_of
+from disk_model import NO_SUMS, NOW, PAGE, Account, Bitmap, Disk, Headers, Owners, Rules, rest_of, rest_text, rest_told
 from drawn_volume import Drawer
 from fuzz import FEWEST, LARGEST, PER_BASE, Base, Damaged, a_chain, a_name, a_parent, a_pointer, a_size, base_of, damaged, told_of
-from harness import BLOCK, Image, Ran, Report, Room, host_name, in_memory, processors, program_of
+from harness import BLOCK, FILE, Image, Ran, Report, Room, host_name, in_memory, processors, program_of
 from tally import Tally, Whole, by_unadf, table, tally_of
 from where import Owned, Reading, page_of, placed_lines, places_of, words_of
 
@@ -57,8 +60,6 @@ LETTERS = {"boot": "B", "root": "R", "bitmap": "M", "directory": "D", "file": "F
 LAST = re.compile(r"(unaccounted|deleted) [1-9][0-9]*")
 # How many of a hundred bytes that are there have to be saved, of all floppies of a format.
 LEAST = {"OFS": 99.0, "FFS": 97.0}
-# Damages after which the program calls files whole with other bytes than they had, though the disk shows it.
-MISTAKEN = ("the other kind", "cut short")
 
 
 # ---- floppies
@@ -227,6 +228,16 @@ def bad_sectors(floppy: Floppy) -> Iterator[Damage]:
     blocks = sorted(it for parts in floppy.parts.values() for it in parts)
     for first in range(0, len(blocks) - 4, 4):
         yield Damage(f"bad sectors from block {blocks[first]}", {it: filler for it in blocks[first : first + 3]})
+
+
+def first_longs(floppy: Floppy) -> Iterator[Damage]:
+    """Each bit of the first long in turn is another one. Then the boot block is gone, and each header of a file has a wrong sum."""
+    for bit in range(32):
+        yield Flip(0, 0, bit).damage(floppy)
+    hit = {0: bytes(BLOCK)}
+    for file in floppy.files():
+        hit.update(Flip(file, 105, 0).damage(floppy).hit)
+    yield Damage("no boot block and no sound header of a file", hit)
 
 
 # ---- the account
@@ -433,14 +444,15 @@ KINDS: List[Tuple[str, Damages, int, int]] = [
     ("a block of zeros", zeros, 25, 8),
     ("no root", rootless, 5, 3),
     ("the other kind", other_kind, 1, 1),
+    ("another first long", first_longs, 33, 1),
     ("no boot blocks", bootless, 2, 1),
     ("cut short", cuts, 6, 2),
     ("bad sectors", bad_sectors, 6, 2),
 ]
 # The kinds for which no account is expected.
-COUNTED = ("the other kind", "no boot blocks", "cut short", "bad sectors")
+COUNTED = ("no boot blocks", "cut short", "bad sectors")
 # How many floppies with one damage each are made of a floppy of each format with `--floppies`.
-PER_PAIR = 81
+PER_PAIR = 83
 
 
 def jobs_of(bases: Sequence[Floppy], is_all: bool, is_many: bool) -> List[Job]:
@@ -481,7 +493,7 @@ def saved(report: Report, tallies: Sequence[Tuple[str, str, Tally]]) -> None:
     for kind, least in LEAST.items():
         share = rows[f"all, {kind}"].share(rows[f"all, {kind}"].saved)
         report.expect(f"{kind}: at least {least} % of the bytes that are there are saved", share >= least, f"{share:.3f} %")
-    blamed = {name: it.blamed for name, it in rows.items() if it.blamed and not name.startswith(("all, ", *MISTAKEN))}
+    blamed = {name: it.blamed for name, it in rows.items() if it.blamed}
     report.same("no file is called whole with a wrong byte that a checksum or a pointer shows", blamed, {})
 
 
@@ -503,7 +515,7 @@ class Compared:
     def __init__(self, room: Room, data: bytes, rules: Rules) -> None:
         shutil.rmtree("out", ignore_errors=True)
         room.write("image.adf", data)
-        self.room, self.data, self.rules = room, data, rules
+        self.room, self.data, self.rules, self.words = room, data, rules, ["image.adf"]
 
     def all(self) -> None:
         faults = told_of(self.data)
@@ -515,13 +527,34 @@ class Compared:
         if faults.accepted is not None:
             self.owners()
 
+    def cut(self, count: int) -> None:
+        """The first bytes of the image alone, so many: each block that is not all there is a hole."""
+        blocks = len(self.data) // BLOCK
+        self.room.write("image.adf", self.data[:count])
+        holes = frozenset(range(count // BLOCK, blocks))
+        self.words = ["--blocks", str(blocks), "image.adf"]
+        self.account(Account(self.data, self.rules, holes))
+
+    def bad(self, chance: random.Random) -> None:
+        """With `--bad`: some blocks of the image are holes, whatever stands there."""
+        blocks = len(self.data) // BLOCK
+        if len(self.data) % BLOCK or not FEWEST <= blocks <= LARGEST:
+            return
+        track = 22 if blocks == 3520 else 11
+        holes = frozenset(chance.sample(range(blocks), min(blocks, chance.choice([1, 2, 20, 200]))))
+        words = [chance.choice([f"{it}", f" {it}\t# {it + 1}", f"c{it // track // 2}.h{it // track % 2}.s{it % track}\r"]) for it in holes]
+        self.room.write("bad.txt", "\n".join(["# what could not be read", "", *words]).encode() + chance.choice([b"", b"\n"]))
+        self.words = ["--bad", "bad.txt", "image.adf"]
+        self.account(Account(self.data, self.rules, holes))
+
     def account(self, account: Account) -> None:
         wanted = account.lines()
-        ran = self.room.run("extract", "--damaged", "--to", "out", "image.adf")
+        ran = self.room.run("extract", "--damaged", "--to", "out", *self.words)
         lines = ran.output.decode().splitlines()
         doubts = sum(it.state == "doubtful" for it in account.told_entries)
         assert ran.status == (0 if account.is_accepted else 3), f"status {ran.status}"
         assert ran.texts.count(b"' is doubtful: ") == doubts, f"standard error: {ran.texts[:300]!r}"
+        assert ran.texts.count(NO_SUMS) == (not account.ofs), f"standard error: {ran.texts[:300]!r}"
         assert lines == wanted, differing(lines, wanted)
         rest, wanted_rest = rest_told(ran.texts).splitlines(), rest_text(account.rest).splitlines()
         assert rest == wanted_rest, differing(rest, wanted_rest)
@@ -535,9 +568,9 @@ class Compared:
     def listed(self, account: Account, ran: Ran) -> None:
         """`--list` prints the same, and with `--json` the object, and neither writes anything."""
         before = sorted(os.listdir())
-        lines = self.room.run("extract", "--damaged", "--list", "image.adf")
+        lines = self.room.run("extract", "--damaged", "--list", *self.words)
         assert lines == ran, f"--list: {lines} where {ran} is expected"
-        told = self.room.run("extract", "--damaged", "--list", "--json", "image.adf")
+        told = self.room.run("extract", "--damaged", "--list", "--json", *self.words)
         assert told._replace(output=ran.output) == ran, f"--json: {told}"
         wanted = account.object()
         assert told.output == wanted, differing(told.output.split(b"},{"), wanted.split(b"},{"))
@@ -600,15 +633,93 @@ def scattered(base: Base, seed: str, number: int) -> bytes:
     return bytes(image.data)
 
 
+def unlink(image: Damaged, key: int) -> None:
+    """Takes an entry out of its hash chain, and leaves its blocks marked used."""
+    holder, at = next((holder, at) for holder, at, named in image.places if named == key and (at == 124 or 6 <= at < 78) and holder in image.headers)
+    image.change(holder, at, image.long(key, 124))
+    image.settle(holder, 5)
+    image.places = [(holder, at, image.long(key, 124)) if it == (holder, at, key) else it for it in image.places]
+
+
+def copied_header(image: Damaged) -> None:
+    """The header of a file stands in a free block too, under its own number and another name. So it names the blocks of that file."""
+    bitmap = Bitmap(Disk(bytes(image.data)), Model(bytes(image.data)))
+    free = [it for it in range(2, image.blocks) if it not in image.used and bitmap.is_free(it)]
+    files = [it for it in image.roles["entry"] if image.long(it, 127) == FILE]
+    if not free or not files:
+        return
+    block, file = image.chance.choice(free), image.chance.choice(files)
+    image.data[BLOCK * block : BLOCK * (block + 1)] = image.data[BLOCK * file : BLOCK * (file + 1)]
+    image.put(block, 1, block)
+    image.data[BLOCK * block + 433] ^= 1
+    image.settle(block, 5)
+    page = bitmap.pages[(block - 2) // 4064]
+    at, bit = 1 + (block - 2) % 4064 // 32, (block - 2) % 32
+    image.put(page, at, image.long(page, at) & ~(1 << bit))
+    image.settle(page, 0)
+
+
+def with_old_headers(base: Base, seed: str, number: int) -> bytes:
+    """An image of which some entries are in no hash chain, though their blocks are marked used, and in which some headers stand twice. Most
+    of these are accepted; the others have one damage more."""
+    chance = random.Random(f"{seed} old {number}")
+    image = Damaged(base, chance)
+    for _ in range(chance.choice([1, 2, 5])):
+        entries = [named for holder, at, named in image.places if (at == 124 or 6 <= at < 78) and holder in image.headers and named in image.roles["entry"]]
+        chains = [it for it in entries if image.long(it, 125) in image.headers]
+        if chains:
+            unlink(image, chance.choice(chains))
+    for _ in range(chance.choice([0, 1, 4])):
+        copied_header(image)
+    if chance.random() < 0.3:
+        chance.choice([a_parent, a_name, a_chain, a_pointer, a_size])(image)
+        image.mend()
+    return bytes(image.data)
+
+
+class Cut(NamedTuple):
+    """A floppy of which only the first bytes are there, so many."""
+
+    floppy: int
+    size: int
+
+
+def fault_of_cut(bases: Sequence[Floppy], program: Path, kept: Optional[Path], cut: Cut) -> Optional[str]:
+    """What is wrong with the account of a file that ends early, which is kept then. Each file with a block behind the end is not whole."""
+    with Room(program, inside=in_memory()) as room:
+        floppy = bases[cut.floppy]
+        try:
+            compared = Compared(room, floppy.data, NOW)
+            compared.cut(cut.size)
+            whole = {it.path for it in parsed(room.run("extract", "--damaged", "--list", *compared.words).output) if it.state == "whole"}
+            hurt = {path for key, path in floppy.paths.items() if any(it >= cut.size // BLOCK for it in floppy.own[key])}
+            assert not whole & hurt, f"whole without all blocks: {sorted(whole & hurt)[:4]}"
+        except Exception as fault:
+            said = f"the first {cut.size} bytes of {'OFS' if floppy.ofs else 'FFS'} floppy {cut.floppy}: {str(fault)[:400] or repr(fault)}"
+            keep(kept, f"cut-{cut.floppy}-{cut.size}", floppy.data[: cut.size], said)
+            return said
+    return None
+
+
+def ended_early(report: Report, program: Path, is_all: bool, most: int, kept: Optional[Path]) -> None:
+    """Floppies of which the last bytes are missing: a whole number of blocks, or not."""
+    bases, chance = [*floppies(True, 2), *floppies(False, 2)], random.Random("cuts")
+    jobs = [Cut(number, chance.randrange(FLOPPY) * BLOCK + chance.choice([0, 0, 1, 511])) for number in range(len(bases)) for _ in range(100 if is_all else 10)]
+    with Pool(most) as pool:
+        faults = [it for it in pool.map(partial(fault_of_cut, bases, program, kept), jobs, 4) if it]
+    report.hold(f"a file that ends early: {len(jobs)} floppies", f"{len(faults)}, as {'; '.join(faults[:3])}" if faults else None)
+
+
 def fault_of_base(program: Path, seed: str, rules: Rules, kept: Optional[Path], number: int) -> List[str]:
     """What is wrong with the images of a base."""
     faults = []
     with Room(program, inside=in_memory()) as room:
         base = base_of(room, seed, number)
         for at in range(number * PER_BASE, (number + 1) * PER_BASE):
-            data = (scattered if at % 5 == 4 else damaged)(base, seed, at)
+            data = {3: with_old_headers, 4: scattered}.get(at % 5, damaged)(base, seed, at)
             try:
                 Compared(room, data, rules).all()
+                Compared(room, data, rules).bad(random.Random(f"{seed} bad {at}"))
             except Exception as fault:
                 faults.append(f"image {at} of seed {seed}: {str(fault)[:600] or repr(fault)}")
                 keep(kept, f"random-{seed}-{at}", data, faults[-1])
@@ -638,6 +749,7 @@ def main(words: List[str]) -> int:
     program, report = program_of(given.program), Report()
     kept = given.keep and given.keep.absolute()
     swept(report, program, given.all, given.floppies, given.jobs, kept)
+    ended_early(report, program, given.all, given.jobs, kept)
     compared(report, program, given.images, given.seed, PAGE if given.page else NOW, given.jobs, kept)
     return report.end()
 

@@ -587,11 +587,17 @@ def bitmaps(room: Room) -> None:
         before = room.content(f"{it}.adf")
         for words in (["--list"], ["--to", "none"], ["--force", "--to", "none"]):
             room.report.check(f"{it} bitmap, {words[0]}", room.run("undelete", *words, f"{it}.adf"), 3, b"", "the bitmap cannot be trusted")
+            told = b'{"refused":{"kind":"UntrustedBitmap","block":0}}\n'
+            room.report.check(f"{it} bitmap, {words[0]}, as JSON", room.run("undelete", "--json", *words, f"{it}.adf"), 3, told, "the bitmap cannot be trusted")
         room.report.expect(f"{it} bitmap: nothing is written", not os.path.exists("none") and room.content(f"{it}.adf") == before)
     changed("refused.adf", live, 126, 1, None)
     room.report.check("the image is refused", room.run("check", "refused.adf"), 3, None, "its checksum is wrong")
     room.succeeds("a refused image", "undelete", "--to", "saved", "refused.adf", output=b"d/file: all 8 blocks are free\n")
     room.report.same("its file", files_below("saved"), {"d/file": b"x" * 3_000})
+    for kind in (b"DOS\2", b"dos\0", bytes(4)):
+        room.write("kind.adf", kind + data[4:])
+        texts = "read as OFS, as its blocks say; the boot block says neither OFS nor FFS"
+        room.report.check(f"a boot block of {kind!r}", room.run("undelete", "--list", "kind.adf"), 0, b"d/file: all 8 blocks are free\n", texts)
 
 
 # ---- hostile disks

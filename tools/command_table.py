@@ -36,7 +36,7 @@ class Argument(NamedTuple):
     excludes: Tuple[str, ...]
 
     def is_option(self) -> bool:
-        return self.kind in ("Flag", "With", "Option", "Instead")
+        return self.kind in ("Flag", "With", "Option", "Beside", "Instead")
 
     def value_kind(self) -> str:
         """What completes its value: empty for an option without one."""

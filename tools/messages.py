@@ -62,6 +62,8 @@ PARTS = [
 # A pattern of texts, and what to do.
 ADVICE: List[Tuple[str, str]] = [
     (r"^doubtful: |is \{why\}$", "Compare it with another copy; the files that are `whole` are as they were"),
+    (r"have no checksums", "Look into the files, or compare them with another copy: a wrong byte in one does not show"),
+    (r"read as \{read\}", "Nothing: the files are read as those of the kind that the blocks show"),
     (r"missing bytes are read", "Look for a whole copy: what is missing here cannot be saved"),
     (r"has fewer than", "Give `--blocks` the number of blocks that the volume has; `extract --damaged` takes a shorter file"),
     (r"belong to no reported", "Keep the image: these blocks may hold what is left of a file"),
@@ -84,7 +86,7 @@ ADVICE: List[Tuple[str, str]] = [
     (r"bundle|JSON|volume\.json|the description|a description|101,602 entries|\"path\"|\"\{0\}\"|entry \{", "Correct `volume.json`, or write the bundle again with `extract --bundle`"),
     (r"--force writes|bitmap block|but nothing names it", "Save what can be trusted with `extract --damaged` before `--force`"),
     (r"^(the header of a directory|an extension block|a data block of)", "Save it with `extract --damaged` before `--force`"),
-    (r"ok, \{\} refused|of \{\} images$|\{\} left$|^, \{\} refused$|^\{\w*\} (s|min|h)$|^--blocks \{blocks\}$|^(OFS|FFS|DOS|no AmigaDOS)|^\{\} bytes$", "Nothing: it counts and describes"),
+    (r"ok, \{\} refused|of \{\} images$|\{\} left$|^, \{\} refused$|^\{\w*\} (s|min|h)$|^--blocks \{blocks\}$|^(OFS|FFS|DOS|no AmigaDOS|neither OFS)|^\{\} bytes$", "Nothing: it counts and describes"),
     (r"try --blocks", "Give `--blocks` the number of blocks that fits the root"),
     (r"the root at block|^and \{rest\} bytes$", "Look whether the file is cut short"),
     (r"UTF-8", "Rename the file, or give it another name with `add --as`"),
@@ -124,6 +126,7 @@ ADVICE: List[Tuple[str, str]] = [
     (r"longer than the 4,095", "Extract to a directory with a shorter path"),
     (r"comment", "Use at most 79 characters"),
     (r"boot block", "Use at most 1,024 bytes"),
+    (r"most of a list of bad blocks", "Name each block once, and leave out the comments"),
     (r"has 16 to 101,602 blocks", "Use a number in this range"),
     (r"has no block", "Name a block that the image has"),
     (r"ran out of tries", "Raise `--turns`, or leave the machine less to do"),
@@ -148,6 +151,7 @@ NEVER = {"a script is faulty", "an image is refused", "an image is not checked",
 OF_OUTPUT = ("refused {", "suspect block {", "the file at block {", "adf_serve {VERSION}")
 # A pattern of texts, and the exit status that follows, where it is another than that of the part.
 STATUSES: List[Tuple[str, str]] = [
+    (r"have no checksums|read as \{read\}|neither OFS|^(OFS|FFS)$", ""),
     (r"waiting for|turned round|skipped|mounted or being|^doubtful: |is \{why\}$|incomplete files may|belong to no reported|it is a (symbolic|note)|it is neither", ""),
     (r"a volume has 16|past U\+00FF|no byte of an Amiga|is no protection", "1"),
     (r"not a volume name|has no block|1,024 bytes|line \{number\}|the script has more|^expected \{|^(a keyword|each \$k|a text in quotes|a number\b)|^(a|the|each) .*(\$k|text|line|keyword|bytes)$", "3"),
@@ -155,7 +159,7 @@ STATUSES: List[Tuple[str, str]] = [
     (r"can be trusted|cannot be trusted|nothing that was deleted", "3"),
     (r"its volume is|is not written|--force writes|bitmap block|nothing names it|faults than can be|does not mend", "3"),
     (r"^(the header of a directory|an extension block|a data block of)", "3"),
-    (r"it looks like|`adf_serve|`xdftool`|^\{\} bytes$|nothing was written or read|the root at block|try --blocks|^and \{rest\} bytes$|^(OFS|FFS|no AmigaDOS)", "3"),
+    (r"it looks like|`adf_serve|`xdftool`|^\{\} bytes$|nothing was written or read|the root at block|try --blocks|^and \{rest\} bytes$|^(OFS|FFS|no AmigaDOS|neither OFS)", "3"),
     (r"blocks are needed|one name on|needs a file|into itself|characters|allows in no|not in ISO 8859-1", "3"),
 ]
 ADVICE_OF_FAULTS = "`check --all` names each fault, and `extract --damaged` takes out what is sound"

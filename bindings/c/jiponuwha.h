@@ -617,8 +617,9 @@ int32_t jip_map(jip_handle *handle, jip_owner *owners, size_t room, size_t *coun
  * What can be told of an image that jip_open refuses: its files and directories whose headers are sound, wherever they are;
  * those with a damaged header that their directory names, as far as they can be told; and the entries that are lost: they are
  * named too, and have no such header. Deleted files and directories are left out, if the bitmap can be trusted. For an image that
- * jip_open accepts, these are all its files and directories, whole. The list has each header once, and a directory before its
- * entries. Positions in it count from 0. */
+ * jip_open accepts, these are all its files and directories, whole; and behind them, if the bitmap can be trusted, those with a
+ * sound header among the lost blocks, which are marked used although nothing names them. A refused image is read as the kind of
+ * disk that its blocks say. The list has each header once, and a directory before its entries. Positions in it count from 0. */
 
 /* A list of entries; or a closed one, JIP_CLOSED or all zeros. Items 4 and 5 hold for it as for a handle. */
 typedef struct jip_salvage {
@@ -628,7 +629,7 @@ typedef struct jip_salvage {
 /* How much of an entry is left. Later versions may have more states. */
 enum jip_state {
     JIP_STATE_DIRECTORY = 1,
-    JIP_STATE_WHOLE = 2, /* a file, and no other sound file uses one of its blocks */
+    JIP_STATE_WHOLE = 2, /* a file, and no other sound file uses one of its blocks; if the root leads to it, no other to which it leads */
     JIP_STATE_BROKEN = 3, /* a file of which some data blocks are missing, or are used by another file too */
     JIP_STATE_LOST = 4, /* an entry with no header to tell: only its name, its header's number and its directory mean something */
     JIP_STATE_DOUBTFUL = 5, /* a file that lacks no data block but is not whole: a block is damaged, or used by another file too, or the

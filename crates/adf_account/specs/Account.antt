@@ -9,6 +9,7 @@ use Rattle.adf_salvage.specs.declared.salvaged.State.{State}
 use Rattle.adf_salvage.specs.declared.salvaged.State.TheVariants as states
 use Rattle.ados_sound.specs.Doubtful.{LooksLikeExtension}
 use Rattle.adf_salvage.specs.Salvaged.{Saved}
+use Rattle.ados_sound.specs.Marks.{IsHole}
 use Rattle.ados_sound.specs.Sound.{Names}
 use Rattle.ados_model.specs.Faults.{InImage, root_of}
 use Rattle.ados_mend.specs.Mendable.{IsPage}
@@ -65,11 +66,12 @@ abbrev pub CountsAsUsed : List ℕ → Bool → ℕ → Type 0
 CountsAsUsed image true block = ¬ HasFreeBit image block
 CountsAsUsed image false block = HasContent image block ⊎ IsReached image block
 
--- a block of the volume that is used and not accounted for
+-- a block of the volume that is used and not accounted for; a hole is none
 pub record IsUnaccounted (saved : Saved) (block : ℕ) : Type 0 where
   pub inside : InImage saved.image block
   pub used : CountsAsUsed saved.image saved.trusted block
   pub left : ¬ IsAccounted saved block
+  pub there : ¬ IsHole saved.holes block
 
 -- the blocks are exactly those that are used and not accounted for, in order, each once. A bitmap that the check wrote anew is not trusted: it
 -- marks only reached blocks used

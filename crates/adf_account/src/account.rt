@@ -11,13 +11,14 @@ use adf_block::layout::{BLOCK_BYTES, BOOT_BLOCKS};
 use adf_salvage::Salvage;
 use ados_census::{Reached, reached_blocks};
 use ados_map::is_free;
+use ados_sound::is_hole;
 use std::alloc::{AllocError, Global};
 
 /// The blocks of the volume that are used and belong to nothing that a salvage tells, in order.
 ///
 /// The root, the bitmap blocks and the headers of all entries are accounted for, all blocks of whole files, the blocks given
 /// to files that are not whole, and their extension blocks. If the bitmap can be trusted, all blocks that it does not mark
-/// free are used; else all that are not filled with zeros, and all that the root leads to.
+/// free are used; else all that are not filled with zeros, and all that the root leads to. A hole is not used.
 ///
 /// Time and memory grow about linearly with the size of the image.
 pub fn unaccounted_blocks(alloc: Global, salvage: &Salvage) -> Result<Vec<u32>, AllocError>
@@ -73,6 +74,9 @@ fn is_unaccounted(
     ensures { MatchBool result (IsUnaccounted salvage.now block) (¬ IsUnaccounted salvage.now block) }
 {
     if marks[block as usize] {
+        return false;
+    }
+    if is_hole(salvage.holes(), block) {
         return false;
     }
     counts_as_used(salvage.image(), reached, block)

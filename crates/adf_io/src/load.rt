@@ -2,12 +2,12 @@
 ghost use Rattle.std.specs.Prelude.{◌≡◌, ◌+◌, ◌<◌, ◌≤◌, ℕ, IfOk, IfErr, List, Option, Some, length};
 ghost use Rattle.adf_block.specs.Size.{IsSizeFault};
 ghost use Rattle.adf_io.specs.Load.{IsRefusal, ReadsAll};
-ghost use Rattle.adf_io.specs.Loaded.{IsFilled, IsLoaded, ReadsFilled, ReadsLoaded};
+ghost use Rattle.adf_io.specs.Loaded.{IsFilled, IsLoaded, ReadsFilled, ReadsLoaded, holes_of};
 
 use crate::input::{InputFault, read_counted};
 use adf_block::layout::BLOCK_BYTES;
 use adf_block::{Image, MOST_BYTES, SizeFault, SizeRefused};
-use std::alloc::Global;
+use std::alloc::{AllocError, Global};
 use std::io::Read;
 
 /// Why no image was read.
@@ -92,6 +92,8 @@ pub struct Filled {
     pub image: Image,
     /// The number of bytes that are missing, which are zeros in the image.
     pub missing: usize,
+    /// For each block of the image, whether the file lacks bytes of it.
+    pub holes: Vec<bool>,
 }
 
 /// Reads an image from the first `blocks` blocks of an input, and what is behind them; without a number all of the input is the
@@ -128,7 +130,7 @@ pub fn load_filled<R: Read>(
     ensures err { IfErr result (IsRefusal (R.remaining reader.old) (R.remaining reader.new)) }
 {
     let file = load_bytes(alloc, reader, room)?;
-    fill_file(file, blocks)
+    fill_file(alloc, file, blocks)
 }
 
 /// All bytes of an input, at most as many as the largest image has.
@@ -168,18 +170,34 @@ fn split_file(alloc: Global, file: Vec<u8>, blocks: u32) -> Result<Loaded, LoadF
 }
 
 /// The image in the first blocks of a file, with zeros where the file ends before them.
-fn fill_file(file: Vec<u8>, blocks: u32) -> Result<Filled, LoadFault>
+fn fill_file(alloc: Global, file: Vec<u8>, blocks: u32) -> Result<Filled, LoadFault>
     ensures ok { IfOk result (IsFilled blocks file.items) }
     ensures err { (old new : Option (List ℕ)) → IfErr result (IsRefusal old new) }
 {
     let mut front = file;
+    let Ok(holes) = holes_of(alloc, blocks, front.len() / BLOCK_BYTES as usize) else {
+        return Err(LoadFault::Memory);
+    };
     let bytes = blocks as usize * BLOCK_BYTES as usize;
     let missing = bytes.saturating_sub(front.len());
     if front.resize(bytes, 0).is_err() {
         return Err(LoadFault::Memory);
     }
     match Image::from_bytes(front) {
-        Ok(image) => Ok(Filled { image, missing }),
+        Ok(image) => Ok(Filled {
+            image,
+            missing,
+            holes,
+        }),
         Err(_) => Err(LoadFault::Read),
     }
+}
+
+/// For each of `blocks` blocks, whether a file with `whole` whole blocks lacks bytes of it.
+fn holes_of(alloc: Global, blocks: u32, whole: usize) -> Result<Vec<bool>, AllocError>
+    ensures { IfOk result (λ holes. holes.items ≡ holes_of blocks whole) }
+{
+    let mut holes = vec![in alloc; false; whole]?;
+    holes.resize(blocks as usize, true)?;
+    Ok(holes)
 }

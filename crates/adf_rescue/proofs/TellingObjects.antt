@@ -10,7 +10,7 @@ use Rattle.json.proofs.Printed.Tokens.{print_from-append}
 use Rattle.adf_salvage.specs.Salvaged.{Saved}
 use Rattle.adf_salvage.specs.declared.salvaged.Salvaged.{Salvaged}
 use Rattle.adf_salvage.specs.declared.salvaged.State.{State}
-use Rattle.adf_rescue.specs.Rescue.{AreSomeRescued, IsTold, rescue_line}
+use Rattle.adf_rescue.specs.Rescue.{AreSomeRescued, IsTold, is_summed, rescue_line}
 use Rattle.adf_rescue.specs.Rescue.AreLines.{none as no_lines, one as one_line}
 use Rattle.adf_rescue.specs.RescueObject.{AreObjects, IsReportObject, entry_tokens, is_told, path_end, rest_tokens}
 use Rattle.adf_rescue.specs.RescueObject.AreObjects.{none, one}
@@ -84,21 +84,22 @@ module _ (entries : List Salvaged) (entry : Salvaged) (text : List ℕ) (printed
   }
 
 -- what is behind the objects has no comma before it
-no_comma : (after : Bool) (deleted : ℕ) (unaccounted : List ℕ) → print_from after (rest_tokens deleted unaccounted) ≡ print (rest_tokens deleted unaccounted)
+no_comma : (after : Bool) (deleted : ℕ) (unaccounted : List ℕ) (summed : Bool) → print_from after (rest_tokens deleted unaccounted summed) ≡ print (rest_tokens deleted unaccounted summed)
 unfolding print_from
-no_comma true deleted unaccounted = refl
-no_comma false deleted unaccounted = refl
+no_comma true deleted unaccounted summed = refl
+no_comma false deleted unaccounted summed = refl
 
 -- the end of the object completes it
-object_whole : (entries : List Salvaged) (deleted : ℕ) (unaccounted text : List ℕ) → ArePrinted entries text → IsReportObject entries deleted unaccounted (text ++ rest_of true deleted unaccounted)
-object_whole entries deleted unaccounted text printed =
-    let rest = rest_tokens deleted unaccounted in (
+object_whole : (entries : List Salvaged) (deleted : ℕ) (unaccounted : List ℕ) (summed : Bool) (text : List ℕ) → ArePrinted entries text
+    → IsReportObject entries deleted unaccounted summed (text ++ rest_of true deleted unaccounted summed)
+object_whole entries deleted unaccounted summed text printed =
+    let rest = rest_tokens deleted unaccounted summed in (
       printed.objects,
       printed.are,
       sym (append_assoc text (print rest) (codes "\n"))
           ∙ ap (λ t. t ++ codes "\n")
           (ap (λ t. t ++ print rest) printed.printed
-          ∙ ap (λ p. print (front_tokens printed.objects) ++ p) (sym (no_comma (after_value false printed.objects) deleted unaccounted))
+          ∙ ap (λ p. print (front_tokens printed.objects) ++ p) (sym (no_comma (after_value false printed.objects) deleted unaccounted summed))
           ∙ sym (print_from-append false (front_tokens printed.objects) rest)),
     )
 
@@ -126,8 +127,8 @@ parts_on json first (e ∷ rest) text told =
     )
 
 -- what is behind the entries completes the report
-pub parts_whole : (json : Bool) (saved : Saved) (unaccounted text : List ℕ) → AreParts json saved.entries text → IsTold json saved unaccounted (text ++ rest_of json (length saved.deleted) unaccounted)
-parts_whole true saved unaccounted text told = object_whole saved.entries (length saved.deleted) unaccounted text told
+pub parts_whole : (json : Bool) (saved : Saved) (unaccounted text : List ℕ) → AreParts json saved.entries text → IsTold json saved unaccounted (text ++ rest_of json (length saved.deleted) unaccounted (is_summed saved))
+parts_whole true saved unaccounted text told = object_whole saved.entries (length saved.deleted) unaccounted (is_summed saved) text told
 parts_whole false saved unaccounted text told = (text, told, refl)
 
 -- a whole report is one on an image that was accepted or not
@@ -138,7 +139,7 @@ told_of json saved unaccounted text told = ([], (saved.accepted, record { accept
 pub parts_told : (json : Bool) (saved : Saved) (unaccounted : List ℕ) (place : ℕ) (text : List ℕ) → AreParts json (take place saved.entries) text → (more : List ℕ) × AreSomeRescued json saved unaccounted (text ++ more)
 parts_told json saved unaccounted place text told =
     let all = parts_on json (take place saved.entries) (drop place saved.entries) text told in
-    let rest = rest_of json (length saved.deleted) unaccounted in
+    let rest = rest_of json (length saved.deleted) unaccounted (is_summed saved) in
     let parts = subst (λ (es : List Salvaged). AreParts json es (text ++ all.0)) (take-append-drop place saved.entries) all.1 in (
       all.0 ++ rest,
       (saved.accepted, record { accepts = refl; told = subst (IsTold json saved unaccounted) (append_assoc text all.0 rest) (parts_whole json saved unaccounted (text ++ all.0) parts) }),

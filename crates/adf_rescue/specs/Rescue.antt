@@ -1,13 +1,15 @@
 -- The report on a damaged image after everything that can be trusted was written.
 use Rattle.std.specs.Prelude.{◌≡◌, ◌<◌, ℕ, Bool, true, false, List, [], ◌∷◌, ◌++◌, ◌==◌, codes, decimal, length, Option, Some, None, if◌then◌else◌, ⊤}
-use Rattle.adf_salvage.specs.Salvaged.{Salvages, Saved}
+use Rattle.adf_block.specs.Fields.{format_of}
+use Rattle.adf_salvage.specs.Holes.{SalvagesBeside}
+use Rattle.adf_salvage.specs.Salvaged.{Saved}
 use Rattle.adf_salvage.specs.declared.salvaged.HeaderState.TheVariants as heads
 use Rattle.adf_salvage.specs.declared.salvaged.Salvaged.{Salvaged}
 use Rattle.adf_salvage.specs.declared.salvaged.State.{State}
 use Rattle.adf_salvage.specs.declared.salvaged.State.TheVariants.{Directory, DoubtfulDirectory, Whole, Doubtful, Lost, Broken}
 use Rattle.adf_salvage.specs.Saved.{HasBytes, IsAt}
 use Rattle.adf_account.specs.Account.{AreUnaccounted}
-use Rattle.adf_rescue.specs.RescueObject.{IsReportObject}
+use Rattle.adf_rescue.specs.RescueObject.{IsReportObject, has_sums}
 use Rattle.adf_rescue.specs.declared.sourced.Source.{Source}
 use Rattle.adf_rescue.specs.declared.sourced.Source.TheVariants.{File}
 use Rattle.adf_rescue.specs.declared.damaged.Doubt.{Doubt}
@@ -66,10 +68,14 @@ abbrev pub AreReportLines : List Salvaged → ℕ → List ℕ → List ℕ → 
 AreReportLines entries deleted unaccounted text =
     (lines : List ℕ) × AreLines entries lines × (text ≡ lines ++ (deleted_count_line deleted ++ unaccounted_count_line (length unaccounted)))
 
+-- whether the data blocks of the image have checksums
+abbrev pub is_summed : Saved → Bool
+is_summed saved = has_sums (format_of saved.image)
+
 -- the report on what was saved and on the blocks that are used and belong to nothing of it: as lines, or with `json` as an object
 abbrev pub IsTold : Bool → Saved → List ℕ → List ℕ → Type 0
 IsTold false saved unaccounted text = AreReportLines saved.entries (length saved.deleted) unaccounted text
-IsTold true saved unaccounted text = IsReportObject saved.entries (length saved.deleted) unaccounted text
+IsTold true saved unaccounted text = IsReportObject saved.entries (length saved.deleted) unaccounted (is_summed saved) text
 
 -- that report, and the image was accepted or not
 pub record AreRescued (json : Bool) (saved : Saved) (unaccounted : List ℕ) (accepted : Bool) (text : List ℕ) : Type 0 where
@@ -79,15 +85,15 @@ pub record AreRescued (json : Bool) (saved : Saved) (unaccounted : List ℕ) (ac
 abbrev pub AreSomeRescued : Bool → Saved → List ℕ → List ℕ → Type 0
 AreSomeRescued json saved unaccounted text = (accepted : Bool) × AreRescued json saved unaccounted accepted text
 
--- everything in an image that can be trusted, and the blocks that are used and belong to nothing of it
-abbrev pub IsRescue : List ℕ → Rescue → Type 0
-IsRescue image rescue = Salvages image rescue.salvage × AreUnaccounted rescue.salvage rescue.unaccounted.items
+-- everything in an image with these holes that can be trusted, and the blocks that are used and belong to nothing of it
+abbrev pub IsRescue : List Bool → List ℕ → Rescue → Type 0
+IsRescue holes image rescue = SalvagesBeside holes image rescue.salvage × AreUnaccounted rescue.salvage rescue.unaccounted.items
 
--- the report on everything in an image that can be trusted and on the other used blocks, as lines or as an object; the image was
--- accepted or not
-pub record IsReport (json : Bool) (image : List ℕ) (accepted : Bool) (text : List ℕ) : Type 0 where
+-- the report on everything in an image with these holes that can be trusted and on the other used blocks, as lines or as an object; the
+-- image was accepted or not
+pub record IsReport (json : Bool) (holes : List Bool) (image : List ℕ) (accepted : Bool) (text : List ℕ) : Type 0 where
   pub saved : Saved
-  pub salvaged : Salvages image saved
+  pub salvaged : SalvagesBeside holes image saved
   pub unaccounted : List ℕ
   pub are_unaccounted : AreUnaccounted saved unaccounted
   pub told : AreRescued json saved unaccounted accepted text

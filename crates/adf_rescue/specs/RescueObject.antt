@@ -1,7 +1,9 @@
 -- The report on a damaged image as a JSON object.
-use Rattle.std.specs.Prelude.{◌≡◌, ℕ, Bool, true, List, [], ◌∷◌, ◌++◌, codes, decimal, flat_map, if◌then◌else◌}
+use Rattle.std.specs.Prelude.{◌≡◌, ℕ, Bool, true, false, List, [], ◌∷◌, ◌++◌, codes, decimal, flat_map, if◌then◌else◌}
 use Rattle.json.specs.Token.{Token, begin_object, end_object, begin_array, end_array, key, string, number, boolean}
 use Rattle.json.specs.Print.{print}
+use Rattle.adf_block.specs.declared.layout.Format.{Format}
+use Rattle.adf_block.specs.declared.layout.Format.TheVariants.{Ofs, Ffs}
 use Rattle.adf_salvage.specs.declared.salvaged.Salvaged.{Salvaged}
 use Rattle.adf_salvage.specs.declared.salvaged.State.{State}
 use Rattle.adf_salvage.specs.declared.salvaged.State.TheVariants.{Directory, DoubtfulDirectory, Whole, Doubtful, Lost, Broken}
@@ -44,18 +46,23 @@ pub data AreObjects : List Salvaged → List Token → Type 0 where
   one : (entries : List Salvaged) (entry : Salvaged) (objects object : List Token) → AreObjects entries objects → IsEntryObject entry.found entry.state object
       → AreObjects (entries ++ entry ∷ []) (objects ++ object)
 
--- what is behind the objects of the entries: the number of deleted entries, and the blocks that are used and belong to nothing
--- that is told
-abbrev pub rest_tokens : ℕ → List ℕ → List Token
-rest_tokens deleted unaccounted =
+-- whether data blocks have checksums: in OFS alone
+abbrev pub has_sums : Format → Bool
+has_sums Ofs = true
+has_sums Ffs = false
+
+-- what is behind the objects of the entries: the number of deleted entries, the blocks that are used and belong to nothing
+-- that is told, and whether data blocks have checksums
+abbrev pub rest_tokens : ℕ → List ℕ → Bool → List Token
+rest_tokens deleted unaccounted summed =
     end_array ∷ key (codes "deleted") ∷ number (decimal deleted)
-    ∷ key (codes "unaccounted") ∷ begin_array ∷ (flat_map (λ block. number (decimal block) ∷ []) unaccounted ++ end_array ∷ end_object ∷ [])
+    ∷ key (codes "unaccounted") ∷ begin_array ∷ (flat_map (λ block. number (decimal block) ∷ []) unaccounted ++ end_array ∷ key (codes "summed") ∷ boolean summed ∷ end_object ∷ [])
 
 -- the object of the report
-abbrev pub report_tokens : List Token → ℕ → List ℕ → List Token
-report_tokens objects deleted unaccounted = begin_object ∷ key (codes "entries") ∷ begin_array ∷ (objects ++ rest_tokens deleted unaccounted)
+abbrev pub report_tokens : List Token → ℕ → List ℕ → Bool → List Token
+report_tokens objects deleted unaccounted summed = begin_object ∷ key (codes "entries") ∷ begin_array ∷ (objects ++ rest_tokens deleted unaccounted summed)
 
 -- the text is the line with the object of the report
-abbrev pub IsReportObject : List Salvaged → ℕ → List ℕ → List ℕ → Type 0
-IsReportObject entries deleted unaccounted text =
-    (objects : List Token) × AreObjects entries objects × (text ≡ print (report_tokens objects deleted unaccounted) ++ codes "\n")
+abbrev pub IsReportObject : List Salvaged → ℕ → List ℕ → Bool → List ℕ → Type 0
+IsReportObject entries deleted unaccounted summed text =
+    (objects : List Token) × AreObjects entries objects × (text ≡ print (report_tokens objects deleted unaccounted summed) ++ codes "\n")

@@ -9,7 +9,7 @@ use Rattle.adf_text.specs.Letters.{letters}
 use Rattle.adf_text.specs.Plain.{plain}
 use Rattle.ados_sound.specs.Deleted.{IsTrustedBitmap}
 use Rattle.adf_salvage.specs.Salvaged.{ended}
-use Rattle.adf_salvage.specs.Undeleted.{IsUndeleted}
+use Rattle.adf_salvage.specs.Undeleted.{IsRead, IsUndeleted}
 use Rattle.ados_sound.specs.declared.deleted.Deleted.{Deleted}
 use Rattle.ados_sound.specs.declared.deleted.Recovery.{Recovery}
 use Rattle.ados_sound.specs.declared.deleted.Recovery.TheVariants.{Directory, Free, Used, Shared, NotIntact}
@@ -173,17 +173,21 @@ file_in source = []
 -- the entries that arguments with these paths choose among the deleted ones, and those of them that are written as files, with
 -- what is told of them
 pub record IsUndeletion (image : List ℕ) (keys : List (List ℕ)) (force json : Bool) (done : Undeletion) : Type 0 where
-  pub trusted : IsTrustedBitmap image
-  pub found : IsUndeleted image done.found
+  pub read : List ℕ
+  pub is_read : IsRead image read
+  pub trusted : IsTrustedBitmap read
+  pub found : IsUndeleted read done.found
   pub chosen : done.chosen.items ≡ chosen_of done.found.places.items (places_of keys done.found.salvage.entries) done.found.deleted.items
   pub text : done.text.items ≡ deleted_text json done.found.places.items (places_of keys done.found.salvage.entries) done.chosen.items
   pub files : flat_map file_in done.plan.out.sources.items ≡ files_saved force done.chosen.items
 
 -- what is told of the deleted entries of an image that arguments with these paths choose
 pub record IsUndeleteText (json : Bool) (image : List ℕ) (keys : List (List ℕ)) (text : List ℕ) : Type 0 where
-  pub trusted : IsTrustedBitmap image
+  pub read : List ℕ
+  pub is_read : IsRead image read
+  pub trusted : IsTrustedBitmap read
   pub found : Undeleted
-  pub undeleted : IsUndeleted image found
+  pub undeleted : IsUndeleted read found
   pub chosen : List Chosen
   pub are_chosen : chosen ≡ chosen_of found.places.items (places_of keys found.salvage.entries) found.deleted.items
   pub text_is : text ≡ deleted_text json found.places.items (places_of keys found.salvage.entries) chosen
@@ -191,7 +195,7 @@ pub record IsUndeleteText (json : Bool) (image : List ℕ) (keys : List (List �
 -- why nothing is told: the bitmap is not trusted, or a path argument chooses nothing;
 -- host files cannot be written, or memory ran out
 abbrev pub IsUndeleteFault : List ℕ → UndeleteFault → Type 0
-IsUndeleteFault image NoTrustedBitmap = ¬ IsTrustedBitmap image
+IsUndeleteFault image NoTrustedBitmap = (read : List ℕ) × IsRead image read × ¬ IsTrustedBitmap read
 IsUndeleteFault image (NothingDeleted word) = ⊤
 IsUndeleteFault image (Host fault) = ⊤
 IsUndeleteFault image Memory = ⊤

@@ -2,7 +2,7 @@
 ghost use Rattle.std.specs.Prelude.{◌≡◌, IfErr, IfOk, OnErr, false, length, ◌||◌};
 ghost use Rattle.std.specs.String.{string_bytes};
 ghost use Rattle.adf_io.specs.Prefix.{Writes, WritesFrontOf};
-ghost use Rattle.adf_rescue.specs.Rescue.{AreRescued, AreSomeRescued, IsRescue, IsRescueFault, count_line, doubt_of, rescue_line};
+ghost use Rattle.adf_rescue.specs.Rescue.{AreRescued, AreSomeRescued, IsRescue, IsRescueFault, count_line, doubt_of, is_summed, rescue_line};
 ghost use Rattle.adf_rescue.specs.RescueObject.{is_told};
 ghost use Rattle.adf_text.specs.Ranges.{ranges};
 ghost use Rattle.adf_rescue.specs.steps.Reporting.{IsPart, rest_of};
@@ -10,10 +10,10 @@ ghost use Rattle.adf_rescue.specs.steps.Reporting.{IsPart, rest_of};
 use crate::plan::Plan;
 use crate::rescue_object::{entry_object, front_text, is_told, rest_object};
 use adf_account::unaccounted_blocks;
-use adf_block::Image;
+use adf_block::{Format, Image};
 use adf_host::{OwnedFile, PromptFiles};
 use adf_io::{PrintFault, write_text, write_when_long};
-use adf_salvage::{HeaderState, Salvage, Salvaged, State, salvage};
+use adf_salvage::{HeaderState, Salvage, Salvaged, State, salvage_beside};
 use adf_text::ranges_text;
 use adf_words::SalvageJob;
 use host_trees::WriteFault;
@@ -36,20 +36,21 @@ pub enum RescueFault {
     Memory,
 }
 
-/// Writes everything in an image that can be trusted below a directory of the host. With `meta`, a note is written beside
-/// each entry. Nothing is written if the job only lists, or if an existing file or directory of the host is in the way.
+/// Writes everything in an image with these holes that can be trusted below a directory of the host. With `meta`, a note is written
+/// beside each entry. Nothing is written if the job only lists, or if an existing file or directory of the host is in the way.
 pub fn extract_damaged<R: PromptFiles>(
     rt: &R,
     alloc: Global,
     image: Image,
+    holes: Vec<bool>,
     job: &SalvageJob<'_>,
 ) -> Result<Rescue, RescueFault>
 where
     R::File: OwnedFile,
-    ensures told { IfOk result (IsRescue image) }
+    ensures told { IfOk result (IsRescue holes.items image) }
     ensures fault { IfErr result (IsRescueFault job.now.list) }
 {
-    let rescue = match rescue_of(alloc, image, job.meta) {
+    let rescue = match rescue_of(alloc, image, holes, job.meta) {
         Ok(rescue) => rescue,
         Err(_) => return Err(RescueFault::Memory),
     };
@@ -63,11 +64,17 @@ where
     }
 }
 
-/// What can be trusted in an image, the host files and directories for it, and the used blocks that belong to nothing of it.
-fn rescue_of(alloc: Global, image: Image, meta: bool) -> Result<Rescue, AllocError>
-    ensures { IfOk result (IsRescue image) }
+/// What can be trusted in an image with these holes, the host files and directories for it, and the used blocks that belong to
+/// nothing of it.
+fn rescue_of(
+    alloc: Global,
+    image: Image,
+    holes: Vec<bool>,
+    meta: bool,
+) -> Result<Rescue, AllocError>
+    ensures { IfOk result (IsRescue holes.items image) }
 {
-    let salvage = salvage(alloc, image)?;
+    let salvage = salvage_beside(alloc, image, holes)?;
     let plan = Plan::of(alloc, &salvage, meta)?;
     let unaccounted = unaccounted_blocks(alloc, &salvage)?;
     Ok(Rescue {
@@ -107,9 +114,25 @@ fn doubt_of(state: State) -> Option<Doubt>
 }
 
 impl Rescue {
+    /// The kind of disk as which the image was read.
+    pub fn format(&self) -> Format {
+        self.salvage.image().format()
+    }
+
     /// The number of entries.
     pub fn len(&self) -> usize {
         self.salvage.entries().len()
+    }
+
+    /// Whether the data blocks of the image have checksums: in OFS alone. In FFS a file is whole if every pointer and header of it is
+    /// right, whatever its bytes are.
+    pub fn is_summed(&self) -> bool
+        ensures { result ≡ is_summed self.now.salvage }
+    {
+        match self.salvage.image().format() {
+            Format::Ofs => true,
+            Format::Ffs => false,
+        }
     }
 
     /// The path of the entry at a position, or in its place `the entry at block N`, and why it is doubtful or cut short, if it is.
@@ -201,11 +224,11 @@ impl Rescue {
     /// What is behind the entries: the line with the number of deleted entries, and that with the number of used blocks that belong
     /// to nothing; or with `json` the rest of the object.
     fn rest_text(&self, alloc: Global, json: bool) -> Result<Vec<u8>, AllocError>
-        ensures { IfOk result (λ text. text.items ≡ rest_of json (length self.now.salvage.deleted) self.now.unaccounted.items) }
+        ensures { IfOk result (λ text. text.items ≡ rest_of json (length self.now.salvage.deleted) self.now.unaccounted.items (is_summed self.now.salvage)) }
     {
         if json {
             let deleted = self.salvage.deleted().len() as u64;
-            return rest_object(alloc, deleted, &self.unaccounted);
+            return rest_object(alloc, deleted, &self.unaccounted, self.is_summed());
         }
         let mut lines = count_line(alloc, "deleted", self.salvage.deleted().len())?;
         let unaccounted = count_line(alloc, "unaccounted", self.unaccounted.len())?;

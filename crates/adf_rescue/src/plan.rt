@@ -5,8 +5,12 @@ use crate::sourced::{Source, SourcedItems, way_up};
 use adf_salvage::{Salvage, Salvaged, State};
 use ados_name::{Date3, Name};
 use host_trees::HostName;
+use itoa::Buffer;
 use std::alloc::{AllocError, Global};
 use std::str::from_utf8;
+
+/// The directory for recovered entries.
+const LOST_AND_FOUND: &[u8] = b"lost+found";
 
 /// The most bytes of a path that is told: those of the longest one that Linux opens.
 const LONGEST_PATH: usize = 4_095;
@@ -29,9 +33,11 @@ pub(crate) struct Plan {
     pub(crate) out: SourcedItems,
     /// For each entry, what is planned for it.
     planned: Vec<Planned>,
-    /// The item of `lost+found`, if there is one.
+    /// The name of the directory for recovered entries.
+    lost_name: Name,
+    /// The item of that directory, if there is one.
     lost: Option<usize>,
-    /// For each entry, its item below `lost+found`, if it is a directory that was not recovered but has recovered
+    /// For each entry, its item below that directory, if it is a directory that was not recovered but has recovered
     /// entries below it.
     asides: Vec<Option<usize>>,
 }
@@ -43,6 +49,7 @@ impl Plan {
         let mut plan = Plan {
             out: SourcedItems::new(alloc, meta),
             planned: Vec::with_capacity(alloc, entries.len())?,
+            lost_name: lost_name(alloc, entries)?,
             lost: None,
             asides: vec![in alloc; None; entries.len()]?,
         };
@@ -122,18 +129,18 @@ impl Plan {
         }
     }
 
-    /// The item of `lost+found`.
+    /// The item of the directory for recovered entries.
     fn lost_and_found(&mut self, alloc: Global, date: Date3) -> Result<usize, AllocError> {
         if let Some(item) = self.lost {
             return Ok(item);
         }
-        let name = HostName::of_name(alloc, &Name::new(b"lost+found").unwrap())?;
+        let name = HostName::of_name(alloc, &self.lost_name)?;
         let item = self.out.push(None, name, Source::Directory, date)?;
         self.lost = Some(item);
         Ok(item)
     }
 
-    /// The item below `lost+found` for a directory that was not recovered. The directories above it get one too.
+    /// The item below that directory for a directory that was not recovered. The directories above it get one too.
     fn aside(
         &mut self,
         alloc: Global,
@@ -179,6 +186,28 @@ impl Plan {
         self.planned.push(Planned::Item(item))?;
         Ok(())
     }
+}
+
+/// The name of the directory for recovered entries: `lost+found`, or if an entry of the root has that name, the first of
+/// `lost+found-1`, `lost+found-2` and so on that none has.
+fn lost_name(alloc: Global, entries: &[Salvaged]) -> Result<Name, AllocError> {
+    let mut text = Vec::from_slice(alloc, LOST_AND_FOUND)?;
+    for number in 0..entries.len() {
+        if !is_taken(entries, &text) {
+            break;
+        }
+        text.truncate(LOST_AND_FOUND.len());
+        text.push(b'-')?;
+        text.extend_from_slice(Buffer::new().format(number as u64 + 1).as_bytes())?;
+    }
+    Ok(Name::new(&text).unwrap_or(Name::new(LOST_AND_FOUND).unwrap()))
+}
+
+/// Whether an entry of the root that was not recovered has this name.
+fn is_taken(entries: &[Salvaged], name: &[u8]) -> bool {
+    entries.iter().any(|entry| {
+        entry.above.is_none() && !entry.found && entry.endings == 0 && entry.name.bytes() == name
+    })
 }
 
 /// The host name of an entry in its directory.

@@ -75,20 +75,26 @@ pub(crate) fn rest_object(
     alloc: Global,
     deleted: u64,
     unaccounted: &[u32],
+    summed: bool,
 ) -> Result<Vec<u8>, AllocError>
-    ensures { IfOk result (λ text. text.items ≡ print (rest_tokens deleted unaccounted.now) ++ codes "\n") }
+    ensures { IfOk result (λ text. text.items ≡ print (rest_tokens deleted unaccounted.now summed) ++ codes "\n") }
 {
     let mut writer = Writer::new(Vec::new(alloc));
-    put_rest(&mut writer, deleted, unaccounted)?;
+    put_rest(&mut writer, deleted, unaccounted, summed)?;
     let mut text = writer.into_inner();
     text.push(b'\n')?;
     Ok(text)
 }
 
 /// Writes what is behind the objects of the entries.
-fn put_rest(writer: &mut Writer, deleted: u64, unaccounted: &[u32]) -> Result<(), AllocError>
+fn put_rest(
+    writer: &mut Writer,
+    deleted: u64,
+    unaccounted: &[u32],
+    summed: bool,
+) -> Result<(), AllocError>
     ensures before { writer.new.before ≡ writer.old.before }
-    ensures tokens { OnOk result (writer.new.tokens ≡ writer.old.tokens ++ rest_tokens deleted unaccounted.now) }
+    ensures tokens { OnOk result (writer.new.tokens ≡ writer.old.tokens ++ rest_tokens deleted unaccounted.now summed) }
 {
     writer.end_array()?;
     put_number(writer, "deleted", Some(deleted))?;
@@ -96,6 +102,7 @@ fn put_rest(writer: &mut Writer, deleted: u64, unaccounted: &[u32]) -> Result<()
     writer.begin_array()?;
     put_blocks(writer, unaccounted)?;
     writer.end_array()?;
+    put_flag(writer, "summed", summed)?;
     writer.end_object()
 }
 

@@ -1,7 +1,7 @@
 //! Deleted entries, as files and directories of the host.
 ghost use Rattle.std.specs.Prelude.{ℕ, List, IfErr, IfOk, MatchResult, map};
 ghost use Rattle.ados_sound.specs.Deleted.{IsTrustedBitmap};
-ghost use Rattle.adf_salvage.specs.Undeleted.{IsUndeleted};
+ghost use Rattle.adf_salvage.specs.Undeleted.{IsRead, IsUndeleted};
 ghost use Rattle.adf_rescue.specs.Undelete.{IsUndeleteFault, IsUndeletion, key_of};
 
 use crate::asked::Asked;
@@ -11,7 +11,7 @@ use crate::idle::refuse_idle;
 use crate::placing::placed_entries;
 use crate::saving::Saving;
 use crate::undelete_fault::UndeleteFault;
-use adf_block::Image;
+use adf_block::{Format, Image};
 use adf_host::{OwnedFile, PromptFiles};
 use adf_salvage::{Undeleted, UndeletedEntries, undelete};
 use adf_words::UndeleteJob;
@@ -25,6 +25,13 @@ pub struct Undeletion {
     plan: Saving,
     /// A line or an object for each entry that is chosen, in the order of their headers.
     pub text: Vec<u8>,
+}
+
+impl Undeletion {
+    /// The kind of disk as which the image was read.
+    pub fn format(&self) -> Format {
+        self.found.salvage.image().format()
+    }
 }
 
 /// Writes deleted entries of an image below a directory of the host: those that the job's paths choose, or all without one.
@@ -61,7 +68,7 @@ where
 
 /// The deleted entries of an image.
 fn found_entries(alloc: Global, image: Image) -> Result<Undeleted, UndeleteFault>
-    ensures { MatchResult result (λ found. IsTrustedBitmap image × IsUndeleted image found) (IsUndeleteFault image) }
+    ensures { MatchResult result (λ found. (read : List ℕ) × IsRead image read × IsTrustedBitmap read × IsUndeleted read found) (IsUndeleteFault image) }
 {
     match undelete(alloc, image)? {
         UndeletedEntries::Found(found) => Ok(found),
@@ -75,7 +82,7 @@ fn undeletion_of(
     found: Undeleted,
     job: &UndeleteJob<'_>,
 ) -> Result<Undeletion, UndeleteFault>
-    ensures done { IfOk result (λ done. (image : List ℕ) → IsTrustedBitmap image → IsUndeleted image found
+    ensures done { IfOk result (λ done. (image read : List ℕ) → IsRead image read → IsTrustedBitmap read → IsUndeleted read found
         → IsUndeletion image (map (λ word. key_of word.now) job.now.paths.items) job.now.force job.now.json done) }
     ensures fault { IfErr result (λ fault. (image : List ℕ) → IsUndeleteFault image fault) }
 {

@@ -1,6 +1,9 @@
 -- The entries while they are gathered, one by one.
-use Rattle.adf_salvage.proofs.Common.{◌≡◌, ◌≢◌, ℕ, ◌+◌, ◌*◌, ◌<◌, ◌≤◌, inl, inr, true, false, All, List, [], ◌∷◌, ◌++◌, length, slice_index, get_or-set_same, get_or-set_other, length-set, Contains, Option, None, Some, IsSome, is_some, refl, sym, ap, ◌∙◌, subst, arith, set, cases_lt, cases_eq, get_or_append_left, get_or_push, length-append, length-map, map-append, All-nil, All-push, Contains-append_left, Contains-append_right, block_count, text_at, NAME_BYTE, Gathered, Known, Salvaged, Lost, IsLost, IsLostEntry, IsTold, broken_length, broken_total, headers_of, IsGiving, AreGathered, AreGatheredBy, GathersMore, place_at}
+use Rattle.adf_salvage.proofs.Common.{◌≡◌, ◌≢◌, ℕ, ◌+◌, ◌*◌, ◌<◌, ◌≤◌, inl, inr, All, List, [], ◌∷◌, ◌++◌, length, slice_index, get_or-set_same, get_or-set_other, length-set, Contains, Option, None, Some, IsSome, is_some, refl, sym, ap, ◌∙◌, subst, arith, set, cases_lt, cases_eq, drop, get_or_append_left, get_or_push, length-append, length-map, map-append, All-nil, All-push, Contains-append_left, Contains-append_right, block_count, text_at, NAME_BYTE, Gathered, Known, Salvaged, Lost, IsLost, IsLostEntry, IsTold, broken_length, broken_total, headers_of, IsGiving, AreGathered, AreGatheredBy, GathersMore, place_at, Bool}
 use Rattle.ados_name.specs.Name.{IsName}
+use Rattle.std.proofs.lemmas.List.{drop-append-le, drop_all}
+use Rattle.adf_salvage.specs.steps.Finding.{AreOfOneTree}
+use Rattle.adf_salvage.specs.steps.Gathering.{ArePlacesOf}
 
 -- the bytes of broken files, with one more entry
 pub broken_more : (xs : List Salvaged) (e : Salvaged) → broken_total (xs ++ e ∷ []) ≡ broken_total xs + broken_length e.state
@@ -12,22 +15,31 @@ pub none_broken : broken_total [] ≡ 0
 unfolding broken_total
 none_broken = refl
 
--- nothing is found yet
-pub gathers_none : (out image : List ℕ) (g : Gathered) → g.entries.items ≡ [] → length g.places.items ≡ block_count image → ((block : ℕ) → place_at g.places.items block ≡ None) → IsGiving image g.giving
-    → g.giving.left ≤ 4 * length image → AreGathered out image g
-gathers_none out image g entries size places giving share = record {
-  told = subst (All (IsTold out image)) (sym entries) (All-nil (IsTold out image));
-  size = size;
-  placed = λ i l. absurd (omega (arith, l, ap (λ (es : List Salvaged). length (headers_of es)) entries));
-  met = λ block some.
-      let none : false ≡ true = sym (ap is_some (places block)) ∙ some in absurd (cc none);
+-- no entries are those of one tree
+pub no_tree : (image : List ℕ) (found : List Salvaged) → found ≡ [] → AreOfOneTree image found
+no_tree image found none = subst (AreOfOneTree image) (sym none) (record {
+  once = λ i j d l m. absurd (omega (arith, m));
+  inside = λ k d l. absurd (omega (arith, l));
+  reached = λ k d l. absurd (omega (arith, l));
+  whole = none_broken;
+})
+
+-- only the entries of a tree are there
+pub gathers_none : (out : List ℕ) (holes : List Bool) (image : List ℕ) (tree : List Salvaged) (g : Gathered) → g.entries.items ≡ tree → AreOfOneTree image tree → ArePlacesOf image tree g.places.items
+    → IsGiving holes image g.giving → g.giving.left ≤ 4 * length image → AreGathered (length tree) out holes image g
+gathers_none out holes image tree g entries of places giving share = record {
+  behind = omega (arith, ap length entries);
+  told = subst (All (IsTold out holes image)) (sym (ap (drop (length tree)) entries ∙ drop_all (length tree) tree (omega arith))) (All-nil (IsTold out holes image));
+  size = places.size;
+  placed = subst (λ (es : List Salvaged). (i : ℕ) → i < length (headers_of es) → place_at g.places.items (slice_index (headers_of es) i) ≡ Some i) (sym entries) places.placed;
+  met = subst (λ (es : List Salvaged). (block : ℕ) → IsSome (place_at g.places.items block) → Contains (headers_of es) block) (sym entries) places.met;
   giving = giving;
-  bounded = omega (arith, share, ap broken_total entries, none_broken);
+  bounded = omega (arith, share, ap broken_total entries, of.whole);
 }
 
-module _ (known : Known) (old new : Gathered) (by : AreGatheredBy known old) (e : Salvaged) (block : ℕ) (told : IsTold known.left_out known.image e) (is : e.header ≡ block) (below : block < block_count known.image)
+module _ (known : Known) (old new : Gathered) (by : AreGatheredBy known old) (e : Salvaged) (block : ℕ) (told : IsTold known.left_out known.holes.items known.image e) (is : e.header ≡ block) (below : block < block_count known.image)
     (free : place_at old.places.items block ≡ None) where
-  g : AreGathered known.left_out known.image old
+  g : AreGathered known.before known.left_out known.holes.items known.image old
   g = by.so_far
 
   inside : block < length old.places.items
@@ -44,14 +56,16 @@ module _ (known : Known) (old new : Gathered) (by : AreGatheredBy known old) (e 
 
   -- one more entry, whose state takes its share
   pub gathers_more : (place : ℕ) → new.entries.items ≡ old.entries.items ++ e ∷ [] → new.places.items ≡ set old.places.items block (Some place) → place ≡ length old.entries.items
-      → IsGiving known.image new.giving → broken_length e.state + new.giving.left ≡ old.giving.left → GathersMore known old new × IsSome (place_at new.places.items block)
+      → IsGiving known.holes.items known.image new.giving → broken_length e.state + new.giving.left ≡ old.giving.left → GathersMore known old new × IsSome (place_at new.places.items block)
   gathers_more place grown noted at giving share =
       let more_headers : headers_of new.entries.items ≡ headers_of old.entries.items ++ block ∷ [] =
       ap headers_of grown ∙ map-append (λ (entry : Salvaged). entry.header) old.entries.items (e ∷ []) ∙ ap (λ (b : ℕ). headers_of old.entries.items ++ b ∷ []) is in
       let here : place_at new.places.items block ≡ Some place = ap (λ (ps : List (Option ℕ)). place_at ps block) noted ∙ now_met place in
       let there : (b : ℕ) → b ≢ block → place_at new.places.items b ≡ place_at old.places.items b = λ b other. ap (λ (ps : List (Option ℕ)). place_at ps b) noted ∙ still place b other in
-      let gathered : AreGathered known.left_out known.image new = record {
-        told = subst (All (IsTold known.left_out known.image)) (sym grown) (All-push (IsTold known.left_out known.image) old.entries.items e g.told told);
+      let gathered : AreGathered known.before known.left_out known.holes.items known.image new = record {
+        behind = omega (arith, g.behind, ap length grown, length-append old.entries.items (e ∷ []));
+        told = subst (All (IsTold known.left_out known.holes.items known.image)) (sym (ap (drop known.before) grown ∙ drop-append-le known.before old.entries.items (e ∷ []) g.behind))
+            (All-push (IsTold known.left_out known.holes.items known.image) (drop known.before old.entries.items) e g.told told);
         size = ap length noted ∙ length-set old.places.items block (Some place) ∙ g.size;
         placed = λ i l.
             let same : slice_index (headers_of new.entries.items) i ≡ slice_index (headers_of old.entries.items ++ block ∷ []) i = ap (λ (xs : List ℕ). slice_index xs i) more_headers in

@@ -2,10 +2,17 @@
 pub mod Common
 pub mod Copying
 pub mod Growing
+pub mod Emptying
+pub mod Placing
+pub mod Finding
 pub mod Following
 pub mod Answering
 pub mod Marked
+pub mod Reading
 pub mod Saving
+pub mod Besides
+pub mod Undeleting
+pub mod Voting
 pub mod Settling
 pub mod Holding
 pub mod Filled

@@ -1,17 +1,17 @@
 -- Files without a header are added to the entries.
-use Rattle.adf_salvage.proofs.Common.{◌≡◌, ◌≢◌, ℕ, zero, suc, ◌+◌, ◌<◌, ◌≤◌, ◌⊎◌, inl, inr, All, AllPairs, List, [], ◌∷◌, ◌++◌, length, slice_index, get_or, Contains, Option, IsSome, is_some, sym, ap, ◌∙◌, subst, arith, set, get_or_default, get_or-map, map-append, map-set, set-get_or, All-push, All-set, Contains-append_cases, Contains-append_left, all_pairs_push, Gathered, Known, Salvaged, Lost, IsLost, AreSalvaged, IsListed, IsLoose, broken_length, broken_total, headers_of, AreAllHeaders, AreGatheredBy, place_at, IsGiving, AreSettled}
+use Rattle.adf_salvage.proofs.Common.{◌≡◌, ◌≢◌, ℕ, zero, suc, ◌+◌, ◌<◌, ◌≤◌, ◌⊎◌, inl, inr, Bool, All, AllPairs, List, [], ◌∷◌, ◌++◌, length, slice_index, get_or, Contains, Option, IsSome, is_some, sym, ap, ◌∙◌, subst, arith, set, get_or_default, get_or-map, map-append, map-set, set-get_or, All-push, All-set, Contains-append_cases, Contains-append_left, all_pairs_push, Gathered, Known, Salvaged, Lost, IsLost, AreSalvaged, IsListed, IsLoose, broken_length, broken_total, headers_of, AreAllHeaders, AreGatheredBy, place_at, IsGiving, AreSettled}
 use Rattle.adf_salvage.proofs.Growing.{broken_more}
 use Rattle.adf_salvage.proofs.Saving.{all_salvaged}
 
 -- no file without a header was added yet
-pub settles_none : (known : Known) (gathered : Gathered) → AreGatheredBy known gathered → AreAllHeaders known gathered.places.items
+pub settles_none : (known : Known) (gathered : Gathered) → known.before ≡ 0 → AreGatheredBy known gathered → AreAllHeaders known gathered.places.items
     → ((block : ℕ) → IsLost known.left_out known.image block → IsSome (place_at gathered.places.items block)) → AreSettled known 0 gathered
-settles_none known gathered by met lost =
+settles_none known gathered none by met lost =
     let g = by.so_far in
     let headers : List ℕ = headers_of gathered.entries.items in
     record {
       sure = by.sure;
-      salvaged = all_salvaged known gathered g met lost;
+      salvaged = all_salvaged known gathered g none met lost;
       placed = λ block there.
           let is : slice_index headers there.0 ≡ block = get_or_default headers there.0 0 block there.1 ∙ there.2 in
           inl (subst (λ (b : ℕ). IsSome (place_at gathered.places.items b)) is (ap is_some (g.placed there.0 there.1)));
@@ -20,9 +20,9 @@ settles_none known gathered by met lost =
     }
 
 -- the entries of the list with these headers, other ones in their places, and more behind them
-salvages_more : (out image : List ℕ) (old new : List Salvaged) → AreSalvaged out image old → All (IsListed out image) new → AllPairs (λ a b. a ≢ b) (headers_of new)
-    → ((block : ℕ) → Contains (headers_of old) block → Contains (headers_of new) block) → AreSalvaged out image new
-salvages_more out image old new s listed once kept = record {
+salvages_more : (out : List ℕ) (holes : List Bool) (image : List ℕ) (old new : List Salvaged) → AreSalvaged out holes image old → All (IsListed out holes image) new → AllPairs (λ a b. a ≢ b) (headers_of new)
+    → ((block : ℕ) → Contains (headers_of old) block → Contains (headers_of new) block) → AreSalvaged out holes image new
+salvages_more out holes image old new s listed once kept = record {
   told = listed;
   once = once;
   sound = λ block is. kept block (s.sound block is);
@@ -48,22 +48,22 @@ broken_set [] n e l = absurd (omega (arith, l))
 broken_set (x ∷ xs) zero e l = omega arith
 broken_set (x ∷ xs) (suc n) e l = omega (arith, broken_set xs n e (omega (arith, l)))
 
-module _ (known : Known) (next : ℕ) (old new : Gathered) (s : AreSettled known next old) (places : new.places.items ≡ old.places.items) (giving : IsGiving known.image new.giving) where
+module _ (known : Known) (next : ℕ) (old new : Gathered) (s : AreSettled known next old) (places : new.places.items ≡ old.places.items) (giving : IsGiving known.holes.items known.image new.giving) where
   -- one more file without a header
   pub settles_more : (e : Salvaged) (header : ℕ) → next ≤ header → (IsSome (place_at old.places.items header) → ⊥) → e.header ≡ header → IsLoose known.left_out known.image header e.state
       → new.entries.items ≡ old.entries.items ++ e ∷ [] → broken_length e.state + new.giving.left ≡ old.giving.left → AreSettled known (header + 1) new
   settles_more e header after free is loose grown left =
       let more_headers : headers_of new.entries.items ≡ headers_of old.entries.items ++ header ∷ [] =
       ap headers_of grown ∙ map-append (λ (entry : Salvaged). entry.header) old.entries.items (e ∷ []) ∙ ap (λ (b : ℕ). headers_of old.entries.items ++ b ∷ []) is in
-      let listed : IsListed known.left_out known.image e = inr (subst (λ (b : ℕ). IsLoose known.left_out known.image b e.state) (sym is) loose) in
+      let listed : IsListed known.left_out known.holes.items known.image e = inr (subst (λ (b : ℕ). IsLoose known.left_out known.image b e.state) (sym is) loose) in
       let other : (b : ℕ) → Contains (headers_of old.entries.items) b → b ≢ header = λ b there same. elim (s.placed b there) [
         | inl some ↦ free (subst (λ (k : ℕ). IsSome (place_at old.places.items k)) same some)
         | inr below ↦ absurd (omega (arith, below, after, same))
       ] in
       record {
         sure = s.sure;
-        salvaged = salvages_more known.left_out known.image old.entries.items new.entries.items s.salvaged
-            (subst (All (IsListed known.left_out known.image)) (sym grown) (All-push (IsListed known.left_out known.image) old.entries.items e s.salvaged.told listed))
+        salvaged = salvages_more known.left_out known.holes.items known.image old.entries.items new.entries.items s.salvaged
+            (subst (All (IsListed known.left_out known.holes.items known.image)) (sym grown) (All-push (IsListed known.left_out known.holes.items known.image) old.entries.items e s.salvaged.told listed))
             (subst (AllPairs (λ a b. a ≢ b)) (sym more_headers) (all_pairs_push (λ (a : ℕ) (b : ℕ). a ≢ b) (headers_of old.entries.items) header s.salvaged.once
             (λ k d l. other (get_or (headers_of old.entries.items) k d) (k, l, get_or_default (headers_of old.entries.items) k _ d l))))
             (λ b there. subst (λ (xs : List ℕ). Contains xs b) (sym more_headers) (Contains-append_left (headers_of old.entries.items) (header ∷ []) b there));
@@ -87,11 +87,11 @@ module _ (known : Known) (next : ℕ) (old new : Gathered) (s : AreSettled known
       let still : headers_of new.entries.items ≡ headers_of old.entries.items =
       ap headers_of replaced ∙ headers_set old.entries.items place e inside (ap (λ (entry : Salvaged). entry.header) there ∙ sym same) in
       let empty : broken_length (get_or old.entries.items place e).state ≡ 0 = ap (λ (entry : Salvaged). broken_length entry.state) there ∙ ap broken_length lost in
-      let listed : IsListed known.left_out known.image e = inr (subst (λ (b : ℕ). IsLoose known.left_out known.image b e.state) (sym same) loose) in
+      let listed : IsListed known.left_out known.holes.items known.image e = inr (subst (λ (b : ℕ). IsLoose known.left_out known.image b e.state) (sym same) loose) in
       record {
         sure = s.sure;
-        salvaged = salvages_more known.left_out known.image old.entries.items new.entries.items s.salvaged
-            (subst (All (IsListed known.left_out known.image)) (sym replaced) (All-set (IsListed known.left_out known.image) old.entries.items place e listed s.salvaged.told))
+        salvaged = salvages_more known.left_out known.holes.items known.image old.entries.items new.entries.items s.salvaged
+            (subst (All (IsListed known.left_out known.holes.items known.image)) (sym replaced) (All-set (IsListed known.left_out known.holes.items known.image) old.entries.items place e listed s.salvaged.told))
             (subst (AllPairs (λ a b. a ≢ b)) (sym still) s.salvaged.once) (λ b there. subst (λ (xs : List ℕ). Contains xs b) (sym still) there);
         placed = λ b there. subst (λ (ps : List (Option ℕ)). IsSome (place_at ps b) ⊎ (b < next)) (sym places) (s.placed b (subst (λ (xs : List ℕ). Contains xs b) still there));
         giving = giving;

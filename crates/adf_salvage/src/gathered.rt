@@ -4,7 +4,8 @@ ghost use Rattle.adf_block.specs.Image.{block_count};
 ghost use Rattle.ados_sound.specs.Known.{AreKnown};
 ghost use Rattle.adf_salvage.specs.declared.salvaged.Salvaged.{Salvaged as Entry};
 ghost use Rattle.adf_salvage.specs.Lost.{IsLost};
-ghost use Rattle.adf_salvage.specs.steps.Gathering.{AreGathered, AreGatheredBy, GathersMore, IsNew, place_at};
+ghost use Rattle.adf_salvage.specs.steps.Finding.{AreOfOneTree};
+ghost use Rattle.adf_salvage.specs.steps.Gathering.{AddsOne, AreGathered, AreGatheredBy, ArePlacesOf, GathersMore, IsNew, place_at};
 
 use crate::giving::Giving;
 use crate::names::{Names, Standing};
@@ -30,15 +31,29 @@ pub(crate) struct Gathered {
 }
 
 impl Gathered {
-    /// No entries.
-    pub(crate) fn new(alloc: Global, image: &Image) -> Result<Gathered, AllocError>
-        ensures { IfOk result (λ gathered. (out : List ℕ) → AreGathered out image.now gathered) }
+    /// No entries of an image with these holes.
+    pub(crate) fn new(alloc: Global, image: &Image, holes: &[bool]) -> Result<Gathered, AllocError>
+        ensures { IfOk result (λ gathered. (out : List ℕ) → AreGathered 0 out holes.now image.now gathered) }
     {
         // A block has at most one entry. A list that grows would take twice the memory while it is copied.
         let entries = Vec::with_capacity(alloc, image.blocks() as usize)?;
-        let places = no_places(alloc, image)?;
+        Gathered::behind(alloc, image, holes, entries)
+    }
+
+    /// The entries of a tree. Others are added behind them.
+    pub(crate) fn behind(
+        alloc: Global,
+        image: &Image,
+        holes: &[bool],
+        entries: Vec<Salvaged>,
+    ) -> Result<Gathered, AllocError>
+        requires { AreOfOneTree image.now entries.items }
+        ensures gathered { IfOk result (λ gathered. (out : List ℕ) → AreGathered (length entries.items) out holes.now image.now gathered) }
+        ensures entries { IfOk result (λ gathered. gathered.entries.items ≡ entries.items) }
+    {
+        let places = places_of(alloc, image, &entries)?;
         let names = Names::new(alloc)?;
-        let giving = Giving::new(alloc, image)?;
+        let giving = Giving::new(alloc, image, holes)?;
         Ok(Gathered {
             entries,
             places,
@@ -82,6 +97,7 @@ impl Gathered {
         requires met { IsNew known.now self.old.places.items block }
         ensures more { OnOk result (GathersMore known.now self.old self.new) }
         ensures met { OnOk result (IsSome (place_at self.new.places.items block)) }
+        ensures added { OnOk result (AddsOne known.now standing.found self.old self.new) }
     {
         let image = &known.image;
         let Some(name) = name_of(image, block) else {
@@ -159,6 +175,22 @@ impl Gathered {
         self.entries.push(entry)?;
         Ok(())
     }
+}
+
+/// For each block, the index of the entry of which it is the header.
+fn places_of(
+    alloc: Global,
+    image: &Image,
+    entries: &[Salvaged],
+) -> Result<Vec<Option<usize>>, AllocError>
+    requires { AreOfOneTree image.now entries.now }
+    ensures { IfOk result (λ places. ArePlacesOf image.now entries.now places.items) }
+{
+    let mut places = no_places(alloc, image)?;
+    for place in 0..entries.len() {
+        places[entries[place].header as usize] = Some(place);
+    }
+    Ok(places)
 }
 
 /// No block has an entry.

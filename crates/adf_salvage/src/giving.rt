@@ -1,9 +1,9 @@
 //! The blocks given to files that are not whole, each to one.
-ghost use Rattle.std.specs.Prelude.{◌≡◌, ◌<◌, ◌≤◌, ◌*◌, ℕ, List, length, IfOk, IfSome, IsTrue, OnOk};
+ghost use Rattle.std.specs.Prelude.{◌≡◌, ◌<◌, ◌≤◌, ◌*◌, ℕ, Bool, List, length, IfOk, IfSome, IsTrue, OnOk};
 ghost use Rattle.adf_block.specs.Fields.{format_of};
 ghost use Rattle.adf_block.specs.Image.{block_count};
 ghost use Rattle.ados_model.specs.Tree.{data_start};
-ghost use Rattle.adf_salvage.specs.steps.Giving.{IsGiving, IsOpen};
+ghost use Rattle.adf_salvage.specs.steps.Giving.{AreHolesMarked, IsGiving, IsOpen};
 
 use adf_block::layout::{
     BLOCK_BYTES, BOOT_BLOCKS, FILE_SIZE, FIRST_PAGE, FIRST_POINTER, HEADER_TYPE, NEXT_DATA,
@@ -11,7 +11,7 @@ use adf_block::layout::{
     TABLE_LONGS,
 };
 use adf_block::{Format, Image};
-use ados_sound::{is_own_data, looks_like_extension};
+use ados_sound::{Known, is_hole, is_own_data, looks_like_extension};
 use std::alloc::{AllocError, Global};
 
 /// Bytes in a block.
@@ -62,14 +62,15 @@ struct Way {
 }
 
 impl Giving {
-    /// Nothing is given. The root and its bitmap blocks are given to no file.
-    pub(crate) fn new(alloc: Global, image: &Image) -> Result<Giving, AllocError>
-        ensures giving { IfOk result (IsGiving image.now) }
+    /// Nothing is given. The root, its bitmap blocks and the holes are given to no file.
+    pub(crate) fn new(alloc: Global, image: &Image, holes: &[bool]) -> Result<Giving, AllocError>
+        ensures giving { IfOk result (IsGiving holes.now image.now) }
         ensures left { IfOk result (λ giving. giving.left ≤ 4 * length image.now) }
     {
         let count = image.blocks() as usize;
         let mut given = vec![in alloc; false; count]?;
         mark_volume(image, given.as_mut_slice());
+        mark_holes(image, holes, given.as_mut_slice());
         Ok(Giving {
             given,
             passed: vec![in alloc; false; count]?,
@@ -82,15 +83,16 @@ impl Giving {
     /// most as many as its size needs, and as the image has. A wrong checksum of one is no reason against it.
     pub(crate) fn give(
         &mut self,
-        image: &Image,
+        known: &Known,
         file: u32,
         place: usize,
     ) -> Result<Remains, AllocError>
-        requires inside { file < block_count image.now }
-        requires giving { IsGiving image.now self.old }
-        ensures giving { OnOk result (IsGiving image.now self.new) }
+        requires inside { file < block_count known.now.image }
+        requires giving { IsGiving known.now.holes.items known.now.image self.old }
+        ensures giving { OnOk result (IsGiving known.now.holes.items known.now.image self.new) }
         ensures left { self.new.left ≡ self.old.left }
     {
+        let image = &known.image;
         let room = BLOCK - data_start(image);
         let size = (image.long(file, FILE_SIZE) as usize).min(image.blocks() as usize * room);
         let needed = size.div_ceil(room) as u32;
@@ -116,7 +118,7 @@ impl Giving {
             }
             way.before = found;
             if i % TABLE_LONGS == TABLE_LONGS - 1 {
-                way.holder = self.next_holder(image, file, way.holder);
+                way.holder = self.next_holder(known, file, way.holder);
             }
         }
         Ok(Remains {
@@ -135,7 +137,7 @@ impl Giving {
     /// Notes that a block is given.
     pub(crate) fn note(&mut self, piece: Piece) -> Result<(), AllocError>
         requires fresh { IsOpen self.old.given.items piece.block }
-        ensures giving { OnOk result ((image : List ℕ) → IsGiving image self.old → IsGiving image self.new) }
+        ensures giving { OnOk result ((holes : List Bool) (image : List ℕ) → IsGiving holes image self.old → IsGiving holes image self.new) }
         ensures left { self.new.left ≡ self.old.left }
     {
         self.given[piece.block as usize] = true;
@@ -183,13 +185,14 @@ impl Giving {
     }
 
     /// The extension block after a pointer block, if it says that it is one and was not passed before.
-    fn next_holder(&mut self, image: &Image, file: u32, holder: Option<u32>) -> Option<u32>
-        requires holder { IfSome holder (λ block. block < block_count image.now) }
-        requires giving { IsGiving image.now self.old }
-        ensures holder { IfSome result (λ block. block < block_count image.now) }
-        ensures giving { IsGiving image.now self.new }
+    fn next_holder(&mut self, known: &Known, file: u32, holder: Option<u32>) -> Option<u32>
+        requires holder { IfSome holder (λ block. block < block_count known.now.image) }
+        requires giving { IsGiving known.now.holes.items known.now.image self.old }
+        ensures holder { IfSome result (λ block. block < block_count known.now.image) }
+        ensures giving { IsGiving known.now.holes.items known.now.image self.new }
         ensures left { self.new.left ≡ self.old.left }
     {
+        let image = &known.image;
         let next = image.long(holder?, NEXT_EXTENSION);
         if next < BOOT_BLOCKS
             || next >= image.blocks()
@@ -220,6 +223,19 @@ fn mark_volume(image: &Image, given: &mut [bool])
         let block = image.long(root, FIRST_PAGE + page) as usize;
         if block < given.len() {
             given[block] = true;
+        }
+    }
+}
+
+/// Marks the holes.
+fn mark_holes(image: &Image, holes: &[bool], given: &mut [bool])
+    requires { length given.old ≡ block_count image.now }
+    ensures size { length given.new ≡ length given.old }
+    ensures marked { AreHolesMarked holes.now given.new }
+{
+    for block in 0..image.blocks() {
+        if is_hole(holes, block) {
+            given[block as usize] = true;
         }
     }
 }

@@ -1,11 +1,13 @@
 //! What can be told of an image that the check refuses: each sound header that is not deleted, the bytes of each file whose
 //! blocks no other such file names, the doubtful headers, the entries that are lost, and what is left in OFS data blocks of files
-//! whose header is gone. And the deleted entries of an image, accepted or refused.
+//! whose header is gone. What an accepted image has beside its tree. And the deleted entries of an image, accepted or refused.
 #![tactic(auto)]
 
+mod beside;
 mod chains;
 mod gathered;
 mod giving;
+mod holes;
 mod kind;
 mod listing;
 mod loose;
@@ -20,9 +22,10 @@ mod told;
 mod undeleted;
 mod unnamed;
 mod unreached;
+mod votes;
 
 pub use giving::Piece;
 pub use salvaged::{HeaderState, Salvaged, State};
-pub use salvaging::salvage;
+pub use salvaging::{salvage, salvage_beside};
 pub use saved::Salvage;
 pub use undeleted::{Undeleted, UndeletedEntries, undelete};

@@ -1,34 +1,48 @@
 //! The entries of an accepted volume.
-ghost use Rattle.std.specs.Prelude.{◌≡◌, ℕ, List, All, IfOk, Some, map, true};
+ghost use Rattle.std.specs.Prelude.{◌≡◌, ◌≢◌, ◌<◌, ℕ, List, All, AllPairs, IfOk, Some, false, map, true};
+ghost use Rattle.adf_block.specs.Image.{block_count};
 ghost use Rattle.ados_model.specs.Accepted.{Accepts};
 ghost use Rattle.ados_model.specs.Keys.{HasKey};
 ghost use Rattle.ados_model.specs.Stands.{Stands};
 ghost use Rattle.ados_model.specs.Tree.{Node, Tree};
 ghost use Rattle.ados_sound.specs.Deleted.{AreDeleted, IsTrustedBitmap, TellsTrust};
-ghost use Rattle.adf_salvage.specs.Salvaged.{HoldsAll, IsOfTree, SavesTree, located_of};
+ghost use Rattle.adf_salvage.specs.Salvaged.{HoldsAll, IsOfTree, SavesTree, broken_length, located_of};
+ghost use Rattle.adf_salvage.specs.steps.Finding.{AreOfOneTree};
 ghost use Rattle.adf_salvage.specs.steps.Keeping.{CanBeRead, IsReadable};
 
+use crate::beside::with_lost;
 use crate::salvaged::{Salvaged, State};
 use crate::saved::Salvage;
 use ados_sound::faultless_deleted;
 use ados_volume::{Below, Volume, entries_below};
 use std::alloc::{AllocError, Global};
 
-/// All entries of a volume, in its order, with whole files; and its deleted entries, if its bitmap is trusted.
-pub(crate) fn volume_entries(alloc: Global, volume: Volume) -> Result<Salvage, AllocError>
-    ensures { (given : List ℕ) → Accepts given volume.was_validated volume.image → IfOk result (SavesTree given) }
+/// All entries of a volume with these holes, in its order, with whole files; and if its bitmap is trusted, behind them the sound
+/// headers among its lost blocks, and its deleted entries.
+pub(crate) fn volume_entries(
+    alloc: Global,
+    volume: Volume,
+    holes: Vec<bool>,
+) -> Result<Salvage, AllocError>
+    ensures saves { (given : List ℕ) → Accepts given volume.was_validated volume.image → IfOk result (SavesTree given) }
+    ensures holes { IfOk result (λ saved. saved.holes ≡ holes.items) }
 {
     let (deleted, trusted) = deleted_in(alloc, &volume)?;
     let below = entries_below(alloc, &volume, volume.root())?;
     let entries = entries_of(alloc, &volume, &below)?;
-    Ok(Salvage {
+    let tree = Salvage {
         accepted: true,
         image: volume.into_image(),
         trusted,
         entries,
         deleted,
         pieces: Vec::new(alloc),
-    })
+        holes,
+    };
+    if !trusted {
+        return Ok(tree);
+    }
+    with_lost(alloc, tree)
 }
 
 /// The headers of the deleted entries of an accepted image, and whether its bitmap is trusted. One that was not valid is not.
@@ -48,10 +62,12 @@ fn deleted_in(alloc: Global, volume: &Volume) -> Result<(Vec<u32>, bool), AllocE
 
 /// These entries of a volume, with whole files.
 fn entries_of(alloc: Global, volume: &Volume, below: &[Below]) -> Result<Vec<Salvaged>, AllocError>
-    requires { All (λ entry. HasKey volume.now.image entry.key) below.now }
+    requires keys { All (λ entry. HasKey volume.now.image entry.key) below.now }
+    requires once { AllPairs (λ j k. j ≢ k) (map (λ below. below.key) below.now) }
     ensures located { IfOk result (λ found. map located_of found.items ≡ below.now) }
     ensures told { IfOk result (λ found. (t : Tree) → Stands volume.now.image t → All (IsOfTree volume.now.image t) found.items) }
     ensures readable { IfOk result (λ found. All (IsReadable volume.now.image) found.items) }
+    ensures one { IfOk result (λ found. AreOfOneTree volume.now.image found.items) }
 {
     let mut found = Vec::with_capacity(alloc, below.len())?;
     for entry in below {
@@ -66,6 +82,9 @@ fn entry_of(volume: &Volume, entry: Below) -> Salvaged
     ensures told { (t : Tree) → Stands volume.now.image t → IsOfTree volume.now.image t result }
     ensures located { located_of result ≡ entry }
     ensures readable { IsReadable volume.now.image result }
+    ensures inside { result.header < block_count volume.now.image }
+    ensures reached { result.found ≡ false }
+    ensures whole { broken_length result.state ≡ 0 }
 {
     let key = entry.key;
     let told = volume.examine(key);
@@ -87,6 +106,8 @@ fn state_in(volume: &Volume, key: u32) -> State
     requires { HasKey volume.now.image key }
     ensures state { (t : Tree) (node : Node) → Stands volume.now.image t → t.nodes key ≡ Some node → HoldsAll volume.now.image key node.content result }
     ensures readable { CanBeRead volume.now.image key result }
+    ensures whole { broken_length result ≡ 0 }
+    ensures inside { key < block_count volume.now.image }
 {
     prove!(volume.image().blocks() >= 16);
     if volume.is_file(key) {

@@ -146,7 +146,7 @@ fn add_file(
     gathered: &mut Gathered,
 ) -> Result<(), AllocError>
     requires known { AreKnown known.now }
-    requires giving { IsGiving known.now.image gathered.old.giving }
+    requires giving { IsGiving known.now.holes.items known.now.image gathered.old.giving }
     ensures { OnOk result ((next : ℕ) → next ≤ header → AreSettled known.now next gathered.old → AreSettled known.now (header + 1) gathered.new) }
 {
     if gathered.has(header) {
@@ -170,16 +170,16 @@ fn loose_state(
     giving: &mut Giving,
 ) -> Result<Option<State>, AllocError>
     requires known { AreKnown known.now }
-    requires giving { IsGiving known.now.image giving.old }
+    requires giving { IsGiving known.now.holes.items known.now.image giving.old }
     ensures state { IfOk result (λ state. IfSome state (IsLoose known.now.left_out known.now.image header)) }
-    ensures giving { OnOk result (IsGiving known.now.image giving.new) }
+    ensures giving { OnOk result (IsGiving known.now.holes.items known.now.image giving.new) }
     ensures left { IfOk result (λ state. MatchOption state (giving.new.left ≡ giving.old.left) (λ state. broken_length state + giving.new.left ≡ giving.old.left)) }
 {
     if known.is_header(header) {
         return Ok(None);
     }
     let parts = naming(known, parts, header);
-    let Some(remains) = give(&known.image, header, place, parts, giving)? else {
+    let Some(remains) = give(known, header, place, parts, giving)? else {
         return Ok(None);
     };
     let state = damaged(remains, giving.left, HeaderState::Gone);
@@ -190,17 +190,18 @@ fn loose_state(
 /// Gives a file without a header, whose entry has this position, these data blocks, and of those with one number the first. The
 /// result is `None` if no block is left for it.
 fn give(
-    image: &Image,
+    known: &Known,
     header: u32,
     place: usize,
     parts: &[Part],
     giving: &mut Giving,
 ) -> Result<Option<Remains>, AllocError>
-    requires giving { IsGiving image.now giving.old }
-    ensures named { IfOk result (λ remains. IfSome remains (λ some. (block : ℕ) × IsLooseData image.now header block)) }
-    ensures giving { OnOk result (IsGiving image.now giving.new) }
+    requires giving { IsGiving known.now.holes.items known.now.image giving.old }
+    ensures named { IfOk result (λ remains. IfSome remains (λ some. (block : ℕ) × IsLooseData known.now.image header block)) }
+    ensures giving { OnOk result (IsGiving known.now.holes.items known.now.image giving.new) }
     ensures left { giving.new.left ≡ giving.old.left }
 {
+    let image = &known.image;
     let mut there = 0_u32;
     let mut last: Option<Part> = None;
     for part in parts {

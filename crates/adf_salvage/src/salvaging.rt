@@ -1,12 +1,15 @@
 //! Everything in an image that can be trusted.
-ghost use Rattle.std.specs.Prelude.{ℕ, List, IfOk};
+ghost use Rattle.std.specs.Prelude.{◌≡◌, ℕ, List, IfOk};
 ghost use Rattle.ados_model.specs.Stands.{Stands};
 ghost use Rattle.ados_model.specs.Tree.{Tree};
-ghost use Rattle.adf_salvage.specs.Salvaged.{AreOfTree, IsReadAs, Salvages, SavesRest};
+ghost use Rattle.adf_salvage.specs.Holes.{SalvagesBeside};
+ghost use Rattle.adf_salvage.specs.Kind.{IsReadAs};
+ghost use Rattle.adf_salvage.specs.Salvaged.{AreOfTree, Salvages, SavesBeside, SavesRest};
 
 use crate::chains::add_reached;
 use crate::gathered::Gathered;
 use crate::giving::Giving;
+use crate::holes::{emptied, reaches_hole};
 use crate::kind::with_kind;
 use crate::listing::volume_entries;
 use crate::loose::add_loose;
@@ -23,8 +26,8 @@ use std::alloc::{AllocError, Global};
 /// For an image that the check accepts, these are the entries of its tree. For any other, they are its sound and doubtful
 /// headers, first those along hash chains from the root and then the others, and then its lost entries. In OFS, data blocks that
 /// name no such header make a file, in place of the lost entry with that header, or else behind all others. Deleted entries are
-/// left out, if the bitmap can be trusted: they claim no blocks, so a file that has such blocks now can be whole. If its first four
-/// bytes are neither OFS nor FFS, it is read as the kind that its blocks suggest. A block is given to one file at most of
+/// left out, if the bitmap can be trusted: they claim no blocks, so a file that has such blocks now can be whole. It is read as the
+/// kind that its blocks say, whatever its boot block says (`with_kind`). A block is given to one file at most of
 /// those that are not whole, to the first in this order, and all of these together have at most four times the bytes of the
 /// image.
 ///
@@ -33,22 +36,50 @@ pub fn salvage(alloc: Global, image: Image) -> Result<Salvage, AllocError>
     ensures salvages { IfOk result (Salvages image) }
     ensures tree { IfOk result (λ saved. (t : Tree) → Stands image t → AreOfTree t saved) }
 {
+    salvage_of(alloc, image, Vec::new(alloc))
+}
+
+/// The same of an image with holes, blocks that nobody read: whatever stands in their place is not believed. A file that a hole
+/// belongs to is not whole, and the hole is a missing block of it. The image counts as refused if the root leads to a hole.
+///
+/// `holes` says for each block whether it is one. A block without a mark is none.
+pub fn salvage_beside(alloc: Global, image: Image, holes: Vec<bool>) -> Result<Salvage, AllocError>
+    ensures { IfOk result (SalvagesBeside holes.items image) }
+{
+    let image = emptied(image, &holes);
+    let reaches = reaches_hole(alloc, &image, &holes)?;
+    if reaches {
+        let image = with_kind(alloc, image)?;
+        return told_headers(alloc, image, holes);
+    }
+    salvage_of(alloc, image, holes)
+}
+
+/// Everything in an image that can be told. The root leads to no hole, if the image is accepted.
+fn salvage_of(alloc: Global, image: Image, holes: Vec<bool>) -> Result<Salvage, AllocError>
+    ensures salvages { IfOk result (SavesBeside holes.items image) }
+    ensures tree { IfOk result (λ saved. (t : Tree) → Stands image t → AreOfTree t saved) }
+{
     match check(alloc, image) {
-        Ok(volume) => volume_entries(alloc, volume),
+        Ok(volume) => volume_entries(alloc, volume, holes),
         Err(rejected) => match rejected.fault.kind {
             FaultKind::NoMemory => Err(AllocError),
-            _ => told_headers(alloc, with_kind(rejected.image)),
+            _ => {
+                let image = with_kind(alloc, rejected.image)?;
+                told_headers(alloc, image, holes)
+            }
         },
     }
 }
 
 /// The entries of all sound and doubtful headers of an image but the deleted ones, its lost entries, and the files without a
 /// header.
-fn told_headers(alloc: Global, image: Image) -> Result<Salvage, AllocError>
-    ensures { (given : List ℕ) → IsReadAs given image → IfOk result (SavesRest given) }
+fn told_headers(alloc: Global, image: Image, holes: Vec<bool>) -> Result<Salvage, AllocError>
+    ensures saves { (given : List ℕ) → IsReadAs given image → IfOk result (SavesRest given) }
+    ensures holes { IfOk result (λ saved. saved.holes ≡ holes.items) }
 {
-    let known = Known::without_deleted(alloc, image)?;
-    let mut gathered = Gathered::new(alloc, &known.image)?;
+    let known = Known::without_deleted(alloc, image, holes)?;
+    let mut gathered = Gathered::new(alloc, &known.image, &known.holes)?;
     add_reached(&known, &mut gathered)?;
     add_unreached(&known, &mut gathered)?;
     add_lost(&known, &mut gathered)?;
@@ -63,6 +94,7 @@ fn told_headers(alloc: Global, image: Image) -> Result<Salvage, AllocError>
         image,
         trusted,
         left_out,
+        holes,
         ..
     } = known;
     let deleted = left_out.into_headers();
@@ -73,5 +105,6 @@ fn told_headers(alloc: Global, image: Image) -> Result<Salvage, AllocError>
         entries,
         deleted,
         pieces,
+        holes,
     })
 }

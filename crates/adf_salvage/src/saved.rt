@@ -18,7 +18,7 @@ use std::marker::Model;
 /// What can be trusted in an image: its entries, and the bytes of their files when they are asked for.
 ///
 /// Contracts see whether the image was accepted, the image as it was read, whether its bitmap is trusted, the entries, the
-/// headers of the deleted entries, which are left out, and the blocks given to files that are not whole.
+/// headers of the deleted entries, which are left out, the blocks given to files that are not whole, and the marks of the holes.
 #[derive(Drop)]
 pub struct Salvage {
     pub(crate) accepted: bool,
@@ -27,6 +27,8 @@ pub struct Salvage {
     pub(crate) entries: Vec<Salvaged>,
     pub(crate) deleted: Vec<u32>,
     pub(crate) pieces: Vec<Piece>,
+    /// For each block, whether it is a hole. A block without a mark is none.
+    pub(crate) holes: Vec<bool>,
 }
 
 impl Model for Salvage {
@@ -35,7 +37,7 @@ impl Model for Salvage {
 
     ghost Value = { Saved };
 
-    ghost view = { λ s. record { accepted = s.accepted; image = s.image; trusted = s.trusted; entries = s.entries.items; deleted = s.deleted.items; given = s.pieces.items } };
+    ghost view = { λ s. record { accepted = s.accepted; image = s.image; trusted = s.trusted; entries = s.entries.items; deleted = s.deleted.items; given = s.pieces.items; holes = s.holes.items } };
 
     ghost invariant = { λ s. IsKept s.image s.trusted s.entries.items s.pieces.items };
 }
@@ -68,6 +70,13 @@ impl Salvage {
         ensures { result.now ≡ self.now.given }
     {
         self.pieces.as_slice()
+    }
+
+    /// For each block, whether it is a hole: nobody read it. A block without a mark is none.
+    pub fn holes(&self) -> &[bool]
+        ensures { result.now ≡ self.now.holes }
+    {
+        self.holes.as_slice()
     }
 
     /// The entries, each header once, a directory before its entries. Lost entries come last, and behind them only recovered files

@@ -21,9 +21,9 @@ pub(crate) fn state_of(
 ) -> Result<State, AllocError>
     requires header { IsHeader known.now.left_out known.now.image block }
     requires known { AreKnown known.now }
-    requires giving { IsGiving known.now.image giving.old }
-    ensures state { IfOk result (HasState known.now.left_out known.now.image block) }
-    ensures giving { OnOk result (IsGiving known.now.image giving.new) }
+    requires giving { IsGiving known.now.holes.items known.now.image giving.old }
+    ensures state { IfOk result (HasState known.now.left_out known.now.holes.items known.now.image block) }
+    ensures giving { OnOk result (IsGiving known.now.holes.items known.now.image giving.new) }
     ensures left { IfOk result (λ state. broken_length state + giving.new.left ≡ giving.old.left) }
 {
     let image = &known.image;
@@ -38,7 +38,7 @@ pub(crate) fn state_of(
     if is_whole(known, block)? {
         return Ok(State::Whole);
     }
-    let remains = giving.give(image, block, place)?;
+    let remains = giving.give(known, block, place)?;
     let header = if sound {
         HeaderState::Sound
     } else {

@@ -1,5 +1,5 @@
 //! The entry of a header.
-ghost use Rattle.std.specs.Prelude.{◌≡◌, ◌<◌, ◌≤◌, ℕ, List, length};
+ghost use Rattle.std.specs.Prelude.{◌≡◌, ◌<◌, ◌≤◌, ℕ, Bool, List, length};
 ghost use Rattle.adf_block.specs.Image.{block_count, byte_at};
 ghost use Rattle.adf_block.specs.Whole.{text_at};
 ghost use Rattle.ados_model.specs.Stands.{date_at};
@@ -22,9 +22,10 @@ pub(crate) fn told_of(
     state: State,
 ) -> Salvaged
     requires { LooksLikeHeader image.now block }
-    ensures told { (out : List ℕ) → IsHeader out image.now block → HasState out image.now block state → IsSalvaged out image.now result }
+    ensures told { (out : List ℕ) (holes : List Bool) → IsHeader out image.now block → HasState out holes image.now block state → IsSalvaged out holes image.now result }
     ensures header { result.header ≡ block }
     ensures state { result.state ≡ state }
+    ensures found { result.found ≡ standing.found }
 {
     let Some(name) = name_of(image, block) else {
         unreachable!()

@@ -1,19 +1,20 @@
 //! The deleted entries of an image, with the directories that they were in.
-ghost use Rattle.std.specs.Prelude.{◌≡◌, [], length, IfOk, IsSome, OnOk};
+ghost use Rattle.std.specs.Prelude.{◌≡◌, [], ℕ, List, length, IfOk, IsSome, OnOk};
 ghost use Rattle.adf_block.specs.Image.{block_count};
 ghost use Rattle.ados_sound.specs.Deleted.{IsTrustedBitmap, ListsDeleted};
 ghost use Rattle.ados_sound.specs.Sound.{IsSoundHeader};
 ghost use Rattle.ados_sound.specs.Known.{AreKnown};
-ghost use Rattle.adf_salvage.specs.Undeleted.{TellsUndeleted};
+ghost use Rattle.adf_salvage.specs.Undeleted.{IsRead, TellsUndeleted};
 ghost use Rattle.adf_salvage.specs.steps.Gathering.{AreGathered, AreGatheredBy, GathersMore, place_at};
 ghost use Rattle.adf_salvage.specs.steps.Undeleting.{AreHeaders, HasEach};
 
 use crate::gathered::Gathered;
 use crate::giving::Giving;
+use crate::kind::with_kind;
 use crate::saved::Salvage;
 use crate::unreached::add_with_parents;
 use adf_block::Image;
-use ados_sound::{Deleted, DeletedEntries, Known, Recovery, deleted_entries};
+use ados_sound::{Deleted, DeletedEntries, Known, Recovery, deleted_entries, is_faultless};
 use std::alloc::{AllocError, Global};
 
 /// The deleted entries of an image, and all directories above them as far as these are sound.
@@ -37,10 +38,21 @@ pub enum UndeletedEntries {
     NoTrustedBitmap,
 }
 
-/// The deleted entries of an image with their directories.
+/// The deleted entries of an image with their directories. An image that shows a fault is read as the kind that its blocks say, as
+/// `salvage` reads it.
 ///
 /// Time and memory grow as a sort of the blocks does.
 pub fn undelete(alloc: Global, image: Image) -> Result<UndeletedEntries, AllocError>
+    ensures { IfOk result (λ entries. (read : List ℕ) × IsRead image read × TellsUndeleted read entries) }
+{
+    if is_faultless(alloc, &image) {
+        return undelete_read(alloc, image);
+    }
+    undelete_read(alloc, with_kind(alloc, image)?)
+}
+
+/// The deleted entries of an image of this kind with their directories.
+fn undelete_read(alloc: Global, image: Image) -> Result<UndeletedEntries, AllocError>
     ensures { IfOk result (TellsUndeleted image) }
 {
     match deleted_entries(alloc, image)? {
@@ -49,7 +61,7 @@ pub fn undelete(alloc: Global, image: Image) -> Result<UndeletedEntries, AllocEr
             Ok(found(alloc, known.image, deleted, gathered))
         }
         DeletedEntries::Nothing(image) => {
-            let gathered = Gathered::new(alloc, &image)?;
+            let gathered = Gathered::new(alloc, &image, &[])?;
             Ok(found(alloc, image, Vec::new(alloc), gathered))
         }
         DeletedEntries::NoTrustedBitmap => Ok(UndeletedEntries::NoTrustedBitmap),
@@ -60,7 +72,7 @@ pub fn undelete(alloc: Global, image: Image) -> Result<UndeletedEntries, AllocEr
 fn found(alloc: Global, image: Image, deleted: Vec<Deleted>, gathered: Gathered) -> UndeletedEntries
     requires trusted { IsTrustedBitmap image }
     requires deleted { ListsDeleted image deleted.items }
-    requires gathered { AreGathered [] image gathered }
+    requires gathered { AreGathered 0 [] [] image gathered }
     requires each { HasEach gathered.places.items deleted.items }
     ensures { TellsUndeleted image result }
 {
@@ -79,6 +91,7 @@ fn found(alloc: Global, image: Image, deleted: Vec<Deleted>, gathered: Gathered)
             entries,
             deleted: Vec::new(alloc),
             pieces,
+            holes: Vec::new(alloc),
         },
         deleted,
         places,
@@ -91,10 +104,11 @@ fn gathered_deleted(known: &Known, deleted: &[Deleted]) -> Result<Gathered, Allo
     requires sound { AreHeaders known.now.image deleted.now }
     requires known { AreKnown known.now }
     requires all { known.now.left_out ≡ [] }
+    requires none { known.now.before ≡ 0 }
     ensures gathered { IfOk result (AreGatheredBy known.now) }
     ensures each { IfOk result (λ gathered. HasEach gathered.places.items deleted.now) }
 {
-    let mut gathered = Gathered::new(known.alloc, &known.image)?;
+    let mut gathered = Gathered::new(known.alloc, &known.image, &known.holes)?;
     let mut climbed = vec![in known.alloc; false; known.image.blocks() as usize]?;
     for entry in deleted {
         if let Recovery::Used { by: Some(user), .. } = entry.recovery {

@@ -2,7 +2,7 @@
 ghost use Rattle.std.specs.Prelude.{◌≡◌, length, IsSome, OnOk};
 ghost use Rattle.adf_block.specs.Image.{block_count};
 ghost use Rattle.ados_sound.specs.Doubtful.{IsHeader};
-ghost use Rattle.adf_salvage.specs.steps.Gathering.{AreAllHeaders, AreGatheredBy, GathersMore, IsNew, place_at};
+ghost use Rattle.adf_salvage.specs.steps.Gathering.{AddsFound, AreAllHeaders, AreGatheredBy, GathersMore, IsNew, place_at};
 
 use crate::gathered::Gathered;
 use crate::names::Standing;
@@ -15,23 +15,43 @@ pub(crate) fn add_unreached(known: &Known, gathered: &mut Gathered) -> Result<()
     requires { AreGatheredBy known.now gathered.old }
     ensures gathered { OnOk result (AreGatheredBy known.now gathered.new) }
     ensures all { OnOk result (AreAllHeaders known.now gathered.new.places.items) }
+    ensures found { OnOk result (AddsFound known.now gathered.old gathered.new) }
 {
     take_asides(known, gathered)?;
     let count = known.image.blocks();
     let mut climbed = vec![in known.alloc; false; count as usize]?;
     for block in 0..count {
-        if gathered.is_new(known, block) {
-            add_with_parents(known, block, &mut climbed, gathered)?;
-        }
+        add_new(known, block, &mut climbed, gathered)?;
     }
     Ok(())
+}
+
+/// Adds a header after the directories above it that were not found yet, if it was not found itself.
+fn add_new(
+    known: &Known,
+    block: u32,
+    climbed: &mut Vec<bool>,
+    gathered: &mut Gathered,
+) -> Result<(), AllocError>
+    requires climbed { length climbed.old.items ≡ block_count known.now.image }
+    requires gathered { AreGatheredBy known.now gathered.old }
+    ensures climbed { length climbed.new.items ≡ block_count known.now.image }
+    ensures more { OnOk result (GathersMore known.now gathered.old gathered.new) }
+    ensures met { OnOk result (IsHeader known.now.left_out known.now.image block → IsSome (place_at gathered.new.places.items block)) }
+    ensures found { OnOk result (AddsFound known.now gathered.old gathered.new) }
+{
+    if !gathered.is_new(known, block) {
+        return Ok(());
+    }
+    add_with_parents(known, block, climbed, gathered)
 }
 
 /// Takes the names of the directories along the hash chains in which recovered entries are, before recovered entries get
 /// names.
 fn take_asides(known: &Known, gathered: &mut Gathered) -> Result<(), AllocError>
     requires { AreGatheredBy known.now gathered.old }
-    ensures { OnOk result (AreGatheredBy known.now gathered.new) }
+    ensures gathered { OnOk result (AreGatheredBy known.now gathered.new) }
+    ensures same { OnOk result (gathered.new.entries.items ≡ gathered.old.entries.items) }
 {
     for block in 0..known.image.blocks() {
         if !gathered.is_new(known, block) {
@@ -58,6 +78,7 @@ pub(crate) fn add_with_parents(
     ensures climbed { length climbed.new.items ≡ block_count known.now.image }
     ensures more { OnOk result (GathersMore known.now gathered.old gathered.new) }
     ensures met { OnOk result (IsSome (place_at gathered.new.places.items block)) }
+    ensures found { OnOk result (AddsFound known.now gathered.old gathered.new) }
 {
     let image = &known.image;
     let mut above = Vec::new(known.alloc);
@@ -84,6 +105,7 @@ fn add_found(known: &Known, block: u32, gathered: &mut Gathered) -> Result<(), A
     requires { AreGatheredBy known.now gathered.old }
     ensures more { OnOk result (GathersMore known.now gathered.old gathered.new) }
     ensures met { OnOk result (IsHeader known.now.left_out known.now.image block → IsSome (place_at gathered.new.places.items block)) }
+    ensures found { OnOk result (AddsFound known.now gathered.old gathered.new) }
 {
     if !gathered.is_new(known, block) {
         return Ok(());

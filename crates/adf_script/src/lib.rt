@@ -48,5 +48,7 @@ pub use grammar::read_line;
 pub use input::{LONGEST_SCRIPT, read_script};
 pub use laws::lines_are_one_run;
 pub use line_fault::{Expected, LineFault};
+pub use lines::first_line;
 pub use packet_lines::{NextLine, PacketLines};
+pub use pieces::split_once;
 pub use runner::run_script;

@@ -5,7 +5,7 @@ ghost use Rattle.adf_script.specs.Lines.{lines_of, is_skipped};
 use crate::pieces::split_once;
 
 /// The first line of a script without its line feed, and the rest after it.
-pub(crate) fn first_line(script: &[u8]) -> (&[u8], &[u8])
+pub fn first_line(script: &[u8]) -> (&[u8], &[u8])
     requires { 0 < length script.now }
     ensures lines { lines_of script.now ≡ result.0.now ∷ lines_of result.1.now }
     ensures shorter { length result.1.now < length script.now }

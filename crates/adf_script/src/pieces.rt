@@ -10,7 +10,7 @@ fn place_of(bytes: &[u8], separator: u8) -> Option<usize>
 }
 
 /// The bytes before the first separator and those after it, or `None`.
-pub(crate) fn split_once(bytes: &[u8], separator: u8) -> Option<(&[u8], &[u8])>
+pub fn split_once(bytes: &[u8], separator: u8) -> Option<(&[u8], &[u8])>
     ensures { MatchOption result
         (has_byte separator bytes.now ≡ false)
         (λ parts. IsSplit separator bytes.now parts.0.now parts.1.now) }

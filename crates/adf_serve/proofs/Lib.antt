@@ -2,5 +2,6 @@
 pub mod Floppy
 pub mod Telling
 pub mod Printing
+pub mod Deleting
 pub mod Bitmaps
 pub mod Asked

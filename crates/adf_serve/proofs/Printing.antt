@@ -1,5 +1,5 @@
 -- The output for an image, whole or in part.
-use Rattle.std.proofs.Common.{◌≡◌, ◌≢◌, ◌↔◌, ℕ, Bor, ◌⊎◌, IsTrue, IsFalse, codes, inl, inr, Bool, true, false, List, [], ◌++◌, map, Option, Some, None, option_map, Ok, Err, IfErr, OnErr, OnOk, IsErrAnd, refl, sym, ap, ap₂, ◌∙◌, subst}
+use Rattle.std.proofs.Common.{◌≡◌, ◌≢◌, ◌↔◌, ℕ, Bor, ◌⊎◌, IsTrue, IsFalse, codes, inl, inr, Bool, true, false, List, [], ◌++◌, Option, Some, None, option_map, Ok, Err, IfErr, OnErr, OnOk, IsErrAnd, refl, sym, ap, ap₂, ◌∙◌, subst}
 use Rattle.std.specs.Prelude.{⊤}
 use Rattle.std.specs.Io.KnownBytes.{Appends, Keeps}
 use Rattle.std.proofs.KnownBytes.{Appends-nil, Keeps-refl}
@@ -24,10 +24,10 @@ use Rattle.adf_serve.specs.declared.fault.CommandFault.TheVariants.{Dos, Extract
 use Rattle.adf_serve.specs.declared.refusal.Refusal.{Refusal}
 use Rattle.adf_serve.specs.declared.refusal.DosRefusal.{DosRefusal}
 use Rattle.adf_serve.specs.Asked.{AnswersDisk}
-use Rattle.adf_serve.specs.Texts.{AreDeletedLines, AreEntryBlocks, BeginsJobText, BeginsListOf, BeginsListText, IsJobText, IsListed, IsListOf, IsListText, shown_form, IsLook, IsLookText, IsInfoText, IsPrintText}
+use Rattle.adf_serve.specs.Texts.{AreEntryBlocks, BeginsJobText, BeginsListOf, BeginsListText, IsJobText, IsListed, IsListOf, IsListText, shown_form, IsLook, IsLookText, IsInfoText, IsPrintText}
 use Rattle.adf_serve.specs.Faults.{IsBlankFault, IsNoImage, IsNoImageRefusal, IsNoRefusal, IsRefusedFor, IsToldAs, IsToldOut}
 use Rattle.adf_serve.specs.Commands.{Does, DoesJob, Ending, EndsJob, EndsOff, LeavesOff, Prints, prints, prints_json, Tells, TellsFault, TellsMade, TellsJob, TellsOf, TellsSome}
-use Rattle.adf_serve.specs.Commands.Prints.{OnlyFaults, OfMade, OfBlocks, OfBytes, OfImages, OfMap, OfRescue, Unsaid}
+use Rattle.adf_serve.specs.Commands.Prints.{OnlyFaults, OfMade, OfBlocks, OfBytes, OfDeleted, OfImages, OfMap, OfRescue, Unsaid}
 use Rattle.adf_serve.specs.NewImages.{IsMade, Made, PutsImage, PutsMade, WritesImage, WritesMade}
 use Rattle.std.proofs.lemmas.List.{append-nil}
 use Rattle.adf_archive.specs.Archive.{TellsArchive, told_in}
@@ -39,9 +39,6 @@ use Rattle.adf_words.specs.declared.query.ListForm.{ListForm}
 use Rattle.adf_words.specs.declared.query.ListJob.{ListJob}
 use Rattle.adf_words.specs.declared.query.ListOrder.{ListOrder}
 use Rattle.adf_words.specs.declared.query.WhereJob.{WhereJob}
-use Rattle.adf_words.specs.declared.query.UndeleteJob.{UndeleteJob}
-use Rattle.adf_rescue.specs.declared.undeleting.Undeletion.{Undeletion}
-use Rattle.adf_rescue.specs.Undelete.{IsUndeletion, key_of}
 use Rattle.adf_block.specs.Image.{block_count}
 use Rattle.adf_where.specs.Faulty.{IsFaultyWhere}
 use Rattle.adf_where.specs.Own.{IsWhereOf}
@@ -51,6 +48,7 @@ use Rattle.adf_where.specs.declared.where_fault.WhereFault.TheVariants as places
 use Rattle.adf_words.specs.declared.block_word.BlockWord.{BlockWord}
 use Rattle.adf_export.specs.Words.{LeadsTo}
 use Rattle.adf_serve.specs.Archives.{EndsArchive, IsToldArchive}
+use Rattle.adf_serve.specs.Deleted.{IsDeletedText, IsUndeleteEnd}
 use Rattle.adf_serve.specs.Mapped.{IsBareMap, IsKindRefusal, IsMapReport}
 use Rattle.adf_where.specs.FaultyMap.{IsFaultyMap}
 use Rattle.adf_words.specs.declared.map_form.MapForm.{MapForm}
@@ -212,17 +210,6 @@ module _ (image : List ℕ) (was_validated : Bool) (checked : List ℕ) (a : Acc
   print_fault word old new fault told h plain =
       let s = accepted_tree image was_validated checked a in
       leaves_kept (IsPrintText word image) image old new told plain (h s.0 s.1).0
-
--- what is told of an undeletion is that of its image
-pub deleted_told : (image : List ℕ) (job : UndeleteJob) (done : Undeletion) → IsUndeletion image (map (λ word. key_of word.now) job.paths.items) job.force job.json done → AreDeletedLines job image done.text.items
-deleted_told image job done is = record {
-  trusted = is.trusted;
-  found = done.found;
-  undeleted = is.found;
-  chosen = done.chosen.items;
-  are_chosen = is.chosen;
-  text_is = is.text;
-}
 
 -- output after no output
 kept_appends : (a b c : Option (List ℕ)) (bytes : List ℕ) → Keeps a b → Appends b c bytes → Appends a c bytes
@@ -507,6 +494,7 @@ module _ (json : Bool) (IsText BeginsText : List ℕ → List ℕ → Type 0) wh
   done OfBytes old new x h = h
   done (OfImages job) old new x h = h
   done (OfRescue job) old new x h = h
+  done (OfDeleted job) old new x h = h
   done (OfBlocks job) old new x h = h
   done (OfMap form) old new x h = h
   done Unsaid old new x h = tt
@@ -519,6 +507,7 @@ module _ (json : Bool) (IsText BeginsText : List ℕ → List ℕ → Type 0) wh
   failed Unsaid old new fault h plain = tt
   failed (OfImages job) old new fault h plain = h
   failed (OfRescue job) old new fault h plain = report_failed json (IsRescueText job.json) IsSomeSize (λ (fault : CommandFault). IsHostEnd fault job.list) old new fault h plain
+  failed (OfDeleted job) old new fault h plain = report_failed json (IsDeletedText job) IsSomeSize IsUndeleteEnd old new fault h plain
   failed (OfBlocks job) old new fault h plain = report_failed json (IsWhereText job) (IsBareRefusal job) MayEnd old new fault h plain
   failed (OfMap form) old new fault h plain = report_failed json (IsMapReport form) IsBareMap MayEnd old new fault h plain
   failed OfBytes old new (Refused refusal) h plain = absurd (cc plain)
@@ -533,6 +522,7 @@ module _ (json : Bool) (IsText BeginsText : List ℕ → List ℕ → Type 0) wh
   unsaid Unsaid old new fault h = tt
   unsaid (OfImages job) old new fault h = archive_unsaid job old new fault h
   unsaid (OfRescue job) old new fault h = report_unsaid json (IsRescueText job.json) IsSomeSize (λ (fault : CommandFault). IsHostEnd fault job.list) old new fault tt h
+  unsaid (OfDeleted job) old new fault h = report_unsaid json (IsDeletedText job) IsSomeSize IsUndeleteEnd old new fault tt h
   unsaid (OfBlocks job) old new fault h = report_unsaid json (IsWhereText job) (IsBareRefusal job) MayEnd old new fault tt h
   unsaid (OfMap form) old new fault h = report_unsaid json (IsMapReport form) IsBareMap MayEnd old new fault tt h
   unsaid OfBytes old new (Refused refusal) d = (d.0, inl d.1.1)
@@ -552,6 +542,7 @@ module _ (json : Bool) (IsText BeginsText : List ℕ → List ℕ → Type 0) wh
     told_refused Unsaid refusal d w = tt
     told_refused (OfImages job) refusal d w = absurd d
     told_refused (OfRescue job) refusal (keeps, is) w = (is, (refusal_text json refusal, kept_appends old mid new (refusal_text json refusal) keeps w, refl))
+    told_refused (OfDeleted job) refusal (keeps, is) w = (is, (refusal_text json refusal, kept_appends old mid new (refusal_text json refusal) keeps w, refl))
     told_refused (OfBlocks job) refusal (keeps, is) w = (is, (refusal_text json refusal, kept_appends old mid new (refusal_text json refusal) keeps w, refl))
     told_refused (OfMap form) refusal (keeps, is) w = (is, (refusal_text json refusal, kept_appends old mid new (refusal_text json refusal) keeps w, refl))
     told_refused OfBytes refusal (bytes, (is, keeps)) w = (bytes, (is, (refusal_text json refusal, kept_appends old mid new (refusal_text json refusal) keeps w, refl)))
@@ -567,6 +558,7 @@ module _ (json : Bool) (IsText BeginsText : List ℕ → List ℕ → Type 0) wh
     told_dos Unsaid refusal d w = tt
     told_dos (OfImages job) refusal d w = absurd d
     told_dos (OfRescue job) refusal keeps w = (dos_text json refusal, kept_appends old mid new (dos_text json refusal) keeps w, refl)
+    told_dos (OfDeleted job) refusal keeps w = (dos_text json refusal, kept_appends old mid new (dos_text json refusal) keeps w, refl)
     told_dos (OfBlocks job) refusal keeps w = (dos_text json refusal, kept_appends old mid new (dos_text json refusal) keeps w, refl)
     told_dos (OfMap form) refusal keeps w = (dos_text json refusal, kept_appends old mid new (dos_text json refusal) keeps w, refl)
     told_dos OfBytes refusal (bytes, keeps) w = (bytes, (dos_text json refusal, kept_appends old mid new (dos_text json refusal) keeps w, refl))
@@ -596,6 +588,7 @@ module _ (json : Bool) (IsText BeginsText : List ℕ → List ℕ → Type 0) wh
     broken_refused Unsaid refusal d front = tt
     broken_refused (OfImages job) refusal d front = absurd d
     broken_refused (OfRescue job) refusal (keeps, is) front = (tt, inr (refusal_text json refusal, inr (Refused refusal, refl), kept_front (refusal_text json refusal) keeps front))
+    broken_refused (OfDeleted job) refusal (keeps, is) front = (tt, inr (refusal_text json refusal, inr (Refused refusal, refl), kept_front (refusal_text json refusal) keeps front))
     broken_refused (OfBlocks job) refusal (keeps, is) front = (tt, inr (refusal_text json refusal, inr (Refused refusal, refl), kept_front (refusal_text json refusal) keeps front))
     broken_refused (OfMap form) refusal (keeps, is) front = (tt, inr (refusal_text json refusal, inr (Refused refusal, refl), kept_front (refusal_text json refusal) keeps front))
     broken_refused OfBytes refusal (bytes, (is, keeps)) front =
@@ -611,6 +604,7 @@ module _ (json : Bool) (IsText BeginsText : List ℕ → List ℕ → Type 0) wh
     broken_dos Unsaid refusal d front = tt
     broken_dos (OfImages job) refusal d front = absurd d
     broken_dos (OfRescue job) refusal keeps front = (tt, inr (dos_text json refusal, inr (Dos refusal, refl), kept_front (dos_text json refusal) keeps front))
+    broken_dos (OfDeleted job) refusal keeps front = (tt, inr (dos_text json refusal, inr (Dos refusal, refl), kept_front (dos_text json refusal) keeps front))
     broken_dos (OfBlocks job) refusal keeps front = (tt, inr (dos_text json refusal, inr (Dos refusal, refl), kept_front (dos_text json refusal) keeps front))
     broken_dos (OfMap form) refusal keeps front = (tt, inr (dos_text json refusal, inr (Dos refusal, refl), kept_front (dos_text json refusal) keeps front))
     broken_dos OfBytes refusal (bytes, keeps) front =

@@ -10,10 +10,12 @@ use Rattle.adf_words.specs.declared.query.ListForm.{ListForm}
 use Rattle.adf_words.specs.declared.query.ListForm.TheVariants.{Json}
 use Rattle.adf_words.specs.declared.query.CheckJob.{CheckJob}
 use Rattle.adf_words.specs.declared.query.SalvageJob.{SalvageJob}
+use Rattle.adf_words.specs.declared.query.UndeleteJob.{UndeleteJob}
 use Rattle.adf_words.specs.declared.query.WhereJob.{WhereJob}
 use Rattle.adf_serve.specs.declared.fault.CommandFault.{CommandFault}
 use Rattle.adf_serve.specs.declared.fault.CommandFault.TheVariants.{Dos, Refused}
 use Rattle.adf_serve.specs.Archives.{EndsArchive}
+use Rattle.adf_serve.specs.Deleted.{DoesUndelete, TellsUndelete}
 use Rattle.adf_serve.specs.Mapped.{DoesMap, TellsMap}
 use Rattle.adf_serve.specs.NewImages.{IsMade, Made, PutsMade, out_of}
 use Rattle.adf_serve.specs.NewImages.Made.{ABootBlock, AnImage}
@@ -66,13 +68,15 @@ prints_json (Salvage job) = job.json
 prints_json job = false
 
 -- the kind of a job's output: only the text of its fault; what it makes, if its file is `-`; a text for the
--- bytes of its file; the reports on checked images; the report on a rescue; what is told of blocks; a map; or output without a promise
+-- bytes of its file; the reports on checked images; the report on a rescue; what is told of deleted entries, or of blocks; a map; or
+-- output without a promise
 pub data Prints : Type 0 where
   OnlyFaults : Prints
   OfMade : Made → Option (List ℕ) → Prints
   OfBytes : Prints
   OfImages : CheckJob → Prints
   OfRescue : SalvageJob → Prints
+  OfDeleted : UndeleteJob → Prints
   OfBlocks : WhereJob → Prints
   OfMap : MapForm → Prints
   Unsaid : Prints
@@ -80,6 +84,7 @@ pub data Prints : Type 0 where
 abbrev pub prints : ImageJob → Prints
 prints (Check job) = OfImages job
 prints (Salvage job) = OfRescue job
+prints (Undelete job) = OfDeleted job
 prints (Where job) = OfBlocks job
 prints (Map image form) = OfMap form
 prints (Extract job) = OnlyFaults
@@ -99,6 +104,7 @@ Does (OfMade made file) IsText BeginsText old new result = PutsMade made file ol
 Does OfBytes IsText BeginsText old new result = TellsSome IsText BeginsText old new result
 Does (OfImages job) IsText BeginsText old new result = EndsArchive job old new result
 Does (OfRescue job) IsText BeginsText old new result = DoesRescue job old new result
+Does (OfDeleted job) IsText BeginsText old new result = DoesUndelete job old new result
 Does (OfBlocks job) IsText BeginsText old new result = DoesWhere job old new result
 Does (OfMap form) IsText BeginsText old new result = DoesMap form old new result
 Does Unsaid IsText BeginsText old new result = ⊤
@@ -142,6 +148,7 @@ Tells json (OfMade made file) IsText BeginsText old new result =
 Tells json OfBytes IsText BeginsText old new result = EndsSome json IsText BeginsText old new result
 Tells json (OfImages job) IsText BeginsText old new result = EndsArchive job old new result
 Tells json (OfRescue job) IsText BeginsText old new result = TellsRescue json job old new result
+Tells json (OfDeleted job) IsText BeginsText old new result = TellsUndelete json job old new result
 Tells json (OfBlocks job) IsText BeginsText old new result = TellsWhere json job old new result
 Tells json (OfMap form) IsText BeginsText old new result = TellsMap json form old new result
 Tells json Unsaid IsText BeginsText old new result = ⊤

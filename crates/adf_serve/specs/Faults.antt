@@ -46,6 +46,7 @@ IsToldOut fault told = IsNoImageRefusal told
 abbrev pub IsNoImage : CommandFault → Type 0
 IsNoImage NotWhole = ⊥
 IsNoImage (Extracted fault) = ⊥
+IsNoImage (Undelete why) = ⊥
 IsNoImage (Refused refusal) = (bytes : List ℕ) × IsSizeRefusal bytes refusal
 IsNoImage fault = ⊤
 

@@ -9,6 +9,7 @@ pub mod Faults
 pub mod Archives
 pub mod Reports
 pub mod Rescues
+pub mod Deleted
 pub mod Mapped
 pub mod Placed
 pub mod Boot

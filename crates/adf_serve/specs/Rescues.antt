@@ -22,7 +22,7 @@ IsHostEnd fault list = ⊤
 
 -- the report on a rescue of an image that was accepted or not, as lines or as a JSON object
 abbrev pub IsRescueText : Bool → Bool → List ℕ → Type 0
-IsRescueText json accepted text = (image : List ℕ) × IsReport json image accepted text
+IsRescueText json accepted text = (holes : List Bool) × (image : List ℕ) × IsReport json holes image accepted text
 
 -- an image is refused only for a wrong size
 abbrev pub IsSomeSize : Refusal → Type 0

@@ -17,7 +17,7 @@ use Rattle.adf_record.specs.BootObject.{IsBootObject}
 use Rattle.adf_record.specs.declared.told.FactsForm.{FactsForm}
 use Rattle.adf_record.specs.Told.{IsVolumeText, is_json}
 use Rattle.adf_words.specs.declared.job.ImageJob.{ImageJob}
-use Rattle.adf_words.specs.declared.job.ImageJob.TheVariants.{Info, List as ListOf, Print, Show, ShowBoot, Undelete, Validate, WherePath}
+use Rattle.adf_words.specs.declared.job.ImageJob.TheVariants.{Info, List as ListOf, Print, Show, ShowBoot, Validate, WherePath}
 use Rattle.adf_words.specs.declared.query.ListForm.{ListForm}
 use Rattle.adf_words.specs.declared.query.ListForm.TheVariants.{Bold, Long}
 use Rattle.adf_words.specs.declared.query.ListJob.{ListJob}
@@ -107,7 +107,6 @@ IsQueryText (queries.List job) = IsListOf job.now
 IsQueryText (queries.Bytes path) = IsPrintText path.now
 IsQueryText (queries.Look json) = IsLookText json
 IsQueryText (queries.Entry path json) = AreEntryBlocks json path.now
-IsQueryText (queries.Deleted job) = AreDeletedLines job.now
 
 abbrev pub BeginsQueryText : Query → List ℕ → List ℕ → Type 0
 BeginsQueryText (queries.List job) = BeginsListOf job.now
@@ -128,7 +127,6 @@ IsJobText (ShowBoot image json) = IsBootForm json
 IsJobText (Validate target force json) = IsCountText json
 IsJobText (Show image json) = IsLookText json
 IsJobText (WherePath image path json) = AreEntryBlocks json path.now
-IsJobText (Undelete job) = AreDeletedLines job
 IsJobText job = λ bytes text. text ≡ []
 
 abbrev pub BeginsJobText : ImageJob → List ℕ → List ℕ → Type 0

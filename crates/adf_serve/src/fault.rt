@@ -1,6 +1,6 @@
 //! Why a command fails.
 ghost use Rattle.std.specs.Prelude.{◌≡◌, IfOk, option_map};
-ghost use Rattle.adf_serve.specs.Faults.{status_of};
+ghost use Rattle.adf_serve.specs.Faults.{IsNoImage, status_of};
 ghost use Rattle.adf_serve.specs.Refusals.{told_line};
 
 use crate::refusal::{Detail, DosRefusal, Refusal, Room};
@@ -53,6 +53,11 @@ pub enum CommandFault<'a> {
     /// The image has so many blocks, and the argument names none of them.
     #[error("'{}' has no block {}: it has {} blocks, from 0 on", .0, .1, Grouped(u64::from(*.2)))]
     NoBlock(&'a str, String, u32),
+    /// A line of a list of bad blocks, from 1, names none of so many blocks.
+    #[error("'{}', line {}: the number of one of the image's {} blocks is expected, from 0 on, or its place as c40.h0.s10", .0, .1, Grouped(u64::from(*.2)))]
+    BadLine(&'a str, usize, u32),
+    #[error("'{0}' has more than 4,194,304 bytes, the most of a list of bad blocks")]
+    LongList(&'a str),
     #[error("{0}")]
     Refused(Refusal),
     #[error("{0}")]
@@ -111,6 +116,8 @@ impl Drop for CommandFault<'_> {
             | CommandFault::Blocks(_)
             | CommandFault::Name(_)
             | CommandFault::LongBoot(_)
+            | CommandFault::BadLine(_, _, _)
+            | CommandFault::LongList(_)
             | CommandFault::Refused(_)
             | CommandFault::Bitmap(_)
             | CommandFault::OtherVolume(_, _)
@@ -126,7 +133,9 @@ impl Drop for CommandFault<'_> {
 
 impl<'a> CommandFault<'a> {
     /// The fault of a file that was not read to its end.
-    pub(crate) fn of_input<R: Files>(rt: &R, fault: InputFault, file: &'a str) -> CommandFault<'a> {
+    pub(crate) fn of_input<R: Files>(rt: &R, fault: InputFault, file: &'a str) -> CommandFault<'a>
+        ensures { IsNoImage result }
+    {
         match fault {
             InputFault::Read => CommandFault::Read(file, why_unreadable(rt, file)),
             InputFault::Memory => CommandFault::Memory,
@@ -225,12 +234,12 @@ impl From<OutFault> for CommandFault<'_> {
 }
 
 impl From<UndeleteFault> for CommandFault<'_> {
-    ghost use Rattle.adf_serve.specs.Faults.{IsNoRefusal};
+    ghost use Rattle.adf_serve.specs.Deleted.{IsToldUndelete};
 
-    ghost from_gives = { λ _ fault. IsNoRefusal fault };
+    ghost from_gives = { λ fault told. IsToldUndelete fault told };
 
     fn from(fault: UndeleteFault) -> Self
-        ensures { IsNoRefusal result }
+        ensures { IsToldUndelete fault result }
     {
         match fault {
             UndeleteFault::Host(fault) => CommandFault::Extracted(fault),

@@ -6,6 +6,7 @@ use crate::blocks::tell_where;
 use crate::boot::{change_boot, save_boot, show_boot};
 use crate::bundle::{put_bundle, take_bundle};
 use crate::changing::change;
+use crate::deleted::undelete;
 use crate::fault::CommandFault;
 use crate::map::tell_map;
 use crate::moving::take_out;
@@ -65,7 +66,7 @@ where
         ImageJob::ExtractBundle { image, to } => take_bundle(rt, alloc, *image, *to, faults),
         ImageJob::AddBundle { target, from } => put_bundle(rt, alloc, *target, *from, writer),
         ImageJob::Salvage(job) => take_rescue(rt, alloc, job, writer, faults),
-        ImageJob::Undelete(job) => print_query(rt, alloc, job.image, Query::Deleted(job), screen.styled, writer),
+        ImageJob::Undelete(job) => undelete(rt, alloc, job, writer, faults),
         ImageJob::Change(job) => change(rt, alloc, job, writer, faults),
         ImageJob::Validate { target, force, json } => validate_file(rt, alloc, *target, *force, *json, writer),
         ImageJob::Boot { target, block } => change_boot(rt, alloc, *target, *block, writer),

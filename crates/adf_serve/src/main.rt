@@ -18,9 +18,11 @@ mod refusal;
 mod screen;
 
 // Commands that print something of an image, or take something out of it.
+mod bad;
 mod blocks;
 mod deleted;
 mod info;
+mod kind_line;
 mod look;
 mod map;
 mod moving;

@@ -3,16 +3,13 @@ ghost use Rattle.adf_serve.specs.Commands.{TellsSome};
 ghost use Rattle.adf_serve.specs.Texts.{BeginsQueryText, IsQueryText};
 
 use crate::blocks::tell_entry;
-use crate::deleted::tell_deleted;
 use crate::fault::CommandFault;
 use crate::images::read_image;
 use crate::info::tell_info;
 use crate::look::tell_look;
 use crate::moving::{tell_bytes, tell_list};
-use adf_host::PromptFiles;
-use adf_words::{ImageFile, ListJob, UndeleteJob};
+use adf_words::{ImageFile, ListJob};
 use std::alloc::Global;
-use std::fs::File;
 use std::io::Write;
 use std::rt::Files;
 
@@ -27,14 +24,12 @@ pub(crate) enum Query<'a, 'b> {
     Bytes(&'a str),
     /// All blocks of the file or directory at a path. With `json` they are a JSON object.
     Entry { path: &'a str, json: bool },
-    /// What is told of deleted entries, which are written to the host.
-    Deleted(&'b UndeleteJob<'a>),
     /// What a person wants to know of the volume, or with `json` a JSON object.
     Look { json: bool },
 }
 
 /// Prints what is asked of the image of a file. With `styled` text for people has bold letters.
-pub(crate) fn print_query<'a, R: Files<File = File> + PromptFiles, W: Write>(
+pub(crate) fn print_query<'a, R: Files, W: Write>(
     rt: &R,
     alloc: Global,
     file: ImageFile<'a>,
@@ -50,7 +45,6 @@ pub(crate) fn print_query<'a, R: Files<File = File> + PromptFiles, W: Write>(
         Query::List(job) => tell_list(alloc, image, job, styled, writer),
         Query::Bytes(path) => tell_bytes(alloc, image, path, writer),
         Query::Entry { path, json } => tell_entry(alloc, image, path, json, writer),
-        Query::Deleted(job) => tell_deleted(rt, alloc, image, job, writer),
         Query::Look { json } => tell_look(alloc, image, json, styled, writer),
     }
 }

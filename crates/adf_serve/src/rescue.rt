@@ -1,12 +1,14 @@
 //! The command `extract --damaged`.
-ghost use Rattle.std.specs.Prelude.{ℕ, List, IfErr, IfOk};
+ghost use Rattle.std.specs.Prelude.{ℕ, Bool, List, IfErr, IfOk};
 ghost use Rattle.adf_rescue.specs.Rescue.{IsRescue};
 ghost use Rattle.adf_serve.specs.Faults.{IsNoImage};
 ghost use Rattle.adf_serve.specs.Rescues.{DoesRescue, IsRescueEnd};
 
+use crate::bad::with_bad;
 use crate::boot::tell_boot;
 use crate::fault::CommandFault;
 use crate::images::{read_image, unread};
+use crate::kind_line::tell_kind;
 use adf_block::Image;
 use adf_host::{PromptFiles, read_filled_file};
 use adf_io::{Filled, PrintFault, write_output};
@@ -33,29 +35,50 @@ where
     F: Write,
     ensures { DoesRescue job.now (W.contents writer.old) (W.contents writer.new) result }
 {
-    let image = read_filled(rt, alloc, job.image, faults)?;
+    let (image, holes) = read_holed(rt, alloc, job, faults)?;
     tell_boot(&image, faults);
-    let rescue = rescue_of(rt, alloc, image, job)?;
+    let boot = image.boot_kind();
+    let rescue = rescue_of(rt, alloc, image, holes, job)?;
+    tell_kind(boot, rescue.format(), faults);
     tell_rescue(alloc, &rescue, job, writer, faults)
 }
 
-/// The image of a file. If its first blocks are the image and some are missing, these are zeros, and a line on `faults` says so.
+/// The image of a job, and its holes: blocks of which the file lacks bytes, and those that the list of bad blocks names.
+fn read_holed<'a, R: Files, F: Write>(
+    rt: &R,
+    alloc: Global,
+    job: &SalvageJob<'a>,
+    faults: &mut F,
+) -> Result<(Image, Vec<bool>), CommandFault<'a>>
+    ensures { IfErr result IsNoImage }
+{
+    let (image, holes) = read_filled(rt, alloc, job.image, faults)?;
+    let Some(list) = job.bad else {
+        return Ok((image, holes));
+    };
+    let holes = with_bad(rt, alloc, list, image.blocks(), holes)?;
+    Ok((image, holes))
+}
+
+/// The image of a file, and for each block whether the file lacks bytes of it. If its first blocks are the image and some are missing,
+/// these are zeros, and a line on `faults` says so.
 fn read_filled<'a, R: Files, F: Write>(
     rt: &R,
     alloc: Global,
     file: ImageFile<'a>,
     faults: &mut F,
-) -> Result<Image, CommandFault<'a>>
+) -> Result<(Image, Vec<bool>), CommandFault<'a>>
     ensures { IfErr result IsNoImage }
 {
     let ImageFile { path, blocks } = file;
     let Some(blocks) = blocks else {
-        return read_image(rt, alloc, file);
+        let image = read_image(rt, alloc, file)?;
+        return Ok((image, Vec::new(alloc)));
     };
     match read_filled_file(rt, alloc, path, blocks) {
         Ok(filled) => {
             tell_missing(path, blocks, &filled, faults);
-            Ok(filled.image)
+            Ok((filled.image, filled.holes))
         }
         Err(fault) => {
             let blocks = None;
@@ -83,8 +106,8 @@ fn tell_missing<F: Write>(path: &str, blocks: u32, filled: &Filled, faults: &mut
     );
 }
 
-/// Reports on a rescue, and prints on `faults` why entries are doubtful, which files are cut short, and which used blocks belong to
-/// nothing.
+/// Reports on a rescue, and prints on `faults` what `whole` means in FFS, why entries are doubtful, which files are cut short, and which
+/// used blocks belong to nothing.
 fn tell_rescue<'a, W: Write, F: Write>(
     alloc: Global,
     rescue: &Rescue,
@@ -92,8 +115,9 @@ fn tell_rescue<'a, W: Write, F: Write>(
     writer: &mut W,
     faults: &mut F,
 ) -> Result<(), CommandFault<'a>>
-    ensures { (image : List ℕ) → IsRescue image rescue.now → DoesRescue job.now (W.contents writer.old) (W.contents writer.new) result }
+    ensures { (holes : List Bool) (image : List ℕ) → IsRescue holes image rescue.now → DoesRescue job.now (W.contents writer.old) (W.contents writer.new) result }
 {
+    tell_sums(rescue, faults);
     tell_doubts(alloc, rescue, faults);
     tell_unaccounted(alloc, rescue, faults);
     match rescue.tell(alloc, job.json, writer) {
@@ -101,6 +125,18 @@ fn tell_rescue<'a, W: Write, F: Write>(
         Ok(false) => Err(CommandFault::NotWhole),
         Err(PrintFault::Write) => Err(CommandFault::Output),
         Err(PrintFault::Memory) => Err(CommandFault::Memory),
+    }
+}
+
+/// Prints what `whole` means of a disk whose data blocks have no checksums.
+fn tell_sums<F: Write>(rescue: &Rescue, faults: &mut F) {
+    if !rescue.is_summed() {
+        print_line(
+            faults,
+            format_args!(
+                "adf_serve: the data blocks of this FFS disk have no checksums: 'whole' means that every pointer and header is right"
+            ),
+        );
     }
 }
 
@@ -151,17 +187,18 @@ const GONE: &str = "doubtful: its header is gone, and it is made of the data blo
 const CUT: &str =
     "cut short: incomplete files may have at most four times the bytes of the image in all";
 
-/// The rescue of an image.
+/// The rescue of an image with these holes.
 fn rescue_of<'a, R: Files<File = File> + PromptFiles>(
     rt: &R,
     alloc: Global,
     image: Image,
+    holes: Vec<bool>,
     job: &SalvageJob<'a>,
 ) -> Result<Rescue, CommandFault<'a>>
-    ensures told { IfOk result (λ rescue. IsRescue image rescue) }
+    ensures told { IfOk result (λ rescue. IsRescue holes.items image rescue) }
     ensures fault { IfErr result (IsRescueEnd job.now.list) }
 {
-    match extract_damaged(rt, alloc, image, job) {
+    match extract_damaged(rt, alloc, image, holes, job) {
         Ok(rescue) => Ok(rescue),
         Err(RescueFault::Host(fault)) => Err(CommandFault::Extracted(fault)),
         Err(RescueFault::Memory) => Err(CommandFault::Memory),

@@ -10,6 +10,7 @@ mod map_lines;
 mod map_object;
 
 // Blocks that are asked for.
+mod bad_list;
 mod faulty;
 mod faulty_lines;
 mod faulty_objects;
@@ -27,6 +28,7 @@ mod where_fault;
 mod where_lines;
 mod where_objects;
 
+pub use bad_list::{BadFault, bad_blocks};
 pub use block_map::map_text;
 pub use faulty_map::faulty_map_text;
 pub use faulty_where::write_faulty_where;

@@ -42,7 +42,7 @@ pub(crate) fn named_blocks(
 }
 
 /// The block that an argument names in a volume with so many blocks.
-fn named_block(blocks: u32, word: BlockWord) -> Option<u32>
+pub(crate) fn named_block(blocks: u32, word: BlockWord) -> Option<u32>
     ensures { result ≡ named blocks word }
 {
     match word {

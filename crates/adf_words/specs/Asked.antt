@@ -112,6 +112,7 @@ IsExtractOf found (Salvage job) =
     IsFileOf found job.image × (first_value found (codes "bundle") ≡ None) × IsGiven found (codes "damaged") × IsInto found job.to.now
     × ((given : Bool) → IsFlag found (codes "list") given → job.list ≡ given) × ((given : Bool) → IsFlag found (codes "json") given → job.json ≡ given)
     × ((given : Bool) → IsFlag found (codes "meta") given → job.meta ≡ given)
+    × (first_value found (codes "bad") ≡ option_map (λ word. word.now) job.bad)
 IsExtractOf found (Extract job) =
     IsFileOf found job.image × (first_value found (codes "bundle") ≡ None) × IsLeftOut found (codes "damaged") × IsInto found job.to.now
     × (map (λ word. word.now) job.paths.items ≡ all_values found (codes "PATH"))

@@ -74,7 +74,7 @@ fn block_of(alloc: Global, word: &str) -> Result<BlockWord, WordsFault>
 }
 
 /// The block that an argument names, if it names one.
-fn named_block(alloc: Global, word: &str) -> Result<Option<BlockWord>, AllocError>
+pub fn named_block(alloc: Global, word: &str) -> Result<Option<BlockWord>, AllocError>
     ensures { IfOk result (λ found. MatchOption found (NamesNone word.now) (IsNamed word.now)) }
 {
     let Some(block) = read_block(word) else {

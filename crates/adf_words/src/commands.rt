@@ -65,7 +65,7 @@ fn argument_of<'a>(alloc: Global, row: &ArgumentRow) -> Result<Arg<'a>, AllocErr
             .long(row.name)
             .value_name(value)
             .default_value(default),
-        Kind::Option { value, .. } | Kind::Instead { value, .. } => {
+        Kind::Option { value, .. } | Kind::Beside { value, .. } | Kind::Instead { value, .. } => {
             argument.long(row.name).value_name(value)
         }
         Kind::OneOrMore | Kind::Any => argument.num_args(1..),
@@ -75,6 +75,7 @@ fn argument_of<'a>(alloc: Global, row: &ArgumentRow) -> Result<Arg<'a>, AllocErr
         Kind::With { option, excludes } => argument
             .requires_arg(option)?
             .conflicts_with_all(excludes),
+        Kind::Beside { option, .. } => argument.requires_arg(option),
         Kind::Flag { excludes } | Kind::Instead { excludes, .. } => {
             argument.conflicts_with_all(excludes)
         }

@@ -29,7 +29,7 @@ mod tips;
 mod version;
 mod wrapping;
 
-pub use block_word::BlockWord;
+pub use block_word::{BlockWord, named_block};
 pub use boot::BootBlock;
 pub use change::{Change, ChangeJob, Rewrite, Source};
 pub use fault::WordsFault;

@@ -115,4 +115,6 @@ pub struct SalvageJob<'a> {
     pub to: &'a str,
     /// Whether a note `.uaem` is written beside each entry.
     pub meta: bool,
+    /// A list of blocks that could not be read.
+    pub bad: Option<&'a str>,
 }

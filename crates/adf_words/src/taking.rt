@@ -214,6 +214,7 @@ pub(crate) fn extract_job<'a>(arguments: &Arguments<'a, '_>) -> Result<ImageJob<
             json,
             to,
             meta,
+            bad: arguments.given("bad"),
         }));
     }
     Ok(ImageJob::Extract(ExtractJob {

@@ -7,4 +7,5 @@ pub mod Sorting
 mod Insides
 pub mod Marking
 mod Reaching
+mod Entries
 mod Placing

@@ -2,7 +2,8 @@
 use Rattle.ados_mend.proofs.Common.{◌≡◌, ℕ, Bool, true, false, List, Option, Some, None, MatchOption, refl, sym, ap, ◌∙◌, subst, arith, block_sum, has_free_bit, HasFreeBit, IsValidated, AreSafePages, HasNoLostHeader}
 use Rattle.ados_mend.specs.declared.caution.Caution.{Caution}
 use Rattle.ados_mend.specs.declared.caution.Caution.TheVariants.{Differs, LooksLike, LostHeader}
-use Rattle.ados_mend.specs.Cautions.{HasLook, HasNoCaution, IsCaution, IsLostBlock, changed_bits}
+use Rattle.ados_mend.specs.Cautions.{HasLook, HasNoCaution, IsCaution, changed_bits}
+use Rattle.ados_sound.specs.Found.{IsLostBlock}
 
 module _ (old new : List ℕ) (v : IsValidated old new) (safe : AreSafePages old new) where
   -- the new image marks a lost block free

@@ -3,10 +3,7 @@ use Rattle.std.specs.Prelude.{◌≡◌, ◌≢◌, ◌⊎◌, ℕ, ◌+◌, ◌
 use Rattle.adf_block.specs.declared.layout.TheConstants.{DATA_TYPE, DIRECTORY_TYPE, FILE_TYPE, FIRST_MAP_LONG, HEADER_TYPE, LIST_TYPE, MAP_LONGS, ROOT_TYPE}
 use Rattle.adf_block.specs.Fields.{primary_type, secondary_type}
 use Rattle.adf_block.specs.Image.{block_sum, long, total}
-use Rattle.adf_block.specs.Whole.{HasFreeBit}
-use Rattle.ados_sound.specs.Sound.{IsSoundHeader}
-use Rattle.ados_model.specs.declared.role.Role.{Role}
-use Rattle.ados_model.specs.Faults.{InImage, Reached}
+use Rattle.ados_sound.specs.Found.{IsLostHeader}
 use Rattle.ados_mend.specs.declared.caution.Caution.{Caution}
 use Rattle.ados_mend.specs.declared.caution.Caution.TheVariants.{Differs, LooksLike, LostHeader}
 use Rattle.ados_mend.specs.declared.caution.Look.{Look}
@@ -28,18 +25,12 @@ HasLook image block Data = primary_type image block ≡ DATA_TYPE
 abbrev pub changed_bits : List ℕ → List ℕ → ℕ → ℕ
 changed_bits old new page = total (λ i. count_ones (bit_xor (long old page (i + FIRST_MAP_LONG)) (long new page (i + FIRST_MAP_LONG)))) MAP_LONGS
 
--- the block is marked used, and nothing names it
-pub record IsLostBlock (image : List ℕ) (block : ℕ) : Type 0 where
-  pub inside : InImage image block
-  pub used : ¬ HasFreeBit image block
-  pub unnamed : (role : Role) → ¬ Reached image block role
-
 -- a bitmap block looks like another block; it has a wrong checksum and differs from the new one in many bits; or a
 -- lost block is a sound header
 abbrev pub IsCaution : List ℕ → List ℕ → Caution → Type 0
 IsCaution old new (LooksLike page look) = IsPage old page × HasLook old page look
 IsCaution old new (Differs page bits) = IsPage old page × (block_sum old page ≢ 0) × (bits ≡ changed_bits old new page) × (MOST_CHANGED_BITS < bits)
-IsCaution old new (LostHeader block) = IsLostBlock old block × IsSoundHeader old block
+IsCaution old new (LostHeader block) = IsLostHeader old block
 
 -- nothing is lost with the old bitmap
 abbrev pub HasNoCaution : List ℕ → List ℕ → Type 0

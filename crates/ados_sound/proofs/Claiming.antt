@@ -1,5 +1,5 @@
 -- The claims of the blocks, in terms of the sound files.
-use Rattle.ados_sound.proofs.Common.{◌≡◌, ◌≢◌, ne_eqb, ℕ, zero, suc, ◌+◌, ◌<◌, ◌==◌, inl, inr, Bool, true, false, MatchBool, All, List, [], ◌∷◌, ◌++◌, length, take, drop, get_or, Contains, refl, sym, ap, ◌∙◌, subst, arith, cases_lt, cases_eq, ◌↔◌, eq-eqb, drop_of_length-le, append-nil, get_or_default, Contains-append_cases, Contains-append_left, Contains-append_right, block_count, Claim, Free, One, Several, HasClaim, IsClaimant, IsIntact, IsWhole, Names, own_blocks, AreClaims, IsClaim, IsNoted, claim_at, with_claim}
+use Rattle.ados_sound.proofs.Common.{◌≡◌, ◌≢◌, ne_eqb, ℕ, zero, suc, ◌+◌, ◌<◌, ◌==◌, inl, inr, Bool, true, false, MatchBool, All, List, [], ◌∷◌, ◌++◌, length, take, drop, get_or, Contains, refl, sym, ap, ◌∙◌, subst, arith, cases_lt, cases_eq, ◌↔◌, eq-eqb, drop_of_length-le, append-nil, get_or_default, Contains-append_cases, Contains-append_left, Contains-append_right, block_count, Claim, Free, One, Several, HasClaim, IsClaimant, IsHole, IsIntact, IsWhole, Names, own_blocks, AreClaims, IsClaim, IsNoted, claim_at, with_claim}
 use Rattle.std.proofs.Math.Seq.{take-length}
 use Rattle.ados_sound.proofs.SoundParts.{lawful_holders, lawful_data_blocks}
 use Rattle.ados_sound.proofs.Leaving.{only_one}
@@ -87,10 +87,11 @@ own_within image file i block m =
     omega (arith, here.1, get_or_default (own_blocks image file) m.0 0 block m.1, m.2)
 
 module _ (out image : List ℕ) (claims : List Claim) (h : AreClaims (HasClaim out image) (block_count image) (block_count image) claims) (file : ℕ) (i : IsClaimant out image file) where
-  -- a sound file is whole if only it names its blocks
-  pub is_whole : All (λ (block : ℕ). claim_at claims block ≡ One file) (own_blocks image file) → IsWhole out image file
-  is_whole all = record {
+  -- a sound file is whole if only it names its blocks, and none is a hole
+  pub is_whole : (holes : List Bool) → All (λ (block : ℕ). ¬ IsHole holes block) (own_blocks image file) → All (λ (block : ℕ). claim_at claims block ≡ One file) (own_blocks image file) → IsWhole out holes image file
+  is_whole holes there all = record {
     claimant = i;
+    there = λ block m. subst (λ (b : ℕ). ¬ IsHole holes b) m.2 (there m.0 block m.1);
     alone = λ other block j m k.
         let noted : claim_at claims block ≡ One file =
         ap (claim_at claims) (sym m.2) ∙ all m.0 block m.1 in
@@ -99,8 +100,8 @@ module _ (out image : List ℕ) (claims : List Claim) (h : AreClaims (HasClaim o
   }
 
   -- each block of a whole file has its claim
-  pub whole_noted : IsWhole out image file → All (λ (block : ℕ). claim_at claims block ≡ One file) (own_blocks image file)
-  whole_noted w = λ k d l.
+  pub whole_noted : (holes : List Bool) → IsWhole out holes image file → All (λ (block : ℕ). claim_at claims block ≡ One file) (own_blocks image file)
+  whole_noted holes w = λ k d l.
       let block = get_or (own_blocks image file) k d in
       let named : Names image file (get_or (own_blocks image file) k d) = (k, l, get_or_default (own_blocks image file) k (get_or (own_blocks image file) k d) d l) in
       go (get_or (own_blocks image file) k d) (claim_at claims (get_or (own_blocks image file) k d)) named (h (get_or (own_blocks image file) k d) (own_within image file i.intact (get_or (own_blocks image file) k d) named))
@@ -116,20 +117,27 @@ pub alone_claims : (out image : List ℕ) (claims : List Claim) (file : ℕ) →
 alone_claims out image claims file h l alone = (subst (IsClaim (HasClaim out image) (block_count image) file) alone (h file l)).1.0
 
 -- and a whole file alone claims its header
-pub claimed_whole : (out image : List ℕ) (claims : List Claim) (file : ℕ) → AreClaims (HasClaim out image) (block_count image) (block_count image) claims → IsWhole out image file → claim_at claims file ≡ One file
-claimed_whole out image claims file h w = whole_noted out image claims h file w.claimant w 0 0 (omega arith)
+pub claimed_whole : (out : List ℕ) (holes : List Bool) (image : List ℕ) (claims : List Claim) (file : ℕ) → AreClaims (HasClaim out image) (block_count image) (block_count image) claims → IsWhole out holes image file → claim_at claims file ≡ One file
+claimed_whole out holes image claims file h w = whole_noted out image claims h file w.claimant holes w 0 0 (omega arith)
+
+-- no block of a whole file is a hole
+pub whole_there : (out : List ℕ) (holes : List Bool) (image : List ℕ) (file : ℕ) (xs : List ℕ) → xs ≡ own_blocks image file → IsWhole out holes image file → All (λ (block : ℕ). ¬ IsHole holes block) xs
+whole_there out holes image file xs e w = subst (All (λ (block : ℕ). ¬ IsHole holes block)) (sym e)
+    (λ k d l. w.there (get_or (own_blocks image file) k d) (k, l, get_or_default (own_blocks image file) k (get_or (own_blocks image file) k d) d l))
 
 -- the blocks of a sound file are indices of a list with an element for each block
 pub all_within : (image : List ℕ) (file : ℕ) → IsIntact image file → (xs : List ℕ) (n : ℕ) → xs ≡ own_blocks image file → n ≡ block_count image → All (λ (block : ℕ). block < n) xs
 all_within image file i xs n e size = subst (λ (ys : List ℕ). All (λ (block : ℕ). block < n) ys) (sym e)
     (λ k d l. omega (arith, size, own_within image file i (get_or (own_blocks image file) k d) (k, l, get_or_default (own_blocks image file) k (get_or (own_blocks image file) k d) d l)))
 
--- the claims of its blocks decide whether a sound file is whole
-pub whole_decided : (out image : List ℕ) (claims : List Claim) (file : ℕ) (xs : List ℕ) (answer : Bool) → AreClaims (HasClaim out image) (block_count image) (block_count image) claims → IsClaimant out image file → xs ≡ own_blocks image file
-    → MatchBool answer (All (λ (block : ℕ). claim_at claims block ≡ One file) xs) (¬ All (λ (block : ℕ). claim_at claims block ≡ One file) xs) → MatchBool answer (IsWhole out image file) (¬ IsWhole out image file)
-whole_decided out image claims file xs true h i e all = is_whole out image claims h file i (subst (λ (ys : List ℕ). All (λ (block : ℕ). claim_at claims block ≡ One file) ys) e all)
-whole_decided out image claims file xs false h i e none = λ w.
-    none (subst (λ (ys : List ℕ). All (λ (block : ℕ). claim_at claims block ≡ One file) ys) (sym e) (whole_noted out image claims h file i w))
+-- where none of its blocks is a hole, their claims decide whether a sound file is whole
+pub whole_decided : (out : List ℕ) (holes : List Bool) (image : List ℕ) (claims : List Claim) (file : ℕ) (xs : List ℕ) (answer : Bool) → AreClaims (HasClaim out image) (block_count image) (block_count image) claims → IsClaimant out image file → xs ≡ own_blocks image file
+    → All (λ (block : ℕ). ¬ IsHole holes block) xs
+    → MatchBool answer (All (λ (block : ℕ). claim_at claims block ≡ One file) xs) (¬ All (λ (block : ℕ). claim_at claims block ≡ One file) xs) → MatchBool answer (IsWhole out holes image file) (¬ IsWhole out holes image file)
+whole_decided out holes image claims file xs true h i e there all = is_whole out image claims h file i holes (subst (All (λ (block : ℕ). ¬ IsHole holes block)) e there)
+    (subst (λ (ys : List ℕ). All (λ (block : ℕ). claim_at claims block ≡ One file) ys) e all)
+whole_decided out holes image claims file xs false h i e there none = λ w.
+    none (subst (λ (ys : List ℕ). All (λ (block : ℕ). claim_at claims block ≡ One file) ys) (sym e) (whole_noted out image claims h file i holes w))
 
 -- a list overwritten by one of the same length
 pub refilled : {X : Type 0} (new old : List X) (len : ℕ) → length new ≡ length old → len ≡ length old → take len (new ++ drop (length new) old) ≡ new

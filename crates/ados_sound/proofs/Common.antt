@@ -34,7 +34,7 @@ pub use Rattle.std.proofs.lemmas.Result.{on_ok_weaker}
 pub use Rattle.std.proofs.Common.{All, AllPairs, Bool, Contains, Global, IsTrue, List, MatchBool, Option, Some, Vec, [], ap, arith, below_more, cond, count_by, drop, false, get_or, get_or-append-add, get_or-set_other, get_or-set_same, inl, inr, length, length-set, map, min, ne_eqb, refl, rules, slice_index, subst, suc, sym, take, true, zero, ℕ, ◌%◌, ◌*◌, ◌++◌, ◌+◌, ◌-◌, ◌/◌, ◌<◌, ◌==◌, ◌↔◌, ◌∙◌, ◌∷◌, ◌≡◌, ◌≢◌, ◌≤◌, ◌⊎◌}
 pub use Rattle.ados_check.proofs.Counting.{AreDifferent, different_few}
 pub use Rattle.ados_sound.specs.declared.headers.Found.{Found}
-pub use Rattle.ados_sound.specs.Marks.{mark_at}
+pub use Rattle.ados_sound.specs.Marks.{IsHole, mark_at}
 pub use Rattle.std.specs.List.{range_with_len}
 pub use Rattle.std.proofs.lemmas.List.FromFn.{get_or-map-range_with_len, length-map-range_with_len, map-range_with_len_more}
 pub use Rattle.ados_model.specs.Faults.{HasFileType, InImage, IsReachedAndFree, PlaceNames, Reached, Shows, root_of}

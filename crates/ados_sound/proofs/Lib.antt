@@ -8,8 +8,11 @@ pub mod Following
 pub mod Growing
 pub mod Claiming
 pub mod InOrder
+pub mod Splitting
 pub mod Naming
 pub mod Heading
 pub mod Trusting
 pub mod Recovering
 pub mod ListingDeleted
+pub mod Keeping
+pub mod Hiding

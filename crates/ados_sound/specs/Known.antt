@@ -6,6 +6,7 @@ use Rattle.ados_sound.specs.declared.claims.Claim.TheVariants.{Free, One, Severa
 use Rattle.ados_sound.specs.declared.known.Known.{Known}
 use Rattle.ados_sound.specs.Deleted.{TellsTrust}
 use Rattle.ados_sound.specs.Doubtful.{IsHeader}
+use Rattle.ados_sound.specs.Found.{AreUnreached}
 use Rattle.ados_sound.specs.Marks.{mark_at}
 use Rattle.ados_sound.specs.Sound.{IsClaimant, Names}
 
@@ -37,8 +38,13 @@ pub record AreAllClaims (Has : ℕ → ℕ → Type 0) (count : ℕ) (claims : L
   pub size : length claims ≡ count
   pub right : AreClaims Has count count claims
 
+-- the claims are right where the headers are left out too to which the root does not lead
+abbrev pub AreReachedClaims : List ℕ → List ℕ → List Claim → Type 0
+AreReachedClaims out image claims = (unreached : List ℕ) × AreUnreached out image unreached × AreAllClaims (HasClaim unreached image) (block_count image) claims
+
 -- what is known of an image is right: whether its bitmap is trusted, which blocks are headers that are told, and the files that claim blocks
 pub record AreKnown (known : Known) : Type 0 where
   pub trust : TellsTrust known.image known.trusted
   pub headers : AreHeaders known.left_out known.image known.headers.items
   pub claims : AreAllClaims (HasClaim known.left_out known.image) (block_count known.image) known.claims.items
+  pub reached : AreReachedClaims known.left_out known.image known.reached_claims.items

@@ -5,6 +5,7 @@ pub mod ByCensus
 pub mod Holders
 pub mod Deleted
 pub mod Marks
+pub mod Found
 pub mod Known
 pub mod Listing
 pub mod steps

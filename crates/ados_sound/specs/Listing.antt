@@ -7,11 +7,13 @@ use Rattle.ados_sound.specs.declared.known.Known.{Known}
 use Rattle.ados_sound.specs.Deleted.{IsTrustedBitmap, ListsDeleted}
 use Rattle.ados_sound.specs.Known.{AreKnown}
 
--- what is known of the image is right, where no header is left out, and these are its deleted entries
+-- what is known of the image is right, where no header is left out and nothing is a hole, and these are its deleted entries
 pub record AreFoundIn (image : List ℕ) (known : Known) (deleted : List Deleted) : Type 0 where
   pub same : known.image ≡ image
   pub known_right : AreKnown known
   pub none_left_out : known.left_out ≡ []
+  pub none_before : known.before ≡ 0
+  pub no_holes : known.holes.items ≡ []
   pub listed : ListsDeleted image deleted
 
 -- the deleted entries, by a bitmap that is trusted; or that it is not

@@ -1,5 +1,5 @@
 -- The headers and files of an image that are sound by themselves, wherever hash chains lead.
-use Rattle.std.specs.Prelude.{◌≡◌, ℕ, ◌≤◌, List, ◌∷◌, ◌++◌, Contains}
+use Rattle.std.specs.Prelude.{◌≡◌, ℕ, ◌≤◌, Bool, List, ◌∷◌, ◌++◌, Contains}
 use Rattle.adf_block.specs.Image.{block_count, block_sum, byte_at, IsInside}
 use Rattle.adf_block.specs.Fields.{file_size, format_of, own_key, primary_type}
 use Rattle.adf_block.specs.declared.layout.TheConstants.{HEADER_TYPE, COMMENT_BYTE, NAME_BYTE}
@@ -9,6 +9,7 @@ use Rattle.ados_model.specs.File.{LawfulFile, data_blocks, extension_blocks}
 use Rattle.ados_model.specs.Faults.{HasFileType}
 use Rattle.ados_model.specs.Tree.{data_count}
 use Rattle.ados_check.specs.Marks.{HasEntryType}
+use Rattle.ados_sound.specs.Marks.{IsHole}
 
 -- the header of a directory or file with the right fields, in its own block
 pub record IsSoundHeader (image : List ℕ) (block : ℕ) : Type 0 where
@@ -44,7 +45,8 @@ pub record IsClaimant (out image : List ℕ) (file : ℕ) : Type 0 where
   pub intact : IsIntact image file
   pub told : ¬ Contains out file
 
--- a whole file, where these headers are left out: it claims its blocks, and no other sound file claims one of them
-pub record IsWhole (out image : List ℕ) (file : ℕ) : Type 0 where
+-- a whole file, where these headers are left out: it claims its blocks, no other sound file claims one of them, and none is a hole
+pub record IsWhole (out : List ℕ) (holes : List Bool) (image : List ℕ) (file : ℕ) : Type 0 where
   pub claimant : IsClaimant out image file
+  pub there : (block : ℕ) → Names image file block → ¬ IsHole holes block
   pub alone : (other block : ℕ) → IsClaimant out image other → Names image file block → Names image other block → other ≡ file

@@ -77,7 +77,8 @@ pub fn deleted_entries(alloc: Global, image: Image) -> Result<DeletedEntries, Al
         return Ok(DeletedEntries::Nothing(image));
     }
     let named = named_claims(alloc, &image, &sound)?;
-    let known = Known::of(alloc, image, true, LeftOut::none(alloc), &sound)?;
+    let holes = Vec::new(alloc);
+    let known = Known::of(alloc, image, holes, true, LeftOut::none(alloc), &sound)?;
     let deleted = all_deleted(&known, &named, &headers, &marks)?;
     Ok(DeletedEntries::Found(known, deleted))
 }

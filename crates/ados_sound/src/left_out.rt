@@ -96,7 +96,7 @@ impl LeftOut {
     }
 
     /// These headers.
-    fn of(alloc: Global, image: &Image, headers: Vec<u32>) -> Result<LeftOut, AllocError>
+    pub(crate) fn of(alloc: Global, image: &Image, headers: Vec<u32>) -> Result<LeftOut, AllocError>
         requires { All (λ header. header < block_count image.now) headers.items }
         ensures { IfOk result (λ left_out. left_out ≡ headers.items) }
     {

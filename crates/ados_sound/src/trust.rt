@@ -4,6 +4,7 @@ ghost use Rattle.adf_block.specs.Image.{block_count};
 ghost use Rattle.adf_block.specs.Whole.{IsImage};
 ghost use Rattle.ados_faults.specs.Listed.{ListsDoubts};
 ghost use Rattle.ados_map.specs.Pages.{page_block, pages_of};
+ghost use Rattle.ados_model.specs.Accepted.{ShowsNoFault};
 ghost use Rattle.ados_model.specs.Faults.{InImage, Shows};
 ghost use Rattle.ados_sound.specs.Deleted.{AreTrustedPages, IsDeleted, IsTrustedBitmap, IsTrustedPage, is_used};
 ghost use Rattle.ados_sound.specs.Sound.{IsSoundHeader};
@@ -34,6 +35,13 @@ pub(crate) fn trusted_marks(
         return Ok(None);
     }
     Ok(Some(marks))
+}
+
+/// Whether an image shows no fault, if its bitmap is valid. Of one whose bitmap is not valid nothing is decided.
+pub fn is_faultless(alloc: Global, image: &Image) -> bool
+    ensures { IsTrue result → ShowsNoFault image.now }
+{
+    faultless_marks(alloc, image).is_some()
 }
 
 /// The same for an image that may show faults.

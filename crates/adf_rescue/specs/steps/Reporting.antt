@@ -37,6 +37,6 @@ IsPart false after found state text = IsRescueLine found state text
 IsPart true after found state text = IsNextObject after found state text
 
 -- what is behind the entries
-abbrev pub rest_of : Bool → ℕ → List ℕ → List ℕ
-rest_of false deleted unaccounted = deleted_count_line deleted ++ unaccounted_count_line (length unaccounted)
-rest_of true deleted unaccounted = print (rest_tokens deleted unaccounted) ++ codes "\n"
+abbrev pub rest_of : Bool → ℕ → List ℕ → Bool → List ℕ
+rest_of false deleted unaccounted summed = deleted_count_line deleted ++ unaccounted_count_line (length unaccounted)
+rest_of true deleted unaccounted summed = print (rest_tokens deleted unaccounted summed) ++ codes "\n"

@@ -1,16 +1,23 @@
 -- The entries of a damaged image while they are gathered.
-use Rattle.std.specs.Prelude.{◌≡◌, ℕ, ◌+◌, ◌*◌, ◌<◌, ◌≤◌, List, length, All, Contains, slice_index, slice_index_or, Option, Some, None, IsSome}
+use Rattle.std.specs.Prelude.{◌≡◌, ℕ, ◌+◌, ◌*◌, ◌<◌, ◌≤◌, Bool, true, List, [], ◌∷◌, ◌++◌, drop, length, All, Contains, slice_index, slice_index_or, Option, Some, None, IsSome}
 use Rattle.adf_block.specs.Image.{block_count, long, IsInside}
 use Rattle.ados_sound.specs.declared.known.Known.{Known}
 use Rattle.ados_sound.specs.Doubtful.{IsHeader, IsPlaceIn, NamesEntries}
 use Rattle.ados_sound.specs.Known.{AreKnown}
 use Rattle.adf_salvage.specs.declared.gathered.Gathered.{Gathered}
-use Rattle.adf_salvage.specs.Salvaged.{IsTold, broken_total, headers_of}
+use Rattle.adf_salvage.specs.declared.salvaged.Salvaged.{Salvaged}
+use Rattle.adf_salvage.specs.Salvaged.{IsSalvaged, IsTold, broken_total, headers_of}
 use Rattle.adf_salvage.specs.steps.Giving.{IsGiving}
 
 -- the index of a block's entry, if its header was found
 abbrev pub place_at : List (Option ℕ) → ℕ → Option ℕ
 place_at places block = slice_index_or places block None
+
+-- the index of each of these entries is the one at its header, and only their headers have one
+pub record ArePlacesOf (image : List ℕ) (found : List Salvaged) (places : List (Option ℕ)) : Type 0 where
+  pub size : length places ≡ block_count image
+  pub placed : (i : ℕ) → i < length (headers_of found) → place_at places (slice_index (headers_of found) i) ≡ Some i
+  pub met : (block : ℕ) → IsSome (place_at places block) → Contains (headers_of found) block
 
 -- all headers were found
 abbrev pub AreAllHeaders : Known → List (Option ℕ) → Type 0
@@ -30,20 +37,22 @@ AreFollowed known places block = NamesEntries known.left_out known.image block �
 abbrev pub IsNew : Known → List (Option ℕ) → ℕ → Type 0
 IsNew known places block = IsHeader known.left_out known.image block × (place_at places block ≡ None)
 
--- the entries found so far; the index of each header is right, and the blocks given and the bytes left fit the broken files
-pub record AreGathered (out image : List ℕ) (gathered : Gathered) : Type 0 where
-  pub told : All (IsTold out image) gathered.entries.items
+-- the entries found so far, behind as many as were told before; the index of each header is right, and the blocks given and the bytes left
+-- fit the broken files
+pub record AreGathered (before : ℕ) (out : List ℕ) (holes : List Bool) (image : List ℕ) (gathered : Gathered) : Type 0 where
+  pub behind : before ≤ length gathered.entries.items
+  pub told : All (IsTold out holes image) (drop before gathered.entries.items)
   pub size : length gathered.places.items ≡ block_count image
   pub placed : (i : ℕ) → i < length (headers_of gathered.entries.items)
       → place_at gathered.places.items (slice_index (headers_of gathered.entries.items) i) ≡ Some i
   pub met : (block : ℕ) → IsSome (place_at gathered.places.items block) → Contains (headers_of gathered.entries.items) block
-  pub giving : IsGiving image gathered.giving
+  pub giving : IsGiving holes image gathered.giving
   pub bounded : broken_total gathered.entries.items + gathered.giving.left ≤ 4 * length image
 
 -- the entries gathered so far of an image, by what is known of it
 pub record AreGatheredBy (known : Known) (gathered : Gathered) : Type 0 where
   pub sure : AreKnown known
-  pub so_far : AreGathered known.left_out known.image gathered
+  pub so_far : AreGathered known.before known.left_out known.holes.items known.image gathered
 
 -- headers found before are still found
 abbrev pub KeepsMet : List (Option ℕ) → List (Option ℕ) → Type 0
@@ -52,3 +61,20 @@ KeepsMet old new = (block : ℕ) → IsSome (place_at old block) → IsSome (pla
 -- more entries were gathered
 abbrev pub GathersMore : Known → Gathered → Gathered → Type 0
 GathersMore known old new = AreGatheredBy known new × KeepsMet old.places.items new.places.items
+
+-- one more entry, that of a header, which is found or not
+pub record AddsOne (known : Known) (is_found : Bool) (old new : Gathered) : Type 0 where
+  pub entry : Salvaged
+  pub salvaged : IsSalvaged known.left_out known.holes.items known.image entry
+  pub as_found : entry.found ≡ is_found
+  pub added : new.entries.items ≡ old.entries.items ++ entry ∷ []
+
+-- a found entry with the fields of its header
+abbrev pub IsFoundEntry : Known → Salvaged → Type 0
+IsFoundEntry known entry = (entry.found ≡ true) × IsSalvaged known.left_out known.holes.items known.image entry
+
+-- more entries, all of them found
+pub record AddsFound (known : Known) (old new : Gathered) : Type 0 where
+  pub found : List Salvaged
+  pub each : All (IsFoundEntry known) found
+  pub added : new.entries.items ≡ old.entries.items ++ found

@@ -7,13 +7,15 @@ use Rattle.adf_rescue.specs.Undelete.{Place, chosen_of, deleted_text, files_save
 use Rattle.adf_rescue.proofs.undeleting.undeletion_of.Goals as goal
 
 pub returns-clause-done : goal.returns-clause-done
-returns-clause-done c = λ image trusted found.
+returns-clause-done c = λ image read is trusted found.
     let keys = map (λ (word : Bor (List ℕ)). key_of word.now) c.args.job.now.paths.items in
     let are = subst (λ (words : List (Bor (List ℕ))). AreAsked (map (λ (word : Bor (List ℕ)). key_of word.now) words) c.in_ok-asked.asked) c.deref.ensures.value c.in_ok-asked.ensures.asked in
     let positions = c.args.found.places.items in
     let places : map seen_place c.in_ok-places.places.items ≡ places_of keys c.args.found.salvage.entries =
     c.in_ok-places.ensures.places keys are ∙ ap (places_of keys) c.entries-entries.ensures in
     record {
+      read = read;
+      is_read = is;
       trusted = trusted;
       found = found;
       chosen =

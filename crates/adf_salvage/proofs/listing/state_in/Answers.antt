@@ -1,5 +1,5 @@
 use Rattle.ados_change.proofs.Renewed.{file_inside, file_writable}
-use Rattle.adf_salvage.proofs.Holding.{holds_directory, holds_whole}
+use Rattle.adf_salvage.proofs.Holding.{holds_directory, holds_whole, key_inside}
 use Rattle.adf_salvage.proofs.listing.state_in.Goals as goal
 
 pub returns-then-is_file-clause-state : goal.returns-then-is_file-clause-state
@@ -13,3 +13,13 @@ returns-then-is_file-clause-readable c =
 
 pub returns-else-is_file-clause-state : goal.returns-else-is_file-clause-state
 returns-else-is_file-clause-state c = λ t node s at. holds_directory c.args.volume.now.image t s c.args.key node at (c.is_file.ensures.directory c.if-is_file.false)
+
+pub returns-then-is_file-clause-inside : goal.returns-then-is_file-clause-inside
+returns-then-is_file-clause-inside c =
+    let tree = c.image.ensures.stands in
+    key_inside c.args.volume.now.image tree.0 tree.1 c.args.key (c.requires tree.0 tree.1)
+
+pub returns-else-is_file-clause-inside : goal.returns-else-is_file-clause-inside
+returns-else-is_file-clause-inside c =
+    let tree = c.image.ensures.stands in
+    key_inside c.args.volume.now.image tree.0 tree.1 c.args.key (c.requires tree.0 tree.1)

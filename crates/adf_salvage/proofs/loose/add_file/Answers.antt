@@ -12,7 +12,7 @@ returns-in-Some c =
     c.in-Some.is c.in_ok-state.ensures.left in
     on_ok_weaker c.add_loose.result (λ more next after s.
     settles_more c.args.known.now next c.args.gathered.now c.add_loose.new.self s (ap (λ ps. ps.items) c.add_loose.ensures.places)
-    (subst (IsGiving image) (sym c.add_loose.ensures.giving) c.in_ok-state.ensures.giving) more.0 c.args.header after
+    (subst (IsGiving c.args.known.now.holes.items image) (sym c.add_loose.ensures.giving) c.in_ok-state.ensures.giving) more.0 c.args.header after
     (λ some. let both : false ≡ true = sym c.if-has.false ∙ c.has.ensures.1 some in absurd (cc both)) more.1
     (subst (IsLoose out image c.args.header) (sym more.2) loose) more.3
     (omega (arith, ap broken_length more.2, ap (λ (g : Giving). g.left) c.add_loose.ensures.giving, left))) c.add_loose.ensures.entries

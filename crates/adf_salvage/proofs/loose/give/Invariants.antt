@@ -4,7 +4,7 @@ use Rattle.adf_salvage.proofs.loose.give.Given as goal
 
 abbrev pub invariant-loop-part : goal.invariant-loop-part
 invariant-loop-part l = record {
-  giving : IsGiving l.image l.giving;
+  giving : IsGiving l.known.holes.items l.known.image l.giving;
   left : l.giving.left ≡ l.initial.giving.left;
-  named : IfSome l.last (λ part. IsLooseData l.image l.header part.block);
+  named : IfSome l.last (λ part. IsLooseData l.known.image l.header part.block);
 }

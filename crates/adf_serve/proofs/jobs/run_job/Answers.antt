@@ -61,7 +61,7 @@ returns-in-Map g c =
 
 pub returns-in-Undelete : goal.returns-in-Undelete
 returns-in-Undelete g c =
-    subst (λ (job : ImageJob). DoesJob job (g.W.Write.contents c.args.writer.now) (g.W.Write.contents c.print_query-in-Undelete.new.writer) c.print_query-in-Undelete.result) (sym c.in-Undelete.is) c.print_query-in-Undelete.ensures
+    subst (λ (job : ImageJob). DoesJob job (g.W.Write.contents c.args.writer.now) (g.W.Write.contents c.undelete.new.writer) c.undelete.result) (sym c.in-Undelete.is) c.undelete.ensures
 
 pub returns-in-SaveBoot : goal.returns-in-SaveBoot
 returns-in-SaveBoot g c =

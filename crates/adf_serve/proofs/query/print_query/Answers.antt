@@ -33,8 +33,3 @@ pub returns-in-Entry : goal.returns-in-Entry
 returns-in-Entry g c =
     subst (λ (query : Query). TellsSome (IsQueryText query) (BeginsQueryText query) (g.W.Write.contents c.args.writer.now) (g.W.Write.contents c.tell_entry.new.writer) c.tell_entry.result)
     (sym c.in-Entry.is) (c.in_ok-image.image, c.tell_entry.ensures)
-
-pub returns-in-Deleted : goal.returns-in-Deleted
-returns-in-Deleted g c =
-    subst (λ (query : Query). TellsSome (IsQueryText query) (BeginsQueryText query) (g.W.Write.contents c.args.writer.now) (g.W.Write.contents c.tell_deleted.new.writer) c.tell_deleted.result)
-    (sym c.in-Deleted.is) (c.in_ok-image.image, c.tell_deleted.ensures)

@@ -1,26 +1,16 @@
-use Rattle.ados_sound.proofs.Common.{rules, ◌≡◌, length, sym, ◌∙◌, subst, One, block_count, AreAllClaims, HasClaim, claim_at}
-use Rattle.ados_sound.proofs.Claiming.{all_within, alone_claims, claimed_whole, whole_decided}
-use Rattle.ados_sound.proofs.OwnBlocks.{intact_known}
+use Rattle.ados_sound.proofs.Common.{ℕ, Bool, false, List, MatchBool, sym, subst, block_count, AreAllClaims, HasClaim, IsWhole}
+use Rattle.std.proofs.lemmas.Result.{IfOk-weaker}
+use Rattle.ados_sound.specs.Found.{IsSavedWhole}
+use Rattle.ados_sound.proofs.Keeping.{saved_by}
 use Rattle.ados_sound.proofs.whole.is_whole.Goals as goal
 
-pub returns-then-ne : goal.returns-then-ne
-returns-then-ne c = λ whole.
-    let alone = claimed_whole c.args.known.now.left_out c.args.known.now.image c.args.known.now.claims.items c.args.file c.requires.known.claims.right whole in
-    search (rules, alone)
-
-pub returns-in-None : goal.returns-in-None
-returns-in-None c = λ whole. (rw c.in-None.is at c.in_ok-blocks.ensures) (intact_known c.args.known.now.image c.args.file whole.claimant.intact)
-
-pub are_alone-requires : goal.are_alone-requires
-are_alone-requires c =
-    let claims = subst (AreAllClaims (HasClaim c.args.known.now.left_out c.args.known.now.image) (block_count c.args.known.now.image)) (sym c.as_slice-claims.ensures.value) c.requires.known.claims in
-    let alone : claim_at c.as_slice-claims.result.now c.args.file ≡ One c.args.file = search rules in
-    let claimant = alone_claims c.args.known.now.left_out c.args.known.now.image c.as_slice-claims.result.now c.args.file claims.right c.requires.inside alone in
-    all_within c.args.known.now.image c.args.file claimant.intact c.deref.result.now (length c.as_slice-claims.result.now) (c.deref.ensures.value ∙ (rw c.in-Some.is at c.in_ok-blocks.ensures).1) claims.size
-
-pub returns-in-Some : goal.returns-in-Some
-returns-in-Some c =
-    let claims = subst (AreAllClaims (HasClaim c.args.known.now.left_out c.args.known.now.image) (block_count c.args.known.now.image)) (sym c.as_slice-claims.ensures.value) c.requires.known.claims in
-    let alone : claim_at c.as_slice-claims.result.now c.args.file ≡ One c.args.file = search rules in
-    whole_decided c.args.known.now.left_out c.args.known.now.image c.as_slice-claims.result.now c.args.file c.deref.result.now c.are_alone.result claims.right
-    (alone_claims c.args.known.now.left_out c.args.known.now.image c.as_slice-claims.result.now c.args.file claims.right c.requires.inside alone) (c.deref.ensures.value ∙ (rw c.in-Some.is at c.in_ok-blocks.ensures).1) c.are_alone.ensures
+pub returns : goal.returns
+returns c =
+    let (unreached, are, claims) = c.requires.known.reached in
+    let alone = c.in_ok-is_whole_by.ensures c.args.known.now.left_out (subst (AreAllClaims (HasClaim c.args.known.now.left_out c.args.known.now.image) (block_count c.args.known.now.image)) (sym c.deref.ensures.value) c.requires.known.claims) in
+    let none : ¬ IsWhole c.args.known.now.left_out c.args.known.now.holes.items c.args.known.now.image c.args.file = rw c.if-branch.false at alone in
+    IfOk-weaker c.is_whole_by-2.result
+    (λ (whole : Bool). (other : List ℕ) → AreAllClaims (HasClaim other c.args.known.now.image) (block_count c.args.known.now.image) c.deref-2.result.now → MatchBool whole (IsWhole other c.args.known.now.holes.items c.args.known.now.image c.args.file) (¬ IsWhole other c.args.known.now.holes.items c.args.known.now.image c.args.file))
+    (λ (whole : Bool). MatchBool whole (IsSavedWhole c.args.known.now.left_out c.args.known.now.holes.items c.args.known.now.image c.args.file) (¬ IsSavedWhole c.args.known.now.left_out c.args.known.now.holes.items c.args.known.now.image c.args.file))
+    (λ whole by. saved_by c.args.known.now.left_out c.args.known.now.image c.args.known.now.holes.items c.args.file unreached are whole
+    (by unreached (subst (AreAllClaims (HasClaim unreached c.args.known.now.image) (block_count c.args.known.now.image)) (sym c.deref-2.ensures.value) claims)) none) c.is_whole_by-2.ensures

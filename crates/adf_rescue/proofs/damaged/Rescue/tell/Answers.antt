@@ -5,7 +5,7 @@ use Rattle.std.proofs.lemmas.List.Folds.{list_any_more}
 use Rattle.adf_io.specs.Prefix.{WritesFront, WritesFrontOf}
 use Rattle.adf_salvage.specs.Salvaged.{Saved}
 use Rattle.adf_salvage.specs.declared.salvaged.Salvaged.{Salvaged}
-use Rattle.adf_rescue.specs.Rescue.{AreSomeRescued, IsTold}
+use Rattle.adf_rescue.specs.Rescue.{AreSomeRescued, IsTold, is_summed}
 use Rattle.adf_rescue.specs.RescueObject.{is_told}
 use Rattle.adf_rescue.specs.steps.Reporting.{AreParts, IsPart, front_of, rest_of}
 use Rattle.adf_io.proofs.Outcomes.{at_any_err}
@@ -24,9 +24,9 @@ module _ (json : Bool) (saved : Saved) (place : ℕ) (old mid : Option (List ℕ
       (grown ∙ ap (λ (l : List ℕ). waiting ++ l) same)
 
   -- what is behind the entries waits too
-  whole : (unaccounted rest now longer : List ℕ) → length saved.entries ≤ place → rest ≡ rest_of json (length saved.deleted) unaccounted → now ≡ rest → longer ≡ waiting ++ now → IsBegun (IsTold json saved unaccounted) old mid longer
+  whole : (unaccounted rest now longer : List ℕ) → length saved.entries ≤ place → rest ≡ rest_of json (length saved.deleted) unaccounted (is_summed saved) → now ≡ rest → longer ≡ waiting ++ now → IsBegun (IsTold json saved unaccounted) old mid longer
   whole unaccounted rest now longer all is same grown =
-      told_more (AreParts json (take place saved.entries)) old mid waiting so_far (IsTold json saved unaccounted) (rest_of json (length saved.deleted) unaccounted) longer
+      told_more (AreParts json (take place saved.entries)) old mid waiting so_far (IsTold json saved unaccounted) (rest_of json (length saved.deleted) unaccounted (is_summed saved)) longer
       (parts_whole json saved unaccounted so_far.text (subst (λ (es : List Salvaged). AreParts json es so_far.text) (take_all place saved.entries all) so_far.told))
       (grown ∙ ap (λ (l : List ℕ). waiting ++ l) (same ∙ is))
 

@@ -1,0 +1,69 @@
+//! Lists of blocks that could not be read.
+ghost use Rattle.std.specs.Prelude.{◌<◌, All, IfErr, IfOk};
+ghost use Rattle.adf_serve.specs.Faults.{IsNoImage};
+
+use crate::fault::CommandFault;
+use adf_host::{input_path, why_unreadable};
+use adf_io::read_bounded;
+use adf_where::{BadFault, bad_blocks};
+use std::alloc::Global;
+use std::fs;
+use std::rt::Files;
+
+/// The most bytes of a list: some forty for each block of the largest image.
+const LONGEST: usize = 4_194_304;
+
+/// The holes of an image with so many blocks, and the blocks that a list names. `holes` is empty, or has a mark for each block.
+pub(crate) fn with_bad<'a, R: Files>(
+    rt: &R,
+    alloc: Global,
+    list: &'a str,
+    blocks: u32,
+    holes: Vec<bool>,
+) -> Result<Vec<bool>, CommandFault<'a>>
+    ensures { IfErr result IsNoImage }
+{
+    let bad = read_bad(rt, alloc, list, blocks)?;
+    let mut holes = holes;
+    holes.resize(blocks as usize, false)?;
+    for block in &bad {
+        holes[*block as usize] = true;
+    }
+    Ok(holes)
+}
+
+/// The blocks that a list names of an image with so many blocks.
+fn read_bad<'a, R: Files>(
+    rt: &R,
+    alloc: Global,
+    list: &'a str,
+    blocks: u32,
+) -> Result<Vec<u32>, CommandFault<'a>>
+    ensures inside { IfOk result (λ bad. All (λ block. block < blocks) bad.items) }
+    ensures fault { IfErr result IsNoImage }
+{
+    let bytes = read_list(rt, alloc, list)?;
+    match bad_blocks(alloc, blocks, &bytes) {
+        Ok(bad) => Ok(bad),
+        Err(BadFault::Line(number)) => Err(CommandFault::BadLine(list, number, blocks)),
+        Err(BadFault::Memory) => Err(CommandFault::Memory),
+    }
+}
+
+/// The bytes of a list.
+fn read_list<'a, R: Files>(
+    rt: &R,
+    alloc: Global,
+    list: &'a str,
+) -> Result<Vec<u8>, CommandFault<'a>>
+    ensures { IfErr result IsNoImage }
+{
+    let Ok(mut reader) = fs::open(rt, input_path(list)) else {
+        return Err(CommandFault::Read(list, why_unreadable(rt, list)));
+    };
+    match read_bounded(alloc, &mut reader, LONGEST + 1) {
+        Ok(bytes) if bytes.len() <= LONGEST => Ok(bytes),
+        Ok(_) => Err(CommandFault::LongList(list)),
+        Err(fault) => Err(CommandFault::of_input(rt, fault, list)),
+    }
+}
