@@ -43,7 +43,7 @@ class Rules(NamedTuple):
     deleted: bool = True
     # Blocks that are used and belong to nothing are counted in the last line.
     unaccounted: bool = True
-    # In OFS, data blocks whose header is gone become a file.
+    # In OFS data blocks whose header is gone become a file, and in FFS extension blocks with what they name.
     headless: bool = True
 
 
@@ -285,6 +285,7 @@ class Account(Disk):
         self.left = 4 * len(self.data)
         self.cut: Set[int] = set()
         self.loose: Dict[int, Dict[int, int]] = {}
+        self.lists: Dict[int, List[Tuple[int, int]]] = {}
 
     # ---- which headers are told
 
@@ -462,10 +463,69 @@ class Account(Disk):
     def entries(self) -> List[Entry]:
         """All entries in the order of the account; of an accepted image, its tree."""
         walk = Walk(self)
-        self.loose = self.loose_blocks() if self.rules.headless and self.ofs and not self.is_accepted else {}
+        if self.rules.headless and not self.is_accepted:
+            self.loose = self.loose_blocks() if self.ofs else {}
+            self.lists = {} if self.ofs else self.loose_lists()
         entries = [Entry(it, self.state(it), walk.paths[it] + self.ending(it), it in walk.found) for it in walk.order]
-        found = sorted(set(self.loose) - set(walk.order))
-        return [*entries, *(Entry(it, self.loose_state(it), f"lost+found/block-{it}", True) for it in found)]
+        found = sorted({*self.loose, *self.lists} - set(walk.order))
+        headless = [(it, self.headless_state(it)) for it in found]
+        return [*entries, *(Entry(it, state, f"lost+found/block-{it}", True) for it, state in headless if state != "lost")]
+
+    def headless_state(self, header: int) -> str:
+        """The state of an entry without a header that is told."""
+        if header in self.loose:
+            return self.loose_state(header)
+        return self.listed_state(header) if header in self.lists else "lost"
+
+    def loose_lists(self) -> Dict[int, List[Tuple[int, int]]]:
+        """The extension blocks with right checksums that name a header which is not told, by that header: each with its number among the
+        pointer blocks of the file, of which the header is number 0. Those of a deleted file are left out."""
+        named: Dict[int, List[int]] = defaultdict(list)
+        for block in self.inside:
+            header = self.long(block, 125)
+            if header not in self.told and self.is_extension(header, block) and self.is_summed(block):
+                named[header].append(block)
+        used = (it for it in named.items() if not self.bitmap.is_trusted or not all(self.bitmap.is_free(block) for block in it[1]))
+        return {header: self.numbered(blocks) for header, blocks in used}
+
+    def numbered(self, blocks: List[int]) -> List[Tuple[int, int]]:
+        """The extension blocks of one file with their numbers. One directly before another names it. Before the first of each chain one
+        pointer block is missing, the header or another. Chains at the end of the file come last, and else the one with the lower first block
+        comes first."""
+        after = {it: self.long(it, 126) for it in blocks}
+        left, chains = list(blocks), []
+        while left:
+            heads = [it for it in left if it not in after.values()] or left
+            chain = [heads[0]]
+            left.remove(heads[0])
+            while after[chain[-1]] in left:
+                chain.append(after[chain[-1]])
+                left.remove(chain[-1])
+            chains.append(chain)
+        chains.sort(key=lambda it: (after[it[-1]] == 0, it[0]))
+        return [(sum(1 + len(it) for it in chains[:k]) + 1 + nth, block) for k, chain in enumerate(chains) for nth, block in enumerate(chain)]
+
+    def listed_state(self, header: int) -> str:
+        """The state of a file whose header is gone and some of whose extension blocks are left; keeps its bytes. It is lost if none of its
+        data is left."""
+        there: Dict[int, int] = {}
+        needed = 0
+        for number, block in self.lists[header]:
+            count = min(72, self.long(block, 2))
+            needed = 72 * number + count
+            for it in range(count):
+                if self.piece_of(header, 72 * number + it, self.long(block, 77 - it)):
+                    there[72 * number + it] = self.long(block, 77 - it)
+                    self.given[self.long(block, 77 - it)] = header
+        if not there:
+            return "lost"
+        end = 512 * min(max(there) + 1, self.blocks)
+        kept = min(end, self.left)
+        self.left -= kept
+        self.keep(header, there, kept)
+        if kept < end:
+            self.cut.add(header)
+        return f"broken {needed - len(there) + (self.long(self.lists[header][-1][1], 126) != 0)}"
 
     def loose_blocks(self) -> Dict[int, Dict[int, int]]:
         """The OFS data blocks with right checksums that name a header which is not told, by that header and by their numbers; of one
@@ -500,7 +560,7 @@ class Account(Disk):
 
     def state(self, block: int) -> str:
         if block not in self.told:
-            return self.loose_state(block) if block in self.loose else "lost"
+            return self.headless_state(block)
         if self.is_directory(block):
             return "" if block in self.sound else "doubtful"
         if self.is_whole(block):
@@ -540,7 +600,8 @@ class Account(Disk):
         known = {self.root, *self.bitmap.pages, *(it.header for it in entries), *self.given}
         for it in entries:
             known |= {block for part in self.intact[it.header] for block in part} if it.state == "whole" else set()
-            if it.state != "whole" and it.header in self.inside and (it.header in self.loose or it.header in self.told and not self.is_directory(it.header)):
+            is_headless = it.header not in self.told and it.header in self.bytes
+            if it.state != "whole" and it.header in self.inside and (is_headless or it.header in self.told and not self.is_directory(it.header)):
                 needed = min(-(-self.long(it.header, 81) // self.room), self.blocks)
                 heads = self.pointer_blocks(it.header)
                 known |= set(heads if self.rules.typed else heads[: 1 + needed // 72])

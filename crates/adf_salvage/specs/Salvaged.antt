@@ -25,7 +25,7 @@ use Rattle.adf_salvage.specs.declared.salvaged.Salvaged.{Salvaged}
 use Rattle.adf_salvage.specs.declared.salvaged.State.{State}
 use Rattle.adf_salvage.specs.declared.salvaged.State.TheVariants as states
 use Rattle.adf_salvage.specs.Kind.{IsReadAs}
-use Rattle.adf_salvage.specs.Loose.{IsLooseData}
+use Rattle.adf_salvage.specs.Loose.{IsLeft}
 use Rattle.adf_salvage.specs.Lost.{IsLost}
 
 -- how contracts see a salvage: whether the image was accepted, the image as it was read, whether its bitmap is trusted, its
@@ -86,10 +86,11 @@ IsGone (states.Doubtful heads.Gone length) = ⊤
 IsGone (states.Broken missing cut length) = ⊤
 IsGone state = ⊥
 
--- a file whose header is no header that is told: it is made of OFS data blocks that name it. The rest of the description is free
+-- a file whose header is no header that is told: it is made of OFS data blocks that name it, or of FFS extension blocks that do. The rest
+-- of the description is free
 pub record IsLoose (out image : List ℕ) (header : ℕ) (state : State) : Type 0 where
   pub untold : ¬ IsHeader out image header
-  pub named : (block : ℕ) × IsLooseData image header block
+  pub named : (block : ℕ) × IsLeft image header block
   pub gone : IsGone state
 
 -- the description of an entry that is told, or of a file without a header

@@ -1,10 +1,11 @@
 //! What can be told of an image that the check refuses: each sound header that is not deleted, the bytes of each file whose
-//! blocks no other such file names, the doubtful headers, the entries that are lost, and what is left in OFS data blocks of files
-//! whose header is gone. What an accepted image has beside its tree. And the deleted entries of an image, accepted or refused.
+//! blocks no other such file names, the doubtful headers, the entries that are lost, and what is left of files whose header is gone:
+//! in OFS data blocks, and in what FFS extension blocks name. What an accepted image has beside its tree. And the deleted entries of an image, accepted or refused.
 #![tactic(auto)]
 
 mod beside;
 mod chains;
+mod extensions;
 mod gathered;
 mod giving;
 mod holes;

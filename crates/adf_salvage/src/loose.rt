@@ -1,12 +1,13 @@
-//! Files whose header is gone, from the OFS data blocks that name it.
+//! Files whose header is gone, from the OFS data blocks that name it, or from the FFS extension blocks that do.
 ghost use Rattle.std.specs.Prelude.{◌≡◌, ◌<◌, ◌≤◌, ◌+◌, ℕ, IfOk, IfSome, IsTrue, MatchOption, OnOk, length};
 ghost use Rattle.adf_block.specs.Image.{block_count};
 ghost use Rattle.ados_sound.specs.Known.{AreKnown};
-ghost use Rattle.adf_salvage.specs.Loose.{IsLooseData};
+ghost use Rattle.adf_salvage.specs.Loose.{IsLeft, IsLooseData};
 ghost use Rattle.adf_salvage.specs.Salvaged.{IsLoose, broken_length};
 ghost use Rattle.adf_salvage.specs.steps.Giving.{IsGiving};
 ghost use Rattle.adf_salvage.specs.steps.Settling.{AreSettled};
 
+use crate::extensions::{give_listed, loose_extensions};
 use crate::gathered::Gathered;
 use crate::giving::{Giving, Piece, Remains};
 use crate::salvaged::{HeaderState, State};
@@ -18,24 +19,27 @@ use adf_block::{Format, Image};
 use ados_sound::{Known, is_used};
 use std::alloc::AllocError;
 
-/// An OFS data block of a file whose header is not told.
+/// A block of a file whose header is not told: in OFS a data block, in FFS an extension block.
 #[derive(Clone, Copy, PartialEq, Eq, PartialOrd, Ord)]
-struct Part {
+pub(crate) struct Part {
     /// The block number of the header.
-    header: u32,
-    /// Which of the file's data blocks it is, from 1.
-    number: u32,
-    block: u32,
+    pub(crate) header: u32,
+    /// Which of the file's data blocks or extension blocks it is, from 1.
+    pub(crate) number: u32,
+    pub(crate) block: u32,
 }
 
-/// Adds a file for each header that is not told and that OFS data blocks with right checksums name: in place of the lost
-/// entry with that block, if there is one, and else as a recovered one. There is none if a bitmap that can be trusted marks
-/// all of these blocks free. Of data blocks with one number the lowest is taken.
+/// Adds a file for each header that is not told and that OFS data blocks or FFS extension blocks with right checksums name: in
+/// place of the lost entry with that block, if there is one, and else as a recovered one. There is none if a bitmap that can be
+/// trusted marks all of these blocks free. Of OFS data blocks with one number the lowest is taken.
 pub(crate) fn add_loose(known: &Known, gathered: &mut Gathered) -> Result<(), AllocError>
     requires { AreSettled known.now 0 gathered.old }
     ensures { OnOk result ((next : ℕ) × AreSettled known.now next gathered.new) }
 {
-    let parts = loose_parts(known)?;
+    let parts = match known.image.format() {
+        Format::Ofs => loose_parts(known)?,
+        Format::Ffs => loose_extensions(known)?,
+    };
     replace_lost(known, &parts, gathered)?;
     add_found(known, &parts, gathered)
 }
@@ -88,7 +92,7 @@ fn is_loose(image: &Image, header: u32, block: u32) -> bool
         && image.sum(block) == 0
 }
 
-/// Gives the lost entries the data blocks that name them.
+/// Gives the lost entries the data blocks of the parts that name them.
 fn replace_lost(known: &Known, parts: &[Part], gathered: &mut Gathered) -> Result<(), AllocError>
     requires { AreSettled known.now 0 gathered.old }
     ensures { OnOk result (AreSettled known.now 0 gathered.new) }
@@ -99,7 +103,7 @@ fn replace_lost(known: &Known, parts: &[Part], gathered: &mut Gathered) -> Resul
     Ok(())
 }
 
-/// Gives the entry at a position the data blocks that name it, if it is lost.
+/// Gives the entry at a position the data blocks of the parts that name it, if it is lost.
 fn replace(
     known: &Known,
     parts: &[Part],
@@ -187,9 +191,29 @@ fn loose_state(
     Ok(Some(state))
 }
 
-/// Gives a file without a header, whose entry has this position, these data blocks, and of those with one number the first. The
-/// result is `None` if no block is left for it.
+/// Gives a file without a header, whose entry has this position, the data blocks of these parts. The result is `None` if no block
+/// is left for it.
 fn give(
+    known: &Known,
+    header: u32,
+    place: usize,
+    parts: &[Part],
+    giving: &mut Giving,
+) -> Result<Option<Remains>, AllocError>
+    requires giving { IsGiving known.now.holes.items known.now.image giving.old }
+    ensures named { IfOk result (λ remains. IfSome remains (λ some. (block : ℕ) × IsLeft known.now.image header block)) }
+    ensures giving { OnOk result (IsGiving known.now.holes.items known.now.image giving.new) }
+    ensures left { giving.new.left ≡ giving.old.left }
+{
+    match known.image.format() {
+        Format::Ofs => give_data(known, header, place, parts, giving),
+        Format::Ffs => give_listed(known, header, place, parts, giving),
+    }
+}
+
+/// Gives a file without a header, whose entry has this position, these OFS data blocks, and of those with one number the first. The
+/// result is `None` if no block is left for it.
+fn give_data(
     known: &Known,
     header: u32,
     place: usize,

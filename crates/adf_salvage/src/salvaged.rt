@@ -62,7 +62,8 @@ pub enum HeaderState {
     Sound,
     /// It has a wrong checksum or too long a comment.
     Doubtful,
-    /// It is gone: the file is what is left in the OFS data blocks that name it.
+    /// It is gone: the file is what is left in the OFS data blocks that name it. (Of an FFS file without a header the data blocks that
+    /// its header named are missing, so it is broken.)
     Gone,
 }
 

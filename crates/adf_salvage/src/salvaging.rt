@@ -25,7 +25,8 @@ use std::alloc::{AllocError, Global};
 ///
 /// For an image that the check accepts, these are the entries of its tree. For any other, they are its sound and doubtful
 /// headers, first those along hash chains from the root and then the others, and then its lost entries. In OFS, data blocks that
-/// name no such header make a file, in place of the lost entry with that header, or else behind all others. Deleted entries are
+/// name no such header make a file, in place of the lost entry with that header, or else behind all others; and so do, in FFS,
+/// extension blocks that name no such header. Deleted entries are
 /// left out, if the bitmap can be trusted: they claim no blocks, so a file that has such blocks now can be whole. It is read as the
 /// kind that its blocks say, whatever its boot block says (`with_kind`). A block is given to one file at most of
 /// those that are not whole, to the first in this order, and all of these together have at most four times the bytes of the

@@ -1,7 +1,7 @@
 use Rattle.adf_salvage.proofs.Common.{sym, subst, Giving, IsGiving}
 use Rattle.std.proofs.Common.{rules}
-use Rattle.adf_salvage.proofs.loose.give.Goals as goal
-use Rattle.adf_salvage.proofs.loose.give.Goals.{then-not-is_some_and+then-is_loose+then-is_open+in_ok-note, else-not-is_some_and}
+use Rattle.adf_salvage.proofs.loose.give_data.Goals as goal
+use Rattle.adf_salvage.proofs.loose.give_data.Goals.{then-not-is_some_and+then-is_loose+then-is_open+in_ok-note, else-not-is_some_and}
 
 pub loop-part-preserved : goal.loop-part-preserved
 loop-part-preserved c =

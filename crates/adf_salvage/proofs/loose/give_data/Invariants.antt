@@ -1,6 +1,6 @@
 use Rattle.adf_salvage.proofs.Common.{◌≡◌, IfSome, IsGiving}
 use Rattle.adf_salvage.specs.Loose.{IsLooseData}
-use Rattle.adf_salvage.proofs.loose.give.Given as goal
+use Rattle.adf_salvage.proofs.loose.give_data.Given as goal
 
 abbrev pub invariant-loop-part : goal.invariant-loop-part
 invariant-loop-part l = record {
