@@ -31,7 +31,7 @@ class Rules(NamedTuple):
 
     # In OFS a block that no pointer names is there if the data block before it names it.
     links: bool = False
-    # A block counts as an extension block only if its types, its file and its own number are right.
+    # A block counts as an extension block only by its types, its file and its own number.
     typed: bool = False
     # A count over 72 counts as 72.
     capped: bool = False
@@ -286,6 +286,7 @@ class Account(Disk):
         self.cut: Set[int] = set()
         self.loose: Dict[int, Dict[int, int]] = {}
         self.lists: Dict[int, List[Tuple[int, int]]] = {}
+        self.passed: Set[int] = set()
 
     # ---- which headers are told
 
@@ -379,10 +380,29 @@ class Account(Disk):
                 return heads
             heads.append(after)
 
-    def named_by_pointers(self, file: int) -> Dict[int, int]:
+    def is_nearly_extension(self, file: int, block: int) -> bool:
+        """Whether a block counts as an extension block of a file: its types, its own number and its file are right, or all of these but one
+        and its checksum is wrong."""
+        right = sum(self.long(block, at) == value for at, value in ((0, LIST), (1, block), (125, file), (127, FILE)))
+        return right == 4 or right == 3 and not self.is_summed(block)
+
+    def passed_blocks(self, file: int, needed: int) -> List[int]:
+        """The header and the extension blocks after it, as far as so many data blocks need them. A block is passed once, by one file."""
+        heads = [file]
+        while len(heads) <= needed // 72:
+            after = self.long(heads[-1], 126)
+            if after not in self.inside or after in heads:
+                break
+            if self.rules.typed and (after in self.passed or not self.is_nearly_extension(file, after)):
+                break
+            heads.append(after)
+            self.passed.add(after)
+        return heads
+
+    def named_by_pointers(self, file: int, needed: int) -> Dict[int, int]:
         """The block that the pointer for each data block names, where that is within a count."""
         named = {}
-        for q, head in enumerate(self.pointer_blocks(file)):
+        for q, head in enumerate(self.passed_blocks(file, needed)):
             count = self.long(head, 2)
             count = min(count, 72) if self.rules.capped or count <= 72 else 0
             named.update({72 * q + it: self.long(head, 77 - it) for it in range(count)})
@@ -397,7 +417,7 @@ class Account(Disk):
     def give(self, file: int) -> Tuple[int, Dict[int, int]]:
         """How many data blocks the size needs, and which of them are there. From now on they are this file's."""
         needed = min(-(-self.long(file, 81) // self.room), self.blocks)
-        named = self.named_by_pointers(file)
+        named = self.named_by_pointers(file, needed)
         there: Dict[int, int] = {}
         passed: Set[int] = set()
         for k in range(needed):

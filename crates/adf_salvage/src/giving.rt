@@ -6,12 +6,12 @@ ghost use Rattle.ados_model.specs.Tree.{data_start};
 ghost use Rattle.adf_salvage.specs.steps.Giving.{AreHolesMarked, IsGiving, IsOpen};
 
 use adf_block::layout::{
-    BLOCK_BYTES, BOOT_BLOCKS, FILE_SIZE, FIRST_PAGE, FIRST_POINTER, HEADER_TYPE, NEXT_DATA,
-    NEXT_EXTENSION, OFS_DATA_BYTE, POINTER_COUNT, PRIMARY_TYPE, ROOT_TYPE, SECONDARY_TYPE,
-    TABLE_LONGS,
+    BLOCK_BYTES, BOOT_BLOCKS, FILE_SIZE, FILE_TYPE, FIRST_PAGE, FIRST_POINTER, HEADER_TYPE,
+    LIST_TYPE, NEXT_DATA, NEXT_EXTENSION, OFS_DATA_BYTE, OWN_KEY, PARENT, POINTER_COUNT,
+    PRIMARY_TYPE, ROOT_TYPE, SECONDARY_TYPE, TABLE_LONGS,
 };
 use adf_block::{Format, Image};
-use ados_sound::{Known, is_hole, is_own_data, looks_like_extension};
+use ados_sound::{Known, is_hole, is_own_data};
 use std::alloc::{AllocError, Global};
 
 /// Bytes in a block.
@@ -184,7 +184,7 @@ impl Giving {
         }
     }
 
-    /// The extension block after a pointer block, if it says that it is one and was not passed before.
+    /// The extension block after a pointer block, if it counts as one and was not passed before.
     fn next_holder(&mut self, known: &Known, file: u32, holder: Option<u32>) -> Option<u32>
         requires holder { IfSome holder (λ block. block < block_count known.now.image) }
         requires giving { IsGiving known.now.holes.items known.now.image self.old }
@@ -196,13 +196,32 @@ impl Giving {
         let next = image.long(holder?, NEXT_EXTENSION);
         if next < BOOT_BLOCKS
             || next >= image.blocks()
+            || next == file
             || self.passed[next as usize]
-            || !looks_like_extension(image, file, next)
+            || !counts_as_extension(image, file, next)
         {
             return None;
         }
         self.passed[next as usize] = true;
         Some(next)
+    }
+}
+
+/// Whether a block counts as an extension block of a file: its types, its own number and its file are right, or all of these but
+/// one, and its checksum is wrong.
+fn counts_as_extension(image: &Image, file: u32, block: u32) -> bool
+    requires { block < block_count image.now }
+{
+    let types = u32::from(image.long(block, PRIMARY_TYPE) == LIST_TYPE).saturating_add(u32::from(
+        image.long(block, SECONDARY_TYPE) == FILE_TYPE,
+    ));
+    let numbers = u32::from(image.long(block, OWN_KEY) == block).saturating_add(u32::from(
+        image.long(block, PARENT) == file,
+    ));
+    match types.saturating_add(numbers) {
+        4 => true,
+        3 => image.sum(block) != 0,
+        _ => false,
     }
 }
 
