@@ -52,6 +52,8 @@ def misfit(edit: Path) -> str:
         text = texts.get(file) or (crate / file).read_text()
         if not old or text.count(old) != 1:
             return f"an 'old:' text is in {file} {text.count(old)} times, and not once"
+        if old == new:
+            return f"the texts of a pair for {file} are the same: only one line of each is read"
         texts[file], pairs = text.replace(old, new), pairs + 1
     return "" if pairs else "it has no 'old:' and 'new:' pair"
 
