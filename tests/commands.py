@@ -2041,6 +2041,10 @@ def bad_blocks(tried: Commands) -> None:
             tried.rows(lacking(f"--bad: {line!r}", f"extract --damaged {words} --bad wrong.txt bad.adf", "'wrong.txt', line 4: the number of one of the image's 1,760 blocks is expected"))
     tried.absent("and nothing is written", "none")
     tried.rows(lacking("--bad of no file", "extract --damaged --list --bad missing.txt bad.adf", "cannot read 'missing.txt'"))
+    for words in ("map --bad {} bad.adf", "map --tracks --bad {} bad.adf", "where --json --bad {} bad.adf 880"):
+        tried.rows(lacking(words.format("wrong.txt"), words.format("wrong.txt"), "'wrong.txt', line 4: the number of one of the image's 1,760 blocks is expected"))
+        tried.rows(lacking(words.format("missing.txt"), words.format("missing.txt"), "cannot read 'missing.txt'"))
+    tried.rows(row("where with a list of bad blocks", "where --bad good.txt bad.adf 3 880", 0, "3  cyl 0 head 0 sector 3  free\n3  unread\n880  cyl 40 head 0 sector 0  root\n"))
     tried.rows(wrong("--bad without --damaged", "extract --bad good.txt bad.adf", "--damaged", "Usage"))
 
 

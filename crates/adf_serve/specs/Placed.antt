@@ -13,13 +13,15 @@ use Rattle.adf_serve.specs.declared.fault.CommandFault.TheVariants.{Memory, Outp
 use Rattle.adf_serve.specs.Refusals.{IsImageRefusal, IsSizeRefusal}
 use Rattle.adf_serve.specs.declared.refusal.Refusal.{Refusal}
 use Rattle.adf_serve.specs.Reports.{DoesReport, TellsReport}
-use Rattle.adf_serve.specs.Texts.{AreOwnedBlocks}
+use Rattle.adf_serve.specs.Texts.{AreOwnedBlocks, MayBeUnread}
 
 -- the output for this refused image: why it is refused, the places that name the blocks, and their faults
 pub record IsPlacedIn (job : WhereJob) (image : List ℕ) (text : List ℕ) : Type 0 where
   pub refusal : Refusal
   pub refused : IsImageRefusal image refusal
-  pub placed : IsFaultyWhere job.json image refusal.kind.now refusal.block job.blocks.items text
+  pub unread : List Bool
+  pub listed : MayBeUnread job.bad unread
+  pub placed : IsFaultyWhere job.json unread image refusal.kind.now refusal.block job.blocks.items text
 
 -- the output for an accepted image, the owners of the blocks, or for a refused one
 abbrev pub IsWhereText : WhereJob → Bool → List ℕ → Type 0

@@ -1,5 +1,6 @@
 -- The output of commands for an image, by its bytes.
-use Rattle.std.specs.Prelude.{◌≡◌, ℕ, pos, Bool, true, false, List, [], Option, Some, None, map, option_map}
+use Rattle.std.specs.Prelude.{◌≡◌, ⊤, ℕ, pos, Bool, true, false, List, [], Option, Some, None, map, option_map}
+use Rattle.std.specs.Borrow.{Bor}
 use Rattle.ados_model.specs.Packet.{dos_true}
 use Rattle.ados_model.specs.Actions.{action_number}
 use Rattle.ados_model.specs.declared.action.Action.TheVariants.{DiskInfo}
@@ -88,9 +89,15 @@ IsLook json was_validated checked t text = (form : FactsForm) × (is_json form �
 abbrev pub IsLookText : Bool → List ℕ → List ℕ → Type 0
 IsLookText json = OfAccepted (IsLook json)
 
+-- the marks of blocks that could not be read: there are none unless a job has a list of such blocks
+abbrev pub MayBeUnread : Option (Bor (List ℕ)) → List Bool → Type 0
+MayBeUnread None unread = unread ≡ []
+MayBeUnread (Some list) unread = ⊤
+
 -- who owns the blocks that a job asks for: a line for each, or a JSON array
 abbrev pub AreOwnedBlocks : WhereJob → List ℕ → List ℕ → Type 0
-AreOwnedBlocks job = OfAccepted (λ was_validated checked t text. IsWhere job.json checked t job.blocks.items text)
+AreOwnedBlocks job =
+    OfAccepted (λ was_validated checked t text. (unread : List Bool) × MayBeUnread job.bad unread × IsWhere job.json unread checked t job.blocks.items text)
 
 -- the blocks of the file or directory at a path, in one of the forms
 abbrev pub AreEntryBlocks : Bool → List ℕ → List ℕ → List ℕ → Type 0

@@ -1,6 +1,7 @@
 //! Lists of blocks that could not be read.
 ghost use Rattle.std.specs.Prelude.{◌<◌, All, IfErr, IfOk};
 ghost use Rattle.adf_serve.specs.Faults.{IsNoImage};
+ghost use Rattle.adf_serve.specs.Texts.{MayBeUnread};
 
 use crate::fault::CommandFault;
 use adf_host::{input_path, why_unreadable};
@@ -12,6 +13,22 @@ use std::rt::Files;
 
 /// The most bytes of a list: some forty for each block of the largest image.
 const LONGEST: usize = 4_194_304;
+
+/// For each block of an image with so many whether a list names it as one that could not be read; nothing without a list.
+pub(crate) fn unread_blocks<'a, R: Files>(
+    rt: &R,
+    alloc: Global,
+    list: Option<&'a str>,
+    blocks: u32,
+) -> Result<Vec<bool>, CommandFault<'a>>
+    ensures unread { IfOk result (λ unread. MayBeUnread list unread.items) }
+    ensures fault { IfErr result IsNoImage }
+{
+    match list {
+        Some(list) => with_bad(rt, alloc, list, blocks, Vec::new(alloc)),
+        None => Ok(Vec::new(alloc)),
+    }
+}
 
 /// The holes of an image with so many blocks, and the blocks that a list names. `holes` is empty, or has a mark for each block.
 pub(crate) fn with_bad<'a, R: Files>(

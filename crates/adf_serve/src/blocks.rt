@@ -7,8 +7,9 @@ ghost use Rattle.adf_serve.specs.declared.fault.CommandFault.TheVariants.{NotWho
 ghost use Rattle.adf_io.specs.Prefix.{Writes};
 ghost use Rattle.adf_serve.specs.Placed.{DoesWhere, IsPlacedIn, LeavesPlaced};
 ghost use Rattle.adf_serve.specs.Refusals.{IsImageRefusal};
-ghost use Rattle.adf_serve.specs.Texts.{AreEntryBlocks};
+ghost use Rattle.adf_serve.specs.Texts.{AreEntryBlocks, MayBeUnread};
 
+use crate::bad::unread_blocks;
 use crate::fault::CommandFault;
 use crate::images::{accept, read_image};
 use crate::moving::listed_object;
@@ -18,13 +19,20 @@ use adf_archive::ReadImages;
 use adf_block::Image;
 use adf_host::PromptFiles;
 use adf_text::print_line;
-use adf_where::{WhereFault, where_path_text, write_faulty_where, write_where};
+use adf_where::{Asking, WhereFault, where_path_text, write_faulty_where, write_where};
 use adf_words::WhereJob;
 use ados_volume::{Volume, check};
 use std::alloc::Global;
 use std::fs::File;
 use std::io::Write;
 use std::rt::Files;
+
+/// A job, and for each block of its image whether a list names it as one that could not be read; nothing without a list.
+#[derive(Clone, Copy)]
+struct Asked<'b, 'a> {
+    job: &'b WhereJob<'a>,
+    unread: &'b [bool],
+}
 
 /// Prints who owns blocks of an image file. Of an image that is refused, it prints the refusal, the places that
 /// name the blocks, and their faults; and on `faults` why it is refused.
@@ -42,32 +50,53 @@ where
     ensures { DoesWhere job.now (W.contents writer.old) (W.contents writer.new) result }
 {
     let image = read_image(rt, alloc, job.image)?;
+    let unread = unread_blocks(rt, alloc, job.bad, image.blocks())?;
+    let asked = Asked {
+        job,
+        unread: &unread,
+    };
     let rejected = match check(alloc, image) {
-        Ok(volume) => return tell_owners(alloc, &volume, job, writer),
+        Ok(volume) => return tell_owners(alloc, &volume, asked, writer),
         Err(rejected) => rejected,
     };
     let Some(refusal) = Refusal::of_volume(rejected.fault) else {
         return Err(CommandFault::Memory);
     };
-    tell_placed(alloc, &rejected.image, refusal, job, writer, faults)?;
+    tell_placed(alloc, &rejected.image, refusal, asked, writer, faults)?;
     refusal.explain(rt, alloc, job.image, faults);
     Err(CommandFault::NotWhole)
+}
+
+impl<'b, 'a> Asked<'b, 'a> {
+    /// What it asks of blocks.
+    fn asking(self) -> Asking<'b>
+        ensures words { result.words.now ≡ self.job.now.blocks.items }
+        ensures unread { result.unread.now ≡ self.unread.now }
+        ensures json { result.json ≡ self.job.now.json }
+    {
+        Asking {
+            words: &self.job.blocks,
+            unread: self.unread,
+            json: self.job.json,
+        }
+    }
 }
 
 /// Prints who owns blocks of a volume.
 fn tell_owners<'a, W: Write>(
     alloc: Global,
     volume: &Volume,
-    job: &WhereJob<'a>,
+    asked: Asked<'_, 'a>,
     writer: &mut W,
 ) -> Result<(), CommandFault<'a>>
+    requires { MayBeUnread asked.job.now.bad asked.unread.now }
     ensures { (image : List ℕ) → Accepts image volume.now.was_validated volume.now.image →
-        DoesWhere job.now (W.contents writer.old) (W.contents writer.new) result }
+        DoesWhere asked.job.now (W.contents writer.old) (W.contents writer.new) result }
 {
     let blocks = volume.image().blocks();
-    match write_where(alloc, volume, &job.blocks, job.json, writer) {
+    match write_where(alloc, volume, asked.asking(), writer) {
         Ok(()) => Ok(()),
-        Err(fault) => Err(no_block(alloc, fault, job.image.path, blocks)),
+        Err(fault) => Err(no_block(alloc, fault, asked.job.image.path, blocks)),
     }
 }
 
@@ -77,21 +106,22 @@ fn tell_placed<'a, W: Write, F: Write>(
     alloc: Global,
     image: &Image,
     refusal: Refusal,
-    job: &WhereJob<'a>,
+    asked: Asked<'_, 'a>,
     writer: &mut W,
     faults: &mut F,
 ) -> Result<(), CommandFault<'a>>
-    ensures ok { OnOk result (IsImageRefusal image.now refusal → Writes (W.contents writer.old) (W.contents writer.new) (IsPlacedIn job.now image.now)) }
-    ensures fault { IfErr result (λ fault. IsImageRefusal image.now refusal → LeavesPlaced job.now image.now (W.contents writer.old) (W.contents writer.new) fault) }
+    requires { MayBeUnread asked.job.now.bad asked.unread.now }
+    ensures ok { OnOk result (IsImageRefusal image.now refusal → Writes (W.contents writer.old) (W.contents writer.new) (IsPlacedIn asked.job.now image.now)) }
+    ensures fault { IfErr result (λ fault. IsImageRefusal image.now refusal → LeavesPlaced asked.job.now image.now (W.contents writer.old) (W.contents writer.new) fault) }
 {
     let why = refusal.reason();
-    match write_faulty_where(alloc, image, &job.blocks, job.json, why, writer) {
+    match write_faulty_where(alloc, image, asked.asking(), why, writer) {
         Ok(()) => Ok(()),
         Err(WhereFault::NoBlock(word)) => {
             let fault = no_block(
                 alloc,
                 WhereFault::NoBlock(word),
-                job.image.path,
+                asked.job.image.path,
                 image.blocks(),
             );
             print_line(faults, format_args!("adf_serve: {fault}"));

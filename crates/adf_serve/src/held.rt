@@ -31,7 +31,7 @@ fn only_reads(job: &ImageJob<'_>) -> bool {
         | ImageJob::Boot { .. } => false,
         ImageJob::Info { .. }
         | ImageJob::Show { .. }
-        | ImageJob::Map { .. }
+        | ImageJob::Map(_)
         | ImageJob::Where(_)
         | ImageJob::WherePath { .. }
         | ImageJob::List(_)

@@ -10,6 +10,7 @@ mod map_lines;
 mod map_object;
 
 // Blocks that are asked for.
+mod asking;
 mod bad_list;
 mod faulty;
 mod faulty_lines;
@@ -23,11 +24,13 @@ mod owned;
 mod places;
 mod refused;
 mod short_path;
+mod unread;
 mod where_blocks;
 mod where_fault;
 mod where_lines;
 mod where_objects;
 
+pub use asking::Asking;
 pub use bad_list::{BadFault, bad_blocks};
 pub use block_map::map_text;
 pub use faulty_map::faulty_map_text;

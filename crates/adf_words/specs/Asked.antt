@@ -79,17 +79,18 @@ IsShowOf found (Show image json) =
     IsFileOf found image × ((given : Bool) → IsFlag found (codes "json") given → json ≡ given)
 IsShowOf found _ = ⊥
 
--- `map`: the image is this argument, and the form as the options say
+-- `map`: the image is this argument, the form as the options say, and the list of blocks that could not be read that of the option
 abbrev pub IsMapOf : Found → ImageJob → Type 0
-IsMapOf found (Map image form) = IsFileOf found image × IsMapFormOf found form
+IsMapOf found (Map job) =
+    IsFileOf found job.image × IsMapFormOf found job.form × (first_value found (codes "bad") ≡ option_map (λ word. word.now) job.bad)
 IsMapOf found _ = ⊥
 
 -- the values of an argument that can have many
 abbrev pub all_values : Found → List ℕ → List (List ℕ)
 all_values found id = option_map_or raw_values (matched_of found id) []
 
--- `where`: with `--path` the path is this argument, else the blocks are those that the arguments name; the image is this argument, and
--- the form as the option says
+-- `where`: with `--path` the path is this argument, else the blocks are those that the arguments name, and the list of those that could
+-- not be read is that of the option; the image is this argument, and the form as the option says
 abbrev pub IsWhereOf : Found → ImageJob → Type 0
 IsWhereOf found (WherePath image path json) =
     IsFileOf found image × (first_value found (codes "path") ≡ Some path.now)
@@ -98,6 +99,7 @@ IsWhereOf found (Where job) =
     IsFileOf found job.image × (first_value found (codes "path") ≡ None)
     × (map block_text job.blocks.items ≡ all_values found (codes "BLOCK")) × All IsOnFloppy job.blocks.items
     × ((given : Bool) → IsFlag found (codes "json") given → job.json ≡ given)
+    × (first_value found (codes "bad") ≡ option_map (λ word. word.now) job.bad)
 IsWhereOf found _ = ⊥
 
 -- the directory to write to is this argument, the current directory without one

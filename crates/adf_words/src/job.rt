@@ -4,8 +4,7 @@ ghost use Rattle.std.specs.Prelude.{◌<◌, length};
 use crate::boot::BootBlock;
 use crate::change::{ChangeJob, Rewrite};
 use crate::image_file::ImageFile;
-use crate::map_form::MapForm;
-use crate::query::{CheckJob, ExtractJob, ListJob, SalvageJob, UndeleteJob, WhereJob};
+use crate::query::{CheckJob, ExtractJob, ListJob, MapJob, SalvageJob, UndeleteJob, WhereJob};
 use adf_block::Format;
 use ados_name::Date3;
 
@@ -33,7 +32,7 @@ pub enum ImageJob<'a> {
     /// `show`: describes the volume for people, or with `json` as a JSON object.
     Show { image: ImageFile<'a>, json: bool },
     /// `map`: prints a letter for each block.
-    Map { image: ImageFile<'a>, form: MapForm },
+    Map(MapJob<'a>),
     /// `where`: says who owns blocks.
     Where(WhereJob<'a>),
     /// `where --path`: prints the blocks of an entry, with `json` as a JSON object.
@@ -75,7 +74,6 @@ impl<'a> ImageJob<'a> {
             ImageJob::Blank { .. } | ImageJob::Check(_) => None,
             ImageJob::Info { file, .. } => Some(*file),
             ImageJob::Show { image, .. }
-            | ImageJob::Map { image, .. }
             | ImageJob::WherePath { image, .. }
             | ImageJob::Print { image, .. }
             | ImageJob::ExtractBundle { image, .. }
@@ -84,6 +82,7 @@ impl<'a> ImageJob<'a> {
             ImageJob::AddBundle { target, .. }
             | ImageJob::Validate { target, .. }
             | ImageJob::Boot { target, .. } => Some(target.image),
+            ImageJob::Map(job) => Some(job.image),
             ImageJob::Where(job) => Some(job.image),
             ImageJob::List(job) => Some(job.image),
             ImageJob::Extract(job) => Some(job.image),

@@ -40,7 +40,7 @@ pub use image_file::{ImageFile, STANDARD_STREAM};
 pub use job::{ImageJob, Job, ServeJob};
 pub use map_form::MapForm;
 pub use query::{
-    CheckJob, ExtractJob, ListForm, ListJob, ListOrder, SalvageJob, UndeleteJob, WhereJob,
+    CheckJob, ExtractJob, ListForm, ListJob, ListOrder, MapJob, SalvageJob, UndeleteJob, WhereJob,
 };
 pub use reading::read_words;
 pub use refused::{Refused, error_words};

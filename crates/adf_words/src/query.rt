@@ -3,6 +3,7 @@ ghost use Rattle.std.specs.Prelude.{◌<◌, length};
 
 use crate::block_word::BlockWord;
 use crate::image_file::ImageFile;
+use crate::map_form::MapForm;
 
 /// The arguments of `check`.
 #[derive(Drop)]
@@ -22,6 +23,15 @@ pub struct CheckJob<'a> {
     ghost some: { 0 < length files.items },
 }
 
+/// The arguments of `map`.
+#[derive(Clone, Copy)]
+pub struct MapJob<'a> {
+    pub image: ImageFile<'a>,
+    pub form: MapForm,
+    /// A list of blocks that could not be read.
+    pub bad: Option<&'a str>,
+}
+
 /// The arguments of `where` without `--path`.
 #[derive(Drop)]
 pub struct WhereJob<'a> {
@@ -30,6 +40,8 @@ pub struct WhereJob<'a> {
     pub blocks: Vec<BlockWord>,
     /// Whether the output is a JSON array.
     pub json: bool,
+    /// A list of blocks that could not be read.
+    pub bad: Option<&'a str>,
 }
 
 /// The arguments of `list`.

@@ -13,7 +13,7 @@ use crate::job::ImageJob;
 use crate::letters::letters_of;
 use crate::map_form::MapForm;
 use crate::query::{
-    CheckJob, ExtractJob, ListForm, ListJob, ListOrder, SalvageJob, UndeleteJob, WhereJob,
+    CheckJob, ExtractJob, ListForm, ListJob, ListOrder, MapJob, SalvageJob, UndeleteJob, WhereJob,
 };
 use crate::table::JOBS;
 use std::alloc::Global;
@@ -135,10 +135,11 @@ pub(crate) fn show_job<'a>(arguments: &Arguments<'a, '_>) -> Result<ImageJob<'a>
 pub(crate) fn map_job<'a>(arguments: &Arguments<'a, '_>) -> Result<ImageJob<'a>, WordsFault>
     ensures { IfOk result (IsMapOf (found_of arguments.now.words.now)) }
 {
-    Ok(ImageJob::Map {
+    Ok(ImageJob::Map(MapJob {
         image: arguments.image()?,
         form: map_form(arguments),
-    })
+        bad: arguments.given("bad"),
+    }))
 }
 
 /// The form of a map, by its options.
@@ -174,6 +175,7 @@ pub(crate) fn where_job<'a>(arguments: &Arguments<'a, '_>) -> Result<ImageJob<'a
         image,
         blocks: asked_blocks(arguments.alloc, words)?,
         json,
+        bad: arguments.given("bad"),
     }))
 }
 

@@ -8,6 +8,11 @@ returns-in_err-image g c =
     reports_no_image (IsWhereText c.args.job.now) (IsBareRefusal c.args.job.now) MayEnd _ c.in_err-image.field-0.0 _ (λ bytes refusal size. (bytes, inl size)) (λ told is. tt) c.in_err-image.ensures
     c.from_residual.ensures.1
 
+pub returns-in_err-unread : goal.returns-in_err-unread
+returns-in_err-unread g c =
+    reports_no_image (IsWhereText c.args.job.now) (IsBareRefusal c.args.job.now) MayEnd _ c.in_err-unread.field-0.0 _ (λ bytes refusal size. (bytes, inl size)) (λ told is. tt) c.in_err-unread.ensures.fault
+    c.from_residual-in_err-unread.ensures.1
+
 pub returns-in_err-tell_placed : goal.returns-in_err-tell_placed
 returns-in_err-tell_placed g c =
     let rejected = c.in-Err.rejected in

@@ -7,8 +7,13 @@ use Rattle.adf_serve.proofs.map.tell_map.Goals as goal
 
 pub returns-in_err-image : goal.returns-in_err-image
 returns-in_err-image g c =
-    reports_no_image (IsMapReport c.args.form) IsBareMap MayEnd _ c.in_err-image.field-0.0 _ (λ bytes refusal size. (bytes, inl size)) (λ told is. tt) c.in_err-image.ensures
+    reports_no_image (IsMapReport c.args.job.now) IsBareMap MayEnd _ c.in_err-image.field-0.0 _ (λ bytes refusal size. (bytes, inl size)) (λ told is. tt) c.in_err-image.ensures
     c.from_residual.ensures.1
+
+pub returns-in_err-unread : goal.returns-in_err-unread
+returns-in_err-unread g c =
+    reports_no_image (IsMapReport c.args.job.now) IsBareMap MayEnd _ c.in_err-unread.field-0.0 _ (λ bytes refusal size. (bytes, inl size)) (λ told is. tt) c.in_err-unread.ensures.fault
+    c.from_residual-in_err-unread.ensures.1
 
 pub returns-then-is_of_another_kind : goal.returns-then-is_of_another_kind
 returns-then-is_of_another_kind g c =
@@ -20,7 +25,7 @@ pub returns-in_err-tell_faulty_map : goal.returns-in_err-tell_faulty_map
 returns-in_err-tell_faulty_map g c =
     let rejected = c.in-Err.rejected in
     let shown = refusal_shown rejected.image c.in_ok-image.image rejected.fault c.in-Some.refusal c.in-Err.ensures c.in-Some.ensures.kind c.in-Some.ensures.block c.in-Some.ensures.some in
-    report_ends (IsMapReport c.args.form) IsBareMap _ _ c.in_err-tell_faulty_map.field-0.0 _ (c.in_err-tell_faulty_map.ensures.fault shown) c.from_residual-in_err-tell_faulty_map.ensures.1
+    report_ends (IsMapReport c.args.job.now) IsBareMap _ _ c.in_err-tell_faulty_map.field-0.0 _ (c.in_err-tell_faulty_map.ensures.fault shown) c.from_residual-in_err-tell_faulty_map.ensures.1
 
 pub returns : goal.returns
 returns g c =
