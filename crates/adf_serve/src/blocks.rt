@@ -70,9 +70,9 @@ where
 impl<'b, 'a> Asked<'b, 'a> {
     /// What it asks of blocks.
     fn asking(self) -> Asking<'b>
-        ensures words { result.words.now ≡ self.job.now.blocks.items }
-        ensures unread { result.unread.now ≡ self.unread.now }
-        ensures json { result.json ≡ self.job.now.json }
+        ensures words { result.words.now ≡ self.entry.job.now.blocks.items }
+        ensures unread { result.unread.now ≡ self.entry.unread.now }
+        ensures json { result.json ≡ self.entry.job.now.json }
     {
         Asking {
             words: &self.job.blocks,
@@ -91,7 +91,7 @@ fn tell_owners<'a, W: Write>(
 ) -> Result<(), CommandFault<'a>>
     requires { MayBeUnread asked.job.now.bad asked.unread.now }
     ensures { (image : List ℕ) → Accepts image volume.now.was_validated volume.now.image →
-        DoesWhere asked.job.now (W.contents writer.old) (W.contents writer.new) result }
+        DoesWhere asked.entry.job.now (W.contents writer.old) (W.contents writer.new) result }
 {
     let blocks = volume.image().blocks();
     match write_where(alloc, volume, asked.asking(), writer) {
@@ -111,8 +111,8 @@ fn tell_placed<'a, W: Write, F: Write>(
     faults: &mut F,
 ) -> Result<(), CommandFault<'a>>
     requires { MayBeUnread asked.job.now.bad asked.unread.now }
-    ensures ok { OnOk result (IsImageRefusal image.now refusal → Writes (W.contents writer.old) (W.contents writer.new) (IsPlacedIn asked.job.now image.now)) }
-    ensures fault { IfErr result (λ fault. IsImageRefusal image.now refusal → LeavesPlaced asked.job.now image.now (W.contents writer.old) (W.contents writer.new) fault) }
+    ensures ok { OnOk result (IsImageRefusal image.now refusal → Writes (W.contents writer.old) (W.contents writer.new) (IsPlacedIn asked.entry.job.now image.now)) }
+    ensures fault { IfErr result (λ fault. IsImageRefusal image.now refusal → LeavesPlaced asked.entry.job.now image.now (W.contents writer.old) (W.contents writer.new) fault) }
 {
     let why = refusal.reason();
     match write_faulty_where(alloc, image, asked.asking(), why, writer) {

@@ -29,9 +29,9 @@ pub fn write_faulty_where<W: Write>(
     reason: FaultReason,
     writer: &mut W,
 ) -> Result<(), WhereFault>
-    ensures ok { OnOk result (Writes (W.contents writer.old) (W.contents writer.new) (IsFaultyWhere asking.json asking.unread.now image.now reason.kind.now reason.block asking.words.now)) }
-    ensures fault { IfErr result (IsWhereFault (block_count image.now) asking.words.now) }
-    ensures front { IfErr result (LeavesWhere (IsFaultyWhere asking.json asking.unread.now image.now reason.kind.now reason.block asking.words.now) (W.contents writer.old) (W.contents writer.new)) }
+    ensures ok { OnOk result (Writes (W.contents writer.old) (W.contents writer.new) (IsFaultyWhere asking.entry.json asking.entry.unread.now image.now reason.kind.now reason.block asking.entry.words.now)) }
+    ensures fault { IfErr result (IsWhereFault (block_count image.now) asking.entry.words.now) }
+    ensures front { IfErr result (LeavesWhere (IsFaultyWhere asking.entry.json asking.entry.unread.now image.now reason.kind.now reason.block asking.entry.words.now) (W.contents writer.old) (W.contents writer.new)) }
 {
     let count = image.blocks();
     let blocks = match named_blocks(alloc, count, asking.words) {

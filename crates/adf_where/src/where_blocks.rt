@@ -29,10 +29,10 @@ pub fn write_where<W: Write>(
     writer: &mut W,
 ) -> Result<(), WhereFault>
     ensures ok { OnOk result ((t : Tree) → Stands volume.now.image t
-        → Writes (W.contents writer.old) (W.contents writer.new) (IsWhere asking.json asking.unread.now volume.now.image t asking.words.now)) }
-    ensures fault { IfErr result (IsWhereFault (block_count volume.now.image) asking.words.now) }
+        → Writes (W.contents writer.old) (W.contents writer.new) (IsWhere asking.entry.json asking.entry.unread.now volume.now.image t asking.entry.words.now)) }
+    ensures fault { IfErr result (IsWhereFault (block_count volume.now.image) asking.entry.words.now) }
     ensures front { IfErr result (λ fault. (t : Tree) → Stands volume.now.image t
-        → LeavesWhere (IsWhere asking.json asking.unread.now volume.now.image t asking.words.now) (W.contents writer.old) (W.contents writer.new) fault) }
+        → LeavesWhere (IsWhere asking.entry.json asking.entry.unread.now volume.now.image t asking.entry.words.now) (W.contents writer.old) (W.contents writer.new) fault) }
 {
     let count = volume.image().blocks();
     let blocks = match named_blocks(alloc, count, asking.words) {
@@ -58,9 +58,9 @@ fn write_owned<W: Write>(
     requires owners { (t : Tree) → Stands volume.now.image t → AreOwners volume.now.image t owners.now }
     requires inside { All (λ block. block < block_count volume.now.image) blocks.now }
     ensures ok { OnOk result ((t : Tree) → Stands volume.now.image t
-        → Writes (W.contents writer.old) (W.contents writer.new) (IsTextOf asking.json asking.unread.now t owners.now blocks.now)) }
+        → Writes (W.contents writer.old) (W.contents writer.new) (IsTextOf asking.entry.json asking.entry.unread.now t owners.now blocks.now)) }
     ensures front { OnErr result ((t : Tree) → Stands volume.now.image t
-        → WritesFrontOf (W.contents writer.old) (W.contents writer.new) (IsTextOf asking.json asking.unread.now t owners.now blocks.now)) }
+        → WritesFrontOf (W.contents writer.old) (W.contents writer.new) (IsTextOf asking.entry.json asking.entry.unread.now t owners.now blocks.now)) }
 {
     let count = volume.image().blocks();
     let mut text = Vec::from_slice(alloc, opening(asking.json))?;
