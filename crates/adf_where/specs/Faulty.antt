@@ -124,7 +124,7 @@ faults_tokens faults = key (codes "faults") ∷ array_of fault_word faults
 -- the object of a block
 abbrev pub faulty_tokens : ℕ → FaultyBlock → List Token
 faulty_tokens blocks told =
-    begin_object ∷ place_tokens blocks told.block ++ (places_tokens told.places.now ++ (faults_tokens told.faults.now ++ key (codes "more") ∷ boolean told.more ∷ unread_tokens told.unread ++ end_object ∷ []))
+    begin_object ∷ place_tokens blocks told.block ++ (places_tokens told.places.now ++ (faults_tokens told.faults.now ++ key (codes "more") ∷ boolean told.more ∷ (unread_tokens told.unread ++ end_object ∷ [])))
 
 -- the object of a refused image: why it is refused, and what is told of blocks
 abbrev pub faulty_object : List ℕ → ℕ → ℕ → List FaultyBlock → List Token

@@ -77,7 +77,7 @@ place_part json first blocks block place = part json first place_object (λ one.
 -- what is told of it behind its places
 abbrev pub tail_tokens : FaultyBlock → List Token
 tail_tokens told =
-    end_array ∷ faults_tokens told.faults.now ++ key (codes "more") ∷ boolean told.more ∷ unread_tokens told.unread ++ end_object ∷ []
+    end_array ∷ faults_tokens told.faults.now ++ key (codes "more") ∷ boolean told.more ∷ (unread_tokens told.unread ++ end_object ∷ [])
 
 abbrev pub tail_part : Bool → FaultyBlock → List ℕ
 tail_part json told = if json then print (tail_tokens told) else behind_lines told
