@@ -1,5 +1,5 @@
 //! The commands of the table, for `clap` to parse and explain.
-use crate::table::{ArgumentRow, CHANGING, CommandRow, Kind};
+use crate::table::{ArgumentRow, CommandRow, Kind, changing};
 use clap::{Arg, Command};
 use std::alloc::{AllocError, Global};
 
@@ -20,7 +20,7 @@ pub(crate) fn command_of<'a>(alloc: Global, row: &CommandRow) -> Result<Command<
 
 /// Appends the arguments of each command that changes an image. The options among them stand below one heading.
 fn add_changing<'a>(alloc: Global, arguments: &mut Vec<Arg<'a>>) -> Result<(), AllocError> {
-    for row in CHANGING {
+    for row in changing() {
         arguments.reserve(1)?;
         let argument = argument_of(alloc, row)?;
         arguments.push_reserved(if row.kind.is_option() {

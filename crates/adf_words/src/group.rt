@@ -11,13 +11,15 @@ pub(crate) enum Group {
 }
 
 /// The groups, in the order of the help.
-pub(crate) const GROUPS: [Group; 5] = [
-    Group::Look,
-    Group::TakeOut,
-    Group::PutIn,
-    Group::Mend,
-    Group::Serve,
-];
+pub(crate) fn groups() -> &'static [Group] {
+    &[
+        Group::Look,
+        Group::TakeOut,
+        Group::PutIn,
+        Group::Mend,
+        Group::Serve,
+    ]
+}
 
 impl Group {
     /// The line above its commands.
