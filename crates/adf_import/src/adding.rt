@@ -37,36 +37,35 @@ where
     let tree = host_tree(rt, alloc, files)?;
     refuse_names(alloc, &tree.entries)?;
     let mut adding = Adding {
-        entries: &tree.entries,
         top,
         how,
         reader: HostReader::new(alloc),
         progress: Progress::new(alloc, volume.image().blocks())?,
     };
     for entry in tree.entries.iter() {
-        add_entry(rt, alloc, volume, &mut adding, entry)?;
+        add_entry(rt, alloc, volume, &tree.entries, entry, &mut adding)?;
     }
     adding.progress.note_directories(volume, how.moment);
     Ok(tree.passed_over)
 }
 
-/// What is put into a directory, how, and how far that is.
+/// Where files and directories of the host are put, how, and how far that is.
 #[derive(Drop)]
-struct Adding<'a, F> {
-    entries: &'a [HostEntry],
+struct Adding<F> {
     top: u32,
     how: How,
     reader: HostReader<F>,
     progress: Progress,
 }
 
-/// Puts the next entry, without what is below it.
+/// Puts the next one of these entries, without what is below it.
 fn add_entry<R: PromptFiles>(
     rt: &R,
     alloc: Global,
     volume: &mut Volume,
-    adding: &mut Adding<'_, R::File>,
+    entries: &[HostEntry],
     entry: &HostEntry,
+    adding: &mut Adding<R::File>,
 ) -> Result<(), InFault>
 where
     R::File: OwnedFile,
@@ -75,7 +74,7 @@ where
     ensures put { OnOk result (Advances volume.old.image volume.new.image adding.new.progress) }
 {
     let dir = adding.progress.directory(entry.parent, adding.top);
-    let name = free_name(alloc, volume, dir, entry, adding.entries, &adding.progress)?;
+    let name = free_name(alloc, volume, dir, entry, entries, &adding.progress)?;
     let given = read_entry(rt, alloc, &mut adding.reader, entry, most_bytes(volume))?;
     let item = Item {
         path: entry.path.as_str(),

@@ -12,14 +12,16 @@ pub(crate) enum Group {
 
 /// The groups, in the order of the help.
 pub(crate) fn groups() -> &'static [Group] {
-    &[
-        Group::Look,
-        Group::TakeOut,
-        Group::PutIn,
-        Group::Mend,
-        Group::Serve,
-    ]
+    GROUPS
 }
+
+const GROUPS: &[Group] = &[
+    Group::Look,
+    Group::TakeOut,
+    Group::PutIn,
+    Group::Mend,
+    Group::Serve,
+];
 
 impl Group {
     /// The line above its commands.

@@ -183,7 +183,7 @@ const CHANGING: &[ArgumentRow] = &[
 
 /// All commands, in the order of the help. A function that names a long table is slow to prove, so only this one does.
 pub(crate) fn commands() -> &'static [CommandRow] {
-    &COMMANDS
+    COMMANDS
 }
 
 /// The arguments of each command that changes an image.
@@ -192,7 +192,7 @@ pub(crate) fn changing() -> &'static [ArgumentRow] {
 }
 
 #[rattlefmt::skip]
-const COMMANDS: [CommandRow; 21] = [
+const COMMANDS: &[CommandRow] = &[
     CommandRow {
         name: "blank",
         about: "Writes a blank image. Without options it has the Old File System and the size of a double-density floppy",
