@@ -56,7 +56,7 @@ pub fn bad_blocks(alloc: Global, blocks: u32, list: &[u8]) -> Result<Vec<u32>, B
 
 /// The marks of so many blocks after these were marked too. A block without a mark before was not marked.
 pub fn marked(blocks: u32, before: Vec<bool>, bad: &[u32]) -> Result<Vec<bool>, AllocError>
-    requires inside { All (λ block. block < blocks) bad.now }
+    requires { All (λ block. block < blocks) bad.now }
     ensures { IfOk result (λ marks. AreMarked blocks before.items bad.now marks.items) }
 {
     let mut marks = before;
