@@ -21,7 +21,7 @@ pub(crate) fn unread_blocks<'a, R: Files>(
     list: Option<&'a str>,
     blocks: u32,
 ) -> Result<Vec<bool>, CommandFault<'a>>
-    ensures unread { IfOk result (λ unread. AreMarksOf list blocks [] unread.items) }
+    ensures unread { IfOk result (λ unread. AreMarksOf list.entry blocks [] unread.items) }
     ensures fault { IfErr result IsNoImage }
 {
     with_bad(rt, alloc, list, blocks, Vec::new(alloc))
@@ -35,7 +35,7 @@ pub(crate) fn with_bad<'a, R: Files>(
     blocks: u32,
     before: Vec<bool>,
 ) -> Result<Vec<bool>, CommandFault<'a>>
-    ensures marks { IfOk result (λ marks. AreMarksOf list blocks before.items marks.items) }
+    ensures marks { IfOk result (λ marks. AreMarksOf list.entry blocks before.items marks.items) }
     ensures fault { IfErr result IsNoImage }
 {
     let Some(list) = list else {

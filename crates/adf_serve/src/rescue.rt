@@ -66,7 +66,7 @@ fn read_filled<'a, R: Files, F: Write>(
     file: ImageFile<'a>,
     faults: &mut F,
 ) -> Result<(Image, Vec<bool>), CommandFault<'a>>
-    ensures missing { IfOk result (λ found. file.blocks ≡ None → found.1.items ≡ []) }
+    ensures missing { IfOk result (λ found. file.entry.blocks ≡ None → found.1.items ≡ []) }
     ensures fault { IfErr result IsNoImage }
 {
     let ImageFile { path, blocks } = file;
