@@ -396,10 +396,6 @@ module _ (IsText : Bool → List ℕ → Type 0) (IsPlain : Refusal → Type 0) 
   report_ends old new fault (Ok x) is same = absurd same
   report_ends old new fault (Err told) is same = subst (λ (f : CommandFault). DoesReport IsText IsPlain MayEnd old new (Err f)) (sym same) is
 
--- the marks of a list, for the blocks of an image
-pub marks_of : (list : Option (Bor (List ℕ))) (blocks n : ℕ) (items marks : List Bool) → blocks ≡ n → marks ≡ items → AreMarksOf list blocks [] items → AreMarksOf list n [] marks
-marks_of list blocks n items marks count same is = subst (λ (k : ℕ). AreMarksOf list k [] marks) count (subst (AreMarksOf list blocks []) (sym same) is)
-
 -- the map of a refused image, as a report
 module _ (job : MapJob) (unread : List Bool) (image : List ℕ) (marks : AreMarksOf job.bad (block_count image) [] unread) (refusal : Refusal) (kind : List ℕ) (at : ℕ) (of_kind : kind ≡ refusal.kind.now)
     (of_block : at ≡ refusal.block) (text : List ℕ) (is : IsFaultyMap job.form unread image kind at text) where

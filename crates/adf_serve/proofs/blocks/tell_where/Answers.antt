@@ -1,7 +1,8 @@
 use Rattle.std.proofs.Common.{inl, ap, sym, ◌∙◌}
 use Rattle.adf_block.specs.Image.{block_count}
 use Rattle.adf_serve.specs.Placed.{IsBareRefusal, IsWhereText, MayEnd}
-use Rattle.adf_serve.proofs.Printing.{marks_of, placed_ends, refusal_shown, reports_no_image}
+use Rattle.adf_serve.proofs.Marks.{marks_of}
+use Rattle.adf_serve.proofs.Printing.{placed_ends, refusal_shown, reports_no_image}
 use Rattle.adf_serve.proofs.blocks.tell_where.Goals as goal
 
 pub returns-in_err-image : goal.returns-in_err-image

@@ -3,7 +3,8 @@ use Rattle.std.proofs.KnownBytes.{Keeps-refl}
 use Rattle.adf_block.specs.Image.{block_count}
 use Rattle.adf_serve.specs.Mapped.{IsBareMap, IsMapReport}
 use Rattle.adf_serve.specs.Placed.{MayEnd}
-use Rattle.adf_serve.proofs.Printing.{kind_shown, marks_of, refusal_shown, report_ends, reports_no_image}
+use Rattle.adf_serve.proofs.Marks.{marks_of}
+use Rattle.adf_serve.proofs.Printing.{kind_shown, refusal_shown, report_ends, reports_no_image}
 use Rattle.adf_serve.proofs.map.tell_map.Goals as goal
 
 pub returns-in_err-image : goal.returns-in_err-image
