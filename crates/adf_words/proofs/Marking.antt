@@ -29,22 +29,28 @@ module _ (blocks : ℕ) (before : List Bool) where
       was block l (inr there) = absurd (none_there block there)
 
   -- one more block is marked
-  pub marked_more : (bad : List ℕ) (i : ℕ) (one : ℕ) → i < length bad → one ≡ get_or bad i one → one < blocks → (marks : List Bool) → AreMarked blocks before (take i bad) marks
+  pub marked_more : (bad : List ℕ) (i : ℕ) → i < length bad → (one : ℕ) → one ≡ get_or bad i 0 → one < blocks → (marks : List Bool) → AreMarked blocks before (take i bad) marks
       → AreMarked blocks before (take (i + 1) bad) (set marks one true)
-  marked_more bad i one l is inside marks old = record {
+  marked_more bad i l one is inside marks old = record {
     count = length-set marks one true ∙ old.count;
-    marked = λ block within. (λ now. subst (λ (them : List ℕ). IsMarked before block ⊎ Contains them block) (sym grown) (one_of block within now), λ h. is_now block within (subst (λ (them : List ℕ). IsMarked before block ⊎ Contains them block) grown h));
+    marked = λ block within. (λ now. there block (one_of block within now), λ was. is_now block within (here block was));
   }
     where
       grown : take (i + 1) bad ≡ take i bad ++ one ∷ []
-      grown = take_more bad i one l ∙ ap (λ (y : ℕ). take i bad ++ y ∷ []) (sym is)
+      grown = take_more bad i 0 l ∙ ap (λ (y : ℕ). take i bad ++ y ∷ []) (sym is)
+
+      there : (block : ℕ) → IsMarked before block ⊎ Contains (take i bad ++ one ∷ []) block → IsMarked before block ⊎ Contains (take (i + 1) bad) block
+      there block h = subst (λ (them : List ℕ). IsMarked before block ⊎ Contains them block) (sym grown) h
+
+      here : (block : ℕ) → IsMarked before block ⊎ Contains (take (i + 1) bad) block → IsMarked before block ⊎ Contains (take i bad ++ one ∷ []) block
+      here block h = subst (λ (them : List ℕ). IsMarked before block ⊎ Contains them block) grown h
 
       added : (block : ℕ) → block ≡ one → IsMarked (set marks one true) block
       added block same = ap (λ (b : ℕ). get_or (set marks one true) b false) same ∙ get_or-set_same marks one true false (omega (arith, inside, old.count))
 
       wider : (block : ℕ) → IsMarked before block ⊎ Contains (take i bad) block → IsMarked before block ⊎ Contains (take i bad ++ one ∷ []) block
       wider block (inl was) = inl was
-      wider block (inr there) = inr (Contains-append_left (take i bad) (one ∷ []) block there)
+      wider block (inr listed) = inr (Contains-append_left (take i bad) (one ∷ []) block listed)
 
       one_of : (block : ℕ) → block < blocks → IsMarked (set marks one true) block → IsMarked before block ⊎ Contains (take i bad ++ one ∷ []) block
       one_of block within now = elim (cases_eq block one) [
@@ -60,7 +66,7 @@ module _ (blocks : ℕ) (before : List Bool) where
 
       is_now : (block : ℕ) → block < blocks → IsMarked before block ⊎ Contains (take i bad ++ one ∷ []) block → IsMarked (set marks one true) block
       is_now block within (inl was) = kept block within ((old.marked block within).1 (inl was))
-      is_now block within (inr there) = elim (Contains-push_cases (take i bad) one block there) [
+      is_now block within (inr listed) = elim (Contains-push_cases (take i bad) one block listed) [
         | inl earlier ↦ kept block within ((old.marked block within).1 (inr earlier))
         | inr same ↦ added block (sym same)
       ]
