@@ -1,8 +1,8 @@
 use Rattle.adf_serve.proofs.Marks.{marks_of_list, marks_of_none}
 use Rattle.adf_serve.proofs.bad.with_bad.Goals as goal
 
-pub returns-in-None-clause-marks : goal.returns-in-None-clause-marks
-returns-in-None-clause-marks g c = marks_of_none c.args.list c.args.blocks c.args.before.items c.in-None.is
+pub returns-in_default-clause-marks : goal.returns-in_default-clause-marks
+returns-in_default-clause-marks g c = marks_of_none c.args.list c.args.blocks c.args.before.items c.in_default.is
 
 pub returns-clause-marks : goal.returns-clause-marks
 returns-clause-marks g c =
