@@ -1,8 +1,7 @@
 -- The output for an image, whole or in part.
 use Rattle.std.proofs.Common.{◌≡◌, ◌≢◌, ◌↔◌, ℕ, Bor, ◌⊎◌, IsTrue, IsFalse, codes, inl, inr, Bool, true, false, List, [], ◌++◌, Option, Some, None, option_map, Ok, Err, IfErr, OnErr, OnOk, IsErrAnd, refl, sym, ap, ap₂, ◌∙◌, subst}
-use Rattle.std.specs.Prelude.{⊤}
 use Rattle.std.specs.Io.KnownBytes.{Appends, Keeps}
-use Rattle.std.proofs.KnownBytes.{Appends-nil, Keeps-refl}
+use Rattle.std.proofs.KnownBytes.{Keeps-refl}
 use Rattle.ados_model.specs.Accepted.{Accepts, HandsBack, IsRefusal}
 use Rattle.ados_model.specs.Faults.{Shows}
 use Rattle.ados_model.specs.Stands.{Stands}
@@ -24,7 +23,7 @@ use Rattle.adf_serve.specs.declared.fault.CommandFault.TheVariants.{Dos, Extract
 use Rattle.adf_serve.specs.declared.refusal.Refusal.{Refusal}
 use Rattle.adf_serve.specs.declared.refusal.DosRefusal.{DosRefusal}
 use Rattle.adf_serve.specs.Asked.{AnswersDisk}
-use Rattle.adf_serve.specs.Texts.{AreEntryBlocks, BeginsJobText, BeginsListOf, BeginsListText, IsJobText, IsListed, IsListOf, IsListText, MayBeUnread, shown_form, IsLook, IsLookText, IsInfoText, IsPrintText}
+use Rattle.adf_serve.specs.Texts.{AreEntryBlocks, BeginsJobText, BeginsListOf, BeginsListText, IsJobText, IsListed, IsListOf, IsListText, shown_form, IsLook, IsLookText, IsInfoText, IsPrintText}
 use Rattle.adf_serve.specs.Faults.{IsBlankFault, IsNoImage, IsNoImageRefusal, IsNoRefusal, IsRefusedFor, IsToldAs, IsToldOut}
 use Rattle.adf_serve.specs.Commands.{Does, DoesJob, Ending, EndsJob, EndsOff, LeavesOff, Prints, prints, prints_json, Tells, TellsFault, TellsMade, TellsJob, TellsOf, TellsSome}
 use Rattle.adf_serve.specs.Commands.Prints.{OnlyFaults, OfMade, OfBlocks, OfBytes, OfDeleted, OfImages, OfMap, OfRescue, Unsaid}
@@ -57,6 +56,7 @@ use Rattle.ados_faults.specs.Listed.{IsOtherKind}
 use Rattle.adf_serve.specs.Placed.{DoesWhere, IsBareRefusal, IsPlacedIn, IsUnasked, IsWhereText, LeavesPlaced, MayEnd}
 use Rattle.adf_serve.specs.Reports.{DoesReport, IsSomeText, TellsReport}
 use Rattle.adf_serve.specs.Rescues.{IsHostEnd, IsRescueText, IsSomeSize}
+use Rattle.adf_serve.specs.Unread.{AreMarksOf}
 use Rattle.adf_serve.specs.Refusals.{dos_text, IsDosText, IsImageRefusal, IsRefusalText, IsSizeRefusal, refusal_text, told_line}
 
 -- an image is refused, as the fault says
@@ -170,14 +170,14 @@ module _ (image : List ℕ) (was_validated : Bool) (checked : List ℕ) (a : Acc
       let s = accepted_tree image was_validated checked a in (was_validated, checked, s.0, a, s.1, is s.0 s.1)
 
   -- the owners of blocks, written whole, or as far as the writer accepts them
-  module _ (job : WhereJob) (asking : Asking) (asked : asking.words.now ≡ job.blocks.items) (of_json : asking.json ≡ job.json) (may : MayBeUnread job.bad asking.unread.now) (old new : Option (List ℕ)) where
+  module _ (job : WhereJob) (asking : Asking) (asked : asking.words.now ≡ job.blocks.items) (of_json : asking.json ≡ job.json) (marks : AreMarksOf job.bad (block_count image) [] asking.unread.now) (old new : Option (List ℕ)) where
     abbrev Owned : Tree → List ℕ → Type 0
     Owned t = IsWhere asking.json asking.unread.now checked t asking.words.now
 
     owned : (t : Tree) → Stands checked t → (text : List ℕ) → Owned t text → IsWhereText job true text
     owned t s text is =
         let told = subst (λ (blocks : List BlockWord). IsWhere asking.json asking.unread.now checked t blocks text) asked is in
-        (image, (was_validated, checked, t, a, s, (asking.unread.now, may, subst (λ (json : Bool). IsWhere json asking.unread.now checked t job.blocks.items text) of_json told)))
+        (image, (asking.unread.now, marks, (was_validated, checked, t, a, s, subst (λ (json : Bool). IsWhere json asking.unread.now checked t job.blocks.items text) of_json told)))
 
     pub owners_written : ((t : Tree) → Stands checked t → Writes old new (Owned t)) → Writes old new (IsWhereText job true)
     owners_written told =
@@ -397,7 +397,7 @@ module _ (IsText : Bool → List ℕ → Type 0) (IsPlain : Refusal → Type 0) 
   report_ends old new fault (Err told) is same = subst (λ (f : CommandFault). DoesReport IsText IsPlain MayEnd old new (Err f)) (sym same) is
 
 -- the map of a refused image, as a report
-module _ (job : MapJob) (unread : List Bool) (may : MayBeUnread job.bad unread) (image : List ℕ) (refusal : Refusal) (kind : List ℕ) (at : ℕ) (of_kind : kind ≡ refusal.kind.now)
+module _ (job : MapJob) (unread : List Bool) (image : List ℕ) (marks : AreMarksOf job.bad (block_count image) [] unread) (refusal : Refusal) (kind : List ℕ) (at : ℕ) (of_kind : kind ≡ refusal.kind.now)
     (of_block : at ≡ refusal.block) (text : List ℕ) (is : IsFaultyMap job.form unread image kind at text) where
   pub mapped : IsImageRefusal image refusal → IsMapReport job false text
   mapped refused = (
@@ -406,7 +406,7 @@ module _ (job : MapJob) (unread : List Bool) (may : MayBeUnread job.bad unread) 
       refusal = refusal;
       refused = refused;
       unread = unread;
-      listed = may;
+      listed = marks;
       mapped =
           subst (λ (k : List ℕ). IsFaultyMap job.form unread image k refusal.block text) of_kind (subst (λ (b : ℕ). IsFaultyMap job.form unread image kind b text) of_block is);
     },
@@ -441,7 +441,7 @@ module _ (image old : List ℕ) (fault : VolumeFault) (refusal : Refusal) (hande
 module _ (job : WhereJob) (image : List ℕ) where
   -- the refusal and the places, as the output for the refused image
   module _ (refusal : Refusal) (kind : List ℕ) (at : ℕ) (asking : Asking) (of_kind : kind ≡ refusal.kind.now) (of_block : at ≡ refusal.block) (asked : asking.words.now ≡ job.blocks.items)
-      (of_json : asking.json ≡ job.json) (may : MayBeUnread job.bad asking.unread.now) (refused : IsImageRefusal image refusal) (old new : Option (List ℕ)) where
+      (of_json : asking.json ≡ job.json) (marks : AreMarksOf job.bad (block_count image) [] asking.unread.now) (refused : IsImageRefusal image refusal) (old new : Option (List ℕ)) where
     abbrev Placed : List ℕ → Type 0
     Placed = IsFaultyWhere asking.json asking.unread.now image kind at asking.words.now
 
@@ -450,7 +450,7 @@ module _ (job : WhereJob) (image : List ℕ) where
       refusal = refusal;
       refused = refused;
       unread = asking.unread.now;
-      listed = may;
+      listed = marks;
       placed =
           subst (λ (k : List ℕ). IsFaultyWhere job.json asking.unread.now image k refusal.block job.blocks.items text) of_kind
           (subst (λ (b : ℕ). IsFaultyWhere job.json asking.unread.now image kind b job.blocks.items text) of_block
@@ -522,7 +522,7 @@ module _ (json : Bool) (IsText BeginsText : List ℕ → List ℕ → Type 0) wh
   failed (OfMade made file) old new fault (put, keeps) plain = (λ is. made_failed json made old new fault (put is) plain, λ other. rw (none_in json fault plain) (inl (keeps other)))
   failed Unsaid old new fault h plain = tt
   failed (OfImages job) old new fault h plain = h
-  failed (OfRescue job) old new fault h plain = report_failed json (IsRescueText job.json) IsSomeSize (λ (fault : CommandFault). IsHostEnd fault job.list) old new fault h plain
+  failed (OfRescue job) old new fault h plain = report_failed json (IsRescueText job) IsSomeSize (λ (fault : CommandFault). IsHostEnd fault job.list) old new fault h plain
   failed (OfDeleted job) old new fault h plain = report_failed json (IsDeletedText job) IsSomeSize IsUndeleteEnd old new fault h plain
   failed (OfBlocks job) old new fault h plain = report_failed json (IsWhereText job) (IsBareRefusal job) MayEnd old new fault h plain
   failed (OfMap job) old new fault h plain = report_failed json (IsMapReport job) IsBareMap MayEnd old new fault h plain
@@ -537,7 +537,7 @@ module _ (json : Bool) (IsText BeginsText : List ℕ → List ℕ → Type 0) wh
   unsaid (OfMade made file) old new fault (put, keeps) = (λ is. made_unsaid json made old new fault (put is), λ other. inl (keeps other))
   unsaid Unsaid old new fault h = tt
   unsaid (OfImages job) old new fault h = archive_unsaid job old new fault h
-  unsaid (OfRescue job) old new fault h = report_unsaid json (IsRescueText job.json) IsSomeSize (λ (fault : CommandFault). IsHostEnd fault job.list) old new fault tt h
+  unsaid (OfRescue job) old new fault h = report_unsaid json (IsRescueText job) IsSomeSize (λ (fault : CommandFault). IsHostEnd fault job.list) old new fault tt h
   unsaid (OfDeleted job) old new fault h = report_unsaid json (IsDeletedText job) IsSomeSize IsUndeleteEnd old new fault tt h
   unsaid (OfBlocks job) old new fault h = report_unsaid json (IsWhereText job) (IsBareRefusal job) MayEnd old new fault tt h
   unsaid (OfMap job) old new fault h = report_unsaid json (IsMapReport job) IsBareMap MayEnd old new fault tt h

@@ -1,5 +1,6 @@
 -- How `map` ends: the map of an accepted image, or of a refused one.
-use Rattle.std.specs.Prelude.{◌≡◌, ◌⊎◌, ℕ, Bool, true, false, List, Option, Result}
+use Rattle.std.specs.Prelude.{◌≡◌, ◌⊎◌, ℕ, Bool, true, false, List, [], Option, Result}
+use Rattle.adf_block.specs.Image.{block_count}
 use Rattle.ados_faults.specs.Listed.{IsOtherKind}
 use Rattle.ados_model.specs.declared.fault.FaultKind.{FaultKind}
 use Rattle.adf_archive.specs.Words.{kind_word}
@@ -11,21 +12,22 @@ use Rattle.adf_serve.specs.declared.refusal.Refusal.{Refusal}
 use Rattle.adf_serve.specs.Placed.{MayEnd}
 use Rattle.adf_serve.specs.Refusals.{IsImageRefusal, IsSizeRefusal}
 use Rattle.adf_serve.specs.Reports.{DoesReport, TellsReport}
-use Rattle.adf_serve.specs.Texts.{MayBeUnread, OfAccepted}
+use Rattle.adf_serve.specs.Texts.{OfAccepted}
+use Rattle.adf_serve.specs.Unread.{AreMarksOf}
 
--- the map of this refused image, after why it is refused
+-- the map of this refused image with the blocks that the list names, after why it is refused
 pub record IsRefusedMap (job : MapJob) (image text : List ℕ) : Type 0 where
   pub refusal : Refusal
   pub refused : IsImageRefusal image refusal
   pub unread : List Bool
-  pub listed : MayBeUnread job.bad unread
+  pub listed : AreMarksOf job.bad (block_count image) [] unread
   pub mapped : IsFaultyMap job.form unread image refusal.kind.now refusal.block text
 
--- the map of an accepted image, or of a refused one
+-- the map of an accepted image with the blocks that the list names, or of a refused one
 abbrev pub IsMapReport : MapJob → Bool → List ℕ → Type 0
 IsMapReport job true text =
-    (image : List ℕ)
-    × OfAccepted (λ was_validated checked t last. (unread : List Bool) × MayBeUnread job.bad unread × IsMap job.form unread checked t last) image text
+    (image : List ℕ) × (unread : List Bool) × AreMarksOf job.bad (block_count image) [] unread
+    × OfAccepted (λ was_validated checked t last. IsMap job.form unread checked t last) image text
 IsMapReport job false text = (image : List ℕ) × IsRefusedMap job image text
 
 -- an image is refused because its disk is none of this file system

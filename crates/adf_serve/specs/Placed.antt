@@ -1,5 +1,5 @@
 -- How `where` ends for blocks: the output for an accepted image, and for a refused one.
-use Rattle.std.specs.Prelude.{◌≡◌, ◌⊎◌, ℕ, Bool, true, false, List, Option, Result, ⊤}
+use Rattle.std.specs.Prelude.{◌≡◌, ◌⊎◌, ℕ, Bool, true, false, List, [], Option, Result, ⊤}
 use Rattle.std.specs.Io.KnownBytes.{Keeps}
 use Rattle.adf_io.specs.Prefix.{WritesFrontOf}
 use Rattle.adf_block.specs.Image.{block_count}
@@ -13,14 +13,15 @@ use Rattle.adf_serve.specs.declared.fault.CommandFault.TheVariants.{Memory, Outp
 use Rattle.adf_serve.specs.Refusals.{IsImageRefusal, IsSizeRefusal}
 use Rattle.adf_serve.specs.declared.refusal.Refusal.{Refusal}
 use Rattle.adf_serve.specs.Reports.{DoesReport, TellsReport}
-use Rattle.adf_serve.specs.Texts.{AreOwnedBlocks, MayBeUnread}
+use Rattle.adf_serve.specs.Texts.{AreOwnedBlocks}
+use Rattle.adf_serve.specs.Unread.{AreMarksOf}
 
--- the output for this refused image: why it is refused, the places that name the blocks, and their faults
+-- the output for this refused image: why it is refused, the places that name the blocks, their faults, and which of them the list names
 pub record IsPlacedIn (job : WhereJob) (image : List ℕ) (text : List ℕ) : Type 0 where
   pub refusal : Refusal
   pub refused : IsImageRefusal image refusal
   pub unread : List Bool
-  pub listed : MayBeUnread job.bad unread
+  pub listed : AreMarksOf job.bad (block_count image) [] unread
   pub placed : IsFaultyWhere job.json unread image refusal.kind.now refusal.block job.blocks.items text
 
 -- the output for an accepted image, the owners of the blocks, or for a refused one

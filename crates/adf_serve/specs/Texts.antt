@@ -1,6 +1,5 @@
 -- The output of commands for an image, by its bytes.
-use Rattle.std.specs.Prelude.{◌≡◌, ⊤, ℕ, pos, Bool, true, false, List, [], Option, Some, None, map, option_map}
-use Rattle.std.specs.Borrow.{Bor}
+use Rattle.std.specs.Prelude.{◌≡◌, ℕ, pos, Bool, true, false, List, [], Option, Some, None, map, option_map}
 use Rattle.ados_model.specs.Packet.{dos_true}
 use Rattle.ados_model.specs.Actions.{action_number}
 use Rattle.ados_model.specs.declared.action.Action.TheVariants.{DiskInfo}
@@ -12,6 +11,7 @@ use Rattle.ados_model.specs.Tree.{Tree, bytes_of, root}
 use Rattle.ados_model.specs.Change.{is_file}
 use Rattle.ados_model.specs.Objects.{disk_info}
 use Rattle.adf_block.specs.BootText.{IsBootText}
+use Rattle.adf_block.specs.Image.{block_count}
 use Rattle.adf_export.specs.Info.{info_text}
 use Rattle.adf_export.specs.Listing.{BeginsList, IsList}
 use Rattle.adf_record.specs.BootObject.{IsBootObject}
@@ -31,6 +31,7 @@ use Rattle.adf_where.specs.Where.{IsWhere}
 use Rattle.adf_export.specs.Words.{LeadsTo}
 use Rattle.adf_serve.specs.declared.query.Query.{Query}
 use Rattle.adf_serve.specs.declared.query.Query.TheVariants as queries
+use Rattle.adf_serve.specs.Unread.{AreMarksOf}
 use Rattle.ados_mend.specs.Said.{validated_text}
 use Rattle.ados_mend.specs.Validated.{IsValidated, free_only_in}
 
@@ -89,15 +90,11 @@ IsLook json was_validated checked t text = (form : FactsForm) × (is_json form �
 abbrev pub IsLookText : Bool → List ℕ → List ℕ → Type 0
 IsLookText json = OfAccepted (IsLook json)
 
--- the marks of blocks that could not be read: there are none unless a job has a list of such blocks
-abbrev pub MayBeUnread : Option (Bor (List ℕ)) → List Bool → Type 0
-MayBeUnread None unread = unread ≡ []
-MayBeUnread (Some list) unread = ⊤
-
--- who owns the blocks that a job asks for: a line for each, or a JSON array
+-- who owns the blocks that a job asks for, and which of them its list names: a line for each, or a JSON array
 abbrev pub AreOwnedBlocks : WhereJob → List ℕ → List ℕ → Type 0
-AreOwnedBlocks job =
-    OfAccepted (λ was_validated checked t text. (unread : List Bool) × MayBeUnread job.bad unread × IsWhere job.json unread checked t job.blocks.items text)
+AreOwnedBlocks job image text =
+    (unread : List Bool) × AreMarksOf job.bad (block_count image) [] unread
+    × OfAccepted (λ was_validated checked t told. IsWhere job.json unread checked t job.blocks.items told) image text
 
 -- the blocks of the file or directory at a path, in one of the forms
 abbrev pub AreEntryBlocks : Bool → List ℕ → List ℕ → List ℕ → Type 0

@@ -1,5 +1,6 @@
 //! The command `where`.
-ghost use Rattle.std.specs.Prelude.{◌≢◌, ℕ, List, IfErr, OnOk};
+ghost use Rattle.std.specs.Prelude.{◌≡◌, ◌≢◌, ℕ, List, [], IfErr, OnOk};
+ghost use Rattle.adf_block.specs.Image.{block_count};
 ghost use Rattle.ados_model.specs.Accepted.{Accepts};
 ghost use Rattle.adf_serve.specs.Commands.{TellsOf};
 ghost use Rattle.adf_serve.specs.Faults.{IsNoRefusal};
@@ -7,7 +8,8 @@ ghost use Rattle.adf_serve.specs.declared.fault.CommandFault.TheVariants.{NotWho
 ghost use Rattle.adf_io.specs.Prefix.{Writes};
 ghost use Rattle.adf_serve.specs.Placed.{DoesWhere, IsPlacedIn, LeavesPlaced};
 ghost use Rattle.adf_serve.specs.Refusals.{IsImageRefusal};
-ghost use Rattle.adf_serve.specs.Texts.{AreEntryBlocks, MayBeUnread};
+ghost use Rattle.adf_serve.specs.Texts.{AreEntryBlocks};
+ghost use Rattle.adf_serve.specs.Unread.{AreMarksOf};
 
 use crate::bad::unread_blocks;
 use crate::fault::CommandFault;
@@ -89,14 +91,14 @@ fn tell_owners<'a, W: Write>(
     asked: Asked<'_, 'a>,
     writer: &mut W,
 ) -> Result<(), CommandFault<'a>>
-    requires { MayBeUnread asked.job.now.bad asked.unread.now }
-    ensures { (image : List ℕ) → Accepts image volume.now.was_validated volume.now.image →
+    ensures { (image : List ℕ) → Accepts image volume.now.was_validated volume.now.image → AreMarksOf asked.entry.job.now.bad (block_count image) [] asked.entry.unread.now →
         DoesWhere asked.entry.job.now (W.contents writer.old) (W.contents writer.new) result }
 {
+    let job = asked.job;
     let blocks = volume.image().blocks();
     match write_where(alloc, volume, asked.asking(), writer) {
         Ok(()) => Ok(()),
-        Err(fault) => Err(no_block(alloc, fault, asked.job.image.path, blocks)),
+        Err(fault) => Err(no_block(alloc, fault, job.image.path, blocks)),
     }
 }
 
@@ -110,10 +112,11 @@ fn tell_placed<'a, W: Write, F: Write>(
     writer: &mut W,
     faults: &mut F,
 ) -> Result<(), CommandFault<'a>>
-    requires { MayBeUnread asked.job.now.bad asked.unread.now }
+    requires { AreMarksOf asked.job.now.bad (block_count image.now) [] asked.unread.now }
     ensures ok { OnOk result (IsImageRefusal image.now refusal → Writes (W.contents writer.old) (W.contents writer.new) (IsPlacedIn asked.entry.job.now image.now)) }
     ensures fault { IfErr result (λ fault. IsImageRefusal image.now refusal → LeavesPlaced asked.entry.job.now image.now (W.contents writer.old) (W.contents writer.new) fault) }
 {
+    let job = asked.job;
     let why = refusal.reason();
     match write_faulty_where(alloc, image, asked.asking(), why, writer) {
         Ok(()) => Ok(()),
@@ -121,7 +124,7 @@ fn tell_placed<'a, W: Write, F: Write>(
             let fault = no_block(
                 alloc,
                 WhereFault::NoBlock(word),
-                asked.job.image.path,
+                job.image.path,
                 image.blocks(),
             );
             print_line(faults, format_args!("adf_serve: {fault}"));

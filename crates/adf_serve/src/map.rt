@@ -1,11 +1,12 @@
 //! The command `map`.
-ghost use Rattle.std.specs.Prelude.{◌≡◌, ◌⊎◌, ℕ, List, Err, IfErr, IsTrue, OnOk, false};
+ghost use Rattle.std.specs.Prelude.{◌≡◌, ◌⊎◌, ℕ, List, [], Err, IfErr, IsTrue, OnOk, false};
+ghost use Rattle.adf_block.specs.Image.{block_count};
 ghost use Rattle.ados_model.specs.Accepted.{Accepts};
 ghost use Rattle.ados_model.specs.declared.fault.FaultKind.TheVariants.{NotADosDisk, UnsupportedKind};
 ghost use Rattle.adf_io.specs.Prefix.{Writes};
 ghost use Rattle.adf_serve.specs.Mapped.{DoesMap, IsMapReport};
-ghost use Rattle.adf_serve.specs.Texts.{MayBeUnread};
 ghost use Rattle.adf_serve.specs.Refusals.{IsImageRefusal};
+ghost use Rattle.adf_serve.specs.Unread.{AreMarksOf};
 
 use crate::bad::unread_blocks;
 use crate::fault::CommandFault;
@@ -70,8 +71,7 @@ fn tell_volume_map<'a, W: Write>(
     unread: &[bool],
     writer: &mut W,
 ) -> Result<(), CommandFault<'a>>
-    requires { MayBeUnread job.now.bad unread.now }
-    ensures { (image : List ℕ) → Accepts image volume.now.was_validated volume.now.image →
+    ensures { (image : List ℕ) → Accepts image volume.now.was_validated volume.now.image → AreMarksOf job.now.bad (block_count image) [] unread.now →
         DoesMap job.now (W.contents writer.old) (W.contents writer.new) result }
 {
     let text = map_text(alloc, volume, job.form, unread)?;
@@ -87,7 +87,7 @@ fn tell_faulty_map<'a, W: Write>(
     unread: &[bool],
     writer: &mut W,
 ) -> Result<(), CommandFault<'a>>
-    requires { MayBeUnread job.now.bad unread.now }
+    requires { AreMarksOf job.now.bad (block_count image.now) [] unread.now }
     ensures ok { OnOk result (IsImageRefusal image.now refusal → Writes (W.contents writer.old) (W.contents writer.new) (IsMapReport job.now false)) }
     ensures fault { IfErr result (λ fault. IsImageRefusal image.now refusal → DoesMap job.now (W.contents writer.old) (W.contents writer.new) (Err fault)) }
 {

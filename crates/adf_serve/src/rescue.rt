@@ -1,8 +1,8 @@
 //! The command `extract --damaged`.
-ghost use Rattle.std.specs.Prelude.{ℕ, Bool, List, IfErr, IfOk};
+ghost use Rattle.std.specs.Prelude.{◌≡◌, ℕ, Bool, List, [], None, IfErr, IfOk};
 ghost use Rattle.adf_rescue.specs.Rescue.{IsRescue};
 ghost use Rattle.adf_serve.specs.Faults.{IsNoImage};
-ghost use Rattle.adf_serve.specs.Rescues.{DoesRescue, IsRescueEnd};
+ghost use Rattle.adf_serve.specs.Rescues.{AreHoles, DoesRescue, IsRescueEnd};
 
 use crate::bad::with_bad;
 use crate::boot::tell_boot;
@@ -50,13 +50,11 @@ fn read_holed<'a, R: Files, F: Write>(
     job: &SalvageJob<'a>,
     faults: &mut F,
 ) -> Result<(Image, Vec<bool>), CommandFault<'a>>
-    ensures { IfErr result IsNoImage }
+    ensures holes { IfOk result (λ found. AreHoles job.now found.0 found.1.items) }
+    ensures fault { IfErr result IsNoImage }
 {
-    let (image, holes) = read_filled(rt, alloc, job.image, faults)?;
-    let Some(list) = job.bad else {
-        return Ok((image, holes));
-    };
-    let holes = with_bad(rt, alloc, list, image.blocks(), holes)?;
+    let (image, missing) = read_filled(rt, alloc, job.image, faults)?;
+    let holes = with_bad(rt, alloc, job.bad, image.blocks(), missing)?;
     Ok((image, holes))
 }
 
@@ -68,7 +66,8 @@ fn read_filled<'a, R: Files, F: Write>(
     file: ImageFile<'a>,
     faults: &mut F,
 ) -> Result<(Image, Vec<bool>), CommandFault<'a>>
-    ensures { IfErr result IsNoImage }
+    ensures missing { IfOk result (λ found. file.entry.blocks ≡ None → found.1.items ≡ []) }
+    ensures fault { IfErr result IsNoImage }
 {
     let ImageFile { path, blocks } = file;
     let Some(blocks) = blocks else {
@@ -115,7 +114,7 @@ fn tell_rescue<'a, W: Write, F: Write>(
     writer: &mut W,
     faults: &mut F,
 ) -> Result<(), CommandFault<'a>>
-    ensures { (holes : List Bool) (image : List ℕ) → IsRescue holes image rescue.now → DoesRescue job.now (W.contents writer.old) (W.contents writer.new) result }
+    ensures { (holes : List Bool) (image : List ℕ) → AreHoles job.now image holes → IsRescue holes image rescue.now → DoesRescue job.now (W.contents writer.old) (W.contents writer.new) result }
 {
     tell_sums(rescue, faults);
     tell_doubts(alloc, rescue, faults);

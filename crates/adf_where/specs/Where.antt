@@ -1,5 +1,5 @@
 -- Who owns a block, and the blocks of an entry.
-use Rattle.std.specs.Prelude.{◌≡◌, ⊤, ℕ, ◌+◌, ◌*◌, ◌-◌, ◌/◌, ◌%◌, ◌==◌, ◌&&◌, ◌⊎◌, nat_lt, min, Bool, true, false, if◌then◌else◌, List, [], ◌∷◌, ◌++◌, flat_map, length, map, take, slice_get, codes, decimal, Option, Some, None, option_map}
+use Rattle.std.specs.Prelude.{◌≡◌, ⊤, ℕ, ◌+◌, ◌*◌, ◌-◌, ◌/◌, ◌%◌, ◌⊎◌, nat_lt, min, Bool, true, false, if◌then◌else◌, List, [], ◌∷◌, ◌++◌, flat_map, length, map, take, slice_get, codes, decimal, Option, Some, None, option_map}
 use Rattle.std.specs.Option.{option_map_or}
 use Rattle.std.specs.String.{string_bytes}
 use Rattle.json.specs.Token.{Token, begin_array, begin_object, boolean, end_array, end_object, key, number, string}
@@ -11,8 +11,8 @@ use Rattle.ados_volume.specs.Owners.{AreOwners}
 use Rattle.adf_text.specs.Letters.{letters}
 use Rattle.adf_text.specs.Plain.{plain}
 use Rattle.adf_words.specs.declared.block_word.BlockWord.{BlockWord}
-use Rattle.adf_words.specs.declared.block_word.BlockWord.TheVariants.{Number, Sector}
-use Rattle.adf_words.specs.declared.floppy.TheConstants.{DOUBLE_TRACK, HEADS, HIGH_DENSITY, HIGH_TRACK}
+use Rattle.adf_words.specs.Blocks.{named, track}
+use Rattle.adf_words.specs.declared.floppy.TheConstants.{HEADS}
 use Rattle.adf_record.specs.Members.{number_token, string_token}
 use Rattle.adf_where.specs.declared.owned.OwnedBlock.{OwnedBlock}
 use Rattle.adf_where.specs.declared.short_path.TheConstants.{LONGEST_PATH}
@@ -23,21 +23,6 @@ use Rattle.adf_io.specs.Prefix.{WritesFrontOf}
 use Rattle.std.specs.Io.KnownBytes.{Keeps}
 use Rattle.adf_export.specs.Listing.{path_of}
 use Rattle.adf_where.specs.Unread.{unread_of}
-
--- the sectors in a track of a disk with so many blocks
-abbrev pub track : ℕ → ℕ
-track blocks = if blocks == HIGH_DENSITY then HIGH_TRACK else DOUBLE_TRACK
-
--- the number of a block, if a volume with so many blocks has it
-abbrev pub inside : ℕ → ℕ → Option ℕ
-inside blocks block = if nat_lt block blocks then Some block else None
-
--- the block that an argument names in a volume with so many blocks: tracks follow one another, that of head 0 before that
--- of head 1, and cylinder after cylinder
-abbrev pub named : ℕ → BlockWord → Option ℕ
-named blocks (Number block) = inside blocks block
-named blocks (Sector cylinder head sector) =
-    if nat_lt head HEADS && nat_lt sector (track blocks) then inside blocks (track blocks * (HEADS * cylinder + head) + sector) else None
 
 -- these arguments name these blocks
 abbrev pub AreNamed : ℕ → List BlockWord → List ℕ → Type 0

@@ -1,7 +1,7 @@
 //! The lines of blocks of a refused image.
 ghost use Rattle.std.specs.Prelude.{◌≡◌, ◌++◌, IfOk, OnOk, flat_map, option_map};
 ghost use Rattle.std.specs.String.{string_bytes};
-ghost use Rattle.adf_where.specs.Faulty.{behind_lines, block_line, fault_line, first_line, first_words, more_line, place_lines, place_words};
+ghost use Rattle.adf_where.specs.Faulty.{behind_lines, block_line, fault_line, first_line, first_words, more_line, place_words};
 
 use crate::faulty::FaultyBlock;
 use crate::where_lines::{place_text, push_unread};

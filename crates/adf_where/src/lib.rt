@@ -11,7 +11,6 @@ mod map_object;
 
 // Blocks that are asked for.
 mod asking;
-mod bad_list;
 mod faulty;
 mod faulty_lines;
 mod faulty_objects;
@@ -31,7 +30,6 @@ mod where_lines;
 mod where_objects;
 
 pub use asking::Asking;
-pub use bad_list::{BadFault, bad_blocks};
 pub use block_map::map_text;
 pub use faulty_map::faulty_map_text;
 pub use faulty_where::write_faulty_where;

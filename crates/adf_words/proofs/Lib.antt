@@ -4,3 +4,6 @@ pub mod Finding
 pub mod Asking
 -- What is read of arguments that name blocks.
 pub mod Naming
+-- The lines of a list of bad blocks, and the marks of these blocks.
+pub mod BadLines
+pub mod Marking

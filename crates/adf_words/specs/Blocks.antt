@@ -1,10 +1,10 @@
 -- Arguments that name blocks.
-use Rattle.std.specs.Prelude.{◌≡◌, ◌≢◌, ℕ, ◌<◌, ◌^◌, List, ◌++◌, Any, codes, decimal, ⊤}
+use Rattle.std.specs.Prelude.{◌≡◌, ◌≢◌, ℕ, ◌+◌, ◌*◌, ◌<◌, ◌^◌, ◌==◌, ◌&&◌, nat_lt, if◌then◌else◌, List, ◌++◌, Any, Option, Some, None, codes, decimal, ⊤}
 use Rattle.adf_words.specs.Given.{TellsOf}
 use Rattle.adf_words.specs.declared.block_word.BlockWord.{BlockWord}
 use Rattle.adf_words.specs.declared.block_word.BlockWord.TheVariants.{Number, Sector}
 use Rattle.adf_words.specs.declared.fault.WordsFault.{WordsFault}
-use Rattle.adf_words.specs.declared.floppy.TheConstants.{HEADS, HIGH_TRACK}
+use Rattle.adf_words.specs.declared.floppy.TheConstants.{DOUBLE_TRACK, HEADS, HIGH_DENSITY, HIGH_TRACK}
 
 -- the argument for a block: its number, or `c` and its cylinder, `.h` and its head, `.s` and its sector
 abbrev pub block_text : BlockWord → List ℕ
@@ -29,6 +29,21 @@ IsNamed word block = (block_text block ≡ word) × IsOnFloppy block
 -- the argument names no block
 abbrev pub NamesNone : List ℕ → Type 0
 NamesNone word = (block : BlockWord) → HasLongs block → IsOnFloppy block → word ≢ block_text block
+
+-- the sectors in a track of a disk with so many blocks
+abbrev pub track : ℕ → ℕ
+track blocks = if blocks == HIGH_DENSITY then HIGH_TRACK else DOUBLE_TRACK
+
+-- the number of a block, if a volume with so many blocks has it
+abbrev pub inside : ℕ → ℕ → Option ℕ
+inside blocks block = if nat_lt block blocks then Some block else None
+
+-- the block that an argument names in a volume with so many blocks: tracks follow one another, that of head 0 before that
+-- of head 1, and cylinder after cylinder
+abbrev pub named : ℕ → BlockWord → Option ℕ
+named blocks (Number block) = inside blocks block
+named blocks (Sector cylinder head sector) =
+    if nat_lt head HEADS && nat_lt sector (track blocks) then inside blocks (track blocks * (HEADS * cylinder + head) + sector) else None
 
 -- a wrong command line is reported only if the argument names no block
 abbrev pub TellsNoBlock : List ℕ → WordsFault → Type 0

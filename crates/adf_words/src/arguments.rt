@@ -35,6 +35,13 @@ impl<'a, 'b> Arguments<'a, 'b> {
         self.words.get_str(id)
     }
 
+    /// The list of blocks that could not be read.
+    pub(crate) fn bad_list(&self) -> Option<&'a str>
+        ensures { option_map (λ word. word.now) result ≡ first_value (found_of self.now.words.now) (codes "bad") }
+    {
+        self.given("bad")
+    }
+
     /// A required argument.
     pub(crate) fn word(&self, id: &str) -> Result<&'a str, WordsFault>
         ensures { IfOk result (λ word. first_value (found_of self.now.words.now) id.now ≡ Some word.now) }

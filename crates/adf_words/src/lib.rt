@@ -2,6 +2,7 @@
 #![tactic(auto)]
 
 mod arguments;
+mod bad_list;
 mod block_word;
 mod boot;
 mod change;
@@ -26,9 +27,11 @@ mod refused;
 mod table;
 mod taking;
 mod tips;
+mod tracks;
 mod version;
 mod wrapping;
 
+pub use bad_list::{BadFault, bad_blocks, marked};
 pub use block_word::{BlockWord, named_block};
 pub use boot::BootBlock;
 pub use change::{Change, ChangeJob, Rewrite, Source};
@@ -44,3 +47,4 @@ pub use query::{
 };
 pub use reading::read_words;
 pub use refused::{Refused, error_words};
+pub use tracks::{track, volume_block};

@@ -138,7 +138,7 @@ pub(crate) fn map_job<'a>(arguments: &Arguments<'a, '_>) -> Result<ImageJob<'a>,
     Ok(ImageJob::Map(MapJob {
         image: arguments.image()?,
         form: map_form(arguments),
-        bad: arguments.given("bad"),
+        bad: arguments.bad_list(),
     }))
 }
 
@@ -175,7 +175,7 @@ pub(crate) fn where_job<'a>(arguments: &Arguments<'a, '_>) -> Result<ImageJob<'a
         image,
         blocks: asked_blocks(arguments.alloc, words)?,
         json,
-        bad: arguments.given("bad"),
+        bad: arguments.bad_list(),
     }))
 }
 
@@ -216,7 +216,7 @@ pub(crate) fn extract_job<'a>(arguments: &Arguments<'a, '_>) -> Result<ImageJob<
             json,
             to,
             meta,
-            bad: arguments.given("bad"),
+            bad: arguments.bad_list(),
         }));
     }
     Ok(ImageJob::Extract(ExtractJob {

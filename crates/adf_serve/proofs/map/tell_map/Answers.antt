@@ -1,7 +1,9 @@
-use Rattle.std.proofs.Common.{inl, inr}
+use Rattle.std.proofs.Common.{inl, inr, ap, sym, ◌∙◌}
 use Rattle.std.proofs.KnownBytes.{Keeps-refl}
+use Rattle.adf_block.specs.Image.{block_count}
 use Rattle.adf_serve.specs.Mapped.{IsBareMap, IsMapReport}
 use Rattle.adf_serve.specs.Placed.{MayEnd}
+use Rattle.adf_serve.proofs.Marks.{marks_of}
 use Rattle.adf_serve.proofs.Printing.{kind_shown, refusal_shown, report_ends, reports_no_image}
 use Rattle.adf_serve.proofs.map.tell_map.Goals as goal
 
@@ -14,6 +16,15 @@ pub returns-in_err-unread : goal.returns-in_err-unread
 returns-in_err-unread g c =
     reports_no_image (IsMapReport c.args.job.now) IsBareMap MayEnd _ c.in_err-unread.field-0.0 _ (λ bytes refusal size. (bytes, inl size)) (λ told is. tt) c.in_err-unread.ensures.fault
     c.from_residual-in_err-unread.ensures.1
+
+pub returns-in-Ok : goal.returns-in-Ok
+returns-in-Ok g c =
+    c.tell_volume_map.ensures c.in_ok-image.image c.in-Ok.ensures
+    (marks_of c.args.job.now.bad c.blocks.result (block_count c.in_ok-image.image) c.in_ok-unread.unread.items c.deref.result.now c.blocks.ensures.count c.deref.ensures.value c.in_ok-unread.ensures.unread)
+
+pub tell_faulty_map-requires : goal.tell_faulty_map-requires
+tell_faulty_map-requires g c =
+    marks_of c.args.job.now.bad c.blocks.result (block_count c.in-Err.rejected.image) c.in_ok-unread.unread.items c.deref.result.now (c.blocks.ensures.count ∙ ap block_count (sym c.in-Err.ensures.0)) c.deref.ensures.value c.in_ok-unread.ensures.unread
 
 pub returns-then-is_of_another_kind : goal.returns-then-is_of_another_kind
 returns-then-is_of_another_kind g c =

@@ -1,7 +1,7 @@
 use Rattle.std.proofs.Common.{◌≡◌, ◌≤◌, ◌<◌, ◌+◌, ◌++◌, All, List, ℕ, length}
 use Rattle.adf_script.specs.Lines.{lines_of}
-use Rattle.adf_where.specs.BadBlocks.{AreBad}
-use Rattle.adf_where.proofs.bad_list.bad_blocks.Given as goal
+use Rattle.adf_words.specs.BadBlocks.{AreBad}
+use Rattle.adf_words.proofs.bad_list.bad_blocks.Given as goal
 
 -- the lines before the rest name the blocks so far
 abbrev pub invariant-loop-rest : goal.invariant-loop-rest

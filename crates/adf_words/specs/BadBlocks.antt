@@ -1,13 +1,12 @@
 -- Lists of blocks that could not be read.
-use Rattle.std.specs.Prelude.{◌≡◌, ◌≢◌, ⊤, ℕ, suc, ◌⊎◌, false, List, [], ◌∷◌, ◌++◌, slice_get, Some, None}
+use Rattle.std.specs.Prelude.{◌≡◌, ◌≢◌, ◌↔◌, ⊤, ℕ, suc, ◌<◌, ◌⊎◌, Bool, true, false, List, [], ◌∷◌, ◌++◌, length, Contains, slice_get, slice_index_or, Some, None}
 use Rattle.std.specs.Str.{IsTrimAscii}
 use Rattle.adf_script.specs.Pieces.{IsSplit, has_byte}
 use Rattle.adf_text.specs.Letters.{letters}
-use Rattle.adf_words.specs.Blocks.{IsNamed, NamesNone}
+use Rattle.adf_words.specs.Blocks.{IsNamed, NamesNone, named}
 use Rattle.adf_words.specs.declared.block_word.BlockWord.{BlockWord}
-use Rattle.adf_where.specs.Where.{named}
-use Rattle.adf_where.specs.declared.bad_list.BadFault.{BadFault}
-use Rattle.adf_where.specs.declared.bad_list.BadFault.TheVariants.{Line, Memory}
+use Rattle.adf_words.specs.declared.bad_list.BadFault.{BadFault}
+use Rattle.adf_words.specs.declared.bad_list.BadFault.TheVariants.{Line, Memory}
 
 -- what a line has before a comment, which begins with `#`
 abbrev pub IsBeforeComment : List ℕ → List ℕ → Type 0
@@ -33,6 +32,15 @@ Adds blocks line old new = (Says line [] × (new ≡ old)) ⊎ ((block : ℕ) ×
 pub data AreBad (blocks : ℕ) : List (List ℕ) → List ℕ → Type 0 where
   none : AreBad blocks [] []
   more : (lines : List (List ℕ)) (line old new : List ℕ) → AreBad blocks lines old → Adds blocks line old new → AreBad blocks (lines ++ line ∷ []) new
+
+-- the block is marked, by the marks of the first blocks
+abbrev pub IsMarked : List Bool → ℕ → Type 0
+IsMarked marks block = slice_index_or marks block false ≡ true
+
+-- there is a mark for each of so many blocks, and a block is marked exactly if it was before, or if it is one of these
+pub record AreMarked (blocks : ℕ) (before : List Bool) (bad : List ℕ) (marks : List Bool) : Type 0 where
+  pub count : length marks ≡ blocks
+  pub marked : (block : ℕ) → block < blocks → IsMarked marks block ↔ (IsMarked before block ⊎ Contains bad block)
 
 -- why a list is not taken: a line of it, counted from 1, names no block; or memory ran out
 abbrev pub IsBadFault : ℕ → List (List ℕ) → BadFault → Type 0

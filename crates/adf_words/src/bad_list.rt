@@ -2,15 +2,14 @@
 ghost use Rattle.std.specs.Prelude.{◌≡◌, ◌<◌, ◌⊎◌, All, IfErr, IfOk, MatchBool, MatchOption, OnOk, None, Some};
 ghost use Rattle.std.specs.String.{string_bytes};
 ghost use Rattle.adf_script.specs.Lines.{lines_of};
-ghost use Rattle.adf_words.specs.Blocks.{IsNamed, NamesNone};
+ghost use Rattle.adf_words.specs.Blocks.{IsNamed, NamesNone, named};
 ghost use Rattle.adf_words.specs.declared.block_word.BlockWord.{BlockWord as Word};
-ghost use Rattle.adf_where.specs.Where.{named};
-ghost use Rattle.adf_where.specs.BadBlocks.{Adds, AreBad, IsBadFault, IsBeforeComment, NamesNoBlock, Says};
+ghost use Rattle.adf_words.specs.BadBlocks.{Adds, AreBad, AreMarked, IsBadFault, IsBeforeComment, NamesNoBlock, Says};
 
-use crate::places::named_block;
+use crate::block_word::named_block;
+use crate::tracks::volume_block;
 use adf_script::{first_line, split_once};
 use adf_text::letter_text;
-use adf_words::named_block as block_word;
 use std::alloc::{AllocError, Global};
 
 /// Why a list of bad blocks is not taken.
@@ -24,7 +23,7 @@ pub enum BadFault {
 
 impl From<AllocError> for BadFault {
     ghost use Rattle.std.specs.Prelude.{◌≡◌};
-    ghost use Rattle.adf_where.specs.declared.bad_list.BadFault.TheVariants.{Memory};
+    ghost use Rattle.adf_words.specs.declared.bad_list.BadFault.TheVariants.{Memory};
 
     ghost from_gives = { λ _ fault. fault ≡ Memory };
 
@@ -53,6 +52,19 @@ pub fn bad_blocks(alloc: Global, blocks: u32, list: &[u8]) -> Result<Vec<u32>, B
         rest = behind;
     }
     Ok(found)
+}
+
+/// The marks of so many blocks after these were marked too. A block without a mark before was not marked.
+pub fn marked(blocks: u32, before: Vec<bool>, bad: &[u32]) -> Result<Vec<bool>, AllocError>
+    requires { All (λ block. block < blocks) bad.now }
+    ensures { IfOk result (λ marks. AreMarked blocks before.items bad.now marks.items) }
+{
+    let mut marks = before;
+    marks.resize(blocks as usize, false)?;
+    for block in bad {
+        marks[*block as usize] = true;
+    }
+    Ok(marks)
 }
 
 /// Appends the block that a line names in a volume with so many blocks, if it says something. The result is `false` if that names none.
@@ -102,8 +114,8 @@ fn block_of(alloc: Global, blocks: u32, word: &str) -> Result<Option<u32>, Alloc
         (NamesNone word.now ⊎ ((one : Word) × IsNamed word.now one × (named blocks one ≡ None)))
         (λ block. (one : Word) × IsNamed word.now one × (named blocks one ≡ Some block))) }
 {
-    match block_word(alloc, word)? {
-        Some(one) => Ok(named_block(blocks, one)),
+    match named_block(alloc, word)? {
+        Some(one) => Ok(volume_block(blocks, one)),
         None => Ok(None),
     }
 }

@@ -3,12 +3,11 @@ use Rattle.std.proofs.Common.{◌≡◌, ◌<◌, ℕ, ◌+◌, All, List, [], �
 use Rattle.std.specs.Prelude.{slice_get}
 use Rattle.std.proofs.lemmas.List.{append-nil, length-append}
 use Rattle.adf_script.specs.Lines.{lines_of}
-use Rattle.adf_words.specs.Blocks.{IsNamed, NamesNone}
+use Rattle.adf_words.specs.Blocks.{IsNamed, NamesNone, named}
 use Rattle.adf_words.specs.declared.block_word.BlockWord.{BlockWord}
-use Rattle.adf_where.specs.Where.{named}
-use Rattle.adf_where.specs.BadBlocks.{Adds, AreBad, IsBadFault, NamesNoBlock, Says}
-use Rattle.adf_where.specs.BadBlocks.AreBad.{none}
-use Rattle.adf_where.specs.declared.bad_list.BadFault.TheVariants.{Line}
+use Rattle.adf_words.specs.BadBlocks.{Adds, AreBad, IsBadFault, NamesNoBlock, Says}
+use Rattle.adf_words.specs.BadBlocks.AreBad.{none}
+use Rattle.adf_words.specs.declared.bad_list.BadFault.TheVariants.{Line}
 
 -- one more line is counted
 pub bad_more : (before : List (List ℕ)) (line : List ℕ) (number : ℕ) → number ≡ length before → number + 1 ≡ length (before ++ line ∷ [])

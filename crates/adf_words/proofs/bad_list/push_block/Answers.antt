@@ -1,6 +1,6 @@
 use Rattle.std.specs.String.{string_bytes}
-use Rattle.adf_where.proofs.BadLines.{adds_block}
-use Rattle.adf_where.proofs.bad_list.push_block.Goals as goal
+use Rattle.adf_words.proofs.BadLines.{adds_block}
+use Rattle.adf_words.proofs.bad_list.push_block.Goals as goal
 
 pub returns-in-Some-clause-right : goal.returns-in-Some-clause-right
 returns-in-Some-clause-right c =

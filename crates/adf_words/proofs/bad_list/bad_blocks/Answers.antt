@@ -1,8 +1,8 @@
 use Rattle.std.proofs.Common.{◌≡◌, ◌++◌, ◌∷◌, [], ℕ, List, sym, ap, ◌∙◌, arith, append_assoc, length, rules}
 use Rattle.adf_script.specs.Lines.{lines_of}
-use Rattle.adf_where.specs.BadBlocks.AreBad.{more}
-use Rattle.adf_where.proofs.BadLines.{bad_end, bad_line, bad_more, bad_start, none_inside}
-use Rattle.adf_where.proofs.bad_list.bad_blocks.Goals as goal
+use Rattle.adf_words.specs.BadBlocks.AreBad.{more}
+use Rattle.adf_words.proofs.BadLines.{bad_end, bad_line, bad_more, bad_start, none_inside}
+use Rattle.adf_words.proofs.bad_list.bad_blocks.Goals as goal
 
 pub returns-then-not-right-clause-fault : goal.returns-then-not-right-clause-fault
 returns-then-not-right-clause-fault c =
