@@ -1,3 +1,5 @@
--- Lemmas about asked paths, and the objects of a report.
+-- Lemmas about asked paths, the runs of missing data blocks, and the objects of a report.
 mod TellingObjects
 mod Asking
+mod GivenNumbers
+mod Runs
