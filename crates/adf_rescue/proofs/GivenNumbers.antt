@@ -2,11 +2,12 @@
 use Rattle.std.proofs.Common.{◌≡◌, ◌≢◌, ℕ, ◌+◌, ◌<◌, inl, inr, Bool, true, false, List, [], ◌∷◌, ◌++◌, cond, get_or, length, map, take, refl, sym, ap, ◌∙◌, subst, arith, ◌==◌}
 use Rattle.std.specs.Prelude.{filter, Vec}
 use Rattle.std.specs.Global.{Global}
-use Rattle.std.proofs.lemmas.Bool.{cases_eq, eq-eqb, ne_eqb}
-use Rattle.std.proofs.lemmas.List.{append-nil, map-append}
+use Rattle.std.proofs.lemmas.Bool.{cases_eq, cases_lt, eq-eqb, ne_eqb}
+use Rattle.std.proofs.lemmas.List.{append-nil, length-append, map-append}
 use Rattle.std.proofs.lemmas.List.Elements.{filter_more}
 use Rattle.adf_salvage.specs.declared.giving.Piece.{Piece}
 use Rattle.adf_rescue.specs.Missing.{given_to, values_at}
+use Rattle.adf_rescue.proofs.Values.{values_before, values_last, values_past}
 
 module _ (pieces : List Piece) (i : ℕ) (piece : Piece) (inside : i < length pieces) (is : get_or pieces i piece ≡ piece) (place : ℕ) where
   -- the numbers that were given up to one more piece
@@ -45,3 +46,13 @@ given_on pieces i count numbers more piece so_far inside is size here others = r
     | inr other ↦ others place other ∙ so_far.each place l ∙ sym (given_there pieces i piece inside is place (λ e. other (sym e)))
   ];
 }
+
+-- one more list that is empty, as all before it
+pub none_more : (lists : List (Vec ℕ Global)) (list : Vec ℕ Global) → ((place : ℕ) → values_at lists place ≡ []) → list.items ≡ [] → (place : ℕ) → values_at (lists ++ list ∷ []) place ≡ []
+none_more lists list none empty place = elim (cases_lt place (length lists)) [
+  | inl low ↦ values_before lists list place low ∙ none place
+  | inr high ↦ elim (cases_eq place (length lists)) [
+    | inl last ↦ subst (λ (k : ℕ). values_at (lists ++ list ∷ []) k ≡ []) (sym last) (values_last lists list ∙ empty)
+    | inr other ↦ values_past (lists ++ list ∷ []) place (omega (arith, high, other, length-append lists (list ∷ [])))
+  ]
+]

@@ -3,3 +3,4 @@ mod TellingObjects
 mod Asking
 mod GivenNumbers
 mod Runs
+mod Values

@@ -12,7 +12,7 @@ use Rattle.adf_rescue.specs.Missing.{AreRuns, IsIn, IsLeftOut, run_to}
 
 -- some element has a property in a longer list too
 any_more : {X : Type 0} (P : X → Type 0) (xs : List X) (y : X) → Any P xs → Any P (xs ++ y ∷ [])
-any_more P xs y (k, x, l, at, p) = (k, x, omega (arith, l, length-append xs (y ∷ [])), get_or_append_left xs (y ∷ []) k x l ∙ at, p)
+any_more P xs y (k, x, l, at, p) = (k, x, omega (arith, l, length-append xs (y ∷ [])), get_or_append_left xs (y ∷ []) x k l ∙ at, p)
 
 -- no runs
 pub none_runs : (P : ℕ → Type 0) → ((k : ℕ) → ¬ P k) → AreRuns P []
