@@ -3,7 +3,7 @@ use Rattle.std.proofs.Common.{◌≡◌, ◌≢◌, ℕ, ◌+◌, ◌<◌, inl, 
 use Rattle.std.specs.Prelude.{filter, Vec}
 use Rattle.std.specs.Global.{Global}
 use Rattle.std.proofs.lemmas.Bool.{cases_eq, cases_lt, eq-eqb, ne_eqb}
-use Rattle.std.proofs.lemmas.List.{append-nil, length-append, map-append}
+use Rattle.std.proofs.lemmas.List.{append-nil, get_or_default, length-append, map-append}
 use Rattle.std.proofs.lemmas.List.Elements.{filter_more}
 use Rattle.adf_salvage.specs.declared.giving.Piece.{Piece}
 use Rattle.adf_rescue.specs.Missing.{given_to, values_at}
@@ -33,10 +33,10 @@ pub record AreGiven (pieces : List Piece) (i count : ℕ) (numbers : List (Vec �
   pub each : (place : ℕ) → place < count → values_at numbers place ≡ given_to (take i pieces) place
 
 -- with those of one more piece
-pub given_on : (pieces : List Piece) (i count : ℕ) (numbers more : List (Vec ℕ Global)) (piece : Piece) → AreGiven pieces i count numbers → i < length pieces → get_or pieces i piece ≡ piece → length more ≡ length numbers
+given_by : (pieces : List Piece) (i count : ℕ) (numbers more : List (Vec ℕ Global)) (piece : Piece) → AreGiven pieces i count numbers → i < length pieces → get_or pieces i piece ≡ piece → length more ≡ length numbers
     → (piece.place < length numbers → values_at more piece.place ≡ values_at numbers piece.place ++ piece.at ∷ [])
     → ((other : ℕ) → other ≢ piece.place → values_at more other ≡ values_at numbers other) → AreGiven pieces (i + 1) count more
-given_on pieces i count numbers more piece so_far inside is size here others = record {
+given_by pieces i count numbers more piece so_far inside is size here others = record {
   size = size ∙ so_far.size;
   each = λ place l. elim (cases_eq place piece.place) [
     | inl same ↦
@@ -46,6 +46,12 @@ given_on pieces i count numbers more piece so_far inside is size here others = r
     | inr other ↦ others place other ∙ so_far.each place l ∙ sym (given_there pieces i piece inside is place (λ e. other (sym e)))
   ];
 }
+
+pub given_on : (pieces : List Piece) (i count : ℕ) (numbers more : List (Vec ℕ Global)) (d : Piece) → AreGiven pieces i count numbers → i < length pieces → length more ≡ length numbers
+    → ((get_or pieces i d).place < length numbers → values_at more (get_or pieces i d).place ≡ values_at numbers (get_or pieces i d).place ++ (get_or pieces i d).at ∷ [])
+    → ((other : ℕ) → other ≢ (get_or pieces i d).place → values_at more other ≡ values_at numbers other) → AreGiven pieces (i + 1) count more
+given_on pieces i count numbers more d so_far inside size here others =
+    given_by pieces i count numbers more (get_or pieces i d) so_far inside (get_or_default pieces i (get_or pieces i d) d inside) size here others
 
 -- one more list that is empty, as all before it
 pub none_more : (lists : List (Vec ℕ Global)) (list : Vec ℕ Global) → ((place : ℕ) → values_at lists place ≡ []) → list.items ≡ [] → (place : ℕ) → values_at (lists ++ list ∷ []) place ≡ []

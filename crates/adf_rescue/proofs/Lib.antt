@@ -2,5 +2,6 @@
 mod TellingObjects
 mod Asking
 mod GivenNumbers
+mod Marks
 mod Runs
 mod Values

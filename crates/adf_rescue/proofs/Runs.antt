@@ -8,7 +8,8 @@ use Rattle.std.proofs.lemmas.List.Elements.{All-contains, All-nil, All-push, Con
 use Rattle.std.proofs.lemmas.List.Kept.{AllPairs-from_increasing}
 use Rattle.std.proofs.lemmas.List.Quantifiers.{Any-push, all_pairs_push}
 use Rattle.adf_rescue.specs.declared.missing.Run.{Run}
-use Rattle.adf_rescue.specs.Missing.{AreRuns, IsIn, IsLeftOut, run_to}
+use Rattle.adf_salvage.specs.Salvaged.{Saved}
+use Rattle.adf_rescue.specs.Missing.{AreRuns, IsIn, IsLeftOut, IsMissing, block_total, given_to, missing_at, run_to}
 
 -- some element has a property in a longer list too
 any_more : {X : Type 0} (P : X → Type 0) (xs : List X) (y : X) → Any P xs → Any P (xs ++ y ∷ [])
@@ -160,3 +161,10 @@ pub runs_of_same : (numbers others : List ℕ) (count : ℕ) (runs : List Run) �
 runs_of_same numbers others count runs to from are = same_runs (IsLeftOut others count) (IsLeftOut numbers count) runs 0 0 are
     (λ k left. record { below = left.below; out = λ there. left.out (All-contains (Contains others) numbers k to there) })
     (λ k left. record { below = left.below; out = λ there. left.out (All-contains (Contains numbers) others k from there) })
+
+-- the runs of the missing data blocks of an entry, by the numbers that were given to it and how many are missing
+pub missing_here : (saved : Saved) (place : ℕ) (numbers : List ℕ) (missing : ℕ) (runs : List Run) → numbers ≡ given_to saved.given place → missing ≡ missing_at saved.entries place
+    → AreRuns (IsLeftOut numbers (block_total numbers missing)) runs → AreRuns (IsMissing saved place) runs
+missing_here saved place numbers missing runs given count are =
+    subst (λ (m : ℕ). AreRuns (IsLeftOut (given_to saved.given place) (block_total (given_to saved.given place) m)) runs) count
+    (subst (λ (l : List ℕ). AreRuns (IsLeftOut l (block_total l missing)) runs) given are)

@@ -1,5 +1,5 @@
 -- The report on a rescue, entry by entry: as lines or as an object.
-use Rattle.std.proofs.Common.{◌≡◌, ℕ, ◌+◌, Bool, true, false, ◌||◌, List, [], ◌∷◌, ◌++◌, length, take, drop, take-append-drop, append_assoc, append-nil, codes, refl, sym, ap, ◌∙◌, subst}
+use Rattle.std.proofs.Common.{◌≡◌, ℕ, Bool, true, false, ◌||◌, List, [], ◌∷◌, ◌++◌, length, take, drop, take-append-drop, append_assoc, append-nil, codes, refl, sym, ap, ◌∙◌, subst}
 use Rattle.std.specs.Prelude.{if◌then◌else◌, fold, flat_map}
 use Rattle.std.specs.List.{list_any}
 use Rattle.std.proofs.lemmas.List.Sums.{fold-append}
@@ -8,8 +8,10 @@ use Rattle.json.specs.Token.{Token, end_array, end_object}
 use Rattle.json.specs.Print.{ends, escape_byte, print, print_from}
 use Rattle.json.proofs.Printed.Tokens.{print_from-append}
 use Rattle.adf_salvage.specs.declared.salvaged.Salvaged.{Salvaged}
+use Rattle.ados_sound.specs.Marks.{mark_at}
 use Rattle.adf_rescue.specs.declared.damaged.Rescue.{Rescue}
 use Rattle.adf_rescue.specs.declared.missing.Run.{Run}
+use Rattle.adf_rescue.specs.Missing.{values_at}
 use Rattle.adf_rescue.specs.Rescue.{AreSomeRescued, IsTold, rescue_line}
 use Rattle.adf_rescue.specs.Rescue.AreLines.{none as no_lines, one as one_line}
 use Rattle.adf_rescue.specs.RescueObject.{AreObjects, IsReportObject, entry_tokens, hole_tokens, is_summed, is_told, object_tokens, path_end, rest_tokens}
@@ -35,8 +37,8 @@ module _ (rescue : Rescue) where
   object_of place e path = if is_told e.state e.found then object_tokens rescue place e (path ++ path_end e.state) else []
 
   after_object : (told : Bool) (place : ℕ) (entry : Salvaged) (path : List ℕ) (before : Bool) → after_value before (if told then object_tokens rescue place entry path else []) ≡ (before || told)
-  after_object true place entry path true = entry_ends _ entry _ _ path true
-  after_object true place entry path false = entry_ends _ entry _ _ path false
+  after_object true place entry path true = entry_ends rescue.salvage.image entry (mark_at rescue.untrusted.items place) (values_at rescue.missing.items place) path true
+  after_object true place entry path false = entry_ends rescue.salvage.image entry (mark_at rescue.untrusted.items place) (values_at rescue.missing.items place) path false
   after_object false place entry path true = refl
   after_object false place entry path false = refl
 

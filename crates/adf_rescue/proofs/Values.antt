@@ -13,7 +13,7 @@ module _ {X : Type 0} where
   abbrev items_of : Option (Vec X Global) → List X
   items_of list = option_map_or (λ (list : Vec X Global). list.items) list []
 
-  values_inside : (lists : List (Vec X Global)) (place : ℕ) (d : Vec X Global) → place < length lists → values_at lists place ≡ (get_or lists place d).items
+  pub values_inside : (lists : List (Vec X Global)) (place : ℕ) (d : Vec X Global) → place < length lists → values_at lists place ≡ (get_or lists place d).items
   values_inside lists place d l = ap items_of (slice_get-get_or lists place d l)
 
   pub values_past : (lists : List (Vec X Global)) (place : ℕ) → length lists ≤ place → values_at lists place ≡ []

@@ -254,7 +254,8 @@ impl Rescue {
         }
         let path = self.path_at(alloc, place)?;
         if json {
-            return entry_object(alloc, self.row_at(place, entry), path.as_str(), after);
+            let row = self.row_at(place, entry);
+            return entry_object(alloc, &row, path.as_str(), after);
         }
         let line = line_of_path(alloc, found, state, path.as_str())?;
         Ok(line.into_bytes())

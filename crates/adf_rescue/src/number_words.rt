@@ -12,9 +12,11 @@ pub(crate) fn push_numbers(
     let (first, last) = (u64::from(run.first), u64::from(run.last));
     if last == first + 1 {
         numbers.push(range_words(alloc, first, first)?)?;
-        return numbers.push(range_words(alloc, last, last)?);
+        numbers.push(range_words(alloc, last, last)?)?;
+    } else {
+        numbers.push(range_words(alloc, first, last)?)?;
     }
-    numbers.push(range_words(alloc, first, last)?)
+    Ok(())
 }
 
 /// A range of numbers.

@@ -42,12 +42,12 @@ pub(crate) fn front_text(alloc: Global, json: bool) -> Result<Vec<u8>, AllocErro
 /// The object of an entry at a host path, behind a comma after another one.
 pub(crate) fn entry_object(
     alloc: Global,
-    row: Row<'_>,
+    row: &Row<'_>,
     path: &str,
     after: bool,
 ) -> Result<Vec<u8>, AllocError>
-    requires { row.size ≡ written row.image.now row.entry.now.header row.entry.now.state }
-    ensures { IfOk result (λ text. text.items ≡ print_from after (entry_tokens row.image.now row.entry.now row.deleted row.missing.now (path.now ++ path_end row.entry.now.state))) }
+    requires { row.now.size ≡ written row.now.image.now row.now.entry.now.header row.now.entry.now.state }
+    ensures { IfOk result (λ text. text.items ≡ print_from after (entry_tokens row.now.image.now row.now.entry.now row.now.deleted row.now.missing.now (path.now ++ path_end row.now.entry.now.state))) }
 {
     let path = slashed(alloc, row.entry.state, path)?;
     let mut writer = Writer::new(comma(alloc, after)?);
@@ -75,10 +75,10 @@ fn comma(alloc: Global, after: bool) -> Result<Vec<u8>, AllocError>
 }
 
 /// Writes the object of an entry with this path.
-fn put_entry(writer: &mut Writer, row: Row<'_>, path: &str) -> Result<(), AllocError>
-    requires { row.size ≡ written row.image.now row.entry.now.header row.entry.now.state }
+fn put_entry(writer: &mut Writer, row: &Row<'_>, path: &str) -> Result<(), AllocError>
+    requires { row.now.size ≡ written row.now.image.now row.now.entry.now.header row.now.entry.now.state }
     ensures before { writer.new.before ≡ writer.old.before }
-    ensures tokens { OnOk result (writer.new.tokens ≡ writer.old.tokens ++ entry_tokens row.image.now row.entry.now row.deleted row.missing.now path.now) }
+    ensures tokens { OnOk result (writer.new.tokens ≡ writer.old.tokens ++ entry_tokens row.now.image.now row.now.entry.now row.now.deleted row.now.missing.now path.now) }
 {
     writer.begin_object()?;
     put_state(writer, row.entry.found, row.entry.state, path)?;
@@ -105,10 +105,10 @@ fn put_state(
 }
 
 /// Writes the members for the header and the size of an entry, for what is wrong with it, and for what the bitmap says of it.
-fn put_detail(writer: &mut Writer, row: Row<'_>) -> Result<(), AllocError>
-    requires { row.size ≡ written row.image.now row.entry.now.header row.entry.now.state }
+fn put_detail(writer: &mut Writer, row: &Row<'_>) -> Result<(), AllocError>
+    requires { row.now.size ≡ written row.now.image.now row.now.entry.now.header row.now.entry.now.state }
     ensures before { writer.new.before ≡ writer.old.before }
-    ensures tokens { OnOk result (writer.new.tokens ≡ writer.old.tokens ++ detail_tokens row.image.now row.entry.now.header row.entry.now.state row.deleted) }
+    ensures tokens { OnOk result (writer.new.tokens ≡ writer.old.tokens ++ detail_tokens row.now.image.now row.now.entry.now.header row.now.entry.now.state row.now.deleted) }
 {
     put_number(writer, "header", Some(u64::from(row.entry.header)))?;
     put_number(writer, "size", row.size)?;

@@ -1,7 +1,7 @@
 //! The entries that would be deleted ones by a bitmap that cannot be trusted.
-ghost use Rattle.std.specs.Prelude.{◌≡◌, IfOk, MatchBool};
-ghost use Rattle.adf_block.specs.Image.{IsInside, block_count};
-ghost use Rattle.adf_rescue.specs.Untrusted.{AreMarked, IsFreeHeader, WouldBeDeleted, is_marked_free};
+ghost use Rattle.std.specs.Prelude.{◌≡◌, ◌<◌, IfOk, MatchBool};
+ghost use Rattle.adf_block.specs.Image.{IsInside, block_count, has_free_bit};
+ghost use Rattle.adf_rescue.specs.Untrusted.{AreMarked, IsFreeHeader, WouldBeDeleted, is_marked_free, page_for};
 
 use adf_block::Image;
 use adf_block::layout::{
@@ -48,12 +48,26 @@ fn is_marked_free(image: &Image, block: u32) -> bool
     requires inside { IsInside (block_count image.now) block }
     ensures { result ≡ is_marked_free image.now block }
 {
+    let page = page_for(image, block);
+    page >= BOOT_BLOCKS && page < image.blocks() && has_free_bit(image, page, block)
+}
+
+/// The bitmap block that the root names for a block.
+fn page_for(image: &Image, block: u32) -> u32
+    requires inside { IsInside (block_count image.now) block }
+    ensures { result ≡ page_for image.now block }
+{
     prove!(image.blocks() <= MOST_BLOCKS);
+    image.long(image.root(), FIRST_PAGE + (block - BOOT_BLOCKS) / PAGE_BITS)
+}
+
+/// Whether the bitmap block for a block marks it free.
+fn has_free_bit(image: &Image, page: u32, block: u32) -> bool
+    requires inside { IsInside (block_count image.now) block }
+    requires page { page ≡ page_for image.now block }
+    requires there { page < block_count image.now }
+    ensures { result ≡ has_free_bit image.now block }
+{
     let bit = block - BOOT_BLOCKS;
-    let page = image.long(image.root(), FIRST_PAGE + bit / PAGE_BITS);
-    page >= BOOT_BLOCKS
-        && page < image.blocks()
-        && image.long(page, FIRST_MAP_LONG + bit % PAGE_BITS / LONG_BITS)
-            & (1 << (bit % LONG_BITS))
-            != 0
+    image.long(page, FIRST_MAP_LONG + bit % PAGE_BITS / LONG_BITS) & (1 << (bit % LONG_BITS)) != 0
 }

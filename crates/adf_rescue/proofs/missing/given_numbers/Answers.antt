@@ -1,4 +1,4 @@
-use Rattle.adf_rescue.proofs.GivenNumbers.{AreGiven, given_on}
+use Rattle.adf_rescue.proofs.GivenNumbers.{given_on}
 use Rattle.adf_rescue.proofs.missing.given_numbers.Goals as goal
 
 pub loop-piece-init : goal.loop-piece-init
@@ -6,5 +6,5 @@ loop-piece-init c = record { size = c.in_ok-numbers.ensures.count; each = λ pla
 
 pub loop-piece-preserved : goal.loop-piece-preserved
 loop-piece-preserved c =
-    given_on c.args.pieces.now c.loop-piece.piece-index c.args.count c.loop-piece.numbers.items _ c.piece-item.result c.loop-piece.invariant c.loop-piece-test.true (sym c.piece-item.is)
+    given_on c.args.pieces.now c.loop-piece.piece-index c.args.count c.loop-piece.numbers.items c.note.new.numbers.items _ c.loop-piece.invariant c.loop-piece-test.true
     c.in_ok-note.ensures.count c.in_ok-note.ensures.here c.in_ok-note.ensures.others

@@ -7,7 +7,7 @@ use Rattle.adf_rescue.proofs.rescue_object.entry_object.Goals as goal
 
 pub returns : goal.returns
 returns c =
-    let row = c.args.row in
+    let row = c.args.row.now in
     c.into_inner.ensures.items
     ∙ ap₂ (λ (before : List ℕ) (tokens : List Token). before ++ print tokens) (c.in_ok-put_entry.ensures.before ∙ c.new-writer.ensures.before ∙ c.in_ok-comma.ensures)
     (c.in_ok-put_entry.ensures.tokens
