@@ -122,6 +122,23 @@ pub parts_more : (json : Bool) (rescue : Rescue) (entries : List Salvaged) (entr
 parts_more true rescue entries entry text told after part is next = printed_more rescue entries entry text told after part is next
 parts_more false rescue entries entry text told after part is line = one_line entries entry text part told line
 
+-- the object of an entry, by what is told of it
+object_is : (image other : List ℕ) (e entry : Salvaged) (here there : Bool) (runs others : List Run) (path : List ℕ) → image ≡ other → e ≡ entry → here ≡ there → runs ≡ others
+    → entry_tokens image e here runs (path ++ path_end e.state) ≡ entry_tokens other entry there others (path ++ path_end entry.state)
+object_is image other e entry here there runs others path alike same deleted missing =
+    ap (λ (x : List ℕ). entry_tokens x e here runs (path ++ path_end e.state)) alike ∙ ap (λ (x : Salvaged). entry_tokens other x here runs (path ++ path_end x.state)) same
+    ∙ ap (λ (x : Bool). entry_tokens other entry x runs (path ++ path_end entry.state)) deleted ∙ ap (λ (x : List Run). entry_tokens other entry there x (path ++ path_end entry.state)) missing
+
+-- an object is what is told of its entry
+pub object_told : (json : Bool) (rescue : Rescue) (after : Bool) (place : ℕ) (entry : Salvaged) (image : List ℕ) (e : Salvaged) (deleted : Bool) (runs : List Run) (path text : List ℕ) → json ≡ true
+    → is_told entry.state entry.found ≡ true → image ≡ rescue.salvage.image → e ≡ entry → deleted ≡ mark_at rescue.untrusted.items place → runs ≡ values_at rescue.missing.items place
+    → text ≡ print_from after (entry_tokens image e deleted runs (path ++ path_end e.state)) → IsPart json rescue after place entry text
+object_told json rescue after place entry image e deleted runs path text as_json told of_image same marked missing is =
+    let tokens = object_is image rescue.salvage.image e entry deleted (mark_at rescue.untrusted.items place) runs (values_at rescue.missing.items place) path of_image same marked missing in
+    let printed : text ≡ print_from after (object_tokens rescue place entry (path ++ path_end entry.state)) = is ∙ ap (print_from after) tokens in
+    subst (λ (form : Bool). IsPart form rescue after place entry text) (sym as_json)
+    (path, printed ∙ sym (ap (λ (b : Bool). if b then print_from after (object_tokens rescue place entry (path ++ path_end entry.state)) else []) told))
+
 -- something is told of each entry
 some_part : (json : Bool) (rescue : Rescue) (after : Bool) (place : ℕ) (e : Salvaged) → (part : List ℕ) × IsPart json rescue after place e part
 some_part true rescue after place e = (if is_told e.state e.found then print_from after (object_tokens rescue place e ([] ++ path_end e.state)) else [], ([], refl))

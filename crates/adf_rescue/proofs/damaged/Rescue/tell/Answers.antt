@@ -48,8 +48,8 @@ returns-in_err-text-clause-front g c =
 pub loop-place-init : goal.loop-place-init
 loop-place-init g c = record { begun = begun_with (AreParts c.args.json c.args.self.now []) (front_of c.args.json) _ _ (no_parts c.args.self.now c.args.json) c.in_ok-text.ensures; after = refl }
 
-pub part_at-requires-at : goal.part_at-requires-at
-part_at-requires-at g c =
+pub part_at-requires-clause-at : goal.part_at-requires-clause-at
+part_at-requires-clause-at g c =
     let entry = c.index-entries-place.result in
     ap (λ (es : List Salvaged). get_or es c.loop-place.place entry) (sym c.entries-entries.ensures) ∙ sym c.index-entries-place.is
 
