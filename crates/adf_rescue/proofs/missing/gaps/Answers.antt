@@ -1,5 +1,4 @@
-use Rattle.std.proofs.Common.{List, ◌++◌, min, ap, sym, subst, ◌∙◌, ◌+◌, ℕ}
-use Rattle.adf_rescue.specs.declared.missing.Run.{Run}
+use Rattle.std.proofs.Common.{◌++◌, min, ap, sym, subst, ◌∙◌, ◌+◌, ℕ}
 use Rattle.adf_rescue.specs.Missing.{AreRuns, IsLeftOut, run_to}
 use Rattle.adf_rescue.proofs.Runs.{AreRunsBelow, runs_all, runs_none, runs_on}
 use Rattle.adf_rescue.proofs.missing.gaps.Goals as goal

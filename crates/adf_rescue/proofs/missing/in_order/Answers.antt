@@ -1,4 +1,4 @@
-use Rattle.std.proofs.Common.{ℕ, Contains, get_or}
+use Rattle.std.proofs.Common.{Contains, get_or}
 use Rattle.std.proofs.lemmas.List.Elements.{All-contains_itself, Contains-get_or}
 use Rattle.std.proofs.lemmas.List.Filters.{All-dedup, dedup_is}
 use Rattle.std.proofs.lemmas.List.Kept.{Contains-dedup_nat}
