@@ -1,7 +1,7 @@
 -- Lost blocks of a volume by the owners of its blocks.
 use Rattle.adf_record.proofs.Common.{◌≡◌, ℕ, ◌<◌, List, Option, None, Some, refl, sym, ap, ◌∙◌, subst, arith, block_count, count_same, Stands, Tree, slice_get}
 use Rattle.std.proofs.lemmas.Option.{slice_get-get_or}
-use Rattle.std.proofs.Common.{get_or, length, tt}
+use Rattle.std.proofs.Common.{get_or, length}
 use Rattle.ados_census.specs.declared.class.BlockKind.{BlockKind}
 use Rattle.ados_model.specs.Stands.{Duty}
 use Rattle.ados_volume.specs.Owners.{AreOwners, Owns}
