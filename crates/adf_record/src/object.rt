@@ -92,5 +92,9 @@ fn put_lost(writer: &mut Writer, facts: &Facts) -> Result<(), AllocError>
 {
     put_number(writer, "lost", Some(facts.lost.blocks as u64))?;
     put_number(writer, "lost_files", Some(facts.lost.files as u64))?;
-    put_number(writer, "lost_directories", Some(facts.lost.directories as u64))
+    put_number(
+        writer,
+        "lost_directories",
+        Some(facts.lost.directories as u64),
+    )
 }
