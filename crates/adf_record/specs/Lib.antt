@@ -3,6 +3,7 @@ pub mod Members
 pub mod Bundle
 pub mod Second
 pub mod Counts
+pub mod Lost
 pub mod Facts
 pub mod Shown
 pub mod Object

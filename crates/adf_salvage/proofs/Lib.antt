@@ -17,3 +17,4 @@ pub mod Settling
 pub mod Holding
 pub mod Filled
 pub mod Ending
+mod LostByOwner

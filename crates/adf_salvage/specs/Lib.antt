@@ -6,4 +6,5 @@ pub mod Lost
 pub mod Salvaged
 pub mod Saved
 pub mod Undeleted
+pub mod LostBlocks
 pub mod steps

@@ -10,6 +10,7 @@ mod gathered;
 mod giving;
 mod holes;
 mod kind;
+mod laws;
 mod listing;
 mod loose;
 mod lost;
@@ -26,6 +27,7 @@ mod unreached;
 mod votes;
 
 pub use giving::Piece;
+pub use laws::lost_blocks_by_owner;
 pub use salvaged::{HeaderState, Salvaged, State};
 pub use salvaging::{salvage, salvage_beside};
 pub use saved::Salvage;
