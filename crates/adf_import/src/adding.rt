@@ -83,7 +83,14 @@ where
         noted: given.noted,
     };
     let content = given.content(volume);
-    put_item(alloc, volume, &item, content, adding.how, &mut adding.progress)?;
+    put_item(
+        alloc,
+        volume,
+        &item,
+        content,
+        adding.how,
+        &mut adding.progress,
+    )?;
     Ok(())
 }
 

@@ -17,10 +17,7 @@ pub(crate) struct Run {
 }
 
 /// For each entry of a salvage, the runs of its missing data blocks.
-pub(crate) fn missing_runs(
-    alloc: Global,
-    salvage: &Salvage,
-) -> Result<Vec<Vec<Run>>, AllocError>
+pub(crate) fn missing_runs(alloc: Global, salvage: &Salvage) -> Result<Vec<Vec<Run>>, AllocError>
     ensures { IfOk result (λ runs. AreMissing salvage.now runs.items) }
 {
     let entries = salvage.entries();
@@ -34,11 +31,7 @@ pub(crate) fn missing_runs(
 }
 
 /// For each of so many entries, the numbers of the data blocks that were given to it.
-fn given_numbers(
-    alloc: Global,
-    pieces: &[Piece],
-    count: usize,
-) -> Result<Vec<Vec<u32>>, AllocError>
+fn given_numbers(alloc: Global, pieces: &[Piece], count: usize) -> Result<Vec<Vec<u32>>, AllocError>
     ensures count { IfOk result (λ numbers. length numbers.items ≡ count) }
     ensures each { IfOk result (λ numbers. (place : ℕ) → place < count → values_at numbers.items place ≡ given_to pieces.now place) }
 {

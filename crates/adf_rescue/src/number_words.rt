@@ -32,11 +32,7 @@ pub(crate) fn listed(alloc: Global, words: &[String]) -> Result<String, AllocErr
     let mut text = String::new(alloc);
     for at in 0..words.len() {
         if at > 0 {
-            let between = if at + 1 == words.len() {
-                " and "
-            } else {
-                ", "
-            };
+            let between = if at + 1 == words.len() { " and " } else { ", " };
             text.push_str(between)?;
         }
         text.push_str(words[at].as_str())?;

@@ -88,12 +88,7 @@ fn put_entry(writer: &mut Writer, row: &Row<'_>, path: &str) -> Result<(), Alloc
 }
 
 /// Writes the members for the state of an entry with this path.
-fn put_state(
-    writer: &mut Writer,
-    found: bool,
-    state: State,
-    path: &str,
-) -> Result<(), AllocError>
+fn put_state(writer: &mut Writer, found: bool, state: State, path: &str) -> Result<(), AllocError>
     ensures before { writer.new.before ≡ writer.old.before }
     ensures tokens { OnOk result (writer.new.tokens ≡ writer.old.tokens ++ state_tokens found state path.now) }
 {
@@ -140,12 +135,7 @@ fn put_holes(
 }
 
 /// Writes the objects of runs of missing data blocks.
-fn put_runs(
-    writer: &mut Writer,
-    image: &Image,
-    header: u32,
-    runs: &[Run],
-) -> Result<(), AllocError>
+fn put_runs(writer: &mut Writer, image: &Image, header: u32, runs: &[Run]) -> Result<(), AllocError>
     ensures before { writer.new.before ≡ writer.old.before }
     ensures tokens { OnOk result (writer.new.tokens ≡ writer.old.tokens ++ flat_map (hole_tokens image.now header) runs.now) }
 {
