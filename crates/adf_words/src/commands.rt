@@ -1,5 +1,5 @@
 //! The commands of the table, for `clap` to parse and explain.
-use crate::table::{ArgumentRow, CommandRow, Kind, changing};
+use crate::table::{ArgumentRow, CHANGING, CommandRow, Kind};
 use clap::{Arg, Command};
 use std::alloc::{AllocError, Global};
 
@@ -20,7 +20,7 @@ pub(crate) fn command_of<'a>(alloc: Global, row: &CommandRow) -> Result<Command<
 
 /// Appends the arguments of each command that changes an image. The options among them stand below one heading.
 fn add_changing<'a>(alloc: Global, arguments: &mut Vec<Arg<'a>>) -> Result<(), AllocError> {
-    for row in changing() {
+    for row in CHANGING {
         arguments.reserve(1)?;
         let argument = argument_of(alloc, row)?;
         arguments.push_reserved(if row.kind.is_option() {

@@ -11,11 +11,7 @@ pub(crate) enum Group {
 }
 
 /// The groups, in the order of the help.
-pub(crate) fn groups() -> &'static [Group] {
-    GROUPS
-}
-
-const GROUPS: &[Group] = &[
+pub(crate) const GROUPS: [Group; 5] = [
     Group::Look,
     Group::TakeOut,
     Group::PutIn,

@@ -1,7 +1,7 @@
 //! The help of the program and of its commands, and its version.
 use crate::commands::command_of;
-use crate::group::{Group, groups};
-use crate::table::{CommandRow, commands};
+use crate::group::{GROUPS, Group};
+use crate::table::{COMMANDS, CommandRow};
 use crate::version::{PROOF, VERSION};
 use crate::wrapping::wrapped;
 use std::alloc::{AllocError, Global};
@@ -15,14 +15,14 @@ const END: &str =
 /// The help of the program, in lines of so many letters.
 pub(crate) fn program_help(alloc: Global, columns: usize) -> Result<String, AllocError> {
     let mut text = String::from_str(alloc, START)?;
-    for group in groups() {
-        push_group(&mut text, *group, commands())?;
+    for group in GROUPS {
+        push_group(&mut text, group, &COMMANDS)?;
     }
     text.push_str(END)?;
     wrapped(alloc, text.as_str(), columns)
 }
 
-/// Appends the commands of a group among these.
+/// Appends the commands of a group. The rows are an argument, because a function that names a table is slow to prove.
 fn push_group(text: &mut String, group: Group, rows: &[CommandRow]) -> Result<(), AllocError> {
     write!(text, "\n{}:\n", group.heading())?;
     for row in rows {

@@ -10,7 +10,7 @@ use crate::floppy::{DOUBLE_DENSITY, HIGH_DENSITY};
 use crate::help::{command_help, program_help, version_text};
 use crate::job::{ImageJob, Job, ServeJob};
 use crate::letters::letters_of;
-use crate::table::{CommandRow, commands};
+use crate::table::{COMMANDS, CommandRow};
 use crate::taking::{
     check_job, extract_job, info_job, list_job, map_job, show_job, undelete_job, where_job,
 };
@@ -59,7 +59,7 @@ fn asked_help(alloc: Global, name: Option<&String>, columns: usize) -> WordsFaul
     let Some(name) = name else {
         return WordsFault::usage(program_help(alloc, columns));
     };
-    match row_of(name.as_str(), commands()) {
+    match row_of(name.as_str(), &COMMANDS) {
         Some(row) => WordsFault::usage(command_help(alloc, &row, columns)),
         None => no_command(alloc, name.as_str()),
     }
@@ -72,7 +72,7 @@ fn named_job<'a>(
     words: &'a [String],
     columns: usize,
 ) -> Result<ImageJob<'a>, WordsFault> {
-    let Some(row) = row_of(name, commands()) else {
+    let Some(row) = row_of(name, &COMMANDS) else {
         return Err(no_command(alloc, name));
     };
     let command = command_of(alloc, &row)?;
@@ -88,7 +88,7 @@ fn named_job<'a>(
     }
 }
 
-/// The row with this name among these.
+/// The row with this name among these. They are an argument, because a function that names a table is slow to prove.
 fn row_of(name: &str, rows: &[CommandRow]) -> Option<CommandRow> {
     for row in rows {
         if row.name == name {

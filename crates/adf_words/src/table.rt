@@ -13,7 +13,7 @@ pub(crate) struct CommandRow {
     pub(crate) usage: &'static str,
     pub(crate) group: Group,
     pub(crate) effect: Effect,
-    /// Whether it changes an image. If so, it has the arguments of `changing` before its own.
+    /// Whether it changes an image. If so, it has the arguments `CHANGING` before its own.
     pub(crate) changes: bool,
     /// Its own arguments, in the order of the help.
     pub(crate) arguments: &'static [ArgumentRow],
@@ -169,8 +169,9 @@ const LETTERS: &str = "Letters of `hsparwed`, in lower or upper case. `rwed` and
 #[rattlefmt::skip]
 const PROTECT_EXAMPLES: &str = "Examples:\n  adf_serve protect work.adf c/dir rwed\n  adf_serve protect work.adf c/dir --p-rwed\n  adf_serve protect work.adf s/startup-sequence -s--rw-d\n  adf_serve protect work.adf s/startup-sequence +s\n  adf_serve protect work.adf s/startup-sequence -w\n  adf_serve protect work.adf c/dir =rwed";
 
+/// The arguments of each command that changes an image.
 #[rattlefmt::skip]
-const CHANGING: &[ArgumentRow] = &[
+pub(crate) const CHANGING: &[ArgumentRow] = &[
     ArgumentRow { name: "out", kind: Kind::Option { value: "FILE", default: None }, help: "Writes the changed image to this file, and leaves IMAGE as it is. `-` is standard output, but not for a command that prints something there" },
     ArgumentRow { name: "over", kind: FLAG, help: "Lets `--out` write over a file that is not an image" },
     ArgumentRow { name: "date", kind: WHEN, help: "The time stamp of the change, as `YYYY-MM-DD` or `YYYY-MM-DD HH:MM[:SS[.CC]]`, in place of the numbers. `now` is the clock (UTC)" },
@@ -181,18 +182,9 @@ const CHANGING: &[ArgumentRow] = &[
     IMAGE,
 ];
 
-/// All commands, in the order of the help. A function that names a long table is slow to prove, so only this one does.
-pub(crate) fn commands() -> &'static [CommandRow] {
-    COMMANDS
-}
-
-/// The arguments of each command that changes an image.
-pub(crate) fn changing() -> &'static [ArgumentRow] {
-    CHANGING
-}
-
+/// All commands, in the order of the help.
 #[rattlefmt::skip]
-const COMMANDS: &[CommandRow] = &[
+pub(crate) const COMMANDS: [CommandRow; 21] = [
     CommandRow {
         name: "blank",
         about: "Writes a blank image. Without options it has the Old File System and the size of a double-density floppy",

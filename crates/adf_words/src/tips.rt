@@ -5,7 +5,7 @@ ghost use Rattle.adf_words.specs.declared.group.Effect.TheVariants.{Removes};
 use crate::fault::WordsFault;
 use crate::group::Effect;
 use crate::other_words::{OTHER_WORDS, OtherWords};
-use crate::table::{CommandRow, commands};
+use crate::table::{COMMANDS, CommandRow};
 use std::alloc::{AllocError, Global};
 use strsim::osa_distance;
 
@@ -15,7 +15,7 @@ pub(crate) fn no_command(alloc: Global, word: &str) -> WordsFault {
     if let Some(tip) = tip_of(word, &OTHER_WORDS) {
         return WordsFault::wrong(alloc, format_args!("error: no command '{word}': {tip}"));
     }
-    match alike(alloc, word, commands()) {
+    match alike(alloc, word, &COMMANDS) {
         Ok(Some(row)) => WordsFault::wrong(
             alloc,
             format_args!("error: no command '{word}': did you mean `{}`?", row.name),
