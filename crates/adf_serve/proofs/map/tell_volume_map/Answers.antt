@@ -11,5 +11,5 @@ returns g c = λ image accepts marks.
     let volume = c.args.volume.now in
     let tree = accepted_tree image volume.was_validated volume.image accepts in
     report_told (IsMapReport c.args.job.now) IsBareMap c.deref.result.now _ _ c.tell.result
-    (subst (IsMapReport c.args.job.now true) (sym c.deref.ensures.value) (image, (c.args.unread.now, marks, (volume.was_validated, volume.image, tree.0, accepts, tree.1, c.in_ok-text.ensures tree.0 tree.1))))
+    (subst (IsMapReport c.args.job.now true) (sym c.deref.ensures.value) (image, c.args.unread.now, marks, (volume.was_validated, volume.image, tree.0, accepts, tree.1, c.in_ok-text.ensures tree.0 tree.1)))
     c.tell.ensures.ok c.tell.ensures.front c.tell.ensures.output
