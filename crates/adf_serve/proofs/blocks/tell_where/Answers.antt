@@ -18,11 +18,11 @@ returns-in_err-unread g c =
 pub returns-in-Ok : goal.returns-in-Ok
 returns-in-Ok g c =
     c.tell_owners.ensures c.in_ok-image.image c.in-Ok.ensures
-    (marks_of c.args.job.now.bad c.blocks.result (block_count c.in_ok-image.image) c.in_ok-unread.unread.items c.deref.result.now c.blocks.ensures.count c.deref.ensures.value c.in_ok-unread.ensures.unread)
+    (marks_of c.args.job.now.bad c.blocks-2.result (block_count c.in_ok-image.image) c.in_ok-unread.unread.items c.deref.result.now c.blocks-2.ensures.count c.deref.ensures.value c.in_ok-unread.ensures.unread)
 
 pub tell_placed-requires : goal.tell_placed-requires
 tell_placed-requires g c =
-    marks_of c.args.job.now.bad c.blocks.result (block_count c.in-Err.rejected.image) c.in_ok-unread.unread.items c.deref.result.now (c.blocks.ensures.count ∙ ap block_count (sym c.in-Err.ensures.0)) c.deref.ensures.value c.in_ok-unread.ensures.unread
+    marks_of c.args.job.now.bad c.blocks-2.result (block_count c.in-Err.rejected.image) c.in_ok-unread.unread.items c.deref.result.now (c.blocks-2.ensures.count ∙ ap block_count (sym c.in-Err.ensures.0)) c.deref.ensures.value c.in_ok-unread.ensures.unread
 
 pub returns-in_err-tell_placed : goal.returns-in_err-tell_placed
 returns-in_err-tell_placed g c =
