@@ -24,7 +24,7 @@ returns-in-Ok g c =
 
 pub tell_faulty_map-requires : goal.tell_faulty_map-requires
 tell_faulty_map-requires g c =
-    marks_of c.args.job.now.bad c.blocks-2.result (block_count c.in-Err.rejected.image) c.in_ok-unread.unread.items c.deref.result.now (c.blocks-2.ensures.count ∙ ap block_count (sym c.in-Err.ensures.0)) c.deref.ensures.value c.in_ok-unread.ensures.unread
+    marks_of c.args.job.now.bad c.blocks-2.result (block_count c.in-Err.rejected.image) c.in_ok-unread.unread.items c.deref-2.result.now (c.blocks-2.ensures.count ∙ ap block_count (sym c.in-Err.ensures.0)) c.deref-2.ensures.value c.in_ok-unread.ensures.unread
 
 pub returns-then-is_of_another_kind : goal.returns-then-is_of_another_kind
 returns-then-is_of_another_kind g c =

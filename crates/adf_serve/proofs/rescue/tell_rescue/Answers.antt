@@ -1,4 +1,4 @@
-use Rattle.std.proofs.Common.{ℕ, Bool, true, false, List, Option, inr}
+use Rattle.std.proofs.Common.{ℕ, Bool, List, Option, inr, subst}
 use Rattle.adf_io.specs.Prefix.{Writes, WritesFrontOf}
 use Rattle.adf_rescue.specs.Rescue.{AreRescued, AreSomeRescued, IsRescue}
 use Rattle.adf_rescue.specs.declared.damaged.Rescue.{Rescue}
@@ -19,10 +19,14 @@ module _ (job : SalvageJob) (holes : List Bool) (image : List ℕ) (rescue : Res
   told_front old new (text, (accepted, told), front) = (text, (accepted, reported accepted text told), front)
 
 pub returns-in-Ok-true : goal.returns-in-Ok-true
-returns-in-Ok-true g c = λ holes image are rescued. told_whole c.args.job.now holes image c.args.rescue.now are rescued true _ _ c.in-Ok-true.ensures.ok
+returns-in-Ok-true g c = λ holes image are rescued.
+    subst (λ (accepted : Bool). Writes (g.W.Write.contents c.args.writer.now) (g.W.Write.contents c.tell.new.writer) (IsRescueText c.args.job.now accepted)) c.in-Ok-true.field-0-is
+    (told_whole c.args.job.now holes image c.args.rescue.now are rescued c.in-Ok-true.field-0 _ _ c.in-Ok-true.ensures.ok)
 
 pub returns-in-Ok-false : goal.returns-in-Ok-false
-returns-in-Ok-false g c = λ holes image are rescued. told_whole c.args.job.now holes image c.args.rescue.now are rescued false _ _ c.in-Ok-false.ensures.ok
+returns-in-Ok-false g c = λ holes image are rescued.
+    subst (λ (accepted : Bool). Writes (g.W.Write.contents c.args.writer.now) (g.W.Write.contents c.tell.new.writer) (IsRescueText c.args.job.now accepted)) c.in-Ok-false.field-0-is
+    (told_whole c.args.job.now holes image c.args.rescue.now are rescued c.in-Ok-false.field-0 _ _ c.in-Ok-false.ensures.ok)
 
 pub returns-in-Err-Write : goal.returns-in-Err-Write
 returns-in-Err-Write g c = λ holes image are rescued. (tt, inr (told_front c.args.job.now holes image c.args.rescue.now are rescued _ _ c.in-Err-Write.ensures.front))
