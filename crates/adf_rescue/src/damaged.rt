@@ -48,7 +48,8 @@ pub enum RescueFault {
 }
 
 /// Writes everything in an image with these holes that can be trusted below a directory of the host. With `meta`, a note is written
-/// beside each entry. Nothing is written if the job only lists, or if an existing file or directory of the host is in the way.
+/// beside each entry. Nothing is written if the job only lists or makes a new image, or if an existing file or directory of the host is in
+/// the way.
 pub fn extract_damaged<R: PromptFiles>(
     rt: &R,
     alloc: Global,
@@ -65,7 +66,7 @@ where
         Ok(rescue) => rescue,
         Err(_) => return Err(RescueFault::Memory),
     };
-    if job.list {
+    if job.list || job.out.is_some() {
         return Ok(rescue);
     }
     let (out, salvage) = (&rescue.plan.out, &rescue.salvage);
@@ -103,6 +104,13 @@ impl Rescue {
     /// The kind of disk as which the image was read.
     pub fn format(&self) -> Format {
         self.salvage.image().format()
+    }
+
+    /// What is saved.
+    pub fn salvage(&self) -> &Salvage
+        ensures { result.now ≡ self.now.salvage }
+    {
+        &self.salvage
     }
 
     /// The number of entries.
@@ -186,7 +194,7 @@ impl Rescue {
     }
 
     /// The host path of the entry at a position. If it has more than 4,095 bytes, the entry is told by its header's block.
-    fn path_at(&self, alloc: Global, place: usize) -> Result<String, AllocError> {
+    pub fn path_at(&self, alloc: Global, place: usize) -> Result<String, AllocError> {
         if let Some(path) = self.plan.path_of(alloc, place)? {
             return Ok(path);
         }

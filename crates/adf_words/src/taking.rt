@@ -217,6 +217,8 @@ pub(crate) fn extract_job<'a>(arguments: &Arguments<'a, '_>) -> Result<ImageJob<
             to,
             meta,
             bad: arguments.bad_list(),
+            out: arguments.out_file()?,
+            over: arguments.flag("over"),
         }));
     }
     Ok(ImageJob::Extract(ExtractJob {
