@@ -809,6 +809,13 @@ def rest_text(blocks: List[int]) -> bytes:
     return HEADING + ranges_of(set(blocks)) if blocks else b""
 
 
+def runs_of(blocks: List[int]) -> List[Tuple[int, int]]:
+    """The first and the last block of each run of consecutive ones."""
+    all_blocks = set(blocks)
+    firsts, lasts = (sorted(it for it in all_blocks if it + step not in all_blocks) for step in (-1, 1))
+    return list(zip(firsts, lasts))
+
+
 def rest_told(texts: bytes) -> bytes:
     """The end of standard error after `extract --damaged`, from its blocks that belong to nothing on."""
     return b"".join(texts.partition(HEADING)[1:])

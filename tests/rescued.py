@@ -276,7 +276,7 @@ def targets(room: Room) -> None:
     room.write("bad.adf", bad)
     room.report.check("a directory that is missing", room.run("extract", "--damaged", "--out", "none/new.adf", "bad.adf"), 2, b"", "cannot write")
     room.report.same("nothing else is written", sorted(os.listdir(".")), sorted(set(os.listdir(".")) - {"none"}))
-    for words in (["--out", "-"], ["--out", "x", "--to", "y"], ["--out", "x", "--meta"], ["--out", "x", "--list"], ["--over"]):
+    for words in (["--out", "-"], ["--out", "x", "--to", "y"], ["--out", "x", "--meta"], ["--out", "x", "--unaccounted"], ["--out", "x", "--list"], ["--over"]):
         room.report.check(f"not {' '.join(words)}", room.run("extract", "--damaged", *words, "bad.adf"), 1, b"", "error: ")
     room.report.check("not without --damaged", room.run("extract", "--out", "x", "bad.adf"), 1, b"", "error: ")
     ran = saved(room, "bad.adf", 3, "--json")

@@ -7,6 +7,7 @@ ghost use Rattle.adf_salvage.specs.Saved.{IsAt};
 ghost use Rattle.adf_rescue.specs.Missing.{values_at};
 ghost use Rattle.adf_rescue.specs.Rescue.{AreRescued, AreSomeRescued, IsRescue, IsRescueFault, count_line, rescue_line};
 ghost use Rattle.adf_rescue.specs.RescueObject.{is_summed, is_told, written};
+ghost use Rattle.adf_rescue.specs.Unaccounted.{WritesRuns};
 ghost use Rattle.adf_text.specs.Ranges.{ranges};
 ghost use Rattle.adf_rescue.specs.steps.Reporting.{IsPart, rest_of};
 
@@ -15,6 +16,7 @@ use crate::missing::{Run, missing_runs};
 use crate::missing_text::missing_text;
 use crate::plan::Plan;
 use crate::rescue_object::{Row, entry_object, front_text, is_told, rest_object};
+use crate::unaccounted::RunFiles;
 use crate::untrusted::untrusted_marks;
 use adf_account::unaccounted_blocks;
 use adf_block::{Format, Image};
@@ -38,6 +40,8 @@ pub struct Rescue {
     missing: Vec<Vec<Run>>,
     /// For each entry, whether it would be a deleted one if the bitmap could be trusted.
     untrusted: Vec<bool>,
+    /// The runs of the unaccounted blocks, as far as they are written as files.
+    files: RunFiles,
 }
 
 /// Why a damaged image is neither told nor written.
@@ -48,8 +52,8 @@ pub enum RescueFault {
 }
 
 /// Writes everything in an image with these holes that can be trusted below a directory of the host. With `meta`, a note is written
-/// beside each entry. Nothing is written if the job only lists or makes a new image, or if an existing file or directory of the host is in
-/// the way.
+/// beside each entry, and with `unaccounted` a file for each run of used blocks that belong to nothing of it. Nothing is written if the job
+/// only lists or makes a new image, or if an existing file or directory of the host is in the way.
 pub fn extract_damaged<R: PromptFiles>(
     rt: &R,
     alloc: Global,
@@ -60,9 +64,10 @@ pub fn extract_damaged<R: PromptFiles>(
 where
     R::File: OwnedFile,
     ensures told { IfOk result (IsRescue holes.items image) }
+    ensures runs { IfOk result (WritesRuns job.now.unaccounted) }
     ensures fault { IfErr result (IsRescueFault job.now.list) }
 {
-    let rescue = match rescue_of(alloc, image, holes, job.meta) {
+    let rescue = match rescue_of(alloc, image, holes, job) {
         Ok(rescue) => rescue,
         Err(_) => return Err(RescueFault::Memory),
     };
@@ -70,7 +75,7 @@ where
         return Ok(rescue);
     }
     let (out, salvage) = (&rescue.plan.out, &rescue.salvage);
-    match out.write(rt, alloc, salvage, job.to, false) {
+    match rescue.files.write(rt, alloc, out, salvage, job.to) {
         Ok(()) => Ok(rescue),
         Err(fault) => Err(RescueFault::Host(fault)),
     }
@@ -82,13 +87,16 @@ fn rescue_of(
     alloc: Global,
     image: Image,
     holes: Vec<bool>,
-    meta: bool,
+    job: &SalvageJob<'_>,
 ) -> Result<Rescue, AllocError>
-    ensures { IfOk result (IsRescue holes.items image) }
+    ensures told { IfOk result (IsRescue holes.items image) }
+    ensures runs { IfOk result (WritesRuns job.now.unaccounted) }
 {
     let salvage = salvage_beside(alloc, image, holes)?;
-    let plan = Plan::of(alloc, &salvage, meta)?;
+    let mut plan = Plan::of(alloc, &salvage, job.meta)?;
     let unaccounted = unaccounted_blocks(alloc, &salvage)?;
+    let files = RunFiles::of(alloc, &mut plan, &unaccounted, job.unaccounted)?;
+    plan.out.has_own_paths();
     let missing = missing_runs(alloc, &salvage)?;
     let untrusted = untrusted_marks(alloc, &salvage)?;
     Ok(Rescue {
@@ -97,6 +105,7 @@ fn rescue_of(
         unaccounted,
         missing,
         untrusted,
+        files,
     })
 }
 

@@ -118,6 +118,7 @@ IsExtractOf found (Salvage job) =
     × (first_value found (codes "bad") ≡ option_map (λ word. word.now) job.bad)
     × (first_value found (codes "out") ≡ option_map (λ word. word.now) job.out) × (first_value found (codes "out") ≢ Some (codes "-"))
     × ((given : Bool) → IsFlag found (codes "over") given → job.over ≡ given)
+    × ((given : Bool) → IsFlag found (codes "unaccounted") given → job.unaccounted ≡ given)
 IsExtractOf found (Extract job) =
     IsFileOf found job.image × (first_value found (codes "bundle") ≡ None) × IsLeftOut found (codes "damaged") × IsInto found job.to.now
     × (map (λ word. word.now) job.paths.items ≡ all_values found (codes "PATH"))

@@ -133,4 +133,6 @@ pub struct SalvageJob<'a> {
     pub out: Option<&'a str>,
     /// Whether `out` is also written if it is a file that is no image.
     pub over: bool,
+    /// Whether the used blocks that belong to nothing are written too.
+    pub unaccounted: bool,
 }
