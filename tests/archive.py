@@ -407,7 +407,7 @@ class Suspect(NamedTuple):
 
     def member(self) -> Dict[str, object]:
         path = self.path.decode("latin-1") if len(self.path) <= LONGEST_TOLD else None
-        return {"block": self.block, "header": self.header, "data": self.place, "path": path}
+        return {"block": self.block, "header": self.header, "data": self.place, "path": path, "owner": "data", "number": self.place}
 
 
 def cover(image: Image, block: int, text: bytes, first: int = 0) -> None:
@@ -467,6 +467,7 @@ def filler_blocks(room: Room) -> None:
         objects = [json.loads(it) for it in room.run("check", "--filler", "--json", *paths[:2]).output.splitlines()]
         room.report.same(f"filler {said}: objects", [it["suspects"] for it in objects], [[it.member() for it in sorted(told)], []])
         room.report.same(f"filler {said}: the fields of an object", list(objects[0]), [*FIELDS, "suspects"])
+        listed_too(room, said, clean, blocks, header)
         image.change(ROOT, 78, 0)
         check("a bitmap that is made anew", image, told, first="ok validated\n")
         image.put(header, 5, 0)
@@ -475,6 +476,23 @@ def filler_blocks(room: Room) -> None:
         for words in every:
             without = room.run("check", *words, "filled.adf")
             room.report.same(f"filler {said}: a refused image {' '.join(words)}", room.run("check", "--filler", *words, "filled.adf"), without)
+
+
+def listed_too(room: Room, said: str, clean: Image, blocks: Sequence[int], header: int) -> None:
+    """A list names a block that holds a filler, and others: each has one line, with both options. The bitmap is blocks too."""
+    image = Volume(bytes(clean.data))
+    for place in (1, 2):
+        cover(image, blocks[place], FORMATTED)
+    room.write("listed.adf", bytes(image.data))
+    free = next(it for it in range(2, clean.blocks) if not any(clean.data[BLOCK * it : BLOCK * (it + 1)]))
+    room.write("listed.txt", "".join(f"{it}\n" for it in (blocks[3], blocks[2], header, blocks[2], free, 0, ROOT)).encode())
+    data = [Suspect(blocks[place], header, place, b"Docs/long") for place in (1, 2, 3)]
+    others = {0: "boot block", ROOT: "root", header: "header of Docs/long"}
+    lines = {**{it.block: it.line() for it in data}, **{block: f"suspect block {block}, {words}\n" for block, words in others.items()}}
+    both = "ok\n" + "".join(lines[it] for it in sorted(lines))
+    room.report.check(f"filler {said}: and a list", room.run("check", "--filler", "--bad", "listed.txt", "listed.adf"), 0, both.encode())
+    alone = "ok\n" + "".join(lines[it] for it in sorted(lines) if it != blocks[1])
+    room.report.check(f"filler {said}: a list alone", room.run("check", "--bad", "listed.txt", "listed.adf"), 0, alone.encode())
 
 
 def long_paths_of_fillers(room: Room) -> None:

@@ -2160,6 +2160,13 @@ def bad_blocks(tried: Commands) -> None:
         tried.rows(lacking(words.format("wrong.txt"), words.format("wrong.txt"), "'wrong.txt', line 4: the number of one of the image's 1,760 blocks is expected"))
         tried.rows(lacking(words.format("missing.txt"), words.format("missing.txt"), "cannot read 'missing.txt'"))
     tried.rows(row("where with a list of bad blocks", "where --bad good.txt bad.adf 3 880", 0, "3  cyl 0 head 0 sector 3  free\n3  unread\n880  cyl 40 head 0 sector 0  root\n"))
+    tried.rows(
+        lacking("check --bad", "check --bad wrong.txt bad.adf", "'bad.adf' is not checked: line 4 of the list of bad blocks names none of its 1,760 blocks"),
+        lacking("check --bad of no file", "check --bad missing.txt bad.adf", "cannot read 'missing.txt'"),
+        row("check with a list of free blocks", "check --bad good.txt bad.adf", 0, "ok\n"),
+        wrong("check --bad of two images", "check --bad good.txt bad.adf bad.adf", "'--bad <FILE>'", "only one FILE"),
+        wrong("check --bad of a directory", "check --bad good.txt .", "--bad lists the blocks of one image, and FILE is a directory"),
+    )
     tried.rows(wrong("--bad without --damaged", "extract --bad good.txt bad.adf", "--damaged", "Usage"))
 
 

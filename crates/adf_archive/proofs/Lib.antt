@@ -4,6 +4,7 @@ pub mod Chunks
 pub mod Climbing
 pub mod Gathered
 pub mod Listed
+pub mod Marking
 pub mod Repeating
 pub mod Shown
 pub mod Sizes

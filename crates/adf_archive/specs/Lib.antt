@@ -3,6 +3,7 @@ pub mod Words
 pub mod Endings
 pub mod Fillers
 pub mod Paths
+pub mod Owned
 pub mod Suspects
 pub mod Likeness
 pub mod Report

@@ -1,5 +1,5 @@
 //! The check of an archive.
-ghost use Rattle.std.specs.Prelude.{◌≡◌, ◌<◌, ◌≤◌, ◌+◌, ◌^◌, ℕ, true, false, IfOk, IfErr, length, map};
+ghost use Rattle.std.specs.Prelude.{◌≡◌, ◌<◌, ◌≤◌, ◌+◌, ◌^◌, ℕ, true, false, IfOk, IfErr, IsFalse, IsTrue, is_some, length, map, option_map};
 ghost use Rattle.std.specs.List.{range_with_len};
 ghost use Rattle.std.specs.String.{string_bytes};
 ghost use Rattle.adf_archive.specs.Archive.{IsDetailOf, LeavesOff, TellsAll, TellsArchive};
@@ -30,11 +30,13 @@ use std::thread::Threads;
 /// refused image in words, or with `--all` each fault, and the next command for it; a line for each image that another
 /// command or a mount has locked, for each that is not checked, for each compressed file of a directory and for each
 /// argument's directory without an image; and of several images how many are accepted, for what the others are refused,
-/// and, with `terminal`, the progress. Where there is no image, the check fails.
+/// and, with `terminal`, the progress. Where there is no image, the check fails. `list` has the bytes of the list of blocks that
+/// could not be read; then there may be only one image, and no directory.
 pub fn check_archive<R, W, F>(
     rt: &R,
     alloc: Global,
     job: &CheckJob<'_>,
+    list: Option<&[u8]>,
     terminal: bool,
     writer: &mut W,
     faults: &mut F,
@@ -43,11 +45,14 @@ where
     R: Files<File = File> + PromptFiles + ReadImages + Clock + Threads + Sync,
     W: Write,
     F: Write,
-    ensures { TellsArchive job.now (W.contents writer.old) (W.contents writer.new) result }
+    ensures { TellsArchive job.now (option_map (λ list. list.now) list.entry) (W.contents writer.old) (W.contents writer.new) result }
 {
     let found = image_files(rt, alloc, &job.files)?;
     let form = form_of(job, &found);
-    let detail = detail_of(job);
+    if is_list_of_many(list, form) {
+        return Err(ArchiveFault::OneImage);
+    }
+    let detail = detail_of(job, list);
     let paths = found.paths.as_slice();
     tell_remarks(&found.remarks, faults);
     tell_each_held(rt, alloc, &found, faults);
@@ -58,7 +63,7 @@ where
         jobs_for(rt, job.jobs),
         &|place: usize| -> ImageReport
             requires { place < length paths.now }
-            ensures { IsReportOfSome detail result }
+            ensures { IsReportOfSome detail.entry result }
         {
             report_file(
                 rt,
@@ -92,14 +97,23 @@ fn form_of(job: &CheckJob<'_>, found: &FoundImages) -> Form
     }
 }
 
-/// The parts of each report.
-fn detail_of(job: &CheckJob<'_>) -> Detail
-    ensures { IsDetailOf job.now result }
+/// Whether there is a list of the blocks of one image, and more images may be reported.
+fn is_list_of_many(list: Option<&[u8]>, form: Form) -> bool
+    ensures many { IsTrue result → is_some list.entry ≡ true }
+    ensures alone { IsFalse result → is_some list.entry ≡ true → form.paths ≡ false }
+{
+    list.is_some() && form.paths
+}
+
+/// The parts of each report, beside a list of blocks that could not be read.
+fn detail_of<'b>(job: &CheckJob<'_>, list: Option<&'b [u8]>) -> Detail<'b>
+    ensures { IsDetailOf job.now (option_map (λ list. list.now) list.entry) result }
 {
     Detail {
         all: job.all,
         contents: job.json,
         filler: job.filler,
+        bad: list,
     }
 }
 

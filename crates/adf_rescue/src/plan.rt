@@ -140,11 +140,7 @@ impl Plan {
     }
 
     /// The item of the directory for recovered entries.
-    pub(crate) fn lost_and_found(
-        &mut self,
-        alloc: Global,
-        date: Date3,
-    ) -> Result<usize, AllocError>
+    pub(crate) fn lost_and_found(&mut self, alloc: Global, date: Date3) -> Result<usize, AllocError>
         requires { AreApart self.old.out }
         ensures apart { OnOk result (AreApart self.new.out) }
         ensures files { OnOk result (flat_map file_in self.new.out.sources.items ≡ flat_map file_in self.old.out.sources.items) }

@@ -35,6 +35,7 @@ mod blank;
 mod boot;
 mod bundle;
 mod changing;
+mod checks;
 mod validate;
 
 // Scripts over an image.

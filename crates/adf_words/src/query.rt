@@ -18,6 +18,8 @@ pub struct CheckJob<'a> {
     pub json: bool,
     /// Whether data blocks that hold nothing but the filler of a program are reported.
     pub filler: bool,
+    /// A list of blocks that could not be read, for a single image.
+    pub bad: Option<&'a str>,
     /// The number of images checked in parallel; by default the number of processors.
     pub jobs: Option<u32>,
     ghost some: { 0 < length files.items },

@@ -1,5 +1,5 @@
 //! From the arguments of a command that reads an image to its job.
-ghost use Rattle.std.specs.Prelude.{◌≡◌, IfErr, IfOk, OnOk};
+ghost use Rattle.std.specs.Prelude.{◌≡◌, ◌≤◌, IfErr, IfOk, IsTrue, OnOk, is_some, length};
 ghost use Rattle.clap.specs.Matches.{found_of};
 ghost use Rattle.adf_words.specs.Asked.{AreReadOnce, IsExtractOf, IsInfoOf, IsMapOf, IsShowOf, IsUndeleteOf, IsWhereOf};
 ghost use Rattle.adf_words.specs.Lists.{form_of, IsFormOf, IsOrderOf, TellsNoOrder, order_word, usual_order};
@@ -24,14 +24,34 @@ pub(crate) fn check_job<'a>(arguments: &Arguments<'a, '_>) -> Result<ImageJob<'a
     let blocks = arguments.first_blocks()?;
     let files = arguments.some_words("FILE")?;
     refuse_second_input(arguments.alloc, files)?;
+    let bad = arguments.bad_list();
+    refuse_list_of_many(arguments.alloc, bad, files)?;
     Ok(ImageJob::Check(CheckJob {
         files: Vec::from_slice(arguments.alloc, files)?,
         blocks,
         all: arguments.flag("all"),
         json: arguments.flag("json"),
         filler: arguments.flag("filler"),
+        bad,
         jobs,
     }))
+}
+
+/// Refuses a list of bad blocks for more than one file: it is that of one image.
+fn refuse_list_of_many(
+    alloc: Global,
+    bad: Option<&str>,
+    files: &[&str],
+) -> Result<(), WordsFault>
+    ensures { OnOk result (IsTrue (is_some bad.entry) → length files.now ≤ 1) }
+{
+    if bad.is_some() && files.len() > 1 {
+        return Err(WordsFault::wrong(
+            alloc,
+            format_args!("error: '--bad <FILE>' lists the blocks of one image, so only one FILE is expected"),
+        ));
+    }
+    Ok(())
 }
 
 /// Refuses files of which more than one is standard input, since that can be read only once.

@@ -6,14 +6,18 @@ pub returns-clause-tokens : goal.returns-clause-tokens
 returns-clause-tokens c =
     on_ok_weaker c.end_object.result
     (λ last. last ∙ simp (
+      c.in_ok-put_number-4.ensures.tokens,
+      c.in_ok-put_text-2.ensures.tokens,
       c.in_ok-put_text.ensures.tokens,
       c.in_ok-put_number-3.ensures.tokens,
       c.in_ok-put_number-2.ensures.tokens,
       c.in_ok-put_number.ensures.tokens,
       c.in_ok-begin_object.ensures.ok,
       c.from.ensures,
-      c.from-2.ensures,
-      c.from-3.ensures,
+      c.header_of.ensures,
+      c.data_place.ensures,
+      c.owner_word.ensures,
+      c.position_of.ensures,
       c.as_deref.ensures.value,
       append_assoc,
     ))
