@@ -26,17 +26,25 @@ use std::rt::{Clock, Files};
 use std::thread;
 use std::thread::Threads;
 
-/// Checks the images that the arguments of a command name, and reports on each in order. `faults` gets the first fault of each
-/// refused image in words, or with `--all` each fault, and the next command for it; a line for each image that another
-/// command or a mount has locked, for each that is not checked, for each compressed file of a directory and for each
+/// What is checked: the files and directories that the arguments of a command name, and then those of the names in its list.
+#[derive(Clone, Copy)]
+pub struct Asked<'a, 'b> {
+    pub job: &'b CheckJob<'a>,
+    pub names: &'b [&'b [u8]],
+    /// The bytes of the list of blocks that could not be read.
+    pub bad: Option<&'b [u8]>,
+}
+
+/// Checks the images that the arguments of a command and the names in its list name, and reports on each in order. `faults` gets
+/// the first fault of each refused image in words, or with `--all` each fault, and the next command for it; a line for each image
+/// that another command or a mount has locked, for each that is not checked, for each compressed file of a directory and for each
 /// argument's directory without an image; and of several images how many are accepted, for what the others are refused,
-/// and, with `terminal`, the progress. Where there is no image, the check fails. `list` has the bytes of the list of blocks that
-/// could not be read; then there may be only one image, and no directory.
+/// and, with `terminal`, the progress. Where there is no image, the check fails. With a list of blocks that could not be read there
+/// may be only one image, no directory, and no list of names.
 pub fn check_archive<R, W, F>(
     rt: &R,
     alloc: Global,
-    job: &CheckJob<'_>,
-    list: Option<&[u8]>,
+    asked: Asked<'_, '_>,
     terminal: bool,
     writer: &mut W,
     faults: &mut F,
@@ -45,14 +53,15 @@ where
     R: Files<File = File> + PromptFiles + ReadImages + Clock + Threads + Sync,
     W: Write,
     F: Write,
-    ensures { TellsArchive job.now (option_map (λ list. list.now) list.entry) (W.contents writer.old) (W.contents writer.new) result }
+    ensures { TellsArchive asked.entry.job.now (map (λ name. name.now) asked.entry.names.now) (option_map (λ list. list.now) asked.entry.bad) (W.contents writer.old) (W.contents writer.new) result }
 {
-    let found = image_files(rt, alloc, &job.files)?;
-    let form = form_of(job, &found);
-    if is_list_of_many(list, form) {
+    let job = asked.job;
+    let found = image_files(rt, alloc, &job.files, asked.names)?;
+    let form = form_of(asked, &found);
+    if is_list_of_many(asked.bad, form) {
         return Err(ArchiveFault::OneImage);
     }
-    let detail = detail_of(job, list);
+    let detail = detail_of(job, asked.bad);
     let paths = found.paths.as_slice();
     tell_remarks(&found.remarks, faults);
     tell_each_held(rt, alloc, &found, faults);
@@ -85,15 +94,17 @@ where
     tally.end(paths.len())
 }
 
-/// The form of the reports: with paths, unless the only argument names a file.
-fn form_of(job: &CheckJob<'_>, found: &FoundImages) -> Form
-    ensures json { result.json ≡ job.now.json }
-    ensures alone { result.paths ≡ false → (found.now.in_directory ≡ false) × (length job.now.files.items ≤ 1) }
-    ensures several { 1 < length job.now.files.items → result.paths ≡ true }
+/// The form of the reports: with paths, unless nothing but an argument that is a file was asked for.
+fn form_of(asked: Asked<'_, '_>, found: &FoundImages) -> Form
+    ensures json { result.json ≡ asked.entry.job.now.json }
+    ensures alone { result.paths ≡ false →
+        (found.now.in_directory ≡ false) × (length asked.entry.job.now.files.items ≤ 1) × (length asked.entry.names.now ≡ 0) }
+    ensures several { 1 < length asked.entry.job.now.files.items → result.paths ≡ true }
+    ensures named { 0 < length asked.entry.names.now → result.paths ≡ true }
 {
     Form {
-        json: job.json,
-        paths: found.in_directory || job.files.len() > 1,
+        json: asked.job.json,
+        paths: found.in_directory || asked.job.files.len() > 1 || !asked.names.is_empty(),
     }
 }
 

@@ -1,7 +1,7 @@
 -- The output for an image, whole or in part.
-use Rattle.std.proofs.Common.{◌≡◌, ◌≢◌, ◌↔◌, ℕ, Bor, ◌⊎◌, IsTrue, IsFalse, codes, inl, inr, Bool, true, false, List, [], ◌++◌, Option, Some, None, MatchOption, option_map, is_some, Ok, Err, IfErr, OnErr, OnOk, IsErrAnd, refl, sym, ap, ap₂, ◌∙◌, subst}
+use Rattle.std.proofs.Common.{◌≡◌, ◌≢◌, ◌↔◌, ℕ, Bor, ◌⊎◌, IsTrue, IsFalse, codes, inl, inr, Bool, true, false, List, [], ◌++◌, Option, Some, None, MatchOption, option_map, Ok, Err, IfErr, OnErr, OnOk, IsErrAnd, refl, sym, ap, ap₂, ◌∙◌, subst}
 use Rattle.std.specs.Io.KnownBytes.{Appends, Keeps}
-use Rattle.std.proofs.KnownBytes.{Appends-nil, Keeps-refl}
+use Rattle.std.proofs.KnownBytes.{Keeps-refl}
 use Rattle.ados_model.specs.Accepted.{Accepts, HandsBack, IsRefusal}
 use Rattle.ados_model.specs.Faults.{Shows}
 use Rattle.ados_model.specs.Stands.{Stands}
@@ -24,13 +24,12 @@ use Rattle.adf_serve.specs.declared.refusal.Refusal.{Refusal}
 use Rattle.adf_serve.specs.declared.refusal.DosRefusal.{DosRefusal}
 use Rattle.adf_serve.specs.Asked.{AnswersDisk}
 use Rattle.adf_serve.specs.Texts.{AreEntryBlocks, BeginsJobText, BeginsListOf, BeginsListText, IsJobText, IsListed, IsListOf, IsListText, shown_form, IsLook, IsLookText, IsInfoText, IsPrintText}
-use Rattle.adf_serve.specs.Faults.{IsBlankFault, IsNoImage, IsNoImageRefusal, IsNoRefusal, IsRefusedFor, IsToldAs, IsToldOut, IsUnreadFile}
+use Rattle.adf_serve.specs.Faults.{IsBlankFault, IsNoImage, IsNoImageRefusal, IsNoRefusal, IsRefusedFor, IsToldAs, IsToldOut}
 use Rattle.adf_serve.specs.Commands.{Does, DoesJob, Ending, EndsJob, EndsOff, LeavesOff, Prints, prints, prints_json, Tells, TellsFault, TellsMade, TellsJob, TellsOf, TellsSome}
 use Rattle.adf_serve.specs.Commands.Prints.{OnlyFaults, OfMade, OfBlocks, OfBytes, OfDeleted, OfImages, OfMap, OfRescue, Unsaid}
 use Rattle.adf_serve.specs.NewImages.{IsMade, Made, PutsImage, PutsMade, WritesImage, WritesMade}
 use Rattle.std.proofs.lemmas.List.{append-nil}
 use Rattle.adf_archive.specs.Archive.{told_in}
-use Rattle.adf_archive.proofs.Whole.{nothing}
 use Rattle.adf_archive.specs.declared.fault.ArchiveFault.{ArchiveFault}
 use Rattle.adf_archive.specs.declared.fault.ArchiveFault.TheVariants as archive
 use Rattle.adf_archive.specs.Words.{kind_word}
@@ -49,7 +48,7 @@ use Rattle.adf_where.specs.declared.where_fault.WhereFault.{WhereFault}
 use Rattle.adf_where.specs.declared.where_fault.WhereFault.TheVariants as places
 use Rattle.adf_words.specs.declared.block_word.BlockWord.{BlockWord}
 use Rattle.adf_export.specs.Words.{LeadsTo}
-use Rattle.adf_serve.specs.Archives.{EndsArchive, EndsListed, HasList, IsToldArchive, IsUnlisted}
+use Rattle.adf_serve.specs.Archives.{EndsArchive, IsListFault, IsToldArchive, IsUnlisted, TellsListed}
 use Rattle.adf_serve.specs.Deleted.{IsDeletedText, IsUndeleteEnd}
 use Rattle.adf_serve.specs.Mapped.{IsBareMap, IsKindRefusal, IsMapReport}
 use Rattle.adf_where.specs.FaultyMap.{IsFaultyMap}
@@ -290,54 +289,60 @@ some_told f o x told e is = sym e ∙ ap (option_map f) is
 told_front : (old new : Option (List ℕ)) (text : List ℕ) → Appends old new text → WritesFront old new text
 told_front old new text told = (text, told, ([], sym (append-nil text)))
 
--- nothing is a prefix of any text
-kept_front : (old new : Option (List ℕ)) (text : List ℕ) → Keeps old new → WritesFront old new text
-kept_front old new text keeps = ([], kept_appends old new new [] keeps (Appends-nil new), (text, refl))
-
 -- the fault of a check of images, as that of the command
-pub archive_ends : (job : CheckJob) (old new : Option (List ℕ)) (fault : ArchiveFault) (told : CommandFault) → EndsListed job old new (Err fault) → IsToldArchive fault told → EndsArchive job old new (Err told)
+pub archive_ends : (job : CheckJob) (old new : Option (List ℕ)) (fault : ArchiveFault) (told : CommandFault) → TellsListed job old new (Err fault) → IsToldArchive fault told → EndsArchive job old new (Err told)
 archive_ends job old new archive.Refused told h same = subst (λ (f : CommandFault). EndsArchive job old new (Err f)) (sym same) h
 archive_ends job old new archive.NotChecked told h same = subst (λ (f : CommandFault). EndsArchive job old new (Err f)) (sym same) h
 archive_ends job old new archive.OneImage told h same = subst (λ (f : CommandFault). EndsArchive job old new (Err f)) (sym same) h
 archive_ends job old new archive.Output told h same = subst (λ (f : CommandFault). EndsArchive job old new (Err f)) (sym same) h
-archive_ends job old new archive.Memory told h same = subst (λ (f : CommandFault). EndsArchive job old new (Err f)) (sym same) h
+archive_ends job old new archive.Memory told h same = subst (λ (f : CommandFault). EndsArchive job old new (Err f)) (sym same) (inr h)
 
--- what is known of a list that was not read, and that there is one
+-- a list without names
+list_ends : (job : CheckJob) (w : Option (List ℕ)) (fault : CommandFault) → IsListFault job.from fault → EndsArchive job w w (Err fault)
+list_ends job w Memory is = inl (Keeps-refl w)
+list_ends job w ImagesRefused (list, given, none) = absurd none
+list_ends job w NotChecked (list, given, none) = absurd none
+list_ends job w OneImage (list, given, none) = absurd none
+list_ends job w Output (list, given, none) = absurd none
+list_ends job w (Refused refusal) (list, given, none) = absurd none
+list_ends job w (Dos refusal) (list, given, none) = absurd none
+list_ends job w fault is = (inl is, Keeps-refl w)
+
+pub list_failed : (job : CheckJob) (w : Option (List ℕ)) (fault : CommandFault) (done : Ending) → IsListFault job.from fault → IsErrAnd done (λ told. told ≡ fault) → EndsArchive job w w done
+list_failed job w fault (Ok x) is same = absurd same
+list_failed job w fault (Err told) is same = list_ends job w told (subst (IsListFault job.from) (sym same) is)
+
+-- what is known of a list of blocks that was not read
 of_list : (list : Option (Bor (List ℕ))) (A : Type 0) → MatchOption list ⊥ (λ file. A) → A
 of_list None A none = absurd none
 of_list (Some file) A is = is
 
-a_list : (list : Option (Bor (List ℕ))) (P : Bor (List ℕ) → Type 0) → MatchOption list ⊥ P → (bytes : Option (List ℕ)) × (is_some bytes ≡ is_some list)
-a_list None P none = absurd none
-a_list (Some file) P is = (Some [], refl)
-
-module _ (job : CheckJob) (old new : Option (List ℕ)) where
-  -- no image was reported for want of memory
-  no_memory : (list : (bytes : Option (List ℕ)) × HasList job bytes) → Keeps old new → EndsListed job old new (Err archive.Memory)
-  no_memory (bytes, has) keeps = (bytes, has, (nothing job bytes, kept_front old new (told_in (nothing job bytes)) keeps))
-
-  -- a check of images that ran out of memory
-  archive_unsaid : (fault : CommandFault) → EndsArchive job old new (Err fault) → EndsArchive job old new (Err Memory)
-  archive_unsaid ImagesRefused (list, has, (archive, told, whole)) = (list, has, (archive, told_front old new (told_in archive) told))
-  archive_unsaid NotChecked (list, has, (archive, told, whole)) = (list, has, (archive, told_front old new (told_in archive) told))
-  archive_unsaid OneImage (list, has, (some, keeps)) = no_memory (list, has) keeps
-  archive_unsaid Output front = front
-  archive_unsaid Memory front = front
-  archive_unsaid fault (is, keeps) = no_memory (a_list job.bad (λ list. IsUnreadFile list.now fault) is) keeps
-
--- a check whose list was not read
+-- a list of blocks that was not read
 module _ (job : CheckJob) (w : Option (List ℕ)) where
   unlisted : (fault : CommandFault) → IsUnlisted job fault → EndsArchive job w w (Err fault)
+  unlisted Memory is = inl (Keeps-refl w)
   unlisted ImagesRefused is = absurd (cc (of_list job.bad (ImagesRefused ≡ Memory) is))
   unlisted NotChecked is = absurd (cc (of_list job.bad (NotChecked ≡ Memory) is))
   unlisted OneImage is = absurd (cc (of_list job.bad (OneImage ≡ Memory) is))
   unlisted Output is = absurd (cc (of_list job.bad (Output ≡ Memory) is))
-  unlisted Memory is = no_memory job w w (a_list job.bad (λ list. IsUnreadFile list.now Memory) is) (Keeps-refl w)
-  unlisted fault is = (is, Keeps-refl w)
+  unlisted (Refused refusal) is = absurd (cc (of_list job.bad (Refused refusal ≡ Memory) is))
+  unlisted (Dos refusal) is = absurd (cc (of_list job.bad (Dos refusal ≡ Memory) is))
+  unlisted fault is = (inr is, Keeps-refl w)
 
   pub unlisted_ends : (fault : CommandFault) (done : Ending) → IsUnlisted job fault → IsErrAnd done (λ told. told ≡ fault) → EndsArchive job w w done
   unlisted_ends fault (Ok x) is same = absurd same
   unlisted_ends fault (Err told) is same = unlisted told (subst (IsUnlisted job) (sym same) is)
+
+-- a check of images that ran out of memory
+archive_unsaid : (job : CheckJob) (old new : Option (List ℕ)) (fault : CommandFault) → EndsArchive job old new (Err fault) → EndsArchive job old new (Err Memory)
+archive_unsaid job old new ImagesRefused (names, listed, (list, has, (archive, told, whole))) = inr (names, listed, (list, has, (archive, told_front old new (told_in archive) told)))
+archive_unsaid job old new NotChecked (names, listed, (list, has, (archive, told, whole))) = inr (names, listed, (list, has, (archive, told_front old new (told_in archive) told)))
+archive_unsaid job old new OneImage (names, listed, (list, has, (some, keeps))) = inl keeps
+archive_unsaid job old new Output front = inr front
+archive_unsaid job old new Memory front = front
+archive_unsaid job old new (Refused refusal) none = absurd none
+archive_unsaid job old new (Dos refusal) none = absurd none
+archive_unsaid job old new fault (is, keeps) = inl keeps
 
 -- a fault without a text has none in any form
 none_in : (json : Bool) (fault : CommandFault) → IsNoRefusal fault → told_line json fault ≡ None
@@ -591,7 +596,7 @@ module _ (json : Bool) (IsText BeginsText : List ℕ → List ℕ → Type 0) wh
       λ other. (refusal_text json refusal, kept_appends old mid new (refusal_text json refusal) (keeps other) w, refl),
     )
     told_refused Unsaid refusal d w = tt
-    told_refused (OfImages job) refusal d w = absurd (cc (of_list job.bad (Refused refusal ≡ Memory) d.0))
+    told_refused (OfImages job) refusal d w = absurd d
     told_refused (OfRescue job) refusal (keeps, is) w = (is, (refusal_text json refusal, kept_appends old mid new (refusal_text json refusal) keeps w, refl))
     told_refused (OfDeleted job) refusal (keeps, is) w = (is, (refusal_text json refusal, kept_appends old mid new (refusal_text json refusal) keeps w, refl))
     told_refused (OfBlocks job) refusal (keeps, is) w = (is, (refusal_text json refusal, kept_appends old mid new (refusal_text json refusal) keeps w, refl))
@@ -607,7 +612,7 @@ module _ (json : Bool) (IsText BeginsText : List ℕ → List ℕ → Type 0) wh
       λ other. (dos_text json refusal, kept_appends old mid new (dos_text json refusal) (keeps other) w, refl),
     )
     told_dos Unsaid refusal d w = tt
-    told_dos (OfImages job) refusal d w = absurd (cc (of_list job.bad (Dos refusal ≡ Memory) d.0))
+    told_dos (OfImages job) refusal d w = absurd d
     told_dos (OfRescue job) refusal keeps w = (dos_text json refusal, kept_appends old mid new (dos_text json refusal) keeps w, refl)
     told_dos (OfDeleted job) refusal keeps w = (dos_text json refusal, kept_appends old mid new (dos_text json refusal) keeps w, refl)
     told_dos (OfBlocks job) refusal keeps w = (dos_text json refusal, kept_appends old mid new (dos_text json refusal) keeps w, refl)
@@ -615,12 +620,12 @@ module _ (json : Bool) (IsText BeginsText : List ℕ → List ℕ → Type 0) wh
     told_dos OfBytes refusal (bytes, keeps) w = (bytes, (dos_text json refusal, kept_appends old mid new (dos_text json refusal) keeps w, refl))
 
     -- a prefix of the output after no output
-    front_behind : (text : List ℕ) → Keeps old mid → WritesFront mid new text → WritesFront old new text
-    front_behind text keeps (written, appends, rest) = (written, kept_appends old mid new written keeps appends, rest)
+    kept_front : (text : List ℕ) → Keeps old mid → WritesFront mid new text → WritesFront old new text
+    kept_front text keeps (written, appends, rest) = (written, kept_appends old mid new written keeps appends, rest)
 
     -- a job without output, whose line is written as far as the writer accepts it
     broken_quiet : (fault last : CommandFault) (line : List ℕ) → told_line json fault ≡ Some line → IsNoRefusal last → Keeps old mid → WritesFront mid new line → TellsFault json old new (Err last)
-    broken_quiet fault last line tells plain keeps front = rw (none_in json last plain) (inr (line, (fault, tells), front_behind line keeps front))
+    broken_quiet fault last line tells plain keeps front = rw (none_in json last plain) (inr (line, (fault, tells), kept_front line keeps front))
 
     -- a line for refused bytes, as far as the writer accepts it
     ends_front : (bytes : List ℕ) (last : CommandFault) → IsNoRefusal last → WritesFrontOf old new (λ text. BeginsText bytes text ⊎ (IsRefusalText json bytes text ⊎ IsDosText json text))
@@ -633,33 +638,33 @@ module _ (json : Bool) (IsText BeginsText : List ℕ → List ℕ → Type 0) wh
         → WritesFront mid new (refusal_text json refusal) → Tells json p IsText BeginsText old new (Err Output)
     broken_refused OnlyFaults refusal keeps front = broken_quiet (Refused refusal) Output (refusal_text json refusal) refl refl keeps front
     broken_refused (OfMade made file) refusal (put, keeps) front = (
-      λ is. inr (refusal_text json refusal, inr (Refused refusal, refl), front_behind (refusal_text json refusal) (put is) front),
+      λ is. inr (refusal_text json refusal, inr (Refused refusal, refl), kept_front (refusal_text json refusal) (put is) front),
       λ other. broken_quiet (Refused refusal) Output (refusal_text json refusal) refl refl (keeps other) front,
     )
     broken_refused Unsaid refusal d front = tt
-    broken_refused (OfImages job) refusal d front = absurd (cc (of_list job.bad (Refused refusal ≡ Memory) d.0))
-    broken_refused (OfRescue job) refusal (keeps, is) front = (tt, inr (refusal_text json refusal, inr (Refused refusal, refl), front_behind (refusal_text json refusal) keeps front))
-    broken_refused (OfDeleted job) refusal (keeps, is) front = (tt, inr (refusal_text json refusal, inr (Refused refusal, refl), front_behind (refusal_text json refusal) keeps front))
-    broken_refused (OfBlocks job) refusal (keeps, is) front = (tt, inr (refusal_text json refusal, inr (Refused refusal, refl), front_behind (refusal_text json refusal) keeps front))
-    broken_refused (OfMap form) refusal (keeps, is) front = (tt, inr (refusal_text json refusal, inr (Refused refusal, refl), front_behind (refusal_text json refusal) keeps front))
+    broken_refused (OfImages job) refusal d front = absurd d
+    broken_refused (OfRescue job) refusal (keeps, is) front = (tt, inr (refusal_text json refusal, inr (Refused refusal, refl), kept_front (refusal_text json refusal) keeps front))
+    broken_refused (OfDeleted job) refusal (keeps, is) front = (tt, inr (refusal_text json refusal, inr (Refused refusal, refl), kept_front (refusal_text json refusal) keeps front))
+    broken_refused (OfBlocks job) refusal (keeps, is) front = (tt, inr (refusal_text json refusal, inr (Refused refusal, refl), kept_front (refusal_text json refusal) keeps front))
+    broken_refused (OfMap form) refusal (keeps, is) front = (tt, inr (refusal_text json refusal, inr (Refused refusal, refl), kept_front (refusal_text json refusal) keeps front))
     broken_refused OfBytes refusal (bytes, (is, keeps)) front =
-        (bytes, ends_front bytes Output refl (refusal_text json refusal, inr (inl (refusal, is, refl)), front_behind (refusal_text json refusal) keeps front))
+        (bytes, ends_front bytes Output refl (refusal_text json refusal, inr (inl (refusal, is, refl)), kept_front (refusal_text json refusal) keeps front))
 
     broken_dos : (p : Prints) (refusal : DosRefusal) → Does p IsText BeginsText old mid (Err (Dos refusal))
         → WritesFront mid new (dos_text json refusal) → Tells json p IsText BeginsText old new (Err Output)
     broken_dos OnlyFaults refusal keeps front = broken_quiet (Dos refusal) Output (dos_text json refusal) refl refl keeps front
     broken_dos (OfMade made file) refusal (put, keeps) front = (
-      λ is. inr (dos_text json refusal, inr (Dos refusal, refl), front_behind (dos_text json refusal) (put is) front),
+      λ is. inr (dos_text json refusal, inr (Dos refusal, refl), kept_front (dos_text json refusal) (put is) front),
       λ other. broken_quiet (Dos refusal) Output (dos_text json refusal) refl refl (keeps other) front,
     )
     broken_dos Unsaid refusal d front = tt
-    broken_dos (OfImages job) refusal d front = absurd (cc (of_list job.bad (Dos refusal ≡ Memory) d.0))
-    broken_dos (OfRescue job) refusal keeps front = (tt, inr (dos_text json refusal, inr (Dos refusal, refl), front_behind (dos_text json refusal) keeps front))
-    broken_dos (OfDeleted job) refusal keeps front = (tt, inr (dos_text json refusal, inr (Dos refusal, refl), front_behind (dos_text json refusal) keeps front))
-    broken_dos (OfBlocks job) refusal keeps front = (tt, inr (dos_text json refusal, inr (Dos refusal, refl), front_behind (dos_text json refusal) keeps front))
-    broken_dos (OfMap form) refusal keeps front = (tt, inr (dos_text json refusal, inr (Dos refusal, refl), front_behind (dos_text json refusal) keeps front))
+    broken_dos (OfImages job) refusal d front = absurd d
+    broken_dos (OfRescue job) refusal keeps front = (tt, inr (dos_text json refusal, inr (Dos refusal, refl), kept_front (dos_text json refusal) keeps front))
+    broken_dos (OfDeleted job) refusal keeps front = (tt, inr (dos_text json refusal, inr (Dos refusal, refl), kept_front (dos_text json refusal) keeps front))
+    broken_dos (OfBlocks job) refusal keeps front = (tt, inr (dos_text json refusal, inr (Dos refusal, refl), kept_front (dos_text json refusal) keeps front))
+    broken_dos (OfMap form) refusal keeps front = (tt, inr (dos_text json refusal, inr (Dos refusal, refl), kept_front (dos_text json refusal) keeps front))
     broken_dos OfBytes refusal (bytes, keeps) front =
-        (bytes, ends_front bytes Output refl (dos_text json refusal, inr (inr (refusal, refl)), front_behind (dos_text json refusal) keeps front))
+        (bytes, ends_front bytes Output refl (dos_text json refusal, inr (inr (refusal, refl)), kept_front (dos_text json refusal) keeps front))
 
 -- the fault of a job with this text
 module _ (job : ImageJob) (old mid new : Option (List ℕ)) (line : List ℕ) where

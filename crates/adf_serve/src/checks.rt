@@ -1,10 +1,11 @@
 //! The command `check`.
-ghost use Rattle.std.specs.Prelude.{IfErr, IfOk, option_map};
-ghost use Rattle.adf_serve.specs.Archives.{EndsArchive, HasList, IsUnlisted};
+ghost use Rattle.std.specs.Prelude.{◌≡◌, IfErr, IfOk, is_some};
+ghost use Rattle.adf_serve.specs.Archives.{EndsArchive, IsUnlisted};
 
 use crate::bad::read_list;
 use crate::fault::CommandFault;
-use adf_archive::{ReadImages, check_archive};
+use crate::name_list::{names_of, read_names};
+use adf_archive::{Asked, ReadImages, check_archive};
 use adf_host::PromptFiles;
 use adf_words::CheckJob;
 use std::alloc::Global;
@@ -13,7 +14,8 @@ use std::io::Write;
 use std::rt::{Clock, Files};
 use std::thread::Threads;
 
-/// Checks the images of a job, beside the list of blocks that could not be read. With `progress` the progress is shown on a terminal.
+/// Checks the images that the arguments of `check` name, and then those that its list names, beside the list of blocks that could not
+/// be read. Both lists are read to their ends first. With `progress` the progress is shown on a terminal.
 pub(crate) fn check_images<'a, R, W, F>(
     rt: &R,
     alloc: Global,
@@ -28,20 +30,27 @@ where
     F: Write,
     ensures { EndsArchive job.now (W.contents writer.old) (W.contents writer.new) result }
 {
-    let list = given_list(rt, alloc, job)?;
-    match check_archive(rt, alloc, job, list.as_deref(), progress, writer, faults) {
+    let bad = given_list(rt, alloc, job)?;
+    let list = read_names(rt, alloc, job.from)?;
+    let names = names_of(alloc, job.from, &list)?;
+    let asked = Asked {
+        job,
+        names: &names,
+        bad: bad.as_deref(),
+    };
+    match check_archive(rt, alloc, asked, progress, writer, faults) {
         Ok(()) => Ok(()),
         Err(fault) => Err(CommandFault::from(fault)),
     }
 }
 
-/// The bytes of the list of a job, if it has one.
+/// The bytes of the list of blocks of a job, if it has one.
 fn given_list<'a, R: Files>(
     rt: &R,
     alloc: Global,
     job: &CheckJob<'a>,
 ) -> Result<Option<Vec<u8>>, CommandFault<'a>>
-    ensures list { IfOk result (λ list. HasList job.now (option_map (λ bytes. bytes.items) list)) }
+    ensures list { IfOk result (λ list. is_some list ≡ is_some job.now.bad) }
     ensures fault { IfErr result (IsUnlisted job.now) }
 {
     match job.bad {

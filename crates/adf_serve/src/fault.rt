@@ -58,6 +58,13 @@ pub enum CommandFault<'a> {
     BadLine(&'a str, usize, u32),
     #[error("'{0}' has more than 4,194,304 bytes, the most of a list of bad blocks")]
     LongList(&'a str),
+    #[error("'{0}' has more than 33,554,432 bytes, the most of a list of names")]
+    LongNames(&'a str),
+    #[error("'{0}' names no file")]
+    NoNames(&'a str),
+    /// The list has a zero byte, and the names in it are lines.
+    #[error("'{0}' has a zero byte, which no name has: --null takes a list whose names end with one")]
+    ZeroByte(&'a str),
     #[error("{0}")]
     Refused(Refusal),
     #[error("{0}")]
@@ -126,6 +133,9 @@ impl Drop for CommandFault<'_> {
             | CommandFault::LongBoot(_)
             | CommandFault::BadLine(_, _, _)
             | CommandFault::LongList(_)
+            | CommandFault::LongNames(_)
+            | CommandFault::NoNames(_)
+            | CommandFault::ZeroByte(_)
             | CommandFault::Refused(_)
             | CommandFault::Bitmap(_)
             | CommandFault::OtherVolume(_, _)
