@@ -75,9 +75,7 @@ fn argument_of<'a>(alloc: Global, row: &ArgumentRow) -> Result<Arg<'a>, AllocErr
         Kind::With { option, excludes }
         | Kind::Beside {
             option, excludes, ..
-        } => argument
-            .requires_arg(option)?
-            .conflicts_with_all(excludes),
+        } => argument.requires_arg(option)?.conflicts_with_all(excludes),
         Kind::Unless { option } => argument.required_unless_present(option),
         Kind::Flag { excludes } | Kind::Instead { excludes, .. } => {
             argument.conflicts_with_all(excludes)

@@ -53,7 +53,9 @@ fn refuse_list_of_many(
     if bad.is_some() && (from.is_some() || files.len() > 1) {
         return Err(WordsFault::wrong(
             alloc,
-            format_args!("error: '--bad <FILE>' lists the blocks of one image, so only one FILE is expected"),
+            format_args!(
+                "error: '--bad <FILE>' lists the blocks of one image, so only one FILE is expected"
+            ),
         ));
     }
     Ok(())
