@@ -1,3 +1,4 @@
--- Lemmas about asked paths, and the objects of a report.
+-- Lemmas about asked paths, items whose names differ, and the objects of a report.
 mod TellingObjects
 mod Asking
+mod Sourcing

@@ -1,4 +1,5 @@
 -- What is saved of a damaged image, and deleted entries. Definitions for steps are in `steps`.
+pub mod Paths
 pub mod Rescue
 pub mod RescueObject
 pub mod DeletedObject

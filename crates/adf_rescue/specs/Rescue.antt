@@ -9,6 +9,7 @@ use Rattle.adf_salvage.specs.declared.salvaged.State.{State}
 use Rattle.adf_salvage.specs.declared.salvaged.State.TheVariants.{Directory, DoubtfulDirectory, Whole, Doubtful, Lost, Broken}
 use Rattle.adf_salvage.specs.Saved.{HasBytes, IsAt}
 use Rattle.adf_account.specs.Account.{AreUnaccounted}
+use Rattle.adf_rescue.specs.Paths.{ArePathsApart}
 use Rattle.adf_rescue.specs.RescueObject.{IsReportObject, has_sums}
 use Rattle.adf_rescue.specs.declared.sourced.Source.{Source}
 use Rattle.adf_rescue.specs.declared.sourced.Source.TheVariants.{File}
@@ -85,9 +86,10 @@ pub record AreRescued (json : Bool) (saved : Saved) (unaccounted : List ℕ) (ac
 abbrev pub AreSomeRescued : Bool → Saved → List ℕ → List ℕ → Type 0
 AreSomeRescued json saved unaccounted text = (accepted : Bool) × AreRescued json saved unaccounted accepted text
 
--- everything in an image with these holes that can be trusted, and the blocks that are used and belong to nothing of it
+-- everything in an image with these holes that can be trusted, and the blocks that are used and belong to nothing of it. No two files,
+-- directories or notes are written to one path
 abbrev pub IsRescue : List Bool → List ℕ → Rescue → Type 0
-IsRescue holes image rescue = SalvagesBeside holes image rescue.salvage × AreUnaccounted rescue.salvage rescue.unaccounted.items
+IsRescue holes image rescue = SalvagesBeside holes image rescue.salvage × AreUnaccounted rescue.salvage rescue.unaccounted.items × ArePathsApart rescue.plan.out.items.items
 
 -- the report on everything in an image with these holes that can be trusted and on the other used blocks, as lines or as an object; the
 -- image was accepted or not

@@ -1,5 +1,7 @@
 //! The host files and directories for what can be trusted in a damaged image.
-ghost use Rattle.std.specs.Prelude.{◌≢◌, ◌≤◌, All, IfSome, IsTrue, length};
+ghost use Rattle.std.specs.Prelude.{◌≢◌, ◌≤◌, All, IfOk, IfSome, IsTrue, OnOk, length};
+ghost use Rattle.adf_rescue.specs.Paths.{ArePathsApart};
+ghost use Rattle.adf_rescue.specs.steps.Sourcing.{AreApart};
 
 use crate::sourced::{Source, SourcedItems, way_up};
 use adf_salvage::{Salvage, Salvaged, State};
@@ -44,7 +46,9 @@ pub(crate) struct Plan {
 
 impl Plan {
     /// The items for the entries of a salvage. With `meta`, a note is beside each.
-    pub(crate) fn of(alloc: Global, salvage: &Salvage, meta: bool) -> Result<Plan, AllocError> {
+    pub(crate) fn of(alloc: Global, salvage: &Salvage, meta: bool) -> Result<Plan, AllocError>
+        ensures { IfOk result (λ plan. ArePathsApart plan.out.items.items) }
+    {
         let entries = salvage.entries();
         let mut plan = Plan {
             out: SourcedItems::new(alloc, meta),
@@ -57,6 +61,7 @@ impl Plan {
             let above = plan.directory_of(alloc, entries, entry)?;
             plan.add(alloc, place, entry, above)?;
         }
+        plan.out.has_own_paths();
         Ok(plan)
     }
 
@@ -113,7 +118,10 @@ impl Plan {
         alloc: Global,
         entries: &[Salvaged],
         entry: &Salvaged,
-    ) -> Result<Option<usize>, AllocError> {
+    ) -> Result<Option<usize>, AllocError>
+        requires { AreApart self.old.out }
+        ensures { OnOk result (AreApart self.new.out) }
+    {
         let Some(above) = entry.above else {
             if entry.found {
                 return Ok(Some(self.lost_and_found(alloc, entry.date)?));
@@ -130,12 +138,15 @@ impl Plan {
     }
 
     /// The item of the directory for recovered entries.
-    fn lost_and_found(&mut self, alloc: Global, date: Date3) -> Result<usize, AllocError> {
+    fn lost_and_found(&mut self, alloc: Global, date: Date3) -> Result<usize, AllocError>
+        requires { AreApart self.old.out }
+        ensures { OnOk result (AreApart self.new.out) }
+    {
         if let Some(item) = self.lost {
             return Ok(item);
         }
         let name = HostName::of_name(alloc, &self.lost_name)?;
-        let item = self.out.push(None, name, Source::Directory, date)?;
+        let item = self.out.push_directory(alloc, None, name, date)?;
         self.lost = Some(item);
         Ok(item)
     }
@@ -147,7 +158,10 @@ impl Plan {
         entries: &[Salvaged],
         dir: usize,
         date: Date3,
-    ) -> Result<usize, AllocError> {
+    ) -> Result<usize, AllocError>
+        requires { AreApart self.old.out }
+        ensures { OnOk result (AreApart self.new.out) }
+    {
         let (mut way, top) = way_up(alloc, entries, &self.asides, Some(dir))?;
         let mut item = match top {
             Some(item) => item,
@@ -156,7 +170,7 @@ impl Plan {
         while let Some(place) = way.pop() {
             if let Some(entry) = entries.get(place) {
                 let name = self.out.name_of(alloc, entry)?;
-                item = self.out.push(Some(item), name, Source::Directory, date)?;
+                item = self.out.push_directory(alloc, Some(item), name, date)?;
                 if let Some(aside) = self.asides.get_mut(place) {
                     *aside = Some(item);
                 }
@@ -172,7 +186,10 @@ impl Plan {
         place: usize,
         entry: &Salvaged,
         above: Option<usize>,
-    ) -> Result<(), AllocError> {
+    ) -> Result<(), AllocError>
+        requires { AreApart self.old.out }
+        ensures { OnOk result (AreApart self.new.out) }
+    {
         let source = match entry.state {
             State::Lost => {
                 let name = self.out.name_of(alloc, entry)?;

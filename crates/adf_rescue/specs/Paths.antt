@@ -1,0 +1,19 @@
+-- The host paths of what is written: files, directories and notes.
+use Rattle.std.specs.Prelude.{◌≡◌, ◌≢◌, ℕ, ◌<◌, List, [], ◌∷◌, ◌++◌, length, slice_index_or, Option, Some, None}
+use Rattle.host_trees.specs.declared.items.HostItem.{HostItem}
+
+-- the item at a place of a list
+pub record IsItem (items : List HostItem) (place : ℕ) (item : HostItem) : Type 0 where
+  pub inside : place < length items
+  pub at : slice_index_or items place item ≡ item
+
+-- the path of the item at a place, below the directory that all are written to: the names of the directories that it is in, from the
+-- top, and then its own
+pub data HasPath (items : List HostItem) : ℕ → List (List ℕ) → Type 0 where
+  at_top : (place : ℕ) (path : List (List ℕ)) (item : HostItem) → IsItem items place item → item.above ≡ None → path ≡ item.name ∷ [] → HasPath items place path
+  below : (place : ℕ) (path : List (List ℕ)) (item : HostItem) (dir : ℕ) (front : List (List ℕ)) → IsItem items place item → item.above ≡ Some dir → HasPath items dir front
+      → path ≡ front ++ item.name ∷ [] → HasPath items place path
+
+-- no two are written to one path. Names are compared byte by byte, as the host compares them
+abbrev pub ArePathsApart : List HostItem → Type 0
+ArePathsApart items = (one other : ℕ) (path : List (List ℕ)) → HasPath items one path → HasPath items other path → one ≡ other
