@@ -3,6 +3,7 @@ pub mod Kind
 pub mod Loose
 pub mod Holes
 pub mod Lost
+pub mod Missing
 pub mod Salvaged
 pub mod Saved
 pub mod Undeleted

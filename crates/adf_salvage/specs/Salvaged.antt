@@ -1,5 +1,5 @@
 -- The descriptions of an image's entries.
-use Rattle.std.specs.Prelude.{◌≡◌, ◌≢◌, ℕ, zero, suc, ◌+◌, ◌*◌, ◌≤◌, ◌⊎◌, Bool, MatchBool, List, [], ◌∷◌, ◌++◌, decimal, length, All, AllPairs, Contains, map, None, Some, true, false, ⊤}
+use Rattle.std.specs.Prelude.{◌≡◌, ◌≢◌, ℕ, zero, suc, ◌+◌, ◌*◌, ◌<◌, ◌≤◌, ◌⊎◌, Bool, MatchBool, List, [], ◌∷◌, ◌++◌, decimal, length, All, AllPairs, Contains, map, None, Some, true, false, ⊤}
 use Rattle.adf_block.specs.Fields.{protection}
 use Rattle.adf_block.specs.Image.{byte_at}
 use Rattle.adf_block.specs.declared.layout.TheConstants.{COMMENT_BYTE, DATE, NAME_BYTE}
@@ -27,6 +27,8 @@ use Rattle.adf_salvage.specs.declared.salvaged.State.TheVariants as states
 use Rattle.adf_salvage.specs.Kind.{IsReadAs}
 use Rattle.adf_salvage.specs.Loose.{IsLeft}
 use Rattle.adf_salvage.specs.Lost.{IsLost}
+use Rattle.adf_salvage.specs.Missing.{TellsMissing}
+use Rattle.adf_salvage.specs.Saved.{IsAt}
 
 -- how contracts see a salvage: whether the image was accepted, the image as it was read, whether its bitmap is trusted, its
 -- entries, the headers that were left out, the blocks given to files that are not whole, and the marks of the holes
@@ -166,7 +168,8 @@ abbrev pub AreApart : List Piece → Type 0
 AreApart given = AllPairs (λ piece other. piece.block ≢ other.block) given
 
 -- the bitmap is trusted or not. The deleted entries are left out, and the entries are all others that are told; no block is given to two files, and no hole
--- to any; and all files that are not whole have together at most four times the bytes of the image
+-- to any; each file that is not whole says how many of its blocks are missing, if its header is told; and all these files have together at
+-- most four times the bytes of the image
 pub record SavesSound (saved : Saved) : Type 0 where
   pub trust : TellsTrust saved.image saved.trusted
   pub deleted : AreDeleted saved.image saved.deleted
@@ -174,10 +177,12 @@ pub record SavesSound (saved : Saved) : Type 0 where
   pub apart : AreApart saved.given
   pub there : All (λ piece. ¬ IsHole saved.holes piece.block) saved.given
   pub bounded : broken_total saved.entries ≤ 4 * length saved.image
+  pub missing : (place : ℕ) (entry : Salvaged) → place < length saved.entries → IsAt saved.entries place entry → IsHeader saved.deleted saved.image entry.header
+      → TellsMissing saved.image saved.given place entry.header entry.state
 
 -- beside its tree, the entries of an accepted image are the sound headers among its lost blocks, found. Where hidden headers are
--- left out, each has its fields. No block is given to two files, and no hole to any; and the files that are not whole have together at
--- most four times the bytes of the image
+-- left out, each has its fields. No block is given to two files, and no hole to any; the files that are not whole say how many of their
+-- blocks are missing, and have together at most four times the bytes of the image
 pub record FindsLost (saved : Saved) : Type 0 where
   pub out : List ℕ
   pub hidden : AreHidden saved.image out
@@ -187,6 +192,8 @@ pub record FindsLost (saved : Saved) : Type 0 where
   pub apart : AreApart saved.given
   pub there : All (λ piece. ¬ IsHole saved.holes piece.block) saved.given
   pub bounded : broken_total saved.entries ≤ 4 * length saved.image
+  pub missing : (place : ℕ) (entry : Salvaged) → place < length saved.entries → IsAt saved.entries place entry → entry.found ≡ true
+      → TellsMissing saved.image saved.given place entry.header entry.state
 
 -- no entry is found
 abbrev pub FindsNone : Saved → Type 0

@@ -3,6 +3,7 @@ ghost use Rattle.std.specs.Prelude.{◌≡◌, ◌<◌, ℕ, IfOk, IfSome, IsTru
 ghost use Rattle.adf_block.specs.Image.{block_count};
 ghost use Rattle.ados_sound.specs.Known.{AreKnown};
 ghost use Rattle.adf_salvage.specs.Loose.{IsLooseExtension};
+ghost use Rattle.adf_salvage.specs.steps.Counting.{GivesMore};
 ghost use Rattle.adf_salvage.specs.steps.Giving.{IsGiving};
 
 use crate::giving::{Giving, Piece, Remains};
@@ -208,6 +209,7 @@ pub(crate) fn give_listed(
     ensures named { IfOk result (λ remains. IfSome remains (λ some. (block : ℕ) × IsLooseExtension known.now.image header block)) }
     ensures giving { OnOk result (IsGiving known.now.holes.items known.now.image giving.new) }
     ensures left { giving.new.left ≡ giving.old.left }
+    ensures more { OnOk result (GivesMore place giving.old.pieces.items giving.new.pieces.items) }
 {
     let image = &known.image;
     let mut taken = Taken { there: 0, last: 0 };
@@ -236,6 +238,7 @@ fn give_pointers(
     requires giving { IsGiving known.now.holes.items known.now.image giving.old }
     ensures giving { OnOk result (IsGiving known.now.holes.items known.now.image giving.new) }
     ensures left { giving.new.left ≡ giving.old.left }
+    ensures more { OnOk result (GivesMore place giving.old.pieces.items giving.new.pieces.items) }
 {
     let image = &known.image;
     let before = part.number.saturating_mul(TABLE_LONGS);

@@ -1,8 +1,10 @@
 //! The blocks given to files that are not whole, each to one.
-ghost use Rattle.std.specs.Prelude.{◌≡◌, ◌<◌, ◌≤◌, ◌*◌, ℕ, Bool, List, length, IfOk, IfSome, IsTrue, OnOk};
+ghost use Rattle.std.specs.Prelude.{◌≡◌, ◌<◌, ◌≤◌, ◌*◌, ◌++◌, ◌∷◌, [], ℕ, Bool, List, length, IfOk, IfSome, IsTrue, OnOk};
 ghost use Rattle.adf_block.specs.Fields.{format_of};
 ghost use Rattle.adf_block.specs.Image.{block_count};
 ghost use Rattle.ados_model.specs.Tree.{data_start};
+ghost use Rattle.adf_salvage.specs.Missing.{missing_blocks};
+ghost use Rattle.adf_salvage.specs.steps.Counting.{GivesMore, HasNone};
 ghost use Rattle.adf_salvage.specs.steps.Giving.{AreHolesMarked, IsGiving, IsOpen};
 
 use adf_block::layout::{
@@ -11,7 +13,7 @@ use adf_block::layout::{
     PRIMARY_TYPE, ROOT_TYPE, SECONDARY_TYPE, TABLE_LONGS,
 };
 use adf_block::{Format, Image};
-use ados_sound::{Known, is_hole, is_own_data};
+use ados_sound::{Known, data_needed, is_hole, is_own_data};
 use std::alloc::{AllocError, Global};
 
 /// Bytes in a block.
@@ -66,6 +68,7 @@ impl Giving {
     pub(crate) fn new(alloc: Global, image: &Image, holes: &[bool]) -> Result<Giving, AllocError>
         ensures giving { IfOk result (IsGiving holes.now image.now) }
         ensures left { IfOk result (λ giving. giving.left ≤ 4 * length image.now) }
+        ensures none { IfOk result (λ giving. giving.pieces.items ≡ []) }
     {
         let count = image.blocks() as usize;
         let mut given = vec![in alloc; false; count]?;
@@ -91,11 +94,13 @@ impl Giving {
         requires giving { IsGiving known.now.holes.items known.now.image self.old }
         ensures giving { OnOk result (IsGiving known.now.holes.items known.now.image self.new) }
         ensures left { self.new.left ≡ self.old.left }
+        ensures more { OnOk result (GivesMore place self.old.pieces.items self.new.pieces.items) }
+        ensures missing { IfOk result (λ remains. HasNone self.old.pieces.items place → missing_blocks known.now.image self.new.pieces.items place file ≡ remains.missing) }
     {
         let image = &known.image;
         let room = BLOCK - data_start(image);
         let size = (image.long(file, FILE_SIZE) as usize).min(image.blocks() as usize * room);
-        let needed = size.div_ceil(room) as u32;
+        let needed = data_needed(image, file).min(image.blocks());
         let mut there = 0;
         let mut end = 0;
         let mut way = Way {
@@ -139,6 +144,7 @@ impl Giving {
         requires fresh { IsOpen self.old.given.items piece.block }
         ensures giving { OnOk result ((holes : List Bool) (image : List ℕ) → IsGiving holes image self.old → IsGiving holes image self.new) }
         ensures left { self.new.left ≡ self.old.left }
+        ensures pieces { OnOk result (self.new.pieces.items ≡ self.old.pieces.items ++ piece ∷ []) }
     {
         self.given[piece.block as usize] = true;
         self.pieces.push(piece)?;
@@ -191,6 +197,7 @@ impl Giving {
         ensures holder { IfSome result (λ block. block < block_count known.now.image) }
         ensures giving { IsGiving known.now.holes.items known.now.image self.new }
         ensures left { self.new.left ≡ self.old.left }
+        ensures pieces { self.new.pieces ≡ self.old.pieces }
     {
         let image = &known.image;
         let next = image.long(holder?, NEXT_EXTENSION);

@@ -4,6 +4,7 @@ ghost use Rattle.adf_block.specs.Image.{block_count};
 ghost use Rattle.ados_sound.specs.Known.{AreKnown};
 ghost use Rattle.adf_salvage.specs.Loose.{IsLeft, IsLooseData};
 ghost use Rattle.adf_salvage.specs.Salvaged.{IsLoose, broken_length};
+ghost use Rattle.adf_salvage.specs.steps.Counting.{GivesMore};
 ghost use Rattle.adf_salvage.specs.steps.Giving.{IsGiving};
 ghost use Rattle.adf_salvage.specs.steps.Settling.{AreSettled};
 
@@ -178,6 +179,7 @@ fn loose_state(
     ensures state { IfOk result (λ state. IfSome state (IsLoose known.now.left_out known.now.image header)) }
     ensures giving { OnOk result (IsGiving known.now.holes.items known.now.image giving.new) }
     ensures left { IfOk result (λ state. MatchOption state (giving.new.left ≡ giving.old.left) (λ state. broken_length state + giving.new.left ≡ giving.old.left)) }
+    ensures more { OnOk result (GivesMore place giving.old.pieces.items giving.new.pieces.items) }
 {
     if known.is_header(header) {
         return Ok(None);
@@ -204,6 +206,7 @@ fn give(
     ensures named { IfOk result (λ remains. IfSome remains (λ some. (block : ℕ) × IsLeft known.now.image header block)) }
     ensures giving { OnOk result (IsGiving known.now.holes.items known.now.image giving.new) }
     ensures left { giving.new.left ≡ giving.old.left }
+    ensures more { OnOk result (GivesMore place giving.old.pieces.items giving.new.pieces.items) }
 {
     match known.image.format() {
         Format::Ofs => give_data(known, header, place, parts, giving),
@@ -224,6 +227,7 @@ fn give_data(
     ensures named { IfOk result (λ remains. IfSome remains (λ some. (block : ℕ) × IsLooseData known.now.image header block)) }
     ensures giving { OnOk result (IsGiving known.now.holes.items known.now.image giving.new) }
     ensures left { giving.new.left ≡ giving.old.left }
+    ensures more { OnOk result (GivesMore place giving.old.pieces.items giving.new.pieces.items) }
 {
     let image = &known.image;
     let mut there = 0_u32;

@@ -1,7 +1,16 @@
-use Rattle.adf_salvage.proofs.Common.{sym, subst, Giving, IsGiving}
+use Rattle.adf_salvage.specs.steps.Counting.{GivesMore}
+use Rattle.adf_salvage.proofs.MissingBlocks.{gives_none, gives_one}
+use Rattle.adf_salvage.proofs.Common.{refl, sym, subst, Giving, IsGiving}
 use Rattle.std.proofs.Common.{rules}
 use Rattle.adf_salvage.proofs.extensions.give_pointers.Goals as goal
 use Rattle.adf_salvage.proofs.extensions.give_pointers.Goals.{then-block-ge-BOOT_BLOCKS+then-is_open+in_ok-note, else-block-ge-BOOT_BLOCKS}
+
+pub loop-i-init : goal.loop-i-init
+loop-i-init c = record {
+  giving = c.requires.giving;
+  left = refl;
+  more = gives_none c.args.place c.args.giving.now.pieces.items c.args.giving.now.pieces.items refl;
+}
 
 pub loop-i-preserved : goal.loop-i-preserved
 loop-i-preserved c =
@@ -14,4 +23,10 @@ loop-i-preserved c =
         | else-block-ge-BOOT_BLOCKS w ↦ subst (λ (giving : Giving). IsGiving holes image giving) (sym w.giving-is) c.loop-i.invariant.giving
       ];
       left = search rules;
+      more = elim c.if-block-ge-BOOT_BLOCKS.branch [
+        | then-block-ge-BOOT_BLOCKS+then-is_open+in_ok-note w ↦
+            subst (λ (giving : Giving). GivesMore c.args.place c.args.giving.now.pieces.items giving.pieces.items) (sym w.giving-is)
+            (gives_one c.args.place c.args.giving.now.pieces.items c.loop-i.giving.pieces.items w.note.new.self.pieces.items _ c.loop-i.invariant.more refl w.in_ok-note.ensures.pieces)
+        | else-block-ge-BOOT_BLOCKS w ↦ subst (λ (giving : Giving). GivesMore c.args.place c.args.giving.now.pieces.items giving.pieces.items) (sym w.giving-is) c.loop-i.invariant.more
+      ];
     }

@@ -1,4 +1,5 @@
-use Rattle.adf_salvage.proofs.Common.{◌≡◌, IfSome, MatchOption, Option, ◌+◌, true, false, sym, ap, ◌∙◌, subst, arith, Giving, on_ok_weaker, State, IsLoose, broken_length, IsGiving}
+use Rattle.adf_salvage.proofs.Common.{◌≡◌, ℕ, IfSome, MatchOption, Option, ◌+◌, true, false, sym, ap, ◌∙◌, subst, arith, Giving, on_ok_weaker, State, IsLoose, broken_length, IsGiving}
+use Rattle.adf_salvage.specs.steps.Counting.{GivesMore}
 use Rattle.adf_salvage.proofs.Settling.{settles_more}
 use Rattle.adf_salvage.proofs.loose.add_file.Goals as goal
 
@@ -15,4 +16,6 @@ returns-in-Some c =
     (subst (IsGiving c.args.known.now.holes.items image) (sym c.add_loose.ensures.giving) c.in_ok-state.ensures.giving) more.0 c.args.header after
     (λ some. let both : false ≡ true = sym c.if-has.false ∙ c.has.ensures.1 some in absurd (cc both)) more.1
     (subst (IsLoose out image c.args.header) (sym more.2) loose) more.3
-    (omega (arith, ap broken_length more.2, ap (λ (g : Giving). g.left) c.add_loose.ensures.giving, left))) c.add_loose.ensures.entries
+    (omega (arith, ap broken_length more.2, ap (λ (g : Giving). g.left) c.add_loose.ensures.giving, left))
+    (subst (λ (n : ℕ). GivesMore n c.args.gathered.now.giving.pieces.items c.add_loose.new.self.giving.pieces.items) (c.len-place.ensures ∙ c.args.gathered.now.entries.ok.0)
+    (subst (λ (g : Giving). GivesMore c.len-place.result c.args.gathered.now.giving.pieces.items g.pieces.items) (sym c.add_loose.ensures.giving) c.in_ok-state.ensures.more))) c.add_loose.ensures.entries

@@ -1,10 +1,12 @@
 use Rattle.adf_salvage.proofs.Common.{◌≡◌, IfSome, IsGiving}
 use Rattle.adf_salvage.specs.Loose.{IsLooseData}
+use Rattle.adf_salvage.specs.steps.Counting.{GivesMore}
 use Rattle.adf_salvage.proofs.loose.give_data.Given as goal
 
 abbrev pub invariant-loop-part : goal.invariant-loop-part
 invariant-loop-part l = record {
   giving : IsGiving l.known.holes.items l.known.image l.giving;
   left : l.giving.left ≡ l.initial.giving.left;
+  more : GivesMore l.place l.initial.giving.pieces.items l.giving.pieces.items;
   named : IfSome l.last (λ part. IsLooseData l.known.image l.header part.block);
 }

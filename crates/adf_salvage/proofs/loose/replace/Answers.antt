@@ -27,4 +27,4 @@ returns-in-Some-clause-settled c =
     let left : broken_length e.state + c.loose_state.new.giving.left ≡ c.args.gathered.now.giving.left =
     subst (λ (o : Option State). MatchOption o (c.loose_state.new.giving.left ≡ c.args.gathered.now.giving.left) (λ state. broken_length state + c.loose_state.new.giving.left ≡ c.args.gathered.now.giving.left))
     c.in-Some.is c.in_ok-state.ensures.left in
-    settles_lost c.args.known.now 0 c.args.gathered.now _ c.requires.settled refl c.in_ok-state.ensures.giving c.args.place was e _ c.requires.place c.index_mut.ensures.value refl lost loose refl left
+    settles_lost c.args.known.now 0 c.args.gathered.now _ c.requires.settled refl c.in_ok-state.ensures.giving c.args.place was e _ c.requires.place c.index_mut.ensures.value refl lost loose refl left c.in_ok-state.ensures.more
