@@ -5,8 +5,9 @@ use Rattle.ados_sound.specs.Found.{AreHidden, IsLostHeader}
 use Rattle.ados_sound.specs.Known.{AreKnown}
 use Rattle.std.proofs.lemmas.Bool.{cases_lt}
 use Rattle.std.proofs.lemmas.List.{get_or_append_left}
+use Rattle.adf_salvage.specs.Due.{IsDue}
 use Rattle.adf_salvage.specs.Missing.{TellsMissing}
-use Rattle.adf_salvage.specs.Salvaged.{IsSalvaged}
+use Rattle.adf_salvage.specs.Salvaged.{AreDue, IsSalvaged}
 use Rattle.adf_salvage.specs.Saved.{IsAt}
 use Rattle.adf_salvage.specs.steps.Finding.{AddsLost}
 use Rattle.adf_salvage.specs.steps.Gathering.{AddsFound}
@@ -51,6 +52,18 @@ module _ (known : Known) (old new : Gathered) (by : AreGatheredBy known new) (al
     | inr l ↦ omega (arith, l, many)
   ]
 
+  due_in : (s : Saved) → s.image ≡ known.image → s.entries ≡ new.entries.items → s.given ≡ new.giving.pieces.items → AreDue s
+  due_in s i e p = record {
+    within = λ k d l.
+        subst (λ (found : List Salvaged). (get_or s.given k d).place < length found) (sym e)
+        (subst (λ (given : List Piece). (get_or given k d).place < length new.entries.items) (sym p) (by.so_far.counted.within k d (subst (λ (given : List Piece). k < length given) p l)));
+    due = λ k d l entry at.
+        subst (λ (image : List ℕ). IsDue image entry.header (get_or s.given k d).at (get_or s.given k d).block) (sym i)
+        (subst (λ (given : List Piece). IsDue known.image entry.header (get_or given k d).at (get_or given k d).block) (sym p)
+        (by.so_far.counted.due k d (subst (λ (given : List Piece). k < length given) p l) entry
+        (subst (λ (given : List Piece). IsAt new.entries.items (get_or given k d).place entry) p (subst (λ (found : List Salvaged). IsAt found (get_or s.given k d).place entry) e at))));
+  }
+
   missing_in_found : (s : Saved) → s.image ≡ known.image → s.entries ≡ new.entries.items → s.given ≡ new.giving.pieces.items → (place : ℕ) (entry : Salvaged) → place < length s.entries → IsAt s.entries place entry
       → entry.found ≡ true → TellsMissing s.image s.given place entry.header entry.state
   missing_in_found s i e p place entry inside at is =
@@ -73,6 +86,7 @@ module _ (known : Known) (old new : Gathered) (by : AreGatheredBy known new) (al
     there = subst (All (λ (piece : Piece). ¬ IsHole s.holes piece.block)) (sym p) (subst (λ (holes : List Bool). All (λ (piece : Piece). ¬ IsHole holes piece.block) new.giving.pieces.items) (sym h) by.so_far.giving.there);
     bounded = omega (arith, by.so_far.bounded, ap broken_total e, ap length i);
     missing = λ place entry inside at is. missing_in_found s i e p place entry inside at is;
+    due = due_in s i e p;
   }
 
   -- the salvage of the tree, with what is found behind its entries

@@ -60,7 +60,7 @@ module _ (known : Known) (old new : Gathered) (by : AreGatheredBy known old) (e 
 
   -- one more entry, whose state takes its share
   pub gathers_more : (place : ℕ) → new.entries.items ≡ old.entries.items ++ e ∷ [] → new.places.items ≡ set old.places.items block (Some place) → place ≡ length old.entries.items
-      → IsGiving known.holes.items known.image new.giving → broken_length e.state + new.giving.left ≡ old.giving.left → GivesMore place old.giving.pieces.items new.giving.pieces.items
+      → IsGiving known.holes.items known.image new.giving → broken_length e.state + new.giving.left ≡ old.giving.left → GivesMore known.image block place old.giving.pieces.items new.giving.pieces.items
       → (HasNone old.giving.pieces.items place → TellsMissing known.image new.giving.pieces.items place e.header e.state) → GathersMore known old new × IsSome (place_at new.places.items block)
   gathers_more place grown noted at giving share gives tells =
       let more_headers : headers_of new.entries.items ≡ headers_of old.entries.items ++ block ∷ [] =
@@ -91,7 +91,8 @@ module _ (known : Known) (old new : Gathered) (by : AreGatheredBy known old) (e 
         giving = giving;
         bounded = omega (arith, g.bounded, share, ap broken_total grown, broken_more old.entries.items e);
         counted = counts_more known.before known.left_out known.image old.entries.items new.entries.items old.giving.pieces.items new.giving.pieces.items g.counted e grown
-            (subst (λ (n : ℕ). GivesMore n old.giving.pieces.items new.giving.pieces.items) at gives)
+            (subst (λ (n : ℕ). GivesMore known.image e.header n old.giving.pieces.items new.giving.pieces.items) at
+            (subst (λ (h : ℕ). GivesMore known.image h place old.giving.pieces.items new.giving.pieces.items) (sym is) gives))
             (λ header. subst (λ (n : ℕ). TellsMissing known.image new.giving.pieces.items n e.header e.state) at (tells (λ k d l z. omega (arith, g.counted.within k d l, z, at))));
       } in (
         (

@@ -8,6 +8,7 @@ pub mod Finding
 pub mod Following
 pub mod Answering
 pub mod Marked
+pub mod DueBlocks
 pub mod MissingBlocks
 pub mod Reading
 pub mod Saving

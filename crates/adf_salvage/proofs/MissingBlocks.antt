@@ -3,8 +3,8 @@ use Rattle.std.proofs.Common.{◌≡◌, ◌≢◌, ℕ, zero, suc, ◌+◌, ◌
 use Rattle.std.specs.Prelude.{count_by}
 use Rattle.std.specs.List.{list_any, range_with_len}
 use Rattle.std.proofs.lemmas.Bool.{cases_eq, cases_lt, eq-eqb, ne_eqb}
-use Rattle.std.proofs.lemmas.List.{append-nil, append_assoc, get_or_append_left, get_or_push, length-append}
-use Rattle.std.proofs.lemmas.List.Elements.{All-append, All-nil, All-push}
+use Rattle.std.proofs.lemmas.List.{append-nil, append_assoc, get_or_append_left, get_or_default, get_or_push, length-append}
+use Rattle.std.proofs.lemmas.List.Elements.{All-append, All-cons, All-nil, All-push}
 use Rattle.std.proofs.lemmas.List.Folds.{list_any-append, list_any_none}
 use Rattle.std.proofs.lemmas.List.Sums.{sum_by-append}
 use Rattle.ados_sound.specs.Doubtful.{IsHeader}
@@ -13,6 +13,7 @@ use Rattle.adf_salvage.specs.declared.salvaged.HeaderState.{HeaderState}
 use Rattle.adf_salvage.specs.declared.salvaged.Salvaged.{Salvaged}
 use Rattle.adf_salvage.specs.declared.salvaged.State.{State}
 use Rattle.adf_salvage.specs.declared.salvaged.State.TheVariants.{Broken, Directory, Doubtful, DoubtfulDirectory, Lost, Whole}
+use Rattle.adf_salvage.specs.Due.{IsDue}
 use Rattle.adf_salvage.specs.Missing.{TellsMissing, has_piece, missing_blocks, wanted_blocks}
 unfoldable use Rattle.adf_salvage.specs.Missing.{missing_below}
 use Rattle.adf_salvage.specs.Salvaged.{missing_in}
@@ -114,33 +115,41 @@ tells_damaged image given place file count heading DoubtfulDirectory damaged say
 tells_damaged image given place file count heading Whole damaged says is = absurd damaged
 tells_damaged image given place file count heading Lost damaged says is = absurd damaged
 
--- more blocks for one entry
-pub gives_none : (place : ℕ) (old new : List Piece) → new ≡ old → GivesMore place old new
-gives_none place old new same = record { more = []; added = same ∙ sym (append-nil old); own = All-nil (λ (piece : Piece). piece.place ≡ place) }
+module _ (image : List ℕ) (file place : ℕ) where
+  -- more blocks for one entry
+  pub gives_none : (old new : List Piece) → new ≡ old → GivesMore image file place old new
+  gives_none old new same = record {
+    more = [];
+    added = same ∙ sym (append-nil old);
+    own = All-nil (λ (piece : Piece). piece.place ≡ place);
+    due = All-nil (λ (piece : Piece). IsDue image file piece.at piece.block);
+  }
 
-pub gives_one : (place : ℕ) (old mid new : List Piece) (piece : Piece) → GivesMore place old mid → piece.place ≡ place → new ≡ mid ++ piece ∷ [] → GivesMore place old new
-gives_one place old mid new piece gives own added = record {
-  more = gives.more ++ piece ∷ [];
-  added = added ∙ ap (λ (xs : List Piece). xs ++ piece ∷ []) gives.added ∙ append_assoc old gives.more (piece ∷ []);
-  own = All-push (λ (p : Piece). p.place ≡ place) gives.more piece gives.own own;
-}
+  pub gives_one : (old mid new : List Piece) (piece : Piece) → GivesMore image file place old mid → piece.place ≡ place → IsDue image file piece.at piece.block → new ≡ mid ++ piece ∷ [] → GivesMore image file place old new
+  gives_one old mid new piece gives own due added = record {
+    more = gives.more ++ piece ∷ [];
+    added = added ∙ ap (λ (xs : List Piece). xs ++ piece ∷ []) gives.added ∙ append_assoc old gives.more (piece ∷ []);
+    own = All-push (λ (p : Piece). p.place ≡ place) gives.more piece gives.own own;
+    due = All-push (λ (p : Piece). IsDue image file p.at p.block) gives.more piece gives.due due;
+  }
 
-pub gives_then : (place : ℕ) (old mid new : List Piece) → GivesMore place old mid → GivesMore place mid new → GivesMore place old new
-gives_then place old mid new first second = record {
-  more = first.more ++ second.more;
-  added = second.added ∙ ap (λ (xs : List Piece). xs ++ second.more) first.added ∙ append_assoc old first.more second.more;
-  own = All-append (λ (p : Piece). p.place ≡ place) first.more second.more first.own second.own;
-}
+  pub gives_then : (old mid new : List Piece) → GivesMore image file place old mid → GivesMore image file place mid new → GivesMore image file place old new
+  gives_then old mid new first second = record {
+    more = first.more ++ second.more;
+    added = second.added ∙ ap (λ (xs : List Piece). xs ++ second.more) first.added ∙ append_assoc old first.more second.more;
+    own = All-append (λ (p : Piece). p.place ≡ place) first.more second.more first.own second.own;
+    due = All-append (λ (p : Piece). IsDue image file p.at p.block) first.more second.more first.due second.due;
+  }
 
--- nothing is looked for yet
-pub first_none : (place : ℕ) (old : List Piece) → GivesFirst place 0 0 old old
-first_none place old = record {
-  gives = gives_none place old old refl;
-  below = All-nil (λ (piece : Piece). piece.at < 0);
-  counted = λ none. none_below old place;
-}
+  -- nothing is looked for yet
+  pub first_none : (old : List Piece) → GivesFirst image file place 0 0 old old
+  first_none old = record {
+    gives = gives_none old old refl;
+    below = All-nil (λ (piece : Piece). piece.at < 0);
+    counted = λ none. none_below old place;
+  }
 
-module _ (place i there : ℕ) (old mid : List Piece) (g : GivesFirst place i there old mid) where
+module _ (image : List ℕ) (file place i there : ℕ) (old mid : List Piece) (g : GivesFirst image file place i there old mid) where
   -- data block i is not there, and none behind it
   not_there : HasNone old place → (k : ℕ) → i ≤ k → has_piece mid place k ≡ false
   not_there none k l =
@@ -149,21 +158,23 @@ module _ (place i there : ℕ) (old mid : List Piece) (g : GivesFirst place i th
       ∙ list_any_none (is_for place k) old (λ j d m. other_entry place k (get_or old j d) (none j d m))
 
   -- it is given
-  pub first_given : (piece : Piece) (new : List Piece) → piece.place ≡ place → piece.at ≡ i → new ≡ mid ++ piece ∷ [] → GivesFirst place (i + 1) (there + 1) old new
-  first_given piece new own at added = record {
-    gives = gives_one place old mid new piece g.gives own added;
+  pub first_given : (piece : Piece) (new : List Piece) → piece.place ≡ place → piece.at ≡ i → IsDue image file piece.at piece.block → new ≡ mid ++ piece ∷ [] → GivesFirst image file place (i + 1) (there + 1) old new
+  first_given piece new own at due added = record {
+    gives = gives_one image file place old mid new piece g.gives own due added;
     below = All-push (λ (p : Piece). p.at < i + 1) g.gives.more piece (λ j d m. omega (arith, g.below j d m)) (omega (arith, at));
     counted = λ none.
-        let before : missing_below new place i ≡ missing_below mid place i = missing_same new mid place i (λ k l.
-        ap (λ (given : List Piece). has_piece given place k) added ∙ still_there place k mid (piece ∷ []) (All-push (λ (p : Piece). is_for place k p ≡ false) [] piece (All-nil (λ (p : Piece). is_for place k p ≡ false)) (other_block place k piece (λ e. omega (arith, e, at, l))))) in
+        let alone : (k : ℕ) → k < i → All (λ (p : Piece). is_for place k p ≡ false) (piece ∷ []) = λ k l.
+        All-cons (λ (p : Piece). is_for place k p ≡ false) piece [] (other_block place k piece (λ e. omega (arith, e, at, l))) (All-nil (λ (p : Piece). is_for place k p ≡ false)) in
+        let before : missing_below new place i ≡ missing_below mid place i =
+        missing_same new mid place i (λ k l. ap (λ (given : List Piece). has_piece given place k) added ∙ still_there place k mid (piece ∷ []) (alone k l)) in
         let here : has_piece new place i ≡ true = ap (λ (given : List Piece). has_piece given place i) added ∙ now_there place i mid piece own at in
         let next : missing_below new place (i + 1) ≡ missing_below new place (suc i) = ap (missing_below new place) (omega arith) in
         omega (arith, next, missing_more new place i, ap (λ (b : Bool). cond (not b) 1 0) here, before, g.counted none);
   }
 
   -- it is missing
-  pub first_missing : (new : List Piece) → new ≡ mid → GivesFirst place (i + 1) there old new
-  first_missing new same = subst (GivesFirst place (i + 1) there old) (sym same) (record {
+  pub first_missing : (new : List Piece) → new ≡ mid → GivesFirst image file place (i + 1) there old new
+  first_missing new same = subst (GivesFirst image file place (i + 1) there old) (sym same) (record {
     gives = g.gives;
     below = λ j d m. omega (arith, g.below j d m);
     counted = λ none.
@@ -175,48 +186,76 @@ module _ (place i there : ℕ) (old mid : List Piece) (g : GivesFirst place i th
   pub first_all : (n : ℕ) → i ≤ n → HasNone old place → there + missing_below mid place n ≡ n
   first_all n l none = omega (arith, missing_rest mid place i n l (not_there none), g.counted none)
 
+-- the block is due to its entry
+abbrev IsDueAt : List ℕ → List Salvaged → Piece → Type 0
+IsDueAt image entries piece = (entry : Salvaged) → IsAt entries piece.place entry → IsDue image entry.header piece.at piece.block
+
 -- only the entries that were told before are there
 pub counts_none : (out image : List ℕ) (entries : List Salvaged) (given : List Piece) → given ≡ [] → AreCounted (length entries) out image entries given
 counts_none out image entries given none = record {
   within = subst (All (λ (piece : Piece). piece.place < length entries)) (sym none) (All-nil (λ (piece : Piece). piece.place < length entries));
+  due = subst (All (IsDueAt image entries)) (sym none) (All-nil (IsDueAt image entries));
   counted = λ place entry after inside at is. absurd (omega (arith, after, inside));
 }
 
 module _ (before : ℕ) (out image : List ℕ) (old new : List Salvaged) (given more : List Piece) (are : AreCounted before out image old given) where
+  -- the entry that stood at a position before
+  was_at : (e : Salvaged) → new ≡ old ++ e ∷ [] → (place : ℕ) (entry : Salvaged) → place < length old → IsAt new place entry → IsAt old place entry
+  was_at e grown place entry l at = sym (get_or_append_left old (e ∷ []) entry place l) ∙ ap (λ (xs : List Salvaged). get_or xs place entry) (sym grown) ∙ at
+
+  is_last : (e : Salvaged) → new ≡ old ++ e ∷ [] → (place : ℕ) (entry : Salvaged) → length old ≡ place → IsAt new place entry → e ≡ entry
+  is_last e grown place entry last at = sym (get_or_push old e entry place last) ∙ ap (λ (xs : List Salvaged). get_or xs place entry) (sym grown) ∙ at
+
   -- one more entry, to which these blocks were given
-  pub counts_more : (e : Salvaged) → new ≡ old ++ e ∷ [] → GivesMore (length old) given more → (IsHeader out image e.header → TellsMissing image more (length old) e.header e.state) → AreCounted before out image new more
+  pub counts_more : (e : Salvaged) → new ≡ old ++ e ∷ [] → GivesMore image e.header (length old) given more → (IsHeader out image e.header → TellsMissing image more (length old) e.header e.state) → AreCounted before out image new more
   counts_more e grown gives tells =
       let count : length new ≡ length old + 1 = omega (arith, ap length grown, length-append old (e ∷ [])) in
       record {
         within = subst (All (λ (piece : Piece). piece.place < length new)) (sym gives.added)
             (All-append (λ (piece : Piece). piece.place < length new) given gives.more (λ k d l. omega (arith, are.within k d l, count)) (λ k d l. omega (arith, gives.own k d l, count)));
+        due = subst (All (IsDueAt image new)) (sym gives.added)
+            (All-append (IsDueAt image new) given gives.more
+            (λ k d l entry at. are.due k d l entry (was_at e grown (get_or given k d).place entry (are.within k d l) at))
+            (λ k d l entry at. subst (λ (x : Salvaged). IsDue image x.header (get_or gives.more k d).at (get_or gives.more k d).block)
+            (is_last e grown (get_or gives.more k d).place entry (sym (gives.own k d l)) at) (gives.due k d l)));
         counted = λ place entry after inside at is. elim (cases_lt place (length old)) [
           | inl l ↦
-              (let same : get_or old place entry ≡ entry = sym (get_or_append_left old (e ∷ []) entry place l) ∙ ap (λ (xs : List Salvaged). get_or xs place entry) (sym grown) ∙ at in
               subst (λ (xs : List Piece). TellsMissing image xs place entry.header entry.state) (sym gives.added)
-              (tells_kept image given gives.more place entry.header entry.state (λ k d m z. omega (arith, z, gives.own k d m, l)) (are.counted place entry after l same is)))
+              (tells_kept image given gives.more place entry.header entry.state (λ k d m z. omega (arith, z, gives.own k d m, l)) (are.counted place entry after l (was_at e grown place entry l at) is))
           | inr l ↦
               (let last : length old ≡ place = omega (arith, l, inside, count) in
-              let same : e ≡ entry = sym (get_or_push old e entry place last) ∙ ap (λ (xs : List Salvaged). get_or xs place entry) (sym grown) ∙ at in
+              let same : e ≡ entry = is_last e grown place entry last at in
               subst (λ (n : ℕ). TellsMissing image more n entry.header entry.state) last
               (subst (λ (x : Salvaged). TellsMissing image more (length old) x.header x.state) same (tells (subst (λ (x : Salvaged). IsHeader out image x.header) (sym same) is))))
         ];
       }
 
-  -- an entry without a header that is told, in place of another: blocks were given to it
-  pub counts_set : (place : ℕ) (e : Salvaged) → place < length old → new ≡ set old place e → GivesMore place given more → ¬ IsHeader out image e.header → AreCounted before out image new more
-  counts_set at_place e there replaced gives untold =
+  -- an entry without a header that is told, in place of another with its header: blocks were given to it
+  pub counts_set : (place : ℕ) (e d : Salvaged) → place < length old → new ≡ set old place e → (get_or old place d).header ≡ e.header → GivesMore image e.header place given more → ¬ IsHeader out image e.header
+      → AreCounted before out image new more
+  counts_set at_place e d there replaced header gives untold =
       let count : length new ≡ length old = ap length replaced ∙ length-set old at_place e in
+      let here : (place : ℕ) (entry : Salvaged) → place ≡ at_place → IsAt new place entry → e ≡ entry = λ place entry z at.
+      sym (get_or-set_same old at_place e entry there) ∙ ap (λ (n : ℕ). get_or (set old at_place e) n entry) (sym z) ∙ ap (λ (xs : List Salvaged). get_or xs place entry) (sym replaced) ∙ at in
+      let was : (place : ℕ) (entry : Salvaged) → place ≢ at_place → IsAt new place entry → IsAt old place entry = λ place entry z at.
+      sym (get_or-set_other old at_place place e entry z) ∙ ap (λ (xs : List Salvaged). get_or xs place entry) (sym replaced) ∙ at in
       record {
         within = subst (All (λ (piece : Piece). piece.place < length new)) (sym gives.added)
-            (All-append (λ (piece : Piece). piece.place < length new) given gives.more (λ k d l. omega (arith, are.within k d l, count)) (λ k d l. omega (arith, gives.own k d l, count, there)));
+            (All-append (λ (piece : Piece). piece.place < length new) given gives.more (λ k x l. omega (arith, are.within k x l, count)) (λ k x l. omega (arith, gives.own k x l, count, there)));
+        due = subst (All (IsDueAt image new)) (sym gives.added)
+            (All-append (IsDueAt image new) given gives.more
+            (λ k x l entry at. elim (cases_eq (get_or given k x).place at_place) [
+              | inl z ↦
+                  (let old_entry : Salvaged = get_or old at_place d in
+                  let stood : IsAt old (get_or given k x).place old_entry = ap (λ (n : ℕ). get_or old n old_entry) z ∙ get_or_default old at_place old_entry d there in
+                  subst (λ (h : ℕ). IsDue image h (get_or given k x).at (get_or given k x).block) (header ∙ ap (λ (y : Salvaged). y.header) (here (get_or given k x).place entry z at)) (are.due k x l old_entry stood))
+              | inr z ↦ are.due k x l entry (was (get_or given k x).place entry z at)
+            ])
+            (λ k x l entry at. subst (λ (y : Salvaged). IsDue image y.header (get_or gives.more k x).at (get_or gives.more k x).block) (here (get_or gives.more k x).place entry (gives.own k x l) at) (gives.due k x l)));
         counted = λ place entry after inside at is. elim (cases_eq place at_place) [
-          | inl z ↦
-              (let same : e ≡ entry = sym (get_or-set_same old at_place e entry there) ∙ ap (λ (n : ℕ). get_or (set old at_place e) n entry) (sym z) ∙ ap (λ (xs : List Salvaged). get_or xs place entry) (sym replaced) ∙ at in
-              absurd (untold (subst (λ (x : Salvaged). IsHeader out image x.header) (sym same) is)))
+          | inl z ↦ absurd (untold (subst (λ (x : Salvaged). IsHeader out image x.header) (sym (here place entry z at)) is))
           | inr z ↦
-              (let same : get_or old place entry ≡ entry = sym (get_or-set_other old at_place place e entry z) ∙ ap (λ (xs : List Salvaged). get_or xs place entry) (sym replaced) ∙ at in
               subst (λ (xs : List Piece). TellsMissing image xs place entry.header entry.state) (sym gives.added)
-              (tells_kept image given gives.more place entry.header entry.state (λ k d m w. z (sym w ∙ gives.own k d m)) (are.counted place entry after (omega (arith, inside, count)) same is)))
+              (tells_kept image given gives.more place entry.header entry.state (λ k x m w. z (sym w ∙ gives.own k x m)) (are.counted place entry after (omega (arith, inside, count)) (was place entry z at) is))
         ];
       }

@@ -34,4 +34,5 @@ saves_sound known next gathered deleted s are is = record {
   there = s.giving.there;
   bounded = omega (arith, s.bounded);
   missing = λ place entry inside at told. s.counted.counted place entry (omega arith) inside at (subst (λ (out : List ℕ). IsHeader out known.image entry.header) is told);
+  due = record { within = s.counted.within; due = s.counted.due };
 }

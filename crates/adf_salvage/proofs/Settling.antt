@@ -56,7 +56,7 @@ module _ (known : Known) (next : ℕ) (old new : Gathered) (s : AreSettled known
   -- one more file without a header
   pub settles_more : (e : Salvaged) (header : ℕ) → next ≤ header → (IsSome (place_at old.places.items header) → ⊥) → e.header ≡ header → IsLoose known.left_out known.image header e.state
       → new.entries.items ≡ old.entries.items ++ e ∷ [] → broken_length e.state + new.giving.left ≡ old.giving.left
-      → GivesMore (length old.entries.items) old.giving.pieces.items new.giving.pieces.items → AreSettled known (header + 1) new
+      → GivesMore known.image header (length old.entries.items) old.giving.pieces.items new.giving.pieces.items → AreSettled known (header + 1) new
   settles_more e header after free is loose grown left gives =
       let more_headers : headers_of new.entries.items ≡ headers_of old.entries.items ++ header ∷ [] =
       ap headers_of grown ∙ map-append (λ (entry : Salvaged). entry.header) old.entries.items (e ∷ []) ∙ ap (λ (b : ℕ). headers_of old.entries.items ++ b ∷ []) is in
@@ -82,14 +82,15 @@ module _ (known : Known) (next : ℕ) (old new : Gathered) (s : AreSettled known
             ]);
         giving = giving;
         bounded = omega (arith, s.bounded, ap broken_total grown, broken_more old.entries.items e, left);
-        counted = counts_more 0 known.left_out known.image old.entries.items new.entries.items old.giving.pieces.items new.giving.pieces.items s.counted e grown gives
+        counted = counts_more 0 known.left_out known.image old.entries.items new.entries.items old.giving.pieces.items new.giving.pieces.items s.counted e grown
+            (subst (λ (h : ℕ). GivesMore known.image h (length old.entries.items) old.giving.pieces.items new.giving.pieces.items) (sym is) gives)
             (λ told. absurd (loose.untold (subst (IsHeader known.left_out known.image) is told)));
       }
 
   -- a lost entry became a file without a header
   pub settles_lost : (place : ℕ) (was e d : Salvaged) → place < length old.entries.items → was ≡ get_or old.entries.items place d → e.header ≡ was.header → was.state ≡ Lost
       → IsLoose known.left_out known.image was.header e.state → new.entries.items ≡ set old.entries.items place e → broken_length e.state + new.giving.left ≡ old.giving.left
-      → GivesMore place old.giving.pieces.items new.giving.pieces.items → AreSettled known next new
+      → GivesMore known.image was.header place old.giving.pieces.items new.giving.pieces.items → AreSettled known next new
   settles_lost place was e d inside at same lost loose replaced left gives =
       let there : get_or old.entries.items place e ≡ was = get_or_default old.entries.items place e d inside ∙ sym at in
       let still : headers_of new.entries.items ≡ headers_of old.entries.items =
@@ -104,6 +105,7 @@ module _ (known : Known) (next : ℕ) (old new : Gathered) (s : AreSettled known
         placed = λ b there. subst (λ (ps : List (Option ℕ)). IsSome (place_at ps b) ⊎ (b < next)) (sym places) (s.placed b (subst (λ (xs : List ℕ). Contains xs b) still there));
         giving = giving;
         bounded = omega (arith, s.bounded, ap broken_total replaced, broken_set old.entries.items place e inside, empty, left);
-        counted = counts_set 0 known.left_out known.image old.entries.items new.entries.items old.giving.pieces.items new.giving.pieces.items s.counted place e inside replaced gives
+        counted = counts_set 0 known.left_out known.image old.entries.items new.entries.items old.giving.pieces.items new.giving.pieces.items s.counted place e e inside replaced
+            (ap (λ (entry : Salvaged). entry.header) there ∙ sym same) (subst (λ (h : ℕ). GivesMore known.image h place old.giving.pieces.items new.giving.pieces.items) (sym same) gives)
             (λ told. loose.untold (subst (IsHeader known.left_out known.image) same told));
       }

@@ -1,4 +1,5 @@
 -- What is saved of an image, and the descriptions of entries. Definitions for steps are in `steps`.
+pub mod Due
 pub mod Kind
 pub mod Loose
 pub mod Holes

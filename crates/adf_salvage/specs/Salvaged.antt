@@ -24,6 +24,7 @@ use Rattle.adf_salvage.specs.declared.salvaged.HeaderState.TheVariants as heads
 use Rattle.adf_salvage.specs.declared.salvaged.Salvaged.{Salvaged}
 use Rattle.adf_salvage.specs.declared.salvaged.State.{State}
 use Rattle.adf_salvage.specs.declared.salvaged.State.TheVariants as states
+use Rattle.adf_salvage.specs.Due.{IsDue}
 use Rattle.adf_salvage.specs.Kind.{IsReadAs}
 use Rattle.adf_salvage.specs.Loose.{IsLeft}
 use Rattle.adf_salvage.specs.Lost.{IsLost}
@@ -167,8 +168,13 @@ pub record AreOfTree (t : Tree) (saved : Saved) : Type 0 where
 abbrev pub AreApart : List Piece → Type 0
 AreApart given = AllPairs (λ piece other. piece.block ≢ other.block) given
 
+-- each block is given to an entry, and due to its file
+pub record AreDue (saved : Saved) : Type 0 where
+  pub within : All (λ piece. piece.place < length saved.entries) saved.given
+  pub due : All (λ piece. (entry : Salvaged) → IsAt saved.entries piece.place entry → IsDue saved.image entry.header piece.at piece.block) saved.given
+
 -- the bitmap is trusted or not. The deleted entries are left out, and the entries are all others that are told; no block is given to two files, and no hole
--- to any; each file that is not whole says how many of its blocks are missing, if its header is told; and all these files have together at
+-- to any, and each is due to its file; each file that is not whole says how many of its blocks are missing, if its header is told; and all these files have together at
 -- most four times the bytes of the image
 pub record SavesSound (saved : Saved) : Type 0 where
   pub trust : TellsTrust saved.image saved.trusted
@@ -179,9 +185,10 @@ pub record SavesSound (saved : Saved) : Type 0 where
   pub bounded : broken_total saved.entries ≤ 4 * length saved.image
   pub missing : (place : ℕ) (entry : Salvaged) → place < length saved.entries → IsAt saved.entries place entry → IsHeader saved.deleted saved.image entry.header
       → TellsMissing saved.image saved.given place entry.header entry.state
+  pub due : AreDue saved
 
 -- beside its tree, the entries of an accepted image are the sound headers among its lost blocks, found. Where hidden headers are
--- left out, each has its fields. No block is given to two files, and no hole to any; the files that are not whole say how many of their
+-- left out, each has its fields. No block is given to two files, and no hole to any, and each is due to its file; the files that are not whole say how many of their
 -- blocks are missing, and have together at most four times the bytes of the image
 pub record FindsLost (saved : Saved) : Type 0 where
   pub out : List ℕ
@@ -194,6 +201,7 @@ pub record FindsLost (saved : Saved) : Type 0 where
   pub bounded : broken_total saved.entries ≤ 4 * length saved.image
   pub missing : (place : ℕ) (entry : Salvaged) → place < length saved.entries → IsAt saved.entries place entry → entry.found ≡ true
       → TellsMissing saved.image saved.given place entry.header entry.state
+  pub due : AreDue saved
 
 -- no entry is found
 abbrev pub FindsNone : Saved → Type 0

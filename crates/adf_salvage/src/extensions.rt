@@ -209,14 +209,14 @@ pub(crate) fn give_listed(
     ensures named { IfOk result (λ remains. IfSome remains (λ some. (block : ℕ) × IsLooseExtension known.now.image header block)) }
     ensures giving { OnOk result (IsGiving known.now.holes.items known.now.image giving.new) }
     ensures left { giving.new.left ≡ giving.old.left }
-    ensures more { OnOk result (GivesMore place giving.old.pieces.items giving.new.pieces.items) }
+    ensures more { OnOk result (GivesMore known.now.image header place giving.old.pieces.items giving.new.pieces.items) }
 {
     let image = &known.image;
     let mut taken = Taken { there: 0, last: 0 };
     let mut last: Option<Part> = None;
     for part in parts {
         if is_loose_extension(image, header, part.block) {
-            taken = give_pointers(known, place, *part, taken, giving)?;
+            taken = give_pointers(known, header, place, *part, taken, giving)?;
             last = Some(*part);
         }
     }
@@ -229,16 +229,17 @@ pub(crate) fn give_listed(
 /// Gives a file the data blocks that an extension block of it names. The result is what the file has then.
 fn give_pointers(
     known: &Known,
+    header: u32,
     place: usize,
     part: Part,
     taken: Taken,
     giving: &mut Giving,
 ) -> Result<Taken, AllocError>
-    requires inside { part.block < block_count known.now.image }
+    requires loose { IsLooseExtension known.now.image header part.block }
     requires giving { IsGiving known.now.holes.items known.now.image giving.old }
     ensures giving { OnOk result (IsGiving known.now.holes.items known.now.image giving.new) }
     ensures left { giving.new.left ≡ giving.old.left }
-    ensures more { OnOk result (GivesMore place giving.old.pieces.items giving.new.pieces.items) }
+    ensures more { OnOk result (GivesMore known.now.image header place giving.old.pieces.items giving.new.pieces.items) }
 {
     let image = &known.image;
     let before = part.number.saturating_mul(TABLE_LONGS);

@@ -1,8 +1,11 @@
 //! The blocks given to files that are not whole, each to one.
-ghost use Rattle.std.specs.Prelude.{◌≡◌, ◌<◌, ◌≤◌, ◌*◌, ◌++◌, ◌∷◌, [], ℕ, Bool, List, length, IfOk, IfSome, IsTrue, OnOk};
+ghost use Rattle.std.specs.Prelude.{◌≡◌, ◌<◌, ◌≤◌, ◌*◌, ◌++◌, ◌∷◌, [], ℕ, Bool, List, if◌then◌else◌, length, IfOk, IfSome, IsTrue, OnOk};
 ghost use Rattle.adf_block.specs.Fields.{format_of};
+ghost use Rattle.adf_block.specs.declared.layout.Format.TheVariants.{Ofs};
+ghost use Rattle.ados_sound.specs.Doubtful.{IsOwnData};
 ghost use Rattle.adf_block.specs.Image.{block_count};
 ghost use Rattle.ados_model.specs.Tree.{data_start};
+ghost use Rattle.adf_salvage.specs.Due.{CountsAsExtension, IsDue, IsPointerBlock, right_fields};
 ghost use Rattle.adf_salvage.specs.Missing.{missing_blocks};
 ghost use Rattle.adf_salvage.specs.steps.Counting.{GivesMore, HasNone};
 ghost use Rattle.adf_salvage.specs.steps.Giving.{AreHolesMarked, IsGiving, IsOpen};
@@ -94,7 +97,7 @@ impl Giving {
         requires giving { IsGiving known.now.holes.items known.now.image self.old }
         ensures giving { OnOk result (IsGiving known.now.holes.items known.now.image self.new) }
         ensures left { self.new.left ≡ self.old.left }
-        ensures more { OnOk result (GivesMore place self.old.pieces.items self.new.pieces.items) }
+        ensures more { OnOk result (GivesMore known.now.image file place self.old.pieces.items self.new.pieces.items) }
         ensures missing { IfOk result (λ remains. HasNone self.old.pieces.items place → missing_blocks known.now.image self.new.pieces.items place file ≡ remains.missing) }
     {
         let image = &known.image;
@@ -157,8 +160,10 @@ impl Giving {
         requires file { file < block_count image.now }
         requires holder { IfSome way.holder (λ block. block < block_count image.now) }
         requires before { IfSome way.before (λ block. block < block_count image.now) }
+        requires holds { IfSome way.holder (IsPointerBlock image.now file) }
         requires size { length self.now.given.items ≡ block_count image.now }
-        ensures { IfSome result (IsOpen self.now.given.items) }
+        ensures open { IfSome result (IsOpen self.now.given.items) }
+        ensures due { IfSome result (IsDue image.now file i) }
     {
         if let Some(holder) = way.holder {
             if i % TABLE_LONGS < image.long(holder, POINTER_COUNT) {
@@ -179,7 +184,8 @@ impl Giving {
     fn is_piece(&self, image: &Image, file: u32, i: u32, block: u32) -> bool
         requires file { file < block_count image.now }
         requires size { length self.now.given.items ≡ block_count image.now }
-        ensures { IsTrue result → IsOpen self.now.given.items block }
+        ensures open { IsTrue result → IsOpen self.now.given.items block }
+        ensures own { IsTrue result → format_of image.now ≡ Ofs → IsOwnData image.now file i block }
     {
         if block < BOOT_BLOCKS || block >= image.blocks() || self.given[block as usize] {
             return false;
@@ -195,6 +201,7 @@ impl Giving {
         requires holder { IfSome holder (λ block. block < block_count known.now.image) }
         requires giving { IsGiving known.now.holes.items known.now.image self.old }
         ensures holder { IfSome result (λ block. block < block_count known.now.image) }
+        ensures holds { IfSome result (IsPointerBlock known.now.image file) }
         ensures giving { IsGiving known.now.holes.items known.now.image self.new }
         ensures left { self.new.left ≡ self.old.left }
         ensures pieces { self.new.pieces ≡ self.old.pieces }
@@ -218,18 +225,33 @@ impl Giving {
 /// one, and its checksum is wrong.
 fn counts_as_extension(image: &Image, file: u32, block: u32) -> bool
     requires { block < block_count image.now }
+    ensures { IsTrue result → CountsAsExtension image.now file block }
 {
-    let types = u32::from(image.long(block, PRIMARY_TYPE) == LIST_TYPE).saturating_add(u32::from(
-        image.long(block, SECONDARY_TYPE) == FILE_TYPE,
-    ));
-    let numbers = u32::from(image.long(block, OWN_KEY) == block).saturating_add(u32::from(
-        image.long(block, PARENT) == file,
-    ));
-    match types.saturating_add(numbers) {
+    match right_fields(image, file, block) {
         4 => true,
         3 => image.sum(block) != 0,
         _ => false,
     }
+}
+
+/// How many of four fields are right that an extension block of a file has: its types, its own number and its file.
+fn right_fields(image: &Image, file: u32, block: u32) -> u32
+    requires { block < block_count image.now }
+    ensures { result ≡ right_fields image.now file block }
+{
+    let types = one_if(image.long(block, PRIMARY_TYPE) == LIST_TYPE)
+        + one_if(image.long(block, SECONDARY_TYPE) == FILE_TYPE);
+    let numbers =
+        one_if(image.long(block, OWN_KEY) == block) + one_if(image.long(block, PARENT) == file);
+    types + numbers
+}
+
+/// 1 if something is so, and else 0.
+fn one_if(is: bool) -> u32
+    ensures value { result ≡ (if is then 1 else 0) }
+    ensures small { result ≤ 1 }
+{
+    if is { 1 } else { 0 }
 }
 
 /// Marks the root, and the bitmap blocks that it names if it has the type of a root.

@@ -17,7 +17,7 @@ use adf_block::layout::{
     BOOT_BLOCKS, DATA_TYPE, HELD, NEXT_DATA, OFS_ROOM, OWN_KEY, PRIMARY_TYPE, SEQUENCE,
 };
 use adf_block::{Format, Image};
-use ados_sound::{Known, is_used};
+use ados_sound::{Known, is_own_data, is_used};
 use std::alloc::AllocError;
 
 /// A block of a file whose header is not told: in OFS a data block, in FFS an extension block.
@@ -179,7 +179,7 @@ fn loose_state(
     ensures state { IfOk result (λ state. IfSome state (IsLoose known.now.left_out known.now.image header)) }
     ensures giving { OnOk result (IsGiving known.now.holes.items known.now.image giving.new) }
     ensures left { IfOk result (λ state. MatchOption state (giving.new.left ≡ giving.old.left) (λ state. broken_length state + giving.new.left ≡ giving.old.left)) }
-    ensures more { OnOk result (GivesMore place giving.old.pieces.items giving.new.pieces.items) }
+    ensures more { OnOk result (GivesMore known.now.image header place giving.old.pieces.items giving.new.pieces.items) }
 {
     if known.is_header(header) {
         return Ok(None);
@@ -206,7 +206,7 @@ fn give(
     ensures named { IfOk result (λ remains. IfSome remains (λ some. (block : ℕ) × IsLeft known.now.image header block)) }
     ensures giving { OnOk result (IsGiving known.now.holes.items known.now.image giving.new) }
     ensures left { giving.new.left ≡ giving.old.left }
-    ensures more { OnOk result (GivesMore place giving.old.pieces.items giving.new.pieces.items) }
+    ensures more { OnOk result (GivesMore known.now.image header place giving.old.pieces.items giving.new.pieces.items) }
 {
     match known.image.format() {
         Format::Ofs => give_data(known, header, place, parts, giving),
@@ -227,19 +227,21 @@ fn give_data(
     ensures named { IfOk result (λ remains. IfSome remains (λ some. (block : ℕ) × IsLooseData known.now.image header block)) }
     ensures giving { OnOk result (IsGiving known.now.holes.items known.now.image giving.new) }
     ensures left { giving.new.left ≡ giving.old.left }
-    ensures more { OnOk result (GivesMore place giving.old.pieces.items giving.new.pieces.items) }
+    ensures more { OnOk result (GivesMore known.now.image header place giving.old.pieces.items giving.new.pieces.items) }
 {
     let image = &known.image;
     let mut there = 0_u32;
     let mut last: Option<Part> = None;
     for part in parts {
+        let at = part.number.saturating_sub(1);
         if !last.is_some_and(|last| last.number == part.number)
             && is_loose(image, header, part.block)
+            && is_own_data(image, header, at, part.block)
             && giving.is_open(part.block)
         {
             giving.note(Piece {
                 place,
-                at: part.number.saturating_sub(1),
+                at,
                 block: part.block,
             })?;
             there = there.saturating_add(1);

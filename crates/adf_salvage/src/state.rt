@@ -27,7 +27,7 @@ pub(crate) fn state_of(
     ensures state { IfOk result (HasState known.now.left_out known.now.holes.items known.now.image block) }
     ensures giving { OnOk result (IsGiving known.now.holes.items known.now.image giving.new) }
     ensures left { IfOk result (λ state. broken_length state + giving.new.left ≡ giving.old.left) }
-    ensures more { OnOk result (GivesMore place giving.old.pieces.items giving.new.pieces.items) }
+    ensures more { OnOk result (GivesMore known.now.image block place giving.old.pieces.items giving.new.pieces.items) }
     ensures missing { IfOk result (λ state. HasNone giving.old.pieces.items place → TellsMissing known.now.image giving.new.pieces.items place block state) }
 {
     let image = &known.image;

@@ -9,7 +9,7 @@ pub loop-part-init : goal.loop-part-init
 loop-part-init c = record {
   giving = c.requires;
   left = refl;
-  more = gives_none c.args.place c.args.giving.now.pieces.items c.args.giving.now.pieces.items refl;
+  more = gives_none c.args.known.now.image c.args.header c.args.place c.args.giving.now.pieces.items c.args.giving.now.pieces.items refl;
   named = tt;
 }
 
@@ -19,9 +19,9 @@ loop-part-preserved c = record {
   left = search rules;
   more = elim c.if-is_loose_extension.branch [
     | then-is_loose_extension+in_ok-give_pointers w ↦
-        subst (λ (giving : Giving). GivesMore c.args.place c.args.giving.now.pieces.items giving.pieces.items) (sym w.giving-is)
-        (gives_then c.args.place c.args.giving.now.pieces.items c.loop-part.giving.pieces.items w.give_pointers.new.giving.pieces.items c.loop-part.invariant.more w.in_ok-give_pointers.ensures.more)
-    | else-is_loose_extension w ↦ subst (λ (giving : Giving). GivesMore c.args.place c.args.giving.now.pieces.items giving.pieces.items) (sym w.giving-is) c.loop-part.invariant.more
+        subst (λ (giving : Giving). GivesMore c.args.known.now.image c.args.header c.args.place c.args.giving.now.pieces.items giving.pieces.items) (sym w.giving-is)
+        (gives_then c.args.known.now.image c.args.header c.args.place c.args.giving.now.pieces.items c.loop-part.giving.pieces.items w.give_pointers.new.giving.pieces.items c.loop-part.invariant.more w.in_ok-give_pointers.ensures.more)
+    | else-is_loose_extension w ↦ subst (λ (giving : Giving). GivesMore c.args.known.now.image c.args.header c.args.place c.args.giving.now.pieces.items giving.pieces.items) (sym w.giving-is) c.loop-part.invariant.more
   ];
   named = search rules;
 }

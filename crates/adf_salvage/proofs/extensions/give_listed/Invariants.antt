@@ -7,6 +7,6 @@ abbrev pub invariant-loop-part : goal.invariant-loop-part
 invariant-loop-part l = record {
   giving : IsGiving l.known.holes.items l.known.image l.giving;
   left : l.giving.left ≡ l.initial.giving.left;
-  more : GivesMore l.place l.initial.giving.pieces.items l.giving.pieces.items;
+  more : GivesMore l.known.image l.header l.place l.initial.giving.pieces.items l.giving.pieces.items;
   named : IfSome l.last (λ part. IsLooseExtension l.known.image l.header part.block);
 }

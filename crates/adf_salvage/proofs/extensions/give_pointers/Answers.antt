@@ -1,6 +1,7 @@
 use Rattle.adf_salvage.specs.steps.Counting.{GivesMore}
+use Rattle.adf_salvage.proofs.DueBlocks.{due_listed}
 use Rattle.adf_salvage.proofs.MissingBlocks.{gives_none, gives_one}
-use Rattle.adf_salvage.proofs.Common.{refl, sym, subst, Giving, IsGiving}
+use Rattle.adf_salvage.proofs.Common.{arith, refl, sym, subst, Giving, IsGiving}
 use Rattle.std.proofs.Common.{rules}
 use Rattle.adf_salvage.proofs.extensions.give_pointers.Goals as goal
 use Rattle.adf_salvage.proofs.extensions.give_pointers.Goals.{then-block-ge-BOOT_BLOCKS+then-is_open+in_ok-note, else-block-ge-BOOT_BLOCKS}
@@ -9,7 +10,7 @@ pub loop-i-init : goal.loop-i-init
 loop-i-init c = record {
   giving = c.requires.giving;
   left = refl;
-  more = gives_none c.args.place c.args.giving.now.pieces.items c.args.giving.now.pieces.items refl;
+  more = gives_none c.args.known.now.image c.args.header c.args.place c.args.giving.now.pieces.items c.args.giving.now.pieces.items refl;
 }
 
 pub loop-i-preserved : goal.loop-i-preserved
@@ -25,8 +26,9 @@ loop-i-preserved c =
       left = search rules;
       more = elim c.if-block-ge-BOOT_BLOCKS.branch [
         | then-block-ge-BOOT_BLOCKS+then-is_open+in_ok-note w ↦
-            subst (λ (giving : Giving). GivesMore c.args.place c.args.giving.now.pieces.items giving.pieces.items) (sym w.giving-is)
-            (gives_one c.args.place c.args.giving.now.pieces.items c.loop-i.giving.pieces.items w.note.new.self.pieces.items _ c.loop-i.invariant.more refl w.in_ok-note.ensures.pieces)
-        | else-block-ge-BOOT_BLOCKS w ↦ subst (λ (giving : Giving). GivesMore c.args.place c.args.giving.now.pieces.items giving.pieces.items) (sym w.giving-is) c.loop-i.invariant.more
+            subst (λ (giving : Giving). GivesMore image c.args.header c.args.place c.args.giving.now.pieces.items giving.pieces.items) (sym w.giving-is)
+            (gives_one image c.args.header c.args.place c.args.giving.now.pieces.items c.loop-i.giving.pieces.items w.note.new.giving.pieces.items _ c.loop-i.invariant.more refl
+            (due_listed image c.args.header c.args.part.block _ c.loop-i.i _ c.requires.loose (omega arith) (omega arith) refl) w.in_ok-note.ensures.pieces)
+        | else-block-ge-BOOT_BLOCKS w ↦ subst (λ (giving : Giving). GivesMore image c.args.header c.args.place c.args.giving.now.pieces.items giving.pieces.items) (sym w.giving-is) c.loop-i.invariant.more
       ];
     }

@@ -6,5 +6,5 @@ abbrev pub invariant-loop-i : goal.invariant-loop-i
 invariant-loop-i l = record {
   giving : IsGiving l.known.holes.items l.known.image l.giving;
   left : l.giving.left ≡ l.initial.giving.left;
-  more : GivesMore l.place l.initial.giving.pieces.items l.giving.pieces.items;
+  more : GivesMore l.known.image l.header l.place l.initial.giving.pieces.items l.giving.pieces.items;
 }

@@ -17,5 +17,5 @@ returns-in-Some c =
     (λ some. let both : false ≡ true = sym c.if-has.false ∙ c.has.ensures.1 some in absurd (cc both)) more.1
     (subst (IsLoose out image c.args.header) (sym more.2) loose) more.3
     (omega (arith, ap broken_length more.2, ap (λ (g : Giving). g.left) c.add_loose.ensures.giving, left))
-    (subst (λ (n : ℕ). GivesMore n c.args.gathered.now.giving.pieces.items c.add_loose.new.self.giving.pieces.items) (c.len-place.ensures ∙ c.args.gathered.now.entries.ok.0)
-    (subst (λ (g : Giving). GivesMore c.len-place.result c.args.gathered.now.giving.pieces.items g.pieces.items) (sym c.add_loose.ensures.giving) c.in_ok-state.ensures.more))) c.add_loose.ensures.entries
+    (subst (λ (n : ℕ). GivesMore image c.args.header n c.args.gathered.now.giving.pieces.items c.add_loose.new.self.giving.pieces.items) (c.len-place.ensures ∙ c.args.gathered.now.entries.ok.0)
+    (subst (λ (g : Giving). GivesMore image c.args.header c.len-place.result c.args.gathered.now.giving.pieces.items g.pieces.items) (sym c.add_loose.ensures.giving) c.in_ok-state.ensures.more))) c.add_loose.ensures.entries

@@ -1,4 +1,5 @@
 use Rattle.adf_salvage.proofs.Common.{◌≡◌, ℕ, ◌+◌, get_or, IfSome, MatchOption, Option, refl, sym, ap, ◌∙◌, subst, get_or_default, Salvaged, State, Lost, IsLoose, broken_length}
+use Rattle.adf_salvage.specs.steps.Counting.{GivesMore}
 use Rattle.adf_salvage.proofs.Settling.{settles_lost}
 use Rattle.adf_salvage.proofs.loose.replace.Goals as goal
 
@@ -27,4 +28,5 @@ returns-in-Some-clause-settled c =
     let left : broken_length e.state + c.loose_state.new.giving.left ≡ c.args.gathered.now.giving.left =
     subst (λ (o : Option State). MatchOption o (c.loose_state.new.giving.left ≡ c.args.gathered.now.giving.left) (λ state. broken_length state + c.loose_state.new.giving.left ≡ c.args.gathered.now.giving.left))
     c.in-Some.is c.in_ok-state.ensures.left in
-    settles_lost c.args.known.now 0 c.args.gathered.now _ c.requires.settled refl c.in_ok-state.ensures.giving c.args.place was e _ c.requires.place c.index_mut.ensures.value refl lost loose refl left c.in_ok-state.ensures.more
+    settles_lost c.args.known.now 0 c.args.gathered.now _ c.requires.settled refl c.in_ok-state.ensures.giving c.args.place was e _ c.requires.place c.index_mut.ensures.value refl lost loose refl left
+    (subst (λ (h : ℕ). GivesMore image h c.args.place c.args.gathered.now.giving.pieces.items c.loose_state.new.giving.pieces.items) (sym same) c.in_ok-state.ensures.more)
