@@ -145,23 +145,27 @@ module _ (image : List ℕ) (file place : ℕ) where
   pub first_none : (old : List Piece) → GivesFirst image file place 0 0 old old
   first_none old = record {
     gives = gives_none old old refl;
-    below = All-nil (λ (piece : Piece). piece.at < 0);
+    below = λ none k d l own. absurd (none k d l own);
     counted = λ none. none_below old place;
   }
 
 module _ (image : List ℕ) (file place i there : ℕ) (old mid : List Piece) (g : GivesFirst image file place i there old mid) where
   -- data block i is not there, and none behind it
   not_there : HasNone old place → (k : ℕ) → i ≤ k → has_piece mid place k ≡ false
-  not_there none k l =
-      ap (λ (given : List Piece). has_piece given place k) g.gives.added
-      ∙ still_there place k old g.gives.more (λ j d m. other_block place k (get_or g.gives.more j d) (λ e. omega (arith, e, g.below j d m, l)))
-      ∙ list_any_none (is_for place k) old (λ j d m. other_entry place k (get_or old j d) (none j d m))
+  not_there none k l = list_any_none (is_for place k) mid (λ j d m. other (get_or mid j d) (g.below none j d m))
+    where
+      other : (piece : Piece) → (piece.place ≡ place → piece.at < i) → is_for place k piece ≡ false
+      other piece below = elim (cases_eq piece.place place) [
+        | inl own ↦ other_block place k piece (λ e. omega (arith, e, below own, l))
+        | inr differ ↦ other_entry place k piece differ
+      ]
 
   -- it is given
   pub first_given : (piece : Piece) (new : List Piece) → piece.place ≡ place → piece.at ≡ i → IsDue image file piece.at piece.block → new ≡ mid ++ piece ∷ [] → GivesFirst image file place (i + 1) (there + 1) old new
   first_given piece new own at due added = record {
     gives = gives_one image file place old mid new piece g.gives own due added;
-    below = All-push (λ (p : Piece). p.at < i + 1) g.gives.more piece (λ j d m. omega (arith, g.below j d m)) (omega (arith, at));
+    below = λ none. subst (All (λ (p : Piece). p.place ≡ place → p.at < i + 1)) (sym added)
+        (All-push (λ (p : Piece). p.place ≡ place → p.at < i + 1) mid piece (λ j d m is. omega (arith, g.below none j d m is)) (λ is. omega (arith, at)));
     counted = λ none.
         let alone : (k : ℕ) → k < i → All (λ (p : Piece). is_for place k p ≡ false) (piece ∷ []) = λ k l.
         All-cons (λ (p : Piece). is_for place k p ≡ false) piece [] (other_block place k piece (λ e. omega (arith, e, at, l))) (All-nil (λ (p : Piece). is_for place k p ≡ false)) in
@@ -176,7 +180,7 @@ module _ (image : List ℕ) (file place i there : ℕ) (old mid : List Piece) (g
   pub first_missing : (new : List Piece) → new ≡ mid → GivesFirst image file place (i + 1) there old new
   first_missing new same = subst (GivesFirst image file place (i + 1) there old) (sym same) (record {
     gives = g.gives;
-    below = λ j d m. omega (arith, g.below j d m);
+    below = λ none j d m is. omega (arith, g.below none j d m is);
     counted = λ none.
         let next : missing_below mid place (i + 1) ≡ missing_below mid place (suc i) = ap (missing_below mid place) (omega arith) in
         omega (arith, next, missing_more mid place i, ap (λ (b : Bool). cond (not b) 1 0) (not_there none i (omega arith)), g.counted none);

@@ -21,7 +21,7 @@ HasNone given place = All (λ piece. piece.place ≢ place) given
 -- blocks were given to the entry at this position for so many of its first data blocks
 pub record GivesFirst (image : List ℕ) (file place first there : ℕ) (old new : List Piece) : Type 0 where
   pub gives : GivesMore image file place old new
-  pub below : All (λ piece. piece.at < first) gives.more
+  pub below : HasNone old place → All (λ piece. piece.place ≡ place → piece.at < first) new
   pub counted : HasNone old place → there + missing_below new place first ≡ first
 
 -- blocks were given only to these entries, and each is due to its entry. Behind as many as were told before, the state of each with a header that is told says how many

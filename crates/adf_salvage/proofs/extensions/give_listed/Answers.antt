@@ -20,7 +20,7 @@ loop-part-preserved c = record {
   more = elim c.if-is_loose_extension.branch [
     | then-is_loose_extension+in_ok-give_pointers w ↦
         subst (λ (giving : Giving). GivesMore c.args.known.now.image c.args.header c.args.place c.args.giving.now.pieces.items giving.pieces.items) (sym w.giving-is)
-        (gives_then c.args.known.now.image c.args.header c.args.place c.args.giving.now.pieces.items c.loop-part.giving.pieces.items w.give_pointers.new.giving.pieces.items c.loop-part.invariant.more w.in_ok-give_pointers.ensures.more)
+        (gives_then c.args.known.now.image c.args.header c.args.place c.args.giving.now.pieces.items c.loop-part.giving.pieces.items _ c.loop-part.invariant.more w.in_ok-give_pointers.ensures.more)
     | else-is_loose_extension w ↦ subst (λ (giving : Giving). GivesMore c.args.known.now.image c.args.header c.args.place c.args.giving.now.pieces.items giving.pieces.items) (sym w.giving-is) c.loop-part.invariant.more
   ];
   named = search rules;

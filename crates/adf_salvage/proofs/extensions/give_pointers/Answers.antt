@@ -27,7 +27,7 @@ loop-i-preserved c =
       more = elim c.if-block-ge-BOOT_BLOCKS.branch [
         | then-block-ge-BOOT_BLOCKS+then-is_open+in_ok-note w ↦
             subst (λ (giving : Giving). GivesMore image c.args.header c.args.place c.args.giving.now.pieces.items giving.pieces.items) (sym w.giving-is)
-            (gives_one image c.args.header c.args.place c.args.giving.now.pieces.items c.loop-i.giving.pieces.items w.note.new.giving.pieces.items _ c.loop-i.invariant.more refl
+            (gives_one image c.args.header c.args.place c.args.giving.now.pieces.items c.loop-i.giving.pieces.items _ _ c.loop-i.invariant.more refl
             (due_listed image c.args.header c.args.part.block _ c.loop-i.i _ c.requires.loose (omega arith) (omega arith) refl) w.in_ok-note.ensures.pieces)
         | else-block-ge-BOOT_BLOCKS w ↦ subst (λ (giving : Giving). GivesMore image c.args.header c.args.place c.args.giving.now.pieces.items giving.pieces.items) (sym w.giving-is) c.loop-i.invariant.more
       ];

@@ -28,7 +28,7 @@ loop-part-preserved c =
       more = elim c.if-not-is_some_and.branch [
         | then-not-is_some_and+then-is_loose+then-is_own_data+then-is_open+in_ok-note w ↦
             subst (λ (giving : Giving). GivesMore c.args.known.now.image c.args.header c.args.place c.args.giving.now.pieces.items giving.pieces.items) (sym w.giving-is)
-            (gives_one image c.args.header c.args.place c.args.giving.now.pieces.items c.loop-part.giving.pieces.items w.note.new.giving.pieces.items _ c.loop-part.invariant.more refl
+            (gives_one image c.args.header c.args.place c.args.giving.now.pieces.items c.loop-part.giving.pieces.items _ _ c.loop-part.invariant.more refl
             (due_own image c.args.header _ _ (w.is_loose.ensures w.if-is_loose.true).kind (w.is_own_data.ensures.0 w.if-is_own_data.true)) w.in_ok-note.ensures.pieces)
         | else-not-is_some_and w ↦ subst (λ (giving : Giving). GivesMore c.args.known.now.image c.args.header c.args.place c.args.giving.now.pieces.items giving.pieces.items) (sym w.giving-is) c.loop-part.invariant.more
       ];

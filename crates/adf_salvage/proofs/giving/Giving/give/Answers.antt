@@ -43,7 +43,7 @@ loop-i-preserved c =
       | in-Some+in_ok-note w ↦
           subst (λ (n : ℕ). GivesFirst image file place (i + 1) n old c.match-found.self.pieces.items) (sym w.there-is)
           (subst (λ (giving : Giving). GivesFirst image file place (i + 1) (c.loop-i.there + 1) old giving.pieces.items) (sym w.self-is)
-          (first_given image file place i c.loop-i.there old c.loop-i.self.pieces.items c.loop-i.invariant.first _ w.note.new.self.pieces.items refl refl (subst (λ (o : Option ℕ). IfSome o (IsDue image file i)) w.in-Some.is c.block_at-found.ensures.due) w.in_ok-note.ensures.pieces))
+          (first_given image file place i c.loop-i.there old c.loop-i.self.pieces.items c.loop-i.invariant.first _ _ refl refl (subst (λ (o : Option ℕ). IfSome o (IsDue image file i)) w.in-Some.is c.block_at-found.ensures.due) w.in_ok-note.ensures.pieces))
       | in_default w ↦
           subst (λ (n : ℕ). GivesFirst image file place (i + 1) n old c.match-found.self.pieces.items) (sym w.there-is)
           (subst (λ (giving : Giving). GivesFirst image file place (i + 1) c.loop-i.there old giving.pieces.items) (sym w.self-is)
