@@ -1,17 +1,19 @@
--- Items whose names in a directory differ.
-use Rattle.std.proofs.Common.{◌≡◌, ◌≢◌, ℕ, suc, ◌+◌, ◌<◌, ◌≤◌, ◌⊎◌, inl, inr, Bool, true, false, cond, List, [], ◌∷◌, ◌++◌, length, All, AllPairs, get_or, Option, None, Some, refl, sym, ap, ap₂, subst, ◌∙◌, arith}
+-- Items whose names in a directory differ, and the files among them.
+use Rattle.std.proofs.Common.{◌≡◌, ◌≢◌, ℕ, suc, ◌+◌, ◌<◌, ◌≤◌, ◌⊎◌, inl, inr, Bool, true, false, cond, List, [], ◌∷◌, ◌++◌, length, All, AllPairs, get_or, take, Option, None, Some, refl, sym, ap, ap₂, subst, ◌∙◌, arith}
 use Rattle.std.specs.Prelude.{codes, decimal}
 use Rattle.std.specs.BTreeSet.{contains_text}
 use Rattle.std.specs.Str.{bytes_eq}
 use Rattle.std.proofs.lemmas.Bool.{cases_eq, cases_lt, cond-true, cond-false, false_from_ne_true, true≢false}
-use Rattle.std.proofs.lemmas.List.{get_or_default, length-append, same_from_push}
+use Rattle.std.proofs.lemmas.List.{append-nil, append_assoc, get_or_default, length-append, length-take-le, same_from_push, take_more}
 use Rattle.std.proofs.lemmas.List.Elements.{All-cons, All-nil, All-push}
 use Rattle.std.proofs.lemmas.List.Quantifiers.{all_pairs_push}
 use Rattle.std.proofs.lemmas.Slice.Eq.{bytes_eq-Decides}
 use Rattle.host_trees.specs.Notes.{note_of}
 use Rattle.host_trees.specs.declared.items.HostItem.{HostItem}
-use Rattle.adf_rescue.specs.Paths.{ArePathsApart, HasPath, IsItem}
+unfoldable use Rattle.adf_rescue.specs.Paths.{files_from}
+use Rattle.adf_rescue.specs.Paths.{ArePathsApart, HasPath, IsItem, file_at}
 use Rattle.adf_rescue.specs.Paths.HasPath.{at_top, below}
+use Rattle.adf_salvage.specs.declared.salvaged.Salvaged.{Salvaged}
 use Rattle.adf_rescue.specs.declared.sourced.SourcedItems.{SourcedItems}
 use Rattle.adf_rescue.specs.steps.Sourcing.{AreApart, AreNamedApart, IsFree, IsFreeName, IsInUse, place_text}
 
@@ -129,3 +131,23 @@ module _ (items : List HostItem) (apart : AllPairs AreNamedApart items) where
 
 pub paths_apart : (out : SourcedItems) → AreApart out → ArePathsApart out.items.items
 paths_apart out a = same_item out.items.items a.apart
+
+pub no_files : (place : ℕ) → files_from place [] ≡ []
+unfolding files_from
+no_files place = refl
+
+files_push : (place : ℕ) (xs : List Salvaged) (e : Salvaged) → files_from place (xs ++ e ∷ []) ≡ files_from place xs ++ file_at (place + length xs) e.state
+unfolding files_from
+files_push place [] e = append-nil (file_at place e.state) ∙ ap (λ (n : ℕ). file_at n e.state) (omega arith)
+files_push place (x ∷ xs) e =
+    let next : place + 1 + length xs ≡ place + length (x ∷ xs) = omega arith in
+    ap (λ (l : List ℕ). file_at place x.state ++ l) (files_push (place + 1) xs e ∙ ap (λ (n : ℕ). files_from (place + 1) xs ++ file_at n e.state) next)
+    ∙ sym (append_assoc (file_at place x.state) (files_from (place + 1) xs) (file_at (place + length (x ∷ xs)) e.state))
+
+-- the files, with those of one more entry
+pub files_more : (entries : List Salvaged) (place : ℕ) (entry : Salvaged) → place < length entries → get_or entries place entry ≡ entry
+    → files_from 0 (take (place + 1) entries) ≡ files_from 0 (take place entries) ++ file_at place entry.state
+files_more entries place entry inside at =
+    let all : take (place + 1) entries ≡ take place entries ++ entry ∷ [] = take_more entries place entry inside ∙ ap (λ (e : Salvaged). take place entries ++ e ∷ []) at in
+    let count : 0 + length (take place entries) ≡ place = omega (arith, length-take-le place entries (omega arith)) in
+    ap (files_from 0) all ∙ files_push 0 (take place entries) entry ∙ ap (λ (n : ℕ). files_from 0 (take place entries) ++ file_at n entry.state) count

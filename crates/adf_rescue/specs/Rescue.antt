@@ -1,5 +1,5 @@
 -- The report on a damaged image after everything that can be trusted was written.
-use Rattle.std.specs.Prelude.{◌≡◌, ◌<◌, ℕ, Bool, true, false, List, [], ◌∷◌, ◌++◌, ◌==◌, codes, decimal, length, Option, Some, None, if◌then◌else◌, ⊤}
+use Rattle.std.specs.Prelude.{◌≡◌, ◌<◌, ℕ, Bool, true, false, List, [], ◌∷◌, ◌++◌, ◌==◌, codes, flat_map, decimal, length, Option, Some, None, if◌then◌else◌, ⊤}
 use Rattle.adf_block.specs.Fields.{format_of}
 use Rattle.adf_salvage.specs.Holes.{SalvagesBeside}
 use Rattle.adf_salvage.specs.Salvaged.{Saved}
@@ -9,7 +9,8 @@ use Rattle.adf_salvage.specs.declared.salvaged.State.{State}
 use Rattle.adf_salvage.specs.declared.salvaged.State.TheVariants.{Directory, DoubtfulDirectory, Whole, Doubtful, Lost, Broken}
 use Rattle.adf_salvage.specs.Saved.{HasBytes, IsAt}
 use Rattle.adf_account.specs.Account.{AreUnaccounted}
-use Rattle.adf_rescue.specs.Paths.{ArePathsApart}
+use Rattle.adf_rescue.specs.Paths.{ArePathsApart, files_from}
+use Rattle.adf_rescue.specs.Undelete.{file_in}
 use Rattle.adf_rescue.specs.RescueObject.{IsReportObject, has_sums}
 use Rattle.adf_rescue.specs.declared.sourced.Source.{Source}
 use Rattle.adf_rescue.specs.declared.sourced.Source.TheVariants.{File}
@@ -86,10 +87,11 @@ pub record AreRescued (json : Bool) (saved : Saved) (unaccounted : List ℕ) (ac
 abbrev pub AreSomeRescued : Bool → Saved → List ℕ → List ℕ → Type 0
 AreSomeRescued json saved unaccounted text = (accepted : Bool) × AreRescued json saved unaccounted accepted text
 
--- everything in an image with these holes that can be trusted, and the blocks that are used and belong to nothing of it. No two files,
--- directories or notes are written to one path
+-- everything in an image with these holes that can be trusted, and the blocks that are used and belong to nothing of it. Each file is
+-- written, once, and no two files, directories or notes to one path
 abbrev pub IsRescue : List Bool → List ℕ → Rescue → Type 0
 IsRescue holes image rescue = SalvagesBeside holes image rescue.salvage × AreUnaccounted rescue.salvage rescue.unaccounted.items × ArePathsApart rescue.plan.out.items.items
+    × (flat_map file_in rescue.plan.out.sources.items ≡ files_from 0 rescue.salvage.entries)
 
 -- the report on everything in an image with these holes that can be trusted and on the other used blocks, as lines or as an object; the
 -- image was accepted or not

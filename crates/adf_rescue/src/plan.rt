@@ -1,6 +1,7 @@
 //! The host files and directories for what can be trusted in a damaged image.
-ghost use Rattle.std.specs.Prelude.{◌≢◌, ◌≤◌, All, IfOk, IfSome, IsTrue, OnOk, length};
-ghost use Rattle.adf_rescue.specs.Paths.{ArePathsApart};
+ghost use Rattle.std.specs.Prelude.{◌≡◌, ◌≢◌, ◌≤◌, ◌++◌, [], All, IfNone, IfOk, IfSome, IsTrue, OnOk, flat_map, length};
+ghost use Rattle.adf_rescue.specs.Paths.{ArePathsApart, file_at, files_from};
+ghost use Rattle.adf_rescue.specs.Undelete.{file_in};
 ghost use Rattle.adf_rescue.specs.steps.Sourcing.{AreApart};
 
 use crate::sourced::{Source, SourcedItems, way_up};
@@ -47,7 +48,8 @@ pub(crate) struct Plan {
 impl Plan {
     /// The items for the entries of a salvage. With `meta`, a note is beside each.
     pub(crate) fn of(alloc: Global, salvage: &Salvage, meta: bool) -> Result<Plan, AllocError>
-        ensures { IfOk result (λ plan. ArePathsApart plan.out.items.items) }
+        ensures paths { IfOk result (λ plan. ArePathsApart plan.out.items.items) }
+        ensures files { IfOk result (λ plan. flat_map file_in plan.out.sources.items ≡ files_from 0 salvage.now.entries) }
     {
         let entries = salvage.entries();
         let mut plan = Plan {
@@ -120,7 +122,8 @@ impl Plan {
         entry: &Salvaged,
     ) -> Result<Option<usize>, AllocError>
         requires { AreApart self.old.out }
-        ensures { OnOk result (AreApart self.new.out) }
+        ensures apart { OnOk result (AreApart self.new.out) }
+        ensures files { OnOk result (flat_map file_in self.new.out.sources.items ≡ flat_map file_in self.old.out.sources.items) }
     {
         let Some(above) = entry.above else {
             if entry.found {
@@ -140,7 +143,8 @@ impl Plan {
     /// The item of the directory for recovered entries.
     fn lost_and_found(&mut self, alloc: Global, date: Date3) -> Result<usize, AllocError>
         requires { AreApart self.old.out }
-        ensures { OnOk result (AreApart self.new.out) }
+        ensures apart { OnOk result (AreApart self.new.out) }
+        ensures files { OnOk result (flat_map file_in self.new.out.sources.items ≡ flat_map file_in self.old.out.sources.items) }
     {
         if let Some(item) = self.lost {
             return Ok(item);
@@ -160,7 +164,8 @@ impl Plan {
         date: Date3,
     ) -> Result<usize, AllocError>
         requires { AreApart self.old.out }
-        ensures { OnOk result (AreApart self.new.out) }
+        ensures apart { OnOk result (AreApart self.new.out) }
+        ensures files { OnOk result (flat_map file_in self.new.out.sources.items ≡ flat_map file_in self.old.out.sources.items) }
     {
         let (mut way, top) = way_up(alloc, entries, &self.asides, Some(dir))?;
         let mut item = match top {
@@ -188,20 +193,29 @@ impl Plan {
         above: Option<usize>,
     ) -> Result<(), AllocError>
         requires { AreApart self.old.out }
-        ensures { OnOk result (AreApart self.new.out) }
+        ensures apart { OnOk result (AreApart self.new.out) }
+        ensures files { OnOk result (flat_map file_in self.new.out.sources.items ≡ flat_map file_in self.old.out.sources.items ++ file_at place entry.now.state) }
     {
-        let source = match entry.state {
-            State::Lost => {
-                let name = self.out.name_of(alloc, entry)?;
-                self.planned.push(Planned::Lost { above, name })?;
-                return Ok(());
-            }
-            State::Directory | State::DoubtfulDirectory => Source::Directory,
-            State::Whole | State::Doubtful { .. } | State::Broken { .. } => Source::File(place),
+        let Some(source) = source_of(entry.state, place) else {
+            let name = self.out.name_of(alloc, entry)?;
+            self.planned.push(Planned::Lost { above, name })?;
+            return Ok(());
         };
         let item = self.out.push_entry(alloc, entry, above, source, place)?;
         self.planned.push(Planned::Item(item))?;
         Ok(())
+    }
+}
+
+/// Where the bytes of the entry at a position are; `None` for a lost one, of which nothing is written.
+fn source_of(state: State, place: usize) -> Option<Source>
+    ensures some { IfSome result (λ source. file_in source ≡ file_at place state) }
+    ensures none { IfNone result (file_at place state ≡ []) }
+{
+    match state {
+        State::Lost => None,
+        State::Directory | State::DoubtfulDirectory => Some(Source::Directory),
+        State::Whole | State::Doubtful { .. } | State::Broken { .. } => Some(Source::File(place)),
     }
 }
 
