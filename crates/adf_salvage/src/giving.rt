@@ -165,19 +165,48 @@ impl Giving {
         ensures open { IfSome result (IsOpen self.now.given.items) }
         ensures due { IfSome result (IsDue image.now file i) }
     {
-        if let Some(holder) = way.holder {
-            if i % TABLE_LONGS < image.long(holder, POINTER_COUNT) {
-                let block = image.long(holder, FIRST_POINTER - i % TABLE_LONGS);
-                if self.is_piece(image, file, i, block) {
-                    return Some(block);
-                }
-            }
+        match self.pointed_at(image, file, i, way.holder) {
+            Some(block) => Some(block),
+            None => self.linked_at(image, file, i, way.before),
         }
-        let block = image.long(way.before?, NEXT_DATA);
+    }
+
+    /// Data block `i` of a file, if it was not given before: the one in its pointer.
+    fn pointed_at(&self, image: &Image, file: u32, i: u32, holder: Option<u32>) -> Option<u32>
+        requires file { file < block_count image.now }
+        requires holder { IfSome holder (λ block. block < block_count image.now) }
+        requires holds { IfSome holder (IsPointerBlock image.now file) }
+        requires size { length self.now.given.items ≡ block_count image.now }
+        ensures open { IfSome result (IsOpen self.now.given.items) }
+        ensures due { IfSome result (IsDue image.now file i) }
+    {
+        let holder = holder?;
+        let pointer = i % TABLE_LONGS;
+        if pointer >= image.long(holder, POINTER_COUNT) {
+            return None;
+        }
+        let block = image.long(holder, FIRST_POINTER - pointer);
+        if self.is_piece(image, file, i, block) {
+            Some(block)
+        } else {
+            None
+        }
+    }
+
+    /// Data block `i` of a file, if it was not given before: in OFS the one that the block before it links to.
+    fn linked_at(&self, image: &Image, file: u32, i: u32, before: Option<u32>) -> Option<u32>
+        requires file { file < block_count image.now }
+        requires before { IfSome before (λ block. block < block_count image.now) }
+        requires size { length self.now.given.items ≡ block_count image.now }
+        ensures open { IfSome result (IsOpen self.now.given.items) }
+        ensures due { IfSome result (IsDue image.now file i) }
+    {
+        let block = image.long(before?, NEXT_DATA);
         if image.format() == Format::Ofs && self.is_piece(image, file, i, block) {
-            return Some(block);
+            Some(block)
+        } else {
+            None
         }
-        None
     }
 
     /// Whether a block was not given before, and by itself can be data block `i` of a file.
