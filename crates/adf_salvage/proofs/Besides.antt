@@ -9,6 +9,7 @@ use Rattle.adf_salvage.specs.Due.{IsDue}
 use Rattle.adf_salvage.specs.Missing.{TellsMissing}
 use Rattle.adf_salvage.specs.Salvaged.{AreDue, IsSalvaged}
 use Rattle.adf_salvage.specs.Saved.{IsAt}
+use Rattle.adf_salvage.specs.Taken.{LacksTaken}
 use Rattle.adf_salvage.specs.steps.Finding.{AddsLost}
 use Rattle.adf_salvage.specs.steps.Gathering.{AddsFound}
 use Rattle.adf_salvage.proofs.Reading.{salvaged_readable}
@@ -65,15 +66,17 @@ module _ (known : Known) (old new : Gathered) (by : AreGatheredBy known new) (al
   }
 
   missing_in_found : (s : Saved) → s.image ≡ known.image → s.entries ≡ new.entries.items → s.given ≡ new.giving.pieces.items → (place : ℕ) (entry : Salvaged) → place < length s.entries → IsAt s.entries place entry
-      → entry.found ≡ true → TellsMissing s.image s.given place entry.header entry.state
-  missing_in_found s i e p place entry inside at is =
+      → s.holes ≡ known.holes.items → entry.found ≡ true → TellsMissing s.image s.given place entry.header entry.state × LacksTaken s.holes s.image s.given place entry.header entry.state
+  missing_in_found s i e p place entry inside at h is =
       let there : place < length new.entries.items = omega (arith, inside, ap length e) in
       let same : IsAt new.entries.items place entry = subst (λ (xs : List Salvaged). IsAt xs place entry) e at in
       let told : IsSalvaged known.left_out known.holes.items known.image entry =
       subst (λ (x : Salvaged). IsSalvaged known.left_out known.holes.items known.image x) same (told_found place entry there (ap (λ (x : Salvaged). x.found) same ∙ is)) in
-      subst (λ (image : List ℕ). TellsMissing image s.given place entry.header entry.state) (sym i)
-      (subst (λ (given : List Piece). TellsMissing known.image given place entry.header entry.state) (sym p)
-      (by.so_far.counted.counted place entry (found_behind place entry there same is) there same told.header))
+      let after = found_behind place entry there same is in
+      subst (λ (image : List ℕ). TellsMissing image s.given place entry.header entry.state × LacksTaken s.holes image s.given place entry.header entry.state) (sym i)
+      (subst (λ (given : List Piece). TellsMissing known.image given place entry.header entry.state × LacksTaken s.holes known.image given place entry.header entry.state) (sym p)
+      (by.so_far.counted.counted place entry after there same told.header,
+      subst (λ (holes : List Bool). LacksTaken holes known.image new.giving.pieces.items place entry.header entry.state) (sym h) (by.so_far.counted.left place entry after there same told.header)))
 
   pub finds_lost : (s : Saved) → s.image ≡ known.image → s.entries ≡ new.entries.items → s.given ≡ new.giving.pieces.items → s.holes ≡ known.holes.items → FindsLost s
   finds_lost s i e p h = record {
@@ -85,7 +88,7 @@ module _ (known : Known) (old new : Gathered) (by : AreGatheredBy known new) (al
     apart = subst AreApart (sym p) by.so_far.giving.once;
     there = subst (All (λ (piece : Piece). ¬ IsHole s.holes piece.block)) (sym p) (subst (λ (holes : List Bool). All (λ (piece : Piece). ¬ IsHole holes piece.block) new.giving.pieces.items) (sym h) by.so_far.giving.there);
     bounded = omega (arith, by.so_far.bounded, ap broken_total e, ap length i);
-    missing = λ place entry inside at is. missing_in_found s i e p place entry inside at is;
+    missing = λ place entry inside at is. missing_in_found s i e p place entry inside at h is;
     due = due_in s i e p;
   }
 

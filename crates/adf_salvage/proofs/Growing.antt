@@ -3,6 +3,7 @@ use Rattle.adf_salvage.proofs.Common.{◌≡◌, ◌≢◌, ℕ, ◌+◌, ◌*�
 use Rattle.ados_name.specs.Name.{IsName}
 use Rattle.std.proofs.lemmas.List.{drop-append-le, drop_all}
 use Rattle.adf_salvage.specs.Missing.{TellsMissing}
+use Rattle.adf_salvage.specs.Taken.{LacksTaken}
 use Rattle.adf_salvage.specs.steps.Counting.{AreCounted, GivesMore, HasNone}
 use Rattle.adf_salvage.specs.steps.Finding.{AreOfOneTree}
 use Rattle.adf_salvage.proofs.MissingBlocks.{counts_more, counts_none}
@@ -38,7 +39,7 @@ gathers_none out holes image tree g entries of places giving share none = record
   met = subst (λ (es : List Salvaged). (block : ℕ) → IsSome (place_at g.places.items block) → Contains (headers_of es) block) (sym entries) places.met;
   giving = giving;
   bounded = omega (arith, share, ap broken_total entries, of.whole);
-  counted = subst (λ (n : ℕ). AreCounted n out image g.entries.items g.giving.pieces.items) (ap length entries) (counts_none out image g.entries.items g.giving.pieces.items none);
+  counted = subst (λ (n : ℕ). AreCounted n out holes image g.entries.items g.giving.pieces.items) (ap length entries) (counts_none out holes image g.entries.items g.giving.pieces.items none);
 }
 
 module _ (known : Known) (old new : Gathered) (by : AreGatheredBy known old) (e : Salvaged) (block : ℕ) (told : IsTold known.left_out known.holes.items known.image e) (is : e.header ≡ block) (below : block < block_count known.image)
@@ -61,7 +62,7 @@ module _ (known : Known) (old new : Gathered) (by : AreGatheredBy known old) (e 
   -- one more entry, whose state takes its share
   pub gathers_more : (place : ℕ) → new.entries.items ≡ old.entries.items ++ e ∷ [] → new.places.items ≡ set old.places.items block (Some place) → place ≡ length old.entries.items
       → IsGiving known.holes.items known.image new.giving → broken_length e.state + new.giving.left ≡ old.giving.left → GivesMore known.image block place old.giving.pieces.items new.giving.pieces.items
-      → (HasNone old.giving.pieces.items place → TellsMissing known.image new.giving.pieces.items place e.header e.state) → GathersMore known old new × IsSome (place_at new.places.items block)
+      → (HasNone old.giving.pieces.items place → TellsMissing known.image new.giving.pieces.items place e.header e.state × LacksTaken known.holes.items known.image new.giving.pieces.items place e.header e.state) → GathersMore known old new × IsSome (place_at new.places.items block)
   gathers_more place grown noted at giving share gives tells =
       let more_headers : headers_of new.entries.items ≡ headers_of old.entries.items ++ block ∷ [] =
       ap headers_of grown ∙ map-append (λ (entry : Salvaged). entry.header) old.entries.items (e ∷ []) ∙ ap (λ (b : ℕ). headers_of old.entries.items ++ b ∷ []) is in
@@ -90,10 +91,10 @@ module _ (known : Known) (old new : Gathered) (by : AreGatheredBy known old) (e 
         ]);
         giving = giving;
         bounded = omega (arith, g.bounded, share, ap broken_total grown, broken_more old.entries.items e);
-        counted = counts_more known.before known.left_out known.image old.entries.items new.entries.items old.giving.pieces.items new.giving.pieces.items g.counted e grown
+        counted = counts_more known.before known.left_out known.holes.items known.image old.entries.items new.entries.items old.giving.pieces.items new.giving.pieces.items g.counted e grown
             (subst (λ (n : ℕ). GivesMore known.image e.header n old.giving.pieces.items new.giving.pieces.items) at
             (subst (λ (h : ℕ). GivesMore known.image h place old.giving.pieces.items new.giving.pieces.items) (sym is) gives))
-            (λ header. subst (λ (n : ℕ). TellsMissing known.image new.giving.pieces.items n e.header e.state) at (tells (λ k d l z. omega (arith, g.counted.within k d l, z, at))));
+            (λ header. subst (λ (n : ℕ). TellsMissing known.image new.giving.pieces.items n e.header e.state × LacksTaken known.holes.items known.image new.giving.pieces.items n e.header e.state) at (tells (λ k d l z. omega (arith, g.counted.within k d l, z, at))));
       } in (
         (
           record { sure = by.sure; so_far = gathered },

@@ -10,6 +10,7 @@ pub mod Answering
 pub mod Marked
 pub mod DueBlocks
 pub mod MissingBlocks
+pub mod LeftBlocks
 pub mod Reading
 pub mod Saving
 pub mod Besides

@@ -1,5 +1,8 @@
 -- A block is marked when it is given.
-use Rattle.adf_salvage.proofs.Common.{◌≡◌, ◌≢◌, ℕ, inl, inr, Bool, true, false, All, List, [], ◌∷◌, ◌++◌, length, get_or, get_or-set_same, get_or-set_other, length-set, sym, ap, ◌∙◌, subst, arith, Giving, AreApart, set, cases_eq, all_pairs_push, All-push, Piece, IsGiving, IsHole, IsMarked, IsOpen, mark_at}
+use Rattle.std.proofs.lemmas.List.Elements.{Contains-push}
+use Rattle.adf_salvage.specs.Taken.{IsTaken}
+use Rattle.adf_salvage.proofs.MissingBlocks.{taken_kept}
+use Rattle.adf_salvage.proofs.Common.{◌≡◌, ◌≢◌, ◌⊎◌, ℕ, Contains, inl, inr, Bool, true, false, All, List, [], ◌∷◌, ◌++◌, length, get_or, get_or-set_same, get_or-set_other, length-set, sym, ap, ◌∙◌, subst, arith, Giving, AreApart, set, cases_eq, all_pairs_push, All-push, Piece, IsGiving, IsHole, IsMarked, IsOpen, mark_at}
 
 module _ (holes : List Bool) (image : List ℕ) (old new : Giving) (piece : Piece) (g : IsGiving holes image old) (o : IsOpen old.given.items piece.block) (noted : new.given.items ≡ set old.given.items piece.block true) where
   long : length new.given.items ≡ length old.given.items
@@ -39,4 +42,18 @@ module _ (holes : List Bool) (image : List ℕ) (old new : Giving) (piece : Piec
         (All-push (IsMarked new.given.items) old.pieces.items piece (λ k d l. still_marked (get_or old.pieces.items k d) (g.marked k d l)) (record { inside = omega (arith, o.inside, long); marked = now_marked }));
     once = subst AreApart (sym more)
         (all_pairs_push (λ (p : Piece) (q : Piece). p.block ≢ q.block) old.pieces.items piece g.once (λ k d l. other (get_or old.pieces.items k d) (g.marked k d l)));
+    only = λ block m. elim (cases_eq block piece.block) [
+      | inl e ↦ inr (inr (piece, subst (λ (xs : List Piece). Contains xs piece) (sym more) (Contains-push old.pieces.items piece), sym e))
+      | inr e ↦
+          subst (λ (xs : List Piece). IsTaken holes image xs block) (sym more)
+          (taken_kept holes image old.pieces.items (piece ∷ []) block
+          (g.only block (sym (get_or-set_other old.given.items piece.block block true false e) ∙ ap (λ (marks : List Bool). mark_at marks block) (sym noted) ∙ m)))
+    ];
   }
+
+-- a mark that is there after another one was made
+pub marked_one : (given : List Bool) (b block : ℕ) → mark_at (set given b true) block ≡ true → (block ≡ b) ⊎ (mark_at given block ≡ true)
+marked_one given b block m = elim (cases_eq block b) [
+  | inl e ↦ inl e
+  | inr e ↦ inr (sym (get_or-set_other given b block true false e) ∙ m)
+]

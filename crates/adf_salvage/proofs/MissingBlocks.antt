@@ -4,7 +4,7 @@ use Rattle.std.specs.Prelude.{count_by}
 use Rattle.std.specs.List.{list_any, range_with_len}
 use Rattle.std.proofs.lemmas.Bool.{cases_eq, cases_lt, eq-eqb, ne_eqb}
 use Rattle.std.proofs.lemmas.List.{append-nil, append_assoc, get_or_append_left, get_or_default, get_or_push, length-append}
-use Rattle.std.proofs.lemmas.List.Elements.{All-append, All-cons, All-nil, All-push}
+use Rattle.std.proofs.lemmas.List.Elements.{All-append, All-cons, All-nil, All-push, Contains-append_cases, Contains-append_left}
 use Rattle.std.proofs.lemmas.List.Folds.{list_any-append, list_any_none}
 use Rattle.std.proofs.lemmas.List.Sums.{sum_by-append}
 use Rattle.ados_sound.specs.Doubtful.{IsHeader}
@@ -18,6 +18,7 @@ use Rattle.adf_salvage.specs.Missing.{TellsMissing, has_piece, missing_blocks, w
 unfoldable use Rattle.adf_salvage.specs.Missing.{missing_below}
 use Rattle.adf_salvage.specs.Salvaged.{missing_in}
 use Rattle.adf_salvage.specs.Saved.{IsAt}
+use Rattle.adf_salvage.specs.Taken.{IsBefore, IsNamedFor, IsTaken, LacksTaken, LeavesBelow}
 use Rattle.adf_salvage.specs.steps.Counting.{AreCounted, GivesFirst, GivesMore, HasNone}
 use Rattle.adf_salvage.specs.steps.Settling.{IsDamaged}
 
@@ -54,6 +55,13 @@ still_there place i given more other =
 now_there : (place i : ℕ) (given : List Piece) (piece : Piece) → piece.place ≡ place → piece.at ≡ i → has_piece (given ++ piece ∷ []) place i ≡ true
 now_there place i given piece own at =
     list_any-append (is_for place i) given (piece ∷ []) ∙ ap (λ (b : Bool). has_piece given place i || (b || false)) (this_one place i piece own at) ∙ or_true (has_piece given place i)
+
+pub there_given : (place i : ℕ) (given : List Piece) (piece : Piece) → piece.place ≡ place → piece.at ≡ i → has_piece (given ++ piece ∷ []) place i ≡ true
+there_given place i given piece own at = now_there place i given piece own at
+
+pub there_kept : (place i : ℕ) (given : List Piece) (piece : Piece) → piece.at ≢ i → has_piece (given ++ piece ∷ []) place i ≡ has_piece given place i
+there_kept place i given piece other =
+    still_there place i given (piece ∷ []) (All-cons (λ (p : Piece). is_for place i p ≡ false) piece [] (other_block place i piece other) (All-nil (λ (p : Piece). is_for place i p ≡ false)))
 
 range_push : (a n : ℕ) → range_with_len a (suc n) ≡ range_with_len a n ++ (a + n) ∷ []
 range_push a zero = ap (λ (k : ℕ). k ∷ []) (omega arith)
@@ -104,6 +112,45 @@ tells_kept image given more place file Directory other tells = tt
 tells_kept image given more place file DoubtfulDirectory other tells = tt
 tells_kept image given more place file Whole other tells = tt
 tells_kept image given more place file Lost other tells = tt
+
+-- what is taken stays so when more is given
+pub taken_kept : (holes : List Bool) (image : List ℕ) (given more : List Piece) (block : ℕ) → IsTaken holes image given block → IsTaken holes image (given ++ more) block
+taken_kept holes image given more block (inl volume) = inl volume
+taken_kept holes image given more block (inr (inl hole)) = inr (inl hole)
+taken_kept holes image given more block (inr (inr (piece, there, is))) = inr (inr (piece, Contains-append_left given more piece there, is))
+
+named_kept : (image : List ℕ) (given more : List Piece) (place file i block : ℕ) → HasNone more place → IsNamedFor image (given ++ more) place file i block → IsNamedFor image given place file i block
+named_kept image given more place file i block other (inl pointed) = inl pointed
+named_kept image given more place file i block other (inr (b, is, linked)) = inr (b, was_before i is, linked)
+  where
+    was_before : (i : ℕ) → IsBefore (given ++ more) place file i b → IsBefore given place file i b
+    was_before zero is = is
+    was_before (suc i) (piece, there, own, at, is) = elim (Contains-append_cases given more piece there) [
+      | inl was ↦ (piece, was, own, at, is)
+      | inr (k, inside, same) ↦ absurd (other k piece inside (ap (λ (p : Piece). p.place) same ∙ own))
+    ]
+
+left_kept : (holes : List Bool) (image : List ℕ) (given more : List Piece) (place file n : ℕ) → HasNone more place → LeavesBelow holes image given place file n → LeavesBelow holes image (given ++ more) place file n
+left_kept holes image given more place file n other left i block inside missing named fit =
+    taken_kept holes image given more block
+    (left i block inside (sym (still_there place i given more (λ j d m. other_entry place i (get_or more j d) (other j d m))) ∙ missing) (named_kept image given more place file i block other named) fit)
+
+lacks_kept : (holes : List Bool) (image : List ℕ) (given more : List Piece) (place file : ℕ) (state : State) → HasNone more place → LacksTaken holes image given place file state → LacksTaken holes image (given ++ more) place file state
+lacks_kept holes image given more place file (Broken missing cut length) other left = left_kept holes image given more place file (wanted_blocks image file) other left
+lacks_kept holes image given more place file (Doubtful heading length) other left = tt
+lacks_kept holes image given more place file Directory other left = tt
+lacks_kept holes image given more place file DoubtfulDirectory other left = tt
+lacks_kept holes image given more place file Whole other left = tt
+lacks_kept holes image given more place file Lost other left = tt
+
+pub lacks_damaged : (holes : List Bool) (image : List ℕ) (given : List Piece) (place file : ℕ) (heading : HeaderState) (state : State) → IsDamaged heading state → LeavesBelow holes image given place file (wanted_blocks image file)
+    → LacksTaken holes image given place file state
+lacks_damaged holes image given place file heading (Broken missing cut length) damaged left = left
+lacks_damaged holes image given place file heading (Doubtful this length) damaged left = tt
+lacks_damaged holes image given place file heading Directory damaged left = tt
+lacks_damaged holes image given place file heading DoubtfulDirectory damaged left = tt
+lacks_damaged holes image given place file heading Whole damaged left = tt
+lacks_damaged holes image given place file heading Lost damaged left = tt
 
 -- the state of a damaged file
 pub tells_damaged : (image : List ℕ) (given : List Piece) (place file count : ℕ) (heading : HeaderState) (state : State) → IsDamaged heading state → missing_in state ≡ count → missing_blocks image given place file ≡ count
@@ -195,14 +242,15 @@ abbrev IsDueAt : List ℕ → List Salvaged → Piece → Type 0
 IsDueAt image entries piece = (entry : Salvaged) → IsAt entries piece.place entry → IsDue image entry.header piece.at piece.block
 
 -- only the entries that were told before are there
-pub counts_none : (out image : List ℕ) (entries : List Salvaged) (given : List Piece) → given ≡ [] → AreCounted (length entries) out image entries given
-counts_none out image entries given none = record {
+pub counts_none : (out : List ℕ) (holes : List Bool) (image : List ℕ) (entries : List Salvaged) (given : List Piece) → given ≡ [] → AreCounted (length entries) out holes image entries given
+counts_none out holes image entries given none = record {
   within = subst (All (λ (piece : Piece). piece.place < length entries)) (sym none) (All-nil (λ (piece : Piece). piece.place < length entries));
   due = subst (All (IsDueAt image entries)) (sym none) (All-nil (IsDueAt image entries));
   counted = λ place entry after inside at is. absurd (omega (arith, after, inside));
+  left = λ place entry after inside at is. absurd (omega (arith, after, inside));
 }
 
-module _ (before : ℕ) (out image : List ℕ) (old new : List Salvaged) (given more : List Piece) (are : AreCounted before out image old given) where
+module _ (before : ℕ) (out : List ℕ) (holes : List Bool) (image : List ℕ) (old new : List Salvaged) (given more : List Piece) (are : AreCounted before out holes image old given) where
   -- the entry that stood at a position before
   was_at : (e : Salvaged) → new ≡ old ++ e ∷ [] → (place : ℕ) (entry : Salvaged) → place < length old → IsAt new place entry → IsAt old place entry
   was_at e grown place entry l at = sym (get_or_append_left old (e ∷ []) entry place l) ∙ ap (λ (xs : List Salvaged). get_or xs place entry) (sym grown) ∙ at
@@ -211,7 +259,7 @@ module _ (before : ℕ) (out image : List ℕ) (old new : List Salvaged) (given 
   is_last e grown place entry last at = sym (get_or_push old e entry place last) ∙ ap (λ (xs : List Salvaged). get_or xs place entry) (sym grown) ∙ at
 
   -- one more entry, to which these blocks were given
-  pub counts_more : (e : Salvaged) → new ≡ old ++ e ∷ [] → GivesMore image e.header (length old) given more → (IsHeader out image e.header → TellsMissing image more (length old) e.header e.state) → AreCounted before out image new more
+  pub counts_more : (e : Salvaged) → new ≡ old ++ e ∷ [] → GivesMore image e.header (length old) given more → (IsHeader out image e.header → TellsMissing image more (length old) e.header e.state × LacksTaken holes image more (length old) e.header e.state) → AreCounted before out holes image new more
   counts_more e grown gives tells =
       let count : length new ≡ length old + 1 = omega (arith, ap length grown, length-append old (e ∷ [])) in
       record {
@@ -230,13 +278,23 @@ module _ (before : ℕ) (out image : List ℕ) (old new : List Salvaged) (given 
               (let last : length old ≡ place = omega (arith, l, inside, count) in
               let same : e ≡ entry = is_last e grown place entry last at in
               subst (λ (n : ℕ). TellsMissing image more n entry.header entry.state) last
-              (subst (λ (x : Salvaged). TellsMissing image more (length old) x.header x.state) same (tells (subst (λ (x : Salvaged). IsHeader out image x.header) (sym same) is))))
+              (subst (λ (x : Salvaged). TellsMissing image more (length old) x.header x.state) same (tells (subst (λ (x : Salvaged). IsHeader out image x.header) (sym same) is)).0))
+        ];
+        left = λ place entry after inside at is. elim (cases_lt place (length old)) [
+          | inl l ↦
+              subst (λ (xs : List Piece). LacksTaken holes image xs place entry.header entry.state) (sym gives.added)
+              (lacks_kept holes image given gives.more place entry.header entry.state (λ k d m z. omega (arith, z, gives.own k d m, l)) (are.left place entry after l (was_at e grown place entry l at) is))
+          | inr l ↦
+              (let last : length old ≡ place = omega (arith, l, inside, count) in
+              let same : e ≡ entry = is_last e grown place entry last at in
+              subst (λ (n : ℕ). LacksTaken holes image more n entry.header entry.state) last
+              (subst (λ (x : Salvaged). LacksTaken holes image more (length old) x.header x.state) same (tells (subst (λ (x : Salvaged). IsHeader out image x.header) (sym same) is)).1))
         ];
       }
 
   -- an entry without a header that is told, in place of another with its header: blocks were given to it
   pub counts_set : (place : ℕ) (e d : Salvaged) → place < length old → new ≡ set old place e → (get_or old place d).header ≡ e.header → GivesMore image e.header place given more → ¬ IsHeader out image e.header
-      → AreCounted before out image new more
+      → AreCounted before out holes image new more
   counts_set at_place e d there replaced header gives untold =
       let count : length new ≡ length old = ap length replaced ∙ length-set old at_place e in
       let here : (place : ℕ) (entry : Salvaged) → place ≡ at_place → IsAt new place entry → e ≡ entry = λ place entry z at.
@@ -261,5 +319,11 @@ module _ (before : ℕ) (out image : List ℕ) (old new : List Salvaged) (given 
           | inr z ↦
               subst (λ (xs : List Piece). TellsMissing image xs place entry.header entry.state) (sym gives.added)
               (tells_kept image given gives.more place entry.header entry.state (λ k x m w. z (sym w ∙ gives.own k x m)) (are.counted place entry after (omega (arith, inside, count)) (was place entry z at) is))
+        ];
+        left = λ place entry after inside at is. elim (cases_eq place at_place) [
+          | inl z ↦ absurd (untold (subst (λ (x : Salvaged). IsHeader out image x.header) (sym (here place entry z at)) is))
+          | inr z ↦
+              subst (λ (xs : List Piece). LacksTaken holes image xs place entry.header entry.state) (sym gives.added)
+              (lacks_kept holes image given gives.more place entry.header entry.state (λ k x m w. z (sym w ∙ gives.own k x m)) (are.left place entry after (omega (arith, inside, count)) (was place entry z at) is))
         ];
       }

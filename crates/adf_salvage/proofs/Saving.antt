@@ -33,6 +33,8 @@ saves_sound known next gathered deleted s are is = record {
   apart = s.giving.once;
   there = s.giving.there;
   bounded = omega (arith, s.bounded);
-  missing = λ place entry inside at told. s.counted.counted place entry (omega arith) inside at (subst (λ (out : List ℕ). IsHeader out known.image entry.header) is told);
+  missing = λ place entry inside at told.
+      let header = subst (λ (out : List ℕ). IsHeader out known.image entry.header) is told in
+      (s.counted.counted place entry (omega arith) inside at header, s.counted.left place entry (omega arith) inside at header);
   due = record { within = s.counted.within; due = s.counted.due };
 }

@@ -20,7 +20,7 @@ settles_none known gathered none by met lost =
           inl (subst (λ (b : ℕ). IsSome (place_at gathered.places.items b)) is (ap is_some (g.placed there.0 there.1)));
       giving = g.giving;
       bounded = g.bounded;
-      counted = subst (λ (n : ℕ). AreCounted n known.left_out known.image gathered.entries.items gathered.giving.pieces.items) none g.counted;
+      counted = subst (λ (n : ℕ). AreCounted n known.left_out known.holes.items known.image gathered.entries.items gathered.giving.pieces.items) none g.counted;
     }
 
 -- the entries of the list with these headers, other ones in their places, and more behind them
@@ -82,7 +82,7 @@ module _ (known : Known) (next : ℕ) (old new : Gathered) (s : AreSettled known
             ]);
         giving = giving;
         bounded = omega (arith, s.bounded, ap broken_total grown, broken_more old.entries.items e, left);
-        counted = counts_more 0 known.left_out known.image old.entries.items new.entries.items old.giving.pieces.items new.giving.pieces.items s.counted e grown
+        counted = counts_more 0 known.left_out known.holes.items known.image old.entries.items new.entries.items old.giving.pieces.items new.giving.pieces.items s.counted e grown
             (subst (λ (h : ℕ). GivesMore known.image h (length old.entries.items) old.giving.pieces.items new.giving.pieces.items) (sym is) gives)
             (λ told. absurd (loose.untold (subst (IsHeader known.left_out known.image) is told)));
       }
@@ -105,7 +105,7 @@ module _ (known : Known) (next : ℕ) (old new : Gathered) (s : AreSettled known
         placed = λ b there. subst (λ (ps : List (Option ℕ)). IsSome (place_at ps b) ⊎ (b < next)) (sym places) (s.placed b (subst (λ (xs : List ℕ). Contains xs b) still there));
         giving = giving;
         bounded = omega (arith, s.bounded, ap broken_total replaced, broken_set old.entries.items place e inside, empty, left);
-        counted = counts_set 0 known.left_out known.image old.entries.items new.entries.items old.giving.pieces.items new.giving.pieces.items s.counted place e e inside replaced
+        counted = counts_set 0 known.left_out known.holes.items known.image old.entries.items new.entries.items old.giving.pieces.items new.giving.pieces.items s.counted place e e inside replaced
             (ap (λ (entry : Salvaged). entry.header) there ∙ sym same) (subst (λ (h : ℕ). GivesMore known.image h place old.giving.pieces.items new.giving.pieces.items) (sym same) gives)
             (λ told. loose.untold (subst (IsHeader known.left_out known.image) same told));
       }

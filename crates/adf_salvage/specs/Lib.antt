@@ -7,5 +7,6 @@ pub mod Lost
 pub mod Missing
 pub mod Salvaged
 pub mod Saved
+pub mod Taken
 pub mod Undeleted
 pub mod steps

@@ -30,6 +30,7 @@ use Rattle.adf_salvage.specs.Loose.{IsLeft}
 use Rattle.adf_salvage.specs.Lost.{IsLost}
 use Rattle.adf_salvage.specs.Missing.{TellsMissing}
 use Rattle.adf_salvage.specs.Saved.{IsAt}
+use Rattle.adf_salvage.specs.Taken.{LacksTaken}
 
 -- how contracts see a salvage: whether the image was accepted, the image as it was read, whether its bitmap is trusted, its
 -- entries, the headers that were left out, the blocks given to files that are not whole, and the marks of the holes
@@ -184,7 +185,7 @@ pub record SavesSound (saved : Saved) : Type 0 where
   pub there : All (λ piece. ¬ IsHole saved.holes piece.block) saved.given
   pub bounded : broken_total saved.entries ≤ 4 * length saved.image
   pub missing : (place : ℕ) (entry : Salvaged) → place < length saved.entries → IsAt saved.entries place entry → IsHeader saved.deleted saved.image entry.header
-      → TellsMissing saved.image saved.given place entry.header entry.state
+      → TellsMissing saved.image saved.given place entry.header entry.state × LacksTaken saved.holes saved.image saved.given place entry.header entry.state
   pub due : AreDue saved
 
 -- beside its tree, the entries of an accepted image are the sound headers among its lost blocks, found. Where hidden headers are
@@ -200,7 +201,7 @@ pub record FindsLost (saved : Saved) : Type 0 where
   pub there : All (λ piece. ¬ IsHole saved.holes piece.block) saved.given
   pub bounded : broken_total saved.entries ≤ 4 * length saved.image
   pub missing : (place : ℕ) (entry : Salvaged) → place < length saved.entries → IsAt saved.entries place entry → entry.found ≡ true
-      → TellsMissing saved.image saved.given place entry.header entry.state
+      → TellsMissing saved.image saved.given place entry.header entry.state × LacksTaken saved.holes saved.image saved.given place entry.header entry.state
   pub due : AreDue saved
 
 -- no entry is found

@@ -1,12 +1,14 @@
 //! The blocks given to files that are not whole, each to one.
-ghost use Rattle.std.specs.Prelude.{◌≡◌, ◌<◌, ◌≤◌, ◌*◌, ◌++◌, ◌∷◌, [], ℕ, Bool, List, if◌then◌else◌, length, IfOk, IfSome, IsTrue, OnOk};
+ghost use Rattle.std.specs.Prelude.{◌≡◌, ◌<◌, ◌≤◌, ◌*◌, ◌++◌, ◌∷◌, ◌⊎◌, [], ℕ, Bool, List, false, if◌then◌else◌, length, IfNone, IfOk, IfSome, IsTrue, OnOk, true};
 ghost use Rattle.adf_block.specs.Fields.{format_of};
 ghost use Rattle.adf_block.specs.declared.layout.Format.TheVariants.{Ofs};
 ghost use Rattle.ados_sound.specs.Doubtful.{IsOwnData};
+ghost use Rattle.ados_sound.specs.Marks.{IsHole, mark_at};
 ghost use Rattle.adf_block.specs.Image.{block_count};
 ghost use Rattle.ados_model.specs.Tree.{data_start};
 ghost use Rattle.adf_salvage.specs.Due.{CountsAsExtension, IsDue, IsPointerBlock, right_fields};
 ghost use Rattle.adf_salvage.specs.Missing.{missing_blocks};
+ghost use Rattle.adf_salvage.specs.Taken.{IsFit, IsLinkedAt, IsOfVolume, IsPointedAt, LeavesTaken};
 ghost use Rattle.adf_salvage.specs.steps.Counting.{GivesMore, HasNone};
 ghost use Rattle.adf_salvage.specs.steps.Giving.{AreHolesMarked, IsGiving, IsOpen};
 
@@ -99,6 +101,7 @@ impl Giving {
         ensures left { self.new.left ≡ self.old.left }
         ensures more { OnOk result (GivesMore known.now.image file place self.old.pieces.items self.new.pieces.items) }
         ensures missing { IfOk result (λ remains. HasNone self.old.pieces.items place → missing_blocks known.now.image self.new.pieces.items place file ≡ remains.missing) }
+        ensures taken { OnOk result (HasNone self.old.pieces.items place → LeavesTaken known.now.holes.items known.now.image self.new.pieces.items place file) }
     {
         let image = &known.image;
         let room = BLOCK - data_start(image);
@@ -164,6 +167,7 @@ impl Giving {
         requires size { length self.now.given.items ≡ block_count image.now }
         ensures open { IfSome result (IsOpen self.now.given.items) }
         ensures due { IfSome result (IsDue image.now file i) }
+        ensures none { IfNone result ((block : ℕ) → IsPointedAt image.now way.holder i block ⊎ IsLinkedAt image.now way.before block → IsFit image.now file i block → mark_at self.now.given.items block ≡ true) }
     {
         match self.pointed_at(image, file, i, way.holder) {
             Some(block) => Some(block),
@@ -179,6 +183,7 @@ impl Giving {
         requires size { length self.now.given.items ≡ block_count image.now }
         ensures open { IfSome result (IsOpen self.now.given.items) }
         ensures due { IfSome result (IsDue image.now file i) }
+        ensures none { IfNone result ((block : ℕ) → IsPointedAt image.now holder i block → IsFit image.now file i block → mark_at self.now.given.items block ≡ true) }
     {
         let holder = holder?;
         let pointer = i % TABLE_LONGS;
@@ -200,6 +205,7 @@ impl Giving {
         requires size { length self.now.given.items ≡ block_count image.now }
         ensures open { IfSome result (IsOpen self.now.given.items) }
         ensures due { IfSome result (IsDue image.now file i) }
+        ensures none { IfNone result ((block : ℕ) → IsLinkedAt image.now before block → IsFit image.now file i block → mark_at self.now.given.items block ≡ true) }
     {
         let block = image.long(before?, NEXT_DATA);
         if image.format() == Format::Ofs && self.is_piece(image, file, i, block) {
@@ -215,6 +221,7 @@ impl Giving {
         requires size { length self.now.given.items ≡ block_count image.now }
         ensures open { IsTrue result → IsOpen self.now.given.items block }
         ensures own { IsTrue result → format_of image.now ≡ Ofs → IsOwnData image.now file i block }
+        ensures refused { result ≡ false → IsFit image.now file i block → mark_at self.now.given.items block ≡ true }
     {
         if block < BOOT_BLOCKS || block >= image.blocks() || self.given[block as usize] {
             return false;
@@ -286,7 +293,8 @@ fn one_if(is: bool) -> u32
 /// Marks the root, and the bitmap blocks that it names if it has the type of a root.
 fn mark_volume(image: &Image, given: &mut [bool])
     requires { length given.old ≡ block_count image.now }
-    ensures { length given.new ≡ length given.old }
+    ensures size { length given.new ≡ length given.old }
+    ensures only { (block : ℕ) → mark_at given.new block ≡ true → (mark_at given.old block ≡ true) ⊎ IsOfVolume image.now block }
 {
     prove!(image.blocks() >= 16);
     let root = image.root();
@@ -309,6 +317,7 @@ fn mark_holes(image: &Image, holes: &[bool], given: &mut [bool])
     requires { length given.old ≡ block_count image.now }
     ensures size { length given.new ≡ length given.old }
     ensures marked { AreHolesMarked holes.now given.new }
+    ensures only { (block : ℕ) → mark_at given.new block ≡ true → (mark_at given.old block ≡ true) ⊎ IsHole holes.now block }
 {
     for block in 0..image.blocks() {
         if is_hole(holes, block) {

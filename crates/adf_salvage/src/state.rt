@@ -4,6 +4,7 @@ ghost use Rattle.ados_sound.specs.Doubtful.{IsHeader};
 ghost use Rattle.ados_sound.specs.Known.{AreKnown};
 ghost use Rattle.adf_salvage.specs.Missing.{TellsMissing};
 ghost use Rattle.adf_salvage.specs.Salvaged.{HasState, broken_length, missing_in};
+ghost use Rattle.adf_salvage.specs.Taken.{LacksTaken};
 ghost use Rattle.adf_salvage.specs.steps.Counting.{GivesMore, HasNone};
 ghost use Rattle.adf_salvage.specs.steps.Settling.{IsDamaged};
 ghost use Rattle.adf_salvage.specs.steps.Giving.{IsGiving};
@@ -29,6 +30,7 @@ pub(crate) fn state_of(
     ensures left { IfOk result (λ state. broken_length state + giving.new.left ≡ giving.old.left) }
     ensures more { OnOk result (GivesMore known.now.image block place giving.old.pieces.items giving.new.pieces.items) }
     ensures missing { IfOk result (λ state. HasNone giving.old.pieces.items place → TellsMissing known.now.image giving.new.pieces.items place block state) }
+    ensures taken { IfOk result (λ state. HasNone giving.old.pieces.items place → LacksTaken known.now.holes.items known.now.image giving.new.pieces.items place block state) }
 {
     let image = &known.image;
     let sound = is_sound_header(image, block);

@@ -1,11 +1,13 @@
 -- Blocks given to entries, one entry after the other, and how many are missing.
-use Rattle.std.specs.Prelude.{◌≡◌, ◌≢◌, ℕ, ◌+◌, ◌<◌, ◌≤◌, List, ◌++◌, length, All}
+use Rattle.std.specs.Prelude.{◌≡◌, ◌≢◌, ℕ, ◌+◌, ◌<◌, ◌≤◌, List, ◌++◌, length, All, Bool, Option, Some}
+use Rattle.adf_block.specs.declared.layout.TheConstants.{TABLE_LONGS}
 use Rattle.ados_sound.specs.Doubtful.{IsHeader}
 use Rattle.adf_salvage.specs.declared.giving.Piece.{Piece}
 use Rattle.adf_salvage.specs.declared.salvaged.Salvaged.{Salvaged}
 use Rattle.adf_salvage.specs.Due.{IsDue}
 use Rattle.adf_salvage.specs.Missing.{TellsMissing, missing_below}
 use Rattle.adf_salvage.specs.Saved.{IsAt}
+use Rattle.adf_salvage.specs.Taken.{IsBefore, LacksTaken, LeavesBelow}
 
 -- more blocks were given, all to the entry at this position with this header, and due to it
 pub record GivesMore (image : List ℕ) (file place : ℕ) (old new : List Piece) : Type 0 where
@@ -24,10 +26,19 @@ pub record GivesFirst (image : List ℕ) (file place first there : ℕ) (old new
   pub below : HasNone old place → All (λ piece. piece.place ≡ place → piece.at < first) new
   pub counted : HasNone old place → there + missing_below new place first ≡ first
 
+-- so far the first data blocks were looked for: where the pointers of the next one are, which block is before it, and that all are taken that
+-- the file lacks although it names them
+pub record IsLeft (holes : List Bool) (image : List ℕ) (file place first : ℕ) (holder before : Option ℕ) (old new : List Piece) : Type 0 where
+  pub in_header : first < TABLE_LONGS → holder ≡ Some file
+  pub link : HasNone old place → (block : ℕ) → IsBefore new place file first block → before ≡ Some block
+  pub taken : HasNone old place → LeavesBelow holes image new place file first
+
 -- blocks were given only to these entries, and each is due to its entry. Behind as many as were told before, the state of each with a header that is told says how many
--- of its blocks are missing
-pub record AreCounted (before : ℕ) (out image : List ℕ) (entries : List Salvaged) (given : List Piece) : Type 0 where
+-- of its blocks are missing, and it lacks only blocks that are taken
+pub record AreCounted (before : ℕ) (out : List ℕ) (holes : List Bool) (image : List ℕ) (entries : List Salvaged) (given : List Piece) : Type 0 where
   pub within : All (λ piece. piece.place < length entries) given
   pub due : All (λ piece. (entry : Salvaged) → IsAt entries piece.place entry → IsDue image entry.header piece.at piece.block) given
   pub counted : (place : ℕ) (entry : Salvaged) → before ≤ place → place < length entries → IsAt entries place entry → IsHeader out image entry.header
       → TellsMissing image given place entry.header entry.state
+  pub left : (place : ℕ) (entry : Salvaged) → before ≤ place → place < length entries → IsAt entries place entry → IsHeader out image entry.header
+      → LacksTaken holes image given place entry.header entry.state

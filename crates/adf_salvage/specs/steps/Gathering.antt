@@ -49,7 +49,7 @@ pub record AreGathered (before : ℕ) (out : List ℕ) (holes : List Bool) (imag
   pub met : (block : ℕ) → IsSome (place_at gathered.places.items block) → Contains (headers_of gathered.entries.items) block
   pub giving : IsGiving holes image gathered.giving
   pub bounded : broken_total gathered.entries.items + gathered.giving.left ≤ 4 * length image
-  pub counted : AreCounted before out image gathered.entries.items gathered.giving.pieces.items
+  pub counted : AreCounted before out holes image gathered.entries.items gathered.giving.pieces.items
 
 -- the entries gathered so far of an image, by what is known of it
 pub record AreGatheredBy (known : Known) (gathered : Gathered) : Type 0 where

@@ -5,6 +5,7 @@ use Rattle.ados_sound.specs.Marks.{IsHole, mark_at}
 use Rattle.adf_salvage.specs.declared.giving.Giving.{Giving}
 use Rattle.adf_salvage.specs.declared.giving.Piece.{Piece}
 use Rattle.adf_salvage.specs.Salvaged.{AreApart}
+use Rattle.adf_salvage.specs.Taken.{IsTaken}
 
 -- a block that can still be given
 pub record IsOpen (given : List Bool) (block : ℕ) : Type 0 where
@@ -20,7 +21,8 @@ pub record IsMarked (given : List Bool) (piece : Piece) : Type 0 where
 abbrev pub AreHolesMarked : List Bool → List Bool → Type 0
 AreHolesMarked holes given = (block : ℕ) → block < length given → IsHole holes block → mark_at given block ≡ true
 
--- there is a mark for each block, and each given block is marked and given once; the holes are marked and not given
+-- there is a mark for each block, and each given block is marked and given once; the holes are marked and not given; and only
+-- blocks that are taken are marked
 pub record IsGiving (holes : List Bool) (image : List ℕ) (giving : Giving) : Type 0 where
   pub size : length giving.given.items ≡ block_count image
   pub holes_marked : AreHolesMarked holes giving.given.items
@@ -28,3 +30,4 @@ pub record IsGiving (holes : List Bool) (image : List ℕ) (giving : Giving) : T
   pub passed : length giving.passed.items ≡ block_count image
   pub marked : All (IsMarked giving.given.items) giving.pieces.items
   pub once : AreApart giving.pieces.items
+  pub only : (block : ℕ) → mark_at giving.given.items block ≡ true → IsTaken holes image giving.pieces.items block

@@ -28,4 +28,4 @@ pub record AreSettled (known : Known) (next : ℕ) (gathered : Gathered) : Type 
   pub placed : ArePlaced gathered.places.items next (headers_of gathered.entries.items)
   pub giving : IsGiving known.holes.items known.image gathered.giving
   pub bounded : broken_total gathered.entries.items + gathered.giving.left ≤ 4 * length known.image
-  pub counted : AreCounted 0 known.left_out known.image gathered.entries.items gathered.giving.pieces.items
+  pub counted : AreCounted 0 known.left_out known.holes.items known.image gathered.entries.items gathered.giving.pieces.items

@@ -1,5 +1,6 @@
 use Rattle.std.proofs.Common.{inr, sym, subst, ◌∙◌, refl}
 use Rattle.adf_salvage.specs.Missing.{TellsMissing}
+use Rattle.adf_salvage.specs.Taken.{LacksTaken}
 use Rattle.adf_salvage.proofs.Growing.{gathers_more, lost_takes_none, lost_told}
 use Rattle.adf_salvage.proofs.MissingBlocks.{gives_none}
 use Rattle.adf_salvage.proofs.gathered.Gathered.add_lost.Goals as goal
@@ -11,4 +12,5 @@ returns-clause-more c =
     c.told_by_name-entry.ensures.header c.requires.lost.inside.1 c.requires.free c.len-place.result c.in_ok-push.ensures.items refl (c.len-place.ensures ∙ c.args.self.now.entries.ok.0) c.requires.gathered.so_far.giving
     (lost_takes_none c.told_by_name-entry.result c.args.self.now.giving.left c.told_by_name-entry.ensures.state)
     (gives_none c.args.known.now.image c.args.block c.len-place.result c.args.self.now.giving.pieces.items c.args.self.now.giving.pieces.items refl)
-    (λ none. subst (TellsMissing c.args.known.now.image c.args.self.now.giving.pieces.items c.len-place.result c.told_by_name-entry.result.header) (sym c.told_by_name-entry.ensures.state) tt)).0
+    (λ none. (subst (TellsMissing c.args.known.now.image c.args.self.now.giving.pieces.items c.len-place.result c.told_by_name-entry.result.header) (sym c.told_by_name-entry.ensures.state) tt,
+    subst (LacksTaken c.args.known.now.holes.items c.args.known.now.image c.args.self.now.giving.pieces.items c.len-place.result c.told_by_name-entry.result.header) (sym c.told_by_name-entry.ensures.state) tt))).0

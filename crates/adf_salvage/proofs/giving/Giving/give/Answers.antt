@@ -22,6 +22,11 @@ loop-i-init c = record {
   left = refl;
   few = omega arith;
   first = first_none c.args.known.now.image c.args.file c.args.place c.args.self.now.pieces.items;
+  left_out = record {
+    in_header = λ few. refl;
+    link = λ none block is. ap Some (sym is);
+    taken = λ none i block below. absurd (omega (arith, below));
+  };
   holder = c.requires.inside;
   holds = inl refl;
   before = c.requires.inside;
@@ -49,6 +54,17 @@ loop-i-preserved c =
           (subst (λ (giving : Giving). GivesFirst image file place (i + 1) c.loop-i.there old giving.pieces.items) (sym w.self-is)
           (first_missing image file place i c.loop-i.there old c.loop-i.self.pieces.items c.loop-i.invariant.first c.loop-i.self.pieces.items refl))
     ] in
+    let left : (next : Option ℕ) → (i + 1 < 72 → next ≡ Some file) → IsLeft holes image file place (i + 1) next c.block_at-found.result old c.match-found.self.pieces.items = elim c.match-found.branch [
+      | in-Some+in_ok-note w ↦ λ next h.
+          subst (λ (o : Option ℕ). IsLeft holes image file place (i + 1) next o old c.match-found.self.pieces.items) (sym w.in-Some.is)
+          (subst (λ (giving : Giving). IsLeft holes image file place (i + 1) next (Some w.in-Some.block) old giving.pieces.items) (sym w.self-is)
+          (left_given holes image file place i c.loop-i.there c.loop-i.way.holder c.loop-i.way.before old c.loop-i.self.pieces.items c.loop-i.invariant.first c.loop-i.invariant.left_out _ _ refl refl w.in_ok-note.ensures.pieces next h))
+      | in_default w ↦ λ next h.
+          subst (λ (o : Option ℕ). IsLeft holes image file place (i + 1) next o old c.match-found.self.pieces.items) (sym w.in_default.is)
+          (subst (λ (giving : Giving). IsLeft holes image file place (i + 1) next None old giving.pieces.items) (sym w.self-is)
+          (left_missing holes image file place i c.loop-i.there c.loop-i.way.holder c.loop-i.way.before old c.loop-i.self.pieces.items c.loop-i.invariant.first c.loop-i.invariant.left_out
+          (λ block named fit. c.loop-i.invariant.giving.only block (subst (λ (o : Option ℕ). IfNone o Refuses) w.in_default.is c.block_at-found.ensures.none block named fit)) _ refl next h))
+    ] in
     record {
       giving = elim c.if-i.branch [
         | then-i w ↦ subst (λ (giving : Giving). IsGiving holes image giving) (sym w.self-is) w.next_holder-way.ensures.giving
@@ -61,6 +77,10 @@ loop-i-preserved c =
             subst (λ (giving : Giving). GivesFirst image file place (i + 1) c.match-found.there old giving.pieces.items) (sym w.self-is)
             (subst (λ pieces. GivesFirst image file place (i + 1) c.match-found.there old pieces.items) (sym w.next_holder-way.ensures.pieces) first)
         | else-i w ↦ subst (λ (giving : Giving). GivesFirst image file place (i + 1) c.match-found.there old giving.pieces.items) (sym w.self-is) first
+      ];
+      left_out = elim c.if-i.branch [
+        | then-i w ↦ ?
+        | else-i w ↦ ?
       ];
       holder = search rules;
       holds = search rules;

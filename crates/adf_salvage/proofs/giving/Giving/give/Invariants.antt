@@ -1,6 +1,6 @@
 use Rattle.adf_salvage.proofs.Common.{◌≡◌, ◌<◌, ◌≤◌, IfSome, block_count, IsGiving}
 use Rattle.adf_salvage.specs.Due.{IsPointerBlock}
-use Rattle.adf_salvage.specs.steps.Counting.{GivesFirst}
+use Rattle.adf_salvage.specs.steps.Counting.{GivesFirst, IsLeft}
 use Rattle.adf_salvage.proofs.giving.Giving.give.Given as goal
 
 abbrev pub invariant-loop-i : goal.invariant-loop-i
@@ -10,6 +10,7 @@ invariant-loop-i l = record {
   few : l.there ≤ l.i;
   first : GivesFirst l.known.image l.file l.place l.i l.there l.initial.self.pieces.items l.self.pieces.items;
   holder : IfSome l.way.holder (λ block. block < block_count l.known.image);
+  left_out : IsLeft l.known.holes.items l.known.image l.file l.place l.i l.way.holder l.way.before l.initial.self.pieces.items l.self.pieces.items;
   holds : IfSome l.way.holder (IsPointerBlock l.known.image l.file);
   before : IfSome l.way.before (λ block. block < block_count l.known.image);
 }
