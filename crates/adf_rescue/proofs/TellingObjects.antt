@@ -1,6 +1,6 @@
 -- The report on a rescue, entry by entry: as lines or as an object.
 use Rattle.std.proofs.Common.{◌≡◌, ℕ, Bool, true, false, ◌||◌, List, [], ◌∷◌, ◌++◌, length, take, drop, take-append-drop, append_assoc, append-nil, codes, refl, sym, ap, ◌∙◌, subst}
-use Rattle.std.specs.Prelude.{if◌then◌else◌, fold, flat_map}
+use Rattle.std.specs.Prelude.{if◌then◌else◌, fold, flat_map, Option}
 use Rattle.std.specs.List.{list_any}
 use Rattle.std.proofs.lemmas.List.Sums.{fold-append}
 use Rattle.std.proofs.lemmas.List.Folds.{list_any-append}
@@ -10,8 +10,10 @@ use Rattle.json.proofs.Printed.Tokens.{print_from-append}
 use Rattle.adf_salvage.specs.declared.salvaged.Salvaged.{Salvaged}
 use Rattle.ados_sound.specs.Marks.{mark_at}
 use Rattle.adf_rescue.specs.declared.damaged.Rescue.{Rescue}
+use Rattle.adf_rescue.specs.declared.doubt.Doubt.{Doubt}
 use Rattle.adf_rescue.specs.declared.missing.Run.{Run}
 use Rattle.adf_rescue.specs.Missing.{values_at}
+use Rattle.adf_rescue.specs.Reasons.{doubt_at}
 use Rattle.adf_rescue.specs.Rescue.{AreSomeRescued, IsTold, rescue_line}
 use Rattle.adf_rescue.specs.Rescue.AreLines.{none as no_lines, one as one_line}
 use Rattle.adf_rescue.specs.RescueObject.{AreObjects, IsReportObject, entry_tokens, hole_tokens, is_summed, is_told, object_tokens, path_end, rest_tokens}
@@ -27,8 +29,8 @@ abbrev after_value : Bool → List Token → Bool
 after_value b tokens = fold (λ _ t. ends t) b tokens
 
 -- a value ended behind the object of an entry
-entry_ends : (image : List ℕ) (entry : Salvaged) (deleted : Bool) (runs : List Run) (path : List ℕ) (before : Bool) → after_value before (entry_tokens image entry deleted runs path) ≡ true
-entry_ends image entry deleted runs path before =
+entry_ends : (image : List ℕ) (entry : Salvaged) (doubt : Option Doubt) (deleted : Bool) (runs : List Run) (path : List ℕ) (before : Bool) → after_value before (entry_tokens image entry doubt deleted runs path) ≡ true
+entry_ends image entry doubt deleted runs path before =
     fold-append (λ _ t. ends t) false (flat_map (hole_tokens image entry.header) runs ++ end_array ∷ []) (end_object ∷ [])
 
 module _ (rescue : Rescue) where
@@ -37,8 +39,8 @@ module _ (rescue : Rescue) where
   object_of place e path = if is_told e.state e.found then object_tokens rescue place e (path ++ path_end e.state) else []
 
   after_object : (told : Bool) (place : ℕ) (entry : Salvaged) (path : List ℕ) (before : Bool) → after_value before (if told then object_tokens rescue place entry path else []) ≡ (before || told)
-  after_object true place entry path true = entry_ends rescue.salvage.image entry (mark_at rescue.untrusted.items place) (values_at rescue.missing.items place) path true
-  after_object true place entry path false = entry_ends rescue.salvage.image entry (mark_at rescue.untrusted.items place) (values_at rescue.missing.items place) path false
+  after_object true place entry path true = entry_ends rescue.salvage.image entry (doubt_at rescue.doubts.items place) (mark_at rescue.untrusted.items place) (values_at rescue.missing.items place) path true
+  after_object true place entry path false = entry_ends rescue.salvage.image entry (doubt_at rescue.doubts.items place) (mark_at rescue.untrusted.items place) (values_at rescue.missing.items place) path false
   after_object false place entry path true = refl
   after_object false place entry path false = refl
 
@@ -65,11 +67,11 @@ module _ (rescue : Rescue) where
   no_parts false = no_lines
 
 -- an object behind a comma, if it is not the first
-pub object_printed : (after : Bool) (image : List ℕ) (entry : Salvaged) (deleted : Bool) (runs : List Run) (path : List ℕ)
-    → (if after then codes "," else []) ++ print (entry_tokens image entry deleted runs path) ≡ print_from after (entry_tokens image entry deleted runs path)
+pub object_printed : (after : Bool) (image : List ℕ) (entry : Salvaged) (doubt : Option Doubt) (deleted : Bool) (runs : List Run) (path : List ℕ)
+    → (if after then codes "," else []) ++ print (entry_tokens image entry doubt deleted runs path) ≡ print_from after (entry_tokens image entry doubt deleted runs path)
 unfolding print_from
-object_printed true image entry deleted runs path = refl
-object_printed false image entry deleted runs path = refl
+object_printed true image entry doubt deleted runs path = refl
+object_printed false image entry doubt deleted runs path = refl
 
 -- one more object is printed
 print_more : (objects object : List Token) (after : Bool) → after_value false objects ≡ after → print (front_tokens (objects ++ object)) ≡ print (front_tokens objects) ++ print_from after object
@@ -123,18 +125,19 @@ parts_more true rescue entries entry text told after part is next = printed_more
 parts_more false rescue entries entry text told after part is line = one_line entries entry text part told line
 
 -- the object of an entry, by what is told of it
-object_is : (image other : List ℕ) (e entry : Salvaged) (here there : Bool) (runs others : List Run) (path : List ℕ) → image ≡ other → e ≡ entry → here ≡ there → runs ≡ others
-    → entry_tokens image e here runs (path ++ path_end e.state) ≡ entry_tokens other entry there others (path ++ path_end entry.state)
-object_is image other e entry here there runs others path alike same deleted missing =
-    ap (λ (x : List ℕ). entry_tokens x e here runs (path ++ path_end e.state)) alike ∙ ap (λ (x : Salvaged). entry_tokens other x here runs (path ++ path_end x.state)) same
-    ∙ ap (λ (x : Bool). entry_tokens other entry x runs (path ++ path_end entry.state)) deleted ∙ ap (λ (x : List Run). entry_tokens other entry there x (path ++ path_end entry.state)) missing
+object_is : (image other : List ℕ) (e entry : Salvaged) (doubt why : Option Doubt) (here there : Bool) (runs others : List Run) (path : List ℕ) → image ≡ other → e ≡ entry → doubt ≡ why → here ≡ there → runs ≡ others
+    → entry_tokens image e doubt here runs (path ++ path_end e.state) ≡ entry_tokens other entry why there others (path ++ path_end entry.state)
+object_is image other e entry doubt why here there runs others path alike same reason deleted missing =
+    ap (λ (x : List ℕ). entry_tokens x e doubt here runs (path ++ path_end e.state)) alike ∙ ap (λ (x : Salvaged). entry_tokens other x doubt here runs (path ++ path_end x.state)) same
+    ∙ ap (λ (x : Option Doubt). entry_tokens other entry x here runs (path ++ path_end entry.state)) reason
+    ∙ ap (λ (x : Bool). entry_tokens other entry why x runs (path ++ path_end entry.state)) deleted ∙ ap (λ (x : List Run). entry_tokens other entry why there x (path ++ path_end entry.state)) missing
 
 -- an object is what is told of its entry
-pub object_told : (json : Bool) (rescue : Rescue) (after : Bool) (place : ℕ) (entry : Salvaged) (image : List ℕ) (e : Salvaged) (deleted : Bool) (runs : List Run) (path text : List ℕ) → json ≡ true
-    → is_told entry.state entry.found ≡ true → image ≡ rescue.salvage.image → e ≡ entry → deleted ≡ mark_at rescue.untrusted.items place → runs ≡ values_at rescue.missing.items place
-    → text ≡ print_from after (entry_tokens image e deleted runs (path ++ path_end e.state)) → IsPart json rescue after place entry text
-object_told json rescue after place entry image e deleted runs path text as_json told of_image same marked missing is =
-    let tokens = object_is image rescue.salvage.image e entry deleted (mark_at rescue.untrusted.items place) runs (values_at rescue.missing.items place) path of_image same marked missing in
+pub object_told : (json : Bool) (rescue : Rescue) (after : Bool) (place : ℕ) (entry : Salvaged) (image : List ℕ) (e : Salvaged) (doubt : Option Doubt) (deleted : Bool) (runs : List Run) (path text : List ℕ) → json ≡ true
+    → is_told entry.state entry.found ≡ true → image ≡ rescue.salvage.image → e ≡ entry → doubt ≡ doubt_at rescue.doubts.items place → deleted ≡ mark_at rescue.untrusted.items place → runs ≡ values_at rescue.missing.items place
+    → text ≡ print_from after (entry_tokens image e doubt deleted runs (path ++ path_end e.state)) → IsPart json rescue after place entry text
+object_told json rescue after place entry image e doubt deleted runs path text as_json told of_image same why marked missing is =
+    let tokens = object_is image rescue.salvage.image e entry doubt (doubt_at rescue.doubts.items place) deleted (mark_at rescue.untrusted.items place) runs (values_at rescue.missing.items place) path of_image same why marked missing in
     let printed : text ≡ print_from after (object_tokens rescue place entry (path ++ path_end entry.state)) = is ∙ ap (print_from after) tokens in
     subst (λ (form : Bool). IsPart form rescue after place entry text) (sym as_json)
     (path, printed ∙ sym (ap (λ (b : Bool). if b then print_from after (object_tokens rescue place entry (path ++ path_end entry.state)) else []) told))

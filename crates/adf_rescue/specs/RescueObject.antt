@@ -13,9 +13,10 @@ use Rattle.adf_salvage.specs.Saved.{size_of}
 use Rattle.ados_sound.specs.Marks.{mark_at}
 use Rattle.adf_record.specs.Members.{number_token, string_token}
 use Rattle.adf_rescue.specs.declared.damaged.Rescue.{Rescue}
+use Rattle.adf_rescue.specs.declared.doubt.Doubt.{Doubt}
 use Rattle.adf_rescue.specs.declared.missing.Run.{Run}
 use Rattle.adf_rescue.specs.Missing.{first_byte, last_byte, values_at}
-use Rattle.adf_rescue.specs.Reasons.{doubt_of, reason_text}
+use Rattle.adf_rescue.specs.Reasons.{doubt_at, reason_text}
 
 -- an entry is told, unless it is a sound directory that was not recovered
 abbrev pub is_told : State → Bool → Bool
@@ -55,10 +56,10 @@ written image header (Broken missing cut length) = Some (size_of image header (B
 
 -- the members for its header, its size and why it is doubtful or cut short, and whether it would be a deleted entry by a bitmap that
 -- cannot be trusted
-abbrev pub detail_tokens : List ℕ → ℕ → State → Bool → List Token
-detail_tokens image header state deleted =
+abbrev pub detail_tokens : List ℕ → ℕ → State → Option Doubt → Bool → List Token
+detail_tokens image header state doubt deleted =
     key (codes "header") ∷ number (decimal header) ∷ key (codes "size") ∷ number_token (written image header state)
-    ∷ key (codes "reason") ∷ string_token (option_map reason_text (doubt_of state)) ∷ key (codes "deleted") ∷ boolean deleted ∷ []
+    ∷ key (codes "reason") ∷ string_token (option_map reason_text doubt) ∷ key (codes "deleted") ∷ boolean deleted ∷ []
 
 -- the object of a run of missing data blocks of a file with this header: the bytes of the file in them, and their numbers
 abbrev pub hole_tokens : List ℕ → ℕ → Run → List Token
@@ -71,15 +72,15 @@ abbrev pub holes_tokens : List ℕ → ℕ → List Run → List Token
 holes_tokens image header runs = key (codes "holes") ∷ begin_array ∷ (flat_map (hole_tokens image header) runs ++ end_array ∷ [])
 
 -- the object of an entry with this path
-abbrev pub entry_tokens : List ℕ → Salvaged → Bool → List Run → List ℕ → List Token
-entry_tokens image entry deleted runs path =
+abbrev pub entry_tokens : List ℕ → Salvaged → Option Doubt → Bool → List Run → List ℕ → List Token
+entry_tokens image entry doubt deleted runs path =
     begin_object ∷ (state_tokens entry.found entry.state path
-    ++ (detail_tokens image entry.header entry.state deleted ++ (holes_tokens image entry.header runs ++ end_object ∷ [])))
+    ++ (detail_tokens image entry.header entry.state doubt deleted ++ (holes_tokens image entry.header runs ++ end_object ∷ [])))
 
 -- the same of the entry at a position of a rescue
 abbrev pub object_tokens : Rescue → ℕ → Salvaged → List ℕ → List Token
 object_tokens rescue place entry path =
-    entry_tokens rescue.salvage.image entry (mark_at rescue.untrusted.items place) (values_at rescue.missing.items place) path
+    entry_tokens rescue.salvage.image entry (doubt_at rescue.doubts.items place) (mark_at rescue.untrusted.items place) (values_at rescue.missing.items place) path
 
 -- the object of that entry at some host path, if it is told
 abbrev pub IsEntryObject : Rescue → ℕ → Salvaged → List Token → Type 0

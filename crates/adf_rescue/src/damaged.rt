@@ -5,15 +5,17 @@ ghost use Rattle.adf_io.specs.Prefix.{Writes, WritesFrontOf};
 ghost use Rattle.ados_sound.specs.Marks.{mark_at};
 ghost use Rattle.adf_salvage.specs.Saved.{IsAt};
 ghost use Rattle.adf_rescue.specs.Missing.{values_at};
+ghost use Rattle.adf_rescue.specs.Reasons.{doubt_at};
 ghost use Rattle.adf_rescue.specs.Rescue.{AreRescued, AreSomeRescued, IsRescue, IsRescueFault, count_line, rescue_line};
 ghost use Rattle.adf_rescue.specs.RescueObject.{is_summed, is_told, written};
 ghost use Rattle.adf_text.specs.Ranges.{ranges};
 ghost use Rattle.adf_rescue.specs.steps.Reporting.{IsPart, rest_of};
 
-use crate::doubt::{Doubt, doubt_of};
+use crate::doubt::Doubt;
 use crate::missing::{Run, missing_runs};
 use crate::missing_text::missing_text;
 use crate::plan::Plan;
+use crate::reasons::doubts;
 use crate::rescue_object::{Row, entry_object, front_text, is_told, rest_object};
 use crate::untrusted::untrusted_marks;
 use adf_account::unaccounted_blocks;
@@ -34,6 +36,8 @@ pub struct Rescue {
     plan: Plan,
     /// The blocks that are used and belong to nothing of the salvage.
     unaccounted: Vec<u32>,
+    /// For each entry, why it is doubtful or cut short, if it is.
+    doubts: Vec<Option<Doubt>>,
     /// For each entry, the runs of its missing data blocks.
     missing: Vec<Vec<Run>>,
     /// For each entry, whether it would be a deleted one if the bitmap could be trusted.
@@ -88,12 +92,14 @@ fn rescue_of(
     let salvage = salvage_beside(alloc, image, holes)?;
     let plan = Plan::of(alloc, &salvage, meta)?;
     let unaccounted = unaccounted_blocks(alloc, &salvage)?;
+    let doubts = doubts(alloc, &salvage)?;
     let missing = missing_runs(alloc, &salvage)?;
     let untrusted = untrusted_marks(alloc, &salvage)?;
     Ok(Rescue {
         salvage,
         plan,
         unaccounted,
+        doubts,
         missing,
         untrusted,
     })
@@ -127,11 +133,17 @@ impl Rescue {
         alloc: Global,
         place: usize,
     ) -> Result<Option<(String, Doubt)>, AllocError> {
-        let state = self.salvage.entries().get(place).map(|entry| entry.state);
-        match state.and_then(doubt_of) {
+        match self.doubt_of(place) {
             Some(doubt) => Ok(Some((self.path_at(alloc, place)?, doubt))),
             None => Ok(None),
         }
+    }
+
+    /// Why the entry at a position is doubtful or cut short, if it is.
+    fn doubt_of(&self, place: usize) -> Option<Doubt>
+        ensures { result ≡ doubt_at self.now.doubts.items place }
+    {
+        self.doubts.get(place).copied().flatten()
     }
 
     /// The path of the entry at a position, or in its place `the entry at block N`, and which of its bytes and data blocks are missing, if
@@ -268,6 +280,7 @@ impl Rescue {
         ensures image { result.image.now ≡ self.now.salvage.image }
         ensures entry { result.entry.now ≡ entry.now }
         ensures size { result.size ≡ written self.now.salvage.image entry.now.header entry.now.state }
+        ensures doubt { result.doubt ≡ doubt_at self.now.doubts.items place }
         ensures deleted { result.deleted ≡ mark_at self.now.untrusted.items place }
         ensures missing { result.missing.now ≡ values_at self.now.missing.items place }
     {
@@ -275,6 +288,7 @@ impl Rescue {
             image: self.salvage.image(),
             entry,
             size: self.written_at(place, entry),
+            doubt: self.doubt_of(place),
             deleted: self.is_untrusted_at(place),
             missing: self.runs_at(place),
         }

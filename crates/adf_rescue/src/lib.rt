@@ -13,13 +13,16 @@ mod missing_text;
 mod number_words;
 mod placing;
 mod plan;
+mod reasons;
 mod rescue_object;
 mod saving;
+mod sharing;
 mod sourced;
 mod spans;
 mod undelete_fault;
 mod undeleting;
 mod untrusted;
+mod wrong_sums;
 
 pub use damaged::{Rescue, RescueFault, extract_damaged};
 pub use doubt::Doubt;

@@ -144,11 +144,13 @@ fn tell_sums<F: Write>(rescue: &Rescue, faults: &mut F) {
 fn tell_doubts<F: Write>(alloc: Global, rescue: &Rescue, faults: &mut F) {
     for place in 0..rescue.len() {
         if let Ok(Some((path, doubt))) = rescue.doubt_at(alloc, place) {
-            let (path, word, reason) = (path.as_str(), doubt.word(), doubt.reason());
-            print_line(
-                faults,
-                format_args!("adf_serve: '{path}' is {word}: {reason}"),
-            );
+            if let Ok(reason) = doubt.reason(alloc) {
+                let (path, word, reason) = (path.as_str(), doubt.word(), reason.as_str());
+                print_line(
+                    faults,
+                    format_args!("adf_serve: '{path}' is {word}: {reason}"),
+                );
+            }
         }
         tell_missing_at(alloc, rescue, place, faults);
     }
