@@ -1,7 +1,6 @@
 -- Many checked images: the report on one, the output for all, and how the check ends.
 pub mod Words
 pub mod Endings
-pub mod Fillers
 pub mod Paths
 pub mod Suspects
 pub mod Likeness

@@ -1,23 +1,13 @@
 -- Data blocks of files that hold nothing but a filler.
 use Rattle.std.specs.Prelude.{◌≡◌, ℕ, ◌<◌, List, map, All, AllPairs, Contains, option_map}
 use Rattle.std.specs.String.{string_bytes}
-use Rattle.adf_block.specs.Fields.{format_of}
-use Rattle.adf_block.specs.Image.{bytes_at}
-use Rattle.ados_model.specs.Tree.{Tree, data_size, data_start}
+use Rattle.ados_model.specs.Tree.{Tree}
 use Rattle.ados_volume.specs.declared.owner.Owner.{Owner}
 use Rattle.ados_volume.specs.declared.owner.Owner.TheVariants.{Data}
 use Rattle.ados_volume.specs.Owners.{Owns}
 use Rattle.adf_archive.specs.declared.suspects.Suspect.{Suspect}
-use Rattle.adf_archive.specs.Fillers.{IsFiller}
+use Rattle.ados_census.specs.Fillers.{HoldsFiller}
 use Rattle.adf_archive.specs.Paths.{IsPathOf}
-
--- the bytes for a file in a block, as many as fit: 488 in OFS, 512 in FFS
-abbrev pub data_bytes : List ℕ → ℕ → List ℕ
-data_bytes image block = bytes_at image block (data_start (format_of image)) (data_size (format_of image))
-
--- these are a known filler from end to end
-abbrev pub HoldsFiller : List ℕ → ℕ → Type 0
-HoldsFiller image block = IsFiller (data_bytes image block)
 
 -- a block with this owner is no data block, or not such a one
 abbrev pub IsNoSuspect : List ℕ → ℕ → Owner → Type 0

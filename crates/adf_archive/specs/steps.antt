@@ -1,2 +1,1 @@
 -- Definitions for steps: bytes that repeat a text.
-pub mod Periods

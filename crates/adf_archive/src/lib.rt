@@ -4,7 +4,6 @@
 mod checking;
 mod fault;
 mod faults;
-mod filler;
 mod finding;
 mod found_file;
 mod held;
@@ -29,7 +28,7 @@ mod words;
 
 pub use checking::{Detail, report_file, report_image};
 pub use fault::ArchiveFault;
-pub use filler::{Filler, is_filler};
+pub use ados_census::{Filler, is_filler};
 pub use finding::{FoundImages, Remark, has_image_ending, image_files};
 pub use found_file::FoundFile;
 pub use held::tell_held;

@@ -7,12 +7,10 @@ ghost use Rattle.ados_model.specs.Stands.{Stands};
 ghost use Rattle.ados_model.specs.Tree.{Tree};
 ghost use Rattle.ados_volume.specs.Owners.{Owns};
 ghost use Rattle.adf_archive.specs.Paths.{IsPathOf};
-ghost use Rattle.adf_archive.specs.Suspects.{AreSuspects, IsNoSuspect, IsSuspectAt, TellsSuspect, data_bytes};
+ghost use Rattle.adf_archive.specs.Suspects.{AreSuspects, IsNoSuspect, IsSuspectAt, TellsSuspect};
 
-use crate::filler::is_filler;
 use crate::path::path_of;
-use adf_block::layout::OFS_DATA_BYTE;
-use adf_block::{Format, Image};
+use ados_census::holds_filler;
 use ados_volume::{Owner, Volume, owners};
 use std::alloc::{AllocError, Global};
 
@@ -58,7 +56,7 @@ fn suspect_at(
     ensures { IfOk result (λ found. (t : Tree) → Stands volume.now.image t → MatchOption found (IsNoSuspect volume.now.image block owner) (IsSuspectAt volume.now.image t block owner)) }
 {
     match owner {
-        Owner::Data(file, place) if is_filler(data_bytes(volume.image(), block)) => {
+        Owner::Data(file, place) if holds_filler(volume.image(), block) => {
             let path = path_in(alloc, volume, file, found)?;
             Ok(Some(Suspect {
                 block,
@@ -96,17 +94,5 @@ fn same_path(alloc: Global, suspect: &Suspect) -> Result<Option<String>, AllocEr
     match &suspect.path {
         Some(path) => Ok(Some(String::from_str(alloc, path.as_str())?)),
         None => Ok(None),
-    }
-}
-
-/// The bytes for a file in a block, as many as fit.
-fn data_bytes(image: &Image, block: u32) -> &[u8]
-    requires { block < block_count image.now }
-    ensures { result.now ≡ data_bytes image.now block }
-{
-    let bytes = image.block(block);
-    match image.format() {
-        Format::Ofs => &bytes[OFS_DATA_BYTE as usize..],
-        Format::Ffs => bytes,
     }
 }

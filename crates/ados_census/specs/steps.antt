@@ -5,3 +5,4 @@ pub mod Sorting
 pub mod Marks
 pub mod Reaching
 pub mod Placing
+pub mod Periods

@@ -1,7 +1,6 @@
-use Rattle.std.proofs.Common.{List, ℕ, refl, subst, ap, ◌∙◌}
+use Rattle.std.proofs.Common.{List, ℕ, refl, subst}
 use Rattle.adf_archive.proofs.Common.{File, content_in, Owns, Owner}
-use Rattle.adf_archive.specs.Fillers.{IsFiller}
-use Rattle.adf_archive.specs.Suspects.{data_bytes}
+use Rattle.ados_census.specs.Fillers.{HoldsFiller}
 use Rattle.adf_archive.proofs.suspects.suspect_at.Goals as goal
 
 pub path_in-requires-clause-key : goal.path_in-requires-clause-key
@@ -15,7 +14,7 @@ returns-in_ok-path-in-Data c = λ t s. record {
   told = record {
     is = record {
       owned = subst (λ (o : Owner). Owns c.args.volume.now.image t c.args.block o) c.in-Data.is (c.requires.owner t s);
-      filler = subst IsFiller (c.data_bytes.ensures ∙ ap (λ (image : List ℕ). data_bytes image c.args.block) c.image.ensures.same) (c.if-is_filler.ensures.0 refl);
+      filler = subst (λ (image : List ℕ). HoldsFiller image c.args.block) c.image.ensures.same (c.if-holds_filler.ensures.0 refl);
     };
     path = c.in_ok-path-in-Data.ensures t s;
   };
