@@ -126,9 +126,9 @@ def ghosts_of(lines: list[str], at: int) -> str:
     return ""
 
 
-def calls_of(file: Path, exports: Exports) -> list[Call]:
-    """Returns the public calls in a file."""
-    text = file.read_text()
+def calls_of(src: Path, file: Path, exports: Exports) -> list[Call]:
+    """Returns the public calls in a file below a folder of sources."""
+    text, place = file.read_text(), str(file.relative_to(src))
     lines = text.split("\n")
     starts = [0]
     for line in lines:
@@ -145,7 +145,7 @@ def calls_of(file: Path, exports: Exports) -> list[Call]:
             inner = "\n".join(it for it in text[starts[at] :].partition("\n}")[0].split("\n") if it.startswith("    ghost use "))
             ghosts = ghosts_of(lines, at) if is_trait and owner else ""
             if ghosts:
-                calls.append(Call(owner, f"trait {owner}", file.name, doc_above(lines, at), ghosts, f"{outer}\n{inner}"))
+                calls.append(Call(owner, f"trait {owner}", place, doc_above(lines, at), ghosts, f"{outer}\n{inner}"))
         call = CALL.match(line)
         if not call:
             continue
@@ -155,7 +155,7 @@ def calls_of(file: Path, exports: Exports) -> list[Call]:
             head = text[starts[at] : end_of_head(text, starts[at])].rstrip()
             head = "\n".join(part[indent:] for part in head.split("\n"))
             whose = owner if indent else name
-            calls.append(Call(whose, f"{owner}::{name}" if indent else name, file.name, doc_above(lines, at), head, f"{outer}\n{inner}"))
+            calls.append(Call(whose, f"{owner}::{name}" if indent else name, place, doc_above(lines, at), head, f"{outer}\n{inner}"))
     return calls
 
 
@@ -171,7 +171,7 @@ class Crate:
     def read(path: Path) -> Crate:
         root = path / "src/lib.rt" if (path / "src/lib.rt").is_file() else path / "src/main.rt"
         exports = exports_of(root)
-        calls = [call for file in sorted((path / "src").glob("*.rt")) for call in calls_of(file, exports)]
+        calls = [call for file in sorted((path / "src").rglob("*.rt")) for call in calls_of(path / "src", file, exports)]
         order = {name: at for at, name in enumerate(exports.names)}
         return Crate(path, exports, sorted(calls, key=lambda call: order.get(call.owner, len(order))))
 

@@ -41,8 +41,8 @@ pub use Rattle.ados_volume.specs.Below.{AreBelow, HasGrown}
 pub use Rattle.ados_volume.specs.Located.{Located}
 pub use Rattle.ados_volume.specs.Paths.{Leads, StopsAt}
 pub use Rattle.ados_volume.specs.declared.below.Below.{Below}
-pub use Rattle.host_trees.specs.Notes.{note_of}
-pub use Rattle.host_trees.specs.declared.items.HostItem.{HostItem}
+pub use Rattle.adf_host.specs.Notes.{note_of}
+pub use Rattle.adf_host.specs.declared.trees.items.HostItem.{HostItem}
 pub use Rattle.std.proofs.Common.{All, Bool, Bor, Contains, Err, IfOk, IfSome, IsSome, List, None, Ok, OnErr, Option, Result, Some, Vec, [], ap, append-nil, append_assoc, ap₂, arith, drop, drop-cons, eq-eqb, false, get_or, inl, inr, is_some, length, length-append, map, min, option_map, option_to_list, pos, refl, replicate, slice_get, subst, suc, sym, take, take-append-drop, true, vec_len, zero, ℕ, ◌*◌, ◌++◌, ◌+◌, ◌-◌, ◌<◌, ◌==◌, ◌∙◌, ◌∷◌, ◌≡◌, ◌≢◌, ◌≤◌, ◌⊎◌}
 pub use Rattle.std.proofs.lemmas.Bool.{false≢true, ne_eqb}
 pub use Rattle.std.proofs.lemmas.Grind.{flat_map-append}

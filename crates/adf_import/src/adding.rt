@@ -9,9 +9,9 @@ use crate::item::{How, Item, put_item};
 use crate::progress::Progress;
 use crate::words::Word;
 use adf_block::layout::BLOCK_BYTES;
+use adf_host::{HostEntry, HostReader, OwnedFile, PassedOver, PromptFiles, host_tree};
 use ados_model::DosError;
 use ados_volume::Volume;
-use host_trees::{HostEntry, HostReader, OwnedFile, PassedOver, PromptFiles, host_tree};
 use std::alloc::Global;
 
 /// Puts files and directories of the host, with everything below them, into a directory. It returns what was skipped.

@@ -3,10 +3,10 @@
 use crate::fault::{FileWhy, InFault, unusable};
 use crate::host_files::{read_host, unopened};
 use adf_block::layout::BLOCK_BYTES;
+use adf_host::{HeldTree, OpenFault, OwnedFile, PromptFiles};
 use adf_record::{Bundle, BundleEntry};
 use adf_text::host_name;
 use ados_name::Name;
-use host_trees::{HeldTree, OpenFault, OwnedFile, PromptFiles};
 use std::alloc::{AllocError, Global};
 use std::fs::OpenFile;
 use std::io::{ErrorKind, Read};

@@ -4,9 +4,9 @@ use crate::bundle_files::read_files;
 use crate::bundle_put::volume_of_bundle;
 use crate::fault::{InFault, SourceFault, WrongVolume};
 use crate::host_files::{read_host, unopened, unread};
+use adf_host::{HeldTree, OwnedFile, PromptFiles, ReadReason};
 use adf_record::{MOST_BUNDLE_BYTES, bundle_of, format_word, read_bundle};
 use ados_volume::Volume;
-use host_trees::{HeldTree, OwnedFile, PromptFiles, ReadReason};
 use std::alloc::Global;
 
 /// The volume that a directory of the host describes, in place of an empty volume of the same kind and size. The files are

@@ -2,9 +2,9 @@
 ghost use Rattle.std.specs.Prelude.{◌≢◌, ◌≤◌, All, IfSome, IsTrue, length};
 
 use crate::sourced::{Source, SourcedItems, way_up};
+use adf_host::HostName;
 use adf_salvage::{Salvage, Salvaged, State};
 use ados_name::{Date3, Name};
-use host_trees::HostName;
 use itoa::Buffer;
 use std::alloc::{AllocError, Global};
 use std::str::from_utf8;

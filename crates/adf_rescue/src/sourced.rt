@@ -4,11 +4,12 @@ ghost use Rattle.adf_rescue.specs.Rescue.{HasSource};
 ghost use Rattle.adf_rescue.specs.Undelete.{file_in};
 
 use crate::plan::name_of;
-use adf_host::{OwnedFile, PromptFiles};
+use adf_host::{
+    Contents, HostItem, HostName, ItemKind, OwnedFile, PromptFiles, WriteFault, write_tree,
+};
 use adf_salvage::{Salvage, Salvaged};
 use adf_text::{Uaem, uaem_line};
 use ados_name::Date3;
-use host_trees::{Contents, HostItem, HostName, ItemKind, WriteFault, write_tree};
 use std::alloc::{AllocError, Global};
 
 /// Where the bytes of an item are.

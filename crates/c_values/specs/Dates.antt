@@ -3,7 +3,7 @@ use Rattle.std.specs.Prelude.{◌≡◌, ℕ, ◌+◌, ◌*◌, ◌<◌, ◌≤�
 use Rattle.ados_name.specs.declared.stamp.Date3.{Date3}
 use Rattle.ados_name.specs.Date.{IsTextOf}
 use Rattle.adf_text.specs.Dated.{IsTextOfNone}
-use Rattle.host_trees.specs.Dates.{IsDateAt, nanos_of}
+use Rattle.adf_host.specs.Dates.{IsDateAt, nanos_of}
 use Rattle.c_values.specs.Buffers.{Refuses}
 use Rattle.c_values.specs.Ends.{ComesTo}
 use Rattle.c_values.specs.declared.date.JipDate.{JipDate}

@@ -6,7 +6,7 @@ ghost use Rattle.std.specs.Time.{system_time_nanos};
 ghost use Rattle.std.specs.Duration.{as_nanos};
 ghost use Rattle.ados_name.specs.Date.{IsTextOf};
 ghost use Rattle.adf_text.specs.Dated.{IsTextOfNone};
-ghost use Rattle.host_trees.specs.Dates.{IsDateAt, nanos_of};
+ghost use Rattle.adf_host.specs.Dates.{IsDateAt, nanos_of};
 ghost use Rattle.c_values.specs.Buffers.{Refuses};
 ghost use Rattle.c_values.specs.Dates.{second_nanos, since_1970};
 ghost use Rattle.c_values.specs.declared.refusal.Refusal.TheVariants.{WrongArgument as Wrong};
@@ -53,7 +53,7 @@ pub fn date_of_time(seconds: i64, nanoseconds: u32) -> Result<Date3, Refusal>
     if nanoseconds >= SECOND_NANOS {
         return Err(Refusal::WrongArgument);
     }
-    Ok(host_trees::date_of_time(time_at(seconds, nanoseconds)))
+    Ok(adf_host::date_of_time(time_at(seconds, nanoseconds)))
 }
 
 /// The time so long after 1970; the start of 1970 for a time before.
@@ -72,7 +72,7 @@ fn time_at(seconds: i64, nanoseconds: u32) -> SystemTime
 pub fn time_of_date(date: Date3) -> Duration
     ensures { as_nanos result ≡ nanos_of date }
 {
-    match host_trees::host_time(date).duration_since(UNIX_EPOCH) {
+    match adf_host::host_time(date).duration_since(UNIX_EPOCH) {
         Ok(since) => since,
         Err(_) => Duration::ZERO,
     }
