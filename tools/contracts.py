@@ -7,8 +7,8 @@
 At its end a page lists the definitions that its clauses cite, and those of its crate that clauses of any page stand on through
 others. Each has the checksum of its text, without comments, so that a change of it shows in the page.
 
-A public call is a function that the crate's lib.rt or main.rt exports by `pub use` or `pub mod`, a method of an exported type,
-or a member of an exported trait. The sources must have the layout of rustfmt: items of a file begin in the first
+A public call is a function that the crate's lib.rt or main.rt exports by `pub use` or `pub mod`, also through a module with files
+of its own, a method of an exported type, or a member of an exported trait. The sources must have the layout of rustfmt: items of a file begin in the first
 column, and members of an `impl` or a trait in the fifth.
 """
 from __future__ import annotations
@@ -73,6 +73,10 @@ def exports_of(root: Path) -> Exports:
             found.names += names
         else:
             found.passed_on.setdefault(module, []).extend(names)
+    for module in sorted(found.modules):
+        inner = USE.findall(re.sub(r"//[^\n]*", "", (root.parent / f"{module}.rt").read_text()))
+        for _, one, several in (it for it in inner if (root.parent / module / f"{it[0]}.rt").is_file()):
+            found.names += [name.strip() for name in (one or several).split(",") if name.strip() not in ("", *found.names)]
     for file in [root, *(root.parent / f"{module}.rt" for module in sorted(found.modules))]:
         found.names += [name for name in TYPE.findall(file.read_text()) if name not in found.names]
     return found

@@ -24,11 +24,12 @@ pub mod salvage;
 pub mod serve;
 pub mod texts;
 pub mod told;
+pub mod values;
 
-pub use c_values::{
-    JipAnswer, JipBoot, JipDate, JipDisk, JipEntry, JipFault, JipFinding, JipOwner, JipSalvaged,
-    JipTold, Refusal,
-};
 pub use desk::Desk;
 pub use handle::{JipHandle, JipSalvage};
 pub use packet::JipPacket;
+pub use values::{
+    JipAnswer, JipBoot, JipDate, JipDisk, JipEntry, JipFault, JipFinding, JipOwner, JipSalvaged,
+    JipTold, Refusal,
+};

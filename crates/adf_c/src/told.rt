@@ -2,14 +2,14 @@
 
 ghost use Rattle.std.specs.Prelude.{◌≡◌, MatchResult, pos};
 ghost use Rattle.std.specs.Option.{MatchOption};
-ghost use Rattle.c_values.specs.Salvaged.{yes_number};
-ghost use Rattle.c_values.specs.Told.{TellsAll};
-ghost use Rattle.c_values.specs.declared.refusal.Refusal.TheVariants.{NoMemory};
+ghost use Rattle.adf_c.specs.Salvaged.{yes_number};
+ghost use Rattle.adf_c.specs.Told.{TellsAll};
+ghost use Rattle.adf_c.specs.declared.values.refusal.Refusal.TheVariants.{NoMemory};
 ghost use Rattle.adf_c.specs.Telling.{BlocksEnd, RefusesBlocks, TellsHeld};
 
 use crate::handle::{Holder, JipSalvage};
+use crate::values::{JipTold, Refusal, copy_to, told_of};
 use adf_salvage::Salvage;
-use c_values::{JipTold, Refusal, copy_to, told_of};
 use std::alloc::Global;
 
 /// Lists what the blocks of a salvage's image are: the boot blocks, the root, the bitmap blocks that it names, the data blocks of
