@@ -53,7 +53,7 @@ PARTS = [
         {"adf_serve": [ARMS, CONSTANTS]},
     ),
     Part("Errors of AmigaDOS", "Standard output has `refused NUMBER PATH`.", "3", {"adf_words/refused": [ARMS]}),
-    Part("Changes and entries", "They may end a text that names the file.", "2", {"adf_import": [], "adf_export": [], "adf_rescue": [], "adf_where": [], "adf_record/*fault*": [], "ados_mend": []}),
+    Part("Changes and entries", "They may end a text that names the file.", "2", {"adf_import": [], "adf_export": [], "adf_rescue": [], "adf_where": [], "adf_record/*fault*": [], "ados_validate": []}),
     Part("Files of the host", "They end a text that names the file.", "2", {"adf_host": [], "adf_host/trees/*": []}),
     Part("Checked images", "They end a text that names the image.", "2", {"adf_archive": [FORMAT]}),
     Part("Faults of images", "They end a text that names the block and the path.", "3", {"ados_faults": [FORMAT, WHOLE, ARMS, CONSTANTS]}),

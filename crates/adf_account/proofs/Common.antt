@@ -7,7 +7,7 @@ pub use Rattle.ados_sound.specs.Sound.{Names}
 pub use Rattle.ados_map.specs.Pages.{page_block}
 pub use Rattle.ados_sound.specs.Marks.{mark_at}
 pub use Rattle.adf_account.specs.Account.{BelongsTo, HasExtensionBlock, IsAccounted, IsDamagedFile, IsNextExtension, IsOfDamaged, OfOne}
-pub use Rattle.ados_mend.specs.Mendable.{IsPage}
+pub use Rattle.ados_validate.specs.Mendable.{IsPage}
 unfoldable pub use Rattle.ados_census.specs.steps.Marks.{unmarked}
 pub use Rattle.adf_account.specs.steps.Accounting.{Adds, AreAccounted, AreClosed, AreMarkedAfter, HasNoMarks, IsNewAfter, IsOwn, IsOwnIn, IsPieceBlock}
 pub use Rattle.ados_census.specs.steps.Marks.{IsMarked}

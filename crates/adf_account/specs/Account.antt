@@ -12,7 +12,7 @@ use Rattle.adf_salvage.specs.Salvaged.{Saved}
 use Rattle.ados_sound.specs.Marks.{IsHole}
 use Rattle.ados_sound.specs.Sound.{Names}
 use Rattle.ados_model.specs.Faults.{InImage, root_of}
-use Rattle.ados_mend.specs.Mendable.{IsPage}
+use Rattle.ados_validate.specs.Mendable.{IsPage}
 use Rattle.ados_census.specs.Reached.{IsReached}
 
 -- the holder names the block as the next extension block, and the block looks like one of this file; its checksum may be wrong

@@ -4,7 +4,7 @@ ghost use Rattle.adf_block.specs.Image.{block_count};
 ghost use Rattle.ados_model.specs.Faults.{root_of};
 ghost use Rattle.ados_model.specs.File.{LawfulFile, ReadableFile, data_blocks, pointer_block};
 ghost use Rattle.ados_sound.specs.Sound.{Names};
-ghost use Rattle.ados_mend.specs.Mendable.{IsPage};
+ghost use Rattle.ados_validate.specs.Mendable.{IsPage};
 ghost use Rattle.adf_salvage.specs.steps.Keeping.{IsReadable};
 ghost use Rattle.adf_account.specs.Account.{OfOne};
 ghost use Rattle.adf_account.specs.steps.Accounting.{Adds, AreAccounted, HasNoMarks, IsOwn, IsPieceBlock};

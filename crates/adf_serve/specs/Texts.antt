@@ -31,8 +31,8 @@ use Rattle.adf_where.specs.Where.{IsWhere}
 use Rattle.adf_export.specs.Words.{LeadsTo}
 use Rattle.adf_serve.specs.declared.query.Query.{Query}
 use Rattle.adf_serve.specs.declared.query.Query.TheVariants as queries
-use Rattle.ados_mend.specs.Said.{validated_text}
-use Rattle.ados_mend.specs.Validated.{IsValidated, free_only_in}
+use Rattle.ados_validate.specs.Said.{validated_text}
+use Rattle.ados_validate.specs.Validated.{IsValidated, free_only_in}
 
 -- a text for an accepted image: by whether its bitmap was rebuilt, by the checked image, and by its tree
 abbrev pub OfAccepted : (Bool → List ℕ → Tree → List ℕ → Type 0) → List ℕ → List ℕ → Type 0
