@@ -8,8 +8,8 @@ use Rattle.ados_volume.specs.declared.owner.Owner.{Owner}
 use Rattle.adf_account.specs.Told.{TellsBlocks}
 use Rattle.adf_account.specs.declared.told.Told.{Told}
 use Rattle.adf_salvage.specs.Salvaged.{Saved}
-use Rattle.adf_c.specs.Told.{TellsAll, told_block}
-use Rattle.adf_c.specs.declared.values.told.JipTold.{JipTold}
+use Rattle.adf_c.specs.Blocks.{TellsAll, told_block}
+use Rattle.adf_c.specs.declared.values.blocks.JipTold.{JipTold}
 use Rattle.adf_c.specs.Owners.{MapsOwners, told_owner, told_owners}
 use Rattle.adf_c.specs.declared.values.owners.JipOwner.{JipOwner}
 

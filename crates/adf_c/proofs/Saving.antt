@@ -10,8 +10,8 @@ use Rattle.adf_salvage.specs.Saved.{IsAt}
 use Rattle.adf_salvage.specs.declared.salvaged.Salvaged.{Salvaged}
 use Rattle.adf_c.specs.Buffers.{Refuses}
 use Rattle.adf_c.specs.Owners.{MapsOwners}
-use Rattle.adf_c.specs.Told.{TellsAll}
-use Rattle.adf_c.specs.declared.values.told.JipTold.{JipTold}
+use Rattle.adf_c.specs.Blocks.{TellsAll}
+use Rattle.adf_c.specs.declared.values.blocks.JipTold.{JipTold}
 use Rattle.adf_c.specs.declared.values.owners.JipOwner.{JipOwner}
 use Rattle.adf_c.specs.declared.values.refusal.Refusal.{Refusal}
 use Rattle.adf_c.specs.declared.values.refusal.Refusal.TheVariants.{NotAnImage, NoMemory, WrongArgument}

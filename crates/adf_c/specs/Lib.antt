@@ -21,7 +21,7 @@ pub mod Findings
 pub mod Names
 pub mod Owners
 pub mod Salvaged
-pub mod Told
+pub mod Blocks
 pub mod Images
 pub mod Boots
 pub mod steps

@@ -8,11 +8,11 @@ use Rattle.adf_c.specs.Buffers.{Puts}
 use Rattle.adf_c.specs.Ends.{ComesTo}
 use Rattle.adf_c.specs.Images.{IsLabel, RefusesImage, RefusesLabel}
 use Rattle.adf_c.specs.Lists.{copied}
-use Rattle.adf_c.specs.Told.{TellsAll}
+use Rattle.adf_c.specs.Blocks.{TellsAll}
 use Rattle.adf_c.specs.declared.values.boots.JipBoot.{JipBoot}
 use Rattle.adf_c.specs.declared.values.refusal.Refusal.{Refusal}
 use Rattle.adf_c.specs.declared.values.refusal.Refusal.TheVariants.{NotAnImage, NoMemory, WrongArgument}
-use Rattle.adf_c.specs.declared.values.told.JipTold.{JipTold}
+use Rattle.adf_c.specs.declared.values.blocks.JipTold.{JipTold}
 
 -- these are the blocks of which the salvage that C holds tells what they are
 abbrev pub TellsHeld : Option Saved → List JipTold → Type 0

@@ -5,6 +5,7 @@
 //! be a reference, such as null pointers and lengths beyond memory, and then call these.
 #![tactic(auto)]
 
+pub mod blocks;
 pub mod boot;
 pub mod changed;
 pub mod desk;
@@ -23,7 +24,6 @@ pub mod read_only;
 pub mod salvage;
 pub mod serve;
 pub mod texts;
-pub mod told;
 pub mod values;
 
 pub use desk::Desk;

@@ -3,6 +3,7 @@
 //! The exports of `adf_c` write these values through references. No handle is needed here, and no raw pointer.
 
 mod answer;
+mod blocks;
 mod boots;
 mod buffers;
 mod date;
@@ -16,9 +17,9 @@ mod notes;
 mod owners;
 mod refusal;
 mod salvaged;
-mod told;
 
 pub use answer::{JipAnswer, JipDisk, JipEntry};
+pub use blocks::{JipTold, told_of};
 pub use boots::JipBoot;
 pub use buffers::put;
 pub use date::JipDate;
@@ -32,4 +33,3 @@ pub use notes::{read_uaem, uaem_line};
 pub use owners::{JipOwner, owners_of};
 pub use refusal::{Refusal, status};
 pub use salvaged::JipSalvaged;
-pub use told::{JipTold, told_of};

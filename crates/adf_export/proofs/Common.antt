@@ -11,7 +11,7 @@ pub use Rattle.adf_export.specs.declared.entry.Source.TheVariants.{Entry, Note}
 pub use Rattle.adf_export.specs.declared.listing.Level.{Level}
 pub use Rattle.adf_export.specs.declared.listing.Listing.{Listing}
 pub use Rattle.adf_export.specs.declared.order.Rank.{Rank}
-pub use Rattle.adf_export.specs.steps.Fronting.{names_down}
+pub use Rattle.adf_export.specs.steps.NamesDown.{names_down}
 pub use Rattle.adf_export.specs.steps.Going.{GoesOn, PushesDate, PushesEntry, Starts}
 pub use Rattle.adf_export.specs.steps.Levels.{HasKeys, HaveKeys, IsLeft, IsOpen, IsSoFar, entry_at, first_keys, first_path, to_list, with_below, work}
 pub use Rattle.adf_export.specs.steps.Ranked.{AreRanked, IsRank, rank_cmp}

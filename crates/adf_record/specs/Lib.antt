@@ -7,6 +7,6 @@ pub mod Facts
 pub mod Shown
 pub mod Object
 pub mod BootObject
-pub mod Told
+pub mod Forms
 pub mod Described
 pub mod steps

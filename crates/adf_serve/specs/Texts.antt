@@ -15,8 +15,8 @@ use Rattle.adf_block.specs.BootText.{IsBootText}
 use Rattle.adf_export.specs.Info.{info_text}
 use Rattle.adf_export.specs.Listing.{BeginsList, IsList}
 use Rattle.adf_record.specs.BootObject.{IsBootObject}
-use Rattle.adf_record.specs.declared.told.FactsForm.{FactsForm}
-use Rattle.adf_record.specs.Told.{IsVolumeText, is_json}
+use Rattle.adf_record.specs.declared.facts_form.FactsForm.{FactsForm}
+use Rattle.adf_record.specs.Forms.{IsVolumeText, is_json}
 use Rattle.adf_words.specs.declared.job.ImageJob.{ImageJob}
 use Rattle.adf_words.specs.declared.job.ImageJob.TheVariants.{Info, List as ListOf, Print, Show, ShowBoot, Validate, WherePath}
 use Rattle.adf_words.specs.declared.query.ListForm.{ListForm}

@@ -1,7 +1,7 @@
 //! The command `boot`, and the boot block of any image.
 ghost use Rattle.std.specs.Prelude.{IfErr, IfOk, Some};
 ghost use Rattle.adf_block.specs.BootCode.{boot_bytes};
-ghost use Rattle.adf_io.specs.Front.{ReadsUpTo};
+ghost use Rattle.adf_io.specs.Input.{ReadsUpTo};
 ghost use Rattle.adf_serve.specs.Boot.{PutsBoot, PutsFile};
 ghost use Rattle.adf_serve.specs.Commands.{TellsSome};
 ghost use Rattle.adf_serve.specs.Faults.{IsNoImage};
