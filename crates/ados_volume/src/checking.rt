@@ -30,5 +30,11 @@ pub fn check(alloc: Global, image: Image) -> Result<Volume, Rejected>
     };
     let accepted = check_image(alloc, image)?;
     let names = NameCache::new(alloc);
-    Ok(Volume::standing(accepted.image, accepted.was_validated, names, places, listed))
+    Ok(Volume::standing(
+        accepted.image,
+        accepted.was_validated,
+        names,
+        places,
+        listed,
+    ))
 }
