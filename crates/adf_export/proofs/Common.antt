@@ -19,9 +19,9 @@ pub use Rattle.adf_io.proofs.Outcomes.{at_any_err, if_ok_both}
 pub use Rattle.adf_io.specs.Prefix.{Passes, Writes, WritesFront, WritesFrontOf}
 pub use Rattle.adf_record.proofs.Tokens.{behind}
 pub use Rattle.adf_record.specs.Second.{PushesSecond, to_second}
-pub use Rattle.adf_words.specs.declared.query.ListForm.{ListForm}
-pub use Rattle.adf_words.specs.declared.query.ListOrder.{ListOrder}
-pub use Rattle.adf_words.specs.declared.query.ListOrder.TheVariants.{Date, Disk, Name, Size}
+pub use Rattle.adf_cli.specs.declared.query.ListForm.{ListForm}
+pub use Rattle.adf_cli.specs.declared.query.ListOrder.{ListOrder}
+pub use Rattle.adf_cli.specs.declared.query.ListOrder.TheVariants.{Date, Disk, Name, Size}
 pub use Rattle.ados_model.proofs.KeyLists.{Contains-cases, Contains-here, Contains-later, Contains-nil, Once, Once-append, Once-before, Once-cons, Once-head, Once-tail, length-once}
 pub use Rattle.ados_model.proofs.Nodes.{entry_node, parent_in, some_in}
 pub use Rattle.ados_model.proofs.Standing.{count_same}

@@ -7,8 +7,8 @@ ghost use Rattle.adf_export.specs.Words.{IsExtractFault};
 use crate::bytes::VolumeBytes;
 use crate::fault::OutFault;
 use crate::items::outgoing;
+use adf_cli::ExtractJob;
 use adf_host::{OwnedFile, PromptFiles, write_tree};
-use adf_words::ExtractJob;
 use ados_volume::Volume;
 use std::alloc::Global;
 

@@ -12,9 +12,9 @@ use crate::placing::placed_entries;
 use crate::saving::Saving;
 use crate::undelete_fault::UndeleteFault;
 use adf_block::{Format, Image};
+use adf_cli::UndeleteJob;
 use adf_host::{OwnedFile, PromptFiles};
 use adf_salvage::{Undeleted, UndeletedEntries, undelete};
-use adf_words::UndeleteJob;
 use std::alloc::Global;
 
 /// The deleted entries that arguments choose, the files and directories of the host for them, and what is told of them.

@@ -14,7 +14,7 @@ use Rattle.ados_model.specs.declared.fault.VolumeFault.{VolumeFault}
 use Rattle.adf_io.specs.Prefix.{Writes, WritesFront, WritesFrontOf}
 use Rattle.adf_export.specs.Info.{info_text}
 use Rattle.adf_export.specs.Listing.{BeginsList, IsList}
-use Rattle.adf_words.specs.declared.job.ImageJob.{ImageJob}
+use Rattle.adf_cli.specs.declared.job.ImageJob.{ImageJob}
 use Rattle.adf_export.specs.declared.fault.OutFault.{OutFault}
 use Rattle.adf_export.specs.declared.fault.OutFault.TheVariants as out
 use Rattle.adf_export.specs.Printing.{IsPrinted, IsPrintFault}
@@ -34,12 +34,12 @@ use Rattle.adf_archive.specs.Archive.{TellsArchive, told_in}
 use Rattle.adf_archive.specs.declared.fault.ArchiveFault.{ArchiveFault}
 use Rattle.adf_archive.specs.declared.fault.ArchiveFault.TheVariants as archive
 use Rattle.adf_archive.specs.Words.{kind_word}
-use Rattle.adf_words.specs.declared.query.CheckJob.{CheckJob}
-use Rattle.adf_words.specs.declared.query.ListForm.{ListForm}
-use Rattle.adf_words.specs.declared.query.ListJob.{ListJob}
-use Rattle.adf_words.specs.declared.query.ListOrder.{ListOrder}
-use Rattle.adf_words.specs.declared.query.MapJob.{MapJob}
-use Rattle.adf_words.specs.declared.query.WhereJob.{WhereJob}
+use Rattle.adf_cli.specs.declared.query.CheckJob.{CheckJob}
+use Rattle.adf_cli.specs.declared.query.ListForm.{ListForm}
+use Rattle.adf_cli.specs.declared.query.ListJob.{ListJob}
+use Rattle.adf_cli.specs.declared.query.ListOrder.{ListOrder}
+use Rattle.adf_cli.specs.declared.query.MapJob.{MapJob}
+use Rattle.adf_cli.specs.declared.query.WhereJob.{WhereJob}
 use Rattle.adf_block.specs.Image.{block_count}
 use Rattle.adf_where.specs.Faulty.{IsFaultyWhere}
 use Rattle.adf_where.specs.Own.{IsWhereOf}
@@ -47,7 +47,7 @@ use Rattle.adf_where.specs.Where.{IsWhere, IsWhereFault, LeavesWhere}
 use Rattle.adf_where.specs.declared.asking.Asking.{Asking}
 use Rattle.adf_where.specs.declared.where_fault.WhereFault.{WhereFault}
 use Rattle.adf_where.specs.declared.where_fault.WhereFault.TheVariants as places
-use Rattle.adf_words.specs.declared.block_word.BlockWord.{BlockWord}
+use Rattle.adf_cli.specs.declared.block_word.BlockWord.{BlockWord}
 use Rattle.adf_export.specs.Words.{LeadsTo}
 use Rattle.adf_serve.specs.Archives.{EndsArchive, IsToldArchive}
 use Rattle.adf_serve.specs.Deleted.{IsDeletedText, IsUndeleteEnd}

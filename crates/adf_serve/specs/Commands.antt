@@ -2,17 +2,17 @@
 use Rattle.std.specs.Prelude.{◌≡◌, ◌≢◌, ◌⊎◌, ⊤, codes, ℕ, Bool, true, false, List, Option, Some, Result, Ok, Err, MatchOption, MatchResult}
 use Rattle.std.specs.Io.KnownBytes.{Keeps}
 use Rattle.adf_io.specs.Prefix.{Writes, WritesFrontOf}
-use Rattle.adf_words.specs.declared.job.ImageJob.{ImageJob}
-use Rattle.adf_words.specs.declared.job.ImageJob.TheVariants.{AddBundle, Blank, Check, Extract, ExtractBundle, Change, Boot, Info, List as ListOf, Map, SaveBoot, Salvage, Serve, Show, ShowBoot, Undelete, Validate, Where, WherePath}
-use Rattle.adf_words.specs.declared.map_form.MapForm.{MapForm}
-use Rattle.adf_words.specs.declared.map_form.MapForm.TheVariants as maps
-use Rattle.adf_words.specs.declared.query.ListForm.{ListForm}
-use Rattle.adf_words.specs.declared.query.ListForm.TheVariants.{Json}
-use Rattle.adf_words.specs.declared.query.CheckJob.{CheckJob}
-use Rattle.adf_words.specs.declared.query.MapJob.{MapJob}
-use Rattle.adf_words.specs.declared.query.SalvageJob.{SalvageJob}
-use Rattle.adf_words.specs.declared.query.UndeleteJob.{UndeleteJob}
-use Rattle.adf_words.specs.declared.query.WhereJob.{WhereJob}
+use Rattle.adf_cli.specs.declared.job.ImageJob.{ImageJob}
+use Rattle.adf_cli.specs.declared.job.ImageJob.TheVariants.{AddBundle, Blank, Check, Extract, ExtractBundle, Change, Boot, Info, List as ListOf, Map, SaveBoot, Salvage, Serve, Show, ShowBoot, Undelete, Validate, Where, WherePath}
+use Rattle.adf_cli.specs.declared.map_form.MapForm.{MapForm}
+use Rattle.adf_cli.specs.declared.map_form.MapForm.TheVariants as maps
+use Rattle.adf_cli.specs.declared.query.ListForm.{ListForm}
+use Rattle.adf_cli.specs.declared.query.ListForm.TheVariants.{Json}
+use Rattle.adf_cli.specs.declared.query.CheckJob.{CheckJob}
+use Rattle.adf_cli.specs.declared.query.MapJob.{MapJob}
+use Rattle.adf_cli.specs.declared.query.SalvageJob.{SalvageJob}
+use Rattle.adf_cli.specs.declared.query.UndeleteJob.{UndeleteJob}
+use Rattle.adf_cli.specs.declared.query.WhereJob.{WhereJob}
 use Rattle.adf_serve.specs.declared.fault.CommandFault.{CommandFault}
 use Rattle.adf_serve.specs.declared.fault.CommandFault.TheVariants.{Dos, Refused}
 use Rattle.adf_serve.specs.Archives.{EndsArchive}

@@ -5,7 +5,7 @@ use Rattle.ados_model.specs.declared.fault.FaultKind.{FaultKind}
 use Rattle.adf_archive.specs.Words.{kind_word}
 use Rattle.adf_where.specs.BlockMap.{IsMap}
 use Rattle.adf_where.specs.FaultyMap.{IsFaultyMap}
-use Rattle.adf_words.specs.declared.query.MapJob.{MapJob}
+use Rattle.adf_cli.specs.declared.query.MapJob.{MapJob}
 use Rattle.adf_serve.specs.declared.fault.CommandFault.{CommandFault}
 use Rattle.adf_serve.specs.declared.refusal.Refusal.{Refusal}
 use Rattle.adf_serve.specs.Placed.{MayEnd}

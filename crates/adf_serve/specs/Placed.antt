@@ -6,8 +6,8 @@ use Rattle.adf_block.specs.Image.{block_count}
 use Rattle.adf_where.specs.declared.where_fault.WhereFault.TheVariants.{NoBlock}
 use Rattle.adf_where.specs.Faulty.{IsFaultyWhere}
 use Rattle.adf_where.specs.Where.{IsWhereFault}
-use Rattle.adf_words.specs.declared.block_word.BlockWord.{BlockWord}
-use Rattle.adf_words.specs.declared.query.WhereJob.{WhereJob}
+use Rattle.adf_cli.specs.declared.block_word.BlockWord.{BlockWord}
+use Rattle.adf_cli.specs.declared.query.WhereJob.{WhereJob}
 use Rattle.adf_serve.specs.declared.fault.CommandFault.{CommandFault}
 use Rattle.adf_serve.specs.declared.fault.CommandFault.TheVariants.{Memory, Output, Refused}
 use Rattle.adf_serve.specs.Refusals.{IsImageRefusal, IsSizeRefusal}

@@ -1,7 +1,7 @@
 -- How `extract --damaged` ends.
 use Rattle.std.specs.Prelude.{ℕ, Bool, true, false, List, Option, Result, ⊤}
 use Rattle.adf_rescue.specs.Rescue.{IsReport}
-use Rattle.adf_words.specs.declared.query.SalvageJob.{SalvageJob}
+use Rattle.adf_cli.specs.declared.query.SalvageJob.{SalvageJob}
 use Rattle.adf_serve.specs.declared.fault.CommandFault.{CommandFault}
 use Rattle.adf_serve.specs.declared.fault.CommandFault.TheVariants.{Extracted, Memory}
 use Rattle.adf_serve.specs.declared.refusal.Refusal.{Refusal}

@@ -17,14 +17,14 @@ use Rattle.adf_export.specs.Listing.{BeginsList, IsList}
 use Rattle.adf_record.specs.BootObject.{IsBootObject}
 use Rattle.adf_record.specs.declared.facts_form.FactsForm.{FactsForm}
 use Rattle.adf_record.specs.Forms.{IsVolumeText, is_json}
-use Rattle.adf_words.specs.declared.job.ImageJob.{ImageJob}
-use Rattle.adf_words.specs.declared.job.ImageJob.TheVariants.{Info, List as ListOf, Print, Show, ShowBoot, Validate, WherePath}
-use Rattle.adf_words.specs.declared.query.ListForm.{ListForm}
-use Rattle.adf_words.specs.declared.query.ListForm.TheVariants.{Bold, Long}
-use Rattle.adf_words.specs.declared.query.ListJob.{ListJob}
-use Rattle.adf_words.specs.declared.query.ListOrder.{ListOrder}
-use Rattle.adf_words.specs.declared.query.UndeleteJob.{UndeleteJob}
-use Rattle.adf_words.specs.declared.query.WhereJob.{WhereJob}
+use Rattle.adf_cli.specs.declared.job.ImageJob.{ImageJob}
+use Rattle.adf_cli.specs.declared.job.ImageJob.TheVariants.{Info, List as ListOf, Print, Show, ShowBoot, Validate, WherePath}
+use Rattle.adf_cli.specs.declared.query.ListForm.{ListForm}
+use Rattle.adf_cli.specs.declared.query.ListForm.TheVariants.{Bold, Long}
+use Rattle.adf_cli.specs.declared.query.ListJob.{ListJob}
+use Rattle.adf_cli.specs.declared.query.ListOrder.{ListOrder}
+use Rattle.adf_cli.specs.declared.query.UndeleteJob.{UndeleteJob}
+use Rattle.adf_cli.specs.declared.query.WhereJob.{WhereJob}
 use Rattle.adf_rescue.specs.Undelete.{IsUndeleteText, key_of}
 use Rattle.adf_where.specs.Own.{IsWhereOf}
 use Rattle.adf_where.specs.Where.{IsWhere}

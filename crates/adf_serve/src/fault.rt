@@ -5,13 +5,13 @@ ghost use Rattle.adf_serve.specs.Refusals.{told_line};
 
 use crate::refusal::{Detail, DosRefusal, Refusal, Room};
 use adf_archive::ArchiveFault;
+use adf_cli::Refused;
 use adf_export::{BundleOutFault, OutFault};
 use adf_host::{HoldFault, ReadReason, ReplaceFault, WriteFault, why_unreadable};
 use adf_import::{InFault, SourceFault, WrongVolume};
 use adf_io::{InputFault, PrintFault};
 use adf_record::Grouped;
 use adf_rescue::UndeleteFault;
-use adf_words::Refused;
 use ados_model::DosError;
 use ados_run::ScriptsFault;
 use ados_validate::NotValidated;

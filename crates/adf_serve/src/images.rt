@@ -9,12 +9,12 @@ use crate::fault::CommandFault;
 use crate::output::{is_output, put_image};
 use crate::refusal::Refusal;
 use adf_block::Image;
+use adf_cli::{ImageFile, Rewrite};
 use adf_host::{
     HeldFile, HoldFault, PromptFiles, ReadReason, hold, hold_target, read_image_file, replace_file,
     why_no_image, why_unreadable,
 };
 use adf_io::{LoadFault, Loaded};
-use adf_words::{ImageFile, Rewrite};
 use ados_volume::{Volume, check};
 use std::alloc::Global;
 use std::fs::{self, File};

@@ -2,7 +2,7 @@
 ghost use Rattle.std.specs.Prelude.{◌≡◌};
 ghost use Rattle.adf_serve.specs.Commands.{is_json_list, is_json_map, prints_json};
 
-use adf_words::{ImageJob, ListForm, MapForm};
+use adf_cli::{ImageJob, ListForm, MapForm};
 
 /// Whether a job prints JSON, and nothing else.
 pub(crate) fn prints_json(job: &ImageJob<'_>) -> bool

@@ -3,8 +3,8 @@ use Rattle.std.proofs.Common.{◌≡◌, ◌<◌, ℕ, ◌+◌, All, List, [], �
 use Rattle.std.specs.Prelude.{slice_get}
 use Rattle.std.proofs.lemmas.List.{append-nil, length-append}
 use Rattle.adf_script.specs.Lines.{lines_of}
-use Rattle.adf_words.specs.Blocks.{IsNamed, NamesNone}
-use Rattle.adf_words.specs.declared.block_word.BlockWord.{BlockWord}
+use Rattle.adf_cli.specs.Blocks.{IsNamed, NamesNone}
+use Rattle.adf_cli.specs.declared.block_word.BlockWord.{BlockWord}
 use Rattle.adf_where.specs.Where.{named}
 use Rattle.adf_where.specs.BadBlocks.{Adds, AreBad, IsBadFault, NamesNoBlock, Says}
 use Rattle.adf_where.specs.BadBlocks.AreBad.{none}

@@ -2,7 +2,7 @@
 use Rattle.adf_where.proofs.Common.{◌≡◌, ℕ, ◌+◌, ◌<◌, ◌≤◌, ◌==◌, Bool, true, false, List, [], ◌∷◌, ◌++◌, codes, length, get_or, get_or_default, take, Option, refl, sym, ap, ap₂, ◌∙◌, subst, append_assoc, array_of, take_all, AllZip, AreNamed, FaultyBlock, IsFaultyBlock, Place, place_object}
 use Rattle.adf_io.specs.Prefix.{IsPrefixOf, Passes}
 use Rattle.adf_block.specs.Image.{block_count}
-use Rattle.adf_words.specs.declared.block_word.BlockWord.{BlockWord}
+use Rattle.adf_cli.specs.declared.block_word.BlockWord.{BlockWord}
 use Rattle.json.specs.Token.{end_object}
 use Rattle.json.specs.Print.{print, print_from}
 use Rattle.json.proofs.Printed.Tokens.{print_from-append}

@@ -3,7 +3,7 @@ use Rattle.adf_where.proofs.Common.{◌≡◌, ℕ, suc, ◌+◌, ◌<◌, ◌�
 use Rattle.std.specs.Io.KnownBytes.{Appends}
 use Rattle.adf_block.specs.Image.{block_count}
 use Rattle.adf_io.specs.Prefix.{IsPrefixOf, Passes, Writes, WritesFront, WritesFrontOf}
-use Rattle.adf_words.specs.declared.block_word.BlockWord.{BlockWord}
+use Rattle.adf_cli.specs.declared.block_word.BlockWord.{BlockWord}
 use Rattle.adf_where.specs.Where.{IsWhere}
 use Rattle.adf_where.specs.steps.Parts.{IsTextOf, closing, opening, part}
 use Rattle.adf_where.proofs.Objects.{told_objects}

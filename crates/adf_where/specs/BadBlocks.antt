@@ -3,8 +3,8 @@ use Rattle.std.specs.Prelude.{◌≡◌, ◌≢◌, ⊤, ℕ, suc, ◌⊎◌, fa
 use Rattle.std.specs.Str.{IsTrimAscii}
 use Rattle.adf_script.specs.Pieces.{IsSplit, has_byte}
 use Rattle.adf_text.specs.Letters.{letters}
-use Rattle.adf_words.specs.Blocks.{IsNamed, NamesNone}
-use Rattle.adf_words.specs.declared.block_word.BlockWord.{BlockWord}
+use Rattle.adf_cli.specs.Blocks.{IsNamed, NamesNone}
+use Rattle.adf_cli.specs.declared.block_word.BlockWord.{BlockWord}
 use Rattle.adf_where.specs.Where.{named}
 use Rattle.adf_where.specs.declared.bad_list.BadFault.{BadFault}
 use Rattle.adf_where.specs.declared.bad_list.BadFault.TheVariants.{Line, Memory}

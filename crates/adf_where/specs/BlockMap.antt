@@ -11,9 +11,9 @@ use Rattle.ados_volume.specs.Owners.{AreOwners}
 use Rattle.adf_text.specs.Letters.{letters}
 use Rattle.adf_record.specs.Members.{number_token}
 use Rattle.adf_record.specs.Shown.{grouped}
-use Rattle.adf_words.specs.declared.floppy.TheConstants.{CYLINDERS, DOUBLE_DENSITY, DOUBLE_TRACK, HEADS, HIGH_DENSITY, HIGH_TRACK}
-use Rattle.adf_words.specs.declared.map_form.MapForm.{MapForm}
-use Rattle.adf_words.specs.declared.map_form.MapForm.TheVariants.{Tracks, Json}
+use Rattle.adf_cli.specs.declared.floppy.TheConstants.{CYLINDERS, DOUBLE_DENSITY, DOUBLE_TRACK, HEADS, HIGH_DENSITY, HIGH_TRACK}
+use Rattle.adf_cli.specs.declared.map_form.MapForm.{MapForm}
+use Rattle.adf_cli.specs.declared.map_form.MapForm.TheVariants.{Tracks, Json}
 use Rattle.adf_where.specs.declared.block_mark.BlockMark.{BlockMark}
 use Rattle.adf_where.specs.declared.block_mark.BlockMark.TheVariants.{Boot, Root, Bitmap, Directory, File, Extension, Data, Lost, Free, Faulty, Twice, Unread}
 use Rattle.adf_where.specs.Unread.{is_unread}

@@ -16,7 +16,7 @@ use Rattle.ados_census.specs.declared.place.PlaceKind.TheVariants.{Entry, NextEn
 use Rattle.ados_census.specs.declared.place.Place.{Place}
 use Rattle.ados_census.specs.Places.{AreAllPlaces}
 use Rattle.adf_archive.specs.Words.{kind_word}
-use Rattle.adf_words.specs.declared.block_word.BlockWord.{BlockWord}
+use Rattle.adf_cli.specs.declared.block_word.BlockWord.{BlockWord}
 use Rattle.adf_where.specs.declared.faulty.FaultyBlock.{FaultyBlock}
 use Rattle.adf_where.specs.Refused.{fault_reason, refused_line}
 use Rattle.adf_where.specs.Unread.{unread_of}

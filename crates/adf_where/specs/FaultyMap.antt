@@ -16,8 +16,8 @@ use Rattle.ados_model.specs.Faults.{HasFileType, InImage, Shows, root_of}
 use Rattle.adf_text.specs.Letters.{letters}
 use Rattle.adf_where.specs.declared.block_mark.BlockMark.{BlockMark}
 use Rattle.adf_where.specs.declared.block_mark.BlockMark.TheVariants.{Boot, Root, Bitmap, Directory, File, Extension, Data, Lost, Free, Faulty, Twice}
-use Rattle.adf_words.specs.declared.map_form.MapForm.{MapForm}
-use Rattle.adf_words.specs.declared.map_form.MapForm.TheVariants.{Json}
+use Rattle.adf_cli.specs.declared.map_form.MapForm.{MapForm}
+use Rattle.adf_cli.specs.declared.map_form.MapForm.TheVariants.{Json}
 use Rattle.adf_where.specs.BlockMap.{map_page, shown_letter}
 use Rattle.adf_where.specs.Refused.{fault_reason, refused_line}
 

@@ -10,9 +10,9 @@ use Rattle.ados_volume.specs.declared.owner.Owner.TheVariants.{Boot, Root, Page,
 use Rattle.ados_volume.specs.Owners.{AreOwners}
 use Rattle.adf_text.specs.Letters.{letters}
 use Rattle.adf_text.specs.Plain.{plain}
-use Rattle.adf_words.specs.declared.block_word.BlockWord.{BlockWord}
-use Rattle.adf_words.specs.declared.block_word.BlockWord.TheVariants.{Number, Sector}
-use Rattle.adf_words.specs.declared.floppy.TheConstants.{DOUBLE_TRACK, HEADS, HIGH_DENSITY, HIGH_TRACK}
+use Rattle.adf_cli.specs.declared.block_word.BlockWord.{BlockWord}
+use Rattle.adf_cli.specs.declared.block_word.BlockWord.TheVariants.{Number, Sector}
+use Rattle.adf_cli.specs.declared.floppy.TheConstants.{DOUBLE_TRACK, HEADS, HIGH_DENSITY, HIGH_TRACK}
 use Rattle.adf_record.specs.Members.{number_token, string_token}
 use Rattle.adf_where.specs.declared.owned.OwnedBlock.{OwnedBlock}
 use Rattle.adf_where.specs.declared.short_path.TheConstants.{LONGEST_PATH}

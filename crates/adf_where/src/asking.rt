@@ -1,5 +1,5 @@
 //! What is asked of blocks.
-use adf_words::BlockWord;
+use adf_cli::BlockWord;
 
 /// The blocks that are asked for, and how they are told.
 #[derive(Clone, Copy)]

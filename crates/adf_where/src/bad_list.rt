@@ -2,15 +2,15 @@
 ghost use Rattle.std.specs.Prelude.{◌≡◌, ◌<◌, ◌⊎◌, All, IfErr, IfOk, MatchBool, MatchOption, OnOk, None, Some};
 ghost use Rattle.std.specs.String.{string_bytes};
 ghost use Rattle.adf_script.specs.Lines.{lines_of};
-ghost use Rattle.adf_words.specs.Blocks.{IsNamed, NamesNone};
-ghost use Rattle.adf_words.specs.declared.block_word.BlockWord.{BlockWord as Word};
+ghost use Rattle.adf_cli.specs.Blocks.{IsNamed, NamesNone};
+ghost use Rattle.adf_cli.specs.declared.block_word.BlockWord.{BlockWord as Word};
 ghost use Rattle.adf_where.specs.Where.{named};
 ghost use Rattle.adf_where.specs.BadBlocks.{Adds, AreBad, IsBadFault, IsBeforeComment, NamesNoBlock, Says};
 
 use crate::places::named_block;
+use adf_cli::named_block as block_word;
 use adf_script::{first_line, split_once};
 use adf_text::letter_text;
-use adf_words::named_block as block_word;
 use std::alloc::{AllocError, Global};
 
 /// Why a list of bad blocks is not taken.

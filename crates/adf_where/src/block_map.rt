@@ -8,7 +8,7 @@ use crate::block_mark::BlockMark;
 use crate::map_lines::map_page;
 use crate::map_object::map_object;
 use crate::unread::shown_letter;
-use adf_words::MapForm;
+use adf_cli::MapForm;
 use ados_volume::{Owner, Volume, owners};
 use std::alloc::{AllocError, Global};
 

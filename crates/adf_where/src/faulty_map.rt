@@ -19,7 +19,7 @@ use crate::refused::{FaultReason, refused_text};
 use crate::unread::shown_letter;
 use adf_block::Image;
 use adf_block::layout::{BOOT_BLOCKS, FILE_TYPE, SECONDARY_TYPE};
-use adf_words::MapForm;
+use adf_cli::MapForm;
 use ados_census::{Place, PlaceKind, places_of, reached_blocks, take_census};
 use ados_check::{Source, is_free};
 use ados_faults::{AllFaults, faults_of_any_disk};

@@ -1,14 +1,12 @@
 //! The letters of a map in lines, and what they mean.
 ghost use Rattle.std.specs.Prelude.{◌≡◌, ◌++◌, ◌+◌, ◌*◌, ◌==◌, ◌<◌, IfOk, IfSome, OnOk, count_by, flat_map, length};
 ghost use Rattle.std.specs.List.{range_with_len};
-ghost use Rattle.adf_words.specs.declared.floppy.TheConstants.{CYLINDERS};
+ghost use Rattle.adf_cli.specs.declared.floppy.TheConstants.{CYLINDERS};
 ghost use Rattle.adf_where.specs.BlockMap.{count_of, cylinder_blocks, cylinder_line, cylinder_page, legend_end, legend_part, letter, line_blocks, line_end, map_page, meaning_line, track_lines, track_page};
 
 use crate::block_mark::BlockMark;
+use adf_cli::{CYLINDERS, DOUBLE_DENSITY, DOUBLE_TRACK, HEADS, HIGH_DENSITY, HIGH_TRACK, MapForm};
 use adf_record::grouped_text;
-use adf_words::{
-    CYLINDERS, DOUBLE_DENSITY, DOUBLE_TRACK, HEADS, HIGH_DENSITY, HIGH_TRACK, MapForm,
-};
 use std::alloc::{AllocError, Global};
 
 /// The map as text, by the letters of the blocks of an accepted or a refused image, of which some could not be read.

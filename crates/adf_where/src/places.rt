@@ -3,7 +3,7 @@ ghost use Rattle.std.specs.Prelude.{◌≡◌, ◌<◌, All, IfErr, IfOk};
 ghost use Rattle.adf_where.specs.Where.{AreNamed, IsWhereFault, cylinder_of, head_of, inside, named, sector_of, track};
 
 use crate::where_fault::WhereFault;
-use adf_words::{BlockWord, DOUBLE_TRACK, HEADS, HIGH_DENSITY, HIGH_TRACK};
+use adf_cli::{BlockWord, DOUBLE_TRACK, HEADS, HIGH_DENSITY, HIGH_TRACK};
 use std::alloc::Global;
 
 /// The sectors in a track of a disk with so many blocks.
