@@ -5,8 +5,8 @@ use Rattle.ados_model.specs.Stands.{Stands}
 use Rattle.ados_model.specs.Tree.{Tree}
 use Rattle.ados_volume.specs.Owners.{AreOwners}
 use Rattle.ados_volume.specs.declared.owner.Owner.{Owner}
-use Rattle.adf_account.specs.Told.{TellsBlocks}
-use Rattle.adf_account.specs.declared.told.Told.{Told}
+use Rattle.adf_salvage.specs.Parts.{TellsBlocks}
+use Rattle.adf_salvage.specs.declared.account.part.Told.{Told}
 use Rattle.adf_salvage.specs.Salvaged.{Saved}
 use Rattle.adf_c.specs.Blocks.{TellsAll, told_block}
 use Rattle.adf_c.specs.declared.values.blocks.JipTold.{JipTold}

@@ -8,7 +8,7 @@ use Rattle.adf_salvage.specs.declared.salvaged.Salvaged.{Salvaged}
 use Rattle.adf_salvage.specs.declared.salvaged.State.{State}
 use Rattle.adf_salvage.specs.declared.salvaged.State.TheVariants.{Directory, DoubtfulDirectory, Whole, Doubtful, Lost, Broken}
 use Rattle.adf_salvage.specs.Saved.{HasBytes, IsAt}
-use Rattle.adf_account.specs.Account.{AreUnaccounted}
+use Rattle.adf_salvage.specs.Account.{AreUnaccounted}
 use Rattle.adf_rescue.specs.RescueObject.{IsReportObject, has_sums}
 use Rattle.adf_rescue.specs.declared.sourced.Source.{Source}
 use Rattle.adf_rescue.specs.declared.sourced.Source.TheVariants.{File}

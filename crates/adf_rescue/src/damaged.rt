@@ -9,12 +9,11 @@ ghost use Rattle.adf_rescue.specs.steps.Reporting.{IsPart, rest_of};
 
 use crate::plan::Plan;
 use crate::rescue_object::{entry_object, front_text, is_told, rest_object};
-use adf_account::unaccounted_blocks;
 use adf_block::{Format, Image};
 use adf_cli::SalvageJob;
 use adf_host::{OwnedFile, PromptFiles, WriteFault};
 use adf_io::{PrintFault, write_text, write_when_long};
-use adf_salvage::{HeaderState, Salvage, Salvaged, State, salvage_beside};
+use adf_salvage::{HeaderState, Salvage, Salvaged, State, salvage_beside, unaccounted_blocks};
 use adf_text::ranges_text;
 use std::alloc::{AllocError, Global};
 use std::io::Write;

@@ -17,3 +17,9 @@ pub mod Settling
 pub mod Holding
 pub mod Filled
 pub mod Ending
+mod AccountCommon
+mod Marking
+mod Walking
+mod OwnBlocks
+mod AllKinds
+mod Telling

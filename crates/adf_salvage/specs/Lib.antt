@@ -6,4 +6,6 @@ pub mod Lost
 pub mod Salvaged
 pub mod Saved
 pub mod Undeleted
+pub mod Account
+pub mod Parts
 pub mod steps

@@ -5,3 +5,4 @@ pub mod Finding
 pub mod Keeping
 pub mod Undeleting
 pub mod Settling
+pub mod Accounting

@@ -3,6 +3,7 @@
 //! in OFS data blocks, and in what FFS extension blocks name. What an accepted image has beside its tree. And the deleted entries of an image, accepted or refused.
 #![tactic(auto)]
 
+mod account;
 mod beside;
 mod chains;
 mod extensions;
@@ -25,6 +26,7 @@ mod unnamed;
 mod unreached;
 mod votes;
 
+pub use account::{Part, Told, told_blocks, unaccounted_blocks};
 pub use giving::Piece;
 pub use salvaged::{HeaderState, Salvaged, State};
 pub use salvaging::{salvage, salvage_beside};

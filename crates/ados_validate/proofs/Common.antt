@@ -11,8 +11,8 @@ pub use Rattle.ados_check.proofs.PlaceLemmas.{of_root}
 pub use Rattle.ados_check.proofs.Roles.{only_root, reached_marked}
 pub use Rattle.ados_faults.proofs.Closing.{few_pages}
 pub use Rattle.ados_faults.proofs.Insides.{reached_inside, root_inside}
-pub use Rattle.ados_map.specs.Pages.{LawfulPages, page_block, pages_of}
-pub use Rattle.ados_validate.specs.Mendable.{IsMendable, IsPage, ShowsOnlyMendable}
+pub use Rattle.ados_map.specs.Pages.{IsPage, LawfulPages, page_block, pages_of}
+pub use Rattle.ados_validate.specs.Mendable.{IsMendable, ShowsOnlyMendable}
 pub use Rattle.ados_validate.specs.Validated.{IsValidated, without_lost}
 pub use Rattle.ados_validate.specs.steps.Cautious.{AreSafePages, FreedHeadersStay, HasNoLostHeader, IsSafePage}
 pub use Rattle.ados_validate.specs.steps.Kept.{AreKeptLongs, page_long}

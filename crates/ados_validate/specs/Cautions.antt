@@ -9,7 +9,7 @@ use Rattle.ados_validate.specs.declared.caution.Caution.TheVariants.{Differs, Lo
 use Rattle.ados_validate.specs.declared.caution.Look.{Look}
 use Rattle.ados_validate.specs.declared.caution.Look.TheVariants.{Data, Extension, Header}
 use Rattle.ados_validate.specs.declared.caution.TheConstants.{MOST_CHANGED_BITS}
-use Rattle.ados_validate.specs.Mendable.{IsPage}
+use Rattle.ados_map.specs.Pages.{IsPage}
 
 -- the type of the root, a directory or a file
 abbrev pub IsHeaderType : ℕ → Type 0

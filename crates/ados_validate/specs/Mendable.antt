@@ -1,13 +1,9 @@
 -- The faults of an image that a new bitmap mends.
-use Rattle.std.specs.Prelude.{◌≡◌, ◌⊎◌, ℕ, ◌<◌, List}
-use Rattle.ados_map.specs.Pages.{page_block, pages_of}
+use Rattle.std.specs.Prelude.{◌≡◌, ◌⊎◌, ℕ, List}
+use Rattle.ados_map.specs.Pages.{IsPage}
 use Rattle.ados_model.specs.declared.fault.FaultKind.{FaultKind}
 use Rattle.ados_model.specs.declared.fault.FaultKind.TheVariants.{BadSum, MarkedFree}
 use Rattle.ados_model.specs.Faults.{Shows}
-
--- the root names the block as a bitmap block
-abbrev pub IsPage : List ℕ → ℕ → Type 0
-IsPage image block = (p : ℕ) × (p < pages_of image) × (page_block image p ≡ block)
 
 -- the fault is that a reached block is marked free, or the wrong checksum of a bitmap block
 abbrev pub IsMendable : List ℕ → FaultKind → ℕ → Type 0

@@ -1,7 +1,8 @@
 //! The faults that a new bitmap mends, and others.
 ghost use Rattle.std.specs.Prelude.{◌<◌, ◌↔◌, IsTrue, MatchOption, MatchResult, All, Bool, Contains};
 ghost use Rattle.ados_validate.specs.Answer.{IsReason};
-ghost use Rattle.ados_validate.specs.Mendable.{IsMendable, IsPage, ShowsOnlyMendable};
+ghost use Rattle.ados_map.specs.Pages.{IsPage};
+ghost use Rattle.ados_validate.specs.Mendable.{IsMendable, ShowsOnlyMendable};
 
 use crate::answer::NotValidated;
 use adf_block::layout::{FIRST_PAGE, MOST_BLOCKS};

@@ -3,8 +3,7 @@
 ghost use Rattle.std.specs.Prelude.{◌≡◌, IfOk, map};
 ghost use Rattle.adf_c.specs.Blocks.{TellsAll, told_block};
 
-use adf_account::{Part, Told, told_blocks};
-use adf_salvage::Salvage;
+use adf_salvage::{Part, Salvage, Told, told_blocks};
 use std::alloc::{AllocError, Global};
 
 /// A block with what it is.
