@@ -29,9 +29,9 @@ module _ (known : Known) (old new : Gathered) (by : AreGatheredBy known new) (al
   lost_told block lost = by.so_far.met block (all block (inl (record { sound = lost.1; told = λ there. (hidden.only there.0 block there.1).not_lost (subst (IsLostHeader known.image) (sym there.2) lost) })))
 
   -- what is found of them, in this image and with these holes
-  told_of : (image : List ℕ) (holes : List Bool) (found : List Salvaged) → image ≡ known.image → holes ≡ known.holes.items → found ≡ new.entries.items
+  entry_of : (image : List ℕ) (holes : List Bool) (found : List Salvaged) → image ≡ known.image → holes ≡ known.holes.items → found ≡ new.entries.items
       → All (λ (entry : Salvaged). entry.found ≡ true → IsSalvaged known.left_out holes image entry) found
-  told_of image holes found i h e =
+  entry_of image holes found i h e =
       subst (λ (xs : List ℕ). All (λ (entry : Salvaged). entry.found ≡ true → IsSalvaged known.left_out holes xs entry) found) (sym i)
       (subst (λ (marks : List Bool). All (λ (entry : Salvaged). entry.found ≡ true → IsSalvaged known.left_out marks known.image entry) found) (sym h)
       (subst (All (λ (entry : Salvaged). entry.found ≡ true → IsSalvaged known.left_out known.holes.items known.image entry)) (sym e) told_found))
@@ -40,7 +40,7 @@ module _ (known : Known) (old new : Gathered) (by : AreGatheredBy known new) (al
   finds_lost s i e p h = record {
     out = known.left_out;
     hidden = subst (λ (image : List ℕ). AreHidden image known.left_out) (sym i) hidden;
-    told = told_of s.image s.holes s.entries i h e;
+    told = entry_of s.image s.holes s.entries i h e;
     once = subst (λ (found : List Salvaged). AllPairs (λ a b. a ≢ b) (headers_of found)) (sym e) (headers_once known.before known.left_out known.holes.items known.image new by.so_far);
     all = λ block lost. subst (λ (found : List Salvaged). Contains (headers_of found) block) (sym e) (lost_told block (subst (λ (image : List ℕ). IsLostHeader image block) i lost));
     apart = subst AreApart (sym p) by.so_far.giving.once;

@@ -8,10 +8,10 @@ ghost use Rattle.adf_salvage.specs.steps.Finding.{AreOfOneTree};
 ghost use Rattle.adf_salvage.specs.steps.Gathering.{AddsOne, AreGathered, AreGatheredBy, ArePlacesOf, GathersMore, IsNew, place_at};
 
 use crate::giving::Giving;
+use crate::header_entry::{entry_of, told_by_name};
 use crate::names::{Names, Standing};
 use crate::salvaged::{Salvaged, State};
 use crate::state::state_of;
-use crate::told::{told_by_name, told_of};
 use crate::unnamed::{name_of_lost, numbered_name};
 use adf_block::Image;
 use adf_block::layout::NEXT_IN_CHAIN;
@@ -106,7 +106,7 @@ impl Gathered {
         let place = self.entries.len();
         let state = state_of(known, block, place, &mut self.giving)?;
         let endings = self.names.take(known.alloc, standing, name.bytes(), block)?;
-        let entry = told_of(image, block, standing, endings, state);
+        let entry = entry_of(image, block, standing, endings, state);
         self.entries.push(entry)?;
         self.places[block as usize] = Some(place);
         Ok(())

@@ -32,7 +32,7 @@ pub enum CommandFault<'a> {
     Write(&'a str, ReplaceFault),
     /// The file for the changed image is no image, and may be precious.
     #[error("'{0}' is not an image: --over writes over it")]
-    Precious(&'a str),
+    NotAnImage(&'a str),
     #[error("'{0}' {1}")]
     Held(&'a str, HoldFault),
     #[error("the clock cannot be read")]
@@ -107,7 +107,7 @@ impl Drop for CommandFault<'_> {
             CommandFault::Read(_, _)
             | CommandFault::Endless(_)
             | CommandFault::Write(_, _)
-            | CommandFault::Precious(_)
+            | CommandFault::NotAnImage(_)
             | CommandFault::Held(_, _)
             | CommandFault::Clock
             | CommandFault::Output

@@ -14,7 +14,7 @@ use ados_name::{Comment, Date3, Name, Protect};
 use ados_sound::name_of;
 
 /// The entry of a header, with this state.
-pub(crate) fn told_of(
+pub(crate) fn entry_of(
     image: &Image,
     block: u32,
     standing: Standing,

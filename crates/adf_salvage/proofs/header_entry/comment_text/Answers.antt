@@ -1,7 +1,7 @@
 use Rattle.adf_salvage.proofs.Common.{◌≡◌, ◌≤◌, ℕ, ◌+◌, ◌-◌, take, drop, length, ap, ◌∙◌, arith, bytes_at}
 use Rattle.ados_data.proofs.Reading.{length-bytes_at}
 use Rattle.ados_volume.proofs.Examining.{part_of_block}
-use Rattle.adf_salvage.proofs.told.comment_text.Goals as goal
+use Rattle.adf_salvage.proofs.header_entry.comment_text.Goals as goal
 
 pub returns : goal.returns
 returns c =

@@ -1,6 +1,6 @@
 use Rattle.std.proofs.Common.{ℕ, ◌<◌, ◌≤◌}
-use Rattle.adf_archive.specs.Likeness.{LooksLikeRoot}
-use Rattle.adf_archive.proofs.likeness.first_root.Given as goal
+use Rattle.adf_archive.specs.FileTypes.{LooksLikeRoot}
+use Rattle.adf_archive.proofs.file_type.first_root.Given as goal
 
 -- no block before this one looks like a root
 abbrev pub invariant-loop-block : goal.invariant-loop-block

@@ -1,8 +1,8 @@
 //! What a file that is no image looks like.
 ghost use Rattle.std.specs.Prelude.{◌<◌, ◌↔◌, ℕ, IsTrue, MatchOption};
 ghost use Rattle.adf_block.specs.Image.{IsInside, block_count};
-ghost use Rattle.adf_archive.specs.Likeness.{BeginsAs, IsFirstRoot, LooksLikeRoot};
-ghost use Rattle.adf_archive.specs.declared.likeness.Likeness.{Likeness};
+ghost use Rattle.adf_archive.specs.FileTypes.{BeginsAs, IsFirstRoot, LooksLikeRoot};
+ghost use Rattle.adf_archive.specs.declared.file_type.FileType.{FileType};
 
 use adf_block::Image;
 use adf_block::layout::{
@@ -13,7 +13,7 @@ use thiserror::Error;
 
 /// A kind of file that is met under the name of an image.
 #[derive(Clone, Copy, Debug, PartialEq, Eq, Error)]
-pub enum Likeness {
+pub enum FileType {
     #[error("it looks like a gzip file, which has to be unpacked first")]
     Gzip,
     #[error("it looks like a ZIP file, which has to be unpacked first")]
@@ -33,32 +33,32 @@ pub enum Likeness {
 }
 
 /// What a file with these first bytes looks like.
-pub fn likeness_of(front: &[u8]) -> Option<Likeness>
-    ensures { MatchOption result ((likeness : Likeness) → ¬ BeginsAs likeness front.now) (λ likeness. BeginsAs likeness front.now) }
+pub fn file_type_of(front: &[u8]) -> Option<FileType>
+    ensures { MatchOption result ((file_type : FileType) → ¬ BeginsAs file_type front.now) (λ file_type. BeginsAs file_type front.now) }
 {
     if front.starts_with(b"\x1f\x8b") {
-        return Some(Likeness::Gzip);
+        return Some(FileType::Gzip);
     }
     if front.starts_with(b"PK\x03\x04") {
-        return Some(Likeness::Zip);
+        return Some(FileType::Zip);
     }
     if front.starts_with(b"DMS!") {
-        return Some(Likeness::Dms);
+        return Some(FileType::Dms);
     }
     if front.starts_with(b"CAPS") {
-        return Some(Likeness::Ipf);
+        return Some(FileType::Ipf);
     }
     if front.starts_with(b"UAE-") {
-        return Some(Likeness::ExtendedAdf);
+        return Some(FileType::ExtendedAdf);
     }
     if front.starts_with(b"SCP") {
-        return Some(Likeness::Scp);
+        return Some(FileType::Scp);
     }
     if front.starts_with(b"HXC") {
-        return Some(Likeness::Hfe);
+        return Some(FileType::Hfe);
     }
     if front.starts_with(b"RDSK") {
-        return Some(Likeness::Rdb);
+        return Some(FileType::Rdb);
     }
     None
 }
@@ -67,14 +67,14 @@ pub fn likeness_of(front: &[u8]) -> Option<Likeness>
 pub(crate) const FRONT_BYTES: usize = 16 * BLOCK_BYTES as usize;
 
 /// What a file with these first bytes looks like. The table of partitions begins in one of the first sixteen blocks.
-pub(crate) fn look_of(front: &[u8]) -> Option<Likeness> {
+pub(crate) fn look_of(front: &[u8]) -> Option<FileType> {
     let has_table = front
         .chunks(BLOCK_BYTES as usize)
         .take(16)
         .any(|block| block.starts_with(b"RDSK"));
-    match likeness_of(front) {
-        None if has_table => Some(Likeness::Rdb),
-        likeness => likeness,
+    match file_type_of(front) {
+        None if has_table => Some(FileType::Rdb),
+        file_type => file_type,
     }
 }
 

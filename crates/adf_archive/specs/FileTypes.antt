@@ -2,11 +2,11 @@
 use Rattle.std.specs.Prelude.{◌≡◌, ℕ, ◌<◌, ◌≤◌, List, [], ◌∷◌, ◌++◌, codes}
 use Rattle.adf_block.specs.Image.{IsInside, block_count, block_sum, long}
 use Rattle.adf_block.specs.declared.layout.TheConstants.{BOOT_BLOCKS, HEADER_TYPE, PRIMARY_TYPE, ROOT_TYPE, SECONDARY_TYPE, TABLE_LONGS, TABLE_SIZE}
-use Rattle.adf_archive.specs.declared.likeness.Likeness.{Likeness}
-use Rattle.adf_archive.specs.declared.likeness.Likeness.TheVariants.{Gzip, Zip, Dms, Ipf, ExtendedAdf, Scp, Hfe, Rdb}
+use Rattle.adf_archive.specs.declared.file_type.FileType.{FileType}
+use Rattle.adf_archive.specs.declared.file_type.FileType.TheVariants.{Gzip, Zip, Dms, Ipf, ExtendedAdf, Scp, Hfe, Rdb}
 
 -- the first bytes of each kind of file; those of HFE files and of extended ADF files go on in more than one way
-abbrev pub magic : Likeness → List ℕ
+abbrev pub magic : FileType → List ℕ
 magic Gzip = 31 ∷ 139 ∷ []
 magic Zip = codes "PK" ++ 3 ∷ 4 ∷ []
 magic Dms = codes "DMS!"
@@ -17,8 +17,8 @@ magic Hfe = codes "HXC"
 magic Rdb = codes "RDSK"
 
 -- the bytes begin as those of such a file
-abbrev pub BeginsAs : Likeness → List ℕ → Type 0
-BeginsAs likeness bytes = (rest : List ℕ) × (bytes ≡ magic likeness ++ rest)
+abbrev pub BeginsAs : FileType → List ℕ → Type 0
+BeginsAs file_type bytes = (rest : List ℕ) × (bytes ≡ magic file_type ++ rest)
 
 -- the block has the types, the table size and the checksum of a root
 pub record LooksLikeRoot (image : List ℕ) (block : ℕ) : Type 0 where
