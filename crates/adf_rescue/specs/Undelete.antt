@@ -7,12 +7,12 @@ use Rattle.ados_name.specs.Name.{Step, steps, upper}
 use Rattle.ados_name.specs.Name.Step.{ToParent, ToChild}
 use Rattle.adf_text.specs.Letters.{letters}
 use Rattle.adf_text.specs.Plain.{plain}
-use Rattle.ados_sound.specs.Deleted.{IsTrustedBitmap}
+use Rattle.adf_salvage.specs.Deleted.{IsTrustedBitmap}
 use Rattle.adf_salvage.specs.Salvaged.{ended}
 use Rattle.adf_salvage.specs.Undeleted.{IsRead, IsUndeleted}
-use Rattle.ados_sound.specs.declared.deleted.Deleted.{Deleted}
-use Rattle.ados_sound.specs.declared.deleted.Recovery.{Recovery}
-use Rattle.ados_sound.specs.declared.deleted.Recovery.TheVariants.{Directory, Free, Used, Shared, NotIntact}
+use Rattle.adf_salvage.specs.declared.known.deleted.Deleted.{Deleted}
+use Rattle.adf_salvage.specs.declared.known.deleted.Recovery.{Recovery}
+use Rattle.adf_salvage.specs.declared.known.deleted.Recovery.TheVariants.{Directory, Free, Used, Shared, NotIntact}
 use Rattle.adf_salvage.specs.declared.salvaged.Salvaged.{Salvaged}
 use Rattle.adf_salvage.specs.declared.undeleted.Undeleted.{Undeleted}
 use Rattle.json.specs.Print.{print}

@@ -1,6 +1,6 @@
 //! Deleted entries, as files and directories of the host.
 ghost use Rattle.std.specs.Prelude.{ℕ, List, IfErr, IfOk, MatchResult, map};
-ghost use Rattle.ados_sound.specs.Deleted.{IsTrustedBitmap};
+ghost use Rattle.adf_salvage.specs.Deleted.{IsTrustedBitmap};
 ghost use Rattle.adf_salvage.specs.Undeleted.{IsRead, IsUndeleted};
 ghost use Rattle.adf_rescue.specs.Undelete.{IsUndeleteFault, IsUndeletion, key_of};
 

@@ -3,9 +3,9 @@ pub use Rattle.adf_block.specs.Fields.{file_size, format_of, parent_key, pointer
 unfoldable pub use Rattle.adf_block.specs.Image.{long}
 pub use Rattle.adf_block.specs.Image.{block_count}
 pub use Rattle.adf_block.specs.declared.layout.TheConstants.{NEXT_EXTENSION}
-pub use Rattle.ados_sound.specs.Sound.{Names}
+pub use Rattle.adf_salvage.specs.Sound.{Names}
 pub use Rattle.ados_map.specs.Pages.{IsPage, page_block}
-pub use Rattle.ados_sound.specs.Marks.{mark_at}
+pub use Rattle.adf_salvage.specs.Marks.{mark_at}
 pub use Rattle.adf_salvage.specs.Account.{BelongsTo, HasExtensionBlock, IsAccounted, IsDamagedFile, IsNextExtension, IsOfDamaged, OfOne}
 unfoldable pub use Rattle.ados_census.specs.steps.Marks.{unmarked}
 pub use Rattle.adf_salvage.specs.steps.Accounting.{Adds, AreAccounted, AreClosed, AreMarkedAfter, HasNoMarks, IsNewAfter, IsOwn, IsOwnIn, IsPieceBlock}

@@ -1,8 +1,8 @@
 -- The sound headers among the lost blocks of an accepted image are found.
 use Rattle.adf_salvage.proofs.Common.{◌≡◌, ◌≢◌, ℕ, inl, Bool, true, false, length, All, AllPairs, Contains, List, ◌++◌, sym, ap, ◌∙◌, subst, arith, get_or, AreAllHeaders, AreApart, AreGathered, AreGatheredBy, FindsLost, Gathered, IsHole, IsReadable, Known, Piece, Salvaged, Saved, broken_total, headers_of}
 use Rattle.std.proofs.lemmas.List.Elements.{All-append}
-use Rattle.ados_sound.specs.Found.{AreHidden, IsLostHeader}
-use Rattle.ados_sound.specs.Known.{AreKnown}
+use Rattle.adf_salvage.specs.Found.{AreHidden, IsLostHeader}
+use Rattle.adf_salvage.specs.Known.{AreKnown}
 use Rattle.adf_salvage.specs.Salvaged.{IsSalvaged}
 use Rattle.adf_salvage.specs.steps.Finding.{AddsLost}
 use Rattle.adf_salvage.specs.steps.Gathering.{AddsFound}

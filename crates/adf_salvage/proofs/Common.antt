@@ -5,11 +5,11 @@ pub use Rattle.adf_block.specs.Image.{block_count}
 pub use Rattle.adf_block.specs.Whole.{text_at}
 pub use Rattle.adf_block.specs.declared.layout.Format.TheVariants.{Ffs, Ofs}
 pub use Rattle.adf_block.specs.declared.layout.TheConstants.{BITMAP_FLAG, NAME_BYTE, NEXT_EXTENSION}
-pub use Rattle.ados_sound.specs.Deleted.{AreDeleted, IsTrustedBitmap}
-pub use Rattle.ados_sound.specs.Doubtful.{IsHeader}
-pub use Rattle.ados_sound.specs.Marks.{IsHole, mark_at}
-pub use Rattle.ados_sound.specs.declared.deleted.Deleted.{Deleted}
-pub use Rattle.ados_sound.specs.declared.known.Known.{Known}
+pub use Rattle.adf_salvage.specs.Deleted.{AreDeleted, IsTrustedBitmap}
+pub use Rattle.adf_salvage.specs.Doubtful.{IsHeader}
+pub use Rattle.adf_salvage.specs.Marks.{IsHole, mark_at}
+pub use Rattle.adf_salvage.specs.declared.known.deleted.Deleted.{Deleted}
+pub use Rattle.adf_salvage.specs.declared.known.image_known.Known.{Known}
 pub use Rattle.adf_salvage.specs.Kind.{IsReadAs}
 pub use Rattle.adf_salvage.specs.Lost.{IsLost}
 unfoldable pub use Rattle.adf_salvage.specs.Salvaged.{broken_total, ended}
@@ -37,7 +37,7 @@ pub use Rattle.std.proofs.lemmas.List.Quantifiers.{all_pairs_push}
 pub use Rattle.std.proofs.lemmas.Result.{IfOk-weaker, on_ok_weaker}
 pub use Rattle.std.proofs.Common.{All, AllPairs, Bool, Contains, IfSome, IsSome, List, MatchBool, MatchOption, None, Option, Some, [], ap, ap₂, arith, below_more, decimal, drop, false, get_or, get_or-set_other, get_or-set_same, inl, inr, is_some, length, length-set, map, min, refl, replicate, slice_index, slice_index_or, subst, suc, sym, take, true, vec_len, zero, ℕ, ◌%◌, ◌*◌, ◌++◌, ◌+◌, ◌-◌, ◌/◌, ◌<◌, ◌∙◌, ◌∷◌, ◌≡◌, ◌≢◌, ◌≤◌, ◌⊎◌, Err, IfOk, Ok, Result, ◌==◌}
 pub use Rattle.ados_data.proofs.Places.{data_counted, holder_of, readable}
-pub use Rattle.ados_sound.proofs.Naming.{header_inside, header_looks, names_inside, place_below}
+pub use Rattle.adf_salvage.proofs.Naming.{header_inside, header_looks, names_inside, place_below}
 pub use Rattle.ados_volume.specs.Below.{AreBelow}
 pub use Rattle.ados_volume.specs.declared.below.Below.{Below}
 pub use Rattle.adf_salvage.specs.declared.giving.Giving.{Giving}

@@ -1,7 +1,7 @@
 -- What an entry of an accepted image holds.
 use Rattle.adf_salvage.proofs.Common.{◌≡◌, ◌≢◌, ℕ, ◌<◌, Bool, true, false, MatchBool, All, AllPairs, List, [], ◌∷◌, ◌++◌, append-nil, append_assoc, map, None, Some, IsSome, refl, sym, ap, ◌∙◌, subst, arith, All-map, All-nil, AreBelow, Below, block_count, Accepts, AreDeleted, Stands, Content, Node, Tree, bytes_of, entries, root, Salvaged, AreOfTree, FindsLost, FindsNone, HoldsAll, IsOfTree, Saved, SavesTree, broken_total, headers_of, located_of}
 use Rattle.std.proofs.lemmas.List.Elements.{All-append}
-use Rattle.ados_sound.specs.Deleted.{TellsTrust}
+use Rattle.adf_salvage.specs.Deleted.{TellsTrust}
 use Rattle.adf_salvage.specs.steps.Finding.{AddsLost, AreOfOneTree}
 use Rattle.ados_model.specs.Keys.{HasDirectory, HasFileKey}
 use Rattle.ados_model.specs.Tree.Content.{Directory, File}

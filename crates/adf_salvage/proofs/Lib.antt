@@ -23,3 +23,20 @@ mod Walking
 mod OwnBlocks
 mod AllKinds
 mod Telling
+pub mod KnownCommon
+pub mod ByCensus
+pub mod SoundParts
+pub mod Leaving
+pub mod FileBlocks
+pub mod PointerBlocks
+pub mod ListsGrow
+pub mod Claiming
+pub mod InOrder
+pub mod Splitting
+pub mod Naming
+pub mod Heading
+pub mod Trusting
+pub mod Recovering
+pub mod ListingDeleted
+pub mod Keeping
+pub mod Hiding

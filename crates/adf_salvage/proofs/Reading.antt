@@ -1,6 +1,6 @@
 -- The whole files of a salvage can be read.
 use Rattle.adf_salvage.proofs.Common.{ℕ, ◌<◌, inl, inr, Bool, List, All, sym, subst, arith, get_or, Giving, IsGiving, IsListed, IsReadable, Piece, Salvaged, State, block_count}
-use Rattle.ados_sound.proofs.Keeping.{saved_claimant}
+use Rattle.adf_salvage.proofs.Keeping.{saved_claimant}
 use Rattle.adf_salvage.specs.Salvaged.{HasState, IsGone, IsSalvaged}
 use Rattle.adf_salvage.specs.steps.Keeping.{CanBeRead}
 use Rattle.adf_salvage.specs.declared.salvaged.State.TheVariants as states

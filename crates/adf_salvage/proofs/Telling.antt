@@ -2,7 +2,7 @@
 use Rattle.std.proofs.Common.{◌≡◌, ℕ, zero, suc, ◌+◌, ◌<◌, ◌≤◌, inl, inr, Bool, false, true, List, [], ◌∷◌, ◌++◌, length, map, get_or, All, sym, ap, ◌∙◌, append_assoc, arith}
 use Rattle.std.specs.List.{range_with_len}
 use Rattle.std.proofs.lemmas.List.FromFn.{map-range_with_len_more}
-use Rattle.ados_sound.proofs.InOrder.{ListsBelow}
+use Rattle.adf_salvage.proofs.InOrder.{ListsBelow}
 use Rattle.adf_salvage.specs.Salvaged.{Saved}
 use Rattle.adf_salvage.proofs.AccountCommon.{block_count, InImage, HasExtensionBlock, Adds, HasNoMarks, IsMarked, IsOfDamaged, OfOne}
 use Rattle.adf_salvage.specs.Account.HasExtensionBlock.{first, further}

@@ -1,7 +1,7 @@
 -- The deleted entries, in the image as they were read.
 use Rattle.adf_salvage.proofs.Common.{◌≡◌, ℕ, Bool, List, [], sym, subst, AreGathered, AreGatheredBy, Deleted, Gathered, IsTrustedBitmap, Known}
-use Rattle.ados_sound.specs.Deleted.{ListsDeleted}
-use Rattle.ados_sound.specs.Listing.{AreFoundIn}
+use Rattle.adf_salvage.specs.Deleted.{ListsDeleted}
+use Rattle.adf_salvage.specs.Listing.{AreFoundIn}
 use Rattle.adf_salvage.specs.steps.Undeleting.{AreHeaders}
 
 module _ (image : List ℕ) (known : Known) (deleted : List Deleted) (is : AreFoundIn image known deleted) where

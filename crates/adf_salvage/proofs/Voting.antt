@@ -4,7 +4,7 @@ use Rattle.adf_block.specs.Whole.{IsImage}
 use Rattle.ados_model.specs.declared.role.Role.{Role}
 use Rattle.ados_model.specs.Faults.{Reached}
 use Rattle.ados_model.specs.Faults.Reached.{named, start}
-use Rattle.ados_sound.specs.Found.{AreEntries}
+use Rattle.adf_salvage.specs.Found.{AreEntries}
 
 module _ (image : List ℕ) (im : IsImage image) where
   inside : {block : ℕ} {role : Role} → Reached image block role → block < block_count image

@@ -7,10 +7,10 @@ use Rattle.adf_salvage.specs.declared.giving.Piece.{Piece}
 use Rattle.adf_salvage.specs.declared.salvaged.Salvaged.{Salvaged}
 use Rattle.adf_salvage.specs.declared.salvaged.State.{State}
 use Rattle.adf_salvage.specs.declared.salvaged.State.TheVariants as states
-use Rattle.ados_sound.specs.Doubtful.{LooksLikeExtension}
+use Rattle.adf_salvage.specs.Doubtful.{LooksLikeExtension}
 use Rattle.adf_salvage.specs.Salvaged.{Saved}
-use Rattle.ados_sound.specs.Marks.{IsHole}
-use Rattle.ados_sound.specs.Sound.{Names}
+use Rattle.adf_salvage.specs.Marks.{IsHole}
+use Rattle.adf_salvage.specs.Sound.{Names}
 use Rattle.ados_model.specs.Faults.{InImage, root_of}
 use Rattle.ados_map.specs.Pages.{IsPage}
 use Rattle.ados_census.specs.Reached.{IsReached}

@@ -4,7 +4,7 @@ use Rattle.adf_block.specs.Frame.{SameBut}
 use Rattle.adf_block.specs.Image.{IsInside, block_count, byte_at}
 use Rattle.adf_block.specs.declared.layout.TheConstants.{BLOCK_BYTES}
 use Rattle.ados_census.specs.Reached.{IsReached}
-use Rattle.ados_sound.specs.Marks.{IsHole}
+use Rattle.adf_salvage.specs.Marks.{IsHole}
 use Rattle.adf_salvage.specs.Salvaged.{Saved, SavesBeside}
 
 -- nothing is in the block: its first long is 1, and all others are 0. So it has no type of the disk and a wrong checksum

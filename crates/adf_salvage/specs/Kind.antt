@@ -9,7 +9,7 @@ use Rattle.adf_block.specs.declared.layout.Format.{Format}
 use Rattle.adf_block.specs.declared.layout.Format.TheVariants.{Ofs, Ffs}
 use Rattle.adf_block.specs.declared.layout.TheConstants.{BOOT_BLOCKS, DATA_TYPE, FILE_TYPE, HEADER_TYPE, TABLE_LONGS}
 use Rattle.ados_model.specs.Tree.{data_count}
-use Rattle.ados_sound.specs.Found.{AreEntries}
+use Rattle.adf_salvage.specs.Found.{AreEntries}
 use Rattle.adf_salvage.specs.declared.kind.TheConstants.{FFS_KIND, OFS_KIND}
 
 -- the block is an OFS data block with a right checksum, by its number one of a file

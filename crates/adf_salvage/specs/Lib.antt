@@ -8,4 +8,13 @@ pub mod Saved
 pub mod Undeleted
 pub mod Account
 pub mod Parts
+pub mod Sound
+pub mod Doubtful
+pub mod ByCensus
+pub mod Holders
+pub mod Deleted
+pub mod Marks
+pub mod Found
+pub mod Known
+pub mod Listing
 pub mod steps

@@ -4,7 +4,7 @@ use Rattle.adf_block.specs.Image.{block_count, block_sum, IsInside}
 use Rattle.adf_block.specs.Fields.{format_of, own_key, primary_type}
 use Rattle.adf_block.specs.declared.layout.Format.TheVariants.{Ffs, Ofs}
 use Rattle.adf_block.specs.declared.layout.TheConstants.{DATA_TYPE}
-use Rattle.ados_sound.specs.Doubtful.{LooksLikeExtension}
+use Rattle.adf_salvage.specs.Doubtful.{LooksLikeExtension}
 
 -- the block is an OFS data block by its type, with a right checksum, and names this header
 pub record IsLooseData (image : List ℕ) (header block : ℕ) : Type 0 where

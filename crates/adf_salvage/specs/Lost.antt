@@ -1,7 +1,7 @@
 -- Entries that a damaged image names, and that have no header that can be told.
 use Rattle.std.specs.Prelude.{ℕ, List, Contains}
 use Rattle.adf_block.specs.Image.{block_count, IsInside}
-use Rattle.ados_sound.specs.Doubtful.{IsHeader, IsNamedIn}
+use Rattle.adf_salvage.specs.Doubtful.{IsHeader, IsNamedIn}
 
 -- the block is named as an entry of some directory
 abbrev pub IsNamed : List ℕ → List ℕ → ℕ → Type 0

@@ -13,11 +13,11 @@ use Rattle.ados_model.specs.Tree.{Content, Node, Tree, entries, root}
 use Rattle.ados_model.specs.Tree.Content.{Directory, File}
 use Rattle.ados_volume.specs.Below.{AreBelow, placed}
 use Rattle.ados_volume.specs.declared.below.Below.{Below}
-use Rattle.ados_sound.specs.Deleted.{AreDeleted, TellsTrust}
-use Rattle.ados_sound.specs.Doubtful.{IsDoubtfulHeader, IsHeader, IsToldHeader}
-use Rattle.ados_sound.specs.Found.{AreHidden, IsLostHeader, IsSavedWhole}
-use Rattle.ados_sound.specs.Marks.{IsHole}
-use Rattle.ados_sound.specs.Sound.{IsSoundHeader}
+use Rattle.adf_salvage.specs.Deleted.{AreDeleted, TellsTrust}
+use Rattle.adf_salvage.specs.Doubtful.{IsDoubtfulHeader, IsHeader, IsToldHeader}
+use Rattle.adf_salvage.specs.Found.{AreHidden, IsLostHeader, IsSavedWhole}
+use Rattle.adf_salvage.specs.Marks.{IsHole}
+use Rattle.adf_salvage.specs.Sound.{IsSoundHeader}
 use Rattle.adf_salvage.specs.declared.giving.Piece.{Piece}
 use Rattle.adf_salvage.specs.declared.salvaged.HeaderState.{HeaderState}
 use Rattle.adf_salvage.specs.declared.salvaged.HeaderState.TheVariants as heads

@@ -1,6 +1,6 @@
 -- The deleted entries of an image with the directories that they were in.
 use Rattle.std.specs.Prelude.{◌≡◌, ℕ, ◌⊎◌, ◌<◌, List, [], length, slice_index, slice_index_or, All, Contains, Option, Some, None, IsSome}
-use Rattle.ados_sound.specs.Deleted.{IsDeleted, IsTrustedBitmap, ListsDeleted}
+use Rattle.adf_salvage.specs.Deleted.{IsDeleted, IsTrustedBitmap, ListsDeleted}
 use Rattle.adf_salvage.specs.declared.undeleted.Undeleted.{Undeleted}
 use Rattle.adf_salvage.specs.declared.undeleted.UndeletedEntries.{UndeletedEntries}
 use Rattle.adf_salvage.specs.declared.undeleted.UndeletedEntries.TheVariants as answers

@@ -6,3 +6,9 @@ pub mod Keeping
 pub mod Undeleting
 pub mod Settling
 pub mod Accounting
+pub mod Parts
+pub mod Claims
+pub mod Naming
+pub mod Heading
+pub mod Deleting
+pub mod Leaving

@@ -4,9 +4,9 @@ ghost use Rattle.adf_salvage.specs.steps.Finding.{AddsLost, AreOfOneTree};
 
 use crate::gathered::Gathered;
 use crate::giving::Giving;
+use crate::known::Known;
 use crate::saved::Salvage;
 use crate::unreached::add_unreached;
-use ados_sound::Known;
 use std::alloc::{AllocError, Global};
 
 /// The salvage of an accepted image, with the sound headers among its lost blocks behind the entries of its tree.

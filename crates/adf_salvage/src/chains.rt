@@ -4,10 +4,10 @@ ghost use Rattle.adf_block.specs.Image.{block_count};
 ghost use Rattle.adf_salvage.specs.steps.Gathering.{AreGatheredBy};
 
 use crate::gathered::Gathered;
+use crate::known::Known;
 use crate::names::Standing;
 use crate::salvaged::State;
 use adf_block::layout::{FIRST_SLOT, NEXT_IN_CHAIN, TABLE_LONGS};
-use ados_sound::Known;
 use std::alloc::AllocError;
 
 /// Adds all entries along the hash chains: those of the root, then those of each directory in the order in which they

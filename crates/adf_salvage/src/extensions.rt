@@ -1,17 +1,17 @@
 //! Files of an FFS disk whose header is gone, from the extension blocks that name it.
 ghost use Rattle.std.specs.Prelude.{◌≡◌, ◌<◌, ℕ, IfOk, IfSome, IsTrue, OnOk};
 ghost use Rattle.adf_block.specs.Image.{block_count};
-ghost use Rattle.ados_sound.specs.Known.{AreKnown};
+ghost use Rattle.adf_salvage.specs.Known.{AreKnown};
 ghost use Rattle.adf_salvage.specs.Loose.{IsLooseExtension};
 ghost use Rattle.adf_salvage.specs.steps.Giving.{IsGiving};
 
 use crate::giving::{Giving, Piece, Remains};
+use crate::known::{Known, looks_like_extension};
 use crate::loose::Part;
 use adf_block::layout::{
     BOOT_BLOCKS, FFS_ROOM, FIRST_POINTER, NEXT_EXTENSION, PARENT, POINTER_COUNT, TABLE_LONGS,
 };
 use adf_block::{Format, Image};
-use ados_sound::{Known, looks_like_extension};
 use std::alloc::{AllocError, Global};
 
 /// An extension block of a file whose header is not told, where it stands among those of the file. They are in the order of these

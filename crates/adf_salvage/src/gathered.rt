@@ -1,7 +1,7 @@
 //! The entries of a damaged image, while they are gathered.
 ghost use Rattle.std.specs.Prelude.{◌≡◌, ◌<◌, ◌↔◌, ◌++◌, ◌∷◌, [], ℕ, List, None, length, IfOk, IsSome, IsTrue, OnOk};
 ghost use Rattle.adf_block.specs.Image.{block_count};
-ghost use Rattle.ados_sound.specs.Known.{AreKnown};
+ghost use Rattle.adf_salvage.specs.Known.{AreKnown};
 ghost use Rattle.adf_salvage.specs.declared.salvaged.Salvaged.{Salvaged as Entry};
 ghost use Rattle.adf_salvage.specs.Lost.{IsLost};
 ghost use Rattle.adf_salvage.specs.steps.Finding.{AreOfOneTree};
@@ -9,13 +9,13 @@ ghost use Rattle.adf_salvage.specs.steps.Gathering.{AddsOne, AreGathered, AreGat
 
 use crate::giving::Giving;
 use crate::header_entry::{entry_of, told_by_name};
+use crate::known::{Known, name_of};
 use crate::names::{Names, Standing};
 use crate::salvaged::{Salvaged, State};
 use crate::state::state_of;
 use crate::unnamed::{name_of_lost, numbered_name};
 use adf_block::Image;
 use adf_block::layout::NEXT_IN_CHAIN;
-use ados_sound::{Known, name_of};
 use std::alloc::{AllocError, Global};
 
 /// The entries found so far.

@@ -5,13 +5,13 @@ ghost use Rattle.adf_block.specs.Image.{block_count};
 ghost use Rattle.ados_model.specs.Tree.{data_start};
 ghost use Rattle.adf_salvage.specs.steps.Giving.{AreHolesMarked, IsGiving, IsOpen};
 
+use crate::known::{Known, is_hole, is_own_data};
 use adf_block::layout::{
     BLOCK_BYTES, BOOT_BLOCKS, FILE_SIZE, FILE_TYPE, FIRST_PAGE, FIRST_POINTER, HEADER_TYPE,
     LIST_TYPE, NEXT_DATA, NEXT_EXTENSION, OFS_DATA_BYTE, OWN_KEY, PARENT, POINTER_COUNT,
     PRIMARY_TYPE, ROOT_TYPE, SECONDARY_TYPE, TABLE_LONGS,
 };
 use adf_block::{Format, Image};
-use ados_sound::{Known, is_hole, is_own_data};
 use std::alloc::{AllocError, Global};
 
 /// Bytes in a block.

@@ -3,15 +3,15 @@ ghost use Rattle.std.specs.Prelude.{◌≡◌, ◌<◌, ◌≤◌, ℕ, Bool, Li
 ghost use Rattle.adf_block.specs.Image.{block_count, byte_at};
 ghost use Rattle.adf_block.specs.Whole.{text_at};
 ghost use Rattle.ados_model.specs.Stands.{date_at};
-ghost use Rattle.ados_sound.specs.Doubtful.{IsHeader, LooksLikeHeader};
+ghost use Rattle.adf_salvage.specs.Doubtful.{IsHeader, LooksLikeHeader};
 ghost use Rattle.adf_salvage.specs.Salvaged.{HasState, IsSalvaged};
 
+use crate::known::name_of;
 use crate::names::Standing;
 use crate::salvaged::{Salvaged, State};
 use adf_block::Image;
 use adf_block::layout::{COMMENT_BYTE, DATE, PROTECTION};
 use ados_name::{Comment, Date3, Name, Protect};
-use ados_sound::name_of;
 
 /// The entry of a header, with this state.
 pub(crate) fn entry_of(

@@ -4,13 +4,13 @@ ghost use Rattle.adf_block.specs.Frame.{OnlyBlock};
 ghost use Rattle.adf_block.specs.Image.{block_count};
 ghost use Rattle.ados_census.specs.Reached.{IsReached};
 ghost use Rattle.ados_model.specs.Faults.{InImage};
-ghost use Rattle.ados_sound.specs.Marks.{IsHole};
+ghost use Rattle.adf_salvage.specs.Marks.{IsHole};
 ghost use Rattle.adf_salvage.specs.Holes.{AreUnreached, IsEmptied, IsEmpty};
 
+use crate::known::is_hole;
 use adf_block::Image;
 use adf_block::layout::BOOT_BLOCKS;
 use ados_census::{Reached, reached_blocks};
-use ados_sound::is_hole;
 use std::alloc::{AllocError, Global};
 
 /// The image with nothing in its holes.

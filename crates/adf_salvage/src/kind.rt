@@ -5,10 +5,10 @@ ghost use Rattle.adf_block.specs.Frame.{OnlyLong};
 ghost use Rattle.adf_block.specs.Image.{long};
 ghost use Rattle.adf_salvage.specs.Kind.{IsReadAs, SaysKind, by_boot, by_data, by_votes, first_told, kind_long};
 
+use crate::known::reached_entries;
 use crate::votes::{Votes, ofs_data_count, volume_votes, votes_of};
 use adf_block::beside::KIND;
 use adf_block::{Format, Image};
-use ados_sound::reached_entries;
 use std::alloc::{AllocError, Global};
 
 /// `DOS`, 0: OFS, as a long.

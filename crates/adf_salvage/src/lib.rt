@@ -12,6 +12,7 @@ mod giving;
 mod header_entry;
 mod holes;
 mod kind;
+mod known;
 mod listing;
 mod loose;
 mod lost;
@@ -28,6 +29,11 @@ mod votes;
 
 pub use account::{Part, Told, told_blocks, unaccounted_blocks};
 pub use giving::Piece;
+pub use known::{
+    Deleted, DeletedEntries, Known, LeftOut, Recovery, data_needed, deleted_entries, dir_of_place,
+    faultless_deleted, headers_by_census, is_faultless, is_file, is_hole, is_own_data,
+    is_sound_header, is_used, is_whole, looks_like_extension, name_of, reached_entries,
+};
 pub use salvaged::{HeaderState, Salvaged, State};
 pub use salvaging::{salvage, salvage_beside};
 pub use saved::Salvage;

@@ -5,15 +5,15 @@ ghost use Rattle.ados_model.specs.Accepted.{Accepts};
 ghost use Rattle.ados_model.specs.Keys.{HasKey};
 ghost use Rattle.ados_model.specs.Stands.{Stands};
 ghost use Rattle.ados_model.specs.Tree.{Node, Tree};
-ghost use Rattle.ados_sound.specs.Deleted.{AreDeleted, IsTrustedBitmap, TellsTrust};
+ghost use Rattle.adf_salvage.specs.Deleted.{AreDeleted, IsTrustedBitmap, TellsTrust};
 ghost use Rattle.adf_salvage.specs.Salvaged.{HoldsAll, IsOfTree, SavesTree, broken_length, located_of};
 ghost use Rattle.adf_salvage.specs.steps.Finding.{AreOfOneTree};
 ghost use Rattle.adf_salvage.specs.steps.Keeping.{CanBeRead, IsReadable};
 
 use crate::beside::with_lost;
+use crate::known::faultless_deleted;
 use crate::salvaged::{Salvaged, State};
 use crate::saved::Salvage;
-use ados_sound::faultless_deleted;
 use ados_volume::{Below, Volume, entries_below};
 use std::alloc::{AllocError, Global};
 

@@ -1,7 +1,7 @@
 //! Files whose header is gone, from the OFS data blocks that name it, or from the FFS extension blocks that do.
 ghost use Rattle.std.specs.Prelude.{◌≡◌, ◌<◌, ◌≤◌, ◌+◌, ℕ, IfOk, IfSome, IsTrue, MatchOption, OnOk, length};
 ghost use Rattle.adf_block.specs.Image.{block_count};
-ghost use Rattle.ados_sound.specs.Known.{AreKnown};
+ghost use Rattle.adf_salvage.specs.Known.{AreKnown};
 ghost use Rattle.adf_salvage.specs.Loose.{IsLeft, IsLooseData};
 ghost use Rattle.adf_salvage.specs.Salvaged.{IsLoose, broken_length};
 ghost use Rattle.adf_salvage.specs.steps.Giving.{IsGiving};
@@ -10,13 +10,13 @@ ghost use Rattle.adf_salvage.specs.steps.Settling.{AreSettled};
 use crate::extensions::{give_listed, loose_extensions};
 use crate::gathered::Gathered;
 use crate::giving::{Giving, Piece, Remains};
+use crate::known::{Known, is_used};
 use crate::salvaged::{HeaderState, State};
 use crate::state::damaged;
 use adf_block::layout::{
     BOOT_BLOCKS, DATA_TYPE, HELD, NEXT_DATA, OFS_ROOM, OWN_KEY, PRIMARY_TYPE, SEQUENCE,
 };
 use adf_block::{Format, Image};
-use ados_sound::{Known, is_used};
 use std::alloc::AllocError;
 
 /// A block of a file whose header is not told: in OFS a data block, in FFS an extension block.

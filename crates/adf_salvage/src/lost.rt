@@ -1,13 +1,13 @@
 //! Lost entries: blocks that are named as entries, and that are no headers that can be told.
 ghost use Rattle.std.specs.Prelude.{◌<◌, ℕ, IsSome, OnOk};
 ghost use Rattle.adf_block.specs.Image.{block_count};
-ghost use Rattle.ados_sound.specs.Doubtful.{NamesEntries};
+ghost use Rattle.adf_salvage.specs.Doubtful.{NamesEntries};
 ghost use Rattle.adf_salvage.specs.Lost.{IsLost};
 ghost use Rattle.adf_salvage.specs.steps.Gathering.{AreAllHeaders, AreFollowed, AreGatheredBy, GathersMore, IsFollowed, place_at};
 
 use crate::gathered::Gathered;
+use crate::known::{Known, dir_of_place};
 use adf_block::layout::{BLOCK_LONGS, BOOT_BLOCKS};
-use ados_sound::{Known, dir_of_place};
 use std::alloc::AllocError;
 
 /// Adds all lost entries, after all headers were found.

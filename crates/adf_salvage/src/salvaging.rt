@@ -11,13 +11,13 @@ use crate::gathered::Gathered;
 use crate::giving::Giving;
 use crate::holes::{emptied, reaches_hole};
 use crate::kind::with_kind;
+use crate::known::Known;
 use crate::listing::volume_entries;
 use crate::loose::add_loose;
 use crate::lost::add_lost;
 use crate::saved::Salvage;
 use crate::unreached::add_unreached;
 use adf_block::Image;
-use ados_sound::Known;
 use ados_volume::{FaultKind, check};
 use std::alloc::{AllocError, Global};
 

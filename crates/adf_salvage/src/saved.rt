@@ -7,11 +7,11 @@ ghost use Rattle.adf_salvage.specs.Saved.{HasBytes, IsAt, size_of};
 ghost use Rattle.adf_salvage.specs.steps.Keeping.{IsKept};
 
 use crate::giving::{BLOCK, Piece, data_start};
+use crate::known::data_needed;
 use crate::pieces::pieced;
 use crate::salvaged::{Salvaged, State};
 use adf_block::Image;
 use adf_block::layout::{FILE_SIZE, FIRST_POINTER, NEXT_EXTENSION, TABLE_LONGS};
-use ados_sound::data_needed;
 use std::alloc::{AllocError, Global};
 use std::marker::Model;
 

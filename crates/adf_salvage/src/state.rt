@@ -1,14 +1,14 @@
 //! The state of a file.
 ghost use Rattle.std.specs.Prelude.{◌≡◌, ◌+◌, ◌≤◌, IfOk, OnOk};
-ghost use Rattle.ados_sound.specs.Doubtful.{IsHeader};
-ghost use Rattle.ados_sound.specs.Known.{AreKnown};
+ghost use Rattle.adf_salvage.specs.Doubtful.{IsHeader};
+ghost use Rattle.adf_salvage.specs.Known.{AreKnown};
 ghost use Rattle.adf_salvage.specs.Salvaged.{HasState, broken_length};
 ghost use Rattle.adf_salvage.specs.steps.Settling.{IsDamaged};
 ghost use Rattle.adf_salvage.specs.steps.Giving.{IsGiving};
 
 use crate::giving::{Giving, Remains};
+use crate::known::{Known, is_file, is_sound_header, is_whole};
 use crate::salvaged::{HeaderState, State};
-use ados_sound::{Known, is_file, is_sound_header, is_whole};
 use std::alloc::AllocError;
 
 /// The state of a header whose entry has this position. A file that is not whole is given its blocks, and as many bytes as

@@ -1,9 +1,9 @@
 //! The deleted entries of an image, with the directories that they were in.
 ghost use Rattle.std.specs.Prelude.{◌≡◌, [], ℕ, List, length, IfOk, IsSome, OnOk};
 ghost use Rattle.adf_block.specs.Image.{block_count};
-ghost use Rattle.ados_sound.specs.Deleted.{IsTrustedBitmap, ListsDeleted};
-ghost use Rattle.ados_sound.specs.Sound.{IsSoundHeader};
-ghost use Rattle.ados_sound.specs.Known.{AreKnown};
+ghost use Rattle.adf_salvage.specs.Deleted.{IsTrustedBitmap, ListsDeleted};
+ghost use Rattle.adf_salvage.specs.Sound.{IsSoundHeader};
+ghost use Rattle.adf_salvage.specs.Known.{AreKnown};
 ghost use Rattle.adf_salvage.specs.Undeleted.{IsRead, TellsUndeleted};
 ghost use Rattle.adf_salvage.specs.steps.Gathering.{AreGathered, AreGatheredBy, GathersMore, place_at};
 ghost use Rattle.adf_salvage.specs.steps.Undeleting.{AreHeaders, HasEach};
@@ -11,10 +11,10 @@ ghost use Rattle.adf_salvage.specs.steps.Undeleting.{AreHeaders, HasEach};
 use crate::gathered::Gathered;
 use crate::giving::Giving;
 use crate::kind::with_kind;
+use crate::known::{Deleted, DeletedEntries, Known, Recovery, deleted_entries, is_faultless};
 use crate::saved::Salvage;
 use crate::unreached::add_with_parents;
 use adf_block::Image;
-use ados_sound::{Deleted, DeletedEntries, Known, Recovery, deleted_entries, is_faultless};
 use std::alloc::{AllocError, Global};
 
 /// The deleted entries of an image, and all directories above them as far as these are sound.

@@ -4,10 +4,10 @@ ghost use Rattle.adf_block.specs.Image.{block_count};
 ghost use Rattle.adf_block.specs.Whole.{text_at};
 ghost use Rattle.ados_name.specs.Name.{IsName};
 
+use crate::known::name_of;
 use adf_block::Image;
 use adf_block::layout::NAME_BYTE;
 use ados_name::Name;
-use ados_sound::name_of;
 use itoa::Buffer;
 use std::alloc::{AllocError, Global};
 

@@ -1,13 +1,13 @@
 //! The headers that no hash chain from the root leads to.
 ghost use Rattle.std.specs.Prelude.{◌≡◌, length, IsSome, OnOk};
 ghost use Rattle.adf_block.specs.Image.{block_count};
-ghost use Rattle.ados_sound.specs.Doubtful.{IsHeader};
+ghost use Rattle.adf_salvage.specs.Doubtful.{IsHeader};
 ghost use Rattle.adf_salvage.specs.steps.Gathering.{AddsFound, AreAllHeaders, AreGatheredBy, GathersMore, IsNew, place_at};
 
 use crate::gathered::Gathered;
+use crate::known::Known;
 use crate::names::Standing;
 use adf_block::layout::{DIRECTORY_TYPE, PARENT, SECONDARY_TYPE};
-use ados_sound::Known;
 use std::alloc::AllocError;
 
 /// Adds each header that was not found yet. A directory comes before the entries that name it as their parent.

@@ -7,8 +7,8 @@ use Rattle.adf_salvage.specs.declared.salvaged.Salvaged.{Salvaged}
 use Rattle.adf_salvage.specs.declared.salvaged.State.{State}
 use Rattle.adf_salvage.specs.declared.salvaged.State.TheVariants as states
 use Rattle.adf_salvage.specs.Salvaged.{Saved}
-use Rattle.ados_sound.specs.Sound.{Names}
-use Rattle.ados_sound.specs.Marks.{mark_at}
+use Rattle.adf_salvage.specs.Sound.{Names}
+use Rattle.adf_salvage.specs.Marks.{mark_at}
 use Rattle.ados_census.specs.steps.Marks.{IsMarked}
 use Rattle.adf_salvage.specs.Account.{IsAccounted, IsNextExtension}
 

@@ -1,9 +1,9 @@
 -- The entries of a damaged image while they are gathered.
 use Rattle.std.specs.Prelude.{◌≡◌, ℕ, ◌+◌, ◌*◌, ◌<◌, ◌≤◌, Bool, true, List, [], ◌∷◌, ◌++◌, drop, length, All, Contains, slice_index, slice_index_or, Option, Some, None, IsSome}
 use Rattle.adf_block.specs.Image.{block_count, long, IsInside}
-use Rattle.ados_sound.specs.declared.known.Known.{Known}
-use Rattle.ados_sound.specs.Doubtful.{IsHeader, IsPlaceIn, NamesEntries}
-use Rattle.ados_sound.specs.Known.{AreKnown}
+use Rattle.adf_salvage.specs.declared.known.image_known.Known.{Known}
+use Rattle.adf_salvage.specs.Doubtful.{IsHeader, IsPlaceIn, NamesEntries}
+use Rattle.adf_salvage.specs.Known.{AreKnown}
 use Rattle.adf_salvage.specs.declared.gathered.Gathered.{Gathered}
 use Rattle.adf_salvage.specs.declared.salvaged.Salvaged.{Salvaged}
 use Rattle.adf_salvage.specs.Salvaged.{IsSalvaged, IsTold, broken_total, headers_of}

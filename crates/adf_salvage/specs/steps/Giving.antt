@@ -1,7 +1,7 @@
 -- The blocks given to broken files.
 use Rattle.std.specs.Prelude.{◌≡◌, ℕ, ◌<◌, Bool, true, false, List, length, All}
 use Rattle.adf_block.specs.Image.{block_count}
-use Rattle.ados_sound.specs.Marks.{IsHole, mark_at}
+use Rattle.adf_salvage.specs.Marks.{IsHole, mark_at}
 use Rattle.adf_salvage.specs.declared.giving.Giving.{Giving}
 use Rattle.adf_salvage.specs.declared.giving.Piece.{Piece}
 use Rattle.adf_salvage.specs.Salvaged.{AreApart}

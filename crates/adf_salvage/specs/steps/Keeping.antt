@@ -2,7 +2,7 @@
 use Rattle.std.specs.Prelude.{◌≡◌, ℕ, ◌<◌, ◌⊎◌, Bool, true, List, All, slice_index, ⊤}
 use Rattle.adf_block.specs.Image.{block_count}
 use Rattle.ados_model.specs.File.{LawfulFile}
-use Rattle.ados_sound.specs.Deleted.{IsTrustedBitmap}
+use Rattle.adf_salvage.specs.Deleted.{IsTrustedBitmap}
 use Rattle.adf_salvage.specs.declared.giving.Piece.{Piece}
 use Rattle.adf_salvage.specs.declared.salvaged.Salvaged.{Salvaged}
 use Rattle.adf_salvage.specs.Saved.{IsByteOf}

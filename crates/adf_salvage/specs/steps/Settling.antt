@@ -1,7 +1,7 @@
 -- Files without a header while they are added to the entries.
 use Rattle.std.specs.Prelude.{◌≡◌, ℕ, ◌+◌, ◌*◌, ◌<◌, ◌≤◌, ◌⊎◌, List, length, Contains, Option, IsSome, ⊤}
-use Rattle.ados_sound.specs.declared.known.Known.{Known}
-use Rattle.ados_sound.specs.Known.{AreKnown}
+use Rattle.adf_salvage.specs.declared.known.image_known.Known.{Known}
+use Rattle.adf_salvage.specs.Known.{AreKnown}
 use Rattle.adf_salvage.specs.declared.gathered.Gathered.{Gathered}
 use Rattle.adf_salvage.specs.declared.salvaged.HeaderState.{HeaderState}
 use Rattle.adf_salvage.specs.declared.salvaged.State.{State}

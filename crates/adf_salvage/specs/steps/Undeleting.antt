@@ -1,7 +1,7 @@
 -- Deleted entries while their directories are gathered.
 use Rattle.std.specs.Prelude.{ℕ, List, All, Option, IsSome}
-use Rattle.ados_sound.specs.declared.deleted.Deleted.{Deleted}
-use Rattle.ados_sound.specs.Sound.{IsSoundHeader}
+use Rattle.adf_salvage.specs.declared.known.deleted.Deleted.{Deleted}
+use Rattle.adf_salvage.specs.Sound.{IsSoundHeader}
 use Rattle.adf_salvage.specs.steps.Gathering.{place_at}
 
 -- the headers of these entries are sound

@@ -3,17 +3,17 @@ ghost use Rattle.std.specs.Prelude.{◌≡◌, ◌⊎◌, ◌<◌, ◌-◌, ◌/
 ghost use Rattle.adf_block.specs.Image.{block_count};
 ghost use Rattle.ados_model.specs.Faults.{root_of};
 ghost use Rattle.ados_model.specs.File.{LawfulFile, ReadableFile, data_blocks, pointer_block};
-ghost use Rattle.ados_sound.specs.Sound.{Names};
+ghost use Rattle.adf_salvage.specs.Sound.{Names};
 ghost use Rattle.ados_map.specs.Pages.{IsPage};
 ghost use Rattle.adf_salvage.specs.steps.Keeping.{IsReadable};
 ghost use Rattle.adf_salvage.specs.Account.{OfOne};
 ghost use Rattle.adf_salvage.specs.steps.Accounting.{Adds, AreAccounted, HasNoMarks, IsOwn, IsPieceBlock};
 
 use crate::account::extensions::mark_extensions;
+use crate::known::data_needed;
 use crate::{Piece, Salvage, Salvaged, State};
 use adf_block::layout::{FIRST_PAGE, FIRST_POINTER, MOST_BLOCKS, NEXT_EXTENSION, TABLE_LONGS};
 use adf_block::{Image, page_count};
-use ados_sound::data_needed;
 use std::alloc::{AllocError, Global};
 
 /// For each block of an image, whether it is accounted for by a salvage.

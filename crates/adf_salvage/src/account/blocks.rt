@@ -10,10 +10,10 @@ use crate::account::accounted::{holder_of, no_marks};
 use crate::account::extensions::mark_extensions;
 use crate::account::part::{Part, Told};
 use crate::account::unaccounted::unaccounted_blocks;
+use crate::known::data_needed;
 use crate::{Piece, Salvage, Salvaged, State};
 use adf_block::layout::{FIRST_PAGE, FIRST_POINTER, MOST_BLOCKS, PARENT, TABLE_LONGS};
 use adf_block::{Image, page_count};
-use ados_sound::data_needed;
 use std::alloc::{AllocError, Global};
 
 /// What the blocks of an image are: the boot blocks, the root and the bitmap blocks that it names, the data blocks of whole

@@ -5,10 +5,10 @@ ghost use Rattle.ados_model.specs.Faults.{InImage};
 ghost use Rattle.adf_salvage.specs.Account.{HasExtensionBlock, IsDamagedFile, IsOfDamaged, OfOne};
 ghost use Rattle.adf_salvage.specs.steps.Accounting.{Adds, AreClosed, AreMarkedAfter, HasNoMarks, IsNewAfter};
 
+use crate::known::looks_like_extension;
 use crate::{Salvaged, State};
 use adf_block::Image;
 use adf_block::layout::{BOOT_BLOCKS, NEXT_EXTENSION};
-use ados_sound::looks_like_extension;
 
 /// Marks the extension blocks of all files that are not whole, where no block is marked before. Each is marked once: a walk
 /// ends at a marked one, since only its own file leads to it.

@@ -1,17 +1,17 @@
 //! The account of an image: the blocks that are used and belong to nothing that a salvage tells.
 ghost use Rattle.std.specs.Prelude.{◌≡◌, IfOk, MatchBool, MatchOption, is_none};
 ghost use Rattle.ados_model.specs.Faults.{InImage};
-ghost use Rattle.ados_sound.specs.Deleted.{IsTrustedBitmap};
+ghost use Rattle.adf_salvage.specs.Deleted.{IsTrustedBitmap};
 ghost use Rattle.adf_salvage.specs.Account.{AreUnaccounted, CountsAsUsed, HasContent, IsUnaccounted};
 ghost use Rattle.adf_salvage.specs.steps.Accounting.{AreAccounted, needed};
 
 use crate::Salvage;
 use crate::account::accounted::accounted_marks;
+use crate::known::is_hole;
 use adf_block::Image;
 use adf_block::layout::{BLOCK_BYTES, BOOT_BLOCKS};
 use ados_census::{Reached, reached_blocks};
 use ados_map::is_free;
-use ados_sound::is_hole;
 use std::alloc::{AllocError, Global};
 
 /// The blocks of the volume that are used and belong to nothing that a salvage tells, in order.
@@ -83,7 +83,7 @@ fn is_unaccounted(
 }
 
 /// Whether a block counts as used. The bitmap is trusted, or the reached blocks are there.
-#[tactic(auto, using(ados_sound::proofs::Trusting::trusted_pages))]
+#[tactic(auto, using(crate::proofs::Trusting::trusted_pages))]
 fn counts_as_used(image: &Image, reached: &Option<Reached<'_>>, block: u32) -> bool
     requires inside { InImage image.now block }
     requires reached { MatchOption reached.now (IsTrustedBitmap image.now) (λ them. them ≡ image.now) }

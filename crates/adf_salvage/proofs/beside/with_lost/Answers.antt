@@ -1,5 +1,5 @@
 use Rattle.adf_salvage.proofs.Common.{◌≡◌, Bool, List, ℕ, All, false, length, refl, sym, ap, ◌∙◌, subst, AreGathered, IsReadable, IsTrustedBitmap, Salvaged, Saved}
-use Rattle.ados_sound.specs.Found.{AreHidden}
+use Rattle.adf_salvage.specs.Found.{AreHidden}
 use Rattle.adf_salvage.proofs.Besides.{adds_lost, found_readable, gathered_tree}
 use Rattle.adf_salvage.proofs.Reading.{pieces_inside}
 use Rattle.adf_salvage.proofs.beside.with_lost.Goals as goal

@@ -1,5 +1,5 @@
 use Rattle.adf_salvage.proofs.Common.{Bool, List, ℕ, ap, refl, sym, subst, AreDeleted, AreGathered, IsReadAs}
-use Rattle.ados_sound.specs.Deleted.{TellsTrust}
+use Rattle.adf_salvage.specs.Deleted.{TellsTrust}
 use Rattle.adf_salvage.proofs.Besides.{gathered_tree}
 use Rattle.adf_salvage.proofs.Reading.{all_readable, pieces_inside}
 use Rattle.adf_salvage.proofs.Saving.{saves_sound}

@@ -1,5 +1,5 @@
 use Rattle.std.proofs.Common.{◌≡◌, ℕ, ◌+◌, true, false, Vec, Global, sym, ap, ◌∙◌, subst, arith}
-use Rattle.ados_sound.proofs.InOrder.{ListsBelow, lists_more, lists_same}
+use Rattle.adf_salvage.proofs.InOrder.{ListsBelow, lists_more, lists_same}
 use Rattle.adf_salvage.proofs.AccountCommon.{IsMarked}
 use Rattle.adf_salvage.proofs.Telling.{lists_all}
 use Rattle.adf_salvage.proofs.account.blocks.marked_blocks.Goals as goal

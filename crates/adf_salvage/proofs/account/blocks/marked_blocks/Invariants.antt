@@ -1,4 +1,4 @@
-use Rattle.ados_sound.proofs.InOrder.{ListsBelow}
+use Rattle.adf_salvage.proofs.InOrder.{ListsBelow}
 use Rattle.adf_salvage.proofs.AccountCommon.{IsMarked}
 use Rattle.adf_salvage.proofs.account.blocks.marked_blocks.Given as goal
 

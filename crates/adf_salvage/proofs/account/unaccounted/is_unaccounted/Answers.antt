@@ -1,5 +1,5 @@
 use Rattle.std.proofs.Common.{List, Bool, ap, sym, ◌∙◌}
-use Rattle.ados_sound.specs.Marks.{mark_at}
+use Rattle.adf_salvage.specs.Marks.{mark_at}
 use Rattle.adf_salvage.proofs.AllKinds.{accounted_if}
 use Rattle.adf_salvage.proofs.account.unaccounted.is_unaccounted.Goals as goal
 

@@ -1,5 +1,5 @@
 use Rattle.std.proofs.Common.{ℕ, ◌+◌, Vec, Global, sym, ap, ◌∙◌, subst}
-use Rattle.ados_sound.proofs.InOrder.{ListsBelow, lists_more, lists_same}
+use Rattle.adf_salvage.proofs.InOrder.{ListsBelow, lists_more, lists_same}
 use Rattle.adf_salvage.specs.Account.{IsUnaccounted}
 use Rattle.adf_salvage.proofs.account.unaccounted.unmarked_blocks.Goals as goal
 use Rattle.adf_salvage.proofs.account.unaccounted.unmarked_blocks.Goals.{then-is_unaccounted+in_ok-push, else-is_unaccounted}

@@ -1,4 +1,4 @@
-use Rattle.ados_sound.proofs.InOrder.{ListsBelow}
+use Rattle.adf_salvage.proofs.InOrder.{ListsBelow}
 use Rattle.adf_salvage.specs.Account.{IsUnaccounted}
 use Rattle.adf_salvage.proofs.account.unaccounted.unmarked_blocks.Given as goal
 
