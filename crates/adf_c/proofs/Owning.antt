@@ -5,9 +5,9 @@ use Rattle.ados_model.specs.Stands.{Stands}
 use Rattle.ados_model.specs.Tree.{Tree}
 use Rattle.ados_volume.specs.Owners.{AreOwners}
 use Rattle.ados_volume.specs.declared.owner.Owner.{Owner}
-use Rattle.adf_salvage.specs.Parts.{TellsBlocks}
-use Rattle.adf_salvage.specs.declared.account.part.Told.{Told}
-use Rattle.adf_salvage.specs.Salvaged.{Saved}
+use Rattle.ados_salvage.specs.Parts.{TellsBlocks}
+use Rattle.ados_salvage.specs.declared.account.part.Told.{Told}
+use Rattle.ados_salvage.specs.Salvaged.{Saved}
 use Rattle.adf_c.specs.Blocks.{TellsAll, told_block}
 use Rattle.adf_c.specs.declared.values.blocks.JipTold.{JipTold}
 use Rattle.adf_c.specs.Owners.{MapsOwners, told_owner, told_owners}

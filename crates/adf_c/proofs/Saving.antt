@@ -5,9 +5,9 @@ use Rattle.std.proofs.lemmas.Bool.{false≢true, true≢false}
 use Rattle.adf_block.specs.Whole.{IsImage}
 use Rattle.ados_model.specs.Stands.{Stands}
 use Rattle.ados_model.specs.Tree.{Tree}
-use Rattle.adf_salvage.specs.Salvaged.{AreOfTree, Salvages, Saved}
-use Rattle.adf_salvage.specs.Saved.{IsAt}
-use Rattle.adf_salvage.specs.declared.salvaged.Salvaged.{Salvaged}
+use Rattle.ados_salvage.specs.Salvaged.{AreOfTree, Salvages, Saved}
+use Rattle.ados_salvage.specs.Saved.{IsAt}
+use Rattle.ados_salvage.specs.declared.salvaged.Salvaged.{Salvaged}
 use Rattle.adf_c.specs.Buffers.{Refuses}
 use Rattle.adf_c.specs.Owners.{MapsOwners}
 use Rattle.adf_c.specs.Blocks.{TellsAll}

@@ -1,10 +1,10 @@
 -- What the blocks of an image are, for C.
 use Rattle.std.specs.Prelude.{◌≡◌, ℕ, List, map}
-use Rattle.adf_salvage.specs.Salvaged.{Saved}
-use Rattle.adf_salvage.specs.Parts.{TellsBlocks}
-use Rattle.adf_salvage.specs.declared.account.part.Part.{Part}
-use Rattle.adf_salvage.specs.declared.account.part.Part.TheVariants.{Boot, Data, Deleted, Extension, Page, Root, Unaccounted}
-use Rattle.adf_salvage.specs.declared.account.part.Told.{Told}
+use Rattle.ados_salvage.specs.Salvaged.{Saved}
+use Rattle.ados_salvage.specs.Parts.{TellsBlocks}
+use Rattle.ados_salvage.specs.declared.account.part.Part.{Part}
+use Rattle.ados_salvage.specs.declared.account.part.Part.TheVariants.{Boot, Data, Deleted, Extension, Page, Root, Unaccounted}
+use Rattle.ados_salvage.specs.declared.account.part.Told.{Told}
 use Rattle.adf_c.specs.declared.values.blocks.JipTold.{JipTold}
 
 -- a block for C: the number of what it is, the header that it belongs to, which block it is, and the block with the pointer to it

@@ -1,9 +1,9 @@
 -- The entries of a salvage, for C.
 use Rattle.std.specs.Prelude.{ℕ, Bool, if◌then◌else◌, length, Option, Some, None}
-use Rattle.adf_salvage.specs.declared.salvaged.Salvaged.{Salvaged}
-use Rattle.adf_salvage.specs.declared.salvaged.State.{State}
-use Rattle.adf_salvage.specs.declared.salvaged.State.TheVariants.{Directory, DoubtfulDirectory, Whole, Doubtful, Broken, Lost}
-use Rattle.adf_salvage.specs.Salvaged.{is_cut, missing_in}
+use Rattle.ados_salvage.specs.declared.salvaged.Salvaged.{Salvaged}
+use Rattle.ados_salvage.specs.declared.salvaged.State.{State}
+use Rattle.ados_salvage.specs.declared.salvaged.State.TheVariants.{Directory, DoubtfulDirectory, Whole, Doubtful, Broken, Lost}
+use Rattle.ados_salvage.specs.Salvaged.{is_cut, missing_in}
 use Rattle.adf_c.specs.Dates.{told_date}
 use Rattle.adf_c.specs.Answers.{cells_of}
 use Rattle.adf_c.specs.declared.values.salvaged.JipSalvaged.{JipSalvaged}

@@ -5,9 +5,9 @@ use Rattle.adf_block.specs.Whole.{IsImage}
 use Rattle.adf_block.specs.declared.volume_size.SizeFault.{SizeFault}
 use Rattle.ados_model.specs.Stands.{Stands}
 use Rattle.ados_model.specs.Tree.{Tree}
-use Rattle.adf_salvage.specs.Salvaged.{AreOfTree, Salvages, Saved, ended}
-use Rattle.adf_salvage.specs.Saved.{HasBytes, IsAt, size_of}
-use Rattle.adf_salvage.specs.declared.salvaged.Salvaged.{Salvaged}
+use Rattle.ados_salvage.specs.Salvaged.{AreOfTree, Salvages, Saved, ended}
+use Rattle.ados_salvage.specs.Saved.{HasBytes, IsAt, size_of}
+use Rattle.ados_salvage.specs.declared.salvaged.Salvaged.{Salvaged}
 use Rattle.adf_c.specs.Ends.{Comes, ComesTo}
 use Rattle.adf_c.specs.Salvaged.{told_salvaged}
 use Rattle.adf_c.specs.declared.values.refusal.Refusal.{Refusal}

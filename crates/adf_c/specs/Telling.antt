@@ -2,7 +2,7 @@
 use Rattle.std.specs.Prelude.{◌≡◌, ⊤, ℕ, ℤ, List, length, Option, Some, None}
 use Rattle.adf_block.specs.HasBoot.{HasBoot}
 use Rattle.adf_block.specs.declared.standard.TheConstants.{STANDARD_BOOT}
-use Rattle.adf_salvage.specs.Salvaged.{Saved}
+use Rattle.ados_salvage.specs.Salvaged.{Saved}
 use Rattle.adf_c.specs.Boots.{TellsBoot}
 use Rattle.adf_c.specs.Buffers.{Puts}
 use Rattle.adf_c.specs.Ends.{ComesTo}

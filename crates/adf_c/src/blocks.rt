@@ -9,7 +9,7 @@ ghost use Rattle.adf_c.specs.Telling.{BlocksEnd, RefusesBlocks, TellsHeld};
 
 use crate::handle::{Holder, JipSalvage};
 use crate::values::{JipTold, Refusal, copy_to, told_of};
-use adf_salvage::Salvage;
+use ados_salvage::Salvage;
 use std::alloc::Global;
 
 /// Lists what the blocks of a salvage's image are: the boot blocks, the root, the bitmap blocks that it names, the data blocks of

@@ -8,7 +8,7 @@ ghost use Rattle.adf_c.specs.Salvaging.{AtPlace, EntryEnds, HasFileBytes, HasOwn
 use crate::handle::{Holder, JipSalvage};
 use crate::values::{JipSalvaged, Refusal, put, status};
 use adf_block::Image;
-use adf_salvage::{Salvage, salvage as salvaged};
+use ados_salvage::{Salvage, salvage as salvaged};
 use std::alloc::Global;
 
 /// Opens a closed salvage on a copy of these bytes. The status is 0, and the bytes are not used afterwards.

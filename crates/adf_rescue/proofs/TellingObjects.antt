@@ -7,9 +7,9 @@ use Rattle.std.proofs.lemmas.List.Folds.{list_any-append}
 use Rattle.json.specs.Token.{Token}
 use Rattle.json.specs.Print.{ends, escape_byte, print, print_from}
 use Rattle.json.proofs.Printed.Tokens.{print_from-append}
-use Rattle.adf_salvage.specs.Salvaged.{Saved}
-use Rattle.adf_salvage.specs.declared.salvaged.Salvaged.{Salvaged}
-use Rattle.adf_salvage.specs.declared.salvaged.State.{State}
+use Rattle.ados_salvage.specs.Salvaged.{Saved}
+use Rattle.ados_salvage.specs.declared.salvaged.Salvaged.{Salvaged}
+use Rattle.ados_salvage.specs.declared.salvaged.State.{State}
 use Rattle.adf_rescue.specs.Rescue.{AreSomeRescued, IsTold, is_summed, rescue_line}
 use Rattle.adf_rescue.specs.Rescue.AreLines.{none as no_lines, one as one_line}
 use Rattle.adf_rescue.specs.RescueObject.{AreObjects, IsReportObject, entry_tokens, is_told, path_end, rest_tokens}

@@ -1,14 +1,14 @@
 -- The report on a damaged image after everything that can be trusted was written.
 use Rattle.std.specs.Prelude.{◌≡◌, ◌<◌, ℕ, Bool, true, false, List, [], ◌∷◌, ◌++◌, ◌==◌, codes, decimal, length, Option, Some, None, if◌then◌else◌, ⊤}
 use Rattle.adf_block.specs.Fields.{format_of}
-use Rattle.adf_salvage.specs.Holes.{SalvagesBeside}
-use Rattle.adf_salvage.specs.Salvaged.{Saved}
-use Rattle.adf_salvage.specs.declared.salvaged.HeaderState.TheVariants as heads
-use Rattle.adf_salvage.specs.declared.salvaged.Salvaged.{Salvaged}
-use Rattle.adf_salvage.specs.declared.salvaged.State.{State}
-use Rattle.adf_salvage.specs.declared.salvaged.State.TheVariants.{Directory, DoubtfulDirectory, Whole, Doubtful, Lost, Broken}
-use Rattle.adf_salvage.specs.Saved.{HasBytes, IsAt}
-use Rattle.adf_salvage.specs.Account.{AreUnaccounted}
+use Rattle.ados_salvage.specs.Holes.{SalvagesBeside}
+use Rattle.ados_salvage.specs.Salvaged.{Saved}
+use Rattle.ados_salvage.specs.declared.salvaged.HeaderState.TheVariants as heads
+use Rattle.ados_salvage.specs.declared.salvaged.Salvaged.{Salvaged}
+use Rattle.ados_salvage.specs.declared.salvaged.State.{State}
+use Rattle.ados_salvage.specs.declared.salvaged.State.TheVariants.{Directory, DoubtfulDirectory, Whole, Doubtful, Lost, Broken}
+use Rattle.ados_salvage.specs.Saved.{HasBytes, IsAt}
+use Rattle.ados_salvage.specs.Account.{AreUnaccounted}
 use Rattle.adf_rescue.specs.RescueObject.{IsReportObject, has_sums}
 use Rattle.adf_rescue.specs.declared.sourced.Source.{Source}
 use Rattle.adf_rescue.specs.declared.sourced.Source.TheVariants.{File}

@@ -4,10 +4,10 @@ use Rattle.json.specs.Token.{Token, begin_object, end_object, begin_array, end_a
 use Rattle.json.specs.Print.{print}
 use Rattle.adf_block.specs.declared.layout.Format.{Format}
 use Rattle.adf_block.specs.declared.layout.Format.TheVariants.{Ofs, Ffs}
-use Rattle.adf_salvage.specs.declared.salvaged.Salvaged.{Salvaged}
-use Rattle.adf_salvage.specs.declared.salvaged.State.{State}
-use Rattle.adf_salvage.specs.declared.salvaged.State.TheVariants.{Directory, DoubtfulDirectory, Whole, Doubtful, Lost, Broken}
-use Rattle.adf_salvage.specs.Salvaged.{is_cut, missing_in}
+use Rattle.ados_salvage.specs.declared.salvaged.Salvaged.{Salvaged}
+use Rattle.ados_salvage.specs.declared.salvaged.State.{State}
+use Rattle.ados_salvage.specs.declared.salvaged.State.TheVariants.{Directory, DoubtfulDirectory, Whole, Doubtful, Lost, Broken}
+use Rattle.ados_salvage.specs.Salvaged.{is_cut, missing_in}
 
 -- an entry is told, unless it is a sound directory that was not recovered
 abbrev pub is_told : State → Bool → Bool

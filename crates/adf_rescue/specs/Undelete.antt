@@ -7,14 +7,14 @@ use Rattle.ados_name.specs.Name.{Step, steps, upper}
 use Rattle.ados_name.specs.Name.Step.{ToParent, ToChild}
 use Rattle.adf_text.specs.Letters.{letters}
 use Rattle.adf_text.specs.Plain.{plain}
-use Rattle.adf_salvage.specs.Deleted.{IsTrustedBitmap}
-use Rattle.adf_salvage.specs.Salvaged.{ended}
-use Rattle.adf_salvage.specs.Undeleted.{IsRead, IsUndeleted}
-use Rattle.adf_salvage.specs.declared.known.deleted.Deleted.{Deleted}
-use Rattle.adf_salvage.specs.declared.known.deleted.Recovery.{Recovery}
-use Rattle.adf_salvage.specs.declared.known.deleted.Recovery.TheVariants.{Directory, Free, Used, Shared, NotIntact}
-use Rattle.adf_salvage.specs.declared.salvaged.Salvaged.{Salvaged}
-use Rattle.adf_salvage.specs.declared.undeleted.Undeleted.{Undeleted}
+use Rattle.ados_salvage.specs.Deleted.{IsTrustedBitmap}
+use Rattle.ados_salvage.specs.Salvaged.{ended}
+use Rattle.ados_salvage.specs.Undeleted.{IsRead, IsUndeleted}
+use Rattle.ados_salvage.specs.declared.known.deleted.Deleted.{Deleted}
+use Rattle.ados_salvage.specs.declared.known.deleted.Recovery.{Recovery}
+use Rattle.ados_salvage.specs.declared.known.deleted.Recovery.TheVariants.{Directory, Free, Used, Shared, NotIntact}
+use Rattle.ados_salvage.specs.declared.salvaged.Salvaged.{Salvaged}
+use Rattle.ados_salvage.specs.declared.undeleted.Undeleted.{Undeleted}
 use Rattle.json.specs.Print.{print}
 use Rattle.adf_rescue.specs.DeletedObject.{deleted_tokens, user_of}
 use Rattle.adf_rescue.specs.declared.chosen.Chosen.{Chosen}

@@ -13,8 +13,8 @@ use adf_block::{Format, Image};
 use adf_cli::SalvageJob;
 use adf_host::{OwnedFile, PromptFiles, WriteFault};
 use adf_io::{PrintFault, write_text, write_when_long};
-use adf_salvage::{HeaderState, Salvage, Salvaged, State, salvage_beside, unaccounted_blocks};
 use adf_text::ranges_text;
+use ados_salvage::{HeaderState, Salvage, Salvaged, State, salvage_beside, unaccounted_blocks};
 use std::alloc::{AllocError, Global};
 use std::io::Write;
 

@@ -7,8 +7,8 @@ ghost use Rattle.adf_rescue.specs.Undelete.{deleted_line, deleted_text, label_in
 use crate::chosen::{Chosen, position_of};
 use crate::deleted_objects::push_object;
 use crate::placing::{Placed, place_at};
-use adf_salvage::Recovery;
 use adf_text::{letter_text, push_plain};
+use ados_salvage::Recovery;
 use std::alloc::{AllocError, Global};
 
 /// The entries of an image, by their headers.

@@ -3,8 +3,8 @@ ghost use Rattle.std.specs.Prelude.{◌≢◌, ◌≤◌, All, IfSome, IsTrue, l
 
 use crate::sourced::{Source, SourcedItems, way_up};
 use adf_host::HostName;
-use adf_salvage::{Salvage, Salvaged, State};
 use ados_name::{Date3, Name};
+use ados_salvage::{Salvage, Salvaged, State};
 use itoa::Buffer;
 use std::alloc::{AllocError, Global};
 use std::str::from_utf8;

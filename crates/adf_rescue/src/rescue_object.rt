@@ -7,7 +7,7 @@ ghost use Rattle.adf_rescue.specs.RescueObject.{entry_tokens, is_told, path_end,
 ghost use Rattle.adf_rescue.specs.steps.Reporting.{front_of};
 
 use adf_record::{put_flag, put_number, put_text};
-use adf_salvage::State;
+use ados_salvage::State;
 use json::Writer;
 use std::alloc::{AllocError, Global};
 

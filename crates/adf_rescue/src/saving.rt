@@ -4,7 +4,7 @@ ghost use Rattle.adf_rescue.specs.Undelete.{file_in, file_saved, files_saved};
 
 use crate::chosen::Chosen;
 use crate::sourced::{Source, SourcedItems, way_up};
-use adf_salvage::{Recovery, Salvaged};
+use ados_salvage::{Recovery, Salvaged};
 use std::alloc::{AllocError, Global};
 
 /// The items for entries, each in the item of its directory.

@@ -7,9 +7,9 @@ use crate::plan::name_of;
 use adf_host::{
     Contents, HostItem, HostName, ItemKind, OwnedFile, PromptFiles, WriteFault, write_tree,
 };
-use adf_salvage::{Salvage, Salvaged};
 use adf_text::{Uaem, uaem_line};
 use ados_name::Date3;
+use ados_salvage::{Salvage, Salvaged};
 use std::alloc::{AllocError, Global};
 
 /// Where the bytes of an item are.

@@ -6,7 +6,7 @@ unfoldable pub use Rattle.adf_block.specs.Image.{block_sum, byte_at, bytes_at, h
 pub use Rattle.adf_block.specs.Image.{Chained, HasText, IsInside, block_count, page_count, root_key, total}
 pub use Rattle.adf_block.specs.Whole.{HasFreeBit, IsImage, text_at}
 pub use Rattle.adf_block.specs.declared.layout.TheConstants.{COMMENT_BYTE, NAME_BYTE, NEXT_DATA, NEXT_EXTENSION, NEXT_IN_CHAIN}
-pub use Rattle.adf_salvage.specs.Sound.{IsSoundHeader}
+pub use Rattle.ados_salvage.specs.Sound.{IsSoundHeader}
 pub use Rattle.ados_check.proofs.PlaceLemmas.{of_root}
 pub use Rattle.ados_check.proofs.Roles.{only_root, reached_marked}
 pub use Rattle.ados_faults.proofs.Closing.{few_pages}

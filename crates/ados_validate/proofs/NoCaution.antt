@@ -3,7 +3,7 @@ use Rattle.ados_validate.proofs.Common.{◌≡◌, ℕ, Bool, true, false, List,
 use Rattle.ados_validate.specs.declared.caution.Caution.{Caution}
 use Rattle.ados_validate.specs.declared.caution.Caution.TheVariants.{Differs, LooksLike, LostHeader}
 use Rattle.ados_validate.specs.Cautions.{HasLook, HasNoCaution, IsCaution, changed_bits}
-use Rattle.adf_salvage.specs.Found.{IsLostBlock}
+use Rattle.ados_salvage.specs.Found.{IsLostBlock}
 
 module _ (old new : List ℕ) (v : IsValidated old new) (safe : AreSafePages old new) where
   -- the new image marks a lost block free

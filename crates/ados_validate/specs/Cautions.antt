@@ -3,7 +3,7 @@ use Rattle.std.specs.Prelude.{◌≡◌, ◌≢◌, ◌⊎◌, ℕ, ◌+◌, ◌
 use Rattle.adf_block.specs.declared.layout.TheConstants.{DATA_TYPE, DIRECTORY_TYPE, FILE_TYPE, FIRST_MAP_LONG, HEADER_TYPE, LIST_TYPE, MAP_LONGS, ROOT_TYPE}
 use Rattle.adf_block.specs.Fields.{primary_type, secondary_type}
 use Rattle.adf_block.specs.Image.{block_sum, long, total}
-use Rattle.adf_salvage.specs.Found.{IsLostHeader}
+use Rattle.ados_salvage.specs.Found.{IsLostHeader}
 use Rattle.ados_validate.specs.declared.caution.Caution.{Caution}
 use Rattle.ados_validate.specs.declared.caution.Caution.TheVariants.{Differs, LooksLike, LostHeader}
 use Rattle.ados_validate.specs.declared.caution.Look.{Look}

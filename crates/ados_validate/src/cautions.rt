@@ -13,8 +13,8 @@ use crate::looks::look_of;
 use crate::old_bitmap::OldBitmap;
 use adf_block::Image;
 use adf_block::layout::{BOOT_BLOCKS, FIRST_MAP_LONG, FIRST_PAGE, MAP_LONGS, MOST_BLOCKS};
-use adf_salvage::is_sound_header;
 use ados_map::is_free;
+use ados_salvage::is_sound_header;
 
 /// The first thing that may be lost with the old bitmap: by the bitmap blocks, then by the lost blocks.
 pub(crate) fn first_caution(old: &OldBitmap, new: &Image) -> Option<Caution>

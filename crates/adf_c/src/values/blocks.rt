@@ -3,7 +3,7 @@
 ghost use Rattle.std.specs.Prelude.{◌≡◌, IfOk, map};
 ghost use Rattle.adf_c.specs.Blocks.{TellsAll, told_block};
 
-use adf_salvage::{Part, Salvage, Told, told_blocks};
+use ados_salvage::{Part, Salvage, Told, told_blocks};
 use std::alloc::{AllocError, Global};
 
 /// A block with what it is.

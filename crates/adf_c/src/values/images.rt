@@ -6,8 +6,8 @@ ghost use Rattle.adf_c.specs.Images.{IsLabel, RefusesImage, RefusesLabel};
 
 use crate::values::refusal::Refusal;
 use adf_block::Image;
-use adf_salvage::name_of;
 use ados_name::Name;
+use ados_salvage::name_of;
 use std::alloc::Global;
 
 /// The image with a copy of these bytes.

@@ -5,7 +5,7 @@ ghost use Rattle.adf_c.specs.Salvaged.{told_above, told_salvaged, told_state, ye
 
 use crate::values::answer::cells;
 use crate::values::date::JipDate;
-use adf_salvage::{Salvaged, State};
+use ados_salvage::{Salvaged, State};
 
 /// An entry of an image that can be trusted as far as its state says. The name is not here, since it has no bound.
 #[repr(C)]

@@ -2,7 +2,7 @@
 use Rattle.std.specs.Prelude.{◌≢◌, ◌↔◌, ℕ, ◌<◌, ◌≤◌, List}
 use Rattle.adf_block.specs.Image.{block_sum}
 use Rattle.adf_block.specs.Whole.{HasFreeBit}
-use Rattle.adf_salvage.specs.Sound.{IsSoundHeader}
+use Rattle.ados_salvage.specs.Sound.{IsSoundHeader}
 use Rattle.ados_map.specs.Pages.{page_block, pages_of}
 use Rattle.ados_model.specs.Faults.{InImage}
 use Rattle.ados_validate.specs.declared.caution.Look.{Look}

@@ -1,5 +1,5 @@
 use Rattle.std.proofs.Common.{◌≡◌, ℕ, Bor, List, Option, map, ap, ◌∙◌, subst}
-use Rattle.adf_salvage.specs.declared.known.deleted.Deleted.{Deleted}
+use Rattle.ados_salvage.specs.declared.known.deleted.Deleted.{Deleted}
 use Rattle.adf_rescue.specs.declared.chosen.Chosen.{Chosen}
 use Rattle.adf_rescue.specs.declared.placing.Placed.{Placed}
 use Rattle.adf_rescue.specs.steps.Asking.{AreAsked}

@@ -3,8 +3,8 @@ use Rattle.std.specs.Io.KnownBytes.{Appends}
 use Rattle.std.proofs.lemmas.List.{take_all, take_more}
 use Rattle.std.proofs.lemmas.List.Folds.{list_any_more}
 use Rattle.adf_io.specs.Prefix.{WritesFront, WritesFrontOf}
-use Rattle.adf_salvage.specs.Salvaged.{Saved}
-use Rattle.adf_salvage.specs.declared.salvaged.Salvaged.{Salvaged}
+use Rattle.ados_salvage.specs.Salvaged.{Saved}
+use Rattle.ados_salvage.specs.declared.salvaged.Salvaged.{Salvaged}
 use Rattle.adf_rescue.specs.Rescue.{AreSomeRescued, IsTold, is_summed}
 use Rattle.adf_rescue.specs.RescueObject.{is_told}
 use Rattle.adf_rescue.specs.steps.Reporting.{AreParts, IsPart, front_of, rest_of}
